@@ -1,0 +1,11 @@
+pub mod Members
+pub mod Apart
+pub mod Lookups
+pub mod Count
+pub mod Splice
+pub mod Span
+pub mod Edits
+pub mod Longest
+pub mod Sets
+pub mod Algebra
+pub mod Starts
