@@ -1,0 +1,11 @@
+pub mod Bounds
+pub mod CallsSound
+pub mod Choices
+pub mod Examples
+pub mod FramesSound
+pub mod Lasting
+pub mod Prefix
+pub mod Rising
+pub mod RunLaws
+pub mod Sound
+pub mod TableLaws

@@ -1,0 +1,35 @@
+//! What comes of making a packet, and of losing one.
+
+use thiserror::Error;
+
+/// A packet that was made: its number, and the length of its payload in bytes.
+#[derive(Clone, Copy, Debug, PartialEq, Eq, Drop)]
+pub struct Made {
+    pub number: u64,
+    pub len: usize,
+}
+
+/// Why no packet was made.
+#[derive(Clone, Copy, Debug, PartialEq, Eq, Drop, Error)]
+pub enum MakeFault {
+    #[error("the connection is closed")]
+    Closed,
+    #[error("out of memory")]
+    NoMemory,
+    /// The last packet number was used (RFC 9000, section 12.3).
+    #[error("there is no packet number left")]
+    Exhausted,
+}
+
+/// Why a packet was not declared lost, or not in whole.
+#[derive(Clone, Copy, Debug, PartialEq, Eq, Drop, Error)]
+pub enum LostFault {
+    /// It was not made, or it is acknowledged or lost, or it needs no answer.
+    #[error("no such packet is outstanding")]
+    NotOutstanding,
+    /// Some of what it carried is due again. The call may be made again.
+    #[error("out of memory")]
+    NoMemory,
+    #[error("the connection is closed")]
+    Closed,
+}

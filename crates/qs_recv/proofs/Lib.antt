@@ -1,0 +1,11 @@
+pub mod AssembledLaws
+pub mod ChunkLaws
+pub mod EditLaws
+pub mod GrowthLaws
+pub mod KeptLaws
+pub mod LaneLaws
+pub mod LawfulLaws
+pub mod PutLaws
+pub mod ReadLaws
+pub mod SoundLaws
+pub mod SpotLaws

@@ -1,0 +1,111 @@
+-- What holds of the fields of a receiving half still holds after each call.
+use Rattle.std.specs.Prelude.{◌≡◌, ℕ, ◌+◌, ◌≤◌, ◌^◌, Bool, true, false, cond, ◌||◌, nat_eq, max, List, length, Option, Some, is_some, unwrap_or, refl, IsOk, IsTrue, ◌↔◌}
+use Rattle.std.proofs.Common.{sym, ◌∙◌, ap, subst, arith}
+use Rattle.qs_ranges.specs.Numbers.{NumberSet, MAX_VARINT, ContainsRange, covers, end_of}
+use Rattle.qs_ranges.proofs.Sets.{end_of-empty, covers-is, covers-of}
+use Rattle.qs_recv.specs.Assembled.{put, take_front, discard, front_of}
+use Rattle.qs_recv.specs.Lane.{RecvLane, new_lane, check_stream, check_reset, take_stream, take_reset, is_whole, stop, raise, raised_limit}
+use Rattle.qs_recv.specs.Lawful.{IsLawful}
+use Rattle.qs_recv.specs.Sound.{IsSound}
+use Rattle.qs_recv.proofs.AssembledLaws.{with_run, end_of-with_run}
+use Rattle.qs_recv.proofs.LawfulLaws.{lawful_new, lawful_take_stream, lawful_take_reset, lawful_front, lawful_told, lawful_stop, lawful_raise, read_within, highest_noted}
+
+pub sound_new : (window : ℕ) → 1 ≤ window → window ≤ 2 ^ 20 → IsSound (new_lane window) window 0 0
+sound_new window some small = record { lawful = lawful_new window some small; window_is = refl; count_is = refl; end_is = end_of-empty }
+
+-- the counts are small enough to be added
+pub small_highest : (lane : RecvLane) (w n e : ℕ) → IsSound lane w n e → unwrap_or lane.final_size e ≤ MAX_VARINT
+small_highest lane w n e h = let g = h.lawful.granted in let l = h.lawful.small_limit in rw (← h.end_is) (omega arith)
+
+pub small_count : (lane : RecvLane) (w n e : ℕ) → IsSound lane w n e → n ≤ unwrap_or lane.final_size e
+small_count lane w n e h =
+    let r = read_within lane h.lawful in
+    let i = h.lawful.received_within in
+    rw (← h.end_is, ← h.count_is) (omega arith)
+
+pub small_front : (lane : RecvLane) (w n e room : ℕ) → IsSound lane w n e → n + length (front_of lane.arrived room) ≤ MAX_VARINT
+small_front lane w n e room h =
+    let r = read_within _ (lawful_front lane room h.lawful) in
+    let i = h.lawful.received_within in
+    let g = h.lawful.granted in
+    let l = h.lawful.small_limit in
+    rw (← h.count_is) (omega arith)
+
+-- a frame whose bytes are noted
+pub sound_noted : (lane : RecvLane) (w n e offset : ℕ) (bytes : List ℕ) (fin : Bool) → is_some lane.reset_code ≡ false → IsOk (check_stream lane offset (length bytes) fin) → IsSound lane w n e
+    → IsSound (record lane { arrived = put lane.arrived offset bytes; final_size = cond fin (Some (offset + length bytes)) lane.final_size }) w n (cond (nat_eq (length bytes) 0) e (max e (offset + length bytes)))
+sound_noted lane w n e offset bytes fin no_reset ok h =
+    record {
+      lawful = subst (λ b. IsLawful (record lane { arrived = cond b lane.arrived (put lane.arrived offset bytes); final_size = cond fin (Some (offset + length bytes)) lane.final_size })) no_reset (lawful_take_stream lane offset bytes fin h.lawful ok);
+      window_is = h.window_is;
+      count_is = h.count_is;
+      end_is = end_of-with_run lane.arrived.received offset (length bytes) ∙ ap (λ k. cond (nat_eq (length bytes) 0) k (max k (offset + length bytes))) h.end_is;
+    }
+
+-- a frame after a reset
+pub sound_passed : (lane : RecvLane) (w n e offset : ℕ) (bytes : List ℕ) (fin : Bool) → is_some lane.reset_code ≡ true → IsOk (check_stream lane offset (length bytes) fin) → IsSound lane w n e
+    → IsSound (record lane { final_size = cond fin (Some (offset + length bytes)) lane.final_size }) w n e
+sound_passed lane w n e offset bytes fin reset ok h =
+    record {
+      lawful = subst (λ b. IsLawful (record lane { arrived = cond b lane.arrived (put lane.arrived offset bytes); final_size = cond fin (Some (offset + length bytes)) lane.final_size })) reset (lawful_take_stream lane offset bytes fin h.lawful ok);
+      window_is = h.window_is;
+      count_is = h.count_is;
+      end_is = h.end_is;
+    }
+
+pub sound_reset : (lane : RecvLane) (w n e code size : ℕ) → is_some lane.reset_code ≡ false → is_whole lane ≡ false → IsOk (check_reset lane size) → IsSound lane w n e
+    → IsSound (record lane { arrived = discard lane.arrived; final_size = Some size; reset_code = Some code }) w n e
+sound_reset lane w n e code size no_reset not_whole ok h =
+    record {
+      lawful =
+          let after = record lane { arrived = discard lane.arrived; final_size = Some size; reset_code = Some code } in
+          subst (λ c. IsLawful (cond c lane after)) not_whole
+          (subst (λ b. IsLawful (cond (b || is_whole lane) lane after)) no_reset (lawful_take_reset lane code size h.lawful ok));
+      window_is = h.window_is;
+      count_is = h.count_is;
+      end_is = h.end_is;
+    }
+
+pub sound_front : (lane : RecvLane) (w n e room : ℕ) → IsSound lane w n e → IsSound (record lane { arrived = take_front lane.arrived room }) w (n + length (front_of lane.arrived room)) e
+sound_front lane w n e room h =
+    record {
+      lawful = lawful_front lane room h.lawful;
+      window_is = h.window_is;
+      count_is = ap (λ k. k + length (front_of lane.arrived room)) h.count_is;
+      end_is = h.end_is;
+    }
+
+pub sound_told : (lane : RecvLane) (w n e : ℕ) → IsSound lane w n e → IsSound (record lane { told = true }) w n e
+sound_told lane w n e h = record { lawful = lawful_told lane h.lawful; window_is = h.window_is; count_is = h.count_is; end_is = h.end_is }
+
+pub sound_stop : (lane : RecvLane) (w n e code : ℕ) → is_some lane.stop_code ≡ false → IsSound lane w n e → IsSound (record lane { arrived = discard lane.arrived; stop_code = Some code }) w n e
+sound_stop lane w n e code no_stop h =
+    record {
+      lawful = subst (λ b. IsLawful (cond b lane (record lane { arrived = discard lane.arrived; stop_code = Some code }))) no_stop (lawful_stop lane code h.lawful);
+      window_is = h.window_is;
+      count_is = h.count_is;
+      end_is = h.end_is;
+    }
+
+pub sound_raise : (lane : RecvLane) (w n e limit : ℕ) → raised_limit lane ≡ limit → IsSound lane w n e → IsSound (record lane { limit = limit }) w n e
+sound_raise lane w n e limit is h =
+    record {
+      lawful = subst (λ l. IsLawful (record lane { limit = l })) is (lawful_raise lane h.lawful);
+      window_is = h.window_is;
+      count_is = h.count_is;
+      end_is = h.end_is;
+    }
+
+-- the highest offset after a frame without the final size
+pub grown_noted : (f : Option ℕ) (r : NumberSet) (offset : ℕ) (bytes : List ℕ)
+    → unwrap_or f (end_of (with_run r offset (length bytes))) ≡ cond (is_some f || nat_eq (length bytes) 0) (unwrap_or f (end_of r)) (max (unwrap_or f (end_of r)) (offset + length bytes))
+grown_noted f r offset bytes = ap (unwrap_or f) (end_of-with_run r offset (length bytes)) ∙ highest_noted f (end_of r) (offset + length bytes) (length bytes) false
+
+-- a test that says whether a range is covered is the computed one
+pub covered_is : (b : Bool) (s : NumberSet) (lo hi : ℕ) → IsTrue b ↔ ContainsRange s lo hi → b ≡ covers s lo hi
+covered_is b s lo hi h = same_tests b (covers s lo hi) (λ t. covers-of s lo hi (h.0 t)) (λ t. h.1 (covers-is s lo hi t))
+  where
+    same_tests : (b c : Bool) → (b ≡ true → c ≡ true) → (c ≡ true → b ≡ true) → b ≡ c
+    same_tests true c f g = sym (f refl)
+    same_tests false true f g = g refl
+    same_tests false false f g = refl

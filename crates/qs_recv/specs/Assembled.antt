@@ -1,0 +1,72 @@
+-- What an assembly holds of a stream, however it keeps it.
+--     Assembled      the bytes that are still to be read, by offset; every offset that came; how many bytes were read; how far past
+--                    these the next ones may lie; and whether bytes are thrown away
+--     nothing_yet, put, take_front, discard      what the calls of an assembly leave
+--     front m at size      the bytes of m from an offset on, up to the first offset that isn't in m, and at most size
+use Rattle.std.specs.Prelude.{ℕ, ◌+◌, zero, suc, Bool, true, false, if◌then◌else◌, nat_le, List, [], ◌∷◌, length, Option, None, Some, refl}
+use Rattle.std.specs.Ordering.{nat_cmp}
+use Rattle.std.specs.Coded.{Coded, code_by, coded×, coded_ℕ, coded_bool}
+use Rattle.std.specs.FinMap as map
+use Rattle.std.specs.FinSet as set
+use Rattle.qs_ranges.specs.Numbers.{NumberSet, numbers}
+
+pub record Assembled : Type 0 where
+  pub stored : map.FinMap nat_cmp ℕ
+  pub received : NumberSet
+  pub read_count : ℕ
+  pub window : ℕ
+  pub discarding : Bool
+
+abbrev pub assembled_code : Coded Assembled
+assembled_code =
+    code_by (map.FinMap nat_cmp ℕ × (NumberSet × (ℕ × (ℕ × Bool))))
+    (coded× (map.code coded_ℕ coded_ℕ) (coded× (set.code coded_ℕ) (coded× coded_ℕ (coded× coded_ℕ coded_bool))))
+    (λ a. (a.stored, (a.received, (a.read_count, (a.window, a.discarding)))))
+    (λ p. record { stored = p.0; received = p.1.0; read_count = p.1.1.0; window = p.1.1.1.0; discarding = p.1.1.1.1 })
+    (λ _. refl)
+
+-- nothing came, and bytes within one window may (RFC 9000, section 4.1)
+abbrev pub nothing_yet : ℕ → Assembled
+nothing_yet window = record { stored = map.empty; received = set.empty; read_count = 0; window = window; discarding = false }
+
+-- m, and under each offset from `at` on that didn't come before, the byte that comes there
+unfoldable pub store : NumberSet → map.FinMap nat_cmp ℕ → ℕ → List ℕ → map.FinMap nat_cmp ℕ
+store received m at [] = m
+store received m at (byte ∷ bytes) =
+    store received (if set.contains received at then m else map.insert m at byte) (at + 1) bytes
+
+-- bytes may come in any order and more than once; an offset keeps the byte that came first (RFC 9000, section 2.2)
+abbrev pub put : Assembled → ℕ → List ℕ → Assembled
+put a offset bytes =
+    record a {
+      stored = if a.discarding then a.stored else store a.received a.stored offset bytes;
+      received = set.union a.received (numbers offset (offset + length bytes));
+    }
+
+-- a byte, where there is one, before others
+abbrev pub front_from : Option ℕ → List ℕ → List ℕ
+front_from None bytes = []
+front_from (Some byte) bytes = byte ∷ bytes
+
+-- the bytes from an offset on, up to the first that is missing, and at most so many
+unfoldable pub front : map.FinMap nat_cmp ℕ → ℕ → ℕ → List ℕ
+front m at zero = []
+front m at (suc size) = front_from (map.get m at) (front m (at + 1) size)
+
+-- the bytes at an offset and past it
+unfoldable pub keep_from : map.FinMap nat_cmp ℕ → ℕ → map.FinMap nat_cmp ℕ
+keep_from m at = map.retain_keys m (λ offset. nat_le at offset)
+
+-- the bytes that are next to be read
+abbrev pub front_of : Assembled → ℕ → List ℕ
+front_of a size = front a.stored a.read_count size
+
+-- these bytes are read
+abbrev pub take_front : Assembled → ℕ → Assembled
+take_front a size =
+    let after = a.read_count + length (front_of a size) in
+    record a { stored = keep_from a.stored after; read_count = after }
+
+-- what is stored is thrown away, and so is what comes from now on
+abbrev pub discard : Assembled → Assembled
+discard a = record a { stored = map.empty; discarding = true }

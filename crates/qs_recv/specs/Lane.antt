@@ -1,0 +1,180 @@
+-- The receiving lane of a stream (RFC 9000, section 3.2), and what each call on it answers and leaves.
+use Rattle.std.specs.Prelude.{ℕ, ◌+◌, ◌/◌, Bool, true, false, not, if◌then◌else◌, ◌&&◌, ◌||◌, ◌==◌, nat_le, nat_lt, max, min, List, [], length, Option, None, Some, is_some, unwrap_or, Result, Ok, Err, refl}
+use Rattle.std.specs.Coded.{Coded, code_by, coded×, coded_ℕ, coded_bool, coded_option}
+use Rattle.std.specs.Ordering.{nat_cmp}
+use Rattle.std.specs.FinSet as set
+use Rattle.qs_ranges.specs.Numbers.{NumberSet, MAX_VARINT, covers, end_of}
+use Rattle.qs_recv.specs.declared.half.Read.{Read}
+use Rattle.qs_recv.specs.declared.half.Read.TheVariants.{Bytes, End, Reset, Wait}
+use Rattle.qs_recv.specs.declared.half.RecvState.{RecvState}
+use Rattle.qs_recv.specs.declared.half.RecvState.TheVariants.{Recv, SizeKnown, DataRecvd, DataRead, ResetRecvd, ResetRead}
+use Rattle.qs_recv.specs.declared.half.RecvFault.{RecvFault}
+use Rattle.qs_recv.specs.declared.half.RecvFault.TheVariants.{FinalSize, StreamCredit}
+use Rattle.qs_recv.specs.declared.half.Highest.{Highest}
+use Rattle.qs_recv.specs.Assembled.{Assembled, assembled_code, nothing_yet, put, take_front, front_of, discard}
+
+-- what arrived; the final size, the reset's code and the code of this end's own stop, where known; whether a reader was told of the end or
+-- the reset; and the limit on offsets that was granted (RFC 9000, sections 3.2, 3.5 and 4.1)
+pub record RecvLane : Type 0 where
+  pub arrived : Assembled
+  pub final_size : Option ℕ
+  pub reset_code : Option ℕ
+  pub stop_code : Option ℕ
+  pub told : Bool
+  pub limit : ℕ
+
+abbrev pub lane_code : Coded RecvLane
+lane_code =
+    code_by (Assembled × (Option ℕ × (Option ℕ × (Option ℕ × (Bool × ℕ)))))
+    (coded× assembled_code (coded× (coded_option coded_ℕ) (coded× (coded_option coded_ℕ) (coded× (coded_option coded_ℕ) (coded× coded_bool coded_ℕ)))))
+    (λ l. (l.arrived, (l.final_size, (l.reset_code, (l.stop_code, (l.told, l.limit))))))
+    (λ p. record { arrived = p.0; final_size = p.1.0; reset_code = p.1.1.0; stop_code = p.1.1.1.0; told = p.1.1.1.1.0; limit = p.1.1.1.1.1 })
+    (λ _. refl)
+
+-- nothing arrived, and one window is granted (RFC 9000, section 4.1)
+abbrev pub new_lane : ℕ → RecvLane
+new_lane window =
+    record { arrived = nothing_yet window; final_size = None; reset_code = None; stop_code = None; told = false; limit = window }
+
+-- the final size if known, else one more than the largest offset that came, or 0 (RFC 9000, sections 4.1 and 4.5)
+abbrev pub highest : RecvLane → ℕ
+highest lane = unwrap_or lane.final_size (end_of lane.arrived.received)
+
+-- what the credit is paid back for: the final size once a reset is known, the highest offset once the lane was stopped, else what was read
+-- (RFC 9000, sections 3.5 and 4.2)
+abbrev pub taken : RecvLane → ℕ
+taken lane = if is_some lane.reset_code || is_some lane.stop_code then highest lane else lane.arrived.read_count
+
+-- whether each offset below a known final size came
+abbrev pub whole_to : NumberSet → Option ℕ → Bool
+whole_to received None = false
+whole_to received (Some size) = covers received 0 size
+
+-- whether all data came (RFC 9000, section 3.2)
+abbrev pub is_whole : RecvLane → Bool
+is_whole lane = whole_to lane.arrived.received lane.final_size
+
+-- the state by the last event that counts (RFC 9000, section 3.2)
+abbrev pub state : RecvLane → RecvState
+state lane =
+    if is_some lane.reset_code then (if lane.told then ResetRead else ResetRecvd)
+    else (if is_whole lane then (if lane.told then DataRead else DataRecvd)
+    else (if is_some lane.final_size then SizeKnown else Recv))
+
+-- Data
+
+-- whether a frame with n bytes that end at `end` breaks what is known of the final size, where `before` is the highest offset
+-- (RFC 9000, section 4.5)
+abbrev pub breaks_known : Option ℕ → ℕ → ℕ → Bool → ℕ → Bool
+breaks_known None end n fin before = fin && nat_lt end before
+breaks_known (Some size) end n fin before = (nat_lt 0 n && nat_lt size end) || (fin && not (end == size))
+
+-- whether a frame with n bytes at `offset` names another final size, one below the highest offset, or lies outside the known one
+-- (RFC 9000, section 4.5)
+abbrev pub breaks_final_size : RecvLane → ℕ → ℕ → Bool → Bool
+breaks_final_size lane offset n fin = breaks_known lane.final_size (offset + n) n fin (highest lane)
+
+-- the highest offset once a frame that broke nothing was taken (RFC 9000, section 4.1)
+abbrev pub highest_after : RecvLane → ℕ → ℕ → Bool → ℕ
+highest_after lane offset n fin =
+    if fin then offset + n else (if is_some lane.final_size || n == 0 then highest lane else max (highest lane) (offset + n))
+
+-- the final size comes first, then the credit, which the highest offset and the frame's end must keep (RFC 9000, sections 4.1 and 4.5)
+abbrev pub check_stream : RecvLane → ℕ → ℕ → Bool → Result Highest RecvFault
+check_stream lane offset n fin =
+    if breaks_final_size lane offset n fin then Err FinalSize
+    else (if nat_lt lane.limit (max (highest lane) (offset + n)) then Err StreamCredit
+    else Ok (record { before = highest lane; after = highest_after lane offset n fin }))
+
+-- bytes are put in order, where none is put after a reset; the end tells the final size (RFC 9000, sections 2.2, 3.2 and 4.5)
+abbrev pub take_stream : RecvLane → ℕ → List ℕ → Bool → RecvLane
+take_stream lane offset bytes fin =
+    record lane {
+      arrived = if is_some lane.reset_code then lane.arrived else put lane.arrived offset bytes;
+      final_size = if fin then Some (offset + length bytes) else lane.final_size;
+    }
+
+-- A reset
+
+-- a reset is held against the final size and the credit as a frame that ends the stream there (RFC 9000, sections 4.1 and 4.5)
+abbrev pub check_reset : RecvLane → ℕ → Result Highest RecvFault
+check_reset lane size =
+    if breaks_final_size lane size 0 true then Err FinalSize
+    else (if nat_lt lane.limit size then Err StreamCredit
+    else Ok (record { before = highest lane; after = size }))
+
+-- in Recv and Size Known what is stored is thrown away, and in the other states nothing changes (RFC 9000, section 3.2)
+abbrev pub take_reset : RecvLane → ℕ → ℕ → RecvLane
+take_reset lane code size =
+    if is_some lane.reset_code || is_whole lane then lane
+    else record lane { arrived = discard lane.arrived; final_size = Some size; reset_code = Some code }
+
+-- Reading
+
+-- whether so many bytes are all of the stream
+abbrev pub at_final_size : ℕ → Option ℕ → Bool
+at_final_size count None = false
+at_final_size count (Some size) = count == size
+
+-- the first case that holds: a reset, a stop, the end, the bytes that are next, or none of these (RFC 9000, sections 2.2, 3.2 and 3.5)
+abbrev pub answer_by : Option ℕ → RecvLane → ℕ → Read
+answer_by (Some code) lane room = Reset code
+answer_by None lane room =
+    if is_some lane.stop_code then (if is_whole lane then End else Wait)
+    else (if at_final_size lane.arrived.read_count lane.final_size then End
+    else (if set.contains lane.arrived.received lane.arrived.read_count then Bytes (length (front_of lane.arrived room)) else Wait))
+
+-- what a reader with so much room is told
+abbrev pub read_answer : RecvLane → ℕ → Read
+read_answer lane room = answer_by lane.reset_code lane room
+
+-- the bytes of an answer: those that are next, in order (RFC 9000, section 2.2)
+abbrev pub bytes_of : Read → RecvLane → ℕ → List ℕ
+bytes_of (Bytes n) lane room = front_of lane.arrived room
+bytes_of (End) lane room = []
+bytes_of (Reset code) lane room = []
+bytes_of (Wait) lane room = []
+
+-- the bytes that are handed out with an answer
+abbrev pub bytes_read : RecvLane → ℕ → List ℕ
+bytes_read lane room = bytes_of (read_answer lane room) lane room
+
+-- what was told stays told: Data Read and Reset Read (RFC 9000, section 3.2)
+abbrev pub after_answer : Read → RecvLane → ℕ → RecvLane
+after_answer (Bytes n) lane room = record lane { arrived = take_front lane.arrived room }
+after_answer (End) lane room = record lane { told = true }
+after_answer (Reset code) lane room = record lane { told = true }
+after_answer (Wait) lane room = lane
+
+-- the lane after a read
+abbrev pub after_read : RecvLane → ℕ → RecvLane
+after_read lane room = after_answer (read_answer lane room) lane room
+
+-- A stop
+
+-- what is stored is thrown away, and so is what comes; the first code stays (RFC 9000, section 3.5)
+abbrev pub stop : RecvLane → ℕ → RecvLane
+stop lane code =
+    if is_some lane.stop_code then lane else record lane { arrived = discard lane.arrived; stop_code = Some code }
+
+-- Credit
+
+-- the limit that follows l where t was taken of a window w: it moves by half a window at least, or to its greatest value
+-- (RFC 9000, section 4.2)
+abbrev pub next_limit : ℕ → ℕ → ℕ → ℕ
+next_limit l t w =
+    let m = min MAX_VARINT (t + w) in
+    if nat_le (l + max 1 (w / 2)) m || (m == MAX_VARINT && nat_lt l m) then m else l
+
+-- the limit isn't raised once the final size is known (RFC 9000, sections 4.2 and 4.5)
+abbrev pub raised_limit : RecvLane → ℕ
+raised_limit lane =
+    if is_some lane.final_size then lane.limit else next_limit lane.limit (taken lane) lane.arrived.window
+
+-- the lane with its limit raised
+abbrev pub raise : RecvLane → RecvLane
+raise lane = record lane { limit = raised_limit lane }
+
+-- the new limit, where it rose
+abbrev pub raise_answer : RecvLane → Option ℕ
+raise_answer lane = if nat_lt lane.limit (raised_limit lane) then Some (raised_limit lane) else None

@@ -1,0 +1,7 @@
+pub mod Assembled
+pub mod Chunks
+pub mod Kept
+pub mod Lane
+pub mod Lawful
+pub mod Laws
+pub mod Sound

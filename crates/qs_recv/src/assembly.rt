@@ -1,0 +1,46 @@
+//! What an assembly of arrived bytes promises, however it keeps them (RFC 9000, section 2.2).
+ghost use Rattle.std.specs.Prelude.{◌≡◌, ◌+◌, ◌-◌, ◌≤◌, ◌^◌, ◌++◌, length, drop, false, OnOk, OnErr};
+ghost use Rattle.std.specs.FinMap as map;
+ghost use Rattle.qs_recv.specs.Assembled.{Assembled, nothing_yet, put, take_front, front_of, discard};
+ghost use Rattle.qs_ranges.specs.Numbers.{MAX_VARINT};
+
+use qs_ranges::{NoMemory, RangeSet};
+use std::alloc::Global;
+
+/// The bytes of a stream from the first one that wasn't read on, in whatever order they come.
+pub trait Assembly: Drop {
+    /// What it holds, however it is kept.
+    ghost holds: { Self → Assembled };
+
+    /// An assembly of which at most `window` bytes past those that were read are stored. It takes no memory.
+    fn new(alloc: Global, window: u64) -> Self
+        requires some { 1 ≤ window }
+        requires small { window ≤ 2 ^ 20 }
+        ensures { holds result ≡ nothing_yet window };
+
+    /// Stores the bytes at offsets that didn't come before, and notes the offsets. NoMemory where a growth was refused.
+    fn put(&mut self, offset: u64, bytes: &[u8]) -> Result<(), NoMemory>
+        requires in_range { offset + length bytes.now ≤ MAX_VARINT }
+        requires in_window { (holds self.old).discarding ≡ false
+            → offset + length bytes.now ≤ (holds self.old).read_count + (holds self.old).window }
+        ensures ok { OnOk result (holds self.new ≡ put (holds self.old) offset bytes.now) }
+        ensures err { OnErr result (holds self.new ≡ holds self.old) };
+
+    /// Moves the bytes that are next to be read into the slice's front, and answers how many.
+    fn take(&mut self, into: &mut [u8]) -> usize
+        ensures count { result ≡ length (front_of (holds self.old) (length into.old)) }
+        ensures bytes { into.new ≡ front_of (holds self.old) (length into.old) ++ drop result into.old }
+        ensures rest { holds self.new ≡ take_front (holds self.old) (length into.old) };
+
+    /// Throws the stored bytes away, and those that come from now on.
+    fn discard(&mut self)
+        ensures { holds self.new ≡ discard (holds self.old) };
+
+    /// How many bytes are stored.
+    fn stored(&self) -> u64
+        ensures { result ≡ map.len (holds self.now).stored };
+
+    /// Every offset that came.
+    fn received(&self) -> &RangeSet
+        ensures { result.now ≡ (holds self.now).received };
+}

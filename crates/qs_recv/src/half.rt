@@ -1,0 +1,367 @@
+//! The receiving half of a stream (RFC 9000, sections 2.2, 3.2, 3.5 and 4).
+ghost use Rattle.std.specs.Prelude.{if◌then◌else◌, ◌==◌, max, ◌≡◌, ◌+◌, ◌≤◌, ◌^◌, ◌++◌, length, drop, IsOk, IfOk, OnOk, IfErr};
+ghost use Rattle.std.specs.FinMap as map;
+ghost use Rattle.qs_ranges.specs.Numbers.{MAX_VARINT};
+ghost use Rattle.qs_recv.specs.Lawful.{IsLawful};
+ghost use Rattle.qs_recv.specs.Lane.{new_lane, highest, highest_after, taken, state, check_stream, take_stream, check_reset, take_reset, is_whole, breaks_final_size, read_answer, bytes_read, after_read, stop, raise, raise_answer};
+
+use crate::assembly::Assembly;
+use std::alloc::Global;
+use std::marker::Model;
+
+// The largest value of a variable-length integer.
+const MAX_VARINT: u64 = (1 << 62) - 1;
+
+/// Why data or a reset is refused. The half is left as it was.
+#[derive(Debug, Clone, Copy, PartialEq, Eq, Drop)]
+pub enum RecvFault {
+    /// Another final size is named, or one below what came, or data lies past it: FINAL_SIZE_ERROR (section 4.5).
+    FinalSize,
+    /// The stream's limit is exceeded: FLOW_CONTROL_ERROR (section 4.1).
+    StreamCredit,
+    /// A growth was refused.
+    NoMemory,
+}
+
+/// The highest offset of a stream before and after a frame: the final size if known, else one more than the largest offset
+/// that came, or 0.
+#[derive(Debug, Clone, Copy, PartialEq, Eq, Drop)]
+pub struct Highest {
+    pub before: u64,
+    pub after: u64,
+}
+
+/// What a reader is told: so many bytes were read, all data was read, the stream was reset with a code, or nothing is next.
+#[derive(Debug, Clone, Copy, PartialEq, Eq, Drop)]
+pub enum Read {
+    Bytes(usize),
+    End,
+    Reset(u64),
+    Wait,
+}
+
+/// The states of the receiving part of a stream (section 3.2).
+#[derive(Debug, Clone, Copy, PartialEq, Eq, Drop)]
+pub enum RecvState {
+    Recv,
+    SizeKnown,
+    DataRecvd,
+    DataRead,
+    ResetRecvd,
+    ResetRead,
+}
+
+/// The receiving half of a stream, over any assembly. Offsets and sizes count bytes from the start of the stream.
+#[derive(Drop)]
+pub struct RecvHalf<A: Assembly> {
+    assembly: A,
+    window: u64,
+    read_count: u64,
+    received_end: u64,
+    limit: u64,
+    final_size: Option<u64>,
+    reset_code: Option<u64>,
+    stop_code: Option<u64>,
+    told: bool,
+}
+
+impl<A: Assembly> Model for RecvHalf<A> {
+    ghost use Rattle.qs_recv.specs.Lane.{RecvLane, lane_code};
+    ghost use Rattle.qs_recv.specs.Sound.{IsSound};
+
+    ghost Value = { RecvLane };
+
+    ghost coded = { lane_code };
+
+    ghost view = { λ h. record { arrived = A.holds h.assembly; final_size = h.final_size; reset_code = h.reset_code; stop_code = h.stop_code; told = h.told; limit = h.limit } };
+
+    ghost invariant = { λ h. IsSound (record { arrived = A.holds h.assembly; final_size = h.final_size; reset_code = h.reset_code; stop_code = h.stop_code; told = h.told; limit = h.limit }) h.window h.read_count h.received_end };
+}
+
+impl<A: Assembly> RecvHalf<A> {
+    /// A half that grants `window` bytes beyond what was taken. It takes no memory.
+    pub fn new(alloc: Global, window: u64) -> Self
+        requires some { 1 ≤ window }
+        requires small { window ≤ 2 ^ 20 }
+        ensures { result ≡ new_lane window }
+    {
+        RecvHalf {
+            assembly: A::new(alloc, window),
+            window,
+            read_count: 0,
+            received_end: 0,
+            limit: window,
+            final_size: None,
+            reset_code: None,
+            stop_code: None,
+            told: false,
+        }
+    }
+
+    /// Whether a STREAM frame may be taken, and what it does to the highest offset. The final size is tested before the
+    /// credit.
+    pub fn check_stream(&self, offset: u64, len: u64, fin: bool) -> Result<Highest, RecvFault>
+        requires { offset + len ≤ MAX_VARINT }
+        ensures value { result ≡ check_stream self.now offset len fin }
+        ensures in_range { IfOk result (λ h. h.after ≤ MAX_VARINT) }
+    {
+        if self.breaks_final_size(offset, len, fin) {
+            return Err(RecvFault::FinalSize);
+        }
+        let end = offset + len;
+        let before = self.highest();
+        if before.max(end) > self.limit {
+            return Err(RecvFault::StreamCredit);
+        }
+        let after = if fin {
+            end
+        } else if self.final_size.is_some() || len == 0 {
+            before
+        } else {
+            before.max(end)
+        };
+        Ok(Highest { before, after })
+    }
+
+    /// Takes a STREAM frame that passed the check. The only error is NoMemory, where a growth was refused. After a reset
+    /// or a stop its bytes are counted and thrown away.
+    pub fn take_stream(&mut self, offset: u64, bytes: &[u8], fin: bool) -> Result<(), RecvFault>
+        requires in_range { offset + length bytes.now ≤ MAX_VARINT }
+        requires passed { IsOk (check_stream self.old offset (length bytes.now) fin) }
+        ensures taken { OnOk result (self.new ≡ take_stream self.old offset bytes.now fin) }
+        ensures grown { OnOk result (highest self.new ≡ highest_after self.old offset (length bytes.now) fin) }
+        ensures refused { IfErr result (λ fault. (fault ≡ RecvFault.NoMemory) × (self.new ≡ self.old)) }
+    {
+        let end = offset + bytes.len() as u64;
+        if self.reset_code.is_none() {
+            if self.assembly.put(offset, bytes).is_err() {
+                return Err(RecvFault::NoMemory);
+            }
+            self.received_end = end_with(self.received_end, offset, bytes.len() as u64);
+        }
+        if fin {
+            self.final_size = Some(end);
+        }
+        Ok(())
+    }
+
+    /// Whether a RESET_STREAM frame that names this final size may be taken.
+    pub fn check_reset(&self, size: u64) -> Result<Highest, RecvFault>
+        requires { size ≤ MAX_VARINT }
+        ensures { result ≡ check_reset self.now size }
+    {
+        if self.breaks_final_size(size, 0, true) {
+            return Err(RecvFault::FinalSize);
+        }
+        if size > self.limit {
+            return Err(RecvFault::StreamCredit);
+        }
+        Ok(Highest {
+            before: self.highest(),
+            after: size,
+        })
+    }
+
+    /// Takes a RESET_STREAM frame that passed the check: what is stored is thrown away. Once all data came, or after
+    /// another reset, nothing changes.
+    pub fn take_reset(&mut self, code: u64, size: u64)
+        requires in_range { size ≤ MAX_VARINT }
+        requires passed { IsOk (check_reset self.old size) }
+        ensures after { self.new ≡ take_reset self.old code size }
+        ensures grown { highest self.new ≡ size }
+    {
+        if self.reset_code.is_some() || self.is_whole() {
+            return;
+        }
+        self.assembly.discard();
+        self.final_size = Some(size);
+        self.reset_code = Some(code);
+    }
+
+    /// Reads the bytes that are next into the slice's front, or tells how the stream stands. The rest of the slice stays.
+    pub fn read(&mut self, into: &mut [u8]) -> Read
+        ensures answer { result ≡ read_answer self.old (length into.old) }
+        ensures bytes { let bytes = bytes_read self.old (length into.old) in into.new ≡ bytes ++ drop (length bytes) into.old }
+        ensures after { self.new ≡ after_read self.old (length into.old) }
+        ensures same_highest { highest self.new ≡ highest self.old }
+    {
+        if let Some(code) = self.reset_code {
+            self.told = true;
+            return Read::Reset(code);
+        }
+        if self.stop_code.is_some() {
+            if self.is_whole() {
+                self.told = true;
+                return Read::End;
+            }
+            return Read::Wait;
+        }
+        if self.final_size == Some(self.read_count) {
+            self.told = true;
+            return Read::End;
+        }
+        if !self.assembly.received().has(self.read_count) {
+            return Read::Wait;
+        }
+        let count = self.assembly.take(into);
+        self.read_count += count as u64;
+        Read::Bytes(count)
+    }
+
+    /// Throws the stored bytes away, and those that come from now on (section 3.5). The first code stays.
+    pub fn stop(&mut self, code: u64)
+        ensures after { self.new ≡ stop self.old code }
+        ensures same_highest { highest self.new ≡ highest self.old }
+    {
+        if self.stop_code.is_none() {
+            self.assembly.discard();
+            self.stop_code = Some(code);
+        }
+    }
+
+    /// Raises the limit by what was taken, once that is half a window or more, and answers the new one where it rose
+    /// (section 4.2). Once the final size is known it stays.
+    pub fn raise(&mut self) -> Option<u64>
+        ensures answer { result ≡ raise_answer self.old }
+        ensures after { self.new ≡ raise self.old }
+    {
+        if self.final_size.is_some() {
+            return None;
+        }
+        let next = (self.taken() + self.window).min(MAX_VARINT);
+        let step = (self.window / 2).max(1);
+        if self.limit + step <= next || (next == MAX_VARINT && self.limit < next) {
+            self.limit = next;
+            return Some(next);
+        }
+        None
+    }
+
+    /// What holds of the half at all times.
+    pub fn is_lawful(&self)
+        ensures { IsLawful self.now }
+    {
+        let _ = &self.assembly;
+    }
+
+    /// The limit on the highest offset that was granted (section 4.1).
+    pub fn limit(&self) -> u64
+        ensures { result ≡ self.now.limit }
+    {
+        self.limit
+    }
+
+    /// What credit is paid back for: the final size after a reset, the highest offset after a stop, else the bytes read.
+    pub fn taken(&self) -> u64
+        ensures value { result ≡ taken self.now }
+        ensures in_range { result ≤ MAX_VARINT }
+        ensures within { result ≤ highest self.now }
+    {
+        if self.reset_code.is_some() || self.stop_code.is_some() {
+            self.highest()
+        } else {
+            self.read_count
+        }
+    }
+
+    /// The final size if known, else one more than the largest offset that came, or 0.
+    pub fn highest(&self) -> u64
+        ensures value { result ≡ highest self.now }
+        ensures in_range { result ≤ MAX_VARINT }
+    {
+        self.final_size.unwrap_or(self.received_end)
+    }
+
+    /// How long the stream is, where that is known (section 4.5).
+    pub fn final_size(&self) -> Option<u64>
+        ensures { result ≡ self.now.final_size }
+    {
+        self.final_size
+    }
+
+    /// The state by what came and what a reader was told (section 3.2).
+    pub fn state(&self) -> RecvState
+        ensures { result ≡ state self.now }
+    {
+        if self.reset_code.is_some() {
+            if self.told {
+                RecvState::ResetRead
+            } else {
+                RecvState::ResetRecvd
+            }
+        } else if self.is_whole() {
+            if self.told {
+                RecvState::DataRead
+            } else {
+                RecvState::DataRecvd
+            }
+        } else if self.final_size.is_some() {
+            RecvState::SizeKnown
+        } else {
+            RecvState::Recv
+        }
+    }
+
+    /// How many bytes are stored and not read.
+    pub fn stored(&self) -> u64
+        ensures value { result ≡ map.len self.now.arrived.stored }
+        ensures within { result + taken self.now ≤ highest self.now }
+    {
+        self.assembly.stored()
+    }
+
+    /// How many bytes were read.
+    pub fn read_count(&self) -> u64
+        ensures { result ≡ self.now.arrived.read_count }
+    {
+        self.read_count
+    }
+
+    /// The code of the first stop, if there was one.
+    pub fn stop_code(&self) -> Option<u64>
+        ensures { result ≡ self.now.stop_code }
+    {
+        self.stop_code
+    }
+
+    /// The code of the reset that was taken, if there was one.
+    pub fn reset_code(&self) -> Option<u64>
+        ensures { result ≡ self.now.reset_code }
+    {
+        self.reset_code
+    }
+
+    // Whether the final size is known and every offset below it came.
+    fn is_whole(&self) -> bool
+        ensures { result ≡ is_whole self.now }
+    {
+        match self.final_size {
+            Some(size) => self.assembly.received().covers(0, size),
+            None => false,
+        }
+    }
+
+    // Whether a frame with len bytes at offset names another final size, or lies outside the known one.
+    fn breaks_final_size(&self, offset: u64, len: u64, fin: bool) -> bool
+        requires { offset + len ≤ MAX_VARINT }
+        ensures { result ≡ breaks_final_size self.now offset len fin }
+    {
+        let end = offset + len;
+        match self.final_size {
+            Some(size) => (len > 0 && size < end) || (fin && end != size),
+            None => fin && end < self.highest(),
+        }
+    }
+}
+
+// One more than the largest offset, once the len offsets from another one on came too.
+fn end_with(before: u64, offset: u64, len: u64) -> u64
+    requires { offset + len ≤ MAX_VARINT }
+    ensures { result ≡ (if len == 0 then before else max before (offset + len)) }
+{
+    if len == 0 {
+        before
+    } else {
+        before.max(offset + len)
+    }
+}

@@ -1,0 +1,33 @@
+//! Laws on receiving lanes, each the contract of a function.
+ghost use Rattle.qs_recv.specs.Laws.{NewLanesAreLawful, CallsKeepLanesLawful, CallsNeverTakeBack, StoredBytesWereGranted, CreditIsWithinWindow, StoredBytesWereSent};
+
+/// A new lane is lawful.
+pub fn new_lanes_are_lawful()
+    ensures { NewLanesAreLawful }
+{}
+
+/// Every call keeps a lane lawful.
+pub fn calls_keep_lanes_lawful()
+    ensures { CallsKeepLanesLawful }
+{}
+
+/// No call lowers the highest offset, the taken count or the limit, forgets what was received, or changes a known
+/// final size.
+pub fn calls_never_take_back()
+    ensures { CallsNeverTakeBack }
+{}
+
+/// The stored bytes of a lane number at most its limit less its taken count.
+pub fn stored_bytes_were_granted()
+    ensures { StoredBytesWereGranted }
+{}
+
+/// The limit of a lane less its taken count is at most its window.
+pub fn credit_is_within_window()
+    ensures { CreditIsWithinWindow }
+{}
+
+/// Where each frame carries the bytes that were sent at its offset, each stored byte is the one that was sent there.
+pub fn stored_bytes_were_sent()
+    ensures { StoredBytesWereSent }
+{}

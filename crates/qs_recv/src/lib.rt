@@ -1,0 +1,15 @@
+//! The receiving half of a stream: what arrived is put in order, read once, and paid back as credit.
+#![tactic(auto)]
+
+mod assembly;
+mod chunk;
+mod chunk_assembly;
+mod chunk_list;
+mod half;
+pub mod laws;
+#[cfg(test)]
+mod tests;
+
+pub use assembly::Assembly;
+pub use chunk_assembly::ChunkAssembly;
+pub use half::{Highest, Read, RecvFault, RecvHalf, RecvState};

@@ -1,0 +1,13 @@
+pub mod Numbers
+pub mod Runs
+pub mod Choose
+pub mod Sets
+pub mod Missing
+pub mod Steps
+pub mod Keeps
+pub mod Packets
+pub mod Held
+pub mod Canonical
+pub mod Wholes
+pub mod Calls
+pub mod Parting

@@ -1,0 +1,6 @@
+pub mod Lane
+pub mod Chunks
+pub mod Sound
+pub mod Calls
+pub mod Parts
+pub mod Laws

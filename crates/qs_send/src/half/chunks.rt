@@ -1,0 +1,171 @@
+//! Which chunk of a half goes out next, and what it holds.
+ghost use Rattle.std.specs.Prelude.{◌≡◌, ◌+◌, ◌≤◌, ◌<◌, ◌↔◌, IsTrue, ℕ, length, IfSome, IfNone};
+ghost use Rattle.qs_ranges.specs.Numbers.{MAX_VARINT, IsRunFrom, EndsBefore, IsLeastFrom};
+ghost use Rattle.qs_wire.specs.Varint.{short_len};
+ghost use Rattle.qs_send.specs.Chunks.{IsNextChunk, HasNoChunk, IsHeldByRoom, HasBytes, WasSent, offset_len, frame_len};
+ghost use Rattle.qs_send.specs.Lane.{bytes_of};
+
+use super::SendHalf;
+use crate::fit::longest_fit;
+use crate::parts::Chunk;
+use qs_wire::varint_len;
+
+impl SendHalf {
+    /// The longest chunk from the lowest due offset on whose STREAM frame takes at most `room` bytes, with
+    /// `fresh` bytes of connection credit left for bytes that were never sent. It carries the end where
+    /// the end is due and it reaches the last written byte. `None` where no chunk may go.
+    pub fn next_chunk(&self, room: usize, fresh: u64) -> Option<Chunk>
+        ensures found { IfSome result (IsNextChunk self.now room fresh) }
+        ensures none { IfNone result (HasNoChunk self.now room fresh) }
+        ensures kept { IfSome result (HasBytes self.now.lane) }
+    {
+        self.is_lawful();
+        let Some((offset, end)) = self.due_run() else {
+            return self.end_chunk(room);
+        };
+        let head = self.head_len(offset);
+        if room <= head {
+            return None;
+        }
+        let most = end
+            .min(self.limit())
+            .min(self.sent_end().saturating_add(fresh));
+        if most <= offset {
+            return None;
+        }
+        let len = longest_fit(room - head, most - offset);
+        if len == 0 {
+            return None;
+        }
+        let fin = self.end_due() && offset + len == self.written();
+        Some(Chunk {
+            offset,
+            len: len as usize,
+            fin,
+        })
+    }
+
+    /// Whether the room alone holds a chunk back: one that is due, below the stream's limit and within the
+    /// credit, and whose frame is longer than `room`.
+    pub fn is_held_by_room(&self, room: usize, fresh: u64) -> bool
+        ensures { IsTrue result ↔ IsHeldByRoom self.now room fresh }
+    {
+        self.is_lawful();
+        match self.next_chunk(usize::MAX, fresh) {
+            Some(chunk) => self.frame_len(chunk) > room,
+            None => false,
+        }
+    }
+
+    /// The lowest due offset.
+    pub fn lowest_due(&self) -> Option<u64>
+        ensures found { IfSome result (IsLeastFrom self.now.due.offsets 0) }
+        ensures none { IfNone result (EndsBefore self.now.due.offsets 0) }
+    {
+        let (offset, _) = self.due_run()?;
+        Some(offset)
+    }
+
+    /// Whether the end is due.
+    pub fn end_due(&self) -> bool
+        ensures { result ≡ self.now.due.fin }
+    {
+        self.fin_noted && !self.fin_acked
+    }
+
+    /// The bytes of a chunk that is still in the buffer.
+    pub fn bytes(&self, chunk: Chunk) -> &[u8]
+        requires { HasBytes self.now.lane chunk }
+        ensures bytes { result.now ≡ bytes_of self.now.lane chunk }
+        ensures len { length result.now ≡ chunk.len }
+    {
+        let first = self.written - self.kept.len() as u64;
+        self.kept.part((chunk.offset - first) as usize, chunk.len)
+    }
+
+    /// Writes the bytes of a chunk that is still in the buffer into the slice.
+    pub fn copy(&self, chunk: Chunk, into: &mut [u8])
+        requires kept { HasBytes self.now.lane chunk }
+        requires fits { length into.old ≡ chunk.len }
+        ensures { into.new ≡ bytes_of self.now.lane chunk }
+    {
+        into.copy_from_slice(self.bytes(chunk));
+    }
+
+    /// How many bytes the chunk's STREAM frame takes (RFC 9000, section 19.8).
+    pub fn frame_len(&self, chunk: Chunk) -> usize
+        requires { HasBytes self.now.lane chunk }
+        ensures exact { result ≡ frame_len self.now.lane.id chunk.offset chunk.len }
+        ensures some { chunk.len < result }
+    {
+        let _written = self.written;
+        self.head_len(chunk.offset) + varint_len(chunk.len as u64) + chunk.len
+    }
+
+    /// Whether the chunk was sent at some time.
+    pub fn has_sent(&self, chunk: Chunk) -> bool
+        ensures { IsTrue result ↔ WasSent self.now.lane chunk }
+    {
+        chunk.offset <= self.sent_end
+            && chunk.len as u64 <= self.sent_end - chunk.offset
+            && (!chunk.fin || self.fin_sent)
+    }
+
+    // The lowest due offsets that stand in a row.
+    fn due_run(&self) -> Option<(u64, u64)>
+        ensures found { IfSome result (IsRunFrom self.now.due.offsets 0) }
+        ensures none { IfNone result (EndsBefore self.now.due.offsets 0) }
+        ensures within { IfSome result (λ run. run.1 ≤ self.now.lane.written) }
+    {
+        let mut from = 0;
+        while let Some((start, end)) = self.noted.run_from(from) {
+            let low = self.acked.first_missing(start);
+            if low < end {
+                let high = match self.acked.run_from(low) {
+                    Some((next, _)) => next.min(end),
+                    None => end,
+                };
+                return Some((low, high));
+            }
+            from = low;
+        }
+        None
+    }
+
+    // A frame without bytes, where no byte is due.
+    #[tactic(auto, using(crate::proofs::Keeps::due_has_bytes))]
+    fn end_chunk(&self, room: usize) -> Option<Chunk>
+        requires { EndsBefore self.now.due.offsets 0 }
+        ensures found { (fresh : ℕ) → IfSome result (IsNextChunk self.now room fresh) }
+        ensures none { (fresh : ℕ) → IfNone result (HasNoChunk self.now room fresh) }
+        ensures kept { IfSome result (HasBytes self.now.lane) }
+    {
+        self.is_lawful();
+        if !self.end_due() {
+            return None;
+        }
+        let offset = self.written();
+        if room <= self.head_len(offset) {
+            return None;
+        }
+        Some(Chunk {
+            offset,
+            len: 0,
+            fin: true,
+        })
+    }
+
+    // The length of a frame's type, stream and offset.
+    fn head_len(&self, offset: u64) -> usize
+        requires { offset ≤ MAX_VARINT }
+        ensures exact { result ≡ 1 + short_len self.now.lane.id + offset_len offset }
+        ensures small { result ≤ 17 }
+    {
+        let id_len = varint_len(self.id.value());
+        if offset == 0 {
+            1 + id_len
+        } else {
+            1 + id_len + varint_len(offset)
+        }
+    }
+}

@@ -1,0 +1,16 @@
+//! The sending half of a stream: what is written goes out in chunks, and again where a chunk was lost.
+#![tactic(auto)]
+
+mod edits;
+mod fit;
+mod half;
+mod kept;
+pub mod laws;
+mod parts;
+mod piece;
+#[cfg(test)]
+mod tests;
+
+pub use half::SendHalf;
+pub use parts::{Chunk, Reset, SendFault, SendState};
+pub use piece::{Item, Piece};

@@ -1,0 +1,26 @@
+//! The packet number at which the ranges of an ACK begin.
+
+ghost use Rattle.std.specs.Prelude.{◌≡◌, ◌^◌, ◌<◌};
+
+/// The largest packet number that an ACK names.
+#[derive(Clone, Copy, Debug)]
+pub struct Largest {
+    number: u64,
+    ghost in_range: { number < 2 ^ 62 },
+}
+
+impl Largest {
+    pub fn new(number: u64) -> Largest
+        requires { number < 2 ^ 62 }
+        ensures { result.number ≡ number }
+    {
+        Largest { number }
+    }
+
+    pub fn number(self) -> u64
+        ensures number { result ≡ self.number }
+        ensures in_range { result < 2 ^ 62 }
+    {
+        self.number
+    }
+}

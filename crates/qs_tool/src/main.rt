@@ -1,0 +1,50 @@
+//! The program: shows the frames of a payload.
+#![tactic(auto)]
+
+mod fields;
+mod frame_text;
+mod frames;
+mod largest;
+mod request;
+mod status;
+#[cfg(test)]
+mod tests;
+
+use crate::frames::run_frames;
+use crate::request::Request;
+use crate::status::Status;
+use std::process::ExitCode;
+use std::{env, io};
+
+fn main(rt: HostRuntime) -> ExitCode {
+    let status = run(&rt);
+    let told = match status {
+        Status::Success | Status::FaultShown => Ok(()),
+        Status::BadUsage => rt.eprintln("qstream: bad usage"),
+        Status::Failed => rt.eprintln("qstream: failed"),
+    };
+    match told {
+        Ok(()) => ExitCode::from(status.code()),
+        Err(_) => ExitCode::from(Status::Failed.code()),
+    }
+}
+
+fn run(rt: &HostRuntime) -> Status {
+    let words: Vec<String> = match arguments(rt) {
+        Ok(words) => words,
+        Err(status) => return status,
+    };
+    match Request::parse(rt.alloc(), &words) {
+        Ok(Request::Frames(hex)) => run_frames(rt.alloc(), hex, &mut io::writer(rt)),
+        Err(status) => status,
+    }
+}
+
+/// The words of the command line. One that is no text makes no sense.
+fn arguments(rt: &HostRuntime) -> Result<Vec<String>, Status> {
+    match env::args(rt) {
+        Ok(words) => words.collect(rt.alloc()).map_err(|_| Status::Failed),
+        Err(error) if error.kind() == io::ErrorKind::InvalidData => Err(Status::BadUsage),
+        Err(_) => Err(Status::Failed),
+    }
+}

@@ -1,0 +1,13 @@
+pub mod FaultAgain
+pub mod FaultLaws
+pub mod FieldLaws
+pub mod FitLaws
+pub mod Lengths
+pub mod Numbers
+pub mod PairLaws
+pub mod PayloadLaws
+pub mod Payloads
+pub mod Ranges
+pub mod Shapes
+pub mod Types
+pub mod Writes

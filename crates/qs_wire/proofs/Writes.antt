@@ -1,0 +1,62 @@
+-- One write after another.
+use Rattle.std.proofs.Common.{◌≡◌, ℕ, zero, suc, get_or, ◌+◌, ◌<◌, ◌≤◌, List, [], ◌∷◌, ◌++◌, length, take, drop, sym, ap, ◌∙◌, append_assoc, arith}
+use Rattle.std.specs.List.{flat_map, AllByRecursion}
+use Rattle.std.proofs.lemmas.List.Concat.{flat_map-append}
+use Rattle.std.proofs.lemmas.List.{take_more, take_all, append-nil, length-append, length-take-le, length-drop, take-append-drop, take_at, drop_at, drop-drop}
+use Rattle.qs_wire.specs.declared.writing.Part.{Part}
+use Rattle.qs_wire.specs.Varint.{short}
+use Rattle.qs_wire.specs.Grammar.{IsIdentifierLength}
+use Rattle.qs_wire.proofs.Numbers.{short_byte}
+use Rattle.qs_wire.specs.Writing.{Puts, PartFits, part_text}
+
+-- nothing is written
+pub Puts-none : (at : ℕ) (old : List ℕ) → at ≤ length old → Puts at [] old old
+Puts-none at old le = record { room = omega arith; is = sym (take-append-drop at old) ∙ ap (λ (n : ℕ). take at old ++ drop n old) (omega arith) }
+
+pub Puts-then : (at next : ℕ) (a b old mid new : List ℕ) → Puts at a old mid → next ≡ at + length a → Puts next b mid new → Puts at (a ++ b) old new
+Puts-then at next a b old mid new p e q =
+    let front : List ℕ = take at old ++ a in
+    let len : length front ≡ next = omega (arith, length-append (take at old) a, length-take-le at old (omega (arith, p.room)), e) in
+    let parts : mid ≡ front ++ drop (at + length a) old = p.is ∙ sym (append_assoc (take at old) a (drop (at + length a) old)) in
+    let begins : take next mid ≡ front = ap (take next) parts ∙ take_at front (drop (at + length a) old) next len in
+    let here : drop next mid ≡ drop (at + length a) old = ap (drop next) parts ∙ drop_at front (drop (at + length a) old) next len in
+    let ends : drop (next + length b) mid ≡ drop (at + length (a ++ b)) old =
+    sym (drop-drop (length b) next mid) ∙ ap (drop (length b)) here ∙ drop-drop (length b) (at + length a) old ∙ ap (λ (n : ℕ). drop n old) (omega (arith, length-append a b)) in
+    let whole : length mid ≡ length old = ap length parts ∙ omega (arith, length-append front (drop (at + length a) old), length-append (take at old) a, length-take-le at old (omega (arith, p.room)), length-drop (at + length a) old, p.room) in
+    record {
+      room = omega (arith, q.room, length-append a b, e, whole);
+      is = q.is ∙ ap (λ (t : List ℕ). t ++ (b ++ drop (next + length b) mid)) begins ∙ ap (λ (t : List ℕ). front ++ (b ++ t)) ends
+          ∙ append_assoc (take at old) a (b ++ drop (at + length (a ++ b)) old) ∙ ap (λ (t : List ℕ). take at old ++ t) (sym (append_assoc a b (drop (at + length (a ++ b)) old)));
+    }
+
+-- what is written at the front
+pub Puts-front : (text old new : List ℕ) → Puts 0 text old new → new ≡ text ++ drop (length text) old
+Puts-front text old new p = p.is ∙ ap (λ (n : ℕ). text ++ drop n old) (omega arith)
+
+pub Puts-at_front : (text old new : List ℕ) → length text ≤ length old → new ≡ text ++ drop (length text) old → Puts 0 text old new
+Puts-at_front text old new le e = record { room = omega arith; is = e ∙ ap (λ (n : ℕ). text ++ drop n old) (omega arith) }
+
+-- one byte counts an identifier
+pub identifier_text : (v : List ℕ) → IsIdentifierLength (length v) → short (length v) ++ v ≡ length v ∷ v
+identifier_text v h = ap (λ (t : List ℕ). t ++ v) (short_byte (length v) (omega (arith, h.1)))
+
+-- ---- the parts, one after the other
+
+-- the text of one more part
+pub text_more : (ps : List Part) (i : ℕ) (d : Part) → i < length ps → flat_map part_text (take (i + 1) ps) ≡ flat_map part_text (take i ps) ++ part_text (get_or ps i d)
+text_more ps i d lt = ap (flat_map part_text) (take_more ps i d lt) ∙ flat_map-append part_text (take i ps) (get_or ps i d ∷ []) ∙ ap (λ (t : List ℕ). flat_map part_text (take i ps) ++ t) (append-nil (part_text (get_or ps i d)))
+
+pub text_all : (ps : List Part) (i : ℕ) → length ps ≤ i → flat_map part_text (take i ps) ≡ flat_map part_text ps
+text_all ps i le = ap (flat_map part_text) (take_all i ps le)
+
+-- the parts up to one are no longer than all of them
+pub text_within : (ps : List Part) (i : ℕ) → length (flat_map part_text (take i ps)) ≤ length (flat_map part_text ps)
+text_within ps i = omega (arith, ap (λ (qs : List Part). length (flat_map part_text qs)) (sym (take-append-drop i ps)), ap length (flat_map-append part_text (take i ps) (drop i ps)), length-append (flat_map part_text (take i ps)) (flat_map part_text (drop i ps)))
+
+pub part_fits : (ps : List Part) (i : ℕ) (d : Part) → AllByRecursion PartFits ps → i < length ps → PartFits (get_or ps i d)
+part_fits [] i d h lt = absurd (omega arith)
+part_fits (p ∷ ps) zero d h lt = h.0
+part_fits (p ∷ ps) (suc i) d h lt = part_fits ps i d h.1 (omega arith)
+
+pub length_more : (ps : List Part) (i : ℕ) (d : Part) → i < length ps → length (flat_map part_text (take (i + 1) ps)) ≡ length (flat_map part_text (take i ps)) + length (part_text (get_or ps i d))
+length_more ps i d lt = ap length (text_more ps i d lt) ∙ length-append (flat_map part_text (take i ps)) (part_text (get_or ps i d))

@@ -1,0 +1,158 @@
+//! The ranges of an ACK frame (RFC 9000, section 19.3.1).
+
+ghost use Rattle.std.specs.Prelude.{◌≡◌, ℕ, ◌+◌, ◌-◌, ◌^◌, ◌<◌, ◌≤◌, [], ◌∷◌, ◌++◌, length, take, drop, MatchOption, IfSome, IfOk, IfErr};
+ghost use Rattle.std.specs.List.{flat_map};
+ghost use Rattle.qs_wire.specs.Varint.{short, numbers_of};
+ghost use Rattle.qs_wire.specs.Layout.{ack_ranges_of};
+ghost use Rattle.qs_wire.specs.Grammar.{canonical};
+ghost use Rattle.qs_wire.specs.Writing.{Puts};
+ghost use Rattle.qs_wire.specs.Acks.{LiesBelow, AreApartBelow, AreAckPairs, gaps_below, ack_of};
+
+use crate::fault::Full;
+use crate::varint::{read_varint, varint_len};
+use crate::writing::{Part, put_number, put_parts};
+use std::marker::Model;
+
+/// Gives the ranges of an ACK frame as smallest and largest packet number, the highest first.
+#[derive(Debug, Drop)]
+pub struct AckRanges<'a> {
+    largest: u64,
+    rest: &'a [u8],
+}
+
+// Clauses see the ranges that are left.
+impl<'a> Model for AckRanges<'a> {
+    ghost use Rattle.std.specs.Prelude.{ℕ, List, ◌^◌, ◌<◌};
+    ghost use Rattle.qs_wire.specs.Varint.{numbers_of};
+    ghost use Rattle.qs_wire.specs.Layout.{ack_ranges_of};
+
+    ghost Value = { List (ℕ × ℕ) };
+
+    ghost view = { λ r. ack_ranges_of r.largest (numbers_of r.rest.now) };
+
+    ghost invariant = { λ r. r.largest < 2 ^ 62 };
+}
+
+impl<'a> AckRanges<'a> {
+    /// The ranges below a frame's largest number.
+    pub fn new(largest: u64, ranges: &'a [u8]) -> AckRanges<'a>
+        requires { largest < 2 ^ 62 }
+        ensures { result ≡ ack_ranges_of largest (numbers_of ranges.now) }
+    {
+        AckRanges {
+            largest,
+            rest: ranges,
+        }
+    }
+
+    /// The smallest and the largest number of the next range, `None` after the last. A range that fell
+    /// below zero, which no frame has that was read, begins at 0.
+    pub fn next(&mut self) -> Option<(u64, u64)>
+        ensures step { MatchOption result ((self.old ≡ []) × (self.new ≡ [])) (λ range. self.old ≡ range ∷ self.new) }
+        ensures ordered { IfSome result (λ range. (range.0 ≤ range.1) × (range.1 < 2 ^ 62)) }
+    {
+        let largest = self.largest;
+        let Some((len, used)) = read_varint(self.rest) else {
+            return None;
+        };
+        let (_, rest) = self.rest.split_at(used);
+        let smallest = largest.saturating_sub(len);
+        self.rest = rest;
+        if let Some((gap, used)) = read_varint(rest) {
+            let (_, after) = rest.split_at(used);
+            self.largest = smallest.saturating_sub(gap + 2);
+            self.rest = after;
+        }
+        Some((smallest, largest))
+    }
+}
+
+/// The two numbers that spell a range below the range that begins at a number.
+fn gap_and_length(above: u64, pair: (u64, u64)) -> (u64, u64)
+    requires lies { LiesBelow above pair }
+    requires below { above ≤ 2 ^ 62 }
+    ensures gap { result.0 ≡ (above - pair.1) - 1 }
+    ensures len { result.1 ≡ (pair.1 - 1) - pair.0 }
+    ensures small { (result.0 < 2 ^ 62) × (result.1 < 2 ^ 62) }
+{
+    let (start, end) = pair;
+    (above - end - 1, end - 1 - start)
+}
+
+/// How many of the ranges below a number fit the room, and how many bytes they take.
+fn ranges_within(smallest: u64, pairs: &[(u64, u64)], room: usize) -> (usize, usize)
+    requires apart { AreApartBelow smallest pairs.now }
+    requires below { smallest ≤ 2 ^ 62 }
+    ensures count { result.0 ≤ length pairs.now }
+    ensures len { result.1 ≡ length (flat_map short (gaps_below smallest (take result.0 pairs.now))) }
+    ensures within { result.1 ≤ room }
+    ensures most { (n : ℕ) → result.0 < n → n ≤ length pairs.now → room < length (flat_map short (gaps_below smallest (take n pairs.now))) }
+{
+    let mut above = smallest;
+    let mut count = 0;
+    let mut len = 0;
+    for pair in pairs {
+        let (gap, range) = gap_and_length(above, *pair);
+        let more = varint_len(gap) + varint_len(range);
+        if more > room - len {
+            return (count, len);
+        }
+        count += 1;
+        len += more;
+        above = pair.0;
+    }
+    (count, len)
+}
+
+/// Writes the ranges below a number, at a place.
+fn put_ranges(smallest: u64, pairs: &[(u64, u64)], at: usize, out: &mut [u8])
+    requires apart { AreApartBelow smallest pairs.now }
+    requires below { smallest ≤ 2 ^ 62 }
+    requires room { at + length (flat_map short (gaps_below smallest pairs.now)) ≤ length out.old }
+    ensures { Puts at (flat_map short (gaps_below smallest pairs.now)) out.old out.new }
+{
+    let mut above = smallest;
+    let mut next = at;
+    for pair in pairs {
+        let (gap, range) = gap_and_length(above, *pair);
+        next = put_number(gap, next, out);
+        next = put_number(range, next, out);
+        above = pair.0;
+    }
+}
+
+const ACK: u64 = 0x02;
+
+/// Writes an ACK frame without delay and ECN counts, of as many ranges as fit, at the slice's front, and
+/// answers how many and the frame's length in bytes. The ranges are half-open, the highest first. Where
+/// not even one fits, nothing is written.
+pub fn put_ack(pairs: &[(u64, u64)], out: &mut [u8]) -> Result<(usize, usize), Full>
+    requires { AreAckPairs pairs.now }
+    ensures some { IfOk result (λ x. (0 < x.0) × (x.0 ≤ length pairs.now)) }
+    ensures written { IfOk result (λ x. (x.1 ≡ length (canonical (ack_of (take x.0 pairs.now)))) × (x.1 ≤ length out.old)
+        × (out.new ≡ canonical (ack_of (take x.0 pairs.now)) ++ drop x.1 out.old)) }
+    // More ranges would not fit.
+    ensures most { IfOk result (λ x. (n : ℕ) → x.0 < n → n ≤ length pairs.now → length out.old < length (canonical (ack_of (take n pairs.now)))) }
+    ensures full { IfErr result (λ _. (length out.old < length (canonical (ack_of (take 1 pairs.now)))) × (out.new ≡ out.old)) }
+{
+    let (start, end) = pairs[0];
+    let (_, others) = pairs.split_at(1);
+    let first = varint_len(end - 1) + varint_len(end - 1 - start) + 3;
+    if first > out.len() {
+        return Err(Full);
+    }
+    let (count, len) = ranges_within(start, others, out.len() - first);
+    put_parts(
+        &[
+            Part::Number(ACK),
+            Part::Number(end - 1),
+            Part::Number(0),
+            Part::Number(count as u64),
+            Part::Number(end - 1 - start),
+        ],
+        out,
+    );
+    let (fitting, _) = others.split_at(count);
+    put_ranges(start, fitting, first, out);
+    Ok((count + 1, first + len))
+}

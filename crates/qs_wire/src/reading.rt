@@ -1,0 +1,119 @@
+//! Reading the frame that begins the bytes.
+
+ghost use Rattle.std.specs.Prelude.{◌≡◌, ℕ, ◌+◌, ◌-◌, ◌^◌, ◌<◌, length, nat_lt, IfOk};
+ghost use Rattle.qs_wire.specs.Varint.{numbers_of};
+ghost use Rattle.qs_wire.specs.Layout.{view, taken};
+ghost use Rattle.qs_wire.specs.Grammar.{Fits};
+ghost use Rattle.qs_wire.specs.Reading.{Gives, LargestFits, breach_of, number_of_type_at, frame_at, reading_from, with_first, placed_at};
+
+use crate::bodies::body_at;
+use crate::fault::FaultKind;
+use crate::frame::Frame;
+use crate::frame_type::FrameType;
+use crate::varint::{read_varint, varint_len};
+
+/// What is wrong with a frame, of which type.
+#[derive(Clone, Copy, Debug)]
+pub(crate) struct Broken {
+    pub(crate) kind: FaultKind,
+    pub(crate) frame_type: u64,
+}
+
+/// Whether ranges that begin at a number fall below zero.
+fn falls_below_zero(largest: u64, numbers: &[u8]) -> bool
+    requires { largest < 2 ^ 62 }
+    ensures { result ≡ nat_lt (largest + 1) (taken (numbers_of numbers.now)) }
+{
+    let mut left = largest + 1;
+    let mut rest = numbers;
+    while let Some((value, len)) = read_varint(rest) {
+        if value >= left {
+            return true;
+        }
+        left -= value + 1;
+        let (_, after) = rest.split_at(len);
+        rest = after;
+    }
+    false
+}
+
+/// What a frame's values break.
+fn breach_of(frame: &Frame) -> Option<FaultKind>
+    requires { LargestFits (view frame.now) }
+    ensures { result ≡ breach_of (view frame.now) }
+{
+    match *frame {
+        Frame::Stream { offset, bytes, .. } | Frame::Crypto { offset, bytes } => {
+            let end = offset.checked_add(bytes.len() as u64);
+            match end {
+                Some(end) if end < 1 << 62 => None,
+                _ => Some(FaultKind::OffsetTooLarge),
+            }
+        }
+        Frame::MaxStreams { count, .. } | Frame::StreamsBlocked { count, .. } => {
+            if count > 1 << 60 {
+                Some(FaultKind::CountTooLarge)
+            } else {
+                None
+            }
+        }
+        Frame::Ack {
+            largest,
+            ranges,
+            ..
+        } => {
+            if falls_below_zero(largest, ranges) {
+                Some(FaultKind::BelowZero)
+            } else {
+                None
+            }
+        }
+        _ => None,
+    }
+}
+
+#[tactic(auto, unfolding(crate::specs::Reading::number_of_type_at))]
+fn type_at(bytes: &[u8]) -> Result<(u64, &[u8]), Broken>
+    ensures { Gives (λ x. (x.0, x.1.now)) result (number_of_type_at bytes.now) }
+{
+    let Some((frame_type, len)) = read_varint(bytes) else {
+        return Err(Broken {
+            kind: FaultKind::Truncated,
+            frame_type: 0,
+        });
+    };
+    if len != varint_len(frame_type) {
+        return Err(Broken {
+            kind: FaultKind::LongType,
+            frame_type,
+        });
+    }
+    Ok((frame_type, &bytes[len..]))
+}
+
+/// The frame that begins the bytes behind the number of its type, and the bytes after it.
+#[tactic(auto, unfolding(crate::specs::Reading::frame_at))]
+pub(crate) fn frame_at(bytes: &[u8]) -> Result<(u64, Frame<'_>, &[u8]), Broken>
+    ensures gives { Gives (λ x. (x.0, view x.1, x.2.now)) result (frame_at bytes.now) }
+    ensures fits { IfOk result (λ x. Fits (view x.1)) }
+    ensures shorter { IfOk result (λ x. length x.2.now < length bytes.now) }
+    // The frames of the bytes are this one and those after it.
+    ensures more { IfOk result (λ x. (place : ℕ) → reading_from place bytes.now
+        ≡ with_first (placed_at place x.0 (view x.1)) (reading_from (place + (length bytes.now - length x.2.now)) x.2.now)) }
+{
+    let (frame_type, rest) = type_at(bytes)?;
+    let Some(known) = FrameType::of(frame_type) else {
+        return Err(Broken {
+            kind: FaultKind::UnknownType,
+            frame_type,
+        });
+    };
+    let (frame, rest) = match body_at(known, rest) {
+        Ok(x) => x,
+        Err(kind) => return Err(Broken { kind, frame_type }),
+    };
+    if let Some(kind) = breach_of(&frame) {
+        return Err(Broken { kind, frame_type });
+    }
+    Ok((frame_type, frame, rest))
+}

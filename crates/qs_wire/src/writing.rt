@@ -1,0 +1,398 @@
+//! Writing frames.
+
+ghost use Rattle.std.specs.Prelude.{◌≡◌, ℕ, ◌+◌, ◌^◌, ◌<◌, ◌≤◌, [], ◌++◌, length, drop, Some, if◌then◌else◌, IfSome, IfNone, IfOk, IfErr};
+ghost use Rattle.std.specs.List.{flat_map, AllByRecursion};
+ghost use Rattle.qs_wire.specs.Varint.{short, short_len, numbers_of};
+ghost use Rattle.qs_wire.specs.Layout.{view, number_of_type};
+ghost use Rattle.qs_wire.specs.Grammar.{canonical, counts_of, CountsFit, Fits};
+ghost use Rattle.qs_wire.specs.Writing.{Puts, part_text, PartFits};
+
+use crate::fault::Full;
+use crate::frame::{EcnCounts, Frame};
+use crate::frame_type::FrameType;
+use crate::varint::{read_varint, spell, varint_len};
+
+/// A part of a frame's canonical text.
+#[derive(Clone, Copy, Debug)]
+pub(crate) enum Part<'a> {
+    Nothing,
+    Number(u64),
+    Plain(&'a [u8]),
+    /// The bytes behind their count.
+    Counted(&'a [u8]),
+    /// The bytes behind one byte that counts them.
+    Identifier(&'a [u8]),
+    /// The numbers that the bytes spell, behind the count of pairs that follow the first.
+    Ranges(&'a [u8]),
+    Counts(Option<EcnCounts>),
+}
+
+impl<'a> Part<'a> {
+    fn len(self) -> usize
+        requires { PartFits self }
+        ensures { result ≡ length (part_text self.entry) }
+    {
+        match self {
+            Part::Nothing | Part::Counts(None) => 0,
+            Part::Number(value) => varint_len(value),
+            Part::Plain(bytes) => bytes.len(),
+            Part::Counted(bytes) => varint_len(bytes.len() as u64) + bytes.len(),
+            Part::Identifier(bytes) => 1 + bytes.len(),
+            Part::Ranges(numbers) => {
+                let (count, len) = shortest(numbers);
+                varint_len(count / 2) + len
+            }
+            Part::Counts(Some(counts)) => counts_len(counts),
+        }
+    }
+
+    /// Writes the part at a place, and answers the place after it.
+    fn put(self, at: usize, out: &mut [u8]) -> usize
+        requires fits { PartFits self }
+        requires room { at + length (part_text self) ≤ length out.old }
+        ensures puts { Puts at (part_text self.entry) out.old out.new }
+        ensures next { result ≡ at + length (part_text self.entry) }
+    {
+        match self {
+            Part::Nothing | Part::Counts(None) => at,
+            Part::Number(value) => put_number(value, at, out),
+            Part::Plain(bytes) => put_bytes(bytes, at, out),
+            Part::Counted(bytes) => put_counted(bytes, at, out),
+            Part::Identifier(bytes) => put_counted(bytes, at, out),
+            Part::Ranges(numbers) => {
+                let (count, _) = shortest(numbers);
+                let next = put_number(count / 2, at, out);
+                put_shortest(numbers, next, out)
+            }
+            Part::Counts(Some(counts)) => put_counts(counts, at, out),
+        }
+    }
+}
+
+/// Writes a number at a place, and answers the place after it.
+pub(crate) fn put_number(value: u64, at: usize, out: &mut [u8]) -> usize
+    requires below { value < 2 ^ 62 }
+    requires room { at + length (short value) ≤ length out.old }
+    ensures puts { Puts at (short value) out.old out.new }
+    ensures next { result ≡ at + length (short value) }
+{
+    spell(value, &mut out[at..]);
+    at + varint_len(value)
+}
+
+/// Writes bytes at a place, and answers the place after them.
+fn put_bytes(bytes: &[u8], at: usize, out: &mut [u8]) -> usize
+    requires { at + length bytes.now ≤ length out.old }
+    ensures puts { Puts at bytes.now out.old out.new }
+    ensures next { result ≡ at + length bytes.now }
+{
+    let end = at + bytes.len();
+    out[at..end].copy_from_slice(bytes);
+    end
+}
+
+/// Writes bytes behind their count at a place, and answers the place after them.
+fn put_counted(bytes: &[u8], at: usize, out: &mut [u8]) -> usize
+    requires below { length bytes.now < 2 ^ 62 }
+    requires room { at + length (short (length bytes.now) ++ bytes.now) ≤ length out.old }
+    ensures puts { Puts at (short (length bytes.now) ++ bytes.now) out.old out.new }
+    ensures next { result ≡ at + length (short (length bytes.now) ++ bytes.now) }
+{
+    let next = put_number(bytes.len() as u64, at, out);
+    put_bytes(bytes, next, out)
+}
+
+fn counts_len(counts: EcnCounts) -> usize
+    requires { CountsFit (Some counts) }
+    ensures { result ≡ length (flat_map short (counts_of counts)) }
+{
+    varint_len(counts.ect0) + varint_len(counts.ect1) + varint_len(counts.ce)
+}
+
+/// Writes the three counts at a place, and answers the place after them.
+fn put_counts(counts: EcnCounts, at: usize, out: &mut [u8]) -> usize
+    requires below { CountsFit (Some counts) }
+    requires room { at + length (flat_map short (counts_of counts)) ≤ length out.old }
+    ensures puts { Puts at (flat_map short (counts_of counts)) out.old out.new }
+    ensures next { result ≡ at + length (flat_map short (counts_of counts)) }
+{
+    let next = put_number(counts.ect0, at, out);
+    let next = put_number(counts.ect1, next, out);
+    put_number(counts.ce, next, out)
+}
+
+/// How many numbers the bytes spell, and how long their shortest spellings are together.
+fn shortest(numbers: &[u8]) -> (u64, usize)
+    ensures count { result.0 ≡ length (numbers_of numbers.now) }
+    ensures len { result.1 ≡ length (flat_map short (numbers_of numbers.now)) }
+    ensures within { result.1 ≤ length numbers.now }
+{
+    let mut count = 0;
+    let mut shortest_len = 0;
+    let mut rest = numbers;
+    while let Some((value, len)) = read_varint(rest) {
+        count += 1;
+        shortest_len += varint_len(value);
+        let (_, after) = rest.split_at(len);
+        rest = after;
+    }
+    (count, shortest_len)
+}
+
+/// Writes the shortest spelling of each number that the bytes spell, and answers the place after them.
+fn put_shortest(numbers: &[u8], at: usize, out: &mut [u8]) -> usize
+    requires { at + length (flat_map short (numbers_of numbers.now)) ≤ length out.old }
+    ensures puts { Puts at (flat_map short (numbers_of numbers.now)) out.old out.new }
+    ensures next { result ≡ at + length (flat_map short (numbers_of numbers.now)) }
+{
+    let mut next = at;
+    let mut rest = numbers;
+    while let Some((value, len)) = read_varint(rest) {
+        next = put_number(value, next, out);
+        let (_, after) = rest.split_at(len);
+        rest = after;
+    }
+    next
+}
+
+/// A type and up to four fields.
+fn parts<'a>(
+    frame_type: FrameType,
+    a: Part<'a>,
+    b: Part<'a>,
+    c: Part<'a>,
+    d: Part<'a>,
+) -> [Part<'a>; 5]
+    requires first { PartFits a }
+    requires second { PartFits b }
+    requires third { PartFits c }
+    requires fourth { PartFits d }
+    ensures text { flat_map part_text result ≡ short (number_of_type frame_type)
+        ++ (part_text a.entry ++ (part_text b.entry ++ (part_text c.entry ++ (part_text d.entry ++ [])))) }
+    ensures fit { AllByRecursion PartFits result }
+{
+    [Part::Number(frame_type.number()), a, b, c, d]
+}
+
+const NONE: Part<'static> = Part::Nothing;
+
+/// The parts of a frame's canonical text, in order.
+#[tactic(auto, unfolding(crate::specs::Grammar::canonical))]
+fn parts_of<'a>(frame: &Frame<'a>) -> [Part<'a>; 5]
+    requires { Fits (view frame.now) }
+    ensures text { flat_map part_text result ≡ canonical (view frame.now) }
+    ensures fit { AllByRecursion PartFits result }
+{
+    match *frame {
+        Frame::Padding => parts(FrameType::Padding, NONE, NONE, NONE, NONE),
+        Frame::Ping => parts(FrameType::Ping, NONE, NONE, NONE, NONE),
+        Frame::Ack {
+            largest,
+            delay,
+            ranges,
+            ecn,
+        } => parts(
+            FrameType::Ack { ecn: ecn.is_some() },
+            Part::Number(largest),
+            Part::Number(delay),
+            Part::Ranges(ranges),
+            Part::Counts(ecn),
+        ),
+        Frame::ResetStream {
+            stream,
+            code,
+            final_size,
+        } => parts(
+            FrameType::ResetStream,
+            Part::Number(stream.value()),
+            Part::Number(code),
+            Part::Number(final_size),
+            NONE,
+        ),
+        Frame::StopSending { stream, code } => parts(
+            FrameType::StopSending,
+            Part::Number(stream.value()),
+            Part::Number(code),
+            NONE,
+            NONE,
+        ),
+        Frame::Crypto { offset, bytes } => parts(
+            FrameType::Crypto,
+            Part::Number(offset),
+            Part::Counted(bytes),
+            NONE,
+            NONE,
+        ),
+        Frame::NewToken { bytes } => {
+            parts(FrameType::NewToken, Part::Counted(bytes), NONE, NONE, NONE)
+        }
+        Frame::Stream {
+            stream,
+            offset,
+            fin,
+            bytes,
+        } => parts(
+            FrameType::Stream {
+                off: offset > 0,
+                len: true,
+                fin,
+            },
+            Part::Number(stream.value()),
+            number_if(offset > 0, offset),
+            Part::Counted(bytes),
+            NONE,
+        ),
+        Frame::MaxData { maximum } => {
+            parts(FrameType::MaxData, Part::Number(maximum), NONE, NONE, NONE)
+        }
+        Frame::MaxStreamData { stream, maximum } => parts(
+            FrameType::MaxStreamData,
+            Part::Number(stream.value()),
+            Part::Number(maximum),
+            NONE,
+            NONE,
+        ),
+        Frame::MaxStreams { dir, count } => parts(
+            FrameType::MaxStreams { dir },
+            Part::Number(count),
+            NONE,
+            NONE,
+            NONE,
+        ),
+        Frame::DataBlocked { limit } => {
+            parts(
+                FrameType::DataBlocked,
+                Part::Number(limit),
+                NONE,
+                NONE,
+                NONE,
+            )
+        }
+        Frame::StreamDataBlocked { stream, limit } => parts(
+            FrameType::StreamDataBlocked,
+            Part::Number(stream.value()),
+            Part::Number(limit),
+            NONE,
+            NONE,
+        ),
+        Frame::StreamsBlocked { dir, count } => parts(
+            FrameType::StreamsBlocked { dir },
+            Part::Number(count),
+            NONE,
+            NONE,
+            NONE,
+        ),
+        Frame::NewConnectionId {
+            sequence,
+            retire,
+            identifier,
+            reset_token,
+        } => parts(
+            FrameType::NewConnectionId,
+            Part::Number(sequence),
+            Part::Number(retire),
+            Part::Identifier(identifier),
+            Part::Plain(reset_token),
+        ),
+        Frame::RetireConnectionId { sequence } => parts(
+            FrameType::RetireConnectionId,
+            Part::Number(sequence),
+            NONE,
+            NONE,
+            NONE,
+        ),
+        Frame::PathChallenge { bytes } => {
+            parts(
+                FrameType::PathChallenge,
+                Part::Plain(bytes),
+                NONE,
+                NONE,
+                NONE,
+            )
+        }
+        Frame::PathResponse { bytes } => {
+            parts(
+                FrameType::PathResponse,
+                Part::Plain(bytes),
+                NONE,
+                NONE,
+                NONE,
+            )
+        }
+        Frame::ConnectionClose {
+            code,
+            frame_type,
+            reason,
+        } => parts(
+            FrameType::ConnectionClose,
+            Part::Number(code),
+            Part::Number(frame_type),
+            Part::Counted(reason),
+            NONE,
+        ),
+        Frame::ApplicationClose { code, reason } => parts(
+            FrameType::ApplicationClose,
+            Part::Number(code),
+            Part::Counted(reason),
+            NONE,
+            NONE,
+        ),
+        Frame::HandshakeDone => parts(FrameType::HandshakeDone, NONE, NONE, NONE, NONE),
+    }
+}
+
+fn number_if<'a>(there: bool, value: u64) -> Part<'a>
+    requires { value < 2 ^ 62 }
+    ensures text { part_text result ≡ (if there then short value else []) }
+    ensures fits { PartFits result }
+{
+    if there {
+        Part::Number(value)
+    } else {
+        Part::Nothing
+    }
+}
+
+/// How many bytes the parts take, if the room is enough.
+pub(crate) fn len_within(parts: &[Part], room: usize) -> Option<usize>
+    requires { AllByRecursion PartFits parts.now }
+    ensures some { IfSome result (λ len. (len ≡ length (flat_map part_text parts.now)) × (len ≤ room)) }
+    ensures none { IfNone result (room < length (flat_map part_text parts.now)) }
+{
+    let mut len = 0;
+    for part in parts {
+        let part_len = part.len();
+        if part_len > room - len {
+            return None;
+        }
+        len += part_len;
+    }
+    Some(len)
+}
+
+/// Writes the parts at the front.
+pub(crate) fn put_parts(parts: &[Part], out: &mut [u8])
+    requires fit { AllByRecursion PartFits parts.now }
+    requires room { length (flat_map part_text parts.now) ≤ length out.old }
+    ensures { out.new ≡ flat_map part_text parts.now ++ drop (length (flat_map part_text parts.now)) out.old }
+{
+    let mut at = 0;
+    for part in parts {
+        at = part.put(at, out);
+    }
+}
+
+/// Writes the canonical text of a frame at the slice's front and answers its length in bytes: each number
+/// in its shortest spelling; of a STREAM frame the length always, and the offset where it is not 0. Where
+/// the text does not fit, nothing is written.
+pub fn put(frame: &Frame, out: &mut [u8]) -> Result<usize, Full>
+    requires { Fits (view frame.now) }
+    ensures written { IfOk result (λ n. (n ≡ length (canonical (view frame.now))) × (n ≤ length out.old)
+        × (out.new ≡ canonical (view frame.now) ++ drop n out.old)) }
+    ensures full { IfErr result (λ _. (length out.old < length (canonical (view frame.now))) × (out.new ≡ out.old)) }
+{
+    let parts = parts_of(frame);
+    let len = len_within(&parts, out.len()).ok_or(Full)?;
+    put_parts(&parts, out);
+    Ok(len)
+}

@@ -1,0 +1,67 @@
+-- The lines compute.
+use Rattle.std.proofs.Common.{◌≡◌, ℕ, [], ◌∷◌, refl, sym, ap, subst, arith, inl, inr}
+use Rattle.std.specs.Prelude.{Result, Ok, Err}
+use Rattle.qs_wire.specs.declared.stream_id.Role.TheVariants.{Client, Server}
+use Rattle.qs_conn.specs.Settings.{limits_of}
+use Rattle.qs_conn.specs.Ends.{End, new_end, opens}
+use Rattle.qs_conn.specs.Credit.{settle}
+use Rattle.qs_conn.specs.Examples.{standard}
+use Rattle.qs_conn.specs.declared.uses.OpenFault.{OpenFault}
+use Rattle.qs_conn.specs.declared.settings.SetupFault.{SetupFault}
+use Rattle.qs_wire.specs.declared.stream_id.Dir.TheVariants.{Bidi}
+use Rattle.qs_world.specs.declared.event.Side.TheVariants.{A}
+use Rattle.qs_world.specs.declared.event.Act.TheVariants as acts
+use Rattle.qs_world.specs.declared.answer.Answer.TheVariants as answers
+use Rattle.qs_world.specs.Worlds.{World, WorldStep, Run}
+use Rattle.std.specs.Fmt.{digits}
+use Rattle.qs_world.specs.Examples.{StreamsBeginAtZero, EventLines, AnswerLines, ReportLines, Examples}
+
+client_begins : End
+client_begins = new_end Client standard (limits_of standard)
+
+server_begins : End
+server_begins = new_end Server standard (limits_of standard)
+
+abbrev number_in : Result ℕ OpenFault → ℕ
+number_in (Ok n) = n
+number_in (Err fault) = 9
+
+four_is_not : (n : ℕ) → 4 ≡ n → (4 ≡ n → ⊥) → ⊥
+four_is_not n e differs = differs e
+
+same_world : (v w : World) → ◌≡◌ {A = Result World SetupFault} (Ok v) (Ok w) → v ≡ w
+same_world v w e = cc
+
+not_four : (w : World) → Run standard standard ((record { end = A; act = acts.OpenStream Bidi }, answers.OpenStream (Ok 4)) ∷ []) w → ⊥
+not_four w (v, first, step) =
+    let begins : World = record { a = new_end Client standard (limits_of standard); b = new_end Server standard (limits_of standard) } in
+    let same : begins ≡ v = same_world begins v first in
+    let at : WorldStep [] begins (record { end = A; act = acts.OpenStream Bidi }) (answers.OpenStream (Ok 4)) w = subst (λ x. WorldStep [] x (record { end = A; act = acts.OpenStream Bidi }) (answers.OpenStream (Ok 4)) w) (sym same) step in
+    elim at.0 [
+      | inl none ↦ four_is_not 9 (ap number_in none.0) (omega arith)
+      | inr opened ↦ four_is_not 0 (ap number_in opened.0) (omega arith)
+    ]
+
+opened_zero : StreamsBeginAtZero
+unfolding client_begins server_begins
+opened_zero =
+    record {
+      world = record { a = settle (opens 0 client_begins); b = server_begins };
+      runs = (record { a = client_begins; b = server_begins }, refl, (inr (refl, refl), refl));
+      not_four = not_four;
+    }
+
+event_lines : EventLines
+unfolding digits
+event_lines = record { opens = refl; accepts = refl; resets = refl; reads = refl; makes = refl; delivers = refl }
+
+answer_lines : AnswerLines
+unfolding digits
+answer_lines = record { blocked = refl; none = refl; wrong_way = refl; gave = refl; gave_none = refl; packet = refl; not_outstanding = refl; closing = refl }
+
+report_lines : ReportLines
+unfolding digits
+report_lines = record { lane = refl; other_lane = refl; end = refl; closed_end = refl }
+
+pub examples_hold : Examples
+examples_hold = record { first_stream = opened_zero; events = event_lines; answers = answer_lines; reports = report_lines }

@@ -1,0 +1,54 @@
+-- A run of one step, and printed lines of small reports.
+use Rattle.std.specs.Prelude.{◌≡◌, ℕ, true, false, List, [], ◌∷◌, ◌++◌, codes, Option, None, Some, Ok, Err}
+use Rattle.qs_wire.specs.declared.stream_id.Dir.TheVariants.{Bidi, Uni}
+use Rattle.qs_recv.specs.declared.half.Read.TheVariants as reads
+use Rattle.qs_conn.specs.declared.closing.Received.TheVariants as received
+use Rattle.qs_conn.specs.declared.making.MakeFault.TheVariants as making
+use Rattle.qs_conn.specs.declared.making.LostFault.TheVariants as losing
+use Rattle.qs_conn.specs.declared.uses.OpenFault.TheVariants as opening
+use Rattle.qs_conn.specs.declared.uses.UseFault.TheVariants as uses
+use Rattle.qs_world.specs.declared.event.Side.TheVariants.{A, B}
+use Rattle.qs_world.specs.declared.event.Act.TheVariants as acts
+use Rattle.qs_world.specs.declared.answer.Answer.TheVariants as answers
+use Rattle.qs_conn.specs.Examples.{standard}
+use Rattle.qs_world.specs.Worlds.{World, Run}
+use Rattle.qs_world.specs.PlayText.{event_text, answer_text, hex_text, read_text, make_text, lane_text, end_text}
+
+pub record EventLines : Type 0 where
+  pub opens : event_text (record { end = A; act = acts.OpenStream Bidi }) ≡ codes "open A bidi"
+  pub accepts : event_text (record { end = B; act = acts.Accept }) ≡ codes "accept B"
+  pub resets : event_text (record { end = A; act = acts.Reset 4 70 }) ≡ codes "reset A 4 70"
+  pub reads : event_text (record { end = B; act = acts.ReadUpTo 0 16 }) ≡ codes "read B 0 16"
+  pub makes : event_text (record { end = A; act = acts.Make 1200 }) ≡ codes "make A 1200"
+  pub delivers : event_text (record { end = A; act = acts.Deliver 10 }) ≡ codes "deliver A 10"
+
+pub record AnswerLines : Type 0 where
+  pub blocked : answer_text (answers.OpenStream (Err (opening.Blocked 8))) ≡ codes "blocked 8"
+  pub none : answer_text (answers.Accept None) ≡ codes "none"
+  pub wrong_way : answer_text (answers.Finish (Err uses.WrongDirection)) ≡ codes "wrong-direction"
+  pub gave : read_text (Ok (reads.Bytes 2)) (10 ∷ 255 ∷ []) ≡ codes "bytes 0aff"
+  pub gave_none : read_text (Ok (reads.Bytes 0)) [] ≡ codes "bytes -"
+  pub packet : make_text (Ok (Some (record { number = 0; len = 3 }))) (0x0b ∷ 0 ∷ 0 ∷ []) ≡ codes "packet 0 0b0000"
+  pub not_outstanding : answer_text (answers.Lose (Err losing.NotOutstanding)) ≡ codes "not-outstanding"
+  pub closing : answer_text (answers.Deliver (Err (record { code = 3; frame_type = 0x0a; place = 11 }))) ≡ codes "closing 0x03 0x0a 11"
+
+pub record ReportLines : Type 0 where
+  pub lane : lane_text (record { sender = A; id = 0; written = 5; read = 5; received = true; declared = Some 5; known = Some 5 })
+      ≡ codes "lane A 0 written 5 read 5 received yes declared 5 known 5"
+  pub other_lane : lane_text (record { sender = B; id = 0; written = 0; read = 0; received = false; declared = None; known = None })
+      ≡ codes "lane B 0 written 0 read 0 received no declared none known none"
+  pub end : end_text A (record { spent = 0; granted = 4096; stored = 0; closing = None }) ≡ codes "end A spent 0 granted 4096 stored 0"
+  pub closed_end : end_text B (record { spent = 4; granted = 8; stored = 0; closing = Some (record { code = 3; frame_type = 0x0a; place = 11 }) })
+      ≡ codes "end B spent 4 granted 8 stored 0 closing 0x03 0x0a 11"
+
+-- A opens a stream, and may be answered number 0 alone.
+pub record StreamsBeginAtZero : Type 0 where
+  pub world : World
+  pub runs : Run standard standard ((record { end = A; act = acts.OpenStream Bidi }, answers.OpenStream (Ok 0)) ∷ []) world
+  pub not_four : (w : World) → Run standard standard ((record { end = A; act = acts.OpenStream Bidi }, answers.OpenStream (Ok 4)) ∷ []) w → ⊥
+
+pub record Examples : Type 0 where
+  pub first_stream : StreamsBeginAtZero
+  pub events : EventLines
+  pub answers : AnswerLines
+  pub reports : ReportLines

@@ -1,0 +1,11 @@
+pub mod Events
+pub mod Worlds
+pub mod Logs
+pub mod Agree
+pub mod Reports
+pub mod PlayText
+pub mod Examples
+pub mod Pasts
+pub mod Invariant
+pub mod Clauses
+pub mod Laws

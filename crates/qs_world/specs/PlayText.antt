@@ -1,0 +1,182 @@
+-- The printed lines of a report.
+use Rattle.std.specs.Prelude.{ℕ, ◌/◌, ◌%◌, Bool, true, false, List, [], ◌∷◌, ◌++◌, flat_map, codes, decimal, Option, None, Some, Result, Ok, Err, nat_lt, if◌then◌else◌}
+use Rattle.std.specs.Fmt.{digits}
+use Rattle.qs_wire.specs.declared.stream_id.Dir.{Dir}
+use Rattle.qs_wire.specs.declared.stream_id.Dir.TheVariants.{Bidi, Uni}
+use Rattle.qs_recv.specs.declared.half.Read.{Read}
+use Rattle.qs_recv.specs.declared.half.Read.TheVariants as reads
+use Rattle.qs_conn.specs.declared.closing.Closing.{Closing}
+use Rattle.qs_conn.specs.declared.closing.Received.{Received}
+use Rattle.qs_conn.specs.declared.closing.Received.TheVariants as received
+use Rattle.qs_conn.specs.declared.making.Made.{Made}
+use Rattle.qs_conn.specs.declared.making.MakeFault.{MakeFault}
+use Rattle.qs_conn.specs.declared.making.MakeFault.TheVariants as making
+use Rattle.qs_conn.specs.declared.making.LostFault.{LostFault}
+use Rattle.qs_conn.specs.declared.making.LostFault.TheVariants as losing
+use Rattle.qs_conn.specs.declared.uses.OpenFault.{OpenFault}
+use Rattle.qs_conn.specs.declared.uses.OpenFault.TheVariants as opening
+use Rattle.qs_conn.specs.declared.uses.UseFault.{UseFault}
+use Rattle.qs_conn.specs.declared.uses.UseFault.TheVariants as uses
+use Rattle.qs_world.specs.declared.event.Side.{Side}
+use Rattle.qs_world.specs.declared.event.Side.TheVariants.{A, B}
+use Rattle.qs_world.specs.declared.event.Act.{Act}
+use Rattle.qs_world.specs.declared.event.Act.TheVariants as acts
+use Rattle.qs_world.specs.declared.event.Event.{Event}
+use Rattle.qs_world.specs.declared.answer.Answer.{Answer}
+use Rattle.qs_world.specs.declared.answer.Answer.TheVariants as answers
+use Rattle.qs_world.specs.declared.report.LaneTotals.{LaneTotals}
+use Rattle.qs_world.specs.declared.report.EndTotals.{EndTotals}
+use Rattle.qs_world.specs.declared.report.Report.{Report}
+
+-- a space, and then the word
+abbrev pub also : List ℕ → List ℕ
+also word = codes " " ++ word
+
+abbrev pub line : List ℕ → List ℕ
+line words = words ++ 10 ∷ []
+
+-- two lower-case digits for a byte, and a dash where there are no bytes
+abbrev pub byte_text : ℕ → List ℕ
+byte_text b = digits 16 false (b / 16) ++ digits 16 false (b % 16)
+
+abbrev pub hex_text : List ℕ → List ℕ
+hex_text [] = codes "-"
+hex_text (b ∷ bs) = flat_map byte_text (b ∷ bs)
+
+-- a code or a frame type: at least two lower-case hex digits
+abbrev pub code_text : ℕ → List ℕ
+code_text n = codes "0x" ++ (if nat_lt n 16 then codes "0" else []) ++ digits 16 false n
+
+abbrev pub side_text : Side → List ℕ
+side_text A = codes "A"
+side_text B = codes "B"
+
+abbrev pub dir_text : Dir → List ℕ
+dir_text Bidi = codes "bidi"
+dir_text Uni = codes "uni"
+
+abbrev pub closing_text : Closing → List ℕ
+closing_text c = codes "closing" ++ also (code_text c.code) ++ also (code_text c.frame_type) ++ also (decimal c.place)
+
+-- Events
+
+abbrev pub act_text : Act → List ℕ → List ℕ
+act_text (acts.OpenStream dir) side = codes "open" ++ side ++ also (dir_text dir)
+act_text acts.Accept side = codes "accept" ++ side
+act_text (acts.Write n bytes) side = codes "write" ++ side ++ also (decimal n) ++ also (hex_text bytes.items)
+act_text (acts.Finish n) side = codes "finish" ++ side ++ also (decimal n)
+act_text (acts.Reset n code) side = codes "reset" ++ side ++ also (decimal n) ++ also (decimal code)
+act_text (acts.Stop n code) side = codes "stop" ++ side ++ also (decimal n) ++ also (decimal code)
+act_text (acts.ReadUpTo n size) side = codes "read" ++ side ++ also (decimal n) ++ also (decimal size)
+act_text (acts.Make room) side = codes "make" ++ side ++ also (decimal room)
+act_text (acts.Lose k) side = codes "lose" ++ side ++ also (decimal k)
+act_text (acts.Deliver k) side = codes "deliver" ++ side ++ also (decimal k)
+
+-- an event as a script has it
+abbrev pub event_text : Event → List ℕ
+event_text event = act_text event.act (also (side_text event.end))
+
+-- Answers
+
+abbrev pub use_fault_text : UseFault → List ℕ
+use_fault_text uses.NoSuchStream = codes "no-such-stream"
+use_fault_text uses.WrongDirection = codes "wrong-direction"
+use_fault_text uses.Finished = codes "finished"
+use_fault_text uses.WasReset = codes "was-reset"
+use_fault_text uses.Closed = codes "closed"
+use_fault_text uses.NoMemory = codes "no-memory"
+
+abbrev pub open_text : Result ℕ OpenFault → List ℕ
+open_text (Ok n) = codes "stream " ++ decimal n
+open_text (Err (opening.Blocked count)) = codes "blocked " ++ decimal count
+open_text (Err opening.Closed) = codes "closed"
+open_text (Err opening.NoMemory) = codes "no-memory"
+
+abbrev pub accept_text : Option ℕ → List ℕ
+accept_text (Some n) = codes "stream " ++ decimal n
+accept_text None = codes "none"
+
+abbrev pub write_text : Result ℕ UseFault → List ℕ
+write_text (Ok count) = codes "wrote " ++ decimal count
+write_text (Err fault) = use_fault_text fault
+
+abbrev pub use_text : Result (Unit {0}) UseFault → List ℕ
+use_text (Ok done) = codes "ok"
+use_text (Err fault) = use_fault_text fault
+
+abbrev pub read_text : Result Read UseFault → List ℕ → List ℕ
+read_text (Ok (reads.Bytes count)) bytes = codes "bytes " ++ hex_text bytes
+read_text (Ok reads.End) bytes = codes "end"
+read_text (Ok (reads.Reset code)) bytes = codes "reset " ++ decimal code
+read_text (Ok reads.Wait) bytes = codes "wait"
+read_text (Err fault) bytes = use_fault_text fault
+
+abbrev pub make_text : Result (Option Made) MakeFault → List ℕ → List ℕ
+make_text (Ok (Some made)) payload = codes "packet " ++ decimal made.number ++ also (hex_text payload)
+make_text (Ok None) payload = codes "nothing"
+make_text (Err making.Closed) payload = codes "closed"
+make_text (Err making.NoMemory) payload = codes "no-memory"
+make_text (Err making.Exhausted) payload = codes "exhausted"
+
+abbrev pub lose_text : Result (Unit {0}) LostFault → List ℕ
+lose_text (Ok done) = codes "ok"
+lose_text (Err losing.NotOutstanding) = codes "not-outstanding"
+lose_text (Err losing.NoMemory) = codes "no-memory"
+lose_text (Err losing.Closed) = codes "closed"
+
+abbrev pub deliver_text : Result Received Closing → List ℕ
+deliver_text (Ok received.Done) = codes "done"
+deliver_text (Ok received.Duplicate) = codes "duplicate"
+deliver_text (Ok received.BelowFloor) = codes "below-floor"
+deliver_text (Ok (received.PeerClosed code)) = codes "peer-closed " ++ decimal code
+deliver_text (Ok received.NoMemory) = codes "no-memory"
+deliver_text (Err closing) = closing_text closing
+
+abbrev pub answer_text : Answer → List ℕ
+answer_text (answers.OpenStream r) = open_text r
+answer_text (answers.Accept r) = accept_text r
+answer_text (answers.Write r) = write_text r
+answer_text (answers.Finish r) = use_text r
+answer_text (answers.Reset r) = use_text r
+answer_text (answers.Stop r) = use_text r
+answer_text (answers.ReadUpTo r bytes) = read_text r bytes.items
+answer_text (answers.Make r payload) = make_text r payload.items
+answer_text (answers.Lose r) = lose_text r
+answer_text (answers.Deliver r) = deliver_text r
+
+-- Reports
+
+abbrev pub number_text : Option ℕ → List ℕ
+number_text None = codes "none"
+number_text (Some n) = decimal n
+
+abbrev pub yes_text : Bool → List ℕ
+yes_text true = codes "yes"
+yes_text false = codes "no"
+
+abbrev pub lane_text : LaneTotals → List ℕ
+lane_text l =
+    codes "lane " ++ side_text l.sender ++ also (decimal l.id) ++ codes " written " ++ decimal l.written ++ codes " read " ++ decimal l.read
+    ++ codes " received " ++ yes_text l.received ++ codes " declared " ++ number_text l.declared ++ codes " known " ++ number_text l.known
+
+abbrev pub closing_part : Option Closing → List ℕ
+closing_part None = []
+closing_part (Some closing) = also (closing_text closing)
+
+abbrev pub end_text : Side → EndTotals → List ℕ
+end_text s e =
+    codes "end " ++ side_text s ++ codes " spent " ++ decimal e.spent ++ codes " granted " ++ decimal e.granted ++ codes " stored " ++ decimal e.stored
+    ++ closing_part e.closing
+
+-- the ends' lines, A's first
+abbrev pub ends_text : List EndTotals → List ℕ
+ends_text [] = []
+ends_text (a ∷ []) = line (end_text A a)
+ends_text (a ∷ b ∷ more) = line (end_text A a) ++ line (end_text B b)
+
+-- a line for each event with its answer, one for each lane, one for each end
+abbrev pub play_text : Report → List ℕ
+play_text report =
+    flat_map (λ x. line (event_text x.0 ++ codes " -> " ++ answer_text x.1)) report.log.items
+    ++ flat_map (λ l. line (lane_text l)) report.lanes.items
+    ++ ends_text report.ends
