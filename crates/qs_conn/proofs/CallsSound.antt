@@ -71,7 +71,7 @@ read_highest reads.End l size = refl
 read_highest (reads.Reset code) l size = refl
 read_highest reads.Wait l size = refl
 
-sound_read : (n size : ℕ) (e : End) → IsSound e → IsSound (on_recv n (λ l. after_read l size) e)
+pub sound_read : (n size : ℕ) (e : End) → IsSound e → IsSound (on_recv n (λ l. after_read l size) e)
 sound_read n size e h =
     keeps_updated e.role e.settings e.recvs e.granted h n (λ l. after_read l size) (λ l is lawful.
     let g = grows_after_call l (ReadUpTo size) lawful tt in
@@ -81,7 +81,7 @@ stop_highest : (b : Bool) (l m : RecvLane) → highest m ≡ highest l → highe
 stop_highest true l m e = refl
 stop_highest false l m e = e
 
-sound_stop : (n code : ℕ) (e : End) → IsSound e → IsSound (on_recv n (λ l. stop l code) e)
+pub sound_stop : (n code : ℕ) (e : End) → IsSound e → IsSound (on_recv n (λ l. stop l code) e)
 sound_stop n code e h =
     let stopped : RecvLane → RecvLane = λ l. record l { arrived = discard l.arrived; stop_code = Some code } in
     keeps_updated e.role e.settings e.recvs e.granted h n (λ l. stop l code) (λ l is lawful.

@@ -1,5 +1,5 @@
 -- What a receiving half knows it keeps, whatever happens: offsets, final size and reset.
-use Rattle.std.proofs.Common.{◌≡◌, ℕ, ◌+◌, ◌*◌, Bool, true, false, ◌||◌, List, [], ◌∷◌, drop, take, Option, Some, None, Result, Ok, Err, is_some, slice_get, refl, sym, ap, ◌∙◌, subst, inl, inr, if◌then◌else◌, MatchBool, nat_lt, nat_le}
+use Rattle.std.proofs.Common.{◌≡◌, ℕ, ◌+◌, ◌*◌, Bool, true, false, ◌||◌, List, [], ◌∷◌, drop, take, Option, Some, None, Result, Ok, Err, is_some, slice_get, refl, sym, ap, ◌∙◌, subst, inl, inr, MatchBool}
 use Rattle.std.specs.FinSet as set
 use Rattle.qs_wire.specs.Layout.{PlacedValue}
 use Rattle.qs_wire.specs.Grammar.{frames_of}
@@ -27,11 +27,11 @@ use Rattle.qs_conn.specs.declared.uses.OpenFault.{OpenFault}
 use Rattle.qs_conn.specs.declared.uses.OpenFault.TheVariants as opening
 use Rattle.qs_conn.specs.declared.uses.UseFault.{UseFault}
 use Rattle.qs_conn.specs.declared.uses.UseFault.TheVariants as uses
-use Rattle.qs_conn.specs.Tables.{Tables, lookup}
+use Rattle.qs_conn.specs.Tables.{Tables}
 use Rattle.qs_conn.specs.Ends.{End, opens, on_recv, window}
 use Rattle.qs_conn.specs.Credit.{settle}
 use Rattle.qs_conn.specs.Seen.{Seen, Ack, Stream, Control, Close, Plain, seen, seen_all, asks_ack}
-use Rattle.qs_conn.specs.FrameStep.{acks, named, frame_taken}
+use Rattle.qs_conn.specs.FrameStep.{named, frame_taken}
 use Rattle.qs_conn.specs.Due.{Among, known_count}
 use Rattle.qs_conn.specs.Lawful.{Fills, frame_put, item_put}
 use Rattle.qs_conn.specs.Owner.{refuse_if, send_refusal, recv_refusal, peer_kind, next_stream, with_wanted, OpenStep, IsBlocked, IsOpened, AcceptStep, GivesNone, GivesBidi, GivesUni, AcceptOpen, WriteStep, FinishStep, ResetStep, StopStep, ReadStep, ReadBy}

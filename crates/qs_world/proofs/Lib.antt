@@ -30,3 +30,5 @@ pub mod Runs
 pub mod Agrees
 pub mod Clauses
 pub mod Statements
+pub mod Lasting
+pub mod Stays

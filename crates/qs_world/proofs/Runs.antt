@@ -27,7 +27,7 @@ use Rattle.qs_world.proofs.Histories.{past_own, past_peer, past_sender, past_rec
 use Rattle.qs_world.proofs.NewEnds.{first_world, made_first, new_ok}
 
 -- what holds of a side and of the other holds of each
-two_sides : (P : Side → Type 0) (s : Side) → P s → P (other s) → (t : Side) → P t
+pub two_sides : (P : Side → Type 0) (s : Side) → P s → P (other s) → (t : Side) → P t
 two_sides P A x y A = x
 two_sides P A x y B = y
 two_sides P B x y A = y

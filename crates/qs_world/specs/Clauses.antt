@@ -81,6 +81,15 @@ FinalSizeIsDeclared h w s n =
     × (l.sent_end ≡ size)
     × (r.reset_code ≡ None → length (written s n h) ≡ size)
 
+-- what a receiving half knows it keeps: each offset that came, the final size, and that it was reset
+pub record KeepsWhatItKnows (l m : RecvLane) : Type 0 where
+  pub offsets : (q : ℕ) → set.contains l.arrived.received q ≡ true → set.contains m.arrived.received q ≡ true
+  pub final_size : (size : ℕ) → l.final_size ≡ Some size → m.final_size ≡ Some size
+  pub reset : is_some l.reset_code ≡ true → is_some m.reset_code ≡ true
+
+abbrev pub AllKeepWhatTheyKnow : World → World → Side → ℕ → Type 0
+AllKeepWhatTheyKnow v w s n = (r : RecvLane) → receiving v s n ≡ Some r → (t : RecvLane) × (receiving w s n ≡ Some t) × KeepsWhatItKnows r t
+
 -- the code of a reset that is known is that of the sender's
 abbrev pub ResetCodeIsTheSenders : World → Side → ℕ → Type 0
 ResetCodeIsTheSenders w s n =

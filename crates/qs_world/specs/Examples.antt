@@ -1,9 +1,7 @@
 -- A run of one step, and printed lines of small reports.
-use Rattle.std.specs.Prelude.{◌≡◌, ℕ, true, false, List, [], ◌∷◌, ◌++◌, codes, Option, None, Some, Ok, Err}
-use Rattle.qs_wire.specs.declared.stream_id.Dir.TheVariants.{Bidi, Uni}
+use Rattle.std.specs.Prelude.{◌≡◌, true, false, [], ◌∷◌, codes, None, Some, Ok, Err}
+use Rattle.qs_wire.specs.declared.stream_id.Dir.TheVariants.{Bidi}
 use Rattle.qs_recv.specs.declared.half.Read.TheVariants as reads
-use Rattle.qs_conn.specs.declared.closing.Received.TheVariants as received
-use Rattle.qs_conn.specs.declared.making.MakeFault.TheVariants as making
 use Rattle.qs_conn.specs.declared.making.LostFault.TheVariants as losing
 use Rattle.qs_conn.specs.declared.uses.OpenFault.TheVariants as opening
 use Rattle.qs_conn.specs.declared.uses.UseFault.TheVariants as uses
@@ -12,7 +10,7 @@ use Rattle.qs_world.specs.declared.event.Act.TheVariants as acts
 use Rattle.qs_world.specs.declared.answer.Answer.TheVariants as answers
 use Rattle.qs_conn.specs.Examples.{standard}
 use Rattle.qs_world.specs.Worlds.{World, Run}
-use Rattle.qs_world.specs.PlayText.{event_text, answer_text, hex_text, read_text, make_text, lane_text, end_text}
+use Rattle.qs_world.specs.PlayText.{event_text, answer_text, read_text, make_text, lane_text, end_text}
 
 pub record EventLines : Type 0 where
   pub opens : event_text (record { end = A; act = acts.OpenStream Bidi }) ≡ codes "open A bidi"

@@ -8,7 +8,7 @@ use Rattle.qs_world.specs.Logs.{History}
 use Rattle.qs_world.specs.Worlds.{World, world_made, WorldStep}
 use Rattle.qs_world.specs.Agree.{PrefixAgrees, CreditAgrees, WholeAgrees, FinalSizesAgree, StaysOpen, StepAgrees}
 use Rattle.qs_world.specs.Invariant.{WorldOk}
-use Rattle.qs_world.specs.Clauses.{PiecesAreWritten, ReceivedIsBelowSent, StoredIsWritten, ReadIsWritten, ProcessedWasTaken, ProcessedResetWasTaken, AckedWasProcessed, FinalSizeIsDeclared, ResetCodeIsTheSenders, SentIsWithinKnown, KnownIsWithinGranted, IsOpenAtInitiator, OpenedIsBelowKnown}
+use Rattle.qs_world.specs.Clauses.{PiecesAreWritten, ReceivedIsBelowSent, StoredIsWritten, ReadIsWritten, ProcessedWasTaken, ProcessedResetWasTaken, AckedWasProcessed, FinalSizeIsDeclared, AllKeepWhatTheyKnow, ResetCodeIsTheSenders, SentIsWithinKnown, KnownIsWithinGranted, IsOpenAtInitiator, OpenedIsBelowKnown}
 
 -- whatever happens in a world that meets the invariant, the world after it has the clause
 abbrev pub AfterStep : (History → World → Type 0) → Type 0
@@ -52,6 +52,11 @@ AckedWasAlwaysProcessed = AfterStep (λ h w. (s : Side) (n : ℕ) → AckedWasPr
 
 abbrev pub FinalSizeIsAlwaysDeclared : Type 0
 FinalSizeIsAlwaysDeclared = AfterStep (λ h w. (s : Side) (n : ℕ) → FinalSizeIsDeclared h w s n)
+
+abbrev pub WhatIsKnownStays : Type 0
+WhatIsKnownStays =
+    (a b : Settings) (h : History) (v w : World) (event : Event) (answer : Answer) →
+    WorldOk a b h v → WorldStep h v event answer w → (s : Side) (n : ℕ) → AllKeepWhatTheyKnow v w s n
 
 abbrev pub ResetCodeIsAlwaysTheSenders : Type 0
 ResetCodeIsAlwaysTheSenders = AfterStep (λ h w. (s : Side) (n : ℕ) → ResetCodeIsTheSenders w s n)

@@ -3,7 +3,7 @@
 
 ghost use Rattle.qs_world.specs.Agree.{EveryRunAgrees};
 ghost use Rattle.qs_world.specs.Examples.{Examples};
-ghost use Rattle.qs_world.specs.Laws.{NewEndsMeetInvariant, StepsKeepInvariant, PiecesAreAlwaysWritten, ReceivedIsAlwaysBelowSent, StoredIsAlwaysWritten, ReadIsAlwaysWritten, ProcessedWasAlwaysTaken, AckedWasAlwaysProcessed, FinalSizeIsAlwaysDeclared, ResetCodeIsAlwaysTheSenders, SentIsAlwaysWithinKnown, KnownIsAlwaysWithinGranted, StreamsAreOpenAtInitiator, OpenedIsAlwaysBelowKnown, ReadIsAPrefix, SpentIsBelowSent, RepeatsSpendNothing, ReceivedIsWhole, FinalSizesAlwaysAgree, NoEndCloses};
+ghost use Rattle.qs_world.specs.Laws.{NewEndsMeetInvariant, StepsKeepInvariant, PiecesAreAlwaysWritten, ReceivedIsAlwaysBelowSent, StoredIsAlwaysWritten, ReadIsAlwaysWritten, ProcessedWasAlwaysTaken, AckedWasAlwaysProcessed, FinalSizeIsAlwaysDeclared, WhatIsKnownStays, ResetCodeIsAlwaysTheSenders, SentIsAlwaysWithinKnown, KnownIsAlwaysWithinGranted, StreamsAreOpenAtInitiator, OpenedIsAlwaysBelowKnown, ReadIsAPrefix, SpentIsBelowSent, RepeatsSpendNothing, ReceivedIsWhole, FinalSizesAlwaysAgree, NoEndCloses};
 
 /// Two new ends, each told the other's limits, meet the invariant.
 pub fn new_ends_meet_invariant()
@@ -48,6 +48,11 @@ pub fn acked_was_processed()
 /// A final size that is known is the declared one, which is the sent end, and without a known reset the count written.
 pub fn final_size_is_declared()
     ensures { FinalSizeIsAlwaysDeclared }
+{}
+
+/// What a receiving half knows it keeps, so a known final size never changes.
+pub fn what_is_known_stays()
+    ensures { WhatIsKnownStays }
 {}
 
 /// The code of a reset that is known is that of the sender's reset.
