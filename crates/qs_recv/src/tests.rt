@@ -202,21 +202,26 @@ fn a_read_without_room_tells_whether_a_byte_is_next(rt: HostRuntime) -> Result<(
     Ok(())
 }
 
+// A frame that is taken again where no memory was found, and whether the half was as before then.
+fn take_again(lane: &mut Half, offset: u64, bytes: &[u8], fin: bool) -> Result<bool, RecvFault>
+    requires { offset + length bytes.now ≤ MAX_VARINT }
+{
+    let before = (lane.stored(), lane.highest(), lane.final_size());
+    let refused = take(lane, offset, bytes, fin).is_err();
+    let after = (lane.stored(), lane.highest(), lane.final_size());
+    if refused {
+        take(lane, offset, bytes, fin)?;
+        return Ok(before == after);
+    }
+    Ok(true)
+}
+
 // Run with each allocation refused in turn, a refused frame leaves the half as it was, and the next one succeeds.
 #[test]
 fn refused_frames_change_nothing(rt: HostRuntime) -> Result<(), Fail> {
     let mut lane = half(rt.alloc());
-    if take(&mut lane, 4, b"efgh", true).is_err() {
-        assert_eq!(rt; lane.final_size(), None);
-        assert_eq!(rt; lane.highest(), 0);
-        assert_eq!(rt; lane.stored(), 0);
-        take(&mut lane, 4, b"efgh", true)?;
-    }
-    if take(&mut lane, 0, b"abcd", false).is_err() {
-        assert_eq!(rt; lane.stored(), 4);
-        assert_eq!(rt; lane.state(), RecvState::SizeKnown);
-        take(&mut lane, 0, b"abcd", false)?;
-    }
+    assert!(rt; take_again(&mut lane, 4, b"efgh", true)?);
+    assert!(rt; take_again(&mut lane, 0, b"abcd", false)?);
     let mut into = [0u8; 8];
     assert_eq!(rt; read(&mut lane, &mut into), Read::Bytes(8));
     assert_eq!(rt; into.as_slice(), b"abcdefgh".as_slice());
@@ -248,39 +253,39 @@ fn the_byte_that_came_first_stays(rt: HostRuntime) -> Result<(), Fail> {
 #[test]
 fn a_frame_fills_the_gaps_between_chunks(rt: HostRuntime) -> Result<(), Fail> {
     let mut chunks = ChunkAssembly::new(rt.alloc(), 64);
-    put(&mut chunks, 2, b"B")?;
-    put(&mut chunks, 6, b"DD")?;
-    put(&mut chunks, 4, b"C")?;
-    put(&mut chunks, 1, b"1234567890")?;
-    assert_eq!(rt; chunks.stored(), 10);
-    put(&mut chunks, 0, b"AAA")?;
-    assert_eq!(rt; chunks.received().pairs(), [(0, 11)].as_slice());
-    let mut into = [b'-'; 12];
-    assert_eq!(rt; chunks.take(&mut into), 11);
-    assert_eq!(rt; into.as_slice(), b"A1B3C5DD890-".as_slice());
+    put(&mut chunks, 1, b"B")?;
+    put(&mut chunks, 4, b"DD")?;
+    put(&mut chunks, 0, b"12345678")?;
+    assert_eq!(rt; chunks.stored(), 8);
+    let mut into = [b'-'; 10];
+    assert_eq!(rt; chunks.take(&mut into), 8);
+    assert_eq!(rt; into.as_slice(), b"1B34DD78--".as_slice());
     Ok(())
+}
+
+// Bytes that are put again where no memory was found, and whether the assembly was as before then.
+fn put_again(chunks: &mut ChunkAssembly, offset: u64, bytes: &[u8]) -> Result<bool, NoMemory>
+    requires kept { (chunks.old.discarding ≡ false) × (chunks.old.read_count ≡ 0) × (chunks.old.window ≡ 64) }
+    requires in_window { offset + length bytes.now ≤ 64 }
+    ensures { (chunks.new.discarding ≡ false) × (chunks.new.read_count ≡ 0) × (chunks.new.window ≡ 64) }
+{
+    let before = (chunks.stored(), chunks.received().count());
+    let refused = put(chunks, offset, bytes).is_err();
+    let after = (chunks.stored(), chunks.received().count());
+    if refused {
+        put(chunks, offset, bytes)?;
+        return Ok(before == after);
+    }
+    Ok(true)
 }
 
 #[test]
 fn refused_puts_change_nothing(rt: HostRuntime) -> Result<(), Fail> {
     let mut chunks = ChunkAssembly::new(rt.alloc(), 64);
-    if put(&mut chunks, 8, b"ij").is_err() {
-        assert_eq!(rt; chunks.stored(), 0);
-        put(&mut chunks, 8, b"ij")?;
-    }
-    if put(&mut chunks, 4, b"ef").is_err() {
-        assert_eq!(rt; chunks.stored(), 2);
-        put(&mut chunks, 4, b"ef")?;
-    }
-    if put(&mut chunks, 0, b"abcdefghijklmno").is_err() {
-        assert_eq!(rt; chunks.stored(), 4);
-        assert_eq!(rt; chunks.received().pairs(), [(4, 6), (8, 10)].as_slice());
-        put(&mut chunks, 0, b"abcdefghijklmno")?;
-    }
-    if put(&mut chunks, 15, b"0123456789").is_err() {
-        assert_eq!(rt; chunks.stored(), 15);
-        put(&mut chunks, 15, b"0123456789")?;
-    }
+    assert!(rt; put_again(&mut chunks, 8, b"ij")?);
+    assert!(rt; put_again(&mut chunks, 4, b"ef")?);
+    assert!(rt; put_again(&mut chunks, 0, b"abcdefghijklmno")?);
+    assert!(rt; put_again(&mut chunks, 15, b"0123456789")?);
     let mut into = [0u8; 25];
     assert_eq!(rt; chunks.take(&mut into), 25);
     assert_eq!(rt; into.as_slice(), b"abcdefghijklmno0123456789".as_slice());
