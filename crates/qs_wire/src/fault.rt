@@ -1,6 +1,6 @@
 //! What can be wrong with a payload.
 
-ghost use Rattle.std.specs.Prelude.{◌≡◌};
+ghost use Rattle.std.specs.Prelude.{◌≡◌, ◌<◌, ◌^◌};
 ghost use Rattle.qs_wire.specs.Faults.{code_of, kind_number};
 
 use thiserror::Error;
@@ -29,7 +29,8 @@ pub enum FaultKind {
 impl FaultKind {
     /// The number that QUIC closes a connection with (RFC 9000, section 20.1).
     pub fn code(self) -> u64
-        ensures { result ≡ code_of self }
+        ensures exact { result ≡ code_of self }
+        ensures small { result < 2 ^ 62 }
     {
         match self {
             FaultKind::Empty | FaultKind::LongType => PROTOCOL_VIOLATION,

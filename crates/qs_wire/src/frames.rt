@@ -1,6 +1,6 @@
 //! The frames of a payload, one after the other.
 
-ghost use Rattle.std.specs.Prelude.{◌≡◌, ℕ, List, MatchOption, IfOk, IfSome};
+ghost use Rattle.std.specs.Prelude.{◌≡◌, ℕ, ◌<◌, ◌^◌, List, MatchOption, IfOk, IfErr, IfSome};
 ghost use Rattle.qs_wire.specs.Layout.{FrameValue, view};
 ghost use Rattle.qs_wire.specs.Grammar.{PlacedText, PayloadText, FaultyText, frames_of, Fits};
 ghost use Rattle.qs_wire.specs.Reading.{Next, reading_of, fault_at};
@@ -30,7 +30,9 @@ impl<'a> Model for Frames<'a> {
 }
 
 fn fault_at(place: usize, broken: Broken) -> WireFault
-    ensures { result ≡ fault_at place broken }
+    requires { broken.frame_type < 2 ^ 62 }
+    ensures exact { result ≡ fault_at place broken }
+    ensures small { (result.code < 2 ^ 62) × (result.frame_type < 2 ^ 62) }
 {
     WireFault {
         kind: broken.kind,
@@ -63,6 +65,9 @@ impl<'a> Frames<'a> {
         ensures step { Next self.old result self.new }
         // A frame that was read can be written.
         ensures fits { IfOk result (λ next. IfSome next (λ placed. Fits (view placed.frame))) }
+        // A frame's type and what a fault tells have a spelling.
+        ensures typed { IfOk result (λ next. IfSome next (λ placed. placed.frame_type < 2 ^ 62)) }
+        ensures told { IfErr result (λ fault. (fault.code < 2 ^ 62) × (fault.frame_type < 2 ^ 62)) }
     {
         let place = self.place;
         if self.rest.is_empty() {

@@ -1,6 +1,6 @@
 //! Reading the frame that begins the bytes.
 
-ghost use Rattle.std.specs.Prelude.{◌≡◌, ℕ, ◌+◌, ◌-◌, ◌^◌, ◌<◌, length, nat_lt, IfOk};
+ghost use Rattle.std.specs.Prelude.{◌≡◌, ℕ, ◌+◌, ◌-◌, ◌^◌, ◌<◌, length, nat_lt, IfOk, IfErr};
 ghost use Rattle.qs_wire.specs.Varint.{numbers_of};
 ghost use Rattle.qs_wire.specs.Layout.{view, taken};
 ghost use Rattle.qs_wire.specs.Grammar.{Fits};
@@ -74,7 +74,9 @@ fn breach_of(frame: &Frame) -> Option<FaultKind>
 
 #[tactic(auto, unfolding(crate::specs::Reading::number_of_type_at))]
 fn type_at(bytes: &[u8]) -> Result<(u64, &[u8]), Broken>
-    ensures { Gives (λ x. (x.0, x.1.now)) result (number_of_type_at bytes.now) }
+    ensures gives { Gives (λ x. (x.0, x.1.now)) result (number_of_type_at bytes.now) }
+    ensures typed { IfOk result (λ x. x.0 < 2 ^ 62) }
+    ensures broken { IfErr result (λ broken. broken.frame_type < 2 ^ 62) }
 {
     let Some((frame_type, len)) = read_varint(bytes) else {
         return Err(Broken {
@@ -97,6 +99,8 @@ pub(crate) fn frame_at(bytes: &[u8]) -> Result<(u64, Frame<'_>, &[u8]), Broken>
     ensures gives { Gives (λ x. (x.0, view x.1, x.2.now)) result (frame_at bytes.now) }
     ensures fits { IfOk result (λ x. Fits (view x.1)) }
     ensures shorter { IfOk result (λ x. length x.2.now < length bytes.now) }
+    ensures typed { IfOk result (λ x. x.0 < 2 ^ 62) }
+    ensures broken { IfErr result (λ broken. broken.frame_type < 2 ^ 62) }
     // The frames of the bytes are this one and those after it.
     ensures more { IfOk result (λ x. (place : ℕ) → reading_from place bytes.now
         ≡ with_first (placed_at place x.0 (view x.1)) (reading_from (place + (length bytes.now - length x.2.now)) x.2.now)) }

@@ -26,5 +26,5 @@ returns-clause-fits c =
 
 pub breach_of-requires : goal.breach_of-requires
 breach_of-requires c =
-    let front = type_takes c.args.bytes.now (c.in_ok-frame_type.frame_type, c.in_ok-frame_type.rest.now) (λ i. omega (arith, c.type_inv.bytes i)) c.in_ok-frame_type.ensures in
+    let front = type_takes c.args.bytes.now (c.in_ok-frame_type.frame_type, c.in_ok-frame_type.rest.now) (λ i. omega (arith, c.type_inv.bytes i)) c.in_ok-frame_type.ensures.gives in
     body_largest c.in-Some.known c.in_ok-frame_type.rest.now (view c.in-Ok.x.0, c.in-Ok.x.1.now) front.rest_fits c.in-Ok.ensures

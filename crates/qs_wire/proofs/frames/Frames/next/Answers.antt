@@ -11,7 +11,7 @@ returns-then-place-gt0-clause-step c =
 pub returns-then-is_empty-clause-step : goal.returns-then-is_empty-clause-step
 returns-then-is_empty-clause-step c =
     let empty : length c.self.inside.rest.now ≡ 0 = eqb-true _ _ (sym c.is_empty.ensures ∙ c.if-is_empty.true) in
-    (sym c.self.view_is ∙ at_start c.self.inside.place c.self.inside.rest.now c.if-place-gt0.false empty ∙ ap stopped (sym c.fault_at.ensures), refl)
+    (sym c.self.view_is ∙ at_start c.self.inside.place c.self.inside.rest.now c.if-place-gt0.false empty ∙ ap stopped (sym c.fault_at.ensures.exact), refl)
 
 pub returns-in-Ok-clause-step : goal.returns-in-Ok-clause-step
 returns-in-Ok-clause-step c = sym c.self.view_is ∙ c.in-Ok.ensures.more c.self.inside.place
@@ -20,4 +20,4 @@ pub returns-in-Err-clause-step : goal.returns-in-Err-clause-step
 returns-in-Err-clause-step c =
     let other = eqb-false (length c.self.inside.rest.now) 0 (sym c.is_empty.ensures ∙ c.if-is_empty.false) in
     let some : 0 < length c.self.inside.rest.now = omega arith in
-    (sym c.self.view_is ∙ at_fault c.self.inside.place c.self.inside.rest.now c.in-Err.broken some c.in-Err.ensures.gives ∙ ap stopped (sym c.fault_at-in-Err.ensures), refl)
+    (sym c.self.view_is ∙ at_fault c.self.inside.place c.self.inside.rest.now c.in-Err.broken some c.in-Err.ensures.gives ∙ ap stopped (sym c.fault_at-in-Err.ensures.exact), refl)
