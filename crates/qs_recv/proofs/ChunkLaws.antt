@@ -1,13 +1,12 @@
 -- What the words on chunks answer.
-use Rattle.std.specs.Prelude.{◌≡◌, ℕ, ◌+◌, ◌-◌, ◌<◌, ◌≤◌, zero, suc, Bool, true, false, not, cond, ◌&&◌, nat_lt, List, [], ◌∷◌, ◌++◌, length, take, drop, insert, slice_get, sum_by, Option, None, Some, is_some, refl}
-use Rattle.std.proofs.Common.{sym, ◌∙◌, ap, arith, inl, inr, add-one, length-drop}
+use Rattle.std.specs.Prelude.{◌≡◌, ℕ, ◌+◌, ◌-◌, ◌<◌, ◌≤◌, zero, suc, Bool, true, false, not, cond, ◌&&◌, List, [], ◌∷◌, ◌++◌, length, take, drop, slice_get, Option, None, Some, is_some, refl}
+use Rattle.std.proofs.Common.{sym, ◌∙◌, ap, arith, inl, inr, length-drop}
 use Rattle.std.specs.Ordering.{nat_cmp}
 use Rattle.std.specs.Cmp.{nat_cmp_total}
 use Rattle.std.specs.FinMap as map
 use Rattle.std.specs.FinMap.{nat_cmp-IsAntisymmetric, same_map}
 use Rattle.std.specs.FinSet as set
-use Rattle.std.proofs.lemmas.Bool.{both_ways, cases_lt, cases_Bool, and_parts, ltb-true, ltb-false, leb-true, and_from, le-leb, lt-leb, lt-ltb, ne_eqb}
-use Rattle.std.proofs.lemmas.List.Sums.{sum_by-cons}
+use Rattle.std.proofs.lemmas.Bool.{both_ways, cases_lt, and_parts, ltb-true, leb-true, and_from, le-leb, lt-leb, lt-ltb, ne_eqb}
 use Rattle.std.proofs.lemmas.Bool.Decides.{nat_tests}
 use Rattle.qs_recv.specs.Assembled.{store, front, front_from, keep_from}
 use Rattle.qs_recv.proofs.AssembledLaws.{is_in_run, get-store, get-keep_from, get-insert_nat}
@@ -128,7 +127,7 @@ byte_of_rest c n q h =
 in_piece : (c : Piece) (cs : List Piece) (q : ℕ) → c.offset ≤ q → q < end_of_piece c → map.get (stored_in (c ∷ cs)) q ≡ byte_of c q
 in_piece c cs q low high = get-stored_in c cs q ∙ ap (λ b. cond b (byte_of c q) (map.get (stored_in cs) q)) (is_in_from q c low high)
 
-past_piece : (c : Piece) (cs : List Piece) (q : ℕ) → end_of_piece c ≤ q → map.get (stored_in (c ∷ cs)) q ≡ map.get (stored_in cs) q
+pub past_piece : (c : Piece) (cs : List Piece) (q : ℕ) → end_of_piece c ≤ q → map.get (stored_in (c ∷ cs)) q ≡ map.get (stored_in cs) q
 past_piece c cs q h = get-stored_in c cs q ∙ ap (λ b. cond b (byte_of c q) (map.get (stored_in cs) q)) (not_in_above q c h)
 
 kept : (m : map.FinMap nat_cmp ℕ) (at q : ℕ) → at ≤ q → map.get (keep_from m at) q ≡ map.get m q
@@ -199,27 +198,6 @@ get-stored_in-append (c ∷ xs) ys q =
     ∙ ap (λ o. cond (is_in q c) (byte_of c q) o) (get-stored_in-append xs ys q)
     ∙ sym (ap (λ o. or_else o (map.get (stored_in ys) q)) (get-stored_in c xs q)
     ∙ or_else-cond (is_in q c) (byte_of c q) (map.get (stored_in xs) q) (map.get (stored_in ys) q) (is_some-byte_of c q))
-
-pub IsOrdered-push : (cs : List Piece) (low : ℕ) (p : Piece) → IsOrdered low cs → pieces_end low cs ≤ p.offset → 0 < length p.bytes → IsOrdered low (cs ++ p ∷ [])
-IsOrdered-push [] low p o at some = (at, some, tt)
-IsOrdered-push (c ∷ cs) low p o at some = (o.0, o.1, IsOrdered-push cs (end_of_piece c) p o.2 at some)
-
-pub pieces_end-push : (cs : List Piece) (low : ℕ) (p : Piece) → pieces_end low (cs ++ p ∷ []) ≡ end_of_piece p
-pieces_end-push [] low p = refl
-pieces_end-push (c ∷ cs) low p = pieces_end-push cs (end_of_piece c) p
-
-pub IsOrdered-front : (xs ys : List Piece) (low : ℕ) → IsOrdered low (xs ++ ys) → IsOrdered low xs
-IsOrdered-front [] ys low o = tt
-IsOrdered-front (c ∷ xs) ys low o = (o.0, o.1, IsOrdered-front xs ys (end_of_piece c) o.2)
-
--- the last of ordered pieces has a byte, lies past low, and shares no offset with those before it
-pub last_some : (xs : List Piece) (p : Piece) (low : ℕ) → IsOrdered low (xs ++ p ∷ []) → 0 < length p.bytes
-last_some [] p low o = o.1
-last_some (c ∷ xs) p low o = last_some xs p (end_of_piece c) o.2
-
-pub last_past : (xs : List Piece) (p : Piece) (low : ℕ) → IsOrdered low (xs ++ p ∷ []) → pieces_end low xs ≤ p.offset
-last_past [] p low o = o.0
-last_past (c ∷ xs) p low o = last_past xs p (end_of_piece c) o.2
 
 pub low_end : (xs : List Piece) (low : ℕ) → IsOrdered low xs → low ≤ pieces_end low xs
 low_end [] low o = omega arith

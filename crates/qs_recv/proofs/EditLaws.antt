@@ -1,8 +1,8 @@
 -- Lists of pieces edited at a place.
-use Rattle.std.specs.Prelude.{◌≡◌, ℕ, ◌+◌, ◌-◌, ◌<◌, ◌≤◌, zero, suc, List, [], ◌∷◌, ◌++◌, length, take, drop, insert, remove, slice_index_or, slice_set, refl}
+use Rattle.std.specs.Prelude.{◌≡◌, ℕ, ◌+◌, ◌-◌, ◌<◌, ◌≤◌, zero, suc, List, [], ◌∷◌, ◌++◌, length, take, drop, insert, remove, refl}
 use Rattle.std.proofs.Common.{sym, ◌∙◌, ap, arith, length-append, append_assoc}
-use Rattle.std.proofs.lemmas.List.{take_at, drop-set-lt}
-use Rattle.qs_recv.specs.Chunks.{Piece, longer, piece_at, shorter, with_longer, with_shorter, with_spot}
+use Rattle.std.proofs.lemmas.List.{take_at}
+use Rattle.qs_recv.specs.Chunks.{Piece, with_longer, with_shorter}
 
 pub longer_then_shorter : (cs : List Piece) (k : ℕ) (bytes : List ℕ) → k < length cs → with_shorter (with_longer cs k bytes) k (length bytes) ≡ cs
 longer_then_shorter [] k bytes h = absurd (omega arith)
@@ -12,25 +12,10 @@ longer_then_shorter (c ∷ cs) zero bytes h =
     ap (λ bs. record { offset = c.offset; bytes = bs } ∷ cs) (take_at c.bytes bytes (length (c.bytes ++ bytes) - length bytes) f)
 longer_then_shorter (c ∷ cs) (suc k) bytes h = ap (λ xs. c ∷ xs) (longer_then_shorter cs k bytes (omega arith))
 
-pub longer_has : (cs : List Piece) (k : ℕ) (bytes : List ℕ) → k < length cs → length bytes ≤ length (piece_at (with_longer cs k bytes) k).bytes
-longer_has [] k bytes h = absurd (omega arith)
-longer_has (c ∷ cs) zero bytes h = let e : length (c.bytes ++ bytes) ≡ length c.bytes + length bytes = length-append c.bytes bytes in omega (arith, e)
-longer_has (c ∷ cs) (suc k) bytes h = longer_has cs k bytes (omega arith)
-
-pub length-with_longer : (cs : List Piece) (k : ℕ) (bytes : List ℕ) → length (with_longer cs k bytes) ≡ length cs
-length-with_longer [] k bytes = refl
-length-with_longer (c ∷ cs) zero bytes = refl
-length-with_longer (c ∷ cs) (suc k) bytes = ap suc (length-with_longer cs k bytes)
-
 pub insert_then_remove : (cs : List Piece) (k : ℕ) (c : Piece) → k ≤ length cs → remove (insert cs k c) k ≡ cs
 insert_then_remove cs zero c h = refl
 insert_then_remove [] (suc k) c h = absurd (omega arith)
 insert_then_remove (d ∷ cs) (suc k) c h = ap (λ xs. d ∷ xs) (insert_then_remove cs k c (omega arith))
-
-pub length-insert : (cs : List Piece) (k : ℕ) (c : Piece) → k ≤ length cs → length (insert cs k c) ≡ suc (length cs)
-length-insert cs zero c h = refl
-length-insert [] (suc k) c h = absurd (omega arith)
-length-insert (d ∷ cs) (suc k) c h = ap suc (length-insert cs k c (omega arith))
 
 take_inserted : (cs : List Piece) (k : ℕ) (c : Piece) → k ≤ length cs → take (suc k) (insert cs k c) ≡ take k cs ++ c ∷ []
 take_inserted cs zero c h = refl
@@ -43,15 +28,6 @@ drop_inserted [] (suc k) j c h = absurd (omega arith)
 drop_inserted (d ∷ cs) (suc k) j c h =
     let e : suc k + j ≡ suc (k + j) = omega arith in
     ap (λ i. drop (suc i) (insert (d ∷ cs) (suc k) c)) e ∙ drop_inserted cs k j c (omega arith) ∙ sym (ap (λ i. drop i (d ∷ cs)) e)
-
-pub cleared_behind_longer : (cs : List Piece) (first after : ℕ) (bytes : List ℕ) → 0 < first → first ≤ after
-    → take (first - 1 + 1) (with_longer cs (first - 1) bytes) ++ drop (first - 1 + 1 + (after - first)) (with_longer cs (first - 1) bytes) ≡ take first (with_longer cs (first - 1) bytes) ++ drop after cs
-cleared_behind_longer cs first after bytes some ordered =
-    let e : first - 1 + 1 ≡ first = omega arith in
-    let f : first - 1 + 1 + (after - first) ≡ after = omega arith in
-    ap (λ k. take k (with_longer cs (first - 1) bytes) ++ drop (first - 1 + 1 + (after - first)) (with_longer cs (first - 1) bytes)) e
-    ∙ ap (λ k. take first (with_longer cs (first - 1) bytes) ++ drop k (with_longer cs (first - 1) bytes)) f
-    ∙ ap (λ xs. take first (with_longer cs (first - 1) bytes) ++ xs) (drop-set-lt after cs (first - 1) (longer (piece_at cs (first - 1)) bytes) (omega arith))
 
 pub cleared_behind_inserted : (cs : List Piece) (first after : ℕ) (c : Piece) → first ≤ length cs → first ≤ after
     → take (first + 1) (insert cs first c) ++ drop (first + 1 + (after - first)) (insert cs first c) ≡ take first cs ++ c ∷ drop after cs

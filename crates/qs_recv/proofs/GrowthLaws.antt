@@ -1,21 +1,21 @@
 -- No call on a receiving lane takes anything back, and what is stored is what was sent.
-use Rattle.std.specs.Prelude.{◌≡◌, ℕ, ◌+◌, ◌≤◌, ◌<◌, Bool, true, false, cond, ◌||◌, max, List, length, Option, None, Some, is_some, unwrap_or, IsOk, refl}
+use Rattle.std.specs.Prelude.{◌≡◌, ℕ, ◌+◌, ◌≤◌, Bool, true, false, cond, ◌||◌, List, length, Option, None, Some, is_some, unwrap_or, IsOk}
 use Rattle.std.proofs.Common.{sym, ◌∙◌, ap, arith}
 use Rattle.std.specs.FinSet as set
 use Rattle.std.specs.FinMap as map
 use Rattle.std.specs.Ordering.{nat_cmp}
 use Rattle.std.proofs.lemmas.Bool.Decides.{nat_tests}
-use Rattle.std.proofs.lemmas.Bool.{both_ways, cond_both, or_left}
+use Rattle.std.proofs.lemmas.Bool.{cond_both, or_left}
 use Rattle.qs_ranges.specs.Numbers.{end_of}
-use Rattle.qs_recv.specs.Assembled.{Assembled, put, take_front, discard, front_of}
-use Rattle.qs_recv.specs.Lane.{RecvLane, highest, taken, check_stream, take_stream, check_reset, take_reset, is_whole, breaks_known, read_answer, after_answer, after_read, stop, raise}
+use Rattle.qs_recv.specs.Assembled.{Assembled, put, discard, front_of}
+use Rattle.qs_recv.specs.Lane.{RecvLane, highest, check_stream, take_stream, check_reset, take_reset, is_whole, breaks_known, read_answer, after_answer, after_read, stop, raise}
 use Rattle.qs_recv.specs.Lawful.{IsLawful}
 use Rattle.qs_recv.specs.Laws.{IsSent, CarriesSent, LaneCall, TakeStream, TakeReset, ReadUpTo, StopWith, RaiseLimit, after_call, IsAllowed, Grows}
 use Rattle.qs_recv.specs.declared.half.Read.{Read}
 use Rattle.qs_recv.specs.declared.half.Read.TheVariants.{Bytes, End, Reset, Wait}
 use Rattle.qs_recv.proofs.AssembledLaws.{contains-with_run}
 use Rattle.qs_recv.proofs.LaneLaws.{written_put, written_take}
-use Rattle.qs_recv.proofs.LawfulLaws.{lawful_take_stream, lawful_take_reset, lawful_after_read, lawful_stop, lawful_raise, highest-take_stream, highest_after-grows, unbroken, reset_above, reset_known, taken_grows, read_counts, taken_within, all_taken, raised_grows}
+use Rattle.qs_recv.proofs.LawfulLaws.{lawful_take_stream, lawful_take_reset, lawful_after_read, lawful_stop, lawful_raise, highest-take_stream, highest_after-grows, unbroken, reset_above, reset_known, read_counts, taken_within, all_taken, raised_grows}
 
 pub lawful_after_call : (lane : RecvLane) (call : LaneCall) → IsLawful lane → IsAllowed lane call → IsLawful (after_call lane call)
 lawful_after_call lane (TakeStream offset bytes fin) h ok = lawful_take_stream lane offset bytes fin h ok

@@ -1,18 +1,17 @@
 -- What holds of a chunk assembly's fields still holds after each call.
-use Rattle.std.specs.Prelude.{◌≡◌, ℕ, ◌+◌, ◌-◌, ◌<◌, ◌≤◌, zero, suc, Bool, true, false, not, cond, ◌&&◌, nat_lt, nat_le, List, [], ◌∷◌, ◌++◌, length, take, sum_by, Option, None, Some, is_some, Result, Ok, Err, OnOk, OnErr, refl}
+use Rattle.std.specs.Prelude.{◌≡◌, ℕ, ◌+◌, ◌-◌, ◌<◌, ◌≤◌, zero, suc, Bool, true, false, cond, List, [], ◌∷◌, ◌++◌, length, take, Option, None, Some, is_some, Result, Ok, Err, OnOk, OnErr, refl}
 use Rattle.std.proofs.Common.{sym, ◌∙◌, ap, arith, inl, inr, get_or, zero-add, add-zero, length-drop}
 use Rattle.std.specs.Ordering.{nat_cmp}
 use Rattle.std.specs.Cmp.{nat_cmp_total}
 use Rattle.std.specs.FinMap as map
 use Rattle.std.specs.FinMap.{nat_cmp-IsAntisymmetric, same_map}
 use Rattle.std.specs.FinSet as set
-use Rattle.std.proofs.lemmas.Bool.{both_ways, cases_lt, cases_Bool, and_parts, or_left, or_right, not-true, le-ltb, lt-ltb, le-leb, lt-leb, ltb-true, and_right}
-use Rattle.std.proofs.lemmas.List.Sums.{sum_by-cons}
+use Rattle.std.proofs.lemmas.Bool.{both_ways, cases_lt, or_left, le-ltb, lt-ltb, le-leb, lt-leb}
 use Rattle.qs_ranges.specs.Numbers.{NumberSet, MAX_VARINT}
-use Rattle.qs_recv.specs.Assembled.{Assembled, put, store, front, front_from, keep_from}
-use Rattle.qs_recv.proofs.AssembledLaws.{is_in_run, with_run, contains-with_run, get-store, get-keep_from, stored_by_keep, stored_by_put}
-use Rattle.qs_recv.specs.Chunks.{first_bytes, first_offset, without_first, total, byte_at, Piece, stored_in, IsOrdered, end_of_piece, or_else, rest_of}
-use Rattle.qs_recv.proofs.ChunkLaws.{get-stored_in, get-stored_in_none, is_in, byte_of, is_some-byte_of, is_in_from, none_below, not_some, front-first, keep_from-first, keep_from-whole, IsOrdered-rest}
+use Rattle.qs_recv.specs.Assembled.{Assembled, front, front_from, keep_from}
+use Rattle.qs_recv.proofs.AssembledLaws.{is_in_run, with_run, contains-with_run, get-keep_from, stored_by_keep}
+use Rattle.qs_recv.specs.Chunks.{first_bytes, first_offset, without_first, total, Piece, stored_in, IsOrdered, end_of_piece, rest_of}
+use Rattle.qs_recv.proofs.ChunkLaws.{get-stored_in, get-stored_in_none, byte_of, is_some-byte_of, is_in_from, none_below, not_some, front-first, keep_from-first, keep_from-whole, IsOrdered-rest}
 use Rattle.qs_recv.proofs.SpotLaws.{stored_later}
 use Rattle.qs_recv.specs.Kept.{IsKept, take_exactly}
 
@@ -149,13 +148,6 @@ pub taken_small : (r : NumberSet) (cs : List Piece) (n k stored : ℕ) (discardi
 taken_small r cs n k stored discarding h some at pos fits =
     let s : n + k - 1 < MAX_VARINT = h.small (n + k - 1) (stored_first cs n (n + k - 1) some at (omega arith) (omega arith)) in omega arith
 
-pub taken_stored : (r : NumberSet) (cs : List Piece) (n k stored : ℕ) (discarding : Bool) → IsKept cs r n stored discarding → k ≤ length (first_bytes cs) → k ≤ stored
-taken_stored r cs n k stored discarding h fits = let c = h.counted in by_list cs fits c
-  where
-    by_list : (cs : List Piece) → k ≤ length (first_bytes cs) → stored ≡ total cs → k ≤ stored
-    by_list [] fits c = omega arith
-    by_list (d ∷ ds) fits c = omega arith
-
 total_small : (cs : List Piece) (low : ℕ) → IsOrdered low cs → ((q : ℕ) → map.contains_key (stored_in cs) q ≡ true → q < MAX_VARINT) → low ≤ MAX_VARINT → low + total cs ≤ MAX_VARINT
 total_small [] low o small h = omega arith
 total_small (c ∷ cs) low o small h =
@@ -187,10 +179,6 @@ take_nothing a tidy =
     let z : a.read_count ≡ a.read_count + 0 = omega arith in
     ap (λ m. record a { stored = m; read_count = a.read_count }) (sym tidy)
     ∙ ap (λ n. record a { stored = keep_from a.stored n; read_count = n }) z
-
-pub at_least_one : (cs : List Piece) → (length cs ≡ 0 → ⊥) → 0 < length cs
-at_least_one [] h = absurd (h refl)
-at_least_one (c ∷ cs) h = omega arith
 
 -- Several reads, one after the other
 

@@ -7,12 +7,10 @@ use Rattle.std.specs.FinMap as map
 use Rattle.std.specs.FinMap.{nat_cmp-IsAntisymmetric, same_map}
 use Rattle.std.specs.FinSet as set
 use Rattle.std.proofs.lemmas.Bool.{both_ways, cases_lt, cases_eq, ne_eqb, eq-eqb, ltb-false, or_left, or_right, and_right}
-use Rattle.std.proofs.lemmas.Bool.Decides.{nat_tests}
-use Rattle.qs_ranges.specs.Numbers.{NumberSet, end_of}
-use Rattle.qs_ranges.proofs.Sets.{below-end_of}
+use Rattle.qs_ranges.specs.Numbers.{NumberSet}
 use Rattle.qs_recv.specs.Assembled.{Assembled, put, take_front, store, front_of}
 use Rattle.qs_recv.specs.Chunks.{byte_at}
-use Rattle.qs_recv.proofs.AssembledLaws.{with_run, is_in_run, contains-with_run, end_of-with_run, get-store, get-keep_from, stored_by_put}
+use Rattle.qs_recv.proofs.AssembledLaws.{with_run, is_in_run, contains-with_run, get-store, get-keep_from, stored_by_put}
 use Rattle.qs_recv.specs.Lane.{RecvLane, check_stream, highest}
 use Rattle.qs_recv.specs.Laws.{IsSent, IsPart}
 use Rattle.qs_recv.specs.declared.half.Highest.{Highest}

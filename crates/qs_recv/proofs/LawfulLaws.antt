@@ -1,5 +1,5 @@
 -- Every call keeps a receiving lane lawful, and takes nothing back.
-use Rattle.std.specs.Prelude.{◌≡◌, ℕ, ◌+◌, ◌-◌, ◌≤◌, ◌<◌, ◌^◌, ◌/◌, zero, suc, Bool, true, false, not, cond, ◌&&◌, ◌||◌, nat_eq, nat_lt, nat_le, eqb, max, min, List, [], length, Option, None, Some, is_some, unwrap_or, refl, Result, Ok, Err, IsOk, IsTrue, ◌↔◌, ◌⊎◌}
+use Rattle.std.specs.Prelude.{◌≡◌, ℕ, ◌+◌, ◌-◌, ◌≤◌, ◌<◌, ◌^◌, Bool, true, false, cond, ◌||◌, nat_eq, nat_le, max, List, length, Option, None, Some, is_some, unwrap_or, refl, Result, Ok, Err, IsOk}
 use Rattle.std.proofs.Common.{sym, ◌∙◌, ap, arith, inl, inr}
 use Rattle.std.specs.Ordering.{nat_cmp}
 use Rattle.std.specs.FinMap as map
@@ -7,13 +7,13 @@ use Rattle.std.specs.FinMap.{nat_cmp-IsAntisymmetric, same_map}
 use Rattle.std.specs.Cmp.{nat_cmp_total}
 use Rattle.std.specs.FinSet as set
 use Rattle.std.proofs.lemmas.Bool.Decides.{nat_tests}
-use Rattle.std.proofs.lemmas.Bool.{both_ways, cases_Bool, cases_lt, cond_both, ltb-false, leb-true, or_left, or_right, or_parts}
-use Rattle.qs_ranges.specs.Numbers.{NumberSet, MAX_VARINT, ContainsRange, end_of, covers}
-use Rattle.qs_ranges.proofs.Sets.{end_of-empty, below-end_of, covers-is, covers-of}
-use Rattle.qs_recv.specs.Assembled.{Assembled, nothing_yet, put, take_front, discard, front_of, keep_from, store}
-use Rattle.qs_recv.proofs.AssembledLaws.{get-keep_from, with_run, contains-with_run, end_of-with_run, stored_by_keep, front_stored}
+use Rattle.std.proofs.lemmas.Bool.{both_ways, cases_lt, cond_both, ltb-false, leb-true, or_left, or_right}
+use Rattle.qs_ranges.specs.Numbers.{MAX_VARINT, end_of}
+use Rattle.qs_ranges.proofs.Sets.{end_of-empty, below-end_of}
+use Rattle.qs_recv.specs.Assembled.{put, take_front, front_of, keep_from, store}
+use Rattle.qs_recv.proofs.AssembledLaws.{get-keep_from, contains-with_run, end_of-with_run, stored_by_keep, front_stored}
 use Rattle.qs_recv.proofs.LaneLaws.{len_within, check_fits, put_past}
-use Rattle.qs_recv.specs.Lane.{RecvLane, new_lane, highest, highest_after, taken, check_stream, take_stream, check_reset, take_reset, is_whole, whole_to, breaks_known, breaks_final_size, read_answer, after_answer, after_read, stop, raise, next_limit, raised_limit}
+use Rattle.qs_recv.specs.Lane.{RecvLane, new_lane, highest, highest_after, taken, check_stream, take_stream, check_reset, take_reset, is_whole, breaks_known, read_answer, after_answer, after_read, stop, raise, next_limit, raised_limit}
 use Rattle.qs_recv.specs.declared.half.Read.{Read}
 use Rattle.qs_recv.specs.declared.half.Read.TheVariants.{Bytes, End, Reset, Wait}
 use Rattle.qs_recv.specs.Lawful.{IsLawful}
@@ -175,19 +175,6 @@ reset_known lane size ok known = same lane.final_size (end_of lane.arrived.recei
     same : (f : Option ℕ) (e : ℕ) → is_some f ≡ true → breaks_known f size 0 true (unwrap_or f e) ≡ false → unwrap_or f e ≡ size
     same None e is broken = absurd (both_ways false refl is)
     same (Some s) e is broken = grind (arith, nat_tests)
-
-pub whole_known : (r : NumberSet) (f : Option ℕ) → whole_to r f ≡ true → is_some f ≡ true
-whole_known r (Some s) h = refl
-whole_known r None h = absurd (both_ways false refl h)
-
-pub highest-take_reset : (lane : RecvLane) (code size : ℕ) → IsLawful lane → IsOk (check_reset lane size) → highest (take_reset lane code size) ≡ size
-highest-take_reset lane code size h ok = by_state (is_some lane.reset_code) (is_whole lane) refl refl
-  where
-    by_state : (b c : Bool) → is_some lane.reset_code ≡ b → is_whole lane ≡ c
-        → highest (cond (b || c) lane (record lane { arrived = discard lane.arrived; final_size = Some size; reset_code = Some code })) ≡ size
-    by_state true c reset whole = reset_known lane size ok (h.reset_sized reset)
-    by_state false true reset whole = reset_known lane size ok (whole_known lane.arrived.received lane.final_size whole)
-    by_state false false reset whole = refl
 
 taken_whole : (b : Bool) (h r size : ℕ) → h ≤ size → r ≤ size → cond b h r ≤ size
 taken_whole true h r size a b = a

@@ -5,6 +5,7 @@ pub mod GrowthLaws
 pub mod KeptLaws
 pub mod LaneLaws
 pub mod LawfulLaws
+pub mod NewsLaws
 pub mod PutLaws
 pub mod ReadLaws
 pub mod SoundLaws

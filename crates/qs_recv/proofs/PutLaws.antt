@@ -1,20 +1,20 @@
 -- What the chunks hold after bytes were put at their spot.
-use Rattle.std.specs.Prelude.{◌≡◌, ℕ, ◌+◌, ◌-◌, ◌<◌, ◌≤◌, zero, suc, Bool, true, false, not, cond, ◌&&◌, ◌||◌, nat_le, nat_lt, max, List, [], ◌∷◌, ◌++◌, length, take, drop, slice_get, Option, None, Some, is_some, Result, Ok, Err, OnOk, OnErr, refl, ◌⊎◌}
+use Rattle.std.specs.Prelude.{◌≡◌, ℕ, ◌+◌, ◌-◌, ◌<◌, ◌≤◌, zero, suc, Bool, true, false, not, cond, ◌&&◌, ◌||◌, nat_le, nat_lt, max, List, [], ◌∷◌, ◌++◌, length, take, drop, slice_get, Option, None, Some, is_some, Result, Ok, Err, OnOk, refl}
 use Rattle.std.proofs.Common.{sym, ◌∙◌, ap, subst, arith, inl, inr, length-append, length-drop}
 use Rattle.std.specs.Ordering.{nat_cmp}
 use Rattle.std.specs.Cmp.{nat_cmp_total}
 use Rattle.std.specs.FinMap as map
 use Rattle.std.specs.FinMap.{nat_cmp-IsAntisymmetric, same_map}
 use Rattle.std.specs.FinSet as set
-use Rattle.std.proofs.lemmas.Bool.{both_ways, false_from_ne_true, cases_lt, cases_Bool, and_parts, and_right, or_left, or_right, or_cases, ltb-true, leb-true, le-leb, lt-leb}
+use Rattle.std.proofs.lemmas.Bool.{both_ways, false_from_ne_true, cases_lt, cases_Bool, and_parts, and_right, or_left, or_right, ltb-true, leb-true, le-leb}
 use Rattle.std.proofs.lemmas.Bool.Decides.{nat_tests}
 use Rattle.std.proofs.lemmas.List.{take-append-drop, drop-drop, length-take}
-use Rattle.qs_ranges.specs.Numbers.{NumberSet, MAX_VARINT, numbers, is_within}
+use Rattle.qs_ranges.specs.Numbers.{NumberSet, MAX_VARINT, is_within}
 use Rattle.qs_recv.specs.Assembled.{Assembled, put, store}
 use Rattle.qs_recv.specs.Chunks.{Piece, IsOrdered, IsPlaced, IsSpot, between, byte_at, end_of_piece, longer, or_else, piece_at, pieces_end, stored_in, total, with_longer, with_spot}
 use Rattle.qs_recv.specs.Kept.{IsKept}
 use Rattle.qs_recv.proofs.AssembledLaws.{is_in_run, with_run, contains-with_run, get-store, stored_by_put}
-use Rattle.qs_recv.proofs.ChunkLaws.{get-stored_in, get-stored_in_none, get-stored_in-append, is_in, byte_of, is_some-byte_of, is_in_from, not_in_below, not_in_above, none_past, none_below, not_some, slice_get-drop}
+use Rattle.qs_recv.proofs.ChunkLaws.{get-stored_in, get-stored_in-append, is_in, byte_of, is_some-byte_of, is_in_from, not_in_below, not_in_above, none_past, none_below, slice_get-drop}
 use Rattle.qs_recv.proofs.SpotLaws.{nothing_over}
 use Rattle.qs_recv.proofs.KeptLaws.{IsOrdered-raise, IsOrdered-lower}
 
@@ -45,9 +45,6 @@ slice_get-append (x ∷ xs) ys (suc k) =
     let e : nat_lt k (length xs) ≡ nat_lt (suc k) (suc (length xs)) = grind (arith, nat_tests) in
     let n : k - length xs ≡ suc k - suc (length xs) = omega arith in
     slice_get-append xs ys k ∙ ap (λ b. cond b (slice_get xs k) (slice_get ys (k - length xs))) e ∙ ap (λ j. cond (nat_lt (suc k) (suc (length xs))) (slice_get xs k) (slice_get ys j)) n
-
-piece_from : ℕ → List ℕ → Piece
-piece_from from bytes = record { offset = from; bytes = bytes }
 
 longer_is_two : (c : Piece) (bytes : List ℕ) (ys : List Piece) (q : ℕ) → map.get (stored_in (longer c bytes ∷ ys)) q ≡ map.get (stored_in (c ∷ record { offset = end_of_piece c; bytes = bytes } ∷ ys)) q
 longer_is_two c bytes ys q =
@@ -120,7 +117,7 @@ split cs first after ordered =
     sym (take-append-drop first cs)
     ∙ ap (λ xs. take first cs ++ xs) (sym (take-append-drop (after - first) (drop first cs)) ∙ ap (λ xs. between cs first after ++ xs) (drop-drop (after - first) first cs ∙ ap (λ k. drop k cs) e))
 
-get_parts : (cs : List Piece) (first after q : ℕ) → first ≤ after
+pub get_parts : (cs : List Piece) (first after q : ℕ) → first ≤ after
     → map.get (stored_in cs) q ≡ or_else (map.get (stored_in (take first cs)) q) (or_else (map.get (stored_in (between cs first after)) q) (map.get (stored_in (drop after cs)) q))
 get_parts cs first after q ordered =
     ap (λ xs. map.get (stored_in xs) q) (split cs first after ordered)
@@ -383,27 +380,6 @@ pub between_total : (cs : List Piece) (first after : ℕ) → first ≤ after �
 between_total cs first after ordered =
     let w = ap total (split cs first after ordered) ∙ total-append (take first cs) (between cs first after ++ drop after cs) ∙ ap (λ n. total (take first cs) + n) (total-append (between cs first after) (drop after cs)) in
     omega (arith, w)
-
--- what came before, where all of it is stored
-pub kept_note_all : (r : NumberSet) (cs : List Piece) (n stored offset len : ℕ) → IsKept cs r n stored false → ((q : ℕ) → max offset n ≤ q → q < offset + len → map.contains_key (stored_in cs) q ≡ true)
-    → IsKept cs (with_run r offset len) n stored false
-kept_note_all r cs n stored offset len h all =
-    record {
-      ordered = h.ordered;
-      came = λ q some. contains-with_run r offset len q ∙ or_left (set.contains r q) (is_in_run q offset len) (h.came q some);
-      read_came = λ q below. contains-with_run r offset len q ∙ or_left (set.contains r q) (is_in_run q offset len) (h.read_came q below);
-      kept = λ on q past came. elim (or_cases (set.contains r q) (is_in_run q offset len) (sym (contains-with_run r offset len q) ∙ came)) [
-        | inl old ↦ h.kept refl q past old
-        | inr run ↦ all q (let l = leb-true offset q (and_parts _ _ run).0 in omega arith) (ltb-true q (offset + len) (and_parts _ _ run).1)
-      ];
-      small = h.small;
-      counted = h.counted;
-    }
-
-pub kept_all_either : {T E : Type 0} (res : Result T E) (r new : NumberSet) (cs : List Piece) (n stored offset len : ℕ) → OnOk res (new ≡ with_run r offset len) → OnErr res (new ≡ r)
-    → IsKept cs r n stored false → ((q : ℕ) → max offset n ≤ q → q < offset + len → map.contains_key (stored_in cs) q ≡ true) → IsKept cs new n stored false
-kept_all_either (Ok x) r new cs n stored offset len ok err h all = rw ok (kept_note_all r cs n stored offset len h all)
-kept_all_either (Err e) r new cs n stored offset len ok err h all = rw err h
 
 pub placed_plain : (cs new : List Piece) (joins : Bool) (first after from : ℕ) (bytes : List ℕ) → first ≡ after → new ≡ with_spot joins cs first after from bytes → IsPlaced cs new joins first after from bytes
 placed_plain cs new joins first after from bytes empty is =

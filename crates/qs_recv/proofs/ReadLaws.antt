@@ -1,5 +1,5 @@
 -- Several reads, one after the other, are one.
-use Rattle.std.specs.Prelude.{◌≡◌, ℕ, ◌+◌, ◌-◌, ◌≤◌, List, [], ◌∷◌, ◌++◌, length, take, drop, None, refl}
+use Rattle.std.specs.Prelude.{◌≡◌, ℕ, ◌+◌, ◌-◌, ◌≤◌, List, [], ◌++◌, length, take, drop, None}
 use Rattle.std.proofs.Common.{sym, ◌∙◌, ap, arith, length-append, append_assoc}
 use borrow.Rule.Slice.PartMut.{put_mid}
 use Rattle.std.proofs.lemmas.List.{take_at, drop_at, drop_all, take_all, drop-drop, length-take}

@@ -4,11 +4,11 @@ use Rattle.std.proofs.Common.{sym, ◌∙◌, ap, subst, arith}
 use Rattle.qs_ranges.specs.Numbers.{NumberSet, MAX_VARINT, ContainsRange, covers, end_of}
 use Rattle.qs_ranges.proofs.Sets.{end_of-empty, covers-is, covers-of}
 use Rattle.qs_recv.specs.Assembled.{put, take_front, discard, front_of}
-use Rattle.qs_recv.specs.Lane.{RecvLane, new_lane, check_stream, check_reset, take_stream, take_reset, is_whole, stop, raise, raised_limit}
+use Rattle.qs_recv.specs.Lane.{RecvLane, new_lane, check_stream, check_reset, is_whole}
 use Rattle.qs_recv.specs.Lawful.{IsLawful}
 use Rattle.qs_recv.specs.Sound.{IsSound}
 use Rattle.qs_recv.proofs.AssembledLaws.{with_run, end_of-with_run}
-use Rattle.qs_recv.proofs.LawfulLaws.{lawful_new, lawful_take_stream, lawful_take_reset, lawful_front, lawful_told, lawful_stop, lawful_raise, read_within, highest_noted}
+use Rattle.qs_recv.proofs.LawfulLaws.{lawful_new, lawful_take_stream, lawful_take_reset, lawful_front, lawful_stop, read_within, highest_noted}
 
 pub sound_new : (window : ℕ) → 1 ≤ window → window ≤ 2 ^ 20 → IsSound (new_lane window) window 0 0
 sound_new window some small = record { lawful = lawful_new window some small; window_is = refl; count_is = refl; end_is = end_of-empty }
@@ -75,22 +75,10 @@ sound_front lane w n e room h =
       end_is = h.end_is;
     }
 
-pub sound_told : (lane : RecvLane) (w n e : ℕ) → IsSound lane w n e → IsSound (record lane { told = true }) w n e
-sound_told lane w n e h = record { lawful = lawful_told lane h.lawful; window_is = h.window_is; count_is = h.count_is; end_is = h.end_is }
-
 pub sound_stop : (lane : RecvLane) (w n e code : ℕ) → is_some lane.stop_code ≡ false → IsSound lane w n e → IsSound (record lane { arrived = discard lane.arrived; stop_code = Some code }) w n e
 sound_stop lane w n e code no_stop h =
     record {
       lawful = subst (λ b. IsLawful (cond b lane (record lane { arrived = discard lane.arrived; stop_code = Some code }))) no_stop (lawful_stop lane code h.lawful);
-      window_is = h.window_is;
-      count_is = h.count_is;
-      end_is = h.end_is;
-    }
-
-pub sound_raise : (lane : RecvLane) (w n e limit : ℕ) → raised_limit lane ≡ limit → IsSound lane w n e → IsSound (record lane { limit = limit }) w n e
-sound_raise lane w n e limit is h =
-    record {
-      lawful = subst (λ l. IsLawful (record lane { limit = l })) is (lawful_raise lane h.lawful);
       window_is = h.window_is;
       count_is = h.count_is;
       end_is = h.end_is;

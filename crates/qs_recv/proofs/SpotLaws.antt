@@ -1,15 +1,13 @@
 -- Where the bytes of a frame go among the chunks, and what the chunks hold then.
-use Rattle.std.specs.Prelude.{◌≡◌, ℕ, ◌+◌, ◌-◌, ◌<◌, ◌≤◌, zero, suc, Bool, true, false, not, cond, ◌&&◌, nat_le, nat_lt, max, min, List, [], ◌∷◌, ◌++◌, length, take, drop, slice_get, slice_index_or, Option, None, Some, is_some, refl}
+use Rattle.std.specs.Prelude.{◌≡◌, ℕ, ◌+◌, ◌-◌, ◌<◌, ◌≤◌, zero, suc, true, false, cond, max, min, List, [], ◌∷◌, ◌++◌, length, take, drop, slice_index_or, Option, None, Some, is_some, refl}
 use Rattle.std.proofs.Common.{sym, ◌∙◌, ap, subst, arith, inl, inr, length-drop, add-one}
 use Rattle.std.specs.List.Sorted.{IsNonDecreasingBy}
 use Rattle.std.proofs.lemmas.List.{drop-take, drop_all, take_all}
 use Rattle.std.proofs.lemmas.List.Sorted.{IsNonDecreasingBy-from_all_adjacent}
 use Rattle.std.specs.FinMap as map
 use Rattle.std.proofs.lemmas.Bool.{both_ways, cases_lt, cases_Bool, and_parts, ltb-true}
-use Rattle.std.proofs.lemmas.Bool.Decides.{nat_tests}
-use Rattle.qs_ranges.specs.Numbers.{is_within}
-use Rattle.qs_recv.specs.Chunks.{Piece, IsOrdered, IsSpot, IsStored, byte_at, between, end_of_piece, longer, or_else, piece_at, pieces_end, stored_in, total}
-use Rattle.qs_recv.proofs.ChunkLaws.{append_nil, get-stored_in, get-stored_in_none, get-stored_in-append, is_in, byte_of, is_some-byte_of, is_in_from, none_past, none_below, not_some}
+use Rattle.qs_recv.specs.Chunks.{Piece, IsOrdered, IsSpot, IsStored, between, end_of_piece, or_else, piece_at, pieces_end, stored_in, total}
+use Rattle.qs_recv.proofs.ChunkLaws.{append_nil, get-stored_in, get-stored_in_none, is_in, byte_of, is_some-byte_of, is_in_from, none_below}
 
 -- Lists of pieces, cut at a place
 
@@ -307,6 +305,27 @@ spot_found cs start end first after from to left next o first_in ordered after_i
       stored_before = λ q low high. before_stored cs start first left q first_in before left_none left_end low (omega (arith, from_is));
       stored_behind = λ q low high. behind_stored cs end after next q more next_none next_begin (omega (arith, to_is)) high;
     }
+
+-- pieces with as many bytes as a range has offsets leave none of them out
+full_stored : (cs : List Piece) (low to : ℕ) → IsOrdered low cs → pieces_end low cs ≤ to → to - low ≤ total cs → IsStored cs low to
+full_stored [] low to o ends full q at below = absurd (omega arith)
+full_stored (c ∷ cs) low to o ends full q at below =
+    let r = total_within cs (end_of_piece c) o.2 in
+    let l = o.0 in
+    elim (cases_lt q (end_of_piece c)) [
+      | inl here ↦ stored_first c cs q (omega (arith, r)) here
+      | inr past ↦ stored_later c cs q (full_stored cs (end_of_piece c) to o.2 ends (omega (arith, r)) q past below)
+    ]
+
+pub all_within : (cs : List Piece) (start end first after from to : ℕ) → IsSpot cs start end first after from to → to - from ≤ total (between cs first after) → IsStored cs start end
+all_within cs start end first after from to s full q low high =
+    elim (cases_lt q from) [
+      | inl early ↦ stored_by_take cs first q (s.stored_before q low early)
+      | inr at ↦ elim (cases_lt q to) [
+        | inl below ↦ stored_by_drop cs first q (stored_by_take (drop first cs) (after - first) q (full_stored (between cs first after) from to s.inner s.inner_ends full q at below))
+        | inr late ↦ stored_by_drop cs after q (s.stored_behind q late high)
+      ]
+    ]
 
 pub all_before : (cs : List Piece) (start end first left : ℕ) → first ≤ length cs → (0 < first → (piece_at cs (first - 1)).offset ≤ start)
     → (first ≡ 0 → left ≡ 0) → (0 < first → left ≡ end_of_piece (piece_at cs (first - 1))) → end ≤ max start left → IsStored cs start end

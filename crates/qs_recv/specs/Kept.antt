@@ -1,6 +1,5 @@
 -- What holds of a chunk assembly's fields at all times.
 use Rattle.std.specs.Prelude.{◌≡◌, ℕ, ◌+◌, ◌<◌, ◌≤◌, Bool, true, false, List}
-use Rattle.std.specs.Ordering.{nat_cmp}
 use Rattle.std.specs.FinMap as map
 use Rattle.std.specs.FinSet as set
 use Rattle.qs_recv.specs.Assembled.{Assembled, keep_from}

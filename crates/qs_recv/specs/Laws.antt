@@ -1,5 +1,5 @@
 -- Laws on receiving lanes and the calls that change them.
-use Rattle.std.specs.Prelude.{◌≡◌, ℕ, ◌-◌, ◌≤◌, ◌^◌, Bool, true, List, length, slice_get, Option, Some, IsOk}
+use Rattle.std.specs.Prelude.{◌≡◌, ℕ, ◌-◌, ◌≤◌, ◌^◌, Bool, true, List, length, slice_get, Some, IsOk}
 use Rattle.std.specs.FinMap as map
 use Rattle.std.specs.FinSet as set
 use Rattle.qs_recv.specs.Assembled.{Assembled}

@@ -1,8 +1,8 @@
 //! What an assembly of arrived bytes promises, however it keeps them (RFC 9000, section 2.2).
-ghost use Rattle.std.specs.Prelude.{◌≡◌, ◌+◌, ◌-◌, ◌≤◌, ◌^◌, ◌++◌, length, drop, false, OnOk, OnErr};
+ghost use Rattle.std.specs.Prelude.{◌≡◌, ◌+◌, ◌-◌, ◌≤◌, ◌^◌, ◌++◌, length, drop, true, false, OnOk, OnErr};
 ghost use Rattle.std.specs.FinMap as map;
 ghost use Rattle.qs_recv.specs.Assembled.{Assembled, nothing_yet, put, take_front, front_of, discard};
-ghost use Rattle.qs_ranges.specs.Numbers.{MAX_VARINT};
+ghost use Rattle.qs_ranges.specs.Numbers.{MAX_VARINT, MissesRange, covers};
 
 use qs_ranges::{NoMemory, RangeSet};
 use std::alloc::Global;
@@ -24,7 +24,13 @@ pub trait Assembly: Drop {
         requires in_window { (holds self.old).discarding ≡ false
             → offset + length bytes.now ≤ (holds self.old).read_count + (holds self.old).window }
         ensures ok { OnOk result (holds self.new ≡ put (holds self.old) offset bytes.now) }
-        ensures err { OnErr result (holds self.new ≡ holds self.old) };
+        ensures err { OnErr result (holds self.new ≡ holds self.old) }
+
+        // Memory is taken only for bytes of which one is new, and while bytes are thrown away only where no offset came
+        // or beside it.
+        ensures news { OnErr result (covers (holds self.old).received offset (offset + length bytes.now) ≡ false) }
+        ensures apart { OnErr result ((holds self.old).discarding ≡ true
+            → MissesRange (holds self.old).received (offset - 1) (offset + length bytes.now + 1)) };
 
     /// Moves the bytes that are next to be read into the slice's front, and answers how many.
     fn take(&mut self, into: &mut [u8]) -> usize

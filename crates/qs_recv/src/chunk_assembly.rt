@@ -2,7 +2,7 @@
 ghost use Rattle.std.specs.Prelude.{◌≡◌, ℕ, ◌+◌, ◌-◌, ◌<◌, ◌≤◌, ◌^◌, ◌++◌, length, take, drop, true, IsTrue, OnOk, OnErr, None};
 ghost use Rattle.std.specs.FinMap as map;
 ghost use Rattle.std.specs.FinSet as set;
-ghost use Rattle.qs_ranges.specs.Numbers.{MAX_VARINT, numbers};
+ghost use Rattle.qs_ranges.specs.Numbers.{MAX_VARINT, MissesRange, numbers};
 ghost use Rattle.qs_recv.specs.Assembled.{Assembled, nothing_yet, put, take_front, front, front_of, discard};
 ghost use Rattle.qs_recv.specs.Chunks.{IsOrdered, IsPlaced, between, end_of_piece, piece_at, pieces_end, with_spot};
 ghost use Rattle.qs_recv.specs.Kept.{take_exactly};
@@ -75,11 +75,11 @@ impl Assembly for ChunkAssembly {
     fn put(&mut self, offset: u64, bytes: &[u8]) -> Result<(), NoMemory> {
         let end = offset + bytes.len() as u64;
         if self.discarding {
-            return self.received.insert(offset, end);
+            return note(&mut self.received, offset, end);
         }
         let start = offset.max(self.read_count);
         let Some(spot) = self.chunks.find_spot(start, end) else {
-            return self.received.insert(offset, end);
+            return Ok(());
         };
         let new = &bytes[(spot.from - offset) as usize..(spot.to - offset) as usize];
         place(&mut self.chunks, &mut self.received, offset, end, spot, new)?;
@@ -113,6 +113,22 @@ impl Assembly for ChunkAssembly {
     fn received(&self) -> &RangeSet {
         &self.received
     }
+}
+
+// Notes the offsets from `lo` on and below `hi`. Memory is taken only where there are some, and none of them or beside
+// them came before.
+fn note(received: &mut RangeSet, lo: u64, hi: u64) -> Result<(), NoMemory>
+    requires ordered { lo ≤ hi }
+    requires within { hi ≤ MAX_VARINT }
+    ensures ok { OnOk result (received.new ≡ set.union received.old (numbers lo hi)) }
+    ensures err { OnErr result (received.new ≡ received.old) }
+    ensures some { OnErr result (lo < hi) }
+    ensures apart { OnErr result (MissesRange received.old (lo - 1) (hi + 1)) }
+{
+    if lo == hi {
+        return Ok(());
+    }
+    received.insert(lo, hi)
 }
 
 // Puts bytes at a spot, where those that came first stay, and notes the offsets of their frame.

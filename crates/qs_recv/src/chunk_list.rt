@@ -54,11 +54,12 @@ impl ChunkList {
         }
     }
 
-    /// The widest range of offsets from `start` on and below `end` that begins and ends with one that isn't stored.
+    /// A range of offsets of those from `start` on and below `end`: all outside of it are stored, and one in it isn't.
     pub(crate) fn find_spot(&self, start: u64, end: u64) -> Option<Spot>
         requires { IsOrdered 0 self.now }
         ensures found { IfSome result (λ spot. IsSpot self.now start end spot.first spot.after spot.from spot.to) }
         ensures held { IfSome result (λ spot. spot.held ≡ total (between self.now spot.first spot.after)) }
+        ensures some { IfSome result (λ spot. spot.held < spot.to - spot.from) }
         ensures joins { IfSome result (λ spot. IsTrue spot.joins
             → (0 < spot.first) × (end_of_piece (piece_at self.now (spot.first - 1)) ≡ spot.from)) }
         ensures none { IfNone result (IsStored self.now start end) }
@@ -71,7 +72,7 @@ impl ChunkList {
         }
         let (after, held) = self.inner(first, end);
         let to = self.next_begin(after).min(end);
-        if from >= to {
+        if to.saturating_sub(from) <= held {
             return None;
         }
         Some(Spot {

@@ -1,7 +1,7 @@
 //! The receiving half of a stream (RFC 9000, sections 2.2, 3.2, 3.5 and 4).
-ghost use Rattle.std.specs.Prelude.{if◌then◌else◌, ◌==◌, max, ◌≡◌, ◌+◌, ◌≤◌, ◌^◌, ◌++◌, length, drop, IsOk, IfOk, OnOk, IfErr};
+ghost use Rattle.std.specs.Prelude.{if◌then◌else◌, ◌==◌, max, ◌≡◌, ◌+◌, ◌-◌, ◌≤◌, ◌^◌, ◌++◌, length, drop, IsOk, IfOk, OnOk, OnErr, IfErr, IsTrue, is_some, false, None};
 ghost use Rattle.std.specs.FinMap as map;
-ghost use Rattle.qs_ranges.specs.Numbers.{MAX_VARINT};
+ghost use Rattle.qs_ranges.specs.Numbers.{MAX_VARINT, MissesRange, covers};
 ghost use Rattle.qs_recv.specs.Lawful.{IsLawful};
 ghost use Rattle.qs_recv.specs.Lane.{new_lane, highest, highest_after, taken, state, check_stream, take_stream, check_reset, take_reset, is_whole, breaks_final_size, read_answer, bytes_read, after_read, stop, raise, raise_answer};
 
@@ -131,6 +131,13 @@ impl<A: Assembly> RecvHalf<A> {
         ensures taken { OnOk result (self.new ≡ take_stream self.old offset bytes.now fin) }
         ensures grown { OnOk result (highest self.new ≡ highest_after self.old offset (length bytes.now) fin) }
         ensures refused { IfErr result (λ fault. (fault ≡ RecvFault.NoMemory) × (self.new ≡ self.old)) }
+
+        // Memory is taken only for bytes of which one is new, after a stop only where no offset came or beside it, and
+        // after a reset never.
+        ensures open { OnErr result (self.old.reset_code ≡ None) }
+        ensures news { OnErr result (covers self.old.arrived.received offset (offset + length bytes.now) ≡ false) }
+        ensures apart { OnErr result (IsTrue (is_some self.old.stop_code)
+            → MissesRange self.old.arrived.received (offset - 1) (offset + length bytes.now + 1)) }
     {
         let end = offset + bytes.len() as u64;
         if self.reset_code.is_none() {

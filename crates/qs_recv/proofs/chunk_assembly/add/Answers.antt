@@ -1,4 +1,4 @@
-use Rattle.std.proofs.Common.{◌≡◌, ◌∙◌, ◌+◌, ◌-◌, ◌++◌, ap, arith, length, take, drop}
+use Rattle.std.proofs.Common.{◌∙◌, ◌+◌, ◌-◌, ◌++◌, ap, arith, length, take, drop}
 use Rattle.std.specs.Prelude.{remove}
 use Rattle.qs_recv.specs.Chunks.{with_shorter}
 use Rattle.qs_recv.proofs.EditLaws.{longer_then_shorter, insert_then_remove, cleared_behind_inserted}

@@ -1,5 +1,4 @@
-use Rattle.std.proofs.Common.{◌≡◌, ◌∙◌, ap, arith, drop}
-use Rattle.qs_recv.specs.Chunks.{Piece}
+use Rattle.std.proofs.Common.{◌∙◌, ap, arith, drop}
 use Rattle.qs_recv.proofs.SpotLaws.{drop-shorter}
 use Rattle.qs_recv.proofs.chunk.Chunk.truncate.Goals as goal
 

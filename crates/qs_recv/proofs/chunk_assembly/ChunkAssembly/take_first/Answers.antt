@@ -1,10 +1,10 @@
-use Rattle.std.proofs.Common.{◌≡◌, ◌∙◌, ◌<◌, ◌≤◌, ◌++◌, ◌+◌, sym, ap, arith, length, drop}
+use Rattle.std.proofs.Common.{◌∙◌, ◌≤◌, ◌++◌, ◌+◌, sym, ap, arith, length, drop}
 use Rattle.std.proofs.lemmas.List.{length-take}
 use Rattle.std.proofs.lemmas.Bool.{iff_false}
 use Rattle.qs_recv.specs.Assembled.{Assembled}
 use Rattle.qs_recv.specs.Chunks.{stored_in, first_bytes}
 use Rattle.qs_recv.specs.Kept.{take_exactly}
-use Rattle.qs_recv.proofs.KeptLaws.{keep_all, none_next, first_some, front_zero, front_taken, keep_taken, kept_taken, taken_small, taken_stored, take_nothing}
+use Rattle.qs_recv.proofs.KeptLaws.{keep_all, none_next, first_some, front_zero, front_taken, keep_taken, kept_taken, taken_small, take_nothing}
 use Rattle.qs_recv.proofs.chunk_assembly.ChunkAssembly.take_first.Goals as goal
 
 pub returns-then-not-begins_at-clause-nothing : goal.returns-then-not-begins_at-clause-nothing

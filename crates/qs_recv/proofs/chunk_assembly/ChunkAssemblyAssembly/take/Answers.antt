@@ -1,5 +1,5 @@
 use Rattle.std.proofs.Common.{◌≡◌, ◌∙◌, ◌≤◌, ◌++◌, ◌+◌, sym, ap, arith, refl, length, drop}
-use Rattle.qs_recv.specs.Assembled.{Assembled, front, front_of}
+use Rattle.qs_recv.specs.Assembled.{front, front_of}
 use Rattle.qs_recv.specs.Kept.{take_exactly}
 use Rattle.qs_recv.proofs.KeptLaws.{keep_all, front_zero, take_nothing}
 use Rattle.qs_recv.proofs.ReadLaws.{rest_written, front_joined, full_after, taken_after, front_done, take_done, none_written, part_len, whole_len}

@@ -1,5 +1,5 @@
-use Rattle.std.proofs.Common.{◌≡◌, ◌+◌, ◌-◌, ◌≤◌, ◌<◌, ◌∙◌, ap, arith, length, Fits, w64}
-use Rattle.qs_recv.specs.Chunks.{between, end_of_piece, piece_at, total}
+use Rattle.std.proofs.Common.{◌≡◌, ◌+◌, ◌-◌, ◌∙◌, ap, arith, length}
+use Rattle.qs_recv.specs.Chunks.{end_of_piece}
 use Rattle.qs_recv.proofs.SpotLaws.{total-more, total_between}
 use Rattle.qs_recv.proofs.chunk_list.ChunkList.inner.Goals as goal
 

@@ -1,6 +1,6 @@
-use Rattle.std.proofs.Common.{◌≡◌, ◌+◌, ◌<◌, ◌∙◌, cond, sym, ap, arith, length}
+use Rattle.std.proofs.Common.{◌≡◌, ◌+◌, ◌∙◌, cond, sym, ap, arith, length}
 use Rattle.std.specs.FinMap as map
-use Rattle.qs_recv.specs.Chunks.{between, byte_at, or_else, piece_at, stored_in, end_of_piece}
+use Rattle.qs_recv.specs.Chunks.{between, byte_at, or_else, piece_at, stored_in}
 use Rattle.qs_recv.proofs.ChunkLaws.{is_in, byte_of}
 use Rattle.qs_recv.proofs.SpotLaws.{first_within, rest_ordered, rest_within, between_first, patch_one, nothing_over, vec_written}
 use Rattle.qs_recv.proofs.chunk_list.ChunkList.patched.Goals as goal

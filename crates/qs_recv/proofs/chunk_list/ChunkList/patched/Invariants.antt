@@ -1,4 +1,4 @@
-use Rattle.std.proofs.Common.{◌≡◌, ℕ, ◌+◌, ◌-◌, ◌≤◌, ◌<◌, length}
+use Rattle.std.proofs.Common.{◌≡◌, ℕ, ◌+◌, ◌-◌, ◌≤◌, length}
 use Rattle.std.specs.FinMap as map
 use Rattle.qs_recv.specs.Chunks.{IsOrdered, between, byte_at, or_else, pieces_end, stored_in}
 use Rattle.qs_recv.proofs.chunk_list.ChunkList.patched.Given as goal

@@ -1,7 +1,6 @@
-use Rattle.std.proofs.Common.{◌≡◌, ◌∙◌, ◌-◌, [], ap, arith, length, leb, rules}
+use Rattle.std.proofs.Common.{◌-◌, [], arith, leb, rules}
 use Rattle.std.proofs.lemmas.List.Sorted.{IsPartitionPoint-from_clause, IsPartitionedBy-leb}
 use Rattle.std.proofs.lemmas.Bool.{leb-true, leb-false}
-use Rattle.qs_recv.specs.Chunks.{Piece, IsOrdered, piece_at}
 use Rattle.qs_recv.proofs.SpotLaws.{offsets_rise}
 use Rattle.qs_recv.proofs.chunk_list.ChunkList.place_past.Goals as goal
 

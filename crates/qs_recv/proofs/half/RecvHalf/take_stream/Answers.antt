@@ -1,4 +1,4 @@
-use Rattle.std.proofs.Common.{◌+◌, length, true, ap, not, ◌≡◌, ◌∙◌, sym, refl, false, Result, Ok, Err, OnOk, is_err}
+use Rattle.std.proofs.Common.{length, true, ap, not, ◌≡◌, ◌∙◌, sym, refl, false, Result, Ok, Err, OnOk, is_err}
 use Rattle.std.proofs.lemmas.Bool.{both_ways}
 use Rattle.qs_recv.proofs.SoundLaws.{sound_noted, sound_passed, grown_noted}
 use Rattle.qs_recv.proofs.LawfulLaws.{highest_passed}
