@@ -17,7 +17,7 @@ use Rattle.qs_conn.specs.Ends.{End}
 use Rattle.qs_conn.specs.Receiving.{Takes, TakesPayload}
 use Rattle.qs_wire.specs.Varint.{varint_at, short_len}
 use Rattle.qs_wire.specs.Reading.{reading_of, reading_from, frames_at, frame_at, number_of_type_at, body_at, number_at, counted_at, plain_at}
-use Rattle.qs_conn.specs.Due.{Among}
+use Rattle.qs_send.specs.Records.{Among}
 use Rattle.qs_conn.specs.Lawful.{frame_put}
 use Rattle.qs_conn.specs.FrameStep.{or_zero, pieces}
 use Rattle.qs_conn.proofs.Choices.{not_chosen}

@@ -11,13 +11,9 @@ use Rattle.qs_send.specs.declared.piece.Item.{Item}
 use Rattle.qs_send.specs.declared.piece.Item.TheVariants.{MaxData, MaxStreamData, MaxStreams, ResetStream, StopSending, DataBlocked, StreamDataBlocked, StreamsBlocked}
 use Rattle.qs_send.specs.declared.piece.Piece.{Piece}
 use Rattle.qs_send.specs.declared.piece.Piece.TheVariants.{Data, Told}
+use Rattle.qs_send.specs.Records.{Among}
 use Rattle.qs_conn.specs.Ends.{End, send_lane, recv_lane, window}
 use Rattle.qs_conn.specs.Credit.{all_sent}
-
--- x is an element of the list
-abbrev pub Among : {X : Type 0} → X → List X → Type 0
-Among x [] = ⊥
-Among x (y ∷ ys) = (x ≡ y) ⊎ Among x ys
 
 -- some outstanding packet carried the piece
 abbrev pub IsOutstanding : End → Piece → Type 0

@@ -11,18 +11,12 @@ use Rattle.qs_send.specs.declared.piece.Item.{Item}
 use Rattle.qs_send.specs.declared.piece.Item.TheVariants.{MaxData, MaxStreamData, MaxStreams, ResetStream, StopSending, DataBlocked, StreamDataBlocked, StreamsBlocked}
 use Rattle.qs_send.specs.declared.piece.Piece.{Piece}
 use Rattle.qs_send.specs.declared.piece.Piece.TheVariants.{Data, Told}
+use Rattle.qs_send.specs.Records.{without_first}
 use Rattle.qs_conn.specs.Ends.{End, Records, AckedItems, on_send, on_recv, opened_by_peer}
 use Rattle.qs_conn.specs.Seen.{Seen, Ack, Stream, Control, Close, Plain}
 use Rattle.qs_conn.specs.Verdicts.{verdict}
 
 -- Acknowledgements
-
--- the record of a packet without its first piece
-abbrev pub without_first : Records → ℕ → Option (List Piece) → Records
-without_first records k None = records
-without_first records k (Some []) = fmap.remove records k
-without_first records k (Some (p ∷ [])) = fmap.remove records k
-without_first records k (Some (p ∷ q ∷ ps)) = fmap.insert records k (q ∷ ps)
 
 abbrev pub greatest : Option ℕ → ℕ → Option ℕ
 greatest None value = Some value

@@ -12,7 +12,8 @@ use Rattle.qs_conn.specs.Ends.{End, send_lane, on_send}
 use Rattle.qs_conn.specs.Credit.{all_sent}
 use Rattle.qs_conn.specs.Seen.{Seen, Ack, Stream, Control, Close, Plain}
 use Rattle.qs_conn.specs.FrameStep.{is_named}
-use Rattle.qs_conn.specs.Due.{Among, IsDue, IsEndDue, IsDueItem, StreamGoes}
+use Rattle.qs_send.specs.Records.{Among}
+use Rattle.qs_conn.specs.Due.{IsDue, IsEndDue, IsDueItem, StreamGoes}
 
 -- the pieces of a packet so far
 abbrev pub pieces_so_far : End → ℕ → List Piece

@@ -11,3 +11,6 @@ pub mod Canonical
 pub mod Wholes
 pub mod Calls
 pub mod Parting
+pub mod PieceEquality
+pub mod Outstanding
+pub mod Carrying

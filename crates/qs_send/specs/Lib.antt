@@ -4,3 +4,5 @@ pub mod Sound
 pub mod Calls
 pub mod Parts
 pub mod Laws
+pub mod PieceCodes
+pub mod Records

@@ -1,6 +1,7 @@
 //! The sending half of a stream: what is written goes out in chunks, and again where a chunk was lost.
 #![tactic(auto)]
 
+mod carried;
 mod edits;
 mod fit;
 mod half;
@@ -8,9 +9,11 @@ mod kept;
 pub mod laws;
 mod parts;
 mod piece;
+mod records;
 #[cfg(test)]
 mod tests;
 
 pub use half::SendHalf;
 pub use parts::{Chunk, Reset, SendFault, SendState};
 pub use piece::{Item, Piece};
+pub use records::Records;

@@ -16,8 +16,9 @@ use Rattle.qs_send.specs.declared.piece.Piece.{Piece}
 use Rattle.qs_send.specs.declared.piece.Piece.TheVariants.{Data, Told}
 use Rattle.qs_conn.specs.Ends.{End, AckedItems, Records, first_send_limit}
 use Rattle.qs_conn.specs.Seen.{Control}
-use Rattle.qs_conn.specs.FrameStep.{piece_acked, item_acked, without_first, acks, named, acked_numbers, is_named, pieces}
-use Rattle.qs_conn.specs.Due.{Among}
+use Rattle.qs_send.specs.Records.{without_first}
+use Rattle.qs_conn.specs.FrameStep.{piece_acked, item_acked, acks, named, acked_numbers, is_named, pieces}
+use Rattle.qs_send.specs.Records.{Among}
 use Rattle.qs_world.proofs.Lists.{All_append, All_filter, All_reverse}
 use Rattle.qs_world.proofs.Members.{run-cases, run-old, get-inserted, get-removed}
 use Rattle.qs_world.proofs.Base.{missing-more}

@@ -7,7 +7,7 @@ use Rattle.qs_send.specs.declared.piece.Item.TheVariants.{ResetStream}
 use Rattle.qs_conn.specs.declared.settings.Settings.{Settings}
 use Rattle.qs_conn.specs.Tables.{index_of}
 use Rattle.qs_conn.specs.Ends.{End, first_send_limit, window, is_own, is_uni}
-use Rattle.qs_conn.specs.Due.{Among}
+use Rattle.qs_send.specs.Records.{Among}
 use Rattle.qs_conn.specs.Seen.{Seen, Stream, Control}
 use Rattle.qs_world.specs.declared.event.Side.{Side}
 use Rattle.qs_world.specs.Logs.{History, other, processed, written, made, own_calls}

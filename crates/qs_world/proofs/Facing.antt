@@ -17,7 +17,7 @@ use Rattle.qs_conn.specs.Credit.{settle}
 use Rattle.qs_conn.specs.Seen.{Seen, Ack, Stream, Control, Close, Plain, seen, seen_all, asks_ack}
 use Rattle.qs_conn.specs.Verdicts.{verdict}
 use Rattle.qs_conn.specs.FrameStep.{named, frame_taken}
-use Rattle.qs_conn.specs.Due.{Among}
+use Rattle.qs_send.specs.Records.{Among}
 use Rattle.qs_conn.specs.Receiving.{ReceiveStep, ReceiveBy, TakesPayload, Takes, Stops, AtEnd}
 use Rattle.qs_world.specs.Agree.{frames_in}
 use Rattle.qs_world.specs.Pasts.{Past, Tells}

@@ -32,7 +32,8 @@ use Rattle.qs_conn.specs.Ends.{End, opens, on_recv, window}
 use Rattle.qs_conn.specs.Credit.{settle}
 use Rattle.qs_conn.specs.Seen.{Seen, Ack, Stream, Control, Close, Plain, seen, seen_all, asks_ack}
 use Rattle.qs_conn.specs.FrameStep.{named, frame_taken}
-use Rattle.qs_conn.specs.Due.{Among, known_count}
+use Rattle.qs_send.specs.Records.{Among}
+use Rattle.qs_conn.specs.Due.{known_count}
 use Rattle.qs_conn.specs.Lawful.{Fills, frame_put, item_put}
 use Rattle.qs_conn.specs.Owner.{refuse_if, send_refusal, recv_refusal, peer_kind, next_stream, with_wanted, OpenStep, IsBlocked, IsOpened, AcceptStep, GivesNone, GivesBidi, GivesUni, AcceptOpen, WriteStep, FinishStep, ResetStep, StopStep, ReadStep, ReadBy}
 use Rattle.qs_conn.specs.Making.{MakeStep, MakeAt, make_refusal, LoseStep, lose_refusal, shortened}

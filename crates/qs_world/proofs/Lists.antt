@@ -3,7 +3,7 @@ use Rattle.std.proofs.Common.{◌≡◌, ℕ, zero, suc, ◌+◌, ◌-◌, ◌�
 use Rattle.std.specs.List.{AllByRecursion, filter}
 use Rattle.std.proofs.lemmas.Grind.{reverse_onto}
 use Rattle.std.proofs.lemmas.Option.{none-some, same_Some}
-use Rattle.qs_conn.specs.Due.{Among}
+use Rattle.qs_send.specs.Records.{Among}
 use Rattle.qs_world.specs.Agree.{IsPrefixOf}
 
 module _ {X : Type 0} where

@@ -15,7 +15,8 @@ use Rattle.qs_conn.specs.Tables.{lookup, update, updated}
 use Rattle.qs_conn.specs.Ends.{End, Records, first_send_limit, window, on_send}
 use Rattle.qs_conn.specs.Credit.{settle, all_sent}
 use Rattle.qs_conn.specs.Seen.{Seen, Ack, Stream, Control, Close, Plain}
-use Rattle.qs_conn.specs.Due.{Among, IsCurrent}
+use Rattle.qs_send.specs.Records.{Among}
+use Rattle.qs_conn.specs.Due.{IsCurrent}
 use Rattle.qs_conn.specs.Lawful.{MayPut, MayCarry, Fills, Lawful, frame_put, item_put, noted, pieces_so_far, chunk_of}
 use Rattle.qs_world.proofs.Lists.{slice_get-append, slice_get-push, slice_get-last, slice_get-take, slice_get-drop, Among_push, Among_left, Among_last}
 use Rattle.qs_world.proofs.Members.{get-inserted}

@@ -25,7 +25,8 @@ use Rattle.qs_conn.specs.Tables.{lookup, update, updated}
 use Rattle.qs_conn.specs.Ends.{End, on_send, on_recv, send_lane, first_send_limit, window}
 use Rattle.qs_conn.specs.Credit.{settle}
 use Rattle.qs_conn.specs.Seen.{Seen, seen_all}
-use Rattle.qs_conn.specs.Due.{Among, known_count}
+use Rattle.qs_send.specs.Records.{Among}
+use Rattle.qs_conn.specs.Due.{known_count}
 use Rattle.qs_conn.specs.Owner.{first_refusal, refuse_if, send_refusal, recv_refusal, half_refusal, no_half, opened_count, own_kind, peer_kind, with_wanted, OpenStep, IsBlocked, IsOpened, AcceptStep, GivesNone, GivesBidi, GivesUni, AcceptOpen, WriteStep, FinishStep, ResetStep, StopStep, ReadStep, ReadBy, next_stream}
 use Rattle.qs_conn.specs.Making.{MakeStep, MakeAt, make_refusal, IsMade, LoseStep, lose_refusal, shortened}
 use Rattle.qs_world.specs.declared.event.Act.{Act}

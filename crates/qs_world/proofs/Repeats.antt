@@ -22,7 +22,7 @@ use Rattle.qs_conn.specs.Credit.{spent, settle}
 use Rattle.qs_conn.specs.Seen.{Seen, Ack, Stream, Control, Close, Plain, seen, seen_all, asks_ack}
 use Rattle.qs_conn.specs.Verdicts.{verdict, item_verdict, credit_fault, lane_of, state_fault_in}
 use Rattle.qs_conn.specs.FrameStep.{named, frame_taken, item_taken}
-use Rattle.qs_conn.specs.Due.{Among}
+use Rattle.qs_send.specs.Records.{Among}
 use Rattle.qs_conn.specs.Receiving.{ReceiveStep, ReceiveBy, TakesPayload, Takes, Stops, AtEnd}
 use Rattle.qs_world.specs.Agree.{IsOld, frames_in}
 use Rattle.qs_world.proofs.Members.{run-cases, run-old, below-end, end-le}

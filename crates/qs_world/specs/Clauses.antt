@@ -9,7 +9,7 @@ use Rattle.qs_send.specs.declared.piece.Item.TheVariants.{ResetStream}
 use Rattle.qs_conn.specs.Tables.{index_of}
 use Rattle.qs_conn.specs.Ends.{End, send_lane, recv_lane, is_own, is_uni}
 use Rattle.qs_conn.specs.Credit.{all_sent, grant}
-use Rattle.qs_conn.specs.Due.{Among}
+use Rattle.qs_send.specs.Records.{Among}
 use Rattle.qs_conn.specs.Seen.{Seen, Stream, Control}
 use Rattle.qs_world.specs.declared.event.Side.{Side}
 use Rattle.qs_world.specs.Logs.{History, other, payload, processed, written, read}

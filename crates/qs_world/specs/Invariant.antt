@@ -18,7 +18,7 @@ use Rattle.qs_conn.specs.Ends.{End, is_own_by, is_uni, first_send_limit, window}
 use Rattle.qs_conn.specs.Credit.{all_sent}
 use Rattle.qs_conn.specs.Seen.{Seen, Ack, Stream, Control, Close, Plain}
 use Rattle.qs_conn.specs.FrameStep.{is_named}
-use Rattle.qs_conn.specs.Due.{Among}
+use Rattle.qs_send.specs.Records.{Among}
 use Rattle.qs_wire.specs.Reading.{reading_of}
 use Rattle.qs_conn.specs.declared.settings.Settings.{Settings}
 use Rattle.qs_conn.specs.declared.settings.PeerLimits.{PeerLimits}

@@ -5,7 +5,7 @@ use Rattle.qs_send.specs.declared.piece.Piece.{Piece}
 use Rattle.qs_send.specs.declared.piece.Piece.TheVariants.{Data, Told}
 use Rattle.qs_conn.specs.Seen.{Seen, Ack, Stream, Control}
 use Rattle.qs_conn.specs.FrameStep.{is_named}
-use Rattle.qs_conn.specs.Due.{Among}
+use Rattle.qs_send.specs.Records.{Among}
 use Rattle.qs_world.specs.declared.event.Side.{Side}
 use Rattle.qs_world.specs.declared.event.Act.{Act}
 use Rattle.qs_world.specs.declared.answer.Answer.{Answer}
