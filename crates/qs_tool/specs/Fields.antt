@@ -5,7 +5,8 @@ use Rattle.qs_wire.specs.Layout.{ack_ranges_of}
 use Rattle.qs_wire.specs.Varint.{numbers_of}
 use Rattle.qs_tool.specs.declared.fields.Field.{Field}
 use Rattle.qs_tool.specs.declared.fields.Field.TheVariants as held
-use Rattle.qs_tool.specs.FrameText.{shown_text, hex_text, code_text, ranges_text, ecn_text}
+use Rattle.qs_world.specs.PlayText.{hex_text, code_text}
+use Rattle.qs_tool.specs.FrameText.{shown_text, ranges_text, ecn_text}
 
 abbrev pub field_text : Field → List ℕ
 field_text (held.Nothing) = []

@@ -1,30 +1,15 @@
 -- How frames are printed.
-use Rattle.std.specs.Prelude.{ℕ, Bool, true, false, List, [], ◌∷◌, ◌++◌, codes, nat_lt, Option, None, Some, if◌then◌else◌}
-use Rattle.std.specs.Fmt.{decimal, digits}
+use Rattle.std.specs.Prelude.{ℕ, List, [], ◌∷◌, ◌++◌, codes, Option, None, Some}
+use Rattle.std.specs.Fmt.{decimal}
 use Rattle.std.specs.List.{flat_map}
-use Rattle.hex.specs.Hex.{encode_lower}
 use Rattle.qs_wire.specs.Layout.{FrameValue, padding, ping, ack, reset_stream, stop_sending, crypto, new_token, stream, max_data, max_stream_data, max_streams, data_blocked, stream_data_blocked, streams_blocked, new_connection_id, retire_connection_id, path_challenge, path_response, connection_close, application_close, handshake_done, ack_ranges_of}
 use Rattle.qs_wire.specs.declared.frame.EcnCounts.{EcnCounts}
-use Rattle.qs_wire.specs.declared.stream_id.Dir.{Dir}
-use Rattle.qs_wire.specs.declared.stream_id.Dir.TheVariants.{Bidi, Uni}
 use Rattle.qs_wire.specs.Layout.{PlacedValue}
 use Rattle.qs_wire.specs.Grammar.{canonical_all, frames_of}
 use Rattle.qs_wire.specs.Reading.{Reading, reading_of}
 use Rattle.qs_wire.specs.declared.fault.WireFault.{WireFault}
 use Rattle.qs_wire.specs.Faults.{kind_number}
-
--- bytes as lower-case hex, or a dash where there are none
-abbrev pub hex_text : List ℕ → List ℕ
-hex_text [] = codes "-"
-hex_text (b ∷ bs) = encode_lower (b ∷ bs)
-
-abbrev pub yes_no : Bool → List ℕ
-yes_no true = codes "yes"
-yes_no false = codes "no"
-
--- a code or a type: at least two lower-case hex digits
-abbrev pub code_text : ℕ → List ℕ
-code_text n = (if nat_lt n 16 then codes "0x0" else codes "0x") ++ digits 16 false n
+use Rattle.qs_world.specs.PlayText.{hex_text, code_text, dir_text, yes_text}
 
 -- a field that is shown: its name and the text of its value
 abbrev pub Shown : Type 0
@@ -33,10 +18,6 @@ Shown = List ℕ × List ℕ
 -- a space, the name, an equals sign and the value
 abbrev pub shown_text : Shown → List ℕ
 shown_text s = codes " " ++ s.0 ++ codes "=" ++ s.1
-
-abbrev pub dir_text : Dir → List ℕ
-dir_text Bidi = codes "bidi"
-dir_text Uni = codes "uni"
 
 -- a range of packet numbers: the smallest and the largest
 abbrev pub range_text : ℕ × ℕ → List ℕ
@@ -92,7 +73,7 @@ fields_of (reset_stream s code size) = (codes "stream", decimal s) ∷ (codes "c
 fields_of (stop_sending s code) = (codes "stream", decimal s) ∷ (codes "code", decimal code) ∷ []
 fields_of (crypto o bytes) = (codes "offset", decimal o) ∷ (codes "bytes", hex_text bytes) ∷ []
 fields_of (new_token bytes) = (codes "token", hex_text bytes) ∷ []
-fields_of (stream s o fin bytes) = (codes "stream", decimal s) ∷ (codes "offset", decimal o) ∷ (codes "fin", yes_no fin) ∷ (codes "bytes", hex_text bytes) ∷ []
+fields_of (stream s o fin bytes) = (codes "stream", decimal s) ∷ (codes "offset", decimal o) ∷ (codes "fin", yes_text fin) ∷ (codes "bytes", hex_text bytes) ∷ []
 fields_of (max_data maximum) = (codes "max", decimal maximum) ∷ []
 fields_of (max_stream_data s maximum) = (codes "stream", decimal s) ∷ (codes "max", decimal maximum) ∷ []
 fields_of (max_streams dir count) = (codes "dir", dir_text dir) ∷ (codes "count", decimal count) ∷ []

@@ -7,12 +7,12 @@ ghost use Rattle.qs_wire.specs.Layout.{view, ack};
 ghost use Rattle.qs_wire.specs.Grammar.{Fits};
 ghost use Rattle.qs_wire.specs.Varint.{numbers_of};
 ghost use Rattle.qs_tool.specs.Fields.{field_text};
-ghost use Rattle.qs_tool.specs.FrameText.{shown_text, yes_no, dir_text, ranges_text, fields_of};
+ghost use Rattle.qs_tool.specs.FrameText.{shown_text, ranges_text, fields_of};
 
-use crate::frame_text::{push_code, push_hex};
 use crate::largest::Largest;
+use crate::text::{dir_name, push_code, push_hex, yes_no};
 use Field::{Bytes, Code, Number, Word};
-use qs_wire::{AckRanges, Dir, EcnCounts, Frame};
+use qs_wire::{AckRanges, EcnCounts, Frame};
 use std::alloc::{AllocError, Global};
 
 /// A field of a frame, with the name under which it is shown.
@@ -198,19 +198,4 @@ fn push_ranges(text: &mut String, ranges: AckRanges) -> Result<(), AllocError>
         write!(text, ",{smallest}..{largest}")?;
     }
     Ok(())
-}
-
-fn yes_no(flag: bool) -> &'static str
-    ensures { result.now ≡ yes_no flag }
-{
-    if flag { "yes" } else { "no" }
-}
-
-fn dir_name(dir: Dir) -> &'static str
-    ensures { result.now ≡ dir_text dir }
-{
-    match dir {
-        Dir::Bidi => "bidi",
-        Dir::Uni => "uni",
-    }
 }

@@ -4,22 +4,12 @@ ghost use Rattle.std.specs.Prelude.{◌≡◌, ◌++◌, OnOk};
 ghost use Rattle.std.specs.String.{string_bytes};
 ghost use Rattle.qs_wire.specs.Grammar.{Fits};
 ghost use Rattle.qs_wire.specs.Layout.{view};
-ghost use Rattle.qs_tool.specs.FrameText.{hex_text, code_text, fault_line, name_of, frame_text};
+ghost use Rattle.qs_tool.specs.FrameText.{fault_line, name_of, frame_text};
 
 use crate::fields::{fields_of, push_fields};
+use crate::text::push_code;
 use qs_wire::{Frame, WireFault};
 use std::alloc::{AllocError, Global};
-
-/// Appends bytes as lower-case hex, or a dash where there are none.
-pub fn push_hex(alloc: Global, text: &mut String, bytes: &[u8]) -> Result<(), AllocError>
-    ensures { OnOk result (string_bytes text.new ≡ string_bytes text.old ++ hex_text bytes.now) }
-{
-    if bytes.is_empty() {
-        return text.push_str("-");
-    }
-    let encoded = hex::encode(alloc, bytes)?;
-    text.push_str(encoded.as_str())
-}
 
 /// What a frame is called.
 fn name_of(frame: &Frame) -> &'static str
@@ -58,17 +48,6 @@ pub fn push_frame(alloc: Global, text: &mut String, frame: &Frame) -> Result<(),
     text.push_str(name_of(frame))?;
     let fields = fields_of(frame);
     push_fields(alloc, text, &fields)
-}
-
-/// Appends a code or a type: at least two lower-case hex digits.
-pub fn push_code(text: &mut String, code: u64) -> Result<(), AllocError>
-    ensures { OnOk result (string_bytes text.new ≡ string_bytes text.old ++ code_text code) }
-{
-    if code < 16 {
-        write!(text, "0x0{code:x}")
-    } else {
-        write!(text, "0x{code:x}")
-    }
 }
 
 /// Appends the line of a fault.

@@ -9,8 +9,9 @@ ghost use Rattle.qs_wire.specs.Reading.{view_placed};
 ghost use Rattle.qs_tool.specs.FrameText.{line_of, lines_of, payload_text};
 ghost use Rattle.qs_tool.specs.Runs.{AnswersFrames};
 
-use crate::frame_text::{push_fault, push_frame, push_hex};
+use crate::frame_text::{push_fault, push_frame};
 use crate::status::Status;
+use crate::text::push_hex;
 use hex::FromHexError;
 use qs_wire::{Frame, Frames, Full, Placed, WireFault, put};
 use std::alloc::{AllocError, Global};

@@ -5,10 +5,12 @@ mod fields;
 mod frame_text;
 mod frames;
 mod largest;
+mod play_text;
 mod request;
 mod status;
 #[cfg(test)]
 mod tests;
+mod text;
 
 use crate::frames::run_frames;
 use crate::request::Request;

@@ -7,6 +7,8 @@ use std::alloc::Global;
 use std::process::Abort;
 use std::test::Fail;
 
+mod play_text;
+
 /// The run on the word ends so and writes the text.
 fn shows(rt: &impl Abort, alloc: Global, word: &str, status: Status, text: &str) {
     let mut out = Vec::new(alloc);

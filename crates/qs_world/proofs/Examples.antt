@@ -1,5 +1,5 @@
 -- The lines compute.
-use Rattle.std.proofs.Common.{◌≡◌, ℕ, List, [], ◌∷◌, refl, sym, ap, subst, arith, inl, inr}
+use Rattle.std.proofs.Common.{◌≡◌, ℕ, [], ◌∷◌, refl, sym, ap, subst, arith, inl, inr}
 use Rattle.std.specs.Prelude.{Result, Ok, Err}
 use Rattle.qs_wire.specs.declared.stream_id.Role.TheVariants.{Client, Server}
 use Rattle.qs_conn.specs.Settings.{limits_of}
@@ -14,6 +14,7 @@ use Rattle.qs_world.specs.declared.event.Act.TheVariants as acts
 use Rattle.qs_world.specs.declared.answer.Answer.TheVariants as answers
 use Rattle.qs_world.specs.Worlds.{World, WorldStep, Run}
 use Rattle.std.specs.Fmt.{digits}
+use Rattle.hex.specs.Hex.{encode_with}
 use Rattle.qs_world.specs.Examples.{StreamsBeginAtZero, EventLines, AnswerLines, ReportLines, Examples}
 
 client_begins : End
@@ -56,7 +57,7 @@ unfolding digits
 event_lines = record { opens = refl; accepts = refl; resets = refl; reads = refl; makes = refl; delivers = refl }
 
 answer_lines : AnswerLines
-unfolding digits
+unfolding digits encode_with
 answer_lines = record { blocked = refl; none = refl; wrong_way = refl; gave = refl; gave_none = refl; packet = refl; not_outstanding = refl; closing = refl }
 
 report_lines : ReportLines

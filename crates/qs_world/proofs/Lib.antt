@@ -1,5 +1,6 @@
 pub mod Examples
-pub mod Lists
+pub mod ScriptLines
+mod Lists
 pub mod Members
 pub mod Tables
 pub mod Base

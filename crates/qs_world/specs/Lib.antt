@@ -1,4 +1,5 @@
 pub mod Events
+pub mod Scripts
 pub mod Worlds
 pub mod Logs
 pub mod Agree

@@ -1,6 +1,7 @@
 -- The printed lines of a report.
-use Rattle.std.specs.Prelude.{ℕ, ◌/◌, ◌%◌, Bool, true, false, List, [], ◌∷◌, ◌++◌, flat_map, codes, decimal, Option, None, Some, Result, Ok, Err, nat_lt, if◌then◌else◌}
+use Rattle.std.specs.Prelude.{ℕ, Bool, true, false, List, [], ◌∷◌, ◌++◌, flat_map, codes, decimal, Option, None, Some, Result, Ok, Err, nat_lt, if◌then◌else◌}
 use Rattle.std.specs.Fmt.{digits}
+use Rattle.hex.specs.Hex.{encode_lower}
 use Rattle.qs_wire.specs.declared.stream_id.Dir.{Dir}
 use Rattle.qs_wire.specs.declared.stream_id.Dir.TheVariants.{Bidi, Uni}
 use Rattle.qs_recv.specs.declared.half.Read.{Read}
@@ -35,17 +36,14 @@ also word = codes " " ++ word
 abbrev pub line : List ℕ → List ℕ
 line words = words ++ 10 ∷ []
 
--- two lower-case digits for a byte, and a dash where there are no bytes
-abbrev pub byte_text : ℕ → List ℕ
-byte_text b = digits 16 false (b / 16) ++ digits 16 false (b % 16)
-
+-- bytes as lower-case hex, or a dash where there are none
 abbrev pub hex_text : List ℕ → List ℕ
 hex_text [] = codes "-"
-hex_text (b ∷ bs) = flat_map byte_text (b ∷ bs)
+hex_text (b ∷ bs) = encode_lower (b ∷ bs)
 
 -- a code or a frame type: at least two lower-case hex digits
 abbrev pub code_text : ℕ → List ℕ
-code_text n = codes "0x" ++ (if nat_lt n 16 then codes "0" else []) ++ digits 16 false n
+code_text n = (if nat_lt n 16 then codes "0x0" else codes "0x") ++ digits 16 false n
 
 abbrev pub side_text : Side → List ℕ
 side_text A = codes "A"
@@ -75,6 +73,10 @@ act_text (acts.Deliver k) side = codes "deliver" ++ side ++ also (decimal k)
 -- an event as a script has it
 abbrev pub event_text : Event → List ℕ
 event_text event = act_text event.act (also (side_text event.end))
+
+-- a script of these events, one a line
+abbrev pub script_text : List Event → List ℕ
+script_text events = flat_map (λ event. line (event_text event)) events
 
 -- Answers
 
@@ -174,9 +176,13 @@ ends_text [] = []
 ends_text (a ∷ []) = line (end_text A a)
 ends_text (a ∷ b ∷ more) = line (end_text A a) ++ line (end_text B b)
 
+-- an event with its answer
+abbrev pub step_text : Event × Answer → List ℕ
+step_text x = event_text x.0 ++ codes " -> " ++ answer_text x.1
+
 -- a line for each event with its answer, one for each lane, one for each end
 abbrev pub play_text : Report → List ℕ
 play_text report =
-    flat_map (λ x. line (event_text x.0 ++ codes " -> " ++ answer_text x.1)) report.log.items
+    flat_map (λ x. line (step_text x)) report.log.items
     ++ flat_map (λ l. line (lane_text l)) report.lanes.items
     ++ ends_text report.ends

@@ -54,10 +54,14 @@ impl Event {
     }
 }
 
-const MAX_BYTES: usize = 65_535;
+/// The most bytes of a write or a read.
+pub(crate) const MAX_BYTES: usize = 65_535;
 
-const MIN_ROOM: usize = 128;
+/// The least room of a payload.
+pub(crate) const MIN_ROOM: usize = 128;
 
-const MAX_ROOM: usize = 16_383;
+/// The most room of a payload.
+pub(crate) const MAX_ROOM: usize = 16_383;
 
-const MAX_VARINT: u64 = (1 << 62) - 1;
+/// The greatest number that a frame can hold (RFC 9000, section 16).
+pub(crate) const MAX_VARINT: u64 = (1 << 62) - 1;

@@ -5,6 +5,7 @@ mod answer;
 mod event;
 pub mod laws;
 mod report;
+mod script;
 
 pub use answer::Answer;
 pub use event::{Act, Event, Side};
@@ -14,6 +15,7 @@ pub use qs_conn::{
 pub use qs_recv::Read;
 pub use qs_wire::{Dir, StreamId};
 pub use report::{EndTotals, LaneTotals, PlayFault, Report};
+pub use script::{Reason, ScriptFault, parse_script};
 
 #[cfg(test)]
 mod tests;

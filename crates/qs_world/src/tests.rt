@@ -1,4 +1,7 @@
 //! Which events fit.
+
+mod script;
+
 use crate::{Act, Dir, Event, Side, StreamId};
 use std::test::Fail;
 
@@ -37,7 +40,9 @@ fn writes_of_few_bytes_fit(rt: HostRuntime) -> Result<(), Fail> {
     let Some(id) = StreamId::new(0) else {
         return Ok(());
     };
-    let bytes = Vec::from_array(rt.alloc(), [97, 98, 99])?;
+    let Ok(bytes) = Vec::from_array(rt.alloc(), [97, 98, 99]) else {
+        return Ok(());
+    };
     assert!(rt; fits(Act::Write(id, bytes)));
     Ok(())
 }

@@ -1,0 +1,10 @@
+use Rattle.std.proofs.Common.{sym, ◌∙◌}
+use Rattle.qs_world.proofs.ScriptLines.{lines-some, lines-none}
+use Rattle.qs_world.proofs.script.split_line.Goals as goal
+
+pub returns-in-Some-clause-lines : goal.returns-in-Some-clause-lines
+returns-in-Some-clause-lines c =
+    rw (c.split_at.ensures.front, c.split_at.ensures.back) (lines-some c.args.text.now c.in-Some.place (sym c.line_feed.ensures ∙ c.in-Some.is))
+
+pub returns-in-None-clause-lines : goal.returns-in-None-clause-lines
+returns-in-None-clause-lines c = lines-none c.args.text.now c.requires (sym c.line_feed.ensures ∙ c.in-None.is)
