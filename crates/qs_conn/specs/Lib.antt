@@ -17,3 +17,4 @@ pub mod Standing
 pub mod Laws
 pub mod Examples
 pub mod EndCodes
+pub mod Layers

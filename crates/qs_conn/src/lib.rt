@@ -2,13 +2,21 @@
 #![tactic(auto)]
 
 mod closing;
+mod endpoint;
 pub mod laws;
 mod making;
+mod places;
+mod recv_lanes;
+mod recv_tables;
 mod report;
+mod send_lanes;
+mod send_tables;
 mod settings;
+mod setup;
 mod uses;
 
 pub use closing::{Closed, Closing, Received};
+pub use endpoint::Endpoint;
 pub use making::{LostFault, Made, MakeFault};
 pub use report::{LaneReport, RecvReport, SendReport};
 pub use settings::{PeerLimits, Settings, SetupFault};

@@ -1,6 +1,11 @@
-//! Which events fit.
+//! Which events fit; and what an endpoint does, whose tests stand here since they would cost more beside its proofs.
 
+mod ends;
+mod every_payload;
+mod owners;
+mod payloads;
 mod script;
+mod steps;
 
 use crate::{Act, Dir, Event, Side, StreamId};
 use std::test::Fail;

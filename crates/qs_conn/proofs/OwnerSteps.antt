@@ -1,0 +1,163 @@
+-- The calls of an owner, by the parts that they change.
+use Rattle.std.proofs.Common.{◌≡◌, ℕ, Bool, true, false, List, [], length, take, Option, Some, None, is_some, Result, Ok, Err, refl, ap, ◌∙◌, inl, inr, subst, unwrap_or, rules}
+use Rattle.std.specs.Prelude.{is_none}
+use Rattle.qs_recv.specs.Lane.{RecvLane, read_answer, bytes_read, after_read, stop}
+use Rattle.qs_recv.specs.declared.half.Read.{Read}
+use Rattle.qs_send.specs.Lane.{SendLane, accepted, refusal, reset_refusal, answer_of, write_lane, finish_lane, reset_lane}
+use Rattle.qs_send.specs.declared.parts.SendFault.{SendFault}
+use Rattle.qs_send.specs.declared.parts.SendFault.TheVariants as sends
+use Rattle.qs_conn.specs.declared.uses.UseFault.{UseFault}
+use Rattle.qs_conn.specs.declared.uses.UseFault.TheVariants.{Closed, NoMemory}
+use Rattle.qs_conn.specs.Tables.{Tables, updated}
+use Rattle.qs_conn.specs.Ends.{End, send_lane, recv_lane, on_send}
+use Rattle.qs_conn.specs.Credit.{settle}
+use Rattle.qs_conn.specs.Verdicts.{or_new}
+use Rattle.qs_conn.specs.Owner.{Certain, Uncertain, first_refusal, refuse_if, no_half, half_refusal, use_fault, send_refusal, recv_refusal, WriteStep, FinishStep, ResetStep, StopStep, ReadStep}
+use Rattle.qs_conn.specs.Layers.{no_sender, no_receiver, or_none}
+
+-- A refusal, and no refusal
+
+refused : {A F : Type 0} (o : Option F) (f : F) (old new : End) (answer : Result A F) (Effect : Type 0) → o ≡ Some f → answer ≡ Err f → new ≡ old → Certain o old answer new Effect
+refused o f old new answer Effect is told same = rw is (told, same)
+
+passed : {A F : Type 0} (o : Option F) (old new : End) (answer : Result A F) (Effect : Type 0) → o ≡ None → Effect → Certain o old answer new Effect
+passed o old new answer Effect is effect = rw is effect
+
+-- Sending halves
+
+refusal_parts : (b c : Bool) (o : Option SendLane) (says : SendLane → Option SendFault)
+    → first_refusal (refuse_if b Closed) (elim o [ None ↦ Some (no_half c) | Some l ↦ half_refusal (says l) ])
+    ≡ first_refusal (first_refusal (refuse_if b Closed) (refuse_if (is_none o) (no_half c))) (half_refusal (says (or_none o)))
+refusal_parts true c o says = refl
+refusal_parts false c None says = refl
+refusal_parts false c (Some l) says = refl
+
+refusal_is : (e : End) (n : ℕ) (says : SendLane → Option SendFault) → send_refusal e n says ≡ first_refusal (no_sender e n) (half_refusal (says (or_none (send_lane e n))))
+refusal_is e n says = refusal_parts (is_some e.closed) (is_some (recv_lane e n)) (send_lane e n) says
+
+refusal_none : (e : End) (n : ℕ) (says : SendLane → Option SendFault) (f : UseFault) → no_sender e n ≡ Some f → send_refusal e n says ≡ Some f
+refusal_none e n says f is = refusal_is e n says ∙ ap (λ o. first_refusal o (half_refusal (says (or_none (send_lane e n))))) is
+
+refusal_half : (e : End) (n : ℕ) (says : SendLane → Option SendFault) → no_sender e n ≡ None → send_refusal e n says ≡ half_refusal (says (or_none (send_lane e n)))
+refusal_half e n says is = refusal_is e n says ∙ ap (λ o. first_refusal o (half_refusal (says (or_none (send_lane e n))))) is
+
+there_by : (b c : Bool) (o : Option SendLane) → first_refusal (refuse_if b Closed) (refuse_if (is_none o) (no_half c)) ≡ None → o ≡ Some (or_none o)
+there_by true c o h = absurd (search (rules, h))
+there_by false c None h = absurd (search (rules, h))
+there_by false c (Some l) h = refl
+
+-- the half is there
+pub sender_there : (e : End) (n : ℕ) → no_sender e n ≡ None → send_lane e n ≡ Some (or_none (send_lane e n))
+sender_there e n is = there_by (is_some e.closed) (is_some (recv_lane e n)) (send_lane e n) is
+
+pub write_none : (e : End) (n : ℕ) (bytes : List ℕ) (f : UseFault) → no_sender e n ≡ Some f → WriteStep e n bytes (Err f) e
+write_none e n bytes f is = refused _ f e e (Err f) _ (refusal_none e n refusal f is) refl refl
+
+pub finish_none : (e : End) (n : ℕ) (f : UseFault) → no_sender e n ≡ Some f → FinishStep e n (Err f) e
+finish_none e n f is = refused _ f e e (Err f) _ (refusal_none e n refusal f is) refl refl
+
+pub reset_none : (e : End) (n code : ℕ) (f : UseFault) → no_sender e n ≡ Some f → ResetStep e n code (Err f) e
+reset_none e n code f is = refused _ f e e (Err f) _ (refusal_none e n reset_refusal f is) refl refl
+
+pub write_done : (e : End) (n : ℕ) (bytes : List ℕ) (count : ℕ) (sends : Tables SendLane) (new : End) → no_sender e n ≡ None → refusal (or_none (send_lane e n)) ≡ None
+    → count ≡ accepted (or_none (send_lane e n)) (length bytes) → sends ≡ updated e.sends n (λ l. write_lane l (take count bytes)) (send_lane e n)
+    → new ≡ settle (record e { sends = sends }) → WriteStep e n bytes (Ok count) new
+write_done e n bytes count sends new is free much after settled =
+    passed _ e new (Ok count) _ (refusal_half e n refusal is ∙ ap half_refusal free)
+    (inr (
+      or_none (send_lane e n),
+      sender_there e n is,
+      (ap Ok much, settled ∙ ap (λ t. settle (record e { sends = t })) after ∙ ap (λ k. settle (on_send n (λ m. write_lane m (take k bytes)) e)) much),
+    ))
+
+by_fault : (e : End) (n : ℕ) (bytes : List ℕ) (fault : SendFault) (o : Option SendFault) (Effect : Type 0) → fault ≡ unwrap_or o sends.NoMemory
+    → Uncertain {A = ℕ} (half_refusal o) NoMemory e (Err (use_fault fault)) e Effect
+by_fault e n bytes fault None Effect is = inl (ap (λ f. Err (use_fault f)) is, refl)
+by_fault e n bytes fault (Some f) Effect is = (ap (λ f. Err (use_fault f)) is, refl)
+
+pub write_refused : (e : End) (n : ℕ) (bytes : List ℕ) (fault : SendFault) → no_sender e n ≡ None → fault ≡ unwrap_or (refusal (or_none (send_lane e n))) sends.NoMemory
+    → WriteStep e n bytes (Err (use_fault fault)) e
+write_refused e n bytes fault is told = rw (refusal_half e n refusal is) (by_fault e n bytes fault (refusal (or_none (send_lane e n))) _ told)
+
+-- an answer without a value
+
+done_by : (o : Option SendFault) → Ok tt ≡ answer_of o → o ≡ None
+done_by None h = refl
+done_by (Some f) h = absurd (search (rules, h))
+
+fault_by : (o : Option SendFault) (f : SendFault) → Err f ≡ answer_of o → o ≡ Some f
+fault_by None f h = absurd (search (rules, h))
+fault_by (Some g) f h = cc
+
+pub finish_done : (e : End) (n : ℕ) (sends : Tables SendLane) (new : End) → no_sender e n ≡ None → Ok tt ≡ answer_of (refusal (or_none (send_lane e n)))
+    → sends ≡ updated e.sends n finish_lane (send_lane e n) → new ≡ settle (record e { sends = sends }) → FinishStep e n (Ok tt) new
+finish_done e n sends new is free after settled =
+    passed _ e new (Ok tt) _ (refusal_half e n refusal is ∙ ap half_refusal (done_by _ free)) (refl, settled ∙ ap (λ t. settle (record e { sends = t })) after)
+
+pub finish_refused : (e : End) (n : ℕ) (fault : SendFault) → no_sender e n ≡ None → Err fault ≡ answer_of (refusal (or_none (send_lane e n))) → FinishStep e n (Err (use_fault fault)) e
+finish_refused e n fault is told = refused _ (use_fault fault) e e _ _ (refusal_half e n refusal is ∙ ap half_refusal (fault_by _ fault told)) refl refl
+
+pub reset_done : (e : End) (n code : ℕ) (sends : Tables SendLane) (new : End) → no_sender e n ≡ None → Ok tt ≡ answer_of (reset_refusal (or_none (send_lane e n)))
+    → sends ≡ updated e.sends n (λ l. reset_lane l code) (send_lane e n) → new ≡ settle (record e { sends = sends }) → ResetStep e n code (Ok tt) new
+reset_done e n code sends new is free after settled =
+    passed _ e new (Ok tt) _ (refusal_half e n reset_refusal is ∙ ap half_refusal (done_by _ free)) (refl, settled ∙ ap (λ t. settle (record e { sends = t })) after)
+
+pub reset_refused : (e : End) (n code : ℕ) (fault : SendFault) → no_sender e n ≡ None → Err fault ≡ answer_of (reset_refusal (or_none (send_lane e n))) → ResetStep e n code (Err (use_fault fault)) e
+reset_refused e n code fault is told = refused _ (use_fault fault) e e _ _ (refusal_half e n reset_refusal is ∙ ap half_refusal (fault_by _ fault told)) refl refl
+
+-- Receiving halves
+
+recv_parts : (b c : Bool) (o : Option RecvLane)
+    → first_refusal (refuse_if b Closed) (elim o [ None ↦ Some (no_half c) | Some l ↦ None ]) ≡ first_refusal (refuse_if b Closed) (refuse_if (is_none o) (no_half c))
+recv_parts true c o = refl
+recv_parts false c None = refl
+recv_parts false c (Some l) = refl
+
+recv_refusal_is : (e : End) (n : ℕ) → recv_refusal e n ≡ no_receiver e n
+recv_refusal_is e n = recv_parts (is_some e.closed) (is_some (send_lane e n)) (recv_lane e n)
+
+received_by : (b c : Bool) (o : Option RecvLane) → first_refusal (refuse_if b Closed) (refuse_if (is_none o) (no_half c)) ≡ None → o ≡ Some (or_new o 0)
+received_by true c o h = absurd (search (rules, h))
+received_by false c None h = absurd (search (rules, h))
+received_by false c (Some l) h = refl
+
+pub receiver_there : (e : End) (n : ℕ) → no_receiver e n ≡ None → recv_lane e n ≡ Some (or_new (recv_lane e n) 0)
+receiver_there e n is = received_by (is_some e.closed) (is_some (send_lane e n)) (recv_lane e n) is
+
+pub stop_none : (e : End) (n code : ℕ) (f : UseFault) → no_receiver e n ≡ Some f → StopStep e n code (Err f) e
+stop_none e n code f is = refused _ f e e (Err f) _ (recv_refusal_is e n ∙ is) refl refl
+
+pub stop_done : (e : End) (n code : ℕ) (recvs : Tables RecvLane) (new : End) → no_receiver e n ≡ None → recvs ≡ updated e.recvs n (λ l. stop l code) (recv_lane e n)
+    → new ≡ settle (record e { recvs = recvs }) → StopStep e n code (Ok tt) new
+stop_done e n code recvs new is after settled =
+    passed _ e new (Ok tt) _ (recv_refusal_is e n ∙ is) (refl, settled ∙ ap (λ t. settle (record e { recvs = t })) after)
+
+pub read_none : (e : End) (n size : ℕ) (f : UseFault) → no_receiver e n ≡ Some f → ReadStep e n size (Err f) [] e
+read_none e n size f is = rw (recv_refusal_is e n ∙ is) (refl, refl, refl)
+
+pub read_done : (e : End) (n size : ℕ) (answer : Read) (recvs : Tables RecvLane) (new : End) → no_receiver e n ≡ None → answer ≡ read_answer (or_new (recv_lane e n) 0) size
+    → recvs ≡ updated e.recvs n (λ l. after_read l size) (recv_lane e n) → new ≡ settle (record e { recvs = recvs })
+    → ReadStep e n size (Ok answer) (bytes_read (or_new (recv_lane e n) 0) size) new
+read_done e n size answer recvs new is told after settled =
+    rw (recv_refusal_is e n ∙ is)
+    (or_new (recv_lane e n) 0, receiver_there e n is, ap Ok told, refl, settled ∙ ap (λ t. settle (record e { recvs = t })) after)
+
+-- The same of an end that is told in two ways
+
+pub write_ok : (e now : End) (n : ℕ) (bytes : List ℕ) (count : ℕ) (sends : Tables SendLane) (new : End) → e ≡ now → no_sender now n ≡ None → refusal (or_none (send_lane e n)) ≡ None
+    → count ≡ accepted (or_none (send_lane e n)) (length bytes) → sends ≡ updated e.sends n (λ l. write_lane l (take count bytes)) (send_lane e n)
+    → new ≡ settle (record e { sends = sends }) → WriteStep now n bytes (Ok count) new
+write_ok e now n bytes count sends new is none free much after settled =
+    subst (λ (k : End). WriteStep k n bytes (Ok count) new) is (write_done e n bytes count sends new (ap (λ k. no_sender k n) is ∙ none) free much after settled)
+
+pub read_ok : (e now : End) (n size : ℕ) (answer : Read) (recvs : Tables RecvLane) (new : End) → e ≡ now → no_receiver now n ≡ None → answer ≡ read_answer (or_new (recv_lane e n) 0) size
+    → recvs ≡ updated e.recvs n (λ l. after_read l size) (recv_lane e n) → new ≡ settle (record e { recvs = recvs })
+    → ReadStep now n size (Ok answer) (bytes_read (or_new (recv_lane e n) 0) size) new
+read_ok e now n size answer recvs new is none told after settled =
+    subst (λ (k : End). ReadStep k n size (Ok answer) (bytes_read (or_new (recv_lane e n) 0) size) new) is
+    (read_done e n size answer recvs new (ap (λ k. no_receiver k n) is ∙ none) told after settled)
+
+pub stop_ok : (e now : End) (n code : ℕ) (recvs : Tables RecvLane) (new : End) → e ≡ now → no_receiver now n ≡ None → recvs ≡ updated e.recvs n (λ l. stop l code) (recv_lane e n)
+    → new ≡ settle (record e { recvs = recvs }) → StopStep now n code (Ok tt) new
+stop_ok e now n code recvs new is none after settled =
+    subst (λ (k : End). StopStep k n code (Ok tt) new) is (stop_done e n code recvs new (ap (λ k. no_receiver k n) is ∙ none) after settled)

@@ -1,0 +1,74 @@
+-- What is so of a frame that ends the processing of its payload, and of one that doesn't.
+use Rattle.std.proofs.Common.{◌≡◌, ℕ, ◌<◌, ◌^◌, Bool, true, false, Option, Some, None, Result, Ok, Err, arith, rules, cond, subst}
+use Rattle.std.specs.Prelude.{⊤}
+use Rattle.qs_send.specs.declared.piece.Item.TheVariants.{MaxData, MaxStreamData, MaxStreams, ResetStream, StopSending, DataBlocked, StreamDataBlocked, StreamsBlocked}
+use Rattle.qs_recv.specs.declared.half.Highest.{Highest}
+use Rattle.qs_recv.specs.declared.half.RecvFault.{RecvFault}
+use Rattle.qs_recv.specs.declared.half.RecvFault.TheVariants.{FinalSize, StreamCredit, NoMemory}
+use Rattle.qs_wire.specs.Layout.{PlacedValue}
+use Rattle.qs_conn.specs.declared.closing.Received.TheVariants as received
+use Rattle.qs_conn.specs.Ends.{End, is_own, is_uni}
+use Rattle.qs_conn.specs.Seen.{Seen, Ack, Stream, Control, Close, Plain}
+use Rattle.qs_conn.specs.Verdicts.{STREAM_LIMIT_ERROR, STREAM_STATE_ERROR, verdict, or_else, fault_if, state_fault_in, state_fault_out, credit_fault}
+use Rattle.qs_conn.specs.FrameStep.{acks}
+use Rattle.qs_conn.specs.Receiving.{Stops}
+use Rattle.qs_conn.specs.Layers.{close_code}
+
+-- A code with which a frame may close the connection.
+abbrev Small : Option ℕ → Type 0
+Small None = ⊤
+Small (Some code) = code < 2 ^ 62
+
+small_if : (b : Bool) (code : ℕ) → code < 2 ^ 62 → Small (fault_if b code)
+small_if true code h = h
+small_if false code h = tt
+
+small_or : (a b : Option ℕ) → Small a → Small b → Small (or_else a b)
+small_or None b p q = q
+small_or (Some code) b p q = p
+
+small_choice : (b : Bool) (x y : Option ℕ) → Small x → Small y → Small (cond b x y)
+small_choice true x y p q = p
+small_choice false x y p q = q
+
+small_in : (e : End) (n : ℕ) → Small (state_fault_in e n)
+small_in e n = small_choice (is_own e n) _ _ (small_if _ STREAM_STATE_ERROR (omega arith)) (small_if _ STREAM_LIMIT_ERROR (omega arith))
+
+small_state : STREAM_STATE_ERROR < 2 ^ 62
+small_state = omega arith
+
+small_out : (e : End) (n : ℕ) → Small (state_fault_out e n)
+small_out e n = small_choice (is_own e n) _ _ (small_if _ STREAM_STATE_ERROR (omega arith)) (small_choice (is_uni n) _ _ small_state (small_if _ STREAM_LIMIT_ERROR (omega arith)))
+
+small_credit : (e : End) (r : Result Highest RecvFault) → Small (credit_fault e r)
+small_credit e (Ok h) = small_if _ _ (omega arith)
+small_credit e (Err FinalSize) = omega arith
+small_credit e (Err StreamCredit) = omega arith
+small_credit e (Err NoMemory) = omega arith
+
+small : (e : End) (f : Seen) → Small (verdict e f)
+unfolding verdict
+small e (Ack largest ranges) = small_if _ _ (omega arith)
+small e (Stream n offset bytes fin) = small_or _ _ (small_in e n) (small_credit e _)
+small e (Control (MaxData m)) = tt
+small e (Control (MaxStreamData n m)) = small_out e n
+small e (Control (MaxStreams d m)) = tt
+small e (Control (ResetStream n code size)) = small_or _ _ (small_in e n) (small_credit e _)
+small e (Control (StopSending n code)) = small_out e n
+small e (Control (DataBlocked m)) = tt
+small e (Control (StreamDataBlocked n m)) = small_in e n
+small e (Control (StreamsBlocked d m)) = tt
+small e (Close code) = tt
+small e (Plain asks) = tt
+
+pub code_fits : (e : End) (f : Seen) (code : ℕ) → verdict e f ≡ Some code → code < 2 ^ 62
+code_fits e f code is = subst Small is (small e f)
+
+-- without memory nothing takes effect
+pub runs_out : (p : PlacedValue) (f : Seen) (e new : End) → close_code f ≡ None → verdict e f ≡ None → new ≡ e → Stops p f e (Ok received.NoMemory) new
+unfolding acks
+runs_out p (Ack largest ranges) e new goes passed is = (passed, (0, is))
+runs_out p (Stream n offset bytes fin) e new goes passed is = (passed, is)
+runs_out p (Control item) e new goes passed is = (passed, is)
+runs_out p (Close code) e new goes passed is = absurd (search (rules, goes))
+runs_out p (Plain asks) e new goes passed is = (passed, is)

@@ -1,0 +1,6 @@
+use Rattle.std.proofs.Common.{sym, ◌∙◌}
+use Rattle.qs_conn.proofs.Kept.{kept_new}
+use Rattle.qs_conn.proofs.endpoint.Endpoint.new.Goals as goal
+
+pub invariant_of-result : goal.invariant_of-result
+invariant_of-result c = kept_new _ _ _ _ (sym c.setup_fault.ensures ∙ c.in_default.is) c.new-2.ensures

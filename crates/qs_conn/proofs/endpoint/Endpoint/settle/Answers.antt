@@ -1,0 +1,41 @@
+use Rattle.std.proofs.Common.{arith, refl, ap, sym, ◌∙◌, ℕ, subst}
+use Rattle.qs_recv.specs.Lane.{RecvLane, highest, taken, raise, next_limit}
+use Rattle.qs_conn.specs.Tables.{Tables, total}
+use Rattle.qs_conn.specs.Standing.{KeepsCredit}
+use Rattle.qs_conn.proofs.TableLaws.{total_each}
+use Rattle.qs_conn.proofs.Sound.{keeps_settle}
+use Rattle.qs_conn.proofs.endpoint.Endpoint.settle.Goals as goal
+
+pub tally-taken-requires : goal.tally-taken-requires
+tally-taken-requires c =
+    let e = ap (total highest) c.raise_all.ensures ∙ total_each highest raise c.self.inside.recvs (λ l. refl) in
+    omega (arith, e, c.self.invariant.sound.spent, c.self.invariant.granted_fits)
+
+pub next_limit-self-inside-requires-clause-taken : goal.next_limit-self-inside-requires-clause-taken
+next_limit-self-inside-requires-clause-taken c =
+    let e = ap (total highest) c.raise_all.ensures ∙ total_each highest raise c.self.inside.recvs (λ l. refl) in
+    omega (arith, e, c.self.invariant.sound.spent, c.self.invariant.granted_fits, c.tally-taken.ensures.spent, c.tally-taken.ensures.paid)
+
+pub invariant_of-self : goal.invariant_of-self
+invariant_of-self c =
+    let inside = c.self.inside in
+    let paid = c.tally-taken.ensures.taken ∙ ap (total taken) c.raise_all.ensures ∙ total_each taken raise inside.recvs (λ l. refl) in
+    let limit = c.next_limit-self-inside.ensures.value ∙ ap (λ k. next_limit inside.granted k inside.settings.conn_window) paid in
+    record {
+      sound =
+          subst (λ (g : ℕ). KeepsCredit inside.role inside.settings c.raise_all.new.self g) (sym limit)
+          (subst (λ (t : Tables RecvLane). KeepsCredit inside.role inside.settings t (next_limit inside.granted (total taken inside.recvs) inside.settings.conn_window)) (sym c.raise_all.ensures)
+          (keeps_settle inside.role inside.settings inside.recvs inside.granted c.self.invariant.sound));
+      granted_fits = c.next_limit-self-inside.ensures.in_range;
+      peer_fits = c.self.invariant.peer_fits;
+      bidi_fits = c.self.invariant.bidi_fits;
+      uni_fits = c.self.invariant.uni_fits;
+      closing_fits = c.self.invariant.closing_fits;
+    }
+
+pub returns : goal.returns
+returns c =
+    let inside = c.self.inside in
+    let paid = c.tally-taken.ensures.taken ∙ ap (total taken) c.raise_all.ensures ∙ total_each taken raise inside.recvs (λ l. refl) in
+    let limit = c.next_limit-self-inside.ensures.value ∙ ap (λ k. next_limit inside.granted k inside.settings.conn_window) paid in
+    rw (← c.self.view_is, limit, c.raise_all.ensures) refl

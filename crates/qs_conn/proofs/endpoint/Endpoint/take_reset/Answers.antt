@@ -1,0 +1,20 @@
+use Rattle.std.proofs.Common.{is_some, ap, ◌∙◌, subst}
+use Rattle.qs_conn.specs.Ends.{End}
+use Rattle.qs_conn.specs.Standing.{IsSound}
+use Rattle.qs_conn.proofs.Kept.{kept_recvs}
+use Rattle.qs_conn.proofs.Taken.{in_there, reset_in, reset_checked, reset_sound}
+use Rattle.qs_conn.proofs.endpoint.Endpoint.take_reset.Goals as goal
+
+pub take_reset-requires-clause-open : goal.take_reset-requires-clause-open
+take_reset-requires-clause-open c =
+    ap is_some (in_there c.args.self.now _ c.args.stream (reset_in c.args.self.now c.args.stream c.args.code c.args.size c.requires.passed) (c.self-2.view_is ∙ c.in_ok-open_by_peer.ensures.ok))
+
+pub take_reset-requires-clause-passed : goal.take_reset-requires-clause-passed
+take_reset-requires-clause-passed c =
+    reset_checked c.args.self.now _ c.args.stream c.args.code c.args.size c.requires.passed (c.self-2.view_is ∙ c.in_ok-open_by_peer.ensures.ok)
+
+pub invariant_of-self : goal.invariant_of-self
+invariant_of-self c =
+    let sound : IsSound c.args.self.now = subst (λ (k : End). IsSound k) c.self.view_is c.self.invariant.sound in
+    kept_recvs _ _ _ _ _ _ _ _ _ c.self-2.invariant
+    (reset_sound c.args.self.now _ c.args.stream c.args.code c.args.size c.take_reset.new.self sound c.requires.passed (c.self-2.view_is ∙ c.in_ok-open_by_peer.ensures.ok) c.take_reset.ensures)

@@ -1,0 +1,16 @@
+use Rattle.std.proofs.Common.{arith, ◌∙◌}
+use Rattle.std.proofs.lemmas.List.{length-take}
+use Rattle.qs_conn.proofs.Tallies.{lawful_take}
+use Rattle.qs_conn.proofs.Settling.{are_taken}
+use Rattle.qs_conn.proofs.recv_lanes.RecvLanes.close_to.Goals as goal
+
+pub invariant_of-self : goal.invariant_of-self
+invariant_of-self c =
+    let items = c.self.inside.halves.items in
+    rw c.truncate.ensures.items
+    (record {
+      counted = (rw (← c.self.view_is) at c.requires) ∙ c.self.invariant.counted;
+      lawful = lawful_take c.args.count items c.self.invariant.lawful;
+      settled = are_taken c.self.inside.touched c.args.count items c.self.invariant.settled;
+      few = omega (arith, c.self.invariant.few, length-take c.args.count items);
+    })

@@ -1,0 +1,16 @@
+use Rattle.std.proofs.Common.{◌∙◌}
+use Rattle.std.proofs.lemmas.List.{length-map}
+use Rattle.qs_conn.proofs.Tallies.{tally_raised, lawful_raised}
+use Rattle.qs_conn.proofs.Settling.{all_settled}
+use Rattle.qs_conn.proofs.recv_lanes.RecvLanes.raise_all.Goals as goal
+
+pub invariant_of-self : goal.invariant_of-self
+invariant_of-self c =
+    let items = c.self.inside.halves.items in
+    rw c.raise_touched.ensures
+    (record {
+      counted = tally_raised items ∙ c.self.invariant.counted;
+      lawful = lawful_raised items c.self.invariant.lawful;
+      settled = all_settled items;
+      few = rw length-map c.self.invariant.few;
+    })

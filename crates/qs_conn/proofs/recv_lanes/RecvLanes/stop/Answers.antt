@@ -1,0 +1,18 @@
+use Rattle.std.proofs.Common.{◌<◌, length}
+use Rattle.qs_conn.proofs.LaneEdits.{paid_of, edited, changed_at}
+use Rattle.qs_conn.proofs.Settling.{are_touched}
+use Rattle.qs_conn.proofs.recv_lanes.RecvLanes.stop.Goals as goal
+
+pub moved-self-inside-requires-clause-paid : goal.moved-self-inside-requires-clause-paid
+moved-self-inside-requires-clause-paid c = paid_of _ _ _ c.self.invariant
+
+pub invariant_of-self : goal.invariant_of-self
+invariant_of-self c =
+    let there : c.args.index < length c.self.inside.halves.items = rw c.self.view_is c.requires.there in
+    edited _ _ _ _ _ _ _ _ _ _ there c.index_mut-half.ensures.value c.self.invariant c.measure-was.ensures.value c.measure-is.ensures.value c.moved-self-inside.ensures c.measure-is.ensures.lawful
+    (rw c.touch-self-inside.ensures (are_touched c.self.inside.touched c.self.inside.halves.items c.args.index c.stop.new.self c.self.invariant.settled))
+
+pub returns-clause-after : goal.returns-clause-after
+returns-clause-after c =
+    rw (← c.self.view_is)
+    (changed_at c.self.inside.halves.items c.args.index _ _ _ (rw c.self.view_is c.requires.there) c.index_mut-half.ensures.value c.stop.ensures.after)

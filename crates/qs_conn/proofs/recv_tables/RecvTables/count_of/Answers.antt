@@ -1,0 +1,6 @@
+use Rattle.std.proofs.Common.{ap, sym, ◌∙◌, length}
+use Rattle.qs_conn.proofs.TableEdits.{table_at}
+use Rattle.qs_conn.proofs.recv_tables.RecvTables.count_of.Goals as goal
+
+pub returns-clause-value : goal.returns-clause-value
+returns-clause-value c = rw (← c.self.view_is) (c.len.ensures.value ∙ ap length (sym (table_at c.self.inside.types c.args.kind c.index-self-kind.result c.self.invariant c.requires)))

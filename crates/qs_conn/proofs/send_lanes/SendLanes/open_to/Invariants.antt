@@ -1,0 +1,11 @@
+use Rattle.std.proofs.Common.{◌≡◌, ◌++◌, ◌+◌, ◌*◌, map, ℕ, length}
+use Rattle.std.specs.List.{range_with_len}
+use Rattle.qs_send.specs.Lane.{new_sending}
+use Rattle.qs_conn.proofs.send_lanes.SendLanes.open_to.Given as goal
+
+abbrev pub invariant-loop-opened : goal.invariant-loop-opened
+invariant-loop-opened l =
+    let before = l.initial.self-inside.halves.items in
+    record {
+      items : l.self-inside.halves.items ≡ before ++ map (λ (i : ℕ). new_sending (i * 4 + l.kind) l.limit l.buffer) (range_with_len (length before) l.opened);
+    }

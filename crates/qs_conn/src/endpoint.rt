@@ -1,0 +1,256 @@
+//! One end of a connection.
+ghost use Rattle.std.specs.Prelude.{◌≡◌, ◌+◌, ◌≤◌, ◌<◌, ◌^◌, length, Some};
+ghost use Rattle.qs_ranges.specs.Numbers.{MAX_VARINT};
+ghost use Rattle.qs_recv.specs.Lane.{next_limit};
+ghost use Rattle.qs_conn.specs.Ends.{end_made, role_bit, is_uni, is_own, window, first_send_limit};
+ghost use Rattle.qs_conn.specs.Credit.{spent, all_stored, settle};
+ghost use Rattle.qs_conn.specs.Making.{ClosePayload, ClosePayloadBy, close_text_of};
+ghost use Rattle.qs_conn.specs.Layers.{ClosingFits};
+ghost use Rattle.qs_conn.specs.Standing.{IsSound, IsWithinCredit};
+
+use crate::closing::{Closed, Closing};
+use crate::places::kind_of;
+use crate::recv_tables::RecvTables;
+use crate::send_tables::SendTables;
+use crate::settings::{PeerLimits, Settings, SetupFault};
+use crate::setup::setup_fault;
+use qs_ranges::RangeSet;
+use qs_wire::{Frame, Role, StreamId, put};
+use std::alloc::Global;
+use std::marker::Model;
+
+mod frames;
+mod opening;
+mod owner;
+mod receiving;
+mod recording;
+mod taking;
+
+/// One end of a connection. It takes in the payloads of packets, and its owner opens, accepts, writes, finishes, resets, reads
+/// and stops streams (RFC 9000, sections 2 to 4).
+///
+/// Contracts see the end as a record.
+#[derive(Drop)]
+pub struct Endpoint {
+    role: Role,
+    settings: Settings,
+    peer: PeerLimits,
+    sends: SendTables,
+    recvs: RecvTables,
+    granted: u64,
+    known_data: u64,
+    known_bidi: u64,
+    known_uni: u64,
+    accepted_bidi: u64,
+    accepted_uni: u64,
+    wanted_bidi: Option<u64>,
+    wanted_uni: Option<u64>,
+    done: RangeSet,
+    floor: u64,
+    ack_due: bool,
+    closed: Option<Closed>,
+}
+
+// No packet is made yet: the next number is 0 and nothing is outstanding or acknowledged.
+impl Model for Endpoint {
+    ghost use Rattle.std.specs.FinMap as fmap;
+    ghost use Rattle.qs_conn.specs.Ends.{End, no_items};
+    ghost use Rattle.qs_conn.specs.EndCodes.{end_code};
+    ghost use Rattle.qs_conn.specs.Layers.{IsKept};
+
+    ghost Value = { End };
+
+    ghost coded = { end_code };
+
+    ghost view = { λ e. record {
+      role = e.role;
+      settings = e.settings;
+      peer = e.peer;
+      sends = e.sends;
+      recvs = e.recvs;
+      granted = e.granted;
+      known_data = e.known_data;
+      known_bidi = e.known_bidi;
+      known_uni = e.known_uni;
+      accepted_bidi = e.accepted_bidi;
+      accepted_uni = e.accepted_uni;
+      wanted_bidi = e.wanted_bidi;
+      wanted_uni = e.wanted_uni;
+      done = e.done;
+      floor = e.floor;
+      ack_due = e.ack_due;
+      next = 0;
+      outstanding = fmap.empty;
+      acked = no_items;
+      closed = e.closed;
+    } };
+
+    ghost invariant = { λ e. IsKept e.role e.settings e.peer e.recvs e.granted e.known_bidi e.known_uni e.closed };
+}
+
+impl Endpoint {
+    /// A new end. Refused where a setting is out of its range, or where the peer allows more streams than have a number (RFC 9000,
+    /// section 4.6).
+    pub fn new(
+        alloc: Global,
+        role: Role,
+        settings: Settings,
+        peer: PeerLimits,
+    ) -> Result<Endpoint, SetupFault>
+        ensures { result ≡ end_made role settings peer }
+    {
+        if let Some(fault) = setup_fault(&settings, &peer) {
+            return Err(fault);
+        }
+        Ok(Endpoint {
+            role,
+            settings,
+            peer,
+            sends: SendTables::new(alloc),
+            recvs: RecvTables::new(alloc),
+            granted: settings.conn_window,
+            known_data: peer.max_data,
+            known_bidi: peer.streams_bidi,
+            known_uni: peer.streams_uni,
+            accepted_bidi: 0,
+            accepted_uni: 0,
+            wanted_bidi: None,
+            wanted_uni: None,
+            done: RangeSet::new(alloc),
+            floor: 0,
+            ack_due: false,
+            closed: None,
+        })
+    }
+
+    /// How many bytes are stored: at most what was granted and isn't taken.
+    pub fn stored(&self) -> u64
+        ensures exact { result ≡ all_stored self.now }
+        ensures within { IsWithinCredit self.now }
+    {
+        let _granted = self.granted;
+        self.recvs.tally().stored
+    }
+
+    /// The connection limit granted to the peer (RFC 9000, section 4.1).
+    pub fn granted(&self) -> u64
+        ensures { result ≡ self.now.granted }
+    {
+        self.granted
+    }
+
+    /// The sum of the highest offsets of all streams, which the connection limit bounds.
+    pub fn spent(&self) -> u64
+        ensures { result ≡ spent self.now }
+    {
+        let _granted = self.granted;
+        self.recvs.tally().spent
+    }
+
+    /// Writes the payload that tells of this end's own closing: a CONNECTION_CLOSE with an empty reason (RFC 9000, section 10.2).
+    /// Answers its length. `None` where this end didn't close, or where it doesn't fit; then nothing is written.
+    pub fn close_payload(&self, out: &mut [u8]) -> Option<usize>
+        ensures { ClosePayload self.now out.old result out.new }
+    {
+        let Some(Closed::ByUs(closing)) = self.closed else {
+            return None;
+        };
+        put_close(closing, out)
+    }
+
+    // Each limit becomes the next one.
+    fn settle(&mut self)
+        ensures { self.new ≡ settle self.old }
+    {
+        let _granted = self.granted;
+        self.recvs.raise_all();
+        let taken = self.recvs.tally().taken;
+        self.granted = next_limit(self.granted, taken, self.settings.conn_window);
+    }
+
+    // Whether this end opens the stream.
+    fn is_own(&self, stream: StreamId) -> bool
+        ensures { result ≡ is_own self.now stream }
+    {
+        kind_of(stream) % 2 == role_bit(self.role)
+    }
+
+    // The window of a receiving half, which is its first limit too.
+    fn window(&self, stream: StreamId) -> u64
+        ensures value { result ≡ window self.now stream }
+        ensures some { 1 ≤ result }
+        ensures small { result ≤ 2 ^ 20 }
+    {
+        if is_uni(stream) {
+            self.settings.uni
+        } else if self.is_own(stream) {
+            self.settings.bidi_local
+        } else {
+            self.settings.bidi_remote
+        }
+    }
+
+    // The limit with which a sending half begins.
+    fn first_send_limit(&self, stream: StreamId) -> u64
+        ensures value { result ≡ first_send_limit self.now stream }
+        ensures small { result ≤ MAX_VARINT }
+    {
+        if is_uni(stream) {
+            self.peer.uni
+        } else if self.is_own(stream) {
+            self.peer.bidi_remote
+        } else {
+            self.peer.bidi_local
+        }
+    }
+}
+
+// The bit that names the initiator (RFC 9000, section 2.1).
+fn role_bit(role: Role) -> usize
+    ensures value { result ≡ role_bit role }
+    ensures small { result < 2 }
+{
+    match role {
+        Role::Client => 0,
+        Role::Server => 1,
+    }
+}
+
+// Whether only the initiator sends (RFC 9000, section 2.1).
+fn is_uni(stream: StreamId) -> bool
+    ensures { result ≡ is_uni stream }
+{
+    kind_of(stream) >= 2
+}
+
+// The limit that follows, where so much was taken of a window (RFC 9000, section 4.2).
+fn next_limit(limit: u64, taken: u64, window: u64) -> u64
+    requires small { limit ≤ MAX_VARINT }
+    requires taken { taken ≤ MAX_VARINT }
+    requires window { window ≤ 2 ^ 24 }
+    ensures value { result ≡ next_limit limit taken window }
+    ensures in_range { result ≤ MAX_VARINT }
+{
+    let next = (taken + window).min((1 << 62) - 1);
+    let step = (window / 2).max(1);
+    if limit + step <= next || (next == (1 << 62) - 1 && limit < next) {
+        next
+    } else {
+        limit
+    }
+}
+
+fn put_close(closing: Closing, out: &mut [u8]) -> Option<usize>
+    requires { ClosingFits (Some (Closed.ByUs closing)) }
+    ensures { ClosePayloadBy (close_text_of (Some (Closed.ByUs closing))) out.old result out.new }
+{
+    let frame = Frame::ConnectionClose {
+        code: closing.code,
+        frame_type: closing.frame_type,
+        reason: &[],
+    };
+    match put(&frame, out) {
+        Ok(len) => Some(len),
+        Err(_full) => None,
+    }
+}

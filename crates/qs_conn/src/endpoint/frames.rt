@@ -1,0 +1,166 @@
+//! What the frames of a payload do.
+ghost use Rattle.std.specs.Prelude.{◌≡◌, ◌+◌, ◌≤◌, ◌<◌, ◌^◌, length, IfOk};
+ghost use Rattle.qs_ranges.specs.Numbers.{MAX_VARINT};
+ghost use Rattle.qs_wire.specs.Layout.{view};
+ghost use Rattle.qs_wire.specs.Grammar.{Fits};
+ghost use Rattle.qs_recv.specs.Lane.{check_stream, check_reset};
+ghost use Rattle.qs_conn.specs.Credit.{grant};
+ghost use Rattle.qs_conn.specs.Seen.{seen};
+ghost use Rattle.qs_conn.specs.Verdicts.{or_else, ack_fault, state_fault_in, state_fault_out, credit_fault, lane_of, verdict};
+
+use super::{Endpoint, is_uni};
+use qs_recv::{Highest, RecvFault};
+use qs_wire::{Frame, StreamId};
+
+// Codes of errors (RFC 9000, section 20.1).
+const FLOW_CONTROL_ERROR: u64 = 0x03;
+
+const STREAM_LIMIT_ERROR: u64 = 0x04;
+
+const STREAM_STATE_ERROR: u64 = 0x05;
+
+const FINAL_SIZE_ERROR: u64 = 0x06;
+
+const PROTOCOL_VIOLATION: u64 = 0x0a;
+
+impl Endpoint {
+    // The code with which a frame closes the connection.
+    #[tactic(auto, unfolding(crate::specs::Verdicts::verdict))]
+    pub(super) fn verdict(&self, frame: &Frame<'_>) -> Option<u64>
+        requires { Fits (view frame.now) }
+        ensures { result ≡ verdict self.now (seen (view frame.now)) }
+    {
+        match *frame {
+            Frame::Padding
+            | Frame::Ping
+            | Frame::Crypto { .. }
+            | Frame::NewToken { .. }
+            | Frame::MaxData { .. }
+            | Frame::MaxStreams { .. }
+            | Frame::DataBlocked { .. }
+            | Frame::StreamsBlocked { .. }
+            | Frame::NewConnectionId { .. }
+            | Frame::RetireConnectionId { .. }
+            | Frame::PathChallenge { .. }
+            | Frame::PathResponse { .. }
+            | Frame::ConnectionClose { .. }
+            | Frame::ApplicationClose { .. }
+            | Frame::HandshakeDone => None,
+            Frame::Ack { largest, .. } => self.ack_fault(largest),
+            Frame::Stream {
+                stream,
+                offset,
+                fin,
+                bytes,
+            } => self.stream_fault(stream, offset, bytes.len() as u64, fin),
+            Frame::ResetStream {
+                stream,
+                final_size,
+                ..
+            } => self.reset_fault(stream, final_size),
+            Frame::StreamDataBlocked { stream, .. } => self.state_fault_in(stream),
+            Frame::StopSending { stream, .. } => self.state_fault_out(stream),
+            Frame::MaxStreamData { stream, .. } => self.state_fault_out(stream),
+        }
+    }
+
+    // Of an ACK. No number was used yet, so each ACK names one that wasn't.
+    fn ack_fault(&self, largest: u64) -> Option<u64>
+        ensures { result ≡ ack_fault self.now largest }
+    {
+        let _floor = self.floor;
+        let _named = largest;
+        Some(PROTOCOL_VIOLATION)
+    }
+
+    fn stream_fault(&self, stream: StreamId, offset: u64, len: u64, fin: bool) -> Option<u64>
+        requires { offset + len ≤ MAX_VARINT }
+        ensures { result ≡ or_else (state_fault_in self.now stream) (credit_fault self.now (check_stream (lane_of self.now stream) offset len fin)) }
+    {
+        if let Some(code) = self.state_fault_in(stream) {
+            return Some(code);
+        }
+        let window = self.window(stream);
+        let check = self.recvs.check_stream(window, stream, offset, len, fin);
+        self.credit_fault(check)
+    }
+
+    fn reset_fault(&self, stream: StreamId, size: u64) -> Option<u64>
+        requires { size ≤ MAX_VARINT }
+        ensures { result ≡ or_else (state_fault_in self.now stream) (credit_fault self.now (check_reset (lane_of self.now stream) size)) }
+    {
+        if let Some(code) = self.state_fault_in(stream) {
+            return Some(code);
+        }
+        let window = self.window(stream);
+        let check = self.recvs.check_reset(window, stream, size);
+        self.credit_fault(check)
+    }
+
+    // Of a frame on what the peer sends.
+    fn state_fault_in(&self, stream: StreamId) -> Option<u64>
+        ensures { result ≡ state_fault_in self.now stream }
+    {
+        if self.is_own(stream) {
+            if self.recvs.is_open(stream) {
+                None
+            } else {
+                Some(STREAM_STATE_ERROR)
+            }
+        } else if self.grant(stream) <= stream.index() {
+            Some(STREAM_LIMIT_ERROR)
+        } else {
+            None
+        }
+    }
+
+    // Of a frame on what this end sends.
+    fn state_fault_out(&self, stream: StreamId) -> Option<u64>
+        ensures { result ≡ state_fault_out self.now stream }
+    {
+        if self.is_own(stream) {
+            if self.sends.is_open(stream) {
+                None
+            } else {
+                Some(STREAM_STATE_ERROR)
+            }
+        } else if is_uni(stream) {
+            Some(STREAM_STATE_ERROR)
+        } else if self.grant(stream) <= stream.index() {
+            Some(STREAM_LIMIT_ERROR)
+        } else {
+            None
+        }
+    }
+
+    // What a half's check says, and then whether the connection has the credit.
+    fn credit_fault(&self, check: Result<Highest, RecvFault>) -> Option<u64>
+        requires { IfOk check (λ h. h.after ≤ MAX_VARINT) }
+        ensures { result ≡ credit_fault self.now check }
+    {
+        match check {
+            Err(RecvFault::FinalSize) => Some(FINAL_SIZE_ERROR),
+            Err(RecvFault::StreamCredit) => Some(FLOW_CONTROL_ERROR),
+            Err(RecvFault::NoMemory) => Some(0),
+            Ok(highest) => {
+                let growth = highest.after.saturating_sub(highest.before);
+                if self.granted < self.spent() + growth {
+                    Some(FLOW_CONTROL_ERROR)
+                } else {
+                    None
+                }
+            }
+        }
+    }
+
+    // How many streams of its type the peer may open (RFC 9000, section 4.6).
+    fn grant(&self, stream: StreamId) -> u64
+        ensures { result ≡ grant self.now stream }
+    {
+        if is_uni(stream) {
+            self.settings.grant_uni
+        } else {
+            self.settings.grant_bidi
+        }
+    }
+}

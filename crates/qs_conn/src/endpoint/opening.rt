@@ -1,0 +1,213 @@
+//! Streams are opened, and given out.
+ghost use Rattle.std.specs.Prelude.{◌≡◌, ◌≤◌, ◌<◌, ◌^◌, length, max, not, ◌&&◌, if◌then◌else◌, OnOk, OnErr};
+ghost use Rattle.qs_ranges.specs.Numbers.{MAX_VARINT};
+ghost use Rattle.qs_recv.specs.Lane.{new_lane as new_recv_lane};
+ghost use Rattle.qs_send.specs.Lane.{new_lane as new_send_lane};
+ghost use Rattle.qs_conn.specs.Tables.{open_to};
+ghost use Rattle.qs_conn.specs.Ends.{opens, opened_by_peer};
+ghost use Rattle.qs_conn.specs.Credit.{settle};
+ghost use Rattle.qs_conn.specs.Due.{known_count};
+ghost use Rattle.qs_conn.specs.Owner.{OpenStep, AcceptStep, own_kind, peer_kind, opened_count, with_wanted};
+
+use super::{Endpoint, is_uni, role_bit};
+use crate::recv_tables::RecvTables;
+use crate::send_tables::SendTables;
+use crate::uses::OpenFault;
+use qs_ranges::NoMemory;
+use qs_wire::{Dir, StreamId};
+
+impl Endpoint {
+    /// Opens the next stream of that direction, and answers its number.
+    ///
+    /// Refused: `Closed`; `Blocked` with the peer's count where as many are open; and `NoMemory` where memory was refused, and then
+    /// nothing changed.
+    pub fn open(&mut self, dir: Dir) -> Result<StreamId, OpenFault>
+        ensures { OpenStep self.old dir result self.new }
+    {
+        if self.closed.is_some() {
+            return Err(OpenFault::Closed);
+        }
+        let kind = self.own_kind(dir);
+        let count = self.opened_count(kind);
+        let known = self.known_count(dir);
+        if known <= count as u64 {
+            self.want(dir, known);
+            self.settle();
+            return Err(OpenFault::Blocked(known));
+        }
+        let stream = StreamId::new(count as u64 * 4 + kind as u64).unwrap();
+        if let Err(_refused) = self.open_stream(stream) {
+            return Err(OpenFault::NoMemory);
+        }
+        self.settle();
+        Ok(stream)
+    }
+
+    /// Gives out each stream that the peer opened, once: bidirectional ones first, lower numbers first.
+    pub fn accept(&mut self) -> Option<StreamId>
+        ensures { AcceptStep self.old result self.new }
+    {
+        if self.closed.is_some() {
+            return None;
+        }
+        let bidi = self.peer_kind(Dir::Bidi);
+        if self.accepted_bidi < self.opened_count(bidi) as u64 {
+            let stream = StreamId::new(self.accepted_bidi * 4 + bidi as u64).unwrap();
+            self.accepted_bidi += 1;
+            self.settle();
+            return Some(stream);
+        }
+        let uni = self.peer_kind(Dir::Uni);
+        if self.accepted_uni < self.opened_count(uni) as u64 {
+            let stream = StreamId::new(self.accepted_uni * 4 + uni as u64).unwrap();
+            self.accepted_uni += 1;
+            self.settle();
+            return Some(stream);
+        }
+        None
+    }
+
+    // A frame that names a stream of the peer opens it (RFC 9000, section 3.2).
+    pub(super) fn open_by_peer(&mut self, stream: StreamId) -> Result<(), NoMemory>
+        ensures ok { OnOk result (self.new ≡ opened_by_peer stream self.old) }
+        ensures err { OnErr result (self.new ≡ self.old) }
+    {
+        if self.is_own(stream) {
+            return Ok(());
+        }
+        self.open_stream(stream)
+    }
+
+    // Opens a stream and all lower ones of its type, or changes nothing. Memory is taken first.
+    fn open_stream(&mut self, stream: StreamId) -> Result<(), NoMemory>
+        ensures ok { OnOk result (self.new ≡ opens stream self.old) }
+        ensures err { OnErr result (self.new ≡ self.old) }
+    {
+        self.reserve(stream)?;
+        self.open_reserved(stream)
+    }
+
+    // The same, where memory was taken. No clause tells that, so a refusal is undone.
+    fn open_reserved(&mut self, stream: StreamId) -> Result<(), NoMemory>
+        ensures ok { OnOk result (self.new ≡ opens stream self.old) }
+        ensures err { OnErr result (self.new ≡ self.old) }
+    {
+        let (uni, own) = (is_uni(stream), self.is_own(stream));
+        let limit = self.first_send_limit(stream);
+        let window = self.window(stream);
+        let buffer = self.settings.send_buffer;
+        let before = self.sends.count(stream);
+        open_sends(&mut self.sends, both(uni, !own), limit, buffer, stream)?;
+        if let Err(refused) = open_recvs(&mut self.recvs, both(uni, own), window, stream) {
+            self.sends.close_to(stream, before);
+            return Err(refused);
+        }
+        Ok(())
+    }
+
+    // Takes the memory that the opening wants, so that a refusal comes before anything changes.
+    fn reserve(&mut self, stream: StreamId) -> Result<(), NoMemory>
+        ensures { self.new ≡ self.old }
+    {
+        let (uni, own) = (is_uni(stream), self.is_own(stream));
+        if !both(uni, !own) {
+            self.sends.reserve(stream)?;
+        }
+        if !both(uni, own) {
+            self.recvs.reserve(stream)?;
+        }
+        Ok(())
+    }
+
+    // That another stream was wanted is noted.
+    fn want(&mut self, dir: Dir, count: u64)
+        ensures { self.new ≡ with_wanted dir count self.old }
+    {
+        match dir {
+            Dir::Bidi => self.wanted_bidi = Some(count),
+            Dir::Uni => self.wanted_uni = Some(count),
+        }
+    }
+
+    // How many streams of a direction the peer allows.
+    fn known_count(&self, dir: Dir) -> u64
+        ensures value { result ≡ known_count self.now dir }
+        ensures small { result ≤ 2 ^ 60 }
+    {
+        match dir {
+            Dir::Bidi => self.known_bidi,
+            Dir::Uni => self.known_uni,
+        }
+    }
+
+    // How many streams of a type are open.
+    fn opened_count(&self, kind: usize) -> usize
+        requires { kind < 4 }
+        ensures value { result ≡ opened_count self.now kind }
+        ensures small { result ≤ 2 ^ 60 }
+    {
+        self.sends.count_of(kind).max(self.recvs.count_of(kind))
+    }
+
+    // The type of the streams that this end opens.
+    fn own_kind(&self, dir: Dir) -> usize
+        ensures value { result ≡ own_kind self.now dir }
+        ensures small { result < 4 }
+    {
+        match dir {
+            Dir::Bidi => role_bit(self.role),
+            Dir::Uni => 2 + role_bit(self.role),
+        }
+    }
+
+    // The type of the streams that the peer opens.
+    fn peer_kind(&self, dir: Dir) -> usize
+        ensures value { result ≡ peer_kind self.now dir }
+        ensures small { result < 4 }
+    {
+        match dir {
+            Dir::Bidi => 1 - role_bit(self.role),
+            Dir::Uni => 3 - role_bit(self.role),
+        }
+    }
+}
+
+fn open_sends(
+    sends: &mut SendTables,
+    absent: bool,
+    limit: u64,
+    buffer: usize,
+    stream: StreamId,
+) -> Result<(), NoMemory>
+    requires { limit ≤ MAX_VARINT }
+    ensures ok { OnOk result (sends.new ≡ (if absent then sends.old else open_to sends.old stream (λ m. new_send_lane m limit buffer))) }
+    ensures err { OnErr result (sends.new ≡ sends.old) }
+{
+    if absent {
+        return Ok(());
+    }
+    sends.open_to(limit, buffer, stream)
+}
+
+fn open_recvs(
+    recvs: &mut RecvTables,
+    absent: bool,
+    window: u64,
+    stream: StreamId,
+) -> Result<(), NoMemory>
+    requires some { 1 ≤ window }
+    requires small { window ≤ 2 ^ 20 }
+    ensures ok { OnOk result (recvs.new ≡ (if absent then recvs.old else open_to recvs.old stream (λ m. new_recv_lane window))) }
+    ensures err { OnErr result (recvs.new ≡ recvs.old) }
+{
+    if absent {
+        return Ok(());
+    }
+    recvs.open_to(window, stream)
+}
+
+fn both(a: bool, b: bool) -> bool
+    ensures { result ≡ (a && b) }
+{
+    a && b
+}

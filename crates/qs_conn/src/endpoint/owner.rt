@@ -1,0 +1,156 @@
+//! What an end's owner does with its streams.
+ghost use Rattle.std.specs.Prelude.{◌≡◌, ◌++◌, List, length, drop, ℕ};
+ghost use Rattle.qs_conn.specs.Owner.{WriteStep, FinishStep, ResetStep, StopStep, ReadStep, no_half, use_fault};
+ghost use Rattle.qs_conn.specs.Reports.{lane_report};
+ghost use Rattle.qs_conn.specs.Layers.{no_sender, no_receiver};
+
+use super::Endpoint;
+use crate::report::LaneReport;
+use crate::uses::UseFault;
+use qs_recv::Read;
+use qs_send::SendFault;
+use qs_wire::StreamId;
+
+impl Endpoint {
+    /// Accepts the front of the bytes for sending, as many as there is room for, and answers how many.
+    ///
+    /// Refused, and then unchanged: `Closed`; `NoSuchStream` or `WrongDirection` where the stream has no sending half; `WasReset`;
+    /// `Finished`; and `NoMemory` where memory was refused.
+    #[tactic(auto, using(crate::proofs::OwnerSteps::write_ok))]
+    pub fn write(&mut self, stream: StreamId, bytes: &[u8]) -> Result<usize, UseFault>
+        ensures { WriteStep self.old stream bytes.now result self.new }
+    {
+        if let Some(fault) = self.no_sender(stream) {
+            return Err(fault);
+        }
+        match self.sends.write(stream, bytes) {
+            Ok(count) => {
+                self.settle();
+                Ok(count)
+            }
+            Err(fault) => Err(use_fault(fault)),
+        }
+    }
+
+    /// Asks for the end of the stream after the bytes written so far.
+    ///
+    /// Refused as `write` is, but never for want of memory.
+    pub fn finish(&mut self, stream: StreamId) -> Result<(), UseFault>
+        ensures { FinishStep self.old stream result self.new }
+    {
+        if let Some(fault) = self.no_sender(stream) {
+            return Err(fault);
+        }
+        match self.sends.finish(stream) {
+            Ok(()) => {
+                self.settle();
+                Ok(())
+            }
+            Err(fault) => Err(use_fault(fault)),
+        }
+    }
+
+    /// Breaks the stream's sending half off (RFC 9000, section 3.1).
+    ///
+    /// Refused, and then unchanged: as `write` is; `Finished` only once all was acknowledged.
+    pub fn reset(&mut self, stream: StreamId, code: u64) -> Result<(), UseFault>
+        ensures { ResetStep self.old stream code result self.new }
+    {
+        if let Some(fault) = self.no_sender(stream) {
+            return Err(fault);
+        }
+        match self.sends.reset(stream, code) {
+            Ok(()) => {
+                self.settle();
+                Ok(())
+            }
+            Err(fault) => Err(use_fault(fault)),
+        }
+    }
+
+    /// Reads the bytes that are next, or tells how the stream stands (RFC 9000, section 2.2).
+    ///
+    /// Refused, and then unchanged: `Closed`; `NoSuchStream` or `WrongDirection` where the stream has no receiving half.
+    #[tactic(auto, using(crate::proofs::OwnerSteps::read_ok))]
+    pub fn read(&mut self, stream: StreamId, into: &mut [u8]) -> Result<Read, UseFault>
+        ensures { (bytes : List ℕ) × (into.new ≡ bytes ++ drop (length bytes) into.old) × ReadStep self.old stream (length into.old) result bytes self.new }
+    {
+        if let Some(fault) = self.no_receiver(stream) {
+            return Err(fault);
+        }
+        let answer = self.recvs.read(stream, into);
+        self.settle();
+        Ok(answer)
+    }
+
+    /// Throws the stream's bytes away, those stored and those still to come (RFC 9000, section 3.5). The first code stays.
+    ///
+    /// Refused as `read` is.
+    #[tactic(auto, using(crate::proofs::OwnerSteps::stop_ok))]
+    pub fn stop(&mut self, stream: StreamId, code: u64) -> Result<(), UseFault>
+        ensures { StopStep self.old stream code result self.new }
+    {
+        if let Some(fault) = self.no_receiver(stream) {
+            return Err(fault);
+        }
+        self.recvs.stop(stream, code);
+        self.settle();
+        Ok(())
+    }
+
+    /// How the halves of a stream stand at this end, `None` where it isn't open.
+    pub fn lane_report(&self, stream: StreamId) -> Option<LaneReport>
+        ensures { result ≡ lane_report self.now stream }
+    {
+        match (self.sends.report(stream), self.recvs.report(stream)) {
+            (None, None) => None,
+            (send, recv) => Some(LaneReport { send, recv }),
+        }
+    }
+
+    // Why the stream can't be sent on.
+    fn no_sender(&self, stream: StreamId) -> Option<UseFault>
+        ensures { result ≡ no_sender self.now stream }
+    {
+        if self.closed.is_some() {
+            Some(UseFault::Closed)
+        } else if self.sends.is_open(stream) {
+            None
+        } else {
+            Some(no_half(self.recvs.is_open(stream)))
+        }
+    }
+
+    // Why the stream can't be read.
+    fn no_receiver(&self, stream: StreamId) -> Option<UseFault>
+        ensures { result ≡ no_receiver self.now stream }
+    {
+        if self.closed.is_some() {
+            Some(UseFault::Closed)
+        } else if self.recvs.is_open(stream) {
+            None
+        } else {
+            Some(no_half(self.sends.is_open(stream)))
+        }
+    }
+}
+
+fn no_half(other: bool) -> UseFault
+    ensures { result ≡ no_half other }
+{
+    if other {
+        UseFault::WrongDirection
+    } else {
+        UseFault::NoSuchStream
+    }
+}
+
+fn use_fault(fault: SendFault) -> UseFault
+    ensures { result ≡ use_fault fault }
+{
+    match fault {
+        SendFault::Finished => UseFault::Finished,
+        SendFault::WasReset => UseFault::WasReset,
+        SendFault::NoMemory => UseFault::NoMemory,
+    }
+}

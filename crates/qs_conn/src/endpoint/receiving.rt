@@ -1,0 +1,164 @@
+//! A payload is taken in.
+ghost use Rattle.std.specs.Prelude.{◌≡◌, ◌<◌, ◌^◌};
+ghost use Rattle.qs_wire.specs.Layout.{view};
+ghost use Rattle.qs_wire.specs.Grammar.{Fits};
+ghost use Rattle.qs_wire.specs.Reading.{view_placed};
+ghost use Rattle.qs_conn.specs.Ends.{closes};
+ghost use Rattle.qs_conn.specs.Seen.{seen, asks_ack};
+ghost use Rattle.qs_conn.specs.Receiving.{ReceiveStep, TakesPayload, AtEnd, closing_at, closing_of};
+ghost use Rattle.qs_conn.specs.Layers.{TakesFrame, close_code};
+
+use super::Endpoint;
+use crate::closing::{Closed, Closing, Received};
+use qs_wire::{Frame, Frames, Placed, WireFault};
+
+/// What one frame does to the processing of its payload.
+#[derive(Drop)]
+pub(crate) enum Progress {
+    GoesOn,
+    Ends(Result<Received, Closing>),
+}
+
+impl Endpoint {
+    /// Takes in the payload of a packet: its frames take effect, one after the other, in order (RFC 9000, sections 12.3, 12.4
+    /// and 13.1). `number` is the packet's number, below 2^62; `payload` is all bytes of its frames.
+    ///
+    /// Answers
+    /// - `Done` once all frames took effect. The number is kept, and where a frame asks for it an ACK is due (section 13.2).
+    /// - `Duplicate` where the number is kept already, and `BelowFloor` where it lies below all that are still told apart (section
+    ///   13.2.3). Nothing changes.
+    /// - `NoMemory` where memory was refused. The frames before took effect, the number isn't kept, and the same payload may come
+    ///   again.
+    /// - `PeerClosed` with the code of the peer's CONNECTION_CLOSE. The frames before it took effect; the end is closed from now on
+    ///   (section 10.2.2).
+    ///
+    /// Refused with a `Closing` where the bytes are no frames (section 12.4) or a frame breaks a rule (sections 4, 13.1, 19 and 20.1):
+    /// its code, and the type and the place of that frame. The frames before it took effect; the end is closed from now on, and
+    /// `close_payload` tells the peer so (section 10.2).
+    ///
+    /// An end that is closed answers as it did when it closed, and nothing changes.
+    #[tactic(auto, using(crate::proofs::Payloads::is_received))]
+    pub fn receive(&mut self, number: u64, payload: &[u8]) -> Result<Received, Closing>
+        requires { number < 2 ^ 62 }
+        ensures { ReceiveStep self.old number payload.now result self.new }
+    {
+        match self.closed {
+            Some(Closed::ByUs(closing)) => return Err(closing),
+            Some(Closed::ByPeer(code)) => return Ok(Received::PeerClosed(code)),
+            None => {}
+        }
+        if number < self.floor {
+            return Ok(Received::BelowFloor);
+        }
+        if self.done.has(number) {
+            return Ok(Received::Duplicate);
+        }
+        let taken = self.take_payload(number, payload);
+        self.settle();
+        taken
+    }
+
+    // The frames of a payload take effect, one after the other, as far as they may.
+    fn take_payload(&mut self, number: u64, payload: &[u8]) -> Result<Received, Closing>
+        requires { number < 2 ^ 62 }
+        ensures { TakesPayload number payload.now self.old result self.new }
+    {
+        let mut frames = Frames::new(payload);
+        let mut asks = false;
+        loop {
+            match frames.next() {
+                Ok(Some(placed)) => match self.take_placed(&placed) {
+                    Progress::GoesOn => asks |= asks_ack(&placed.frame),
+                    Progress::Ends(result) => return result,
+                },
+                Ok(None) => return Ok(self.record_all(number, asks)),
+                Err(fault) => return Err(self.close_by(fault)),
+            }
+        }
+    }
+
+    // One frame takes effect, or the processing ends with it.
+    #[tactic(auto, using(crate::proofs::Refusals::code_fits, crate::proofs::Refusals::runs_out))]
+    fn take_placed(&mut self, placed: &Placed<'_>) -> Progress
+        requires fits { Fits (view placed.now.frame) }
+        requires typed { placed.now.frame_type < 2 ^ 62 }
+        ensures { TakesFrame (view_placed placed.now) self.old result self.new }
+    {
+        if let Some(code) = close_code(&placed.frame) {
+            self.closed = Some(Closed::ByPeer(code));
+            return Progress::Ends(Ok(Received::PeerClosed(code)));
+        }
+        if let Some(code) = self.verdict(&placed.frame) {
+            return Progress::Ends(Err(self.close_at(placed, code)));
+        }
+        if let Err(_refused) = self.take(&placed.frame) {
+            return Progress::Ends(Ok(Received::NoMemory));
+        }
+        Progress::GoesOn
+    }
+
+    // No frame is left.
+    fn record_all(&mut self, number: u64, asks: bool) -> Received
+        requires { number < 2 ^ 62 }
+        ensures { AtEnd number asks None self.old (Ok result) self.new }
+    {
+        if let Err(_refused) = self.record(number, asks) {
+            return Received::NoMemory;
+        }
+        Received::Done
+    }
+
+    // This end closes for a frame that has a fault.
+    fn close_at(&mut self, placed: &Placed<'_>, code: u64) -> Closing
+        requires small { code < 2 ^ 62 }
+        requires typed { placed.now.frame_type < 2 ^ 62 }
+        ensures value { result ≡ closing_at (view_placed placed.now) code }
+        ensures after { self.new ≡ closes (Closed.ByUs result) self.old }
+    {
+        let closing = Closing {
+            code,
+            frame_type: placed.frame_type,
+            place: placed.place,
+        };
+        self.closed = Some(Closed::ByUs(closing));
+        closing
+    }
+
+    // This end closes for bytes that are no frame.
+    fn close_by(&mut self, fault: WireFault) -> Closing
+        requires { (fault.code < 2 ^ 62) × (fault.frame_type < 2 ^ 62) }
+        ensures value { result ≡ closing_of fault }
+        ensures after { self.new ≡ closes (Closed.ByUs result) self.old }
+    {
+        let closing = Closing {
+            code: fault.code,
+            frame_type: fault.frame_type,
+            place: fault.place,
+        };
+        self.closed = Some(Closed::ByUs(closing));
+        closing
+    }
+}
+
+// The code of a CONNECTION_CLOSE.
+fn close_code(frame: &Frame<'_>) -> Option<u64>
+    ensures { result ≡ close_code (seen (view frame.now)) }
+{
+    match *frame {
+        Frame::ConnectionClose { code, .. } | Frame::ApplicationClose { code, .. } => Some(code),
+        _ => None,
+    }
+}
+
+// Whether a frame asks for an ACK (RFC 9000, section 13.2).
+fn asks_ack(frame: &Frame<'_>) -> bool
+    ensures { result ≡ asks_ack (seen (view frame.now)) }
+{
+    !matches!(
+        *frame,
+        Frame::Padding
+            | Frame::Ack { .. }
+            | Frame::ConnectionClose { .. }
+            | Frame::ApplicationClose { .. }
+    )
+}

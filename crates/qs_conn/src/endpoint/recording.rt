@@ -1,0 +1,67 @@
+//! Which packet numbers were processed.
+ghost use Rattle.std.specs.Prelude.{◌≡◌, ◌<◌, ◌^◌, ◌||◌, if◌then◌else◌, OnOk, OnErr};
+ghost use Rattle.std.specs.FinSet as set;
+ghost use Rattle.qs_ranges.specs.Numbers.{numbers};
+ghost use Rattle.qs_conn.specs.Recording.{has_too_many, least_in, lowest_end, recorded};
+
+use super::Endpoint;
+use qs_ranges::{NoMemory, RangeSet};
+
+/// How many ranges of numbers are kept.
+const MAX_RUNS: usize = 32;
+
+impl Endpoint {
+    // A packet's number is kept once all its frames took effect (RFC 9000, section 13.2.3); or nothing changes.
+    pub(super) fn record(&mut self, number: u64, asks: bool) -> Result<(), NoMemory>
+        requires { number < 2 ^ 62 }
+        ensures ok { OnOk result (self.new ≡ recorded number asks self.old) }
+        ensures err { OnErr result (self.new ≡ self.old) }
+    {
+        self.done.insert(number, number + 1)?;
+        self.floor = trim(&mut self.done, self.floor);
+        self.ack_due = either(self.ack_due, asks);
+        Ok(())
+    }
+}
+
+// Where too many ranges are kept, the lowest one leaves. Answers the number below which none is told apart.
+fn trim(done: &mut RangeSet, floor: u64) -> u64
+    ensures done { done.new ≡ (if has_too_many done.old then set.difference done.old (numbers 0 (lowest_end done.old)) else done.old) }
+    ensures floor { result ≡ (if has_too_many done.old then lowest_end done.old else floor) }
+{
+    if !has_too_many(done) {
+        return floor;
+    }
+    let end = lowest_end(done);
+    done.drop_below(end);
+    end
+}
+
+#[tactic(auto, unfolding(crate::specs::Recording::has_too_many))]
+fn has_too_many(done: &RangeSet) -> bool
+    ensures { result ≡ has_too_many done.now }
+{
+    done.count() > MAX_RUNS
+}
+
+// One more than the largest number of the lowest range.
+fn lowest_end(done: &RangeSet) -> u64
+    ensures { result ≡ lowest_end done.now }
+{
+    done.first_missing(lowest(done))
+}
+
+fn lowest(done: &RangeSet) -> u64
+    ensures { result ≡ least_in (set.items done.now) }
+{
+    match done.first() {
+        Some(number) => number,
+        None => 0,
+    }
+}
+
+fn either(a: bool, b: bool) -> bool
+    ensures { result ≡ (a || b) }
+{
+    a || b
+}

@@ -1,0 +1,21 @@
+//! Where a stream stands in a table.
+ghost use Rattle.std.specs.Prelude.{◌≡◌, ◌<◌, ◌^◌};
+ghost use Rattle.qs_conn.specs.Tables.{kind_of, index_of};
+
+use qs_wire::StreamId;
+
+/// The type of a stream, 0 to 3: its two lowest bits (RFC 9000, section 2.1).
+pub(crate) fn kind_of(stream: StreamId) -> usize
+    ensures value { result ≡ kind_of stream }
+    ensures small { result < 4 }
+{
+    (stream.value() % 4) as usize
+}
+
+/// How many streams of its type have a lower number.
+pub(crate) fn index_of(stream: StreamId) -> usize
+    ensures value { result ≡ index_of stream }
+    ensures small { result < 2 ^ 60 }
+{
+    (stream.value() / 4) as usize
+}

@@ -1,0 +1,346 @@
+//! The receiving halves of the streams of one type.
+ghost use Rattle.std.specs.Prelude.{◌≡◌, ◌+◌, ◌≤◌, ◌<◌, ◌^◌, ◌++◌, [], length, drop, map, take, slice_get, slice_index_or, option_map, OnOk, OnErr, IsOk, IfOk, Ok};
+ghost use Rattle.std.specs.List.{sum_by};
+ghost use Rattle.qs_ranges.specs.Numbers.{MAX_VARINT};
+ghost use Rattle.qs_recv.specs.Lane.{new_lane, check_stream, check_reset, highest, highest_after, take_stream, take_reset, read_answer, bytes_read, after_read, raise, stop};
+ghost use Rattle.qs_recv.specs.Lawful.{IsLawful};
+ghost use Rattle.qs_conn.specs.Tables.{widened};
+ghost use Rattle.qs_conn.specs.Reports.{recv_report};
+ghost use Rattle.qs_conn.specs.Verdicts.{or_new};
+ghost use Rattle.qs_conn.specs.Layers.{changed, tally_of, tally_on, moved, IsPart, IsPaid, EachLawful, AreSettled, touch};
+
+use crate::report::RecvReport;
+use qs_ranges::NoMemory;
+use qs_recv::{ChunkAssembly, Highest, Read, RecvFault, RecvHalf};
+use std::alloc::Global;
+use std::marker::Model;
+
+type Half = RecvHalf<ChunkAssembly>;
+
+/// What lanes add to the connection's credit: the highest offsets, what was taken, and what is stored, in bytes.
+#[derive(Clone, Copy, Drop)]
+pub(crate) struct Tally {
+    pub(crate) spent: u64,
+    pub(crate) taken: u64,
+    pub(crate) stored: u64,
+}
+
+/// Which lanes may have a limit that is to be raised.
+#[derive(Clone, Copy, Drop)]
+pub(crate) enum Touched {
+    Nothing,
+    Lane(usize),
+    Several,
+}
+
+/// The receiving halves of the streams of one type, by index.
+#[derive(Drop)]
+pub(crate) struct RecvLanes {
+    alloc: Global,
+    halves: Vec<Half>,
+    tally: Tally,
+    touched: Touched,
+}
+
+// Clauses see the lanes.
+impl Model for RecvLanes {
+    ghost use Rattle.std.specs.Prelude.{List};
+    ghost use Rattle.std.specs.Coded.{coded_list};
+    ghost use Rattle.qs_recv.specs.Lane.{RecvLane, lane_code};
+    ghost use Rattle.qs_conn.specs.Layers.{AreCounted};
+
+    ghost Value = { List RecvLane };
+
+    ghost coded = { coded_list lane_code };
+
+    ghost view = { λ l. l.halves.items };
+
+    ghost invariant = { λ l. AreCounted l.halves.items l.tally l.touched };
+}
+
+impl RecvLanes {
+    pub(crate) fn new(alloc: Global) -> Self
+        ensures { result ≡ [] }
+    {
+        RecvLanes {
+            alloc,
+            halves: Vec::new(alloc),
+            tally: Tally {
+                spent: 0,
+                taken: 0,
+                stored: 0,
+            },
+            touched: Touched::Nothing,
+        }
+    }
+
+    /// How many lanes are open.
+    pub(crate) fn len(&self) -> usize
+        ensures value { result ≡ length self.now }
+        ensures small { result ≤ 2 ^ 60 }
+    {
+        self.halves.len()
+    }
+
+    /// The sums over all lanes.
+    pub(crate) fn tally(&self) -> Tally
+        ensures value { result ≡ tally_on self.now }
+        ensures paid { IsPaid result }
+        ensures lawful { EachLawful self.now }
+    {
+        self.tally
+    }
+
+    /// Whether a frame may be taken at an index, whose lane may have yet to be opened.
+    pub(crate) fn check_stream(
+        &self,
+        window: u64,
+        index: usize,
+        offset: u64,
+        len: u64,
+        fin: bool,
+    ) -> Result<Highest, RecvFault>
+        requires in_range { offset + len ≤ MAX_VARINT }
+        requires some { 1 ≤ window }
+        requires small { window ≤ 2 ^ 20 }
+        ensures value { result ≡ check_stream (or_new (slice_get self.now index) window) offset len fin }
+        ensures in_range { IfOk result (λ h. h.after ≤ MAX_VARINT) }
+    {
+        if let Some(half) = self.halves.get(index) {
+            half.check_stream(offset, len, fin)
+        } else {
+            let fresh: Half = RecvHalf::new(self.alloc, window);
+            fresh.check_stream(offset, len, fin)
+        }
+    }
+
+    /// Whether a reset may be taken at an index, whose lane may have yet to be opened.
+    pub(crate) fn check_reset(
+        &self,
+        window: u64,
+        index: usize,
+        size: u64,
+    ) -> Result<Highest, RecvFault>
+        requires in_range { size ≤ MAX_VARINT }
+        requires some { 1 ≤ window }
+        requires small { window ≤ 2 ^ 20 }
+        ensures { result ≡ check_reset (or_new (slice_get self.now index) window) size }
+    {
+        if let Some(half) = self.halves.get(index) {
+            half.check_reset(size)
+        } else {
+            let fresh: Half = RecvHalf::new(self.alloc, window);
+            fresh.check_reset(size)
+        }
+    }
+
+    /// Opens the lanes of all indexes below a count.
+    pub(crate) fn open_to(&mut self, window: u64, count: usize) -> Result<(), NoMemory>
+        requires some { 1 ≤ window }
+        requires small { window ≤ 2 ^ 20 }
+        requires few { count ≤ 2 ^ 60 }
+        ensures ok { OnOk result (self.new ≡ widened self.old count (λ i. new_lane window)) }
+        ensures err { OnErr result (self.new ≡ self.old) }
+    {
+        let before = self.halves.len();
+        let missing = count.saturating_sub(before);
+        for _opened in 0..missing {
+            let fresh: Half = RecvHalf::new(self.alloc, window);
+            if let Err(_refused) = self.halves.push(fresh) {
+                self.halves.truncate(before);
+                return Err(NoMemory);
+            }
+        }
+        Ok(())
+    }
+
+    /// Takes the memory for the lanes of all indexes below a count, and opens none.
+    pub(crate) fn reserve_to(&mut self, count: usize) -> Result<(), NoMemory>
+        ensures { self.new ≡ self.old }
+    {
+        let missing = count.saturating_sub(self.halves.len());
+        match self.halves.reserve(missing) {
+            Ok(()) => Ok(()),
+            Err(_refused) => Err(NoMemory),
+        }
+    }
+
+    /// Takes the lanes from a count on away, which nothing came for.
+    pub(crate) fn close_to(&mut self, count: usize)
+        requires { tally_on (take count self.old) ≡ tally_on self.old }
+        ensures { self.new ≡ take count self.old }
+    {
+        self.halves.truncate(count);
+    }
+
+    /// Takes a frame that passed the check, at an open lane; or changes nothing.
+    pub(crate) fn take_stream(
+        &mut self,
+        index: usize,
+        offset: u64,
+        bytes: &[u8],
+        fin: bool,
+    ) -> Result<(), NoMemory>
+        requires there { index < length self.old }
+        requires in_range { offset + length bytes.now ≤ MAX_VARINT }
+        requires passed { IsOk (check_stream (slice_index_or self.old index (new_lane 0)) offset (length bytes.now) fin) }
+        requires room { sum_by highest self.old + MAX_VARINT < 2 ^ 64 }
+        ensures ok { OnOk result (self.new ≡ changed self.old index (λ l. take_stream l offset bytes.now fin) (slice_get self.old index)) }
+        ensures grown { let lane = slice_index_or self.old index (new_lane 0) in
+            OnOk result (sum_by highest self.new + highest lane ≡ sum_by highest self.old + highest_after lane offset (length bytes.now) fin) }
+        ensures err { OnErr result (self.new ≡ self.old) }
+    {
+        let half = &mut self.halves[index];
+        let was = measure(half);
+        let stopped = half.stop_code().is_some();
+        if let Err(_refused) = half.take_stream(offset, bytes, fin) {
+            return Err(NoMemory);
+        }
+        let is = measure(half);
+        self.tally = moved(self.tally, was, is);
+        if stopped {
+            self.touched = touch(self.touched, index);
+        }
+        Ok(())
+    }
+
+    /// Takes a reset that passed the check, at an open lane.
+    pub(crate) fn take_reset(&mut self, index: usize, code: u64, size: u64)
+        requires there { index < length self.old }
+        requires in_range { size ≤ MAX_VARINT }
+        requires passed { IsOk (check_reset (slice_index_or self.old index (new_lane 0)) size) }
+        requires room { sum_by highest self.old + MAX_VARINT < 2 ^ 64 }
+        ensures after { self.new ≡ changed self.old index (λ l. take_reset l code size) (slice_get self.old index) }
+        ensures grown { sum_by highest self.new + highest (slice_index_or self.old index (new_lane 0)) ≡ sum_by highest self.old + size }
+    {
+        let half = &mut self.halves[index];
+        let was = measure(half);
+        half.take_reset(code, size);
+        let is = measure(half);
+        self.tally = moved(self.tally, was, is);
+    }
+
+    /// Reads at an open lane.
+    pub(crate) fn read(&mut self, index: usize, into: &mut [u8]) -> Read
+        requires there { index < length self.old }
+        requires room { sum_by highest self.old + MAX_VARINT < 2 ^ 64 }
+        ensures answer { result ≡ read_answer (slice_index_or self.old index (new_lane 0)) (length into.old) }
+        ensures bytes { let bytes = bytes_read (slice_index_or self.old index (new_lane 0)) (length into.old) in into.new ≡ bytes ++ drop (length bytes) into.old }
+        ensures after { self.new ≡ changed self.old index (λ l. after_read l (length into.old)) (slice_get self.old index) }
+        ensures same { sum_by highest self.new ≡ sum_by highest self.old }
+    {
+        let half = &mut self.halves[index];
+        let was = measure(half);
+        let answer = half.read(into);
+        let is = measure(half);
+        self.tally = moved(self.tally, was, is);
+        self.touched = touch(self.touched, index);
+        answer
+    }
+
+    /// Stops an open lane.
+    pub(crate) fn stop(&mut self, index: usize, code: u64)
+        requires there { index < length self.old }
+        requires room { sum_by highest self.old + MAX_VARINT < 2 ^ 64 }
+        ensures after { self.new ≡ changed self.old index (λ l. stop l code) (slice_get self.old index) }
+        ensures same { sum_by highest self.new ≡ sum_by highest self.old }
+    {
+        let half = &mut self.halves[index];
+        let was = measure(half);
+        half.stop(code);
+        let is = measure(half);
+        self.tally = moved(self.tally, was, is);
+        self.touched = touch(self.touched, index);
+    }
+
+    /// How a lane stands, where it is open.
+    pub(crate) fn report(&self, index: usize) -> Option<RecvReport>
+        ensures { result ≡ option_map recv_report (slice_get self.now index) }
+    {
+        let half = self.halves.get(index)?;
+        Some(RecvReport {
+            state: half.state(),
+            read_count: half.read_count(),
+            highest: half.highest(),
+            limit: half.limit(),
+            final_size: half.final_size(),
+        })
+    }
+
+    /// Each limit becomes the next one. Only lanes that were touched are looked at.
+    pub(crate) fn raise_all(&mut self)
+        ensures { self.new ≡ map raise self.old }
+    {
+        raise_touched(&mut self.halves, self.touched);
+        self.touched = Touched::Nothing;
+    }
+}
+
+// What a half adds to the sums.
+fn measure(half: &Half) -> Tally
+    ensures value { result ≡ tally_of half.now }
+    ensures small { result.spent ≤ MAX_VARINT }
+    ensures lawful { IsLawful half.now }
+    ensures paid { IsPaid result }
+{
+    half.is_lawful();
+    Tally {
+        spent: half.highest(),
+        taken: half.taken(),
+        stored: half.stored(),
+    }
+}
+
+// The sums once a lane's part became another.
+fn moved(total: Tally, was: Tally, is: Tally) -> Tally
+    requires part { IsPart was total }
+    requires room { total.spent + MAX_VARINT < 2 ^ 64 }
+    requires small { is.spent ≤ MAX_VARINT }
+    requires paid { IsPaid total }
+    requires paid_is { IsPaid is }
+    ensures { result ≡ moved total was is }
+{
+    Tally {
+        spent: total.spent - was.spent + is.spent,
+        taken: total.taken - was.taken + is.taken,
+        stored: total.stored - was.stored + is.stored,
+    }
+}
+
+// One lane more was touched.
+fn touch(touched: Touched, index: usize) -> Touched
+    ensures { result ≡ touch touched index }
+{
+    match touched {
+        Touched::Nothing => Touched::Lane(index),
+        Touched::Lane(before) if before == index => Touched::Lane(index),
+        _ => Touched::Several,
+    }
+}
+
+fn raise_touched(halves: &mut Vec<Half>, touched: Touched)
+    requires { AreSettled touched halves.old.items }
+    ensures { halves.new.items ≡ map raise halves.old.items }
+{
+    match touched {
+        Touched::Nothing => {}
+        Touched::Lane(index) => raise_one(halves, index),
+        Touched::Several => raise_each(halves),
+    }
+}
+
+fn raise_one(halves: &mut Vec<Half>, index: usize)
+    ensures { halves.new.items ≡ changed halves.old.items index raise (slice_get halves.old.items index) }
+{
+    if let Some(half) = halves.get_mut(index) {
+        let _ = half.raise();
+    }
+}
+
+fn raise_each(halves: &mut Vec<Half>)
+    ensures { halves.new.items ≡ map raise halves.old.items }
+{
+    for half in halves.iter_mut() {
+        let _ = half.raise();
+    }
+}

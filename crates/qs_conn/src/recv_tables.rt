@@ -1,0 +1,242 @@
+//! The receiving halves of an end.
+ghost use Rattle.std.specs.Prelude.{◌≡◌, ◌+◌, ◌≤◌, ◌<◌, ◌^◌, ◌++◌, length, drop, take, is_some, option_map, true, OnOk, OnErr, IsOk, IfOk};
+ghost use Rattle.qs_ranges.specs.Numbers.{MAX_VARINT};
+ghost use Rattle.qs_recv.specs.Lane.{new_lane, check_stream, check_reset, highest, taken, take_stream, take_reset, read_answer, bytes_read, after_read, raise, stop};
+ghost use Rattle.qs_conn.specs.Tables.{no_streams, table, with_table, lookup, updated, open_to, each, total, kind_of};
+ghost use Rattle.qs_conn.specs.Reports.{recv_report};
+ghost use Rattle.qs_conn.specs.Verdicts.{or_new};
+ghost use Rattle.qs_conn.specs.Layers.{stored_on, tally_on, IsPaid};
+
+use crate::places::{index_of, kind_of};
+use crate::recv_lanes::{RecvLanes, Tally};
+use crate::report::RecvReport;
+use qs_ranges::NoMemory;
+use qs_recv::{Highest, Read, RecvFault};
+use qs_wire::StreamId;
+use std::alloc::Global;
+use std::marker::Model;
+
+/// The receiving halves of an end, by the type of the stream and by its index.
+#[derive(Drop)]
+pub(crate) struct RecvTables {
+    // Of each of the four types, in the order of their bits.
+    types: [RecvLanes; 4],
+}
+
+impl Model for RecvTables {
+    ghost use Rattle.std.specs.Prelude.{◌≡◌, length};
+    ghost use Rattle.qs_recv.specs.Lane.{RecvLane};
+    ghost use Rattle.qs_conn.specs.Tables.{Tables};
+    ghost use Rattle.qs_recv.specs.Lane.{lane_code};
+    ghost use Rattle.qs_conn.specs.EndCodes.{tables_code};
+    ghost use Rattle.qs_conn.specs.Layers.{tables_of};
+
+    ghost Value = { Tables RecvLane };
+
+    ghost coded = { tables_code lane_code };
+
+    ghost view = { λ t. tables_of t.types };
+
+    ghost invariant = { λ t. length t.types ≡ 4 };
+}
+
+impl RecvTables {
+    pub(crate) fn new(alloc: Global) -> Self
+        ensures { result ≡ no_streams }
+    {
+        RecvTables {
+            types: [
+                RecvLanes::new(alloc),
+                RecvLanes::new(alloc),
+                RecvLanes::new(alloc),
+                RecvLanes::new(alloc),
+            ],
+        }
+    }
+
+    /// Whether the stream has a receiving half.
+    pub(crate) fn is_open(&self, stream: StreamId) -> bool
+        ensures { result ≡ is_some (lookup self.now stream) }
+    {
+        let lanes = &self.types[kind_of(stream)];
+        index_of(stream) < lanes.len()
+    }
+
+    /// Whether a frame may be taken, at a stream that may have yet to be opened with that window.
+    pub(crate) fn check_stream(
+        &self,
+        window: u64,
+        stream: StreamId,
+        offset: u64,
+        len: u64,
+        fin: bool,
+    ) -> Result<Highest, RecvFault>
+        requires in_range { offset + len ≤ MAX_VARINT }
+        requires some { 1 ≤ window }
+        requires small { window ≤ 2 ^ 20 }
+        ensures value { result ≡ check_stream (or_new (lookup self.now stream) window) offset len fin }
+        ensures in_range { IfOk result (λ h. h.after ≤ MAX_VARINT) }
+    {
+        let lanes = &self.types[kind_of(stream)];
+        lanes.check_stream(window, index_of(stream), offset, len, fin)
+    }
+
+    /// Whether a reset may be taken, at a stream that may have yet to be opened with that window.
+    pub(crate) fn check_reset(
+        &self,
+        window: u64,
+        stream: StreamId,
+        size: u64,
+    ) -> Result<Highest, RecvFault>
+        requires in_range { size ≤ MAX_VARINT }
+        requires some { 1 ≤ window }
+        requires small { window ≤ 2 ^ 20 }
+        ensures { result ≡ check_reset (or_new (lookup self.now stream) window) size }
+    {
+        let lanes = &self.types[kind_of(stream)];
+        lanes.check_reset(window, index_of(stream), size)
+    }
+
+    /// How many streams of the type of this one are open.
+    pub(crate) fn count(&self, stream: StreamId) -> usize
+        ensures { result ≡ length (table self.now (kind_of stream)) }
+    {
+        self.count_of(kind_of(stream))
+    }
+
+    /// How many streams of a type are open.
+    pub(crate) fn count_of(&self, kind: usize) -> usize
+        requires { kind < 4 }
+        ensures value { result ≡ length (table self.now kind) }
+        ensures small { result ≤ 2 ^ 60 }
+    {
+        let lanes = &self.types[kind];
+        lanes.len()
+    }
+
+    /// Takes the memory for a stream and all lower ones of its type, and opens none.
+    pub(crate) fn reserve(&mut self, stream: StreamId) -> Result<(), NoMemory>
+        ensures { self.new ≡ self.old }
+    {
+        let lanes = &mut self.types[kind_of(stream)];
+        lanes.reserve_to(index_of(stream) + 1)
+    }
+
+    /// Takes the streams of the type of this one from a count on away, which nothing came for.
+    pub(crate) fn close_to(&mut self, stream: StreamId, count: usize)
+        requires { let lanes = table self.old (kind_of stream) in tally_on (take count lanes) ≡ tally_on lanes }
+        ensures { self.new ≡ with_table self.old (kind_of stream) (take count (table self.old (kind_of stream))) }
+    {
+        let lanes = &mut self.types[kind_of(stream)];
+        lanes.close_to(count);
+    }
+
+    /// Opens a stream and all lower ones of its type.
+    pub(crate) fn open_to(&mut self, window: u64, stream: StreamId) -> Result<(), NoMemory>
+        requires some { 1 ≤ window }
+        requires small { window ≤ 2 ^ 20 }
+        ensures ok { OnOk result (self.new ≡ open_to self.old stream (λ m. new_lane window)) }
+        ensures err { OnErr result (self.new ≡ self.old) }
+    {
+        let lanes = &mut self.types[kind_of(stream)];
+        lanes.open_to(window, index_of(stream) + 1)
+    }
+
+    /// Takes a frame that passed the check, at an open stream; or changes nothing.
+    pub(crate) fn take_stream(
+        &mut self,
+        stream: StreamId,
+        offset: u64,
+        bytes: &[u8],
+        fin: bool,
+    ) -> Result<(), NoMemory>
+        requires open { is_some (lookup self.old stream) ≡ true }
+        requires in_range { offset + length bytes.now ≤ MAX_VARINT }
+        requires passed { IsOk (check_stream (or_new (lookup self.old stream) 0) offset (length bytes.now) fin) }
+        requires room { total highest self.old < 2 ^ 62 }
+        ensures ok { OnOk result (self.new ≡ updated self.old stream (λ l. take_stream l offset bytes.now fin) (lookup self.old stream)) }
+        ensures err { OnErr result (self.new ≡ self.old) }
+    {
+        let lanes = &mut self.types[kind_of(stream)];
+        lanes.take_stream(index_of(stream), offset, bytes, fin)
+    }
+
+    /// Takes a reset that passed the check, at an open stream.
+    pub(crate) fn take_reset(&mut self, stream: StreamId, code: u64, size: u64)
+        requires open { is_some (lookup self.old stream) ≡ true }
+        requires in_range { size ≤ MAX_VARINT }
+        requires passed { IsOk (check_reset (or_new (lookup self.old stream) 0) size) }
+        requires room { total highest self.old < 2 ^ 62 }
+        ensures { self.new ≡ updated self.old stream (λ l. take_reset l code size) (lookup self.old stream) }
+    {
+        let lanes = &mut self.types[kind_of(stream)];
+        lanes.take_reset(index_of(stream), code, size);
+    }
+
+    /// Reads at an open stream.
+    pub(crate) fn read(&mut self, stream: StreamId, into: &mut [u8]) -> Read
+        requires open { is_some (lookup self.old stream) ≡ true }
+        requires room { total highest self.old < 2 ^ 62 }
+        ensures answer { result ≡ read_answer (or_new (lookup self.old stream) 0) (length into.old) }
+        ensures bytes { let bytes = bytes_read (or_new (lookup self.old stream) 0) (length into.old) in into.new ≡ bytes ++ drop (length bytes) into.old }
+        ensures after { self.new ≡ updated self.old stream (λ l. after_read l (length into.old)) (lookup self.old stream) }
+    {
+        let lanes = &mut self.types[kind_of(stream)];
+        lanes.read(index_of(stream), into)
+    }
+
+    /// Stops an open stream.
+    pub(crate) fn stop(&mut self, stream: StreamId, code: u64)
+        requires open { is_some (lookup self.old stream) ≡ true }
+        requires room { total highest self.old < 2 ^ 62 }
+        ensures { self.new ≡ updated self.old stream (λ l. stop l code) (lookup self.old stream) }
+    {
+        let lanes = &mut self.types[kind_of(stream)];
+        lanes.stop(index_of(stream), code);
+    }
+
+    /// How a stream stands, where it is open.
+    pub(crate) fn report(&self, stream: StreamId) -> Option<RecvReport>
+        ensures { result ≡ option_map recv_report (lookup self.now stream) }
+    {
+        let lanes = &self.types[kind_of(stream)];
+        lanes.report(index_of(stream))
+    }
+
+    /// The sums over all streams.
+    pub(crate) fn tally(&self) -> Tally
+        requires { total highest self.now < 2 ^ 62 }
+        ensures spent { result.spent ≡ total highest self.now }
+        ensures taken { result.taken ≡ total taken self.now }
+        ensures stored { result.stored ≡ total stored_on self.now }
+        ensures paid { IsPaid result }
+    {
+        let bidi = sum(self.types[0].tally(), self.types[1].tally());
+        let uni = sum(self.types[2].tally(), self.types[3].tally());
+        sum(bidi, uni)
+    }
+
+    /// Each limit becomes the next one.
+    pub(crate) fn raise_all(&mut self)
+        ensures { self.new ≡ each raise self.old }
+    {
+        self.types[0].raise_all();
+        self.types[1].raise_all();
+        self.types[2].raise_all();
+        self.types[3].raise_all();
+    }
+}
+
+fn sum(a: Tally, b: Tally) -> Tally
+    requires paid_a { IsPaid a }
+    requires paid_b { IsPaid b }
+    requires small { a.spent + b.spent < 2 ^ 62 }
+    ensures value { result ≡ record { spent = a.spent + b.spent; taken = a.taken + b.taken; stored = a.stored + b.stored } }
+    ensures paid { IsPaid result }
+{
+    Tally {
+        spent: a.spent + b.spent,
+        taken: a.taken + b.taken,
+        stored: a.stored + b.stored,
+    }
+}
