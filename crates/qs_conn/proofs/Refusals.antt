@@ -10,8 +10,7 @@ use Rattle.qs_conn.specs.declared.closing.Received.TheVariants as received
 use Rattle.qs_conn.specs.Ends.{End, is_own, is_uni}
 use Rattle.qs_conn.specs.Seen.{Seen, Ack, Stream, Control, Close, Plain}
 use Rattle.qs_conn.specs.Verdicts.{STREAM_LIMIT_ERROR, STREAM_STATE_ERROR, verdict, or_else, fault_if, state_fault_in, state_fault_out, credit_fault}
-use Rattle.qs_conn.specs.FrameStep.{acks}
-use Rattle.qs_conn.specs.Receiving.{Stops}
+use Rattle.qs_conn.specs.Receiving.{Stops, RunsOut}
 use Rattle.qs_conn.specs.Layers.{close_code}
 
 -- A code with which a frame may close the connection.
@@ -64,10 +63,9 @@ small e (Plain asks) = tt
 pub code_fits : (e : End) (f : Seen) (code : ℕ) → verdict e f ≡ Some code → code < 2 ^ 62
 code_fits e f code is = subst Small is (small e f)
 
--- without memory nothing takes effect
-pub runs_out : (p : PlacedValue) (f : Seen) (e new : End) → close_code f ≡ None → verdict e f ≡ None → new ≡ e → Stops p f e (Ok received.NoMemory) new
-unfolding acks
-runs_out p (Ack largest ranges) e new goes passed is = (passed, (0, is))
+-- a frame that found no memory ends the processing
+pub runs_out : (p : PlacedValue) (f : Seen) (e new : End) → close_code f ≡ None → verdict e f ≡ None → RunsOut e f new → Stops p f e (Ok received.NoMemory) new
+runs_out p (Ack largest ranges) e new goes passed is = (passed, is)
 runs_out p (Stream n offset bytes fin) e new goes passed is = (passed, is)
 runs_out p (Control item) e new goes passed is = (passed, is)
 runs_out p (Close code) e new goes passed is = absurd (search (rules, goes))

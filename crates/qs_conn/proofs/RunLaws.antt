@@ -8,7 +8,7 @@ use Rattle.std.specs.FinSet as set
 use Rattle.std.proofs.lemmas.Bool.{both_ways, cases_lt, or_cases, or_left, or_right, eqb-true, eq-eqb}
 use Rattle.std.proofs.lemmas.Bool.Decides.{nat_tests}
 use Rattle.qs_ranges.specs.Numbers.{NumberSet, numbers, is_within, missing_from, IsLeastFrom, IsRunFrom, contains-with_range, same_numbers}
-use Rattle.qs_ranges.proofs.Sets.{missing_from-of}
+use Rattle.qs_ranges.proofs.Sets.{missing_from-is, missing_from-of}
 use Rattle.qs_conn.specs.Recording.{least_of, least_in, lowest_end}
 
 is_itself : (x : ℕ) → eq_by_cmp nat_cmp x x ≡ true
@@ -58,6 +58,34 @@ least_among (k ∷ ks) m is none =
 pub least_member : (s : NumberSet) (m : ℕ) → IsLeastFrom s 0 m → least_in (set.items s) ≡ m
 least_member s m h =
     least_among (set.items s) m (sym (set.contains-items s m) ∙ h.member) (λ q lt. sym (set.contains-items s q) ∙ h.none_before q (omega arith) lt)
+
+-- where a number is listed, the least one is, and none below it
+least_listed : (n : ℕ) (ks : List ℕ) → list_any (eq_by_cmp nat_cmp n) ks ≡ true → (list_any (eq_by_cmp nat_cmp (least_in ks)) ks ≡ true) × ((q : ℕ) → q < least_in ks → list_any (eq_by_cmp nat_cmp q) ks ≡ false)
+least_listed n [] has = absurd (both_ways false refl has)
+least_listed n (k ∷ ks) has = (
+  elim (least_is_one k ks) [
+    | inl first ↦ or_left _ _ (ap (λ x. eq_by_cmp nat_cmp x k) first ∙ is_itself k)
+    | inr later ↦ or_right _ _ later
+  ],
+  λ q lt. go q lt (list_any (eq_by_cmp nat_cmp q) (k ∷ ks)) refl,
+)
+  where
+    go : (q : ℕ) → q < least_of k ks → (b : Bool) → list_any (eq_by_cmp nat_cmp q) (k ∷ ks) ≡ b → b ≡ false
+    go q lt false is = refl
+    go q lt true is =
+        elim (or_cases _ _ is) [
+          | inl here ↦ (let e : q ≡ k = eqb-true q k (sym (unsigned_tied q k) ∙ here) in absurd (omega (arith, lt, least_le k ks)))
+          | inr later ↦ absurd (omega (arith, lt, least_below k q ks later))
+        ]
+
+-- a set with a member has a lowest run
+pub lowest_run : (s : NumberSet) (n : ℕ) → set.contains s n ≡ true → IsRunFrom s 0 (least_in (set.items s), missing_from s (least_in (set.items s)))
+lowest_run s n has =
+    let listed = least_listed n (set.items s) (sym (set.contains-items s n) ∙ has) in
+    record {
+      starts = record { from = omega arith; member = set.contains-items s _ ∙ listed.0; none_before = λ q ge lt. set.contains-items s q ∙ listed.1 q lt };
+      ends = missing_from-is s (least_in (set.items s));
+    }
 
 -- the lowest run ends where a search for runs says
 pub lowest_end_is : (s : NumberSet) (run : ℕ × ℕ) → IsRunFrom s 0 run → lowest_end s ≡ run.1

@@ -12,9 +12,9 @@ use Rattle.qs_conn.specs.Tables.{Tables, table, with_table, lookup, update, upda
 use Rattle.qs_conn.specs.Verdicts.{or_new}
 use Rattle.qs_send.specs.declared.parts.SendFault.{SendFault}
 use Rattle.qs_send.specs.declared.parts.SendFault.TheVariants.{NoMemory}
-use Rattle.qs_send.specs.Lane.{SendLane, accepted, refusal, write_lane}
+use Rattle.qs_send.specs.Lane.{Sending, accepted, refusal, after_write}
 use Rattle.qs_conn.proofs.Tallies.{tally_opened}
-use Rattle.qs_conn.specs.Layers.{tables_of, tally_on, changed, no_lane, or_none}
+use Rattle.qs_conn.specs.Layers.{tables_of, tally_on, changed, no_sending, or_no_sending}
 
 pub or_new_is : (xs : List RecvLane) (i w : ℕ) → or_new (slice_get xs i) w ≡ get_or xs i (new_lane w)
 or_new_is [] i w = refl
@@ -216,31 +216,41 @@ lane_is ls n k i d w len kind index = ap (λ o. or_new o w) (lookup_is ls n k i 
 pub lane_looked : (ls : List (List RecvLane)) (n k i : ℕ) (d : List RecvLane) (w : ℕ) → length ls ≡ 4 → k ≡ n % 4 → i ≡ n / 4 → or_new (slice_get (get_or ls k d) i) w ≡ or_new (lookup (tables_of ls) n) w
 lane_looked ls n k i d w len kind index = ap (λ o. or_new o w) (sym (lookup_is ls n k i d len kind index))
 
-or_none_is : (xs : List SendLane) (i : ℕ) → or_none (slice_get xs i) ≡ get_or xs i no_lane
-or_none_is [] i = refl
-or_none_is (x ∷ xs) zero = refl
-or_none_is (x ∷ xs) (suc i) = or_none_is xs i
+or_no_sending_is : (xs : List Sending) (i : ℕ) → or_no_sending (slice_get xs i) ≡ get_or xs i no_sending
+or_no_sending_is [] i = refl
+or_no_sending_is (x ∷ xs) zero = refl
+or_no_sending_is (x ∷ xs) (suc i) = or_no_sending_is xs i
 
-pub send_lane_is : (ls : List (List SendLane)) (n k i : ℕ) (d : List SendLane) → length ls ≡ 4 → k ≡ n % 4 → i ≡ n / 4 → or_none (lookup (tables_of ls) n) ≡ get_or (get_or ls k d) i no_lane
-send_lane_is ls n k i d len kind index = ap or_none (lookup_is ls n k i d len kind index) ∙ or_none_is (get_or ls k d) i
+pub half_is : (ls : List (List Sending)) (n k i : ℕ) (d : List Sending) → length ls ≡ 4 → k ≡ n % 4 → i ≡ n / 4 → or_no_sending (lookup (tables_of ls) n) ≡ get_or (get_or ls k d) i no_sending
+half_is ls n k i d len kind index = ap or_no_sending (lookup_is ls n k i d len kind index) ∙ or_no_sending_is (get_or ls k d) i
 
-pub written_is : (ls : List (List SendLane)) (n k i : ℕ) (d ys : List SendLane) (bytes : List ℕ) (r : Result ℕ SendFault) → length ls ≡ 4 → k ≡ n % 4 → i ≡ n / 4
-    → (let lane = get_or (get_or ls k d) i no_lane in
-    IfOk r (λ m. (refusal lane ≡ None) × (m ≡ accepted lane (length bytes)) × (ys ≡ changed (get_or ls k d) i (λ l. write_lane l (take m bytes)) (slice_get (get_or ls k d) i))))
-    → (let lane = or_none (lookup (tables_of ls) n) in
-    IfOk r (λ m. (refusal lane ≡ None) × (m ≡ accepted lane (length bytes)) × (tables_of (set ls k ys) ≡ updated (tables_of ls) n (λ l. write_lane l (take m bytes)) (lookup (tables_of ls) n))))
+half_got : (xs : List Sending) (i : ℕ) → i < length xs → slice_get xs i ≡ Some (get_or xs i no_sending)
+half_got [] i lt = absurd (omega (arith, lt))
+half_got (x ∷ xs) zero lt = refl
+half_got (x ∷ xs) (suc i) lt = half_got xs i (omega (arith, lt))
+
+pub half_at : (ls : List (List Sending)) (n k i : ℕ) (d : List Sending) (s : Sending) → length ls ≡ 4 → k ≡ n % 4 → i ≡ n / 4 → is_some (lookup (tables_of ls) n) ≡ true
+    → s ≡ get_or (get_or ls k d) i no_sending → lookup (tables_of ls) n ≡ Some s
+half_at ls n k i d s len kind index is at =
+    lookup_is ls n k i d len kind index ∙ half_got (get_or ls k d) i (open_there ls n k i d len kind index is) ∙ ap (λ x. Some x) (sym at)
+
+pub written_is : (ls : List (List Sending)) (n k i : ℕ) (d ys : List Sending) (bytes : List ℕ) (r : Result ℕ SendFault) → length ls ≡ 4 → k ≡ n % 4 → i ≡ n / 4
+    → (let half = get_or (get_or ls k d) i no_sending in
+    IfOk r (λ m. (refusal half.lane ≡ None) × (m ≡ accepted half.lane (length bytes)) × (ys ≡ changed (get_or ls k d) i (λ s. after_write s (take m bytes)) (slice_get (get_or ls k d) i))))
+    → (let half = or_no_sending (lookup (tables_of ls) n) in
+    IfOk r (λ m. (refusal half.lane ≡ None) × (m ≡ accepted half.lane (length bytes)) × (tables_of (set ls k ys) ≡ updated (tables_of ls) n (λ s. after_write s (take m bytes)) (lookup (tables_of ls) n))))
 written_is ls n k i d ys bytes (Ok m) len kind index h =
-    let e = send_lane_is ls n k i d len kind index in
-    (ap refusal e ∙ h.0, h.1 ∙ ap (λ l. accepted l (length bytes)) (sym e), updated_is ls n k i d ys (λ l. write_lane l (take m bytes)) len kind index h.2)
+    let e = half_is ls n k i d len kind index in
+    (ap (λ (s : Sending). refusal s.lane) e ∙ h.0, h.1 ∙ ap (λ (s : Sending). accepted s.lane (length bytes)) (sym e), updated_is ls n k i d ys (λ s. after_write s (take m bytes)) len kind index h.2)
 written_is ls n k i d ys bytes (Err f) len kind index h = tt
 
-pub refused_is : (ls : List (List SendLane)) (n k i : ℕ) (d ys : List SendLane) (r : Result ℕ SendFault) → length ls ≡ 4 → k ≡ n % 4 → i ≡ n / 4
-    → IfErr r (λ f. (ys ≡ get_or ls k d) × (f ≡ unwrap_or (refusal (get_or (get_or ls k d) i no_lane)) NoMemory))
-    → IfErr r (λ f. (tables_of (set ls k ys) ≡ tables_of ls) × (f ≡ unwrap_or (refusal (or_none (lookup (tables_of ls) n))) NoMemory))
+pub refused_is : (ls : List (List Sending)) (n k i : ℕ) (d ys : List Sending) (r : Result ℕ SendFault) → length ls ≡ 4 → k ≡ n % 4 → i ≡ n / 4
+    → IfErr r (λ f. (ys ≡ get_or ls k d) × (f ≡ unwrap_or (refusal (get_or (get_or ls k d) i no_sending).lane) NoMemory))
+    → IfErr r (λ f. (tables_of (set ls k ys) ≡ tables_of ls) × (f ≡ unwrap_or (refusal (or_no_sending (lookup (tables_of ls) n)).lane) NoMemory))
 refused_is ls n k i d ys (Ok m) len kind index h = tt
 refused_is ls n k i d ys (Err f) len kind index h = (
   ap (λ l. tables_of (set ls k l)) h.0 ∙ ap tables_of (set-get_or ls k d),
-  h.1 ∙ ap (λ l. unwrap_or (refusal l) NoMemory) (sym (send_lane_is ls n k i d len kind index)),
+  h.1 ∙ ap (λ (s : Sending). unwrap_or (refusal s.lane) NoMemory) (sym (half_is ls n k i d len kind index)),
 )
 
 -- lanes that were opened, or weren't, add nothing to the sums

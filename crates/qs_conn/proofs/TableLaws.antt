@@ -48,15 +48,15 @@ module _ {X : Type 0} where
   lookup_same t n x y e = ap (λ xs. slice_get xs (n / 4)) (table_same t (n % 4) _) ∙ get_set_same (table t (n % 4)) (n / 4) x y e
 
   -- a change of one type's list leaves the others
-  with_other : (t : Tables X) (n m : ℕ) (xs : List X) → m % 4 ≢ n % 4 → lookup (with_table t (n % 4) xs) m ≡ lookup t m
+  pub with_other : (t : Tables X) (n m : ℕ) (xs : List X) → m % 4 ≢ n % 4 → lookup (with_table t (n % 4) xs) m ≡ lookup t m
   unfolding lookup
   with_other t n m xs ne = ap (λ ys. slice_get ys (m / 4)) (table_other t (n % 4) (m % 4) xs (omega arith) (omega arith) ne)
 
-  with_same : (t : Tables X) (n m : ℕ) (xs : List X) → m % 4 ≡ n % 4 → lookup (with_table t (n % 4) xs) m ≡ slice_get xs (m / 4)
+  pub with_same : (t : Tables X) (n m : ℕ) (xs : List X) → m % 4 ≡ n % 4 → lookup (with_table t (n % 4) xs) m ≡ slice_get xs (m / 4)
   unfolding lookup
   with_same t n m xs e = rw e (ap (λ ys. slice_get ys (m / 4)) (table_same t (n % 4) xs))
 
-  lookup_in : (t : Tables X) (n m : ℕ) → m % 4 ≡ n % 4 → lookup t m ≡ slice_get (table t (n % 4)) (m / 4)
+  pub lookup_in : (t : Tables X) (n m : ℕ) → m % 4 ≡ n % 4 → lookup t m ≡ slice_get (table t (n % 4)) (m / 4)
   unfolding lookup
   lookup_in t n m e = rw e refl
 

@@ -8,14 +8,15 @@ use Rattle.qs_recv.specs.declared.half.Highest.{Highest}
 use Rattle.qs_recv.specs.declared.half.RecvFault.{RecvFault}
 use Rattle.qs_conn.specs.Credit.{grant}
 use Rattle.qs_conn.specs.Tables.{Tables, table, with_table, lookup, updated, open_to, index_of}
-use Rattle.qs_conn.specs.Ends.{End, window, opens, is_own, is_uni, send_lane, opened_by_peer, first_send_limit}
+use Rattle.qs_conn.specs.Outgoing.{Outgoing, with_outgoing, with_sends, sent_sum, AreOfOpen}
+use Rattle.qs_conn.specs.Ends.{End, Records, window, opens, is_own, is_uni, send_lane, opened_by_peer, first_send_limit}
 use Rattle.qs_conn.specs.Seen.{Stream, Control}
 use Rattle.qs_conn.specs.Verdicts.{verdict, state_fault_in, state_fault_out, credit_fault, or_else, or_new, lane_of, fault_if, STREAM_LIMIT_ERROR}
 use Rattle.qs_conn.specs.FrameStep.{frame_taken}
 use Rattle.qs_conn.specs.Standing.{KeepsCredit, IsSound}
 use Rattle.qs_conn.specs.Layers.{tally_on}
 use Rattle.qs_conn.proofs.TableEdits.{opened_closed, same_tally}
-use Rattle.qs_conn.proofs.TableLaws.{open_at}
+use Rattle.qs_conn.proofs.TableLaws.{open_at, total_open}
 use Rattle.qs_conn.proofs.FramesSound.{opened_lane, sound_frame}
 
 sends_of : (e o : End) (a : Bool) → (cond a e o).sends ≡ cond a e.sends o.sends
@@ -99,7 +100,7 @@ nested : {X : Type 0} (a b : Bool) (x y : X) → cond a x (cond b x y) ≡ cond 
 nested true b x y = refl
 nested false b x y = refl
 
-mid_sends : (e mid : End) (n : ℕ) → mid ≡ opened_by_peer n e
+pub mid_sends : (e mid : End) (n : ℕ) → mid ≡ opened_by_peer n e
     → mid.sends ≡ cond (is_own e n || (is_uni n && not (is_own e n))) e.sends (open_to e.sends n (λ m. new_send_lane m (first_send_limit e n) e.settings.send_buffer))
 mid_sends e mid n is = ap (λ (k : End). k.sends) is ∙ sends_of e (opens n e) (is_own e n) ∙ nested (is_own e n) (is_uni n && not (is_own e n)) e.sends _
 
@@ -138,3 +139,48 @@ back_sound e mid n recvs sound is same =
     by_own : (a : Bool) → KeepsCredit (cond a e (opens n e)).role (cond a e (opens n e)).settings e.recvs (cond a e (opens n e)).granted
     by_own true = sound
     by_own false = sound
+
+-- The sending side, once what was opened is closed again
+
+pub sum_open : (t : Tables SendLane) (n limit buffer : ℕ) (b : Bool) → sent_sum (cond b t (open_to t n (λ m. new_send_lane m limit buffer))) ≡ sent_sum t
+sum_open t n limit buffer true = refl
+sum_open t n limit buffer false = total_open (λ (l : SendLane). l.sent_end) t n (λ m. new_send_lane m limit buffer) (λ j. refl)
+
+out_peer : (e : End) (n : ℕ) (b : Bool) → (cond b e (opens n e)).outstanding ≡ e.outstanding
+out_peer e n true = refl
+out_peer e n false = refl
+
+pub peer_none : (e mid : End) (n m : ℕ) → mid ≡ opened_by_peer n e → m ≡ length (table e.sends (n % 4)) → AreOfOpen e.sends e.outstanding
+    → AreOfOpen (with_table mid.sends (n % 4) (take m (table mid.sends (n % 4)))) mid.outstanding
+peer_none e mid n m is len h =
+    subst (λ (t : Tables SendLane). AreOfOpen t mid.outstanding) (sym (sends_back e mid n m _ is len refl))
+    (subst (λ (r : Records). AreOfOpen e.sends r) (sym (ap (λ (k : End). k.outstanding) is ∙ out_peer e n (is_own e n))) h)
+
+pub peer_unsent : (e mid : End) (n m : ℕ) → mid ≡ opened_by_peer n e → m ≡ length (table e.sends (n % 4)) → sent_sum (with_table mid.sends (n % 4) (take m (table mid.sends (n % 4)))) ≡ sent_sum mid.sends
+peer_unsent e mid n m is len =
+    ap sent_sum (sends_back e mid n m _ is len refl)
+    ∙ sym (ap sent_sum (mid_sends e mid n is) ∙ sum_open e.sends n (first_send_limit e n) e.settings.send_buffer (is_own e n || (is_uni n && not (is_own e n))))
+
+-- the sending side of an end
+abbrev side_of : End → ℕ → Outgoing
+side_of e spare = record { sends = e.sends; next = e.next; outstanding = e.outstanding; acked = e.acked; spare = spare }
+
+pub restored_out : (e mid : End) (n m spare : ℕ) (now : Outgoing) (recvs : Tables RecvLane) → mid ≡ opened_by_peer n e → m ≡ length (table e.sends (n % 4))
+    → now ≡ with_sends (with_table mid.sends (n % 4) (take m (table mid.sends (n % 4)))) (side_of mid spare) → recvs ≡ e.recvs → with_outgoing now (record mid { recvs = recvs }) ≡ e
+restored_out e mid n m spare now recvs is len cut q =
+    ap (λ (x : Outgoing). with_outgoing x (record mid { recvs = recvs })) cut
+    ∙ restored e mid n (with_table mid.sends (n % 4) (take m (table mid.sends (n % 4)))) recvs is (sends_back e mid n m _ is len refl) q
+
+module _ (o mid : Outgoing) (n m limit buffer : ℕ) (b : Bool) (is : mid ≡ with_sends (cond b o.sends (open_to o.sends n (λ j. new_send_lane j limit buffer))) o) (len : m ≡ length (table o.sends (n % 4))) where
+  cut_back : with_table mid.sends (n % 4) (take m (table mid.sends (n % 4))) ≡ o.sends
+  cut_back = opened_closed o.sends n (λ j. new_send_lane j limit buffer) b mid.sends _ m (ap (λ (x : Outgoing). x.sends) is) len refl
+
+  pub none_back : AreOfOpen o.sends o.outstanding → AreOfOpen (with_table mid.sends (n % 4) (take m (table mid.sends (n % 4)))) mid.outstanding
+  none_back h =
+      subst (λ (t : Tables SendLane). AreOfOpen t mid.outstanding) (sym cut_back) (subst (λ (r : Records). AreOfOpen o.sends r) (sym (ap (λ (x : Outgoing). x.outstanding) is)) h)
+
+  pub unsent_back : sent_sum (with_table mid.sends (n % 4) (take m (table mid.sends (n % 4)))) ≡ sent_sum mid.sends
+  unsent_back = ap sent_sum cut_back ∙ sym (ap (λ (x : Outgoing). sent_sum x.sends) is ∙ sum_open o.sends n limit buffer b)
+
+  pub out_back : (now : Outgoing) → now ≡ with_sends (with_table mid.sends (n % 4) (take m (table mid.sends (n % 4)))) mid → now ≡ o
+  out_back now cut = cut ∙ ap (λ (t : Tables SendLane). with_sends t mid) cut_back ∙ ap (with_sends o.sends) is

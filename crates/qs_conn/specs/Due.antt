@@ -1,5 +1,5 @@
 -- What is to be sent: bytes, ends, control items and the ACK (RFC 9000, sections 4, 13.2 and 13.3).
-use Rattle.std.specs.Prelude.{◌≡◌, ℕ, ◌+◌, ◌<◌, ◌≤◌, true, false, List, [], ◌∷◌, ◌⊎◌, Option, Some, None}
+use Rattle.std.specs.Prelude.{◌≡◌, ℕ, ◌+◌, ◌<◌, ◌≤◌, true, false, ◌⊎◌, Option, Some, None}
 use Rattle.std.specs.FinMap as fmap
 use Rattle.std.specs.FinSet as set
 use Rattle.qs_wire.specs.declared.stream_id.Dir.{Dir}
@@ -11,13 +11,14 @@ use Rattle.qs_send.specs.declared.piece.Item.{Item}
 use Rattle.qs_send.specs.declared.piece.Item.TheVariants.{MaxData, MaxStreamData, MaxStreams, ResetStream, StopSending, DataBlocked, StreamDataBlocked, StreamsBlocked}
 use Rattle.qs_send.specs.declared.piece.Piece.{Piece}
 use Rattle.qs_send.specs.declared.piece.Piece.TheVariants.{Data, Told}
-use Rattle.qs_send.specs.Records.{Among}
+pub use Rattle.qs_send.specs.Records.{Among}
+use Rattle.qs_send.specs.Records.{IsCarried}
 use Rattle.qs_conn.specs.Ends.{End, send_lane, recv_lane, window}
 use Rattle.qs_conn.specs.Credit.{all_sent}
 
 -- some outstanding packet carried the piece
 abbrev pub IsOutstanding : End → Piece → Type 0
-IsOutstanding e p = (k : ℕ) × (ps : List Piece) × (fmap.get e.outstanding k ≡ Some ps) × Among p ps
+IsOutstanding e p = IsCarried e.outstanding p
 
 -- the offset of a stream is in an outstanding packet
 abbrev pub IsInFlight : End → ℕ → ℕ → Type 0

@@ -10,7 +10,7 @@ use Rattle.qs_wire.specs.declared.stream_id.Role.{Role}
 use Rattle.qs_wire.specs.declared.stream_id.Role.TheVariants.{Client, Server}
 use Rattle.qs_recv.specs.Lane.{RecvLane, lane_code as recv_code}
 use Rattle.qs_send.specs.Lane.{SendLane, lane_code as send_code}
-use Rattle.qs_send.specs.PieceCodes.{piece_code}
+use Rattle.qs_send.specs.Records.{packet_pieces_code}
 use Rattle.qs_conn.specs.declared.settings.Settings.{Settings}
 use Rattle.qs_conn.specs.declared.settings.PeerLimits.{PeerLimits}
 use Rattle.qs_conn.specs.declared.closing.Closing.{Closing}
@@ -18,6 +18,7 @@ use Rattle.qs_conn.specs.declared.closing.Closed.{Closed}
 use Rattle.qs_conn.specs.declared.closing.Closed.TheVariants.{ByUs, ByPeer}
 use Rattle.qs_conn.specs.Tables.{Tables}
 use Rattle.qs_conn.specs.Ends.{End, Records, AckedItems}
+use Rattle.qs_conn.specs.Outgoing.{Outgoing}
 
 -- Roles, settings, closings
 
@@ -73,11 +74,6 @@ closed_back (ByPeer code) = refl
 abbrev pub closed_code : Coded Closed
 closed_code = code_by (Closing ⊎ ℕ) (coded⊎ closing_code coded_ℕ) closed_cases closed_of closed_back
 
--- Packets
-
-abbrev pub records_code : Coded Records
-records_code = fmap.code coded_ℕ (coded_list piece_code)
-
 -- Ends
 
 abbrev pub tables_code : {X : Type 0} → Coded X → Coded (Tables X)
@@ -122,7 +118,7 @@ end_code =
     (coded× (coded× (tables_code send_code) (coded× (tables_code recv_code) (coded× coded_ℕ (coded× coded_ℕ (coded× (coded_option coded_ℕ) (coded_option coded_ℕ))))))
     (coded× (coded× coded_ℕ (coded× coded_ℕ (coded× coded_ℕ coded_ℕ)))
     (coded× (coded× (set.code coded_ℕ) (coded× coded_ℕ coded_bool))
-    (coded× coded_ℕ (coded× records_code acked_code))))))
+    (coded× coded_ℕ (coded× packet_pieces_code acked_code))))))
     (λ e. (
       (e.role, (e.settings, (e.peer, e.closed))),
       (
@@ -158,4 +154,14 @@ end_code =
       outstanding = p.1.1.1.1.1.0;
       acked = p.1.1.1.1.1.1;
     })
+    (λ _. refl)
+
+-- The sending side
+
+abbrev pub outgoing_code : Coded Outgoing
+outgoing_code =
+    code_by (Tables SendLane × (ℕ × (Records × (AckedItems × ℕ))))
+    (coded× (tables_code send_code) (coded× coded_ℕ (coded× packet_pieces_code (coded× acked_code coded_ℕ))))
+    (λ o. (o.sends, (o.next, (o.outstanding, (o.acked, o.spare)))))
+    (λ p. record { sends = p.0; next = p.1.0; outstanding = p.1.1.0; acked = p.1.1.1.0; spare = p.1.1.1.1 })
     (λ _. refl)

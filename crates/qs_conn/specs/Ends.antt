@@ -1,5 +1,5 @@
 -- One end of a connection: its streams, its credit and its packets (RFC 9000, sections 2 to 4 and 13).
-use Rattle.std.specs.Prelude.{ℕ, ◌%◌, Bool, false, not, ◌&&◌, ◌==◌, nat_le, List, Option, None, Some, Result, Ok, Err, if◌then◌else◌}
+use Rattle.std.specs.Prelude.{ℕ, ◌%◌, Bool, false, not, ◌&&◌, ◌==◌, nat_le, Option, None, Some, Result, Ok, Err, if◌then◌else◌}
 use Rattle.std.specs.Ordering.{nat_cmp}
 use Rattle.std.specs.FinMap as fmap
 use Rattle.std.specs.FinSet as set
@@ -8,7 +8,7 @@ use Rattle.qs_wire.specs.declared.stream_id.Role.{Role}
 use Rattle.qs_wire.specs.declared.stream_id.Role.TheVariants.{Client, Server}
 use Rattle.qs_recv.specs.Lane.{RecvLane, new_lane as new_recv_lane}
 use Rattle.qs_send.specs.Lane.{SendLane, new_lane as new_send_lane}
-use Rattle.qs_send.specs.declared.piece.Piece.{Piece}
+use Rattle.qs_send.specs.Records.{PacketPieces}
 use Rattle.qs_conn.specs.declared.settings.Settings.{Settings}
 use Rattle.qs_conn.specs.declared.settings.PeerLimits.{PeerLimits}
 use Rattle.qs_conn.specs.declared.settings.SetupFault.{SetupFault}
@@ -18,7 +18,7 @@ use Rattle.qs_conn.specs.Tables.{Tables, no_streams, kind_of, lookup, updated, o
 
 -- the pieces of packets, by packet number
 abbrev pub Records : Type 0
-Records = fmap.FinMap nat_cmp (List Piece)
+Records = PacketPieces
 
 -- the greatest value acknowledged of each control item that was; of a RESET_STREAM the sending lane tells it
 pub record AckedItems : Type 0 where

@@ -11,8 +11,8 @@ use Rattle.qs_send.specs.declared.piece.Item.{Item}
 use Rattle.qs_send.specs.declared.piece.Item.TheVariants.{MaxData, MaxStreamData, MaxStreams, ResetStream, StopSending, DataBlocked, StreamDataBlocked, StreamsBlocked}
 use Rattle.qs_send.specs.declared.piece.Piece.{Piece}
 use Rattle.qs_send.specs.declared.piece.Piece.TheVariants.{Data, Told}
-use Rattle.qs_send.specs.Records.{without_first}
-use Rattle.qs_conn.specs.Ends.{End, Records, AckedItems, on_send, on_recv, opened_by_peer}
+pub use Rattle.qs_send.specs.Records.{without_first}
+use Rattle.qs_conn.specs.Ends.{End, AckedItems, on_send, on_recv, opened_by_peer}
 use Rattle.qs_conn.specs.Seen.{Seen, Ack, Stream, Control, Close, Plain}
 use Rattle.qs_conn.specs.Verdicts.{verdict}
 

@@ -4,9 +4,9 @@ use Rattle.std.specs.List.{sum_by}
 use Rattle.std.specs.FinMap as fmap
 use Rattle.qs_ranges.specs.Numbers.{MAX_VARINT}
 use Rattle.qs_wire.specs.declared.stream_id.Role.{Role}
-use Rattle.qs_recv.specs.Lane.{RecvLane, highest, taken, raised_limit}
+use Rattle.qs_recv.specs.Lane.{RecvLane, is_whole, highest, taken, raised_limit}
 use Rattle.qs_recv.specs.Lawful.{IsLawful}
-use Rattle.qs_send.specs.Lane.{SendLane, new_lane as new_send_lane}
+use Rattle.qs_send.specs.Lane.{SendLane, Sending, new_sending, new_lane as new_send_lane}
 use Rattle.qs_conn.specs.declared.recv_lanes.Tally.{Tally}
 use Rattle.qs_conn.specs.declared.recv_lanes.Touched.{Touched}
 use Rattle.qs_conn.specs.declared.recv_lanes.Touched.TheVariants.{Nothing, Lane, Several}
@@ -41,8 +41,26 @@ abbrev pub or_none : Option SendLane → SendLane
 or_none None = no_lane
 or_none (Some lane) = lane
 
+-- a sending half where none is
+abbrev pub no_sending : Sending
+no_sending = new_sending 0 0 0
+
+abbrev pub or_no_sending : Option Sending → Sending
+or_no_sending None = no_sending
+or_no_sending (Some s) = s
+
 abbrev pub stored_on : RecvLane → ℕ
 stored_on lane = fmap.len lane.arrived.stored
+
+-- the limit of a lane of which no final size is known
+abbrev pub limit_to_tell : Option RecvLane → Option ℕ
+limit_to_tell None = None
+limit_to_tell (Some lane) = if is_some lane.final_size then None else Some lane.limit
+
+-- the code of a stop, while more may come (RFC 9000, section 3.5)
+abbrev pub stop_to_tell : Option RecvLane → Option ℕ
+stop_to_tell None = None
+stop_to_tell (Some lane) = if is_some lane.reset_code then None else (if is_whole lane then None else lane.stop_code)
 
 -- what a lane adds to the sums
 abbrev pub tally_of : RecvLane → Tally

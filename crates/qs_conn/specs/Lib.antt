@@ -18,3 +18,8 @@ pub mod Laws
 pub mod Examples
 pub mod EndCodes
 pub mod Layers
+pub mod Told
+pub mod Outgoing
+pub mod Filling
+pub mod Runs
+pub mod Marks

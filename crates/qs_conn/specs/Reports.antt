@@ -2,6 +2,9 @@
 use Rattle.std.specs.Prelude.{ℕ, Option, None, Some}
 use Rattle.qs_recv.specs.Lane.{RecvLane, highest, state as recv_state}
 use Rattle.qs_send.specs.Lane.{SendLane, declared_size, state as send_state}
+use Rattle.qs_conn.specs.declared.closing.Closing.{Closing}
+use Rattle.qs_conn.specs.declared.closing.Closed.{Closed}
+use Rattle.qs_conn.specs.declared.closing.Closed.TheVariants.{ByUs, ByPeer}
 use Rattle.qs_conn.specs.declared.report.LaneReport.{LaneReport}
 use Rattle.qs_conn.specs.declared.report.SendReport.{SendReport}
 use Rattle.qs_conn.specs.declared.report.RecvReport.{RecvReport}
@@ -22,3 +25,9 @@ report_if (Some s) (Some r) = Some (record { send = Some (send_report s); recv =
 -- the halves of a stream at this end, None where it isn't open
 abbrev pub lane_report : End → ℕ → Option LaneReport
 lane_report e n = report_if (send_lane e n) (recv_lane e n)
+
+-- why this end closed, None where it is open or saw its peer close (RFC 9000, section 10.2)
+abbrev pub own_closing : Option Closed → Option Closing
+own_closing None = None
+own_closing (Some (ByUs closing)) = Some closing
+own_closing (Some (ByPeer code)) = None

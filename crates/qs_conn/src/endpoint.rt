@@ -9,9 +9,9 @@ ghost use Rattle.qs_conn.specs.Layers.{ClosingFits};
 ghost use Rattle.qs_conn.specs.Standing.{IsSound, IsWithinCredit};
 
 use crate::closing::{Closed, Closing};
+use crate::outbox::Outbox;
 use crate::places::kind_of;
 use crate::recv_tables::RecvTables;
-use crate::send_tables::SendTables;
 use crate::settings::{PeerLimits, Settings, SetupFault};
 use crate::setup::setup_fault;
 use qs_ranges::RangeSet;
@@ -19,15 +19,18 @@ use qs_wire::{Frame, Role, StreamId, put};
 use std::alloc::Global;
 use std::marker::Model;
 
+mod acking;
 mod frames;
+mod losing;
+mod making;
 mod opening;
 mod owner;
 mod receiving;
 mod recording;
 mod taking;
 
-/// One end of a connection. It takes in the payloads of packets, and its owner opens, accepts, writes, finishes, resets, reads
-/// and stops streams (RFC 9000, sections 2 to 4).
+/// One end of a connection. It takes in the payloads of packets and makes packets, and its owner opens, accepts, writes,
+/// finishes, resets, reads and stops streams, and declares packets lost (RFC 9000, sections 2 to 4 and 13).
 ///
 /// Contracts see the end as a record.
 #[derive(Drop)]
@@ -35,7 +38,7 @@ pub struct Endpoint {
     role: Role,
     settings: Settings,
     peer: PeerLimits,
-    sends: SendTables,
+    outbox: Outbox,
     recvs: RecvTables,
     granted: u64,
     known_data: u64,
@@ -51,12 +54,12 @@ pub struct Endpoint {
     closed: Option<Closed>,
 }
 
-// No packet is made yet: the next number is 0 and nothing is outstanding or acknowledged.
 impl Model for Endpoint {
-    ghost use Rattle.std.specs.FinMap as fmap;
-    ghost use Rattle.qs_conn.specs.Ends.{End, no_items};
+    ghost use Rattle.qs_conn.specs.Ends.{End};
     ghost use Rattle.qs_conn.specs.EndCodes.{end_code};
     ghost use Rattle.qs_conn.specs.Layers.{IsKept};
+    ghost use Rattle.qs_conn.specs.Outgoing.{IsIdle};
+    ghost use Rattle.qs_conn.specs.Filling.{IsFunded};
 
     ghost Value = { End };
 
@@ -66,7 +69,7 @@ impl Model for Endpoint {
       role = e.role;
       settings = e.settings;
       peer = e.peer;
-      sends = e.sends;
+      sends = e.outbox.sends;
       recvs = e.recvs;
       granted = e.granted;
       known_data = e.known_data;
@@ -79,13 +82,14 @@ impl Model for Endpoint {
       done = e.done;
       floor = e.floor;
       ack_due = e.ack_due;
-      next = 0;
-      outstanding = fmap.empty;
-      acked = no_items;
+      next = e.outbox.next;
+      outstanding = e.outbox.outstanding;
+      acked = e.outbox.acked;
       closed = e.closed;
     } };
 
-    ghost invariant = { λ e. IsKept e.role e.settings e.peer e.recvs e.granted e.known_bidi e.known_uni e.closed };
+    // Between calls no packet is in the making, and one may be made.
+    ghost invariant = { λ e. IsKept e.role e.settings e.peer e.recvs e.granted e.known_bidi e.known_uni e.closed × IsIdle e.outbox × IsFunded e.outbox.sends e.known_data e.done e.ack_due };
 }
 
 impl Endpoint {
@@ -106,7 +110,7 @@ impl Endpoint {
             role,
             settings,
             peer,
-            sends: SendTables::new(alloc),
+            outbox: Outbox::new(alloc),
             recvs: RecvTables::new(alloc),
             granted: settings.conn_window,
             known_data: peer.max_data,
@@ -206,7 +210,7 @@ impl Endpoint {
 }
 
 // The bit that names the initiator (RFC 9000, section 2.1).
-fn role_bit(role: Role) -> usize
+pub(crate) fn role_bit(role: Role) -> usize
     ensures value { result ≡ role_bit role }
     ensures small { result < 2 }
 {
@@ -217,7 +221,7 @@ fn role_bit(role: Role) -> usize
 }
 
 // Whether only the initiator sends (RFC 9000, section 2.1).
-fn is_uni(stream: StreamId) -> bool
+pub(crate) fn is_uni(stream: StreamId) -> bool
     ensures { result ≡ is_uni stream }
 {
     kind_of(stream) >= 2

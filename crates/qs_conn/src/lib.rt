@@ -3,8 +3,11 @@
 
 mod closing;
 mod endpoint;
+mod filling;
 pub mod laws;
 mod making;
+mod marks;
+mod outbox;
 mod places;
 mod recv_lanes;
 mod recv_tables;
@@ -13,6 +16,10 @@ mod send_lanes;
 mod send_tables;
 mod settings;
 mod setup;
+mod slot;
+mod stream_values;
+mod terms;
+mod told;
 mod uses;
 
 pub use closing::{Closed, Closing, Received};
@@ -21,6 +28,3 @@ pub use making::{LostFault, Made, MakeFault};
 pub use report::{LaneReport, RecvReport, SendReport};
 pub use settings::{PeerLimits, Settings, SetupFault};
 pub use uses::{OpenFault, UseFault};
-
-#[cfg(test)]
-mod tests;

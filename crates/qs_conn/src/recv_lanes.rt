@@ -1,17 +1,19 @@
 //! The receiving halves of the streams of one type.
-ghost use Rattle.std.specs.Prelude.{◌≡◌, ◌+◌, ◌≤◌, ◌<◌, ◌^◌, ◌++◌, [], length, drop, map, take, slice_get, slice_index_or, option_map, OnOk, OnErr, IsOk, IfOk, Ok};
+ghost use Rattle.std.specs.Prelude.{◌≡◌, ◌+◌, ◌≤◌, ◌<◌, ◌^◌, ◌++◌, [], length, drop, map, take, slice_get, slice_index_or, option_map, ℕ, false, None, Some, IfSome, OnOk, OnErr, IsOk, IfOk, Ok};
 ghost use Rattle.std.specs.List.{sum_by};
 ghost use Rattle.qs_ranges.specs.Numbers.{MAX_VARINT};
-ghost use Rattle.qs_recv.specs.Lane.{new_lane, check_stream, check_reset, highest, highest_after, take_stream, take_reset, read_answer, bytes_read, after_read, raise, stop};
+ghost use Rattle.qs_recv.specs.Lane.{RecvLane, new_lane, check_stream, check_reset, highest, highest_after, take_stream, take_reset, read_answer, bytes_read, after_read, raise, stop};
 ghost use Rattle.qs_recv.specs.Lawful.{IsLawful};
 ghost use Rattle.qs_conn.specs.Tables.{widened};
 ghost use Rattle.qs_conn.specs.Reports.{recv_report};
 ghost use Rattle.qs_conn.specs.Verdicts.{or_new};
-ghost use Rattle.qs_conn.specs.Layers.{changed, tally_of, tally_on, moved, IsPart, IsPaid, EachLawful, AreSettled, touch};
+ghost use Rattle.qs_conn.specs.Layers.{limit_to_tell, stop_to_tell, changed, tally_of, tally_on, moved, IsPart, IsPaid, EachLawful, AreSettled, touch};
+ghost use Rattle.qs_conn.specs.Marks.{IsBefore, AreMarked, IsQuietLane};
 
+use crate::marks::Marks;
 use crate::report::RecvReport;
 use qs_ranges::NoMemory;
-use qs_recv::{ChunkAssembly, Highest, Read, RecvFault, RecvHalf};
+use qs_recv::{ChunkAssembly, Highest, Read, RecvFault, RecvHalf, RecvState};
 use std::alloc::Global;
 use std::marker::Model;
 
@@ -40,6 +42,10 @@ pub(crate) struct RecvLanes {
     halves: Vec<Half>,
     tally: Tally,
     touched: Touched,
+    // The greatest window that a lane began with.
+    first: u64,
+    // A lane without a mark has nothing to tell.
+    marks: Marks,
 }
 
 // Clauses see the lanes.
@@ -48,6 +54,7 @@ impl Model for RecvLanes {
     ghost use Rattle.std.specs.Coded.{coded_list};
     ghost use Rattle.qs_recv.specs.Lane.{RecvLane, lane_code};
     ghost use Rattle.qs_conn.specs.Layers.{AreCounted};
+    ghost use Rattle.qs_conn.specs.Marks.{AreMarked, IsQuietLane};
 
     ghost Value = { List RecvLane };
 
@@ -55,7 +62,7 @@ impl Model for RecvLanes {
 
     ghost view = { λ l. l.halves.items };
 
-    ghost invariant = { λ l. AreCounted l.halves.items l.tally l.touched };
+    ghost invariant = { λ l. AreCounted l.halves.items l.tally l.touched × AreMarked (IsQuietLane l.first) l.halves.items l.marks };
 }
 
 impl RecvLanes {
@@ -71,6 +78,8 @@ impl RecvLanes {
                 stored: 0,
             },
             touched: Touched::Nothing,
+            first: 0,
+            marks: Marks::new(alloc),
         }
     }
 
@@ -151,6 +160,11 @@ impl RecvLanes {
                 return Err(NoMemory);
             }
         }
+        if let Err(_refused) = self.marks.open_to(count) {
+            self.halves.truncate(before);
+            return Err(NoMemory);
+        }
+        self.first = self.first.max(window);
         Ok(())
     }
 
@@ -160,7 +174,7 @@ impl RecvLanes {
     {
         let missing = count.saturating_sub(self.halves.len());
         match self.halves.reserve(missing) {
-            Ok(()) => Ok(()),
+            Ok(()) => self.marks.reserve(count),
             Err(_refused) => Err(NoMemory),
         }
     }
@@ -171,6 +185,7 @@ impl RecvLanes {
         ensures { self.new ≡ take count self.old }
     {
         self.halves.truncate(count);
+        self.marks.close_to(count);
     }
 
     /// Takes a frame that passed the check, at an open lane; or changes nothing.
@@ -197,6 +212,7 @@ impl RecvLanes {
             return Err(NoMemory);
         }
         let is = measure(half);
+        self.marks.set(index, is_busy(half, self.first));
         self.tally = moved(self.tally, was, is);
         if stopped {
             self.touched = touch(self.touched, index);
@@ -217,6 +233,7 @@ impl RecvLanes {
         let was = measure(half);
         half.take_reset(code, size);
         let is = measure(half);
+        self.marks.set(index, is_busy(half, self.first));
         self.tally = moved(self.tally, was, is);
     }
 
@@ -233,6 +250,7 @@ impl RecvLanes {
         let was = measure(half);
         let answer = half.read(into);
         let is = measure(half);
+        self.marks.set(index, is_busy(half, self.first));
         self.tally = moved(self.tally, was, is);
         self.touched = touch(self.touched, index);
         answer
@@ -242,6 +260,7 @@ impl RecvLanes {
     pub(crate) fn stop(&mut self, index: usize, code: u64)
         requires there { index < length self.old }
         requires room { sum_by highest self.old + MAX_VARINT < 2 ^ 64 }
+        requires fits { code ≤ MAX_VARINT }
         ensures after { self.new ≡ changed self.old index (λ l. stop l code) (slice_get self.old index) }
         ensures same { sum_by highest self.new ≡ sum_by highest self.old }
     {
@@ -249,6 +268,7 @@ impl RecvLanes {
         let was = measure(half);
         half.stop(code);
         let is = measure(half);
+        self.marks.set(index, true);
         self.tally = moved(self.tally, was, is);
         self.touched = touch(self.touched, index);
     }
@@ -267,12 +287,75 @@ impl RecvLanes {
         })
     }
 
+    /// The limit of an open lane of which no final size is known.
+    pub(crate) fn limit_to_tell(&self, index: usize) -> Option<u64>
+        ensures value { result ≡ limit_to_tell (slice_get self.now index) }
+        ensures small { IfSome result (λ limit. limit ≤ MAX_VARINT) }
+    {
+        let half = self.halves.get(index)?;
+        half.is_lawful();
+        match half.final_size() {
+            Some(_known) => None,
+            None => Some(half.limit()),
+        }
+    }
+
+    /// The code of a stop that the peer is to be told of.
+    pub(crate) fn stop_to_tell(&self, index: usize) -> Option<u64>
+        ensures value { result ≡ stop_to_tell (slice_get self.now index) }
+        ensures small { IfSome result (λ code. code ≤ MAX_VARINT) }
+    {
+        let half = self.halves.get(index)?;
+        match half.state() {
+            RecvState::Recv | RecvState::SizeKnown => half.stop_code(),
+            _ => None,
+        }
+    }
+
     /// Each limit becomes the next one. Only lanes that were touched are looked at.
     pub(crate) fn raise_all(&mut self)
         ensures { self.new ≡ map raise self.old }
     {
-        raise_touched(&mut self.halves, self.touched);
+        raise_touched(&mut self.halves, &mut self.marks, self.first, self.touched);
         self.touched = Touched::Nothing;
+    }
+
+    /// The least index from one on whose lane may have a stop or a limit above `window` to tell.
+    pub(crate) fn next_marked(&self, from: usize, window: u64) -> Option<usize>
+        ensures from { IfSome result (λ n. from ≤ n) }
+        ensures small { IfSome result (λ n. n < 2 ^ 60) }
+        ensures quiet { (i : ℕ) (l : RecvLane) → from ≤ i → IsBefore i result → slice_get self.now i ≡ Some l → IsQuietLane window l }
+    {
+        if window < self.first {
+            // Some lanes began with more, so each of them may have a limit to tell.
+            return self.next_open(from);
+        }
+        self.marks.next(from)
+    }
+
+    // An index from one on, where a lane is open there.
+    fn next_open(&self, from: usize) -> Option<usize>
+        ensures from { IfSome result (λ n. from ≤ n) }
+        ensures small { IfSome result (λ n. n < 2 ^ 60) }
+        ensures none { (i : ℕ) → from ≤ i → IsBefore i result → slice_get self.now i ≡ None }
+    {
+        if from < self.halves.len() {
+            return Some(from);
+        }
+        None
+    }
+}
+
+// Whether a lane has a stop to tell, or a limit above the window that lanes began with.
+fn is_busy(half: &Half, first: u64) -> bool
+    ensures { result ≡ false → IsQuietLane first half.now }
+{
+    if first < half.limit() && half.final_size().is_none() {
+        return true;
+    }
+    match half.state() {
+        RecvState::Recv | RecvState::SizeKnown => half.stop_code().is_some(),
+        _ => false,
     }
 }
 
@@ -318,29 +401,47 @@ fn touch(touched: Touched, index: usize) -> Touched
     }
 }
 
-fn raise_touched(halves: &mut Vec<Half>, touched: Touched)
-    requires { AreSettled touched halves.old.items }
-    ensures { halves.new.items ≡ map raise halves.old.items }
+fn raise_touched(halves: &mut Vec<Half>, marks: &mut Marks, first: u64, touched: Touched)
+    requires settled { AreSettled touched halves.old.items }
+    requires marked { AreMarked (IsQuietLane first) halves.old.items marks.old }
+    ensures after { halves.new.items ≡ map raise halves.old.items }
+    ensures marked { AreMarked (IsQuietLane first) halves.new.items marks.new }
 {
     match touched {
         Touched::Nothing => {}
-        Touched::Lane(index) => raise_one(halves, index),
-        Touched::Several => raise_each(halves),
+        Touched::Lane(index) => raise_one(halves, marks, first, index),
+        Touched::Several => raise_each(halves, marks, first),
     }
 }
 
-fn raise_one(halves: &mut Vec<Half>, index: usize)
-    ensures { halves.new.items ≡ changed halves.old.items index raise (slice_get halves.old.items index) }
+fn raise_one(halves: &mut Vec<Half>, marks: &mut Marks, first: u64, index: usize)
+    requires { AreMarked (IsQuietLane first) halves.old.items marks.old }
+    ensures after { halves.new.items ≡ changed halves.old.items index raise (slice_get halves.old.items index) }
+    ensures marked { AreMarked (IsQuietLane first) halves.new.items marks.new }
 {
-    if let Some(half) = halves.get_mut(index) {
-        let _ = half.raise();
+    if index < halves.len() {
+        raise_at(halves, marks, first, index);
     }
 }
 
-fn raise_each(halves: &mut Vec<Half>)
-    ensures { halves.new.items ≡ map raise halves.old.items }
+fn raise_each(halves: &mut Vec<Half>, marks: &mut Marks, first: u64)
+    requires { AreMarked (IsQuietLane first) halves.old.items marks.old }
+    ensures after { halves.new.items ≡ map raise halves.old.items }
+    ensures marked { AreMarked (IsQuietLane first) halves.new.items marks.new }
 {
-    for half in halves.iter_mut() {
-        let _ = half.raise();
+    for index in 0..halves.len() {
+        raise_at(halves, marks, first, index);
     }
+}
+
+fn raise_at(halves: &mut Vec<Half>, marks: &mut Marks, first: u64, index: usize)
+    requires there { index < length halves.old.items }
+    requires marked { AreMarked (IsQuietLane first) halves.old.items marks.old }
+    ensures after { halves.new.items ≡ changed halves.old.items index raise (slice_get halves.old.items index) }
+    ensures len { length halves.new.items ≡ length halves.old.items }
+    ensures marked { AreMarked (IsQuietLane first) halves.new.items marks.new }
+{
+    let half = &mut halves[index];
+    let _ = half.raise();
+    marks.set(index, is_busy(half, first));
 }

@@ -1,11 +1,12 @@
 //! The receiving halves of an end.
-ghost use Rattle.std.specs.Prelude.{◌≡◌, ◌+◌, ◌≤◌, ◌<◌, ◌^◌, ◌++◌, length, drop, take, is_some, option_map, true, OnOk, OnErr, IsOk, IfOk};
+ghost use Rattle.std.specs.Prelude.{◌≡◌, ◌+◌, ◌≤◌, ◌<◌, ◌^◌, ◌++◌, length, drop, take, is_some, option_map, true, OnOk, OnErr, IsOk, IfOk, IfSome};
 ghost use Rattle.qs_ranges.specs.Numbers.{MAX_VARINT};
 ghost use Rattle.qs_recv.specs.Lane.{new_lane, check_stream, check_reset, highest, taken, take_stream, take_reset, read_answer, bytes_read, after_read, raise, stop};
 ghost use Rattle.qs_conn.specs.Tables.{no_streams, table, with_table, lookup, updated, open_to, each, total, kind_of};
 ghost use Rattle.qs_conn.specs.Reports.{recv_report};
 ghost use Rattle.qs_conn.specs.Verdicts.{or_new};
-ghost use Rattle.qs_conn.specs.Layers.{stored_on, tally_on, IsPaid};
+ghost use Rattle.qs_conn.specs.Layers.{stored_on, tally_on, IsPaid, limit_to_tell, stop_to_tell};
+ghost use Rattle.qs_conn.specs.Marks.{HaveTo, IsQuietLane};
 
 use crate::places::{index_of, kind_of};
 use crate::recv_lanes::{RecvLanes, Tally};
@@ -189,6 +190,7 @@ impl RecvTables {
     pub(crate) fn stop(&mut self, stream: StreamId, code: u64)
         requires open { is_some (lookup self.old stream) ≡ true }
         requires room { total highest self.old < 2 ^ 62 }
+        requires fits { code ≤ MAX_VARINT }
         ensures { self.new ≡ updated self.old stream (λ l. stop l code) (lookup self.old stream) }
     {
         let lanes = &mut self.types[kind_of(stream)];
@@ -201,6 +203,37 @@ impl RecvTables {
     {
         let lanes = &self.types[kind_of(stream)];
         lanes.report(index_of(stream))
+    }
+
+    /// The limit of an open stream of which no final size is known.
+    pub(crate) fn limit_to_tell(&self, stream: StreamId) -> Option<u64>
+        ensures value { result ≡ limit_to_tell (lookup self.now stream) }
+        ensures small { IfSome result (λ limit. limit ≤ MAX_VARINT) }
+    {
+        let lanes = &self.types[kind_of(stream)];
+        lanes.limit_to_tell(index_of(stream))
+    }
+
+    /// The code of a stop that the peer is to be told of.
+    pub(crate) fn stop_to_tell(&self, stream: StreamId) -> Option<u64>
+        ensures value { result ≡ stop_to_tell (lookup self.now stream) }
+        ensures small { IfSome result (λ code. code ≤ MAX_VARINT) }
+    {
+        let lanes = &self.types[kind_of(stream)];
+        lanes.stop_to_tell(index_of(stream))
+    }
+
+    /// The least number from one on of a stream of a type that may have a stop or a limit above `window` to tell.
+    pub(crate) fn next_of(&self, kind: usize, window: u64, from: u64) -> Option<u64>
+        requires kind { kind < 4 }
+        requires from { from ≤ 2 ^ 62 }
+        ensures found { IfSome result (λ n. (from ≤ n) × (n < 2 ^ 62)) }
+        ensures quiet { HaveTo (IsQuietLane window) self.now from result kind }
+    {
+        let lanes = &self.types[kind];
+        let first = (from + 3 - kind as u64) / 4;
+        let index = lanes.next_marked(first as usize, window)?;
+        Some((index * 4 + kind) as u64)
     }
 
     /// The sums over all streams.

@@ -1,14 +1,15 @@
 //! The sending halves of the streams of one type.
-ghost use Rattle.std.specs.Prelude.{◌≡◌, ◌+◌, ◌*◌, ◌≤◌, ◌<◌, ◌^◌, [], length, take, slice_get, slice_index_or, unwrap_or, option_map, None, OnOk, OnErr, IfOk, IfErr};
+ghost use Rattle.std.specs.Prelude.{◌≡◌, ◌+◌, ◌*◌, ◌≤◌, ◌<◌, ◌^◌, [], length, take, slice_get, slice_index_or, unwrap_or, ℕ, false, None, Some, OnOk, OnErr, IfOk, IfErr, IfSome};
 ghost use Rattle.qs_ranges.specs.Numbers.{MAX_VARINT};
-ghost use Rattle.qs_send.specs.Lane.{new_lane, accepted, refusal, reset_refusal, answer_of, write_lane, finish_lane, reset_lane, allow_lane};
+ghost use Rattle.qs_send.specs.Lane.{Sending, new_sending, accepted, refusal, reset_refusal, answer_of, state, after_write, after_finish, after_reset, after_reset_acked, after_blocked, after_allow, after_sent, after_acked, after_lost};
+ghost use Rattle.qs_send.specs.Chunks.{IsDueChunk, WasSent};
 ghost use Rattle.qs_conn.specs.Tables.{widened};
-ghost use Rattle.qs_conn.specs.Reports.{send_report};
-ghost use Rattle.qs_conn.specs.Layers.{changed, no_lane};
+ghost use Rattle.qs_conn.specs.Layers.{changed, no_sending};
+ghost use Rattle.qs_conn.specs.Marks.{IsBefore, IsQuiet};
 
-use crate::report::SendReport;
+use crate::marks::Marks;
 use qs_ranges::NoMemory;
-use qs_send::{SendFault, SendHalf};
+use qs_send::{Chunk, SendFault, SendHalf, SendState};
 use qs_wire::StreamId;
 use std::alloc::Global;
 use std::marker::Model;
@@ -18,21 +19,24 @@ use std::marker::Model;
 pub(crate) struct SendLanes {
     alloc: Global,
     halves: Vec<SendHalf>,
+    // A half without a mark is quiet.
+    marks: Marks,
 }
 
-// Clauses see the lanes. What of them is due stays inside.
+// Clauses see the halves: each lane and what of it is due.
 impl Model for SendLanes {
-    ghost use Rattle.std.specs.Prelude.{◌≤◌, ◌^◌, List, length, map};
+    ghost use Rattle.std.specs.Prelude.{◌≤◌, ◌^◌, List, length};
     ghost use Rattle.std.specs.Coded.{coded_list};
-    ghost use Rattle.qs_send.specs.Lane.{SendLane, Sending, lane_code};
+    ghost use Rattle.qs_send.specs.Lane.{Sending, sending_code};
+    ghost use Rattle.qs_conn.specs.Marks.{AreMarked, IsQuiet};
 
-    ghost Value = { List SendLane };
+    ghost Value = { List Sending };
 
-    ghost coded = { coded_list lane_code };
+    ghost coded = { coded_list sending_code };
 
-    ghost view = { λ l. map (λ (s : Sending). s.lane) l.halves.items };
+    ghost view = { λ l. l.halves.items };
 
-    ghost invariant = { λ l. length l.halves.items ≤ 2 ^ 60 };
+    ghost invariant = { λ l. (length l.halves.items ≤ 2 ^ 60) × AreMarked IsQuiet l.halves.items l.marks };
 }
 
 impl SendLanes {
@@ -42,10 +46,11 @@ impl SendLanes {
         SendLanes {
             alloc,
             halves: Vec::new(alloc),
+            marks: Marks::new(alloc),
         }
     }
 
-    /// How many lanes are open.
+    /// How many halves are open.
     pub(crate) fn len(&self) -> usize
         ensures value { result ≡ length self.now }
         ensures small { result ≤ 2 ^ 60 }
@@ -53,7 +58,15 @@ impl SendLanes {
         self.halves.len()
     }
 
-    /// Opens the lanes of all indexes below a count, in streams of that type.
+    /// An open half.
+    pub(crate) fn get(&self, index: usize) -> &SendHalf
+        requires { index < length self.now }
+        ensures { result.now ≡ slice_index_or self.now index no_sending }
+    {
+        &self.halves[index]
+    }
+
+    /// Opens the halves of all indexes below a count, in streams of that type.
     pub(crate) fn open_to(
         &mut self,
         kind: u64,
@@ -64,7 +77,7 @@ impl SendLanes {
         requires kind { kind < 4 }
         requires limit { limit ≤ MAX_VARINT }
         requires count { count ≤ 2 ^ 60 }
-        ensures ok { OnOk result (self.new ≡ widened self.old count (λ i. new_lane (i * 4 + kind) limit buffer)) }
+        ensures ok { OnOk result (self.new ≡ widened self.old count (λ i. new_sending (i * 4 + kind) limit buffer)) }
         ensures err { OnErr result (self.new ≡ self.old) }
     {
         let before = self.halves.len();
@@ -78,6 +91,10 @@ impl SendLanes {
                 return Err(NoMemory);
             }
         }
+        if let Err(_refused) = self.marks.open_to(count) {
+            self.halves.truncate(before);
+            return Err(NoMemory);
+        }
         Ok(())
     }
 
@@ -87,71 +104,147 @@ impl SendLanes {
     {
         let missing = count.saturating_sub(self.halves.len());
         match self.halves.reserve(missing) {
-            Ok(()) => Ok(()),
+            Ok(()) => self.marks.reserve(count),
             Err(_refused) => Err(NoMemory),
         }
     }
 
-    /// Takes the lanes from a count on away.
+    /// Takes the halves from a count on away.
     pub(crate) fn close_to(&mut self, count: usize)
         ensures { self.new ≡ take count self.old }
     {
         self.halves.truncate(count);
+        self.marks.close_to(count);
     }
 
-    /// Accepts bytes at an open lane, as many as there is room for; or changes nothing.
+    /// Accepts bytes at an open half, as many as there is room for; or changes nothing.
     pub(crate) fn write(&mut self, index: usize, bytes: &[u8]) -> Result<usize, SendFault>
         requires { index < length self.old }
-        ensures accepted { let lane = slice_index_or self.old index no_lane in
-            IfOk result (λ n. (refusal lane ≡ None) × (n ≡ accepted lane (length bytes.now)) × (self.new ≡ changed self.old index (λ l. write_lane l (take n bytes.now)) (slice_get self.old index))) }
-        ensures refused { let lane = slice_index_or self.old index no_lane in
-            IfErr result (λ fault. (self.new ≡ self.old) × (fault ≡ unwrap_or (refusal lane) SendFault.NoMemory)) }
+        ensures accepted { let half = slice_index_or self.old index no_sending in
+            IfOk result (λ n. (refusal half.lane ≡ None) × (n ≡ accepted half.lane (length bytes.now)) × (self.new ≡ changed self.old index (λ s. after_write s (take n bytes.now)) (slice_get self.old index))) }
+        ensures refused { let half = slice_index_or self.old index no_sending in
+            IfErr result (λ fault. (self.new ≡ self.old) × (fault ≡ unwrap_or (refusal half.lane) SendFault.NoMemory)) }
     {
         let half = &mut self.halves[index];
-        half.write(bytes)
+        let answer = half.write(bytes);
+        self.marks.set(index, is_busy(half));
+        answer
     }
 
-    /// Asks for the end of an open lane.
+    /// Asks for the end of an open half.
     pub(crate) fn finish(&mut self, index: usize) -> Result<(), SendFault>
         requires { index < length self.old }
-        ensures answer { result ≡ answer_of (refusal (slice_index_or self.old index no_lane)) }
-        ensures ok { OnOk result (self.new ≡ changed self.old index finish_lane (slice_get self.old index)) }
-        ensures err { OnErr result (self.new ≡ self.old) }
+        ensures answer { result ≡ answer_of (refusal (slice_index_or self.old index no_sending).lane) }
+        ensures after { self.new ≡ changed self.old index after_finish (slice_get self.old index) }
     {
         let half = &mut self.halves[index];
-        half.finish()
+        let answer = half.finish();
+        self.marks.set(index, is_busy(half));
+        answer
     }
 
-    /// Breaks an open lane off.
+    /// Breaks an open half off.
     pub(crate) fn reset(&mut self, index: usize, code: u64) -> Result<(), SendFault>
-        requires { index < length self.old }
-        ensures answer { result ≡ answer_of (reset_refusal (slice_index_or self.old index no_lane)) }
-        ensures after { self.new ≡ changed self.old index (λ l. reset_lane l code) (slice_get self.old index) }
-        ensures err { OnErr result (self.new ≡ self.old) }
+        requires there { index < length self.old }
+        requires fits { code ≤ MAX_VARINT }
+        ensures answer { result ≡ answer_of (reset_refusal (slice_index_or self.old index no_sending).lane) }
+        ensures after { self.new ≡ changed self.old index (λ s. after_reset s code) (slice_get self.old index) }
     {
         let half = &mut self.halves[index];
-        half.reset(code)
+        let answer = half.reset(code);
+        self.marks.set(index, is_busy(half));
+        answer
     }
 
-    /// Takes in that the peer allows the offsets of an open lane below a limit.
+    /// Takes in that the peer allows the offsets of an open half below a limit.
     pub(crate) fn allow(&mut self, index: usize, limit: u64)
         requires there { index < length self.old }
         requires limit { limit ≤ MAX_VARINT }
-        ensures { self.new ≡ changed self.old index (λ l. allow_lane l limit) (slice_get self.old index) }
+        ensures { self.new ≡ changed self.old index (λ s. after_allow s limit) (slice_get self.old index) }
     {
         let half = &mut self.halves[index];
         half.allow(limit);
     }
 
-    /// How a lane stands, where it is open.
-    pub(crate) fn report(&self, index: usize) -> Option<SendReport>
-        ensures { result ≡ option_map send_report (slice_get self.now index) }
+    /// Takes in that a STREAM_DATA_BLOCKED was sent.
+    pub(crate) fn note_blocked(&mut self, index: usize)
+        requires { index < length self.old }
+        ensures { self.new ≡ changed self.old index after_blocked (slice_get self.old index) }
     {
-        let half = self.halves.get(index)?;
-        Some(SendReport {
-            state: half.state(),
-            written: half.written(),
-            final_size: half.final_size(),
-        })
+        let half = &mut self.halves[index];
+        half.note_blocked();
     }
+
+    /// Takes in that the RESET_STREAM is acknowledged.
+    pub(crate) fn reset_acked(&mut self, index: usize)
+        requires there { index < length self.old }
+        requires sent { state (slice_index_or self.old index no_sending).lane ≡ SendState.ResetSent }
+        ensures { self.new ≡ changed self.old index after_reset_acked (slice_get self.old index) }
+    {
+        let half = &mut self.halves[index];
+        half.reset_acked();
+        self.marks.set(index, is_busy(half));
+    }
+
+    /// Takes in that a chunk was sent.
+    pub(crate) fn sent(&mut self, index: usize, chunk: Chunk)
+        requires there { index < length self.old }
+        requires due { IsDueChunk (slice_index_or self.old index no_sending) chunk }
+        ensures { self.new ≡ changed self.old index (λ s. after_sent s chunk) (slice_get self.old index) }
+    {
+        let half = &mut self.halves[index];
+        half.sent(chunk);
+        self.marks.set(index, is_busy(half));
+    }
+
+    /// Takes in that a chunk is acknowledged, or changes nothing.
+    pub(crate) fn acked(&mut self, index: usize, chunk: Chunk) -> Result<(), NoMemory>
+        requires there { index < length self.old }
+        requires sent { WasSent (slice_index_or self.old index no_sending).lane chunk }
+        ensures ok { OnOk result (self.new ≡ changed self.old index (λ s. after_acked s chunk) (slice_get self.old index)) }
+        ensures err { OnErr result (self.new ≡ self.old) }
+    {
+        let half = &mut self.halves[index];
+        let answer = half.acked(chunk);
+        self.marks.set(index, is_busy(half));
+        answer
+    }
+
+    /// Takes in that a chunk is lost, or changes nothing.
+    pub(crate) fn lost(&mut self, index: usize, chunk: Chunk) -> Result<(), NoMemory>
+        requires there { index < length self.old }
+        requires sent { WasSent (slice_index_or self.old index no_sending).lane chunk }
+        ensures ok { OnOk result (self.new ≡ changed self.old index (λ s. after_lost s chunk) (slice_get self.old index)) }
+        ensures err { OnErr result (self.new ≡ self.old) }
+    {
+        let half = &mut self.halves[index];
+        let answer = half.lost(chunk);
+        self.marks.set(index, is_busy(half));
+        answer
+    }
+
+    /// The least index from one on whose half may have something to send. The halves between are quiet.
+    pub(crate) fn next_marked(&self, from: usize) -> Option<usize>
+        ensures from { IfSome result (λ n. from ≤ n) }
+        ensures small { IfSome result (λ n. n < 2 ^ 60) }
+        ensures quiet { (i : ℕ) (s : Sending) → from ≤ i → IsBefore i result → slice_get self.now i ≡ Some s → IsQuiet s }
+    {
+        self.marks.next(from)
+    }
+}
+
+// Whether a half has something to send or to tell: unacknowledged bytes or an end that is due, or a reset that isn't acknowledged.
+fn is_busy(half: &SendHalf) -> bool
+    ensures { result ≡ false → IsQuiet half.now }
+{
+    if half.end_due() {
+        return true;
+    }
+    if let Some(_offset) = half.lowest_due() {
+        return true;
+    }
+    if let Some(_code) = half.reset_code() {
+        return !matches!(half.state(), SendState::ResetRecvd);
+    }
+    half.sent_end() < half.written()
 }

@@ -1,16 +1,17 @@
 //! The sending halves of an end.
-ghost use Rattle.std.specs.Prelude.{◌≡◌, ◌≤◌, ◌<◌, ◌^◌, length, take, is_some, option_map, unwrap_or, true, None, OnOk, OnErr, IfOk, IfErr};
+ghost use Rattle.std.specs.Prelude.{◌≡◌, ◌≤◌, ◌<◌, ◌^◌, ℕ, length, take, is_some, unwrap_or, true, Some, None, OnOk, OnErr, IfOk, IfErr, IfSome};
 ghost use Rattle.qs_ranges.specs.Numbers.{MAX_VARINT};
-ghost use Rattle.qs_send.specs.Lane.{new_lane, accepted, refusal, reset_refusal, answer_of, write_lane, finish_lane, reset_lane, allow_lane};
+ghost use Rattle.qs_send.specs.Lane.{Sending, new_sending, accepted, refusal, reset_refusal, answer_of, state, after_write, after_finish, after_reset, after_reset_acked, after_blocked, after_allow, after_sent, after_acked, after_lost};
+ghost use Rattle.qs_send.specs.Chunks.{IsDueChunk, WasSent};
 ghost use Rattle.qs_conn.specs.Tables.{no_streams, table, with_table, lookup, updated, open_to, kind_of};
-ghost use Rattle.qs_conn.specs.Reports.{send_report};
-ghost use Rattle.qs_conn.specs.Layers.{or_none};
+ghost use Rattle.qs_conn.specs.Layers.{or_no_sending};
+ghost use Rattle.qs_conn.specs.Marks.{IsBefore, IsQuiet, HaveTo};
 
+use crate::marks::least;
 use crate::places::{index_of, kind_of};
-use crate::report::SendReport;
 use crate::send_lanes::SendLanes;
 use qs_ranges::NoMemory;
-use qs_send::SendFault;
+use qs_send::{Chunk, SendFault, SendHalf, SendState};
 use qs_wire::StreamId;
 use std::alloc::Global;
 use std::marker::Model;
@@ -24,15 +25,14 @@ pub(crate) struct SendTables {
 
 impl Model for SendTables {
     ghost use Rattle.std.specs.Prelude.{◌≡◌, length};
-    ghost use Rattle.qs_send.specs.Lane.{SendLane};
+    ghost use Rattle.qs_send.specs.Lane.{Sending, sending_code};
     ghost use Rattle.qs_conn.specs.Tables.{Tables};
-    ghost use Rattle.qs_send.specs.Lane.{lane_code};
     ghost use Rattle.qs_conn.specs.EndCodes.{tables_code};
     ghost use Rattle.qs_conn.specs.Layers.{tables_of};
 
-    ghost Value = { Tables SendLane };
+    ghost Value = { Tables Sending };
 
-    ghost coded = { tables_code lane_code };
+    ghost coded = { tables_code sending_code };
 
     ghost view = { λ t. tables_of t.types };
 
@@ -61,6 +61,15 @@ impl SendTables {
         index_of(stream) < lanes.len()
     }
 
+    /// The half of an open stream.
+    pub(crate) fn get(&self, stream: StreamId) -> &SendHalf
+        requires { is_some (lookup self.now stream) ≡ true }
+        ensures { lookup self.now stream ≡ Some result.now }
+    {
+        let lanes = &self.types[kind_of(stream)];
+        lanes.get(index_of(stream))
+    }
+
     /// How many streams of the type of this one are open.
     pub(crate) fn count(&self, stream: StreamId) -> usize
         ensures { result ≡ length (table self.now (kind_of stream)) }
@@ -86,7 +95,7 @@ impl SendTables {
         stream: StreamId,
     ) -> Result<(), NoMemory>
         requires { limit ≤ MAX_VARINT }
-        ensures ok { OnOk result (self.new ≡ open_to self.old stream (λ m. new_lane m limit buffer)) }
+        ensures ok { OnOk result (self.new ≡ open_to self.old stream (λ m. new_sending m limit buffer)) }
         ensures err { OnErr result (self.new ≡ self.old) }
     {
         let lanes = &mut self.types[kind_of(stream)];
@@ -112,10 +121,10 @@ impl SendTables {
     /// Accepts bytes at an open stream, as many as there is room for; or changes nothing.
     pub(crate) fn write(&mut self, stream: StreamId, bytes: &[u8]) -> Result<usize, SendFault>
         requires { is_some (lookup self.old stream) ≡ true }
-        ensures accepted { let lane = or_none (lookup self.old stream) in
-            IfOk result (λ n. (refusal lane ≡ None) × (n ≡ accepted lane (length bytes.now)) × (self.new ≡ updated self.old stream (λ l. write_lane l (take n bytes.now)) (lookup self.old stream))) }
-        ensures refused { let lane = or_none (lookup self.old stream) in
-            IfErr result (λ fault. (self.new ≡ self.old) × (fault ≡ unwrap_or (refusal lane) SendFault.NoMemory)) }
+        ensures accepted { let half = or_no_sending (lookup self.old stream) in
+            IfOk result (λ n. (refusal half.lane ≡ None) × (n ≡ accepted half.lane (length bytes.now)) × (self.new ≡ updated self.old stream (λ s. after_write s (take n bytes.now)) (lookup self.old stream))) }
+        ensures refused { let half = or_no_sending (lookup self.old stream) in
+            IfErr result (λ fault. (self.new ≡ self.old) × (fault ≡ unwrap_or (refusal half.lane) SendFault.NoMemory)) }
     {
         let lanes = &mut self.types[kind_of(stream)];
         lanes.write(index_of(stream), bytes)
@@ -124,9 +133,8 @@ impl SendTables {
     /// Asks for the end of an open stream.
     pub(crate) fn finish(&mut self, stream: StreamId) -> Result<(), SendFault>
         requires { is_some (lookup self.old stream) ≡ true }
-        ensures answer { result ≡ answer_of (refusal (or_none (lookup self.old stream))) }
-        ensures ok { OnOk result (self.new ≡ updated self.old stream finish_lane (lookup self.old stream)) }
-        ensures err { OnErr result (self.new ≡ self.old) }
+        ensures answer { result ≡ answer_of (refusal (or_no_sending (lookup self.old stream)).lane) }
+        ensures after { self.new ≡ updated self.old stream after_finish (lookup self.old stream) }
     {
         let lanes = &mut self.types[kind_of(stream)];
         lanes.finish(index_of(stream))
@@ -134,10 +142,10 @@ impl SendTables {
 
     /// Breaks an open stream off.
     pub(crate) fn reset(&mut self, stream: StreamId, code: u64) -> Result<(), SendFault>
-        requires { is_some (lookup self.old stream) ≡ true }
-        ensures answer { result ≡ answer_of (reset_refusal (or_none (lookup self.old stream))) }
-        ensures after { self.new ≡ updated self.old stream (λ l. reset_lane l code) (lookup self.old stream) }
-        ensures err { OnErr result (self.new ≡ self.old) }
+        requires open { is_some (lookup self.old stream) ≡ true }
+        requires fits { code ≤ MAX_VARINT }
+        ensures answer { result ≡ answer_of (reset_refusal (or_no_sending (lookup self.old stream)).lane) }
+        ensures after { self.new ≡ updated self.old stream (λ s. after_reset s code) (lookup self.old stream) }
     {
         let lanes = &mut self.types[kind_of(stream)];
         lanes.reset(index_of(stream), code)
@@ -145,19 +153,86 @@ impl SendTables {
 
     /// Takes in that the peer allows the offsets of an open stream below a limit.
     pub(crate) fn allow(&mut self, stream: StreamId, limit: u64)
-        requires open { is_some (lookup self.old stream) ≡ true }
+        requires there { is_some (lookup self.old stream) ≡ true }
         requires limit { limit ≤ MAX_VARINT }
-        ensures { self.new ≡ updated self.old stream (λ l. allow_lane l limit) (lookup self.old stream) }
+        ensures { self.new ≡ updated self.old stream (λ s. after_allow s limit) (lookup self.old stream) }
     {
         let lanes = &mut self.types[kind_of(stream)];
         lanes.allow(index_of(stream), limit);
     }
 
-    /// How a stream stands, where it is open.
-    pub(crate) fn report(&self, stream: StreamId) -> Option<SendReport>
-        ensures { result ≡ option_map send_report (lookup self.now stream) }
+    /// Takes in that a STREAM_DATA_BLOCKED was sent.
+    pub(crate) fn note_blocked(&mut self, stream: StreamId)
+        requires { is_some (lookup self.old stream) ≡ true }
+        ensures { self.new ≡ updated self.old stream after_blocked (lookup self.old stream) }
     {
-        let lanes = &self.types[kind_of(stream)];
-        lanes.report(index_of(stream))
+        let lanes = &mut self.types[kind_of(stream)];
+        lanes.note_blocked(index_of(stream));
+    }
+
+    /// Takes in that the RESET_STREAM is acknowledged.
+    pub(crate) fn reset_acked(&mut self, stream: StreamId)
+        requires there { is_some (lookup self.old stream) ≡ true }
+        requires sent { state (or_no_sending (lookup self.old stream)).lane ≡ SendState.ResetSent }
+        ensures { self.new ≡ updated self.old stream after_reset_acked (lookup self.old stream) }
+    {
+        let lanes = &mut self.types[kind_of(stream)];
+        lanes.reset_acked(index_of(stream));
+    }
+
+    /// Takes in that a chunk was sent.
+    pub(crate) fn sent(&mut self, stream: StreamId, chunk: Chunk)
+        requires there { is_some (lookup self.old stream) ≡ true }
+        requires due { IsDueChunk (or_no_sending (lookup self.old stream)) chunk }
+        ensures { self.new ≡ updated self.old stream (λ s. after_sent s chunk) (lookup self.old stream) }
+    {
+        let lanes = &mut self.types[kind_of(stream)];
+        lanes.sent(index_of(stream), chunk);
+    }
+
+    /// Takes in that a chunk is acknowledged, or changes nothing.
+    pub(crate) fn acked(&mut self, stream: StreamId, chunk: Chunk) -> Result<(), NoMemory>
+        requires there { is_some (lookup self.old stream) ≡ true }
+        requires sent { WasSent (or_no_sending (lookup self.old stream)).lane chunk }
+        ensures ok { OnOk result (self.new ≡ updated self.old stream (λ s. after_acked s chunk) (lookup self.old stream)) }
+        ensures err { OnErr result (self.new ≡ self.old) }
+    {
+        let lanes = &mut self.types[kind_of(stream)];
+        lanes.acked(index_of(stream), chunk)
+    }
+
+    /// Takes in that a chunk is lost, or changes nothing.
+    pub(crate) fn lost(&mut self, stream: StreamId, chunk: Chunk) -> Result<(), NoMemory>
+        requires there { is_some (lookup self.old stream) ≡ true }
+        requires sent { WasSent (or_no_sending (lookup self.old stream)).lane chunk }
+        ensures ok { OnOk result (self.new ≡ updated self.old stream (λ s. after_lost s chunk) (lookup self.old stream)) }
+        ensures err { OnErr result (self.new ≡ self.old) }
+    {
+        let lanes = &mut self.types[kind_of(stream)];
+        lanes.lost(index_of(stream), chunk)
+    }
+
+    /// The least number from one on of a stream that may have something to send. The halves of the streams between are quiet.
+    pub(crate) fn next_marked(&self, from: u64) -> Option<StreamId>
+        requires { from ≤ 2 ^ 62 }
+        ensures from { IfSome result (λ n. from ≤ n) }
+        ensures quiet { (n : ℕ) (s : Sending) → from ≤ n → IsBefore n result → lookup self.now n ≡ Some s → IsQuiet s }
+    {
+        let bidi = least(self.next_of(0, from), self.next_of(1, from));
+        let uni = least(self.next_of(2, from), self.next_of(3, from));
+        StreamId::new(least(bidi, uni)?)
+    }
+
+    // The least such number among the streams of a type.
+    fn next_of(&self, kind: usize, from: u64) -> Option<u64>
+        requires kind { kind < 4 }
+        requires from { from ≤ 2 ^ 62 }
+        ensures found { IfSome result (λ n. (from ≤ n) × (n < 2 ^ 62)) }
+        ensures quiet { HaveTo IsQuiet self.now from result kind }
+    {
+        let lanes = &self.types[kind];
+        let first = (from + 3 - kind as u64) / 4;
+        let index = lanes.next_marked(first as usize)?;
+        Some((index * 4 + kind) as u64)
     }
 }

@@ -11,7 +11,7 @@ use Rattle.qs_recv.proofs.AssembledLaws.{with_run, end_of-with_run}
 use Rattle.qs_recv.proofs.LawfulLaws.{lawful_new, lawful_take_stream, lawful_take_reset, lawful_front, lawful_stop, read_within, highest_noted}
 
 pub sound_new : (window : ℕ) → 1 ≤ window → window ≤ 2 ^ 20 → IsSound (new_lane window) window 0 0
-sound_new window some small = record { lawful = lawful_new window some small; window_is = refl; count_is = refl; end_is = end_of-empty }
+sound_new window some small = record { lawful = lawful_new window some small; window_is = refl; count_is = refl; end_is = end_of-empty; stop_fits = tt }
 
 -- the counts are small enough to be added
 pub small_highest : (lane : RecvLane) (w n e : ℕ) → IsSound lane w n e → unwrap_or lane.final_size e ≤ MAX_VARINT
@@ -40,6 +40,7 @@ sound_noted lane w n e offset bytes fin no_reset ok h =
       window_is = h.window_is;
       count_is = h.count_is;
       end_is = end_of-with_run lane.arrived.received offset (length bytes) ∙ ap (λ k. cond (nat_eq (length bytes) 0) k (max k (offset + length bytes))) h.end_is;
+      stop_fits = h.stop_fits;
     }
 
 -- a frame after a reset
@@ -51,6 +52,7 @@ sound_passed lane w n e offset bytes fin reset ok h =
       window_is = h.window_is;
       count_is = h.count_is;
       end_is = h.end_is;
+      stop_fits = h.stop_fits;
     }
 
 pub sound_reset : (lane : RecvLane) (w n e code size : ℕ) → is_some lane.reset_code ≡ false → is_whole lane ≡ false → IsOk (check_reset lane size) → IsSound lane w n e
@@ -64,6 +66,7 @@ sound_reset lane w n e code size no_reset not_whole ok h =
       window_is = h.window_is;
       count_is = h.count_is;
       end_is = h.end_is;
+      stop_fits = h.stop_fits;
     }
 
 pub sound_front : (lane : RecvLane) (w n e room : ℕ) → IsSound lane w n e → IsSound (record lane { arrived = take_front lane.arrived room }) w (n + length (front_of lane.arrived room)) e
@@ -73,15 +76,17 @@ sound_front lane w n e room h =
       window_is = h.window_is;
       count_is = ap (λ k. k + length (front_of lane.arrived room)) h.count_is;
       end_is = h.end_is;
+      stop_fits = h.stop_fits;
     }
 
-pub sound_stop : (lane : RecvLane) (w n e code : ℕ) → is_some lane.stop_code ≡ false → IsSound lane w n e → IsSound (record lane { arrived = discard lane.arrived; stop_code = Some code }) w n e
-sound_stop lane w n e code no_stop h =
+pub sound_stop : (lane : RecvLane) (w n e code : ℕ) → is_some lane.stop_code ≡ false → code ≤ MAX_VARINT → IsSound lane w n e → IsSound (record lane { arrived = discard lane.arrived; stop_code = Some code }) w n e
+sound_stop lane w n e code no_stop fits h =
     record {
       lawful = subst (λ b. IsLawful (cond b lane (record lane { arrived = discard lane.arrived; stop_code = Some code }))) no_stop (lawful_stop lane code h.lawful);
       window_is = h.window_is;
       count_is = h.count_is;
       end_is = h.end_is;
+      stop_fits = fits;
     }
 
 -- the highest offset after a frame without the final size

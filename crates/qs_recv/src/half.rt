@@ -3,6 +3,7 @@ ghost use Rattle.std.specs.Prelude.{if◌then◌else◌, ◌==◌, max, ◌≡�
 ghost use Rattle.std.specs.FinMap as map;
 ghost use Rattle.qs_ranges.specs.Numbers.{MAX_VARINT, MissesRange, covers};
 ghost use Rattle.qs_recv.specs.Lawful.{IsLawful};
+ghost use Rattle.qs_recv.specs.Sound.{CodeFits};
 ghost use Rattle.qs_recv.specs.Lane.{new_lane, highest, highest_after, taken, state, check_stream, take_stream, check_reset, take_reset, is_whole, breaks_final_size, read_answer, bytes_read, after_read, stop, raise, raise_answer};
 
 use crate::assembly::Assembly;
@@ -215,8 +216,10 @@ impl<A: Assembly> RecvHalf<A> {
         Read::Bytes(count)
     }
 
-    /// Throws the stored bytes away, and those that come from now on (section 3.5). The first code stays.
+    /// Throws the stored bytes away, and those that come from now on (section 3.5). The first code stays;
+    /// a code is at most 2^62 - 1, so that a frame can tell it.
     pub fn stop(&mut self, code: u64)
+        requires { code ≤ MAX_VARINT }
         ensures after { self.new ≡ stop self.old code }
         ensures same_highest { highest self.new ≡ highest self.old }
     {
@@ -324,9 +327,10 @@ impl<A: Assembly> RecvHalf<A> {
         self.read_count
     }
 
-    /// The code of the first stop, if there was one.
+    /// The code of the first stop, if there was one: at most 2^62 - 1.
     pub fn stop_code(&self) -> Option<u64>
-        ensures { result ≡ self.now.stop_code }
+        ensures value { result ≡ self.now.stop_code }
+        ensures small { CodeFits result }
     {
         self.stop_code
     }

@@ -41,7 +41,9 @@ fn raise(lane: &mut Half) -> Option<u64> {
     lane.raise()
 }
 
-fn stop(lane: &mut Half, code: u64) {
+fn stop(lane: &mut Half, code: u64)
+    requires { code ≤ MAX_VARINT }
+{
     lane.stop(code);
 }
 

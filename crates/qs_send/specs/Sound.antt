@@ -1,9 +1,13 @@
 -- What holds of a sending lane at all times.
-use Rattle.std.specs.Prelude.{◌≡◌, ℕ, ◌+◌, ◌≤◌, Bool, true, false, length, Some, is_some}
+use Rattle.std.specs.Prelude.{◌≡◌, ℕ, ◌+◌, ◌≤◌, Bool, true, false, length, Option, Some, is_some, IfSome}
 use Rattle.std.specs.FinSet as set
 use Rattle.qs_ranges.specs.Numbers.{MAX_VARINT, NumberSet, ContainsRange, AllBelow, AreDisjoint}
 use Rattle.qs_send.specs.declared.parts.Reset.{Reset}
 use Rattle.qs_send.specs.Lane.{SendLane, Sending, unacked_from}
+
+-- the code of a reset, where there was one, can be told in a frame (RFC 9000, sections 16 and 19.4)
+abbrev pub CodeFits : Option Reset → Type 0
+CodeFits reset = IfSome reset (λ r. r.code ≤ MAX_VARINT)
 
 -- what was sent lies below what was written and below the limit, and a reset has it as its final size
 pub record AreInOrder (l : SendLane) : Type 0 where

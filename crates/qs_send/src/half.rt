@@ -49,7 +49,7 @@ impl Model for SendHalf {
     ghost use Rattle.std.specs.FinSet as set;
     ghost use Rattle.qs_send.specs.Lane.{Sending, sending_code};
     ghost use Rattle.qs_ranges.specs.Numbers.{AllBelow};
-    ghost use Rattle.qs_send.specs.Sound.{IsLawful};
+    ghost use Rattle.qs_send.specs.Sound.{IsLawful, CodeFits};
 
     ghost Value = { Sending };
 
@@ -63,7 +63,7 @@ impl Model for SendHalf {
     ghost invariant = { λ h. IsLawful (record {
       lane = record { id = h.id; written = h.written; kept = h.kept; acked = h.acked; sent_end = h.sent_end; finished = h.finished; fin_sent = h.fin_sent; fin_acked = h.fin_acked; blocked_sent = h.blocked_sent; was_reset = h.was_reset; reset_acked = h.reset_acked; limit = h.limit; buffer = h.buffer };
       due = record { offsets = set.difference h.noted h.acked; fin = h.fin_noted && not h.fin_acked };
-    }) × AllBelow h.noted h.written };
+    }) × AllBelow h.noted h.written × CodeFits h.was_reset };
 }
 
 impl SendHalf {
@@ -155,10 +155,12 @@ impl SendHalf {
     }
 
     /// Breaks the stream off in Ready, Send or Data Sent, with the count of offsets that went out as its
-    /// final size. From then on only the RESET_STREAM is to be sent (RFC 9000, sections 3.1 and 4.5).
+    /// final size. From then on only the RESET_STREAM is to be sent (RFC 9000, sections 3.1 and 4.5). The
+    /// code is at most 2^62 - 1, so that the frame can tell it.
     ///
     /// Refused, and then unchanged: `WasReset` after another reset, else `Finished` in Data Recvd.
     pub fn reset(&mut self, code: u64) -> Result<(), SendFault>
+        requires { code ≤ MAX_VARINT }
         ensures answer { result ≡ answer_of (reset_refusal self.old.lane) }
         ensures after { self.new ≡ after_reset self.old code }
     {
@@ -178,6 +180,7 @@ impl SendHalf {
     /// Takes in a STOP_SENDING: a reset with its code, where one can still be made (RFC 9000, section
     /// 3.5).
     pub fn stopped(&mut self, code: u64)
+        requires { code ≤ MAX_VARINT }
         ensures { self.new ≡ after_reset self.old code }
     {
         let _ = self.reset(code);
@@ -284,7 +287,8 @@ impl SendHalf {
 
     /// The final size that was declared, by a reset or by the end that was sent (RFC 9000, section 4.5).
     pub fn final_size(&self) -> Option<u64>
-        ensures { result ≡ declared_size self.now.lane }
+        ensures value { result ≡ declared_size self.now.lane }
+        ensures small { IfSome result (λ size. size ≤ MAX_VARINT) }
     {
         match self.was_reset {
             Some(reset) => Some(reset.size),
@@ -293,9 +297,10 @@ impl SendHalf {
         }
     }
 
-    /// The application's code of the reset.
+    /// The application's code of the reset: at most 2^62 - 1.
     pub fn reset_code(&self) -> Option<u64>
-        ensures { result ≡ option_map (λ (r : Reset). r.code) self.now.lane.was_reset }
+        ensures value { result ≡ option_map (λ (r : Reset). r.code) self.now.lane.was_reset }
+        ensures small { IfSome result (λ code. code ≤ MAX_VARINT) }
     {
         match self.was_reset {
             Some(reset) => Some(reset.code),

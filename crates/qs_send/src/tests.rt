@@ -13,8 +13,8 @@ enum Step<'a> {
     /// A write and a `finish` are refused.
     Refuse(SendFault),
     Finish,
-    Reset(u64, Result<(), SendFault>),
-    Stop(u64),
+    Reset(u32, Result<(), SendFault>),
+    Stop(u32),
     Allow(u32),
     Block,
     /// Room, credit and the chunk that is sent.
@@ -144,8 +144,8 @@ fn take(half: &mut SendHalf, step: Step) -> Result<bool, Fail> {
         Step::Write(bytes, accepted) => return Ok(write(half, bytes)? == accepted),
         Step::Refuse(fault) => return Ok(refuses(half, fault)),
         Step::Finish => half.finish()?,
-        Step::Reset(code, answer) => return Ok(half.reset(code) == answer),
-        Step::Stop(code) => half.stopped(code),
+        Step::Reset(code, answer) => return Ok(half.reset(u64::from(code)) == answer),
+        Step::Stop(code) => half.stopped(u64::from(code)),
         Step::Allow(limit) => half.allow(u64::from(limit)),
         Step::Block => half.note_blocked(),
         Step::Send(room, fresh, chunk) => return Ok(sends(half, room, fresh, chunk)),

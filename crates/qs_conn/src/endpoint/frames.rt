@@ -64,13 +64,15 @@ impl Endpoint {
         }
     }
 
-    // Of an ACK. No number was used yet, so each ACK names one that wasn't.
+    // Of an ACK, which may name no number that wasn't used (RFC 9000, section 13.1).
     fn ack_fault(&self, largest: u64) -> Option<u64>
         ensures { result ≡ ack_fault self.now largest }
     {
-        let _floor = self.floor;
-        let _named = largest;
-        Some(PROTOCOL_VIOLATION)
+        if largest >= self.outbox.next() {
+            Some(PROTOCOL_VIOLATION)
+        } else {
+            None
+        }
     }
 
     fn stream_fault(&self, stream: StreamId, offset: u64, len: u64, fin: bool) -> Option<u64>
@@ -119,7 +121,7 @@ impl Endpoint {
         ensures { result ≡ state_fault_out self.now stream }
     {
         if self.is_own(stream) {
-            if self.sends.is_open(stream) {
+            if self.outbox.is_open(stream) {
                 None
             } else {
                 Some(STREAM_STATE_ERROR)

@@ -7,11 +7,12 @@ ghost use Rattle.qs_conn.specs.Tables.{open_to};
 ghost use Rattle.qs_conn.specs.Ends.{opens, opened_by_peer};
 ghost use Rattle.qs_conn.specs.Credit.{settle};
 ghost use Rattle.qs_conn.specs.Due.{known_count};
+ghost use Rattle.qs_conn.specs.Outgoing.{with_sends};
 ghost use Rattle.qs_conn.specs.Owner.{OpenStep, AcceptStep, own_kind, peer_kind, opened_count, with_wanted};
 
 use super::{Endpoint, is_uni, role_bit};
+use crate::outbox::Outbox;
 use crate::recv_tables::RecvTables;
-use crate::send_tables::SendTables;
 use crate::uses::OpenFault;
 use qs_ranges::NoMemory;
 use qs_wire::{Dir, StreamId};
@@ -88,6 +89,7 @@ impl Endpoint {
     }
 
     // The same, where memory was taken. No clause tells that, so a refusal is undone.
+    #[tactic(auto, using(crate::proofs::Runs::idle_with))]
     fn open_reserved(&mut self, stream: StreamId) -> Result<(), NoMemory>
         ensures ok { OnOk result (self.new ≡ opens stream self.old) }
         ensures err { OnErr result (self.new ≡ self.old) }
@@ -96,10 +98,12 @@ impl Endpoint {
         let limit = self.first_send_limit(stream);
         let window = self.window(stream);
         let buffer = self.settings.send_buffer;
-        let before = self.sends.count(stream);
-        open_sends(&mut self.sends, both(uni, !own), limit, buffer, stream)?;
+        self.outbox.are_of_open();
+        let before = self.outbox.count(stream);
+        self.outbox.are_of_open();
+        open_sends(&mut self.outbox, both(uni, !own), limit, buffer, stream)?;
         if let Err(refused) = open_recvs(&mut self.recvs, both(uni, own), window, stream) {
-            self.sends.close_to(stream, before);
+            self.outbox.close_to(stream, before);
             return Err(refused);
         }
         Ok(())
@@ -111,7 +115,7 @@ impl Endpoint {
     {
         let (uni, own) = (is_uni(stream), self.is_own(stream));
         if !both(uni, !own) {
-            self.sends.reserve(stream)?;
+            self.outbox.reserve(stream)?;
         }
         if !both(uni, own) {
             self.recvs.reserve(stream)?;
@@ -146,7 +150,7 @@ impl Endpoint {
         ensures value { result ≡ opened_count self.now kind }
         ensures small { result ≤ 2 ^ 60 }
     {
-        self.sends.count_of(kind).max(self.recvs.count_of(kind))
+        self.outbox.count_of(kind).max(self.recvs.count_of(kind))
     }
 
     // The type of the streams that this end opens.
@@ -173,20 +177,20 @@ impl Endpoint {
 }
 
 fn open_sends(
-    sends: &mut SendTables,
+    outbox: &mut Outbox,
     absent: bool,
     limit: u64,
     buffer: usize,
     stream: StreamId,
 ) -> Result<(), NoMemory>
     requires { limit ≤ MAX_VARINT }
-    ensures ok { OnOk result (sends.new ≡ (if absent then sends.old else open_to sends.old stream (λ m. new_send_lane m limit buffer))) }
-    ensures err { OnErr result (sends.new ≡ sends.old) }
+    ensures ok { OnOk result (outbox.new ≡ with_sends (if absent then outbox.old.sends else open_to outbox.old.sends stream (λ m. new_send_lane m limit buffer)) outbox.old) }
+    ensures err { OnErr result (outbox.new ≡ outbox.old) }
 {
     if absent {
         return Ok(());
     }
-    sends.open_to(limit, buffer, stream)
+    outbox.open_to(limit, buffer, stream)
 }
 
 fn open_recvs(

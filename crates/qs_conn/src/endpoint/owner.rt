@@ -1,10 +1,11 @@
 //! What an end's owner does with its streams.
-ghost use Rattle.std.specs.Prelude.{◌≡◌, ◌++◌, List, length, drop, ℕ};
+ghost use Rattle.std.specs.Prelude.{◌≡◌, ◌<◌, ◌^◌, ◌++◌, List, length, drop, ℕ};
 ghost use Rattle.qs_conn.specs.Owner.{WriteStep, FinishStep, ResetStep, StopStep, ReadStep, no_half, use_fault};
-ghost use Rattle.qs_conn.specs.Reports.{lane_report};
+ghost use Rattle.qs_conn.specs.Reports.{lane_report, own_closing};
 ghost use Rattle.qs_conn.specs.Layers.{no_sender, no_receiver};
 
 use super::Endpoint;
+use crate::closing::{Closed, Closing};
 use crate::report::LaneReport;
 use crate::uses::UseFault;
 use qs_recv::Read;
@@ -16,14 +17,14 @@ impl Endpoint {
     ///
     /// Refused, and then unchanged: `Closed`; `NoSuchStream` or `WrongDirection` where the stream has no sending half; `WasReset`;
     /// `Finished`; and `NoMemory` where memory was refused.
-    #[tactic(auto, using(crate::proofs::OwnerSteps::write_ok))]
+    #[tactic(auto, using(crate::proofs::OwnerSteps::write_ok, crate::proofs::Runs::idle_with))]
     pub fn write(&mut self, stream: StreamId, bytes: &[u8]) -> Result<usize, UseFault>
         ensures { WriteStep self.old stream bytes.now result self.new }
     {
         if let Some(fault) = self.no_sender(stream) {
             return Err(fault);
         }
-        match self.sends.write(stream, bytes) {
+        match self.outbox.write(stream, bytes) {
             Ok(count) => {
                 self.settle();
                 Ok(count)
@@ -35,13 +36,14 @@ impl Endpoint {
     /// Asks for the end of the stream after the bytes written so far.
     ///
     /// Refused as `write` is, but never for want of memory.
+    #[tactic(auto, using(crate::proofs::Runs::idle_with))]
     pub fn finish(&mut self, stream: StreamId) -> Result<(), UseFault>
         ensures { FinishStep self.old stream result self.new }
     {
         if let Some(fault) = self.no_sender(stream) {
             return Err(fault);
         }
-        match self.sends.finish(stream) {
+        match self.outbox.finish(stream) {
             Ok(()) => {
                 self.settle();
                 Ok(())
@@ -50,16 +52,18 @@ impl Endpoint {
         }
     }
 
-    /// Breaks the stream's sending half off (RFC 9000, section 3.1).
+    /// Breaks the stream's sending half off with the application's code, below 2^62 (RFC 9000, sections 3.1 and 20.2).
     ///
     /// Refused, and then unchanged: as `write` is; `Finished` only once all was acknowledged.
+    #[tactic(auto, using(crate::proofs::Runs::idle_with))]
     pub fn reset(&mut self, stream: StreamId, code: u64) -> Result<(), UseFault>
+        requires { code < 2 ^ 62 }
         ensures { ResetStep self.old stream code result self.new }
     {
         if let Some(fault) = self.no_sender(stream) {
             return Err(fault);
         }
-        match self.sends.reset(stream, code) {
+        match self.outbox.reset(stream, code) {
             Ok(()) => {
                 self.settle();
                 Ok(())
@@ -83,11 +87,13 @@ impl Endpoint {
         Ok(answer)
     }
 
-    /// Throws the stream's bytes away, those stored and those still to come (RFC 9000, section 3.5). The first code stays.
+    /// Throws the stream's bytes away, those stored and those still to come (RFC 9000, section 3.5). The first code
+    /// stays; the application's codes lie below 2^62.
     ///
     /// Refused as `read` is.
     #[tactic(auto, using(crate::proofs::OwnerSteps::stop_ok))]
     pub fn stop(&mut self, stream: StreamId, code: u64) -> Result<(), UseFault>
+        requires { code < 2 ^ 62 }
         ensures { StopStep self.old stream code result self.new }
     {
         if let Some(fault) = self.no_receiver(stream) {
@@ -102,9 +108,19 @@ impl Endpoint {
     pub fn lane_report(&self, stream: StreamId) -> Option<LaneReport>
         ensures { result ≡ lane_report self.now stream }
     {
-        match (self.sends.report(stream), self.recvs.report(stream)) {
+        match (self.outbox.report(stream), self.recvs.report(stream)) {
             (None, None) => None,
             (send, recv) => Some(LaneReport { send, recv }),
+        }
+    }
+
+    /// Why this end closed, `None` where it is open or saw its peer close (RFC 9000, section 10.2).
+    pub fn closing(&self) -> Option<Closing>
+        ensures { result ≡ own_closing self.now.closed }
+    {
+        match self.closed {
+            Some(Closed::ByUs(closing)) => Some(closing),
+            _ => None,
         }
     }
 
@@ -114,7 +130,7 @@ impl Endpoint {
     {
         if self.closed.is_some() {
             Some(UseFault::Closed)
-        } else if self.sends.is_open(stream) {
+        } else if self.outbox.is_open(stream) {
             None
         } else {
             Some(no_half(self.recvs.is_open(stream)))
@@ -130,7 +146,7 @@ impl Endpoint {
         } else if self.recvs.is_open(stream) {
             None
         } else {
-            Some(no_half(self.sends.is_open(stream)))
+            Some(no_half(self.outbox.is_open(stream)))
         }
     }
 }

@@ -1,25 +1,28 @@
 //! A frame without a fault takes effect.
-ghost use Rattle.std.specs.Prelude.{◌≡◌, ◌+◌, ◌≤◌, ◌^◌, length, None, OnOk, OnErr};
+ghost use Rattle.std.specs.Prelude.{◌≡◌, ◌+◌, ◌≤◌, ◌<◌, ◌^◌, length, None, OnOk, OnErr};
 ghost use Rattle.qs_ranges.specs.Numbers.{MAX_VARINT};
-ghost use Rattle.qs_wire.specs.Layout.{view};
+ghost use Rattle.qs_wire.specs.Varint.{numbers_of};
+ghost use Rattle.qs_wire.specs.Layout.{view, taken, ack_ranges_of};
 ghost use Rattle.qs_wire.specs.Grammar.{Fits};
 ghost use Rattle.qs_send.specs.declared.piece.Item.TheVariants as items;
-ghost use Rattle.qs_conn.specs.Seen.{seen, Stream, Control};
+ghost use Rattle.qs_conn.specs.Seen.{seen, Ack, Stream, Control};
 ghost use Rattle.qs_conn.specs.Verdicts.{state_fault_out, verdict};
-ghost use Rattle.qs_conn.specs.FrameStep.{item_taken, frame_taken};
+ghost use Rattle.qs_conn.specs.FrameStep.{named, acks, item_taken, frame_taken};
+ghost use Rattle.qs_conn.specs.Receiving.{RunsOut};
 
 use super::Endpoint;
+use super::acking::ack_ranges;
 use qs_ranges::NoMemory;
-use qs_wire::{Dir, Frame, StreamId};
+use qs_wire::{AckRanges, Dir, Frame, StreamId};
 
 impl Endpoint {
-    // A frame takes effect, or finds no memory and changes nothing.
+    // A frame takes effect, or finds no memory and changes nothing; of an ACK some packets may be acknowledged then.
     #[tactic(auto, unfolding(crate::specs::FrameStep::frame_taken))]
     pub(super) fn take(&mut self, frame: &Frame<'_>) -> Result<(), NoMemory>
         requires fits { Fits (view frame.now) }
         requires passed { verdict self.old (seen (view frame.now)) ≡ None }
         ensures ok { OnOk result (self.new ≡ frame_taken (seen (view frame.now)) self.old) }
-        ensures err { OnErr result (self.new ≡ self.old) }
+        ensures err { OnErr result (RunsOut self.old (seen (view frame.now)) self.new) }
     {
         match *frame {
             Frame::Padding
@@ -35,11 +38,11 @@ impl Endpoint {
             | Frame::ConnectionClose { .. }
             | Frame::ApplicationClose { .. }
             | Frame::HandshakeDone => Ok(()),
-            // No number was used yet, so an ACK has a fault.
-            Frame::Ack { .. } => {
-                let _floor = self.floor;
-                Ok(())
-            }
+            Frame::Ack {
+                largest,
+                ranges,
+                ..
+            } => self.take_ack(largest, ranges),
             Frame::MaxData { maximum } => {
                 self.known_data = self.known_data.max(maximum);
                 Ok(())
@@ -65,6 +68,17 @@ impl Endpoint {
         }
     }
 
+    // The outstanding packets that an ACK names are acknowledged (RFC 9000, section 13.3).
+    fn take_ack(&mut self, largest: u64, ranges: &[u8]) -> Result<(), NoMemory>
+        requires small { largest < 2 ^ 62 }
+        requires above { taken (numbers_of ranges.now) ≤ largest + 1 }
+        ensures ok { OnOk result (self.new ≡ acks (named self.old (ack_ranges_of largest (numbers_of ranges.now))) self.old) }
+        ensures err { OnErr result (RunsOut self.old (Ack largest (ack_ranges_of largest (numbers_of ranges.now))) self.new) }
+    {
+        let mut left = AckRanges::new(largest, ranges);
+        ack_ranges(&mut self.outbox, &mut left)
+    }
+
     // The peer allows so many streams of a direction.
     fn allow_streams(&mut self, dir: Dir, count: u64)
         requires { count ≤ 2 ^ 60 }
@@ -77,6 +91,7 @@ impl Endpoint {
     }
 
     // The peer allows the offsets of a stream below a limit.
+    #[tactic(auto, using(crate::proofs::Runs::idle_with))]
     fn allow(&mut self, stream: StreamId, maximum: u64) -> Result<(), NoMemory>
         requires limit { maximum ≤ MAX_VARINT }
         requires passed { state_fault_out self.old stream ≡ None }
@@ -84,18 +99,20 @@ impl Endpoint {
         ensures err { OnErr result (self.new ≡ self.old) }
     {
         self.open_by_peer(stream)?;
-        self.sends.allow(stream, maximum);
+        self.outbox.allow(stream, maximum);
         Ok(())
     }
 
     // The peer reads a stream no more.
+    #[tactic(auto, using(crate::proofs::Runs::idle_with))]
     fn stopped(&mut self, stream: StreamId, code: u64) -> Result<(), NoMemory>
-        requires { state_fault_out self.old stream ≡ None }
+        requires fits { code ≤ MAX_VARINT }
+        requires passed { state_fault_out self.old stream ≡ None }
         ensures ok { OnOk result (self.new ≡ item_taken (items.StopSending stream code) self.old) }
         ensures err { OnErr result (self.new ≡ self.old) }
     {
         self.open_by_peer(stream)?;
-        let _ = self.sends.reset(stream, code);
+        let _ = self.outbox.reset(stream, code);
         Ok(())
     }
 
@@ -126,11 +143,13 @@ impl Endpoint {
         ensures ok { OnOk result (self.new ≡ frame_taken (Stream stream offset bytes.now fin) self.old) }
         ensures err { OnErr result (self.new ≡ self.old) }
     {
-        let sends = self.sends.count(stream);
+        self.outbox.are_of_open();
+        let sends = self.outbox.count(stream);
+        self.outbox.are_of_open();
         let recvs = self.recvs.count(stream);
         self.open_by_peer(stream)?;
         if let Err(refused) = self.recvs.take_stream(stream, offset, bytes, fin) {
-            self.sends.close_to(stream, sends);
+            self.outbox.close_to(stream, sends);
             self.recvs.close_to(stream, recvs);
             return Err(refused);
         }

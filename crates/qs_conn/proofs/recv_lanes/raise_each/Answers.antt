@@ -1,14 +1,12 @@
-use Rattle.std.proofs.Common.{sym, ap, ◌∙◌, arith}
-use Rattle.std.proofs.Math.ListN.{length-set, set}
-use Rattle.std.proofs.lemmas.List.Edits.{map_over_more}
-use Rattle.qs_recv.specs.Lane.{raise}
+use Rattle.std.proofs.Common.{◌<◌, ◌∙◌, arith, length}
+use Rattle.qs_conn.proofs.LaneMarks.{raised_more}
 use Rattle.qs_conn.proofs.recv_lanes.raise_each.Goals as goal
 
-pub loop-half-preserved : goal.loop-half-preserved
-loop-half-preserved c =
-    let items = c.loop-half.half-items in
-    let same_len = c.loop-half.invariant.len in
+pub loop-index-preserved : goal.loop-index-preserved
+loop-index-preserved c =
+    let there : c.loop-index.index < length c.loop-index.halves.items = omega (arith, c.loop-index-test.true, c.len-index-end.ensures, c.loop-index.invariant.len) in
     record {
-      raised = ap (set items c.loop-half.half-index) (c.raise.ensures.after ∙ ap raise (sym c.half-item.is)) ∙ map_over_more raise c.deref_mut-half-items.result.now items c.loop-half.half-index c.half-item.result (omega (arith, same_len)) c.loop-half.invariant.raised c.half-item.is;
-      len = rw length-set same_len;
+      raised = raised_more c.args.halves.now.items c.loop-index.halves.items c.raise_at.new.halves.items c.loop-index.index there c.loop-index.invariant.len c.loop-index.invariant.raised c.raise_at.ensures.after;
+      len = c.raise_at.ensures.len ∙ c.loop-index.invariant.len;
+      marked = c.raise_at.ensures.marked;
     }

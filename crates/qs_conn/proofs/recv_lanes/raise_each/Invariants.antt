@@ -1,11 +1,12 @@
 use Rattle.std.proofs.Common.{◌≡◌, ◌++◌, map, take, drop, length}
 use Rattle.qs_recv.specs.Lane.{raise}
+use Rattle.qs_conn.specs.Marks.{AreMarked, IsQuietLane}
 use Rattle.qs_conn.proofs.recv_lanes.raise_each.Given as goal
 
-abbrev pub invariant-loop-half : goal.invariant-loop-half
-invariant-loop-half l =
-    let halves = l.initial.half-items in
+abbrev pub invariant-loop-index : goal.invariant-loop-index
+invariant-loop-index l =
     record {
-      raised : l.half-items ≡ map raise (take l.half-index halves) ++ drop l.half-index halves;
-      len : length l.half-items ≡ length halves;
+      raised : l.halves.items ≡ map raise (take l.index l.fn.halves.items) ++ drop l.index l.fn.halves.items;
+      len : length l.halves.items ≡ length l.fn.halves.items;
+      marked : AreMarked (IsQuietLane l.first) l.halves.items l.marks;
     }

@@ -1,6 +1,11 @@
 use Rattle.std.proofs.Common.{◌∙◌}
 use Rattle.qs_conn.proofs.Taken.{out_there}
+use Rattle.qs_conn.proofs.Runs.{idle_with}
+use Rattle.qs_conn.proofs.Funded.{funded_allowed}
 use Rattle.qs_conn.proofs.endpoint.Endpoint.allow.Goals as goal
 
 pub allow-requires-clause-open : goal.allow-requires-clause-open
 allow-requires-clause-open c = out_there c.args.self.now _ c.args.stream c.requires.passed (c.self.view_is ∙ c.in_ok-open_by_peer.ensures.ok)
+
+pub invariant_of-self : goal.invariant_of-self
+invariant_of-self c = (c.self.invariant.0, idle_with c.self.inside.outbox _ _ c.allow.ensures c.self.invariant.1, funded_allowed c.self.inside.outbox _ c.args.stream _ c.args.maximum _ _ c.allow.ensures c.self.invariant.2)

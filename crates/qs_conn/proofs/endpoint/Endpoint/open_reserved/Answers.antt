@@ -1,14 +1,35 @@
-use Rattle.std.proofs.Common.{refl, sym, ap, ◌∙◌}
+use Rattle.std.proofs.Common.{refl, sym, ap, ◌∙◌, subst}
 use Rattle.qs_conn.specs.Ends.{End, window}
-use Rattle.qs_conn.proofs.TableEdits.{opened_closed}
+use Rattle.qs_conn.specs.Outgoing.{Outgoing, IsIdle}
+use Rattle.qs_conn.specs.Filling.{IsFunded}
+use Rattle.qs_conn.proofs.Taken.{none_back, unsent_back, out_back}
 use Rattle.qs_conn.proofs.Kept.{kept_opened}
+use Rattle.qs_conn.proofs.Runs.{idle_with}
+use Rattle.qs_conn.proofs.Funded.{funded_opened}
 use Rattle.qs_conn.proofs.endpoint.Endpoint.open_reserved.Goals as goal
 
 pub returns-in-Err-clause-err : goal.returns-in-Err-clause-err
 returns-in-Err-clause-err c =
-    let back = opened_closed c.self.inside.sends c.args.stream _ _ c.open_sends.new.sends c.close_to.new.self c.count-before.result c.in_ok-open_sends.ensures.ok c.count-before.ensures c.close_to.ensures in
+    let back = out_back c.self.inside.outbox c.open_sends.new.outbox c.args.stream c.count-before.result _ _ _ c.in_ok-open_sends.ensures.ok c.count-before.ensures c.close_to.new.self c.close_to.ensures in
     rw (← c.self.view_is, back, c.in-Err.ensures.err) refl
 
 pub invariant_of-self-in_default : goal.invariant_of-self-in_default
-invariant_of-self-in_default c =
-    kept_opened _ _ _ _ _ _ _ _ c.args.stream c.window-window.result _ _ c.self.invariant (c.window-window.ensures.value ∙ ap (λ (e : End). window e c.args.stream) (sym c.self.view_is)) c.in_default.ensures.ok
+invariant_of-self-in_default c = (
+  kept_opened _ _ _ _ _ _ _ _ c.args.stream c.window-window.result _ _ c.self.invariant.0 (c.window-window.ensures.value ∙ ap (λ (e : End). window e c.args.stream) (sym c.self.view_is)) c.in_default.ensures.ok,
+  idle_with c.self.inside.outbox _ _ c.in_ok-open_sends.ensures.ok c.self.invariant.1,
+  funded_opened c.self.inside.outbox _ _ _ _ _ _ _ _ c.in_ok-open_sends.ensures.ok c.self.invariant.2,
+)
+
+pub close_to-requires-clause-none : goal.close_to-requires-clause-none
+close_to-requires-clause-none c = none_back c.self.inside.outbox c.open_sends.new.outbox c.args.stream c.count-before.result _ _ _ c.in_ok-open_sends.ensures.ok c.count-before.ensures c.are_of_open.ensures
+
+pub close_to-requires-clause-unsent : goal.close_to-requires-clause-unsent
+close_to-requires-clause-unsent c = unsent_back c.self.inside.outbox c.open_sends.new.outbox c.args.stream c.count-before.result _ _ _ c.in_ok-open_sends.ensures.ok c.count-before.ensures
+
+pub invariant_of-self-in-Err : goal.invariant_of-self-in-Err
+invariant_of-self-in-Err c =
+    let back = out_back c.self.inside.outbox c.open_sends.new.outbox c.args.stream c.count-before.result _ _ _ c.in_ok-open_sends.ensures.ok c.count-before.ensures c.close_to.new.self c.close_to.ensures in (
+      rw c.in-Err.ensures.err c.self.invariant.0,
+      subst (λ (o : Outgoing). IsIdle o) (sym back) c.self.invariant.1,
+      subst (λ (o : Outgoing). IsFunded o.sends c.self.inside.known_data c.self.inside.done c.self.inside.ack_due) (sym back) c.self.invariant.2,
+    )

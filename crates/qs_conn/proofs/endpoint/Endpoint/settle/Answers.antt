@@ -9,29 +9,32 @@ use Rattle.qs_conn.proofs.endpoint.Endpoint.settle.Goals as goal
 pub tally-taken-requires : goal.tally-taken-requires
 tally-taken-requires c =
     let e = ap (total highest) c.raise_all.ensures ∙ total_each highest raise c.self.inside.recvs (λ l. refl) in
-    omega (arith, e, c.self.invariant.sound.spent, c.self.invariant.granted_fits)
+    omega (arith, e, c.self.invariant.0.sound.spent, c.self.invariant.0.granted_fits)
 
 pub next_limit-self-inside-requires-clause-taken : goal.next_limit-self-inside-requires-clause-taken
 next_limit-self-inside-requires-clause-taken c =
     let e = ap (total highest) c.raise_all.ensures ∙ total_each highest raise c.self.inside.recvs (λ l. refl) in
-    omega (arith, e, c.self.invariant.sound.spent, c.self.invariant.granted_fits, c.tally-taken.ensures.spent, c.tally-taken.ensures.paid)
+    omega (arith, e, c.self.invariant.0.sound.spent, c.self.invariant.0.granted_fits, c.tally-taken.ensures.spent, c.tally-taken.ensures.paid)
 
 pub invariant_of-self : goal.invariant_of-self
 invariant_of-self c =
     let inside = c.self.inside in
     let paid = c.tally-taken.ensures.taken ∙ ap (total taken) c.raise_all.ensures ∙ total_each taken raise inside.recvs (λ l. refl) in
-    let limit = c.next_limit-self-inside.ensures.value ∙ ap (λ k. next_limit inside.granted k inside.settings.conn_window) paid in
-    record {
-      sound =
-          subst (λ (g : ℕ). KeepsCredit inside.role inside.settings c.raise_all.new.self g) (sym limit)
-          (subst (λ (t : Tables RecvLane). KeepsCredit inside.role inside.settings t (next_limit inside.granted (total taken inside.recvs) inside.settings.conn_window)) (sym c.raise_all.ensures)
-          (keeps_settle inside.role inside.settings inside.recvs inside.granted c.self.invariant.sound));
-      granted_fits = c.next_limit-self-inside.ensures.in_range;
-      peer_fits = c.self.invariant.peer_fits;
-      bidi_fits = c.self.invariant.bidi_fits;
-      uni_fits = c.self.invariant.uni_fits;
-      closing_fits = c.self.invariant.closing_fits;
-    }
+    let limit = c.next_limit-self-inside.ensures.value ∙ ap (λ k. next_limit inside.granted k inside.settings.conn_window) paid in (
+      record {
+        sound =
+            subst (λ (g : ℕ). KeepsCredit inside.role inside.settings c.raise_all.new.self g) (sym limit)
+            (subst (λ (t : Tables RecvLane). KeepsCredit inside.role inside.settings t (next_limit inside.granted (total taken inside.recvs) inside.settings.conn_window)) (sym c.raise_all.ensures)
+            (keeps_settle inside.role inside.settings inside.recvs inside.granted c.self.invariant.0.sound));
+        granted_fits = c.next_limit-self-inside.ensures.in_range;
+        peer_fits = c.self.invariant.0.peer_fits;
+        bidi_fits = c.self.invariant.0.bidi_fits;
+        uni_fits = c.self.invariant.0.uni_fits;
+        closing_fits = c.self.invariant.0.closing_fits;
+      },
+      c.self.invariant.1,
+      c.self.invariant.2,
+    )
 
 pub returns : goal.returns
 returns c =

@@ -1,6 +1,11 @@
 use Rattle.std.proofs.Common.{◌∙◌}
 use Rattle.qs_conn.proofs.Taken.{out_there}
+use Rattle.qs_conn.proofs.Runs.{idle_with}
+use Rattle.qs_conn.proofs.Funded.{funded_reset}
 use Rattle.qs_conn.proofs.endpoint.Endpoint.stopped.Goals as goal
 
-pub reset-requires : goal.reset-requires
-reset-requires c = out_there c.args.self.now _ c.args.stream c.requires (c.self.view_is ∙ c.in_ok-open_by_peer.ensures.ok)
+pub reset-requires-clause-open : goal.reset-requires-clause-open
+reset-requires-clause-open c = out_there c.args.self.now _ c.args.stream c.requires.passed (c.self.view_is ∙ c.in_ok-open_by_peer.ensures.ok)
+
+pub invariant_of-self : goal.invariant_of-self
+invariant_of-self c = (c.self.invariant.0, idle_with c.self.inside.outbox _ _ c.reset.ensures.after c.self.invariant.1, funded_reset c.self.inside.outbox _ c.args.stream _ c.args.code _ _ c.reset.ensures.after c.self.invariant.2)

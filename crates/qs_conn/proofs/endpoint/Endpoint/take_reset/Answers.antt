@@ -15,6 +15,9 @@ take_reset-requires-clause-passed c =
 
 pub invariant_of-self : goal.invariant_of-self
 invariant_of-self c =
-    let sound : IsSound c.args.self.now = subst (λ (k : End). IsSound k) c.self.view_is c.self.invariant.sound in
-    kept_recvs _ _ _ _ _ _ _ _ _ c.self-2.invariant
-    (reset_sound c.args.self.now _ c.args.stream c.args.code c.args.size c.take_reset.new.self sound c.requires.passed (c.self-2.view_is ∙ c.in_ok-open_by_peer.ensures.ok) c.take_reset.ensures)
+    let sound : IsSound c.args.self.now = subst (λ (k : End). IsSound k) c.self.view_is c.self.invariant.0.sound in (
+      kept_recvs _ _ _ _ _ _ _ _ _ c.self-2.invariant.0
+          (reset_sound c.args.self.now _ c.args.stream c.args.code c.args.size c.take_reset.new.self sound c.requires.passed (c.self-2.view_is ∙ c.in_ok-open_by_peer.ensures.ok) c.take_reset.ensures),
+      c.self-2.invariant.1,
+      c.self-2.invariant.2,
+    )

@@ -6,11 +6,13 @@ use Rattle.qs_conn.proofs.recv_lanes.RecvLanes.raise_all.Goals as goal
 
 pub invariant_of-self : goal.invariant_of-self
 invariant_of-self c =
-    let items = c.self.inside.halves.items in
-    rw c.raise_touched.ensures
-    (record {
-      counted = tally_raised items ∙ c.self.invariant.counted;
-      lawful = lawful_raised items c.self.invariant.lawful;
-      settled = all_settled items;
-      few = rw length-map c.self.invariant.few;
-    })
+    let items = c.self.inside.halves.items in (
+      rw c.raise_touched.ensures.after
+          (record {
+            counted = tally_raised items ∙ c.self.invariant.0.counted;
+            lawful = lawful_raised items c.self.invariant.0.lawful;
+            settled = all_settled items;
+            few = rw length-map c.self.invariant.0.few;
+          }),
+      c.raise_touched.ensures.marked,
+    )

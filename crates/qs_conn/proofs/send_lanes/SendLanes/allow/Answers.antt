@@ -1,9 +1,15 @@
-use Rattle.std.proofs.Common.{ap}
-use Rattle.qs_send.specs.Lane.{Sending}
-use Rattle.qs_conn.proofs.SendEdits.{lane_changed}
+use Rattle.qs_send.specs.Lane.{after_allow}
+use Rattle.qs_conn.specs.Marks.{IsQuiet}
+use Rattle.qs_conn.proofs.LaneEdits.{changed_at}
+use Rattle.qs_conn.proofs.Marked.{stays_quiet}
 use Rattle.qs_conn.proofs.send_lanes.SendLanes.allow.Goals as goal
+
+pub invariant_of-self : goal.invariant_of-self
+invariant_of-self c =
+    stays_quiet IsQuiet c.self.inside.halves.items c.self.inside.marks c.args.index c.index_mut-half.result.now c.allow.new.self (λ s. after_allow s c.args.limit) c.index_mut-half.ensures.value c.allow.ensures
+    (λ s q. record { no_offset = q.no_offset; no_end = q.no_end; sent = q.sent; told = q.told }) c.self.invariant
 
 pub returns : goal.returns
 returns c =
     rw (← c.self.view_is)
-    (lane_changed c.self.inside.halves.items c.args.index c.index_mut-half.result.now c.allow.new.self _ (rw c.self.view_is c.requires.there) c.index_mut-half.ensures.value (ap (λ (s : Sending). s.lane) c.allow.ensures))
+    (changed_at c.self.inside.halves.items c.args.index c.index_mut-half.result.now c.allow.new.self _ (rw c.self.view_is c.requires.there) c.index_mut-half.ensures.value c.allow.ensures)

@@ -1,6 +1,6 @@
-use Rattle.std.proofs.Common.{ap, ◌∙◌}
-use Rattle.qs_conn.proofs.SendEdits.{lanes, lanes_take}
+use Rattle.qs_conn.specs.Marks.{IsQuiet}
+use Rattle.qs_conn.proofs.Marked.{fewer}
 use Rattle.qs_conn.proofs.send_lanes.SendLanes.close_to.Goals as goal
 
-pub returns : goal.returns
-returns c = rw (← c.self.view_is) (ap lanes c.truncate.ensures.items ∙ lanes_take c.args.count c.self.inside.halves.items)
+pub invariant_of-self : goal.invariant_of-self
+invariant_of-self c = fewer IsQuiet c.self.inside.halves.items _ c.self.inside.marks _ c.args.count c.truncate.ensures.items c.close_to.ensures c.self.invariant

@@ -1,7 +1,15 @@
-use Rattle.qs_conn.proofs.SendEdits.{finished}
+use Rattle.qs_conn.specs.Marks.{IsQuiet}
+use Rattle.qs_conn.proofs.LaneEdits.{changed_at}
+use Rattle.qs_conn.proofs.Marked.{mark_there, looked_at}
 use Rattle.qs_conn.proofs.send_lanes.SendLanes.finish.Goals as goal
 
-pub returns-clause-ok : goal.returns-clause-ok
-returns-clause-ok c =
+pub set-requires : goal.set-requires
+set-requires c = mark_there IsQuiet c.self.inside.halves.items c.self.inside.marks c.args.index c.self.invariant.1 (rw c.self.view_is c.requires)
+
+pub invariant_of-self : goal.invariant_of-self
+invariant_of-self c = looked_at IsQuiet _ _ _ c.args.index c.finish-answer.new.self c.is_busy.result c.is_busy.ensures c.set.ensures c.self.invariant
+
+pub returns-clause-after : goal.returns-clause-after
+returns-clause-after c =
     rw (← c.self.view_is)
-    (finished c.self.inside.halves.items c.args.index c.index_mut-half.result.now c.finish.new.self c.finish.result (rw c.self.view_is c.requires) c.index_mut-half.ensures.value c.finish.ensures.answer c.finish.ensures.after)
+    (changed_at c.self.inside.halves.items c.args.index c.index_mut-half.result.now c.finish-answer.new.self _ (rw c.self.view_is c.requires) c.index_mut-half.ensures.value c.finish-answer.ensures.after)

@@ -1,10 +1,9 @@
-use Rattle.std.proofs.Common.{ℕ, ◌≤◌, ◌^◌, Some, rules, ap, ◌∙◌, arith, ◌≡◌, ◌+◌, ◌*◌, length, map}
-use Rattle.std.specs.List.{range_with_len}
-use Rattle.std.proofs.lemmas.List.{length-append}
-use Rattle.std.proofs.lemmas.List.FromFn.{length-map-range_with_len}
+use Rattle.std.proofs.Common.{ℕ, Some, rules, ap, ◌∙◌, arith, ◌≡◌, ◌+◌, ◌-◌, ◌*◌, ◌++◌, List, Bool, false, length, take, replicate}
 use Rattle.qs_send.specs.Lane.{new_sending}
-use Rattle.qs_conn.proofs.LaneEdits.{opened_more}
-use Rattle.qs_conn.proofs.SendEdits.{lanes_opened, id_is}
+use Rattle.qs_conn.specs.Marks.{IsQuiet}
+use Rattle.qs_conn.proofs.LaneEdits.{opened_more, opened_all, opened_back}
+use Rattle.qs_conn.proofs.Marked.{undone, more_opened}
+use Rattle.qs_conn.proofs.SendEdits.{id_is, begins_quiet}
 use Rattle.qs_conn.proofs.send_lanes.SendLanes.open_to.Goals as goal
 
 pub loop-opened-preserved : goal.loop-opened-preserved
@@ -13,29 +12,26 @@ loop-opened-preserved c =
     let id = id_is c.new.result c.unwrap-id.result _ is c.new.ensures.some in
     let len : c.len-before.result ≡ length c.self.inside.halves.items = omega (arith, c.len-before.ensures) in
     let at = id ∙ ap (λ k. (k + c.loop-opened.opened) * 4 + c.args.kind) len in
-    record { items = c.in_default.ensures.items ∙ opened_more _ _ _ _ _ c.loop-opened.invariant.items (c.new-fresh.ensures ∙ ap (λ k. new_sending k c.args.limit c.args.buffer) at) }
+    record { marks = c.loop-opened.invariant.marks; items = c.in_default.ensures.items ∙ opened_more _ _ _ _ _ c.loop-opened.invariant.items (c.new-fresh.ensures ∙ ap (λ k. new_sending k c.args.limit c.args.buffer) at) }
 
 pub returns-clause-ok : goal.returns-clause-ok
 returns-clause-ok c =
     let len : c.len-before.result ≡ length c.self.inside.halves.items = omega (arith, c.len-before.ensures) in
-    rw (← c.self.view_is) (lanes_opened c.self.inside.halves.items _ _ _ _ _ _ _ _ c.loop-opened.invariant.items c.loop-opened.auto.opened-end c.loop-opened-test.false c.saturating_sub-missing.ensures len)
+    rw (← c.self.view_is) (opened_all c.self.inside.halves.items _ (λ (i : ℕ). new_sending (i * 4 + c.args.kind) c.args.limit c.args.buffer) _ _ _ _ c.loop-opened.invariant.items c.loop-opened.auto.opened-end c.loop-opened-test.false c.saturating_sub-missing.ensures len)
 
 pub invariant_of-self : goal.invariant_of-self
 invariant_of-self c =
-    let before = c.self.inside.halves.items in
-    let len : c.len-before.result ≡ length before = omega (arith, c.len-before.ensures) in
-    let was : length before ≤ 2 ^ 60 = c.self.invariant in
-    let now = ap length c.loop-opened.invariant.items in
-    let k : length c.loop-opened.self-inside.halves.items ≤ 2 ^ 60 =
-    omega (
-      arith,
-      now,
-      was,
-      len,
-      length-append before (map (λ (i : ℕ). new_sending (i * 4 + c.args.kind) c.args.limit c.args.buffer) (range_with_len (length before) c.loop-opened.opened)),
-      length-map-range_with_len (λ (i : ℕ). new_sending (i * 4 + c.args.kind) c.args.limit c.args.buffer) (length before) c.loop-opened.opened,
-      c.requires.count,
-      c.loop-opened.auto.opened-end,
-      c.saturating_sub-missing.ensures,
-    ) in
-    k
+    let len : c.len-before.result ≡ length c.self.inside.halves.items = omega (arith, c.len-before.ensures) in
+    undone IsQuiet c.self.inside.halves.items _ c.self.inside.marks _ (c.truncate.ensures.items ∙ ap (take c.len-before.result) c.in-Err.ensures.items ∙ opened_back c.self.inside.halves.items _ _ c.len-before.result c.loop-opened.invariant.items len) c.loop-opened.invariant.marks c.self.invariant
+
+pub invariant_of-self-in-Err-open_to : goal.invariant_of-self-in-Err-open_to
+invariant_of-self-in-Err-open_to c =
+    let len : c.len-before.result ≡ length c.self.inside.halves.items = omega (arith, c.len-before.ensures) in
+    undone IsQuiet c.self.inside.halves.items _ c.self.inside.marks _ (c.truncate-in-Err-open_to.ensures.items ∙ opened_back c.self.inside.halves.items _ _ c.len-before.result c.loop-opened.invariant.items len) (c.in-Err-open_to.ensures.err ∙ c.loop-opened.invariant.marks) c.self.invariant
+
+pub invariant_of-self-in_default-open_to : goal.invariant_of-self-in_default-open_to
+invariant_of-self-in_default-open_to c =
+    let len : c.len-before.result ≡ length c.self.inside.halves.items = omega (arith, c.len-before.ensures) in
+    more_opened IsQuiet (λ (i : ℕ). new_sending (i * 4 + c.args.kind) c.args.limit c.args.buffer) (λ i. begins_quiet (i * 4 + c.args.kind) c.args.limit c.args.buffer)
+    c.self.inside.halves.items c.loop-opened.self-inside.halves.items c.self.inside.marks c.open_to.new.self c.args.count c.loop-opened.opened c.saturating_sub-missing.result c.requires.count c.loop-opened.invariant.items
+    c.loop-opened.auto.opened-end c.loop-opened-test.false (c.saturating_sub-missing.ensures ∙ ap (λ k. c.args.count - k) len) (c.in_default-open_to.ensures.ok ∙ ap (λ (ms : List Bool). ms ++ replicate (c.args.count - length ms) false) c.loop-opened.invariant.marks) c.self.invariant

@@ -7,5 +7,6 @@ abbrev pub invariant-loop-opened : goal.invariant-loop-opened
 invariant-loop-opened l =
     let before = l.initial.self-inside.halves.items in
     record {
+      marks : l.self-inside.marks ≡ l.initial.self-inside.marks;
       items : l.self-inside.halves.items ≡ before ++ map (λ (i : ℕ). new_sending (i * 4 + l.kind) l.limit l.buffer) (range_with_len (length before) l.opened);
     }

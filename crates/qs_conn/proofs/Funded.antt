@@ -1,0 +1,179 @@
+-- What lets an end make packets: each call keeps it.
+use Rattle.std.proofs.Common.{◌≡◌, ℕ, zero, suc, ◌+◌, ◌<◌, ◌≤◌, Bool, true, false, List, [], ◌∷◌, take, drop, max, Option, None, Some, is_some, Result, Ok, Err, cond, refl, sym, ap, ◌∙◌, subst, arith, inl, inr}
+use Rattle.std.proofs.lemmas.Bool.{both_ways, cases_lt}
+use Rattle.std.proofs.lemmas.Bool.Decides.{nat_tests}
+use Rattle.std.specs.Ordering.{nat_cmp}
+use Rattle.std.specs.FinMap as fmap
+use Rattle.std.specs.FinSet as set
+use Rattle.qs_ranges.specs.declared.NoMemory.{NoMemory}
+use Rattle.qs_ranges.specs.Numbers.{MAX_VARINT, NumberSet, numbers, run_starts, contains-with_range}
+use Rattle.qs_ranges.proofs.Starts.{contains-run_starts, len-run_starts-with_range, len-run_starts-without_lowest}
+use Rattle.qs_wire.specs.Layout.{taken, ack_ranges_of}
+use Rattle.qs_send.specs.declared.piece.Piece.{Piece}
+use Rattle.qs_send.specs.declared.piece.Piece.TheVariants.{Data, Told}
+use Rattle.qs_send.specs.declared.piece.Item.TheVariants.{MaxData, MaxStreamData, MaxStreams, ResetStream, StopSending, DataBlocked, StreamDataBlocked, StreamsBlocked}
+use Rattle.qs_send.specs.Lane.{SendLane, new_lane, write_lane, finish_lane, reset_lane, reset_refusal, allow_lane, acked_lane, reset_acked_lane}
+use Rattle.qs_conn.specs.declared.settings.PeerLimits.{PeerLimits}
+use Rattle.qs_conn.specs.Settings.{are_spellable}
+use Rattle.qs_conn.specs.Tables.{Tables, no_streams, lookup, updated, open_to, total}
+use Rattle.qs_conn.specs.Recording.{has_too_many, lowest_end}
+use Rattle.qs_conn.specs.Outgoing.{Outgoing, no_packets, with_sends, on_lane, sent_sum, first_acked_out}
+use Rattle.qs_conn.specs.Runs.{shortened_out, LosesBy, Loses, acks_out, AcksBy, AcksRanges, named_pieces}
+use Rattle.qs_conn.specs.Filling.{IsFunded}
+use Rattle.qs_conn.proofs.TableLaws.{total_update}
+use Rattle.qs_conn.proofs.RunLaws.{lowest_run, lowest_end_is}
+use Rattle.qs_conn.proofs.AckLaws.{count_runs}
+use Rattle.qs_conn.proofs.AckRuns.{all_ranges}
+use Rattle.qs_conn.proofs.Taken.{sum_open}
+
+-- A new end
+
+no_sum : sent_sum no_streams ≡ 0
+unfolding total
+no_sum = refl
+
+no_runs : set.len (run_starts set.empty) ≡ 0
+no_runs = sym (count_runs set.empty [] (record { apart = tt; members = λ n. set.contains-empty nat_cmp n }))
+
+pub funded_new : (p : PeerLimits) (o : Outgoing) (done : NumberSet) → are_spellable p ≡ true → o ≡ no_packets → done ≡ set.empty → IsFunded o.sends p.max_data done false
+funded_new p o done fits none empty =
+    let sum : sent_sum o.sends ≡ 0 = ap (λ (x : Outgoing). sent_sum x.sends) none ∙ no_sum in
+    let runs : set.len (run_starts done) ≡ 0 = ap (λ (s : NumberSet). set.len (run_starts s)) empty ∙ no_runs in
+    record {
+      credit = omega (arith, sum);
+      known_fits = grind (arith, nat_tests, fits);
+      few = omega (arith, runs);
+      acks = λ due. absurd (both_ways false refl due);
+    }
+
+-- The sum of all sent ends stays
+
+pub funded_same : (t t' : Tables SendLane) (k : ℕ) (done : NumberSet) (due : Bool) → sent_sum t' ≡ sent_sum t → IsFunded t k done due → IsFunded t' k done due
+funded_same t t' k done due same h =
+    (let c = h.credit in record { credit = omega (arith, same, c); known_fits = h.known_fits; few = h.few; acks = h.acks })
+
+sum_lane : (t : Tables SendLane) (n : ℕ) (f : SendLane → SendLane) → ((l : SendLane) → (f l).sent_end ≡ l.sent_end) → sent_sum (updated t n f (lookup t n)) ≡ sent_sum t
+sum_lane t n f same = go (lookup t n) refl
+  where
+    go : (o : Option SendLane) → lookup t n ≡ o → sent_sum (updated t n f o) ≡ sent_sum t
+    go None is = refl
+    go (Some l) is = (let e = total_update (λ (m : SendLane). m.sent_end) t n l (f l) is in let s = same l in omega (arith, e, s))
+
+on_lane_same : (o new : Outgoing) (n k : ℕ) (f : SendLane → SendLane) (done : NumberSet) (due : Bool) → ((l : SendLane) → (f l).sent_end ≡ l.sent_end) → new ≡ on_lane n f o → IsFunded o.sends k done due → IsFunded new.sends k done due
+on_lane_same o new n k f done due same is h = funded_same o.sends new.sends k done due (ap (λ (x : Outgoing). sent_sum x.sends) is ∙ sum_lane o.sends n f same) h
+
+pub funded_written : (o new : Outgoing) (n k : ℕ) (bytes : List ℕ) (done : NumberSet) (due : Bool) → new ≡ on_lane n (λ l. write_lane l bytes) o → IsFunded o.sends k done due → IsFunded new.sends k done due
+funded_written o new n k bytes done due is h = on_lane_same o new n k (λ l. write_lane l bytes) done due (λ l. refl) is h
+
+pub funded_finished : (o new : Outgoing) (n k : ℕ) (done : NumberSet) (due : Bool) → new ≡ on_lane n finish_lane o → IsFunded o.sends k done due → IsFunded new.sends k done due
+funded_finished o new n k done due is h = on_lane_same o new n k finish_lane done due (λ l. refl) is h
+
+pub funded_reset : (o new : Outgoing) (n k code : ℕ) (done : NumberSet) (due : Bool) → new ≡ on_lane n (λ l. reset_lane l code) o → IsFunded o.sends k done due → IsFunded new.sends k done due
+funded_reset o new n k code done due is h = on_lane_same o new n k (λ l. reset_lane l code) done due (λ l. by_test l (is_some (reset_refusal l))) is h
+  where
+    by_test : (l : SendLane) (b : Bool) → (cond b l (record l { was_reset = Some (record { code = code; size = cond l.fin_sent l.written l.sent_end }) })).sent_end ≡ l.sent_end
+    by_test l true = refl
+    by_test l false = refl
+
+pub funded_allowed : (o new : Outgoing) (n k limit : ℕ) (done : NumberSet) (due : Bool) → new ≡ on_lane n (λ l. allow_lane l limit) o → IsFunded o.sends k done due → IsFunded new.sends k done due
+funded_allowed o new n k limit done due is h = on_lane_same o new n k (λ l. allow_lane l limit) done due (λ l. refl) is h
+
+pub funded_opened : (o new : Outgoing) (b : Bool) (n limit buffer k : ℕ) (done : NumberSet) (due : Bool) → new ≡ with_sends (cond b o.sends (open_to o.sends n (λ m. new_lane m limit buffer))) o
+    → IsFunded o.sends k done due → IsFunded new.sends k done due
+funded_opened o new b n limit buffer k done due is h = funded_same o.sends new.sends k done due (ap (λ (x : Outgoing). sent_sum x.sends) is ∙ sum_open o.sends n limit buffer b) h
+
+-- Acknowledgements and losses
+
+sum_acked : (k : ℕ) (p : Piece) (o : Outgoing) → sent_sum (first_acked_out k p o).sends ≡ sent_sum o.sends
+sum_acked k (Data n c) o = sum_lane o.sends n (λ l. acked_lane l c) (λ l. refl)
+sum_acked k (Told (ResetStream n code size)) o = sum_lane o.sends n reset_acked_lane (λ l. refl)
+sum_acked k (Told (MaxData x)) o = refl
+sum_acked k (Told (MaxStreamData n x)) o = refl
+sum_acked k (Told (MaxStreams d x)) o = refl
+sum_acked k (Told (StopSending n x)) o = refl
+sum_acked k (Told (DataBlocked x)) o = refl
+sum_acked k (Told (StreamDataBlocked n x)) o = refl
+sum_acked k (Told (StreamsBlocked d x)) o = refl
+
+sum_acks : (ps : List (ℕ × Piece)) (o : Outgoing) → sent_sum (acks_out ps o).sends ≡ sent_sum o.sends
+unfolding acks_out
+sum_acks [] o = refl
+sum_acks (p ∷ ps) o = sum_acks ps (first_acked_out p.0 p.1 o) ∙ sum_acked p.0 p.1 o
+
+pub funded_acked : (largest : ℕ) (values : List ℕ) (ranges : List (ℕ × ℕ)) (o new : Outgoing) (result : Result (Unit {0}) NoMemory) (k : ℕ) (done : NumberSet) (due : Bool) → taken values ≤ largest + 1
+    → ranges ≡ ack_ranges_of largest values → AcksRanges ranges o result new → IsFunded o.sends k done due → IsFunded new.sends k done due
+funded_acked largest values ranges o new result k done due above is acked h =
+    funded_same o.sends new.sends k done due (go result (all_ranges largest values o new result above (subst (λ rs. AcksRanges rs o result new) is acked))) h
+  where
+    go : (r : Result (Unit {0}) NoMemory) → AcksBy (named_pieces o.outstanding (ack_ranges_of largest values)) o r new → sent_sum new.sends ≡ sent_sum o.sends
+    go (Ok all) e = ap (λ (x : Outgoing). sent_sum x.sends) e ∙ sum_acks (named_pieces o.outstanding (ack_ranges_of largest values)) o
+    go (Err refused) e = ap (λ (x : Outgoing). sent_sum x.sends) e.1 ∙ sum_acks (take e.0 (named_pieces o.outstanding (ack_ranges_of largest values))) o
+
+sends_shortened : (k : ℕ) (o : Outgoing) (ps : List Piece) → (shortened_out k o ps).sends ≡ o.sends
+sends_shortened k o [] = refl
+sends_shortened k o (p ∷ ps) = refl
+
+pub funded_lost : (j : ℕ) (o new : Outgoing) (result : Result (Unit {0}) NoMemory) (k : ℕ) (done : NumberSet) (due : Bool) → Loses j o result new → IsFunded o.sends k done due → IsFunded new.sends k done due
+unfolding Loses
+funded_lost j o new result k done due lost h = subst (λ (t : Tables SendLane). IsFunded t k done due) (sym (go (fmap.get o.outstanding j) result lost)) h
+  where
+    go : (x : Option (List Piece)) (r : Result (Unit {0}) NoMemory) → LosesBy j o x r new → new.sends ≡ o.sends
+    go None (Ok all) e = ap (λ (x : Outgoing). x.sends) e
+    go None (Err refused) e = absurd e
+    go (Some []) (Ok all) e = ap (λ (x : Outgoing). x.sends) e
+    go (Some []) (Err refused) e = absurd e
+    go (Some (p ∷ ps)) (Ok all) e = ap (λ (x : Outgoing). x.sends) e
+    go (Some (p ∷ ps)) (Err refused) e = ap (λ (x : Outgoing). x.sends) e.2 ∙ sends_shortened j o (drop e.0 (p ∷ ps))
+
+-- The peer's credit rises
+
+pub funded_raised : (t : Tables SendLane) (k m r : ℕ) (done : NumberSet) (due : Bool) → r ≡ max k m → m ≤ MAX_VARINT → IsFunded t k done due → IsFunded t r done due
+funded_raised t k m r done due is small h =
+    (let c = h.credit in let f = h.known_fits in record { credit = omega (arith, is, c); known_fits = omega (arith, is, f, small); few = h.few; acks = h.acks })
+
+-- A packet's number is kept
+
+counts_member : (s : NumberSet) (n : ℕ) → set.contains s n ≡ true → 0 < set.len s
+counts_member s n has =
+    elim (cases_lt 0 (set.len s)) [
+      | inl some ↦ some
+      | inr none ↦ (let empty : s ≡ set.empty = set.empty_of_len s (omega arith) in absurd (both_ways true (sym has ∙ ap (λ t. set.contains t n) empty ∙ set.contains-empty nat_cmp n) refl))
+    ]
+
+-- a set with a member has a run
+some_run : (s : NumberSet) (n : ℕ) → set.contains s n ≡ true → 0 < set.len (run_starts s)
+some_run s zero has = counts_member (run_starts s) 0 (contains-run_starts s 0 ∙ grind (arith, has))
+some_run s (suc m) has = go (set.contains s m) refl (some_run s m)
+  where
+    go : (b : Bool) → set.contains s m ≡ b → (set.contains s m ≡ true → 0 < set.len (run_starts s)) → 0 < set.len (run_starts s)
+    go true before lower = lower before
+    go false before lower = counts_member (run_starts s) (suc m) (contains-run_starts s (suc m) ∙ grind (arith, has, before))
+
+is_kept : (s : NumberSet) (n : ℕ) → set.contains (set.union s (numbers n (n + 1))) n ≡ true
+is_kept s n = (let e = contains-with_range s n (n + 1) n in grind (arith, nat_tests, e))
+
+abbrev AreFew : NumberSet → Type 0
+AreFew s = (0 < set.len (run_starts s)) × (set.len (run_starts s) ≤ 32)
+
+trimmed : (s : NumberSet) (n : ℕ) → set.contains s n ≡ true → set.len (run_starts s) ≤ 33 → AreFew (cond (has_too_many s) (set.difference s (numbers 0 (lowest_end s))) s)
+unfolding has_too_many
+trimmed s n has most = go (has_too_many s) refl
+  where
+    go : (b : Bool) → has_too_many s ≡ b → AreFew (cond b (set.difference s (numbers 0 (lowest_end s))) s)
+    go true many =
+        let run = lowest_run s n has in
+        let more : 32 < set.len (run_starts s) = grind (arith, nat_tests, many) in
+        let fewer = len-run_starts-without_lowest s _ run in
+        let end = lowest_end_is s _ run in
+        subst (λ (j : ℕ). AreFew (set.difference s (numbers 0 j))) (sym end) (omega (arith, fewer, more, most), omega (arith, fewer, most))
+    go false many = (some_run s n has, grind (arith, nat_tests, many))
+
+pub funded_recorded : (t : Tables SendLane) (k n : ℕ) (done kept new : NumberSet) (due due' : Bool) → kept ≡ set.union done (numbers n (n + 1))
+    → new ≡ cond (has_too_many kept) (set.difference kept (numbers 0 (lowest_end kept))) kept → IsFunded t k done due → IsFunded t k new due'
+funded_recorded t k n done kept new due due' is after h =
+    let few = h.few in
+    let has : set.contains kept n ≡ true = ap (λ s. set.contains s n) is ∙ is_kept done n in
+    let rise = len-run_starts-with_range done n (n + 1) (omega arith) in
+    let most : set.len (run_starts kept) ≤ 33 = (let e = ap (λ (s : NumberSet). set.len (run_starts s)) is in omega (arith, e, rise, few)) in
+    let all : AreFew new = subst AreFew (sym after) (trimmed kept n has most) in
+    record { credit = h.credit; known_fits = h.known_fits; few = all.1; acks = λ due. all.0 }

@@ -1,0 +1,88 @@
+-- What a call of make_packet leaves.
+use Rattle.std.proofs.Common.{◌≡◌, ℕ, ◌+◌, ◌<◌, ◌≤◌, true, false, List, [], ◌∷◌, length, take, refl, sym, ap, ◌∙◌, subst, arith, None, Some, is_some, nat_le}
+use Rattle.std.specs.Prelude.{Ok, Err}
+use Rattle.std.proofs.lemmas.Bool.Decides.{nat_tests}
+use Rattle.std.proofs.lemmas.List.{length-take-le}
+use Rattle.std.specs.FinMap as fmap
+use Rattle.qs_ranges.specs.Numbers.{MAX_VARINT}
+use Rattle.qs_send.specs.declared.piece.Piece.{Piece}
+use Rattle.qs_conn.specs.declared.making.MakeFault.TheVariants as making
+use Rattle.qs_conn.specs.declared.terms.Terms.{Terms}
+use Rattle.qs_conn.specs.Ends.{End}
+use Rattle.qs_conn.specs.Credit.{settle}
+use Rattle.qs_conn.specs.Seen.{Seen, seen_all}
+use Rattle.qs_conn.specs.Due.{Among, Sendable}
+use Rattle.qs_conn.specs.Lawful.{Fills, frame_put}
+use Rattle.qs_conn.specs.Making.{IsMade, MakeAt, MakeStep, make_refusal}
+use Rattle.qs_conn.specs.Outgoing.{Outgoing, sent_sum, with_outgoing}
+use Rattle.qs_conn.specs.Filling.{InPacket, end_by, Packed}
+use Rattle.qs_conn.proofs.Pieces.{put_next}
+use Rattle.qs_conn.proofs.Stages.{packed_none, packed_some}
+
+-- Refusals
+
+pub make_exhausted : (v old : End) (room : ℕ) → v ≡ old → is_some v.closed ≡ false → MAX_VARINT < v.next → MakeStep old room (Err making.Exhausted) [] old
+make_exhausted v old room same clear past = subst (λ e. MakeStep e room (Err making.Exhausted) [] e) same (subst (λ r. MakeAt r v room (Err making.Exhausted) [] v) (sym is) (refl, refl, refl))
+  where
+    is : make_refusal v ≡ Some making.Exhausted
+    is = (let test : nat_le (MAX_VARINT + 1) v.next ≡ true = grind (arith, nat_tests, past) in rw (clear, test) refl)
+
+no_refusal : (v : End) → is_some v.closed ≡ false → v.next ≤ MAX_VARINT → make_refusal v ≡ None
+no_refusal v clear le = (let test : nat_le (MAX_VARINT + 1) v.next ≡ false = grind (arith, nat_tests, le) in rw (clear, test) refl)
+
+-- nothing is in a packet that isn't in the making
+fresh_of : (v : End) → fmap.get v.outstanding v.next ≡ None → (p : Piece) → InPacket v p → ⊥
+fresh_of v idle p there = subst (λ o. Among p (elim o [ None ↦ [] | Some ps ↦ ps ])) idle there
+
+fills_next : (old e mid : End) (fs : List Seen) → Fills old e fs mid → mid.next ≡ e.next
+fills_next old e mid [] is = ap (λ (x : End). x.next) is
+fills_next old e mid (f ∷ fs) (may, rest) = fills_next old (frame_put f e) mid fs rest ∙ put_next f e
+
+abbrev pub terms_of : End → Terms
+terms_of v = record { role = v.role; settings = v.settings; granted = v.granted; known_data = v.known_data; known_bidi = v.known_bidi; known_uni = v.known_uni; wanted_bidi = v.wanted_bidi; wanted_uni = v.wanted_uni }
+
+abbrev pub outgoing_of : ℕ → End → Outgoing
+outgoing_of spare v = record { sends = v.sends; next = v.next; outstanding = v.outstanding; acked = v.acked; spare = spare }
+
+-- the call filled a packet
+module _ (v old : End) (same : v ≡ old) (t : Terms) (o o' : Outgoing) (spare room len : ℕ) (out : List ℕ) (idle : fmap.get v.outstanding v.next ≡ None) (t_is : t ≡ terms_of v) (o_is : o ≡ outgoing_of spare v)
+    (fills : (x : End) → end_by t v.recvs o x ≡ x → x.done ≡ v.done → x.ack_due ≡ v.ack_due → ((p : Piece) → InPacket x p → ⊥) → Packed room x (take len out) (end_by t v.recvs o' (record x { ack_due = false }))) where
+  abbrev pub filled : End
+  filled = end_by t v.recvs o' (record v { ack_due = false })
+
+  packed : Packed room v (take len out) filled
+  packed = fills v parts refl refl (fresh_of v idle)
+    where
+      parts : end_by t v.recvs o v ≡ v
+      parts = rw (t_is, o_is) refl
+
+  pub filled_next : o'.next ≡ v.next
+  filled_next = fills_next v v filled (seen_all packed.frames) packed.fills
+
+  pub filled_credit : sent_sum o'.sends ≤ v.known_data
+  filled_credit = (let known : t.known_data ≡ v.known_data = ap (λ (x : Terms). x.known_data) t_is in omega (arith, known, packed.within))
+
+  none_is : 25 ≤ room → len ≡ 0 → (Sendable v → ⊥) × (filled ≡ v)
+  none_is enough none = packed_none room v (take len out) filled packed enough (ap (λ k. take k out) none)
+
+  same_parts : filled ≡ v → with_outgoing o' v ≡ v
+  same_parts is = ap (λ (x : End). record v { sends = x.sends; next = x.next; outstanding = x.outstanding; acked = x.acked }) is
+
+  -- it had nothing to send
+  pub make_none : is_some v.closed ≡ false → v.next ≤ MAX_VARINT → 25 ≤ room → len ≡ 0 → MakeStep old room (Ok None) [] (with_outgoing o' v)
+  make_none clear le enough none =
+      let (quiet, is) = none_is enough none in
+      subst (λ e. MakeStep e room (Ok None) [] (with_outgoing o' v)) same (subst (λ r. MakeAt r v room (Ok None) [] (with_outgoing o' v)) (sym (no_refusal v clear le)) (quiet, refl, same_parts is))
+
+  pub idle_none : 25 ≤ room → len ≡ 0 → fmap.get o'.outstanding o'.next ≡ None
+  idle_none enough none = (let (quiet, is) = none_is enough none in ap (λ (x : End). fmap.get x.outstanding x.next) is ∙ idle)
+
+  -- it had some
+  pub make_some : (new : End) (o'' : Outgoing) (number : ℕ) → is_some v.closed ≡ false → v.next ≤ MAX_VARINT → 0 < len → len ≤ room → length out ≡ room → number ≡ v.next → o'' ≡ record o' { next = o'.next + 1; spare = 0 } →
+      new ≡ settle (with_outgoing o'' (record v { ack_due = false })) → MakeStep old room (Ok (Some (record { number = number; len = len }))) (take len out) new
+  make_some new o'' number clear le some within count is after settled =
+      let inside : length (take len out) ≡ len = length-take-le len out (omega (arith, within, count)) in
+      let made = packed_some room v (take len out) filled packed number len is (sym inside) within (λ none. omega (arith, some, inside, ap length none)) in
+      let end : new ≡ settle (record filled { next = v.next + 1 }) = settled ∙ ap settle (rw (after, t_is, filled_next) refl) in
+      subst (λ e. MakeStep e room (Ok (Some (record { number = number; len = len }))) (take len out) new) same
+      (subst (λ r. MakeAt r v room (Ok (Some (record { number = number; len = len }))) (take len out) new) (sym (no_refusal v clear le)) (subst (IsMade v room (record { number = number; len = len }) (take len out)) (sym end) made))

@@ -1,0 +1,177 @@
+-- Marks beside parts: each part that isn't marked has a property.
+use Rattle.std.proofs.Common.{◌≡◌, ℕ, zero, suc, ◌+◌, ◌-◌, ◌*◌, ◌/◌, ◌%◌, min, ◌<◌, ◌≤◌, ◌^◌, Bool, false, List, [], ◌∷◌, ◌++◌, map, length, get_or, take, replicate, Option, None, Some, slice_get, refl, sym, ap, ◌∙◌, subst, arith, inl, inr}
+use Rattle.std.specs.List.{range_with_len}
+use Rattle.std.specs.Option.{IfSome, IfNone}
+use Rattle.std.proofs.Math.ListN.{set, length-set}
+use Rattle.std.proofs.lemmas.Bool.{cases_lt, both_ways}
+use Rattle.std.proofs.lemmas.List.{length-append, length-take}
+use Rattle.std.proofs.lemmas.List.FromFn.{length-map-range_with_len}
+use Rattle.std.proofs.lemmas.Option.{none-some, same_Some}
+use Rattle.qs_conn.specs.Marks.{is_marked, AreMarked, IsBefore, IsNextMark, HaveTo, least_of}
+use Rattle.qs_conn.specs.Layers.{tables_of}
+use Rattle.qs_conn.specs.Tables.{Tables, kind_of, lookup}
+use Rattle.qs_conn.proofs.TableEdits.{lookup_is}
+
+pub mark_past : (ms : List Bool) (i : ℕ) → length ms ≤ i → is_marked ms i ≡ false
+mark_past [] i le = refl
+mark_past (m ∷ ms) zero le = absurd (omega (arith, le))
+mark_past (m ∷ ms) (suc i) le = mark_past ms i (omega (arith, le))
+
+-- a search found no mark
+pub next_none : (ms : List Bool) (from at : ℕ) → ((i : ℕ) → from ≤ i → i < at → is_marked ms i ≡ false) → length ms ≤ at → IsNextMark ms from None
+next_none ms from at below past =
+    record {
+      found = λ n is. absurd (none-some n is);
+      unmarked = λ i le before. elim (cases_lt i at) [ inl lt ↦ below i le lt | inr ge ↦ mark_past ms i (omega (arith, ge, past)) ];
+    }
+
+module _ {X : Type 0} (Q : X → Type 0) where
+  pub marked_len : (xs : List X) (ms : List Bool) → AreMarked Q xs ms → length ms ≡ length xs
+  marked_len [] [] h = refl
+  marked_len [] (m ∷ ms) h = absurd h
+  marked_len (x ∷ xs) [] h = absurd h
+  marked_len (x ∷ xs) (m ∷ ms) h = ap suc (marked_len xs ms h.1)
+
+  -- one part becomes another, and is looked at
+  pub marked_set : (xs : List X) (ms : List Bool) (i : ℕ) (y : X) (m : Bool) → (m ≡ false → Q y) → AreMarked Q xs ms → AreMarked Q (set xs i y) (set ms i m)
+  marked_set [] [] i y m q h = h
+  marked_set [] (k ∷ ms) i y m q h = absurd h
+  marked_set (x ∷ xs) [] i y m q h = absurd h
+  marked_set (x ∷ xs) (k ∷ ms) zero y m q h = (q, h.1)
+  marked_set (x ∷ xs) (k ∷ ms) (suc i) y m q h = (h.0, marked_set xs ms i y m q h.1)
+
+  -- one part becomes another that has the property if the first one has it
+  pub marked_kept : (xs : List X) (ms : List Bool) (i : ℕ) (x y : X) → x ≡ get_or xs i x → (Q x → Q y) → AreMarked Q xs ms → AreMarked Q (set xs i y) ms
+  marked_kept [] [] i x y at q h = h
+  marked_kept [] (k ∷ ms) i x y at q h = absurd h
+  marked_kept (z ∷ xs) [] i x y at q h = absurd h
+  marked_kept (z ∷ xs) (k ∷ ms) zero x y at q h = (λ is. q (subst Q (sym at) (h.0 is)), h.1)
+  marked_kept (z ∷ xs) (k ∷ ms) (suc i) x y at q h = (h.0, marked_kept xs ms i x y at q h.1)
+
+  pub marked_take : (n : ℕ) (xs : List X) (ms : List Bool) → AreMarked Q xs ms → AreMarked Q (take n xs) (take n ms)
+  marked_take zero xs ms h = tt
+  marked_take (suc n) [] [] h = tt
+  marked_take (suc n) [] (m ∷ ms) h = absurd h
+  marked_take (suc n) (x ∷ xs) [] h = absurd h
+  marked_take (suc n) (x ∷ xs) (m ∷ ms) h = (h.0, marked_take n xs ms h.1)
+
+  -- parts that begin with the property
+  marked_begun : (begin : ℕ → X) → ((i : ℕ) → Q (begin i)) → (lo n : ℕ) → AreMarked Q (map begin (range_with_len lo n)) (replicate n false)
+  marked_begun begin q lo zero = tt
+  marked_begun begin q lo (suc n) = (λ is. q lo, marked_begun begin q (lo + 1) n)
+
+  pub marked_opened : (begin : ℕ → X) → ((i : ℕ) → Q (begin i)) → (xs : List X) (ms : List Bool) (lo n : ℕ) → AreMarked Q xs ms → AreMarked Q (xs ++ map begin (range_with_len lo n)) (ms ++ replicate n false)
+  marked_opened begin q [] [] lo n h = marked_begun begin q lo n
+  marked_opened begin q [] (m ∷ ms) lo n h = absurd h
+  marked_opened begin q (x ∷ xs) [] lo n h = absurd h
+  marked_opened begin q (x ∷ xs) (m ∷ ms) lo n h = (h.0, marked_opened begin q xs ms lo n h.1)
+
+  -- a part without a mark
+  pub unmarked_at : (xs : List X) (ms : List Bool) (i : ℕ) (x : X) → AreMarked Q xs ms → slice_get xs i ≡ Some x → is_marked ms i ≡ false → Q x
+  unmarked_at [] [] i x h at no_mark = absurd (none-some x at)
+  unmarked_at [] (m ∷ ms) i x h at no_mark = absurd h
+  unmarked_at (z ∷ xs) [] i x h at no_mark = absurd h
+  unmarked_at (z ∷ xs) (m ∷ ms) zero x h at no_mark = subst Q (same_Some z x at) (h.0 no_mark)
+  unmarked_at (z ∷ xs) (m ∷ ms) (suc i) x h at no_mark = unmarked_at xs ms i x h.1 at no_mark
+
+  pub look_again : (xs : List X) (ms now : List Bool) (i : ℕ) (y : X) (m : Bool) → (m ≡ false → Q y) → now ≡ set ms i m → AreMarked Q xs ms → AreMarked Q (set xs i y) now
+  look_again xs ms now i y m q is h = subst (AreMarked Q (set xs i y)) (sym is) (marked_set xs ms i y m q h)
+
+  pub mark_there : (xs : List X) (ms : List Bool) (i : ℕ) → AreMarked Q xs ms → i < length xs → i < length ms
+  mark_there xs ms i h there = omega (arith, marked_len xs ms h, there)
+
+  -- a part was changed and then looked at
+  pub looked_at : (xs : List X) (ms now : List Bool) (i : ℕ) (y : X) (m : Bool) → (m ≡ false → Q y) → now ≡ set ms i m → (length xs ≤ 2 ^ 60) × AreMarked Q xs ms → (length (set xs i y) ≤ 2 ^ 60) × AreMarked Q (set xs i y) now
+  looked_at xs ms now i y m q is h = (rw length-set h.0, subst (AreMarked Q (set xs i y)) (sym is) (marked_set xs ms i y m q h.1))
+
+  -- a part was changed that stays quiet if it was
+  pub stays_quiet : (xs : List X) (ms : List Bool) (i : ℕ) (x y : X) (f : X → X) → x ≡ get_or xs i x → y ≡ f x → ((z : X) → Q z → Q (f z)) → (length xs ≤ 2 ^ 60) × AreMarked Q xs ms → (length (set xs i y) ≤ 2 ^ 60) × AreMarked Q (set xs i y) ms
+  stays_quiet xs ms i x y f at is q h = (rw length-set h.0, marked_kept xs ms i x y at (λ was. subst Q (sym is) (q x was)) h.1)
+
+  -- a search jumps over parts that aren't marked
+  pub quiet_between : (xs : List X) (ms : List Bool) (from : ℕ) (answer : Option ℕ) → AreMarked Q xs ms → IsNextMark ms from answer → (i : ℕ) (x : X) → from ≤ i → IsBefore i answer → slice_get xs i ≡ Some x → Q x
+  quiet_between xs ms from answer h next i x le before at = unmarked_at xs ms i x h at (next.unmarked i le before)
+
+  pub found_from : (xs : List X) (ms : List Bool) (from : ℕ) (answer : Option ℕ) → AreMarked Q xs ms → IsNextMark ms from answer → IfSome answer (λ n. from ≤ n)
+  found_from xs ms from None h next = tt
+  found_from xs ms from (Some n) h next = (next.found n refl).0
+
+  pub found_small : (xs : List X) (ms : List Bool) (from : ℕ) (answer : Option ℕ) → (length xs ≤ 2 ^ 60) × AreMarked Q xs ms → IsNextMark ms from answer → IfSome answer (λ n. n < 2 ^ 60)
+  found_small xs ms from None h next = tt
+  found_small xs ms from (Some n) h next =
+      elim (cases_lt n (length xs)) [ inl lt ↦ omega (arith, lt, h.0) | inr ge ↦ absurd (both_ways (is_marked ms n) (mark_past ms n (omega (arith, ge, marked_len xs ms h.1))) (next.found n refl).1) ]
+
+  pub fewer : (xs now : List X) (ms now_ms : List Bool) (n : ℕ) → now ≡ take n xs → now_ms ≡ take n ms → (length xs ≤ 2 ^ 60) × AreMarked Q xs ms → (length now ≤ 2 ^ 60) × AreMarked Q now now_ms
+  fewer xs now ms now_ms n is are h = rw (is, are) (omega (arith, h.0, length-take n xs), marked_take n xs ms h.1)
+
+  pub undone : (xs now : List X) (ms now_ms : List Bool) → now ≡ xs → now_ms ≡ ms → (length xs ≤ 2 ^ 60) × AreMarked Q xs ms → (length now ≤ 2 ^ 60) × AreMarked Q now now_ms
+  undone xs now ms now_ms is are h = rw (is, are) h
+
+  -- parts were opened that have the property
+  pub more_opened : (begin : ℕ → X) → ((i : ℕ) → Q (begin i)) → (xs now : List X) (ms now_ms : List Bool) (count n m : ℕ) → count ≤ 2 ^ 60 → now ≡ xs ++ map begin (range_with_len (length xs) n) → n ≤ m → m ≤ n → m ≡ count - length xs
+      → now_ms ≡ ms ++ replicate (count - length ms) false → (length xs ≤ 2 ^ 60) × AreMarked Q xs ms → (length now ≤ 2 ^ 60) × AreMarked Q now now_ms
+  more_opened begin q xs now ms now_ms count n m small is le ge missing are h =
+      let same : count - length ms ≡ n = omega (arith, le, ge, missing, marked_len xs ms h.1) in
+      let few : length (xs ++ map begin (range_with_len (length xs) n)) ≤ 2 ^ 60 = omega (arith, h.0, small, le, ge, missing, length-append xs (map begin (range_with_len (length xs) n)), length-map-range_with_len begin (length xs) n) in
+      rw (is, are, same) (few, marked_opened begin q xs ms (length xs) n h.1)
+
+-- of a weaker property
+pub weaker : {X : Type 0} (P Q : X → Type 0) → ((x : X) → P x → Q x) → (xs : List X) (ms : List Bool) → AreMarked P xs ms → AreMarked Q xs ms
+weaker P Q f [] [] h = h
+weaker P Q f [] (m ∷ ms) h = absurd h
+weaker P Q f (x ∷ xs) [] h = absurd h
+weaker P Q f (x ∷ xs) (m ∷ ms) h = (λ is. f x (h.0 is), weaker P Q f xs ms h.1)
+
+-- Answers of several types of streams
+
+-- a number that a stream can have, from one on
+abbrev pub IsIn : ℕ → ℕ → Type 0
+IsIn from n = (from ≤ n) × (n < 2 ^ 62)
+
+pub before_least : (a b : Option ℕ) (n : ℕ) → IsBefore n (least_of a b) → IsBefore n a × IsBefore n b
+before_least None b n is = (tt, is)
+before_least (Some a) None n is = (is, tt)
+before_least (Some a) (Some b) n is = (omega (arith, is), omega (arith, is))
+
+pub least_has : (P : ℕ → Type 0) (a b : Option ℕ) → IfSome a P → IfSome b P → IfSome (least_of a b) P
+least_has P None b p q = q
+least_has P (Some a) None p q = p
+least_has P (Some a) (Some b) p q = elim (cases_lt a b) [ inl lt ↦ (let e : min a b ≡ a = omega (arith, lt) in subst P (sym e) p) | inr ge ↦ (let e : min a b ≡ b = omega (arith, ge) in subst P (sym e) q) ]
+
+pub by_kinds : {X : Type 0} (P : ℕ → X → Type 0) (t : Tables X) (from : ℕ) (a b c d answer : Option ℕ) → ((n : ℕ) (x : X) → kind_of n ≡ 0 → from ≤ n → IsBefore n a → lookup t n ≡ Some x → P n x) → ((n : ℕ) (x : X) → kind_of n ≡ 1 → from ≤ n → IsBefore n b → lookup t n ≡ Some x → P n x)
+    → ((n : ℕ) (x : X) → kind_of n ≡ 2 → from ≤ n → IsBefore n c → lookup t n ≡ Some x → P n x) → ((n : ℕ) (x : X) → kind_of n ≡ 3 → from ≤ n → IsBefore n d → lookup t n ≡ Some x → P n x) → answer ≡ least_of (least_of a b) (least_of c d)
+    → (n : ℕ) (x : X) → from ≤ n → IsBefore n answer → lookup t n ≡ Some x → P n x
+by_kinds P t from a b c d answer qa qb qc qd is n x le before at = go (n % 4) refl (omega arith)
+  where
+    parts : IsBefore n (least_of a b) × IsBefore n (least_of c d)
+    parts = before_least (least_of a b) (least_of c d) n (subst (IsBefore n) is before)
+
+    go : (k : ℕ) → n % 4 ≡ k → k < 4 → P n x
+    go zero e lt = qa n x e le (before_least a b n parts.0).0 at
+    go (suc zero) e lt = qb n x e le (before_least a b n parts.0).1 at
+    go (suc (suc zero)) e lt = qc n x e le (before_least c d n parts.1).0 at
+    go (suc (suc (suc zero))) e lt = qd n x e le (before_least c d n parts.1).1 at
+    go (suc (suc (suc (suc k)))) e lt = absurd (omega (arith, lt))
+
+pub all_kinds : {X : Type 0} (Q : X → Type 0) (t : Tables X) (from : ℕ) (a b c d answer : Option ℕ) → HaveTo Q t from a 0 → HaveTo Q t from b 1 → HaveTo Q t from c 2 → HaveTo Q t from d 3 → answer ≡ least_of (least_of a b) (least_of c d)
+    → (n : ℕ) (x : X) → from ≤ n → IsBefore n answer → lookup t n ≡ Some x → Q x
+all_kinds Q = by_kinds (λ n x. Q x)
+
+-- the parts of one type from an index on
+pub of_kind : {X : Type 0} (Q : X → Type 0) (ls : List (List X)) (k from first : ℕ) (d : List X) (found answer : Option ℕ) → length ls ≡ 4 → k < 4 → first ≡ (from + 3 - k) / 4
+    → ((i : ℕ) (x : X) → first ≤ i → IsBefore i found → slice_get (get_or ls k d) i ≡ Some x → Q x) → ((i : ℕ) → IsBefore (i * 4 + k) answer → IsBefore i found) → HaveTo Q (tables_of ls) from answer k
+of_kind Q ls k from first d found answer len small is q before n x kind le earlier at =
+    let here : n ≡ n / 4 * 4 + k = omega (arith, kind) in
+    q (n / 4) x (omega (arith, is, le, here, small)) (before (n / 4) (subst (λ m. IsBefore m answer) here earlier)) (sym (lookup_is ls n k (n / 4) d len (sym kind) refl) ∙ at)
+
+pub least_four : (a b c d x y r : Option ℕ) → x ≡ least_of a b → y ≡ least_of c d → r ≡ least_of x y → r ≡ least_of (least_of a b) (least_of c d)
+least_four a b c d x y r left right is = rw (sym left, sym right) is
+
+-- the number of a stream
+pub before_id : (id : Option ℕ) (a b c d r : Option ℕ) (number from n : ℕ) → r ≡ least_of (least_of a b) (least_of c d) → r ≡ Some number → IfSome a (IsIn from) → IfSome b (IsIn from) → IfSome c (IsIn from) → IfSome d (IsIn from)
+    → IfSome id (λ m. (m ≡ number) × (number < 2 ^ 62)) → IfNone id (2 ^ 62 ≤ number) → IsBefore n id → IsBefore n (Some number)
+before_id (Some m) a b c d r number from n is at pa pb pc pd some none before = omega (arith, some.0, before)
+before_id None a b c d r number from n is at pa pb pc pd some none before =
+    let has : IfSome r (IsIn from) = subst (λ x. IfSome x (IsIn from)) (sym is) (least_has (IsIn from) (least_of a b) (least_of c d) (least_has (IsIn from) a b pa pb) (least_has (IsIn from) c d pc pd)) in
+    let here : IfSome (Some number) (IsIn from) = subst (λ x. IfSome x (IsIn from)) at has in
+    absurd (omega (arith, here.1, none))

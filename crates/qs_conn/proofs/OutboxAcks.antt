@@ -1,0 +1,226 @@
+-- A piece of an outbox is acknowledged or lost.
+use Rattle.std.proofs.Common.{◌≡◌, ℕ, ◌<◌, Bool, true, false, List, [], ◌∷◌, Option, Some, None, is_some, cond, refl, sym, ap, ◌∙◌, subst, inl, inr, arith}
+use Rattle.std.proofs.lemmas.Bool.{both_ways, cases_eq}
+use Rattle.std.specs.FinMap as fmap
+use Rattle.std.specs.Option.{IfSome, IfNone}
+use Rattle.qs_send.specs.declared.parts.Chunk.{Chunk}
+use Rattle.qs_send.specs.declared.piece.Item.TheVariants.{MaxData, MaxStreamData, MaxStreams, ResetStream, StopSending, DataBlocked, StreamDataBlocked, StreamsBlocked}
+use Rattle.qs_send.specs.declared.piece.Piece.{Piece}
+use Rattle.qs_send.specs.declared.piece.Piece.TheVariants.{Data, Told}
+use Rattle.qs_send.specs.Lane.{SendLane, Sending, acked_lane, reset_acked_lane, after_acked, after_lost, after_reset_acked, lost_due, state}
+use Rattle.qs_send.specs.declared.parts.SendState.{SendState}
+use Rattle.qs_send.specs.declared.parts.SendState.TheVariants.{ResetSent, ResetRecvd}
+use Rattle.qs_conn.specs.Tables.{Tables, lookup, update, updated}
+use Rattle.qs_conn.specs.Ends.{Records, AckedItems}
+use Rattle.qs_conn.specs.FrameStep.{without_first}
+use Rattle.qs_conn.specs.Outgoing.{Outgoing, sent_sum, lanes_of, with_pending, AreBelow, AreTied, IsOutbox, IsSentPiece, IsOfReset, IsIdle, IsHeldBelow, first_piece, first_acked_out, shorter, halves_acked, items_acked, halves_lost}
+use Rattle.qs_send.specs.Records.{IsGreatestBelow}
+use Rattle.qs_conn.proofs.TableLaws.{total_update}
+use Rattle.qs_conn.proofs.Carried.{none_some, some_is, IsShorter, shortened_is, first_carried, get_new}
+use Rattle.qs_conn.proofs.Tied.{tied_reset_acked}
+use Rattle.qs_conn.proofs.LaneTables.{lookup_lanes, lane_there, half_of, lanes_updated, update_lanes}
+use Rattle.qs_conn.proofs.Outboxes.{stays, update_itself}
+use Rattle.qs_conn.proofs.Ties.{ties_updated, ties_acked, ties_lost, ties_item_gone}
+
+-- No packet is in the making
+
+pub none_pending : (m : Records) (k : ℕ) (ps : List Piece) → fmap.get (with_pending m k ps) k ≡ None → ps ≡ []
+none_pending m k [] is = refl
+none_pending m k (p ∷ ps) is = absurd (none_some (p ∷ ps) (sym is ∙ get_new m k (p ∷ ps)))
+
+pub idle_none : (e now : Outgoing) (m : Records) (ps : List Piece) → e ≡ now → e.outstanding ≡ with_pending m e.next ps → IsIdle now → ps ≡ []
+idle_none e now m ps is out idle = none_pending m e.next ps (ap (λ x. fmap.get x e.next) (sym out) ∙ ap (λ (o : Outgoing). fmap.get o.outstanding o.next) is ∙ idle)
+
+-- the records are what is outstanding
+pub idle_out : (e now : Outgoing) (m : Records) (ps : List Piece) → e ≡ now → e.outstanding ≡ with_pending m e.next ps → IsIdle now → m ≡ now.outstanding
+idle_out e now m ps is out idle =
+    ap (with_pending m e.next) (sym (idle_none e now m ps is out idle)) ∙ sym out ∙ ap (λ (o : Outgoing). o.outstanding) is
+
+pub none_above : (m : Records) (k : ℕ) → AreBelow m k → fmap.get m k ≡ None
+none_above m k below = go (fmap.get m k) refl
+  where
+    go : (o : Option (List Piece)) → fmap.get m k ≡ o → fmap.get m k ≡ None
+    go None is = is
+    go (Some ps) is = absurd (omega (arith, below k (ap is_some is)))
+
+pub idle_after : (m : Records) (k : ℕ) (ps : List Piece) → AreBelow m k → ps ≡ [] → fmap.get (with_pending m k ps) k ≡ None
+idle_after m k ps below none = subst (λ qs. fmap.get (with_pending m k qs) k ≡ None) (sym none) (none_above m k below)
+
+pub held_below : (m out : Records) (bound : ℕ) (r : Option ℕ) → m ≡ out → IfSome r (IsGreatestBelow m bound) → IfNone r ((k : ℕ) → k < bound → fmap.contains_key m k ≡ false) → IsHeldBelow out bound r
+held_below m out bound r is found none = subst (λ (x : Records). IsHeldBelow x bound r) is (go r found none)
+  where
+    absent : (k : ℕ) (o : Option (List Piece)) → fmap.get m k ≡ o → is_some o ≡ false → fmap.get m k ≡ None
+    absent k None e h = e
+    absent k (Some ps) e h = absurd (both_ways true h refl)
+
+    above : (k j : ℕ) → IsGreatestBelow m bound k → k < j → j < bound → (o : Option (List Piece)) → fmap.get m j ≡ o → fmap.get m j ≡ None
+    above k j h lt small None e = e
+    above k j h lt small (Some ps) e = absurd (omega (arith, h.greatest j (ap is_some e) small, lt))
+
+    go : (r : Option ℕ) → IfSome r (IsGreatestBelow m bound) → IfNone r ((k : ℕ) → k < bound → fmap.contains_key m k ≡ false) → IsHeldBelow m bound r
+    go None found none = λ k lt. absent k (fmap.get m k) refl (none k lt)
+    go (Some k) found none = (found.below, found.held, (λ j lt small. above k j found lt small (fmap.get m j) refl))
+
+-- The first piece was sent
+
+pub sent_piece : (t : Tables Sending) (m : Records) (k : ℕ) (p : Piece) → AreTied t m → first_piece (fmap.get m k) ≡ Some p → IsSentPiece t p
+sent_piece t m k (Data n c) h first =
+    let out = first_carried m _ k (Data n c) (shortened_is m k (Data n c) first) in
+    let half = half_of t n (h.of_open (Data n c) out) in
+    (half.0, half.1, (h.lanes n half.0 half.1).sent c out)
+sent_piece t m k (Told (ResetStream n code size)) h first = reset_half (lookup t n) refl (subst IsOfReset (lookup_lanes t n) (h.of_open (Told (ResetStream n code size)) (first_carried m _ k (Told (ResetStream n code size)) (shortened_is m k (Told (ResetStream n code size)) first))))
+  where
+    reset_half : (o : Option Sending) → lookup t n ≡ o → IsOfReset (elim o [ None ↦ None | Some s ↦ Some s.lane ]) → (s : Sending) × (lookup t n ≡ Some s) × (is_some s.lane.was_reset ≡ true)
+    reset_half None e r = absurd r
+    reset_half (Some s) e r = (s, e, r)
+sent_piece t m k (Told (MaxData x)) h first = tt
+sent_piece t m k (Told (MaxStreamData n x)) h first = tt
+sent_piece t m k (Told (MaxStreams d x)) h first = tt
+sent_piece t m k (Told (StopSending n x)) h first = tt
+sent_piece t m k (Told (DataBlocked x)) h first = tt
+sent_piece t m k (Told (StreamDataBlocked n x)) h first = tt
+sent_piece t m k (Told (StreamsBlocked d x)) h first = tt
+
+-- Halves
+
+same_end : (t : Tables Sending) (n : ℕ) (s s' : Sending) → lookup t n ≡ Some s → s'.lane.sent_end ≡ s.lane.sent_end → sent_sum (lanes_of (update t n s')) ≡ sent_sum (lanes_of t)
+same_end t n s s' there same =
+    ap sent_sum (update_lanes t n s') ∙ (let e = total_update (λ (l : SendLane). l.sent_end) (lanes_of t) n s.lane s'.lane (lane_there t n s there) in omega (arith, e, same))
+
+-- halves that are tied to records, and spent as much as others
+abbrev Follow : Tables Sending → Tables Sending → Records → Type 0
+Follow t t' m = AreTied t' m × (sent_sum (lanes_of t') ≡ sent_sum (lanes_of t))
+
+at_half : (t : Tables Sending) (m : Records) (n : ℕ) (s : Sending) (f : Sending → Sending) → lookup t n ≡ Some s → AreTied (update t n (f s)) m → (f s).lane.sent_end ≡ s.lane.sent_end → Follow t (updated t n f (lookup t n)) m
+at_half t m n s f there tied same = subst (λ x. Follow t x m) (sym (ap (updated t n f) there)) (tied, same_end t n s (f s) there same)
+
+-- a piece that goes by its being acknowledged
+pub acked_follow : (t : Tables Sending) (m m' : Records) (k : ℕ) (p : Piece) → AreTied t m → IsShorter m k p m' → IsSentPiece t p → Follow t (halves_acked p t) m'
+acked_follow t m m' k (Data n c) h short sent = at_half t m' n sent.0 (λ s. after_acked s c) sent.1 (ties_acked t m m' k n sent.0 c h short sent.1) refl
+acked_follow t m m' k (Told (ResetStream n code size)) h short sent =
+    let gone = ties_item_gone t m m' k (ResetStream n code size) h short in
+    at_half t m' n sent.0 after_reset_acked sent.1 (ties_updated t m' n sent.0 (after_reset_acked sent.0) gone sent.1 (tied_reset_acked m' n sent.0 (gone.lanes n sent.0 sent.1)) (λ r. r)) refl
+acked_follow t m m' k (Told (MaxData x)) h short sent = (ties_item_gone t m m' k (MaxData x) h short, refl)
+acked_follow t m m' k (Told (MaxStreamData n x)) h short sent = (ties_item_gone t m m' k (MaxStreamData n x) h short, refl)
+acked_follow t m m' k (Told (MaxStreams d x)) h short sent = (ties_item_gone t m m' k (MaxStreams d x) h short, refl)
+acked_follow t m m' k (Told (StopSending n x)) h short sent = (ties_item_gone t m m' k (StopSending n x) h short, refl)
+acked_follow t m m' k (Told (DataBlocked x)) h short sent = (ties_item_gone t m m' k (DataBlocked x) h short, refl)
+acked_follow t m m' k (Told (StreamDataBlocked n x)) h short sent = (ties_item_gone t m m' k (StreamDataBlocked n x) h short, refl)
+acked_follow t m m' k (Told (StreamsBlocked d x)) h short sent = (ties_item_gone t m m' k (StreamsBlocked d x) h short, refl)
+
+lost_lane : (s : Sending) (c : Chunk) (b : Bool) → (cond b s (record s { due = lost_due s.lane s.due c })).lane ≡ s.lane
+lost_lane s c true = refl
+lost_lane s c false = refl
+
+pub lost_follow : (t : Tables Sending) (m m' : Records) (k : ℕ) (p : Piece) → AreTied t m → IsShorter m k p m' → IsSentPiece t p → Follow t (halves_lost p t) m'
+lost_follow t m m' k (Data n c) h short sent =
+    at_half t m' n sent.0 (λ s. after_lost s c) sent.1 (ties_lost t m m' k n sent.0 c h short sent.1) (ap (λ (l : SendLane). l.sent_end) (lost_lane sent.0 c (is_some sent.0.lane.was_reset)))
+lost_follow t m m' k (Told i) h short sent = (ties_item_gone t m m' k i h short, refl)
+
+-- What holds
+
+short_below : (m m' : Records) (k j : ℕ) (p : Piece) → IsShorter m k p m' → AreBelow m j → AreBelow m' j
+short_below m m' k j p short below i has =
+    elim (cases_eq i k) [
+      | inl same ↦ below i (ap is_some (ap (fmap.get m) same ∙ short.was.1))
+      | inr ne ↦ below i (ap is_some (sym (short.others i ne)) ∙ has)
+    ]
+
+pub box_gone : (t t' : Tables Sending) (m m' : Records) (r r' : Bool) (ps : List Piece) (next sent spare free k : ℕ) (p : Piece) → IsOutbox t m r ps next sent spare free → ps ≡ [] → IsShorter m k p m' → Follow t t' m' → (r ≡ true → r' ≡ true)
+    → IsOutbox t' m' r' ps next sent spare free
+box_gone t t' m m' r r' ps next sent spare free k p h none short follow ready =
+    record {
+      tied = subst (λ qs. AreTied t' (with_pending m' next qs)) (sym none) follow.0;
+      below = short_below m m' k next p short h.below;
+      sum = follow.1 ∙ h.sum;
+      small = h.small;
+      room = h.room;
+      ready = λ some. ready (h.ready some);
+    }
+
+-- Values
+
+three : (e : Outgoing) (x y : Tables SendLane) (m k : Records) (a b : AckedItems) → x ≡ y → m ≡ k → a ≡ b → ◌≡◌ {A = Outgoing} (record e { sends = x; outstanding = m; acked = a }) (record e { sends = y; outstanding = k; acked = b })
+three e x y m k a b p q r = ap (λ z. record e { sends = z; outstanding = m; acked = a }) p ∙ ap (λ z. record e { sends = y; outstanding = z; acked = a }) q ∙ ap (λ z. record e { sends = y; outstanding = k; acked = z }) r
+
+acked_in : (k : ℕ) (p : Piece) (e : Outgoing) (t t' : Tables Sending) (m' : Records) (a' : AckedItems) → e.sends ≡ lanes_of t → t' ≡ halves_acked p t → m' ≡ without_first e.outstanding k (fmap.get e.outstanding k) → a' ≡ items_acked p e.acked
+    → ◌≡◌ {A = Outgoing} (record e { sends = lanes_of t'; outstanding = m'; acked = a' }) (first_acked_out k p e)
+acked_in k (Data n c) e t t' m' a' sends halves out items =
+    three e _ _ _ _ _ _ (ap lanes_of halves ∙ lanes_updated t n (λ s. after_acked s c) (λ l. acked_lane l c) (λ s there. refl) ∙ ap (λ x. updated x n (λ l. acked_lane l c) (lookup x n)) (sym sends)) out items
+acked_in k (Told (ResetStream n code size)) e t t' m' a' sends halves out items =
+    three e _ _ _ _ _ _ (ap lanes_of halves ∙ lanes_updated t n after_reset_acked reset_acked_lane (λ s there. refl) ∙ ap (λ x. updated x n reset_acked_lane (lookup x n)) (sym sends)) out items
+acked_in k (Told (MaxData x)) e t t' m' a' sends halves out items = three e _ _ _ _ _ _ (ap lanes_of halves ∙ sym sends) out items
+acked_in k (Told (MaxStreamData n x)) e t t' m' a' sends halves out items = three e _ _ _ _ _ _ (ap lanes_of halves ∙ sym sends) out items
+acked_in k (Told (MaxStreams d x)) e t t' m' a' sends halves out items = three e _ _ _ _ _ _ (ap lanes_of halves ∙ sym sends) out items
+acked_in k (Told (StopSending n x)) e t t' m' a' sends halves out items = three e _ _ _ _ _ _ (ap lanes_of halves ∙ sym sends) out items
+acked_in k (Told (DataBlocked x)) e t t' m' a' sends halves out items = three e _ _ _ _ _ _ (ap lanes_of halves ∙ sym sends) out items
+acked_in k (Told (StreamDataBlocked n x)) e t t' m' a' sends halves out items = three e _ _ _ _ _ _ (ap lanes_of halves ∙ sym sends) out items
+acked_in k (Told (StreamsBlocked d x)) e t t' m' a' sends halves out items = three e _ _ _ _ _ _ (ap lanes_of halves ∙ sym sends) out items
+
+-- the records without the piece, with no packet in the making
+out_gone : (m m' : Records) (next k : ℕ) (ps : List Piece) → ps ≡ [] → m' ≡ without_first m k (fmap.get m k) → with_pending m' next ps ≡ without_first (with_pending m next ps) k (fmap.get (with_pending m next ps) k)
+out_gone m m' next k ps none is = subst (λ qs. with_pending m' next qs ≡ without_first (with_pending m next qs) k (fmap.get (with_pending m next qs) k)) (sym none) is
+
+pub acked_value : (k : ℕ) (p : Piece) (e now : Outgoing) (t t' : Tables Sending) (m m' : Records) (ps : List Piece) (a' : AckedItems) → e ≡ now → e.sends ≡ lanes_of t → e.outstanding ≡ with_pending m e.next ps → ps ≡ []
+    → t' ≡ halves_acked p t → m' ≡ without_first m k (fmap.get m k) → a' ≡ items_acked p e.acked
+    → ◌≡◌ {A = Outgoing} (record e { sends = lanes_of t'; outstanding = with_pending m' e.next ps; acked = a' }) (first_acked_out k p now)
+acked_value k p e now t t' m m' ps a' is sends out none halves gone items =
+    acked_in k p e t t' (with_pending m' e.next ps) a' sends halves (out_gone m m' e.next k ps none gone ∙ ap (λ x. without_first x k (fmap.get x k)) (sym out)) items ∙ ap (first_acked_out k p) is
+
+lost_lanes : (p : Piece) (t : Tables Sending) → lanes_of (halves_lost p t) ≡ lanes_of t
+lost_lanes (Told i) t = refl
+lost_lanes (Data n c) t = go (lookup t n) refl
+  where
+    go : (o : Option Sending) → lookup t n ≡ o → lanes_of (updated t n (λ s. after_lost s c) o) ≡ lanes_of t
+    go None e = refl
+    go (Some s) e =
+        update_lanes t n (after_lost s c) ∙ ap (update (lanes_of t) n) (lost_lane s c (is_some s.lane.was_reset)) ∙ update_itself (lanes_of t) n s.lane (lane_there t n s e)
+
+pub lost_value : (k : ℕ) (p : Piece) (e now : Outgoing) (t t' : Tables Sending) (m m' : Records) (ps : List Piece) → e ≡ now → e.sends ≡ lanes_of t → e.outstanding ≡ with_pending m e.next ps → ps ≡ []
+    → t' ≡ halves_lost p t → m' ≡ without_first m k (fmap.get m k)
+    → ◌≡◌ {A = Outgoing} (record e { sends = lanes_of t'; outstanding = with_pending m' e.next ps }) (shorter k now)
+lost_value k p e now t t' m m' ps is sends out none halves gone =
+    three e _ _ _ _ _ _ (ap lanes_of halves ∙ lost_lanes p t ∙ sym sends) (out_gone m m' e.next k ps none gone ∙ ap (λ x. without_first x k (fmap.get x k)) (sym out)) refl ∙ ap (shorter k) is
+
+-- a RESET_STREAM that is acknowledged twice changes nothing more
+pub reset_again : (t : Tables Sending) (n : ℕ) (s : Sending) → lookup t n ≡ Some s → s.lane.reset_acked ≡ true → t ≡ updated t n after_reset_acked (lookup t n)
+reset_again t n s there acked = sym (stays t n s after_reset_acked there (ap (λ b. record s { lane = record s.lane { reset_acked = b } }) (sym acked)))
+
+pub not_sent_again : (t : Tables Sending) (n : ℕ) (s : Sending) (st : SendState) → lookup t n ≡ Some s → ((x : Sending) × (lookup t n ≡ Some x) × (is_some x.lane.was_reset ≡ true)) → st ≡ state s.lane → (st ≡ ResetSent → ⊥)
+    → t ≡ updated t n after_reset_acked (lookup t n)
+not_sent_again t n s st there h is not = reset_again t n s there (by_mark s.lane.reset_acked refl)
+  where
+    was : is_some s.lane.was_reset ≡ true
+    was = subst (λ (x : Sending). is_some x.lane.was_reset ≡ true) (some_is (lookup t n) h.0 s h.1 there) h.2
+
+    state_is : (a b : Bool) (x : SendState) → a ≡ false → b ≡ true → cond a ResetRecvd (cond b ResetSent x) ≡ ResetSent
+    state_is a b x p q = rw (p, q) refl
+
+    by_mark : (b : Bool) → s.lane.reset_acked ≡ b → s.lane.reset_acked ≡ true
+    by_mark true e = e
+    by_mark false e = absurd (not (is ∙ state_is s.lane.reset_acked (is_some s.lane.was_reset) _ e was))
+
+-- What a call knows of the first piece
+
+pub first_at : (e now : Outgoing) (m : Records) (ps : List Piece) (k : ℕ) (p : Piece) → e ≡ now → e.outstanding ≡ with_pending m e.next ps → IsIdle now → first_piece (fmap.get now.outstanding k) ≡ Some p → first_piece (fmap.get m k) ≡ Some p
+first_at e now m ps k p is out idle first = ap (λ x. first_piece (fmap.get x k)) (idle_out e now m ps is out idle) ∙ first
+
+pub tied_at : (t : Tables Sending) (m : Records) (r : Bool) (ps : List Piece) (next sent spare free : ℕ) → IsOutbox t m r ps next sent spare free → ps ≡ [] → AreTied t m
+tied_at t m r ps next sent spare free h none = subst (λ qs. AreTied t (with_pending m next qs)) none h.tied
+
+pub short_at : (m m' : Records) (k : ℕ) (p : Piece) → first_piece (fmap.get m k) ≡ Some p → m' ≡ without_first m k (fmap.get m k) → IsShorter m k p m'
+short_at m m' k p first is = subst (λ (x : Records). IsShorter m k p x) (sym is) (shortened_is m k p first)
+
+pub box_acked : (t t' : Tables Sending) (m m' : Records) (r r' : Bool) (ps : List Piece) (next sent spare free k : ℕ) (p : Piece) → IsOutbox t m r ps next sent spare free → ps ≡ [] → first_piece (fmap.get m k) ≡ Some p
+    → t' ≡ halves_acked p t → m' ≡ without_first m k (fmap.get m k) → (r ≡ true → r' ≡ true) → IsOutbox t' m' r' ps next sent spare free
+box_acked t t' m m' r r' ps next sent spare free k p h none first halves gone ready =
+    let tied = tied_at t m r ps next sent spare free h none in
+    let short = short_at m m' k p first gone in
+    box_gone t t' m m' r r' ps next sent spare free k p h none short (subst (λ (x : Tables Sending). Follow t x m') (sym halves) (acked_follow t m m' k p tied short (sent_piece t m k p tied first))) ready
+
+pub box_lost : (t t' : Tables Sending) (m m' : Records) (r r' : Bool) (ps : List Piece) (next sent spare free k : ℕ) (p : Piece) → IsOutbox t m r ps next sent spare free → ps ≡ [] → first_piece (fmap.get m k) ≡ Some p
+    → t' ≡ halves_lost p t → m' ≡ without_first m k (fmap.get m k) → (r ≡ true → r' ≡ true) → IsOutbox t' m' r' ps next sent spare free
+box_lost t t' m m' r r' ps next sent spare free k p h none first halves gone ready =
+    let tied = tied_at t m r ps next sent spare free h none in
+    let short = short_at m m' k p first gone in
+    box_gone t t' m m' r r' ps next sent spare free k p h none short (subst (λ (x : Tables Sending). Follow t x m') (sym halves) (lost_follow t m m' k p tied short (sent_piece t m k p tied first))) ready

@@ -1,0 +1,280 @@
+-- An outbox makes packets.
+use Rattle.std.proofs.Common.{◌≡◌, ℕ, ◌+◌, ◌-◌, ◌<◌, ◌≤◌, Bool, true, false, List, [], ◌∷◌, ◌++◌, length, Option, Some, None, is_some, refl, sym, ap, ◌∙◌, subst, inl, inr, arith, nat_cmp}
+use Rattle.std.proofs.lemmas.Bool.{both_ways, cases_eq}
+use Rattle.std.proofs.lemmas.List.{length-append}
+use Rattle.std.specs.FinMap as fmap
+use Rattle.std.specs.FinMap.{nat_cmp-IsAntisymmetric}
+use Rattle.std.specs.FinSet as set
+use Rattle.std.specs.Cmp.{nat_cmp_total}
+use Rattle.std.specs.Option.{IfSome, IfNone}
+use Rattle.qs_ranges.specs.Numbers.{NumberSet, MAX_VARINT, same_numbers}
+use Rattle.qs_send.specs.declared.parts.Chunk.{Chunk}
+use Rattle.qs_send.specs.declared.parts.Reset.{Reset}
+use Rattle.qs_send.specs.declared.piece.Item.{Item}
+use Rattle.qs_send.specs.declared.piece.Item.TheVariants.{MaxData, MaxStreamData, MaxStreams, ResetStream, StopSending, DataBlocked, StreamDataBlocked, StreamsBlocked}
+use Rattle.qs_send.specs.declared.piece.Piece.{Piece}
+use Rattle.qs_send.specs.declared.piece.Piece.TheVariants.{Data, Told}
+use Rattle.qs_send.specs.Lane.{SendLane, Sending, sent_lane, blocked_lane, after_sent, after_blocked}
+use Rattle.qs_send.specs.Chunks.{IsDueChunk, IsNextChunk, HasNoChunk, HasBytes}
+use Rattle.qs_send.specs.Sound.{IsLawful}
+use Rattle.qs_conn.specs.Tables.{Tables, lookup, update, updated}
+use Rattle.qs_conn.specs.Ends.{Records}
+use Rattle.qs_conn.specs.Outgoing.{Outgoing, on_lane, sent_sum, lanes_of, with_pending, AreBelow, AreTied, IsTied, IsOutbox, HasSending, ChunkFound, MayTell, chunk_put, item_put_out, halves_told, blocked_noted}
+use Rattle.qs_conn.specs.Layers.{or_none}
+use Rattle.qs_conn.proofs.TableLaws.{total_update, lookup_same}
+use Rattle.qs_conn.proofs.Carried.{some_is, get_new, get_other, with_piece}
+use Rattle.qs_conn.proofs.Tied.{tied_blocked}
+use Rattle.qs_conn.proofs.LaneTables.{lane_there, lanes_updated, update_lanes}
+use Rattle.qs_conn.proofs.Ties.{ties_updated, ties_chunk_put, ties_item_put}
+use Rattle.qs_conn.proofs.OutboxAcks.{none_above}
+
+pub chunk_found : (s : Sending) (room fresh : ℕ) (r : Option Chunk) → IfSome r (IsNextChunk s room fresh) → IfNone r (HasNoChunk s room fresh) → IfSome r (HasBytes s.lane) → ChunkFound s room fresh r
+chunk_found s room fresh None found none kept = none
+chunk_found s room fresh (Some c) found none kept = (found, kept)
+
+-- What is due is told by the lane and by what is outstanding
+
+pub unreset : (r : Option Reset) → is_some r ≡ false → r ≡ None
+unreset None is = refl
+unreset (Some r) is = absurd (both_ways true is refl)
+
+pub due_open : (s : Sending) → IsLawful s → (q : ℕ) → set.contains s.due.offsets q ≡ true → s.lane.was_reset ≡ None
+due_open s law q has = by_reset s.lane.was_reset refl
+  where
+    by_reset : (r : Option Reset) → s.lane.was_reset ≡ r → s.lane.was_reset ≡ None
+    by_reset None e = e
+    by_reset (Some r) e = absurd (both_ways (set.contains s.due.offsets q) (ap (λ (x : NumberSet). set.contains x q) (law.parts.none_due (ap is_some e)) ∙ set.contains-empty nat_cmp q) has)
+
+due_also : (m : Records) (n : ℕ) (s x : Sending) → IsLawful s → IsTied m n s → IsTied m n x → s.lane ≡ x.lane → (q : ℕ) → set.contains s.due.offsets q ≡ true → set.contains x.due.offsets q ≡ true
+due_also m n s x law t u same q has = by_test (set.contains x.due.offsets q) refl
+  where
+    by_test : (b : Bool) → set.contains x.due.offsets q ≡ b → set.contains x.due.offsets q ≡ true
+    by_test true e = e
+    by_test false e =
+        absurd
+        (both_ways (set.contains s.due.offsets q)
+        (t.not_due q
+        (u.flies q (ap (λ (l : SendLane). l.was_reset) (sym same) ∙ due_open s law q has) (subst (λ (l : SendLane). q < l.written) same (law.parts.due_written q has)) (subst (λ (l : SendLane). set.contains l.acked q ≡ false) same (law.parts.apart q has)) e)) has)
+
+end_also : (m : Records) (n : ℕ) (s x : Sending) → IsLawful s → IsTied m n s → IsTied m n x → s.lane ≡ x.lane → s.due.fin ≡ true → x.due.fin ≡ true
+end_also m n s x law t u same has = by_test x.due.fin refl
+  where
+    open_end : is_some s.lane.was_reset ≡ false
+    open_end = by_reset (is_some s.lane.was_reset) refl
+      where
+        by_reset : (b : Bool) → is_some s.lane.was_reset ≡ b → is_some s.lane.was_reset ≡ false
+        by_reset false e = e
+        by_reset true e = absurd (both_ways s.due.fin (law.ends.none_due e) has)
+
+    by_test : (b : Bool) → x.due.fin ≡ b → x.due.fin ≡ true
+    by_test true e = e
+    by_test false e =
+        (let f = u.end_flies (ap (λ (l : SendLane). l.was_reset) (sym same) ∙ unreset s.lane.was_reset open_end) (ap (λ (l : SendLane). l.finished) (sym same) ∙ law.ends.due_asked has) (ap (λ (l : SendLane). l.fin_acked) (sym same) ∙ law.ends.due_open has) e in
+        absurd (both_ways s.due.fin (t.end_not_due f.0 f.1 f.2) has))
+
+both_imply : (a b : Bool) → (a ≡ true → b ≡ true) → (b ≡ true → a ≡ true) → a ≡ b
+both_imply true b f g = sym (f refl)
+both_imply false true f g = g refl
+both_imply false false f g = refl
+
+pub same_sending : (o : Outgoing) (n : ℕ) (s x : Sending) → HasSending o n s → HasSending o n x → s ≡ x
+same_sending o n s x h g =
+    let lanes : s.lane ≡ x.lane = some_is (lookup o.sends n) s.lane x.lane h.lane g.lane in
+    let offsets : s.due.offsets ≡ x.due.offsets = same_numbers s.due.offsets x.due.offsets (λ q. both_imply _ _ (due_also o.outstanding n s x h.lawful h.tied g.tied lanes q) (due_also o.outstanding n x s g.lawful g.tied h.tied (sym lanes) q)) in
+    let ends : s.due.fin ≡ x.due.fin = both_imply _ _ (end_also o.outstanding n s x h.lawful h.tied g.tied lanes) (end_also o.outstanding n x s g.lawful g.tied h.tied (sym lanes)) in
+    ap (λ l. sending_of l s.due.offsets s.due.fin) lanes ∙ ap (λ d. sending_of x.lane d s.due.fin) offsets ∙ ap (λ b. sending_of x.lane x.due.offsets b) ends
+  where
+    sending_of : SendLane → NumberSet → Bool → Sending
+    sending_of l d b = record { lane = l; due = record { offsets = d; fin = b } }
+
+-- The packet in the making has one piece more
+
+insert_twice : (m : Records) (k : ℕ) (a b : List Piece) → fmap.insert (fmap.insert m k a) k b ≡ fmap.insert m k b
+insert_twice m k a b =
+    fmap.same_map nat_cmp_total nat_cmp-IsAntisymmetric _ _ (λ q.
+    elim (cases_eq q k) [
+      | inl is ↦ subst (λ x. fmap.get (fmap.insert (fmap.insert m k a) k b) x ≡ fmap.get (fmap.insert m k b) x) (sym is) (get_new (fmap.insert m k a) k b ∙ sym (get_new m k b))
+      | inr ne ↦ get_other (fmap.insert m k a) k b q ne ∙ get_other m k a q ne ∙ sym (get_other m k b q ne)
+    ])
+
+so_far_in : Option (List Piece) → List Piece
+so_far_in o = elim o [ None ↦ [] | Some ps ↦ ps ]
+
+pub one_more : (m : Records) (k : ℕ) (ps : List Piece) (p : Piece) → AreBelow m k → with_pending m k (ps ++ p ∷ []) ≡ with_piece (with_pending m k ps) k p
+unfolding so_far_in
+one_more m k [] p below = sym (ap (λ o. fmap.insert m k (so_far_in o ++ p ∷ [])) (none_above m k below))
+one_more m k (q ∷ qs) p below = sym (ap (λ o. fmap.insert (fmap.insert m k (q ∷ qs)) k (so_far_in o ++ p ∷ [])) (get_new m k (q ∷ qs)) ∙ insert_twice m k (q ∷ qs) (q ∷ qs ++ p ∷ []))
+
+longer : (xs : List Piece) (p : Piece) → length (xs ++ p ∷ []) ≡ length xs + 1
+longer xs p = length-append xs (p ∷ [])
+
+-- What holds
+
+pub box_begun : (t : Tables Sending) (m m' : Records) (r r' : Bool) (ps : List Piece) (next sent spare free count free' : ℕ) → IsOutbox t m r ps next sent spare free → m' ≡ m → r' ≡ true → count ≤ free' → IsOutbox t m' r' ps next sent count free'
+box_begun t m m' r r' ps next sent spare free count free' h same ready room =
+    record {
+      tied = subst (λ (x : Records). AreTied t (with_pending x next ps)) (sym same) h.tied;
+      below = subst (λ (x : Records). AreBelow x next) (sym same) h.below;
+      sum = h.sum;
+      small = h.small;
+      room = room;
+      ready = λ some. ready;
+    }
+
+pub box_chunk : (t t' : Tables Sending) (m : Records) (r : Bool) (ps qs : List Piece) (next sent spare free free' n before after : ℕ) (s s' : Sending) (c : Chunk) → IsOutbox t m r ps next sent spare free
+    → lookup t n ≡ Some s → IsLawful s → IsDueChunk s c → t' ≡ updated t n (λ x. after_sent x c) (lookup t n) → qs ≡ ps ++ Data n c ∷ [] → 0 < spare → spare ≤ free' + 1
+    → sent_sum (lanes_of t') ≤ MAX_VARINT → before ≡ s.lane.sent_end → after ≡ (after_sent s c).lane.sent_end → IsOutbox t' m r qs next (sent - before + after) (spare - 1) free'
+box_chunk t t' m r ps qs next sent spare free free' n before after s s' c h there law due halves pushed some room small was is =
+    let at : t' ≡ update t n (after_sent s c) = halves ∙ ap (updated t n (λ x. after_sent x c)) there in
+    let sums = total_update (λ (l : SendLane). l.sent_end) (lanes_of t) n s.lane (sent_lane s.lane c) (lane_there t n s there) in
+    let now : sent_sum (lanes_of t') ≡ sent_sum (update (lanes_of t) n (sent_lane s.lane c)) = ap (λ x. sent_sum (lanes_of x)) at ∙ ap sent_sum (update_lanes t n (after_sent s c)) in
+    let low = total_update (λ (l : SendLane). l.sent_end) (lanes_of t) n s.lane (record s.lane { sent_end = 0 }) (lane_there t n s there) in
+    let sum : sent_sum (lanes_of t') ≡ sent - before + after = omega (arith, now, sums, low, h.sum, was, is) in
+    record {
+      tied =
+          subst (λ (x : Records). AreTied t' x) (sym (ap (with_pending m next) pushed ∙ one_more m next ps (Data n c) h.below))
+          (subst (λ x. AreTied x (with_piece (with_pending m next ps) next (Data n c))) (sym at) (ties_chunk_put t (with_pending m next ps) next n s c h.tied there law due));
+      below = h.below;
+      sum = sum;
+      small = omega (arith, sum, small);
+      room = omega (arith, some, room);
+      ready = λ x. h.ready (omega (arith, some));
+    }
+
+pub box_item : (t t' : Tables Sending) (m : Records) (r : Bool) (ps qs : List Piece) (next sent spare free free' : ℕ) (i : Item) → IsOutbox t m r ps next sent spare free
+    → t' ≡ halves_told i t → MayTell (lanes_of t) i → qs ≡ ps ++ Told i ∷ [] → 0 < spare → spare ≤ free' + 1 → IsOutbox t' m r qs next sent (spare - 1) free'
+box_item t t' m r ps qs next sent spare free free' i h halves may pushed some room =
+    record {
+      tied =
+          subst (λ (x : Records). AreTied t' x) (sym (ap (with_pending m next) pushed ∙ one_more m next ps (Told i) h.below))
+          (subst (λ x. AreTied x (with_piece (with_pending m next ps) next (Told i))) (sym halves) (told_tied i (lookup_of i) may).0);
+      below = h.below;
+      sum = ap (λ x. sent_sum (lanes_of x)) halves ∙ (told_tied i (lookup_of i) may).1 ∙ h.sum;
+      small = h.small;
+      room = omega (arith, some, room);
+      ready = λ x. h.ready (omega (arith, some));
+    }
+  where
+    lookup_of : (i : Item) → Unit {0}
+    lookup_of i = tt
+
+    Follows : Item → Tables Sending → Type 0
+    Follows j x = AreTied x (with_piece (with_pending m next ps) next (Told j)) × (sent_sum (lanes_of x) ≡ sent_sum (lanes_of t))
+
+    blocked : (j : Item) (n : ℕ) → MayTell (lanes_of t) j → (o : Option Sending) → lookup t n ≡ o → Follows j (updated t n after_blocked o)
+    blocked j n told None e = (ties_item_put t (with_pending m next ps) next j h.tied told, refl)
+    blocked j n told (Some s) e =
+        (let tied = ties_item_put t (with_pending m next ps) next j h.tied told in (
+          ties_updated t (with_piece (with_pending m next ps) next (Told j)) n s (after_blocked s) tied e (tied_blocked (with_piece (with_pending m next ps) next (Told j)) n s (tied.lanes n s e)) (λ x. x),
+          ap sent_sum (update_lanes t n (after_blocked s)) ∙ (let sums = total_update (λ (l : SendLane). l.sent_end) (lanes_of t) n s.lane (blocked_lane s.lane) (lane_there t n s e) in omega (arith, sums)),
+        ))
+
+    told_tied : (j : Item) → Unit {0} → MayTell (lanes_of t) j → Follows j (halves_told j t)
+    told_tied (StreamDataBlocked n x) u told = blocked (StreamDataBlocked n x) n told (lookup t n) refl
+    told_tied (MaxData x) u told = (ties_item_put t (with_pending m next ps) next (MaxData x) h.tied told, refl)
+    told_tied (MaxStreamData n x) u told = (ties_item_put t (with_pending m next ps) next (MaxStreamData n x) h.tied told, refl)
+    told_tied (MaxStreams d x) u told = (ties_item_put t (with_pending m next ps) next (MaxStreams d x) h.tied told, refl)
+    told_tied (ResetStream n x y) u told = (ties_item_put t (with_pending m next ps) next (ResetStream n x y) h.tied told, refl)
+    told_tied (StopSending n x) u told = (ties_item_put t (with_pending m next ps) next (StopSending n x) h.tied told, refl)
+    told_tied (DataBlocked x) u told = (ties_item_put t (with_pending m next ps) next (DataBlocked x) h.tied told, refl)
+    told_tied (StreamsBlocked d x) u told = (ties_item_put t (with_pending m next ps) next (StreamsBlocked d x) h.tied told, refl)
+
+below_put : (m : Records) (k : ℕ) (ps : List Piece) → AreBelow m k → AreBelow (with_pending m k ps) (k + 1)
+below_put m k [] below j has = omega (arith, below j has)
+below_put m k (p ∷ ps) below j has =
+    elim (cases_eq j k) [
+      | inl same ↦ omega (arith, same)
+      | inr ne ↦ omega (arith, below j (ap is_some (sym (get_other m k (p ∷ ps) j ne)) ∙ has))
+    ]
+
+pub box_committed : (t : Tables Sending) (m m' : Records) (r r' : Bool) (ps qs : List Piece) (next sent spare free free' : ℕ) → IsOutbox t m r ps next sent spare free → m' ≡ with_pending m next ps → qs ≡ [] → IsOutbox t m' r' qs (next + 1) sent 0 free'
+box_committed t m m' r r' ps qs next sent spare free free' h put none =
+    record {
+      tied = subst (λ x. AreTied t (with_pending m' (next + 1) x)) (sym none) (subst (λ (x : Records). AreTied t x) (sym put) h.tied);
+      below = subst (λ (x : Records). AreBelow x (next + 1)) (sym put) (below_put m next ps h.below);
+      sum = h.sum;
+      small = h.small;
+      room = omega arith;
+      ready = λ some. absurd (none_in qs none some);
+    }
+  where
+    none_in : (qs : List Piece) → qs ≡ [] → 0 < 0 + length qs → ⊥
+    none_in [] e lt = omega (arith, lt)
+    none_in (x ∷ xs) e lt = absurd (cc (e))
+
+-- Values
+
+pub chunk_value : (e now : Outgoing) (t t' : Tables Sending) (m : Records) (ps qs : List Piece) (n spare : ℕ) (c : Chunk) → e ≡ now → e.sends ≡ lanes_of t → e.outstanding ≡ with_pending m e.next ps → AreBelow m e.next → spare ≡ e.spare - 1
+    → t' ≡ updated t n (λ x. after_sent x c) (lookup t n) → qs ≡ ps ++ Data n c ∷ []
+    → ◌≡◌ {A = Outgoing} (record e { sends = lanes_of t'; outstanding = with_pending m e.next qs; spare = spare }) (chunk_put n c now)
+chunk_value e now t t' m ps qs n spare c is sends out below less halves pushed =
+    let lanes : lanes_of t' ≡ updated e.sends n (λ l. sent_lane l c) (lookup e.sends n) = ap lanes_of halves ∙ lanes_updated t n (λ x. after_sent x c) (λ l. sent_lane l c) (λ s there. refl) ∙ ap (λ x. updated x n (λ l. sent_lane l c) (lookup x n)) (sym sends) in
+    let more : with_pending m e.next qs ≡ with_piece e.outstanding e.next (Data n c) = ap (with_pending m e.next) pushed ∙ one_more m e.next ps (Data n c) below ∙ ap (λ x. with_piece x e.next (Data n c)) (sym out) in
+    ap (λ x. record e { sends = x; outstanding = with_pending m e.next qs; spare = spare }) lanes
+    ∙ ap (λ x. record e { sends = updated e.sends n (λ l. sent_lane l c) (lookup e.sends n); outstanding = x; spare = spare }) more
+    ∙ ap (λ x. record e { sends = updated e.sends n (λ l. sent_lane l c) (lookup e.sends n); outstanding = with_piece e.outstanding e.next (Data n c); spare = x }) less
+    ∙ ap (chunk_put n c) is
+
+told_lanes : (i : Item) (t : Tables Sending) → lanes_of (halves_told i t) ≡ blocked_noted i (lanes_of t)
+told_lanes (StreamDataBlocked n x) t = lanes_updated t n after_blocked blocked_lane (λ s there. refl)
+told_lanes (MaxData x) t = refl
+told_lanes (MaxStreamData n x) t = refl
+told_lanes (MaxStreams d x) t = refl
+told_lanes (ResetStream n x y) t = refl
+told_lanes (StopSending n x) t = refl
+told_lanes (DataBlocked x) t = refl
+told_lanes (StreamsBlocked d x) t = refl
+
+pub item_value : (e now : Outgoing) (t t' : Tables Sending) (m : Records) (ps qs : List Piece) (spare : ℕ) (i : Item) → e ≡ now → e.sends ≡ lanes_of t → e.outstanding ≡ with_pending m e.next ps → AreBelow m e.next → spare ≡ e.spare - 1
+    → t' ≡ halves_told i t → qs ≡ ps ++ Told i ∷ []
+    → ◌≡◌ {A = Outgoing} (record e { sends = lanes_of t'; outstanding = with_pending m e.next qs; spare = spare }) (item_put_out i now)
+item_value e now t t' m ps qs spare i is sends out below less halves pushed =
+    let lanes : lanes_of t' ≡ blocked_noted i e.sends = ap lanes_of halves ∙ told_lanes i t ∙ ap (blocked_noted i) (sym sends) in
+    let more : with_pending m e.next qs ≡ with_piece e.outstanding e.next (Told i) = ap (with_pending m e.next) pushed ∙ one_more m e.next ps (Told i) below ∙ ap (λ x. with_piece x e.next (Told i)) (sym out) in
+    ap (λ x. record e { sends = x; outstanding = with_pending m e.next qs; spare = spare }) lanes
+    ∙ ap (λ x. record e { sends = blocked_noted i e.sends; outstanding = x; spare = spare }) more
+    ∙ ap (λ x. record e { sends = blocked_noted i e.sends; outstanding = with_piece e.outstanding e.next (Told i); spare = x }) less
+    ∙ ap (item_put_out i) is
+
+pub same_half : (e now : Outgoing) (t : Tables Sending) (n : ℕ) (s : Sending) → e ≡ now → e.sends ≡ lanes_of t → lookup t n ≡ Some s → or_none (lookup now.sends n) ≡ s.lane
+same_half e now t n s is sends there = ap (λ x. or_none (lookup x n)) (ap (λ (o : Outgoing). o.sends) (sym is) ∙ sends) ∙ ap or_none (lane_there t n s there)
+
+pub due_half : (o : Outgoing) (n : ℕ) (s : Sending) (c : Chunk) → ((x : Sending) × HasSending o n x × IsDueChunk x c) → HasSending o n s → IsDueChunk s c
+due_half o n s c h g = subst (λ (x : Sending). IsDueChunk x c) (same_sending o n h.0 s h.1 g) h.2
+
+pub open_half : (o : Outgoing) (n : ℕ) (c : Chunk) → ((x : Sending) × HasSending o n x × IsDueChunk x c) → is_some (lookup o.sends n) ≡ true
+open_half o n c h = ap is_some h.1.lane
+
+pub sent_half : (t t' : Tables Sending) (n : ℕ) (s x : Sending) (c : Chunk) → lookup t n ≡ Some s → t' ≡ updated t n (λ y. after_sent y c) (lookup t n) → lookup t' n ≡ Some x → x ≡ after_sent s c
+sent_half t t' n s x c there is at =
+    some_is (lookup t' n) x (after_sent s c) at (ap (λ y. lookup y n) (is ∙ ap (updated t n (λ y. after_sent y c)) there) ∙ lookup_same t n s (after_sent s c) there)
+
+pub still_open : (t t' : Tables Sending) (n : ℕ) (s : Sending) (c : Chunk) → lookup t n ≡ Some s → t' ≡ updated t n (λ y. after_sent y c) (lookup t n) → is_some (lookup t' n) ≡ true
+still_open t t' n s c there is = ap is_some (ap (λ y. lookup y n) (is ∙ ap (updated t n (λ y. after_sent y c)) there) ∙ lookup_same t n s (after_sent s c) there)
+
+pub end_within : (t : Tables Sending) (n : ℕ) (s : Sending) → lookup t n ≡ Some s → s.lane.sent_end ≤ sent_sum (lanes_of t)
+end_within t n s there = (let low = total_update (λ (l : SendLane). l.sent_end) (lanes_of t) n s.lane (record s.lane { sent_end = 0 }) (lane_there t n s there) in omega (arith, low))
+
+pub sum_after : (t t' : Tables Sending) (n : ℕ) (s : Sending) (c : Chunk) → lookup t n ≡ Some s → t' ≡ updated t n (λ y. after_sent y c) (lookup t n) → sent_sum (lanes_of t') + s.lane.sent_end ≡ sent_sum (lanes_of t) + (after_sent s c).lane.sent_end
+sum_after t t' n s c there halves =
+    let at : t' ≡ update t n (after_sent s c) = halves ∙ ap (updated t n (λ x. after_sent x c)) there in
+    let now : sent_sum (lanes_of t') ≡ sent_sum (update (lanes_of t) n (sent_lane s.lane c)) = ap (λ x. sent_sum (lanes_of x)) at ∙ ap sent_sum (update_lanes t n (after_sent s c)) in
+    omega (arith, now, total_update (λ (l : SendLane). l.sent_end) (lanes_of t) n s.lane (sent_lane s.lane c) (lane_there t n s there))
+
+pub sum_now : (e now : Outgoing) (t t' : Tables Sending) (n : ℕ) (c : Chunk) → e ≡ now → e.sends ≡ lanes_of t → t' ≡ updated t n (λ y. after_sent y c) (lookup t n) → sent_sum (on_lane n (λ l. sent_lane l c) now).sends ≡ sent_sum (lanes_of t')
+sum_now e now t t' n c is sends halves =
+    ap (λ (o : Outgoing). sent_sum (on_lane n (λ l. sent_lane l c) o).sends) (sym is) ∙ ap (λ x. sent_sum (updated x n (λ l. sent_lane l c) (lookup x n))) sends
+    ∙ ap sent_sum (sym (ap lanes_of halves ∙ lanes_updated t n (λ x. after_sent x c) (λ l. sent_lane l c) (λ s there. refl)))
+
+pub idle_committed : (t : Tables Sending) (m' : Records) (r' : Bool) (qs : List Piece) (k sent free' : ℕ) → IsOutbox t m' r' qs k sent 0 free' → qs ≡ [] → fmap.get (with_pending m' k qs) k ≡ None
+idle_committed t m' r' qs k sent free' h none = subst (λ x. fmap.get (with_pending m' k x) k ≡ None) (sym none) (none_above m' k h.below)
+
+pub committed_value : (e now : Outgoing) (m m' : Records) (ps qs : List Piece) → e ≡ now → e.outstanding ≡ with_pending m e.next ps → m' ≡ with_pending m e.next ps → qs ≡ []
+    → ◌≡◌ {A = Outgoing} (record e { next = e.next + 1; outstanding = with_pending m' (e.next + 1) qs; spare = 0 }) (record now { next = now.next + 1; spare = 0 })
+committed_value e now m m' ps qs is out put none =
+    ap (λ x. record e { next = e.next + 1; outstanding = with_pending m' (e.next + 1) x; spare = 0 }) none
+    ∙ ap (λ x. record e { next = e.next + 1; outstanding = x; spare = 0 }) (put ∙ sym out)
+    ∙ ap (λ (o : Outgoing). record o { next = o.next + 1; spare = 0 }) is
+
+pub told_now : (e now : Outgoing) (t : Tables Sending) (i : Item) → e ≡ now → e.sends ≡ lanes_of t → MayTell now.sends i → MayTell (lanes_of t) i
+told_now e now t i is sends h = subst (λ x. MayTell x i) sends (subst (λ (o : Outgoing). MayTell o.sends i) (sym is) h)

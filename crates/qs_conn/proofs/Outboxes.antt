@@ -1,0 +1,258 @@
+-- An outbox: what each call is to its value, and that it keeps what holds of it.
+use Rattle.std.proofs.Common.{◌≡◌, ℕ, zero, suc, ◌/◌, ◌%◌, Bool, true, false, List, [], ◌∷◌, length, take, slice_get, slice_set, Option, Some, None, is_some, Result, Ok, Err, cond, unwrap_or, option_map, refl, sym, ap, ◌∙◌, subst, arith, nat_cmp}
+use Rattle.std.proofs.lemmas.Bool.{both_ways}
+use Rattle.std.specs.FinMap as fmap
+use Rattle.std.specs.FinSet as set
+use Rattle.std.specs.Result.{OnOk, OnErr, IfOk, IfErr}
+use Rattle.qs_send.specs.declared.parts.SendFault.{SendFault}
+use Rattle.qs_send.specs.declared.parts.SendFault.TheVariants.{NoMemory}
+use Rattle.qs_send.specs.declared.piece.Piece.{Piece}
+use Rattle.qs_send.specs.Lane.{SendLane, Sending, new_sending, new_lane, accepted, refusal, reset_refusal, answer_of, write_lane, finish_lane, after_write, after_finish, after_reset, after_allow}
+use Rattle.qs_send.specs.Sound.{IsLawful}
+use Rattle.qs_conn.specs.Tables.{Tables, table, with_table, lookup, update, updated, open_to, no_streams, total}
+use Rattle.qs_conn.specs.Ends.{Records}
+use Rattle.qs_conn.specs.declared.report.SendReport.{SendReport}
+use Rattle.qs_conn.specs.Reports.{send_report}
+use Rattle.qs_conn.specs.Layers.{or_none, or_no_sending}
+use Rattle.qs_conn.specs.Outgoing.{Outgoing, with_sends, on_lane, sent_sum, lanes_of, with_pending, AreOfOpen, AreTied, IsTied, IsOutbox, HasSending}
+use Rattle.qs_conn.proofs.TableLaws.{total_update, total_open}
+use Rattle.qs_conn.proofs.Carried.{some_is}
+use Rattle.qs_conn.proofs.Tied.{tied_write, tied_finish, tied_reset, tied_allow}
+use Rattle.qs_conn.proofs.LaneTables.{lookup_lanes, lane_there, lanes_updated, lanes_opened, lanes_closed, update_lanes}
+use Rattle.qs_conn.proofs.Ties.{ties_none, ties_updated, ties_opened, ties_closed}
+
+-- Tables
+
+set_got : {X : Type 0} (xs : List X) (i : ℕ) (x : X) → slice_get xs i ≡ Some x → slice_set xs i x ≡ xs
+set_got [] i x is = refl
+set_got (y ∷ xs) zero x is = ap (λ z. z ∷ xs) (some_is (Some y) x y is refl)
+set_got (y ∷ xs) (suc i) x is = ap (λ zs. y ∷ zs) (set_got xs i x is)
+
+with_itself : {X : Type 0} (t : Tables X) (k : ℕ) → with_table t k (table t k) ≡ t
+with_itself t zero = refl
+with_itself t (suc zero) = refl
+with_itself t (suc (suc zero)) = refl
+with_itself t (suc (suc (suc k))) = refl
+
+pub update_itself : {X : Type 0} (t : Tables X) (n : ℕ) (x : X) → lookup t n ≡ Some x → update t n x ≡ t
+unfolding lookup update
+update_itself t n x is = ap (with_table t (n % 4)) (set_got (table t (n % 4)) (n / 4) x is) ∙ with_itself t (n % 4)
+
+pub stays : {X : Type 0} (t : Tables X) (n : ℕ) (x : X) (f : X → X) → lookup t n ≡ Some x → f x ≡ x → updated t n f (lookup t n) ≡ t
+stays t n x f there same = ap (updated t n f) there ∙ ap (update t n) same ∙ update_itself t n x there
+
+pub half_found : (t : Tables Sending) (n : ℕ) → is_some (lookup t n) ≡ true → lookup t n ≡ Some (or_no_sending (lookup t n))
+half_found t n is = go (lookup t n) is
+  where
+    go : (o : Option Sending) → is_some o ≡ true → o ≡ Some (or_no_sending o)
+    go None h = absurd (both_ways true (sym h) refl)
+    go (Some s) h = refl
+
+pub half_there : (e now : Outgoing) (t : Tables Sending) (n : ℕ) → e ≡ now → e.sends ≡ lanes_of t → is_some (lookup now.sends n) ≡ true → is_some (lookup t n) ≡ true
+half_there e now t n is sends h = go (lookup t n) (sym (ap is_some (ap (λ x. lookup x n) (ap (λ (o : Outgoing). o.sends) (sym is) ∙ sends) ∙ lookup_lanes t n)) ∙ h)
+  where
+    go : (o : Option Sending) → is_some (elim o [ None ↦ None | Some s ↦ Some s.lane ]) ≡ true → is_some o ≡ true
+    go None e = e
+    go (Some s) e = refl
+
+pub lane_is : (t : Tables Sending) (n : ℕ) → or_none (lookup (lanes_of t) n) ≡ (or_no_sending (lookup t n)).lane
+lane_is t n = ap or_none (lookup_lanes t n) ∙ go (lookup t n)
+  where
+    go : (o : Option Sending) → or_none (elim o [ None ↦ None | Some s ↦ Some s.lane ]) ≡ (or_no_sending o).lane
+    go None = refl
+    go (Some s) = refl
+
+pub lane_now : (e now : Outgoing) (t : Tables Sending) (n : ℕ) → e ≡ now → e.sends ≡ lanes_of t → or_none (lookup now.sends n) ≡ (or_no_sending (lookup t n)).lane
+lane_now e now t n is sends = ap (λ x. or_none (lookup x n)) (ap (λ (o : Outgoing). o.sends) (sym is) ∙ sends) ∙ lane_is t n
+
+-- Values
+
+pub sends_step : (e now : Outgoing) (x : Tables SendLane) (f : Tables SendLane → Tables SendLane) → e ≡ now → x ≡ f e.sends → with_sends x e ≡ with_sends (f now.sends) now
+sends_step e now x f is sends = ap (λ y. with_sends y e) sends ∙ ap (λ (o : Outgoing). with_sends (f o.sends) o) is
+
+pub lane_step : (e now : Outgoing) (n : ℕ) (g : SendLane → SendLane) (x : Tables SendLane) → e ≡ now → x ≡ updated e.sends n g (lookup e.sends n) → with_sends x e ≡ on_lane n g now
+lane_step e now n g x is sends = ap (λ y. with_sends y e) sends ∙ ap (λ (o : Outgoing). on_lane n g o) is
+
+pub same_step : (e now : Outgoing) (x : Tables SendLane) → e ≡ now → x ≡ e.sends → with_sends x e ≡ now
+same_step e now x is sends = ap (λ y. with_sends y e) sends ∙ is
+
+-- What holds
+
+module _ (t t' : Tables Sending) (m : Records) (r : Bool) (ps : List Piece) (k sent spare free : ℕ) (h : IsOutbox t m r ps k sent spare free) where
+  pub box_same : t' ≡ t → IsOutbox t' m r ps k sent spare free
+  box_same is = subst (λ (x : Tables Sending). IsOutbox x m r ps k sent spare free) (sym is) h
+
+  pub box_sends : AreTied t' (with_pending m k ps) → sent_sum (lanes_of t') ≡ sent_sum (lanes_of t) → IsOutbox t' m r ps k sent spare free
+  box_sends tied sum = record { tied = tied; below = h.below; sum = sum ∙ h.sum; small = h.small; room = h.room; ready = h.ready }
+
+  pub box_updated : (n : ℕ) (s s' : Sending) → lookup t n ≡ Some s → t' ≡ update t n s' → IsTied (with_pending m k ps) n s' → (is_some s.lane.was_reset ≡ true → is_some s'.lane.was_reset ≡ true) → s'.lane.sent_end ≡ s.lane.sent_end
+      → IsOutbox t' m r ps k sent spare free
+  box_updated n s s' there is tied keeps same =
+      box_sends (subst (λ x. AreTied x (with_pending m k ps)) (sym is) (ties_updated t (with_pending m k ps) n s s' h.tied there tied keeps))
+      (ap (λ x. sent_sum (lanes_of x)) is ∙ ap sent_sum (update_lanes t n s') ∙ same_sum)
+    where
+      same_sum : sent_sum (update (lanes_of t) n s'.lane) ≡ sent_sum (lanes_of t)
+      same_sum = (let e = total_update (λ (l : SendLane). l.sent_end) (lanes_of t) n s.lane s'.lane (lane_there t n s there) in omega (arith, e, same))
+
+  pub box_allowed : (n limit : ℕ) → is_some (lookup t n) ≡ true → t' ≡ updated t n (λ s. after_allow s limit) (lookup t n) → IsOutbox t' m r ps k sent spare free
+  box_allowed n limit there is =
+      let s = or_no_sending (lookup t n) in
+      let at = half_found t n there in
+      box_updated n s (after_allow s limit) at (is ∙ ap (updated t n (λ s. after_allow s limit)) at) (tied_allow (with_pending m k ps) n s (h.tied.lanes n s at) limit) (λ x. x) refl
+
+  pub box_finished : (n : ℕ) (s : Sending) → lookup t n ≡ Some s → IsLawful s → t' ≡ updated t n after_finish (lookup t n) → IsOutbox t' m r ps k sent spare free
+  box_finished n s at law is =
+      box_updated n s (after_finish s) at (is ∙ ap (updated t n after_finish) at) (tied_finish (with_pending m k ps) n s (h.tied.lanes n s at) law)
+      (λ x. marks (is_some (refusal s.lane)) x) (ends (is_some (refusal s.lane)))
+    where
+      marks : (b : Bool) → is_some s.lane.was_reset ≡ true → is_some (cond b s (record { lane = finish_lane s.lane; due = record { offsets = s.due.offsets; fin = true } })).lane.was_reset ≡ true
+      marks true x = x
+      marks false x = x
+
+      ends : (b : Bool) → (cond b s (record { lane = finish_lane s.lane; due = record { offsets = s.due.offsets; fin = true } })).lane.sent_end ≡ s.lane.sent_end
+      ends true = refl
+      ends false = refl
+
+  pub box_reset : (n code : ℕ) → is_some (lookup t n) ≡ true → t' ≡ updated t n (λ s. after_reset s code) (lookup t n) → IsOutbox t' m r ps k sent spare free
+  box_reset n code there is =
+      let s = or_no_sending (lookup t n) in
+      let at = half_found t n there in
+      box_updated n s (after_reset s code) at (is ∙ ap (updated t n (λ s. after_reset s code)) at) (tied_reset (with_pending m k ps) n s (h.tied.lanes n s at) code)
+      (λ x. marks s (is_some (reset_refusal s.lane)) x) (ends s (is_some (reset_refusal s.lane)))
+    where
+      marks : (s : Sending) (b : Bool) → is_some s.lane.was_reset ≡ true → is_some (cond b s.lane (record s.lane { was_reset = Some (record { code = code; size = cond s.lane.fin_sent s.lane.written s.lane.sent_end }) })).was_reset ≡ true
+      marks s true x = x
+      marks s false x = refl
+
+      ends : (s : Sending) (b : Bool) → (cond b s.lane (record s.lane { was_reset = Some (record { code = code; size = cond s.lane.fin_sent s.lane.written s.lane.sent_end }) })).sent_end ≡ s.lane.sent_end
+      ends s true = refl
+      ends s false = refl
+
+  pub box_written : (n : ℕ) (bytes : List ℕ) (s : Sending) (res : Result ℕ SendFault) → lookup t n ≡ Some s → IsLawful s
+      → IfOk res (λ j. (refusal (or_no_sending (lookup t n)).lane ≡ None) × (j ≡ accepted (or_no_sending (lookup t n)).lane (length bytes)) × (t' ≡ updated t n (λ s. after_write s (take j bytes)) (lookup t n)))
+      → IfErr res (λ f. (t' ≡ t) × (f ≡ unwrap_or (refusal (or_no_sending (lookup t n)).lane) NoMemory)) → IsOutbox t' m r ps k sent spare free
+  box_written n bytes s (Ok j) at law ok err =
+      box_updated n s (after_write s (take j bytes)) at (ok.2 ∙ ap (updated t n (λ s. after_write s (take j bytes))) at) (tied_write (with_pending m k ps) n s (h.tied.lanes n s at) law (take j bytes)) (λ x. x) refl
+  box_written n bytes s (Err f) at law ok err = box_same err.0
+
+  pub box_opened : (n limit buffer : ℕ) → t' ≡ open_to t n (λ j. new_sending j limit buffer) → IsOutbox t' m r ps k sent spare free
+  box_opened n limit buffer is =
+      box_sends (subst (λ x. AreTied x (with_pending m k ps)) (sym is) (ties_opened t (with_pending m k ps) n limit buffer h.tied))
+      (ap (λ x. sent_sum (lanes_of x)) is ∙ ap sent_sum (lanes_opened t n (λ j. new_sending j limit buffer)) ∙ total_open (λ (l : SendLane). l.sent_end) (lanes_of t) n (λ j. new_lane j limit buffer) (λ j. refl))
+
+  pub box_closed : (n count : ℕ) → t' ≡ with_table t (n % 4) (take count (table t (n % 4)))
+      → AreOfOpen (with_table (lanes_of t) (n % 4) (take count (table (lanes_of t) (n % 4)))) (with_pending m k ps)
+      → sent_sum (with_table (lanes_of t) (n % 4) (take count (table (lanes_of t) (n % 4)))) ≡ sent_sum (lanes_of t) → IsOutbox t' m r ps k sent spare free
+  box_closed n count is of sum =
+      box_sends (subst (λ x. AreTied x (with_pending m k ps)) (sym is) (ties_closed t (with_pending m k ps) n count h.tied of))
+      (ap (λ x. sent_sum (lanes_of x)) is ∙ ap sent_sum (lanes_closed t (n % 4) count) ∙ sum)
+
+no_sum : sent_sum (lanes_of no_streams) ≡ 0
+unfolding total
+no_sum = refl
+
+pub box_new : (t : Tables Sending) (m : Records) (r : Bool) (ps : List Piece) (free : ℕ) → t ≡ no_streams → m ≡ fmap.empty → ps ≡ [] → IsOutbox t m r ps 0 0 0 free
+box_new t m r ps free is none empty =
+    rw (is, none, empty)
+    (record {
+      tied = ties_none;
+      below = λ k has. absurd (both_ways true (sym has ∙ ap is_some (fmap.get-empty nat_cmp k)) refl);
+      sum = no_sum;
+      small = omega arith;
+      room = omega arith;
+      ready = λ some. absurd (omega (arith, some));
+    })
+
+-- Answers
+
+pub finish_ok : (t t' : Tables Sending) (n : ℕ) (r : Result (Unit {0}) SendFault) → is_some (lookup t n) ≡ true → t' ≡ updated t n after_finish (lookup t n) → r ≡ answer_of (refusal (or_no_sending (lookup t n)).lane)
+    → OnOk r (lanes_of t' ≡ updated (lanes_of t) n finish_lane (lookup (lanes_of t) n))
+finish_ok t t' n r there is answer =
+    let s = or_no_sending (lookup t n) in
+    let at = half_found t n there in
+    on_none (refusal s.lane) r _ answer
+    (λ none. ap lanes_of is ∙ lanes_updated t n after_finish finish_lane (λ x here. subst (λ (y : Sending). (after_finish y).lane ≡ finish_lane y.lane) (some_is (lookup t n) s x at here) (lane_after s (refusal s.lane) none)))
+  where
+    on_none : (o : Option SendFault) (r : Result (Unit {0}) SendFault) (P : Type 0) → r ≡ answer_of o → (o ≡ None → P) → OnOk r P
+    on_none None r P is p = rw is (p refl)
+    on_none (Some f) r P is p = rw is tt
+
+    lane_after : (x : Sending) (o : Option SendFault) → o ≡ None → (cond (is_some o) x (record { lane = finish_lane x.lane; due = record { offsets = x.due.offsets; fin = true } })).lane ≡ finish_lane x.lane
+    lane_after x o is = rw is refl
+
+on_some : (o : Option SendFault) (r : Result (Unit {0}) SendFault) (P : Type 0) → r ≡ answer_of o → (is_some o ≡ true → P) → OnErr r P
+on_some None r P is p = rw is tt
+on_some (Some f) r P is p = rw is (p refl)
+
+pub finish_err : (t t' : Tables Sending) (n : ℕ) (r : Result (Unit {0}) SendFault) → is_some (lookup t n) ≡ true → t' ≡ updated t n after_finish (lookup t n) → r ≡ answer_of (refusal (or_no_sending (lookup t n)).lane) → OnErr r (t' ≡ t)
+finish_err t t' n r there is answer =
+    let s = or_no_sending (lookup t n) in
+    on_some (refusal s.lane) r _ answer (λ some. is ∙ stays t n s after_finish (half_found t n there) (ap (λ b. cond b s (record { lane = finish_lane s.lane; due = record { offsets = s.due.offsets; fin = true } })) some))
+
+pub reset_err : (t t' : Tables Sending) (n code : ℕ) (r : Result (Unit {0}) SendFault) → is_some (lookup t n) ≡ true → t' ≡ updated t n (λ s. after_reset s code) (lookup t n) → r ≡ answer_of (reset_refusal (or_no_sending (lookup t n)).lane) → OnErr r (t' ≡ t)
+reset_err t t' n code r there is answer =
+    let s = or_no_sending (lookup t n) in
+    on_some (reset_refusal s.lane) r _ answer
+    (λ some. is ∙ stays t n s (λ s. after_reset s code) (half_found t n there) (unreset s (is_some (reset_refusal s.lane)) some))
+  where
+    unreset : (s : Sending) (b : Bool) → b ≡ true
+        → ◌≡◌ {A = Sending}
+        (record {
+          lane = cond b s.lane (record s.lane { was_reset = Some (record { code = code; size = cond s.lane.fin_sent s.lane.written s.lane.sent_end }) });
+          due = cond b s.due (record { offsets = set.empty; fin = false });
+        }) s
+    unreset s true e = refl
+    unreset s false e = absurd (both_ways false refl e)
+
+pub on_error : {A E : Type 0} (r : Result A E) (P Q : Type 0) → (P → Q) → OnErr r P → OnErr r Q
+on_error (Ok a) P Q f p = tt
+on_error (Err e) P Q f p = f p
+
+pub write_ok : (e now : Outgoing) (t t' : Tables Sending) (n : ℕ) (bytes : List ℕ) (r : Result ℕ SendFault) → e ≡ now → e.sends ≡ lanes_of t
+    → IfOk r (λ j. (refusal (or_no_sending (lookup t n)).lane ≡ None) × (j ≡ accepted (or_no_sending (lookup t n)).lane (length bytes)) × (t' ≡ updated t n (λ s. after_write s (take j bytes)) (lookup t n)))
+    → IfOk r (λ j. (refusal (or_none (lookup now.sends n)) ≡ None) × (j ≡ accepted (or_none (lookup now.sends n)) (length bytes)) × (with_sends (lanes_of t') e ≡ on_lane n (λ l. write_lane l (take j bytes)) now))
+write_ok e now t t' n bytes (Ok j) is sends h =
+    let at = lane_now e now t n is sends in (
+      ap refusal at ∙ h.0,
+      h.1 ∙ ap (λ l. accepted l (length bytes)) (sym at),
+      lane_step e now n (λ l. write_lane l (take j bytes)) (lanes_of t') is
+          (ap lanes_of h.2 ∙ lanes_updated t n (λ s. after_write s (take j bytes)) (λ l. write_lane l (take j bytes)) (λ s there. refl) ∙ ap (λ x. updated x n (λ l. write_lane l (take j bytes)) (lookup x n)) (sym sends)),
+    )
+write_ok e now t t' n bytes (Err f) is sends h = tt
+
+pub write_err : (e now : Outgoing) (t t' : Tables Sending) (n : ℕ) (r : Result ℕ SendFault) → e ≡ now → e.sends ≡ lanes_of t
+    → IfErr r (λ f. (t' ≡ t) × (f ≡ unwrap_or (refusal (or_no_sending (lookup t n)).lane) NoMemory))
+    → IfErr r (λ f. (with_sends (lanes_of t') e ≡ now) × (f ≡ unwrap_or (refusal (or_none (lookup now.sends n))) NoMemory))
+write_err e now t t' n (Ok j) is sends h = tt
+write_err e now t t' n (Err f) is sends h = (
+  same_step e now (lanes_of t') is (ap lanes_of h.0 ∙ sym sends),
+  h.1 ∙ ap (λ l. unwrap_or (refusal l) NoMemory) (sym (lane_now e now t n is sends)),
+)
+
+pub box_open : (t t' : Tables Sending) (m : Records) (r : Bool) (ps : List Piece) (k sent spare free : ℕ) → IsOutbox t m r ps k sent spare free → {E : Type 0} (n limit buffer : ℕ) (res : Result (Unit {0}) E)
+    → OnOk res (t' ≡ open_to t n (λ j. new_sending j limit buffer)) → OnErr res (t' ≡ t) → IsOutbox t' m r ps k sent spare free
+box_open t t' m r ps k sent spare free h n limit buffer (Ok a) ok err = box_opened t t' m r ps k sent spare free h n limit buffer ok
+box_open t t' m r ps k sent spare free h n limit buffer (Err e) ok err = box_same t t' m r ps k sent spare free h err
+
+pub sending_is : (e now : Outgoing) (t : Tables Sending) (n : ℕ) (s : Sending) → e ≡ now → e.sends ≡ lanes_of t → lookup t n ≡ Some s → IsLawful s → IsTied e.outstanding n s → HasSending now n s
+sending_is e now t n s is sends there law tied =
+    subst (λ o. HasSending o n s) is (record { lane = ap (λ x. lookup x n) sends ∙ lane_there t n s there; lawful = law; tied = tied })
+
+-- Readers
+
+pub open_now : (e now : Outgoing) (t : Tables Sending) (n : ℕ) → e ≡ now → e.sends ≡ lanes_of t → is_some (lookup t n) ≡ is_some (lookup now.sends n)
+open_now e now t n is sends = go (lookup t n) ∙ ap is_some (sym (lookup_lanes t n) ∙ ap (λ x. lookup x n) (sym sends ∙ ap (λ (o : Outgoing). o.sends) is))
+  where
+    go : (o : Option Sending) → is_some o ≡ is_some (elim o [ None ↦ None | Some s ↦ Some s.lane ])
+    go None = refl
+    go (Some s) = refl
+
+pub report_none : (e now : Outgoing) (t : Tables Sending) (n : ℕ) → e ≡ now → e.sends ≡ lanes_of t → is_some (lookup t n) ≡ false → ◌≡◌ {A = Option SendReport} None (option_map send_report (lookup now.sends n))
+report_none e now t n is sends none = go (lookup now.sends n) (sym (open_now e now t n is sends) ∙ none)
+  where
+    go : (o : Option SendLane) → is_some o ≡ false → ◌≡◌ {A = Option SendReport} None (option_map send_report o)
+    go None h = refl
+    go (Some l) h = absurd (both_ways true h refl)
+
+pub report_some : (e now : Outgoing) (t : Tables Sending) (n : ℕ) (s : Sending) → e ≡ now → e.sends ≡ lanes_of t → lookup t n ≡ Some s → ◌≡◌ {A = Option SendReport} (Some (send_report s.lane)) (option_map send_report (lookup now.sends n))
+report_some e now t n s is sends there = ap (option_map send_report) (sym (lane_there t n s there) ∙ ap (λ x. lookup x n) (sym sends ∙ ap (λ (o : Outgoing). o.sends) is))

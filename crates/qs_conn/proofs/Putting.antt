@@ -1,0 +1,121 @@
+-- Items are put into a packet that is in a slice.
+use Rattle.std.proofs.Common.{◌≡◌, ℕ, ◌+◌, ◌<◌, ◌≤◌, Bool, true, false, List, ◌++◌, ◌⊎◌, length, take, refl, sym, ap, ◌∙◌, arith, inl, inr, Option, None, Some}
+use Rattle.std.proofs.lemmas.Bool.{true≢false, cases_lt}
+use Rattle.std.proofs.lemmas.List.{length-append, length-take-le}
+use Rattle.qs_wire.specs.Varint.{short}
+use Rattle.qs_wire.specs.Grammar.{Fits, canonical}
+use Rattle.qs_wire.proofs.Numbers.{short_positive}
+use Rattle.qs_recv.specs.Lane.{RecvLane}
+use Rattle.qs_send.specs.declared.piece.Item.{Item}
+use Rattle.qs_send.specs.declared.piece.Item.TheVariants.{MaxData, MaxStreamData, MaxStreams, ResetStream, StopSending, DataBlocked, StreamDataBlocked, StreamsBlocked}
+use Rattle.qs_conn.specs.declared.slot.Slot.{Slot}
+use Rattle.qs_conn.specs.declared.slot.Kind.{Kind}
+use Rattle.qs_conn.specs.declared.terms.Terms.{Terms}
+use Rattle.qs_send.specs.Lane.{SendLane, blocked_lane}
+use Rattle.qs_conn.proofs.TableLaws.{total_update}
+use Rattle.qs_conn.specs.Tables.{Tables, lookup, updated}
+use Rattle.qs_conn.specs.Ends.{End}
+use Rattle.qs_conn.specs.Seen.{Control}
+use Rattle.qs_conn.specs.Due.{IsCurrent, IsCovered}
+use Rattle.qs_conn.specs.Lawful.{frame_put}
+use Rattle.qs_conn.specs.Outgoing.{Outgoing, item_put_out, sent_sum}
+use Rattle.qs_conn.specs.Filling.{slot_of, slot_at, frame_of_item, end_by, IsCurrentIn, PutsItem, Begun, Packed, Passed, and_slot, and_kind, and_below, IsPassed, Stage}
+use Rattle.qs_conn.specs.Marks.{IsIdle}
+use Rattle.qs_conn.proofs.Stages.{begun_idle, begun_fewer, begun_absent, begun_covered, begun_item, begun_too_long}
+use Rattle.qs_conn.proofs.Slots.{end_put}
+
+-- a packet that is full stays so
+pub stage_full : (room : ℕ) (old : End) (text : List ℕ) (e : End) (b : Bool) (P Q : Passed) → b ≡ true → Stage room old text e b P → Stage room old text e b Q
+stage_full room old text e true P Q is s = s
+stage_full room old text e false P Q is s = absurd (true≢false (sym is))
+
+pub stage_fewer : (room : ℕ) (old : End) (text : List ℕ) (e : End) (b : Bool) (P Q : Passed) → ((s : Slot) → IsPassed Q s → IsPassed P s) → Stage room old text e b P → Stage room old text e b Q
+stage_fewer room old text e true P Q fewer s = s
+stage_fewer room old text e false P Q fewer s = begun_fewer room old text e (IsPassed P) s (IsPassed Q) fewer
+
+pub stage_absent : (room : ℕ) (old : End) (text : List ℕ) (e : End) (b : Bool) (P : Passed) (s : Slot) → IsCurrentIn e s None → Stage room old text e b P → Stage room old text e b (and_slot P s)
+stage_absent room old text e true P s none b = b
+stage_absent room old text e false P s none b = begun_absent room old text e (IsPassed P) b s none
+
+module _ (room : ℕ) (old : End) (text : List ℕ) (e : End) (P : Slot → Type 0) (s : Slot) (i : Item) (c : IsCurrentIn e s (Some i)) (b : Begun room old text e P) where
+  only : (j : Item) → slot_of j ≡ slot_of i → IsCurrent e j → j ≡ i
+  only j same is = c.2 j (same ∙ c.1) is
+
+  at_slot : (text : List ℕ) (e : End) → Begun room old text e (λ t. P t ⊎ (t ≡ slot_of i)) → Begun room old text e (λ t. P t ⊎ (t ≡ s))
+  at_slot text e b = begun_fewer room old text e (λ t. P t ⊎ (t ≡ slot_of i)) b (λ t. P t ⊎ (t ≡ s)) (λ t p. elim p [ inl before ↦ inl before | inr is ↦ inr (is ∙ sym c.1) ])
+
+  slot_covered : IsCovered e i → Begun room old text e (λ t. P t ⊎ (t ≡ s))
+  slot_covered covered = at_slot text e (begun_covered room old text e P b i only covered)
+
+  slot_put : (IsCovered e i → ⊥) → Fits (frame_of_item i) → Begun room old (text ++ canonical (frame_of_item i)) (frame_put (Control i) e) (λ t. P t ⊎ (t ≡ s))
+  slot_put free fits = at_slot (text ++ canonical (frame_of_item i)) (frame_put (Control i) e) (begun_item room old text e P b i only (c.0, free) fits)
+
+pub stage_covered : (room : ℕ) (old : End) (text : List ℕ) (e : End) (b : Bool) (P : Passed) (s : Slot) (i : Item) → IsCurrentIn e s (Some i) → IsCovered e i → Stage room old text e b P → Stage room old text e b (and_slot P s)
+stage_covered room old text e true P s i c covered b = b
+stage_covered room old text e false P s i c covered b = slot_covered room old text e (IsPassed P) s i c b covered
+
+pub stage_put : (room : ℕ) (old : End) (t : Terms) (recvs : Tables RecvLane) (o new : Outgoing) (e : End) (before after : List ℕ) (len end : ℕ) (b full : Bool) (P : Passed) (s : Slot) (i : Item) →
+    b ≡ false → room ≡ length before → len ≤ length before → IsCurrentIn (end_by t recvs o e) s (Some i) → (IsCovered (end_by t recvs o e) i → ⊥) → Fits (frame_of_item i) → PutsItem i before len o after end new full →
+    Stage room old (take len before) (end_by t recvs o e) b P → Stage room old (take end after) (end_by t recvs new e) full (and_slot P s)
+stage_put room old t recvs o new e before after len end true full P s i is at le c free fits puts st = absurd (true≢false is)
+stage_put room old t recvs o new e before after len end false true P s i is at le c free fits (same, text, out, long) st =
+    let full : Packed room old (take len before) (end_by t recvs o e) = begun_too_long room old (take len before) (end_by t recvs o e) (IsPassed P) st i fits (omega (arith, length-take-le len before le, at)) (omega (arith, length-take-le len before le, at, long)) in
+    rw (same, text, out) full
+stage_put room old t recvs o new e before after len end false false P s i is at le c free fits (text, out) st =
+    let put = slot_put room old (take len before) (end_by t recvs o e) (IsPassed P) s i c st free fits in
+    rw (text, out, end_put t recvs o e i) put
+
+-- streams whose items of a kind are told already, up to a number
+pub stage_idle : (room : ℕ) (old : End) (text : List ℕ) (e : End) (b : Bool) (P : Passed) (kind : Kind) (from to : ℕ) → ((n : ℕ) → from ≤ n → n < to → IsIdle e (slot_at kind n)) → Stage room old text e b (and_below P kind from) → Stage room old text e b (and_below P kind to)
+stage_idle room old text e true P kind from to idle s = s
+stage_idle room old text e false P kind from to idle s =
+    begun_fewer room old text e (λ t. IsPassed (and_below P kind from) t ⊎ ((n : ℕ) × (from ≤ n) × (n < to) × (t ≡ slot_at kind n)))
+    (begun_idle room old text e (IsPassed (and_below P kind from)) s (λ t. (n : ℕ) × (from ≤ n) × (n < to) × (t ≡ slot_at kind n)) (λ i (n, ge, lt, at). idle n ge lt i at))
+    (IsPassed (and_below P kind to))
+    (λ t p. elim p [ inl before ↦ inl (inl before) | inr (n, lt, at) ↦ elim (cases_lt n from) [ inl below ↦ inl (inr (n, below, at)) | inr ge ↦ inr (n, ge, lt, at) ] ])
+
+-- and those of all further streams
+pub stage_kind : (room : ℕ) (old : End) (text : List ℕ) (e : End) (b : Bool) (P : Passed) (kind : Kind) (from : ℕ) → ((n : ℕ) → from ≤ n → IsIdle e (slot_at kind n)) → Stage room old text e b (and_below P kind from) → Stage room old text e b (and_kind P kind)
+stage_kind room old text e true P kind from idle s = s
+stage_kind room old text e false P kind from idle s =
+    begun_fewer room old text e (λ t. IsPassed (and_below P kind from) t ⊎ ((n : ℕ) × (from ≤ n) × (t ≡ slot_at kind n)))
+    (begun_idle room old text e (IsPassed (and_below P kind from)) s (λ t. (n : ℕ) × (from ≤ n) × (t ≡ slot_at kind n)) (λ i (n, ge, at). idle n ge i at))
+    (IsPassed (and_kind P kind))
+    (λ t p. elim p [ inl before ↦ inl (inl before) | inr (n, at) ↦ elim (cases_lt n from) [ inl below ↦ inl (inr (n, below, at)) | inr ge ↦ inr (n, ge, at) ] ])
+
+-- below the next number
+pub below_next : (P : Passed) (kind : Kind) (n m : ℕ) (slot s : Slot) → slot ≡ slot_at kind n → m ≡ n + 1 → IsPassed (and_below P kind m) s → IsPassed (and_slot (and_below P kind n) slot) s
+below_next P kind n m slot s is next (inl p) = inl (inl p)
+below_next P kind n m slot s is next (inr (k, lt, at)) =
+    elim (cases_lt k n) [ inl below ↦ inl (inr (k, below, at)) | inr ge ↦ (let same : k ≡ n = omega (arith, lt, ge, next) in inr (at ∙ ap (slot_at kind) same ∙ sym is)) ]
+
+-- A text of two bytes or more
+
+two : (t v : ℕ) (rest : List ℕ) → 2 ≤ length (short t ++ (short v ++ rest))
+two t v rest = omega (arith, length-append (short t) (short v ++ rest), length-append (short v) rest, short_positive t, short_positive v)
+
+pub item_some : (i : Item) → 2 ≤ length (canonical (frame_of_item i))
+unfolding canonical
+item_some (MaxData m) = two _ m _
+item_some (MaxStreamData n m) = two _ n _
+item_some (MaxStreams d m) = two _ m _
+item_some (ResetStream n code size) = two _ n _
+item_some (StopSending n code) = two _ n _
+item_some (DataBlocked m) = two _ m _
+item_some (StreamDataBlocked n m) = two _ n _
+item_some (StreamsBlocked d m) = two _ m _
+
+-- items send no byte
+pub sum_put : (i : Item) (o : Outgoing) → sent_sum (item_put_out i o).sends ≡ sent_sum o.sends
+sum_put (MaxData m) o = refl
+sum_put (MaxStreamData n m) o = refl
+sum_put (MaxStreams d m) o = refl
+sum_put (ResetStream n code size) o = refl
+sum_put (StopSending n code) o = refl
+sum_put (DataBlocked m) o = refl
+sum_put (StreamDataBlocked n m) o = go (lookup o.sends n) refl
+  where
+    go : (x : Option SendLane) → lookup o.sends n ≡ x → sent_sum (updated o.sends n blocked_lane x) ≡ sent_sum o.sends
+    go None is = refl
+    go (Some l) is = omega (arith, total_update (λ l. l.sent_end) o.sends n l (blocked_lane l) is)
+sum_put (StreamsBlocked d m) o = refl

@@ -1,0 +1,114 @@
+-- A stream whose half is quiet has nothing to send or to tell.
+use Rattle.std.proofs.Common.{if◌then◌else◌, ◌%◌, ◌==◌, nat_le, ◌≡◌, ℕ, ◌<◌, ◌≤◌, ◌+◌, ◌⊎◌, Option, Some, None, is_some, option_map, refl, sym, ap, ◌∙◌, subst, arith, inl, inr}
+use Rattle.std.proofs.lemmas.Bool.{both_ways, cases_lt}
+use Rattle.std.proofs.lemmas.Option.{none-some, same_Some}
+use Rattle.std.specs.FinSet as set
+use Rattle.qs_recv.specs.Lane.{RecvLane}
+use Rattle.qs_send.specs.Lane.{SendLane, Sending}
+use Rattle.qs_send.specs.declared.piece.Item.TheVariants.{ResetStream}
+use Rattle.qs_conn.specs.declared.slot.Slot.TheVariants as slots
+use Rattle.qs_conn.specs.declared.slot.Kind.{Kind}
+use Rattle.qs_conn.specs.declared.slot.Kind.TheVariants as kinds
+use Rattle.qs_conn.specs.declared.terms.Terms.{Terms}
+use Rattle.qs_conn.specs.declared.settings.Settings.{Settings}
+use Rattle.qs_wire.specs.declared.stream_id.Role.{Role}
+use Rattle.qs_conn.specs.Tables.{Tables, kind_of, lookup}
+use Rattle.qs_conn.specs.Ends.{End, window_by, role_bit}
+use Rattle.qs_conn.specs.Due.{IsCurrent, IsCovered, IsDue, IsEndDue, StreamGoes}
+use Rattle.qs_conn.specs.Outgoing.{Outgoing, IsTied, WantsMore, lanes_of}
+use Rattle.qs_conn.specs.Filling.{end_by, slot_at, AnyWantsMore}
+use Rattle.qs_conn.specs.Marks.{IsQuiet, IsQuietAt, IsIdle, IsQuietLane, IsBefore, HaveTo, least_of}
+use Rattle.qs_conn.proofs.DueTied.{is_due, is_end_due}
+use Rattle.qs_conn.proofs.LaneTables.{lookup_lanes}
+use Rattle.qs_conn.proofs.Slots.{of_reset_stream, of_stream_data_blocked, of_stop_sending, of_max_stream_data, stop_of}
+use Rattle.qs_conn.proofs.Marked.{by_kinds}
+
+-- of a quiet half among the halves
+pub quiet_at : (v o : Outgoing) (t : Tables Sending) (n : ℕ) → v ≡ o → lanes_of t ≡ v.sends → ((s : Sending) → lookup t n ≡ Some s → IsTied v.outstanding n s) → ((s : Sending) → lookup t n ≡ Some s → IsQuiet s) → IsQuietAt o n
+quiet_at v o t n is lanes tied quiet = subst (λ x. IsQuietAt x n) is there
+  where
+    go : (x : Option Sending) → lookup t n ≡ x → (l : SendLane) → option_map (λ (s : Sending). s.lane) x ≡ Some l → (s : Sending) × (s.lane ≡ l) × IsTied v.outstanding n s × IsQuiet s
+    go None e l h = absurd (none-some l h)
+    go (Some s) e l h = (s, same_Some s.lane l h, tied s e, quiet s e)
+
+    there : IsQuietAt v n
+    there l h = go (lookup t n) refl l (sym (lookup_lanes t n) ∙ ap (λ x. lookup x n) lanes ∙ h)
+
+module _ (o : Outgoing) (n : ℕ) (q : IsQuietAt o n) where
+  pub no_wants : WantsMore (lookup o.sends n) → ⊥
+  no_wants w = go (lookup o.sends n) refl w
+    where
+      go : (x : Option SendLane) → lookup o.sends n ≡ x → WantsMore x → ⊥
+      go None e w = w
+      go (Some l) e (none, more, below) =
+          let (s, is, tied, quiet) = q l e in
+          let sent : s.lane.written ≤ s.lane.sent_end = quiet.sent (ap (λ x. x.was_reset) is ∙ none) in
+          let same : l.sent_end ≡ s.lane.sent_end = ap (λ x. x.sent_end) (sym is) in
+          let all : l.written ≡ s.lane.written = ap (λ x. x.written) (sym is) in
+          omega (arith, more, sent, same, all)
+
+  module _ (t : Terms) (recvs : Tables RecvLane) (e : End) where
+    abbrev pub there : End
+    there = end_by t recvs o e
+
+    pub no_goes : StreamGoes there n → ⊥
+    no_goes (l, at, inl (k, due, below, credit)) =
+        let (s, is, tied, quiet) = q l at in
+        both_ways (set.contains s.due.offsets k) (quiet.no_offset k (omega arith)) (is_due there n s tied k (subst (λ x. IsDue there n x k) (sym is) due))
+    no_goes (l, at, inr (due, whole)) =
+        let (s, is, tied, quiet) = q l at in
+        both_ways s.due.fin quiet.no_end (is_end_due there n s tied (subst (IsEndDue there n) (sym is) due))
+
+    pub reset_idle : IsIdle there (slots.ResetStream n)
+    reset_idle = of_reset_stream (λ i. IsCurrent there i → IsCovered there i) n told
+      where
+        told : (code size : ℕ) → IsCurrent there (ResetStream n code size) → IsCovered there (ResetStream n code size)
+        told code size (l, at, reset) =
+            let (s, is, tied, quiet) = q l at in
+            inr (l, at, ap (λ x. x.reset_acked) (sym is) ∙ quiet.told (ap (λ x. is_some x.was_reset) is ∙ ap is_some reset))
+
+    pub blocked_idle : IsIdle there (slots.StreamDataBlocked n)
+    blocked_idle = of_stream_data_blocked (λ i. IsCurrent there i → IsCovered there i) n (λ m (l, at, none, limit, more, sent). (
+        let (s, is, tied, quiet) = q l at in
+        let all : s.lane.written ≤ s.lane.sent_end = quiet.sent (ap (λ x. x.was_reset) is ∙ none) in
+        let same : l.sent_end ≡ s.lane.sent_end = ap (λ x. x.sent_end) (sym is) in
+        let written : l.written ≡ s.lane.written = ap (λ x. x.written) (sym is) in
+        absurd (omega (arith, more, sent, all, same, written))))
+
+-- the streams below a number want no more, and those up to the next one that is looked at
+pub wants_next : (o : Outgoing) (from m : ℕ) → ((n : ℕ) → n < from → WantsMore (lookup o.sends n) → ⊥) → ((n : ℕ) → from ≤ n → n < m → IsQuietAt o n) → (WantsMore (lookup o.sends m) → ⊥) → (n : ℕ) → n < m + 1 → WantsMore (lookup o.sends n) → ⊥
+wants_next o from m below quiet here n lt w =
+    elim (cases_lt n from) [
+      | inl before ↦ below n before w
+      | inr ge ↦ elim (cases_lt n m) [ inl between ↦ no_wants o n (quiet n ge between) w | inr past ↦ (let same : n ≡ m = omega (arith, lt, past) in here (subst (λ k. WantsMore (lookup o.sends k)) same w)) ]
+    ]
+
+pub none_wants : (o : Outgoing) (from : ℕ) → ((n : ℕ) → n < from → WantsMore (lookup o.sends n) → ⊥) → ((n : ℕ) → from ≤ n → IsQuietAt o n) → AnyWantsMore o.sends → ⊥
+none_wants o from below quiet (n, w) = elim (cases_lt n from) [ inl before ↦ below n before w | inr ge ↦ no_wants o n (quiet n ge) w ]
+
+-- of a kind that the sending half tells
+pub sends_idle : (t : Terms) (recvs : Tables RecvLane) (o : Outgoing) (e : End) (n : ℕ) (kind : Kind) → (kind ≡ kinds.ResetStream) ⊎ (kind ≡ kinds.StreamDataBlocked) → IsQuietAt o n → IsIdle (end_by t recvs o e) (slot_at kind n)
+sends_idle t recvs o e n kinds.ResetStream is q = reset_idle o n q t recvs e
+sends_idle t recvs o e n kinds.StreamDataBlocked is q = blocked_idle o n q t recvs e
+sends_idle t recvs o e n kinds.StopSending is q = absurd (elim is [ inl a ↦ (cc a) | inr b ↦ (cc b) ])
+sends_idle t recvs o e n kinds.MaxStreamData is q = absurd (elim is [ inl a ↦ (cc a) | inr b ↦ (cc b) ])
+
+-- the window is that of the type
+pub window_same : (r : Role) (s : Settings) (n k : ℕ) → kind_of n ≡ k → k < 4 → window_by r s k ≡ window_by r s n
+window_same r s n k is small = let same : kind_of k ≡ kind_of n = omega (arith, is, small) in ap (λ j. if nat_le 2 j then s.uni else (if j % 2 == role_bit r then s.bidi_local else s.bidi_remote)) same
+
+pub lanes_of_all : (r : Role) (s : Settings) (t : Tables RecvLane) (from : ℕ) (a b c d answer : Option ℕ) → HaveTo (IsQuietLane (window_by r s 0)) t from a 0 → HaveTo (IsQuietLane (window_by r s 1)) t from b 1 → HaveTo (IsQuietLane (window_by r s 2)) t from c 2
+    → HaveTo (IsQuietLane (window_by r s 3)) t from d 3 → answer ≡ least_of (least_of a b) (least_of c d) → (n : ℕ) (l : RecvLane) → from ≤ n → IsBefore n answer → lookup t n ≡ Some l → IsQuietLane (window_by r s n) l
+lanes_of_all r s t from a b c d answer qa qb qc qd is = by_kinds (λ n l. IsQuietLane (window_by r s n) l) t from a b c d answer (here 0 a (omega arith) qa) (here 1 b (omega arith) qb) (here 2 c (omega arith) qc) (here 3 d (omega arith) qd) is
+  where
+    here : (k : ℕ) (o : Option ℕ) → k < 4 → HaveTo (IsQuietLane (window_by r s k)) t from o k → (n : ℕ) (l : RecvLane) → kind_of n ≡ k → from ≤ n → IsBefore n o → lookup t n ≡ Some l → IsQuietLane (window_by r s n) l
+    here k o small q n l kind ge earlier there = subst (λ w. IsQuietLane w l) (window_same r s n k kind small) (q n l kind ge earlier there)
+
+-- of a kind that the receiving half tells
+pub recvs_idle : (t : Terms) (recvs : Tables RecvLane) (o : Outgoing) (e : End) (n : ℕ) (kind : Kind) → (kind ≡ kinds.StopSending) ⊎ (kind ≡ kinds.MaxStreamData) → ((l : RecvLane) → lookup recvs n ≡ Some l → IsQuietLane (window_by t.role t.settings n) l) → IsIdle (end_by t recvs o e) (slot_at kind n)
+recvs_idle t recvs o e n kinds.StopSending is quiet =
+    of_stop_sending (λ i. IsCurrent (end_by t recvs o e) i → IsCovered (end_by t recvs o e) i) n (λ code (l, at, stop, reset, whole). absurd (none-some code (sym (quiet l at).no_stop ∙ stop_of (Some l) l code refl stop reset whole)))
+recvs_idle t recvs o e n kinds.MaxStreamData is quiet =
+    of_max_stream_data (λ i. IsCurrent (end_by t recvs o e) i → IsCovered (end_by t recvs o e) i) n (λ m (l, at, limit, more, none). absurd (omega (arith, limit, more, (quiet l at).limit none)))
+recvs_idle t recvs o e n kinds.ResetStream is quiet = absurd (elim is [ inl a ↦ (cc a) | inr b ↦ (cc b) ])
+recvs_idle t recvs o e n kinds.StreamDataBlocked is quiet = absurd (elim is [ inl a ↦ (cc a) | inr b ↦ (cc b) ])

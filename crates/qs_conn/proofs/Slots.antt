@@ -1,0 +1,275 @@
+-- The current item of each slot.
+use Rattle.std.proofs.Common.{◌≡◌, ℕ, zero, suc, ◌*◌, ◌/◌, ◌%◌, ◌<◌, ◌≤◌, Bool, true, false, List, [], ◌∷◌, refl, sym, ap, ◌∙◌, subst, arith, Option, None, Some, is_some, slice_get, length, cond}
+use Rattle.std.proofs.lemmas.Option.{same_Some, none-some}
+use Rattle.qs_wire.specs.declared.stream_id.Dir.{Dir}
+use Rattle.qs_wire.specs.declared.stream_id.Dir.TheVariants.{Bidi, Uni}
+use Rattle.qs_recv.specs.Lane.{RecvLane, is_whole}
+use Rattle.qs_send.specs.Lane.{SendLane}
+use Rattle.qs_send.specs.declared.parts.Reset.{Reset}
+use Rattle.qs_send.specs.declared.piece.Item.{Item}
+use Rattle.qs_send.specs.declared.piece.Item.TheVariants.{MaxData, MaxStreamData, MaxStreams, ResetStream, StopSending, DataBlocked, StreamDataBlocked, StreamsBlocked}
+use Rattle.qs_conn.specs.declared.slot.Kind.{Kind}
+use Rattle.qs_conn.specs.declared.slot.Kind.TheVariants as kinds
+use Rattle.qs_conn.specs.declared.terms.Terms.{Terms}
+use Rattle.qs_conn.specs.Seen.{Control}
+use Rattle.qs_conn.specs.Lawful.{frame_put}
+use Rattle.qs_conn.specs.declared.slot.Slot.TheVariants as slots
+use Rattle.qs_conn.specs.Tables.{Tables, lookup, table}
+use Rattle.qs_conn.specs.Ends.{End, send_lane, recv_lane, window}
+use Rattle.qs_conn.specs.Credit.{all_sent}
+use Rattle.qs_conn.specs.Due.{IsCurrent, IsAcked, WantsCredit, wanted, known_count}
+use Rattle.qs_conn.specs.Layers.{or_none, limit_to_tell, stop_to_tell}
+use Rattle.qs_conn.specs.Outgoing.{Outgoing, IsBlockedAt, WantsMore, MayTell, IsOfReset, IsAckedOut, IsAckedReset, item_put_out}
+use Rattle.qs_conn.specs.Filling.{slot_of, slot_at, end_by, IsCurrentIn, AnyWantsMore}
+
+-- What is of a slot
+
+of_max_data : (P : Item → Type 0) → ((m : ℕ) → P (MaxData m)) → (j : Item) → slot_of j ≡ slots.MaxData → P j
+of_max_data P p (MaxData m) is = p m
+of_max_data P p (MaxStreamData n2 m2) is = absurd (cc is)
+of_max_data P p (MaxStreams d2 m2) is = absurd (cc is)
+of_max_data P p (ResetStream n2 code2 size2) is = absurd (cc is)
+of_max_data P p (StopSending n2 code2) is = absurd (cc is)
+of_max_data P p (DataBlocked m2) is = absurd (cc is)
+of_max_data P p (StreamDataBlocked n2 m2) is = absurd (cc is)
+of_max_data P p (StreamsBlocked d2 m2) is = absurd (cc is)
+
+pub of_max_stream_data : (P : Item → Type 0) (n : ℕ) → ((m : ℕ) → P (MaxStreamData n m)) → (j : Item) → slot_of j ≡ slots.MaxStreamData n → P j
+of_max_stream_data P n p (MaxData m2) is = absurd (cc is)
+of_max_stream_data P n p (MaxStreamData k m) is = (let same : k ≡ n = cc in subst (λ x. P (MaxStreamData x m)) (sym same) (p m))
+of_max_stream_data P n p (MaxStreams d2 m2) is = absurd (cc is)
+of_max_stream_data P n p (ResetStream n2 code2 size2) is = absurd (cc is)
+of_max_stream_data P n p (StopSending n2 code2) is = absurd (cc is)
+of_max_stream_data P n p (DataBlocked m2) is = absurd (cc is)
+of_max_stream_data P n p (StreamDataBlocked n2 m2) is = absurd (cc is)
+of_max_stream_data P n p (StreamsBlocked d2 m2) is = absurd (cc is)
+
+pub of_reset_stream : (P : Item → Type 0) (n : ℕ) → ((code : ℕ) (size : ℕ) → P (ResetStream n code size)) → (j : Item) → slot_of j ≡ slots.ResetStream n → P j
+of_reset_stream P n p (MaxData m2) is = absurd (cc is)
+of_reset_stream P n p (MaxStreamData n2 m2) is = absurd (cc is)
+of_reset_stream P n p (MaxStreams d2 m2) is = absurd (cc is)
+of_reset_stream P n p (ResetStream k code size) is = (let same : k ≡ n = cc in subst (λ x. P (ResetStream x code size)) (sym same) (p code size))
+of_reset_stream P n p (StopSending n2 code2) is = absurd (cc is)
+of_reset_stream P n p (DataBlocked m2) is = absurd (cc is)
+of_reset_stream P n p (StreamDataBlocked n2 m2) is = absurd (cc is)
+of_reset_stream P n p (StreamsBlocked d2 m2) is = absurd (cc is)
+
+pub of_stop_sending : (P : Item → Type 0) (n : ℕ) → ((code : ℕ) → P (StopSending n code)) → (j : Item) → slot_of j ≡ slots.StopSending n → P j
+of_stop_sending P n p (MaxData m2) is = absurd (cc is)
+of_stop_sending P n p (MaxStreamData n2 m2) is = absurd (cc is)
+of_stop_sending P n p (MaxStreams d2 m2) is = absurd (cc is)
+of_stop_sending P n p (ResetStream n2 code2 size2) is = absurd (cc is)
+of_stop_sending P n p (StopSending k code) is = (let same : k ≡ n = cc in subst (λ x. P (StopSending x code)) (sym same) (p code))
+of_stop_sending P n p (DataBlocked m2) is = absurd (cc is)
+of_stop_sending P n p (StreamDataBlocked n2 m2) is = absurd (cc is)
+of_stop_sending P n p (StreamsBlocked d2 m2) is = absurd (cc is)
+
+of_data_blocked : (P : Item → Type 0) → ((m : ℕ) → P (DataBlocked m)) → (j : Item) → slot_of j ≡ slots.DataBlocked → P j
+of_data_blocked P p (MaxData m2) is = absurd (cc is)
+of_data_blocked P p (MaxStreamData n2 m2) is = absurd (cc is)
+of_data_blocked P p (MaxStreams d2 m2) is = absurd (cc is)
+of_data_blocked P p (ResetStream n2 code2 size2) is = absurd (cc is)
+of_data_blocked P p (StopSending n2 code2) is = absurd (cc is)
+of_data_blocked P p (DataBlocked m) is = p m
+of_data_blocked P p (StreamDataBlocked n2 m2) is = absurd (cc is)
+of_data_blocked P p (StreamsBlocked d2 m2) is = absurd (cc is)
+
+pub of_stream_data_blocked : (P : Item → Type 0) (n : ℕ) → ((m : ℕ) → P (StreamDataBlocked n m)) → (j : Item) → slot_of j ≡ slots.StreamDataBlocked n → P j
+of_stream_data_blocked P n p (MaxData m2) is = absurd (cc is)
+of_stream_data_blocked P n p (MaxStreamData n2 m2) is = absurd (cc is)
+of_stream_data_blocked P n p (MaxStreams d2 m2) is = absurd (cc is)
+of_stream_data_blocked P n p (ResetStream n2 code2 size2) is = absurd (cc is)
+of_stream_data_blocked P n p (StopSending n2 code2) is = absurd (cc is)
+of_stream_data_blocked P n p (DataBlocked m2) is = absurd (cc is)
+of_stream_data_blocked P n p (StreamDataBlocked k m) is = (let same : k ≡ n = cc in subst (λ x. P (StreamDataBlocked x m)) (sym same) (p m))
+of_stream_data_blocked P n p (StreamsBlocked d2 m2) is = absurd (cc is)
+
+of_streams_blocked : (P : Item → Type 0) (d : Dir) → ((m : ℕ) → P (StreamsBlocked d m)) → (j : Item) → slot_of j ≡ slots.StreamsBlocked d → P j
+of_streams_blocked P d p (MaxData m2) is = absurd (cc is)
+of_streams_blocked P d p (MaxStreamData n2 m2) is = absurd (cc is)
+of_streams_blocked P d p (MaxStreams d2 m2) is = absurd (cc is)
+of_streams_blocked P d p (ResetStream n2 code2 size2) is = absurd (cc is)
+of_streams_blocked P d p (StopSending n2 code2) is = absurd (cc is)
+of_streams_blocked P d p (DataBlocked m2) is = absurd (cc is)
+of_streams_blocked P d p (StreamDataBlocked n2 m2) is = absurd (cc is)
+of_streams_blocked P d p (StreamsBlocked k m) is = (let same : k ≡ d = cc in subst (λ x. P (StreamsBlocked x m)) (sym same) (p m))
+
+-- The current item, or that there is none
+
+pub max_data_there : (e : End) (m : ℕ) → m ≡ e.granted → e.settings.conn_window < m → IsCurrentIn e slots.MaxData (Some (MaxData m))
+max_data_there e m is lt = ((is, lt), refl, of_max_data (λ j. IsCurrent e j → j ≡ MaxData m) (λ k c. ap MaxData (c.0 ∙ sym is)))
+
+pub max_data_none : (e : End) → e.granted ≤ e.settings.conn_window → IsCurrentIn e slots.MaxData None
+max_data_none e le = of_max_data (λ j. IsCurrent e j → ⊥) (λ k c. omega (arith, c.0, c.1, le))
+
+limit_some : (o : Option RecvLane) (m : ℕ) → limit_to_tell o ≡ Some m → (l : RecvLane) × (o ≡ Some l) × (m ≡ l.limit) × (l.final_size ≡ None)
+limit_some None m is = absurd (none-some m is)
+limit_some (Some l) m is = go l.final_size refl is
+  where
+    go : (f : Option ℕ) → l.final_size ≡ f → cond (is_some f) None (Some l.limit) ≡ Some m → (k : RecvLane) × (Some l ≡ Some k) × (m ≡ k.limit) × (k.final_size ≡ None)
+    go None none at = (l, refl, sym (same_Some l.limit m at), none)
+    go (Some s) there at = absurd (none-some m at)
+
+limit_of : (o : Option RecvLane) (l : RecvLane) → o ≡ Some l → l.final_size ≡ None → limit_to_tell o ≡ Some l.limit
+limit_of o l is none = ap limit_to_tell is ∙ ap (λ f. cond (is_some f) None (Some l.limit)) none
+
+pub max_stream_data_there : (e : End) (n m : ℕ) → limit_to_tell (recv_lane e n) ≡ Some m → window e n < m → IsCurrentIn e (slots.MaxStreamData n) (Some (MaxStreamData n m))
+max_stream_data_there e n m tells lt =
+    let (l, there, is, none) = limit_some (recv_lane e n) m tells in (
+      (l, there, is, lt, none),
+      refl,
+      of_max_stream_data (λ j. IsCurrent e j → j ≡ MaxStreamData n m) n (λ k (l2, there2, is2, lt2, none2). ap (MaxStreamData n) (is2 ∙ same_Some l2.limit m (sym (limit_of (recv_lane e n) l2 there2 none2) ∙ tells))),
+    )
+
+pub max_stream_data_none : (e : End) (n : ℕ) → ((m : ℕ) → limit_to_tell (recv_lane e n) ≡ Some m → window e n < m → ⊥) → IsCurrentIn e (slots.MaxStreamData n) None
+max_stream_data_none e n none = of_max_stream_data (λ j. IsCurrent e j → ⊥) n (λ k (l, there, is, lt, no_size). none k (limit_of (recv_lane e n) l there no_size ∙ ap Some (sym is)) lt)
+
+pub reset_there : (e : End) (n : ℕ) (r : Reset) → (or_none (send_lane e n)).was_reset ≡ Some r → IsCurrentIn e (slots.ResetStream n) (Some (ResetStream n r.code r.size))
+reset_there e n r is = go (send_lane e n) refl is
+  where
+    go : (o : Option SendLane) → send_lane e n ≡ o → (or_none o).was_reset ≡ Some r → IsCurrentIn e (slots.ResetStream n) (Some (ResetStream n r.code r.size))
+    go None there at = absurd (none-some r at)
+    go (Some l) there at = (
+      (l, there, at),
+      refl,
+      of_reset_stream (λ j. IsCurrent e j → j ≡ ResetStream n r.code r.size) n (λ code size (k, there2, at2). (
+          let same : l ≡ k = same_Some l k (sym there ∙ there2) in
+          let eq : r ≡ record { code = code; size = size } = same_Some r (record { code = code; size = size }) (sym at ∙ ap (λ x. x.was_reset) same ∙ at2) in
+          ap (λ (x : Reset). ResetStream n x.code x.size) (sym eq))),
+    )
+
+pub reset_none : (e : End) (n : ℕ) → (or_none (send_lane e n)).was_reset ≡ None → IsCurrentIn e (slots.ResetStream n) None
+reset_none e n is = of_reset_stream (λ j. IsCurrent e j → ⊥) n (λ code size (k, there, at). none-some (record { code = code; size = size }) (sym (sym (ap (λ o. (or_none o).was_reset) there) ∙ is) ∙ at))
+
+stop_some : (o : Option RecvLane) (m : ℕ) → stop_to_tell o ≡ Some m → (l : RecvLane) × (o ≡ Some l) × (l.stop_code ≡ Some m) × (l.reset_code ≡ None) × (is_whole l ≡ false)
+stop_some None m is = absurd (none-some m is)
+stop_some (Some l) m is = go l.reset_code (is_whole l) refl refl is
+  where
+    go : (r : Option ℕ) (w : Bool) → l.reset_code ≡ r → is_whole l ≡ w → cond (is_some r) None (cond w None l.stop_code) ≡ Some m → (k : RecvLane) × (Some l ≡ Some k) × (k.stop_code ≡ Some m) × (k.reset_code ≡ None) × (is_whole k ≡ false)
+    go (Some c) w a b at = absurd (none-some m at)
+    go None true a b at = absurd (none-some m at)
+    go None false a b at = (l, refl, at, a, b)
+
+pub stop_of : (o : Option RecvLane) (l : RecvLane) (m : ℕ) → o ≡ Some l → l.stop_code ≡ Some m → l.reset_code ≡ None → is_whole l ≡ false → stop_to_tell o ≡ Some m
+stop_of o l m is code reset whole = ap stop_to_tell is ∙ ap (λ r. cond (is_some r) None (cond (is_whole l) None l.stop_code)) reset ∙ ap (λ w. cond w None l.stop_code) whole ∙ code
+
+pub stop_there : (e : End) (n m : ℕ) → stop_to_tell (recv_lane e n) ≡ Some m → IsCurrentIn e (slots.StopSending n) (Some (StopSending n m))
+stop_there e n m tells = (
+  stop_some (recv_lane e n) m tells,
+  refl,
+  of_stop_sending (λ j. IsCurrent e j → j ≡ StopSending n m) n (λ code (l, there, is, reset, whole). ap (StopSending n) (same_Some code m (sym (stop_of (recv_lane e n) l code there is reset whole) ∙ tells))),
+)
+
+pub stop_none : (e : End) (n : ℕ) → stop_to_tell (recv_lane e n) ≡ None → IsCurrentIn e (slots.StopSending n) None
+stop_none e n none = of_stop_sending (λ j. IsCurrent e j → ⊥) n (λ code (l, there, is, reset, whole). none-some code (sym none ∙ stop_of (recv_lane e n) l code there is reset whole))
+
+pub data_blocked_there : (e : End) (m : ℕ) → m ≡ e.known_data → all_sent e ≡ m → AnyWantsMore e.sends → IsCurrentIn e slots.DataBlocked (Some (DataBlocked m))
+data_blocked_there e m is sum (n, wants) = (
+  lane (lookup e.sends n) refl wants,
+  refl,
+  of_data_blocked (λ j. IsCurrent e j → j ≡ DataBlocked m) (λ k c. ap DataBlocked (c.0 ∙ sym is)),
+)
+  where
+    lane : (o : Option SendLane) → lookup e.sends n ≡ o → WantsMore o → IsCurrent e (DataBlocked m)
+    lane None there w = absurd w
+    lane (Some l) there (none, more, below) = (is, sum, (n, l, record { lane = there; no_reset = none; more = more; below = below }))
+
+wants_of : (e : End) (n : ℕ) (l : SendLane) → WantsCredit e n l → WantsMore (lookup e.sends n)
+wants_of e n l w = subst WantsMore (sym w.lane) (w.no_reset, w.more, w.below)
+
+pub data_blocked_none : (e : End) → (all_sent e ≡ e.known_data → AnyWantsMore e.sends → ⊥) → IsCurrentIn e slots.DataBlocked None
+data_blocked_none e none = of_data_blocked (λ j. IsCurrent e j → ⊥) (λ k (is, sum, (n, l, w)). none (sum ∙ is) (n, wants_of e n l w))
+
+pub stream_data_blocked_there : (e : End) (n m : ℕ) → IsBlockedAt (lookup e.sends n) m → IsCurrentIn e (slots.StreamDataBlocked n) (Some (StreamDataBlocked n m))
+stream_data_blocked_there e n m blocked = go (lookup e.sends n) refl blocked
+  where
+    go : (o : Option SendLane) → lookup e.sends n ≡ o → IsBlockedAt o m → IsCurrentIn e (slots.StreamDataBlocked n) (Some (StreamDataBlocked n m))
+    go None there b = absurd b
+    go (Some l) there (none, is, more, at) = (
+      (l, there, none, is, more, at),
+      refl,
+      of_stream_data_blocked (λ j. IsCurrent e j → j ≡ StreamDataBlocked n m) n (λ k (l2, there2, none2, is2, more2, at2). (let same : l2 ≡ l = same_Some l2 l (sym there2 ∙ there) in ap (StreamDataBlocked n) (is2 ∙ ap (λ x. x.limit) same ∙ sym is))),
+    )
+
+pub stream_data_blocked_none : (e : End) (n : ℕ) → ((m : ℕ) → IsBlockedAt (lookup e.sends n) m → ⊥) → IsCurrentIn e (slots.StreamDataBlocked n) None
+stream_data_blocked_none e n none = of_stream_data_blocked (λ j. IsCurrent e j → ⊥) n (λ k (l, there, no_reset, is, more, at). none k (subst (λ o. IsBlockedAt o k) (sym there) (no_reset, is, more, at)))
+
+pub streams_blocked_there : (e : End) (d : Dir) (m : ℕ) → wanted e d ≡ Some m → m ≡ known_count e d → IsCurrentIn e (slots.StreamsBlocked d) (Some (StreamsBlocked d m))
+streams_blocked_there e d m is at = ((is, at), refl, of_streams_blocked (λ j. IsCurrent e j → j ≡ StreamsBlocked d m) d (λ k c. ap (StreamsBlocked d) (c.1 ∙ sym at)))
+
+pub streams_blocked_none : (e : End) (d : Dir) → ((m : ℕ) → wanted e d ≡ Some m → m ≡ known_count e d → ⊥) → IsCurrentIn e (slots.StreamsBlocked d) None
+streams_blocked_none e d none = of_streams_blocked (λ j. IsCurrent e j → ⊥) d (λ k c. none k c.0 c.1)
+
+-- Past the last stream
+
+past_get : {X : Type 0} (xs : List X) (i : ℕ) → length xs ≤ i → slice_get xs i ≡ None
+past_get [] i le = refl
+past_get (x ∷ xs) zero le = absurd (omega arith)
+past_get (x ∷ xs) (suc i) le = past_get xs i (omega arith)
+
+past_in : {X : Type 0} (t : Tables X) (k i : ℕ) → length (table t 0) ≤ i → length (table t 1) ≤ i → length (table t 2) ≤ i → length (table t 3) ≤ i → slice_get (table t k) i ≡ None
+past_in t zero i a b c d = past_get t.client_bidi i a
+past_in t (suc zero) i a b c d = past_get t.server_bidi i b
+past_in t (suc (suc zero)) i a b c d = past_get t.client_uni i c
+past_in t (suc (suc (suc k))) i a b c d = past_get t.server_uni i d
+
+pub past_all : {X : Type 0} (t : Tables X) (n : ℕ) → length (table t 0) * 4 ≤ n → length (table t 1) * 4 ≤ n → length (table t 2) * 4 ≤ n → length (table t 3) * 4 ≤ n → lookup t n ≡ None
+unfolding lookup
+past_all t n a b c d = past_in t (n % 4) (n / 4) (omega (arith, a)) (omega (arith, b)) (omega (arith, c)) (omega (arith, d))
+
+-- no item of a stream is current that isn't open
+pub past_current : (e : End) (kind : Kind) (n : ℕ) → lookup e.sends n ≡ None → lookup e.recvs n ≡ None → (i : Item) → slot_of i ≡ slot_at kind n → IsCurrent e i → ⊥
+past_current e kinds.ResetStream n sends recvs = of_reset_stream (λ j. IsCurrent e j → ⊥) n (λ code size (l, there, is). none-some l (sym sends ∙ there))
+past_current e kinds.StopSending n sends recvs = of_stop_sending (λ j. IsCurrent e j → ⊥) n (λ code (l, there, is, reset, whole). none-some l (sym recvs ∙ there))
+past_current e kinds.MaxStreamData n sends recvs = of_max_stream_data (λ j. IsCurrent e j → ⊥) n (λ m (l, there, is, lt, none). none-some l (sym recvs ∙ there))
+past_current e kinds.StreamDataBlocked n sends recvs = of_stream_data_blocked (λ j. IsCurrent e j → ⊥) n (λ m (l, there, none, is, more, at). none-some l (sym sends ∙ there))
+
+-- a RESET_STREAM that is current tells of a half that was reset
+pub may_tell : (e : End) (i : Item) → IsCurrent e i → MayTell e.sends i
+may_tell e (MaxData m) c = tt
+may_tell e (MaxStreamData n m) c = tt
+may_tell e (MaxStreams d m) c = tt
+may_tell e (ResetStream n code size) (l, there, is) = subst IsOfReset (sym there) (ap is_some is)
+may_tell e (StopSending n code) c = tt
+may_tell e (DataBlocked m) c = tt
+may_tell e (StreamDataBlocked n m) c = tt
+may_tell e (StreamsBlocked d m) c = tt
+
+-- what the sending side knows as acknowledged
+pub acked_out : (t : Terms) (recvs : Tables RecvLane) (o : Outgoing) (e : End) (i : Item) → IsAckedOut o i → IsAcked (end_by t recvs o e) i
+acked_out t recvs o e (MaxData m) a = a
+acked_out t recvs o e (MaxStreamData n m) a = a
+acked_out t recvs o e (MaxStreams d m) a = a
+acked_out t recvs o e (ResetStream n code size) a = go (lookup o.sends n) refl a
+  where
+    go : (x : Option SendLane) → lookup o.sends n ≡ x → IsAckedReset x → (l : SendLane) × (lookup o.sends n ≡ Some l) × (l.reset_acked ≡ true)
+    go None there b = absurd b
+    go (Some l) there b = (l, there, b)
+acked_out t recvs o e (StopSending n code) a = a
+acked_out t recvs o e (DataBlocked m) a = a
+acked_out t recvs o e (StreamDataBlocked n m) a = a
+acked_out t recvs o e (StreamsBlocked Bidi m) a = a
+acked_out t recvs o e (StreamsBlocked Uni m) a = a
+
+pub acked_in : (t : Terms) (recvs : Tables RecvLane) (o : Outgoing) (e : End) (i : Item) → IsAcked (end_by t recvs o e) i → IsAckedOut o i
+acked_in t recvs o e (MaxData m) a = a
+acked_in t recvs o e (MaxStreamData n m) a = a
+acked_in t recvs o e (MaxStreams d m) a = a
+acked_in t recvs o e (ResetStream n code size) (l, there, is) = subst IsAckedReset (sym there) is
+acked_in t recvs o e (StopSending n code) a = a
+acked_in t recvs o e (DataBlocked m) a = a
+acked_in t recvs o e (StreamDataBlocked n m) a = a
+acked_in t recvs o e (StreamsBlocked Bidi m) a = a
+acked_in t recvs o e (StreamsBlocked Uni m) a = a
+
+-- An item put by the sending side is put by the end.
+pub end_put : (t : Terms) (recvs : Tables RecvLane) (o : Outgoing) (e : End) (i : Item) → end_by t recvs (item_put_out i o) e ≡ frame_put (Control i) (end_by t recvs o e)
+unfolding frame_put
+end_put t recvs o e (MaxData m) = refl
+end_put t recvs o e (MaxStreamData n m) = refl
+end_put t recvs o e (MaxStreams d m) = refl
+end_put t recvs o e (ResetStream n code size) = refl
+end_put t recvs o e (StopSending n code) = refl
+end_put t recvs o e (DataBlocked m) = refl
+end_put t recvs o e (StreamDataBlocked n m) = refl
+end_put t recvs o e (StreamsBlocked d m) = refl

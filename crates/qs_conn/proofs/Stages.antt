@@ -1,0 +1,229 @@
+-- The stages of a packet in the making, and what comes of the last one.
+use Rattle.std.proofs.Common.{◌≡◌, ◌≢◌, ℕ, ◌+◌, ◌-◌, ◌<◌, ◌≤◌, Bool, true, false, List, [], ◌∷◌, ◌++◌, ◌⊎◌, length, refl, sym, ap, ◌∙◌, subst, arith, inl, inr}
+use Rattle.std.proofs.lemmas.Bool.{true≢false}
+use Rattle.std.proofs.lemmas.List.{length-append}
+use Rattle.qs_wire.specs.Layout.{FrameValue}
+use Rattle.qs_wire.specs.Grammar.{Fits, canonical, canonical_all}
+use Rattle.qs_wire.proofs.Lengths.{control_short}
+use Rattle.qs_send.specs.declared.piece.Item.{Item}
+use Rattle.qs_send.specs.declared.parts.Chunk.{Chunk}
+use Rattle.qs_send.specs.declared.piece.Piece.{Piece}
+use Rattle.qs_send.specs.declared.piece.Piece.TheVariants.{Data, Told}
+use Rattle.qs_conn.specs.declared.slot.Slot.{Slot}
+use Rattle.qs_conn.specs.Ends.{End}
+use Rattle.qs_conn.specs.Credit.{all_sent, settle}
+use Rattle.qs_conn.specs.Seen.{Seen, Ack, Stream, Control, Close, Plain, seen, seen_all}
+use Rattle.qs_conn.specs.Due.{Among, IsCurrent, IsCovered, IsDueItem, StreamGoes, Sendable}
+use Rattle.qs_conn.specs.Lawful.{Fills, AcksAll, IsWhole, frame_put}
+use Rattle.qs_conn.specs.Making.{IsMade}
+use Rattle.qs_conn.specs.Filling.{InPacket, slot_of, frame_of_item, no_slot, IsPassed, Begun, Packed}
+use Rattle.qs_conn.proofs.Pieces.{put_packet, among_more, among_last, due_more, end_due_more, item_ack_due}
+use Rattle.qs_conn.proofs.Items.{current_by_base, acked_by_base, sum_by_base, known_by_base, base_item, fills_push, out_old, out_is}
+use Rattle.qs_conn.proofs.Texts.{no_text, no_frames, text_push, seen_push, seen_item, plain_item, control_item}
+
+-- the frames with one more
+pushed : (frames : List FrameValue) (f : FrameValue) (s : Seen) → seen f ≡ s → (P : List Seen → Type 0) → P (seen_all frames ++ s ∷ []) → P (seen_all (frames ++ f ∷ []))
+pushed frames f s is P p = subst P (sym (seen_push frames f ∙ ap (λ x. seen_all frames ++ x ∷ []) is)) p
+
+acks_more : (old : End) (fs : List Seen) (f : Seen) → AcksAll old fs → AcksAll old (fs ++ f ∷ [])
+acks_more old fs f (largest, ranges, there, all) = (largest, ranges, among_more fs (f ∷ []) _ there, all)
+
+-- Items
+
+-- a packet without a frame, where no ACK is due
+pub begun_first : (room : ℕ) (old : End) → all_sent old ≤ old.known_data → old.ack_due ≡ false → ((x : Piece) → InPacket old x → ⊥) → Begun room old [] old (λ s. ⊥)
+begun_first room old within none fresh =
+    record {
+      frames = [];
+      fills = refl;
+      spells = no_text;
+      steady = refl;
+      within = within;
+      ack = λ due. absurd (true≢false (sym due ∙ none));
+      items = λ i p due. absurd p;
+      no_chunk = λ n c there. fresh (Data n c) there;
+    }
+
+pub begun_none : (room : ℕ) (old : End) → all_sent old ≤ old.known_data → old.ack_due ≡ false → ((x : Piece) → InPacket old x → ⊥) → Begun room old [] (record old { ack_due = false }) (IsPassed no_slot)
+begun_none room old within none fresh = subst (λ b. Begun room old [] (record old { ack_due = b }) (IsPassed no_slot)) none (begun_first room old within none fresh)
+
+module _ (room : ℕ) (old : End) (text : List ℕ) (e : End) (P : Slot → Type 0) (b : Begun room old text e P) where
+  now : (i : Item) → IsCurrent old i → IsCurrent e i
+  now = current_by_base old e (sym b.steady)
+
+  -- what is due so far was due as the packet began
+  pub due_first : (i : Item) → IsDueItem e i → IsDueItem old i
+  due_first i due = (
+    current_by_base e old b.steady i due.0,
+    λ covered. elim covered [
+      | inl out ↦ due.1 (inl (out_old old old e (seen_all b.frames) (Told i) b.fills out))
+      | inr acked ↦ due.1 (inr (acked_by_base old e (sym b.steady) i acked))
+    ],
+  )
+
+  -- an item that is covered was so as the packet began, or is in it
+  covered_first : (i : Item) → IsCovered e i → IsCovered old i ⊎ Among (Control i) (seen_all b.frames)
+  covered_first i (inl out) = elim (out_is old old e (seen_all b.frames) i b.fills out) [ inl before ↦ inl (inl before) | inr there ↦ inr there ]
+  covered_first i (inr acked) = inl (inr (acked_by_base e old b.steady i acked))
+
+  -- fewer slots
+  pub begun_fewer : (Q : Slot → Type 0) → ((s : Slot) → Q s → P s) → Begun room old text e Q
+  begun_fewer Q fewer = record { frames = b.frames; fills = b.fills; spells = b.spells; steady = b.steady; within = b.within; ack = b.ack; items = λ i q due. b.items i (fewer (slot_of i) q) due; no_chunk = b.no_chunk }
+
+  -- a slot of which nothing is current
+  pub begun_absent : (s : Slot) → ((j : Item) → slot_of j ≡ s → IsCurrent e j → ⊥) → Begun room old text e (λ t. P t ⊎ (t ≡ s))
+  begun_absent s none =
+      record {
+        frames = b.frames;
+        fills = b.fills;
+        spells = b.spells;
+        steady = b.steady;
+        within = b.within;
+        ack = b.ack;
+        items = λ i p due. elim p [ inl before ↦ b.items i before due | inr is ↦ absurd (none i is (now i due.0)) ];
+        no_chunk = b.no_chunk;
+      }
+
+  -- slots of which all that is current is covered
+  pub begun_idle : (Q : Slot → Type 0) → ((i : Item) → Q (slot_of i) → IsCurrent e i → IsCovered e i) → Begun room old text e (λ t. P t ⊎ Q t)
+  begun_idle Q covered =
+      record {
+        frames = b.frames;
+        fills = b.fills;
+        spells = b.spells;
+        steady = b.steady;
+        within = b.within;
+        ack = b.ack;
+        items = λ i p due. elim p [ inl before ↦ b.items i before due | inr is ↦ elim (covered_first i (covered i is (now i due.0))) [ inl before ↦ absurd (due.1 before) | inr a ↦ a ] ];
+        no_chunk = b.no_chunk;
+      }
+
+  module _ (i : Item) (only : (j : Item) → slot_of j ≡ slot_of i → IsCurrent e j → j ≡ i) where
+    -- a slot whose item is covered
+    pub begun_covered : IsCovered e i → Begun room old text e (λ t. P t ⊎ (t ≡ slot_of i))
+    begun_covered covered =
+        record {
+          frames = b.frames;
+          fills = b.fills;
+          spells = b.spells;
+          steady = b.steady;
+          within = b.within;
+          ack = b.ack;
+          items = λ j p due. elim p [ inl before ↦ b.items j before due | inr is ↦ there j due (only j is (now j due.0)) ];
+          no_chunk = b.no_chunk;
+        }
+      where
+        there : (j : Item) → IsDueItem old j → j ≡ i → Among (Control j) (seen_all b.frames)
+        there j due same =
+            elim (covered_first i covered) [ inl before ↦ absurd (due.1 (subst (IsCovered old) (sym same) before)) | inr a ↦ subst (λ k. Among (Control k) (seen_all b.frames)) (sym same) a ]
+
+    -- its item is put
+    pub begun_item : IsDueItem e i → Fits (frame_of_item i) → Begun room old (text ++ canonical (frame_of_item i)) (frame_put (Control i) e) (λ t. P t ⊎ (t ≡ slot_of i))
+    begun_item due fits =
+        record {
+          frames = b.frames ++ frame_of_item i ∷ [];
+          fills = pushed b.frames (frame_of_item i) (Control i) (seen_item i) (λ fs. Fills old old fs (frame_put (Control i) e)) (fills_push old old e (seen_all b.frames) (Control i) b.fills (due_first i due, due));
+          spells = text_push b.frames text (frame_of_item i) b.spells fits (plain_item i);
+          steady = base_item i e ∙ b.steady;
+          within = b.within;
+          ack = λ is. elim (b.ack is) [
+            | inl full ↦ inl (omega (arith, full, length-append text (canonical (frame_of_item i))))
+            | inr all ↦ inr (pushed b.frames (frame_of_item i) (Control i) (seen_item i) (AcksAll old) (acks_more old (seen_all b.frames) (Control i) all))
+          ];
+          items = λ j p is. pushed b.frames (frame_of_item i) (Control i) (seen_item i) (Among (Control j)) (elim p [
+            | inl before ↦ among_more (seen_all b.frames) (Control i ∷ []) (Control j) (b.items j before is)
+            | inr same ↦ subst (λ k. Among (Control k) (seen_all b.frames ++ Control i ∷ [])) (sym (only j same (now j is.0))) (among_last (seen_all b.frames) (Control i))
+          ]);
+          no_chunk = λ n c there. elim (put_packet (Control i) e (Data n c) there) [ inl before ↦ b.no_chunk n c before | inr is ↦ not_told n c is ];
+        }
+      where
+        not_told : (n : ℕ) (c : Chunk) → Data n c ≡ Told i → ⊥
+        not_told n c is = cc is
+
+  -- Less than 25 bytes are left: nothing more is asked.
+  pub begun_full : room < length text + 25 → Packed room old text e
+  begun_full full =
+      record {
+        frames = b.frames;
+        fills = b.fills;
+        spells = b.spells;
+        within = (let same = sum_by_base e old b.steady in let known = known_by_base e old b.steady in omega (arith, same, known, b.within));
+        whole = λ left. absurd (omega (arith, full, left));
+      }
+
+  -- as where an item doesn't fit
+  pub begun_too_long : (i : Item) → Fits (frame_of_item i) → length text ≤ room → room - length text < length (canonical (frame_of_item i)) → Packed room old text e
+  begun_too_long i fits within long = begun_full (omega (arith, within, long, control_short (frame_of_item i) (control_item i) fits))
+
+-- The end
+
+still_due : (f : Seen) (e : End) → (frame_put f e).ack_due ≡ true → (e.ack_due ≡ true) × ((largest : ℕ) (ranges : List (ℕ × ℕ)) → Ack largest ranges ≡ f → ⊥)
+unfolding frame_put
+still_due (Ack largest ranges) e due = absurd (true≢false (sym due))
+still_due (Stream n offset bytes fin) e due = (due, λ largest ranges is. not_ack largest ranges is)
+  where
+    not_ack : (largest : ℕ) (ranges : List (ℕ × ℕ)) → Ack largest ranges ≡ Stream n offset bytes fin → ⊥
+    not_ack largest ranges is = cc is
+still_due (Control i) e due = (sym (item_ack_due i e) ∙ due, λ largest ranges is. cc is)
+still_due (Close code) e due = (due, λ largest ranges is. cc is)
+still_due (Plain asks) e due = (due, λ largest ranges is. cc is)
+
+-- an ACK that is still due was due before, and is in no frame
+ack_stays : (old : End) (fs : List Seen) (e mid : End) → Fills old e fs mid → mid.ack_due ≡ true → (e.ack_due ≡ true) × ((largest : ℕ) (ranges : List (ℕ × ℕ)) → Among (Ack largest ranges) fs → ⊥)
+ack_stays old [] e mid is due = (subst (λ x. x.ack_due ≡ true) is due, λ largest ranges a. a)
+ack_stays old (f ∷ fs) e mid (may, rest) due =
+    let (after, none) = ack_stays old fs (frame_put f e) mid rest due in
+    let (before, not_this) = still_due f e after in
+    (before, λ largest ranges a. elim a [ inl is ↦ not_this largest ranges is | inr there ↦ none largest ranges there ])
+
+pub no_ack : (old e : End) (fs : List Seen) → Fills old old fs e → (old.ack_due ≡ true → AcksAll old fs) → e.ack_due ≡ false
+no_ack old e fs fills acked = go e.ack_due refl
+  where
+    go : (b : Bool) → e.ack_due ≡ b → b ≡ false
+    go false is = refl
+    go true is =
+        let (before, none) = ack_stays old fs old e fills is in
+        let (largest, ranges, there, all) = acked before in
+        absurd (none largest ranges there)
+
+-- the end with another number for its next packet
+goes_same : (e : End) (k n : ℕ) → StreamGoes (record e { next = k }) n → StreamGoes e n
+goes_same e k n (l, lane, some) = (
+  l,
+  lane,
+  elim some [
+    | inl (q, due, low, credit) ↦ inl (q, due_more (record e { next = k }) e n l (λ c out. out) q due, low, credit)
+    | inr (due, sent) ↦ inr (end_due_more (record e { next = k }) e n l (λ c out. out) due, sent)
+  ],
+)
+
+module _ (room : ℕ) (old : End) (text : List ℕ) (e : End) (p : Packed room old text e) where
+  -- a packet without a byte: there was nothing to send, and nothing changed
+  pub packed_none : 25 ≤ room → text ≡ [] → (Sendable old → ⊥) × (e ≡ old)
+  packed_none enough none =
+      let frames : p.frames ≡ [] = no_frames p.frames text p.spells none in
+      let fills : e ≡ old = subst (λ fs. Fills old old (seen_all fs) e) frames p.fills in
+      let w : IsWhole old [] e = subst (λ fs. IsWhole old (seen_all fs) e) frames (p.whole (omega (arith, enough, ap length none))) in
+      let v : IsWhole old [] old = subst (IsWhole old []) fills w in
+      (λ goes. elim goes [ inl due ↦ (v.ack due).2 | inr (inl (i, due)) ↦ v.items i due | inr (inr (n, some)) ↦ v.no_stream n some ], fills)
+
+  -- a packet with some
+  pub packed_some : (number len : ℕ) → number ≡ old.next → len ≡ length text → len ≤ room → text ≢ [] → IsMade old room (record { number = number; len = len }) text (settle (record e { next = old.next + 1 }))
+  packed_some number len is count fits some =
+      record {
+        number = is;
+        len = count;
+        fits = omega (arith, count, fits);
+        frames = p.frames;
+        spells = p.spells;
+        mid = record e { next = old.next + 1 };
+        lawful = record { some = not_empty p.frames refl; filled = (e, p.fills, refl); within = p.within };
+        whole = λ left. (
+            let w = p.whole left in
+            record { ack = w.ack; items = w.items; no_ack = w.no_ack; no_stream = λ n goes. w.no_stream n (goes_same e (old.next + 1) n goes) });
+        after = refl;
+      }
+    where
+      not_empty : (fs : List FrameValue) → p.frames ≡ fs → seen_all fs ≢ []
+      not_empty [] none is = some (p.spells.canonical ∙ ap canonical_all none)
+      not_empty (f ∷ fs) there is = cc is

@@ -1,0 +1,171 @@
+-- What an end has to tell of its sending side.
+use Rattle.std.proofs.Common.{◌≡◌, ℕ, ◌<◌, ◌≤◌, ◌↔◌, Bool, true, false, IsTrue, min, nat_lt, List, [], ◌∷◌, ◌⊎◌, Option, Some, None, is_some, option_map, cond, refl, sym, ap, ◌∙◌, subst, inl, inr, arith}
+use Rattle.std.proofs.lemmas.Bool.{both_ways, cases_eq}
+use Rattle.std.proofs.lemmas.Bool.Decides.{nat_tests}
+use Rattle.std.specs.FinMap as fmap
+use Rattle.qs_wire.specs.declared.stream_id.Dir.TheVariants.{Bidi, Uni}
+use Rattle.qs_send.specs.declared.parts.Reset.{Reset}
+use Rattle.qs_send.specs.declared.parts.SendState.TheVariants.{Ready, Send, DataSent, DataRecvd, ResetSent, ResetRecvd}
+use Rattle.qs_send.specs.declared.piece.Item.{Item}
+use Rattle.qs_send.specs.declared.piece.Item.TheVariants.{MaxData, MaxStreamData, MaxStreams, ResetStream, StopSending, DataBlocked, StreamDataBlocked, StreamsBlocked}
+use Rattle.qs_send.specs.declared.piece.Piece.{Piece}
+use Rattle.qs_send.specs.Lane.{SendLane, Sending, state, declared_size, size_of}
+use Rattle.qs_conn.specs.Tables.{Tables, lookup}
+use Rattle.qs_conn.specs.Ends.{Records}
+use Rattle.qs_conn.specs.Layers.{or_none}
+use Rattle.qs_conn.specs.Due.{Among}
+use Rattle.qs_conn.specs.Told.{IsNoted}
+use Rattle.qs_conn.specs.Outgoing.{Outgoing, IsCarried, lanes_of, with_pending, AreBelow, IsAckedOut, IsAckedReset, IsBlockedAt, WantsMore, reset_by}
+use Rattle.qs_conn.proofs.Carried.{none_some, some_is, get_new, get_other}
+use Rattle.qs_conn.proofs.LaneTables.{lane_there}
+use Rattle.qs_conn.proofs.Outboxes.{open_now}
+use Rattle.qs_conn.proofs.OutboxAcks.{none_above}
+
+-- carried by a record, or by the packet in the making
+pub carried_with : (m : Records) (k : ℕ) (ps : List Piece) (p : Piece) → AreBelow m k → IsCarried (with_pending m k ps) p → IsCarried m p ⊎ Among p ps
+carried_with m k [] p below out = inl out
+carried_with m k (q ∷ qs) p below (j, rs, there, a) =
+    elim (cases_eq j k) [
+      | inl same ↦ inr (subst (Among p) (some_is _ rs (q ∷ qs) (ap (fmap.get (fmap.insert m k (q ∷ qs))) (sym same) ∙ there) (get_new m k (q ∷ qs))) a)
+      | inr ne ↦ inl (j, rs, sym (get_other m k (q ∷ qs) j ne) ∙ there, a)
+    ]
+
+pub carried_old : (m : Records) (k : ℕ) (ps : List Piece) (p : Piece) → AreBelow m k → IsCarried m p → IsCarried (with_pending m k ps) p
+carried_old m k [] p below out = out
+carried_old m k (q ∷ qs) p below (j, rs, there, a) =
+    elim (cases_eq j k) [
+      | inl same ↦ absurd (none_some rs (sym (none_above m k below) ∙ ap (fmap.get m) (sym same) ∙ there))
+      | inr ne ↦ (j, rs, get_other m k (q ∷ qs) j ne ∙ there, a)
+    ]
+
+pub carried_pending : (m : Records) (k : ℕ) (ps : List Piece) (p : Piece) → Among p ps → IsCarried (with_pending m k ps) p
+carried_pending m k [] p a = absurd a
+carried_pending m k (q ∷ qs) p a = (k, q ∷ qs, get_new m k (q ∷ qs), a)
+
+pub no_lookup : (e now : Outgoing) (t : Tables Sending) (n : ℕ) → e ≡ now → e.sends ≡ lanes_of t → is_some (lookup t n) ≡ false → lookup now.sends n ≡ None
+no_lookup e now t n is sends none = go (lookup now.sends n) refl (sym (open_now e now t n is sends) ∙ none)
+  where
+    go : (o : Option SendLane) → lookup now.sends n ≡ o → is_some o ≡ false → lookup now.sends n ≡ None
+    go None e h = e
+    go (Some l) e h = absurd (both_ways true h refl)
+
+pub lookup_now : (e now : Outgoing) (t : Tables Sending) (n : ℕ) (s : Sending) → e ≡ now → e.sends ≡ lanes_of t → lookup t n ≡ Some s → lookup now.sends n ≡ Some s.lane
+lookup_now e now t n s is sends there = ap (λ x. lookup x n) (ap (λ (o : Outgoing). o.sends) (sym is) ∙ sends) ∙ lane_there t n s there
+
+-- the state tells whether the reset is acknowledged
+inner_not : (a b c d : Bool) → cond a ResetSent (cond b DataRecvd (cond c DataSent (cond d Send Ready))) ≡ ResetRecvd → ⊥
+inner_not true b c d e = absurd (cc (e))
+inner_not false true c d e = absurd (cc (e))
+inner_not false false true d e = absurd (cc (e))
+inner_not false false false true e = absurd (cc (e))
+inner_not false false false false e = absurd (cc (e))
+
+outer : (r a b c d : Bool) → cond r ResetRecvd (cond a ResetSent (cond b DataRecvd (cond c DataSent (cond d Send Ready)))) ≡ ResetRecvd → r ≡ true
+outer true a b c d e = refl
+outer false a b c d e = absurd (inner_not a b c d e)
+
+pub recvd_acked : (l : SendLane) → state l ≡ ResetRecvd → l.reset_acked ≡ true
+recvd_acked l e = outer l.reset_acked (is_some l.was_reset) _ l.fin_sent _ e
+
+pub acked_recvd : (l : SendLane) → l.reset_acked ≡ true → state l ≡ ResetRecvd
+acked_recvd l e = rw e refl
+
+-- the reset of a lane, by its code and its size
+
+pub no_code : (l : SendLane) → option_map (λ (r : Reset). r.code) l.was_reset ≡ None → l.was_reset ≡ None
+no_code l e = go l.was_reset e
+  where
+    go : (o : Option Reset) → option_map (λ (r : Reset). r.code) o ≡ None → o ≡ None
+    go None h = refl
+    go (Some r) h = absurd (none_some r.code (sym h))
+
+pub reset_is : (l : SendLane) (code size : ℕ) → option_map (λ (r : Reset). r.code) l.was_reset ≡ Some code → declared_size l ≡ Some size → l.was_reset ≡ Some (record { code = code; size = size })
+reset_is l code size e f = go l.was_reset _ e f
+  where
+    go : (o : Option Reset) (other : Option ℕ) → option_map (λ (r : Reset). r.code) o ≡ Some code → size_of o other ≡ Some size → o ≡ Some (record { code = code; size = size })
+    go None other h g = absurd (none_some code h)
+    go (Some r) other h g =
+        (let a : r.code ≡ code = some_is (Some r.code) r.code code refl h in
+        let b : r.size ≡ size = some_is (Some r.size) r.size size refl g in
+        ap (λ x. Some (record { code = x; size = r.size })) a ∙ ap (λ x. Some (record { code = code; size = x })) b)
+
+pub has_size : (l : SendLane) (code : ℕ) → option_map (λ (r : Reset). r.code) l.was_reset ≡ Some code → declared_size l ≡ None → ⊥
+has_size l code e f = go l.was_reset _ e f
+  where
+    go : (o : Option Reset) (other : Option ℕ) → option_map (λ (r : Reset). r.code) o ≡ Some code → size_of o other ≡ None → ⊥
+    go None other h g = none_some code h
+    go (Some r) other h g = none_some r.size (sym g)
+
+-- an item but a reset is acknowledged where its value is known
+pub noted_out : (o : Outgoing) (i : Item) → ((n code size : ℕ) → i ≡ ResetStream n code size → ⊥) → IsNoted o.acked i ↔ IsAckedOut o i
+noted_out o (MaxData m) other = ((λ h. h), (λ h. h))
+noted_out o (MaxStreamData n m) other = ((λ h. h), (λ h. h))
+noted_out o (MaxStreams d m) other = ((λ h. h), (λ h. h))
+noted_out o (ResetStream n code size) other = absurd (other n code size refl)
+noted_out o (StopSending n code) other = ((λ h. h), (λ h. h))
+noted_out o (DataBlocked m) other = ((λ h. h), (λ h. h))
+noted_out o (StreamDataBlocked n m) other = ((λ h. h), (λ h. h))
+noted_out o (StreamsBlocked Bidi m) other = ((λ h. h), (λ h. h))
+noted_out o (StreamsBlocked Uni m) other = ((λ h. h), (λ h. h))
+
+-- Answers
+
+pub acked_none : (o : Option SendLane) → o ≡ None → (IsTrue false → IsAckedReset o) × (IsAckedReset o → IsTrue false)
+acked_none o e = rw e ((λ h. absurd (both_ways false refl h)), (λ h. absurd h))
+
+pub acked_yes : (o : Option SendLane) (l : SendLane) → o ≡ Some l → l.reset_acked ≡ true → (IsTrue true → IsAckedReset o) × (IsAckedReset o → IsTrue true)
+acked_yes o l e a = rw e ((λ h. a), (λ h. refl))
+
+pub acked_no : (o : Option SendLane) (l : SendLane) → o ≡ Some l → (l.reset_acked ≡ true → ⊥) → (IsTrue false → IsAckedReset o) × (IsAckedReset o → IsTrue false)
+acked_no o l e a = rw e ((λ h. absurd (both_ways false refl h)), (λ h. absurd (a h)))
+
+pub reset_none : (o : Option SendLane) → o ≡ None → ◌≡◌ {A = Option Reset} None (or_none o).was_reset
+reset_none o e = rw e refl
+
+pub reset_same : (o : Option SendLane) (l : SendLane) (code size : Option ℕ) → o ≡ Some l → code ≡ option_map (λ (r : Reset). r.code) l.was_reset → size ≡ declared_size l → reset_by code size ≡ (or_none o).was_reset
+reset_same o l code size e f g = ap (λ x. reset_by x size) f ∙ ap (reset_by (option_map (λ (r : Reset). r.code) l.was_reset)) g ∙ go l.was_reset _ ∙ ap (λ x. (or_none x).was_reset) (sym e)
+  where
+    go : (r : Option Reset) (other : Option ℕ) → reset_by (option_map (λ (r : Reset). r.code) r) (size_of r other) ≡ r
+    go None other = refl
+    go (Some r) other = refl
+
+pub told_yes : (e now : Outgoing) (m : Records) (ps : List Piece) (p : Piece) → e ≡ now → e.outstanding ≡ with_pending m e.next ps → AreBelow m e.next → IsCarried m p → (IsTrue true → IsCarried now.outstanding p) × (IsCarried now.outstanding p → IsTrue true)
+told_yes e now m ps p is out below h = ((λ x. subst (λ (o : Outgoing). IsCarried o.outstanding p) is (subst (λ (r : Records). IsCarried r p) (sym out) (carried_old m e.next ps p below h))), (λ x. refl))
+
+pub told_rest : (e now : Outgoing) (m : Records) (ps : List Piece) (p : Piece) (b : Bool) → e ≡ now → e.outstanding ≡ with_pending m e.next ps → AreBelow m e.next → (IsCarried m p → ⊥) → (b ≡ true → Among p ps) → (Among p ps → b ≡ true)
+    → (IsTrue b → IsCarried now.outstanding p) × (IsCarried now.outstanding p → IsTrue b)
+told_rest e now m ps p b is out below none f g = (
+  (λ x. subst (λ (o : Outgoing). IsCarried o.outstanding p) is (subst (λ (r : Records). IsCarried r p) (sym out) (carried_pending m e.next ps p (f x)))),
+  (λ x. elim (carried_with m e.next ps p below (subst (λ (r : Records). IsCarried r p) out (subst (λ (o : Outgoing). IsCarried o.outstanding p) (sym is) x))) [ inl old ↦ absurd (none old) | inr a ↦ g a ]),
+)
+
+pub blocked_none : (o : Option SendLane) → o ≡ None → (m : ℕ) → IsBlockedAt o m → ⊥
+blocked_none o e m = rw e (λ h. h)
+
+pub wants_none : (o : Option SendLane) → o ≡ None → (IsTrue false → WantsMore o) × (WantsMore o → IsTrue false)
+wants_none o e = rw e ((λ h. absurd (both_ways false refl h)), (λ h. absurd h))
+
+pub not_wanting : (o : Option SendLane) (l : SendLane) → o ≡ Some l → (l.was_reset ≡ None → ⊥) → (IsTrue false → WantsMore o) × (WantsMore o → IsTrue false)
+not_wanting o l e r = rw e ((λ h. absurd (both_ways false refl h)), (λ h. absurd (r h.0)))
+
+pub wanting : (o : Option SendLane) (l : SendLane) (b : Bool) → o ≡ Some l → l.was_reset ≡ None → b ≡ nat_lt l.sent_end (min l.written l.limit) → (IsTrue b → WantsMore o) × (WantsMore o → IsTrue b)
+wanting o l b e r is =
+    rw (e, is) (
+      (λ h. (r, grind (arith, nat_tests, h), grind (arith, nat_tests, h))),
+      (λ h. (let x = h.1 in let y = h.2 in grind (arith, nat_tests, x, y))),
+    )
+
+pub has_code : (l : SendLane) (r : Option ℕ) (code : ℕ) → r ≡ option_map (λ (r : Reset). r.code) l.was_reset → r ≡ Some code → l.was_reset ≡ None → ⊥
+has_code l r code e f none = none_some code (sym (ap (option_map (λ (r : Reset). r.code)) none) ∙ sym e ∙ f)
+
+pub blocked_reset : (o : Option SendLane) (l : SendLane) → o ≡ Some l → (l.was_reset ≡ None → ⊥) → (m : ℕ) → IsBlockedAt o m → ⊥
+blocked_reset o l e r m = rw e (λ h. r h.0)
+
+pub blocked_written : (o : Option SendLane) (l : SendLane) → o ≡ Some l → l.written ≤ l.limit → (m : ℕ) → IsBlockedAt o m → ⊥
+blocked_written o l e r m = rw e (λ h. (let x = h.2 in omega (arith, x, r)))
+
+pub blocked_sent : (o : Option SendLane) (l : SendLane) → o ≡ Some l → (l.sent_end ≡ l.limit → ⊥) → (m : ℕ) → IsBlockedAt o m → ⊥
+blocked_sent o l e r m = rw e (λ h. r h.3)
+
+pub blocked_is : (o : Option SendLane) (l : SendLane) (m : ℕ) → o ≡ Some l → l.was_reset ≡ None → m ≡ l.limit → l.limit < l.written → l.sent_end ≡ l.limit → IsBlockedAt o m
+blocked_is o l m e r at more end = rw e (r, at, more, end)

@@ -1,0 +1,10 @@
+use Rattle.qs_conn.proofs.Runs.{idle_with}
+use Rattle.qs_conn.proofs.Funded.{funded_written}
+use Rattle.qs_conn.proofs.endpoint.Endpoint.write.Goals as goal
+
+pub invariant_of-self : goal.invariant_of-self
+invariant_of-self c = (
+  c.self.invariant.0,
+  idle_with c.self.inside.outbox _ _ c.in-Ok.ensures.accepted.2 c.self.invariant.1,
+  funded_written c.self.inside.outbox _ _ _ _ _ _ c.in-Ok.ensures.accepted.2 c.self.invariant.2,
+)

@@ -1,0 +1,16 @@
+use Rattle.std.proofs.Common.{Result}
+use Rattle.qs_ranges.specs.declared.NoMemory.{NoMemory}
+use Rattle.qs_conn.specs.Outgoing.{Outgoing, IsIdle}
+use Rattle.qs_conn.specs.Runs.{Loses, pieces_left}
+use Rattle.qs_conn.proofs.endpoint.losing.lose_packet.Given as goal
+
+-- What is so from here on is so of the whole packet.
+abbrev pub invariant-loop-piece : goal.invariant-loop-piece
+invariant-loop-piece l =
+    record {
+      idle : IsIdle l.outbox;
+      rest : (result : Result (Unit {0}) NoMemory) (new : Outgoing) → Loses l.number l.outbox result new → Loses l.number l.initial.outbox result new;
+    }
+
+abbrev pub decreases-loop-piece : goal.decreases-loop-piece
+decreases-loop-piece l = pieces_left l.number l.outbox

@@ -1,0 +1,23 @@
+use Rattle.std.proofs.Common.{◌≡◌, ℕ, ◌-◌, ◌≤◌, ◌^◌, length, take}
+use Rattle.qs_recv.specs.Lane.{RecvLane}
+use Rattle.qs_conn.specs.Tables.{Tables}
+use Rattle.qs_conn.specs.Ends.{End}
+use Rattle.qs_conn.specs.Outgoing.{sent_sum}
+use Rattle.qs_conn.specs.Filling.{end_by, HasSpare, Flow}
+use Rattle.qs_conn.proofs.filling.put_streams.Given as goal
+
+abbrev pub invariant-loop-stream : goal.invariant-loop-stream
+invariant-loop-stream l =
+    record {
+      small : l.from ≤ 2 ^ 62;
+      flow : (recvs : Tables RecvLane) (room : ℕ) (old e : End) → room ≡ length l.fn.out
+          → Flow room old (take l.fn.packet.len l.fn.out) (end_by l.fn.terms recvs l.fn.outbox e) l.fn.packet.is_full 0
+          → Flow room old (take l.packet.len l.out) (end_by l.fn.terms recvs l.outbox e) l.packet.is_full l.from;
+      credit : sent_sum l.outbox.sends ≤ l.fn.terms.known_data;
+      within : l.packet.len ≤ length l.out;
+      spare : HasSpare (length l.out) l.packet.len l.outbox.spare;
+      room : length l.out ≡ length l.fn.out;
+    }
+
+abbrev pub decreases-loop-stream : goal.decreases-loop-stream
+decreases-loop-stream l = 2 ^ 62 - l.from

@@ -1,0 +1,15 @@
+use Rattle.std.proofs.Common.{refl, subst, sym, ap, ◌∙◌}
+use Rattle.qs_send.specs.Lane.{SendLane, bytes_of}
+use Rattle.qs_send.specs.Chunks.{HasBytes}
+use Rattle.qs_conn.proofs.Outboxes.{half_there}
+use Rattle.qs_conn.proofs.OutboxMaking.{same_half}
+use Rattle.qs_conn.proofs.outbox.Outbox.bytes.Goals as goal
+
+pub get-requires : goal.get-requires
+get-requires c = half_there _ c.args.self.now c.self.inside.sends c.args.stream c.self.view_is refl c.requires.open
+
+pub bytes-requires : goal.bytes-requires
+bytes-requires c = subst (λ (l : SendLane). HasBytes l c.args.chunk) (same_half _ c.args.self.now c.self.inside.sends c.args.stream c.get.result.now c.self.view_is refl c.get.ensures) c.requires.kept
+
+pub returns-clause-bytes : goal.returns-clause-bytes
+returns-clause-bytes c = c.bytes.ensures.bytes ∙ ap (λ (l : SendLane). bytes_of l c.args.chunk) (sym (same_half _ c.args.self.now c.self.inside.sends c.args.stream c.get.result.now c.self.view_is refl c.get.ensures))

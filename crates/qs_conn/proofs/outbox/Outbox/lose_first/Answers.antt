@@ -1,0 +1,31 @@
+use Rattle.std.proofs.Common.{refl}
+use Rattle.qs_conn.proofs.OutboxAcks.{idle_none, first_at, tied_at, sent_piece, box_lost, lost_value, idle_after}
+use Rattle.qs_conn.proofs.outbox.Outbox.lose_first.Goals as goal
+
+pub piece_lost-requires : goal.piece_lost-requires
+piece_lost-requires c =
+    sent_piece c.self.inside.sends c.self.inside.records.pieces c.args.number c.args.piece
+    (tied_at _ _ _ _ _ _ _ _ c.self.invariant (idle_none _ c.args.self.now c.self.inside.records.pieces c.self.inside.pending.items c.self.view_is refl c.requires.idle))
+    (first_at _ c.args.self.now c.self.inside.records.pieces c.self.inside.pending.items c.args.number c.args.piece c.self.view_is refl c.requires.idle c.requires.first)
+
+pub invariant_of-self-2 : goal.invariant_of-self-2
+invariant_of-self-2 c =
+    box_lost _ _ _ _ _ _ _ _ _ _ _ c.args.number c.args.piece c.self.invariant
+    (idle_none _ c.args.self.now c.self.inside.records.pieces c.self.inside.pending.items c.self.view_is refl c.requires.idle)
+    (first_at _ c.args.self.now c.self.inside.records.pieces c.self.inside.pending.items c.args.number c.args.piece c.self.view_is refl c.requires.idle c.requires.first)
+    c.in_ok-piece_lost.ensures.ok c.drop_first.ensures.pieces c.drop_first.ensures.ready
+
+pub returns-clause-ok : goal.returns-clause-ok
+returns-clause-ok c =
+    lost_value c.args.number c.args.piece _ c.args.self.now c.self.inside.sends c.piece_lost.new.sends c.self.inside.records.pieces c.drop_first.new.self.pieces c.self.inside.pending.items c.self.view_is refl refl
+    (idle_none _ c.args.self.now c.self.inside.records.pieces c.self.inside.pending.items c.self.view_is refl c.requires.idle)
+    c.in_ok-piece_lost.ensures.ok c.drop_first.ensures.pieces
+
+pub returns-clause-idle : goal.returns-clause-idle
+returns-clause-idle c =
+    let held =
+    box_lost _ _ _ _ _ _ _ _ _ _ _ c.args.number c.args.piece c.self.invariant
+    (idle_none _ c.args.self.now c.self.inside.records.pieces c.self.inside.pending.items c.self.view_is refl c.requires.idle)
+    (first_at _ c.args.self.now c.self.inside.records.pieces c.self.inside.pending.items c.args.number c.args.piece c.self.view_is refl c.requires.idle c.requires.first)
+    c.in_ok-piece_lost.ensures.ok c.drop_first.ensures.pieces c.drop_first.ensures.ready in
+    idle_after _ _ _ held.below (idle_none _ c.args.self.now c.self.inside.records.pieces c.self.inside.pending.items c.self.view_is refl c.requires.idle)

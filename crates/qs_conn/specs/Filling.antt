@@ -1,0 +1,213 @@
+-- A packet in the making: what holds of it so far.
+use Rattle.std.specs.Prelude.{◌≡◌, ℕ, ◌+◌, ◌-◌, ◌*◌, ◌<◌, ◌≤◌, ◌^◌, Bool, true, false, List, [], ◌++◌, ◌⊎◌, length, take, Option, None, Some, Result, Ok, Err}
+use Rattle.std.specs.FinMap as fmap
+use Rattle.std.specs.FinSet as set
+use Rattle.qs_conn.specs.declared.making.Made.{Made}
+use Rattle.qs_conn.specs.declared.making.MakeFault.{MakeFault}
+use Rattle.qs_ranges.specs.Numbers.{MAX_VARINT, NumberSet, run_starts}
+use Rattle.qs_wire.specs.declared.stream_id.Dir.TheVariants.{Bidi, Uni}
+use Rattle.qs_wire.specs.Grammar.{Fits, canonical}
+use Rattle.qs_wire.specs.Layout.{FrameValue, stream, reset_stream, stop_sending, max_data, max_stream_data, max_streams, data_blocked, stream_data_blocked, streams_blocked}
+use Rattle.qs_recv.specs.Lane.{RecvLane}
+use Rattle.qs_send.specs.Lane.{SendLane, Sending, bytes_of}
+use Rattle.qs_send.specs.Chunks.{IsDueChunk, HasBytes, frame_len}
+use Rattle.qs_send.specs.declared.parts.Chunk.{Chunk}
+use Rattle.qs_send.specs.declared.piece.Piece.{Piece}
+use Rattle.qs_send.specs.declared.piece.Piece.TheVariants.{Data}
+use Rattle.qs_send.specs.declared.piece.Item.{Item}
+use Rattle.qs_send.specs.declared.piece.Item.TheVariants.{MaxData, MaxStreamData, MaxStreams, ResetStream, StopSending, DataBlocked, StreamDataBlocked, StreamsBlocked}
+use Rattle.qs_conn.specs.declared.slot.Slot.{Slot}
+use Rattle.qs_conn.specs.declared.slot.Kind.{Kind}
+use Rattle.qs_conn.specs.declared.slot.Kind.TheVariants as kinds
+use Rattle.qs_conn.specs.declared.terms.Terms.{Terms}
+use Rattle.qs_conn.specs.declared.slot.Slot.TheVariants as slots
+use Rattle.qs_conn.specs.Tables.{Tables, lookup, each}
+use Rattle.qs_conn.specs.Ends.{End}
+use Rattle.qs_conn.specs.Credit.{all_sent}
+use Rattle.qs_conn.specs.Seen.{Control, seen_all}
+use Rattle.qs_conn.specs.Due.{Among, IsCurrent, IsDueItem, StreamGoes}
+use Rattle.qs_conn.specs.Outgoing.{Outgoing, sent_sum, HasSending, WantsMore, item_put_out}
+use Rattle.qs_conn.specs.Layers.{or_none}
+use Rattle.qs_conn.specs.Lawful.{Fills, AcksAll, HasAll, pieces_so_far}
+use Rattle.qs_conn.specs.Making.{IsText}
+
+-- what an item speaks of
+abbrev pub slot_of : Item → Slot
+slot_of (MaxData m) = slots.MaxData
+slot_of (MaxStreamData n m) = slots.MaxStreamData n
+slot_of (MaxStreams d m) = slots.MaxStreams d
+slot_of (ResetStream n code size) = slots.ResetStream n
+slot_of (StopSending n code) = slots.StopSending n
+slot_of (DataBlocked m) = slots.DataBlocked
+slot_of (StreamDataBlocked n m) = slots.StreamDataBlocked n
+slot_of (StreamsBlocked d m) = slots.StreamsBlocked d
+
+-- the frame that tells an item (RFC 9000, sections 19.4, 19.5 and 19.9 to 19.14)
+abbrev pub frame_of_item : Item → FrameValue
+frame_of_item (MaxData m) = max_data m
+frame_of_item (MaxStreamData n m) = max_stream_data n m
+frame_of_item (MaxStreams d m) = max_streams d m
+frame_of_item (ResetStream n code size) = reset_stream n code size
+frame_of_item (StopSending n code) = stop_sending n code
+frame_of_item (DataBlocked m) = data_blocked m
+frame_of_item (StreamDataBlocked n m) = stream_data_blocked n m
+frame_of_item (StreamsBlocked d m) = streams_blocked d m
+
+-- an end of these parts
+abbrev pub end_by : Terms → Tables RecvLane → Outgoing → End → End
+end_by t recvs o e =
+    record e {
+      role = t.role;
+      settings = t.settings;
+      recvs = recvs;
+      granted = t.granted;
+      known_data = t.known_data;
+      known_bidi = t.known_bidi;
+      known_uni = t.known_uni;
+      wanted_bidi = t.wanted_bidi;
+      wanted_uni = t.wanted_uni;
+      sends = o.sends;
+      next = o.next;
+      outstanding = o.outstanding;
+      acked = o.acked;
+    }
+
+-- the current item of a slot; or there is none
+abbrev pub IsCurrentIn : End → Slot → Option Item → Type 0
+IsCurrentIn e slot None = (j : Item) → slot_of j ≡ slot → IsCurrent e j → ⊥
+IsCurrentIn e slot (Some i) = IsCurrent e i × (slot_of i ≡ slot) × ((j : Item) → slot_of j ≡ slot → IsCurrent e j → j ≡ i)
+
+-- the item has a text
+abbrev pub ItemFits : Option Item → Type 0
+ItemFits None = Unit {0}
+ItemFits (Some i) = Fits (frame_of_item i)
+
+-- what an end has to tell has a text
+pub record TermsFit (t : Terms) : Type 0 where
+  pub granted : t.granted ≤ MAX_VARINT
+  pub known : t.known_data ≤ MAX_VARINT
+  pub bidi : t.known_bidi ≤ 2 ^ 60
+  pub uni : t.known_uni ≤ 2 ^ 60
+
+-- the connection's credit alone holds bytes of some stream back
+abbrev pub AnyWantsMore : Tables SendLane → Type 0
+AnyWantsMore sends = (n : ℕ) × WantsMore (lookup sends n)
+
+-- the slot of a stream
+abbrev pub slot_at : Kind → ℕ → Slot
+slot_at kinds.ResetStream n = slots.ResetStream n
+slot_at kinds.StopSending n = slots.StopSending n
+slot_at kinds.MaxStreamData n = slots.MaxStreamData n
+slot_at kinds.StreamDataBlocked n = slots.StreamDataBlocked n
+
+abbrev pub IsOfKind : Kind → Slot → Type 0
+IsOfKind kind s = (n : ℕ) × (s ≡ slot_at kind n)
+
+abbrev pub IsBelow : Kind → ℕ → Slot → Type 0
+IsBelow kind b s = (n : ℕ) × (n < b) × (s ≡ slot_at kind n)
+
+-- the slots that were passed: some one by one, of some kinds all, of some those of the streams below a number
+pub data Passed : Type 0 where
+  no_slot : Passed
+  and_slot : (passed : Passed) (slot : Slot) → Passed
+  and_kind : (passed : Passed) (kind : Kind) → Passed
+  and_below : (passed : Passed) (kind : Kind) (bound : ℕ) → Passed
+
+abbrev pub IsPassed : Passed → Slot → Type 0
+IsPassed no_slot s = ⊥
+IsPassed (and_slot passed slot) s = IsPassed passed s ⊎ (s ≡ slot)
+IsPassed (and_kind passed kind) s = IsPassed passed s ⊎ IsOfKind kind s
+IsPassed (and_below passed kind bound) s = IsPassed passed s ⊎ IsBelow kind bound s
+
+-- all slots but those of MAX_STREAMS, which is never current, in the order in which they are passed
+abbrev pub all_items : Passed
+all_items =
+    and_slot (and_slot (and_kind (and_slot (and_kind (and_kind (and_kind (and_slot no_slot slots.MaxData) kinds.ResetStream) kinds.StopSending) kinds.MaxStreamData) slots.DataBlocked) kinds.StreamDataBlocked) (slots.StreamsBlocked Bidi)) (slots.StreamsBlocked Uni)
+
+-- there is room for a piece of two bytes or more for each that may come
+abbrev pub HasSpare : ℕ → ℕ → ℕ → Type 0
+HasSpare room len spare = room ≤ len + 2 * spare + 1
+
+-- an item went in behind the bytes that were there, or didn't fit
+abbrev pub PutsItem : Item → List ℕ → ℕ → Outgoing → List ℕ → ℕ → Outgoing → Bool → Type 0
+PutsItem item before len old after end new false = (take end after ≡ take len before ++ canonical (frame_of_item item)) × (new ≡ item_put_out item old)
+PutsItem item before len old after end new true =
+    (end ≡ len) × (after ≡ before) × (new ≡ old) × (length before - len < length (canonical (frame_of_item item)))
+
+-- the lane without the mark that a STREAM_DATA_BLOCKED was sent
+abbrev pub unmarked : SendLane → SendLane
+unmarked l = record l { blocked_sent = false }
+
+-- the end without what control items and an ACK change
+abbrev pub base : End → End
+base e = record e { sends = each unmarked e.sends; outstanding = fmap.empty; ack_due = false }
+
+-- the piece stands in the packet that is being made
+abbrev pub InPacket : End → Piece → Type 0
+InPacket e x = Among x (pieces_so_far e e.next)
+
+-- A packet so far: an ACK and control items. Of the slots that were passed, all that was due is in it.
+pub record Begun (room : ℕ) (old : End) (text : List ℕ) (e : End) (P : Slot → Type 0) : Type 0 where
+  pub frames : List FrameValue
+  pub fills : Fills old old (seen_all frames) e
+  pub spells : IsText frames text
+  pub steady : base e ≡ base old
+  pub within : all_sent old ≤ old.known_data
+  pub ack : old.ack_due ≡ true → (room < length text + 25) ⊎ AcksAll old (seen_all frames)
+  pub items : (i : Item) → P (slot_of i) → IsDueItem old i → Among (Control i) (seen_all frames)
+  pub no_chunk : (n : ℕ) (c : Chunk) → InPacket e (Data n c) → ⊥
+
+-- A packet so far, with all control items that were due. Streams below `done` have nothing to send any more, or the packet is full; of
+-- those from `done` on nothing is in it.
+pub record Flowing (room : ℕ) (old : End) (text : List ℕ) (e : End) (done : ℕ) : Type 0 where
+  pub frames : List FrameValue
+  pub fills : Fills old old (seen_all frames) e
+  pub spells : IsText frames text
+  pub within : all_sent e ≤ e.known_data
+  pub ack : old.ack_due ≡ true → (room < length text + 25) ⊎ AcksAll old (seen_all frames)
+  pub items : (i : Item) → IsDueItem old i → Among (Control i) (seen_all frames)
+  pub below : (n : ℕ) → n < done → StreamGoes e n → room < length text + 25
+  pub untouched : (n : ℕ) → done ≤ n → (c : Chunk) → InPacket e (Data n c) → ⊥
+
+-- A packet that needs no more: it has all, or no room for an item more.
+pub record Packed (room : ℕ) (old : End) (text : List ℕ) (e : End) : Type 0 where
+  pub frames : List FrameValue
+  pub fills : Fills old old (seen_all frames) e
+  pub spells : IsText frames text
+  pub within : all_sent e ≤ e.known_data
+  pub whole : HasAll room (length text) old (seen_all frames) e
+
+-- a packet with the streams below a number, or one that is full
+abbrev pub Flow : ℕ → End → List ℕ → End → Bool → ℕ → Type 0
+Flow room old text e true done = Packed room old text e
+Flow room old text e false done = Flowing room old text e done
+
+-- a packet so far, or one that is full
+abbrev pub Stage : ℕ → End → List ℕ → End → Bool → Passed → Type 0
+Stage room old text e true passed = Packed room old text e
+Stage room old text e false passed = Begun room old text e (IsPassed passed)
+
+-- the frame of a chunk, with the written bytes
+abbrev pub stream_frame : Outgoing → ℕ → Chunk → FrameValue
+stream_frame o n c = stream n c.offset c.fin (bytes_of (or_none (lookup o.sends n)) c)
+
+-- a chunk that is due, whose bytes are kept, and whose frame fits the room
+pub record MayGo (o : Outgoing) (n : ℕ) (c : Chunk) (room : ℕ) : Type 0 where
+  pub half : Sending
+  pub there : HasSending o n half
+  pub chunk : IsDueChunk half c
+  pub has : HasBytes half.lane c
+  pub fits : frame_len n c.offset c.len ≤ room
+
+-- what lets an end make packets: it is within the peer's credit, and an ACK that is due has a number to name, of at most 32 ranges
+pub record IsFunded (sends : Tables SendLane) (known_data : ℕ) (done : NumberSet) (ack_due : Bool) : Type 0 where
+  pub credit : sent_sum sends ≤ known_data
+  pub known_fits : known_data ≤ MAX_VARINT
+  pub few : set.len (run_starts done) ≤ 32
+  pub acks : ack_due ≡ true → 0 < set.len (run_starts done)
+
+-- the payload that was written
+abbrev pub made_text : Result (Option Made) MakeFault → List ℕ → List ℕ
+made_text (Ok (Some made)) out = take made.len out
+made_text (Ok None) out = []
+made_text (Err fault) out = []

@@ -1,0 +1,79 @@
+-- What the private loops over an end's packets do: pieces are due again, or acknowledged, one after the other, as far as there is memory.
+use Rattle.std.specs.Prelude.{◌≡◌, ℕ, ◌<◌, Bool, ◌&&◌, nat_le, nat_lt, List, [], ◌∷◌, length, drop, take, map, reverse, flat_map, Option, None, Some, Result, Ok, Err, ⊤}
+use Rattle.std.specs.List.{filter}
+use Rattle.std.specs.FinMap as fmap
+use Rattle.qs_ranges.specs.declared.NoMemory.{NoMemory}
+use Rattle.qs_send.specs.declared.piece.Piece.{Piece}
+use Rattle.qs_wire.specs.Acks.{FallBelow}
+use Rattle.qs_conn.specs.Ends.{Records}
+use Rattle.qs_conn.specs.FrameStep.{is_named}
+use Rattle.qs_conn.specs.Outgoing.{Outgoing, pieces_in, first_acked_out}
+
+-- how many pieces the record of packet k has left
+unfoldable pub pieces_left : ℕ → Outgoing → ℕ
+pieces_left k o = length (pieces_in o.outstanding k)
+
+-- the record of packet k without its first pieces
+abbrev pub shortened_out : ℕ → Outgoing → List Piece → Outgoing
+shortened_out k o [] = record o { outstanding = fmap.remove o.outstanding k }
+shortened_out k o (p ∷ ps) = record o { outstanding = fmap.insert o.outstanding k (p ∷ ps) }
+
+abbrev pub LosesBy : ℕ → Outgoing → Option (List Piece) → Result (Unit {0}) NoMemory → Outgoing → Type 0
+LosesBy k o (Some (p ∷ ps)) (Ok done) new = new ≡ shortened_out k o []
+LosesBy k o (Some (p ∷ ps)) (Err refused) new = (moved : ℕ) × (moved < length (p ∷ ps)) × (new ≡ shortened_out k o (drop moved (p ∷ ps)))
+LosesBy k o x (Ok done) new = new ≡ o
+LosesBy k o x (Err refused) new = ⊥
+
+-- The record of packet k goes; where there is no memory, its first pieces do (RFC 9000, section 13.3).
+unfoldable pub Loses : ℕ → Outgoing → Result (Unit {0}) NoMemory → Outgoing → Type 0
+Loses k o result new = LosesBy k o (fmap.get o.outstanding k) result new
+
+-- Acknowledgements
+
+-- these pieces are acknowledged, one after the other
+unfoldable pub acks_out : List (ℕ × Piece) → Outgoing → Outgoing
+acks_out [] o = o
+acks_out (p ∷ ps) o = acks_out ps (first_acked_out p.0 p.1 o)
+
+-- all of these pieces are acknowledged, or some first ones, where memory was refused
+abbrev pub AcksBy : List (ℕ × Piece) → Outgoing → Result (Unit {0}) NoMemory → Outgoing → Type 0
+AcksBy ps o (Ok done) new = new ≡ acks_out ps o
+AcksBy ps o (Err refused) new = (m : ℕ) × (new ≡ acks_out (take m ps) o)
+
+-- the pieces of packet k, each with its number
+abbrev pub pieces_at : Records → ℕ → List (ℕ × Piece)
+pieces_at m k = elim (fmap.get m k) [ None ↦ [] | Some ps ↦ map (λ p. (k, p)) ps ]
+
+-- the pieces of packet k are acknowledged
+unfoldable pub AcksPacket : ℕ → Outgoing → Result (Unit {0}) NoMemory → Outgoing → Type 0
+AcksPacket k o result new = AcksBy (pieces_at o.outstanding k) o result new
+
+-- from low on, and below the bound
+abbrev pub in_part : ℕ → ℕ → ℕ → Bool
+in_part low bound k = nat_le low k && nat_lt k bound
+
+-- the packets below a bound are the same
+abbrev pub AreSameBelow : ℕ → Records → Records → Type 0
+AreSameBelow bound m n = (k : ℕ) → k < bound → fmap.get m k ≡ fmap.get n k
+
+-- the pieces of the packets in a range, from the highest number down
+abbrev pub part_pieces : Records → ℕ → ℕ → List (ℕ × Piece)
+part_pieces m low bound = flat_map (pieces_at m) (reverse (filter (in_part low bound) (fmap.keys m)))
+
+abbrev pub StaysBelow : ℕ → Records → Result (Unit {0}) NoMemory → Outgoing → Type 0
+StaysBelow low m (Ok done) new = AreSameBelow low m new.outstanding
+StaysBelow low m (Err refused) new = ⊤
+
+-- The packets from `low` on and below `bound` are acknowledged. The records m are those before other packets were.
+unfoldable pub AcksPart : ℕ → ℕ → Outgoing → Result (Unit {0}) NoMemory → Outgoing → Type 0
+AcksPart low bound o result new =
+    (m : Records) → AreSameBelow bound m o.outstanding → AcksBy (part_pieces m low bound) o result new × StaysBelow low m result new
+
+-- the pieces of the packets that ranges name
+abbrev pub named_pieces : Records → List (ℕ × ℕ) → List (ℕ × Piece)
+named_pieces m ranges = flat_map (pieces_at m) (reverse (filter (is_named ranges) (fmap.keys m)))
+
+-- The packets that these ranges name are acknowledged.
+unfoldable pub AcksRanges : List (ℕ × ℕ) → Outgoing → Result (Unit {0}) NoMemory → Outgoing → Type 0
+AcksRanges ranges o result new =
+    (m : Records) (high : ℕ) → FallBelow high ranges → AreSameBelow high m o.outstanding → AcksBy (named_pieces m ranges) o result new

@@ -1,0 +1,58 @@
+//! A packet is declared lost.
+ghost use Rattle.std.specs.Prelude.{◌≡◌};
+ghost use Rattle.qs_conn.specs.Making.{LoseStep, lose_refusal};
+ghost use Rattle.qs_conn.specs.Outgoing.{IsIdle, NoneEmpty};
+ghost use Rattle.qs_conn.specs.Runs.{Loses};
+
+use super::Endpoint;
+use crate::making::LostFault;
+use crate::outbox::Outbox;
+use qs_ranges::NoMemory;
+
+impl Endpoint {
+    /// Declares the packet of a number lost: what it carried and is still of use is due again (RFC 9000, section 13.3).
+    ///
+    /// Refused: `Closed`; `NotOutstanding` where no such packet is outstanding; and `NoMemory` where memory was refused. Then the
+    /// first pieces of the packet may be due again already; the others are outstanding still, and the call may be made again.
+    #[tactic(auto, using(crate::proofs::Runs::lost_refused, crate::proofs::Runs::lost_whole, crate::proofs::Runs::lost_part))]
+    pub fn declare_lost(&mut self, number: u64) -> Result<(), LostFault>
+        ensures { LoseStep self.old number result self.new }
+    {
+        if let Some(fault) = self.lose_refusal(number) {
+            return Err(fault);
+        }
+        self.outbox.none_is_empty();
+        match lose_packet(&mut self.outbox, number) {
+            Ok(()) => Ok(()),
+            Err(_refused) => Err(LostFault::NoMemory),
+        }
+    }
+
+    // Why the packet can't be lost.
+    #[tactic(auto, using(crate::proofs::Runs::not_outstanding, crate::proofs::Runs::is_outstanding))]
+    fn lose_refusal(&self, number: u64) -> Option<LostFault>
+        ensures { result ≡ lose_refusal self.now number }
+    {
+        if self.closed.is_some() {
+            return Some(LostFault::Closed);
+        }
+        self.outbox.none_is_empty();
+        if self.outbox.first(number).is_none() {
+            return Some(LostFault::NotOutstanding);
+        }
+        None
+    }
+}
+
+// The pieces of a packet are due again, from the first on.
+#[tactic(auto, using(crate::proofs::Runs::loses_end, crate::proofs::Runs::loses_stop, crate::proofs::Runs::loses_more, crate::proofs::Runs::loses_less))]
+fn lose_packet(outbox: &mut Outbox, number: u64) -> Result<(), NoMemory>
+    requires { IsIdle outbox.old }
+    ensures idle { IsIdle outbox.new }
+    ensures step { Loses number outbox.old result outbox.new }
+{
+    while let Some(piece) = outbox.first(number) {
+        outbox.lose_first(number, piece)?;
+    }
+    Ok(())
+}

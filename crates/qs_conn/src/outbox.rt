@@ -1,0 +1,225 @@
+//! The sending side of an end.
+ghost use Rattle.std.specs.Prelude.{◌≡◌, ◌≤◌, ◌^◌, ◌<◌, length, take, is_some, option_map, unwrap_or, true, OnOk, OnErr, IfOk, IfErr};
+ghost use Rattle.qs_ranges.specs.Numbers.{MAX_VARINT};
+ghost use Rattle.qs_send.specs.Lane.{Sending, new_lane, accepted, refusal, reset_refusal, answer_of, write_lane, finish_lane, reset_lane, allow_lane};
+ghost use Rattle.qs_conn.specs.Tables.{table, with_table, lookup, open_to, kind_of};
+ghost use Rattle.qs_conn.specs.Reports.{send_report};
+ghost use Rattle.qs_conn.specs.Layers.{or_none};
+ghost use Rattle.qs_conn.specs.Outgoing.{no_packets, with_sends, on_lane, sent_sum, HasSending, AreOfOpen};
+
+use crate::report::SendReport;
+use crate::send_tables::SendTables;
+use crate::told::ToldItems;
+use qs_ranges::NoMemory;
+use qs_send::{Piece, Records, SendFault};
+use qs_wire::StreamId;
+use std::alloc::Global;
+use std::marker::Model;
+
+mod acks;
+mod making;
+mod telling;
+
+/// What an end sends: its sending halves, what its packets carried, and what was acknowledged of them.
+#[derive(Drop)]
+pub(crate) struct Outbox {
+    alloc: Global,
+    sends: SendTables,
+    // The sum of all sent ends.
+    sent: u64,
+    records: Records,
+    // The pieces of the packet in the making.
+    pending: Vec<Piece>,
+    // For how many more there is memory.
+    spare: usize,
+    next: u64,
+    told: ToldItems,
+}
+
+// Clauses see the lanes. What of them is due stays inside: what was written and is neither acknowledged nor outstanding.
+impl Model for Outbox {
+    ghost use Rattle.std.specs.Prelude.{◌-◌, vec_len, vec_capacity};
+    ghost use Rattle.qs_conn.specs.Outgoing.{Outgoing, IsOutbox, lanes_of, with_pending};
+    ghost use Rattle.qs_conn.specs.EndCodes.{outgoing_code};
+
+    ghost Value = { Outgoing };
+
+    ghost coded = { outgoing_code };
+
+    ghost view = { λ o. record {
+      sends = lanes_of o.sends;
+      next = o.next;
+      outstanding = with_pending o.records.pieces o.next o.pending.items;
+      acked = o.told;
+      spare = o.spare;
+    } };
+
+    ghost invariant = { λ o. IsOutbox o.sends o.records.pieces o.records.ready o.pending.items o.next o.sent o.spare (vec_capacity o.pending - vec_len o.pending) };
+}
+
+impl Outbox {
+    pub(crate) fn new(alloc: Global) -> Self
+        ensures { result ≡ no_packets }
+    {
+        Outbox {
+            alloc,
+            sends: SendTables::new(alloc),
+            sent: 0,
+            records: Records::new(alloc),
+            pending: Vec::new(alloc),
+            spare: 0,
+            next: 0,
+            told: ToldItems::new(alloc),
+        }
+    }
+
+    /// Each outstanding piece is of an open stream. It does nothing: a caller learns the clause.
+    pub(crate) fn are_of_open(&self)
+        ensures { AreOfOpen self.now.sends self.now.outstanding }
+    {
+        let _next = self.next;
+    }
+
+    /// What holds of an open stream's half. It does nothing: a caller learns the clause.
+    pub(crate) fn has_sending(&self, stream: StreamId)
+        requires { is_some (lookup self.now.sends stream) ≡ true }
+        ensures { (s : Sending) × HasSending self.now stream s }
+    {
+        let _next = self.next;
+        self.sends.get(stream).is_lawful();
+    }
+
+    /// Whether the stream has a sending half.
+    pub(crate) fn is_open(&self, stream: StreamId) -> bool
+        ensures { result ≡ is_some (lookup self.now.sends stream) }
+    {
+        self.sends.is_open(stream)
+    }
+
+    /// How many streams of the type of this one are open.
+    pub(crate) fn count(&self, stream: StreamId) -> usize
+        ensures { result ≡ length (table self.now.sends (kind_of stream)) }
+    {
+        self.sends.count(stream)
+    }
+
+    /// How many streams of a type are open.
+    pub(crate) fn count_of(&self, kind: usize) -> usize
+        requires { kind < 4 }
+        ensures value { result ≡ length (table self.now.sends kind) }
+        ensures small { result ≤ 2 ^ 60 }
+    {
+        self.sends.count_of(kind)
+    }
+
+    /// How a stream's sending half stands, where it is open.
+    pub(crate) fn report(&self, stream: StreamId) -> Option<SendReport>
+        ensures { result ≡ option_map send_report (lookup self.now.sends stream) }
+    {
+        if !self.sends.is_open(stream) {
+            return None;
+        }
+        let half = self.sends.get(stream);
+        Some(SendReport {
+            state: half.state(),
+            written: half.written(),
+            final_size: half.final_size(),
+        })
+    }
+
+    /// The number of the next packet.
+    pub(crate) fn next(&self) -> u64
+        ensures { result ≡ self.now.next }
+    {
+        self.next
+    }
+
+    /// For how many pieces more the packet in the making has room.
+    pub(crate) fn spare(&self) -> usize
+        ensures { result ≡ self.now.spare }
+    {
+        self.spare
+    }
+
+    /// The sum of all sent ends.
+    pub(crate) fn sent_sum(&self) -> u64
+        ensures value { result ≡ sent_sum self.now.sends }
+        ensures small { result ≤ MAX_VARINT }
+    {
+        self.sent
+    }
+
+    /// Opens a stream and all lower ones of its type.
+    pub(crate) fn open_to(
+        &mut self,
+        limit: u64,
+        buffer: usize,
+        stream: StreamId,
+    ) -> Result<(), NoMemory>
+        requires { limit ≤ MAX_VARINT }
+        ensures ok { OnOk result (self.new ≡ with_sends (open_to self.old.sends stream (λ m. new_lane m limit buffer)) self.old) }
+        ensures err { OnErr result (self.new ≡ self.old) }
+    {
+        self.sends.open_to(limit, buffer, stream)
+    }
+
+    /// Takes the memory for the sending halves of a stream and of all lower ones of its type, and opens none.
+    pub(crate) fn reserve(&mut self, stream: StreamId) -> Result<(), NoMemory>
+        ensures { self.new ≡ self.old }
+    {
+        self.sends.reserve(stream)
+    }
+
+    /// Takes the streams of the type of this one from a count on away. Nothing of them was sent.
+    pub(crate) fn close_to(&mut self, stream: StreamId, count: usize)
+        requires none { AreOfOpen (with_table self.old.sends (kind_of stream) (take count (table self.old.sends (kind_of stream)))) self.old.outstanding }
+        requires unsent { sent_sum (with_table self.old.sends (kind_of stream) (take count (table self.old.sends (kind_of stream)))) ≡ sent_sum self.old.sends }
+        ensures { self.new ≡ with_sends (with_table self.old.sends (kind_of stream) (take count (table self.old.sends (kind_of stream)))) self.old }
+    {
+        let _next = self.next;
+        self.sends.close_to(stream, count);
+    }
+
+    /// Accepts bytes at an open stream, as many as there is room for; or changes nothing.
+    pub(crate) fn write(&mut self, stream: StreamId, bytes: &[u8]) -> Result<usize, SendFault>
+        requires { is_some (lookup self.old.sends stream) ≡ true }
+        ensures accepted { let lane = or_none (lookup self.old.sends stream) in
+            IfOk result (λ n. (refusal lane ≡ None) × (n ≡ accepted lane (length bytes.now)) × (self.new ≡ on_lane stream (λ l. write_lane l (take n bytes.now)) self.old)) }
+        ensures refused { let lane = or_none (lookup self.old.sends stream) in
+            IfErr result (λ fault. (self.new ≡ self.old) × (fault ≡ unwrap_or (refusal lane) SendFault.NoMemory)) }
+    {
+        self.sends.get(stream).is_lawful();
+        self.sends.write(stream, bytes)
+    }
+
+    /// Asks for the end of an open stream.
+    pub(crate) fn finish(&mut self, stream: StreamId) -> Result<(), SendFault>
+        requires { is_some (lookup self.old.sends stream) ≡ true }
+        ensures answer { result ≡ answer_of (refusal (or_none (lookup self.old.sends stream))) }
+        ensures ok { OnOk result (self.new ≡ on_lane stream finish_lane self.old) }
+        ensures err { OnErr result (self.new ≡ self.old) }
+    {
+        self.sends.get(stream).is_lawful();
+        self.sends.finish(stream)
+    }
+
+    /// Breaks an open stream off.
+    pub(crate) fn reset(&mut self, stream: StreamId, code: u64) -> Result<(), SendFault>
+        requires open { is_some (lookup self.old.sends stream) ≡ true }
+        requires fits { code ≤ MAX_VARINT }
+        ensures answer { result ≡ answer_of (reset_refusal (or_none (lookup self.old.sends stream))) }
+        ensures after { self.new ≡ on_lane stream (λ l. reset_lane l code) self.old }
+        ensures err { OnErr result (self.new ≡ self.old) }
+    {
+        self.sends.reset(stream, code)
+    }
+
+    /// Takes in that the peer allows the offsets of an open stream below a limit.
+    pub(crate) fn allow(&mut self, stream: StreamId, limit: u64)
+        requires open { is_some (lookup self.old.sends stream) ≡ true }
+        requires limit { limit ≤ MAX_VARINT }
+        ensures { self.new ≡ on_lane stream (λ l. allow_lane l limit) self.old }
+    {
+        self.sends.allow(stream, limit);
+    }
+}

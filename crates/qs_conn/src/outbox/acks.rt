@@ -1,0 +1,122 @@
+//! Packets are acknowledged and lost.
+ghost use Rattle.std.specs.Prelude.{◌≡◌, ◌<◌, is_some, true, Some, OnOk, OnErr};
+ghost use Rattle.std.specs.FinMap as fmap;
+ghost use Rattle.qs_send.specs.declared.piece.Piece.TheVariants as pieces;
+ghost use Rattle.qs_send.specs.Lane.{Sending, after_reset_acked};
+ghost use Rattle.qs_conn.specs.Tables.{lookup, updated};
+ghost use Rattle.qs_conn.specs.Outgoing.{first_piece, first_acked_out, shorter, IsIdle, IsHeldBelow, IsSentPiece, NoneEmpty, item_noted, halves_acked, items_acked, halves_lost};
+
+use super::Outbox;
+use crate::send_tables::SendTables;
+use crate::told::ToldItems;
+use qs_ranges::NoMemory;
+use qs_send::{Item, Piece, SendState};
+use qs_wire::StreamId;
+
+impl Outbox {
+    /// Each outstanding packet has a piece. It does nothing: a caller learns the clause.
+    pub(crate) fn none_is_empty(&self)
+        requires { IsIdle self.now }
+        ensures { NoneEmpty self.now.outstanding }
+    {
+        let _next = self.next;
+        self.records.none_is_empty();
+    }
+
+    /// The greatest number below `bound` of an outstanding packet.
+    pub(crate) fn below(&self, bound: u64) -> Option<u64>
+        requires { IsIdle self.now }
+        ensures { IsHeldBelow self.now.outstanding bound result }
+    {
+        let _next = self.next;
+        self.records.below(bound)
+    }
+
+    /// The first piece of an outstanding packet.
+    pub(crate) fn first(&self, number: u64) -> Option<Piece>
+        requires { IsIdle self.now }
+        ensures { result ≡ first_piece (fmap.get self.now.outstanding number) }
+    {
+        let _next = self.next;
+        self.records.first(number)
+    }
+
+    /// The first piece of an outstanding packet is acknowledged, or nothing changes.
+    pub(crate) fn ack_first(&mut self, number: u64, piece: Piece) -> Result<(), NoMemory>
+        requires idle { IsIdle self.old }
+        requires first { first_piece (fmap.get self.old.outstanding number) ≡ Some piece }
+        ensures ok { OnOk result (self.new ≡ first_acked_out number piece self.old) }
+        ensures err { OnErr result (self.new ≡ self.old) }
+        ensures idle { IsIdle self.new }
+    {
+        let _next = self.next;
+        piece_acked(&mut self.sends, &mut self.told, piece)?;
+        self.records.drop_first(number);
+        Ok(())
+    }
+
+    /// The first piece of an outstanding packet is due again, or nothing changes.
+    pub(crate) fn lose_first(&mut self, number: u64, piece: Piece) -> Result<(), NoMemory>
+        requires idle { IsIdle self.old }
+        requires first { first_piece (fmap.get self.old.outstanding number) ≡ Some piece }
+        ensures ok { OnOk result (self.new ≡ shorter number self.old) }
+        ensures err { OnErr result (self.new ≡ self.old) }
+        ensures idle { IsIdle self.new }
+    {
+        let _next = self.next;
+        piece_lost(&mut self.sends, piece)?;
+        self.records.drop_first(number);
+        Ok(())
+    }
+}
+
+// A chunk, or an item, is acknowledged; or nothing changes.
+fn piece_acked(sends: &mut SendTables, told: &mut ToldItems, piece: Piece) -> Result<(), NoMemory>
+    requires { IsSentPiece sends.old piece }
+    ensures halves { OnOk result (sends.new ≡ halves_acked piece sends.old) }
+    ensures items { OnOk result (told.new ≡ items_acked piece told.old) }
+    ensures err { OnErr result (sends.new ≡ sends.old) }
+    ensures same { OnErr result (told.new ≡ told.old) }
+{
+    match piece {
+        Piece::Data { stream, chunk } => sends.acked(stream, chunk),
+        Piece::Told(item) => item_acked(sends, told, item),
+    }
+}
+
+// An item is acknowledged, or nothing changes. A RESET_STREAM is marked in its half, once.
+fn item_acked(sends: &mut SendTables, told: &mut ToldItems, item: Item) -> Result<(), NoMemory>
+    requires { IsSentPiece sends.old (pieces.Told item) }
+    ensures halves { OnOk result (sends.new ≡ halves_acked (pieces.Told item) sends.old) }
+    ensures items { OnOk result (told.new ≡ item_noted item told.old) }
+    ensures err { OnErr result (sends.new ≡ sends.old) }
+    ensures same { OnErr result (told.new ≡ told.old) }
+{
+    if let Item::ResetStream { stream, .. } = item {
+        reset_acked(sends, stream);
+        return Ok(());
+    }
+    told.note(item)
+}
+
+// The RESET_STREAM of a half is acknowledged, once more or for the first time.
+fn reset_acked(sends: &mut SendTables, stream: StreamId)
+    requires { (s : Sending) × (lookup sends.old stream ≡ Some s) × (is_some s.lane.was_reset ≡ true) }
+    ensures { sends.new ≡ updated sends.old stream after_reset_acked (lookup sends.old stream) }
+{
+    if matches!(sends.get(stream).state(), SendState::ResetSent) {
+        sends.reset_acked(stream);
+    }
+}
+
+// A chunk is due again, or nothing changes. An item is due by itself.
+fn piece_lost(sends: &mut SendTables, piece: Piece) -> Result<(), NoMemory>
+    requires { IsSentPiece sends.old piece }
+    ensures ok { OnOk result (sends.new ≡ halves_lost piece sends.old) }
+    ensures err { OnErr result (sends.new ≡ sends.old) }
+{
+    match piece {
+        Piece::Data { stream, chunk } => sends.lost(stream, chunk),
+        Piece::Told(_) => Ok(()),
+    }
+}

@@ -1,0 +1,143 @@
+//! Packets are made.
+ghost use Rattle.std.specs.Prelude.{◌≡◌, ◌+◌, ◌-◌, ◌≤◌, ◌<◌, ◌↔◌, ◌++◌, ◌∷◌, [], vec_len, vec_capacity, IsTrue, length, is_some, true, OnOk, OnErr};
+ghost use Rattle.qs_ranges.specs.Numbers.{MAX_VARINT};
+ghost use Rattle.qs_send.specs.Lane.{Sending, sent_lane, bytes_of, after_blocked};
+ghost use Rattle.qs_send.specs.Chunks.{IsDueChunk, IsHeldByRoom, HasBytes};
+ghost use Rattle.qs_conn.specs.Tables.{lookup, updated};
+ghost use Rattle.qs_conn.specs.Layers.{or_none};
+ghost use Rattle.qs_conn.specs.Outgoing.{on_lane, sent_sum, chunk_put, item_put_out, HasSending, ChunkFound, MayTell, IsIdle, AreBelow, halves_told, with_pending};
+
+use super::Outbox;
+use crate::send_tables::SendTables;
+use qs_ranges::NoMemory;
+use qs_send::{Chunk, Item, Piece, Records};
+use qs_wire::StreamId;
+use std::mem;
+
+impl Outbox {
+    /// Makes room for a packet of so many pieces. Nothing else changes.
+    pub(crate) fn begin(&mut self, count: usize) -> Result<(), NoMemory>
+        ensures ok { OnOk result (self.new ≡ record self.old { spare = count }) }
+        ensures err { OnErr result (self.new ≡ self.old) }
+    {
+        let _next = self.next;
+        self.records.make_room()?;
+        self.pending.reserve(count)?;
+        self.spare = count;
+        Ok(())
+    }
+
+    /// The longest chunk of an open stream that may go out in a frame of at most `room` bytes, with `fresh` bytes of credit.
+    pub(crate) fn next_chunk(&self, stream: StreamId, room: usize, fresh: u64) -> Option<Chunk>
+        requires { is_some (lookup self.now.sends stream) ≡ true }
+        ensures { (s : Sending) × HasSending self.now stream s × ChunkFound s room fresh result }
+    {
+        let _next = self.next;
+        let half = self.sends.get(stream);
+        half.is_lawful();
+        half.next_chunk(room, fresh)
+    }
+
+    /// Whether the room alone holds a chunk of an open stream back.
+    pub(crate) fn is_held_by_room(&self, stream: StreamId, room: usize, fresh: u64) -> bool
+        requires { is_some (lookup self.now.sends stream) ≡ true }
+        ensures { (s : Sending) × HasSending self.now stream s × (IsTrue result ↔ IsHeldByRoom s room fresh) }
+    {
+        let _next = self.next;
+        let half = self.sends.get(stream);
+        half.is_lawful();
+        half.is_held_by_room(room, fresh)
+    }
+
+    /// The bytes of a chunk that is still in the buffer.
+    pub(crate) fn bytes(&self, stream: StreamId, chunk: Chunk) -> &[u8]
+        requires open { is_some (lookup self.now.sends stream) ≡ true }
+        requires kept { HasBytes (or_none (lookup self.now.sends stream)) chunk }
+        ensures bytes { result.now ≡ bytes_of (or_none (lookup self.now.sends stream)) chunk }
+        ensures len { length result.now ≡ chunk.len }
+    {
+        self.sends.get(stream).bytes(chunk)
+    }
+
+    /// The chunk stands in the packet in the making.
+    pub(crate) fn put_chunk(&mut self, stream: StreamId, chunk: Chunk)
+        requires spare { 0 < self.old.spare }
+        requires due { (s : Sending) × HasSending self.old stream s × IsDueChunk s chunk }
+        requires small { sent_sum (on_lane stream (λ l. sent_lane l chunk) self.old).sends ≤ MAX_VARINT }
+        ensures { self.new ≡ chunk_put stream chunk self.old }
+    {
+        let half = self.sends.get(stream);
+        half.is_lawful();
+        let before = half.sent_end();
+        self.sends.sent(stream, chunk);
+        let after = self.sends.get(stream).sent_end();
+        self.sent = self.sent - before + after;
+        hold(&mut self.pending, Piece::Data { stream, chunk });
+        self.spare -= 1;
+    }
+
+    /// The item stands in the packet in the making.
+    pub(crate) fn put_item(&mut self, item: Item)
+        requires spare { 0 < self.old.spare }
+        requires may { MayTell self.old.sends item }
+        ensures { self.new ≡ item_put_out item self.old }
+    {
+        let _next = self.next;
+        note_told(&mut self.sends, &item);
+        hold(&mut self.pending, Piece::Told(item));
+        self.spare -= 1;
+    }
+
+    /// The packet is made, and the next one has the next number.
+    pub(crate) fn commit(&mut self)
+        requires { self.old.next ≤ MAX_VARINT }
+        ensures after { self.new ≡ record self.old { next = self.old.next + 1; spare = 0 } }
+        ensures idle { IsIdle self.new }
+    {
+        let pieces = mem::replace(&mut self.pending, Vec::new(self.alloc));
+        put_pieces(&mut self.records, self.next, pieces);
+        self.next += 1;
+        self.spare = 0;
+    }
+}
+
+// That a STREAM_DATA_BLOCKED was sent is marked in its half.
+fn note_told(sends: &mut SendTables, item: &Item)
+    ensures { sends.new ≡ halves_told item.now sends.old }
+{
+    if let Item::StreamDataBlocked { stream, .. } = *item {
+        note_blocked(sends, stream);
+    }
+}
+
+fn note_blocked(sends: &mut SendTables, stream: StreamId)
+    ensures { sends.new ≡ updated sends.old stream after_blocked (lookup sends.old stream) }
+{
+    if sends.is_open(stream) {
+        sends.note_blocked(stream);
+    }
+}
+
+// The pieces of a packet are kept, where it has some, and no more memory than they need.
+fn put_pieces(records: &mut Records, number: u64, mut pieces: Vec<Piece>)
+    requires ready { 0 < length pieces.items → records.old.ready ≡ true }
+    requires above { AreBelow records.old.pieces number }
+    ensures { records.new.pieces ≡ with_pending records.old.pieces number pieces.items }
+{
+    if pieces.len() > 0 {
+        pieces.shrink_to_fit();
+        records.put(number, pieces);
+    }
+}
+
+// One piece more, for which there is memory.
+fn hold(pending: &mut Vec<Piece>, piece: Piece)
+    requires { vec_len pending.old < vec_capacity pending.old }
+    ensures items { pending.new.items ≡ pending.old.items ++ piece ∷ [] }
+    ensures room { vec_capacity pending.old - vec_len pending.old ≤ vec_capacity pending.new - vec_len pending.new + 1 }
+{
+    let _ = match piece {
+        Piece::Data { stream, chunk } => pending.push(Piece::Data { stream, chunk }),
+        Piece::Told(item) => pending.push(Piece::Told(item)),
+    };
+}

@@ -1,0 +1,118 @@
+//! What an end has to tell of its sending side.
+ghost use Rattle.std.specs.Prelude.{◌≡◌, ◌≤◌, ◌^◌, ◌↔◌, IsTrue, ℕ, IfSome, IfNone};
+ghost use Rattle.qs_ranges.specs.Numbers.{MAX_VARINT};
+ghost use Rattle.qs_send.specs.declared.piece.Piece.TheVariants as pieces;
+ghost use Rattle.qs_conn.specs.Tables.{lookup};
+ghost use Rattle.qs_conn.specs.Layers.{or_none};
+ghost use Rattle.qs_conn.specs.Marks.{IsBefore, IsQuietAt};
+ghost use Rattle.qs_conn.specs.Outgoing.{IsCarried, IsAckedOut, IsAckedReset, IsBlockedAt, WantsMore, reset_by};
+
+use super::Outbox;
+use qs_send::{Item, Piece, Reset, SendState};
+use qs_wire::StreamId;
+
+impl Outbox {
+    /// Whether an outstanding packet told the item with this value.
+    pub(crate) fn tells(&self, item: Item) -> bool
+        ensures { IsTrue result ↔ IsCarried self.now.outstanding (pieces.Told item) }
+    {
+        let _next = self.next;
+        let piece = Piece::Told(item);
+        if self.records.holds(piece) {
+            return true;
+        }
+        self.pending.contains(&piece)
+    }
+
+    /// Whether an acknowledged packet told the item with this value.
+    pub(crate) fn is_acked(&self, item: Item) -> bool
+        ensures { IsTrue result ↔ IsAckedOut self.now item }
+    {
+        if let Item::ResetStream { stream, .. } = item {
+            return self.is_reset_acked(stream);
+        }
+        self.told.is_acked(item)
+    }
+
+    fn is_reset_acked(&self, stream: StreamId) -> bool
+        ensures { IsTrue result ↔ IsAckedReset (lookup self.now.sends stream) }
+    {
+        if !self.sends.is_open(stream) {
+            return false;
+        }
+        matches!(self.sends.get(stream).state(), SendState::ResetRecvd)
+    }
+
+    /// The reset of a stream. A frame can tell it.
+    pub(crate) fn reset_of(&self, stream: StreamId) -> Option<Reset>
+        ensures value { result ≡ (or_none (lookup self.now.sends stream)).was_reset }
+        ensures small { IfSome result (λ r. (r.code ≤ MAX_VARINT) × (r.size ≤ MAX_VARINT)) }
+    {
+        if !self.sends.is_open(stream) {
+            return None;
+        }
+        let half = self.sends.get(stream);
+        reset_by(half.reset_code(), half.final_size())
+    }
+
+    /// The limit at which a stream is blocked. A frame can tell it.
+    pub(crate) fn blocked_at(&self, stream: StreamId) -> Option<u64>
+        ensures found { IfSome result (IsBlockedAt (lookup self.now.sends stream)) }
+        ensures none { IfNone result ((m : ℕ) → IsBlockedAt (lookup self.now.sends stream) m → ⊥) }
+        ensures small { IfSome result (λ limit. limit ≤ MAX_VARINT) }
+    {
+        if !self.sends.is_open(stream) {
+            return None;
+        }
+        let half = self.sends.get(stream);
+        if let Some(_code) = half.reset_code() {
+            return None;
+        }
+        let limit = half.limit();
+        if half.written() <= limit {
+            return None;
+        }
+        if half.sent_end() != limit {
+            return None;
+        }
+        Some(limit)
+    }
+
+    /// Whether a stream has bytes that only the connection's credit holds back.
+    pub(crate) fn wants_more(&self, stream: StreamId) -> bool
+        ensures { IsTrue result ↔ WantsMore (lookup self.now.sends stream) }
+    {
+        if !self.sends.is_open(stream) {
+            return false;
+        }
+        let half = self.sends.get(stream);
+        if let Some(_code) = half.reset_code() {
+            return false;
+        }
+        half.sent_end() < half.written().min(half.limit())
+    }
+
+    /// The least number from one on of a stream that may have something to send. The streams between have nothing.
+    pub(crate) fn next_marked(&self, from: u64) -> Option<StreamId>
+        requires { from ≤ 2 ^ 62 }
+        ensures from { IfSome result (λ n. from ≤ n) }
+        ensures quiet { (n : ℕ) → from ≤ n → IsBefore n result → IsQuietAt self.now n }
+    {
+        let _next = self.next;
+        self.sends.next_marked(from)
+    }
+}
+
+// A reset, where it has a code.
+fn reset_by(code: Option<u64>, size: Option<u64>) -> Option<Reset>
+    requires code { IfSome code (λ n. n ≤ MAX_VARINT) }
+    requires size { IfSome size (λ n. n ≤ MAX_VARINT) }
+    ensures value { result ≡ reset_by code size }
+    ensures small { IfSome result (λ r. (r.code ≤ MAX_VARINT) × (r.size ≤ MAX_VARINT)) }
+{
+    match (code, size) {
+        (Some(code), Some(size)) => Some(Reset { code, size }),
+        (Some(_), None) => None,
+        (None, _) => None,
+    }
+}

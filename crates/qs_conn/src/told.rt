@@ -1,0 +1,136 @@
+//! What was acknowledged of control items.
+ghost use Rattle.std.specs.Prelude.{◌≡◌, ◌↔◌, ◌<◌, IsTrue, OnOk, OnErr, Some};
+ghost use Rattle.std.specs.FinSet as set;
+ghost use Rattle.qs_conn.specs.Ends.{no_items};
+ghost use Rattle.qs_conn.specs.FrameStep.{greatest};
+ghost use Rattle.qs_conn.specs.Told.{item_noted, IsNoted};
+
+use crate::stream_values::StreamValues;
+use qs_ranges::{NoMemory, RangeSet};
+use qs_send::Item;
+use qs_wire::{Dir, StreamId};
+use std::alloc::Global;
+use std::marker::Model;
+
+/// The greatest acknowledged value of each control item. Of a reset the stream's sending half tells it.
+#[derive(Drop)]
+pub(crate) struct ToldItems {
+    max_data: Option<u64>,
+    max_stream_data: StreamValues,
+    stop_sending: RangeSet,
+    data_blocked: Option<u64>,
+    stream_data_blocked: StreamValues,
+    bidi_blocked: Option<u64>,
+    uni_blocked: Option<u64>,
+}
+
+impl Model for ToldItems {
+    ghost use Rattle.qs_conn.specs.Ends.{AckedItems};
+    ghost use Rattle.qs_conn.specs.EndCodes.{acked_code};
+
+    ghost Value = { AckedItems };
+
+    ghost coded = { acked_code };
+
+    ghost view = { λ t. record {
+      max_data = t.max_data;
+      max_stream_data = t.max_stream_data;
+      stop_sending = t.stop_sending;
+      data_blocked = t.data_blocked;
+      stream_data_blocked = t.stream_data_blocked;
+      bidi_blocked = t.bidi_blocked;
+      uni_blocked = t.uni_blocked;
+    } };
+}
+
+impl ToldItems {
+    /// Nothing was acknowledged. It takes no memory.
+    pub(crate) fn new(alloc: Global) -> Self
+        ensures { result ≡ no_items }
+    {
+        ToldItems {
+            max_data: None,
+            max_stream_data: StreamValues::new(alloc),
+            stop_sending: RangeSet::new(alloc),
+            data_blocked: None,
+            stream_data_blocked: StreamValues::new(alloc),
+            bidi_blocked: None,
+            uni_blocked: None,
+        }
+    }
+
+    /// A packet that told the item was acknowledged.
+    pub(crate) fn note(&mut self, item: Item) -> Result<(), NoMemory>
+        ensures ok { OnOk result (self.new ≡ item_noted item self.old) }
+        ensures err { OnErr result (self.new ≡ self.old) }
+    {
+        match item {
+            Item::MaxData { maximum } => {
+                raise(&mut self.max_data, maximum);
+                Ok(())
+            }
+            Item::MaxStreamData { stream, maximum } => {
+                self.max_stream_data.raise(stream, maximum)
+            }
+            Item::MaxStreams { .. } => Ok(()),
+            Item::ResetStream { .. } => Ok(()),
+            Item::StopSending { stream, .. } => add(&mut self.stop_sending, stream),
+            Item::DataBlocked { limit } => {
+                raise(&mut self.data_blocked, limit);
+                Ok(())
+            }
+            Item::StreamDataBlocked { stream, limit } => {
+                self.stream_data_blocked.raise(stream, limit)
+            }
+            Item::StreamsBlocked { dir, count } => {
+                match dir {
+                    Dir::Bidi => raise(&mut self.bidi_blocked, count),
+                    Dir::Uni => raise(&mut self.uni_blocked, count),
+                }
+                Ok(())
+            }
+        }
+    }
+
+    /// Whether a packet that told the item with this value was acknowledged, of any item but a reset.
+    pub(crate) fn is_acked(&self, item: Item) -> bool
+        ensures { IsTrue result ↔ IsNoted self.now item }
+    {
+        match item {
+            Item::MaxData { maximum } => self.max_data == Some(maximum),
+            Item::MaxStreamData { stream, maximum } => {
+                self.max_stream_data.is_greatest(stream, maximum)
+            }
+            Item::MaxStreams { .. } => false,
+            Item::ResetStream { .. } => false,
+            Item::StopSending { stream, .. } => self.stop_sending.has(stream.value()),
+            Item::DataBlocked { limit } => self.data_blocked == Some(limit),
+            Item::StreamDataBlocked { stream, limit } => {
+                self.stream_data_blocked.is_greatest(stream, limit)
+            }
+            Item::StreamsBlocked { dir, count } => match dir {
+                Dir::Bidi => self.bidi_blocked == Some(count),
+                Dir::Uni => self.uni_blocked == Some(count),
+            },
+        }
+    }
+}
+
+// Keeps the value, where it is greater than the one known.
+fn raise(known: &mut Option<u64>, value: u64)
+    ensures { known.new ≡ greatest known.old value }
+{
+    *known = match *known {
+        Some(before) => Some(before.max(value)),
+        None => Some(value),
+    };
+}
+
+// Adds the stream's number.
+fn add(streams: &mut RangeSet, stream: StreamId) -> Result<(), NoMemory>
+    ensures ok { OnOk result (streams.new ≡ set.insert streams.old stream) }
+    ensures err { OnErr result (streams.new ≡ streams.old) }
+{
+    let number = stream.value();
+    streams.insert(number, number + 1)
+}
