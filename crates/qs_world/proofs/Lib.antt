@@ -1,5 +1,10 @@
 pub mod Examples
+pub mod LogCopies
+pub mod LaneLists
 pub mod ScriptLines
+pub mod DrawSteps
+pub mod DrawnPackets
+pub mod DrawnRuns
 mod Lists
 pub mod Members
 pub mod Tables
@@ -33,3 +38,7 @@ pub mod Clauses
 pub mod Statements
 pub mod Lasting
 pub mod Stays
+pub mod OneMore
+pub mod Places
+pub mod Sides
+pub mod PlayedRuns

@@ -1,9 +1,15 @@
 pub mod Events
 pub mod Scripts
+pub mod Draws
+pub mod Randoms
 pub mod Worlds
 pub mod Logs
 pub mod Agree
 pub mod Reports
+pub mod LaneLists
+pub mod Plays
+pub mod Places
+pub mod Buffers
 pub mod PlayText
 pub mod Examples
 pub mod Pasts

@@ -2,20 +2,29 @@
 #![tactic(auto)]
 
 mod answer;
+mod copies;
+mod draws;
 mod event;
 pub mod laws;
+mod playing;
+mod random;
 mod report;
+mod reporting;
 mod script;
+mod world;
 
 pub use answer::Answer;
 pub use event::{Act, Event, Side};
+pub use playing::play;
 pub use qs_conn::{
     Closing, LostFault, Made, MakeFault, OpenFault, Received, Settings, SetupFault, UseFault,
 };
 pub use qs_recv::Read;
 pub use qs_wire::{Dir, StreamId};
+pub use random::{random_script, standard_settings};
 pub use report::{EndTotals, LaneTotals, PlayFault, Report};
 pub use script::{Reason, ScriptFault, parse_script};
+pub use world::World;
 
 #[cfg(test)]
 mod tests;

@@ -1,11 +1,15 @@
 //! Which events fit; and what an endpoint does, whose tests stand here since they would cost more beside its proofs.
 
+mod draws;
 mod ends;
 mod every_payload;
 mod owners;
+mod packets;
 mod payloads;
+mod plays;
+mod rows;
 mod script;
-mod steps;
+mod settings;
 
 use crate::{Act, Dir, Event, Side, StreamId};
 use std::test::Fail;

@@ -1,5 +1,11 @@
-//! Ends to begin with, and calls of them.
-use crate::{Closing, Read, Received, Settings, SetupFault, StreamId, UseFault};
+//! Ends to begin with, and calls of them. A call that found no memory is made once more, so that the tests pass with each allocation
+//! refused in turn.
+
+ghost use Rattle.std.specs.Prelude.{◌<◌, ◌^◌};
+
+use crate::{
+    Closing, Dir, LostFault, Made, MakeFault, OpenFault, Received, Settings, StreamId, UseFault,
+};
 use qs_conn::{Endpoint, PeerLimits};
 use qs_wire::Role;
 use std::alloc::Global;
@@ -26,61 +32,53 @@ pub(super) const USUAL_PEER: PeerLimits = PeerLimits {
     streams_uni: 8,
 };
 
-/// An end of that role.
-pub(super) fn end(
-    alloc: Global,
-    role: Role,
-    settings: Settings,
-    peer: PeerLimits,
-) -> Result<Endpoint, SetupFault> {
-    Endpoint::new(alloc, role, settings, peer)
-}
-
 /// A server that grants so much.
 pub(super) fn server(alloc: Global, settings: Settings) -> Result<Endpoint, Fail> {
-    Ok(end(alloc, Role::Server, settings, USUAL_PEER)?)
+    Ok(Endpoint::new(alloc, Role::Server, settings, USUAL_PEER)?)
 }
 
-/// A client whose peer grants so much.
-pub(super) fn client(alloc: Global, peer: PeerLimits) -> Result<Endpoint, Fail> {
-    Ok(end(alloc, Role::Client, USUAL, peer)?)
-}
-
-/// The stream of a number.
-pub(super) fn id(number: u32) -> StreamId {
-    match StreamId::new(u64::from(number)) {
-        Some(id) => id,
-        None => unreachable!(),
-    }
-}
-
-/// A payload that found no memory comes again, which finishes the work.
-pub(super) fn receive(
-    end: &mut Endpoint,
-    number: u32,
-    payload: &[u8],
-) -> Result<Received, Closing> {
-    let first = end.receive(u64::from(number), payload);
+pub(super) fn receive(end: &mut Endpoint, number: u64, payload: &[u8]) -> Result<Received, Closing>
+    requires { number < 2 ^ 62 }
+{
+    let first = end.receive(number, payload);
     if first == Ok(Received::NoMemory) {
-        return end.receive(u64::from(number), payload);
+        return end.receive(number, payload);
     }
     first
 }
 
-/// Whether reading up to so many bytes answers so and gives those bytes.
-pub(super) fn read(
-    end: &mut Endpoint,
-    stream: u32,
-    size: usize,
-    answer: Result<Read, UseFault>,
-    expected: &[u8],
-) -> bool {
-    let mut bytes = [0u8; 64];
-    match bytes.get_mut(..size) {
-        Some(into) => {
-            let found = end.read(id(stream), into);
-            found == answer && into.starts_with(expected)
-        }
-        None => false,
+/// A packet that fills no more than the slice. A slice that no packet may have answers nothing.
+pub(super) fn make(end: &mut Endpoint, out: &mut [u8]) -> Result<Option<Made>, MakeFault> {
+    if out.len() < 128 || out.len() > 16_383 {
+        return Err(MakeFault::Exhausted);
     }
+    let first = end.make_packet(out);
+    if first == Err(MakeFault::NoMemory) {
+        return end.make_packet(out);
+    }
+    first
+}
+
+pub(super) fn lose(end: &mut Endpoint, number: u64) -> Result<(), LostFault> {
+    let first = end.declare_lost(number);
+    if first == Err(LostFault::NoMemory) {
+        return end.declare_lost(number);
+    }
+    first
+}
+
+pub(super) fn open(end: &mut Endpoint, dir: Dir) -> Result<StreamId, OpenFault> {
+    let first = end.open(dir);
+    if first == Err(OpenFault::NoMemory) {
+        return end.open(dir);
+    }
+    first
+}
+
+pub(super) fn write(end: &mut Endpoint, stream: StreamId, bytes: &[u8]) -> Result<usize, UseFault> {
+    let first = end.write(stream, bytes);
+    if first == Err(UseFault::NoMemory) {
+        return end.write(stream, bytes);
+    }
+    first
 }

@@ -1,237 +1,188 @@
 //! What an end's owner does with its streams.
-use super::ends::{USUAL, USUAL_PEER, client, end, server};
-use super::steps::{DONE, Step, closes, played};
-use crate::{Dir, OpenFault, Read, Settings, SetupFault, UseFault};
-use qs_conn::{PeerLimits, SendReport};
-use qs_send::SendState;
-use qs_wire::Role;
-use std::alloc::Global;
+use super::rows::play_rows;
 use std::test::Fail;
-
-fn setup_fault(alloc: Global, settings: Settings, peer: PeerLimits) -> Option<SetupFault> {
-    match end(alloc, Role::Client, settings, peer) {
-        Ok(_end) => None,
-        Err(fault) => Some(fault),
-    }
-}
 
 // The own settings are looked at first.
 #[test]
 fn ends_need_settings_in_their_ranges(rt: HostRuntime) -> Result<(), Fail> {
-    let none = Settings { uni: 0, ..USUAL };
-    let wide = Settings {
-        conn_window: 16_777_217,
-        ..USUAL
-    };
-    let many = PeerLimits {
-        streams_uni: (1 << 60) + 1,
-        ..USUAL_PEER
-    };
-    let large = PeerLimits {
-        max_data: 1 << 62,
-        ..USUAL_PEER
-    };
-    let nothing = PeerLimits {
-        max_data: 0,
-        bidi_local: 0,
-        bidi_remote: 0,
-        uni: 0,
-        streams_bidi: 0,
-        streams_uni: 0,
-    };
-    let out = Some(SetupFault::OutOfRange);
-    assert_eq!(rt; setup_fault(rt.alloc(), none, USUAL_PEER), out);
-    assert_eq!(rt; setup_fault(rt.alloc(), wide, USUAL_PEER), out);
-    assert_eq!(rt; setup_fault(rt.alloc(), USUAL, large), out);
-    assert_eq!(rt;
-        setup_fault(rt.alloc(), USUAL, many),
-        Some(SetupFault::TooManyStreams)
-    );
-    assert_eq!(rt; setup_fault(rt.alloc(), none, many), out);
-    assert_eq!(rt; setup_fault(rt.alloc(), USUAL, nothing), None);
-    Ok(())
+    play_rows(rt.alloc(), b"client uni=0 -> out-of-range")?;
+    play_rows(rt.alloc(), b"client conn_window=16777217 -> out-of-range")?;
+    play_rows(
+        rt.alloc(),
+        b"client peer_max_data=4611686018427387904 -> out-of-range",
+    )?;
+    play_rows(
+        rt.alloc(),
+        b"client peer_streams_uni=1152921504606846977 -> too-many-streams",
+    )?;
+    play_rows(
+        rt.alloc(),
+        b"client uni=0 peer_streams_uni=1152921504606846977 -> out-of-range",
+    )?;
+    play_rows(
+        rt.alloc(),
+        b"client peer_max_data=0 peer_bidi_local=0 peer_bidi_remote=0 peer_uni=0 peer_streams_bidi=0 peer_streams_uni=0 -> made",
+    )
 }
 
 #[test]
 fn the_peer_grants_streams(rt: HostRuntime) -> Result<(), Fail> {
-    let one = PeerLimits {
-        streams_bidi: 1,
-        ..USUAL_PEER
-    };
-    let mut end = client(rt.alloc(), one)?;
-    let steps = [
-        Step::Open(Dir::Bidi, Ok(0)),
-        Step::Open(Dir::Bidi, Err(OpenFault::Blocked(1))),
-        Step::Open(Dir::Uni, Ok(2)),
-        Step::Open(Dir::Uni, Ok(6)),
-        Step::Receive(0, b"\x12\x02", DONE),
-        Step::Open(Dir::Bidi, Ok(4)),
-        Step::Open(Dir::Bidi, Err(OpenFault::Blocked(2))),
-        Step::Accept(None),
-    ];
-    assert_eq!(rt; played(&mut end, &steps)?, steps.len());
-    Ok(())
+    play_rows(
+        rt.alloc(),
+        b"client peer_streams_bidi=1
+          open bidi -> 0
+          open bidi -> blocked 1
+          open uni -> 2
+          open uni -> 6
+          receive 0 1202 -> done
+          open bidi -> 4
+          open bidi -> blocked 2
+          accept -> none",
+    )
 }
 
 // Bidirectional ones first, whichever opened first.
 #[test]
 fn the_peers_streams_are_accepted_once(rt: HostRuntime) -> Result<(), Fail> {
-    let mut end = server(rt.alloc(), USUAL)?;
-    let steps = [
-        Step::Accept(None),
-        Step::Receive(0, b"\x0a\x02\x01a", DONE),
-        Step::Receive(1, b"\x0a\x00\x01b", DONE),
-        Step::Read(2, 16, Ok(Read::Bytes(1)), b"a"),
-        Step::Accept(Some(0)),
-        Step::Accept(Some(2)),
-        Step::Accept(None),
-        Step::Receive(2, b"\x15\x04\x00", DONE),
-        Step::Accept(Some(4)),
-        Step::Receive(3, b"\x11\x08\x05", DONE),
-        Step::Accept(Some(8)),
-    ];
-    assert_eq!(rt; played(&mut end, &steps)?, steps.len());
-    Ok(())
+    play_rows(
+        rt.alloc(),
+        b"server
+          accept -> none
+          receive 0 0a020161 -> done
+          receive 1 0a000162 -> done
+          read 2 16 -> bytes 61
+          accept -> 0
+          accept -> 2
+          accept -> none
+          receive 2 150400 -> done
+          accept -> 4
+          receive 3 110805 -> done
+          accept -> 8",
+    )
 }
 
 #[test]
 fn streams_have_a_direction(rt: HostRuntime) -> Result<(), Fail> {
-    let mut end = client(rt.alloc(), USUAL_PEER)?;
-    let steps = [
-        Step::Write(2, b"a", Err(UseFault::NoSuchStream)),
-        Step::Read(2, 16, Err(UseFault::NoSuchStream), b""),
-        Step::Open(Dir::Uni, Ok(2)),
-        Step::Read(2, 16, Err(UseFault::WrongDirection), b""),
-        Step::Stop(2, 1, Err(UseFault::WrongDirection)),
-        Step::Write(2, b"a", Ok(1)),
-        Step::Receive(0, b"\x0a\x03\x01a", DONE),
-        Step::Write(3, b"a", Err(UseFault::WrongDirection)),
-        Step::Finish(3, Err(UseFault::WrongDirection)),
-        Step::Reset(3, 1, Err(UseFault::WrongDirection)),
-        Step::Read(3, 16, Ok(Read::Bytes(1)), b"a"),
-    ];
-    assert_eq!(rt; played(&mut end, &steps)?, steps.len());
-    Ok(())
-}
-
-fn sending(state: SendState, written: u64, final_size: Option<u64>) -> Option<SendReport> {
-    Some(SendReport {
-        state,
-        written,
-        final_size,
-    })
+    play_rows(
+        rt.alloc(),
+        b"client
+          write 2 61 -> no-such-stream
+          read 2 16 -> no-such-stream
+          open uni -> 2
+          read 2 16 -> wrong-direction
+          stop 2 1 -> wrong-direction
+          write 2 61 -> 1
+          receive 0 0a030161 -> done
+          write 3 61 -> wrong-direction
+          finish 3 -> wrong-direction
+          reset 3 1 -> wrong-direction
+          read 3 16 -> bytes 61",
+    )
 }
 
 #[test]
 fn a_finished_stream_takes_no_bytes(rt: HostRuntime) -> Result<(), Fail> {
-    let mut end = client(rt.alloc(), USUAL_PEER)?;
-    let steps = [
-        Step::Open(Dir::Bidi, Ok(0)),
-        Step::Write(0, b"abc", Ok(3)),
-        Step::Write(0, b"", Ok(0)),
-        Step::Finish(0, Ok(())),
-        Step::Finish(0, Err(UseFault::Finished)),
-        Step::Write(0, b"d", Err(UseFault::Finished)),
-        Step::Sending(0, sending(SendState::Ready, 3, None)),
-        Step::Reset(0, 7, Ok(())),
-        Step::Write(0, b"d", Err(UseFault::WasReset)),
-        Step::Finish(0, Err(UseFault::WasReset)),
-        Step::Reset(0, 8, Err(UseFault::WasReset)),
-    ];
-    assert_eq!(rt; played(&mut end, &steps)?, steps.len());
-    Ok(())
+    play_rows(
+        rt.alloc(),
+        b"client
+          open bidi -> 0
+          write 0 616263 -> 3
+          write 0 - -> 0
+          finish 0 -> ok
+          finish 0 -> finished
+          write 0 64 -> finished
+          sending 0 -> ready written 3 final none
+          reset 0 7 -> ok
+          write 0 64 -> was-reset
+          finish 0 -> was-reset
+          reset 0 8 -> was-reset",
+    )
 }
 
 // A reset declares what was sent, which is nothing here, and not what was written.
 #[test]
 fn a_stop_of_the_peer_resets(rt: HostRuntime) -> Result<(), Fail> {
-    let mut end = client(rt.alloc(), USUAL_PEER)?;
-    let steps = [
-        Step::Open(Dir::Bidi, Ok(0)),
-        Step::Write(0, b"abc", Ok(3)),
-        Step::Receive(0, b"\x05\x00\x07", DONE),
-        Step::Write(0, b"d", Err(UseFault::WasReset)),
-        Step::Sending(0, sending(SendState::ResetSent, 3, Some(0))),
-    ];
-    assert_eq!(rt; played(&mut end, &steps)?, steps.len());
-    Ok(())
+    play_rows(
+        rt.alloc(),
+        b"client
+          open bidi -> 0
+          write 0 616263 -> 3
+          receive 0 050007 -> done
+          write 0 64 -> was-reset
+          sending 0 -> reset-sent written 3 final 0",
+    )
 }
 
 #[test]
 fn a_buffer_takes_what_it_has_room_for(rt: HostRuntime) -> Result<(), Fail> {
-    let small = Settings {
-        send_buffer: 4,
-        ..USUAL
-    };
-    let mut end = server(rt.alloc(), small)?;
-    let steps = [
-        Step::Open(Dir::Uni, Ok(3)),
-        Step::Write(3, b"abcdef", Ok(4)),
-        Step::Write(3, b"ef", Ok(0)),
-        Step::Sending(3, sending(SendState::Ready, 4, None)),
-    ];
-    assert_eq!(rt; played(&mut end, &steps)?, steps.len());
-    Ok(())
+    play_rows(
+        rt.alloc(),
+        b"server send_buffer=4
+          open uni -> 3
+          write 3 616263646566 -> 4
+          write 3 6566 -> 0
+          sending 3 -> ready written 4 final none",
+    )
 }
 
 #[test]
 fn a_slice_without_room_tells_whether_bytes_are_there(rt: HostRuntime) -> Result<(), Fail> {
-    let mut end = server(rt.alloc(), USUAL)?;
-    let steps = [
-        Step::Receive(0, b"\x0a\x00\x02ab", DONE),
-        Step::Read(0, 0, Ok(Read::Bytes(0)), b""),
-        Step::Read(0, 2, Ok(Read::Bytes(2)), b"ab"),
-        Step::Read(0, 0, Ok(Read::Wait), b""),
-    ];
-    assert_eq!(rt; played(&mut end, &steps)?, steps.len());
-    Ok(())
+    play_rows(
+        rt.alloc(),
+        b"server
+          receive 0 0a00026162 -> done
+          read 0 0 -> bytes -
+          read 0 2 -> bytes 6162
+          read 0 0 -> wait",
+    )
 }
 
 // Also where all came already; then the reader is told of the end.
 #[test]
 fn the_first_stop_stays(rt: HostRuntime) -> Result<(), Fail> {
-    let mut end = server(rt.alloc(), USUAL)?;
-    let steps = [
-        Step::Receive(0, b"\x0b\x00\x02ab", DONE),
-        Step::Stop(0, 7, Ok(())),
-        Step::Stop(0, 9, Ok(())),
-        Step::Counts(0, 4096, 2),
-        Step::Read(0, 16, Ok(Read::End), b""),
-        Step::Receive(1, b"\x0a\x04\x02ab", DONE),
-        Step::Stop(4, 7, Ok(())),
-        Step::Stop(4, 9, Ok(())),
-        Step::Read(4, 16, Ok(Read::Wait), b""),
-        Step::Receive(2, b"\x0b\x04\x02ab", DONE),
-        Step::Read(4, 16, Ok(Read::End), b""),
-    ];
-    assert_eq!(rt; played(&mut end, &steps)?, steps.len());
-    Ok(())
+    play_rows(
+        rt.alloc(),
+        b"server
+          receive 0 0b00026162 -> done
+          stop 0 7 -> ok
+          stop 0 9 -> ok
+          stored -> 0
+          granted -> 4096
+          spent -> 2
+          read 0 16 -> end
+          receive 1 0a04026162 -> done
+          stop 4 7 -> ok
+          stop 4 9 -> ok
+          read 4 16 -> wait
+          receive 2 0b04026162 -> done
+          read 4 16 -> end",
+    )
 }
 
 // One payload opens streams and fills several of them. Where memory is refused it comes again, and then all is as if it had come once.
 #[test]
 fn a_payload_without_memory_comes_again(rt: HostRuntime) -> Result<(), Fail> {
-    let mut end = server(rt.alloc(), USUAL)?;
-    let payload = b"\x0a\x08\x03abc\x0e\x08\x05\x02fg\x0a\x0a\x02xy\x0e\x0a\x09\x01z\x0b\x00\x01q";
-    let steps = [
-        Step::Receive(7, payload, DONE),
-        Step::Counts(9, 4096, 18),
-        Step::Receive(7, payload, Ok(crate::Received::Duplicate)),
-        Step::Accept(Some(0)),
-        Step::Accept(Some(4)),
-        Step::Accept(Some(8)),
-        Step::Accept(Some(2)),
-        Step::Accept(Some(6)),
-        Step::Accept(Some(10)),
-        Step::Accept(None),
-        Step::Read(8, 16, Ok(Read::Bytes(3)), b"abc"),
-        Step::Read(10, 16, Ok(Read::Bytes(2)), b"xy"),
-        Step::Read(0, 16, Ok(Read::Bytes(1)), b"q"),
-        Step::Read(0, 16, Ok(Read::End), b""),
-        Step::Receive(8, b"\x0e\x08\x03\x02de", DONE),
-        Step::Read(8, 16, Ok(Read::Bytes(4)), b"defg"),
-        Step::Receive(9, b"\x0b\x00\x02qr", closes(6, 0x0b, 0)),
-    ];
-    assert_eq!(rt; played(&mut end, &steps)?, steps.len());
-    Ok(())
+    play_rows(
+        rt.alloc(),
+        b"server
+          receive 7 0a08036162630e08050266670a0a0278790e0a09017a0b000171 -> done
+          stored -> 9
+          granted -> 4096
+          spent -> 18
+          receive 7 0a08036162630e08050266670a0a0278790e0a09017a0b000171 -> duplicate
+          accept -> 0
+          accept -> 4
+          accept -> 8
+          accept -> 2
+          accept -> 6
+          accept -> 10
+          accept -> none
+          read 8 16 -> bytes 616263
+          read 10 16 -> bytes 7879
+          read 0 16 -> bytes 71
+          read 0 16 -> end
+          receive 8 0e0803026465 -> done
+          read 8 16 -> bytes 64656667
+          receive 9 0b00027172 -> closing 06 0b 0",
+    )
 }

@@ -1,0 +1,33 @@
+//! Settings as limits told to the peer, and the code of each fault of setting up.
+use qs_conn::{PeerLimits, Settings, SetupFault};
+use std::test::Fail;
+
+#[test]
+fn settings_are_told_by_name(rt: HostRuntime) -> Result<(), Fail> {
+    let settings = Settings {
+        conn_window: 4096,
+        bidi_local: 1,
+        bidi_remote: 2,
+        uni: 3,
+        send_buffer: 2048,
+        grant_bidi: 8,
+        grant_uni: 9,
+    };
+    let told = PeerLimits {
+        max_data: 4096,
+        bidi_local: 1,
+        bidi_remote: 2,
+        uni: 3,
+        streams_bidi: 8,
+        streams_uni: 9,
+    };
+    assert_eq!(rt; settings.limits(), told);
+    Ok(())
+}
+
+#[test]
+fn only_the_peers_fault_has_a_code(rt: HostRuntime) -> Result<(), Fail> {
+    assert_eq!(rt; SetupFault::OutOfRange.code(), None);
+    assert_eq!(rt; SetupFault::TooManyStreams.code(), Some(8));
+    Ok(())
+}

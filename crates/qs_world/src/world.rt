@@ -1,0 +1,142 @@
+//! Two ends, and what happened to them.
+ghost use Rattle.std.specs.Prelude.{◌≡◌, length, reverse, true, Some, None, IfSome, IfNone, IfOk, IfErr};
+ghost use Rattle.qs_world.specs.Events.{fits};
+ghost use Rattle.qs_world.specs.Logs.{made, payload};
+ghost use Rattle.qs_world.specs.Worlds.{world_made};
+ghost use Rattle.qs_world.specs.Reports.{IsReport};
+ghost use Rattle.qs_world.specs.Plays.{begun, PlayStep, HasAgreed, IsReportOf};
+ghost use Rattle.qs_world.specs.declared.report.PlayFault.TheVariants.{NoMemory};
+
+use crate::answer::Answer;
+use crate::event::{Event, Side};
+use crate::report::{PlayFault, Report};
+use crate::reporting::{all_lanes, end_totals, report_of};
+use calls::{room_of, twin};
+use happening::{buffer_of, happen, is_missing};
+use log::Log;
+use qs_conn::{Endpoint, Settings, SetupFault};
+use qs_wire::Role;
+use std::alloc::Global;
+use std::marker::Model;
+
+mod calls;
+mod happening;
+mod log;
+
+/// Two ends, each made with the other's limits, and the log of what happened to them.
+///
+/// Contracts see the log, the newest first, and the two ends.
+#[derive(Drop)]
+pub struct World {
+    alloc: Global,
+    a: Endpoint,
+    b: Endpoint,
+    log: Log,
+}
+
+impl Model for World {
+    ghost use Rattle.qs_world.specs.Plays.{Played, HasAgreed, played_code};
+    ghost use Rattle.qs_world.specs.contracts.event.Event as event;
+    ghost use Rattle.qs_world.specs.contracts.answer.Answer as answer;
+
+    ghost Value = { Played };
+
+    ghost coded = { played_code event.the_row.coded answer.the_row.coded };
+
+    ghost view = { λ w. record { log = w.log.history; ends = record { a = w.a; b = w.b } } };
+
+    ghost invariant = { λ w. HasAgreed (record { log = w.log.history; ends = record { a = w.a; b = w.b } }) };
+}
+
+impl World {
+    /// Two new ends, A the client, each told the other's limits. It takes no memory.
+    ///
+    /// Refused as [`Endpoint::new`] is, A first.
+    pub fn new(alloc: Global, a: Settings, b: Settings) -> Result<World, SetupFault>
+        ensures made { result ≡ begun (world_made a b) }
+    {
+        let client = Endpoint::new(alloc, Role::Client, a, b.limits())?;
+        let server = Endpoint::new(alloc, Role::Server, b, a.limits())?;
+        Ok(World {
+            alloc,
+            a: client,
+            b: server,
+            log: Log::new(alloc),
+        })
+    }
+
+    /// One event happens, and is logged with its answer. A refusal of memory by an end is an answer.
+    ///
+    /// Refused, and then nothing changed: `NoSuchPacket` where a packet is to be delivered that its end hasn't made, with one more than
+    /// the events so far; and `NoMemory` where the log found none.
+    pub fn step(&mut self, event: Event) -> Result<Answer, PlayFault>
+        requires { fits event ≡ true }
+        ensures step { PlayStep self.old event result self.new }
+        ensures agrees { HasAgreed self.new }
+    {
+        if is_missing(&self.log, &event) {
+            return Err(PlayFault::NoSuchPacket {
+                event: self.log.len() + 1,
+            });
+        }
+        let size = room_of(&event.act);
+        let Ok(buffer) = buffer_of(self.alloc, size) else {
+            return Err(PlayFault::NoMemory);
+        };
+        let Ok(spare) = buffer_of(self.alloc, size) else {
+            return Err(PlayFault::NoMemory);
+        };
+        if let Err(_refused) = self.log.make_room() {
+            return Err(PlayFault::NoMemory);
+        }
+        let answer = happen(&self.log, &mut self.a, &mut self.b, &event, buffer);
+        let again = twin(&answer, spare);
+        self.log.push(event, answer);
+        Ok(again)
+    }
+
+    /// How many packets an end has made. Their numbers begin at 0.
+    pub fn made(&self, end: Side) -> u64
+        ensures { result ≡ length (made end self.now.log) }
+    {
+        self.log.made(end)
+    }
+
+    /// The payload of a packet that the end made.
+    pub fn payload(&self, end: Side, number: u64) -> Option<&[u8]>
+        ensures found { IfSome result (λ text. payload end number self.now.log ≡ Some text.now) }
+        ensures none { IfNone result (payload end number self.now.log ≡ None) }
+    {
+        self.log.payload(end, number)
+    }
+
+    /// What happened, each stream that either end opened, and the credit of both ends. The world stays.
+    pub fn report(&self) -> Result<Report, PlayFault>
+        ensures ok { IfOk result (IsReportOf self.now) }
+        ensures err { IfErr result (λ fault. fault ≡ NoMemory) }
+    {
+        report_of(self.alloc, self.log.entries(), &self.a, &self.b)
+    }
+
+    /// The same report, with the log itself in place of a copy.
+    pub(crate) fn into_report(self) -> Result<Report, PlayFault>
+        ensures ok { IfOk result (IsReport self.log self.ends) }
+        ensures err { IfErr result (λ fault. fault ≡ NoMemory) }
+    {
+        let Ok(lanes) = all_lanes(self.alloc, &self.a, &self.b) else {
+            return Err(PlayFault::NoMemory);
+        };
+        Ok(Report {
+            ends: [end_totals(&self.a), end_totals(&self.b)],
+            log: self.log.into_entries(),
+            lanes,
+        })
+    }
+
+    /// What happened, in order.
+    pub(crate) fn into_log(self) -> Vec<(Event, Answer)>
+        ensures { result.items ≡ reverse self.log }
+    {
+        self.log.into_entries()
+    }
+}
