@@ -1,8 +1,22 @@
 -- What a run of the program answers and writes.
-use Rattle.std.specs.Prelude.{◌≡◌, ℕ, List, length, ◌≤◌, Option, Some, None, Result, Ok, is_some, true, false, ⊤}
+use Rattle.std.specs.Prelude.{◌≡◌, ℕ, List, ◌++◌, codes, decimal, length, ◌≤◌, ◌⊎◌, Option, Some, None, Result, Ok, Err, is_some, true, false, ⊤}
 use Rattle.std.specs.Io.KnownBytes.{Appends}
+use Rattle.std.specs.List.{list_all}
 use Rattle.hex.specs.Hex.{decode_of}
 use Rattle.qs_wire.specs.Reading.{Reading, reading_of}
+use Rattle.qs_conn.specs.declared.settings.Settings.{Settings}
+use Rattle.qs_conn.specs.Examples.{standard}
+use Rattle.qs_world.specs.declared.event.Event.{Event}
+use Rattle.qs_world.specs.declared.report.Report.{Report}
+use Rattle.qs_world.specs.declared.report.PlayFault.TheVariants.{NoSuchPacket}
+use Rattle.qs_world.specs.declared.script.Reason.{Reason}
+use Rattle.qs_world.specs.declared.script.Reason.TheVariants.{NoMemory}
+use Rattle.qs_world.specs.declared.script.ScriptFault.{ScriptFault}
+use Rattle.qs_world.specs.Events.{fits}
+use Rattle.qs_world.specs.Scripts.{lines_of, reason_number}
+use Rattle.qs_world.specs.Plays.{PlayOf}
+use Rattle.qs_world.specs.Randoms.{IsRandomScript, seeded}
+use Rattle.qs_world.specs.PlayText.{play_text, script_text}
 use Rattle.qs_tool.specs.declared.status.Status.{Status}
 use Rattle.qs_tool.specs.declared.status.Status.TheVariants.{Success, FaultShown, BadUsage, Failed}
 use Rattle.qs_tool.specs.FrameText.{payload_text}
@@ -26,3 +40,49 @@ AnswersFrames FaultShown word old new =
     (payload : List ℕ) × SpellsPayload word payload × (is_some (reading_of payload).fault ≡ true) × Appends old new (payload_text payload)
 AnswersFrames BadUsage word old new = ((payload : List ℕ) → SpellsPayload word payload → ⊥) × (new ≡ old)
 AnswersFrames Failed word old new = ⊤
+
+-- the line that names the first event whose packet wasn't made
+abbrev pub missing_line : ℕ → List ℕ
+missing_line event = codes "fault: no such packet at event " ++ decimal event ++ codes "\n"
+
+-- the line that names the first line of a script that is no event, and why it is none
+abbrev pub script_fault_line : ScriptFault → List ℕ
+script_fault_line fault = codes "fault: line " ++ decimal fault.line ++ codes " reason " ++ decimal (reason_number fault.reason) ++ codes "\n"
+
+-- The text of a report of the events that were played was written, or the line that names a packet that wasn't made; where memory or the
+-- writer failed nothing is said.
+abbrev pub AnswersEvents : Status → Settings → List Event → Option (List ℕ) → Option (List ℕ) → Type 0
+AnswersEvents Success s events old new = (report : Report) × PlayOf s s events (Ok report) × Appends old new (play_text report)
+AnswersEvents FaultShown s events old new = (k : ℕ) × PlayOf s s events (Err (NoSuchPacket k)) × Appends old new (missing_line k)
+AnswersEvents BadUsage s events old new = ⊥
+AnswersEvents Failed s events old new = ⊤
+
+-- what playing some events that fit between two ends of the standard settings answers
+abbrev pub AnswersSome : Status → Option (List ℕ) → Option (List ℕ) → Type 0
+AnswersSome status old new = (events : List Event) × (list_all fits events ≡ true) × AnswersEvents status standard events old new
+
+-- the fault of a script was named, which isn't want of memory
+abbrev pub ShowsScriptFault : Status → ScriptFault → Option (List ℕ) → Option (List ℕ) → Type 0
+ShowsScriptFault Success fault old new = ⊥
+ShowsScriptFault FaultShown fault old new = (fault.reason ≡ NoMemory → ⊥) × Appends old new (script_fault_line fault)
+ShowsScriptFault BadUsage fault old new = ⊥
+ShowsScriptFault Failed fault old new = ⊤
+
+-- the line is one of the script's, counted from 1
+abbrev pub IsLineOf : List ℕ → ℕ → Type 0
+IsLineOf script n = (1 ≤ n) × (n ≤ length (lines_of script))
+
+-- Some events were played, or the fault of a line was named; where memory or the writer failed nothing is said.
+abbrev pub AnswersPlay : Status → List ℕ → Option (List ℕ) → Option (List ℕ) → Type 0
+AnswersPlay Success script old new = AnswersSome Success old new
+AnswersPlay FaultShown script old new =
+    AnswersSome FaultShown old new ⊎ ((fault : ScriptFault) × IsLineOf script fault.line × ShowsScriptFault FaultShown fault old new)
+AnswersPlay BadUsage script old new = ⊥
+AnswersPlay Failed script old new = ⊤
+
+-- The text of so many random events was written; where memory or the writer failed nothing is said.
+abbrev pub AnswersRandom : Status → ℕ → ℕ → Option (List ℕ) → Option (List ℕ) → Type 0
+AnswersRandom Success seed n old new = (events : List Event) × IsRandomScript (seeded seed) n events × Appends old new (script_text events)
+AnswersRandom FaultShown seed n old new = ⊥
+AnswersRandom BadUsage seed n old new = ⊥
+AnswersRandom Failed seed n old new = ⊤

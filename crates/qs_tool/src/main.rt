@@ -1,19 +1,23 @@
-//! The program: shows the frames of a payload.
+//! The program: shows the frames of a payload, plays scripts, and makes random ones.
 #![tactic(auto)]
 
 mod fields;
 mod frame_text;
 mod frames;
+mod input;
 mod largest;
 mod play_text;
 mod request;
+mod scripts;
 mod status;
 #[cfg(test)]
 mod tests;
 mod text;
 
 use crate::frames::run_frames;
+use crate::input::read_file;
 use crate::request::Request;
+use crate::scripts::{run_play, run_random};
 use crate::status::Status;
 use std::process::ExitCode;
 use std::{env, io};
@@ -37,8 +41,20 @@ fn run(rt: &HostRuntime) -> Status {
         Err(status) => return status,
     };
     match Request::parse(rt.alloc(), &words) {
-        Ok(Request::Frames(hex)) => run_frames(rt.alloc(), hex, &mut io::writer(rt)),
+        Ok(request) => answer(rt, request),
         Err(status) => status,
+    }
+}
+
+fn answer(rt: &HostRuntime, request: Request) -> Status {
+    let mut out = io::writer(rt);
+    match request {
+        Request::Frames(hex) => run_frames(rt.alloc(), hex, &mut out),
+        Request::Play(name) => match read_file(rt, name) {
+            Ok(script) => run_play(rt.alloc(), &script, &mut out),
+            Err(status) => status,
+        },
+        Request::Random { seed, n } => run_random(rt.alloc(), seed, n, &mut out),
     }
 }
 

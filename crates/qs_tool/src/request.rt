@@ -2,14 +2,21 @@
 
 use crate::status::Status;
 use clap::error::ErrorKind;
-use clap::{Arg, Command, Error};
+use clap::{Arg, ArgMatches, Command, Error};
 use std::alloc::Global;
+
+/// The most events of a random script.
+const MAX_EVENTS: u64 = 10_000;
 
 /// What the program is asked to do.
 #[derive(Clone, Copy, Debug, PartialEq, Eq)]
 pub enum Request<'a> {
     /// Show the frames of the payload that the word spells in hex.
     Frames(&'a str),
+    /// Play the script in the file of that name.
+    Play(&'a str),
+    /// Show a script of `n` random events, at most 10,000, which the seed determines.
+    Random { seed: u64, n: usize },
 }
 
 impl<'a> Request<'a> {
@@ -25,21 +32,54 @@ impl<'a> Request<'a> {
             Err(error) => return Err(status_of(&error)),
         };
         match matches.subcommand() {
-            Some(("frames", found)) => match found.get_str("hex") {
-                Some(hex) => Ok(Request::Frames(hex)),
-                None => Err(Status::BadUsage),
-            },
-            _ => Err(Status::BadUsage),
+            Some((name, found)) => asked_for(name, found).ok_or(Status::BadUsage),
+            None => Err(Status::BadUsage),
         }
+    }
+}
+
+/// What a subcommand of that name asks for with these arguments.
+fn asked_for<'a>(name: &str, found: &ArgMatches<'a>) -> Option<Request<'a>> {
+    match name {
+        "frames" => found.get_str("hex").map(Request::Frames),
+        "play" => found.get_str("file").map(Request::Play),
+        "random" => random(found.get_str("seed")?, found.get_str("n")?),
+        _ => None,
+    }
+}
+
+fn random<'a>(seed: &str, n: &str) -> Option<Request<'a>> {
+    let (seed, n) = (number(seed)?, number(n)?);
+    if n > MAX_EVENTS {
+        return None;
+    }
+    Some(Request::Random {
+        seed,
+        n: n as usize,
+    })
+}
+
+/// A number in decimal digits alone. Leading zeros are allowed, a sign isn't.
+fn number(word: &str) -> Option<u64> {
+    if word.bytes().all(|byte| byte.is_ascii_digit()) {
+        word.parse().ok()
+    } else {
+        None
     }
 }
 
 fn command<'a>(alloc: Global) -> Result<Command<'a>, Error> {
     let frames = Command::new(alloc, "frames").arg(Arg::new(alloc, "hex").required(true))?;
+    let play = Command::new(alloc, "play").arg(Arg::new(alloc, "file").required(true))?;
+    let random = Command::new(alloc, "random")
+        .arg(Arg::new(alloc, "seed").required(true))?
+        .arg(Arg::new(alloc, "n").required(true))?;
     Ok(
         Command::new(alloc, "qstream")
             .subcommand_required(true)
-            .subcommand(frames)?,
+            .subcommand(frames)?
+            .subcommand(play)?
+            .subcommand(random)?,
     )
 }
 

@@ -1,13 +1,14 @@
 //! What the program prints.
 
 use crate::frames::run_frames;
-use crate::request::Request;
 use crate::status::Status;
 use std::alloc::Global;
 use std::process::Abort;
 use std::test::Fail;
 
 mod play_text;
+mod requests;
+mod scripts;
 
 /// The run on the word ends so and writes the text.
 fn shows(rt: &impl Abort, alloc: Global, word: &str, status: Status, text: &str) {
@@ -198,40 +199,5 @@ fn at_most_65535_bytes(rt: HostRuntime) -> Result<(), Fail> {
     assert!(rt; run_frames(rt.alloc(), word.as_str(), &mut out) == Status::Success);
     let word = zeros(rt.alloc(), 65_536)?;
     shows(&rt, rt.alloc(), word.as_str(), Status::BadUsage, "");
-    Ok(())
-}
-
-fn words(alloc: Global, texts: &[&str]) -> Result<Vec<String>, Fail> {
-    let mut words = Vec::new(alloc);
-    for text in texts {
-        words.push(String::from_str(alloc, text)?)?;
-    }
-    Ok(words)
-}
-
-#[test]
-fn the_command_line_names_a_payload(rt: HostRuntime) -> Result<(), Fail> {
-    let line = words(rt.alloc(), &["qstream", "frames", "01"])?;
-    assert!(rt; Request::parse(rt.alloc(), &line) == Ok(Request::Frames("01")));
-    let line = words(rt.alloc(), &["qstream", "frames", ""])?;
-    assert!(rt; Request::parse(rt.alloc(), &line) == Ok(Request::Frames("")));
-    Ok(())
-}
-
-#[test]
-fn other_command_lines_make_no_sense(rt: HostRuntime) -> Result<(), Fail> {
-    let lines: [&[&str]; 7] = [
-        &["qstream"],
-        &["qstream", "frames"],
-        &["qstream", "frames", "01", "02"],
-        &["qstream", "frame", "01"],
-        &["qstream", "--help"],
-        &["qstream", "--version"],
-        &["qstream", "frames", "--help"],
-    ];
-    for line in lines {
-        let line = words(rt.alloc(), line)?;
-        assert!(rt; Request::parse(rt.alloc(), &line) == Err(Status::BadUsage));
-    }
     Ok(())
 }

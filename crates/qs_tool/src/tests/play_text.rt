@@ -2,19 +2,12 @@
 
 use crate::play_text::{play_text, script_text};
 use qs_world::{
-    Act, Answer, Closing, Dir, EndTotals, Event, LaneTotals, LostFault, Made, MakeFault, OpenFault,
-    Read, Received, Report, Side, StreamId, UseFault, parse_script,
+    Act, Answer, Closing, EndTotals, Event, LostFault, MakeFault, OpenFault, Read, Received,
+    Report, Side, UseFault, parse_script,
 };
 use std::alloc::Global;
 use std::process::Abort;
 use std::test::Fail;
-
-fn id(rt: &impl Abort, number: u64) -> StreamId {
-    match StreamId::new(number) {
-        Some(id) => id,
-        None => panic!(rt; "no stream has the number {number}"),
-    }
-}
 
 fn end(spent: u64, closing: Option<Closing>) -> EndTotals {
     EndTotals {
@@ -24,124 +17,6 @@ fn end(spent: u64, closing: Option<Closing>) -> EndTotals {
         closing,
     }
 }
-
-fn packet(alloc: Global, number: u64, payload: &[u8]) -> Result<Answer, Fail> {
-    let made = Made {
-        number,
-        len: payload.len(),
-    };
-    Ok(Answer::Make(Ok(Some(made)), Vec::from_slice(alloc, payload)?))
-}
-
-fn read(alloc: Global, bytes: &[u8]) -> Result<Answer, Fail> {
-    Ok(Answer::ReadUpTo(Ok(Read::Bytes(bytes.len())), Vec::from_slice(alloc, bytes)?))
-}
-
-/// What is answered to the line of that number.
-fn answer_to(rt: &impl Abort, alloc: Global, line: usize) -> Result<Answer, Fail> {
-    Ok(match line {
-        0 => Answer::OpenStream(Ok(id(rt, 0))),
-        1 => Answer::Write(Ok(5)),
-        2 => Answer::Finish(Ok(())),
-        3 => packet(alloc, 0, b"\x0b\x00\x05hello")?,
-        4 => Answer::Lose(Ok(())),
-        5 => packet(alloc, 1, b"\x0b\x00\x05hello")?,
-        8 => Answer::Accept(Some(id(rt, 0))),
-        9 => read(alloc, b"hello")?,
-        10 => Answer::ReadUpTo(Ok(Read::End), Vec::new(alloc)),
-        11 => packet(alloc, 0, b"\x02\x01\x00\x00\x01")?,
-        _ => Answer::Deliver(Ok(Received::Done)),
-    })
-}
-
-/// The events of the script with their answers.
-fn log(rt: &impl Abort, alloc: Global) -> Result<Vec<(Event, Answer)>, Fail> {
-    let events = match parse_script(alloc, SCRIPT) {
-        Ok(events) => events,
-        Err(fault) => panic!(rt; "{fault}"),
-    };
-    let mut log = Vec::new(alloc);
-    for (line, event) in events.into_iter().enumerate() {
-        log.push((event, answer_to(rt, alloc, line)?))?;
-    }
-    Ok(log)
-}
-
-/// A lane that the sender finished after so many bytes.
-fn finished(sender: Side, id: StreamId, bytes: u64) -> LaneTotals {
-    LaneTotals {
-        sender,
-        id,
-        written: bytes,
-        read: bytes,
-        received: true,
-        declared: Some(bytes),
-        known: Some(bytes),
-    }
-}
-
-fn unused(sender: Side, id: StreamId) -> LaneTotals {
-    LaneTotals {
-        sender,
-        id,
-        written: 0,
-        read: 0,
-        received: false,
-        declared: None,
-        known: None,
-    }
-}
-
-#[test]
-fn a_packet_is_lost_and_sent_again(rt: HostRuntime) -> Result<(), Fail> {
-    let (sent, back) = (
-        finished(Side::A, id(&rt, 0), 5),
-        unused(Side::B, id(&rt, 0)),
-    );
-    let report = Report {
-        log: log(&rt, rt.alloc())?,
-        lanes: Vec::from_array(rt.alloc(), [sent, back])?,
-        ends: [end(0, None), end(5, None)],
-    };
-    assert!(rt; play_text(rt.alloc(), &report)?.as_str() == LOST_AND_SENT_AGAIN);
-    Ok(())
-}
-
-const SCRIPT: &[u8] = b"\
-open A bidi
-write A 0 68656c6c6f
-finish A 0
-make A 1200
-lose A 0
-make A 1200
-deliver A 1
-deliver A 0
-accept B
-read B 0 16
-read B 0 16
-make B 1200
-deliver B 0
-";
-
-const LOST_AND_SENT_AGAIN: &str = "\
-open A bidi -> stream 0
-write A 0 68656c6c6f -> wrote 5
-finish A 0 -> ok
-make A 1200 -> packet 0 0b000568656c6c6f
-lose A 0 -> ok
-make A 1200 -> packet 1 0b000568656c6c6f
-deliver A 1 -> done
-deliver A 0 -> done
-accept B -> stream 0
-read B 0 16 -> bytes 68656c6c6f
-read B 0 16 -> end
-make B 1200 -> packet 0 0201000001
-deliver B 0 -> done
-lane A 0 written 5 read 5 received yes declared 5 known 5
-lane B 0 written 0 read 0 received no declared none known none
-end A spent 0 granted 4096 stored 0
-end B spent 5 granted 4096 stored 0
-";
 
 /// The answer stands behind its event.
 fn shows(rt: &impl Abort, alloc: Global, answer: Answer, text: &str) -> Result<(), Fail> {

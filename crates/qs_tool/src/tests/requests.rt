@@ -1,0 +1,126 @@
+//! Which command lines make sense.
+
+use crate::input::read_whole;
+use crate::request::Request;
+use crate::status::Status;
+use std::alloc::Global;
+use std::process::Abort;
+use std::test::Fail;
+
+fn words(alloc: Global, texts: &[&str]) -> Result<Vec<String>, Fail> {
+    let mut words = Vec::new(alloc);
+    for text in texts {
+        words.push(String::from_str(alloc, text)?)?;
+    }
+    Ok(words)
+}
+
+#[test]
+fn the_command_line_names_a_payload(rt: HostRuntime) -> Result<(), Fail> {
+    let line = words(rt.alloc(), &["qstream", "frames", "01"])?;
+    assert!(rt; Request::parse(rt.alloc(), &line) == Ok(Request::Frames("01")));
+    let line = words(rt.alloc(), &["qstream", "frames", ""])?;
+    assert!(rt; Request::parse(rt.alloc(), &line) == Ok(Request::Frames("")));
+    Ok(())
+}
+
+#[test]
+fn other_command_lines_make_no_sense(rt: HostRuntime) -> Result<(), Fail> {
+    let lines: [&[&str]; 14] = [
+        &["qstream"],
+        &["qstream", "frames"],
+        &["qstream", "frames", "01", "02"],
+        &["qstream", "frame", "01"],
+        &["qstream", "--help"],
+        &["qstream", "--version"],
+        &["qstream", "frames", "--help"],
+        &["qstream", "play"],
+        &["qstream", "play", "one", "two"],
+        &["qstream", "random"],
+        &["qstream", "random", "1"],
+        &["qstream", "random", "1", "2", "3"],
+        &["qstream", "help"],
+        &["qstream", "udp"],
+    ];
+    for line in lines {
+        let line = words(rt.alloc(), line)?;
+        assert!(rt; Request::parse(rt.alloc(), &line) == Err(Status::BadUsage));
+    }
+    Ok(())
+}
+
+#[test]
+fn the_command_line_names_a_file(rt: HostRuntime) -> Result<(), Fail> {
+    let line = words(rt.alloc(), &["qstream", "play", "a file"])?;
+    assert!(rt; Request::parse(rt.alloc(), &line) == Ok(Request::Play("a file")));
+    Ok(())
+}
+
+/// What `random` asks for with these words.
+fn random(
+    alloc: Global,
+    seed: &'static str,
+    n: &'static str,
+) -> Result<Option<(u64, usize)>, Fail> {
+    let line = words(alloc, &["qstream", "random", seed, n])?;
+    match Request::parse(alloc, &line) {
+        Ok(Request::Random { seed, n }) => Ok(Some((seed, n))),
+        _ => Ok(None),
+    }
+}
+
+#[test]
+fn the_command_line_names_a_seed_and_a_count(rt: HostRuntime) -> Result<(), Fail> {
+    assert!(rt; random(rt.alloc(), "1", "0")? == Some((1, 0)));
+    assert!(rt; random(rt.alloc(), "007", "010000")? == Some((7, 10_000)));
+    let most = random(rt.alloc(), "18446744073709551615", "1")?;
+    assert!(rt; most == Some((u64::MAX, 1)));
+    Ok(())
+}
+
+#[test]
+fn a_seed_and_a_count_are_digits_within_bounds(rt: HostRuntime) -> Result<(), Fail> {
+    let wrong = [
+        ("+5", "1"),
+        ("-5", "1"),
+        ("", "1"),
+        ("1", ""),
+        ("1", "+5"),
+        ("0x1", "1"),
+        ("1 ", "1"),
+        ("18446744073709551616", "1"),
+        ("1", "10001"),
+        ("1", "18446744073709551616"),
+    ];
+    for (seed, n) in wrong {
+        assert!(rt; random(rt.alloc(), seed, n)?.is_none(), "{seed:?} {n:?}");
+    }
+    Ok(())
+}
+
+/// How many bytes of a script are read, where it is read whole.
+fn bytes_read(alloc: Global, script: &[u8]) -> Option<usize> {
+    let mut reader = script;
+    match read_whole(alloc, &mut reader) {
+        Ok(bytes) => Some(bytes.len()),
+        Err(_) => None,
+    }
+}
+
+#[test]
+fn a_script_has_a_greatest_length(rt: HostRuntime) -> Result<(), Fail> {
+    let script = vec![in rt.alloc(); b'#'; 16_777_217]?;
+    assert!(rt; bytes_read(rt.alloc(), &script[1..]) == Some(16_777_216));
+    assert!(rt; bytes_read(rt.alloc(), &script).is_none());
+    Ok(())
+}
+
+#[test]
+fn a_script_is_read_whole(rt: HostRuntime) -> Result<(), Fail> {
+    let mut script: &[u8] = b"accept B\n";
+    match read_whole(rt.alloc(), &mut script) {
+        Ok(bytes) => assert!(rt; bytes.as_slice() == b"accept B\n".as_slice()),
+        Err(_) => panic!(rt; "it could be read"),
+    }
+    Ok(())
+}
