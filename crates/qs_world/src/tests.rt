@@ -7,7 +7,9 @@ mod owners;
 mod packets;
 mod payloads;
 mod plays;
+mod refusals;
 mod rows;
+mod runs;
 mod script;
 mod settings;
 
