@@ -180,6 +180,18 @@ fn empty_streams_are_told(rt: HostRuntime) -> Result<(), Fail> {
 }
 
 #[test]
+fn an_empty_stream_is_reset(rt: HostRuntime) -> Result<(), Fail> {
+    play_rows(
+        rt.alloc(),
+        b"client
+          open bidi -> 0
+          reset 0 7 -> ok
+          make 1200 -> 0 04000700
+          sending 0 -> reset-sent written 0 final 0",
+    )
+}
+
+#[test]
 fn bytes_wait_for_the_streams_credit(rt: HostRuntime) -> Result<(), Fail> {
     play_rows(
         rt.alloc(),

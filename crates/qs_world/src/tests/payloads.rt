@@ -475,6 +475,18 @@ fn an_empty_stream_ends_at_once(rt: HostRuntime) -> Result<(), Fail> {
     )
 }
 
+#[test]
+fn an_empty_stream_is_broken_off(rt: HostRuntime) -> Result<(), Fail> {
+    play_rows(
+        rt.alloc(),
+        b"server bidi_remote=10
+          receive 0 04000700 -> done
+          receiving 0 -> reset-recvd read 0 highest 0 limit 10 final 0
+          read 0 16 -> reset 7
+          receiving 0 -> reset-read read 0 highest 0 limit 10 final 0",
+    )
+}
+
 // No limit is needed once the final size is known.
 #[test]
 fn no_limit_rises_past_the_end(rt: HostRuntime) -> Result<(), Fail> {
