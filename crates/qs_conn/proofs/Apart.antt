@@ -19,7 +19,7 @@ apart_sym (Data n c) (Data k d) h =
     λ same. (let a = h (sym same) in record { offsets = λ q low high low' high'. a.offsets q low' high' low high; ends = λ x y. a.ends y x })
 apart_sym (Data n c) (Told i) h = tt
 apart_sym (Told i) (Data n c) h = tt
-apart_sym (Told i) (Told j) h = tt
+apart_sym (Told i) (Told j) h = λ same. h (sym same)
 
 pub apart_among : (p q : Piece) (ps : List Piece) → ApartFrom p ps → Among q ps → Apart p q
 apart_among p q [] h a = absurd a
@@ -128,6 +128,6 @@ due_apart m n s c t due (Data k d) out =
       ends = λ fin end. (let none = t.end_not_due d here fin in let is = due.fin in absurd (grind (arith, none, is, end)));
     })
 
-pub told_apart : (i : Item) (q : Piece) → Apart q (Told i)
-told_apart i (Data n c) = tt
-told_apart i (Told j) = tt
+pub told_apart : (m : Records) (i : Item) → (IsCarried m (Told i) → ⊥) → (q : Piece) → IsCarried m q → Apart q (Told i)
+told_apart m i new (Data n c) out = tt
+told_apart m i new (Told j) out = λ same. new (subst (λ x. IsCarried m (Told x)) same out)

@@ -16,6 +16,9 @@ pub mod LaneEdits
 pub mod LaneTables
 pub mod Lasting
 pub mod MadePackets
+pub mod Indexed
+pub mod ItemOrders
+pub mod Ordered
 pub mod OutboxAcks
 pub mod OutboxMaking
 pub mod Outboxes
@@ -47,5 +50,6 @@ pub mod Ties
 pub mod ToldLaws
 pub mod Undone
 pub mod Marked
+pub mod Words
 pub mod Quiets
 pub mod LaneMarks

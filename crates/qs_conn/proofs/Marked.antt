@@ -17,14 +17,6 @@ mark_past [] i le = refl
 mark_past (m ∷ ms) zero le = absurd (omega (arith, le))
 mark_past (m ∷ ms) (suc i) le = mark_past ms i (omega (arith, le))
 
--- a search found no mark
-pub next_none : (ms : List Bool) (from at : ℕ) → ((i : ℕ) → from ≤ i → i < at → is_marked ms i ≡ false) → length ms ≤ at → IsNextMark ms from None
-next_none ms from at below past =
-    record {
-      found = λ n is. absurd (none-some n is);
-      unmarked = λ i le before. elim (cases_lt i at) [ inl lt ↦ below i le lt | inr ge ↦ mark_past ms i (omega (arith, ge, past)) ];
-    }
-
 module _ {X : Type 0} (Q : X → Type 0) where
   pub marked_len : (xs : List X) (ms : List Bool) → AreMarked Q xs ms → length ms ≡ length xs
   marked_len [] [] h = refl

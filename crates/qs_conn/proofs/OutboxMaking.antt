@@ -19,7 +19,7 @@ use Rattle.qs_send.specs.Chunks.{IsDueChunk, IsNextChunk, HasNoChunk, HasBytes}
 use Rattle.qs_send.specs.Sound.{IsLawful}
 use Rattle.qs_conn.specs.Tables.{Tables, lookup, update, updated}
 use Rattle.qs_conn.specs.Ends.{Records}
-use Rattle.qs_conn.specs.Outgoing.{Outgoing, on_lane, sent_sum, lanes_of, with_pending, AreBelow, AreTied, IsTied, IsOutbox, HasSending, ChunkFound, MayTell, chunk_put, item_put_out, halves_told, blocked_noted}
+use Rattle.qs_conn.specs.Outgoing.{Outgoing, on_lane, sent_sum, lanes_of, with_pending, IsCarried, AreBelow, AreTied, IsTied, IsOutbox, HasSending, ChunkFound, MayTell, chunk_put, item_put_out, halves_told, blocked_noted}
 use Rattle.qs_conn.specs.Layers.{or_none}
 use Rattle.qs_conn.proofs.TableLaws.{total_update, lookup_same}
 use Rattle.qs_conn.proofs.Carried.{some_is, get_new, get_other, with_piece}
@@ -110,10 +110,10 @@ longer xs p = length-append xs (p ∷ [])
 
 -- What holds
 
-pub box_begun : (t : Tables Sending) (m m' : Records) (r r' : Bool) (ps : List Piece) (next sent spare free count free' : ℕ) → IsOutbox t m r ps next sent spare free → m' ≡ m → r' ≡ true → count ≤ free' → IsOutbox t m' r' ps next sent count free'
-box_begun t m m' r r' ps next sent spare free count free' h same ready room =
+pub box_begun : (t : Tables Sending) (m m' : Records) (r r' : Bool) (ps qs : List Piece) (next sent spare free count free' : ℕ) → IsOutbox t m r ps next sent spare free → m' ≡ m → qs ≡ ps → r' ≡ true → count ≤ free' → IsOutbox t m' r' qs next sent count free'
+box_begun t m m' r r' ps qs next sent spare free count free' h same is ready room =
     record {
-      tied = subst (λ (x : Records). AreTied t (with_pending x next ps)) (sym same) h.tied;
+      tied = subst (λ (x : Records). AreTied t (with_pending x next qs)) (sym same) (subst (λ (x : List Piece). AreTied t (with_pending m next x)) (sym is) h.tied);
       below = subst (λ (x : Records). AreBelow x next) (sym same) h.below;
       sum = h.sum;
       small = h.small;
@@ -142,42 +142,39 @@ box_chunk t t' m r ps qs next sent spare free free' n before after s s' c h ther
     }
 
 pub box_item : (t t' : Tables Sending) (m : Records) (r : Bool) (ps qs : List Piece) (next sent spare free free' : ℕ) (i : Item) → IsOutbox t m r ps next sent spare free
-    → t' ≡ halves_told i t → MayTell (lanes_of t) i → qs ≡ ps ++ Told i ∷ [] → 0 < spare → spare ≤ free' + 1 → IsOutbox t' m r qs next sent (spare - 1) free'
-box_item t t' m r ps qs next sent spare free free' i h halves may pushed some room =
+    → t' ≡ halves_told i t → MayTell (lanes_of t) i → (IsCarried (with_pending m next ps) (Told i) → ⊥) → qs ≡ ps ++ Told i ∷ [] → 0 < spare → spare ≤ free' + 1 → IsOutbox t' m r qs next sent (spare - 1) free'
+box_item t t' m r ps qs next sent spare free free' i h halves may new pushed some room =
     record {
       tied =
           subst (λ (x : Records). AreTied t' x) (sym (ap (with_pending m next) pushed ∙ one_more m next ps (Told i) h.below))
-          (subst (λ x. AreTied x (with_piece (with_pending m next ps) next (Told i))) (sym halves) (told_tied i (lookup_of i) may).0);
+          (subst (λ x. AreTied x (with_piece (with_pending m next ps) next (Told i))) (sym halves) (told_tied i may new).0);
       below = h.below;
-      sum = ap (λ x. sent_sum (lanes_of x)) halves ∙ (told_tied i (lookup_of i) may).1 ∙ h.sum;
+      sum = ap (λ x. sent_sum (lanes_of x)) halves ∙ (told_tied i may new).1 ∙ h.sum;
       small = h.small;
       room = omega (arith, some, room);
       ready = λ x. h.ready (omega (arith, some));
     }
   where
-    lookup_of : (i : Item) → Unit {0}
-    lookup_of i = tt
-
     Follows : Item → Tables Sending → Type 0
     Follows j x = AreTied x (with_piece (with_pending m next ps) next (Told j)) × (sent_sum (lanes_of x) ≡ sent_sum (lanes_of t))
 
-    blocked : (j : Item) (n : ℕ) → MayTell (lanes_of t) j → (o : Option Sending) → lookup t n ≡ o → Follows j (updated t n after_blocked o)
-    blocked j n told None e = (ties_item_put t (with_pending m next ps) next j h.tied told, refl)
-    blocked j n told (Some s) e =
-        (let tied = ties_item_put t (with_pending m next ps) next j h.tied told in (
+    blocked : (j : Item) (n : ℕ) → MayTell (lanes_of t) j → (IsCarried (with_pending m next ps) (Told j) → ⊥) → (o : Option Sending) → lookup t n ≡ o → Follows j (updated t n after_blocked o)
+    blocked j n told new None e = (ties_item_put t (with_pending m next ps) next j h.tied told new, refl)
+    blocked j n told new (Some s) e =
+        (let tied = ties_item_put t (with_pending m next ps) next j h.tied told new in (
           ties_updated t (with_piece (with_pending m next ps) next (Told j)) n s (after_blocked s) tied e (tied_blocked (with_piece (with_pending m next ps) next (Told j)) n s (tied.lanes n s e)) (λ x. x),
           ap sent_sum (update_lanes t n (after_blocked s)) ∙ (let sums = total_update (λ (l : SendLane). l.sent_end) (lanes_of t) n s.lane (blocked_lane s.lane) (lane_there t n s e) in omega (arith, sums)),
         ))
 
-    told_tied : (j : Item) → Unit {0} → MayTell (lanes_of t) j → Follows j (halves_told j t)
-    told_tied (StreamDataBlocked n x) u told = blocked (StreamDataBlocked n x) n told (lookup t n) refl
-    told_tied (MaxData x) u told = (ties_item_put t (with_pending m next ps) next (MaxData x) h.tied told, refl)
-    told_tied (MaxStreamData n x) u told = (ties_item_put t (with_pending m next ps) next (MaxStreamData n x) h.tied told, refl)
-    told_tied (MaxStreams d x) u told = (ties_item_put t (with_pending m next ps) next (MaxStreams d x) h.tied told, refl)
-    told_tied (ResetStream n x y) u told = (ties_item_put t (with_pending m next ps) next (ResetStream n x y) h.tied told, refl)
-    told_tied (StopSending n x) u told = (ties_item_put t (with_pending m next ps) next (StopSending n x) h.tied told, refl)
-    told_tied (DataBlocked x) u told = (ties_item_put t (with_pending m next ps) next (DataBlocked x) h.tied told, refl)
-    told_tied (StreamsBlocked d x) u told = (ties_item_put t (with_pending m next ps) next (StreamsBlocked d x) h.tied told, refl)
+    told_tied : (j : Item) → MayTell (lanes_of t) j → (IsCarried (with_pending m next ps) (Told j) → ⊥) → Follows j (halves_told j t)
+    told_tied (StreamDataBlocked n x) told new = blocked (StreamDataBlocked n x) n told new (lookup t n) refl
+    told_tied (MaxData x) told new = (ties_item_put t (with_pending m next ps) next (MaxData x) h.tied told new, refl)
+    told_tied (MaxStreamData n x) told new = (ties_item_put t (with_pending m next ps) next (MaxStreamData n x) h.tied told new, refl)
+    told_tied (MaxStreams d x) told new = (ties_item_put t (with_pending m next ps) next (MaxStreams d x) h.tied told new, refl)
+    told_tied (ResetStream n x y) told new = (ties_item_put t (with_pending m next ps) next (ResetStream n x y) h.tied told new, refl)
+    told_tied (StopSending n x) told new = (ties_item_put t (with_pending m next ps) next (StopSending n x) h.tied told new, refl)
+    told_tied (DataBlocked x) told new = (ties_item_put t (with_pending m next ps) next (DataBlocked x) h.tied told new, refl)
+    told_tied (StreamsBlocked d x) told new = (ties_item_put t (with_pending m next ps) next (StreamsBlocked d x) h.tied told new, refl)
 
 below_put : (m : Records) (k : ℕ) (ps : List Piece) → AreBelow m k → AreBelow (with_pending m k ps) (k + 1)
 below_put m k [] below j has = omega (arith, below j has)

@@ -1,46 +1,20 @@
 -- What an end has to tell of its sending side.
-use Rattle.std.proofs.Common.{◌≡◌, ℕ, ◌<◌, ◌≤◌, ◌↔◌, Bool, true, false, IsTrue, min, nat_lt, List, [], ◌∷◌, ◌⊎◌, Option, Some, None, is_some, option_map, cond, refl, sym, ap, ◌∙◌, subst, inl, inr, arith}
-use Rattle.std.proofs.lemmas.Bool.{both_ways, cases_eq}
+use Rattle.std.proofs.Common.{◌≡◌, ℕ, ◌<◌, ◌≤◌, ◌↔◌, Bool, true, false, IsTrue, min, nat_lt, Option, Some, None, is_some, option_map, cond, refl, sym, ap, ◌∙◌, arith}
+use Rattle.std.proofs.lemmas.Bool.{both_ways}
 use Rattle.std.proofs.lemmas.Bool.Decides.{nat_tests}
-use Rattle.std.specs.FinMap as fmap
 use Rattle.qs_wire.specs.declared.stream_id.Dir.TheVariants.{Bidi, Uni}
 use Rattle.qs_send.specs.declared.parts.Reset.{Reset}
 use Rattle.qs_send.specs.declared.parts.SendState.TheVariants.{Ready, Send, DataSent, DataRecvd, ResetSent, ResetRecvd}
 use Rattle.qs_send.specs.declared.piece.Item.{Item}
 use Rattle.qs_send.specs.declared.piece.Item.TheVariants.{MaxData, MaxStreamData, MaxStreams, ResetStream, StopSending, DataBlocked, StreamDataBlocked, StreamsBlocked}
-use Rattle.qs_send.specs.declared.piece.Piece.{Piece}
 use Rattle.qs_send.specs.Lane.{SendLane, Sending, state, declared_size, size_of}
 use Rattle.qs_conn.specs.Tables.{Tables, lookup}
-use Rattle.qs_conn.specs.Ends.{Records}
 use Rattle.qs_conn.specs.Layers.{or_none}
-use Rattle.qs_conn.specs.Due.{Among}
 use Rattle.qs_conn.specs.Told.{IsNoted}
-use Rattle.qs_conn.specs.Outgoing.{Outgoing, IsCarried, lanes_of, with_pending, AreBelow, IsAckedOut, IsAckedReset, IsBlockedAt, WantsMore, reset_by}
-use Rattle.qs_conn.proofs.Carried.{none_some, some_is, get_new, get_other}
+use Rattle.qs_conn.specs.Outgoing.{Outgoing, lanes_of, IsAckedOut, IsAckedReset, IsBlockedAt, WantsMore, reset_by}
+use Rattle.qs_conn.proofs.Carried.{none_some, some_is}
 use Rattle.qs_conn.proofs.LaneTables.{lane_there}
 use Rattle.qs_conn.proofs.Outboxes.{open_now}
-use Rattle.qs_conn.proofs.OutboxAcks.{none_above}
-
--- carried by a record, or by the packet in the making
-pub carried_with : (m : Records) (k : ℕ) (ps : List Piece) (p : Piece) → AreBelow m k → IsCarried (with_pending m k ps) p → IsCarried m p ⊎ Among p ps
-carried_with m k [] p below out = inl out
-carried_with m k (q ∷ qs) p below (j, rs, there, a) =
-    elim (cases_eq j k) [
-      | inl same ↦ inr (subst (Among p) (some_is _ rs (q ∷ qs) (ap (fmap.get (fmap.insert m k (q ∷ qs))) (sym same) ∙ there) (get_new m k (q ∷ qs))) a)
-      | inr ne ↦ inl (j, rs, sym (get_other m k (q ∷ qs) j ne) ∙ there, a)
-    ]
-
-pub carried_old : (m : Records) (k : ℕ) (ps : List Piece) (p : Piece) → AreBelow m k → IsCarried m p → IsCarried (with_pending m k ps) p
-carried_old m k [] p below out = out
-carried_old m k (q ∷ qs) p below (j, rs, there, a) =
-    elim (cases_eq j k) [
-      | inl same ↦ absurd (none_some rs (sym (none_above m k below) ∙ ap (fmap.get m) (sym same) ∙ there))
-      | inr ne ↦ (j, rs, get_other m k (q ∷ qs) j ne ∙ there, a)
-    ]
-
-pub carried_pending : (m : Records) (k : ℕ) (ps : List Piece) (p : Piece) → Among p ps → IsCarried (with_pending m k ps) p
-carried_pending m k [] p a = absurd a
-carried_pending m k (q ∷ qs) p a = (k, q ∷ qs, get_new m k (q ∷ qs), a)
 
 pub no_lookup : (e now : Outgoing) (t : Tables Sending) (n : ℕ) → e ≡ now → e.sends ≡ lanes_of t → is_some (lookup t n) ≡ false → lookup now.sends n ≡ None
 no_lookup e now t n is sends none = go (lookup now.sends n) refl (sym (open_now e now t n is sends) ∙ none)
@@ -128,16 +102,6 @@ reset_same o l code size e f g = ap (λ x. reset_by x size) f ∙ ap (reset_by (
     go : (r : Option Reset) (other : Option ℕ) → reset_by (option_map (λ (r : Reset). r.code) r) (size_of r other) ≡ r
     go None other = refl
     go (Some r) other = refl
-
-pub told_yes : (e now : Outgoing) (m : Records) (ps : List Piece) (p : Piece) → e ≡ now → e.outstanding ≡ with_pending m e.next ps → AreBelow m e.next → IsCarried m p → (IsTrue true → IsCarried now.outstanding p) × (IsCarried now.outstanding p → IsTrue true)
-told_yes e now m ps p is out below h = ((λ x. subst (λ (o : Outgoing). IsCarried o.outstanding p) is (subst (λ (r : Records). IsCarried r p) (sym out) (carried_old m e.next ps p below h))), (λ x. refl))
-
-pub told_rest : (e now : Outgoing) (m : Records) (ps : List Piece) (p : Piece) (b : Bool) → e ≡ now → e.outstanding ≡ with_pending m e.next ps → AreBelow m e.next → (IsCarried m p → ⊥) → (b ≡ true → Among p ps) → (Among p ps → b ≡ true)
-    → (IsTrue b → IsCarried now.outstanding p) × (IsCarried now.outstanding p → IsTrue b)
-told_rest e now m ps p b is out below none f g = (
-  (λ x. subst (λ (o : Outgoing). IsCarried o.outstanding p) is (subst (λ (r : Records). IsCarried r p) (sym out) (carried_pending m e.next ps p (f x)))),
-  (λ x. elim (carried_with m e.next ps p below (subst (λ (r : Records). IsCarried r p) out (subst (λ (o : Outgoing). IsCarried o.outstanding p) (sym is) x))) [ inl old ↦ absurd (none old) | inr a ↦ g a ]),
-)
 
 pub blocked_none : (o : Option SendLane) → o ≡ None → (m : ℕ) → IsBlockedAt o m → ⊥
 blocked_none o e m = rw e (λ h. h)

@@ -160,11 +160,11 @@ ties_chunk_put t m k n s c h there law due =
     (λ p out. elim (carried_is m k (Data n c) p out) [ inl before ↦ h.of_open p before | inr e ↦ subst (IsOfOpen (lanes_of t)) (sym e) (ap is_some (lane_there t n s there)) ])
     (λ r. r)
 
-pub ties_item_put : (t : Tables Sending) (m : Records) (k : ℕ) (i : Item) → AreTied t m → IsOfOpen (lanes_of t) (Told i) → AreTied t (with_piece m k (Told i))
-ties_item_put t m k i h of =
+pub ties_item_put : (t : Tables Sending) (m : Records) (k : ℕ) (i : Item) → AreTied t m → IsOfOpen (lanes_of t) (Told i) → (IsCarried m (Told i) → ⊥) → AreTied t (with_piece m k (Told i))
+ties_item_put t m k i h of new =
     record {
       lanes = λ n s there. tied_same m (with_piece m k (Told i)) n s (other_put m k (Told i) n (λ d e. not_told n d i e)) (h.lanes n s there);
-      apart = apart_put m k (Told i) h.apart (λ q out. told_apart i q);
+      apart = apart_put m k (Told i) h.apart (told_apart m i new);
       of_open = λ p out. elim (carried_is m k (Told i) p out) [ inl before ↦ h.of_open p before | inr e ↦ subst (IsOfOpen (lanes_of t)) (sym e) of ];
     }
 

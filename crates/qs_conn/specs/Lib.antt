@@ -19,7 +19,9 @@ pub mod Examples
 pub mod EndCodes
 pub mod Layers
 pub mod Told
+pub mod ItemOrder
 pub mod Outgoing
 pub mod Filling
 pub mod Runs
 pub mod Marks
+pub mod Words

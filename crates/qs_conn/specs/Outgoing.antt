@@ -1,5 +1,5 @@
 -- The sending side of an end: its sending halves, its packets, and what was acknowledged of them.
-use Rattle.std.specs.Prelude.{◌≡◌, ℕ, ◌+◌, ◌-◌, ◌<◌, ◌≤◌, Bool, true, false, List, [], ◌∷◌, ◌++◌, length, map, Option, None, Some, is_some, ⊤}
+use Rattle.std.specs.Prelude.{◌≡◌, ℕ, ◌+◌, ◌-◌, ◌<◌, ◌≤◌, ◌↔◌, Bool, true, false, List, [], ◌∷◌, ◌++◌, length, map, Option, None, Some, is_some, ⊤}
 use Rattle.std.specs.FinMap as fmap
 use Rattle.std.specs.FinSet as set
 use Rattle.qs_wire.specs.declared.stream_id.Dir.TheVariants.{Bidi, Uni}
@@ -137,7 +137,7 @@ lanes_of t =
       server_uni = map (λ (s : Sending). s.lane) t.server_uni;
     }
 
--- Two pieces apart: of one stream they share no offset, and one of them at most bears the end.
+-- Two pieces apart: two chunks of one stream share no offset, and one of them at most bears the end; two items differ.
 pub record AreApart (c d : Chunk) : Type 0 where
   pub offsets : (q : ℕ) → c.offset ≤ q → q < c.offset + c.len → d.offset ≤ q → q < d.offset + d.len → ⊥
   pub ends : c.fin ≡ true → d.fin ≡ true → ⊥
@@ -145,7 +145,8 @@ pub record AreApart (c d : Chunk) : Type 0 where
 abbrev pub Apart : Piece → Piece → Type 0
 Apart (Data n c) (Data k d) = n ≡ k → AreApart c d
 Apart (Data n c) (Told i) = ⊤
-Apart (Told i) p = ⊤
+Apart (Told i) (Data n c) = ⊤
+Apart (Told i) (Told j) = i ≡ j → ⊥
 
 abbrev pub ApartFrom : Piece → List Piece → Type 0
 ApartFrom p [] = ⊤
@@ -227,6 +228,11 @@ pub record IsOutbox (t : Tables Sending) (m : Records) (has_room : Bool) (pendin
   pub small : sent ≤ MAX_VARINT
   pub room : spare ≤ free
   pub ready : 0 < spare + length pending → has_room ≡ true
+
+-- an index has the items that outstanding packets told, and room for as many as the packet in the making may
+pub record IsIndexed (m : Records) (items : List Item) (spare free : ℕ) : Type 0 where
+  pub found : (i : Item) → Among i items ↔ IsCarried m (Told i)
+  pub room : spare ≤ free
 
 -- What is to be told
 

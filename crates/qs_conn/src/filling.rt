@@ -4,6 +4,7 @@ ghost use Rattle.qs_recv.specs.Lane.{RecvLane};
 ghost use Rattle.std.specs.FinSet as set;
 ghost use Rattle.qs_ranges.specs.Numbers.{MAX_VARINT, run_starts};
 ghost use Rattle.qs_send.specs.declared.piece.Piece.{Piece};
+ghost use Rattle.qs_send.specs.declared.piece.Piece.TheVariants as pieces;
 ghost use Rattle.qs_conn.specs.Credit.{all_sent};
 ghost use Rattle.qs_send.specs.Lane.{sent_lane, bytes_of};
 ghost use Rattle.qs_send.specs.Chunks.{frame_len};
@@ -13,7 +14,7 @@ ghost use Rattle.qs_conn.specs.declared.terms.Terms.{Terms};
 ghost use Rattle.qs_conn.specs.Tables.{Tables, lookup};
 ghost use Rattle.qs_conn.specs.Ends.{End};
 ghost use Rattle.qs_conn.specs.Due.{IsCovered};
-ghost use Rattle.qs_conn.specs.Outgoing.{MayTell, sent_sum, on_lane, chunk_put};
+ghost use Rattle.qs_conn.specs.Outgoing.{IsCarried, MayTell, sent_sum, on_lane, chunk_put};
 ghost use Rattle.qs_conn.specs.Layers.{or_none};
 ghost use Rattle.qs_conn.specs.Marks.{IsBefore, IsIdle};
 ghost use Rattle.qs_conn.specs.Filling.{frame_of_item, slot_at, end_by, TermsFit, HasSpare, PutsItem, Passed, no_slot, and_slot, and_kind, all_items, Stage, Flow, Packed, InPacket, Begun, IsPassed, MayGo, stream_frame};
@@ -84,6 +85,7 @@ fn put_item(outbox: &mut Outbox, item: &Item, out: &mut [u8], packet: Packet) ->
     requires within { packet.len ≤ length out.old }
     requires spare { HasSpare (length out.old) packet.len outbox.old.spare }
     requires may { MayTell outbox.old.sends item.now }
+    requires new { IsCarried outbox.old.outstanding (pieces.Told item.now) → ⊥ }
     requires fits { Fits (frame_of_item item.now) }
     ensures puts { PutsItem item.now out.old packet.len outbox.old out.new result.len outbox.new result.is_full }
     ensures sum { sent_sum outbox.new.sends ≡ sent_sum outbox.old.sends }

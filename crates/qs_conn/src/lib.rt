@@ -20,6 +20,7 @@ mod slot;
 mod stream_values;
 mod terms;
 mod told;
+mod told_index;
 mod uses;
 
 pub use closing::{Closed, Closing, Received};

@@ -1,26 +1,34 @@
 //! Which streams of one type may have something to send or to tell.
 ghost use Rattle.std.specs.Prelude.{◌≡◌, ◌++◌, ◌-◌, ◌<◌, [], false, length, take, slice_set, replicate, OnOk, OnErr};
 ghost use Rattle.qs_conn.specs.Marks.{IsNextMark, least_of};
+ghost use Rattle.qs_conn.specs.Words.{HasBit, IsCutAt, IsLowestBit};
 
 use qs_ranges::NoMemory;
 use std::alloc::Global;
 use std::marker::Model;
 
-/// A mark for each index of the streams of one type. A search jumps over indexes that aren't marked.
+/// How many marks a word has.
+const MARKS_PER_WORD: usize = 64;
+
+/// A mark for each index of the streams of one type. A search jumps over indexes that aren't marked, a word of them at a time.
 #[derive(Drop)]
 pub(crate) struct Marks {
-    marks: Vec<bool>,
+    words: Vec<u64>,
+    count: usize,
 }
 
 impl Model for Marks {
     ghost use Rattle.std.specs.Prelude.{List, Bool};
     ghost use Rattle.std.specs.Coded.{coded_list, coded_bool};
+    ghost use Rattle.qs_conn.specs.Words.{flags, AreFlags};
 
     ghost Value = { List Bool };
 
     ghost coded = { coded_list coded_bool };
 
-    ghost view = { λ m. m.marks.items };
+    ghost view = { λ m. flags m.words.items m.count };
+
+    ghost invariant = { λ m. AreFlags m.words.items m.count };
 }
 
 impl Marks {
@@ -29,7 +37,8 @@ impl Marks {
         ensures { result ≡ [] }
     {
         Marks {
-            marks: Vec::new(alloc),
+            words: Vec::new(alloc),
+            count: 0,
         }
     }
 
@@ -37,8 +46,10 @@ impl Marks {
     pub(crate) fn reserve(&mut self, count: usize) -> Result<(), NoMemory>
         ensures { self.new ≡ self.old }
     {
-        let missing = count.saturating_sub(self.marks.len());
-        match self.marks.reserve(missing) {
+        let missing = count
+            .div_ceil(MARKS_PER_WORD)
+            .saturating_sub(self.words.len());
+        match self.words.reserve(missing) {
             Ok(()) => Ok(()),
             Err(_refused) => Err(NoMemory),
         }
@@ -49,11 +60,14 @@ impl Marks {
         ensures ok { OnOk result (self.new ≡ self.old ++ replicate (count - length self.old) false) }
         ensures err { OnErr result (self.new ≡ self.old) }
     {
-        if count <= self.marks.len() {
+        if count <= self.count {
             return Ok(());
         }
-        match self.marks.resize(count, false) {
-            Ok(()) => Ok(()),
+        match self.words.resize(count.div_ceil(MARKS_PER_WORD), 0) {
+            Ok(()) => {
+                self.count = count;
+                Ok(())
+            }
             Err(_refused) => Err(NoMemory),
         }
     }
@@ -62,7 +76,13 @@ impl Marks {
     pub(crate) fn close_to(&mut self, count: usize)
         ensures { self.new ≡ take count self.old }
     {
-        self.marks.truncate(count);
+        if self.count <= count {
+            return;
+        }
+        let last = count / MARKS_PER_WORD;
+        self.words.truncate(last + 1);
+        self.words[last] = cut_at(self.words[last], count % MARKS_PER_WORD);
+        self.count = count;
     }
 
     /// Marks an index, or takes its mark away.
@@ -70,20 +90,55 @@ impl Marks {
         requires { index < length self.old }
         ensures { self.new ≡ slice_set self.old index is_marked }
     {
-        self.marks[index] = is_marked;
+        let place = index / MARKS_PER_WORD;
+        self.words[place] = with_bit(self.words[place], index % MARKS_PER_WORD, is_marked);
     }
 
     /// The least marked index from an index on.
     pub(crate) fn next(&self, from: usize) -> Option<usize>
         ensures { IsNextMark self.now from result }
     {
-        for index in from..self.marks.len() {
-            if self.marks[index] {
-                return Some(index);
+        let mut bit = from % MARKS_PER_WORD;
+        for place in from / MARKS_PER_WORD..self.words.len() {
+            if let Some(marked) = lowest_bit(self.words[place], bit) {
+                return Some(place * MARKS_PER_WORD + marked);
             }
+            bit = 0;
         }
         None
     }
+}
+
+/// A word with one of its bits set or cleared.
+fn with_bit(word: u64, bit: usize, is_set: bool) -> u64
+    requires { bit < 64 }
+    ensures { HasBit word bit is_set result }
+{
+    if is_set {
+        word | (1 << bit)
+    } else {
+        word & !(1 << bit)
+    }
+}
+
+/// A word with its bits from one on cleared.
+fn cut_at(word: u64, bit: usize) -> u64
+    requires { bit < 64 }
+    ensures { IsCutAt word bit result }
+{
+    word & ((1 << bit) - 1)
+}
+
+/// The least bit that is set, from one on.
+fn lowest_bit(word: u64, from: usize) -> Option<usize>
+    requires { from < 64 }
+    ensures { IsLowestBit word from result }
+{
+    let rest = word >> from;
+    if rest == 0 {
+        return None;
+    }
+    Some(from + rest.trailing_zeros() as usize)
 }
 
 /// The lesser of two numbers, where there are some.

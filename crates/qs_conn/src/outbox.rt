@@ -10,6 +10,7 @@ ghost use Rattle.qs_conn.specs.Outgoing.{no_packets, with_sends, on_lane, sent_s
 use crate::report::SendReport;
 use crate::send_tables::SendTables;
 use crate::told::ToldItems;
+use crate::told_index::ToldIndex;
 use qs_ranges::NoMemory;
 use qs_send::{Piece, Records, SendFault};
 use qs_wire::StreamId;
@@ -30,7 +31,9 @@ pub(crate) struct Outbox {
     records: Records,
     // The pieces of the packet in the making.
     pending: Vec<Piece>,
-    // For how many more there is memory.
+    // The items that outstanding packets and the one in the making told.
+    index: ToldIndex,
+    // For how many more pieces there is memory.
     spare: usize,
     next: u64,
     told: ToldItems,
@@ -39,7 +42,7 @@ pub(crate) struct Outbox {
 // Clauses see the lanes. What of them is due stays inside: what was written and is neither acknowledged nor outstanding.
 impl Model for Outbox {
     ghost use Rattle.std.specs.Prelude.{◌-◌, vec_len, vec_capacity};
-    ghost use Rattle.qs_conn.specs.Outgoing.{Outgoing, IsOutbox, lanes_of, with_pending};
+    ghost use Rattle.qs_conn.specs.Outgoing.{Outgoing, IsOutbox, IsIndexed, lanes_of, with_pending};
     ghost use Rattle.qs_conn.specs.EndCodes.{outgoing_code};
 
     ghost Value = { Outgoing };
@@ -54,7 +57,7 @@ impl Model for Outbox {
       spare = o.spare;
     } };
 
-    ghost invariant = { λ o. IsOutbox o.sends o.records.pieces o.records.ready o.pending.items o.next o.sent o.spare (vec_capacity o.pending - vec_len o.pending) };
+    ghost invariant = { λ o. IsOutbox o.sends o.records.pieces o.records.ready o.pending.items o.next o.sent o.spare (vec_capacity o.pending - vec_len o.pending) × IsIndexed (with_pending o.records.pieces o.next o.pending.items) o.index.items o.spare o.index.spare };
 }
 
 impl Outbox {
@@ -67,6 +70,7 @@ impl Outbox {
             sent: 0,
             records: Records::new(alloc),
             pending: Vec::new(alloc),
+            index: ToldIndex::new(alloc),
             spare: 0,
             next: 0,
             told: ToldItems::new(alloc),

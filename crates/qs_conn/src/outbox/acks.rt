@@ -1,7 +1,9 @@
 //! Packets are acknowledged and lost.
-ghost use Rattle.std.specs.Prelude.{◌≡◌, ◌<◌, is_some, true, Some, OnOk, OnErr};
+ghost use Rattle.std.specs.Prelude.{◌≡◌, ◌<◌, ◌≤◌, ◌↔◌, is_some, true, Some, OnOk, OnErr};
 ghost use Rattle.std.specs.FinMap as fmap;
+ghost use Rattle.qs_send.specs.declared.piece.Item.{Item};
 ghost use Rattle.qs_send.specs.declared.piece.Piece.TheVariants as pieces;
+ghost use Rattle.qs_send.specs.Records.{Among};
 ghost use Rattle.qs_send.specs.Lane.{Sending, after_reset_acked};
 ghost use Rattle.qs_conn.specs.Tables.{lookup, updated};
 ghost use Rattle.qs_conn.specs.Outgoing.{first_piece, first_acked_out, shorter, IsIdle, IsHeldBelow, IsSentPiece, NoneEmpty, item_noted, halves_acked, items_acked, halves_lost};
@@ -9,6 +11,7 @@ ghost use Rattle.qs_conn.specs.Outgoing.{first_piece, first_acked_out, shorter, 
 use super::Outbox;
 use crate::send_tables::SendTables;
 use crate::told::ToldItems;
+use crate::told_index::ToldIndex;
 use qs_ranges::NoMemory;
 use qs_send::{Item, Piece, SendState};
 use qs_wire::StreamId;
@@ -50,8 +53,9 @@ impl Outbox {
         ensures idle { IsIdle self.new }
     {
         let _next = self.next;
-        piece_acked(&mut self.sends, &mut self.told, piece)?;
+        piece_acked(&mut self.sends, &mut self.told, &piece)?;
         self.records.drop_first(number);
+        forget(&mut self.index, piece);
         Ok(())
     }
 
@@ -64,21 +68,22 @@ impl Outbox {
         ensures idle { IsIdle self.new }
     {
         let _next = self.next;
-        piece_lost(&mut self.sends, piece)?;
+        piece_lost(&mut self.sends, &piece)?;
         self.records.drop_first(number);
+        forget(&mut self.index, piece);
         Ok(())
     }
 }
 
 // A chunk, or an item, is acknowledged; or nothing changes.
-fn piece_acked(sends: &mut SendTables, told: &mut ToldItems, piece: Piece) -> Result<(), NoMemory>
-    requires { IsSentPiece sends.old piece }
-    ensures halves { OnOk result (sends.new ≡ halves_acked piece sends.old) }
-    ensures items { OnOk result (told.new ≡ items_acked piece told.old) }
+fn piece_acked(sends: &mut SendTables, told: &mut ToldItems, piece: &Piece) -> Result<(), NoMemory>
+    requires { IsSentPiece sends.old piece.now }
+    ensures halves { OnOk result (sends.new ≡ halves_acked piece.now sends.old) }
+    ensures items { OnOk result (told.new ≡ items_acked piece.now told.old) }
     ensures err { OnErr result (sends.new ≡ sends.old) }
     ensures same { OnErr result (told.new ≡ told.old) }
 {
-    match piece {
+    match *piece {
         Piece::Data { stream, chunk } => sends.acked(stream, chunk),
         Piece::Told(item) => item_acked(sends, told, item),
     }
@@ -110,13 +115,23 @@ fn reset_acked(sends: &mut SendTables, stream: StreamId)
 }
 
 // A chunk is due again, or nothing changes. An item is due by itself.
-fn piece_lost(sends: &mut SendTables, piece: Piece) -> Result<(), NoMemory>
-    requires { IsSentPiece sends.old piece }
-    ensures ok { OnOk result (sends.new ≡ halves_lost piece sends.old) }
+fn piece_lost(sends: &mut SendTables, piece: &Piece) -> Result<(), NoMemory>
+    requires { IsSentPiece sends.old piece.now }
+    ensures ok { OnOk result (sends.new ≡ halves_lost piece.now sends.old) }
     ensures err { OnErr result (sends.new ≡ sends.old) }
 {
-    match piece {
+    match *piece {
         Piece::Data { stream, chunk } => sends.lost(stream, chunk),
         Piece::Told(_) => Ok(()),
+    }
+}
+
+// An item that left the records is told no more.
+fn forget(index: &mut ToldIndex, piece: Piece)
+    ensures items { (i : Item) → Among i index.new.items ↔ (Among i index.old.items × (pieces.Told i ≡ piece → ⊥)) }
+    ensures spare { index.old.spare ≤ index.new.spare }
+{
+    if let Piece::Told(item) = piece {
+        index.remove(item);
     }
 }

@@ -1,11 +1,12 @@
 //! Packets are made.
 ghost use Rattle.std.specs.Prelude.{◌≡◌, ◌+◌, ◌-◌, ◌≤◌, ◌<◌, ◌↔◌, ◌++◌, ◌∷◌, [], vec_len, vec_capacity, IsTrue, length, is_some, true, OnOk, OnErr};
 ghost use Rattle.qs_ranges.specs.Numbers.{MAX_VARINT};
+ghost use Rattle.qs_send.specs.declared.piece.Piece.TheVariants as pieces;
 ghost use Rattle.qs_send.specs.Lane.{Sending, sent_lane, bytes_of, after_blocked};
 ghost use Rattle.qs_send.specs.Chunks.{IsDueChunk, IsHeldByRoom, HasBytes};
 ghost use Rattle.qs_conn.specs.Tables.{lookup, updated};
 ghost use Rattle.qs_conn.specs.Layers.{or_none};
-ghost use Rattle.qs_conn.specs.Outgoing.{on_lane, sent_sum, chunk_put, item_put_out, HasSending, ChunkFound, MayTell, IsIdle, AreBelow, halves_told, with_pending};
+ghost use Rattle.qs_conn.specs.Outgoing.{on_lane, sent_sum, chunk_put, item_put_out, HasSending, ChunkFound, MayTell, IsCarried, IsIdle, AreBelow, halves_told, with_pending};
 
 use super::Outbox;
 use crate::send_tables::SendTables;
@@ -23,6 +24,7 @@ impl Outbox {
         let _next = self.next;
         self.records.make_room()?;
         self.pending.reserve(count)?;
+        self.index.reserve(count)?;
         self.spare = count;
         Ok(())
     }
@@ -76,15 +78,17 @@ impl Outbox {
         self.spare -= 1;
     }
 
-    /// The item stands in the packet in the making.
+    /// The item stands in the packet in the making. No outstanding packet told it with this value.
     pub(crate) fn put_item(&mut self, item: Item)
         requires spare { 0 < self.old.spare }
         requires may { MayTell self.old.sends item }
+        requires new { IsCarried self.old.outstanding (pieces.Told item) → ⊥ }
         ensures { self.new ≡ item_put_out item self.old }
     {
         let _next = self.next;
         note_told(&mut self.sends, &item);
         hold(&mut self.pending, Piece::Told(item));
+        self.index.insert(item);
         self.spare -= 1;
     }
 

@@ -8,7 +8,7 @@ ghost use Rattle.qs_conn.specs.Marks.{IsBefore, IsQuietAt};
 ghost use Rattle.qs_conn.specs.Outgoing.{IsCarried, IsAckedOut, IsAckedReset, IsBlockedAt, WantsMore, reset_by};
 
 use super::Outbox;
-use qs_send::{Item, Piece, Reset, SendState};
+use qs_send::{Item, Reset, SendState};
 use qs_wire::StreamId;
 
 impl Outbox {
@@ -17,11 +17,7 @@ impl Outbox {
         ensures { IsTrue result ↔ IsCarried self.now.outstanding (pieces.Told item) }
     {
         let _next = self.next;
-        let piece = Piece::Told(item);
-        if self.records.holds(piece) {
-            return true;
-        }
-        self.pending.contains(&piece)
+        self.index.has(item)
     }
 
     /// Whether an acknowledged packet told the item with this value.

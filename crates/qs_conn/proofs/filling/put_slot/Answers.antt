@@ -1,4 +1,4 @@
-use Rattle.std.proofs.Common.{take}
+use Rattle.std.proofs.Common.{take, inl}
 use Rattle.qs_conn.specs.Ends.{new_end}
 use Rattle.qs_conn.specs.Filling.{end_by}
 use Rattle.qs_conn.proofs.Putting.{stage_absent, stage_covered, stage_put}
@@ -25,3 +25,9 @@ put_item-requires-clause-may c =
     let t = c.args.terms.now in
     let e = new_end t.role t.settings (record { max_data = 0; bidi_local = 0; bidi_remote = 0; uni = 0; streams_bidi = 0; streams_uni = 0 }) in
     may_tell (end_by t c.args.recvs.now c.args.outbox.now e) c.in-Some.item (c.in-Some.ensures.current e).0
+
+pub put_item-requires-clause-new : goal.put_item-requires-clause-new
+put_item-requires-clause-new c =
+    let t = c.args.terms.now in
+    let e = new_end t.role t.settings (record { max_data = 0; bidi_local = 0; bidi_remote = 0; uni = 0; streams_bidi = 0; streams_uni = 0 }) in
+    λ out. c.is_covered.ensures.no t c.args.recvs.now e c.if-is_covered.false (inl out)

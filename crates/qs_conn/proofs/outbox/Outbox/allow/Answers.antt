@@ -11,7 +11,7 @@ allow-requires-clause-there c = half_there _ c.args.self.now c.self.inside.sends
 pub invariant_of-self : goal.invariant_of-self
 invariant_of-self c =
     let there = half_there _ c.args.self.now c.self.inside.sends c.args.stream c.self.view_is refl c.requires.open in
-    box_allowed _ _ _ _ _ _ _ _ _ c.self.invariant c.args.stream c.args.limit there c.allow.ensures
+    (box_allowed _ _ _ _ _ _ _ _ _ c.self.invariant.0 c.args.stream c.args.limit there c.allow.ensures, c.self.invariant.1)
 
 pub returns : goal.returns
 returns c =

@@ -6,7 +6,7 @@ use Rattle.qs_conn.proofs.Outboxes.{sends_step, box_closed}
 use Rattle.qs_conn.proofs.outbox.Outbox.close_to.Goals as goal
 
 pub invariant_of-self : goal.invariant_of-self
-invariant_of-self c = box_closed _ _ _ _ _ _ _ _ _ c.self.invariant c.args.stream c.args.count c.close_to.ensures (rw (← c.self.view_is) at c.requires.none) (rw (← c.self.view_is) at c.requires.unsent)
+invariant_of-self c = (box_closed _ _ _ _ _ _ _ _ _ c.self.invariant.0 c.args.stream c.args.count c.close_to.ensures (rw (← c.self.view_is) at c.requires.none) (rw (← c.self.view_is) at c.requires.unsent), c.self.invariant.1)
 
 pub returns : goal.returns
 returns c =

@@ -12,7 +12,7 @@ pub finish-requires : goal.finish-requires
 finish-requires c = (half_there _ c.args.self.now c.self.inside.sends c.args.stream c.self.view_is refl c.requires)
 
 pub invariant_of-self : goal.invariant_of-self
-invariant_of-self c = box_finished _ _ _ _ _ _ _ _ _ c.self.invariant c.args.stream c.get.result.now c.get.ensures c.is_lawful.ensures c.finish.ensures.after
+invariant_of-self c = (box_finished _ _ _ _ _ _ _ _ _ c.self.invariant.0 c.args.stream c.get.result.now c.get.ensures c.is_lawful.ensures c.finish.ensures.after, c.self.invariant.1)
 
 pub returns-clause-answer : goal.returns-clause-answer
 returns-clause-answer c = c.finish.ensures.answer ∙ ap (λ l. answer_of (refusal l)) (sym (lane_now _ c.args.self.now c.self.inside.sends c.args.stream c.self.view_is refl))

@@ -1,19 +1,25 @@
 use Rattle.std.proofs.Common.{refl}
 use Rattle.qs_conn.proofs.OutboxAcks.{idle_none, first_at, tied_at, sent_piece, box_lost, lost_value, idle_after}
+use Rattle.qs_conn.proofs.Indexed.{indexed_first_gone}
 use Rattle.qs_conn.proofs.outbox.Outbox.lose_first.Goals as goal
 
 pub piece_lost-requires : goal.piece_lost-requires
 piece_lost-requires c =
     sent_piece c.self.inside.sends c.self.inside.records.pieces c.args.number c.args.piece
-    (tied_at _ _ _ _ _ _ _ _ c.self.invariant (idle_none _ c.args.self.now c.self.inside.records.pieces c.self.inside.pending.items c.self.view_is refl c.requires.idle))
+    (tied_at _ _ _ _ _ _ _ _ c.self.invariant.0 (idle_none _ c.args.self.now c.self.inside.records.pieces c.self.inside.pending.items c.self.view_is refl c.requires.idle))
     (first_at _ c.args.self.now c.self.inside.records.pieces c.self.inside.pending.items c.args.number c.args.piece c.self.view_is refl c.requires.idle c.requires.first)
 
 pub invariant_of-self-2 : goal.invariant_of-self-2
-invariant_of-self-2 c =
-    box_lost _ _ _ _ _ _ _ _ _ _ _ c.args.number c.args.piece c.self.invariant
-    (idle_none _ c.args.self.now c.self.inside.records.pieces c.self.inside.pending.items c.self.view_is refl c.requires.idle)
-    (first_at _ c.args.self.now c.self.inside.records.pieces c.self.inside.pending.items c.args.number c.args.piece c.self.view_is refl c.requires.idle c.requires.first)
-    c.in_ok-piece_lost.ensures.ok c.drop_first.ensures.pieces c.drop_first.ensures.ready
+invariant_of-self-2 c = (
+  box_lost _ _ _ _ _ _ _ _ _ _ _ c.args.number c.args.piece c.self.invariant.0
+      (idle_none _ c.args.self.now c.self.inside.records.pieces c.self.inside.pending.items c.self.view_is refl c.requires.idle)
+      (first_at _ c.args.self.now c.self.inside.records.pieces c.self.inside.pending.items c.args.number c.args.piece c.self.view_is refl c.requires.idle c.requires.first)
+      c.in_ok-piece_lost.ensures.ok c.drop_first.ensures.pieces c.drop_first.ensures.ready,
+  indexed_first_gone _ _ _ c.args.number c.args.piece _ _ _ _ _ _ c.self.invariant.1 c.self.invariant.0.tied.apart
+      (idle_none _ c.args.self.now c.self.inside.records.pieces c.self.inside.pending.items c.self.view_is refl c.requires.idle)
+      (first_at _ c.args.self.now c.self.inside.records.pieces c.self.inside.pending.items c.args.number c.args.piece c.self.view_is refl c.requires.idle c.requires.first)
+      c.drop_first.ensures.pieces c.forget.ensures.items c.forget.ensures.spare,
+)
 
 pub returns-clause-ok : goal.returns-clause-ok
 returns-clause-ok c =
@@ -24,7 +30,7 @@ returns-clause-ok c =
 pub returns-clause-idle : goal.returns-clause-idle
 returns-clause-idle c =
     let held =
-    box_lost _ _ _ _ _ _ _ _ _ _ _ c.args.number c.args.piece c.self.invariant
+    box_lost _ _ _ _ _ _ _ _ _ _ _ c.args.number c.args.piece c.self.invariant.0
     (idle_none _ c.args.self.now c.self.inside.records.pieces c.self.inside.pending.items c.self.view_is refl c.requires.idle)
     (first_at _ c.args.self.now c.self.inside.records.pieces c.self.inside.pending.items c.args.number c.args.piece c.self.view_is refl c.requires.idle c.requires.first)
     c.in_ok-piece_lost.ensures.ok c.drop_first.ensures.pieces c.drop_first.ensures.ready in

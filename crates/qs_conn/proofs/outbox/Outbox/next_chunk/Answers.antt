@@ -7,4 +7,4 @@ pub get-half-requires : goal.get-half-requires
 get-half-requires c = half_there _ c.args.self.now c.self.inside.sends c.args.stream c.self.view_is refl c.requires
 
 pub returns : goal.returns
-returns c = (c.get-half.result.now, sending_is _ c.args.self.now c.self.inside.sends c.args.stream c.get-half.result.now c.self.view_is refl c.get-half.ensures c.is_lawful.ensures (c.self.invariant.tied.lanes c.args.stream c.get-half.result.now c.get-half.ensures), chunk_found c.get-half.result.now c.args.room c.args.fresh c.next_chunk.result c.next_chunk.ensures.found c.next_chunk.ensures.none c.next_chunk.ensures.kept)
+returns c = (c.get-half.result.now, sending_is _ c.args.self.now c.self.inside.sends c.args.stream c.get-half.result.now c.self.view_is refl c.get-half.ensures c.is_lawful.ensures (c.self.invariant.0.tied.lanes c.args.stream c.get-half.result.now c.get-half.ensures), chunk_found c.get-half.result.now c.args.room c.args.fresh c.next_chunk.result c.next_chunk.ensures.found c.next_chunk.ensures.none c.next_chunk.ensures.kept)

@@ -1,13 +1,22 @@
 use Rattle.std.proofs.Common.{refl, arith}
 use Rattle.qs_conn.proofs.OutboxMaking.{box_item, item_value, told_now}
+use Rattle.qs_conn.proofs.Indexed.{indexed_item_put}
 use Rattle.qs_conn.proofs.outbox.Outbox.put_item.Goals as goal
+
+pub insert-requires : goal.insert-requires
+insert-requires c =
+    let spare = rw (← c.self.view_is) at c.requires.spare in
+    let room = c.self.invariant.1.room in
+    omega (arith, spare, room)
 
 pub invariant_of-self : goal.invariant_of-self
 invariant_of-self c =
     let room = c.hold.ensures.room in
-    let was = c.self.invariant.room in
-    box_item _ _ _ _ _ _ _ _ _ _ _ c.args.item c.self.invariant c.note_told.ensures (told_now _ c.args.self.now c.self.inside.sends c.args.item c.self.view_is refl c.requires.may) c.hold.ensures.items (rw (← c.self.view_is) at c.requires.spare) (omega (arith, room, was))
+    let was = c.self.invariant.0.room in (
+      box_item _ _ _ _ _ _ _ _ _ _ _ c.args.item c.self.invariant.0 c.note_told.ensures (told_now _ c.args.self.now c.self.inside.sends c.args.item c.self.view_is refl c.requires.may) (rw (← c.self.view_is) at c.requires.new) c.hold.ensures.items (rw (← c.self.view_is) at c.requires.spare) (omega (arith, room, was)),
+      indexed_item_put _ _ _ _ _ _ _ _ _ c.args.item c.self.invariant.1 c.self.invariant.0.below c.hold.ensures.items c.insert.ensures.items c.insert.ensures.spare,
+    )
 
 pub returns : goal.returns
 returns c =
-    item_value _ c.args.self.now c.self.inside.sends c.note_told.new.sends c.self.inside.records.pieces c.self.inside.pending.items c.hold.new.pending.items _ c.args.item c.self.view_is refl refl c.self.invariant.below refl c.note_told.ensures c.hold.ensures.items
+    item_value _ c.args.self.now c.self.inside.sends c.note_told.new.sends c.self.inside.records.pieces c.self.inside.pending.items c.hold.new.pending.items _ c.args.item c.self.view_is refl refl c.self.invariant.0.below refl c.note_told.ensures c.hold.ensures.items

@@ -9,7 +9,7 @@ pub reset-requires-clause-open : goal.reset-requires-clause-open
 reset-requires-clause-open c = (half_there _ c.args.self.now c.self.inside.sends c.args.stream c.self.view_is refl c.requires.open)
 
 pub invariant_of-self : goal.invariant_of-self
-invariant_of-self c = box_reset _ _ _ _ _ _ _ _ _ c.self.invariant c.args.stream c.args.code (half_there _ c.args.self.now c.self.inside.sends c.args.stream c.self.view_is refl c.requires.open) c.reset.ensures.after
+invariant_of-self c = (box_reset _ _ _ _ _ _ _ _ _ c.self.invariant.0 c.args.stream c.args.code (half_there _ c.args.self.now c.self.inside.sends c.args.stream c.self.view_is refl c.requires.open) c.reset.ensures.after, c.self.invariant.1)
 
 pub returns-clause-answer : goal.returns-clause-answer
 returns-clause-answer c = c.reset.ensures.answer ∙ ap (λ l. answer_of (reset_refusal l)) (sym (lane_now _ c.args.self.now c.self.inside.sends c.args.stream c.self.view_is refl))

@@ -9,7 +9,7 @@ pub write-requires : goal.write-requires
 write-requires c = (half_there _ c.args.self.now c.self.inside.sends c.args.stream c.self.view_is refl c.requires)
 
 pub invariant_of-self : goal.invariant_of-self
-invariant_of-self c = box_written _ _ _ _ _ _ _ _ _ c.self.invariant c.args.stream c.args.bytes.now c.get.result.now c.write.result c.get.ensures c.is_lawful.ensures c.write.ensures.accepted c.write.ensures.refused
+invariant_of-self c = (box_written _ _ _ _ _ _ _ _ _ c.self.invariant.0 c.args.stream c.args.bytes.now c.get.result.now c.write.result c.get.ensures c.is_lawful.ensures c.write.ensures.accepted c.write.ensures.refused, c.self.invariant.1)
 
 pub returns-clause-accepted : goal.returns-clause-accepted
 returns-clause-accepted c = write_ok _ c.args.self.now c.self.inside.sends c.write.new.self c.args.stream c.args.bytes.now c.write.result c.self.view_is refl c.write.ensures.accepted
