@@ -3,7 +3,7 @@
 use crate::status::Status;
 use clap::error::ErrorKind;
 use clap::{Arg, ArgMatches, Command, Error};
-use std::alloc::Global;
+use std::alloc::{AllocError, Global};
 
 /// The most events of a random script.
 const MAX_EVENTS: u64 = 10_000;
@@ -23,11 +23,10 @@ impl<'a> Request<'a> {
     /// What the words ask for, the program's name first. `BadUsage` where they make no sense, as a request
     /// for help does not either, and `Failed` where memory was refused.
     pub fn parse(alloc: Global, words: &'a [String]) -> Result<Request<'a>, Status> {
-        let matches = match command(alloc) {
-            Ok(command) => command.try_get_matches_from(words),
-            Err(error) => Err(error),
+        let Ok(command) = command(alloc) else {
+            return Err(Status::Failed);
         };
-        let matches = match matches {
+        let matches = match command.try_get_matches_from(words) {
             Ok(matches) => matches,
             Err(error) => return Err(status_of(&error)),
         };
@@ -68,19 +67,26 @@ fn number(word: &str) -> Option<u64> {
     }
 }
 
-fn command<'a>(alloc: Global) -> Result<Command<'a>, Error> {
-    let frames = Command::new(alloc, "frames").arg(Arg::new(alloc, "hex").required(true))?;
-    let play = Command::new(alloc, "play").arg(Arg::new(alloc, "file").required(true))?;
-    let random = Command::new(alloc, "random")
+fn frames_command<'a>(alloc: Global) -> Result<Command<'a>, AllocError> {
+    Command::new(alloc, "frames").arg(Arg::new(alloc, "hex").required(true))
+}
+
+fn play_command<'a>(alloc: Global) -> Result<Command<'a>, AllocError> {
+    Command::new(alloc, "play").arg(Arg::new(alloc, "file").required(true))
+}
+
+fn random_command<'a>(alloc: Global) -> Result<Command<'a>, AllocError> {
+    Command::new(alloc, "random")
         .arg(Arg::new(alloc, "seed").required(true))?
-        .arg(Arg::new(alloc, "n").required(true))?;
-    Ok(
-        Command::new(alloc, "qstream")
-            .subcommand_required(true)
-            .subcommand(frames)?
-            .subcommand(play)?
-            .subcommand(random)?,
-    )
+        .arg(Arg::new(alloc, "n").required(true))
+}
+
+fn command<'a>(alloc: Global) -> Result<Command<'a>, AllocError> {
+    Command::new(alloc, "qstream")
+        .subcommand_required(true)
+        .subcommand(frames_command(alloc)?)?
+        .subcommand(play_command(alloc)?)?
+        .subcommand(random_command(alloc)?)
 }
 
 fn status_of(error: &Error) -> Status {

@@ -11,6 +11,7 @@ use crate::fault::Full;
 use crate::frame::{EcnCounts, Frame};
 use crate::frame_type::FrameType;
 use crate::varint::{read_varint, spell, varint_len};
+use Part::{Counted, Counts, Identifier, Number, Plain, Ranges};
 
 /// A part of a frame's canonical text.
 #[derive(Clone, Copy, Debug)]
@@ -176,6 +177,25 @@ fn parts<'a>(
 
 const NONE: Part<'static> = Part::Nothing;
 
+/// The type and the fields of a frame, the others being nothing.
+macro_rules! parts {
+    ($frame_type:expr $(,)?) => {
+        parts($frame_type, NONE, NONE, NONE, NONE)
+    };
+    ($frame_type:expr, $a:expr $(,)?) => {
+        parts($frame_type, $a, NONE, NONE, NONE)
+    };
+    ($frame_type:expr, $a:expr, $b:expr $(,)?) => {
+        parts($frame_type, $a, $b, NONE, NONE)
+    };
+    ($frame_type:expr, $a:expr, $b:expr, $c:expr $(,)?) => {
+        parts($frame_type, $a, $b, $c, NONE)
+    };
+    ($frame_type:expr, $a:expr, $b:expr, $c:expr, $d:expr $(,)?) => {
+        parts($frame_type, $a, $b, $c, $d)
+    };
+}
+
 /// The parts of a frame's canonical text, in order.
 #[tactic(auto, unfolding(crate::specs::Grammar::canonical))]
 fn parts_of<'a>(frame: &Frame<'a>) -> [Part<'a>; 5]
@@ -184,160 +204,107 @@ fn parts_of<'a>(frame: &Frame<'a>) -> [Part<'a>; 5]
     ensures fit { AllByRecursion PartFits result }
 {
     match *frame {
-        Frame::Padding => parts(FrameType::Padding, NONE, NONE, NONE, NONE),
-        Frame::Ping => parts(FrameType::Ping, NONE, NONE, NONE, NONE),
+        Frame::Padding => parts!(FrameType::Padding),
+        Frame::Ping => parts!(FrameType::Ping),
         Frame::Ack {
             largest,
             delay,
             ranges,
             ecn,
-        } => parts(
+        } => parts!(
             FrameType::Ack { ecn: ecn.is_some() },
-            Part::Number(largest),
-            Part::Number(delay),
-            Part::Ranges(ranges),
-            Part::Counts(ecn),
+            Number(largest),
+            Number(delay),
+            Ranges(ranges),
+            Counts(ecn)
         ),
         Frame::ResetStream {
             stream,
             code,
             final_size,
-        } => parts(
+        } => parts!(
             FrameType::ResetStream,
-            Part::Number(stream.value()),
-            Part::Number(code),
-            Part::Number(final_size),
-            NONE,
+            Number(stream.value()),
+            Number(code),
+            Number(final_size)
         ),
-        Frame::StopSending { stream, code } => parts(
+        Frame::StopSending { stream, code } => parts!(
             FrameType::StopSending,
-            Part::Number(stream.value()),
-            Part::Number(code),
-            NONE,
-            NONE,
+            Number(stream.value()),
+            Number(code)
         ),
-        Frame::Crypto { offset, bytes } => parts(
+        Frame::Crypto { offset, bytes } => parts!(
             FrameType::Crypto,
-            Part::Number(offset),
-            Part::Counted(bytes),
-            NONE,
-            NONE,
+            Number(offset),
+            Counted(bytes)
         ),
-        Frame::NewToken { bytes } => {
-            parts(FrameType::NewToken, Part::Counted(bytes), NONE, NONE, NONE)
-        }
+        Frame::NewToken { bytes } => parts!(FrameType::NewToken, Counted(bytes)),
         Frame::Stream {
             stream,
             offset,
             fin,
             bytes,
-        } => parts(
+        } => parts!(
             FrameType::Stream {
                 off: offset > 0,
                 len: true,
-                fin,
+                fin
             },
-            Part::Number(stream.value()),
+            Number(stream.value()),
             number_if(offset > 0, offset),
-            Part::Counted(bytes),
-            NONE,
+            Counted(bytes)
         ),
-        Frame::MaxData { maximum } => {
-            parts(FrameType::MaxData, Part::Number(maximum), NONE, NONE, NONE)
-        }
-        Frame::MaxStreamData { stream, maximum } => parts(
+        Frame::MaxData { maximum } => parts!(FrameType::MaxData, Number(maximum)),
+        Frame::MaxStreamData { stream, maximum } => parts!(
             FrameType::MaxStreamData,
-            Part::Number(stream.value()),
-            Part::Number(maximum),
-            NONE,
-            NONE,
+            Number(stream.value()),
+            Number(maximum)
         ),
-        Frame::MaxStreams { dir, count } => parts(
-            FrameType::MaxStreams { dir },
-            Part::Number(count),
-            NONE,
-            NONE,
-            NONE,
-        ),
-        Frame::DataBlocked { limit } => {
-            parts(
-                FrameType::DataBlocked,
-                Part::Number(limit),
-                NONE,
-                NONE,
-                NONE,
-            )
-        }
-        Frame::StreamDataBlocked { stream, limit } => parts(
+        Frame::MaxStreams { dir, count } => parts!(FrameType::MaxStreams { dir }, Number(count)),
+        Frame::DataBlocked { limit } => parts!(FrameType::DataBlocked, Number(limit)),
+        Frame::StreamDataBlocked { stream, limit } => parts!(
             FrameType::StreamDataBlocked,
-            Part::Number(stream.value()),
-            Part::Number(limit),
-            NONE,
-            NONE,
+            Number(stream.value()),
+            Number(limit)
         ),
-        Frame::StreamsBlocked { dir, count } => parts(
+        Frame::StreamsBlocked { dir, count } => parts!(
             FrameType::StreamsBlocked { dir },
-            Part::Number(count),
-            NONE,
-            NONE,
-            NONE,
+            Number(count)
         ),
         Frame::NewConnectionId {
             sequence,
             retire,
             identifier,
             reset_token,
-        } => parts(
+        } => parts!(
             FrameType::NewConnectionId,
-            Part::Number(sequence),
-            Part::Number(retire),
-            Part::Identifier(identifier),
-            Part::Plain(reset_token),
+            Number(sequence),
+            Number(retire),
+            Identifier(identifier),
+            Plain(reset_token)
         ),
-        Frame::RetireConnectionId { sequence } => parts(
+        Frame::RetireConnectionId { sequence } => parts!(
             FrameType::RetireConnectionId,
-            Part::Number(sequence),
-            NONE,
-            NONE,
-            NONE,
+            Number(sequence)
         ),
-        Frame::PathChallenge { bytes } => {
-            parts(
-                FrameType::PathChallenge,
-                Part::Plain(bytes),
-                NONE,
-                NONE,
-                NONE,
-            )
-        }
-        Frame::PathResponse { bytes } => {
-            parts(
-                FrameType::PathResponse,
-                Part::Plain(bytes),
-                NONE,
-                NONE,
-                NONE,
-            )
-        }
+        Frame::PathChallenge { bytes } => parts!(FrameType::PathChallenge, Plain(bytes)),
+        Frame::PathResponse { bytes } => parts!(FrameType::PathResponse, Plain(bytes)),
         Frame::ConnectionClose {
             code,
             frame_type,
             reason,
-        } => parts(
+        } => parts!(
             FrameType::ConnectionClose,
-            Part::Number(code),
-            Part::Number(frame_type),
-            Part::Counted(reason),
-            NONE,
+            Number(code),
+            Number(frame_type),
+            Counted(reason)
         ),
-        Frame::ApplicationClose { code, reason } => parts(
+        Frame::ApplicationClose { code, reason } => parts!(
             FrameType::ApplicationClose,
-            Part::Number(code),
-            Part::Counted(reason),
-            NONE,
-            NONE,
+            Number(code),
+            Counted(reason)
         ),
-        Frame::HandshakeDone => parts(FrameType::HandshakeDone, NONE, NONE, NONE, NONE),
+        Frame::HandshakeDone => parts!(FrameType::HandshakeDone),
     }
 }
 

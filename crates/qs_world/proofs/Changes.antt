@@ -12,7 +12,7 @@ use Rattle.qs_conn.specs.Ends.{End, first_send_limit, window, on_send, on_recv}
 use Rattle.qs_conn.specs.Seen.{Seen, Ack, Stream, Control, Close, Plain}
 use Rattle.qs_world.specs.Pasts.{Past}
 use Rattle.qs_world.specs.Invariant.{EndOk, SendOk, SendSlot, RecvOk, RecvSlot, FrameTaken, StreamTaken, TakenOk, OpenOk, is_open}
-use Rattle.qs_world.proofs.Tables.{lookup_same, lookup_other, slots_updated, total_update}
+use Rattle.qs_conn.proofs.TableLaws.{lookup_same, lookup_other, slots_updated, total_update}
 
 -- What a receiving half never takes back.
 pub record Grows (l m : RecvLane) : Type 0 where

@@ -13,7 +13,7 @@ use Rattle.qs_conn.specs.Ends.{End, is_own, is_uni, opens, opened_by_peer, windo
 use Rattle.qs_conn.specs.Seen.{Seen, Ack, Stream, Control, Close, Plain}
 use Rattle.qs_conn.specs.Verdicts.{verdict, item_verdict, credit_fault, lane_of, state_fault_in}
 use Rattle.qs_conn.specs.FrameStep.{piece_acked, item_acked, acks, named, frame_taken, item_taken}
-use Rattle.qs_world.proofs.Tables.{lookup_same, open_at}
+use Rattle.qs_conn.proofs.TableLaws.{lookup_same, open_at}
 use Rattle.qs_world.specs.Pasts.{Past, Tells}
 use Rattle.qs_world.specs.Invariant.{EndOk, RecvOk, RecvSlot, FrameTaken}
 use Rattle.qs_world.proofs.Changes.{AllGrow, all_grow_refl, grow_trans, grows_update, recv_changed, send_kept}

@@ -7,7 +7,6 @@ pub mod DrawnPackets
 pub mod DrawnRuns
 mod Lists
 pub mod Members
-pub mod Tables
 pub mod Base
 pub mod Past
 pub mod Changes

@@ -21,7 +21,7 @@ use Rattle.qs_conn.specs.Lawful.{MayPut, MayCarry, Fills, Lawful, frame_put, ite
 use Rattle.qs_world.proofs.Lists.{slice_get-append, slice_get-push, slice_get-last, slice_get-take, slice_get-drop, Among_push, Among_left, Among_last}
 use Rattle.qs_world.proofs.Members.{get-inserted}
 use Rattle.qs_world.proofs.Base.{before-missing}
-use Rattle.qs_world.proofs.Tables.{slots_updated, lookup_same}
+use Rattle.qs_conn.proofs.TableLaws.{slots_updated, lookup_same}
 use Rattle.qs_world.specs.Pasts.{Packets, Past, PieceOf, Holds, Tells}
 use Rattle.qs_world.specs.Invariant.{EndHas, EndOk, SendTrue, SendSlot, RecvSlot, ChunkTrue, AckTrue, IsMade, OpenOk, is_open}
 use Rattle.qs_world.proofs.Changes.{open_update}

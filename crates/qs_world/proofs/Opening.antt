@@ -14,7 +14,7 @@ use Rattle.qs_conn.specs.Verdicts.{lane_of, or_new}
 use Rattle.qs_world.specs.Pasts.{Past, Tells, Names, IsNamed}
 use Rattle.qs_world.specs.Invariant.{EndOk, SendOk, SendSlot, NotSent, RecvOk, RecvSlot, NotReceived, OpenOk, is_open}
 use Rattle.qs_world.proofs.Lists.{drop-none}
-use Rattle.qs_world.proofs.Tables.{lookup_open, slots_opened, total_open}
+use Rattle.qs_conn.proofs.TableLaws.{lookup_open, slots_opened, total_open}
 use Rattle.qs_world.proofs.Changes.{AllGrow, Grows_refl, all_grow_refl, taken_stays}
 
 -- A half that was never used is a new one.

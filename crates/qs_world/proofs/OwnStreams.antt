@@ -9,7 +9,7 @@ use Rattle.qs_conn.specs.Tables.{Tables, open_to}
 use Rattle.qs_conn.specs.Ends.{End, is_own, is_own_by, is_uni, role_bit, opens}
 use Rattle.qs_conn.specs.Due.{known_count}
 use Rattle.qs_conn.specs.Owner.{own_kind, opened_count, next_stream}
-use Rattle.qs_world.proofs.Tables.{lookup_open, open_lower, open_at}
+use Rattle.qs_conn.proofs.TableLaws.{lookup_open, open_lower, open_at}
 use Rattle.qs_world.specs.Pasts.{Past}
 use Rattle.qs_world.specs.Invariant.{EndOk, is_open}
 use Rattle.qs_world.proofs.Opening.{opens_ok}

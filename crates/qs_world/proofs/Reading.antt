@@ -11,7 +11,7 @@ use Rattle.qs_conn.specs.Tables.{lookup, update}
 use Rattle.qs_conn.specs.Ends.{End as Endpoint, window}
 use Rattle.qs_world.proofs.Lists.{slice_get-joined}
 use Rattle.qs_world.proofs.Members.{get-front, get-kept}
-use Rattle.qs_world.proofs.Tables.{slots_updated}
+use Rattle.qs_conn.proofs.TableLaws.{slots_updated}
 use Rattle.qs_world.specs.Pasts.{Past, TellsEnd}
 use Rattle.qs_world.specs.Invariant.{EndOk, RecvTrue, RecvSlot, RecvOk, OpenOk, is_open}
 use Rattle.qs_world.proofs.Changes.{Grows, Grows_refl, open_update, grows_update, taken_stays}

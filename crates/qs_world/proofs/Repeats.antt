@@ -26,7 +26,7 @@ use Rattle.qs_send.specs.Records.{Among}
 use Rattle.qs_conn.specs.Receiving.{ReceiveStep, ReceiveBy, TakesPayload, Takes, Stops, AtEnd}
 use Rattle.qs_world.specs.Agree.{IsOld, frames_in}
 use Rattle.qs_world.proofs.Members.{run-cases, run-old, below-end, end-le}
-use Rattle.qs_world.proofs.Tables.{lookup_open, total_update, total_each}
+use Rattle.qs_conn.proofs.TableLaws.{lookup_open, total_update, total_each}
 use Rattle.qs_world.specs.Pasts.{Past, Tells}
 use Rattle.qs_world.specs.Invariant.{EndOk}
 use Rattle.qs_world.proofs.Changes.{AllGrow, Grows}

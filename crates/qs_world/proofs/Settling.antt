@@ -8,7 +8,7 @@ use Rattle.qs_conn.specs.Ends.{End, window}
 use Rattle.qs_conn.specs.Credit.{settle, all_taken}
 use Rattle.qs_world.specs.Pasts.{Past}
 use Rattle.qs_world.specs.Invariant.{EndOk, RecvOk, RecvSlot, OpenOk, is_open}
-use Rattle.qs_world.proofs.Tables.{lookup_each, slots_each}
+use Rattle.qs_conn.proofs.TableLaws.{lookup_each, slots_each}
 use Rattle.qs_world.proofs.Changes.{Grows, AllGrow, taken_stays}
 
 rises : (limit step most : ℕ) → (b : Bool) → (nat_le (limit + step) most || (most == MAX_VARINT && nat_lt limit most)) ≡ b → limit ≤ (if b then most else limit)

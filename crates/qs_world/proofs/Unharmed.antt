@@ -16,7 +16,7 @@ use Rattle.qs_conn.specs.Credit.{spent, all_sent, grant}
 use Rattle.qs_conn.specs.Seen.{Seen, Ack, Stream, Control, Close, Plain}
 use Rattle.qs_conn.specs.Verdicts.{verdict, item_verdict, state_fault_in, state_fault_out, credit_fault, ack_fault, fault_if, or_else, lane_of, STREAM_STATE_ERROR, STREAM_LIMIT_ERROR}
 use Rattle.qs_world.proofs.Members.{end-le}
-use Rattle.qs_world.proofs.Tables.{value, total_le, total_update, total_open, lookup_same, lookup_other, open_lower, open_at}
+use Rattle.qs_conn.proofs.TableLaws.{value, total_le, total_update, total_open, lookup_same, lookup_other, open_lower, open_at}
 use Rattle.qs_world.specs.Pasts.{Past, Tells, TellsOffset, TellsEnd, TellsReset, IsNamed, Names}
 use Rattle.qs_world.specs.Invariant.{EndOk, SendSlot, NeverSent, RecvTrue, RecvSlot, NeverReceived, is_open}
 use Rattle.qs_world.proofs.Opening.{opened_ok, named_by, lane_opened}

@@ -10,7 +10,7 @@ use Rattle.qs_conn.specs.Tables.{lookup, update}
 use Rattle.qs_conn.specs.Ends.{End, first_send_limit}
 use Rattle.qs_world.proofs.Lists.{slice_get-append, drop-joined}
 use Rattle.qs_world.proofs.Base.{missing-le}
-use Rattle.qs_world.proofs.Tables.{slots_updated, total_update}
+use Rattle.qs_conn.proofs.TableLaws.{slots_updated, total_update}
 use Rattle.qs_world.specs.Pasts.{Packets, Past}
 use Rattle.qs_world.specs.Invariant.{EndOk, SendTrue, SendSlot, OpenOk, is_open}
 use Rattle.qs_world.proofs.Changes.{open_update}

@@ -5,12 +5,10 @@ use Rattle.qs_recv.specs.Lane.{RecvLane}
 use Rattle.qs_send.specs.Lane.{SendLane, state, declared_size}
 use Rattle.qs_send.specs.declared.parts.SendState.{SendState}
 use Rattle.qs_send.specs.declared.parts.SendState.TheVariants.{DataRecvd}
-use Rattle.qs_conn.specs.declared.closing.Closing.{Closing}
-use Rattle.qs_conn.specs.declared.closing.Closed.{Closed}
-use Rattle.qs_conn.specs.declared.closing.Closed.TheVariants.{ByUs, ByPeer}
 use Rattle.qs_conn.specs.Tables.{Tables}
 use Rattle.qs_conn.specs.Ends.{End, send_lane, recv_lane}
 use Rattle.qs_conn.specs.Credit.{spent, all_stored}
+use Rattle.qs_conn.specs.Reports.{own_closing}
 use Rattle.qs_world.specs.declared.event.Side.{Side}
 use Rattle.qs_world.specs.declared.event.Side.TheVariants.{A, B}
 use Rattle.qs_world.specs.declared.report.LaneTotals.{LaneTotals}
@@ -64,11 +62,6 @@ stream_bound w = 4 * max (max (longest w.a.sends) (longest w.a.recvs)) (max (lon
 -- each lane of each stream that either end has opened, by stream number, A as sender before B
 abbrev pub all_lanes : World → List LaneTotals
 all_lanes w = flat_map (λ n. lane_totals w A n ++ lane_totals w B n) (range_with_len 0 (stream_bound w))
-
-abbrev pub own_closing : Option Closed → Option Closing
-own_closing None = None
-own_closing (Some (ByUs closing)) = Some closing
-own_closing (Some (ByPeer code)) = None
 
 abbrev pub end_totals : End → EndTotals
 end_totals e = record { spent = spent e; granted = e.granted; stored = all_stored e; closing = own_closing e.closed }
