@@ -17,7 +17,7 @@ use Rattle.qs_conn.specs.Layers.{or_none, or_no_sending}
 use Rattle.qs_conn.specs.Outgoing.{Outgoing, with_sends, on_lane, sent_sum, lanes_of, with_pending, AreOfOpen, AreTied, IsTied, IsOutbox, HasSending}
 use Rattle.qs_conn.proofs.TableLaws.{total_update, total_open}
 use Rattle.qs_conn.proofs.Carried.{some_is}
-use Rattle.qs_conn.proofs.Tied.{tied_write, tied_finish, tied_reset, tied_allow}
+use Rattle.qs_conn.proofs.Tied.{tied_write, tied_finish, tied_reset, tied_allow, tied_flight}
 use Rattle.qs_conn.proofs.LaneTables.{lookup_lanes, lane_there, lanes_updated, lanes_opened, lanes_closed, update_lanes}
 use Rattle.qs_conn.proofs.Ties.{ties_none, ties_updated, ties_opened, ties_closed}
 
@@ -236,7 +236,7 @@ box_open t t' m r ps k sent spare free h n limit buffer (Err e) ok err = box_sam
 
 pub sending_is : (e now : Outgoing) (t : Tables Sending) (n : ℕ) (s : Sending) → e ≡ now → e.sends ≡ lanes_of t → lookup t n ≡ Some s → IsLawful s → IsTied e.outstanding n s → HasSending now n s
 sending_is e now t n s is sends there law tied =
-    subst (λ o. HasSending o n s) is (record { lane = ap (λ x. lookup x n) sends ∙ lane_there t n s there; lawful = law; tied = tied })
+    subst (λ o. HasSending o n s) is (record { lane = ap (λ x. lookup x n) sends ∙ lane_there t n s there; lawful = law; tied = tied; flight = tied_flight e.outstanding n s law tied })
 
 -- Readers
 

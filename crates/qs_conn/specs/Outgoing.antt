@@ -1,11 +1,12 @@
 -- The sending side of an end: its sending halves, its packets, and what was acknowledged of them.
-use Rattle.std.specs.Prelude.{◌≡◌, ℕ, ◌+◌, ◌-◌, ◌<◌, ◌≤◌, ◌↔◌, Bool, true, false, List, [], ◌∷◌, ◌++◌, length, map, Option, None, Some, is_some, ⊤}
+use Rattle.std.specs.Prelude.{◌≡◌, ℕ, ◌+◌, ◌-◌, ◌<◌, ◌≤◌, ◌↔◌, Bool, true, false, List, [], ◌∷◌, ◌++◌, length, map, Option, None, Some, is_some, ⊤, IsTrue}
 use Rattle.std.specs.FinMap as fmap
 use Rattle.std.specs.FinSet as set
 use Rattle.qs_wire.specs.declared.stream_id.Dir.TheVariants.{Bidi, Uni}
 use Rattle.qs_ranges.specs.Numbers.{MAX_VARINT}
 use Rattle.qs_send.specs.Lane.{SendLane, Sending, sent_lane, acked_lane, blocked_lane, reset_acked_lane, after_acked, after_lost, after_sent, after_blocked, after_reset_acked}
 use Rattle.qs_send.specs.Chunks.{IsNextChunk, HasNoChunk, HasBytes, WasSent}
+use Rattle.qs_send.specs.Parts.{in_flight}
 use Rattle.qs_send.specs.Sound.{IsLawful}
 use Rattle.qs_send.specs.Records.{IsCarried, first_piece}
 use Rattle.qs_send.specs.declared.parts.Chunk.{Chunk}
@@ -106,21 +107,28 @@ item_put_out item o = noted_out (Told item) (with_sends (blocked_noted item o.se
 abbrev pub CarriesOffset : Records → ℕ → ℕ → Type 0
 CarriesOffset m n q = (c : Chunk) × IsCarried m (Data n c) × (c.offset ≤ q) × (q < c.offset + c.len)
 
--- Of a half: outstanding chunks were sent and aren't due; what is written and neither acknowledged nor due is outstanding; and so of the
--- end.
+-- Of a half: outstanding chunks were sent, and are neither due nor acknowledged; what is written and neither acknowledged nor due is
+-- outstanding; and so of the end.
 pub record IsTied (m : Records) (n : ℕ) (s : Sending) : Type 0 where
   pub id : s.lane.id ≡ n
   pub sent : (c : Chunk) → IsCarried m (Data n c) → WasSent s.lane c
   pub not_due : (q : ℕ) → CarriesOffset m n q → set.contains s.due.offsets q ≡ false
+  pub not_acked : (q : ℕ) → CarriesOffset m n q → set.contains s.lane.acked q ≡ false
   pub flies : (q : ℕ) → s.lane.was_reset ≡ None → q < s.lane.written → set.contains s.lane.acked q ≡ false → set.contains s.due.offsets q ≡ false → CarriesOffset m n q
   pub end_not_due : (c : Chunk) → IsCarried m (Data n c) → c.fin ≡ true → s.due.fin ≡ false
+  pub end_not_acked : (c : Chunk) → IsCarried m (Data n c) → c.fin ≡ true → s.lane.fin_acked ≡ false
   pub end_flies : s.lane.was_reset ≡ None → s.lane.finished ≡ true → s.lane.fin_acked ≡ false → s.due.fin ≡ false → (c : Chunk) × IsCarried m (Data n c) × (c.fin ≡ true)
+
+-- the offsets in flight of a half that wasn't reset are those of the outstanding pieces (RFC 9000, section 13.3)
+abbrev pub FliesAsCarried : Records → ℕ → Sending → Type 0
+FliesAsCarried m n s = s.lane.was_reset ≡ None → (q : ℕ) → IsTrue (set.contains (in_flight s) q) ↔ CarriesOffset m n q
 
 -- the half of a stream: its lane, and what of it is due
 pub record HasSending (o : Outgoing) (n : ℕ) (s : Sending) : Type 0 where
   pub lane : lookup o.sends n ≡ Some s.lane
   pub lawful : IsLawful s
   pub tied : IsTied o.outstanding n s
+  pub flight : FliesAsCarried o.outstanding n s
 
 -- the longest chunk that may go, whose bytes are in the buffer; or there is none
 abbrev pub ChunkFound : Sending → ℕ → ℕ → Option Chunk → Type 0

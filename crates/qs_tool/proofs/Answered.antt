@@ -1,5 +1,5 @@
 -- What playing a script answers.
-use Rattle.std.proofs.Common.{◌≡◌, ℕ, List, Option, true, inl, inr}
+use Rattle.std.proofs.Common.{◌≡◌, ℕ, List, Option, true, inl}
 use Rattle.std.specs.List.{list_all}
 use Rattle.qs_conn.specs.Examples.{standard}
 use Rattle.qs_world.specs.declared.event.Event.{Event}

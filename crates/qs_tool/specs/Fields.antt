@@ -1,5 +1,5 @@
 -- The text of a field as the program holds it.
-use Rattle.std.specs.Prelude.{ℕ, List, [], ◌++◌, codes}
+use Rattle.std.specs.Prelude.{ℕ, List, []}
 use Rattle.std.specs.Fmt.{decimal}
 use Rattle.qs_wire.specs.Layout.{ack_ranges_of}
 use Rattle.qs_wire.specs.Varint.{numbers_of}

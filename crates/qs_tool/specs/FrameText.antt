@@ -6,7 +6,7 @@ use Rattle.qs_wire.specs.Layout.{FrameValue, padding, ping, ack, reset_stream, s
 use Rattle.qs_wire.specs.declared.frame.EcnCounts.{EcnCounts}
 use Rattle.qs_wire.specs.Layout.{PlacedValue}
 use Rattle.qs_wire.specs.Grammar.{canonical_all, frames_of}
-use Rattle.qs_wire.specs.Reading.{Reading, reading_of}
+use Rattle.qs_wire.specs.Reading.{reading_of}
 use Rattle.qs_wire.specs.declared.fault.WireFault.{WireFault}
 use Rattle.qs_wire.specs.Faults.{kind_number}
 use Rattle.qs_world.specs.PlayText.{hex_text, code_text, dir_text, yes_text}

@@ -1,15 +1,14 @@
 -- What a run of the program answers and writes.
-use Rattle.std.specs.Prelude.{◌≡◌, ℕ, List, ◌++◌, codes, decimal, length, ◌≤◌, ◌⊎◌, Option, Some, None, Result, Ok, Err, is_some, true, false, ⊤}
+use Rattle.std.specs.Prelude.{◌≡◌, ℕ, List, ◌++◌, codes, decimal, length, ◌≤◌, ◌⊎◌, Option, None, Ok, Err, is_some, true, ⊤}
 use Rattle.std.specs.Io.KnownBytes.{Appends}
 use Rattle.std.specs.List.{list_all}
 use Rattle.hex.specs.Hex.{decode_of}
-use Rattle.qs_wire.specs.Reading.{Reading, reading_of}
+use Rattle.qs_wire.specs.Reading.{reading_of}
 use Rattle.qs_conn.specs.declared.settings.Settings.{Settings}
 use Rattle.qs_conn.specs.Examples.{standard}
 use Rattle.qs_world.specs.declared.event.Event.{Event}
 use Rattle.qs_world.specs.declared.report.Report.{Report}
 use Rattle.qs_world.specs.declared.report.PlayFault.TheVariants.{NoSuchPacket}
-use Rattle.qs_world.specs.declared.script.Reason.{Reason}
 use Rattle.qs_world.specs.declared.script.Reason.TheVariants.{NoMemory}
 use Rattle.qs_world.specs.declared.script.ScriptFault.{ScriptFault}
 use Rattle.qs_world.specs.Events.{fits}

@@ -1,4 +1,4 @@
-use Rattle.std.proofs.Common.{◌≡◌, ap, ◌∙◌}
+use Rattle.std.proofs.Common.{◌≡◌, ◌∙◌}
 use Rattle.qs_world.specs.PlayText.{play_text}
 use Rattle.qs_tool.specs.Runs.{missing_line}
 use Rattle.qs_tool.proofs.scripts.show_events.Goals as goal
