@@ -308,6 +308,3 @@ fn split(
     }
     Ok(())
 }
-
-#[cfg(test)]
-mod tests;

@@ -7,8 +7,6 @@ mod chunk_assembly;
 mod chunk_list;
 mod half;
 pub mod laws;
-#[cfg(test)]
-mod tests;
 
 pub use assembly::Assembly;
 pub use chunk_assembly::ChunkAssembly;

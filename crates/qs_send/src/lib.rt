@@ -10,8 +10,6 @@ pub mod laws;
 mod parts;
 mod piece;
 mod records;
-#[cfg(test)]
-mod tests;
 
 pub use half::SendHalf;
 pub use parts::{Chunk, Reset, SendFault, SendState};

@@ -155,6 +155,3 @@ fn some_has(packets: &[Carried], piece: Piece) -> bool
 {
     packets.iter().any(|packet| packet.has(piece))
 }
-
-#[cfg(test)]
-mod tests;

@@ -21,6 +21,3 @@ pub use frames::Frames;
 pub use stream_id::{Dir, Role, StreamId};
 pub use varint::{read_varint, varint_len, write_varint};
 pub use writing::put;
-
-#[cfg(test)]
-mod tests;

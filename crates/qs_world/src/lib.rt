@@ -25,6 +25,3 @@ pub use random::{random_script, standard_settings};
 pub use report::{EndTotals, LaneTotals, PlayFault, Report};
 pub use script::{Reason, ScriptFault, parse_script};
 pub use world::World;
-
-#[cfg(test)]
-mod tests;

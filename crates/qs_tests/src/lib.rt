@@ -1,0 +1,16 @@
+//! Tests of what no clause says, through the public calls of the libraries. They stand in a crate of their own, since a crate with tests is
+//! proved once more with them.
+#![tactic(auto)]
+
+#[cfg(test)]
+mod ranges;
+#[cfg(test)]
+mod records;
+#[cfg(test)]
+mod recv;
+#[cfg(test)]
+mod send;
+#[cfg(test)]
+mod wire;
+#[cfg(test)]
+mod world;

@@ -1,0 +1,84 @@
+//! Ends to begin with, and calls of them. A call that found no memory is made once more, so that the tests pass with each allocation
+//! refused in turn.
+
+ghost use Rattle.std.specs.Prelude.{◌<◌, ◌^◌};
+
+use qs_conn::{Endpoint, PeerLimits};
+use qs_wire::Role;
+use qs_world::{
+    Closing, Dir, LostFault, Made, MakeFault, OpenFault, Received, Settings, StreamId, UseFault,
+};
+use std::alloc::Global;
+use std::test::Fail;
+
+/// The credit that an end grants in most tests.
+pub(super) const USUAL: Settings = Settings {
+    conn_window: 4096,
+    bidi_local: 1024,
+    bidi_remote: 1024,
+    uni: 1024,
+    send_buffer: 2048,
+    grant_bidi: 8,
+    grant_uni: 8,
+};
+
+/// What its peer grants.
+pub(super) const USUAL_PEER: PeerLimits = PeerLimits {
+    max_data: 4096,
+    bidi_local: 1024,
+    bidi_remote: 1024,
+    uni: 1024,
+    streams_bidi: 8,
+    streams_uni: 8,
+};
+
+/// A server that grants so much.
+pub(super) fn server(alloc: Global, settings: Settings) -> Result<Endpoint, Fail> {
+    Ok(Endpoint::new(alloc, Role::Server, settings, USUAL_PEER)?)
+}
+
+pub(super) fn receive(end: &mut Endpoint, number: u64, payload: &[u8]) -> Result<Received, Closing>
+    requires { number < 2 ^ 62 }
+{
+    let first = end.receive(number, payload);
+    if first == Ok(Received::NoMemory) {
+        return end.receive(number, payload);
+    }
+    first
+}
+
+/// A packet that fills no more than the slice. A slice that no packet may have answers nothing.
+pub(super) fn make(end: &mut Endpoint, out: &mut [u8]) -> Result<Option<Made>, MakeFault> {
+    if out.len() < 128 || out.len() > 16_383 {
+        return Err(MakeFault::Exhausted);
+    }
+    let first = end.make_packet(out);
+    if first == Err(MakeFault::NoMemory) {
+        return end.make_packet(out);
+    }
+    first
+}
+
+pub(super) fn lose(end: &mut Endpoint, number: u64) -> Result<(), LostFault> {
+    let first = end.declare_lost(number);
+    if first == Err(LostFault::NoMemory) {
+        return end.declare_lost(number);
+    }
+    first
+}
+
+pub(super) fn open(end: &mut Endpoint, dir: Dir) -> Result<StreamId, OpenFault> {
+    let first = end.open(dir);
+    if first == Err(OpenFault::NoMemory) {
+        return end.open(dir);
+    }
+    first
+}
+
+pub(super) fn write(end: &mut Endpoint, stream: StreamId, bytes: &[u8]) -> Result<usize, UseFault> {
+    let first = end.write(stream, bytes);
+    if first == Err(UseFault::NoMemory) {
+        return end.write(stream, bytes);
+    }
+    first
+}
