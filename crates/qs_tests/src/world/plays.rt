@@ -1,5 +1,4 @@
-//! Scripts that are played, and what comes of them. Where memory was refused, a script is played once more: so the tests pass with each
-//! allocation refused in turn.
+//! Scripts that are played, and what comes of them. Where memory was refused, a script that should succeed is played once more.
 use qs_world::{
     Answer, EndTotals, LaneTotals, LostFault, MakeFault, OpenFault, PlayFault, Received, Report,
     Settings, SetupFault, Side, StreamId, UseFault, parse_script, play, standard_settings,
