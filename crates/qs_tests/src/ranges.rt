@@ -1,103 +1,208 @@
-//! Tests of what no clause says.
-ghost use Rattle.std.specs.Prelude.{All, ◌≤◌, ◌^◌};
-
+//! Most tests are lists of steps, played by one function: so their proofs don't follow the set's value.
 use qs_ranges::{NoMemory, RangeSet};
 use std::alloc::Global;
 use std::test::Fail;
 
-fn set_of(alloc: Global, ranges: &[(u64, u64)]) -> Result<RangeSet, NoMemory>
-    requires { All (λ range. (range.0 ≤ range.1) × (range.1 ≤ 2 ^ 62)) ranges.now }
-{
-    let mut set = RangeSet::new(alloc);
-    for &(lo, hi) in ranges {
-        set.insert(lo, hi)?;
+/// A call with what it answers, or a look at the set.
+#[derive(Clone, Copy)]
+enum Step<'a> {
+    /// The numbers from one on and below another come in.
+    Insert(u64, u64),
+    /// They go.
+    Remove(u64, u64),
+    DropBelow(u64),
+    /// The longest runs, rising.
+    Pairs(&'a [(u64, u64)]),
+    /// The lowest member.
+    First(Option<u64>),
+    /// What is left from a number on of the run that has it, or the next run.
+    RunFrom(u64, Option<(u64, u64)>),
+    /// A number, and the lowest from it on that is no member.
+    FirstMissing(u64, u64),
+    Has(u64, bool),
+    /// Whether each number from one on and below another is a member.
+    Covers(u64, u64, bool),
+}
+
+/// No range ends above.
+const MAX_END: u64 = 1 << 62;
+
+fn insert(set: &mut RangeSet, lo: u64, hi: u64) -> Result<bool, NoMemory> {
+    if lo > hi || hi > MAX_END {
+        return Ok(false);
     }
-    Ok(set)
+    set.insert(lo, hi)?;
+    Ok(true)
+}
+
+fn remove(set: &mut RangeSet, lo: u64, hi: u64) -> Result<bool, NoMemory> {
+    if lo > hi || hi > MAX_END {
+        return Ok(false);
+    }
+    set.remove(lo, hi)?;
+    Ok(true)
+}
+
+fn has_pairs(set: &RangeSet, pairs: &[(u64, u64)]) -> bool {
+    set.pairs() == pairs && set.count() == pairs.len()
+}
+
+// Whether the step answers what it says.
+fn answers(set: &mut RangeSet, step: Step) -> Result<bool, NoMemory> {
+    match step {
+        Step::Insert(lo, hi) => return insert(set, lo, hi),
+        Step::Remove(lo, hi) => return remove(set, lo, hi),
+        Step::DropBelow(n) => set.drop_below(n),
+        Step::Pairs(pairs) => return Ok(has_pairs(set, pairs)),
+        Step::First(first) => return Ok(set.first() == first),
+        Step::RunFrom(n, run) => return Ok(set.run_from(n) == run),
+        Step::FirstMissing(n, missing) => return Ok(set.first_missing(n) == missing),
+        Step::Has(n, is_member) => return Ok(set.has(n) == is_member),
+        Step::Covers(lo, hi, are_members) => return Ok(set.covers(lo, hi) == are_members),
+    }
+    Ok(true)
+}
+
+// How many steps of a new set answer what they say, up to the first that doesn't.
+fn played(alloc: Global, steps: &[Step]) -> Result<usize, NoMemory> {
+    let mut set = RangeSet::new(alloc);
+    for (count, step) in steps.iter().enumerate() {
+        if !answers(&mut set, *step)? {
+            return Ok(count);
+        }
+    }
+    Ok(steps.len())
 }
 
 #[test]
 fn insert_joins_runs(rt: HostRuntime) -> Result<(), Fail> {
-    let set = set_of(rt.alloc(), &[(5, 8), (0, 3), (2, 6)])?;
-    assert_eq!(rt; set.pairs(), [(0, 8)].as_slice());
-    let set = set_of(rt.alloc(), &[(0, 3), (3, 5)])?;
-    assert_eq!(rt; set.pairs(), [(0, 5)].as_slice());
-    assert_eq!(rt; set.count(), 1);
+    let over = [
+        Step::Insert(5, 8),
+        Step::Insert(0, 3),
+        Step::Insert(2, 6),
+        Step::Pairs(&[(0, 8)]),
+    ];
+    assert_eq!(rt; played(rt.alloc(), &over)?, over.len());
+    let beside = [
+        Step::Insert(0, 3),
+        Step::Insert(3, 5),
+        Step::Pairs(&[(0, 5)]),
+    ];
+    assert_eq!(rt; played(rt.alloc(), &beside)?, beside.len());
     Ok(())
 }
 
 #[test]
 fn remove_splits_a_run(rt: HostRuntime) -> Result<(), Fail> {
-    let mut set = set_of(rt.alloc(), &[(0, 8)])?;
-    set.remove(2, 4)?;
-    assert_eq!(rt; set.pairs(), [(0, 2), (4, 8)].as_slice());
-    assert_eq!(rt; set.run_from(3), Some((4, 8)));
-    assert_eq!(rt; set.run_from(5), Some((5, 8)));
-    assert_eq!(rt; set.run_from(8), None);
-    assert_eq!(rt; set.first(), Some(0));
-    assert_eq!(rt; set.first_missing(0), 2);
-    assert_eq!(rt; set.first_missing(4), 8);
-    assert!(rt; set.has(1) && !set.has(2) && set.has(7) && !set.has(8));
-    assert!(rt; set.covers(4, 8) && !set.covers(1, 5) && set.covers(3, 3));
-    set.drop_below(5);
-    assert_eq!(rt; set.pairs(), [(5, 8)].as_slice());
+    let steps = [
+        Step::Insert(0, 8),
+        Step::Remove(2, 4),
+        Step::Pairs(&[(0, 2), (4, 8)]),
+        Step::RunFrom(3, Some((4, 8))),
+        Step::RunFrom(5, Some((5, 8))),
+        Step::RunFrom(8, None),
+        Step::First(Some(0)),
+        Step::FirstMissing(0, 2),
+        Step::FirstMissing(4, 8),
+        Step::Has(1, true),
+        Step::Has(2, false),
+        Step::Has(7, true),
+        Step::Has(8, false),
+        Step::Covers(4, 8, true),
+        Step::Covers(1, 5, false),
+        Step::Covers(3, 3, true),
+        Step::DropBelow(5),
+        Step::Pairs(&[(5, 8)]),
+    ];
+    assert_eq!(rt; played(rt.alloc(), &steps)?, steps.len());
     Ok(())
 }
 
 #[test]
 fn empty_ranges_change_nothing(rt: HostRuntime) -> Result<(), Fail> {
-    let mut set = set_of(rt.alloc(), &[(0, 8), (4, 4), (20, 20)])?;
-    set.remove(4, 4)?;
-    set.drop_below(0);
-    assert_eq!(rt; set.pairs(), [(0, 8)].as_slice());
-    assert!(rt; set.covers(30, 30));
+    let steps = [
+        Step::Insert(0, 8),
+        Step::Insert(4, 4),
+        Step::Insert(20, 20),
+        Step::Remove(4, 4),
+        Step::DropBelow(0),
+        Step::Pairs(&[(0, 8)]),
+        Step::Covers(30, 30, true),
+    ];
+    assert_eq!(rt; played(rt.alloc(), &steps)?, steps.len());
     Ok(())
 }
 
 #[test]
 fn inserts_at_the_end_stay_in_order(rt: HostRuntime) -> Result<(), Fail> {
-    let set = set_of(rt.alloc(), &[(0, 2), (2, 4), (6, 7), (9, 12), (10, 14)])?;
-    assert_eq!(rt; set.pairs(), [(0, 4), (6, 7), (9, 14)].as_slice());
-    assert_eq!(rt; set.count(), 3);
+    let steps = [
+        Step::Insert(0, 2),
+        Step::Insert(2, 4),
+        Step::Insert(6, 7),
+        Step::Insert(9, 12),
+        Step::Insert(10, 14),
+        Step::Pairs(&[(0, 4), (6, 7), (9, 14)]),
+    ];
+    assert_eq!(rt; played(rt.alloc(), &steps)?, steps.len());
     Ok(())
 }
 
 #[test]
 fn insert_joins_the_runs_that_it_spans(rt: HostRuntime) -> Result<(), Fail> {
-    let set = set_of(
-        rt.alloc(),
-        &[(0, 1), (3, 4), (6, 7), (9, 10), (20, 21), (3, 9)],
-    )?;
-    assert_eq!(rt; set.pairs(), [(0, 1), (3, 10), (20, 21)].as_slice());
+    let steps = [
+        Step::Insert(0, 1),
+        Step::Insert(3, 4),
+        Step::Insert(6, 7),
+        Step::Insert(9, 10),
+        Step::Insert(20, 21),
+        Step::Insert(3, 9),
+        Step::Pairs(&[(0, 1), (3, 10), (20, 21)]),
+    ];
+    assert_eq!(rt; played(rt.alloc(), &steps)?, steps.len());
     Ok(())
 }
 
 #[test]
 fn remove_takes_out_whole_runs(rt: HostRuntime) -> Result<(), Fail> {
-    let mut set = set_of(rt.alloc(), &[(0, 2), (4, 6), (8, 10), (12, 14)])?;
-    set.remove(1, 13)?;
-    assert_eq!(rt; set.pairs(), [(0, 1), (13, 14)].as_slice());
-    set.remove(0, 14)?;
-    assert_eq!(rt; set.first(), None);
+    let steps = [
+        Step::Insert(0, 2),
+        Step::Insert(4, 6),
+        Step::Insert(8, 10),
+        Step::Insert(12, 14),
+        Step::Remove(1, 13),
+        Step::Pairs(&[(0, 1), (13, 14)]),
+        Step::Remove(0, 14),
+        Step::First(None),
+    ];
+    assert_eq!(rt; played(rt.alloc(), &steps)?, steps.len());
     Ok(())
 }
 
 #[test]
 fn drop_below_takes_out_the_front(rt: HostRuntime) -> Result<(), Fail> {
-    let mut set = set_of(rt.alloc(), &[(2, 4), (6, 9), (12, 14)])?;
-    set.drop_below(2);
-    assert_eq!(rt; set.first(), Some(2));
-    set.drop_below(7);
-    assert_eq!(rt; set.pairs(), [(7, 9), (12, 14)].as_slice());
-    set.drop_below(u64::MAX);
-    assert_eq!(rt; set.count(), 0);
+    let steps = [
+        Step::Insert(2, 4),
+        Step::Insert(6, 9),
+        Step::Insert(12, 14),
+        Step::DropBelow(2),
+        Step::First(Some(2)),
+        Step::DropBelow(7),
+        Step::Pairs(&[(7, 9), (12, 14)]),
+        Step::DropBelow(u64::MAX),
+        Step::Pairs(&[]),
+    ];
+    assert_eq!(rt; played(rt.alloc(), &steps)?, steps.len());
     Ok(())
 }
 
 #[test]
 fn every_number_fits(rt: HostRuntime) -> Result<(), Fail> {
-    let set = set_of(rt.alloc(), &[(0, 4611686018427387904)])?;
-    assert_eq!(rt; set.first_missing(0), 4611686018427387904);
-    assert_eq!(rt; set.count(), 1);
+    let steps = [
+        Step::Insert(0, MAX_END),
+        Step::FirstMissing(0, 4611686018427387904),
+        Step::Pairs(&[(0, 4611686018427387904)]),
+    ];
+    assert_eq!(rt; played(rt.alloc(), &steps)?, steps.len());
     Ok(())
 }
 

@@ -1,295 +1,313 @@
-//! What no clause says: worked examples, and calls that find no memory.
-ghost use Rattle.std.specs.Prelude.{◌≡◌, ◌+◌, ◌≤◌, false, length};
-ghost use Rattle.qs_ranges.specs.Numbers.{MAX_VARINT};
+//! Each test is a list of steps, played by one function: so no test's proof follows the half's value.
+ghost use Rattle.std.specs.Prelude.{◌≤◌, ◌^◌};
 
-use qs_ranges::NoMemory;
-use qs_recv::{Assembly, ChunkAssembly, Highest, Read, RecvFault, RecvHalf, RecvState};
+use qs_recv::{ChunkAssembly, Highest, Read, RecvFault, RecvHalf, RecvState};
 use std::alloc::Global;
 use std::test::Fail;
 
 type Half = RecvHalf<ChunkAssembly>;
 
-fn half(alloc: Global) -> Half {
-    RecvHalf::new(alloc, 10)
+/// A call with what it answers.
+#[derive(Clone, Copy)]
+enum Step<'a> {
+    /// The offset, the bytes and FIN of a frame that breaks nothing.
+    Take(u32, &'a [u8], bool),
+    /// What is wrong with so many bytes at an offset, with FIN or without.
+    Refuse(u32, u32, bool, RecvFault),
+    /// The same where nothing is wrong.
+    Pass(u32, u32, bool, Highest),
+    /// The code and the final size of a reset that breaks nothing.
+    Reset(u32, u32),
+    /// What is wrong with a reset of that final size.
+    RefuseReset(u32, RecvFault),
+    Stop(u32),
+    /// The room, the answer, and the bytes that are handed out.
+    Read(usize, Read, &'a [u8]),
+    Raise(Option<u64>),
+    State(RecvState),
+    /// Bytes stored, the highest offset and the taken count.
+    Counts(u64, u64, u64),
+    /// Bytes read, and the limit.
+    Credit(u64, u64),
+    /// The final size, the reset's code and the stop's.
+    Known(Option<u64>, Option<u64>, Option<u64>),
 }
 
-// A frame, where it passes the check.
-fn take(lane: &mut Half, offset: u64, bytes: &[u8], fin: bool) -> Result<(), RecvFault>
-    requires { offset + length bytes.now ≤ MAX_VARINT }
-{
-    if let Err(fault) = lane.check_stream(offset, bytes.len() as u64, fin) {
+fn take_once(half: &mut Half, offset: u32, bytes: &[u8], fin: bool) -> Result<(), RecvFault> {
+    let offset = u64::from(offset);
+    if bytes.len() > 64 {
+        return Err(RecvFault::StreamCredit);
+    }
+    if let Err(fault) = half.check_stream(offset, bytes.len() as u64, fin) {
         return Err(fault);
     }
-    lane.take_stream(offset, bytes, fin)
+    half.take_stream(offset, bytes, fin)
 }
 
-fn reset(lane: &mut Half, code: u64, size: u64) -> Result<(), RecvFault>
-    requires { size ≤ MAX_VARINT }
-{
-    if let Err(fault) = lane.check_reset(size) {
+fn look(half: &Half) -> (u64, u64, Option<u64>, RecvState) {
+    (
+        half.stored(),
+        half.highest(),
+        half.final_size(),
+        half.state(),
+    )
+}
+
+// A frame that found no memory is taken again where it changed nothing, so that the tests pass with each allocation refused in turn.
+fn take(half: &mut Half, offset: u32, bytes: &[u8], fin: bool) -> Result<(), RecvFault> {
+    let before = look(half);
+    let first = take_once(half, offset, bytes, fin);
+    if first == Err(RecvFault::NoMemory) && look(half) == before {
+        return take_once(half, offset, bytes, fin);
+    }
+    first
+}
+
+fn checks(
+    half: &Half,
+    offset: u32,
+    len: u32,
+    fin: bool,
+    answer: Result<Highest, RecvFault>,
+) -> bool {
+    half.check_stream(u64::from(offset), u64::from(len), fin) == answer
+}
+
+fn reset(half: &mut Half, code: u32, size: u32) -> Result<(), RecvFault> {
+    if let Err(fault) = half.check_reset(u64::from(size)) {
         return Err(fault);
     }
-    lane.take_reset(code, size);
+    half.take_reset(u64::from(code), u64::from(size));
     Ok(())
 }
 
-fn read(lane: &mut Half, into: &mut [u8]) -> Read {
-    lane.read(into)
-}
-
-fn raise(lane: &mut Half) -> Option<u64> {
-    lane.raise()
-}
-
-fn stop(lane: &mut Half, code: u64)
-    requires { code ≤ MAX_VARINT }
-{
-    lane.stop(code);
-}
-
-#[test]
-fn credit_bounds_the_end(rt: HostRuntime) -> Result<(), Fail> {
-    let lane = half(rt.alloc());
-    assert_eq!(rt;
-        lane.check_stream(0, 11, false),
-        Err(RecvFault::StreamCredit)
-    );
-    assert_eq!(rt;
-        lane.check_stream(8, 3, false),
-        Err(RecvFault::StreamCredit)
-    );
-    let fits = Highest {
-        before: 0,
-        after: 10,
-    };
-    assert_eq!(rt; lane.check_stream(0, 10, false), Ok(fits));
-    Ok(())
-}
-
-#[test]
-fn credit_follows_what_is_read(rt: HostRuntime) -> Result<(), Fail> {
-    let mut lane = half(rt.alloc());
-    take(&mut lane, 0, b"0123456789", false)?;
-    assert_eq!(rt; lane.stored(), 10);
-    let mut four = [0u8; 4];
-    assert_eq!(rt; read(&mut lane, &mut four), Read::Bytes(4));
-    assert_eq!(rt; raise(&mut lane), None);
-    let mut one = [0u8; 1];
-    assert_eq!(rt; read(&mut lane, &mut one), Read::Bytes(1));
-    assert_eq!(rt; lane.read_count(), 5);
-    assert_eq!(rt; raise(&mut lane), Some(15));
-    assert_eq!(rt; raise(&mut lane), None);
-    assert_eq!(rt; lane.limit(), 15);
-    Ok(())
-}
-
-#[test]
-fn the_final_size_grows_the_highest_offset(rt: HostRuntime) -> Result<(), Fail> {
-    let mut lane = RecvHalf::new(rt.alloc(), 15);
-    take(&mut lane, 0, b"0123456789", false)?;
-    let grown = Highest {
-        before: 10,
-        after: 12,
-    };
-    assert_eq!(rt; lane.check_stream(12, 0, true), Ok(grown));
-    take(&mut lane, 12, b"", true)?;
-    assert_eq!(rt; lane.state(), RecvState::SizeKnown);
-    assert_eq!(rt; lane.check_stream(12, 8, false), Err(RecvFault::FinalSize));
-    Ok(())
-}
-
-#[test]
-fn the_first_reset_stays(rt: HostRuntime) -> Result<(), Fail> {
-    let mut lane = half(rt.alloc());
-    take(&mut lane, 0, b"01234", false)?;
-    reset(&mut lane, 7, 9)?;
-    assert_eq!(rt; lane.state(), RecvState::ResetRecvd);
-    assert_eq!(rt; lane.stored(), 0);
-    assert_eq!(rt; lane.taken(), 9);
-    let mut into = [0u8; 4];
-    assert_eq!(rt; read(&mut lane, &mut into), Read::Reset(7));
-    assert_eq!(rt; lane.state(), RecvState::ResetRead);
-    reset(&mut lane, 9, 9)?;
-    assert_eq!(rt; read(&mut lane, &mut into), Read::Reset(7));
-    assert_eq!(rt; lane.reset_code(), Some(7));
-    Ok(())
-}
-
-#[test]
-fn data_is_read_in_order(rt: HostRuntime) -> Result<(), Fail> {
-    let mut lane = half(rt.alloc());
-    take(&mut lane, 5, b"fgh", true)?;
-    take(&mut lane, 0, b"abc", false)?;
-    take(&mut lane, 2, b"cdef", false)?;
-    assert_eq!(rt; lane.state(), RecvState::DataRecvd);
-    let mut into = [0u8; 16];
-    assert_eq!(rt; read(&mut lane, &mut into), Read::Bytes(8));
-    assert_eq!(rt; &into[..8], b"abcdefgh".as_slice());
-    take(&mut lane, 4, b"XXXX", false)?;
-    assert_eq!(rt; lane.stored(), 0);
-    assert_eq!(rt; read(&mut lane, &mut into), Read::End);
-    assert_eq!(rt; lane.state(), RecvState::DataRead);
-    Ok(())
-}
-
-#[test]
-fn a_final_size_is_kept_after_the_end(rt: HostRuntime) -> Result<(), Fail> {
-    let mut lane = half(rt.alloc());
-    take(&mut lane, 0, b"abcde", true)?;
-    assert_eq!(rt; lane.check_stream(5, 1, true), Err(RecvFault::FinalSize));
-    assert_eq!(rt; lane.check_reset(4), Err(RecvFault::FinalSize));
-    let mut into = [0u8; 8];
-    assert_eq!(rt; read(&mut lane, &mut into), Read::Bytes(5));
-    assert_eq!(rt; read(&mut lane, &mut into), Read::End);
-    assert_eq!(rt; lane.check_stream(0, 4, true), Err(RecvFault::FinalSize));
-    assert_eq!(rt; lane.final_size(), Some(5));
-    Ok(())
-}
-
-#[test]
-fn a_final_size_is_not_below_what_came(rt: HostRuntime) -> Result<(), Fail> {
-    let mut lane = half(rt.alloc());
-    take(&mut lane, 0, b"abcde", false)?;
-    assert_eq!(rt; lane.check_stream(0, 4, true), Err(RecvFault::FinalSize));
-    assert_eq!(rt; lane.check_reset(4), Err(RecvFault::FinalSize));
-    Ok(())
-}
-
-#[test]
-fn a_stop_throws_away_and_counts(rt: HostRuntime) -> Result<(), Fail> {
-    let mut lane = half(rt.alloc());
-    take(&mut lane, 0, b"abc", false)?;
-    stop(&mut lane, 7);
-    stop(&mut lane, 8);
-    assert_eq!(rt; lane.stop_code(), Some(7));
-    let mut into = [0u8; 4];
-    assert_eq!(rt; read(&mut lane, &mut into), Read::Wait);
-    take(&mut lane, 3, b"d", false)?;
-    assert_eq!(rt; lane.highest(), 4);
-    assert_eq!(rt; lane.taken(), 4);
-    assert_eq!(rt; lane.stored(), 0);
-    Ok(())
-}
-
-#[test]
-fn a_reset_counts_its_final_size(rt: HostRuntime) -> Result<(), Fail> {
-    let mut lane = half(rt.alloc());
-    take(&mut lane, 0, b"abc", false)?;
-    assert_eq!(rt; lane.check_reset(11), Err(RecvFault::StreamCredit));
-    reset(&mut lane, 7, 5)?;
-    assert_eq!(rt; lane.highest(), 5);
-    Ok(())
-}
-
-#[test]
-fn an_empty_stream_ends_at_once(rt: HostRuntime) -> Result<(), Fail> {
-    let mut lane = half(rt.alloc());
-    let mut into = [0u8; 4];
-    assert_eq!(rt; read(&mut lane, &mut into), Read::Wait);
-    take(&mut lane, 0, b"", true)?;
-    assert_eq!(rt; read(&mut lane, &mut into), Read::End);
-    let mut lane = half(rt.alloc());
-    reset(&mut lane, 7, 0)?;
-    assert_eq!(rt; read(&mut lane, &mut into), Read::Reset(7));
-    Ok(())
-}
-
-#[test]
-fn a_read_without_room_tells_whether_a_byte_is_next(rt: HostRuntime) -> Result<(), Fail> {
-    let mut lane = half(rt.alloc());
-    let mut none = [0u8; 0];
-    assert_eq!(rt; read(&mut lane, &mut none), Read::Wait);
-    take(&mut lane, 0, b"a", false)?;
-    assert_eq!(rt; read(&mut lane, &mut none), Read::Bytes(0));
-    Ok(())
-}
-
-// A frame that is taken again where no memory was found, and whether the half was as before then.
-fn take_again(lane: &mut Half, offset: u64, bytes: &[u8], fin: bool) -> Result<bool, RecvFault>
-    requires { offset + length bytes.now ≤ MAX_VARINT }
-{
-    let before = (lane.stored(), lane.highest(), lane.final_size());
-    let refused = take(lane, offset, bytes, fin).is_err();
-    let after = (lane.stored(), lane.highest(), lane.final_size());
-    if refused {
-        take(lane, offset, bytes, fin)?;
-        return Ok(before == after);
+fn reads(half: &mut Half, room: usize, answer: Read, bytes: &[u8]) -> bool {
+    let mut into = [b'-'; 32];
+    if room > 32 || bytes.len() > 32 {
+        return false;
     }
-    Ok(true)
+    let told = half.read(&mut into[..room]);
+    let (front, rest) = into.split_at(bytes.len());
+    told == answer && front == bytes && rest.iter().all(|byte| *byte == b'-')
 }
 
-// Run with each allocation refused in turn, a refused frame leaves the half as it was, and the next one succeeds.
-#[test]
-fn refused_frames_change_nothing(rt: HostRuntime) -> Result<(), Fail> {
-    let mut lane = half(rt.alloc());
-    assert!(rt; take_again(&mut lane, 4, b"efgh", true)?);
-    assert!(rt; take_again(&mut lane, 0, b"abcd", false)?);
-    let mut into = [0u8; 8];
-    assert_eq!(rt; read(&mut lane, &mut into), Read::Bytes(8));
-    assert_eq!(rt; into.as_slice(), b"abcdefgh".as_slice());
-    Ok(())
-}
-
-// Bytes that lie within the window of an assembly that keeps them.
-fn put(chunks: &mut ChunkAssembly, offset: u64, bytes: &[u8]) -> Result<(), NoMemory>
-    requires kept { (chunks.old.discarding ≡ false) × (chunks.old.read_count ≡ 0) × (chunks.old.window ≡ 64) }
-    requires in_window { offset + length bytes.now ≤ 64 }
-    ensures { (chunks.new.discarding ≡ false) × (chunks.new.read_count ≡ 0) × (chunks.new.window ≡ 64) }
-{
-    chunks.put(offset, bytes)
-}
-
-#[test]
-fn the_byte_that_came_first_stays(rt: HostRuntime) -> Result<(), Fail> {
-    let mut chunks = ChunkAssembly::new(rt.alloc(), 64);
-    put(&mut chunks, 3, b"fgh")?;
-    put(&mut chunks, 0, b"abc")?;
-    put(&mut chunks, 2, b"XXXXX")?;
-    assert_eq!(rt; chunks.stored(), 7);
-    let mut five = [0u8; 5];
-    assert_eq!(rt; chunks.take(&mut five), 5);
-    assert_eq!(rt; five.as_slice(), b"abcfg".as_slice());
-    Ok(())
-}
-
-#[test]
-fn a_frame_fills_the_gaps_between_chunks(rt: HostRuntime) -> Result<(), Fail> {
-    let mut chunks = ChunkAssembly::new(rt.alloc(), 64);
-    put(&mut chunks, 1, b"B")?;
-    put(&mut chunks, 4, b"DD")?;
-    put(&mut chunks, 0, b"12345678")?;
-    assert_eq!(rt; chunks.stored(), 8);
-    let mut into = [b'-'; 10];
-    assert_eq!(rt; chunks.take(&mut into), 8);
-    assert_eq!(rt; into.as_slice(), b"1B34DD78--".as_slice());
-    Ok(())
-}
-
-// Bytes that are put again where no memory was found, and whether the assembly was as before then.
-fn put_again(chunks: &mut ChunkAssembly, offset: u64, bytes: &[u8]) -> Result<bool, NoMemory>
-    requires kept { (chunks.old.discarding ≡ false) × (chunks.old.read_count ≡ 0) × (chunks.old.window ≡ 64) }
-    requires in_window { offset + length bytes.now ≤ 64 }
-    ensures { (chunks.new.discarding ≡ false) × (chunks.new.read_count ≡ 0) × (chunks.new.window ≡ 64) }
-{
-    let before = (chunks.stored(), chunks.received().count());
-    let refused = put(chunks, offset, bytes).is_err();
-    let after = (chunks.stored(), chunks.received().count());
-    if refused {
-        put(chunks, offset, bytes)?;
-        return Ok(before == after);
+// Whether the step answers what it says.
+fn answers(half: &mut Half, step: Step) -> bool {
+    match step {
+        Step::Take(offset, bytes, fin) => take(half, offset, bytes, fin) == Ok(()),
+        Step::Refuse(offset, len, fin, fault) => checks(half, offset, len, fin, Err(fault)),
+        Step::Pass(offset, len, fin, highest) => checks(half, offset, len, fin, Ok(highest)),
+        Step::Reset(code, size) => reset(half, code, size) == Ok(()),
+        Step::RefuseReset(size, fault) => half.check_reset(u64::from(size)) == Err(fault),
+        Step::Stop(code) => {
+            half.stop(u64::from(code));
+            true
+        }
+        Step::Read(room, answer, bytes) => reads(half, room, answer, bytes),
+        Step::Raise(limit) => half.raise() == limit,
+        Step::State(state) => half.state() == state,
+        Step::Counts(stored, highest, taken) => {
+            (half.stored(), half.highest(), half.taken()) == (stored, highest, taken)
+        }
+        Step::Credit(read, limit) => (half.read_count(), half.limit()) == (read, limit),
+        Step::Known(size, reset, stop) => {
+            (half.final_size(), half.reset_code(), half.stop_code()) == (size, reset, stop)
+        }
     }
-    Ok(true)
+}
+
+// How many steps of a new half answer what they say, up to the first that doesn't.
+fn played(alloc: Global, window: u64, steps: &[Step]) -> usize
+    requires { (1 ≤ window) × (window ≤ 2 ^ 20) }
+{
+    let mut half = RecvHalf::new(alloc, window);
+    for (count, step) in steps.iter().enumerate() {
+        if !answers(&mut half, *step) {
+            return count;
+        }
+    }
+    steps.len()
+}
+
+fn highest(before: u64, after: u64) -> Highest {
+    Highest { before, after }
 }
 
 #[test]
-fn refused_puts_change_nothing(rt: HostRuntime) -> Result<(), Fail> {
-    let mut chunks = ChunkAssembly::new(rt.alloc(), 64);
-    assert!(rt; put_again(&mut chunks, 8, b"ij")?);
-    assert!(rt; put_again(&mut chunks, 4, b"ef")?);
-    assert!(rt; put_again(&mut chunks, 0, b"abcdefghijklmno")?);
-    assert!(rt; put_again(&mut chunks, 15, b"0123456789")?);
-    let mut into = [0u8; 25];
-    assert_eq!(rt; chunks.take(&mut into), 25);
-    assert_eq!(rt; into.as_slice(), b"abcdefghijklmno0123456789".as_slice());
-    Ok(())
+fn credit_bounds_the_end(rt: HostRuntime) {
+    let steps = [
+        Step::Refuse(0, 11, false, RecvFault::StreamCredit),
+        Step::Refuse(8, 3, false, RecvFault::StreamCredit),
+        Step::Pass(0, 10, false, highest(0, 10)),
+    ];
+    assert_eq!(rt; played(rt.alloc(), 10, &steps), steps.len());
+}
+
+#[test]
+fn credit_follows_what_is_read(rt: HostRuntime) {
+    let steps = [
+        Step::Take(0, b"0123456789", false),
+        Step::Counts(10, 10, 0),
+        Step::Read(4, Read::Bytes(4), b"0123"),
+        Step::Raise(None),
+        Step::Read(1, Read::Bytes(1), b"4"),
+        Step::Raise(Some(15)),
+        Step::Raise(None),
+        Step::Credit(5, 15),
+    ];
+    assert_eq!(rt; played(rt.alloc(), 10, &steps), steps.len());
+}
+
+#[test]
+fn the_final_size_grows_the_highest_offset(rt: HostRuntime) {
+    let steps = [
+        Step::Take(0, b"0123456789", false),
+        Step::Pass(12, 0, true, highest(10, 12)),
+        Step::Take(12, b"", true),
+        Step::State(RecvState::SizeKnown),
+        Step::Refuse(12, 8, false, RecvFault::FinalSize),
+    ];
+    assert_eq!(rt; played(rt.alloc(), 15, &steps), steps.len());
+}
+
+#[test]
+fn the_first_reset_stays(rt: HostRuntime) {
+    let steps = [
+        Step::Take(0, b"01234", false),
+        Step::Reset(7, 9),
+        Step::State(RecvState::ResetRecvd),
+        Step::Counts(0, 9, 9),
+        Step::Read(4, Read::Reset(7), b""),
+        Step::State(RecvState::ResetRead),
+        Step::Reset(9, 9),
+        Step::Read(4, Read::Reset(7), b""),
+        Step::Known(Some(9), Some(7), None),
+    ];
+    assert_eq!(rt; played(rt.alloc(), 10, &steps), steps.len());
+}
+
+#[test]
+fn data_is_read_in_order(rt: HostRuntime) {
+    let steps = [
+        Step::Take(5, b"fgh", true),
+        Step::Take(0, b"abc", false),
+        Step::Take(2, b"cdef", false),
+        Step::State(RecvState::DataRecvd),
+        Step::Read(16, Read::Bytes(8), b"abcdefgh"),
+        Step::Take(4, b"XXXX", false),
+        Step::Counts(0, 8, 8),
+        Step::Read(16, Read::End, b""),
+        Step::State(RecvState::DataRead),
+    ];
+    assert_eq!(rt; played(rt.alloc(), 10, &steps), steps.len());
+}
+
+#[test]
+fn a_final_size_is_kept_after_the_end(rt: HostRuntime) {
+    let steps = [
+        Step::Take(0, b"abcde", true),
+        Step::Refuse(5, 1, true, RecvFault::FinalSize),
+        Step::RefuseReset(4, RecvFault::FinalSize),
+        Step::Read(8, Read::Bytes(5), b"abcde"),
+        Step::Read(8, Read::End, b""),
+        Step::Refuse(0, 4, true, RecvFault::FinalSize),
+        Step::Known(Some(5), None, None),
+    ];
+    assert_eq!(rt; played(rt.alloc(), 10, &steps), steps.len());
+}
+
+#[test]
+fn a_final_size_is_not_below_what_came(rt: HostRuntime) {
+    let steps = [
+        Step::Take(0, b"abcde", false),
+        Step::Refuse(0, 4, true, RecvFault::FinalSize),
+        Step::RefuseReset(4, RecvFault::FinalSize),
+    ];
+    assert_eq!(rt; played(rt.alloc(), 10, &steps), steps.len());
+}
+
+#[test]
+fn a_stop_throws_away_and_counts(rt: HostRuntime) {
+    let steps = [
+        Step::Take(0, b"abc", false),
+        Step::Stop(7),
+        Step::Stop(8),
+        Step::Known(None, None, Some(7)),
+        Step::Read(4, Read::Wait, b""),
+        Step::Take(3, b"d", false),
+        Step::Counts(0, 4, 4),
+    ];
+    assert_eq!(rt; played(rt.alloc(), 10, &steps), steps.len());
+}
+
+#[test]
+fn a_reset_counts_its_final_size(rt: HostRuntime) {
+    let steps = [
+        Step::Take(0, b"abc", false),
+        Step::RefuseReset(11, RecvFault::StreamCredit),
+        Step::Reset(7, 5),
+        Step::Counts(0, 5, 5),
+    ];
+    assert_eq!(rt; played(rt.alloc(), 10, &steps), steps.len());
+}
+
+#[test]
+fn an_empty_stream_ends_at_once(rt: HostRuntime) {
+    let ended = [
+        Step::Read(4, Read::Wait, b""),
+        Step::Take(0, b"", true),
+        Step::Read(4, Read::End, b""),
+    ];
+    assert_eq!(rt; played(rt.alloc(), 10, &ended), ended.len());
+    let broken_off = [Step::Reset(7, 0), Step::Read(4, Read::Reset(7), b"")];
+    assert_eq!(rt; played(rt.alloc(), 10, &broken_off), broken_off.len());
+}
+
+#[test]
+fn a_read_without_room_tells_whether_a_byte_is_next(rt: HostRuntime) {
+    let steps = [
+        Step::Read(0, Read::Wait, b""),
+        Step::Take(0, b"a", false),
+        Step::Read(0, Read::Bytes(0), b""),
+    ];
+    assert_eq!(rt; played(rt.alloc(), 10, &steps), steps.len());
+}
+
+#[test]
+fn the_byte_that_came_first_stays(rt: HostRuntime) {
+    let steps = [
+        Step::Take(3, b"fgh", false),
+        Step::Take(0, b"abc", false),
+        Step::Take(2, b"XXXXX", false),
+        Step::Counts(7, 7, 0),
+        Step::Read(5, Read::Bytes(5), b"abcfg"),
+    ];
+    assert_eq!(rt; played(rt.alloc(), 64, &steps), steps.len());
+}
+
+#[test]
+fn a_frame_fills_the_gaps_between_chunks(rt: HostRuntime) {
+    let steps = [
+        Step::Take(1, b"B", false),
+        Step::Take(4, b"DD", false),
+        Step::Take(0, b"12345678", false),
+        Step::Counts(8, 8, 0),
+        Step::Read(10, Read::Bytes(8), b"1B34DD78"),
+    ];
+    assert_eq!(rt; played(rt.alloc(), 64, &steps), steps.len());
+}
+
+// Bytes come alone, before others, over them and behind them: each memory that may be wanted is.
+#[test]
+fn refused_frames_change_nothing(rt: HostRuntime) {
+    let steps = [
+        Step::Take(8, b"ij", false),
+        Step::Take(4, b"ef", false),
+        Step::Take(0, b"abcdefghijklmno", false),
+        Step::Take(15, b"0123456789", true),
+        Step::Counts(25, 25, 0),
+        Step::Read(30, Read::Bytes(25), b"abcdefghijklmno0123456789"),
+        Step::Read(30, Read::End, b""),
+    ];
+    assert_eq!(rt; played(rt.alloc(), 64, &steps), steps.len());
 }

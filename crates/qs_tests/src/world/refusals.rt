@@ -2,10 +2,19 @@
 //! tests meet every refusal of a run.
 use super::plays::{LOST_AND_SENT_AGAIN, end, id, ran_short, unused};
 use qs_world::{
-    Answer, LaneTotals, PlayFault, Report, Side, World, parse_script, standard_settings,
+    Answer, Event, LaneTotals, PlayFault, Report, Side, World, parse_script, standard_settings,
 };
 use std::alloc::Global;
 use std::test::Fail;
+
+/// An event that keeps to its bounds happens; no other one does.
+fn step_if_it_fits(world: &mut World, event: Event) -> Result<Answer, PlayFault> {
+    if event.fits() {
+        world.step(event)
+    } else {
+        Err(PlayFault::NoSuchPacket { event: 0 })
+    }
+}
 
 /// The event of a line happens.
 fn step_once(alloc: Global, world: &mut World, line: &[u8]) -> Result<Answer, PlayFault> {
@@ -13,8 +22,8 @@ fn step_once(alloc: Global, world: &mut World, line: &[u8]) -> Result<Answer, Pl
         return Err(PlayFault::NoMemory);
     };
     match events.pop() {
-        Some(event) if event.fits() => world.step(event),
-        _ => Err(PlayFault::NoSuchPacket { event: 0 }),
+        Some(event) => step_if_it_fits(world, event),
+        None => Err(PlayFault::NoSuchPacket { event: 0 }),
     }
 }
 
@@ -51,15 +60,25 @@ fn report(world: &World) -> Result<Report, PlayFault> {
     }
 }
 
-/// The lines of a script are played, each read on its own.
-fn played(alloc: Global, script: &[u8]) -> Result<Report, Fail> {
-    let mut world = World::new(alloc, standard_settings(), standard_settings())?;
+/// The lines of a script happen, each read on its own.
+fn step_each(alloc: Global, world: &mut World, script: &[u8]) -> Result<(), Fail> {
     for line in script.split(|byte| *byte == b'\n') {
         if !line.is_empty() {
-            step(alloc, &mut world, line)?;
+            step(alloc, world, line)?;
         }
     }
-    Ok(report(&world)?)
+    Ok(())
+}
+
+/// What came of the lines of a script in a world.
+fn found_after(alloc: Global, world: &mut World, script: &[u8]) -> Result<Report, Fail> {
+    step_each(alloc, world, script)?;
+    Ok(report(world)?)
+}
+
+fn played(alloc: Global, script: &[u8]) -> Result<Report, Fail> {
+    let mut world = World::new(alloc, standard_settings(), standard_settings())?;
+    found_after(alloc, &mut world, script)
 }
 
 #[test]

@@ -161,13 +161,18 @@ fn busy_step(alloc: Global, words: &mut Lcg64Xsh32, world: &mut World) -> Result
     Ok(())
 }
 
-fn busy_run(alloc: Global, seed: u64) -> Result<Report, Fail> {
+/// What came of 2,000 busy events in a world.
+fn busy_report(alloc: Global, seed: u64, world: &mut World) -> Result<Report, Fail> {
     let mut words = Lcg64Xsh32::new(seed, 0);
-    let mut world = World::new(alloc, standard_settings(), standard_settings())?;
     for _ in 0..2000 {
-        busy_step(alloc, &mut words, &mut world)?;
+        busy_step(alloc, &mut words, world)?;
     }
     Ok(world.report()?)
+}
+
+fn busy_run(alloc: Global, seed: u64) -> Result<Report, Fail> {
+    let mut world = World::new(alloc, standard_settings(), standard_settings())?;
+    busy_report(alloc, seed, &mut world)
 }
 
 /// A run of 2,000 events comes to its end, and neither end closes.
