@@ -8,5 +8,6 @@ pub mod LawfulLaws
 pub mod NewsLaws
 pub mod PutLaws
 pub mod ReadLaws
+pub mod ReplayLaws
 pub mod SoundLaws
 pub mod SpotLaws

@@ -4,4 +4,5 @@ pub mod Kept
 pub mod Lane
 pub mod Lawful
 pub mod Laws
+pub mod Replay
 pub mod Sound

@@ -7,6 +7,7 @@ mod chunk_assembly;
 mod chunk_list;
 mod half;
 pub mod laws;
+mod replay;
 
 pub use assembly::Assembly;
 pub use chunk_assembly::ChunkAssembly;
