@@ -9,5 +9,8 @@ pub mod NewsLaws
 pub mod PutLaws
 pub mod ReadLaws
 pub mod ReplayLaws
+pub mod RingCount
+pub mod RingLaws
+pub mod RingPlaces
 pub mod SoundLaws
 pub mod SpotLaws

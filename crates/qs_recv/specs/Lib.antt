@@ -5,4 +5,5 @@ pub mod Lane
 pub mod Lawful
 pub mod Laws
 pub mod Replay
+pub mod Ring
 pub mod Sound

@@ -8,7 +8,9 @@ mod chunk_list;
 mod half;
 pub mod laws;
 mod replay;
+mod ring_assembly;
 
 pub use assembly::Assembly;
 pub use chunk_assembly::ChunkAssembly;
 pub use half::{Highest, Read, RecvFault, RecvHalf, RecvState};
+pub use ring_assembly::RingAssembly;

@@ -1,0 +1,62 @@
+use Rattle.std.proofs.Common.{◌∙◌, ◌++◌, sym, ap, arith, length, drop, true}
+use Rattle.qs_recv.proofs.RingLaws.{came_next, empty_front, front_next, next_stored, nothing_taken, rest_next, ring_read}
+use Rattle.qs_recv.proofs.ring_assembly.RingAssemblyAssembly.take.Goals as goal
+
+pub returns-then-self-clause-count : goal.returns-then-self-clause-count
+returns-then-self-clause-count c =
+    rw (← c.self.view_is, c.if-self.true) (sym (ap length (empty_front c.self.inside.read_count (length c.args.into.now))))
+
+pub returns-then-self-clause-bytes : goal.returns-then-self-clause-bytes
+returns-then-self-clause-bytes c =
+    rw (← c.self.view_is, c.if-self.true) (sym (ap (λ xs. xs ++ c.args.into.now) (empty_front c.self.inside.read_count (length c.args.into.now))))
+
+pub returns-then-self-clause-rest : goal.returns-then-self-clause-rest
+returns-then-self-clause-rest c =
+    rw (← c.self.view_is, c.if-self.true) (nothing_taken c.self.inside.received c.self.inside.read_count c.self.inside.window (length c.args.into.now) true)
+
+pub overflow_sub-self : goal.overflow_sub-self
+overflow_sub-self c =
+    let s = c.self.inside in
+    let n = c.min-count.result in
+    let kept = rw c.if-self.false at c.self.invariant in
+    next_stored s.received s.ring.items s.window s.read_count n s.stored kept
+    (came_next s.received s.read_count c.first_missing-next.result (length c.args.into.now) n c.first_missing-next.ensures.missing c.min-count.ensures)
+
+pub invariant_of-self : goal.invariant_of-self
+invariant_of-self c =
+    let s = c.self.inside in
+    let n = c.min-count.result in
+    let kept = rw c.if-self.false at c.self.invariant in
+    let within = c.first_missing-next.ensures.within in
+    let small = kept.small_count in
+    rw c.if-self.false
+    (ring_read s.received s.ring.items s.window s.read_count n s.stored kept
+    (came_next s.received s.read_count c.first_missing-next.result (length c.args.into.now) n c.first_missing-next.ensures.missing c.min-count.ensures)
+    (omega (arith, within, small, c.min-count.ensures)))
+
+pub returns-clause-count : goal.returns-clause-count
+returns-clause-count c =
+    let s = c.self.inside in
+    let n = c.min-count.result in
+    let kept = rw c.if-self.false at c.self.invariant in
+    let fronts = front_next s.received s.ring.items c.deref.result.now c.args.into.now c.copy_out.new.into s.window s.read_count c.first_missing-next.result n s.stored kept
+    c.first_missing-next.ensures.missing c.min-count.ensures c.deref.ensures.value c.copy_out.auto.into c.copy_out.ensures in
+    rw (← c.self.view_is, c.if-self.false) (sym (ap length fronts.1 ∙ fronts.2))
+
+pub returns-clause-bytes : goal.returns-clause-bytes
+returns-clause-bytes c =
+    let s = c.self.inside in
+    let n = c.min-count.result in
+    let kept = rw c.if-self.false at c.self.invariant in
+    let fronts = front_next s.received s.ring.items c.deref.result.now c.args.into.now c.copy_out.new.into s.window s.read_count c.first_missing-next.result n s.stored kept
+    c.first_missing-next.ensures.missing c.min-count.ensures c.deref.ensures.value c.copy_out.auto.into c.copy_out.ensures in
+    rw (← c.self.view_is, c.if-self.false) (sym (ap (λ xs. xs ++ drop n c.args.into.now) fronts.1))
+
+pub returns-clause-rest : goal.returns-clause-rest
+returns-clause-rest c =
+    let s = c.self.inside in
+    let n = c.min-count.result in
+    let kept = rw c.if-self.false at c.self.invariant in
+    let fronts = front_next s.received s.ring.items c.deref.result.now c.args.into.now c.copy_out.new.into s.window s.read_count c.first_missing-next.result n s.stored kept
+    c.first_missing-next.ensures.missing c.min-count.ensures c.deref.ensures.value c.copy_out.auto.into c.copy_out.ensures in
+    rw (← c.self.view_is, c.if-self.false) (rest_next s.received s.ring.items c.copy_out.new.into s.window s.read_count (length c.args.into.now) n s.stored kept fronts)

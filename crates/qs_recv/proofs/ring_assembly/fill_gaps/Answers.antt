@@ -1,0 +1,35 @@
+use Rattle.std.proofs.Common.{◌≡◌, ◌∙◌, ◌+◌, ◌-◌, sym, ap, arith, length}
+use Rattle.qs_recv.specs.Ring.{missing_count}
+use Rattle.qs_recv.proofs.RingCount.{missing_zero, missing_gap}
+use Rattle.qs_recv.proofs.RingPlaces.{filled_none, filled_gap}
+use Rattle.qs_recv.proofs.ring_assembly.fill_gaps.Goals as goal
+
+pub loop-at-init : goal.loop-at-init
+loop-at-init c =
+    let none : c.args.first - c.args.first ≡ 0 = omega arith in
+    record {
+      begins = omega arith;
+      ends = omega (arith, c.requires.some);
+      missing = λ _. c.requires.missing;
+      counted = sym (ap (missing_count c.args.received.now c.args.first) none ∙ missing_zero c.args.received.now c.args.first);
+      small = omega arith;
+      filled = filled_none c.args.received.now c.args.first c.args.offset c.args.bytes.now c.args.ring.now;
+    }
+
+pub loop-at-preserved : goal.loop-at-preserved
+loop-at-preserved c =
+    let inv = c.loop-at.invariant in
+    let g = c.gap-stop.ensures in
+    let at = c.loop-at.at in
+    let stop = c.gap-stop.result.0 in
+    let next = c.gap-stop.result.1 in
+    let end = c.args.offset + length c.args.bytes.now in
+    record {
+      begins = omega (arith, inv.begins, g.some, g.ordered);
+      ends = g.ends;
+      missing = g.next_missing;
+      counted = ap (λ k. k + (stop - at)) inv.counted ∙ missing_gap c.args.received.now c.args.first at end stop next inv.begins g;
+      small = omega (arith, inv.begins, inv.small, g.some, g.ordered);
+      filled = filled_gap c.args.received.now c.args.first at end stop next c.args.offset c.args.bytes.now c.args.ring.now c.loop-at.ring c.copy_in.new.ring c.requires.begins inv.begins (omega arith) g
+          c.loop-at.auto.ring inv.filled c.copy_in.ensures.written;
+    }

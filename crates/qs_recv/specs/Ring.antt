@@ -1,0 +1,62 @@
+-- Bytes kept in a ring, and the map of bytes that they stand for. The byte of an offset stands at the offset modulo the ring's size.
+--     ring_bytes, stored_in_ring      each byte under its offset
+--     IsRing       what holds of a ring assembly's fields at all times
+--     missing_count, IsGap      the offsets that didn't come
+--     IsWritten, IsFilled       what the places have after bytes were written
+use Rattle.std.specs.Prelude.{◌≡◌, ℕ, ◌+◌, ◌-◌, ◌%◌, ◌^◌, ◌<◌, ◌≤◌, zero, suc, Bool, true, false, not, ◌&&◌, if◌then◌else◌, List, length, slice_index}
+use Rattle.std.specs.Ordering.{nat_cmp}
+use Rattle.std.specs.FinMap as map
+use Rattle.std.specs.FinSet as set
+use Rattle.qs_ranges.specs.Numbers.{NumberSet, ContainsRange, MissesRange, is_within}
+
+-- the bytes of those of the n offsets from `from` on that came, each at its place in the ring
+unfoldable pub ring_bytes : NumberSet → List ℕ → ℕ → ℕ → ℕ → map.FinMap nat_cmp ℕ
+ring_bytes received ring window from zero = map.empty
+ring_bytes received ring window from (suc n) =
+    if set.contains received (from + n)
+    then map.insert (ring_bytes received ring window from n) (from + n) (slice_index ring ((from + n) % window))
+    else ring_bytes received ring window from n
+
+-- the bytes of one window past what was read, and none where bytes are thrown away
+abbrev pub stored_in_ring : NumberSet → List ℕ → ℕ → ℕ → Bool → map.FinMap nat_cmp ℕ
+stored_in_ring received ring window read_count discarding =
+    if discarding then map.empty else ring_bytes received ring window read_count window
+
+-- what was read came; until bytes are thrown away, what came lies below the window's end, and the ring has its size where some of it
+-- wasn't read; and the stored bytes are counted
+pub record IsRing (ring : List ℕ) (received : NumberSet) (window read_count stored : ℕ) (discarding : Bool) : Type 0 where
+  pub some_window : 1 ≤ window
+  pub small_window : window ≤ 2 ^ 20
+  pub small_count : read_count ≤ 2 ^ 62
+  pub read_came : (q : ℕ) → q < read_count → set.contains received q ≡ true
+  pub came_within : discarding ≡ false → (q : ℕ) → set.contains received q ≡ true → q < read_count + window
+  pub held : discarding ≡ false → (q : ℕ) → read_count ≤ q → set.contains received q ≡ true → length ring ≡ window
+  pub counted : stored ≡ map.len (stored_in_ring received ring window read_count discarding)
+
+-- how many of the n offsets from `from` on didn't come
+unfoldable pub missing_count : NumberSet → ℕ → ℕ → ℕ
+missing_count received from zero = 0
+missing_count received from (suc n) =
+    if set.contains received (from + n) then missing_count received from n else missing_count received from n + 1
+
+-- none of the offsets from `at` on and below `stop` came, and all from there on and below `next`, where another gap is or the end
+pub record IsGap (received : NumberSet) (at end stop next : ℕ) : Type 0 where
+  pub some : at < stop
+  pub ordered : stop ≤ next
+  pub ends : next ≤ end
+  pub missing : MissesRange received at stop
+  pub came : ContainsRange received stop next
+  pub next_missing : next < end → set.contains received next ≡ false
+
+-- the places of the offsets from `at` on have these bytes, and those of others less than the ring's size away what they had
+abbrev pub IsWritten : ℕ → List ℕ → List ℕ → List ℕ → Type 0
+IsWritten at bytes old new =
+    (q : ℕ) → at + length bytes ≤ q + length old → q < at + length old
+    → slice_index new (q % length old) ≡ (if is_within at (at + length bytes) q then slice_index bytes (q - at) else slice_index old (q % length old))
+
+-- the same for those of the offsets from `first` on and below `end` that didn't come, with the bytes from `offset` on
+abbrev pub IsFilled : NumberSet → ℕ → ℕ → ℕ → List ℕ → List ℕ → List ℕ → Type 0
+IsFilled received first end offset bytes old new =
+    (q : ℕ) → end ≤ q + length old → q < first + length old
+    → slice_index new (q % length old)
+    ≡ (if is_within first end q && not (set.contains received q) then slice_index bytes (q - offset) else slice_index old (q % length old))
