@@ -13,11 +13,11 @@ ghost use Rattle.qs_conn.specs.Marks.{IsBefore, AreMarked, IsQuietLane};
 use crate::marks::Marks;
 use crate::report::RecvReport;
 use qs_ranges::NoMemory;
-use qs_recv::{ChunkAssembly, Highest, Read, RecvFault, RecvHalf, RecvState};
+use qs_recv::{Highest, Read, RecvFault, RecvHalf, RecvState, RingAssembly};
 use std::alloc::Global;
 use std::marker::Model;
 
-type Half = RecvHalf<ChunkAssembly>;
+type Half = RecvHalf<RingAssembly>;
 
 /// What lanes add to the connection's credit: the highest offsets, what was taken, and what is stored, in bytes.
 #[derive(Clone, Copy, Drop)]

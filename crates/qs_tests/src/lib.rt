@@ -9,6 +9,8 @@ mod records;
 #[cfg(test)]
 mod recv;
 #[cfg(test)]
+mod replay;
+#[cfg(test)]
 mod send;
 #[cfg(test)]
 mod wire;

@@ -1,11 +1,11 @@
 //! Each test is a list of steps, played by one function: so no test's proof follows the half's value.
 ghost use Rattle.std.specs.Prelude.{◌≤◌, ◌^◌};
 
-use qs_recv::{ChunkAssembly, Highest, Read, RecvFault, RecvHalf, RecvState};
+use qs_recv::{
+    Assembly, ChunkAssembly, Highest, Read, RecvFault, RecvHalf, RecvState, RingAssembly,
+};
 use std::alloc::Global;
 use std::test::Fail;
-
-type Half = RecvHalf<ChunkAssembly>;
 
 /// A call with what it answers.
 #[derive(Clone, Copy)]
@@ -33,7 +33,12 @@ enum Step<'a> {
     Known(Option<u64>, Option<u64>, Option<u64>),
 }
 
-fn take_once(half: &mut Half, offset: u32, bytes: &[u8], fin: bool) -> Result<(), RecvFault> {
+fn take_once<A: Assembly>(
+    half: &mut RecvHalf<A>,
+    offset: u32,
+    bytes: &[u8],
+    fin: bool,
+) -> Result<(), RecvFault> {
     let offset = u64::from(offset);
     if bytes.len() > 64 {
         return Err(RecvFault::StreamCredit);
@@ -44,7 +49,7 @@ fn take_once(half: &mut Half, offset: u32, bytes: &[u8], fin: bool) -> Result<()
     half.take_stream(offset, bytes, fin)
 }
 
-fn look(half: &Half) -> (u64, u64, Option<u64>, RecvState) {
+fn look<A: Assembly>(half: &RecvHalf<A>) -> (u64, u64, Option<u64>, RecvState) {
     (
         half.stored(),
         half.highest(),
@@ -54,7 +59,12 @@ fn look(half: &Half) -> (u64, u64, Option<u64>, RecvState) {
 }
 
 // A frame that found no memory is taken again where it changed nothing, so that the tests pass with each allocation refused in turn.
-fn take(half: &mut Half, offset: u32, bytes: &[u8], fin: bool) -> Result<(), RecvFault> {
+fn take<A: Assembly>(
+    half: &mut RecvHalf<A>,
+    offset: u32,
+    bytes: &[u8],
+    fin: bool,
+) -> Result<(), RecvFault> {
     let before = look(half);
     let first = take_once(half, offset, bytes, fin);
     if first == Err(RecvFault::NoMemory) && look(half) == before {
@@ -63,8 +73,8 @@ fn take(half: &mut Half, offset: u32, bytes: &[u8], fin: bool) -> Result<(), Rec
     first
 }
 
-fn checks(
-    half: &Half,
+fn checks<A: Assembly>(
+    half: &RecvHalf<A>,
     offset: u32,
     len: u32,
     fin: bool,
@@ -73,7 +83,7 @@ fn checks(
     half.check_stream(u64::from(offset), u64::from(len), fin) == answer
 }
 
-fn reset(half: &mut Half, code: u32, size: u32) -> Result<(), RecvFault> {
+fn reset<A: Assembly>(half: &mut RecvHalf<A>, code: u32, size: u32) -> Result<(), RecvFault> {
     if let Err(fault) = half.check_reset(u64::from(size)) {
         return Err(fault);
     }
@@ -81,7 +91,7 @@ fn reset(half: &mut Half, code: u32, size: u32) -> Result<(), RecvFault> {
     Ok(())
 }
 
-fn reads(half: &mut Half, room: usize, answer: Read, bytes: &[u8]) -> bool {
+fn reads<A: Assembly>(half: &mut RecvHalf<A>, room: usize, answer: Read, bytes: &[u8]) -> bool {
     let mut into = [b'-'; 32];
     if room > 32 || bytes.len() > 32 {
         return false;
@@ -92,7 +102,7 @@ fn reads(half: &mut Half, room: usize, answer: Read, bytes: &[u8]) -> bool {
 }
 
 // Whether the step answers what it says.
-fn answers(half: &mut Half, step: Step) -> bool {
+fn answers<A: Assembly>(half: &mut RecvHalf<A>, step: Step) -> bool {
     match step {
         Step::Take(offset, bytes, fin) => take(half, offset, bytes, fin) == Ok(()),
         Step::Refuse(offset, len, fin, fault) => checks(half, offset, len, fin, Err(fault)),
@@ -117,16 +127,22 @@ fn answers(half: &mut Half, step: Step) -> bool {
 }
 
 // How many steps of a new half answer what they say, up to the first that doesn't.
-fn played(alloc: Global, window: u64, steps: &[Step]) -> usize
-    requires { (1 ≤ window) × (window ≤ 2 ^ 20) }
-{
-    let mut half = RecvHalf::new(alloc, window);
+fn played_on<A: Assembly>(mut half: RecvHalf<A>, steps: &[Step]) -> usize {
     for (count, step) in steps.iter().enumerate() {
         if !answers(&mut half, *step) {
             return count;
         }
     }
     steps.len()
+}
+
+// The same over each kind of assembly: the fewest of them.
+fn played(alloc: Global, window: u64, steps: &[Step]) -> usize
+    requires { (1 ≤ window) × (window ≤ 2 ^ 20) }
+{
+    let chunks: RecvHalf<ChunkAssembly> = RecvHalf::new(alloc, window);
+    let ring: RecvHalf<RingAssembly> = RecvHalf::new(alloc, window);
+    played_on(chunks, steps).min(played_on(ring, steps))
 }
 
 fn highest(before: u64, after: u64) -> Highest {
@@ -286,7 +302,7 @@ fn the_byte_that_came_first_stays(rt: HostRuntime) {
 }
 
 #[test]
-fn a_frame_fills_the_gaps_between_chunks(rt: HostRuntime) {
+fn a_frame_fills_the_gaps(rt: HostRuntime) {
     let steps = [
         Step::Take(1, b"B", false),
         Step::Take(4, b"DD", false),
@@ -295,6 +311,27 @@ fn a_frame_fills_the_gaps_between_chunks(rt: HostRuntime) {
         Step::Read(10, Read::Bytes(8), b"1B34DD78"),
     ];
     assert_eq!(rt; played(rt.alloc(), 64, &steps), steps.len());
+}
+
+// The same places of a ring are used again.
+#[test]
+fn bytes_follow_what_was_read(rt: HostRuntime) {
+    let steps = [
+        Step::Take(0, b"abcdef", false),
+        Step::Read(6, Read::Bytes(6), b"abcdef"),
+        Step::Raise(Some(14)),
+        Step::Take(6, b"ghijklmn", false),
+        Step::Counts(8, 14, 6),
+        Step::Read(16, Read::Bytes(8), b"ghijklmn"),
+        Step::Raise(Some(22)),
+        Step::Take(15, b"pqrst", true),
+        Step::Read(4, Read::Wait, b""),
+        Step::Take(12, b"XXo", false),
+        Step::Read(4, Read::Bytes(4), b"opqr"),
+        Step::Read(4, Read::Bytes(2), b"st"),
+        Step::Read(4, Read::End, b""),
+    ];
+    assert_eq!(rt; played(rt.alloc(), 8, &steps), steps.len());
 }
 
 // Bytes come alone, before others, over them and behind them: each memory that may be wanted is.
