@@ -3,6 +3,7 @@
 mod draws;
 mod ends;
 mod every_payload;
+mod fragments;
 mod owners;
 mod packets;
 mod payloads;
