@@ -1,14 +1,18 @@
--- Packets are acknowledged: the pieces of one, the packets of a range, and the ranges of an ACK.
-use Rattle.std.proofs.Common.{◌≡◌, ◌≢◌, ℕ, zero, suc, ◌+◌, ◌<◌, ◌≤◌, true, List, [], ◌∷◌, ◌++◌, map, length, take, Option, None, Some, is_some, Result, Ok, Err, refl, sym, ap, ◌∙◌, subst, arith}
+-- Packets are acknowledged: the pieces of one, and those of all that a pass over an ACK has ahead.
+use Rattle.std.proofs.Common.{◌≡◌, ◌≢◌, ℕ, zero, suc, ◌+◌, ◌^◌, ◌<◌, ◌≤◌, Bool, true, false, nat_lt, nat_le, ◌&&◌, ◌||◌, List, [], ◌∷◌, ◌++◌, map, length, take, Option, None, Some, is_some, Result, Ok, Err, refl, sym, ap, ◌∙◌, subst, inl, inr, ◌⊎◌, arith}
 use Rattle.std.specs.Prelude.{reverse, flat_map}
 use Rattle.std.specs.List.{filter}
 use Rattle.std.specs.FinMap as fmap
-use Rattle.std.proofs.lemmas.Grind.{flat_map-append}
+use Rattle.std.proofs.lemmas.Bool.{both_ways, or_cases}
+use Rattle.std.proofs.lemmas.Bool.Decides.{nat_tests}
+use Rattle.std.specs.Option.{IfSome}
 use Rattle.qs_ranges.specs.declared.NoMemory.{NoMemory}
 use Rattle.qs_wire.specs.Acks.{FallBelow}
 use Rattle.qs_send.specs.declared.piece.Piece.{Piece}
 use Rattle.qs_send.specs.declared.piece.Piece.TheVariants.{Data, Told}
 use Rattle.qs_send.specs.Records.{first_piece, without_first}
+use Rattle.qs_send.specs.AckPass.{Passing, PAST_NUMBERS, IsNamed, IsAhead, Falls, GivesNumber, IsNextNamed, pass_over}
+use Rattle.qs_send.proofs.Passing.{named_below}
 use Rattle.qs_send.proofs.Carrying.{get_other-without_first}
 use Rattle.qs_wire.specs.Layout.{taken, ack_ranges_of}
 use Rattle.qs_wire.proofs.PairLaws.{ranges_fall}
@@ -17,11 +21,11 @@ use Rattle.qs_send.specs.declared.piece.Item.TheVariants.{MaxData, MaxStreamData
 use Rattle.std.specs.Result.{OnOk, OnErr}
 use Rattle.qs_conn.specs.Ends.{End, Records}
 use Rattle.qs_conn.specs.FrameStep.{is_named, first_acked, named, acks}
-use Rattle.qs_conn.specs.Outgoing.{Outgoing, with_outgoing, first_acked_out, pieces_in, IsHeldBelow}
-use Rattle.qs_conn.specs.Runs.{pieces_left, acks_out, AcksBy, pieces_at, AcksPacket, in_part, AreSameBelow, part_pieces, AcksPart, named_pieces, AcksRanges}
+use Rattle.qs_conn.specs.Outgoing.{Outgoing, with_outgoing, first_acked_out, pieces_in}
+use Rattle.qs_conn.specs.Runs.{pieces_left, acks_out, AcksBy, pieces_at, AcksPacket, AreSameBelow, named_pieces, AcksRanges, is_ahead, ahead_pieces, AcksAhead}
 use Rattle.qs_conn.proofs.Carried.{none_some, some_is, get_new, get_removed}
 use Rattle.qs_conn.proofs.Runs.{less_left}
-use Rattle.qs_conn.proofs.Named.{part_greatest, part_none, ranges_first, none_named}
+use Rattle.qs_conn.proofs.Named.{filter_first, filter_nothing, filter_alike}
 
 -- Lists of pieces
 
@@ -100,92 +104,121 @@ others_at k j o ne = go (fmap.get o.outstanding k)
     go None = refl
     go (Some ps) = others k j ps o ne
 
--- The packets of a range
+-- What a pass has ahead, as a test
 
-nothing : (low bound : ℕ) (o : Outgoing) → low ≤ bound → ((j : ℕ) → low ≤ j → j < bound → fmap.get o.outstanding j ≡ None) → AcksPart low bound o (Ok tt) o
-unfolding AcksPart acks_out
-nothing low bound o le none = λ m same. (
-  sym (ap (λ ks. acks_out (flat_map (pieces_at m) ks) o) (part_none m low bound (λ j ge lt. same j lt ∙ none j ge lt))),
-  (λ j lt. same j (omega (arith, lt, le))),
+named_as : (rs : List (ℕ × ℕ)) (k : ℕ) → IsNamed rs k → is_named rs k ≡ true
+named_as [] k named = absurd named
+named_as (r ∷ rs) k (inl here) = let low = here.0 in let high = here.1 in grind (arith, nat_tests, low, high)
+named_as (r ∷ rs) k (inr later) = let rest = named_as rs k later in grind (arith, nat_tests, rest)
+
+within : (k low high : ℕ) → (nat_le low k && nat_le k high) ≡ true → (low ≤ k) × (k ≤ high)
+within k low high is = (grind (arith, nat_tests, is), grind (arith, nat_tests, is))
+
+as_named : (rs : List (ℕ × ℕ)) (k : ℕ) → is_named rs k ≡ true → IsNamed rs k
+as_named [] k is = absurd (both_ways false refl is)
+as_named (r ∷ rs) k is = elim (or_cases (nat_le r.0 k && nat_le k r.1) (is_named rs k) is) [ inl here ↦ inl (within k r.0 r.1 here) | inr later ↦ inr (as_named rs k later) ]
+
+ahead_as : (p : Passing) (k : ℕ) → IsAhead p k → is_ahead p k ≡ true
+ahead_as p k ahead = go ahead.1
+  where
+    go : (p.low ≤ k) ⊎ IsNamed p.unread k → is_ahead p k ≡ true
+    go (inl low) = let lt = ahead.0 in grind (arith, nat_tests, low, lt)
+    go (inr named) = let lt = ahead.0 in let is = named_as p.unread k named in grind (arith, nat_tests, is, lt)
+
+as_ahead : (p : Passing) (k : ℕ) → is_ahead p k ≡ true → IsAhead p k
+as_ahead p k is = (
+  below (nat_lt k p.below) refl is,
+  elim (or_cases (nat_le p.low k) (is_named p.unread k) (second (nat_lt k p.below) (nat_le p.low k || is_named p.unread k) is)) [ inl low ↦ inl (at_least p.low k low) | inr name ↦ inr (as_named p.unread k name) ],
 )
+  where
+    below : (b : Bool) → nat_lt k p.below ≡ b → (b && (nat_le p.low k || is_named p.unread k)) ≡ true → k < p.below
+    below true lt is = grind (arith, nat_tests, lt)
+    below false lt is = absurd (both_ways false refl is)
 
-pub part_end : (low bound : ℕ) (o : Outgoing) (r : Option ℕ) → low ≤ bound → IsHeldBelow o.outstanding bound r → r ≡ None → AcksPart low bound o (Ok tt) o
-part_end low bound o None le h is = nothing low bound o le (λ j ge lt. h j lt)
-part_end low bound o (Some k) le h is = absurd (none_some k (sym is))
+    second : (a b : Bool) → (a && b) ≡ true → b ≡ true
+    second true b is = is
+    second false b is = absurd (both_ways false refl is)
 
-pub part_past : (low bound k : ℕ) (o : Outgoing) (r : Option ℕ) → low ≤ bound → IsHeldBelow o.outstanding bound r → r ≡ Some k → k < low → AcksPart low bound o (Ok tt) o
-part_past low bound k o None le h is lt = absurd (none_some k is)
-part_past low bound k o (Some j) le h is lt =
-    let same : j ≡ k = some_is (Some j) j k refl is in
-    nothing low bound o le (λ i ge small. h.2 i (omega (arith, same, lt, ge)) small)
+    at_least : (a b : ℕ) → nat_le a b ≡ true → a ≤ b
+    at_least a b is = grind (arith, nat_tests, is)
 
-module _ (low bound k : ℕ) (o : Outgoing) (m : Records) (held : is_some (fmap.get o.outstanding k) ≡ true) (le : low ≤ k) (lt : k < bound) (none : (j : ℕ) → k < j → j < bound → fmap.get o.outstanding j ≡ None) (same : AreSameBelow bound m o.outstanding) where
-  -- the greatest packet comes first
-  greatest_pieces : part_pieces m low bound ≡ pieces_at o.outstanding k ++ part_pieces m low k
-  greatest_pieces =
-      ap (flat_map (pieces_at m)) (part_greatest m low bound k (ap is_some (same k lt) ∙ held) le lt (λ j gt small. same j small ∙ none j gt small))
-      ∙ ap (λ (x : Option (List Piece)). (elim x [ None ↦ [] | Some ps ↦ map (λ p. (k, p)) ps ]) ++ part_pieces m low k) (same k lt)
+not_ahead : (p : Passing) (k : ℕ) → (IsAhead p k → ⊥) → is_ahead p k ≡ false
+not_ahead p k not = go (is_ahead p k) refl
+  where
+    go : (b : Bool) → is_ahead p k ≡ b → is_ahead p k ≡ false
+    go true is = absurd (not (as_ahead p k is))
+    go false is = is
 
-stop_at : (low bound k : ℕ) (o new : Outgoing) (e : NoMemory) → is_some (fmap.get o.outstanding k) ≡ true → low ≤ k → k < bound → ((j : ℕ) → k < j → j < bound → fmap.get o.outstanding j ≡ None)
-    → AcksPacket k o (Err e) new → AcksPart low bound o (Err e) new
-unfolding AcksPacket AcksPart
-stop_at low bound k o new e held le lt none h = λ m same. (
-  subst (λ xs. AcksBy xs o (Err e) new) (sym (greatest_pieces low bound k o m held le lt none same)) (acks_some (pieces_at o.outstanding k) (part_pieces m low k) o new e h),
-  tt,
-)
+both_say : (a b : Bool) → (a ≡ true → b ≡ true) → (b ≡ true → a ≡ true) → a ≡ b
+both_say true b to from = sym (to refl)
+both_say false true to from = absurd (both_ways false refl (from refl))
+both_say false false to from = refl
 
-pub part_stop : (low bound k : ℕ) (o new : Outgoing) (r : Option ℕ) (e e' : NoMemory) → IsHeldBelow o.outstanding bound r → r ≡ Some k → low ≤ k → AcksPacket k o (Err e) new → AcksPart low bound o (Err e') new
-unfolding AcksPart
-part_stop low bound k o new None e e' h is le acked = absurd (none_some k is)
-part_stop low bound k o new (Some j) e e' h is le acked =
-    let at = subst (λ (x : ℕ). IsHeldBelow o.outstanding bound (Some x)) (some_is (Some j) j k refl is) h in
-    stop_at low bound k o new e at.1 le at.0 at.2 acked
+-- The pass over an ACK
 
-more_at : (low bound k : ℕ) (o next new : Outgoing) (result : Result (Unit {0}) NoMemory) → is_some (fmap.get o.outstanding k) ≡ true → low ≤ k → k < bound → ((j : ℕ) → k < j → j < bound → fmap.get o.outstanding j ≡ None)
-    → AcksPacket k o (Ok tt) next → AcksPart low k next result new → AcksPart low bound o result new
-unfolding AcksPacket AcksPart
-more_at low bound k o next new result held le lt none is h = λ m same.
-    let later = h m (λ j small. same j (omega (arith, small, lt)) ∙ sym (ap (λ (x : Outgoing). fmap.get x.outstanding j) is ∙ others_at k j o (λ e. omega (arith, e, small)))) in (
-      subst (λ xs. AcksBy xs o result new) (sym (greatest_pieces low bound k o m held le lt none same))
-          (acks_append (pieces_at o.outstanding k) (part_pieces m low k) o new result (subst (λ (x : Outgoing). AcksBy (part_pieces m low k) x result new) is later.0)),
-      later.1,
-    )
+module _ (p q : Passing) (k : ℕ) (o : Outgoing) (m : Records) (given : GivesNumber o.outstanding p k q) (same : AreSameBelow p.below m o.outstanding) where
+  -- the number that is given comes first
+  first_ahead : ahead_pieces m p ≡ pieces_at o.outstanding k ++ ahead_pieces m q
+  first_ahead =
+      ap (flat_map (pieces_at m)) (filter_first m (is_ahead p) (is_ahead q) k (ap is_some (same k given.named.0) ∙ given.held) (ahead_as p k given.named)
+      (λ j ge. not_ahead q j (λ ahead. let lt = ((given.left j).0 ahead).0 in omega (arith, ge, lt)))
+      (λ j lt. both_say (is_ahead p j) (is_ahead q j) (λ is. ahead_as q j ((given.left j).1 (lt, as_ahead p j is))) (λ is. ahead_as p j ((given.left j).0 (as_ahead q j is)).1))
+      (λ j gt held. not_ahead p j (λ ahead. let le = given.greatest j ahead (ap is_some (sym (same j ahead.0)) ∙ held) in omega (arith, gt, le))))
+      ∙ ap (λ (x : Option (List Piece)). (elim x [ None ↦ [] | Some ps ↦ map (λ y. (k, y)) ps ]) ++ ahead_pieces m q) (same k given.named.0)
 
-pub part_more : (low bound k : ℕ) (o next new : Outgoing) (r : Option ℕ) (result : Result (Unit {0}) NoMemory) → IsHeldBelow o.outstanding bound r → r ≡ Some k → low ≤ k → AcksPacket k o (Ok tt) next → AcksPart low k next result new
-    → AcksPart low bound o result new
-part_more low bound k o next new None result h is le acked rest = absurd (none_some k is)
-part_more low bound k o next new (Some j) result h is le acked rest =
-    let at = subst (λ (x : ℕ). IsHeldBelow o.outstanding bound (Some x)) (some_is (Some j) j k refl is) h in
-    more_at low bound k o next new result at.1 le at.0 at.2 acked rest
+pub pass_end : (p q : Passing) (o : Outgoing) (r : Option ℕ) → r ≡ None → (Falls p → IsNextNamed o.outstanding p r q) → AcksAhead p o (Ok tt) o
+unfolding AcksAhead acks_out
+pass_end p q o None is answer = λ m falls same.
+    let none : (j : ℕ) → is_some (fmap.get m j) ≡ true → is_ahead p j ≡ false = λ j held. not_ahead p j (λ ahead. both_ways _ (answer falls j ahead) (ap is_some (sym (same j ahead.0)) ∙ held)) in
+    sym (ap (λ ks. acks_out (flat_map (pieces_at m) ks) o) (filter_nothing m (is_ahead p) none))
+pass_end p q o (Some k) is answer = absurd (none_some k (sym is))
 
--- The ranges of an ACK
+pub pass_stop : (p q : Passing) (k : ℕ) (o new : Outgoing) (r : Option ℕ) (e e' : NoMemory) → r ≡ Some k → (Falls p → IsNextNamed o.outstanding p r q) → AcksPacket k o (Err e) new → AcksAhead p o (Err e') new
+unfolding AcksPacket AcksAhead
+pass_stop p q k o new None e e' is answer acked = absurd (none_some k is)
+pass_stop p q k o new (Some j) e e' is answer acked = λ m falls same.
+    let given = subst (λ (x : ℕ). GivesNumber o.outstanding p x q) (some_is (Some j) j k refl is) (answer falls) in
+    subst (λ xs. AcksBy xs o (Err e) new) (sym (first_ahead p q k o m given same)) (acks_some (pieces_at o.outstanding k) (ahead_pieces m q) o new e acked)
 
-pub ranges_end : (ranges : List (ℕ × ℕ)) (o : Outgoing) → ranges ≡ [] → AcksRanges ranges o (Ok tt) o
-unfolding AcksRanges acks_out
-ranges_end ranges o is = λ m high falls same. sym (ap (λ rs. acks_out (named_pieces m rs) o) is ∙ ap (λ ks. acks_out (flat_map (pieces_at m) ks) o) (none_named m))
+pub pass_more : (p q : Passing) (k : ℕ) (o next new : Outgoing) (r : Option ℕ) (result : Result (Unit {0}) NoMemory) → r ≡ Some k → (Falls p → IsNextNamed o.outstanding p r q) → (Falls p → Falls q) → IfSome r (λ j. (q.below ≡ j) × (j < p.below))
+    → AcksPacket k o (Ok tt) next → AcksAhead q next result new → AcksAhead p o result new
+unfolding AcksPacket AcksAhead
+pass_more p q k o next new None result is answer falls below acked rest = absurd (none_some k is)
+pass_more p q k o next new (Some i) result is answer fall below acked rest = λ m falls same.
+    let at : i ≡ k = some_is (Some i) i k refl is in
+    let given = subst (λ (x : ℕ). GivesNumber o.outstanding p x q) at (answer falls) in
+    let bound = below.0 in
+    let lt = below.1 in
+    let later = rest m (fall falls) (λ j small. same j (omega (arith, small, bound, lt)) ∙ sym (ap (λ (x : Outgoing). fmap.get x.outstanding j) acked ∙ others_at k j o (λ e. omega (arith, e, small, bound, at)))) in
+    subst (λ xs. AcksBy xs o result new) (sym (first_ahead p q k o m given same))
+    (acks_append (pieces_at o.outstanding k) (ahead_pieces m q) o new result (subst (λ (x : Outgoing). AcksBy (ahead_pieces m q) x result new) acked later))
 
-first_pieces : (m : Records) (r : ℕ × ℕ) (rs : List (ℕ × ℕ)) → FallBelow r.0 rs → named_pieces m (r ∷ rs) ≡ part_pieces m r.0 (r.1 + 1) ++ named_pieces m rs
-first_pieces m r rs falls =
-    ap (flat_map (pieces_at m)) (ranges_first m r rs falls) ∙ flat_map-append (pieces_at m) (reverse (filter (in_part r.0 (r.1 + 1)) (fmap.keys m))) (reverse (filter (is_named rs) (fmap.keys m)))
+-- of a pass that begins all that the ranges name is ahead
+pub all_pass : (p : Passing) (ranges : List (ℕ × ℕ)) (o mid new : Outgoing) (result : Result (Unit {0}) NoMemory) → p ≡ pass_over ranges → AcksAhead p o result mid → new ≡ mid → AcksRanges ranges o result new
+unfolding AcksAhead AcksRanges
+all_pass p ranges o mid new result begins acked same = λ falls.
+    let start = subst (λ (x : Passing). Falls x) (sym begins) falls in
+    let by_pass = acked o.outstanding start (λ k lt. refl) in
+    subst (λ x. AcksBy (named_pieces o.outstanding ranges) o result x) (sym same)
+    (subst (λ ks. AcksBy (flat_map (pieces_at o.outstanding) (reverse ks)) o result mid)
+    (ap (λ (x : Passing). filter (is_ahead x) (fmap.keys o.outstanding)) begins ∙ filter_alike o.outstanding (is_ahead (pass_over ranges)) (is_named ranges) (λ j. both_say (is_ahead (pass_over ranges) j) (is_named ranges j) (to j) (from falls j))) by_pass)
+  where
+    to : (j : ℕ) → is_ahead (pass_over ranges) j ≡ true → is_named ranges j ≡ true
+    to j is = let ahead = as_ahead (pass_over ranges) j is in named j ahead.0 ahead.1
+      where
+        named : (j : ℕ) → j < PAST_NUMBERS → (PAST_NUMBERS ≤ j) ⊎ IsNamed ranges j → is_named ranges j ≡ true
+        named j lt (inl ge) = absurd (omega (arith, lt, ge))
+        named j lt (inr by) = named_as ranges j by
 
-stop_in : (ranges rest : List (ℕ × ℕ)) (r : ℕ × ℕ) (o new : Outgoing) (e e' : NoMemory) → ranges ≡ r ∷ rest → AcksPart r.0 (r.1 + 1) o (Err e) new → AcksRanges ranges o (Err e') new
-unfolding AcksPart AcksRanges
-stop_in ranges rest r o new e e' is h = λ m high falls same.
-    let falls' : FallBelow high (r ∷ rest) = subst (FallBelow high) is falls in
-    subst (λ xs. AcksBy xs o (Err e) new) (sym (ap (named_pieces m) is ∙ first_pieces m r rest falls'.2))
-    (acks_some (part_pieces m r.0 (r.1 + 1)) (named_pieces m rest) o new e (h m (λ j lt. same j (omega (arith, lt, falls'.0)))).0)
+    from : FallBelow PAST_NUMBERS ranges → (j : ℕ) → is_named ranges j ≡ true → is_ahead (pass_over ranges) j ≡ true
+    from falls j is =
+        let by = as_named ranges j is in
+        let less = named_below PAST_NUMBERS ranges j falls by in
+        ahead_as (pass_over ranges) j (omega (arith, less), inr by)
 
-pub ranges_stop : (ranges rest : List (ℕ × ℕ)) (low high : ℕ) (o new : Outgoing) (e e' : NoMemory) → ranges ≡ (low, high) ∷ rest → AcksPart low (high + 1) o (Err e) new → AcksRanges ranges o (Err e') new
-ranges_stop ranges rest low high o new e e' is h = stop_in ranges rest (low, high) o new e e' is h
-
-pub ranges_more : (ranges rest : List (ℕ × ℕ)) (r : ℕ × ℕ) (o next new : Outgoing) (result : Result (Unit {0}) NoMemory) → ranges ≡ r ∷ rest → AcksPart r.0 (r.1 + 1) o (Ok tt) next → AcksRanges rest next result new
-    → AcksRanges ranges o result new
-unfolding AcksPart AcksRanges
-ranges_more ranges rest r o next new result is part h = λ m high falls same.
-    let falls' : FallBelow high (r ∷ rest) = subst (FallBelow high) is falls in
-    let here = part m (λ j lt. same j (omega (arith, lt, falls'.0))) in
-    subst (λ xs. AcksBy xs o result new) (sym (ap (named_pieces m) is ∙ first_pieces m r rest falls'.2))
-    (acks_append (part_pieces m r.0 (r.1 + 1)) (named_pieces m rest) o new result (subst (λ (x : Outgoing). AcksBy (named_pieces m rest) x result new) here.0 (h m r.0 falls'.2 here.1)))
+fall_less : (high more : ℕ) (ranges : List (ℕ × ℕ)) → high ≤ more → FallBelow high ranges → FallBelow more ranges
+fall_less high more [] le falls = tt
+fall_less high more (r ∷ rs) le falls = (omega (arith, falls.0, le), falls.1, falls.2)
 
 -- What an end is then
 
@@ -206,24 +239,24 @@ unfolding acks_out acks
 acks_view [] o e = refl
 acks_view (p ∷ ps) o e = acks_view ps (first_acked_out p.0 p.1 o) e ∙ ap (acks ps) (first_view p.0 p.1 o e)
 
-pub all_ranges : (largest : ℕ) (numbers : List ℕ) (o new : Outgoing) (result : Result (Unit {0}) NoMemory) → taken numbers ≤ largest + 1 → AcksRanges (ack_ranges_of largest numbers) o result new
+pub all_ranges : (largest : ℕ) (numbers : List ℕ) (o new : Outgoing) (result : Result (Unit {0}) NoMemory) → largest < 2 ^ 62 → taken numbers ≤ largest + 1 → AcksRanges (ack_ranges_of largest numbers) o result new
     → AcksBy (named_pieces o.outstanding (ack_ranges_of largest numbers)) o result new
 unfolding AcksRanges
-all_ranges largest numbers o new result above h = h o.outstanding (largest + 2) (ranges_fall largest numbers above) (λ k lt. refl)
+all_ranges largest numbers o new result small above h = h (fall_less (largest + 2) PAST_NUMBERS (ack_ranges_of largest numbers) (omega (arith, small)) (ranges_fall largest numbers above))
 
-pub ack_ok : (largest : ℕ) (numbers : List ℕ) (ranges : List (ℕ × ℕ)) (o new : Outgoing) (e : End) (result : Result (Unit {0}) NoMemory) → e ≡ with_outgoing o e → taken numbers ≤ largest + 1 → ranges ≡ ack_ranges_of largest numbers
+pub ack_ok : (largest : ℕ) (numbers : List ℕ) (ranges : List (ℕ × ℕ)) (o new : Outgoing) (e : End) (result : Result (Unit {0}) NoMemory) → e ≡ with_outgoing o e → largest < 2 ^ 62 → taken numbers ≤ largest + 1 → ranges ≡ ack_ranges_of largest numbers
     → AcksRanges ranges o result new → OnOk result (with_outgoing new e ≡ acks (named e (ack_ranges_of largest numbers)) e)
-ack_ok largest numbers ranges o new e (Ok done) same above is h =
-    ap (λ (x : Outgoing). with_outgoing x e) (all_ranges largest numbers o new (Ok done) above (subst (λ rs. AcksRanges rs o (Ok done) new) is h))
+ack_ok largest numbers ranges o new e (Ok done) same small above is h =
+    ap (λ (x : Outgoing). with_outgoing x e) (all_ranges largest numbers o new (Ok done) small above (subst (λ rs. AcksRanges rs o (Ok done) new) is h))
     ∙ acks_view (named_pieces o.outstanding (ack_ranges_of largest numbers)) o e
     ∙ ap (λ (x : End). acks (named x (ack_ranges_of largest numbers)) x) (sym same)
-ack_ok largest numbers ranges o new e (Err refused) same above is h = tt
+ack_ok largest numbers ranges o new e (Err refused) same small above is h = tt
 
-pub ack_err : (largest : ℕ) (numbers : List ℕ) (ranges : List (ℕ × ℕ)) (o new : Outgoing) (e : End) (result : Result (Unit {0}) NoMemory) → e ≡ with_outgoing o e → taken numbers ≤ largest + 1 → ranges ≡ ack_ranges_of largest numbers
+pub ack_err : (largest : ℕ) (numbers : List ℕ) (ranges : List (ℕ × ℕ)) (o new : Outgoing) (e : End) (result : Result (Unit {0}) NoMemory) → e ≡ with_outgoing o e → largest < 2 ^ 62 → taken numbers ≤ largest + 1 → ranges ≡ ack_ranges_of largest numbers
     → AcksRanges ranges o result new → OnErr result ((m : ℕ) × (with_outgoing new e ≡ acks (take m (named e (ack_ranges_of largest numbers))) e))
-ack_err largest numbers ranges o new e (Ok done) same above is h = tt
-ack_err largest numbers ranges o new e (Err refused) same above is h =
-    let some = all_ranges largest numbers o new (Err refused) above (subst (λ rs. AcksRanges rs o (Err refused) new) is h) in (
+ack_err largest numbers ranges o new e (Ok done) same small above is h = tt
+ack_err largest numbers ranges o new e (Err refused) same small above is h =
+    let some = all_ranges largest numbers o new (Err refused) small above (subst (λ rs. AcksRanges rs o (Err refused) new) is h) in (
       some.0,
       ap (λ (x : Outgoing). with_outgoing x e) some.1
           ∙ acks_view (take some.0 (named_pieces o.outstanding (ack_ranges_of largest numbers))) o e

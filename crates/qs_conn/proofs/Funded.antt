@@ -1,5 +1,5 @@
 -- What lets an end make packets: each call keeps it.
-use Rattle.std.proofs.Common.{◌≡◌, ℕ, zero, suc, ◌+◌, ◌<◌, ◌≤◌, Bool, true, false, List, [], ◌∷◌, take, drop, max, Option, None, Some, is_some, Result, Ok, Err, cond, refl, sym, ap, ◌∙◌, subst, arith, inl, inr}
+use Rattle.std.proofs.Common.{◌≡◌, ℕ, zero, suc, ◌+◌, ◌^◌, ◌<◌, ◌≤◌, Bool, true, false, List, [], ◌∷◌, take, drop, max, Option, None, Some, is_some, Result, Ok, Err, cond, refl, sym, ap, ◌∙◌, subst, arith, inl, inr}
 use Rattle.std.proofs.lemmas.Bool.{both_ways, cases_lt}
 use Rattle.std.proofs.lemmas.Bool.Decides.{nat_tests}
 use Rattle.std.specs.Ordering.{nat_cmp}
@@ -100,10 +100,10 @@ unfolding acks_out
 sum_acks [] o = refl
 sum_acks (p ∷ ps) o = sum_acks ps (first_acked_out p.0 p.1 o) ∙ sum_acked p.0 p.1 o
 
-pub funded_acked : (largest : ℕ) (values : List ℕ) (ranges : List (ℕ × ℕ)) (o new : Outgoing) (result : Result (Unit {0}) NoMemory) (k : ℕ) (done : NumberSet) (due : Bool) → taken values ≤ largest + 1
+pub funded_acked : (largest : ℕ) (values : List ℕ) (ranges : List (ℕ × ℕ)) (o new : Outgoing) (result : Result (Unit {0}) NoMemory) (k : ℕ) (done : NumberSet) (due : Bool) → largest < 2 ^ 62 → taken values ≤ largest + 1
     → ranges ≡ ack_ranges_of largest values → AcksRanges ranges o result new → IsFunded o.sends k done due → IsFunded new.sends k done due
-funded_acked largest values ranges o new result k done due above is acked h =
-    funded_same o.sends new.sends k done due (go result (all_ranges largest values o new result above (subst (λ rs. AcksRanges rs o result new) is acked))) h
+funded_acked largest values ranges o new result k done due small above is acked h =
+    funded_same o.sends new.sends k done due (go result (all_ranges largest values o new result small above (subst (λ rs. AcksRanges rs o result new) is acked))) h
   where
     go : (r : Result (Unit {0}) NoMemory) → AcksBy (named_pieces o.outstanding (ack_ranges_of largest values)) o r new → sent_sum new.sends ≡ sent_sum o.sends
     go (Ok all) e = ap (λ (x : Outgoing). sent_sum x.sends) e ∙ sum_acks (named_pieces o.outstanding (ack_ranges_of largest values)) o

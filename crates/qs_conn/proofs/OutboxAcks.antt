@@ -1,8 +1,7 @@
 -- A piece of an outbox is acknowledged or lost.
-use Rattle.std.proofs.Common.{◌≡◌, ℕ, ◌<◌, Bool, true, false, List, [], ◌∷◌, Option, Some, None, is_some, cond, refl, sym, ap, ◌∙◌, subst, inl, inr, arith}
-use Rattle.std.proofs.lemmas.Bool.{both_ways, cases_eq}
+use Rattle.std.proofs.Common.{◌≡◌, ℕ, Bool, true, false, List, [], ◌∷◌, Option, Some, None, is_some, cond, refl, sym, ap, ◌∙◌, subst, inl, inr, arith}
+use Rattle.std.proofs.lemmas.Bool.{cases_eq}
 use Rattle.std.specs.FinMap as fmap
-use Rattle.std.specs.Option.{IfSome, IfNone}
 use Rattle.qs_send.specs.declared.parts.Chunk.{Chunk}
 use Rattle.qs_send.specs.declared.piece.Item.TheVariants.{MaxData, MaxStreamData, MaxStreams, ResetStream, StopSending, DataBlocked, StreamDataBlocked, StreamsBlocked}
 use Rattle.qs_send.specs.declared.piece.Piece.{Piece}
@@ -13,8 +12,7 @@ use Rattle.qs_send.specs.declared.parts.SendState.TheVariants.{ResetSent, ResetR
 use Rattle.qs_conn.specs.Tables.{Tables, lookup, update, updated}
 use Rattle.qs_conn.specs.Ends.{Records, AckedItems}
 use Rattle.qs_conn.specs.FrameStep.{without_first}
-use Rattle.qs_conn.specs.Outgoing.{Outgoing, sent_sum, lanes_of, with_pending, AreBelow, AreTied, IsOutbox, IsSentPiece, IsOfReset, IsIdle, IsHeldBelow, first_piece, first_acked_out, shorter, halves_acked, items_acked, halves_lost}
-use Rattle.qs_send.specs.Records.{IsGreatestBelow}
+use Rattle.qs_conn.specs.Outgoing.{Outgoing, sent_sum, lanes_of, with_pending, AreBelow, AreTied, IsOutbox, IsSentPiece, IsOfReset, IsIdle, first_piece, first_acked_out, shorter, halves_acked, items_acked, halves_lost}
 use Rattle.qs_conn.proofs.TableLaws.{total_update}
 use Rattle.qs_conn.proofs.Carried.{none_some, some_is, IsShorter, shortened_is, first_carried, get_new}
 use Rattle.qs_conn.proofs.Tied.{tied_reset_acked}
@@ -45,21 +43,6 @@ none_above m k below = go (fmap.get m k) refl
 
 pub idle_after : (m : Records) (k : ℕ) (ps : List Piece) → AreBelow m k → ps ≡ [] → fmap.get (with_pending m k ps) k ≡ None
 idle_after m k ps below none = subst (λ qs. fmap.get (with_pending m k qs) k ≡ None) (sym none) (none_above m k below)
-
-pub held_below : (m out : Records) (bound : ℕ) (r : Option ℕ) → m ≡ out → IfSome r (IsGreatestBelow m bound) → IfNone r ((k : ℕ) → k < bound → fmap.contains_key m k ≡ false) → IsHeldBelow out bound r
-held_below m out bound r is found none = subst (λ (x : Records). IsHeldBelow x bound r) is (go r found none)
-  where
-    absent : (k : ℕ) (o : Option (List Piece)) → fmap.get m k ≡ o → is_some o ≡ false → fmap.get m k ≡ None
-    absent k None e h = e
-    absent k (Some ps) e h = absurd (both_ways true h refl)
-
-    above : (k j : ℕ) → IsGreatestBelow m bound k → k < j → j < bound → (o : Option (List Piece)) → fmap.get m j ≡ o → fmap.get m j ≡ None
-    above k j h lt small None e = e
-    above k j h lt small (Some ps) e = absurd (omega (arith, h.greatest j (ap is_some e) small, lt))
-
-    go : (r : Option ℕ) → IfSome r (IsGreatestBelow m bound) → IfNone r ((k : ℕ) → k < bound → fmap.contains_key m k ≡ false) → IsHeldBelow m bound r
-    go None found none = λ k lt. absent k (fmap.get m k) refl (none k lt)
-    go (Some k) found none = (found.below, found.held, (λ j lt small. above k j found lt small (fmap.get m j) refl))
 
 -- The first piece was sent
 

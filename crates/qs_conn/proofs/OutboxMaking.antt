@@ -1,6 +1,7 @@
 -- An outbox makes packets.
-use Rattle.std.proofs.Common.{◌≡◌, ℕ, ◌+◌, ◌-◌, ◌<◌, ◌≤◌, Bool, true, false, List, [], ◌∷◌, ◌++◌, length, Option, Some, None, is_some, refl, sym, ap, ◌∙◌, subst, inl, inr, arith, nat_cmp}
+use Rattle.std.proofs.Common.{◌≡◌, ℕ, ◌+◌, ◌-◌, ◌<◌, ◌≤◌, Bool, true, false, List, [], ◌∷◌, ◌++◌, length, Option, Some, None, is_some, nat_lt, refl, sym, ap, ◌∙◌, subst, inl, inr, arith, nat_cmp}
 use Rattle.std.proofs.lemmas.Bool.{both_ways, cases_eq}
+use Rattle.std.proofs.lemmas.Bool.Decides.{nat_tests}
 use Rattle.std.proofs.lemmas.List.{length-append}
 use Rattle.std.specs.FinMap as fmap
 use Rattle.std.specs.FinMap.{nat_cmp-IsAntisymmetric}
@@ -109,6 +110,16 @@ longer : (xs : List Piece) (p : Piece) → length (xs ++ p ∷ []) ≡ length xs
 longer xs p = length-append xs (p ∷ [])
 
 -- What holds
+
+-- the room for the next record, as a number and as a test
+pub has_room : (n room : ℕ) → n < room → nat_lt n room ≡ true
+has_room n room lt = grind (arith, nat_tests)
+
+pub room_is : (n room : ℕ) → nat_lt n room ≡ true → n < room
+room_is n room is = grind (arith, nat_tests)
+
+pub room_stays : (n room more : ℕ) → room ≤ more → nat_lt n room ≡ true → nat_lt n more ≡ true
+room_stays n room more le is = has_room n more (let lt = room_is n room is in omega arith)
 
 pub box_begun : (t : Tables Sending) (m m' : Records) (r r' : Bool) (ps qs : List Piece) (next sent spare free count free' : ℕ) → IsOutbox t m r ps next sent spare free → m' ≡ m → qs ≡ ps → r' ≡ true → count ≤ free' → IsOutbox t m' r' qs next sent count free'
 box_begun t m m' r r' ps qs next sent spare free count free' h same is ready room =

@@ -274,11 +274,6 @@ abbrev pub WantsMore : Option SendLane → Type 0
 WantsMore None = ⊥
 WantsMore (Some l) = (l.was_reset ≡ None) × (l.sent_end < l.written) × (l.sent_end < l.limit)
 
--- the greatest number below a bound that has a record
-abbrev pub IsHeldBelow : Records → ℕ → Option ℕ → Type 0
-IsHeldBelow m bound None = (k : ℕ) → k < bound → fmap.get m k ≡ None
-IsHeldBelow m bound (Some k) = (k < bound) × (is_some (fmap.get m k) ≡ true) × ((j : ℕ) → k < j → j < bound → fmap.get m j ≡ None)
-
 -- a reset, by its code and its final size
 abbrev pub reset_by : Option ℕ → Option ℕ → Option Reset
 reset_by None size = None

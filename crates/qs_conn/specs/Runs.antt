@@ -1,10 +1,11 @@
 -- What the private loops over an end's packets do: pieces are due again, or acknowledged, one after the other, as far as there is memory.
-use Rattle.std.specs.Prelude.{◌≡◌, ℕ, ◌<◌, Bool, ◌&&◌, nat_le, nat_lt, List, [], ◌∷◌, length, drop, take, map, reverse, flat_map, Option, None, Some, Result, Ok, Err, ⊤}
+use Rattle.std.specs.Prelude.{◌≡◌, ℕ, ◌<◌, Bool, ◌&&◌, ◌||◌, nat_le, nat_lt, List, [], ◌∷◌, length, drop, take, map, reverse, flat_map, Option, None, Some, Result, Ok, Err}
 use Rattle.std.specs.List.{filter}
 use Rattle.std.specs.FinMap as fmap
 use Rattle.qs_ranges.specs.declared.NoMemory.{NoMemory}
 use Rattle.qs_send.specs.declared.piece.Piece.{Piece}
 use Rattle.qs_wire.specs.Acks.{FallBelow}
+use Rattle.qs_send.specs.AckPass.{Passing, PAST_NUMBERS, Falls}
 use Rattle.qs_conn.specs.Ends.{Records}
 use Rattle.qs_conn.specs.FrameStep.{is_named}
 use Rattle.qs_conn.specs.Outgoing.{Outgoing, pieces_in, first_acked_out}
@@ -48,32 +49,26 @@ pieces_at m k = elim (fmap.get m k) [ None ↦ [] | Some ps ↦ map (λ p. (k, p
 unfoldable pub AcksPacket : ℕ → Outgoing → Result (Unit {0}) NoMemory → Outgoing → Type 0
 AcksPacket k o result new = AcksBy (pieces_at o.outstanding k) o result new
 
--- from low on, and below the bound
-abbrev pub in_part : ℕ → ℕ → ℕ → Bool
-in_part low bound k = nat_le low k && nat_lt k bound
-
 -- the packets below a bound are the same
 abbrev pub AreSameBelow : ℕ → Records → Records → Type 0
 AreSameBelow bound m n = (k : ℕ) → k < bound → fmap.get m k ≡ fmap.get n k
-
--- the pieces of the packets in a range, from the highest number down
-abbrev pub part_pieces : Records → ℕ → ℕ → List (ℕ × Piece)
-part_pieces m low bound = flat_map (pieces_at m) (reverse (filter (in_part low bound) (fmap.keys m)))
-
-abbrev pub StaysBelow : ℕ → Records → Result (Unit {0}) NoMemory → Outgoing → Type 0
-StaysBelow low m (Ok done) new = AreSameBelow low m new.outstanding
-StaysBelow low m (Err refused) new = ⊤
-
--- The packets from `low` on and below `bound` are acknowledged. The records m are those before other packets were.
-unfoldable pub AcksPart : ℕ → ℕ → Outgoing → Result (Unit {0}) NoMemory → Outgoing → Type 0
-AcksPart low bound o result new =
-    (m : Records) → AreSameBelow bound m o.outstanding → AcksBy (part_pieces m low bound) o result new × StaysBelow low m result new
 
 -- the pieces of the packets that ranges name
 abbrev pub named_pieces : Records → List (ℕ × ℕ) → List (ℕ × Piece)
 named_pieces m ranges = flat_map (pieces_at m) (reverse (filter (is_named ranges) (fmap.keys m)))
 
--- The packets that these ranges name are acknowledged.
+-- The packets that these ranges name are acknowledged, where the ranges fall.
 unfoldable pub AcksRanges : List (ℕ × ℕ) → Outgoing → Result (Unit {0}) NoMemory → Outgoing → Type 0
-AcksRanges ranges o result new =
-    (m : Records) (high : ℕ) → FallBelow high ranges → AreSameBelow high m o.outstanding → AcksBy (named_pieces m ranges) o result new
+AcksRanges ranges o result new = FallBelow PAST_NUMBERS ranges → AcksBy (named_pieces o.outstanding ranges) o result new
+
+-- the ranges name a number that the pass has not come to
+abbrev pub is_ahead : Passing → ℕ → Bool
+is_ahead p k = nat_lt k p.below && (nat_le p.low k || is_named p.unread k)
+
+-- the pieces of the packets that a pass has ahead
+abbrev pub ahead_pieces : Records → Passing → List (ℕ × Piece)
+ahead_pieces m p = flat_map (pieces_at m) (reverse (filter (is_ahead p) (fmap.keys m)))
+
+-- The packets that a pass has ahead are acknowledged. The records m are those before other packets were.
+unfoldable pub AcksAhead : Passing → Outgoing → Result (Unit {0}) NoMemory → Outgoing → Type 0
+AcksAhead p o result new = (m : Records) → Falls p → AreSameBelow p.below m o.outstanding → AcksBy (ahead_pieces m p) o result new

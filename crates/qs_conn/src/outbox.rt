@@ -41,7 +41,7 @@ pub(crate) struct Outbox {
 
 // Clauses see the lanes. What of them is due stays inside: what was written and is neither acknowledged nor outstanding.
 impl Model for Outbox {
-    ghost use Rattle.std.specs.Prelude.{◌-◌, vec_len, vec_capacity};
+    ghost use Rattle.std.specs.Prelude.{◌-◌, nat_lt, vec_len, vec_capacity};
     ghost use Rattle.qs_conn.specs.Outgoing.{Outgoing, IsOutbox, IsIndexed, lanes_of, with_pending};
     ghost use Rattle.qs_conn.specs.EndCodes.{outgoing_code};
 
@@ -57,7 +57,7 @@ impl Model for Outbox {
       spare = o.spare;
     } };
 
-    ghost invariant = { λ o. IsOutbox o.sends o.records.pieces o.records.ready o.pending.items o.next o.sent o.spare (vec_capacity o.pending - vec_len o.pending) × IsIndexed (with_pending o.records.pieces o.next o.pending.items) o.index.items o.spare o.index.spare };
+    ghost invariant = { λ o. IsOutbox o.sends o.records.pieces (nat_lt o.next o.records.room) o.pending.items o.next o.sent o.spare (vec_capacity o.pending - vec_len o.pending) × IsIndexed (with_pending o.records.pieces o.next o.pending.items) o.index.items o.spare o.index.spare };
 }
 
 impl Outbox {

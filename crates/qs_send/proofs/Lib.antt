@@ -14,3 +14,4 @@ pub mod Parting
 pub mod PieceEquality
 pub mod Outstanding
 pub mod Carrying
+pub mod Passing

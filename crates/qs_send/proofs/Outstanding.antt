@@ -1,30 +1,14 @@
--- Packets in rising order as a map, and what each edit of them makes of it.
-use Rattle.std.proofs.Common.{◌≡◌, ◌∙◌, ℕ, zero, suc, ◌+◌, ◌-◌, ◌<◌, ◌≤◌, Bool, true, false, cond, nat_eq, List, [], ◌∷◌, ◌++◌, length, drop, Option, None, Some, refl, sym, ap, arith, inl, inr, subst, Result, Ok, Err, IsOk, add-one, slice_index_or, slice_set}
-use Rattle.std.specs.Result.{is_ok}
+-- Slots of consecutive numbers as a map of packets, and what each edit of them makes of it.
+use Rattle.std.proofs.Common.{◌≡◌, ◌∙◌, ℕ, zero, suc, ◌+◌, ◌-◌, ◌<◌, ◌≤◌, Bool, true, false, cond, nat_eq, List, [], ◌∷◌, ◌++◌, length, drop, take, IsTrue, min, Option, None, Some, refl, sym, ap, arith, inl, inr, subst, slice_set}
 use Rattle.std.specs.Option.{is_some, IfSome, IfNone}
-use Rattle.std.specs.Prelude.{remove}
-use Rattle.std.specs.Ordering.{nat_cmp}
 use Rattle.std.specs.Cmp.{nat_cmp_total, unsigned_tied}
+use Rattle.std.specs.Ordering.{nat_cmp}
 use Rattle.std.specs.FinMap as fmap
 use Rattle.std.specs.FinMap.{nat_cmp-IsAntisymmetric, same_map}
-use Rattle.std.proofs.lemmas.Bool.{both_ways, cases_lt, cases_order}
+use Rattle.std.proofs.lemmas.Bool.{both_ways, cases_lt}
 use Rattle.std.proofs.lemmas.Bool.Decides.{nat_tests}
-use Rattle.std.specs.List.Sorted.{IsNonDecreasingBy}
-use Rattle.std.proofs.lemmas.List.Sorted.{IsNonDecreasingBy-from_all_adjacent}
 use Rattle.qs_send.specs.declared.piece.Piece.{Piece}
-use Rattle.qs_send.specs.Records.{PacketPieces, Among, IsCarried, AreBelow, IsGreatest, IsGreatestBelow, AreRising, IsCountBelow, IsPlaceOf, packet_at, packets_of, without_first}
-
--- the pieces of a number in a list of packets
-abbrev pub found : ℕ → List (ℕ × List Piece) → Option (List Piece)
-found n [] = None
-found n (e ∷ es) = cond (nat_eq n e.0) (Some e.1) (found n es)
-
-find-found : (n : ℕ) (es : List (ℕ × List Piece)) → fmap.find nat_cmp n es ≡ found n es
-find-found n [] = refl
-find-found n (e ∷ es) = ap (λ b. cond b (Some e.1) (fmap.find nat_cmp n es)) (unsigned_tied n e.0) ∙ ap (cond (nat_eq n e.0) (Some e.1)) (find-found n es)
-
-pub get-packets_of : (es : List (ℕ × List Piece)) (n : ℕ) → fmap.get (packets_of es) n ≡ found n es
-get-packets_of es n = fmap.get-from_entries nat_cmp_total es n ∙ find-found n es
+use Rattle.qs_send.specs.Records.{PacketPieces, Among, IsCarried, IsGreatest, IsGreatestBelow, NoneEmpty, slot_at, packets_of, with_record, first_piece}
 
 pub get-insert_packet : (m : PacketPieces) (k : ℕ) (ps : List Piece) (n : ℕ) → fmap.get (fmap.insert m k ps) n ≡ cond (nat_eq n k) (Some ps) (fmap.get m n)
 get-insert_packet m k ps n = fmap.get-insert nat_cmp_total m k ps n ∙ ap (λ b. cond b (Some ps) (fmap.get m n)) (unsigned_tied n k)
@@ -32,275 +16,222 @@ get-insert_packet m k ps n = fmap.get-insert nat_cmp_total m k ps n ∙ ap (λ b
 pub get-remove_packet : (m : PacketPieces) (k n : ℕ) → fmap.get (fmap.remove m k) n ≡ cond (nat_eq n k) None (fmap.get m n)
 get-remove_packet m k n = fmap.get-remove nat_cmp_total m k n ∙ ap (λ b. cond b None (fmap.get m n)) (unsigned_tied n k)
 
--- a list of packets is the map with its answers
-pub packets_of-is : (es : List (ℕ × List Piece)) (m : PacketPieces) → ((n : ℕ) → found n es ≡ fmap.get m n) → packets_of es ≡ m
-packets_of-is es m same = same_map nat_cmp_total nat_cmp-IsAntisymmetric _ _ (λ n. get-packets_of es n ∙ same n)
+-- Slots by number
 
--- Rising numbers
+-- what a slot holds
+abbrev pub kept : List Piece → Option (List Piece)
+kept [] = None
+kept (p ∷ ps) = Some (p ∷ ps)
 
-pub found_below : (low : ℕ) (es : List (ℕ × List Piece)) (n : ℕ) → AreRising low es → n < low → found n es ≡ None
-found_below low [] n rising lt = refl
-found_below low (e ∷ es) n rising lt =
-    let later = found_below (e.0 + 1) es n rising.2 (omega (arith, rising.0)) in
-    let apart : nat_eq n e.0 ≡ false = grind (arith, nat_tests, rising.0) in
-    ap (λ b. cond b (Some e.1) (found n es)) apart ∙ later
+-- the pieces of a number in slots
+abbrev pub found : ℕ → ℕ → List (List Piece) → Option (List Piece)
+found n base [] = None
+found n base (s ∷ ss) = cond (nat_eq n base) (kept s) (found n (base + 1) ss)
 
-pub rising_less : (low less : ℕ) (es : List (ℕ × List Piece)) → less ≤ low → AreRising low es → AreRising less es
-rising_less low less [] le rising = tt
-rising_less low less (e ∷ es) le rising = (omega (arith, rising.0), rising.1, rising.2)
+pub found_below : (n base : ℕ) (ss : List (List Piece)) → n < base → found n base ss ≡ None
+found_below n base [] lt = refl
+found_below n base (s ∷ ss) lt =
+    let other : nat_eq n base ≡ false = grind (arith, nat_tests) in
+    ap (λ b. cond b (kept s) (found n (base + 1) ss)) other ∙ found_below n (base + 1) ss (omega arith)
 
--- the number at a place is at or past the bound
-pub at_least : (low : ℕ) (es : List (ℕ × List Piece)) (k : ℕ) → AreRising low es → k < length es → low ≤ (packet_at es k).0
-at_least low [] k rising lt = absurd (omega arith)
-at_least low (e ∷ es) zero rising lt = rising.0
-at_least low (e ∷ es) (suc k) rising lt = let later = at_least (e.0 + 1) es k rising.2 (omega arith) in omega (arith, rising.0)
+pub found_at : (n base k : ℕ) (ss : List (List Piece)) → base + k ≡ n → found n base ss ≡ kept (slot_at ss k)
+found_at n base k [] is = refl
+found_at n base zero (s ∷ ss) is = let here : nat_eq n base ≡ true = grind (arith, nat_tests) in ap (λ b. cond b (kept s) (found n (base + 1) ss)) here
+found_at n base (suc k) (s ∷ ss) is =
+    let other : nat_eq n base ≡ false = grind (arith, nat_tests) in
+    ap (λ b. cond b (kept s) (found n (base + 1) ss)) other ∙ found_at n (base + 1) k ss (omega arith)
 
--- what stands at a place is found under its number
-pub found_at : (low : ℕ) (es : List (ℕ × List Piece)) (k n : ℕ) → AreRising low es → k < length es → (packet_at es k).0 ≡ n → found n es ≡ Some (packet_at es k).1
-found_at low [] k n rising lt is = absurd (omega arith)
-found_at low (e ∷ es) zero n rising lt is = let here : nat_eq n e.0 ≡ true = grind (arith, nat_tests) in ap (λ b. cond b (Some e.1) (found n es)) here
-found_at low (e ∷ es) (suc k) n rising lt is =
-    let past = at_least (e.0 + 1) es k rising.2 (omega arith) in
-    let apart : nat_eq n e.0 ≡ false = grind (arith, nat_tests) in
-    ap (λ b. cond b (Some e.1) (found n es)) apart ∙ found_at (e.0 + 1) es k n rising.2 (omega arith) is
-
--- each has a piece
-pub some_at : (low : ℕ) (es : List (ℕ × List Piece)) (k : ℕ) → AreRising low es → k < length es → 0 < length (packet_at es k).1
-some_at low [] k rising lt = absurd (omega arith)
-some_at low (e ∷ es) zero rising lt = rising.1
-some_at low (e ∷ es) (suc k) rising lt = some_at (e.0 + 1) es k rising.2 (omega arith)
-
--- what is found stands at some place
-pub place_found : (es : List (ℕ × List Piece)) (n : ℕ) (ps : List Piece) → found n es ≡ Some ps → (k : ℕ) × (k < length es) × ((packet_at es k).0 ≡ n) × ((packet_at es k).1 ≡ ps)
-place_found [] n ps is = absurd cc
-place_found (e ∷ es) n ps is = go (place_found es n ps) (nat_eq n e.0) refl is
+pub get-packets_of : (base : ℕ) (ss : List (List Piece)) (n : ℕ) → fmap.get (packets_of base ss) n ≡ found n base ss
+get-packets_of base [] n = fmap.get-empty nat_cmp n
+get-packets_of base ([] ∷ ss) n = get-packets_of (base + 1) ss n ∙ skipped (nat_eq n base) refl
   where
-    go : (found n es ≡ Some ps → (k : ℕ) × (k < length es) × ((packet_at es k).0 ≡ n) × ((packet_at es k).1 ≡ ps)) → (b : Bool) → nat_eq n e.0 ≡ b
-        → cond b (Some e.1) (found n es) ≡ Some ps → (k : ℕ) × (k < length (e ∷ es)) × ((packet_at (e ∷ es) k).0 ≡ n) × ((packet_at (e ∷ es) k).1 ≡ ps)
-    go later true here is = let same : e.1 ≡ ps = cc in let number : e.0 ≡ n = grind (arith, nat_tests) in (0, omega arith, number, same)
-    go later false apart is = let rest = later is in (suc rest.0, omega (arith, rest.1), rest.2, rest.3)
+    skipped : (b : Bool) → nat_eq n base ≡ b → found n (base + 1) ss ≡ cond b None (found n (base + 1) ss)
+    skipped true here = found_below n (base + 1) ss (grind (arith, nat_tests))
+    skipped false other = refl
+get-packets_of base ((p ∷ ps) ∷ ss) n = get-insert_packet (packets_of (base + 1) ss) base (p ∷ ps) n ∙ ap (cond (nat_eq n base) (Some (p ∷ ps))) (get-packets_of (base + 1) ss n)
 
--- Edits at a place
+-- slots are the map with their answers
+pub packets_of-is : (base : ℕ) (ss : List (List Piece)) (m : PacketPieces) → ((n : ℕ) → found n base ss ≡ fmap.get m n) → packets_of base ss ≡ m
+packets_of-is base ss m same = same_map nat_cmp_total nat_cmp-IsAntisymmetric _ _ (λ n. get-packets_of base ss n ∙ same n)
 
--- the packet at a place with other pieces
-pub found_set : (low : ℕ) (es : List (ℕ × List Piece)) (k n : ℕ) (ps : List Piece) (q : ℕ) → AreRising low es → k < length es → (packet_at es k).0 ≡ n
-    → found q (slice_set es k (n, ps)) ≡ cond (nat_eq q n) (Some ps) (found q es)
-found_set low [] k n ps q rising lt is = absurd (omega arith)
-found_set low (e ∷ es) zero n ps q rising lt is = rw (← is) (twice (nat_eq q e.0) (Some ps) (Some e.1) (found q es))
+pub get-slot : (base k n : ℕ) (ss : List (List Piece)) → base + k ≡ n → fmap.get (packets_of base ss) n ≡ kept (slot_at ss k)
+get-slot base k n ss is = get-packets_of base ss n ∙ found_at n base k ss is
+
+slot_past : (ss : List (List Piece)) (k : ℕ) → length ss ≤ k → slot_at ss k ≡ []
+slot_past [] k le = refl
+slot_past (s ∷ ss) zero le = absurd (omega arith)
+slot_past (s ∷ ss) (suc k) le = slot_past ss k (omega arith)
+
+-- Numbers without a slot aren't held
+
+pub not_below : (base n : ℕ) (ss : List (List Piece)) → n < base → fmap.contains_key (packets_of base ss) n ≡ false
+not_below base n ss lt = ap is_some (get-packets_of base ss n ∙ found_below n base ss lt)
+
+pub not_past : (base n : ℕ) (ss : List (List Piece)) → base + length ss ≤ n → fmap.contains_key (packets_of base ss) n ≡ false
+not_past base n ss le =
+    let k : ℕ = n - base in
+    let is : base + (n - base) ≡ n = omega (arith, le) in
+    let past : length ss ≤ n - base = omega (arith, le) in
+    ap is_some (get-slot base (n - base) n ss is ∙ ap kept (slot_past ss (n - base) past))
+
+-- a number that is held has a slot
+pub held_slot : (base n : ℕ) (ss : List (List Piece)) → fmap.contains_key (packets_of base ss) n ≡ true → (base ≤ n) × (n < base + length ss)
+held_slot base n ss held = (
+  elim (cases_lt n base) [ inl lt ↦ absurd (both_ways _ (not_below base n ss lt) held) | inr ge ↦ ge ],
+  elim (cases_lt n (base + length ss)) [ inl lt ↦ lt | inr ge ↦ absurd (both_ways _ (not_past base n ss ge) held) ],
+)
+
+-- What a slot says of the map
+
+none_empty : (n base : ℕ) (ss : List (List Piece)) → found n base ss ≡ Some [] → ⊥
+none_empty n base [] is = absurd cc
+none_empty n base (s ∷ ss) is = go (none_empty n (base + 1) ss) (nat_eq n base) s is
   where
-    twice : {A : Type 0} (b : Bool) (x y z : A) → cond b x z ≡ cond b x (cond b y z)
-    twice true x y z = refl
-    twice false x y z = refl
-found_set low (e ∷ es) (suc k) n ps q rising lt is =
-    let past = at_least (e.0 + 1) es k rising.2 (omega arith) in
-    let later = found_set (e.0 + 1) es k n ps q rising.2 (omega arith) is in
-    let apart : e.0 < n = omega arith in
-    ap (cond (nat_eq q e.0) (Some e.1)) later ∙ swapped q e.0 n apart (Some e.1) (Some ps) (found q es)
+    go : (found n (base + 1) ss ≡ Some [] → ⊥) → (b : Bool) (s : List Piece) → cond b (kept s) (found n (base + 1) ss) ≡ Some [] → ⊥
+    go later true [] is = absurd cc
+    go later true (p ∷ ps) is = absurd cc
+    go later false s is = later is
+
+pub nothing_is_empty : (base : ℕ) (ss : List (List Piece)) → NoneEmpty (packets_of base ss)
+nothing_is_empty base ss n is = none_empty n base ss (sym (get-packets_of base ss n) ∙ is)
+
+pub first_some : (m : PacketPieces) (n : ℕ) → NoneEmpty m → is_some (first_piece (fmap.get m n)) ≡ fmap.contains_key m n
+first_some m n none = go (fmap.get m n) refl
   where
-    swapped : {A : Type 0} (q a b : ℕ) → a < b → (x y z : A) → cond (nat_eq q a) x (cond (nat_eq q b) y z) ≡ cond (nat_eq q b) y (cond (nat_eq q a) x z)
-    swapped q a b lt x y z = grind (arith, nat_tests)
-
-pub rising_set : (low : ℕ) (es : List (ℕ × List Piece)) (k n : ℕ) (ps : List Piece) → AreRising low es → k < length es → (packet_at es k).0 ≡ n → 0 < length ps
-    → AreRising low (slice_set es k (n, ps))
-rising_set low [] k n ps rising lt is some = absurd (omega arith)
-rising_set low (e ∷ es) zero n ps rising lt is some = rw (← is) (rising.0, some, rising.2)
-rising_set low (e ∷ es) (suc k) n ps rising lt is some = (rising.0, rising.1, rising_set (e.0 + 1) es k n ps rising.2 (omega arith) is some)
-
--- the packets without the one at a place
-pub found_removed : (low : ℕ) (es : List (ℕ × List Piece)) (k n q : ℕ) → AreRising low es → k < length es → (packet_at es k).0 ≡ n
-    → found q (remove es k) ≡ cond (nat_eq q n) None (found q es)
-found_removed low [] k n q rising lt is = absurd (omega arith)
-found_removed low (e ∷ es) zero n q rising lt is = go (nat_eq q n) refl
-  where
-    go : (b : Bool) → nat_eq q n ≡ b → found q es ≡ cond b None (cond (nat_eq q e.0) (Some e.1) (found q es))
-    go true here = found_below (e.0 + 1) es q rising.2 (grind (arith, nat_tests))
-    go false apart = let other : nat_eq q e.0 ≡ false = ap (nat_eq q) is ∙ apart in ap (λ b. cond b (Some e.1) (found q es)) (sym other)
-found_removed low (e ∷ es) (suc k) n q rising lt is =
-    let past = at_least (e.0 + 1) es k rising.2 (omega arith) in
-    let later = found_removed (e.0 + 1) es k n q rising.2 (omega arith) is in
-    let apart : e.0 < n = omega arith in
-    ap (cond (nat_eq q e.0) (Some e.1)) later ∙ swapped q e.0 n apart (Some e.1) None (found q es)
-  where
-    swapped : {A : Type 0} (q a b : ℕ) → a < b → (x y z : A) → cond (nat_eq q a) x (cond (nat_eq q b) y z) ≡ cond (nat_eq q b) y (cond (nat_eq q a) x z)
-    swapped q a b lt x y z = grind (arith, nat_tests)
-
-pub rising_removed : (low : ℕ) (es : List (ℕ × List Piece)) (k : ℕ) → AreRising low es → k < length es → AreRising low (remove es k)
-rising_removed low [] k rising lt = absurd (omega arith)
-rising_removed low (e ∷ es) zero rising lt = rising_less (e.0 + 1) low es (omega (arith, rising.0)) rising.2
-rising_removed low (e ∷ es) (suc k) rising lt = (rising.0, rising.1, rising_removed (e.0 + 1) es k rising.2 (omega arith))
-
--- Packets behind all others
-
--- each number that is found is below n
-abbrev pub FoundBelow : List (ℕ × List Piece) → ℕ → Type 0
-FoundBelow es n = (k : ℕ) → is_some (found k es) ≡ true → k < n
-
-found_first : (e : ℕ × List Piece) (es : List (ℕ × List Piece)) → is_some (found e.0 (e ∷ es)) ≡ true
-found_first e es = let here : nat_eq e.0 e.0 ≡ true = grind (arith, nat_tests) in ap (λ b. is_some (cond b (Some e.1) (found e.0 es))) here
-
-found_later : (e : ℕ × List Piece) (es : List (ℕ × List Piece)) (k : ℕ) → is_some (found k es) ≡ true → is_some (found k (e ∷ es)) ≡ true
-found_later e es k some = go (nat_eq k e.0)
-  where
-    go : (b : Bool) → is_some (cond b (Some e.1) (found k es)) ≡ true
-    go true = refl
-    go false = some
-
-pub rising_pushed : (low : ℕ) (es : List (ℕ × List Piece)) (n : ℕ) (ps : List Piece) → AreRising low es → low ≤ n → FoundBelow es n → 0 < length ps → AreRising low (es ++ (n, ps) ∷ [])
-rising_pushed low [] n ps rising le below some = (le, some, tt)
-rising_pushed low (e ∷ es) n ps rising le below some =
-    let first = below e.0 (found_first e es) in
-    (rising.0, rising.1, rising_pushed (e.0 + 1) es n ps rising.2 (omega arith) (λ k held. below k (found_later e es k held)) some)
-
-pub found_pushed : (es : List (ℕ × List Piece)) (n : ℕ) (ps : List Piece) (q : ℕ) → FoundBelow es n → found q (es ++ (n, ps) ∷ []) ≡ cond (nat_eq q n) (Some ps) (found q es)
-found_pushed [] n ps q below = refl
-found_pushed (e ∷ es) n ps q below =
-    let later = found_pushed es n ps q (λ k held. below k (found_later e es k held)) in
-    ap (cond (nat_eq q e.0) (Some e.1)) later ∙ swapped q e.0 n (below e.0 (found_first e es)) (Some e.1) (Some ps) (found q es)
-  where
-    swapped : {A : Type 0} (q a b : ℕ) → a < b → (x y z : A) → cond (nat_eq q a) x (cond (nat_eq q b) y z) ≡ cond (nat_eq q b) y (cond (nat_eq q a) x z)
-    swapped q a b lt x y z = grind (arith, nat_tests)
-
--- Places by number
-
-rises : (low : ℕ) (es : List (ℕ × List Piece)) (k : ℕ) (d : ℕ × List Piece) → AreRising low es → suc k < length es → (slice_index_or es k d).0 ≤ (slice_index_or es (suc k) d).0
-rises low [] k d rising lt = absurd (omega arith)
-rises low (e ∷ []) k d rising lt = absurd (omega arith)
-rises low (e ∷ f ∷ es) zero d rising lt = let next = rising.2.0 in omega arith
-rises low (e ∷ f ∷ es) (suc k) d rising lt = rises (e.0 + 1) (f ∷ es) k d rising.2 (omega arith)
-
-pub numbers_rise : (low : ℕ) (es : List (ℕ × List Piece)) → AreRising low es → IsNonDecreasingBy (λ e. e.0) es
-numbers_rise low es rising = IsNonDecreasingBy-from_all_adjacent (λ (e : ℕ × List Piece). e.0) es (λ k d lt. rw (add-one k) (rises low es k d rising (omega arith)))
-
--- a number that stands nowhere isn't found
-pub absent : (es : List (ℕ × List Piece)) (n : ℕ) → ((j : ℕ) → j < length es → (packet_at es j).0 ≡ n → ⊥) → found n es ≡ None
-absent es n nowhere = go (found n es) refl
-  where
-    go : (o : Option (List Piece)) → found n es ≡ o → o ≡ None
+    go : (o : Option (List Piece)) → fmap.get m n ≡ o → is_some (first_piece o) ≡ is_some o
     go None is = refl
-    go (Some ps) is = let at = place_found es n ps is in absurd (nowhere at.0 at.1 at.2)
+    go (Some []) is = absurd (none n is)
+    go (Some (p ∷ ps)) is = refl
 
--- a number that is held stands somewhere
-pub place_held : (es : List (ℕ × List Piece)) (n : ℕ) → fmap.contains_key (packets_of es) n ≡ true → (k : ℕ) × (k < length es) × ((packet_at es k).0 ≡ n)
-place_held es n held = go (found n es) refl (sym (ap is_some (get-packets_of es n)) ∙ held)
+first_kept : (s : List Piece) → first_piece (Some s) ≡ first_piece (kept s)
+first_kept [] = refl
+first_kept (p ∷ ps) = refl
+
+pub first-slot : (base k n : ℕ) (ss : List (List Piece)) → base + k ≡ n → first_piece (Some (slot_at ss k)) ≡ first_piece (fmap.get (packets_of base ss) n)
+first-slot base k n ss is = first_kept (slot_at ss k) ∙ ap first_piece (sym (get-slot base k n ss is))
+
+-- a slot is empty exactly if its number isn't held
+pub empty_slot : (base k n len : ℕ) (ss : List (List Piece)) → base + k ≡ n → k < length ss → len ≡ length (slot_at ss k)
+    → (IsTrue (nat_eq len 0) → (0 < length ss) × (fmap.contains_key (packets_of base ss) n ≡ false)) × ((0 < length ss) × (fmap.contains_key (packets_of base ss) n ≡ false) → IsTrue (nat_eq len 0))
+empty_slot base k n len ss is within long = go (slot_at ss k) (ap is_some (get-slot base k n ss is)) long
   where
-    go : (o : Option (List Piece)) → found n es ≡ o → is_some o ≡ true → (k : ℕ) × (k < length es) × ((packet_at es k).0 ≡ n)
-    go None is some = absurd (both_ways false refl some)
-    go (Some ps) is some = let at = place_found es n ps is in (at.0, at.1, at.2)
+    go : (s : List Piece) → fmap.contains_key (packets_of base ss) n ≡ is_some (kept s) → len ≡ length s
+        → (IsTrue (nat_eq len 0) → (0 < length ss) × (fmap.contains_key (packets_of base ss) n ≡ false)) × ((0 < length ss) × (fmap.contains_key (packets_of base ss) n ≡ false) → IsTrue (nat_eq len 0))
+    go [] held long = ((λ zero_len. (omega arith, held)), (λ x. grind (arith, nat_tests)))
+    go (p ∷ ps) held long = ((λ zero_len. absurd (grind (arith, nat_tests))), (λ x. absurd (both_ways _ x.1 held)))
 
-pub held_at : (es : List (ℕ × List Piece)) (k n : ℕ) → AreRising 0 es → k < length es → (packet_at es k).0 ≡ n → fmap.contains_key (packets_of es) n ≡ true
-held_at es k n rising lt is = ap is_some (get-packets_of es n ∙ found_at 0 es k n rising lt is)
-
--- what a search by number says of the map
-pub placed : (es : List (ℕ × List Piece)) (n k : ℕ) → AreRising 0 es → IsPlaceOf es n k → fmap.get (packets_of es) n ≡ Some (packet_at es k).1
-placed es n k rising at = get-packets_of es n ∙ found_at 0 es k n rising at.within at.number
-
-pub is_held_by : (es : List (ℕ × List Piece)) (n : ℕ) (o : Option ℕ) → AreRising 0 es → IfSome o (IsPlaceOf es n) → IfNone o (fmap.contains_key (packets_of es) n ≡ false)
-    → is_some o ≡ fmap.contains_key (packets_of es) n
-is_held_by es n None rising some none = sym none
-is_held_by es n (Some k) rising some none = sym (ap is_some (placed es n k rising some))
-
-pub not_held : (es : List (ℕ × List Piece)) (n : ℕ) → ((j : ℕ) → j < length es → (packet_at es j).0 ≡ n → ⊥) → fmap.contains_key (packets_of es) n ≡ false
-not_held es n nowhere = ap is_some (get-packets_of es n ∙ absent es n nowhere)
-
--- the number is at no place where the first that isn't lower is another
-pub not_at_count : (es : List (ℕ × List Piece)) (n k : ℕ) → AreRising 0 es → IsCountBelow es n k → (k < length es → (packet_at es k).0 ≡ n → ⊥) → fmap.contains_key (packets_of es) n ≡ false
-not_at_count es n k rising count other = not_held es n (λ j lt is. elim (cases_order j k) [
-  | inl same ↦ other (omega arith) (rw same at is)
-  | inr apart ↦ elim apart [
-    | inl below ↦ let less = count.before j below in omega arith
-    | inr above ↦
-        let first = other (omega arith) in
-        let most = count.behind k (omega arith) (omega arith) in
-        let next = strictly 0 es k j rising above lt in
-        omega arith
-  ]
-])
+slot_none : (base k n : ℕ) (ss : List (List Piece)) → base + k ≡ n → fmap.contains_key (packets_of base ss) n ≡ false → slot_at ss k ≡ []
+slot_none base k n ss is none = go (slot_at ss k) (sym (ap is_some (get-slot base k n ss is)) ∙ none)
   where
-    strictly : (low : ℕ) (es : List (ℕ × List Piece)) (i j : ℕ) → AreRising low es → i < j → j < length es → (packet_at es i).0 < (packet_at es j).0
-    strictly low [] i j rising lt within = absurd (omega arith)
-    strictly low (e ∷ es) i zero rising lt within = absurd (omega arith)
-    strictly low (e ∷ es) zero (suc j) rising lt within = let past = at_least (e.0 + 1) es j rising.2 (omega arith) in omega arith
-    strictly low (e ∷ es) (suc i) (suc j) rising lt within = strictly (e.0 + 1) es i j rising.2 (omega arith) (omega arith)
+    go : (s : List Piece) → is_some (kept s) ≡ false → s ≡ []
+    go [] none = refl
+    go (p ∷ ps) none = absurd (both_ways _ none refl)
 
--- a number at an earlier place isn't greater
-pub not_greater : (es : List (ℕ × List Piece)) (i j : ℕ) → AreRising 0 es → i ≤ j → j < length es → (packet_at es i).0 ≤ (packet_at es j).0
-not_greater es i j rising le lt = numbers_rise 0 es rising i j (0, []) le lt
+-- some slot has the piece exactly if some packet carried it
+pub carried_at : (base : ℕ) (ss : List (List Piece)) (p : Piece) (k : ℕ) → Among p (slot_at ss k) → IsCarried (packets_of base ss) p
+carried_at base ss p k among = go (slot_at ss k) (get-slot base k (base + k) ss refl) among
+  where
+    go : (s : List Piece) → fmap.get (packets_of base ss) (base + k) ≡ kept s → Among p s → IsCarried (packets_of base ss) p
+    go [] is among = absurd among
+    go (q ∷ qs) is among = (base + k, q ∷ qs, is, among)
 
-pub greatest_below : (es : List (ℕ × List Piece)) (n k : ℕ) → AreRising 0 es → IsCountBelow es n k → 0 < k → IsGreatestBelow (packets_of es) n (packet_at es (k - 1)).0
-greatest_below es n k rising count some = record {
-  held = let within = count.within in held_at es (k - 1) _ rising (omega arith) refl;
-  below = count.before (k - 1) (omega arith);
-  greatest = λ j held lt.
-      let at = place_held es j held in
-      let within = count.within in
-      elim (cases_lt at.0 k) [
-        | inl before ↦ let le = not_greater es at.0 (k - 1) rising (omega arith) (omega arith) in omega (arith, at.2)
-        | inr behind ↦ let ge = count.behind at.0 behind at.1 in absurd (omega (arith, at.2))
-      ];
+pub at_carried : (base : ℕ) (ss : List (List Piece)) (p : Piece) → IsCarried (packets_of base ss) p → (k : ℕ) × (k < length ss) × Among p (slot_at ss k)
+at_carried base ss p carried =
+    let n : ℕ = carried.0 in
+    let lies = held_slot base n ss (ap is_some carried.2) in
+    let is : base + (n - base) ≡ n = omega (arith, lies.0) in
+    let within : n - base < length ss = omega (arith, lies.0, lies.1) in
+    (n - base, within, go (slot_at ss (n - base)) carried.1 (sym (get-slot base (n - base) n ss is) ∙ carried.2) carried.3)
+  where
+    go : (s ps : List Piece) → kept s ≡ Some ps → Among p ps → Among p s
+    go [] ps is among = absurd cc
+    go (q ∷ qs) ps is among = let same : q ∷ qs ≡ ps = cc in subst (Among p) (sym same) among
+
+-- Edits
+
+-- without the first slot, which is empty
+pub front_gone : (base : ℕ) (ss : List (List Piece)) → fmap.contains_key (packets_of base ss) base ≡ false → packets_of (base + 1) (drop 1 ss) ≡ packets_of base ss
+front_gone base [] none = refl
+front_gone base ([] ∷ ss) none = refl
+front_gone base ((p ∷ ps) ∷ ss) none = absurd (both_ways _ none (ap is_some (get-slot base 0 base ((p ∷ ps) ∷ ss) (omega arith))))
+
+-- without slots the base is of no matter
+pub base_moved : (a b : ℕ) (ss : List (List Piece)) → length ss ≡ 0 → packets_of a ss ≡ packets_of b ss
+base_moved a b [] none = refl
+base_moved a b (s ∷ ss) none = absurd (omega arith)
+
+-- without the last slot, which is empty
+nowhere : (b : Bool) → ◌≡◌ {A = Option (List Piece)} None (cond b None None)
+nowhere true = refl
+nowhere false = refl
+
+found_taken : (n base k : ℕ) (ss : List (List Piece)) → length ss ≡ suc k → slot_at ss k ≡ [] → found n base (take k ss) ≡ found n base ss
+found_taken n base k [] len none = absurd (omega arith)
+found_taken n base zero (s ∷ []) len none = rw none (nowhere (nat_eq n base))
+found_taken n base zero (s ∷ t ∷ ss) len none = absurd (omega arith)
+found_taken n base (suc k) (s ∷ ss) len none = ap (cond (nat_eq n base) (kept s)) (found_taken n (base + 1) k ss (omega arith) none)
+
+pub back_gone : (base k n : ℕ) (ss : List (List Piece)) → length ss ≡ suc k → base + k ≡ n → fmap.contains_key (packets_of base ss) n ≡ false → packets_of base (take k ss) ≡ packets_of base ss
+back_gone base k n ss len is none = packets_of-is base (take k ss) (packets_of base ss) (λ q. found_taken q base k ss len (slot_none base k n ss is none) ∙ sym (get-packets_of base ss q))
+
+later : (n a q : ℕ) (x y z : Option (List Piece)) → a < q → cond (nat_eq n a) x (cond (nat_eq n q) y z) ≡ cond (nat_eq n q) y (cond (nat_eq n a) x z)
+later n a q x y z lt = grind (arith, nat_tests)
+
+-- with one slot more
+pub found_pushed : (n base q : ℕ) (ss : List (List Piece)) (s : List Piece) → base + length ss ≡ q → found n base (ss ++ s ∷ []) ≡ cond (nat_eq n q) (kept s) (found n base ss)
+found_pushed n base q [] s is = let same : base ≡ q = omega arith in ap (λ x. cond (nat_eq n x) (kept s) None) same
+found_pushed n base q (t ∷ ss) s is = ap (cond (nat_eq n base) (kept t)) (found_pushed n (base + 1) q ss s (omega arith)) ∙ later n base q (kept t) (kept s) (found n (base + 1) ss) (omega arith)
+
+pub slot_pushed : (base : ℕ) (ss : List (List Piece)) (s : List Piece) → packets_of base (ss ++ s ∷ []) ≡ with_record (packets_of base ss) (base + length ss) s
+slot_pushed base ss s = packets_of-is base (ss ++ s ∷ []) _ (λ q. found_pushed q base (base + length ss) ss s refl ∙ go q s)
+  where
+    nothing : (q : ℕ) (b : Bool) → nat_eq q (base + length ss) ≡ b → cond b None (found q base ss) ≡ found q base ss
+    nothing q true here = let n : q ≡ base + length ss = grind (arith, nat_tests) in sym (found_at q base (length ss) ss (sym n) ∙ ap kept (slot_past ss (length ss) (omega arith)))
+    nothing q false other = refl
+
+    go : (q : ℕ) (s : List Piece) → cond (nat_eq q (base + length ss)) (kept s) (found q base ss) ≡ fmap.get (with_record (packets_of base ss) (base + length ss) s) q
+    go q [] = nothing q (nat_eq q (base + length ss)) refl ∙ sym (get-packets_of base ss q)
+    go q (p ∷ ps) = sym (get-insert_packet (packets_of base ss) (base + length ss) (p ∷ ps) q ∙ ap (cond (nat_eq q (base + length ss)) (Some (p ∷ ps))) (get-packets_of base ss q))
+
+-- with another slot at a place
+pub found_set : (n base q k : ℕ) (ss : List (List Piece)) (s : List Piece) → base + k ≡ q → k < length ss → found n base (slice_set ss k s) ≡ cond (nat_eq n q) (kept s) (found n base ss)
+found_set n base q k [] s is lt = absurd (omega arith)
+found_set n base q zero (t ∷ ss) s is lt = let same : base ≡ q = omega arith in ap (λ x. cond (nat_eq n x) (kept s) (found n (base + 1) ss)) same ∙ twice (nat_eq n q) ∙ ap (λ x. cond (nat_eq n q) (kept s) (cond (nat_eq n x) (kept t) (found n (base + 1) ss))) (sym same)
+  where
+    twice : (b : Bool) → cond b (kept s) (found n (base + 1) ss) ≡ cond b (kept s) (cond b (kept t) (found n (base + 1) ss))
+    twice true = refl
+    twice false = refl
+found_set n base q (suc k) (t ∷ ss) s is lt = ap (cond (nat_eq n base) (kept t)) (found_set n (base + 1) q k ss s (omega arith) (omega arith)) ∙ later n base q (kept t) (kept s) (found n (base + 1) ss) (omega arith)
+
+-- The greatest number, as the first slots tell it
+
+pub none_before : (base bound : ℕ) (ss : List (List Piece)) → ((k : ℕ) → base ≤ k → k < bound → fmap.contains_key (packets_of base ss) k ≡ false) → (k : ℕ) → k < bound → fmap.contains_key (packets_of base ss) k ≡ false
+none_before base bound ss none k lt = elim (cases_lt k base) [ inl less ↦ not_below base k ss less | inr ge ↦ none k ge lt ]
+
+below_in : (base n count k : ℕ) (ss : List (List Piece)) → count ≡ min (n - base) (length ss) → k < n → fmap.contains_key (packets_of base ss) k ≡ true → k < base + count
+below_in base n count k ss is lt held = let at = held_slot base k ss held in omega (arith, at.0, at.1)
+
+pub greatest_below : (base n count : ℕ) (ss : List (List Piece)) (r : Option ℕ) → count ≡ min (n - base) (length ss) → IfSome r (IsGreatestBelow (packets_of base ss) (base + count)) → IfSome r (IsGreatestBelow (packets_of base ss) n)
+greatest_below base n count ss None is h = tt
+greatest_below base n count ss (Some k) is h = record {
+  held = h.held;
+  below = let at = held_slot base k ss h.held in let lt = h.below in omega (arith, at.0);
+  greatest = λ j held lt. h.greatest j held (below_in base n count j ss is lt held);
 }
 
-pub none_below : (es : List (ℕ × List Piece)) (n k q : ℕ) → IsCountBelow es n k → k ≤ 0 → q < n → fmap.contains_key (packets_of es) q ≡ false
-none_below es n k q count none lt = not_held es q (λ j within is. let ge = count.behind j (omega arith) within in omega arith)
-
-pub greatest_last : (es : List (ℕ × List Piece)) → AreRising 0 es → 0 < length es → IsGreatest (packets_of es) (packet_at es (length es - 1)).0
-greatest_last es rising some = record {
-  held = held_at es (length es - 1) _ rising (omega arith) refl;
-  greatest = λ j held.
-      let at = place_held es j held in
-      let le = not_greater es at.0 (length es - 1) rising (omega (arith, at.1)) (omega arith) in
-      omega (arith, at.2);
-}
-
--- some place has the piece exactly if some packet carried it
-pub carried_at : (es : List (ℕ × List Piece)) (p : Piece) → AreRising 0 es → (k : ℕ) → k < length es → Among p (packet_at es k).1 → IsCarried (packets_of es) p
-carried_at es p rising k lt among = ((packet_at es k).0, (packet_at es k).1, placed es _ k rising (record { within = lt; number = refl }), among)
-
-pub at_carried : (es : List (ℕ × List Piece)) (p : Piece) → IsCarried (packets_of es) p → (k : ℕ) × (k < length es) × Among p (packet_at es k).1
-at_carried es p carried =
-    let at = place_found es carried.0 carried.1 (sym (get-packets_of es carried.0) ∙ carried.2) in
-    (at.0, at.1, subst (Among p) (sym at.3) carried.3)
-
--- what a push that found room leaves
-pub pushed_items : {T E X : Type 0} (r : Result T E) (xs ys zs : List X) → IsOk r → zs ≡ cond (is_ok r) xs ys → zs ≡ xs
-pushed_items (Ok x) xs ys zs ok is = is
-pushed_items (Err e) xs ys zs ok is = absurd (both_ways false refl ok)
-
--- Edits as edits of the map
-
-pub below_found : (es : List (ℕ × List Piece)) (n : ℕ) → AreBelow (packets_of es) n → FoundBelow es n
-below_found es n below k some = below k (ap is_some (get-packets_of es k) ∙ some)
-
-pub insert_behind : (es : List (ℕ × List Piece)) (n : ℕ) (ps : List Piece) → AreBelow (packets_of es) n → packets_of (es ++ (n, ps) ∷ []) ≡ fmap.insert (packets_of es) n ps
-insert_behind es n ps below = packets_of-is _ _ (λ q. found_pushed es n ps q (below_found es n below) ∙ sym (get-insert_packet (packets_of es) n ps q ∙ ap (cond (nat_eq q n) (Some ps)) (get-packets_of es q)))
-
-pub set_packet : (es : List (ℕ × List Piece)) (n k : ℕ) (ps : List Piece) → AreRising 0 es → IsPlaceOf es n k → packets_of (slice_set es k (n, ps)) ≡ fmap.insert (packets_of es) n ps
-set_packet es n k ps rising at = packets_of-is _ _ (λ q. found_set 0 es k n ps q rising at.within at.number ∙ sym (get-insert_packet (packets_of es) n ps q ∙ ap (cond (nat_eq q n) (Some ps)) (get-packets_of es q)))
-
-pub remove_packet : (es : List (ℕ × List Piece)) (n k : ℕ) → AreRising 0 es → IsPlaceOf es n k → packets_of (remove es k) ≡ fmap.remove (packets_of es) n
-remove_packet es n k rising at = packets_of-is _ _ (λ q. found_removed 0 es k n q rising at.within at.number ∙ sym (get-remove_packet (packets_of es) n q ∙ ap (cond (nat_eq q n) None) (get-packets_of es q)))
-
--- without its first piece, of one and of more
-pub without_only : (m : PacketPieces) (n : ℕ) (ps : List Piece) → length ps ≤ 1 → fmap.remove m n ≡ without_first m n (Some ps)
-without_only m n [] short = refl
-without_only m n (p ∷ []) short = refl
-without_only m n (p ∷ q ∷ ps) short = absurd (omega arith)
-
-pub without_more : (m : PacketPieces) (n : ℕ) (ps : List Piece) → 1 < length ps → fmap.insert m n (drop 1 ps) ≡ without_first m n (Some ps)
-without_more m n [] long = absurd (omega arith)
-without_more m n (p ∷ []) long = absurd (omega arith)
-without_more m n (p ∷ q ∷ ps) long = refl
-
-pub drop_only : (es : List (ℕ × List Piece)) (n k : ℕ) → AreRising 0 es → IsPlaceOf es n k → length (packet_at es k).1 ≤ 1
-    → packets_of (remove es k) ≡ without_first (packets_of es) n (fmap.get (packets_of es) n)
-drop_only es n k rising at short = remove_packet es n k rising at ∙ without_only (packets_of es) n (packet_at es k).1 short ∙ sym (ap (without_first (packets_of es) n) (placed es n k rising at))
-
-pub drop_more : (es : List (ℕ × List Piece)) (n k : ℕ) → AreRising 0 es → IsPlaceOf es n k → 1 < length (packet_at es k).1
-    → packets_of (slice_set es k (n, drop 1 (packet_at es k).1)) ≡ without_first (packets_of es) n (fmap.get (packets_of es) n)
-drop_more es n k rising at long = set_packet es n k _ rising at ∙ without_more (packets_of es) n (packet_at es k).1 long ∙ sym (ap (without_first (packets_of es) n) (placed es n k rising at))
-
-pub drop_none : (m : PacketPieces) (n : ℕ) → fmap.contains_key m n ≡ false → m ≡ without_first m n (fmap.get m n)
-drop_none m n none = go (fmap.get m n) none
+pub nothing_below : (base n count : ℕ) (ss : List (List Piece)) (r : Option ℕ) → count ≡ min (n - base) (length ss) → IfNone r ((k : ℕ) → k < base + count → fmap.contains_key (packets_of base ss) k ≡ false)
+    → IfNone r ((k : ℕ) → k < n → fmap.contains_key (packets_of base ss) k ≡ false)
+nothing_below base n count ss None is h = λ k lt. unheld (fmap.contains_key (packets_of base ss) k) (λ held. both_ways _ (h k (below_in base n count k ss is lt held)) held)
   where
-    go : (o : Option (List Piece)) → is_some o ≡ false → m ≡ without_first m n o
-    go None none = refl
-    go (Some ps) none = absurd (both_ways true none refl)
+    unheld : (b : Bool) → (b ≡ true → ⊥) → b ≡ false
+    unheld true not = absurd (not refl)
+    unheld false not = refl
+nothing_below base n count ss (Some k) is h = tt
+
+pub greatest_of : (base : ℕ) (ss : List (List Piece)) (r : Option ℕ) → IfSome r (IsGreatestBelow (packets_of base ss) (base + length ss)) → IfSome r (IsGreatest (packets_of base ss))
+greatest_of base ss None h = tt
+greatest_of base ss (Some k) h = record { held = h.held; greatest = λ j held. h.greatest j held (held_slot base j ss held).1 }
+
+pub nothing_of : (base : ℕ) (ss : List (List Piece)) (r : Option ℕ) → IfNone r ((k : ℕ) → k < base + length ss → fmap.contains_key (packets_of base ss) k ≡ false) → IfNone r ((k : ℕ) → fmap.contains_key (packets_of base ss) k ≡ false)
+nothing_of base ss None h = λ k. elim (cases_lt k (base + length ss)) [ inl lt ↦ h k lt | inr ge ↦ not_past base k ss ge ]
+nothing_of base ss (Some k) h = tt

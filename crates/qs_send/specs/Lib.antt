@@ -6,3 +6,4 @@ pub mod Parts
 pub mod Laws
 pub mod PieceCodes
 pub mod Records
+pub mod AckPass

@@ -1,12 +1,12 @@
 -- What the outstanding packets carried, by packet number (RFC 9000, section 13.3).
---     Recorded      the pieces of the packets, and whether there is room for one more record
+--     Recorded      the pieces of the packets; which numbers have slots; and below which number there is room
 --     without_first, first_piece      a packet without its first piece, and that piece
 --     IsCarried m p      some packet has the piece
 --     AreBelow m n, IsGreatest m k, IsGreatestBelow m n k      where the held numbers lie
-use Rattle.std.specs.Prelude.{◌≡◌, ℕ, ◌+◌, ◌<◌, ◌≤◌, Bool, true, List, [], ◌∷◌, length, slice_index_or, Option, None, Some, ◌⊎◌, refl}
+use Rattle.std.specs.Prelude.{◌≡◌, ℕ, zero, suc, ◌+◌, ◌<◌, ◌≤◌, true, List, [], ◌∷◌, slice_index_or, Option, None, Some, ◌⊎◌, refl}
 use Rattle.std.specs.Ordering.{nat_cmp}
 use Rattle.std.specs.FinMap as fmap
-use Rattle.std.specs.Coded.{Coded, code_by, coded×, coded_ℕ, coded_bool, coded_list}
+use Rattle.std.specs.Coded.{Coded, code_by, coded×, coded_ℕ, coded_list}
 use Rattle.qs_send.specs.declared.piece.Piece.{Piece}
 use Rattle.qs_send.specs.PieceCodes.{piece_code}
 
@@ -14,15 +14,21 @@ use Rattle.qs_send.specs.PieceCodes.{piece_code}
 abbrev pub PacketPieces : Type 0
 PacketPieces = fmap.FinMap nat_cmp (List Piece)
 
+-- The pieces of the packets. The numbers from `base` on have slots, so many; and for numbers below `room` there is memory.
 pub record Recorded : Type 0 where
   pub pieces : PacketPieces
-  pub ready : Bool
+  pub base : ℕ
+  pub slots : ℕ
+  pub room : ℕ
 
 abbrev pub packet_pieces_code : Coded PacketPieces
 packet_pieces_code = fmap.code coded_ℕ (coded_list piece_code)
 
 abbrev pub recorded_code : Coded Recorded
-recorded_code = code_by (PacketPieces × Bool) (coded× packet_pieces_code coded_bool) (λ r. (r.pieces, r.ready)) (λ p. record { pieces = p.0; ready = p.1 }) (λ _. refl)
+recorded_code =
+    code_by (PacketPieces × (ℕ × (ℕ × ℕ))) (coded× packet_pieces_code (coded× coded_ℕ (coded× coded_ℕ coded_ℕ))) (λ r. (r.pieces, (r.base, (r.slots, r.room))))
+    (λ p. record { pieces = p.0; base = p.1.0; slots = p.1.1.0; room = p.1.1.1 })
+    (λ _. refl)
 
 -- the record of a packet without its first piece
 abbrev pub without_first : PacketPieces → ℕ → Option (List Piece) → PacketPieces
@@ -65,26 +71,27 @@ pub record IsGreatestBelow (m : PacketPieces) (n k : ℕ) : Type 0 where
   pub below : k < n
   pub greatest : (j : ℕ) → fmap.contains_key m j ≡ true → j < n → j ≤ k
 
--- packets with their pieces: the numbers rise, and none lies below low or has no piece
-abbrev pub AreRising : ℕ → List (ℕ × List Piece) → Type 0
-AreRising low [] = Unit {0}
-AreRising low (e ∷ es) = (low ≤ e.0) × (0 < length e.1) × AreRising (e.0 + 1) es
+-- the pieces in the slot at a place
+abbrev pub slot_at : List (List Piece) → ℕ → List Piece
+slot_at slots k = slice_index_or slots k []
 
--- the packet at a place
-abbrev pub packet_at : List (ℕ × List Piece) → ℕ → ℕ × List Piece
-packet_at es k = slice_index_or es k (0, [])
+-- the map of the packets in slots, of which the first is that of number `base`; a slot with no piece is empty
+abbrev pub packets_of : ℕ → List (List Piece) → PacketPieces
+packets_of base [] = fmap.empty
+packets_of base ([] ∷ slots) = packets_of (base + 1) slots
+packets_of base ((p ∷ ps) ∷ slots) = fmap.insert (packets_of (base + 1) slots) base (p ∷ ps)
 
--- the map of these packets
-abbrev pub packets_of : List (ℕ × List Piece) → PacketPieces
-packets_of es = fmap.from_entries es
+-- packets with one more, where it has pieces
+abbrev pub with_record : PacketPieces → ℕ → List Piece → PacketPieces
+with_record m n [] = m
+with_record m n (p ∷ ps) = fmap.insert m n (p ∷ ps)
 
--- the first k packets are those with a number below n
-pub record IsCountBelow (es : List (ℕ × List Piece)) (n k : ℕ) : Type 0 where
-  pub within : k ≤ length es
-  pub before : (j : ℕ) → j < k → (packet_at es j).0 < n
-  pub behind : (j : ℕ) → k ≤ j → j < length es → n ≤ (packet_at es j).0
+-- the number below which slots from `base` on fit a memory of so many
+abbrev pub room_end : ℕ → ℕ → ℕ
+room_end base zero = 0
+room_end base (suc n) = base + suc n
 
--- the packet n stands at place k
-pub record IsPlaceOf (es : List (ℕ × List Piece)) (n k : ℕ) : Type 0 where
-  pub within : k < length es
-  pub number : (packet_at es k).0 ≡ n
+-- number n has slot k
+pub record IsSlotOf (base slots n k : ℕ) : Type 0 where
+  pub within : k < slots
+  pub number : base + k ≡ n

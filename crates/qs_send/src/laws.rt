@@ -1,5 +1,6 @@
-//! Laws on halves and chunks, each the contract of a function.
+//! Laws on halves, chunks and passes over an ACK, each the contract of a function.
 ghost use Rattle.qs_send.specs.Laws.{FrameLenIsCanonical, NewIsLawful, CallsKeepLawful, KeptFromUnacked, WholeIsAllAcked, EachOffsetIsInOnePart, InFlightWasSent, CallsMoveParts, DeclaredSizeIsSentEnd, DeclaredSizeStays, OnlyNewBytesSpend, NextChunkIsUnique, DueChunkHasBytes, CutChunkIsLast, SendableHasChunk, SendableEndHasChunk, HeldByRoomOrLimits};
+ghost use Rattle.qs_send.specs.AckPass.{PassGivesAllNamed};
 
 /// The length that a chunk's room counts is that of the canonical text of its STREAM frame.
 pub fn frame_len_is_canonical()
@@ -68,4 +69,10 @@ pub fn sendable_has_chunk()
 /// Where no chunk goes, either the room has less than 19 bytes or no room would be enough.
 pub fn held_by_room_or_limits()
     ensures { HeldByRoomOrLimits }
+{}
+
+/// A pass over an ACK gives the outstanding numbers that it names, each once and the highest first, in no more turns than there are
+/// slots and ranges (RFC 9000, section 13.3).
+pub fn pass_gives_all_named()
+    ensures { PassGivesAllNamed }
 {}

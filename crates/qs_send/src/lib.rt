@@ -1,6 +1,7 @@
 //! The sending half of a stream: what is written goes out in chunks, and again where a chunk was lost.
 #![tactic(auto)]
 
+mod ack_pass;
 mod carried;
 mod edits;
 mod fit;
@@ -11,6 +12,7 @@ mod parts;
 mod piece;
 mod records;
 
+pub use ack_pass::AckPass;
 pub use half::SendHalf;
 pub use parts::{Chunk, Reset, SendFault, SendState};
 pub use piece::{Item, Piece};

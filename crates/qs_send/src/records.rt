@@ -1,69 +1,95 @@
 //! What the outstanding packets carried.
-ghost use Rattle.std.specs.Prelude.{◌≡◌, ℕ, ◌+◌, ◌-◌, ◌<◌, ◌≤◌, ◌↔◌, IsTrue, IfSome, IfNone, OnOk, OnErr, length, true, false};
+ghost use Rattle.std.specs.Prelude.{◌≡◌, ℕ, ◌+◌, ◌-◌, ◌^◌, ◌<◌, ◌≤◌, ◌↔◌, IsTrue, IfSome, IfNone, OnOk, OnErr, min, length, true, false};
 ghost use Rattle.std.specs.FinMap as fmap;
-ghost use Rattle.qs_send.specs.Records.{Among, AreBelow, AreRising, IsCarried, IsCountBelow, IsGreatest, IsGreatestBelow, IsPlaceOf, NoneEmpty, first_piece, packet_at, packets_of, without_first};
+ghost use Rattle.qs_send.specs.Records.{Among, AreBelow, IsCarried, IsGreatest, IsGreatestBelow, IsSlotOf, NoneEmpty, first_piece, slot_at, with_record, without_first};
 
 use crate::carried::Carried;
 use crate::piece::Piece;
 use qs_ranges::NoMemory;
 use std::alloc::Global;
+use std::collections::VecDeque;
 use std::marker::Model;
 
 /// The pieces of each outstanding packet, in the order in which they went in, by packet number (RFC 9000, section 13.3).
+///
+/// Each number from `base` on has a slot, up to the last one that was put in. A slot with no piece is empty.
 #[derive(Drop)]
 pub struct Records {
-    packets: Vec<Carried>,
+    alloc: Global,
+    base: u64,
+    slots: VecDeque<Carried>,
 }
 
 impl Model for Records {
-    ghost use Rattle.std.specs.Prelude.{nat_lt, vec_len, vec_capacity};
-    ghost use Rattle.qs_send.specs.Records.{AreRising, Recorded, packets_of, recorded_code};
+    ghost use Rattle.std.specs.Prelude.{◌+◌, ◌≤◌, ◌^◌, length};
+    ghost use Rattle.std.specs.VecDeque.{deque_capacity};
+    ghost use Rattle.qs_send.specs.Records.{Recorded, packets_of, recorded_code, room_end};
 
     ghost Value = { Recorded };
 
     ghost coded = { recorded_code };
 
-    ghost view = { λ r. record { pieces = packets_of r.packets.items; ready = nat_lt (vec_len r.packets) (vec_capacity r.packets) } };
+    ghost view = { λ r. record {
+      pieces = packets_of r.base r.slots.items;
+      base = r.base;
+      slots = length r.slots.items;
+      room = room_end r.base (deque_capacity r.slots);
+    } };
 
-    ghost invariant = { λ r. AreRising 0 r.packets.items };
+    ghost invariant = { λ r. r.base + length r.slots.items ≤ 2 ^ 64 };
 }
 
 impl Records {
     /// No records. It takes no memory.
     pub fn new(alloc: Global) -> Self
-        ensures { result.pieces ≡ fmap.empty }
+        ensures pieces { result.pieces ≡ fmap.empty }
+        ensures slots { result.slots ≡ 0 }
     {
         Records {
-            packets: Vec::new(alloc),
+            alloc,
+            base: 0,
+            slots: VecDeque::new(alloc),
         }
     }
 
-    /// Makes room for one more record, which stays until the next `put`.
-    pub fn make_room(&mut self) -> Result<(), NoMemory>
+    /// Makes room for the record of a number, which stays until a `put`.
+    pub fn make_room(&mut self, number: u64) -> Result<(), NoMemory>
         ensures same { self.new.pieces ≡ self.old.pieces }
-        ensures ok { OnOk result (self.new.ready ≡ true) }
-        ensures err { OnErr result (self.new ≡ self.old) }
+        ensures slots { self.new.slots ≡ self.old.slots }
+        ensures ok { OnOk result (number < self.new.room) }
+        ensures err { OnErr result ((self.new.base ≡ self.old.base) × (self.old.room ≤ self.new.room)) }
     {
-        self.packets.reserve(1)?;
+        if self.slots.is_empty() {
+            self.slots.reserve(1)?;
+            self.base = number;
+            return Ok(());
+        }
+        let place = number.saturating_sub(self.base) as usize;
+        let more = place.saturating_sub(self.slots.len()).saturating_add(1);
+        self.slots.reserve(more)?;
         Ok(())
     }
 
     /// Holds the pieces of a packet. It takes no memory.
     pub fn put(&mut self, number: u64, pieces: Vec<Piece>)
-        requires ready { self.old.ready ≡ true }
+        requires ready { number < self.old.room }
         requires above { AreBelow self.old.pieces number }
         requires some { 0 < length pieces.items }
-        ensures { self.new.pieces ≡ fmap.insert self.old.pieces number pieces.items }
+        ensures pieces { self.new.pieces ≡ fmap.insert self.old.pieces number pieces.items }
+        ensures end { self.new.base + self.new.slots ≡ number + 1 }
     {
-        let _ = self.packets.push(Carried::new(number, pieces));
+        self.drop_empty_end();
+        self.start_at(number);
+        self.fill_to(number);
+        self.push_slot(Carried::new(pieces));
     }
 
     /// The first piece of a packet, `None` where the number isn't held.
     pub fn first(&self, number: u64) -> Option<Piece>
         ensures { result ≡ first_piece (fmap.get self.now.pieces number) }
     {
-        match place_of(&self.packets, number) {
-            Some(place) => Some(self.packets[place].first()),
+        match self.slot_of(number) {
+            Some(place) => self.slots[place].first(),
             None => None,
         }
     }
@@ -71,14 +97,24 @@ impl Records {
     /// Lets the first piece of a packet go, and the record with the last. Where the number isn't held, nothing changes.
     pub fn drop_first(&mut self, number: u64)
         ensures pieces { self.new.pieces ≡ without_first self.old.pieces number (fmap.get self.old.pieces number) }
-        ensures ready { self.old.ready ≡ true → self.new.ready ≡ true }
+        ensures base { self.new.base ≡ self.old.base }
+        ensures slots { self.new.slots ≡ self.old.slots }
+        ensures room { self.new.room ≡ self.old.room }
     {
-        if let Some(place) = place_of(&self.packets, number) {
-            if self.packets[place].len() > 1 {
-                self.packets[place].drop_first();
-            } else {
-                drop(self.packets.remove(place));
-            }
+        if let Some(place) = self.slot_of(number) {
+            self.slots[place].drop_first();
+        }
+    }
+
+    /// Lets the empty slots before the first record go, so that the first slot has a record where one is left.
+    pub fn trim(&mut self)
+        ensures pieces { self.new.pieces ≡ self.old.pieces }
+        ensures room { self.old.room ≤ self.new.room }
+        ensures end { self.new.base + self.new.slots ≤ self.old.base + self.old.slots }
+        ensures first { 0 < self.new.slots → fmap.contains_key self.new.pieces self.new.base ≡ true }
+    {
+        while self.starts_empty() {
+            self.drop_front();
         }
     }
 
@@ -86,14 +122,15 @@ impl Records {
     pub fn holds(&self, piece: Piece) -> bool
         ensures { IsTrue result ↔ IsCarried self.now.pieces piece }
     {
-        some_has(&self.packets, piece)
+        some_has(&self.slots, piece)
     }
 
     /// Whether the packet has a piece here.
     pub fn is_held(&self, number: u64) -> bool
         ensures { result ≡ fmap.contains_key self.now.pieces number }
     {
-        place_of(&self.packets, number).is_some()
+        self.none_is_empty();
+        self.first(number).is_some()
     }
 
     /// The greatest number that is held.
@@ -101,10 +138,7 @@ impl Records {
         ensures found { IfSome result (IsGreatest self.now.pieces) }
         ensures none { IfNone result ((k : ℕ) → fmap.contains_key self.now.pieces k ≡ false) }
     {
-        match self.packets.last() {
-            Some(packet) => Some(packet.number()),
-            None => None,
-        }
+        self.last_of(self.slots.len())
     }
 
     /// The greatest number below `number` that is held.
@@ -112,46 +146,173 @@ impl Records {
         ensures found { IfSome result (IsGreatestBelow self.now.pieces number) }
         ensures none { IfNone result ((k : ℕ) → k < number → fmap.contains_key self.now.pieces k ≡ false) }
     {
-        let place = count_below(&self.packets, number);
-        if place > 0 {
-            Some(self.packets[place - 1].number())
-        } else {
-            None
-        }
+        let count = number.saturating_sub(self.base) as usize;
+        self.last_of(count.min(self.slots.len()))
     }
 
     /// Each packet that is held has a piece. It does nothing: a proof calls it for what it ensures.
     pub fn none_is_empty(&self)
         ensures { NoneEmpty self.now.pieces }
     {
-        let _packets = &self.packets;
+        let _slots = &self.slots;
+    }
+
+    /// The number of the first slot. No lower one is held.
+    pub fn base(&self) -> u64
+        ensures value { result ≡ self.now.base }
+        ensures below { (k : ℕ) → k < result → fmap.contains_key self.now.pieces k ≡ false }
+    {
+        self.base
+    }
+
+    // The number, or where that is lower the one behind the last slot. Between the two none is held.
+    pub(crate) fn cut(&self, number: u64) -> u64
+        ensures value { result ≡ min number (self.now.base + self.now.slots) }
+        ensures past { (k : ℕ) → result ≤ k → k < number → fmap.contains_key self.now.pieces k ≡ false }
+    {
+        number.min(self.base.saturating_add(self.slots.len() as u64))
+    }
+
+    // The place of a number's slot. A number without one isn't held.
+    fn slot_of(&self, number: u64) -> Option<usize>
+        ensures found { IfSome result (IsSlotOf self.now.base self.now.slots number) }
+        ensures none { IfNone result (fmap.contains_key self.now.pieces number ≡ false) }
+    {
+        if number < self.base {
+            return None;
+        }
+        let place = (number - self.base) as usize;
+        if place < self.slots.len() {
+            Some(place)
+        } else {
+            None
+        }
+    }
+
+    // The greatest number that is held in the first slots.
+    fn last_of(&self, count: usize) -> Option<u64>
+        requires { count ≤ self.now.slots }
+        ensures found { IfSome result (IsGreatestBelow self.now.pieces (self.now.base + count)) }
+        ensures none { IfNone result ((k : ℕ) → k < self.now.base + count → fmap.contains_key self.now.pieces k ≡ false) }
+    {
+        let mut place = count;
+        while place > 0 {
+            place -= 1;
+            let number = self.base + place as u64;
+            if self.is_held(number) {
+                return Some(number);
+            }
+        }
+        None
+    }
+
+    // Whether the first slot is an empty one.
+    fn starts_empty(&self) -> bool
+        ensures { IsTrue result ↔ ((0 < self.now.slots) × (fmap.contains_key self.now.pieces self.now.base ≡ false)) }
+    {
+        match self.slots.front() {
+            Some(slot) => slot.len() == 0,
+            None => false,
+        }
+    }
+
+    // The first slot, which is empty, goes.
+    fn drop_front(&mut self)
+        requires some { 0 < self.old.slots }
+        requires empty { fmap.contains_key self.old.pieces self.old.base ≡ false }
+        ensures pieces { self.new.pieces ≡ self.old.pieces }
+        ensures slots { self.new.slots + 1 ≡ self.old.slots }
+        ensures room { self.old.room ≤ self.new.room }
+        ensures end { self.new.base + self.new.slots ≤ self.old.base + self.old.slots }
+    {
+        drop(self.slots.pop_front());
+        if !self.slots.is_empty() {
+            self.base += 1;
+        }
+    }
+
+    // The empty slots behind the last record go.
+    fn drop_empty_end(&mut self)
+        ensures pieces { self.new.pieces ≡ self.old.pieces }
+        ensures room { self.new.room ≡ self.old.room }
+        ensures last { 0 < self.new.slots → fmap.contains_key self.new.pieces (self.new.base + self.new.slots - 1) ≡ true }
+    {
+        while self.ends_empty() {
+            self.drop_back();
+        }
+    }
+
+    // Whether the last slot is an empty one.
+    fn ends_empty(&self) -> bool
+        ensures { IsTrue result ↔ ((0 < self.now.slots) × (fmap.contains_key self.now.pieces (self.now.base + self.now.slots - 1) ≡ false)) }
+    {
+        match self.slots.back() {
+            Some(slot) => slot.len() == 0,
+            None => false,
+        }
+    }
+
+    // The last slot, which is empty, goes.
+    fn drop_back(&mut self)
+        requires some { 0 < self.old.slots }
+        requires empty { fmap.contains_key self.old.pieces (self.old.base + self.old.slots - 1) ≡ false }
+        ensures pieces { self.new.pieces ≡ self.old.pieces }
+        ensures slots { self.new.slots + 1 ≡ self.old.slots }
+        ensures room { self.new.room ≡ self.old.room }
+    {
+        drop(self.slots.pop_back());
+    }
+
+    // Without slots the first one is to be that of the number.
+    fn start_at(&mut self, number: u64)
+        requires ready { number < self.old.room }
+        requires above { 0 < self.old.slots → self.old.base + self.old.slots ≤ number }
+        ensures pieces { self.new.pieces ≡ self.old.pieces }
+        ensures room { number < self.new.room }
+        ensures end { self.new.base + self.new.slots ≤ number }
+    {
+        if self.slots.is_empty() {
+            self.base = number;
+        }
+    }
+
+    // Empty slots for the numbers below `number`, so that the next slot is that number's.
+    fn fill_to(&mut self, number: u64)
+        requires ready { number < self.old.room }
+        requires end { self.old.base + self.old.slots ≤ number }
+        ensures pieces { self.new.pieces ≡ self.old.pieces }
+        ensures room { number < self.new.room }
+        ensures end { self.new.base + self.new.slots ≡ number }
+    {
+        while self.ends_before(number) {
+            self.push_slot(Carried::empty(self.alloc));
+        }
+    }
+
+    // Whether a number below `number` has no slot yet.
+    fn ends_before(&self, number: u64) -> bool
+        requires { self.now.base ≤ number }
+        ensures { IsTrue result ↔ (self.now.base + self.now.slots < number) }
+    {
+        self.slots.len() < (number - self.base) as usize
+    }
+
+    // One slot more.
+    fn push_slot(&mut self, slot: Carried)
+        requires ready { self.old.base + self.old.slots < self.old.room }
+        requires small { self.old.base + self.old.slots < 2 ^ 64 }
+        ensures pieces { self.new.pieces ≡ with_record self.old.pieces (self.old.base + self.old.slots) slot }
+        ensures base { self.new.base ≡ self.old.base }
+        ensures slots { self.new.slots ≡ self.old.slots + 1 }
+        ensures room { self.new.room ≡ self.old.room }
+    {
+        self.slots.push_back_reserved(slot);
     }
 }
 
-// How many of the packets have a lower number.
-fn count_below(packets: &[Carried], number: u64) -> usize
-    requires { AreRising 0 packets.now }
-    ensures { IsCountBelow packets.now number result }
+// Whether one of the slots has the piece.
+fn some_has(slots: &VecDeque<Carried>, piece: Piece) -> bool
+    ensures { IsTrue result ↔ ((k : ℕ) × (k < length slots.now.items) × Among piece (slot_at slots.now.items k)) }
 {
-    packets.partition_point(|packet| packet.number() < number)
-}
-
-// Where the packet of that number is.
-fn place_of(packets: &[Carried], number: u64) -> Option<usize>
-    requires { AreRising 0 packets.now }
-    ensures found { IfSome result (IsPlaceOf packets.now number) }
-    ensures none { IfNone result (fmap.contains_key (packets_of packets.now) number ≡ false) }
-{
-    let place = count_below(packets, number);
-    match packets.get(place) {
-        Some(packet) if packet.number() == number => Some(place),
-        _ => None,
-    }
-}
-
-// Whether one of the packets has the piece.
-fn some_has(packets: &[Carried], piece: Piece) -> bool
-    ensures { IsTrue result ↔ ((k : ℕ) × (k < length packets.now) × Among piece (packet_at packets.now k).1) }
-{
-    packets.iter().any(|packet| packet.has(piece))
+    slots.iter().any(|slot| slot.has(piece))
 }

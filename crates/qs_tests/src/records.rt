@@ -1,7 +1,7 @@
 //! Each test is a list of steps, played by one function: so no test's proof follows the records' value.
 use qs_ranges::NoMemory;
-use qs_send::{Chunk, Item, Piece, Records};
-use qs_wire::StreamId;
+use qs_send::{AckPass, Chunk, Item, Piece, Records};
+use qs_wire::{AckRanges, StreamId};
 use std::alloc::Global;
 use std::test::Fail;
 
@@ -12,6 +12,7 @@ enum Step {
     Put(u64, u32, u32),
     DropFirst(u64),
     First(u64, Option<u32>),
+    Trim,
     Holds(u32, bool),
     IsHeld(u64, bool),
     Below(u64, Option<u64>),
@@ -56,16 +57,16 @@ fn pieces_from(alloc: Global, first: u32, more: u32) -> Result<Vec<Piece>, NoMem
 
 // A refused growth changes nothing that can be asked for, and the next one succeeds, so that the tests pass
 // with each allocation refused in turn.
-fn grow(records: &mut Records) -> Result<(), NoMemory> {
+fn grow(records: &mut Records, number: u64) -> Result<(), NoMemory> {
     let before = records.greatest();
-    if records.make_room().is_err() && records.greatest() != before {
+    if records.make_room(number).is_err() && records.greatest() != before {
         return Err(NoMemory);
     }
-    records.make_room()
+    records.make_room(number)
 }
 
 fn put(records: &mut Records, number: u64, pieces: Vec<Piece>) -> bool {
-    if pieces.is_empty() || records.make_room().is_err() {
+    if pieces.is_empty() || records.make_room(number).is_err() {
         return false;
     }
     match records.greatest() {
@@ -88,7 +89,7 @@ fn puts(
     more: u32,
 ) -> Result<bool, NoMemory> {
     let pieces = pieces_from(alloc, first, more)?;
-    grow(records)?;
+    grow(records, number)?;
     Ok(put(records, number, pieces))
 }
 
@@ -104,6 +105,7 @@ fn take(alloc: Global, records: &mut Records, step: Step) -> Result<bool, NoMemo
     match step {
         Step::Put(number, first, more) => return puts(alloc, records, number, first, more),
         Step::DropFirst(number) => records.drop_first(number),
+        Step::Trim => records.trim(),
         Step::First(number, expected) => return Ok(is_first(records, number, expected)),
         Step::Holds(number, answer) => return Ok(records.holds(piece(number)) == answer),
         Step::IsHeld(number, answer) => return Ok(records.is_held(number) == answer),
@@ -200,5 +202,88 @@ fn refused_memory_changes_nothing(rt: HostRuntime) -> Result<(), Fail> {
         ];
         assert_eq!(rt; played(rt.alloc(), &mut records, &steps)?, steps.len());
     }
+    Ok(())
+}
+
+// Empty slots are no records, wherever they stand, and their numbers can be used as long as none above is held.
+#[test]
+fn empty_slots_are_let_go(rt: HostRuntime) -> Result<(), Fail> {
+    let mut records = Records::new(rt.alloc());
+    let steps = [
+        Step::Trim,
+        Step::Put(5, 1, 0),
+        Step::Put(9, 2, 0),
+        Step::DropFirst(5),
+        Step::Trim,
+        Step::First(9, Some(2)),
+        Step::Below(9, None),
+        Step::DropFirst(9),
+        Step::Greatest(None),
+        Step::Put(7, 3, 0),
+        Step::Greatest(Some(7)),
+        Step::DropFirst(7),
+        Step::Trim,
+        Step::Put(1 << 60, 4, 0),
+        Step::Greatest(Some(1 << 60)),
+        Step::IsHeld(7, false),
+    ];
+    assert_eq!(rt; played(rt.alloc(), &mut records, &steps)?, steps.len());
+    Ok(())
+}
+
+// So many packets, from number 0 on.
+fn fill(alloc: Global, records: &mut Records, count: u32) -> Result<bool, NoMemory> {
+    for k in 0..count {
+        if !puts(alloc, records, u64::from(k), k, 0)? {
+            return Ok(false);
+        }
+    }
+    Ok(true)
+}
+
+// Each number that the pass gives loses its record. How many it gives, up to the first that isn't the next one below `count`.
+fn taken_from(records: &mut Records, pass: &mut AckPass<'_>, count: u64) -> u64 {
+    for k in 0..count {
+        if pass.next(records) != Some(count - 1 - k) {
+            return k;
+        }
+        records.drop_first(count - 1 - k);
+    }
+    count
+}
+
+// A thousand packets and one range: a turn for each slot, and one for the range.
+#[test]
+fn a_pass_takes_a_turn_for_each_slot(rt: HostRuntime) -> Result<(), Fail> {
+    let mut records = Records::new(rt.alloc());
+    assert!(rt; fill(rt.alloc(), &mut records, 1000)?);
+    // The length of the first range is 999 (RFC 9000, section 16).
+    let ranges = [0x43, 0xe7];
+    let mut pass = AckPass::new(AckRanges::new(999, &ranges));
+    assert_eq!(rt; taken_from(&mut records, &mut pass, 1000), 1000);
+    assert!(rt; pass.next(&records).is_none());
+    assert!(rt; pass.turns() <= 1001);
+    records.trim();
+    assert!(rt; records.greatest().is_none());
+    Ok(())
+}
+
+// The ranges 8 to 9 and 2 to 4, of which 3 and 9 are outstanding, and 0 and 6 beside.
+#[test]
+fn a_pass_gives_what_the_ranges_name(rt: HostRuntime) -> Result<(), Fail> {
+    let mut records = Records::new(rt.alloc());
+    let steps = [
+        Step::Put(0, 1, 0),
+        Step::Put(3, 2, 0),
+        Step::Put(6, 3, 0),
+        Step::Put(9, 4, 0),
+    ];
+    assert_eq!(rt; played(rt.alloc(), &mut records, &steps)?, steps.len());
+    let ranges = [1, 2, 2];
+    let mut pass = AckPass::new(AckRanges::new(9, &ranges));
+    assert_eq!(rt; pass.next(&records), Some(9));
+    assert_eq!(rt; pass.next(&records), Some(3));
+    assert_eq!(rt; pass.next(&records), None);
+    assert!(rt; pass.turns() <= 12);
     Ok(())
 }

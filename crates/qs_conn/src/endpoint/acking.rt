@@ -1,40 +1,34 @@
 //! Packets are acknowledged.
-ghost use Rattle.std.specs.Prelude.{◌≡◌, ◌<◌, ◌≤◌, ◌+◌, ◌^◌};
+ghost use Rattle.std.specs.Prelude.{◌≡◌};
 ghost use Rattle.qs_conn.specs.Outgoing.{IsIdle};
-ghost use Rattle.qs_conn.specs.Runs.{AcksPacket, AcksPart, AcksRanges};
+ghost use Rattle.qs_conn.specs.Runs.{AcksAhead, AcksPacket, AcksRanges};
 
 use crate::outbox::Outbox;
 use qs_ranges::NoMemory;
+use qs_send::AckPass;
 use qs_wire::AckRanges;
 
-// The outstanding packets that the ranges name are acknowledged, from the highest number down.
-#[tactic(auto, using(crate::proofs::AckRuns::ranges_end, crate::proofs::AckRuns::ranges_stop, crate::proofs::AckRuns::ranges_more))]
-pub(super) fn ack_ranges(outbox: &mut Outbox, ranges: &mut AckRanges<'_>) -> Result<(), NoMemory>
+// The outstanding packets that the ranges name are acknowledged, from the highest number down, in one pass.
+#[tactic(auto, using(crate::proofs::AckRuns::all_pass))]
+pub(super) fn ack_ranges(outbox: &mut Outbox, ranges: AckRanges<'_>) -> Result<(), NoMemory>
     requires { IsIdle outbox.old }
     ensures idle { IsIdle outbox.new }
-    ensures step { AcksRanges ranges.old outbox.old result outbox.new }
+    ensures step { AcksRanges ranges.entry outbox.old result outbox.new }
 {
-    while let Some((low, high)) = ranges.next() {
-        ack_part(outbox, low, high + 1)?;
-    }
-    Ok(())
+    let mut pass = AckPass::new(ranges);
+    let result = ack_named(outbox, &mut pass);
+    outbox.trim();
+    result
 }
 
-// The outstanding packets from `low` on and below `high` are acknowledged, from the highest number down.
-#[tactic(auto, using(crate::proofs::AckRuns::part_end, crate::proofs::AckRuns::part_past, crate::proofs::AckRuns::part_stop, crate::proofs::AckRuns::part_more))]
-fn ack_part(outbox: &mut Outbox, low: u64, high: u64) -> Result<(), NoMemory>
-    requires idle { IsIdle outbox.old }
-    requires some { low ≤ high }
+// The outstanding packets that a pass has ahead are acknowledged.
+fn ack_named(outbox: &mut Outbox, pass: &mut AckPass<'_>) -> Result<(), NoMemory>
+    requires { IsIdle outbox.old }
     ensures idle { IsIdle outbox.new }
-    ensures step { AcksPart low high outbox.old result outbox.new }
+    ensures step { AcksAhead pass.old outbox.old result outbox.new }
 {
-    let mut bound = high;
-    while let Some(number) = outbox.below(bound) {
-        if number < low {
-            return Ok(());
-        }
+    while let Some(number) = outbox.next_named(pass) {
         ack_packet(outbox, number)?;
-        bound = number;
     }
     Ok(())
 }

@@ -44,9 +44,20 @@ impl Endpoint {
     }
 }
 
+// The pieces of a packet are due again, and the packet is outstanding no more.
+fn lose_packet(outbox: &mut Outbox, number: u64) -> Result<(), NoMemory>
+    requires { IsIdle outbox.old }
+    ensures idle { IsIdle outbox.new }
+    ensures step { Loses number outbox.old result outbox.new }
+{
+    let result = lose_pieces(outbox, number);
+    outbox.trim();
+    result
+}
+
 // The pieces of a packet are due again, from the first on.
 #[tactic(auto, using(crate::proofs::Runs::loses_end, crate::proofs::Runs::loses_stop, crate::proofs::Runs::loses_more, crate::proofs::Runs::loses_less))]
-fn lose_packet(outbox: &mut Outbox, number: u64) -> Result<(), NoMemory>
+fn lose_pieces(outbox: &mut Outbox, number: u64) -> Result<(), NoMemory>
     requires { IsIdle outbox.old }
     ensures idle { IsIdle outbox.new }
     ensures step { Loses number outbox.old result outbox.new }

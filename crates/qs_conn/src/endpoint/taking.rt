@@ -75,8 +75,8 @@ impl Endpoint {
         ensures ok { OnOk result (self.new ≡ acks (named self.old (ack_ranges_of largest (numbers_of ranges.now))) self.old) }
         ensures err { OnErr result (RunsOut self.old (Ack largest (ack_ranges_of largest (numbers_of ranges.now))) self.new) }
     {
-        let mut left = AckRanges::new(largest, ranges);
-        ack_ranges(&mut self.outbox, &mut left)
+        let left = AckRanges::new(largest, ranges);
+        ack_ranges(&mut self.outbox, left)
     }
 
     // The peer allows so many streams of a direction.

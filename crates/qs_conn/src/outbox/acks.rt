@@ -1,19 +1,20 @@
 //! Packets are acknowledged and lost.
-ghost use Rattle.std.specs.Prelude.{◌≡◌, ◌<◌, ◌≤◌, ◌↔◌, is_some, true, Some, OnOk, OnErr};
+ghost use Rattle.std.specs.Prelude.{◌≡◌, ◌<◌, ◌≤◌, ◌↔◌, is_some, true, Some, IfSome, OnOk, OnErr};
 ghost use Rattle.std.specs.FinMap as fmap;
 ghost use Rattle.qs_send.specs.declared.piece.Item.{Item};
 ghost use Rattle.qs_send.specs.declared.piece.Piece.TheVariants as pieces;
 ghost use Rattle.qs_send.specs.Records.{Among};
+ghost use Rattle.qs_send.specs.AckPass.{Falls, IsNextNamed};
 ghost use Rattle.qs_send.specs.Lane.{Sending, after_reset_acked};
 ghost use Rattle.qs_conn.specs.Tables.{lookup, updated};
-ghost use Rattle.qs_conn.specs.Outgoing.{first_piece, first_acked_out, shorter, IsIdle, IsHeldBelow, IsSentPiece, NoneEmpty, item_noted, halves_acked, items_acked, halves_lost};
+ghost use Rattle.qs_conn.specs.Outgoing.{first_piece, first_acked_out, shorter, IsIdle, IsSentPiece, NoneEmpty, item_noted, halves_acked, items_acked, halves_lost};
 
 use super::Outbox;
 use crate::send_tables::SendTables;
 use crate::told::ToldItems;
 use crate::told_index::ToldIndex;
 use qs_ranges::NoMemory;
-use qs_send::{Item, Piece, SendState};
+use qs_send::{AckPass, Item, Piece, SendState};
 use qs_wire::StreamId;
 
 impl Outbox {
@@ -26,13 +27,22 @@ impl Outbox {
         self.records.none_is_empty();
     }
 
-    /// The greatest number below `bound` of an outstanding packet.
-    pub(crate) fn below(&self, bound: u64) -> Option<u64>
+    /// The next outstanding packet that a pass over an ACK names, `None` after the last.
+    pub(crate) fn next_named(&self, pass: &mut AckPass<'_>) -> Option<u64>
         requires { IsIdle self.now }
-        ensures { IsHeldBelow self.now.outstanding bound result }
+        ensures answer { Falls pass.old → IsNextNamed self.now.outstanding pass.old result pass.new }
+        ensures falls { Falls pass.old → Falls pass.new }
+        ensures below { IfSome result (λ k. (pass.new.below ≡ k) × (k < pass.old.below)) }
     {
         let _next = self.next;
-        self.records.below(bound)
+        pass.next(&self.records)
+    }
+
+    /// Lets go what is kept of the packets below the lowest outstanding one. No clause sees it.
+    pub(crate) fn trim(&mut self)
+        ensures { self.new ≡ self.old }
+    {
+        self.records.trim();
     }
 
     /// The first piece of an outstanding packet.

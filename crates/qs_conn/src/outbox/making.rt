@@ -21,8 +21,7 @@ impl Outbox {
         ensures ok { OnOk result (self.new ≡ record self.old { spare = count }) }
         ensures err { OnErr result (self.new ≡ self.old) }
     {
-        let _next = self.next;
-        self.records.make_room()?;
+        self.records.make_room(self.next)?;
         self.pending.reserve(count)?;
         self.index.reserve(count)?;
         self.spare = count;
@@ -124,7 +123,7 @@ fn note_blocked(sends: &mut SendTables, stream: StreamId)
 
 // The pieces of a packet are kept, where it has some, and no more memory than they need.
 fn put_pieces(records: &mut Records, number: u64, mut pieces: Vec<Piece>)
-    requires ready { 0 < length pieces.items → records.old.ready ≡ true }
+    requires ready { 0 < length pieces.items → number < records.old.room }
     requires above { AreBelow records.old.pieces number }
     ensures { records.new.pieces ≡ with_pending records.old.pieces number pieces.items }
 {

@@ -1,7 +1,11 @@
-use Rattle.std.proofs.Common.{refl}
+use Rattle.std.proofs.Common.{◌≡◌, ◌≤◌, ℕ, refl, arith}
+use Rattle.qs_conn.proofs.OutboxMaking.{room_stays}
 use Rattle.qs_conn.proofs.OutboxAcks.{idle_none, first_at, tied_at, sent_piece, box_acked, acked_value, idle_after}
 use Rattle.qs_conn.proofs.Indexed.{indexed_first_gone}
 use Rattle.qs_conn.proofs.outbox.Outbox.ack_first.Goals as goal
+
+kept : {a b : ℕ} → a ≡ b → b ≤ a
+kept e = omega (arith, e)
 
 pub piece_acked-requires : goal.piece_acked-requires
 piece_acked-requires c =
@@ -14,7 +18,7 @@ invariant_of-self-2 c = (
   box_acked _ _ _ _ _ _ _ _ _ _ _ c.args.number c.args.piece c.self.invariant.0
       (idle_none _ c.args.self.now c.self.inside.records.pieces c.self.inside.pending.items c.self.view_is refl c.requires.idle)
       (first_at _ c.args.self.now c.self.inside.records.pieces c.self.inside.pending.items c.args.number c.args.piece c.self.view_is refl c.requires.idle c.requires.first)
-      c.in_ok-piece_acked.ensures.halves c.drop_first.ensures.pieces c.drop_first.ensures.ready,
+      c.in_ok-piece_acked.ensures.halves c.drop_first.ensures.pieces (room_stays c.self.inside.next c.self.inside.records.room c.drop_first.new.self.room (kept c.drop_first.ensures.room)),
   indexed_first_gone _ _ _ c.args.number c.args.piece _ _ _ _ _ _ c.self.invariant.1 c.self.invariant.0.tied.apart
       (idle_none _ c.args.self.now c.self.inside.records.pieces c.self.inside.pending.items c.self.view_is refl c.requires.idle)
       (first_at _ c.args.self.now c.self.inside.records.pieces c.self.inside.pending.items c.args.number c.args.piece c.self.view_is refl c.requires.idle c.requires.first)
@@ -33,5 +37,5 @@ returns-clause-idle c =
     box_acked _ _ _ _ _ _ _ _ _ _ _ c.args.number c.args.piece c.self.invariant.0
     (idle_none _ c.args.self.now c.self.inside.records.pieces c.self.inside.pending.items c.self.view_is refl c.requires.idle)
     (first_at _ c.args.self.now c.self.inside.records.pieces c.self.inside.pending.items c.args.number c.args.piece c.self.view_is refl c.requires.idle c.requires.first)
-    c.in_ok-piece_acked.ensures.halves c.drop_first.ensures.pieces c.drop_first.ensures.ready in
+    c.in_ok-piece_acked.ensures.halves c.drop_first.ensures.pieces (room_stays c.self.inside.next c.self.inside.records.room c.drop_first.new.self.room (kept c.drop_first.ensures.room)) in
     idle_after _ _ _ held.below (idle_none _ c.args.self.now c.self.inside.records.pieces c.self.inside.pending.items c.self.view_is refl c.requires.idle)

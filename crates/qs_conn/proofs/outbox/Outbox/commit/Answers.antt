@@ -1,3 +1,4 @@
+use Rattle.std.proofs.Common.{◌+◌, nat_lt}
 use Rattle.qs_conn.proofs.OutboxMaking.{box_committed, idle_committed}
 use Rattle.qs_conn.proofs.Indexed.{indexed_committed}
 use Rattle.qs_conn.proofs.outbox.Outbox.commit.Goals as goal
@@ -10,5 +11,5 @@ invariant_of-self c = (
 
 pub returns-clause-idle : goal.returns-clause-idle
 returns-clause-idle c =
-    let held = box_committed _ _ c.put_pieces.new.records.pieces _ c.put_pieces.new.records.ready _ c.replace-pieces.new.dest.items _ _ _ _ 0 c.self.invariant.0 (rw c.replace-pieces.ensures.value at c.put_pieces.ensures) (rw c.replace-pieces.ensures.after c.new.ensures.items) in
+    let held = box_committed _ _ c.put_pieces.new.records.pieces _ (nat_lt (c.self.inside.next + 1) c.put_pieces.new.records.room) _ c.replace-pieces.new.dest.items _ _ _ _ 0 c.self.invariant.0 (rw c.replace-pieces.ensures.value at c.put_pieces.ensures) (rw c.replace-pieces.ensures.after c.new.ensures.items) in
     idle_committed _ _ _ _ _ _ _ held (rw c.replace-pieces.ensures.after c.new.ensures.items)

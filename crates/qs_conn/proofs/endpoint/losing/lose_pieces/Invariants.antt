@@ -2,7 +2,7 @@ use Rattle.std.proofs.Common.{Result}
 use Rattle.qs_ranges.specs.declared.NoMemory.{NoMemory}
 use Rattle.qs_conn.specs.Outgoing.{Outgoing, IsIdle}
 use Rattle.qs_conn.specs.Runs.{Loses, pieces_left}
-use Rattle.qs_conn.proofs.endpoint.losing.lose_packet.Given as goal
+use Rattle.qs_conn.proofs.endpoint.losing.lose_pieces.Given as goal
 
 -- What is so from here on is so of the whole packet.
 abbrev pub invariant-loop-piece : goal.invariant-loop-piece

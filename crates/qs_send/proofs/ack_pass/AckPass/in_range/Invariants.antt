@@ -1,0 +1,16 @@
+use Rattle.std.proofs.Common.{◌≡◌, ◌≤◌, ◌<◌, ◌+◌, ◌-◌, ℕ, min, false}
+use Rattle.std.specs.FinMap as fmap
+use Rattle.qs_send.proofs.ack_pass.AckPass.in_range.Given as goal
+
+abbrev pub invariant-loop-self : goal.invariant-loop-self
+invariant-loop-self l = record {
+  low : l.self.low ≡ l.fn.self.low;
+  unread : l.self.unread ≡ l.fn.self.unread;
+  below : l.self.below ≤ l.fn.self.below;
+  within : l.self.below ≤ l.records.base + l.records.slots;
+  passed : (j : ℕ) → l.self.below ≤ j → j < l.fn.self.below → fmap.contains_key l.records.pieces j ≡ false;
+  turns : l.self.turns + min (l.self.below - l.records.base) l.records.slots ≤ l.fn.self.turns + min (l.fn.self.below - l.records.base) l.records.slots;
+}
+
+abbrev pub decreases-loop-self : goal.decreases-loop-self
+decreases-loop-self l = l.self.below

@@ -1,0 +1,117 @@
+//! Which outstanding packets an ACK names.
+ghost use Rattle.std.specs.Prelude.{◌≡◌, ℕ, ◌+◌, ◌-◌, ◌<◌, ◌≤◌, ◌↔◌, [], min, IsTrue, IfSome, IfNone, MatchOption, true, false};
+ghost use Rattle.std.specs.FinMap as fmap;
+ghost use Rattle.qs_send.specs.AckPass.{HasRead, IsNext, pass_over};
+
+use crate::records::Records;
+use qs_wire::AckRanges;
+use std::marker::Model;
+
+/// One pass over the records from the highest number that an ACK's ranges name down to the lowest (RFC 9000, section 13.3). Each
+/// slot and each range takes at most one turn.
+#[derive(Drop)]
+pub struct AckPass<'a> {
+    // Of the range that was read last, the numbers from `low` on and below `below` are left.
+    low: u64,
+    below: u64,
+    ranges: AckRanges<'a>,
+    turns: u64,
+}
+
+impl<'a> Model for AckPass<'a> {
+    ghost use Rattle.qs_send.specs.AckPass.{Passing, passing_code};
+
+    ghost Value = { Passing };
+
+    ghost coded = { passing_code };
+
+    ghost view = { λ p. record { low = p.low; below = p.below; unread = p.ranges; turns = p.turns } };
+}
+
+impl<'a> AckPass<'a> {
+    /// A pass over the ranges that are left of an ACK.
+    pub fn new(ranges: AckRanges<'a>) -> AckPass<'a>
+        ensures { result ≡ pass_over ranges.entry }
+    {
+        AckPass {
+            low: u64::MAX,
+            below: u64::MAX,
+            ranges,
+            turns: 0,
+        }
+    }
+
+    /// The greatest outstanding number that the ranges name below the one given last, `None` where there is none.
+    pub fn next(&mut self, records: &Records) -> Option<u64>
+        ensures { IsNext records.now self.old result self.new }
+    {
+        loop {
+            if let Some(number) = self.in_range(records) {
+                return Some(number);
+            }
+            if !self.read_range() {
+                return None;
+            }
+        }
+    }
+
+    /// How many turns it took: slots that it looked at, and ranges that it read.
+    pub fn turns(&self) -> u64
+        ensures { result ≡ self.now.turns }
+    {
+        self.turns
+    }
+
+    // The next range, `false` after the last.
+    fn read_range(&mut self) -> bool
+        ensures read { result ≡ true → (range : ℕ × ℕ) × HasRead self.old range self.new }
+        ensures ended { result ≡ false → (self.old.unread ≡ []) × (self.new ≡ self.old) }
+    {
+        let Some((low, high)) = self.ranges.next() else {
+            return false;
+        };
+        self.turns = self.turns.saturating_add(1);
+        self.low = low;
+        self.below = self.below.min(high + 1);
+        true
+    }
+
+    // The greatest outstanding number of the range that was read last, below the one given last.
+    fn in_range(&mut self, records: &Records) -> Option<u64>
+        ensures same { (self.new.low ≡ self.old.low) × (self.new.unread ≡ self.old.unread) }
+        ensures below { self.new.below ≤ self.old.below }
+        ensures found { IfSome result (λ k. (self.new.below ≡ k) × (k < self.old.below) × (self.old.low ≤ k) × (fmap.contains_key records.now.pieces k ≡ true)) }
+        ensures above { IfSome result (λ k. (j : ℕ) → k < j → j < self.old.below → fmap.contains_key records.now.pieces j ≡ false) }
+        ensures none { IfNone result ((j : ℕ) → self.old.low ≤ j → j < self.old.below → fmap.contains_key records.now.pieces j ≡ false) }
+        ensures past { IfNone result ((j : ℕ) → self.new.below ≤ j → j < self.old.below → fmap.contains_key records.now.pieces j ≡ false) }
+        ensures turns { self.new.turns + min (self.new.below - records.now.base) records.now.slots ≤ self.old.turns + min (self.old.below - records.now.base) records.now.slots }
+    {
+        self.below = records.cut(self.below);
+        while self.has_slot(records.base()) {
+            if self.look(records) {
+                return Some(self.below);
+            }
+        }
+        None
+    }
+
+    // Whether a number of the range that was read last is left, from `base` on.
+    fn has_slot(&self, base: u64) -> bool
+        ensures { IsTrue result ↔ ((base < self.now.below) × (self.now.low < self.now.below)) }
+    {
+        base < self.below && self.low < self.below
+    }
+
+    // Whether the next number below is outstanding.
+    fn look(&mut self, records: &Records) -> bool
+        requires { 0 < self.old.below }
+        ensures held { result ≡ fmap.contains_key records.now.pieces self.new.below }
+        ensures same { (self.new.low ≡ self.old.low) × (self.new.unread ≡ self.old.unread) }
+        ensures below { self.new.below + 1 ≡ self.old.below }
+        ensures turns { self.new.turns ≤ self.old.turns + 1 }
+    {
+        self.turns = self.turns.saturating_add(1);
+        self.below -= 1;
+        records.is_held(self.below)
+    }
+}
