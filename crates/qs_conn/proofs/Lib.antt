@@ -53,3 +53,11 @@ pub mod Marked
 pub mod Words
 pub mod Quiets
 pub mod LaneMarks
+pub mod LanesAgain
+pub mod TablesAfter
+pub mod EndsAfter
+pub mod AcksAgain
+pub mod Again
+pub mod SentCalls
+pub mod PayloadsAgain
+pub mod ProcessedAgain

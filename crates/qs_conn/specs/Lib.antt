@@ -25,3 +25,4 @@ pub mod Filling
 pub mod Runs
 pub mod Marks
 pub mod Words
+pub mod Repeats

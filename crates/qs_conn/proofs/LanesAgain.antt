@@ -1,0 +1,251 @@
+-- A frame that took effect on a receiving half and comes again passes its check and leaves the half as it is.
+use Rattle.std.proofs.Common.{◌≡◌, ℕ, zero, suc, ◌+◌, ◌-◌, ◌<◌, ◌≤◌, Bool, true, false, ◌||◌, cond, List, [], ◌∷◌, length, Option, Some, None, is_some, ◌⊎◌, refl, sym, ap, ◌∙◌, arith, inl, inr}
+use Rattle.std.specs.Prelude.{max, nat_lt, ◌==◌, unwrap_or, Result, Ok, Err, IsOk}
+use Rattle.std.specs.Ordering.{nat_cmp}
+use Rattle.std.specs.FinMap as fmap
+use Rattle.std.specs.FinSet as set
+use Rattle.std.proofs.lemmas.Option.{none-some, same_Some}
+use Rattle.std.proofs.lemmas.Bool.{both_ways, cases_lt, cond_both, or_cases, or_left, or_right}
+use Rattle.std.proofs.lemmas.Bool.Decides.{nat_tests}
+use Rattle.qs_ranges.specs.Numbers.{NumberSet, ContainsRange, is_within, numbers, end_of}
+use Rattle.qs_ranges.proofs.Sets.{covers-is, covers-of, below-end_of}
+use Rattle.qs_ranges.proofs.Algebra.{inside, with_range-covered}
+use Rattle.qs_recv.specs.Assembled.{Assembled, put, store, discard}
+use Rattle.qs_recv.specs.Lane.{RecvLane, highest, highest_after, check_stream, check_reset, take_stream, take_reset, is_whole, whole_to, breaks_known, raise}
+use Rattle.qs_recv.specs.Lawful.{IsLawful}
+use Rattle.qs_recv.specs.declared.half.Highest.{Highest}
+use Rattle.qs_recv.specs.declared.half.RecvFault.TheVariants.{FinalSize, StreamCredit}
+use Rattle.qs_recv.proofs.AssembledLaws.{contains-with_run}
+use Rattle.qs_recv.proofs.LaneLaws.{check_fits}
+use Rattle.qs_recv.specs.Laws.{Grows, TakeStream, TakeReset}
+use Rattle.qs_recv.proofs.LawfulLaws.{unbroken, reset_known, raised_grows}
+use Rattle.qs_recv.proofs.GrowthLaws.{grows_after_call}
+
+-- what a receiving half keeps as frames come
+pub record LaneAfter (l m : RecvLane) : Type 0 where
+  pub limit : l.limit ≤ m.limit
+  pub received : (q : ℕ) → set.contains l.arrived.received q ≡ true → set.contains m.arrived.received q ≡ true
+  pub size : (s : ℕ) → l.final_size ≡ Some s → m.final_size ≡ Some s
+  pub reset : is_some l.reset_code ≡ true → is_some m.reset_code ≡ true
+
+pub lane_same : (l : RecvLane) → LaneAfter l l
+lane_same l = record { limit = omega arith; received = λ q is. is; size = λ s is. is; reset = λ is. is }
+
+pub lane_twice : (l m k : RecvLane) → LaneAfter l m → LaneAfter m k → LaneAfter l k
+lane_twice l m k a b =
+    record {
+      limit = omega (arith, a.limit, b.limit);
+      received = λ q is. b.received q (a.received q is);
+      size = λ s is. b.size s (a.size s is);
+      reset = λ is. b.reset (a.reset is);
+    }
+
+grown : (l m : RecvLane) → Grows l m → (is_some l.reset_code ≡ true → is_some m.reset_code ≡ true) → LaneAfter l m
+grown l m g reset = record { limit = g.limit_grows; received = g.received_stays; size = g.final_size_stays; reset = reset }
+
+pub data_after : (l : RecvLane) (offset : ℕ) (bytes : List ℕ) (fin : Bool) → IsLawful l → IsOk (check_stream l offset (length bytes) fin) → LaneAfter l (take_stream l offset bytes fin)
+data_after l offset bytes fin lawful ok = grown l (take_stream l offset bytes fin) (grows_after_call l (TakeStream offset bytes fin) lawful ok) (λ is. is)
+
+pub reset_after : (l : RecvLane) (code size : ℕ) → IsLawful l → IsOk (check_reset l size) → LaneAfter l (take_reset l code size)
+reset_after l code size lawful ok =
+    grown l (take_reset l code size) (grows_after_call l (TakeReset code size) lawful ok)
+    (cond_both (is_some l.reset_code || is_whole l) l (record l { arrived = discard l.arrived; final_size = Some size; reset_code = Some code }) (λ m. is_some l.reset_code ≡ true → is_some m.reset_code ≡ true) (λ _ is. is) (λ _ is. refl))
+
+pub raise_after : (l : RecvLane) → LaneAfter l (raise l)
+raise_after l = record { limit = raised_grows l; received = λ q is. is; size = λ s is. is; reset = λ is. is }
+
+-- Data
+
+-- after a reset no data is put
+pub record IsPassed (l : RecvLane) (offset n : ℕ) : Type 0 where
+  pub reset : is_some l.reset_code ≡ true
+  pub size : ℕ
+  pub known : l.final_size ≡ Some size
+  pub inside : 0 < n → offset + n ≤ size
+
+-- a frame with n bytes took effect
+pub record HasData (l : RecvLane) (offset n : ℕ) (fin : Bool) : Type 0 where
+  pub within : offset + n ≤ l.limit
+  pub sized : fin ≡ true → l.final_size ≡ Some (offset + n)
+  pub came : IsPassed l offset n ⊎ ContainsRange l.arrived.received offset (offset + n)
+
+pub data_stays : (l m : RecvLane) (offset n : ℕ) (fin : Bool) → LaneAfter l m → HasData l offset n fin → HasData m offset n fin
+data_stays l m offset n fin a h =
+    record {
+      within = omega (arith, a.limit, h.within);
+      sized = λ is. a.size (offset + n) (h.sized is);
+      came = elim h.came [
+        | inl p ↦ inl (record { reset = a.reset p.reset; size = p.size; known = a.size p.size p.known; inside = p.inside })
+        | inr all ↦ inr (λ q low high. a.received q (all q low high))
+      ];
+    }
+
+passed_size : (f : Option ℕ) (end n : ℕ) (fin : Bool) (before : ℕ) → is_some f ≡ true → breaks_known f end n fin before ≡ false → (s : ℕ) × (cond fin (Some end) f ≡ Some s) × (0 < n → end ≤ s)
+passed_size None end n fin before known h = absurd (both_ways false refl known)
+passed_size (Some s) end n true before known h = (end, refl, λ some. omega arith)
+passed_size (Some s) end n false before known h = (s, refl, λ some. grind (arith, nat_tests))
+
+pub data_taken : (l : RecvLane) (offset : ℕ) (bytes : List ℕ) (fin : Bool) → IsLawful l → IsOk (check_stream l offset (length bytes) fin) → HasData (take_stream l offset bytes fin) offset (length bytes) fin
+data_taken l offset bytes fin lawful ok =
+    let fits = check_fits l offset (length bytes) fin ok in
+    record {
+      within = omega (arith, fits);
+      sized = λ is. ap (λ b. cond b (Some (offset + length bytes)) l.final_size) is;
+      came = by_reset (is_some l.reset_code) refl;
+    }
+  where
+    by_reset : (b : Bool) → is_some l.reset_code ≡ b → IsPassed (take_stream l offset bytes fin) offset (length bytes) ⊎ ContainsRange (cond b l.arrived (put l.arrived offset bytes)).received offset (offset + length bytes)
+    by_reset true is =
+        let (s, known, small) = passed_size l.final_size (offset + length bytes) (length bytes) fin (highest l) (lawful.reset_sized is) (unbroken l offset (length bytes) fin ok) in
+        inl (record { reset = is; size = s; known = known; inside = small })
+    by_reset false is = inr (λ q low high. contains-with_run l.arrived.received offset (length bytes) q ∙ or_right (set.contains l.arrived.received q) (is_within offset (offset + length bytes) q) (inside offset (offset + length bytes) q low high))
+
+-- the bytes that came again lie below the highest offset
+data_inside : (m : RecvLane) (offset n : ℕ) (fin : Bool) → IsLawful m → HasData m offset n fin → 0 < n → offset + n ≤ highest m
+data_inside m offset n fin lawful h some =
+    elim h.came [
+      | inl p ↦ (let e : highest m ≡ p.size = ap (λ f. unwrap_or f (end_of m.arrived.received)) p.known in let le = p.inside some in omega (arith, e, le))
+      | inr all ↦ (let last = below-end_of m.arrived.received (offset + n - 1) (all (offset + n - 1) (omega arith) (omega arith)) in omega (arith, last, lawful.received_within))
+    ]
+
+not_broken : (f : Option ℕ) (end n : ℕ) (fin : Bool) (before : ℕ) → (fin ≡ true → f ≡ Some end) → ((s : ℕ) → f ≡ Some s → 0 < n → end ≤ s) → breaks_known f end n fin before ≡ false
+not_broken None end n true before sized small = absurd (none-some end (sized refl))
+not_broken None end n false before sized small = refl
+not_broken (Some s) end n true before sized small = let e : s ≡ end = same_Some s end (sized refl) in grind (arith, nat_tests)
+not_broken (Some s) end n false before sized small =
+    elim (cases_lt 0 n) [
+      | inl some ↦ (let le = small s refl some in grind (arith, nat_tests))
+      | inr none ↦ grind (arith, nat_tests)
+    ]
+
+same_highest : (f : Option ℕ) (h end n : ℕ) (fin : Bool) → (fin ≡ true → end ≡ h) → (0 < n → end ≤ h) → cond fin end (cond (is_some f || (n == 0)) h (max h end)) ≡ h
+same_highest f h end n true all small = all refl
+same_highest (Some s) h end n false all small = refl
+same_highest None h end zero false all small = refl
+same_highest None h end (suc n) false all small = let le = small (omega arith) in let some : (suc n == 0) ≡ false = grind (arith, nat_tests) in ap (λ b. cond b h (max h end)) some ∙ omega (arith, le)
+
+-- a check whose tests both pass
+both_pass : (b c : Bool) (h : Highest) → b ≡ false → c ≡ false → ◌≡◌ {A = Result Highest _} (cond b (Err FinalSize) (cond c (Err StreamCredit) (Ok h))) (Ok h)
+both_pass b c h first second = rw (first, second) refl
+
+stored_before : (r : NumberSet) (m : fmap.FinMap nat_cmp ℕ) (at : ℕ) (bytes : List ℕ) → ContainsRange r at (at + length bytes) → store r m at bytes ≡ m
+unfolding store
+stored_before r m at [] all = refl
+stored_before r m at (byte ∷ bytes) all =
+    ap (λ b. store r (cond b m (fmap.insert m at byte)) (at + 1) bytes) (all at (omega arith) (omega arith))
+    ∙ stored_before r m (at + 1) bytes (λ q low high. all q (omega arith) (omega arith))
+
+put_again : (a : Assembled) (offset : ℕ) (bytes : List ℕ) → ContainsRange a.received offset (offset + length bytes) → put a offset bytes ≡ a
+put_again a offset bytes all =
+    let stored : cond a.discarding a.stored (store a.received a.stored offset bytes) ≡ a.stored = kept a.discarding (stored_before a.received a.stored offset bytes all) in
+    let received : set.union a.received (numbers offset (offset + length bytes)) ≡ a.received = with_range-covered a.received offset (offset + length bytes) all in
+    λ i. record a { stored = stored i; received = received i }
+  where
+    kept : {X : Type 0} (b : Bool) {x y : X} → y ≡ x → cond b x y ≡ x
+    kept true e = refl
+    kept false e = e
+
+-- the frame passes its check, and leaves the half as it is
+pub data_again : (m : RecvLane) (offset : ℕ) (bytes : List ℕ) (fin : Bool) → IsLawful m → HasData m offset (length bytes) fin
+    → (check_stream m offset (length bytes) fin ≡ Ok (record { before = highest m; after = highest m })) × (take_stream m offset bytes fin ≡ m)
+data_again m offset bytes fin lawful h = (passes, stays)
+  where
+    n : ℕ
+    n = length bytes
+
+    whole : fin ≡ true → offset + n ≡ highest m
+    whole is = sym (ap (λ f. unwrap_or f (end_of m.arrived.received)) (h.sized is))
+
+    same : highest_after m offset n fin ≡ highest m
+    same = same_highest m.final_size (highest m) (offset + n) n fin whole (data_inside m offset n fin lawful h)
+
+    fine : breaks_known m.final_size (offset + n) n fin (highest m) ≡ false
+    fine = not_broken m.final_size (offset + n) n fin (highest m) h.sized (λ s is some.
+        let e : highest m ≡ s = ap (λ f. unwrap_or f (end_of m.arrived.received)) is in
+        let le = data_inside m offset n fin lawful h some in
+        omega (arith, e, le))
+
+    fits : nat_lt m.limit (max (highest m) (offset + n)) ≡ false
+    fits = let a = lawful.granted in let b = h.within in let c : max (highest m) (offset + n) ≤ m.limit = omega (arith, a, b) in grind (arith, nat_tests)
+
+    passes : check_stream m offset n fin ≡ Ok (record { before = highest m; after = highest m })
+    passes = both_pass _ _ (record { before = highest m; after = highest_after m offset n fin }) fine fits ∙ ap (λ k. Ok (record { before = highest m; after = k })) same
+
+    arrived : cond (is_some m.reset_code) m.arrived (put m.arrived offset bytes) ≡ m.arrived
+    arrived = elim h.came [
+      | inl p ↦ ap (λ b. cond b m.arrived (put m.arrived offset bytes)) p.reset
+      | inr all ↦ ap (λ a. cond (is_some m.reset_code) m.arrived a) (put_again m.arrived offset bytes all) ∙ either (is_some m.reset_code) m.arrived
+    ]
+      where
+        either : {X : Type 0} (b : Bool) (x : X) → cond b x x ≡ x
+        either true x = refl
+        either false x = refl
+
+    size : cond fin (Some (offset + n)) m.final_size ≡ m.final_size
+    size = by_end fin h.sized
+      where
+        by_end : (b : Bool) → (b ≡ true → m.final_size ≡ Some (offset + n)) → cond b (Some (offset + n)) m.final_size ≡ m.final_size
+        by_end true is = sym (is refl)
+        by_end false is = refl
+
+    stays : take_stream m offset bytes fin ≡ m
+    stays = λ i. record m { arrived = arrived i; final_size = size i }
+
+-- Resets
+
+-- a reset with this final size took effect, or came too late for one
+pub record HasReset (l : RecvLane) (size : ℕ) : Type 0 where
+  pub within : size ≤ l.limit
+  pub sized : l.final_size ≡ Some size
+  pub over : (is_some l.reset_code || is_whole l) ≡ true
+
+pub reset_stays : (l m : RecvLane) (size : ℕ) → LaneAfter l m → HasReset l size → HasReset m size
+reset_stays l m size a h =
+    record {
+      within = omega (arith, a.limit, h.within);
+      sized = a.size size h.sized;
+      over = elim (or_cases (is_some l.reset_code) (is_whole l) h.over) [
+        | inl reset ↦ or_left (is_some m.reset_code) (is_whole m) (a.reset reset)
+        | inr whole ↦ or_right (is_some m.reset_code) (is_whole m)
+            (ap (whole_to m.arrived.received) (a.size size h.sized)
+            ∙ covers-of m.arrived.received 0 size (λ q low high.
+            a.received q (covers-is l.arrived.received 0 size (sym (ap (whole_to l.arrived.received) h.sized) ∙ whole) q low high)))
+      ];
+    }
+
+reset_within : (l : RecvLane) (size : ℕ) → IsOk (check_reset l size) → size ≤ l.limit
+reset_within l size ok = let c : nat_lt l.limit size ≡ false = passed _ _ _ ok in grind (arith, nat_tests)
+  where
+    passed : (b c : Bool) (h : Highest) → IsOk (cond b (Err FinalSize) (cond c (Err StreamCredit) (Ok h))) → c ≡ false
+    passed true c h is = absurd (both_ways false refl is)
+    passed false true h is = absurd (both_ways false refl is)
+    passed false false h is = refl
+
+known_size : (f : Option ℕ) (e size : ℕ) → is_some f ≡ true → unwrap_or f e ≡ size → f ≡ Some size
+known_size None e size known is = absurd (both_ways false refl known)
+known_size (Some s) e size known is = ap Some is
+
+whole_known : (r : NumberSet) (f : Option ℕ) → whole_to r f ≡ true → is_some f ≡ true
+whole_known r None is = absurd (both_ways false refl is)
+whole_known r (Some s) is = refl
+
+pub reset_taken : (l : RecvLane) (code size : ℕ) → IsLawful l → IsOk (check_reset l size) → HasReset (take_reset l code size) size
+reset_taken l code size lawful ok = go (is_some l.reset_code || is_whole l) refl
+  where
+    go : (b : Bool) → (is_some l.reset_code || is_whole l) ≡ b → HasReset (cond b l (record l { arrived = discard l.arrived; final_size = Some size; reset_code = Some code })) size
+    go true over =
+        let known : is_some l.final_size ≡ true = elim (or_cases (is_some l.reset_code) (is_whole l) over) [ inl reset ↦ lawful.reset_sized reset | inr whole ↦ whole_known l.arrived.received l.final_size whole ] in
+        record { within = reset_within l size ok; sized = known_size l.final_size (end_of l.arrived.received) size known (reset_known l size ok known); over = over }
+    go false open_still = record { within = reset_within l size ok; sized = refl; over = refl }
+
+-- the reset passes its check, and leaves the half as it is
+pub reset_again : (m : RecvLane) (code size : ℕ) → HasReset m size → (check_reset m size ≡ Ok (record { before = highest m; after = highest m })) × (take_reset m code size ≡ m)
+reset_again m code size h =
+    let end : size + 0 ≡ size = omega arith in
+    let same : size ≡ highest m = sym (ap (λ f. unwrap_or f (end_of m.arrived.received)) h.sized) in
+    let within = h.within in
+    let fine = not_broken m.final_size (size + 0) 0 true (highest m) (λ _. h.sized ∙ ap Some (sym end)) (λ s is some. absurd (omega (arith, some))) in
+    let fits : nat_lt m.limit size ≡ false = grind (arith, nat_tests) in (
+      both_pass _ _ (record { before = highest m; after = size }) fine fits ∙ ap (λ k. Ok (record { before = highest m; after = k })) same,
+      ap (λ b. cond b m (record m { arrived = discard m.arrived; final_size = Some size; reset_code = Some code })) h.over,
+    )
