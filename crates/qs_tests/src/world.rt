@@ -4,6 +4,7 @@ mod draws;
 mod ends;
 mod every_payload;
 mod fragments;
+mod many_packets;
 mod owners;
 mod packets;
 mod payloads;
