@@ -7,6 +7,7 @@ use Rattle.qs_world.specs.Events.{fits}
 use Rattle.qs_tool.specs.declared.status.Status.{Status}
 use Rattle.qs_tool.specs.declared.status.Status.TheVariants.{Success, FaultShown, BadUsage, Failed}
 use Rattle.qs_tool.specs.Runs.{AnswersEvents, AnswersPlay}
+use Rattle.qs_tool.specs.Carrying.{AnswersCarried, AnswersUdp}
 
 -- a script is answered as some events are
 pub events_answer : (status : Status) (script : List ℕ) (events : List Event) (old new : Option (List ℕ))
@@ -15,3 +16,11 @@ events_answer Success script events old new fit shown = (events, fit, shown)
 events_answer FaultShown script events old new fit shown = inl (events, fit, shown)
 events_answer BadUsage script events old new fit shown = shown
 events_answer Failed script events old new fit shown = shown
+
+-- and so is one over a wire
+pub carried_answer : (status : Status) (script : List ℕ) (events : List Event) (before after : ℕ) (old new : Option (List ℕ))
+    → list_all fits events ≡ true → AnswersCarried status events before after old new → AnswersUdp status script before after old new
+carried_answer Success script events before after old new fit shown = (events, fit, shown)
+carried_answer FaultShown script events before after old new fit shown = inl (events, fit, shown)
+carried_answer BadUsage script events before after old new fit shown = shown
+carried_answer Failed script events before after old new fit shown = shown

@@ -1,3 +1,4 @@
+pub mod Carrying
 pub mod Fields
 pub mod FrameText
 pub mod Runs

@@ -1,11 +1,14 @@
 //! The program: shows the frames of a payload, plays scripts, and makes random ones.
 #![tactic(auto)]
 
+mod carrying;
+mod event_copy;
 mod fields;
 mod frame_text;
 mod frames;
 mod input;
 mod largest;
+mod memory_wire;
 mod play_text;
 mod request;
 mod scripts;
@@ -13,12 +16,16 @@ mod status;
 #[cfg(test)]
 mod tests;
 mod text;
+mod udp_wire;
+mod wire;
 
+use crate::carrying::run_udp;
 use crate::frames::run_frames;
 use crate::input::read_file;
 use crate::request::Request;
 use crate::scripts::{run_play, run_random};
 use crate::status::Status;
+use crate::udp_wire::UdpWire;
 use std::process::ExitCode;
 use std::{env, io};
 
@@ -54,7 +61,18 @@ fn answer(rt: &HostRuntime, request: Request) -> Status {
             Ok(script) => run_play(rt.alloc(), &script, &mut out),
             Err(status) => status,
         },
+        Request::Udp(name) => match read_file(rt, name) {
+            Ok(script) => over_udp(rt, &script, &mut out),
+            Err(status) => status,
+        },
         Request::Random { seed, n } => run_random(rt.alloc(), seed, n, &mut out),
+    }
+}
+
+fn over_udp<W: io::Write>(rt: &HostRuntime, script: &[u8], out: &mut W) -> Status {
+    match UdpWire::bind(rt) {
+        Ok(mut wire) => run_udp(rt.alloc(), script, &mut wire, out),
+        Err(_) => Status::Failed,
     }
 }
 

@@ -15,6 +15,8 @@ pub enum Request<'a> {
     Frames(&'a str),
     /// Play the script in the file of that name.
     Play(&'a str),
+    /// Play the script in the file of that name, with its packets over UDP.
+    Udp(&'a str),
     /// Show a script of `n` random events, at most 10,000, which the seed determines.
     Random { seed: u64, n: usize },
 }
@@ -42,6 +44,7 @@ fn asked_for<'a>(name: &str, found: &ArgMatches<'a>) -> Option<Request<'a>> {
     match name {
         "frames" => found.get_str("hex").map(Request::Frames),
         "play" => found.get_str("file").map(Request::Play),
+        "udp" => found.get_str("file").map(Request::Udp),
         "random" => random(found.get_str("seed")?, found.get_str("n")?),
         _ => None,
     }
@@ -71,8 +74,9 @@ fn frames_command<'a>(alloc: Global) -> Result<Command<'a>, AllocError> {
     Command::new(alloc, "frames").arg(Arg::new(alloc, "hex").required(true))
 }
 
-fn play_command<'a>(alloc: Global) -> Result<Command<'a>, AllocError> {
-    Command::new(alloc, "play").arg(Arg::new(alloc, "file").required(true))
+/// A subcommand that takes the name of a file.
+fn file_command<'a>(alloc: Global, name: &'a str) -> Result<Command<'a>, AllocError> {
+    Command::new(alloc, name).arg(Arg::new(alloc, "file").required(true))
 }
 
 fn random_command<'a>(alloc: Global) -> Result<Command<'a>, AllocError> {
@@ -85,7 +89,8 @@ fn command<'a>(alloc: Global) -> Result<Command<'a>, AllocError> {
     Command::new(alloc, "qstream")
         .subcommand_required(true)
         .subcommand(frames_command(alloc)?)?
-        .subcommand(play_command(alloc)?)?
+        .subcommand(file_command(alloc, "play")?)?
+        .subcommand(file_command(alloc, "udp")?)?
         .subcommand(random_command(alloc)?)
 }
 

@@ -71,7 +71,7 @@ pub fn run_play<W: io::Write>(alloc: Global, script: &[u8], out: &mut W) -> Stat
 }
 
 /// Writes the line that names the fault of a script, unless it is want of memory.
-fn show_script_fault<W: io::Write>(
+pub fn show_script_fault<W: io::Write>(
     alloc: Global,
     fault: ScriptFault,
     out: &mut W,

@@ -9,6 +9,7 @@ use std::test::Fail;
 mod play_text;
 mod requests;
 mod scripts;
+mod wires;
 
 /// The run on the word ends so and writes the text.
 fn shows(rt: &impl Abort, alloc: Global, word: &str, status: Status, text: &str) {

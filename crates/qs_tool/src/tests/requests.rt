@@ -53,6 +53,8 @@ fn other_command_lines_make_no_sense(rt: HostRuntime) -> Result<(), Fail> {
 fn the_command_line_names_a_file(rt: HostRuntime) -> Result<(), Fail> {
     let line = words(rt.alloc(), &["qstream", "play", "a file"])?;
     assert!(rt; Request::parse(rt.alloc(), &line) == Ok(Request::Play("a file")));
+    let line = words(rt.alloc(), &["qstream", "udp", "a file"])?;
+    assert!(rt; Request::parse(rt.alloc(), &line) == Ok(Request::Udp("a file")));
     Ok(())
 }
 
