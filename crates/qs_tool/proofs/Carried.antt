@@ -1,6 +1,5 @@
 -- What takes place of events over a wire.
 use Rattle.std.proofs.Common.{◌≡◌, ℕ, zero, suc, ◌+◌, ◌<◌, ◌≤◌, List, [], ◌∷◌, ◌++◌, length, take, drop, get_or, reverse, ◌-◌, Option, Some, Result, Ok, Err, IfOk, refl, sym, ap, ◌∙◌, subst, inl, inr, arith}
-use Rattle.std.specs.Io.KnownBytes.{Appends}
 use Rattle.std.proofs.lemmas.List.{take_more, take_all, reverse-append}
 use Rattle.qs_conn.specs.Examples.{standard}
 use Rattle.qs_conn.specs.declared.settings.SetupFault.{SetupFault}
@@ -18,7 +17,7 @@ use Rattle.qs_world.proofs.PlayedRuns.{played_none}
 use Rattle.qs_world.proofs.OneMore.{one_more}
 use Rattle.qs_tool.specs.declared.status.Status.{Status}
 use Rattle.qs_tool.specs.declared.status.Status.TheVariants.{Success, FaultShown, BadUsage, Failed}
-use Rattle.qs_tool.specs.Runs.{missing_line}
+use Rattle.qs_tool.specs.Runs.{Shows, missing_line}
 use Rattle.qs_tool.specs.Carrying.{Carried, StepsBy, CarryStep, CarryOf, HasCarried, ShowsWorld, AnswersCarried, wire_line}
 
 -- a delivery in the place of another
@@ -82,7 +81,7 @@ carried_all events i p all before = subst (λ es. HasCarried es p) (take_all i e
 
 -- a report of the world was written
 pub shown_world : {E : Type 0} (result : Result Status E) (p : Played) (report : Report) (failures strangers : ℕ) (old new : Option (List ℕ)) → IsReportOf p report →
-    IfOk result (λ status. (status ≡ Success) × Appends old new (play_text report ++ wire_line failures strangers)) → IfOk result (λ status. ShowsWorld status p failures strangers old new)
+    IfOk result (Shows (play_text report ++ wire_line failures strangers) Success old new) → IfOk result (λ status. ShowsWorld status p failures strangers old new)
 shown_world (Ok status) p report failures strangers old new is (same, text) = subst (λ s. ShowsWorld s p failures strangers old new) (sym same) (report, is, text)
 shown_world (Err error) p report failures strangers old new is done = tt
 
@@ -97,6 +96,6 @@ answered_world (Err error) events p before after failures strangers old new carr
 
 -- a packet that wasn't made was named
 pub answered_missing : {E : Type 0} (result : Result Status E) (events : List Event) (p : Played) (k before after : ℕ) (old new : Option (List ℕ)) →
-    CarryOf {X = ℕ} events (Err (faults.NoSuchPacket k)) p → IfOk result (λ status. (status ≡ FaultShown) × Appends old new (missing_line k)) → IfOk result (λ status. AnswersCarried status events before after old new)
+    CarryOf {X = ℕ} events (Err (faults.NoSuchPacket k)) p → IfOk result (Shows (missing_line k) FaultShown old new) → IfOk result (λ status. AnswersCarried status events before after old new)
 answered_missing (Ok status) events p k before after old new stops (same, text) = subst (λ s. AnswersCarried s events before after old new) (sym same) (k, p, stops, text)
 answered_missing (Err error) events p k before after old new stops done = tt

@@ -48,6 +48,10 @@ missing_line event = codes "fault: no such packet at event " ++ decimal event ++
 abbrev pub script_fault_line : ScriptFault → List ℕ
 script_fault_line fault = codes "fault: line " ++ decimal fault.line ++ codes " reason " ++ decimal (reason_number fault.reason) ++ codes "\n"
 
+-- the text was written, and the answer is the status that goes with it
+abbrev pub Shows : List ℕ → Status → Option (List ℕ) → Option (List ℕ) → Status → Type 0
+Shows text status old new answer = (answer ≡ status) × Appends old new text
+
 -- The text of a report of the events that were played was written, or the line that names a packet that wasn't made; where memory or the
 -- writer failed nothing is said.
 abbrev pub AnswersEvents : Status → Settings → List Event → Option (List ℕ) → Option (List ℕ) → Type 0

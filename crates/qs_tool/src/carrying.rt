@@ -1,20 +1,19 @@
 //! Plays events and scripts over a wire that may fail.
 
 ghost use Rattle.std.specs.Prelude.{◌≡◌, ◌≤◌, ◌++◌, [], true, length, drop, Some, IfOk, OnOk, IfSome};
-ghost use Rattle.std.specs.Io.KnownBytes.{Appends};
 ghost use Rattle.std.specs.List.{list_all};
 ghost use Rattle.std.specs.String.{string_bytes};
 ghost use Rattle.qs_world.specs.Events.{fits, act_fits};
 ghost use Rattle.qs_world.specs.Logs.{payload};
 ghost use Rattle.qs_world.specs.PlayText.{play_text};
 ghost use Rattle.qs_world.specs.declared.event.Act.TheVariants.{Lose, Deliver};
-ghost use Rattle.qs_tool.specs.Runs.{missing_line};
-ghost use Rattle.qs_tool.specs.declared.status.Status.TheVariants.{Success, FaultShown};
+ghost use Rattle.qs_tool.specs.Runs.{Shows};
+ghost use Rattle.qs_tool.specs.declared.status.Status.TheVariants.{Success};
 ghost use Rattle.qs_tool.specs.Carrying.{StepsBy, CarryStep, CarryOf, HasCarried, ShowsWorld, AnswersCarried, AnswersUdp, wire_line};
 
 use crate::event_copy::copy_event;
 use crate::play_text::play_text;
-use crate::scripts::show_script_fault;
+use crate::scripts::{show, show_missing, show_script_fault};
 use crate::status::Status;
 use crate::wire::{Wire, other_side};
 use qs_world::{Act, Event, PlayFault, Report, Side, World, parse_script, standard_settings};
@@ -97,15 +96,6 @@ fn carry_and_show<Wi: Wire, W: io::Write>(
     }
 }
 
-/// Writes the line that names an event whose packet wasn't made.
-fn show_missing<W: io::Write>(alloc: Global, event: usize, out: &mut W) -> io::Result<Status>
-    ensures { IfOk result (λ status. (status ≡ FaultShown) × Appends (W.contents out.old) (W.contents out.new) (missing_line event)) }
-{
-    let text = format!(in alloc; "fault: no such packet at event {event}\n")?;
-    out.write_all(text.as_bytes())?;
-    Ok(Status::FaultShown)
-}
-
 /// Writes the report of a world, and the line of the wire.
 fn show_world<W: io::Write>(
     alloc: Global,
@@ -130,11 +120,10 @@ fn show_report<W: io::Write>(
     strangers: u64,
     out: &mut W,
 ) -> io::Result<Status>
-    ensures { IfOk result (λ status. (status ≡ Success) × Appends (W.contents out.old) (W.contents out.new) (play_text report.now ++ wire_line failures strangers)) }
+    ensures { IfOk result (Shows (play_text report.now ++ wire_line failures strangers) Success (W.contents out.old) (W.contents out.new)) }
 {
     let text = carried_text(alloc, report, failures, strangers)?;
-    out.write_all(text.as_bytes())?;
-    Ok(Status::Success)
+    show(&text, Status::Success, out)
 }
 
 /// The text of a report, and the line of the wire.

@@ -5,12 +5,14 @@ ghost use Rattle.std.specs.List.{list_all};
 ghost use Rattle.std.specs.String.{string_bytes};
 ghost use Rattle.qs_conn.specs.Settings.{are_in_range};
 ghost use Rattle.qs_world.specs.Events.{fits};
-ghost use Rattle.qs_tool.specs.Runs.{AnswersEvents, AnswersPlay, AnswersRandom, ShowsScriptFault, script_fault_line};
+ghost use Rattle.qs_world.specs.PlayText.{play_text};
+ghost use Rattle.qs_tool.specs.declared.status.Status.TheVariants.{Success, FaultShown};
+ghost use Rattle.qs_tool.specs.Runs.{AnswersEvents, AnswersPlay, AnswersRandom, Shows, ShowsScriptFault, missing_line, script_fault_line};
 
 use crate::play_text::{play_text, script_text};
 use crate::status::Status;
 use qs_world::{
-    Event, PlayFault, Reason, ScriptFault, Settings, parse_script, play, random_script,
+    Event, PlayFault, Reason, Report, ScriptFault, Settings, parse_script, play, random_script,
     standard_settings,
 };
 use std::alloc::{AllocError, Global};
@@ -44,19 +46,34 @@ fn show_events<W: io::Write>(
     ensures { IfOk result (λ status. AnswersEvents status settings events.now (W.contents out.old) (W.contents out.new)) }
 {
     match play(alloc, settings, settings, events) {
-        Ok(report) => {
-            let text = play_text(alloc, &report)?;
-            out.write_all(text.as_bytes())?;
-            Ok(Status::Success)
-        }
-        Err(PlayFault::NoSuchPacket { event }) => {
-            let text = format!(in alloc; "fault: no such packet at event {event}\n")?;
-            out.write_all(text.as_bytes())?;
-            Ok(Status::FaultShown)
-        }
+        Ok(report) => show_report(alloc, &report, out),
+        Err(PlayFault::NoSuchPacket { event }) => show_missing(alloc, event, out),
         Err(PlayFault::NoMemory) => Ok(Status::Failed),
         Err(PlayFault::Setup(_)) => unreachable!(),
     }
+}
+
+fn show_report<W: io::Write>(alloc: Global, report: &Report, out: &mut W) -> io::Result<Status>
+    ensures { IfOk result (Shows (play_text report.now) Success (W.contents out.old) (W.contents out.new)) }
+{
+    let text = play_text(alloc, report)?;
+    show(&text, Status::Success, out)
+}
+
+/// Writes the line that names an event whose packet wasn't made.
+pub fn show_missing<W: io::Write>(alloc: Global, event: usize, out: &mut W) -> io::Result<Status>
+    ensures { IfOk result (Shows (missing_line event) FaultShown (W.contents out.old) (W.contents out.new)) }
+{
+    let text = format!(in alloc; "fault: no such packet at event {event}\n")?;
+    show(&text, Status::FaultShown, out)
+}
+
+/// Writes a text, and answers the status that goes with it.
+pub fn show<W: io::Write>(text: &String, status: Status, out: &mut W) -> io::Result<Status>
+    ensures { IfOk result (Shows (string_bytes text.now) status (W.contents out.old) (W.contents out.new)) }
+{
+    out.write_all(text.as_bytes())?;
+    Ok(status)
 }
 
 /// Plays a script between two ends of the standard settings, and writes the report as [`run_events`] does. The fault of a script that
@@ -82,8 +99,7 @@ pub fn show_script_fault<W: io::Write>(
         Reason::NoMemory => Ok(Status::Failed),
         _ => {
             let text = script_fault_text(alloc, fault)?;
-            out.write_all(text.as_bytes())?;
-            Ok(Status::FaultShown)
+            show(&text, Status::FaultShown, out)
         }
     }
 }
