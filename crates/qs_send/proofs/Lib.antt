@@ -15,3 +15,5 @@ pub mod PieceEquality
 pub mod Outstanding
 pub mod Carrying
 pub mod Passing
+pub mod LostLists
+pub mod LostOrders

@@ -7,3 +7,5 @@ pub mod Laws
 pub mod PieceCodes
 pub mod Records
 pub mod AckPass
+pub mod ByNumber
+pub mod LostRecords

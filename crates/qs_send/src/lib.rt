@@ -2,18 +2,22 @@
 #![tactic(auto)]
 
 mod ack_pass;
+mod by_number;
 mod carried;
 mod edits;
 mod fit;
 mod half;
 mod kept;
 pub mod laws;
+mod lost_record;
+mod lost_records;
 mod parts;
 mod piece;
 mod records;
 
 pub use ack_pass::AckPass;
 pub use half::SendHalf;
+pub use lost_records::LostRecords;
 pub use parts::{Chunk, Reset, SendFault, SendState};
 pub use piece::{Item, Piece};
 pub use records::Records;
