@@ -17,3 +17,4 @@ pub mod Carrying
 pub mod Passing
 pub mod LostLists
 pub mod LostOrders
+pub mod LostPassing

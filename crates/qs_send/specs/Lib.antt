@@ -9,3 +9,4 @@ pub mod Records
 pub mod AckPass
 pub mod ByNumber
 pub mod LostRecords
+pub mod LostPass

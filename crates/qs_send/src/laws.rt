@@ -1,6 +1,7 @@
 //! Laws on halves, chunks and passes over an ACK, each the contract of a function.
 ghost use Rattle.qs_send.specs.Laws.{FrameLenIsCanonical, NewIsLawful, CallsKeepLawful, KeptFromUnacked, WholeIsAllAcked, EachOffsetIsInOnePart, InFlightWasSent, CallsMoveParts, DeclaredSizeIsSentEnd, DeclaredSizeStays, OnlyNewBytesSpend, NextChunkIsUnique, DueChunkHasBytes, CutChunkIsLast, SendableHasChunk, SendableEndHasChunk, HeldByRoomOrLimits};
 ghost use Rattle.qs_send.specs.AckPass.{PassGivesAllNamed};
+ghost use Rattle.qs_send.specs.LostPass.{LostPassGivesAllNamed};
 
 /// The length that a chunk's room counts is that of the canonical text of its STREAM frame.
 pub fn frame_len_is_canonical()
@@ -75,4 +76,10 @@ pub fn held_by_room_or_limits()
 /// slots and ranges (RFC 9000, section 13.3).
 pub fn pass_gives_all_named()
     ensures { PassGivesAllNamed }
+{}
+
+/// A pass over an ACK gives the lost numbers that it names, each once and the highest first, in no more turns than there are records
+/// and ranges (RFC 9000, section 13.2.1).
+pub fn lost_pass_gives_all_named()
+    ensures { LostPassGivesAllNamed }
 {}

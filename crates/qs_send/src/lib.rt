@@ -9,6 +9,7 @@ mod fit;
 mod half;
 mod kept;
 pub mod laws;
+mod lost_pass;
 mod lost_record;
 mod lost_records;
 mod parts;
@@ -17,6 +18,7 @@ mod records;
 
 pub use ack_pass::AckPass;
 pub use half::SendHalf;
+pub use lost_pass::LostPass;
 pub use lost_records::LostRecords;
 pub use parts::{Chunk, Reset, SendFault, SendState};
 pub use piece::{Item, Piece};

@@ -1,0 +1,14 @@
+use Rattle.std.proofs.Common.{◌≤◌, ◌+◌, length}
+use Rattle.qs_send.specs.AckPass.{Falls, HasPassed}
+use Rattle.qs_send.specs.LostPass.{lost_ahead}
+use Rattle.qs_send.proofs.lost_pass.LostPass.next.Given as goal
+
+abbrev pub invariant-loop-number : goal.invariant-loop-number
+invariant-loop-number l = record {
+  passed : Falls l.fn.self → HasPassed l.records.pieces l.fn.self l.self;
+  below : l.self.below ≤ l.fn.self.below;
+  turns : l.self.turns + lost_ahead l.self l.records ≤ l.fn.self.turns + lost_ahead l.fn.self l.records;
+}
+
+abbrev pub decreases-loop-number : goal.decreases-loop-number
+decreases-loop-number l = length l.self.unread
