@@ -56,10 +56,8 @@ tied_same m m' n s same t =
       id = t.id;
       sent = λ c out. t.sent c (same.from c out);
       not_due = λ q f. t.not_due q (f.0, same.from f.0 f.1, f.2, f.3);
-      not_acked = λ q f. t.not_acked q (f.0, same.from f.0 f.1, f.2, f.3);
       flies = λ q clear below un not. (let f = t.flies q clear below un not in (f.0, same.to f.0 f.1, f.2, f.3));
       end_not_due = λ c out fin. t.end_not_due c (same.from c out) fin;
-      end_not_acked = λ c out fin. t.end_not_acked c (same.from c out) fin;
       end_flies = λ clear fin un not. (let f = t.end_flies clear fin un not in (f.0, same.to f.0 f.1, f.2));
     }
 
@@ -86,10 +84,8 @@ tied_new m n limit buffer none =
       id = refl;
       sent = λ c out. absurd (none c out);
       not_due = λ q f. absurd (none f.0 f.1);
-      not_acked = λ q f. absurd (none f.0 f.1);
       flies = λ q clear below un not. absurd (omega (arith, below));
       end_not_due = λ c out fin. absurd (none c out);
-      end_not_acked = λ c out fin. absurd (none c out);
       end_flies = λ clear fin un not. absurd (both_ways true (sym fin) refl);
     }
 
@@ -100,10 +96,8 @@ module _ (m : Records) (n : ℕ) (s : Sending) (t : IsTied m n s) where
         id = t.id;
         sent = λ c out. (let w = t.sent c out in record { offsets = w.offsets; end = w.end });
         not_due = t.not_due;
-        not_acked = t.not_acked;
         flies = t.flies;
         end_not_due = t.end_not_due;
-        end_not_acked = t.end_not_acked;
         end_flies = t.end_flies;
       }
 
@@ -113,10 +107,8 @@ module _ (m : Records) (n : ℕ) (s : Sending) (t : IsTied m n s) where
         id = t.id;
         sent = λ c out. (let w = t.sent c out in record { offsets = w.offsets; end = w.end });
         not_due = t.not_due;
-        not_acked = t.not_acked;
         flies = t.flies;
         end_not_due = t.end_not_due;
-        end_not_acked = t.end_not_acked;
         end_flies = t.end_flies;
       }
 
@@ -126,10 +118,8 @@ module _ (m : Records) (n : ℕ) (s : Sending) (t : IsTied m n s) where
         id = t.id;
         sent = λ c out. (let w = t.sent c out in record { offsets = w.offsets; end = w.end });
         not_due = t.not_due;
-        not_acked = t.not_acked;
         flies = t.flies;
         end_not_due = t.end_not_due;
-        end_not_acked = t.end_not_acked;
         end_flies = t.end_flies;
       }
 
@@ -142,12 +132,10 @@ module _ (m : Records) (n : ℕ) (s : Sending) (t : IsTied m n s) where
             (let w = t.sent f.0 f.1 in
             let below : q < s.lane.written = omega (arith, w.offsets, law.order.sent_written, f.3) in
             grind (arith, nat_tests, below, t.not_due q f, contains-with_range s.due.offsets s.lane.written (s.lane.written + length bytes) q));
-        not_acked = t.not_acked;
         flies = λ q clear below un not.
             t.flies q clear (grind (arith, nat_tests, below, not, contains-with_range s.due.offsets s.lane.written (s.lane.written + length bytes) q)) un
             (grind (arith, nat_tests, not, contains-with_range s.due.offsets s.lane.written (s.lane.written + length bytes) q));
         end_not_due = t.end_not_due;
-        end_not_acked = t.end_not_acked;
         end_flies = t.end_flies;
       }
 
@@ -157,10 +145,8 @@ module _ (m : Records) (n : ℕ) (s : Sending) (t : IsTied m n s) where
         id = t.id;
         sent = λ c out. (let w = t.sent c out in record { offsets = w.offsets; end = w.end });
         not_due = t.not_due;
-        not_acked = t.not_acked;
         flies = t.flies;
         end_not_due = λ c out fin. absurd (both_ways s.lane.finished clear (law.ends.sent_asked ((t.sent c out).end fin)));
-        end_not_acked = t.end_not_acked;
         end_flies = λ un fin ack not. absurd (both_ways true not refl);
       }
 
@@ -187,10 +173,8 @@ module _ (m : Records) (n : ℕ) (s : Sending) (t : IsTied m n s) where
         id = t.id;
         sent = λ c out. (let w = t.sent c out in record { offsets = w.offsets; end = w.end });
         not_due = λ q f. set.contains-empty nat_cmp q;
-        not_acked = t.not_acked;
         flies = λ q clear below un not. absurd (none_some _ (sym clear));
         end_not_due = λ c out fin. refl;
-        end_not_acked = t.end_not_acked;
         end_flies = λ clear fin un not. absurd (none_some _ (sym clear));
       }
 
@@ -214,35 +198,17 @@ tied_sent m k n s c t law due =
             | inl before ↦ grind (arith, nat_tests, t.not_due q (d, before, low, high), contains-without_range s.due.offsets c.offset (c.offset + c.len) q)
             | inr e ↦ (let same = same_chunk n n d c e in taken_out q (subst (λ (x : Chunk). x.offset ≤ q) same low) (subst (λ (x : Chunk). q < x.offset + x.len) same high))
           ]);
-      not_acked = λ q f.
-          (let (d, out, low, high) = f in
-          elim (carried_is m k (Data n c) (Data n d) out) [
-            | inl before ↦ t.not_acked q (d, before, low, high)
-            | inr e ↦ (let same = same_chunk n n d c e in was_due q (subst (λ (x : Chunk). x.offset ≤ q) same low) (subst (λ (x : Chunk). q < x.offset + x.len) same high))
-          ]);
       flies = λ q clear below un not. flies_by q clear below un not (set.contains s.due.offsets q) refl;
       end_not_due = λ d out fin.
           elim (carried_is m k (Data n c) (Data n d) out) [
             | inl before ↦ ap (λ b. b && not c.fin) (t.end_not_due d before fin)
             | inr e ↦ (let same = same_chunk n n d c e in let is : c.fin ≡ true = ap (λ (x : Chunk). x.fin) (sym same) ∙ fin in grind (arith, is))
           ];
-      end_not_acked = λ d out fin.
-          elim (carried_is m k (Data n c) (Data n d) out) [
-            | inl before ↦ t.end_not_acked d before fin
-            | inr e ↦ (let same = same_chunk n n d c e in let is : c.fin ≡ true = ap (λ (x : Chunk). x.fin) (sym same) ∙ fin in law.ends.due_open (grind (arith, is, due.fin)))
-          ];
       end_flies = λ clear fin un not. end_by clear fin un not c.fin refl;
     }
   where
     taken_out : (q : ℕ) → c.offset ≤ q → q < c.offset + c.len → set.contains (after_sent s c).due.offsets q ≡ false
     taken_out q low high = grind (arith, nat_tests, low, high, contains-without_range s.due.offsets c.offset (c.offset + c.len) q)
-
-    was_due : (q : ℕ) → c.offset ≤ q → q < c.offset + c.len → set.contains s.lane.acked q ≡ false
-    was_due q low high = disjoint_at (set.contains s.lane.acked q) refl
-      where
-        disjoint_at : (b : Bool) → set.contains s.lane.acked q ≡ b → set.contains s.lane.acked q ≡ false
-        disjoint_at false is = is
-        disjoint_at true is = absurd (both_ways (set.contains s.lane.acked q) (law.parts.apart q (due.due q low high)) is)
 
     flies_by : (q : ℕ) → s.lane.was_reset ≡ None → q < s.lane.written → set.contains s.lane.acked q ≡ false → set.contains (after_sent s c).due.offsets q ≡ false → (b : Bool) → set.contains s.due.offsets q ≡ b → CarriesOffset (with_piece m k (Data n c)) n q
     flies_by q clear below un not false is = (let f = t.flies q clear below un is in (f.0, carried_more m k (Data n c) (Data n f.0) f.1, f.2, f.3))
@@ -275,13 +241,12 @@ other_end c d apart fin = by_fin c.fin refl
 
 -- A chunk is acknowledged
 
-pub tied_acked : (m m' : Records) (k n : ℕ) (s : Sending) (c : Chunk) → IsShorter m k (Data n c) m' → ((d : Chunk) → IsCarried m' (Data n d) → AreApart c d) → IsTied m n s → IsTied m' n (after_acked s c)
-tied_acked m m' k n s c h apart t =
+pub tied_acked : (m m' : Records) (k n : ℕ) (s : Sending) (c : Chunk) → IsShorter m k (Data n c) m' → IsTied m n s → IsTied m' n (after_acked s c)
+tied_acked m m' k n s c h t =
     record {
       id = t.id;
       sent = λ d out. (let w = t.sent d (back d out) in record { offsets = w.offsets; end = w.end });
       not_due = λ q f. grind (arith, nat_tests, t.not_due q (f.0, back f.0 f.1, f.2, f.3), contains-without_range s.due.offsets c.offset (c.offset + c.len) q);
-      not_acked = λ q f. grind (arith, t.not_acked q (f.0, back f.0 f.1, f.2, f.3), outside q f.0 f.1 f.2 f.3, contains-with_range s.lane.acked c.offset (c.offset + c.len) q);
       flies = λ q clear below un not.
           (let out : is_within c.offset (c.offset + c.len) q ≡ false = grind (arith, un, contains-with_range s.lane.acked c.offset (c.offset + c.len) q) in
           let f = t.flies q clear below (grind (arith, un, contains-with_range s.lane.acked c.offset (c.offset + c.len) q)) (grind (arith, out, not, contains-without_range s.due.offsets c.offset (c.offset + c.len) q)) in
@@ -290,7 +255,6 @@ tied_acked m m' k n s c h apart t =
             | inr still ↦ (f.0, still, f.2, f.3)
           ]);
       end_not_due = λ d out fin. ap (λ b. b && not c.fin) (t.end_not_due d (back d out) fin);
-      end_not_acked = λ d out fin. (let none = not_end d out fin in grind (arith, none, t.end_not_acked d (back d out) fin));
       end_flies = λ clear fin un not.
           (let none : c.fin ≡ false = grind (arith, un) in
           let f = t.end_flies clear fin (grind (arith, un)) (grind (arith, none, not)) in
@@ -302,12 +266,6 @@ tied_acked m m' k n s c h apart t =
   where
     back : (d : Chunk) → IsCarried m' (Data n d) → IsCarried m (Data n d)
     back d out = carried_before m m' k (Data n c) h (Data n d) out
-
-    outside : (q : ℕ) (d : Chunk) → IsCarried m' (Data n d) → d.offset ≤ q → q < d.offset + d.len → is_within c.offset (c.offset + c.len) q ≡ false
-    outside q d out low high = apart_at c d (apart d out) q low high
-
-    not_end : (d : Chunk) → IsCarried m' (Data n d) → d.fin ≡ true → c.fin ≡ false
-    not_end d out fin = other_end c d (apart d out) fin
 
 -- A chunk is lost
 
@@ -329,7 +287,6 @@ tied_lost m m' k n s c h apart t = by_reset s.lane.was_reset refl
           id = t.id;
           sent = λ d out. t.sent d (back d out);
           not_due = λ q f. grind (arith, again q, t.not_due q (f.0, back f.0 f.1, f.2, f.3), apart_from q f.0 f.1 f.2 f.3);
-          not_acked = λ q f. t.not_acked q (f.0, back f.0 f.1, f.2, f.3);
           flies = λ q clear below un not.
               (let f = t.flies q clear below un (grind (arith, again q, not)) in
               elim (carried_still m m' k (Data n c) h (Data n f.0) f.1) [
@@ -337,7 +294,6 @@ tied_lost m m' k n s c h apart t = by_reset s.lane.was_reset refl
                 | inr still ↦ (f.0, still, f.2, f.3)
               ]);
           end_not_due = λ d out fin. (let none = not_end d out fin in grind (arith, none, t.end_not_due d (back d out) fin));
-          end_not_acked = λ d out fin. t.end_not_acked d (back d out) fin;
           end_flies = λ clear fin un not.
               (let f = t.end_flies clear fin un (grind (arith, not)) in
               elim (carried_still m m' k (Data n c) h (Data n f.0) f.1) [
@@ -355,10 +311,8 @@ tied_lost m m' k n s c h apart t = by_reset s.lane.was_reset refl
           id = t.id;
           sent = λ d out. t.sent d (back d out);
           not_due = λ q f. t.not_due q (f.0, back f.0 f.1, f.2, f.3);
-          not_acked = λ q f. t.not_acked q (f.0, back f.0 f.1, f.2, f.3);
           flies = λ q clear below un not. absurd (none_some r (sym clear ∙ is));
           end_not_due = λ d out fin. t.end_not_due d (back d out) fin;
-          end_not_acked = λ d out fin. t.end_not_acked d (back d out) fin;
           end_flies = λ clear fin un not. absurd (none_some r (sym clear ∙ is));
         }
 
@@ -379,15 +333,16 @@ tied_flight m n s law t clear q = (to, from)
       contains-numbers 0 s.lane.written q,
     )
 
-    to : IsTrue (set.contains (in_flight s) q) → CarriesOffset m n q
+    to : IsTrue (set.contains (in_flight s) q) → CarriesOffset m n q × (set.contains s.lane.acked q ≡ false)
     to is = (
         let there : set.contains (in_flight s) q ≡ true = is in
-        t.flies q clear (grind (arith, nat_tests, in_parts, there)) (grind (arith, in_parts, there)) (grind (arith, in_parts, there))
+        let un : set.contains s.lane.acked q ≡ false = grind (arith, in_parts, there) in
+        (t.flies q clear (grind (arith, nat_tests, in_parts, there)) un (grind (arith, in_parts, there)), un)
         )
 
-    from : CarriesOffset m n q → IsTrue (set.contains (in_flight s) q)
-    from f = (
+    from : CarriesOffset m n q × (set.contains s.lane.acked q ≡ false) → IsTrue (set.contains (in_flight s) q)
+    from (f, un) = (
         let w = t.sent f.0 f.1 in
         let below : q < s.lane.written = omega (arith, w.offsets, law.order.sent_written, f.3) in
-        grind (arith, nat_tests, in_parts, below, t.not_acked q f, t.not_due q f)
+        grind (arith, nat_tests, in_parts, below, un, t.not_due q f)
         )

@@ -170,7 +170,7 @@ ties_item_put t m k i h of new =
 
 pub ties_acked : (t : Tables Sending) (m m' : Records) (k n : ℕ) (s : Sending) (c : Chunk) → AreTied t m → IsShorter m k (Data n c) m' → lookup t n ≡ Some s → AreTied (update t n (after_acked s c)) m'
 ties_acked t m m' k n s c h short there =
-    ties_moved t m m' n s (after_acked s c) h there (tied_acked m m' k n s c short (λ d out. gone_apart m m' k (Data n c) short h.apart (Data n d) out refl) (h.lanes n s there))
+    ties_moved t m m' n s (after_acked s c) h there (tied_acked m m' k n s c short (h.lanes n s there))
     (λ j ne. other_gone m m' k (Data n c) j short (λ d e. ne (same_stream j n d c e)))
     (apart_shorter m m' k (Data n c) short h.apart)
     (λ p out. h.of_open p (carried_before m m' k (Data n c) short p out))

@@ -107,21 +107,19 @@ item_put_out item o = noted_out (Told item) (with_sends (blocked_noted item o.se
 abbrev pub CarriesOffset : Records → ℕ → ℕ → Type 0
 CarriesOffset m n q = (c : Chunk) × IsCarried m (Data n c) × (c.offset ≤ q) × (q < c.offset + c.len)
 
--- Of a half: outstanding chunks were sent, and are neither due nor acknowledged; what is written and neither acknowledged nor due is
--- outstanding; and so of the end.
+-- Of a half: outstanding chunks were sent, and aren't due; what is written and neither acknowledged nor due is outstanding; and so of
+-- the end. What is outstanding may be acknowledged: an earlier packet with it was, late.
 pub record IsTied (m : Records) (n : ℕ) (s : Sending) : Type 0 where
   pub id : s.lane.id ≡ n
   pub sent : (c : Chunk) → IsCarried m (Data n c) → WasSent s.lane c
   pub not_due : (q : ℕ) → CarriesOffset m n q → set.contains s.due.offsets q ≡ false
-  pub not_acked : (q : ℕ) → CarriesOffset m n q → set.contains s.lane.acked q ≡ false
   pub flies : (q : ℕ) → s.lane.was_reset ≡ None → q < s.lane.written → set.contains s.lane.acked q ≡ false → set.contains s.due.offsets q ≡ false → CarriesOffset m n q
   pub end_not_due : (c : Chunk) → IsCarried m (Data n c) → c.fin ≡ true → s.due.fin ≡ false
-  pub end_not_acked : (c : Chunk) → IsCarried m (Data n c) → c.fin ≡ true → s.lane.fin_acked ≡ false
   pub end_flies : s.lane.was_reset ≡ None → s.lane.finished ≡ true → s.lane.fin_acked ≡ false → s.due.fin ≡ false → (c : Chunk) × IsCarried m (Data n c) × (c.fin ≡ true)
 
--- the offsets in flight of a half that wasn't reset are those of the outstanding pieces (RFC 9000, section 13.3)
+-- the offsets in flight of a half that wasn't reset are those of the outstanding pieces that aren't acknowledged (RFC 9000, section 13.3)
 abbrev pub FliesAsCarried : Records → ℕ → Sending → Type 0
-FliesAsCarried m n s = s.lane.was_reset ≡ None → (q : ℕ) → IsTrue (set.contains (in_flight s) q) ↔ CarriesOffset m n q
+FliesAsCarried m n s = s.lane.was_reset ≡ None → (q : ℕ) → IsTrue (set.contains (in_flight s) q) ↔ (CarriesOffset m n q × (set.contains s.lane.acked q ≡ false))
 
 -- the half of a stream: its lane, and what of it is due
 pub record HasSending (o : Outgoing) (n : ℕ) (s : Sending) : Type 0 where
