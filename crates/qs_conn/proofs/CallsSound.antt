@@ -36,7 +36,7 @@ use Rattle.qs_conn.specs.FrameStep.{frame_taken, named}
 use Rattle.qs_conn.specs.Lawful.{Fills, frame_put, item_put}
 use Rattle.qs_conn.specs.Owner.{OpenStep, AcceptStep, ReadBy, recv_refusal, with_wanted, refuse_if, IsBlocked, IsOpened, GivesNone, GivesBidi, GivesUni, AcceptOpen, peer_kind, send_refusal}
 use Rattle.qs_conn.specs.Receiving.{AtEnd, RunsOut, Stops, GoesOn, Takes, ReceiveBy, TakesPayload, OpenReceive}
-use Rattle.qs_conn.specs.Making.{MakeAt, make_refusal, LoseStep, IsMade, shortened, lose_refusal}
+use Rattle.qs_conn.specs.Making.{MakeAt, make_refusal, LoseStep, IsMade, first_lost, losses, lose_refusal}
 use Rattle.qs_conn.specs.EndStep.{Call, Answer, EndStep, Open, Accept, Write, Finish, Reset, Stop, ReadUpTo as ReadCall, Receive, Make, Lose, ClosingPayload, Stored, Granted, Spent, Report}
 use Rattle.qs_conn.specs.Standing.{IsSound}
 use Rattle.qs_conn.proofs.Choices.{by_refusal, by_memory, by_test}
@@ -235,16 +235,17 @@ sound_make None old room (Err making.NoMemory) text new h step = becomes old new
 sound_make None old room (Err making.Closed) text new h step = absurd step
 sound_make None old room (Err making.Exhausted) text new h step = absurd step
 
-sound_shortened : (e : End) (k : ℕ) (ps : List Piece) → IsSound e → IsSound (shortened e k ps)
-sound_shortened e k [] h = h
-sound_shortened e k (p ∷ ps) h = h
+sound_losses : (k : ℕ) (ps : List Piece) (e : End) → IsSound e → IsSound (losses k ps e)
+unfolding losses
+sound_losses k [] e h = h
+sound_losses k (p ∷ ps) e h = sound_losses k ps (first_lost k p e) h
 
 sound_lose : (old : End) (k : ℕ) (answer : Answer (Lose k)) (new : End) → IsSound old → LoseStep old k answer new → IsSound new
 sound_lose old k answer new h step =
     by_refusal (IsSound new) (lose_refusal old k) old answer new _ step (λ same. becomes old new same h) (λ (ps, is, lost).
     elim lost [
-      | inl done ↦ becomes _ new done.1 (sound_shortened old k [] h)
-      | inr part ↦ (let (moved, few, none, after) = part in becomes _ new after (sound_shortened old k (drop moved ps) h))
+      | inl done ↦ becomes _ new done.1 (sound_losses k ps old h)
+      | inr part ↦ (let (moved, few, none, after) = part in becomes _ new after (sound_losses k (take moved ps) old h))
     ])
 
 -- Every call

@@ -17,8 +17,8 @@ use Rattle.qs_conn.specs.declared.settings.PeerLimits.{PeerLimits}
 use Rattle.qs_conn.specs.Settings.{are_spellable}
 use Rattle.qs_conn.specs.Tables.{Tables, no_streams, lookup, updated, open_to, total}
 use Rattle.qs_conn.specs.Recording.{has_too_many, lowest_end}
-use Rattle.qs_conn.specs.Outgoing.{Outgoing, no_packets, with_sends, on_lane, sent_sum, first_acked_out}
-use Rattle.qs_conn.specs.Runs.{shortened_out, LosesBy, Loses, acks_out, AcksBy, AcksRanges, named_pieces}
+use Rattle.qs_conn.specs.Outgoing.{Outgoing, no_packets, with_sends, on_lane, sent_sum, first_acked_out, first_lost_out, pieces_in}
+use Rattle.qs_conn.specs.Runs.{losses_out, LosesBy, Loses, acks_out, AcksBy, AcksRanges, named_pieces}
 use Rattle.qs_conn.specs.Filling.{IsFunded}
 use Rattle.qs_conn.proofs.TableLaws.{total_update}
 use Rattle.qs_conn.proofs.RunLaws.{lowest_run, lowest_end_is}
@@ -109,21 +109,18 @@ funded_acked largest values ranges o new result k done due small above is acked 
     go (Ok all) e = ap (λ (x : Outgoing). sent_sum x.sends) e ∙ sum_acks (named_pieces o.outstanding (ack_ranges_of largest values)) o
     go (Err refused) e = ap (λ (x : Outgoing). sent_sum x.sends) e.1 ∙ sum_acks (take e.0 (named_pieces o.outstanding (ack_ranges_of largest values))) o
 
-sends_shortened : (k : ℕ) (o : Outgoing) (ps : List Piece) → (shortened_out k o ps).sends ≡ o.sends
-sends_shortened k o [] = refl
-sends_shortened k o (p ∷ ps) = refl
+sends_losses : (k : ℕ) (ps : List Piece) (o : Outgoing) → (losses_out k ps o).sends ≡ o.sends
+unfolding losses_out
+sends_losses k [] o = refl
+sends_losses k (p ∷ ps) o = sends_losses k ps (first_lost_out k p o)
 
 pub funded_lost : (j : ℕ) (o new : Outgoing) (result : Result (Unit {0}) NoMemory) (k : ℕ) (done : NumberSet) (due : Bool) → Loses j o result new → IsFunded o.sends k done due → IsFunded new.sends k done due
 unfolding Loses
-funded_lost j o new result k done due lost h = subst (λ (t : Tables SendLane). IsFunded t k done due) (sym (go (fmap.get o.outstanding j) result lost)) h
+funded_lost j o new result k done due lost h = subst (λ (t : Tables SendLane). IsFunded t k done due) (sym (go result lost)) h
   where
-    go : (x : Option (List Piece)) (r : Result (Unit {0}) NoMemory) → LosesBy j o x r new → new.sends ≡ o.sends
-    go None (Ok all) e = ap (λ (x : Outgoing). x.sends) e
-    go None (Err refused) e = absurd e
-    go (Some []) (Ok all) e = ap (λ (x : Outgoing). x.sends) e
-    go (Some []) (Err refused) e = absurd e
-    go (Some (p ∷ ps)) (Ok all) e = ap (λ (x : Outgoing). x.sends) e
-    go (Some (p ∷ ps)) (Err refused) e = ap (λ (x : Outgoing). x.sends) e.2 ∙ sends_shortened j o (drop e.0 (p ∷ ps))
+    go : (r : Result (Unit {0}) NoMemory) → LosesBy j (pieces_in o.outstanding j) o r new → new.sends ≡ o.sends
+    go (Ok all) e = ap (λ (x : Outgoing). x.sends) e ∙ sends_losses j (pieces_in o.outstanding j) o
+    go (Err refused) e = ap (λ (x : Outgoing). x.sends) e.2 ∙ sends_losses j (take e.0 (pieces_in o.outstanding j)) o
 
 -- The peer's credit rises
 

@@ -42,7 +42,7 @@ abbrev pub terms_of : End → Terms
 terms_of v = record { role = v.role; settings = v.settings; granted = v.granted; known_data = v.known_data; known_bidi = v.known_bidi; known_uni = v.known_uni; wanted_bidi = v.wanted_bidi; wanted_uni = v.wanted_uni }
 
 abbrev pub outgoing_of : ℕ → End → Outgoing
-outgoing_of spare v = record { sends = v.sends; next = v.next; outstanding = v.outstanding; acked = v.acked; spare = spare }
+outgoing_of spare v = record { sends = v.sends; next = v.next; outstanding = v.outstanding; lost = v.lost; acked = v.acked; spare = spare }
 
 -- the call filled a packet
 module _ (v old : End) (same : v ≡ old) (t : Terms) (o o' : Outgoing) (spare room len : ℕ) (out : List ℕ) (idle : fmap.get v.outstanding v.next ≡ None) (t_is : t ≡ terms_of v) (o_is : o ≡ outgoing_of spare v)
@@ -66,7 +66,7 @@ module _ (v old : End) (same : v ≡ old) (t : Terms) (o o' : Outgoing) (spare r
   none_is enough none = packed_none room v (take len out) filled packed enough (ap (λ k. take k out) none)
 
   same_parts : filled ≡ v → with_outgoing o' v ≡ v
-  same_parts is = ap (λ (x : End). record v { sends = x.sends; next = x.next; outstanding = x.outstanding; acked = x.acked }) is
+  same_parts is = ap (λ (x : End). record v { sends = x.sends; next = x.next; outstanding = x.outstanding; lost = x.lost; acked = x.acked }) is
 
   -- it had nothing to send
   pub make_none : is_some v.closed ≡ false → v.next ≤ MAX_VARINT → 25 ≤ room → len ≡ 0 → MakeStep old room (Ok None) [] (with_outgoing o' v)

@@ -10,9 +10,9 @@ use Rattle.qs_send.specs.Lane.{SendLane, Sending, acked_lane, reset_acked_lane, 
 use Rattle.qs_send.specs.declared.parts.SendState.{SendState}
 use Rattle.qs_send.specs.declared.parts.SendState.TheVariants.{ResetSent, ResetRecvd}
 use Rattle.qs_conn.specs.Tables.{Tables, lookup, update, updated}
-use Rattle.qs_conn.specs.Ends.{Records, AckedItems}
+use Rattle.qs_conn.specs.Ends.{Records, AckedItems, LostPackets, lost_with}
 use Rattle.qs_conn.specs.FrameStep.{without_first}
-use Rattle.qs_conn.specs.Outgoing.{Outgoing, sent_sum, lanes_of, with_pending, AreBelow, AreTied, IsOutbox, IsSentPiece, IsOfReset, IsIdle, first_piece, first_acked_out, shorter, halves_acked, items_acked, halves_lost}
+use Rattle.qs_conn.specs.Outgoing.{Outgoing, sent_sum, lanes_of, with_pending, AreBelow, AreTied, IsOutbox, IsSentPiece, IsOfReset, IsIdle, first_piece, first_acked_out, first_lost_out, shorter, halves_acked, items_acked, halves_lost}
 use Rattle.qs_conn.proofs.TableLaws.{total_update}
 use Rattle.qs_conn.proofs.Carried.{none_some, some_is, IsShorter, shortened_is, first_carried, get_new}
 use Rattle.qs_conn.proofs.Tied.{tied_reset_acked}
@@ -160,10 +160,21 @@ lost_lanes (Data n c) t = go (lookup t n) refl
         update_lanes t n (after_lost s c) ∙ ap (update (lanes_of t) n) (lost_lane s c (is_some s.lane.was_reset)) ∙ update_itself (lanes_of t) n s.lane (lane_there t n s e)
 
 pub lost_value : (k : ℕ) (p : Piece) (e now : Outgoing) (t t' : Tables Sending) (m m' : Records) (ps : List Piece) → e ≡ now → e.sends ≡ lanes_of t → e.outstanding ≡ with_pending m e.next ps → ps ≡ []
-    → t' ≡ halves_lost p t → m' ≡ without_first m k (fmap.get m k)
-    → ◌≡◌ {A = Outgoing} (record e { sends = lanes_of t'; outstanding = with_pending m' e.next ps }) (shorter k now)
-lost_value k p e now t t' m m' ps is sends out none halves gone =
-    three e _ _ _ _ _ _ (ap lanes_of halves ∙ lost_lanes p t ∙ sym sends) (out_gone m m' e.next k ps none gone ∙ ap (λ x. without_first x k (fmap.get x k)) (sym out)) refl ∙ ap (shorter k) is
+    → t' ≡ halves_lost p t → m' ≡ without_first m k (fmap.get m k) → (l : LostPackets) → l ≡ lost_with k p e.lost
+    → ◌≡◌ {A = Outgoing} (record e { sends = lanes_of t'; outstanding = with_pending m' e.next ps; lost = l }) (first_lost_out k p now)
+lost_value k p e now t t' m m' ps is sends out none halves gone l more =
+    ap (λ (x : Outgoing). record x { lost = l }) (three e _ _ _ _ _ _ (ap lanes_of halves ∙ lost_lanes p t ∙ sym sends) (out_gone m m' e.next k ps none gone ∙ ap (λ x. without_first x k (fmap.get x k)) (sym out)) refl)
+    ∙ ap (λ (x : LostPackets). record (shorter k e) { lost = x }) more
+    ∙ ap (first_lost_out k p) is
+
+-- the lost records, once room was made and a piece was added
+pub lost_added : (k : ℕ) (p : Piece) (m m' new : Records) (order order' last : List ℕ) → m' ≡ m → order' ≡ order → new ≡ (lost_with k p (record { pieces = m'; order = order' })).pieces → last ≡ (lost_with k p (record { pieces = m'; order = order' })).order
+    → ◌≡◌ {A = LostPackets} (record { pieces = new; order = last }) (lost_with k p (record { pieces = m; order = order }))
+lost_added k p m m' new order order' last same kept pieces numbers =
+    ap (λ (x : Records). record { pieces = x; order = last }) pieces
+    ∙ ap (λ (x : List ℕ). record { pieces = (lost_with k p (record { pieces = m'; order = order' })).pieces; order = x }) numbers
+    ∙ ap (λ (x : Records). lost_with k p (record { pieces = x; order = order' })) same
+    ∙ ap (λ (x : List ℕ). lost_with k p (record { pieces = m; order = x })) kept
 
 -- a RESET_STREAM that is acknowledged twice changes nothing more
 pub reset_again : (t : Tables Sending) (n : ℕ) (s : Sending) → lookup t n ≡ Some s → s.lane.reset_acked ≡ true → t ≡ updated t n after_reset_acked (lookup t n)

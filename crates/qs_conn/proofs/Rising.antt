@@ -39,7 +39,7 @@ use Rattle.qs_conn.specs.FrameStep.{frame_taken, item_taken, acks, first_acked, 
 use Rattle.qs_conn.specs.Lawful.{Fills, frame_put, item_put, chunk_of}
 use Rattle.qs_conn.specs.Owner.{OpenStep, AcceptStep, ReadBy, send_refusal, recv_refusal, with_wanted, refuse_if, IsBlocked, IsOpened, GivesNone, GivesBidi, GivesUni, AcceptOpen, peer_kind}
 use Rattle.qs_conn.specs.Receiving.{AtEnd, RunsOut, Stops, Takes, ReceiveBy, TakesPayload, OpenReceive}
-use Rattle.qs_conn.specs.Making.{MakeAt, make_refusal, LoseStep, lose_refusal, IsMade, shortened}
+use Rattle.qs_conn.specs.Making.{MakeAt, make_refusal, LoseStep, lose_refusal, IsMade, first_lost, losses}
 use Rattle.qs_conn.specs.EndStep.{Call, Answer, EndStep, Open, Accept, Write, Finish, Reset, Stop, ReadUpTo, Receive, Make, Lose, ClosingPayload, Stored, Granted, Spent, Report}
 use Rattle.qs_conn.specs.Standing.{LimitsRiseIn, LimitsRise}
 use Rattle.qs_conn.proofs.Choices.{by_refusal, by_memory, by_test}
@@ -312,16 +312,17 @@ rises_make None old room (Err making.NoMemory) text new step = becomes old old n
 rises_make None old room (Err making.Closed) text new step = absurd step
 rises_make None old room (Err making.Exhausted) text new step = absurd step
 
-rises_shortened : (e : End) (k : ℕ) (ps : List Piece) → LimitsRise e (shortened e k ps)
-rises_shortened e k [] = rises_same e
-rises_shortened e k (p ∷ ps) = rises_same e
+rises_losses : (k : ℕ) (ps : List Piece) (e : End) → LimitsRise e (losses k ps e)
+unfolding losses
+rises_losses k [] e = rises_same e
+rises_losses k (p ∷ ps) e = rises_losses k ps (first_lost k p e)
 
 rises_lose : (old : End) (k : ℕ) (answer : Answer (Lose k)) (new : End) → LoseStep old k answer new → LimitsRise old new
 rises_lose old k answer new step =
     by_refusal (LimitsRise old new) (lose_refusal old k) old answer new _ step (λ same. becomes old old new same (rises_same old)) (λ (ps, is, lost).
     elim lost [
-      | inl done ↦ becomes old _ new done.1 (rises_shortened old k [])
-      | inr part ↦ (let (moved, few, none, after) = part in becomes old _ new after (rises_shortened old k (drop moved ps)))
+      | inl done ↦ becomes old _ new done.1 (rises_losses k ps old)
+      | inr part ↦ (let (moved, few, none, after) = part in becomes old _ new after (rises_losses k (take moved ps) old))
     ])
 
 -- The owner's calls

@@ -35,7 +35,7 @@ use Rattle.qs_conn.specs.FrameStep.{frame_taken, item_taken, acks, first_acked, 
 use Rattle.qs_conn.specs.Lawful.{Fills, MayPut, frame_put, item_put, chunk_of, noted, pieces_so_far}
 use Rattle.qs_conn.specs.Owner.{OpenStep, AcceptStep, ReadBy, send_refusal, recv_refusal, with_wanted, refuse_if, IsBlocked, IsOpened, GivesNone, GivesBidi, GivesUni, AcceptOpen, peer_kind}
 use Rattle.qs_conn.specs.Receiving.{AtEnd, RunsOut, Stops, Takes, ReceiveBy, TakesPayload, OpenReceive}
-use Rattle.qs_conn.specs.Making.{MakeAt, make_refusal, LoseStep, lose_refusal, IsMade, shortened}
+use Rattle.qs_conn.specs.Making.{MakeAt, make_refusal, LoseStep, lose_refusal, IsMade, first_lost, losses}
 use Rattle.qs_conn.specs.EndStep.{Call, Answer, EndStep, Open, Accept, Write, Finish, Reset, Stop, ReadUpTo, Receive, Make, Lose, ClosingPayload, Stored, Granted, Spent, Report}
 use Rattle.std.specs.FinMap as fmap
 use Rattle.qs_wire.specs.declared.stream_id.Role.{Role}
@@ -284,29 +284,17 @@ keeps_make None old room (Err making.NoMemory) text new step = becomes old old n
 keeps_make None old room (Err making.Closed) text new step = absurd step
 keeps_make None old room (Err making.Exhausted) text new step = absurd step
 
-keeps_lost : (e : End) (k : ℕ) → Keeps e (shortened e k [])
-keeps_lost e k h p is = h p (carried-remove e.outstanding k p is)
-
--- the rest of a packet was outstanding
-among_drop : (m : ℕ) (ps : List Piece) (q : Piece) → Among q (drop m ps) → Among q ps
-among_drop zero ps q a = a
-among_drop (suc m) [] q a = a
-among_drop (suc m) (p ∷ ps) q a = inr (among_drop m ps q a)
-
-keeps_part : (e : End) (k : ℕ) (ps rest : List Piece) → fmap.get e.outstanding k ≡ Some ps → ((q : Piece) → Among q rest → Among q ps) → Keeps e (shortened e k rest)
-keeps_part e k ps [] is among h q at = keeps_lost e k h q at
-keeps_part e k ps (p ∷ rest) is among h q (j, qs, at, a) = go (nat_eq j k) (sym (get-insert_packet e.outstanding k (p ∷ rest) j) ∙ at)
-  where
-    go : (b : Bool) → cond b (Some (p ∷ rest)) (fmap.get e.outstanding j) ≡ Some qs → WasWritten e.sends q
-    go true same = h q (k, ps, is, among q (subst (Among q) (sym (same_Some (p ∷ rest) qs same)) a))
-    go false old = h q (j, qs, old, a)
+keeps_losses : (k : ℕ) (ps : List Piece) (e : End) → Keeps e (losses k ps e)
+unfolding losses
+keeps_losses k [] e = keeps_same e
+keeps_losses k (p ∷ ps) e = keeps_twice e (first_lost k p e) (losses k ps (first_lost k p e)) (λ h q is. h q (carried-without_first e.outstanding k q is)) (keeps_losses k ps (first_lost k p e))
 
 keeps_lose : (old : End) (k : ℕ) (answer : Answer (Lose k)) (new : End) → LoseStep old k answer new → Keeps old new
 keeps_lose old k answer new step =
     by_refusal (Keeps old new) (lose_refusal old k) old answer new _ step (λ same. becomes old old new same (keeps_same old)) (λ (ps, is, lost).
     elim lost [
-      | inl done ↦ becomes old _ new done.1 (keeps_lost old k)
-      | inr part ↦ (let (moved, few, none, after) = part in becomes old _ new after (keeps_part old k ps (drop moved ps) is (among_drop moved ps)))
+      | inl done ↦ becomes old _ new done.1 (keeps_losses k ps old)
+      | inr part ↦ (let (moved, few, none, after) = part in becomes old _ new after (keeps_losses k (take moved ps) old))
     ])
 
 -- The owner's calls

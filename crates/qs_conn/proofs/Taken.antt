@@ -163,7 +163,7 @@ peer_unsent e mid n m is len =
 
 -- the sending side of an end
 abbrev side_of : End → ℕ → Outgoing
-side_of e spare = record { sends = e.sends; next = e.next; outstanding = e.outstanding; acked = e.acked; spare = spare }
+side_of e spare = record { sends = e.sends; next = e.next; outstanding = e.outstanding; lost = e.lost; acked = e.acked; spare = spare }
 
 pub restored_out : (e mid : End) (n m spare : ℕ) (now : Outgoing) (recvs : Tables RecvLane) → mid ≡ opened_by_peer n e → m ≡ length (table e.sends (n % 4))
     → now ≡ with_sends (with_table mid.sends (n % 4) (take m (table mid.sends (n % 4)))) (side_of mid spare) → recvs ≡ e.recvs → with_outgoing now (record mid { recvs = recvs }) ≡ e

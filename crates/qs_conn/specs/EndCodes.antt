@@ -17,6 +17,7 @@ use Rattle.qs_conn.specs.declared.closing.Closing.{Closing}
 use Rattle.qs_conn.specs.declared.closing.Closed.{Closed}
 use Rattle.qs_conn.specs.declared.closing.Closed.TheVariants.{ByUs, ByPeer}
 use Rattle.qs_conn.specs.Tables.{Tables}
+use Rattle.qs_conn.specs.LostPackets.{LostPackets, lost_packets_code}
 use Rattle.qs_conn.specs.Ends.{End, Records, AckedItems}
 use Rattle.qs_conn.specs.Outgoing.{Outgoing}
 
@@ -109,7 +110,7 @@ abbrev Processed : Type 0
 Processed = NumberSet × (ℕ × Bool)
 
 abbrev Sent : Type 0
-Sent = ℕ × (Records × AckedItems)
+Sent = ℕ × (Records × (LostPackets × AckedItems))
 
 abbrev pub end_code : Coded End
 end_code =
@@ -118,7 +119,7 @@ end_code =
     (coded× (coded× (tables_code send_code) (coded× (tables_code recv_code) (coded× coded_ℕ (coded× coded_ℕ (coded× (coded_option coded_ℕ) (coded_option coded_ℕ))))))
     (coded× (coded× coded_ℕ (coded× coded_ℕ (coded× coded_ℕ coded_ℕ)))
     (coded× (coded× (set.code coded_ℕ) (coded× coded_ℕ coded_bool))
-    (coded× coded_ℕ (coded× packet_pieces_code acked_code))))))
+    (coded× coded_ℕ (coded× packet_pieces_code (coded× lost_packets_code acked_code)))))))
     (λ e. (
       (e.role, (e.settings, (e.peer, e.closed))),
       (
@@ -127,7 +128,7 @@ end_code =
           (e.granted, (e.known_data, (e.known_bidi, e.known_uni))),
           (
             (e.done, (e.floor, e.ack_due)),
-            (e.next, (e.outstanding, e.acked)),
+            (e.next, (e.outstanding, (e.lost, e.acked))),
           ),
         ),
       ),
@@ -152,7 +153,8 @@ end_code =
       ack_due = p.1.1.1.0.1.1;
       next = p.1.1.1.1.0;
       outstanding = p.1.1.1.1.1.0;
-      acked = p.1.1.1.1.1.1;
+      lost = p.1.1.1.1.1.1.0;
+      acked = p.1.1.1.1.1.1.1;
     })
     (λ _. refl)
 
@@ -160,8 +162,8 @@ end_code =
 
 abbrev pub outgoing_code : Coded Outgoing
 outgoing_code =
-    code_by (Tables SendLane × (ℕ × (Records × (AckedItems × ℕ))))
-    (coded× (tables_code send_code) (coded× coded_ℕ (coded× packet_pieces_code (coded× acked_code coded_ℕ))))
-    (λ o. (o.sends, (o.next, (o.outstanding, (o.acked, o.spare)))))
-    (λ p. record { sends = p.0; next = p.1.0; outstanding = p.1.1.0; acked = p.1.1.1.0; spare = p.1.1.1.1 })
+    code_by (Tables SendLane × (ℕ × (Records × (LostPackets × (AckedItems × ℕ)))))
+    (coded× (tables_code send_code) (coded× coded_ℕ (coded× packet_pieces_code (coded× lost_packets_code (coded× acked_code coded_ℕ)))))
+    (λ o. (o.sends, (o.next, (o.outstanding, (o.lost, (o.acked, o.spare))))))
+    (λ p. record { sends = p.0; next = p.1.0; outstanding = p.1.1.0; lost = p.1.1.1.0; acked = p.1.1.1.1.0; spare = p.1.1.1.1.1 })
     (λ _. refl)

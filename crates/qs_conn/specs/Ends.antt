@@ -15,6 +15,7 @@ use Rattle.qs_conn.specs.declared.settings.SetupFault.{SetupFault}
 use Rattle.qs_conn.specs.declared.closing.Closed.{Closed}
 use Rattle.qs_conn.specs.Settings.{setup_fault}
 use Rattle.qs_conn.specs.Tables.{Tables, no_streams, kind_of, lookup, updated, open_to}
+pub use Rattle.qs_conn.specs.LostPackets.{LostPackets, no_lost, lost_with}
 
 -- the pieces of packets, by packet number
 abbrev pub Records : Type 0
@@ -60,6 +61,8 @@ pub record End : Type 0 where
   pub next : ℕ
   -- what the outstanding packets carried
   pub outstanding : Records
+  -- what the packets carried that were declared lost
+  pub lost : LostPackets
   pub acked : AckedItems
   pub closed : Option Closed
 
@@ -145,6 +148,7 @@ new_end role settings peer =
       ack_due = false;
       next = 0;
       outstanding = fmap.empty;
+      lost = no_lost;
       acked = no_items;
       closed = None;
     }

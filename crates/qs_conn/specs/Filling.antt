@@ -69,6 +69,7 @@ end_by t recvs o e =
       sends = o.sends;
       next = o.next;
       outstanding = o.outstanding;
+      lost = o.lost;
       acked = o.acked;
     }
 

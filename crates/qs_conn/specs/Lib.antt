@@ -1,5 +1,6 @@
 pub mod Settings
 pub mod Tables
+pub mod LostPackets
 pub mod Ends
 pub mod Credit
 pub mod Seen

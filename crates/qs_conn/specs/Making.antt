@@ -1,11 +1,12 @@
 -- Packets that are made, packets that are lost, and the payload that tells of a closing (RFC 9000, sections 10.2.3, 12.3 and 13.3).
-use Rattle.std.specs.Prelude.{◌≡◌, ℕ, ◌+◌, ◌<◌, ◌≤◌, List, [], ◌∷◌, ◌++◌, length, drop, ◌⊎◌, Option, None, Some, is_some, is_none, Result, Ok, Err, nat_le, MatchBool}
+use Rattle.std.specs.Prelude.{◌≡◌, ℕ, ◌+◌, ◌<◌, ◌≤◌, List, [], ◌∷◌, ◌++◌, length, take, drop, ◌⊎◌, Option, None, Some, is_some, is_none, Result, Ok, Err, nat_le, MatchBool}
 use Rattle.std.specs.List.{AllByRecursion}
 use Rattle.std.specs.FinMap as fmap
 use Rattle.qs_ranges.specs.Numbers.{MAX_VARINT}
 use Rattle.qs_wire.specs.Layout.{FrameValue, ack, connection_close}
 use Rattle.qs_wire.specs.Grammar.{Fits, canonical, canonical_all}
 use Rattle.qs_send.specs.declared.piece.Piece.{Piece}
+use Rattle.qs_send.specs.Records.{without_first}
 use Rattle.qs_conn.specs.declared.closing.Closed.{Closed}
 use Rattle.qs_conn.specs.declared.closing.Closed.TheVariants.{ByUs, ByPeer}
 use Rattle.qs_conn.specs.declared.making.Made.{Made}
@@ -13,7 +14,7 @@ use Rattle.qs_conn.specs.declared.making.MakeFault.{MakeFault}
 use Rattle.qs_conn.specs.declared.making.MakeFault.TheVariants as making
 use Rattle.qs_conn.specs.declared.making.LostFault.{LostFault}
 use Rattle.qs_conn.specs.declared.making.LostFault.TheVariants as losing
-use Rattle.qs_conn.specs.Ends.{End}
+use Rattle.qs_conn.specs.Ends.{End, lost_with}
 use Rattle.qs_conn.specs.Credit.{settle}
 use Rattle.qs_conn.specs.Seen.{seen_all}
 use Rattle.qs_conn.specs.Due.{Sendable}
@@ -64,21 +65,26 @@ MakeStep old room answer text new = MakeAt (make_refusal old) old room answer te
 
 -- Losses
 
--- the record of a packet without its first pieces, which are due again
-abbrev pub shortened : End → ℕ → List Piece → End
-shortened e k [] = record e { outstanding = fmap.remove e.outstanding k }
-shortened e k (p ∷ ps) = record e { outstanding = fmap.insert e.outstanding k (p ∷ ps) }
+-- The first piece of packet k is lost. It leaves the outstanding record, and so is due again if it is of use, and stands in the lost
+-- record of that number, which a late ACK may name (RFC 9000, sections 13.2.1 and 13.3).
+abbrev pub first_lost : ℕ → Piece → End → End
+first_lost k p e = record e { outstanding = without_first e.outstanding k (fmap.get e.outstanding k); lost = lost_with k p e.lost }
+
+-- these pieces of packet k are lost, one after the other
+unfoldable pub losses : ℕ → List Piece → End → End
+losses k [] e = e
+losses k (p ∷ ps) e = losses k ps (first_lost k p e)
 
 abbrev pub lose_refusal : End → ℕ → Option LostFault
 lose_refusal e k = first_refusal (refuse_if (is_some e.closed) losing.Closed) (refuse_if (is_none (fmap.get e.outstanding k)) losing.NotOutstanding)
 
--- The record goes; where there is no memory, its first pieces do.
+-- All pieces of the record are lost; where there is no memory, some first ones are.
 abbrev pub LoseStep : End → ℕ → Result (Unit {0}) LostFault → End → Type 0
 LoseStep old k answer new =
     Certain (lose_refusal old k) old answer new
     ((ps : List Piece) × (fmap.get old.outstanding k ≡ Some ps) × (
-    ((answer ≡ Ok tt) × (new ≡ shortened old k []))
-    ⊎ ((moved : ℕ) × (moved < length ps) × (answer ≡ Err losing.NoMemory) × (new ≡ shortened old k (drop moved ps)))))
+    ((answer ≡ Ok tt) × (new ≡ losses k ps old))
+    ⊎ ((moved : ℕ) × (moved < length ps) × (answer ≡ Err losing.NoMemory) × (new ≡ losses k (take moved ps) old))))
 
 -- The payload of a closing
 

@@ -17,7 +17,7 @@ use Rattle.qs_send.specs.declared.piece.Piece.{Piece}
 use Rattle.qs_send.specs.declared.piece.Piece.TheVariants.{Data, Told}
 pub use Rattle.qs_send.specs.Records.{IsCarried, AreBelow, NoneEmpty, first_piece}
 use Rattle.qs_conn.specs.Tables.{Tables, no_streams, lookup, updated, total}
-use Rattle.qs_conn.specs.Ends.{End, Records, AckedItems, no_items}
+use Rattle.qs_conn.specs.Ends.{End, Records, AckedItems, no_items, LostPackets, no_lost, lost_with}
 pub use Rattle.qs_conn.specs.Told.{item_noted}
 use Rattle.qs_conn.specs.FrameStep.{without_first}
 use Rattle.qs_conn.specs.Due.{Among}
@@ -27,15 +27,16 @@ pub record Outgoing : Type 0 where
   pub sends : Tables SendLane
   pub next : ℕ
   pub outstanding : Records
+  pub lost : LostPackets
   pub acked : AckedItems
   pub spare : ℕ
 
 abbrev pub no_packets : Outgoing
-no_packets = record { sends = no_streams; next = 0; outstanding = fmap.empty; acked = no_items; spare = 0 }
+no_packets = record { sends = no_streams; next = 0; outstanding = fmap.empty; lost = no_lost; acked = no_items; spare = 0 }
 
 -- an end with this sending side
 abbrev pub with_outgoing : Outgoing → End → End
-with_outgoing o e = record e { sends = o.sends; next = o.next; outstanding = o.outstanding; acked = o.acked }
+with_outgoing o e = record e { sends = o.sends; next = o.next; outstanding = o.outstanding; lost = o.lost; acked = o.acked }
 
 abbrev pub with_sends : Tables SendLane → Outgoing → Outgoing
 with_sends sends o = record o { sends = sends }
@@ -72,6 +73,10 @@ piece_acked_out (Told item) o = record o { sends = reset_noted item o.sends; ack
 -- the first piece of packet k is acknowledged and leaves the record
 abbrev pub first_acked_out : ℕ → Piece → Outgoing → Outgoing
 first_acked_out k p o = piece_acked_out p (shorter k o)
+
+-- the first piece of packet k is lost: it moves to the lost record of that number
+abbrev pub first_lost_out : ℕ → Piece → Outgoing → Outgoing
+first_lost_out k p o = record (shorter k o) { lost = lost_with k p o.lost }
 
 -- The packet in the making
 

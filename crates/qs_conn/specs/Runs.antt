@@ -1,5 +1,5 @@
 -- What the private loops over an end's packets do: pieces are due again, or acknowledged, one after the other, as far as there is memory.
-use Rattle.std.specs.Prelude.{◌≡◌, ℕ, ◌<◌, Bool, ◌&&◌, ◌||◌, nat_le, nat_lt, List, [], ◌∷◌, length, drop, take, map, reverse, flat_map, Option, None, Some, Result, Ok, Err}
+use Rattle.std.specs.Prelude.{◌≡◌, ℕ, ◌<◌, Bool, ◌&&◌, ◌||◌, nat_le, nat_lt, List, [], ◌∷◌, length, take, map, reverse, flat_map, Option, None, Some, Result, Ok, Err}
 use Rattle.std.specs.List.{filter}
 use Rattle.std.specs.FinMap as fmap
 use Rattle.qs_ranges.specs.declared.NoMemory.{NoMemory}
@@ -8,26 +8,25 @@ use Rattle.qs_wire.specs.Acks.{FallBelow}
 use Rattle.qs_send.specs.AckPass.{Passing, PAST_NUMBERS, Falls}
 use Rattle.qs_conn.specs.Ends.{Records}
 use Rattle.qs_conn.specs.FrameStep.{is_named}
-use Rattle.qs_conn.specs.Outgoing.{Outgoing, pieces_in, first_acked_out}
+use Rattle.qs_conn.specs.Outgoing.{Outgoing, pieces_in, first_acked_out, first_lost_out}
 
 -- how many pieces the record of packet k has left
 unfoldable pub pieces_left : ℕ → Outgoing → ℕ
 pieces_left k o = length (pieces_in o.outstanding k)
 
--- the record of packet k without its first pieces
-abbrev pub shortened_out : ℕ → Outgoing → List Piece → Outgoing
-shortened_out k o [] = record o { outstanding = fmap.remove o.outstanding k }
-shortened_out k o (p ∷ ps) = record o { outstanding = fmap.insert o.outstanding k (p ∷ ps) }
+-- these pieces of packet k are lost, one after the other
+unfoldable pub losses_out : ℕ → List Piece → Outgoing → Outgoing
+losses_out k [] o = o
+losses_out k (p ∷ ps) o = losses_out k ps (first_lost_out k p o)
 
-abbrev pub LosesBy : ℕ → Outgoing → Option (List Piece) → Result (Unit {0}) NoMemory → Outgoing → Type 0
-LosesBy k o (Some (p ∷ ps)) (Ok done) new = new ≡ shortened_out k o []
-LosesBy k o (Some (p ∷ ps)) (Err refused) new = (moved : ℕ) × (moved < length (p ∷ ps)) × (new ≡ shortened_out k o (drop moved (p ∷ ps)))
-LosesBy k o x (Ok done) new = new ≡ o
-LosesBy k o x (Err refused) new = ⊥
+-- all of these pieces are lost, or some first ones, where memory was refused
+abbrev pub LosesBy : ℕ → List Piece → Outgoing → Result (Unit {0}) NoMemory → Outgoing → Type 0
+LosesBy k ps o (Ok done) new = new ≡ losses_out k ps o
+LosesBy k ps o (Err refused) new = (moved : ℕ) × (moved < length ps) × (new ≡ losses_out k (take moved ps) o)
 
--- The record of packet k goes; where there is no memory, its first pieces do (RFC 9000, section 13.3).
+-- the pieces of packet k are lost (RFC 9000, section 13.3)
 unfoldable pub Loses : ℕ → Outgoing → Result (Unit {0}) NoMemory → Outgoing → Type 0
-Loses k o result new = LosesBy k o (fmap.get o.outstanding k) result new
+Loses k o result new = LosesBy k (pieces_in o.outstanding k) o result new
 
 -- Acknowledgements
 

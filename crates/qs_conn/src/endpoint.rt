@@ -84,6 +84,7 @@ impl Model for Endpoint {
       ack_due = e.ack_due;
       next = e.outbox.next;
       outstanding = e.outbox.outstanding;
+      lost = e.outbox.lost;
       acked = e.outbox.acked;
       closed = e.closed;
     } };

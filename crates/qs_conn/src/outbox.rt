@@ -12,7 +12,7 @@ use crate::send_tables::SendTables;
 use crate::told::ToldItems;
 use crate::told_index::ToldIndex;
 use qs_ranges::NoMemory;
-use qs_send::{Piece, Records, SendFault};
+use qs_send::{LostRecords, Piece, Records, SendFault};
 use qs_wire::StreamId;
 use std::alloc::Global;
 use std::marker::Model;
@@ -29,6 +29,8 @@ pub(crate) struct Outbox {
     // The sum of all sent ends.
     sent: u64,
     records: Records,
+    // What the packets carried that were declared lost.
+    lost: LostRecords,
     // The pieces of the packet in the making.
     pending: Vec<Piece>,
     // The items that outstanding packets and the one in the making told.
@@ -53,6 +55,7 @@ impl Model for Outbox {
       sends = lanes_of o.sends;
       next = o.next;
       outstanding = with_pending o.records.pieces o.next o.pending.items;
+      lost = record { pieces = o.lost.pieces; order = o.lost.order };
       acked = o.told;
       spare = o.spare;
     } };
@@ -69,6 +72,7 @@ impl Outbox {
             sends: SendTables::new(alloc),
             sent: 0,
             records: Records::new(alloc),
+            lost: LostRecords::new(alloc),
             pending: Vec::new(alloc),
             index: ToldIndex::new(alloc),
             spare: 0,

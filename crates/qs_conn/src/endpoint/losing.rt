@@ -10,11 +10,12 @@ use crate::outbox::Outbox;
 use qs_ranges::NoMemory;
 
 impl Endpoint {
-    /// Declares the packet of a number lost: what it carried and is still of use is due again (RFC 9000, section 13.3).
+    /// Declares the packet of a number lost: what it carried and is still of use is due again (RFC 9000, section 13.3). It is kept
+    /// for a late acknowledgement, of the latest 256 packets by the order in which they were first declared lost (section 13.2.1).
     ///
     /// Refused: `Closed`; `NotOutstanding` where no such packet is outstanding; and `NoMemory` where memory was refused. Then the
-    /// first pieces of the packet may be due again already; the others are outstanding still, and the call may be made again.
-    #[tactic(auto, using(crate::proofs::Runs::lost_refused, crate::proofs::Runs::lost_whole, crate::proofs::Runs::lost_part))]
+    /// first pieces of the packet may be lost already; the others are outstanding still, and the call may be made again.
+    #[tactic(auto, using(crate::proofs::Runs::lost_refused))]
     pub fn declare_lost(&mut self, number: u64) -> Result<(), LostFault>
         ensures { LoseStep self.old number result self.new }
     {
@@ -44,7 +45,7 @@ impl Endpoint {
     }
 }
 
-// The pieces of a packet are due again, and the packet is outstanding no more.
+// The pieces of a packet are lost, and the packet is outstanding no more.
 fn lose_packet(outbox: &mut Outbox, number: u64) -> Result<(), NoMemory>
     requires { IsIdle outbox.old }
     ensures idle { IsIdle outbox.new }
@@ -55,7 +56,7 @@ fn lose_packet(outbox: &mut Outbox, number: u64) -> Result<(), NoMemory>
     result
 }
 
-// The pieces of a packet are due again, from the first on.
+// The pieces of a packet are lost, from the first on.
 #[tactic(auto, using(crate::proofs::Runs::loses_end, crate::proofs::Runs::loses_stop, crate::proofs::Runs::loses_more, crate::proofs::Runs::loses_less))]
 fn lose_pieces(outbox: &mut Outbox, number: u64) -> Result<(), NoMemory>
     requires { IsIdle outbox.old }

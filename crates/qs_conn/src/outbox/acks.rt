@@ -7,7 +7,7 @@ ghost use Rattle.qs_send.specs.Records.{Among};
 ghost use Rattle.qs_send.specs.AckPass.{Falls, IsNextNamed};
 ghost use Rattle.qs_send.specs.Lane.{Sending, after_reset_acked};
 ghost use Rattle.qs_conn.specs.Tables.{lookup, updated};
-ghost use Rattle.qs_conn.specs.Outgoing.{first_piece, first_acked_out, shorter, IsIdle, IsSentPiece, NoneEmpty, item_noted, halves_acked, items_acked, halves_lost};
+ghost use Rattle.qs_conn.specs.Outgoing.{first_piece, first_acked_out, first_lost_out, IsIdle, IsSentPiece, NoneEmpty, item_noted, halves_acked, items_acked, halves_lost};
 
 use super::Outbox;
 use crate::send_tables::SendTables;
@@ -69,16 +69,19 @@ impl Outbox {
         Ok(())
     }
 
-    /// The first piece of an outstanding packet is due again, or nothing changes.
+    /// The first piece of an outstanding packet is lost, or nothing changes. It is due again, if it is of use, and kept for a late
+    /// acknowledgement.
     pub(crate) fn lose_first(&mut self, number: u64, piece: Piece) -> Result<(), NoMemory>
         requires idle { IsIdle self.old }
         requires first { first_piece (fmap.get self.old.outstanding number) ≡ Some piece }
-        ensures ok { OnOk result (self.new ≡ shorter number self.old) }
+        ensures ok { OnOk result (self.new ≡ first_lost_out number piece self.old) }
         ensures err { OnErr result (self.new ≡ self.old) }
         ensures idle { IsIdle self.new }
     {
         let _next = self.next;
+        self.lost.make_room(number)?;
         piece_lost(&mut self.sends, &piece)?;
+        self.lost.add(number, piece);
         self.records.drop_first(number);
         forget(&mut self.index, piece);
         Ok(())

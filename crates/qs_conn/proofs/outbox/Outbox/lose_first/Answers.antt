@@ -1,6 +1,6 @@
 use Rattle.std.proofs.Common.{◌≡◌, ◌≤◌, ℕ, refl, arith}
 use Rattle.qs_conn.proofs.OutboxMaking.{room_stays}
-use Rattle.qs_conn.proofs.OutboxAcks.{idle_none, first_at, tied_at, sent_piece, box_lost, lost_value, idle_after}
+use Rattle.qs_conn.proofs.OutboxAcks.{idle_none, first_at, tied_at, sent_piece, box_lost, lost_value, lost_added, idle_after}
 use Rattle.qs_conn.proofs.Indexed.{indexed_first_gone}
 use Rattle.qs_conn.proofs.outbox.Outbox.lose_first.Goals as goal
 
@@ -29,7 +29,8 @@ pub returns-clause-ok : goal.returns-clause-ok
 returns-clause-ok c =
     lost_value c.args.number c.args.piece _ c.args.self.now c.self.inside.sends c.piece_lost.new.sends c.self.inside.records.pieces c.drop_first.new.self.pieces c.self.inside.pending.items c.self.view_is refl refl
     (idle_none _ c.args.self.now c.self.inside.records.pieces c.self.inside.pending.items c.self.view_is refl c.requires.idle)
-    c.in_ok-piece_lost.ensures.ok c.drop_first.ensures.pieces
+    c.in_ok-piece_lost.ensures.ok c.drop_first.ensures.pieces _
+    (lost_added c.args.number c.args.piece c.self.inside.lost.pieces c.make_room.new.self.pieces c.add.new.self.pieces c.self.inside.lost.order c.make_room.new.self.order c.add.new.self.order c.make_room.ensures.pieces c.make_room.ensures.order c.add.ensures.pieces c.add.ensures.order)
 
 pub returns-clause-idle : goal.returns-clause-idle
 returns-clause-idle c =

@@ -1,0 +1,26 @@
+-- What is kept of the packets that were declared lost: a late ACK may still name them (RFC 9000, sections 13.2.1 and 13.3).
+--     LostPackets        the pieces of the packets by number, and the order of their declaring
+--     lost_with k p l    packet k is lost with one piece more
+use Rattle.std.specs.Prelude.{ℕ, List, [], refl}
+use Rattle.std.specs.FinMap as fmap
+use Rattle.std.specs.Coded.{Coded, code_by, coded×, coded_ℕ, coded_list}
+use Rattle.qs_send.specs.declared.piece.Piece.{Piece}
+use Rattle.qs_send.specs.Records.{PacketPieces, packet_pieces_code}
+use Rattle.qs_send.specs.LostRecords.{with_piece, with_number, without_oldest, latest}
+
+-- the pieces of the packets, and their numbers, the one first that was declared lost first
+pub record LostPackets : Type 0 where
+  pub pieces : PacketPieces
+  pub order : List ℕ
+
+abbrev pub lost_packets_code : Coded LostPackets
+lost_packets_code = code_by (PacketPieces × List ℕ) (coded× packet_pieces_code (coded_list coded_ℕ)) (λ l. (l.pieces, l.order)) (λ p. record { pieces = p.0; order = p.1 }) (λ _. refl)
+
+abbrev pub no_lost : LostPackets
+no_lost = record { pieces = fmap.empty; order = [] }
+
+-- Packet k has one piece more, behind those that it has. Where that makes one packet too many, the oldest goes.
+abbrev pub lost_with : ℕ → Piece → LostPackets → LostPackets
+lost_with k p l =
+    let order = with_number l.order k (fmap.contains_key l.pieces k) in
+    record { pieces = without_oldest (with_piece l.pieces k p (fmap.get l.pieces k)) order; order = latest order }
