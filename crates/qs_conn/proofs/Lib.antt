@@ -15,6 +15,7 @@ pub mod Kept
 pub mod LaneEdits
 pub mod LaneTables
 pub mod Lasting
+pub mod LostSent
 pub mod MadePackets
 pub mod Indexed
 pub mod ItemOrders

@@ -9,7 +9,7 @@ use Rattle.qs_recv.specs.declared.half.RecvFault.{RecvFault}
 use Rattle.qs_conn.specs.Credit.{grant}
 use Rattle.qs_conn.specs.Tables.{Tables, table, with_table, lookup, updated, open_to, index_of}
 use Rattle.qs_conn.specs.Outgoing.{Outgoing, with_outgoing, with_sends, sent_sum, AreOfOpen}
-use Rattle.qs_conn.specs.Ends.{End, Records, window, opens, is_own, is_uni, send_lane, opened_by_peer, first_send_limit}
+use Rattle.qs_conn.specs.Ends.{End, Records, LostPackets, window, opens, is_own, is_uni, send_lane, opened_by_peer, first_send_limit}
 use Rattle.qs_conn.specs.Seen.{Stream, Control}
 use Rattle.qs_conn.specs.Verdicts.{verdict, state_fault_in, state_fault_out, credit_fault, or_else, or_new, lane_of, fault_if, STREAM_LIMIT_ERROR}
 use Rattle.qs_conn.specs.FrameStep.{frame_taken}
@@ -156,6 +156,16 @@ peer_none e mid n m is len h =
     subst (λ (t : Tables SendLane). AreOfOpen t mid.outstanding) (sym (sends_back e mid n m _ is len refl))
     (subst (λ (r : Records). AreOfOpen e.sends r) (sym (ap (λ (k : End). k.outstanding) is ∙ out_peer e n (is_own e n))) h)
 
+lost_peer : (e : End) (n : ℕ) (b : Bool) → (cond b e (opens n e)).lost ≡ e.lost
+lost_peer e n true = refl
+lost_peer e n false = refl
+
+pub peer_lost : (e mid : End) (n m : ℕ) → mid ≡ opened_by_peer n e → m ≡ length (table e.sends (n % 4)) → AreOfOpen e.sends e.lost.pieces
+    → AreOfOpen (with_table mid.sends (n % 4) (take m (table mid.sends (n % 4)))) mid.lost.pieces
+peer_lost e mid n m is len h =
+    subst (λ (t : Tables SendLane). AreOfOpen t mid.lost.pieces) (sym (sends_back e mid n m _ is len refl))
+    (subst (λ (l : LostPackets). AreOfOpen e.sends l.pieces) (sym (ap (λ (k : End). k.lost) is ∙ lost_peer e n (is_own e n))) h)
+
 pub peer_unsent : (e mid : End) (n m : ℕ) → mid ≡ opened_by_peer n e → m ≡ length (table e.sends (n % 4)) → sent_sum (with_table mid.sends (n % 4) (take m (table mid.sends (n % 4)))) ≡ sent_sum mid.sends
 peer_unsent e mid n m is len =
     ap sent_sum (sends_back e mid n m _ is len refl)
@@ -178,6 +188,10 @@ module _ (o mid : Outgoing) (n m limit buffer : ℕ) (b : Bool) (is : mid ≡ wi
   pub none_back : AreOfOpen o.sends o.outstanding → AreOfOpen (with_table mid.sends (n % 4) (take m (table mid.sends (n % 4)))) mid.outstanding
   none_back h =
       subst (λ (t : Tables SendLane). AreOfOpen t mid.outstanding) (sym cut_back) (subst (λ (r : Records). AreOfOpen o.sends r) (sym (ap (λ (x : Outgoing). x.outstanding) is)) h)
+
+  pub lost_back : AreOfOpen o.sends o.lost.pieces → AreOfOpen (with_table mid.sends (n % 4) (take m (table mid.sends (n % 4)))) mid.lost.pieces
+  lost_back h =
+      subst (λ (t : Tables SendLane). AreOfOpen t mid.lost.pieces) (sym cut_back) (subst (λ (l : LostPackets). AreOfOpen o.sends l.pieces) (sym (ap (λ (x : Outgoing). x.lost) is)) h)
 
   pub unsent_back : sent_sum (with_table mid.sends (n % 4) (take m (table mid.sends (n % 4)))) ≡ sent_sum mid.sends
   unsent_back = ap sent_sum cut_back ∙ sym (ap (λ (x : Outgoing). sent_sum x.sends) is ∙ sum_open o.sends n limit buffer b)

@@ -133,7 +133,7 @@ get_take (suc c) i [] x is = is
 get_take (suc c) zero (y ∷ xs) x is = is
 get_take (suc c) (suc i) (y ∷ xs) x is = get_take c i xs x is
 
-closed_at : {X : Type 0} (t : Tables X) (n count k : ℕ) (x : X) → lookup (with_table t (n % 4) (take count (table t (n % 4)))) k ≡ Some x → lookup t k ≡ Some x
+pub closed_at : {X : Type 0} (t : Tables X) (n count k : ℕ) (x : X) → lookup (with_table t (n % 4) (take count (table t (n % 4)))) k ≡ Some x → lookup t k ≡ Some x
 closed_at t n count k x is =
     elim (cases_eq (k % 4) (n % 4)) [
       | inl e ↦ lookup_in t n k e ∙ get_take count (k / 4) (table t (n % 4)) x (sym (with_same t n k _ e) ∙ is)

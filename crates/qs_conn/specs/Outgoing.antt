@@ -208,6 +208,10 @@ IsSentPiece t (Data n c) = (s : Sending) × (lookup t n ≡ Some s) × WasSent s
 IsSentPiece t (Told (ResetStream n code size)) = (s : Sending) × (lookup t n ≡ Some s) × (is_some s.lane.was_reset ≡ true)
 IsSentPiece t (Told item) = ⊤
 
+-- what these packets carried was sent
+abbrev pub AreSent : Tables Sending → Records → Type 0
+AreSent t m = (p : Piece) → IsCarried m p → IsSentPiece t p
+
 -- the halves once a piece is acknowledged
 abbrev pub halves_acked : Piece → Tables Sending → Tables Sending
 halves_acked (Data n c) t = updated t n (λ s. after_acked s c) (lookup t n)

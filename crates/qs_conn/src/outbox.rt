@@ -44,7 +44,7 @@ pub(crate) struct Outbox {
 // Clauses see the lanes. What of them is due stays inside: what was written and is neither acknowledged nor outstanding.
 impl Model for Outbox {
     ghost use Rattle.std.specs.Prelude.{◌-◌, nat_lt, vec_len, vec_capacity};
-    ghost use Rattle.qs_conn.specs.Outgoing.{Outgoing, IsOutbox, IsIndexed, lanes_of, with_pending};
+    ghost use Rattle.qs_conn.specs.Outgoing.{Outgoing, IsOutbox, IsIndexed, AreSent, lanes_of, with_pending};
     ghost use Rattle.qs_conn.specs.EndCodes.{outgoing_code};
 
     ghost Value = { Outgoing };
@@ -60,7 +60,7 @@ impl Model for Outbox {
       spare = o.spare;
     } };
 
-    ghost invariant = { λ o. IsOutbox o.sends o.records.pieces (nat_lt o.next o.records.room) o.pending.items o.next o.sent o.spare (vec_capacity o.pending - vec_len o.pending) × IsIndexed (with_pending o.records.pieces o.next o.pending.items) o.index.items o.spare o.index.spare };
+    ghost invariant = { λ o. IsOutbox o.sends o.records.pieces (nat_lt o.next o.records.room) o.pending.items o.next o.sent o.spare (vec_capacity o.pending - vec_len o.pending) × IsIndexed (with_pending o.records.pieces o.next o.pending.items) o.index.items o.spare o.index.spare × AreSent o.sends o.lost.pieces };
 }
 
 impl Outbox {
@@ -81,9 +81,10 @@ impl Outbox {
         }
     }
 
-    /// Each outstanding piece is of an open stream. It does nothing: a caller learns the clause.
+    /// Each outstanding piece is of an open stream, and each lost one. It does nothing: a caller learns the clauses.
     pub(crate) fn are_of_open(&self)
-        ensures { AreOfOpen self.now.sends self.now.outstanding }
+        ensures outstanding { AreOfOpen self.now.sends self.now.outstanding }
+        ensures lost { AreOfOpen self.now.sends self.now.lost.pieces }
     {
         let _next = self.next;
     }
@@ -181,6 +182,7 @@ impl Outbox {
     /// Takes the streams of the type of this one from a count on away. Nothing of them was sent.
     pub(crate) fn close_to(&mut self, stream: StreamId, count: usize)
         requires none { AreOfOpen (with_table self.old.sends (kind_of stream) (take count (table self.old.sends (kind_of stream)))) self.old.outstanding }
+        requires lost { AreOfOpen (with_table self.old.sends (kind_of stream) (take count (table self.old.sends (kind_of stream)))) self.old.lost.pieces }
         requires unsent { sent_sum (with_table self.old.sends (kind_of stream) (take count (table self.old.sends (kind_of stream)))) ≡ sent_sum self.old.sends }
         ensures { self.new ≡ with_sends (with_table self.old.sends (kind_of stream) (take count (table self.old.sends (kind_of stream)))) self.old }
     {

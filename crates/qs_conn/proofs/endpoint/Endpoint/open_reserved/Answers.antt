@@ -2,7 +2,7 @@ use Rattle.std.proofs.Common.{refl, sym, ap, ◌∙◌, subst}
 use Rattle.qs_conn.specs.Ends.{End, window}
 use Rattle.qs_conn.specs.Outgoing.{Outgoing, IsIdle}
 use Rattle.qs_conn.specs.Filling.{IsFunded}
-use Rattle.qs_conn.proofs.Taken.{none_back, unsent_back, out_back}
+use Rattle.qs_conn.proofs.Taken.{none_back, lost_back, unsent_back, out_back}
 use Rattle.qs_conn.proofs.Kept.{kept_opened}
 use Rattle.qs_conn.proofs.Runs.{idle_with}
 use Rattle.qs_conn.proofs.Funded.{funded_opened}
@@ -21,7 +21,10 @@ invariant_of-self-in_default c = (
 )
 
 pub close_to-requires-clause-none : goal.close_to-requires-clause-none
-close_to-requires-clause-none c = none_back c.self.inside.outbox c.open_sends.new.outbox c.args.stream c.count-before.result _ _ _ c.in_ok-open_sends.ensures.ok c.count-before.ensures c.are_of_open.ensures
+close_to-requires-clause-none c = none_back c.self.inside.outbox c.open_sends.new.outbox c.args.stream c.count-before.result _ _ _ c.in_ok-open_sends.ensures.ok c.count-before.ensures c.are_of_open.ensures.outstanding
+
+pub close_to-requires-clause-lost : goal.close_to-requires-clause-lost
+close_to-requires-clause-lost c = lost_back c.self.inside.outbox c.open_sends.new.outbox c.args.stream c.count-before.result _ _ _ c.in_ok-open_sends.ensures.ok c.count-before.ensures c.are_of_open.ensures.lost
 
 pub close_to-requires-clause-unsent : goal.close_to-requires-clause-unsent
 close_to-requires-clause-unsent c = unsent_back c.self.inside.outbox c.open_sends.new.outbox c.args.stream c.count-before.result _ _ _ c.in_ok-open_sends.ensures.ok c.count-before.ensures

@@ -8,7 +8,7 @@ use Rattle.qs_conn.specs.Outgoing.{Outgoing, AreOfOpen, sent_sum}
 use Rattle.qs_conn.proofs.Kept.{kept_recvs}
 use Rattle.qs_conn.proofs.Runs.{idle_with}
 use Rattle.qs_conn.proofs.Funded.{funded_same}
-use Rattle.qs_conn.proofs.Taken.{in_there, stream_in, stream_checked, stream_sound, recvs_back, tally_back, restored_out, peer_none, peer_unsent, back_sound}
+use Rattle.qs_conn.proofs.Taken.{in_there, stream_in, stream_checked, stream_sound, recvs_back, tally_back, restored_out, peer_none, peer_lost, peer_unsent, back_sound}
 use Rattle.qs_conn.proofs.endpoint.Endpoint.take_stream.Goals as goal
 
 pub take_stream-requires-clause-open : goal.take_stream-requires-clause-open
@@ -43,7 +43,12 @@ returns-in-Err-clause-err c =
 pub close_to-requires-clause-none : goal.close_to-requires-clause-none
 close_to-requires-clause-none c =
     peer_none c.args.self.now _ c.args.stream c.count-sends.result (c.self-2.view_is ∙ c.in_ok-open_by_peer.ensures.ok) (c.count-sends.ensures ∙ ap (λ (e : End). length (table e.sends (c.args.stream % 4))) c.self.view_is)
-    (subst (λ (k : End). AreOfOpen k.sends k.outstanding) c.self.view_is c.are_of_open.ensures)
+    (subst (λ (k : End). AreOfOpen k.sends k.outstanding) c.self.view_is c.are_of_open.ensures.outstanding)
+
+pub close_to-requires-clause-lost : goal.close_to-requires-clause-lost
+close_to-requires-clause-lost c =
+    peer_lost c.args.self.now _ c.args.stream c.count-sends.result (c.self-2.view_is ∙ c.in_ok-open_by_peer.ensures.ok) (c.count-sends.ensures ∙ ap (λ (e : End). length (table e.sends (c.args.stream % 4))) c.self.view_is)
+    (subst (λ (k : End). AreOfOpen k.sends k.lost.pieces) c.self.view_is c.are_of_open.ensures.lost)
 
 pub close_to-requires-clause-unsent : goal.close_to-requires-clause-unsent
 close_to-requires-clause-unsent c =

@@ -2,6 +2,7 @@ use Rattle.std.proofs.Common.{◌≡◌, ◌≤◌, ℕ, refl, arith}
 use Rattle.qs_conn.proofs.OutboxMaking.{room_stays}
 use Rattle.qs_conn.proofs.OutboxAcks.{idle_none, first_at, tied_at, sent_piece, box_acked, acked_value, idle_after}
 use Rattle.qs_conn.proofs.Indexed.{indexed_first_gone}
+use Rattle.qs_conn.proofs.LostSent.{sent_acked}
 use Rattle.qs_conn.proofs.outbox.Outbox.ack_first.Goals as goal
 
 kept : {a b : ℕ} → a ≡ b → b ≤ a
@@ -23,6 +24,7 @@ invariant_of-self-2 c = (
       (idle_none _ c.args.self.now c.self.inside.records.pieces c.self.inside.pending.items c.self.view_is refl c.requires.idle)
       (first_at _ c.args.self.now c.self.inside.records.pieces c.self.inside.pending.items c.args.number c.args.piece c.self.view_is refl c.requires.idle c.requires.first)
       c.drop_first.ensures.pieces c.forget.ensures.items c.forget.ensures.spare,
+  sent_acked c.self.inside.sends c.piece_acked.new.sends _ c.self.invariant.2 c.args.piece c.in_ok-piece_acked.ensures.halves,
 )
 
 pub returns-clause-ok : goal.returns-clause-ok

@@ -7,6 +7,7 @@ pub invariant_of-self : goal.invariant_of-self
 invariant_of-self c = (
   box_committed _ _ _ _ _ _ _ _ _ _ _ _ c.self.invariant.0 (rw c.replace-pieces.ensures.value at c.put_pieces.ensures) (rw c.replace-pieces.ensures.after c.new.ensures.items),
   indexed_committed c.self.inside.records.pieces _ _ c.self.inside.pending.items _ _ _ _ c.self.invariant.1 (rw c.replace-pieces.ensures.value at c.put_pieces.ensures) (rw c.replace-pieces.ensures.after c.new.ensures.items),
+  c.self.invariant.2,
 )
 
 pub returns-clause-idle : goal.returns-clause-idle

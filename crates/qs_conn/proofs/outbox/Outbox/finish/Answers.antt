@@ -3,6 +3,7 @@ use Rattle.qs_send.specs.Lane.{refusal, answer_of, finish_lane}
 use Rattle.qs_conn.specs.Outgoing.{lanes_of}
 use Rattle.qs_conn.proofs.TableEdits.{on_ok}
 use Rattle.qs_conn.proofs.Outboxes.{half_there, lane_now, lane_step, same_step, box_finished, finish_ok, finish_err, on_error}
+use Rattle.qs_conn.proofs.LostSent.{sent_finish}
 use Rattle.qs_conn.proofs.outbox.Outbox.finish.Goals as goal
 
 pub get-requires : goal.get-requires
@@ -12,7 +13,7 @@ pub finish-requires : goal.finish-requires
 finish-requires c = (half_there _ c.args.self.now c.self.inside.sends c.args.stream c.self.view_is refl c.requires)
 
 pub invariant_of-self : goal.invariant_of-self
-invariant_of-self c = (box_finished _ _ _ _ _ _ _ _ _ c.self.invariant.0 c.args.stream c.get.result.now c.get.ensures c.is_lawful.ensures c.finish.ensures.after, c.self.invariant.1)
+invariant_of-self c = (box_finished _ _ _ _ _ _ _ _ _ c.self.invariant.0 c.args.stream c.get.result.now c.get.ensures c.is_lawful.ensures c.finish.ensures.after, c.self.invariant.1, sent_finish c.self.inside.sends c.finish.new.self _ c.self.invariant.2 c.args.stream c.finish.ensures.after)
 
 pub returns-clause-answer : goal.returns-clause-answer
 returns-clause-answer c = c.finish.ensures.answer ∙ ap (λ l. answer_of (refusal l)) (sym (lane_now _ c.args.self.now c.self.inside.sends c.args.stream c.self.view_is refl))

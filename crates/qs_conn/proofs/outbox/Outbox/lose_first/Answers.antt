@@ -2,6 +2,7 @@ use Rattle.std.proofs.Common.{◌≡◌, ◌≤◌, ℕ, refl, arith}
 use Rattle.qs_conn.proofs.OutboxMaking.{room_stays}
 use Rattle.qs_conn.proofs.OutboxAcks.{idle_none, first_at, tied_at, sent_piece, box_lost, lost_value, lost_added, idle_after}
 use Rattle.qs_conn.proofs.Indexed.{indexed_first_gone}
+use Rattle.qs_conn.proofs.LostSent.{sent_lost}
 use Rattle.qs_conn.proofs.outbox.Outbox.lose_first.Goals as goal
 
 kept : {a b : ℕ} → a ≡ b → b ≤ a
@@ -23,6 +24,11 @@ invariant_of-self-2 c = (
       (idle_none _ c.args.self.now c.self.inside.records.pieces c.self.inside.pending.items c.self.view_is refl c.requires.idle)
       (first_at _ c.args.self.now c.self.inside.records.pieces c.self.inside.pending.items c.args.number c.args.piece c.self.view_is refl c.requires.idle c.requires.first)
       c.drop_first.ensures.pieces c.forget.ensures.items c.forget.ensures.spare,
+  sent_lost c.self.inside.sends c.piece_lost.new.sends c.self.inside.lost.pieces c.make_room.new.self.pieces c.add.new.self.pieces c.make_room.new.self.order c.args.number c.args.piece c.in_ok-piece_lost.ensures.ok c.make_room.ensures.pieces c.add.ensures.pieces
+      (sent_piece c.self.inside.sends c.self.inside.records.pieces c.args.number c.args.piece
+      (tied_at _ _ _ _ _ _ _ _ c.self.invariant.0 (idle_none _ c.args.self.now c.self.inside.records.pieces c.self.inside.pending.items c.self.view_is refl c.requires.idle))
+      (first_at _ c.args.self.now c.self.inside.records.pieces c.self.inside.pending.items c.args.number c.args.piece c.self.view_is refl c.requires.idle c.requires.first))
+      c.self.invariant.2,
 )
 
 pub returns-clause-ok : goal.returns-clause-ok

@@ -2,10 +2,12 @@ use Rattle.std.proofs.Common.{refl, ap, ◌∙◌}
 use Rattle.qs_conn.specs.Outgoing.{with_pending}
 use Rattle.qs_conn.proofs.Outboxes.{box_new}
 use Rattle.qs_conn.proofs.Indexed.{indexed_new}
+use Rattle.qs_conn.proofs.LostSent.{sent_none}
 use Rattle.qs_conn.proofs.outbox.Outbox.new.Goals as goal
 
 pub invariant_of-result : goal.invariant_of-result
 invariant_of-result c = (
   box_new _ _ _ _ _ c.new.ensures c.new-2.ensures.pieces c.new-4.ensures.items,
   indexed_new _ _ _ _ (ap (with_pending c.new-2.result.pieces 0) c.new-4.ensures.items ∙ c.new-2.ensures.pieces) c.new-5.ensures refl,
+  sent_none _ _ c.new-3.ensures.pieces,
 )

@@ -5,10 +5,11 @@ use Rattle.qs_conn.specs.Outgoing.{lanes_of}
 use Rattle.qs_conn.proofs.TableEdits.{on_ok}
 use Rattle.qs_conn.proofs.LaneTables.{lanes_opened}
 use Rattle.qs_conn.proofs.Outboxes.{sends_step, same_step, on_error, box_open}
+use Rattle.qs_conn.proofs.LostSent.{sent_open}
 use Rattle.qs_conn.proofs.outbox.Outbox.open_to.Goals as goal
 
 pub invariant_of-self : goal.invariant_of-self
-invariant_of-self c = (box_open _ _ _ _ _ _ _ _ _ c.self.invariant.0 c.args.stream c.args.limit c.args.buffer c.open_to.result c.open_to.ensures.ok c.open_to.ensures.err, c.self.invariant.1)
+invariant_of-self c = (box_open _ _ _ _ _ _ _ _ _ c.self.invariant.0 c.args.stream c.args.limit c.args.buffer c.open_to.result c.open_to.ensures.ok c.open_to.ensures.err, c.self.invariant.1, sent_open c.self.inside.sends c.open_to.new.self _ c.self.invariant.2 c.args.stream c.args.limit c.args.buffer c.open_to.result c.open_to.ensures.ok c.open_to.ensures.err)
 
 pub returns-clause-ok : goal.returns-clause-ok
 returns-clause-ok c =

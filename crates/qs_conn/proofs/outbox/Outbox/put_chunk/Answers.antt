@@ -6,6 +6,7 @@ use Rattle.qs_conn.specs.Layers.{or_no_sending}
 use Rattle.qs_conn.proofs.Outboxes.{half_there, sending_is}
 use Rattle.qs_conn.proofs.OutboxMaking.{open_half, due_half, still_open, sent_half, end_within, sum_now, box_chunk, chunk_value}
 use Rattle.qs_conn.proofs.Indexed.{indexed_chunk_put}
+use Rattle.qs_conn.proofs.LostSent.{sent_put}
 use Rattle.qs_conn.proofs.outbox.Outbox.put_chunk.Goals as goal
 
 pub get-half-requires : goal.get-half-requires
@@ -35,6 +36,7 @@ invariant_of-self c =
           c.sent_end-before.ensures.exact
           (c.sent_end-after.ensures.exact ∙ ap (λ (s : Sending). s.lane.sent_end) (sent_half c.self.inside.sends c.sent.new.self c.args.stream c.get-half.result.now c.get.result.now c.args.chunk c.get-half.ensures c.sent.ensures c.get.ensures)),
       indexed_chunk_put _ _ _ _ _ _ _ c.args.stream c.args.chunk c.self.invariant.1 c.self.invariant.0.below c.hold.ensures.items,
+      sent_put c.self.inside.sends c.sent.new.self _ c.self.invariant.2 c.args.stream c.args.chunk c.sent.ensures,
     )
 
 pub returns : goal.returns
