@@ -19,90 +19,124 @@ use Rattle.qs_wire.proofs.PairLaws.{ranges_fall}
 use Rattle.qs_wire.specs.declared.stream_id.Dir.TheVariants.{Bidi, Uni}
 use Rattle.qs_send.specs.declared.piece.Item.TheVariants.{MaxData, MaxStreamData, MaxStreams, ResetStream, StopSending, DataBlocked, StreamDataBlocked, StreamsBlocked}
 use Rattle.std.specs.Result.{OnOk, OnErr}
-use Rattle.qs_conn.specs.Ends.{End, Records}
-use Rattle.qs_conn.specs.FrameStep.{is_named, first_acked, named, acks}
-use Rattle.qs_conn.specs.Outgoing.{Outgoing, with_outgoing, first_acked_out, pieces_in}
-use Rattle.qs_conn.specs.Runs.{pieces_left, acks_out, AcksBy, pieces_at, AcksPacket, AreSameBelow, named_pieces, AcksRanges, is_ahead, ahead_pieces, AcksAhead}
+use Rattle.qs_conn.specs.Ends.{End, Records, LostPackets}
+use Rattle.qs_conn.specs.FrameStep.{AckedPiece, is_named, acked_at, pieces_of, acked_numbers, piece_acked, first_acked, named_in, named, acks}
+use Rattle.qs_conn.specs.Outgoing.{Outgoing, with_outgoing, piece_acked_out, without_piece_out, first_acked_out, pieces_in}
+use Rattle.qs_conn.specs.Runs.{held_out, pieces_left, acks_out, AcksBy, AcksPacket, AreSameBelow, named_out, AcksNamed, AcksRanges, is_ahead, ahead_pieces, AcksAhead}
 use Rattle.qs_conn.proofs.Carried.{none_some, some_is, get_new, get_removed}
 use Rattle.qs_conn.proofs.Runs.{less_left}
 use Rattle.qs_conn.proofs.Named.{filter_first, filter_nothing, filter_alike}
 
 -- Lists of pieces
 
-pub acks_cons : (k : ℕ) (p : Piece) (ps : List (ℕ × Piece)) (o new : Outgoing) (result : Result (Unit {0}) NoMemory) → AcksBy ps (first_acked_out k p o) result new → AcksBy ((k, p) ∷ ps) o result new
+pub acks_cons : (a : AckedPiece) (ps : List AckedPiece) (o new : Outgoing) (result : Result (Unit {0}) NoMemory) → AcksBy ps (first_acked_out a o) result new → AcksBy (a ∷ ps) o result new
 unfolding acks_out
-acks_cons k p ps o new (Ok done) h = h
-acks_cons k p ps o new (Err e) h = (suc h.0, h.1)
+acks_cons a ps o new (Ok done) h = h
+acks_cons a ps o new (Err e) h = (suc h.0, h.1)
 
-acks_append : (ps qs : List (ℕ × Piece)) (o new : Outgoing) (result : Result (Unit {0}) NoMemory) → AcksBy qs (acks_out ps o) result new → AcksBy (ps ++ qs) o result new
+acks_append : (ps qs : List AckedPiece) (o new : Outgoing) (result : Result (Unit {0}) NoMemory) → AcksBy qs (acks_out ps o) result new → AcksBy (ps ++ qs) o result new
 unfolding acks_out
 acks_append [] qs o new result h = h
-acks_append (p ∷ ps) qs o new result h = acks_cons p.0 p.1 (ps ++ qs) o new result (acks_append ps qs (first_acked_out p.0 p.1 o) new result h)
+acks_append (a ∷ ps) qs o new result h = acks_cons a (ps ++ qs) o new result (acks_append ps qs (first_acked_out a o) new result h)
 
-prefix : (m : ℕ) (ps qs : List (ℕ × Piece)) → (n : ℕ) × (take n (ps ++ qs) ≡ take m ps)
+prefix : (m : ℕ) (ps qs : List AckedPiece) → (n : ℕ) × (take n (ps ++ qs) ≡ take m ps)
 prefix zero ps qs = (0, refl)
 prefix (suc m) [] qs = (0, refl)
-prefix (suc m) (p ∷ ps) qs = let r = prefix m ps qs in (suc r.0, ap (λ xs. p ∷ xs) r.1)
+prefix (suc m) (a ∷ ps) qs = let r = prefix m ps qs in (suc r.0, ap (λ xs. a ∷ xs) r.1)
 
-acks_some : (ps qs : List (ℕ × Piece)) (o new : Outgoing) (e : NoMemory) → AcksBy ps o (Err e) new → AcksBy (ps ++ qs) o (Err e) new
+acks_some : (ps qs : List AckedPiece) (o new : Outgoing) (e : NoMemory) → AcksBy ps o (Err e) new → AcksBy (ps ++ qs) o (Err e) new
 acks_some ps qs o new e h = let n = prefix h.0 ps qs in (n.0, h.1 ∙ ap (λ xs. acks_out xs o) (sym n.1))
 
 -- One packet
 
-pub out_is : (k : ℕ) (p : Piece) (o : Outgoing) → (first_acked_out k p o).outstanding ≡ without_first o.outstanding k (fmap.get o.outstanding k)
-out_is k (Data n c) o = refl
-out_is k (Told item) o = refl
+held_piece : (late : Bool) (p : Piece) (o : Outgoing) → held_out late (piece_acked_out p o) ≡ held_out late o
+held_piece late (Data n c) o = refl
+held_piece late (Told item) o = refl
 
-pub packet_end : (k : ℕ) (o : Outgoing) → first_piece (fmap.get o.outstanding k) ≡ None → AcksPacket k o (Ok tt) o
+held_without : (late : Bool) (k : ℕ) (o : Outgoing) → held_out late (without_piece_out late k o) ≡ without_first (held_out late o) k (fmap.get (held_out late o) k)
+held_without true k o = refl
+held_without false k o = refl
+
+pub out_is : (late : Bool) (k : ℕ) (p : Piece) (o : Outgoing) → held_out late (first_acked_out (acked_at late k p) o) ≡ without_first (held_out late o) k (fmap.get (held_out late o) k)
+out_is late k p o = held_piece late p (without_piece_out late k o) ∙ held_without late k o
+
+abbrev listed : Bool → ℕ → Option (List Piece) → List AckedPiece
+listed late k x = elim x [ None ↦ [] | Some ps ↦ map (acked_at late k) ps ]
+
+ends_by : (late : Bool) (k : ℕ) (o : Outgoing) → first_piece (fmap.get (held_out late o) k) ≡ None → AcksPacket late k o (Ok tt) o
 unfolding AcksPacket acks_out
-packet_end k o first = go (fmap.get o.outstanding k) first
+ends_by late k o first = go (fmap.get (held_out late o) k) first
   where
-    go : (x : Option (List Piece)) → first_piece x ≡ None → AcksBy (elim x [ None ↦ [] | Some ps ↦ map (λ p. (k, p)) ps ]) o (Ok tt) o
+    go : (x : Option (List Piece)) → first_piece x ≡ None → AcksBy (elim x [ None ↦ [] | Some ps ↦ map (acked_at late k) ps ]) o (Ok tt) o
     go None e = refl
     go (Some []) e = refl
     go (Some (p ∷ ps)) e = absurd (none_some p (sym e))
 
-pub packet_stop : (k : ℕ) (o new : Outgoing) (e : NoMemory) → new ≡ o → AcksPacket k o (Err e) new
+stops_by : (late : Bool) (k : ℕ) (o new : Outgoing) (e : NoMemory) → new ≡ o → AcksPacket late k o (Err e) new
 unfolding AcksPacket acks_out
-packet_stop k o new e same = (0, same)
+stops_by late k o new e same = (0, same)
 
-pieces_next : (m : Records) (k : ℕ) (p : Piece) → first_piece (fmap.get m k) ≡ Some p → pieces_at m k ≡ (k, p) ∷ pieces_at (without_first m k (fmap.get m k)) k
-pieces_next m k p first = go (fmap.get m k) first
+pieces_next : (late : Bool) (m : Records) (k : ℕ) (p : Piece) → first_piece (fmap.get m k) ≡ Some p → pieces_of late m k ≡ acked_at late k p ∷ pieces_of late (without_first m k (fmap.get m k)) k
+pieces_next late m k p first = go (fmap.get m k) first
   where
-    listed : Option (List Piece) → List (ℕ × Piece)
-    listed x = elim x [ None ↦ [] | Some ps ↦ map (λ q. (k, q)) ps ]
-
-    go : (x : Option (List Piece)) → first_piece x ≡ Some p → ◌≡◌ {A = List (ℕ × Piece)} (elim x [ None ↦ [] | Some ps ↦ map (λ q. (k, q)) ps ]) ((k, p) ∷ pieces_at (without_first m k x) k)
+    go : (x : Option (List Piece)) → first_piece x ≡ Some p → ◌≡◌ {A = List AckedPiece} (elim x [ None ↦ [] | Some ps ↦ map (acked_at late k) ps ]) (acked_at late k p ∷ pieces_of late (without_first m k x) k)
     go None f = absurd (none_some p f)
     go (Some []) f = absurd (none_some p f)
-    go (Some (q ∷ [])) f = ap (λ x. (k, x) ∷ []) (some_is (Some q) q p refl f) ∙ ap (λ xs. (k, p) ∷ xs) (sym (ap listed (get_removed m k)))
-    go (Some (q ∷ r ∷ rs)) f = ap (λ x. (k, x) ∷ map (λ y. (k, y)) (r ∷ rs)) (some_is (Some q) q p refl f) ∙ ap (λ xs. (k, p) ∷ xs) (sym (ap listed (get_new m k (r ∷ rs))))
+    go (Some (q ∷ [])) f = ap (λ x. acked_at late k x ∷ []) (some_is (Some q) q p refl f) ∙ ap (λ xs. acked_at late k p ∷ xs) (sym (ap (listed late k) (get_removed m k)))
+    go (Some (q ∷ r ∷ rs)) f =
+        ap (λ x. acked_at late k x ∷ map (acked_at late k) (r ∷ rs)) (some_is (Some q) q p refl f) ∙ ap (λ xs. acked_at late k p ∷ xs) (sym (ap (listed late k) (get_new m k (r ∷ rs))))
 
-pub packet_more : (k : ℕ) (o next new : Outgoing) (p : Piece) (result : Result (Unit {0}) NoMemory) → first_piece (fmap.get o.outstanding k) ≡ Some p → next ≡ first_acked_out k p o → AcksPacket k next result new → AcksPacket k o result new
+more_by : (late : Bool) (k : ℕ) (o next new : Outgoing) (p : Piece) (result : Result (Unit {0}) NoMemory) → first_piece (fmap.get (held_out late o) k) ≡ Some p → next ≡ first_acked_out (acked_at late k p) o → AcksPacket late k next result new
+    → AcksPacket late k o result new
 unfolding AcksPacket
-packet_more k o next new p result first is h =
-    let left = subst (λ (x : Outgoing). AcksBy (pieces_at x.outstanding k) x result new) is h in
-    let rest = subst (λ (m : Records). AcksBy (pieces_at m k) (first_acked_out k p o) result new) (out_is k p o) left in
-    subst (λ xs. AcksBy xs o result new) (sym (pieces_next o.outstanding k p first)) (acks_cons k p _ o new result rest)
+more_by late k o next new p result first is h =
+    let left = subst (λ (x : Outgoing). AcksBy (pieces_of late (held_out late x) k) x result new) is h in
+    let rest = subst (λ (m : Records). AcksBy (pieces_of late m k) (first_acked_out (acked_at late k p) o) result new) (out_is late k p o) left in
+    subst (λ xs. AcksBy xs o result new) (sym (pieces_next late (held_out late o) k p first)) (acks_cons (acked_at late k p) _ o new result rest)
 
-pub packet_less : (k : ℕ) (o next : Outgoing) (p : Piece) → first_piece (fmap.get o.outstanding k) ≡ Some p → next ≡ first_acked_out k p o → pieces_left k next < pieces_left k o
+less_by : (late : Bool) (k : ℕ) (o next : Outgoing) (p : Piece) → first_piece (fmap.get (held_out late o) k) ≡ Some p → next ≡ first_acked_out (acked_at late k p) o → pieces_left late k next < pieces_left late k o
 unfolding pieces_left
-packet_less k o next p first is =
-    subst (λ (m : Records). length (pieces_in m k) < length (pieces_in o.outstanding k)) (sym (ap (λ (x : Outgoing). x.outstanding) is ∙ out_is k p o)) (less_left o.outstanding k p first)
+less_by late k o next p first is =
+    subst (λ (m : Records). length (pieces_in m k) < length (pieces_in (held_out late o) k)) (sym (ap (held_out late) is ∙ out_is late k p o)) (less_left (held_out late o) k p first)
+
+pub packet_end : (k : ℕ) (o : Outgoing) → first_piece (fmap.get o.outstanding k) ≡ None → AcksPacket false k o (Ok tt) o
+packet_end k o first = ends_by false k o first
+
+pub packet_stop : (k : ℕ) (o new : Outgoing) (e : NoMemory) → new ≡ o → AcksPacket false k o (Err e) new
+packet_stop k o new e same = stops_by false k o new e same
+
+pub packet_more : (k : ℕ) (o next new : Outgoing) (p : Piece) (result : Result (Unit {0}) NoMemory) → first_piece (fmap.get o.outstanding k) ≡ Some p → next ≡ first_acked_out (acked_at false k p) o → AcksPacket false k next result new → AcksPacket false k o result new
+packet_more k o next new p result first is h = more_by false k o next new p result first is h
+
+pub packet_less : (k : ℕ) (o next : Outgoing) (p : Piece) → first_piece (fmap.get o.outstanding k) ≡ Some p → next ≡ first_acked_out (acked_at false k p) o → pieces_left false k next < pieces_left false k o
+packet_less k o next p first is = less_by false k o next p first is
+
+pub late_end : (k : ℕ) (o : Outgoing) → first_piece (fmap.get o.lost.pieces k) ≡ None → AcksPacket true k o (Ok tt) o
+late_end k o first = ends_by true k o first
+
+pub late_stop : (k : ℕ) (o new : Outgoing) (e : NoMemory) → new ≡ o → AcksPacket true k o (Err e) new
+late_stop k o new e same = stops_by true k o new e same
+
+pub late_more : (k : ℕ) (o next new : Outgoing) (p : Piece) (result : Result (Unit {0}) NoMemory) → first_piece (fmap.get o.lost.pieces k) ≡ Some p → next ≡ first_acked_out (acked_at true k p) o → AcksPacket true k next result new → AcksPacket true k o result new
+late_more k o next new p result first is h = more_by true k o next new p result first is h
+
+pub late_less : (k : ℕ) (o next : Outgoing) (p : Piece) → first_piece (fmap.get o.lost.pieces k) ≡ Some p → next ≡ first_acked_out (acked_at true k p) o → pieces_left true k next < pieces_left true k o
+late_less k o next p first is = less_by true k o next p first is
 
 -- other packets stay
-others : (k j : ℕ) (ps : List Piece) (o : Outgoing) → j ≢ k → fmap.get (acks_out (map (λ p. (k, p)) ps) o).outstanding j ≡ fmap.get o.outstanding j
+others : (late : Bool) (k j : ℕ) (ps : List Piece) (o : Outgoing) → j ≢ k → fmap.get (held_out late (acks_out (map (acked_at late k) ps) o)) j ≡ fmap.get (held_out late o) j
 unfolding acks_out
-others k j [] o ne = refl
-others k j (p ∷ ps) o ne = others k j ps (first_acked_out k p o) ne ∙ ap (λ (m : Records). fmap.get m j) (out_is k p o) ∙ get_other-without_first o.outstanding k j ne
+others late k j [] o ne = refl
+others late k j (p ∷ ps) o ne =
+    others late k j ps (first_acked_out (acked_at late k p) o) ne ∙ ap (λ (m : Records). fmap.get m j) (out_is late k p o) ∙ get_other-without_first (held_out late o) k j ne
 
-others_at : (k j : ℕ) (o : Outgoing) → j ≢ k → fmap.get (acks_out (pieces_at o.outstanding k) o).outstanding j ≡ fmap.get o.outstanding j
+others_at : (late : Bool) (k j : ℕ) (o : Outgoing) → j ≢ k → fmap.get (held_out late (acks_out (pieces_of late (held_out late o) k) o)) j ≡ fmap.get (held_out late o) j
 unfolding acks_out
-others_at k j o ne = go (fmap.get o.outstanding k)
+others_at late k j o ne = go (fmap.get (held_out late o) k)
   where
-    go : (x : Option (List Piece)) → fmap.get (acks_out (elim x [ None ↦ [] | Some ps ↦ map (λ p. (k, p)) ps ]) o).outstanding j ≡ fmap.get o.outstanding j
+    go : (x : Option (List Piece)) → fmap.get (held_out late (acks_out (elim x [ None ↦ [] | Some ps ↦ map (acked_at late k) ps ]) o)) j ≡ fmap.get (held_out late o) j
     go None = refl
-    go (Some ps) = others k j ps o ne
+    go (Some ps) = others late k j ps o ne
 
 -- What a pass has ahead, as a test
 
@@ -156,52 +190,52 @@ both_say false false to from = refl
 
 -- The pass over an ACK
 
-module _ (p q : Passing) (k : ℕ) (o : Outgoing) (m : Records) (given : GivesNumber o.outstanding p k q) (same : AreSameBelow p.below m o.outstanding) where
+module _ (late : Bool) (p q : Passing) (k : ℕ) (o : Outgoing) (m : Records) (given : GivesNumber (held_out late o) p k q) (same : AreSameBelow p.below m (held_out late o)) where
   -- the number that is given comes first
-  first_ahead : ahead_pieces m p ≡ pieces_at o.outstanding k ++ ahead_pieces m q
+  first_ahead : ahead_pieces late m p ≡ pieces_of late (held_out late o) k ++ ahead_pieces late m q
   first_ahead =
-      ap (flat_map (pieces_at m)) (filter_first m (is_ahead p) (is_ahead q) k (ap is_some (same k given.named.0) ∙ given.held) (ahead_as p k given.named)
+      ap (flat_map (pieces_of late m)) (filter_first m (is_ahead p) (is_ahead q) k (ap is_some (same k given.named.0) ∙ given.held) (ahead_as p k given.named)
       (λ j ge. not_ahead q j (λ ahead. let lt = ((given.left j).0 ahead).0 in omega (arith, ge, lt)))
       (λ j lt. both_say (is_ahead p j) (is_ahead q j) (λ is. ahead_as q j ((given.left j).1 (lt, as_ahead p j is))) (λ is. ahead_as p j ((given.left j).0 (as_ahead q j is)).1))
       (λ j gt held. not_ahead p j (λ ahead. let le = given.greatest j ahead (ap is_some (sym (same j ahead.0)) ∙ held) in omega (arith, gt, le))))
-      ∙ ap (λ (x : Option (List Piece)). (elim x [ None ↦ [] | Some ps ↦ map (λ y. (k, y)) ps ]) ++ ahead_pieces m q) (same k given.named.0)
+      ∙ ap (λ (x : Option (List Piece)). (elim x [ None ↦ [] | Some ps ↦ map (acked_at late k) ps ]) ++ ahead_pieces late m q) (same k given.named.0)
 
-pub pass_end : (p q : Passing) (o : Outgoing) (r : Option ℕ) → r ≡ None → (Falls p → IsNextNamed o.outstanding p r q) → AcksAhead p o (Ok tt) o
+pub pass_end : (late : Bool) (p q : Passing) (o : Outgoing) (r : Option ℕ) → r ≡ None → (Falls p → IsNextNamed (held_out late o) p r q) → AcksAhead late p o (Ok tt) o
 unfolding AcksAhead acks_out
-pass_end p q o None is answer = λ m falls same.
+pass_end late p q o None is answer = λ m falls same.
     let none : (j : ℕ) → is_some (fmap.get m j) ≡ true → is_ahead p j ≡ false = λ j held. not_ahead p j (λ ahead. both_ways _ (answer falls j ahead) (ap is_some (sym (same j ahead.0)) ∙ held)) in
-    sym (ap (λ ks. acks_out (flat_map (pieces_at m) ks) o) (filter_nothing m (is_ahead p) none))
-pass_end p q o (Some k) is answer = absurd (none_some k (sym is))
+    sym (ap (λ ks. acks_out (flat_map (pieces_of late m) ks) o) (filter_nothing m (is_ahead p) none))
+pass_end late p q o (Some k) is answer = absurd (none_some k (sym is))
 
-pub pass_stop : (p q : Passing) (k : ℕ) (o new : Outgoing) (r : Option ℕ) (e e' : NoMemory) → r ≡ Some k → (Falls p → IsNextNamed o.outstanding p r q) → AcksPacket k o (Err e) new → AcksAhead p o (Err e') new
+pub pass_stop : (late : Bool) (p q : Passing) (k : ℕ) (o new : Outgoing) (r : Option ℕ) (e e' : NoMemory) → r ≡ Some k → (Falls p → IsNextNamed (held_out late o) p r q) → AcksPacket late k o (Err e) new → AcksAhead late p o (Err e') new
 unfolding AcksPacket AcksAhead
-pass_stop p q k o new None e e' is answer acked = absurd (none_some k is)
-pass_stop p q k o new (Some j) e e' is answer acked = λ m falls same.
-    let given = subst (λ (x : ℕ). GivesNumber o.outstanding p x q) (some_is (Some j) j k refl is) (answer falls) in
-    subst (λ xs. AcksBy xs o (Err e) new) (sym (first_ahead p q k o m given same)) (acks_some (pieces_at o.outstanding k) (ahead_pieces m q) o new e acked)
+pass_stop late p q k o new None e e' is answer acked = absurd (none_some k is)
+pass_stop late p q k o new (Some j) e e' is answer acked = λ m falls same.
+    let given = subst (λ (x : ℕ). GivesNumber (held_out late o) p x q) (some_is (Some j) j k refl is) (answer falls) in
+    subst (λ xs. AcksBy xs o (Err e) new) (sym (first_ahead late p q k o m given same)) (acks_some (pieces_of late (held_out late o) k) (ahead_pieces late m q) o new e acked)
 
-pub pass_more : (p q : Passing) (k : ℕ) (o next new : Outgoing) (r : Option ℕ) (result : Result (Unit {0}) NoMemory) → r ≡ Some k → (Falls p → IsNextNamed o.outstanding p r q) → (Falls p → Falls q) → IfSome r (λ j. (q.below ≡ j) × (j < p.below))
-    → AcksPacket k o (Ok tt) next → AcksAhead q next result new → AcksAhead p o result new
+pub pass_more : (late : Bool) (p q : Passing) (k : ℕ) (o next new : Outgoing) (r : Option ℕ) (result : Result (Unit {0}) NoMemory) → r ≡ Some k → (Falls p → IsNextNamed (held_out late o) p r q) → (Falls p → Falls q) → IfSome r (λ j. (q.below ≡ j) × (j < p.below))
+    → AcksPacket late k o (Ok tt) next → AcksAhead late q next result new → AcksAhead late p o result new
 unfolding AcksPacket AcksAhead
-pass_more p q k o next new None result is answer falls below acked rest = absurd (none_some k is)
-pass_more p q k o next new (Some i) result is answer fall below acked rest = λ m falls same.
+pass_more late p q k o next new None result is answer falls below acked rest = absurd (none_some k is)
+pass_more late p q k o next new (Some i) result is answer fall below acked rest = λ m falls same.
     let at : i ≡ k = some_is (Some i) i k refl is in
-    let given = subst (λ (x : ℕ). GivesNumber o.outstanding p x q) at (answer falls) in
+    let given = subst (λ (x : ℕ). GivesNumber (held_out late o) p x q) at (answer falls) in
     let bound = below.0 in
     let lt = below.1 in
-    let later = rest m (fall falls) (λ j small. same j (omega (arith, small, bound, lt)) ∙ sym (ap (λ (x : Outgoing). fmap.get x.outstanding j) acked ∙ others_at k j o (λ e. omega (arith, e, small, bound, at)))) in
-    subst (λ xs. AcksBy xs o result new) (sym (first_ahead p q k o m given same))
-    (acks_append (pieces_at o.outstanding k) (ahead_pieces m q) o new result (subst (λ (x : Outgoing). AcksBy (ahead_pieces m q) x result new) acked later))
+    let later = rest m (fall falls) (λ j small. same j (omega (arith, small, bound, lt)) ∙ sym (ap (λ (x : Outgoing). fmap.get (held_out late x) j) acked ∙ others_at late k j o (λ e. omega (arith, e, small, bound, at)))) in
+    subst (λ xs. AcksBy xs o result new) (sym (first_ahead late p q k o m given same))
+    (acks_append (pieces_of late (held_out late o) k) (ahead_pieces late m q) o new result (subst (λ (x : Outgoing). AcksBy (ahead_pieces late m q) x result new) acked later))
 
 -- of a pass that begins all that the ranges name is ahead
-pub all_pass : (p : Passing) (ranges : List (ℕ × ℕ)) (o mid new : Outgoing) (result : Result (Unit {0}) NoMemory) → p ≡ pass_over ranges → AcksAhead p o result mid → new ≡ mid → AcksRanges ranges o result new
-unfolding AcksAhead AcksRanges
-all_pass p ranges o mid new result begins acked same = λ falls.
+begun : (late : Bool) (p : Passing) (ranges : List (ℕ × ℕ)) (o new : Outgoing) (result : Result (Unit {0}) NoMemory) → p ≡ pass_over ranges → AcksAhead late p o result new → AcksNamed late ranges o result new
+unfolding AcksAhead AcksNamed
+begun late p ranges o new result begins acked = λ falls.
     let start = subst (λ (x : Passing). Falls x) (sym begins) falls in
-    let by_pass = acked o.outstanding start (λ k lt. refl) in
-    subst (λ x. AcksBy (named_pieces o.outstanding ranges) o result x) (sym same)
-    (subst (λ ks. AcksBy (flat_map (pieces_at o.outstanding) (reverse ks)) o result mid)
-    (ap (λ (x : Passing). filter (is_ahead x) (fmap.keys o.outstanding)) begins ∙ filter_alike o.outstanding (is_ahead (pass_over ranges)) (is_named ranges) (λ j. both_say (is_ahead (pass_over ranges) j) (is_named ranges j) (to j) (from falls j))) by_pass)
+    let by_pass = acked (held_out late o) start (λ k lt. refl) in
+    subst (λ ks. AcksBy (flat_map (pieces_of late (held_out late o)) (reverse ks)) o result new)
+    (ap (λ (x : Passing). filter (is_ahead x) (fmap.keys (held_out late o))) begins
+    ∙ filter_alike (held_out late o) (is_ahead (pass_over ranges)) (is_named ranges) (λ j. both_say (is_ahead (pass_over ranges) j) (is_named ranges j) (to j) (from falls j))) by_pass
   where
     to : (j : ℕ) → is_ahead (pass_over ranges) j ≡ true → is_named ranges j ≡ true
     to j is = let ahead = as_ahead (pass_over ranges) j is in named j ahead.0 ahead.1
@@ -216,31 +250,79 @@ all_pass p ranges o mid new result begins acked same = λ falls.
         let less = named_below PAST_NUMBERS ranges j falls by in
         ahead_as (pass_over ranges) j (omega (arith, less), inr by)
 
+pub all_pass : (p : Passing) (ranges : List (ℕ × ℕ)) (o mid new : Outgoing) (result : Result (Unit {0}) NoMemory) → p ≡ pass_over ranges → AcksAhead false p o result mid → new ≡ mid → AcksNamed false ranges o result new
+all_pass p ranges o mid new result begins acked same = subst (λ (x : Outgoing). AcksNamed false ranges o result x) (sym same) (begun false p ranges o mid result begins acked)
+
+pub all_late : (p : Passing) (ranges : List (ℕ × ℕ)) (o new : Outgoing) (result : Result (Unit {0}) NoMemory) → p ≡ pass_over ranges → AcksAhead true p o result new → AcksNamed true ranges o result new
+all_late p ranges o new result begins acked = begun true p ranges o new result begins acked
+
+-- Both passes
+
+out_append : (ps qs : List AckedPiece) (o : Outgoing) → acks_out (ps ++ qs) o ≡ acks_out qs (acks_out ps o)
+unfolding acks_out
+out_append [] qs o = refl
+out_append (a ∷ ps) qs o = out_append ps qs (first_acked_out a o)
+
+-- the first pass leaves lost records alone
+lost_piece : (p : Piece) (o : Outgoing) → (piece_acked_out p o).lost ≡ o.lost
+lost_piece (Data n c) o = refl
+lost_piece (Told item) o = refl
+
+lost_packet : (k : ℕ) (ps : List Piece) (o : Outgoing) → (acks_out (map (acked_at false k) ps) o).lost ≡ o.lost
+unfolding acks_out
+lost_packet k [] o = refl
+lost_packet k (p ∷ ps) o = lost_packet k ps (first_acked_out (acked_at false k p) o) ∙ lost_piece p (without_piece_out false k o)
+
+lost_stays : (m : Records) (ks : List ℕ) (o : Outgoing) → (acks_out (flat_map (pieces_of false m) ks) o).lost ≡ o.lost
+unfolding acks_out
+lost_stays m [] o = refl
+lost_stays m (k ∷ ks) o =
+    ap (λ (x : Outgoing). x.lost) (out_append (pieces_of false m k) (flat_map (pieces_of false m) ks) o) ∙ lost_stays m ks (acks_out (pieces_of false m k) o) ∙ go (fmap.get m k)
+  where
+    go : (x : Option (List Piece)) → (acks_out (elim x [ None ↦ [] | Some ps ↦ map (acked_at false k) ps ]) o).lost ≡ o.lost
+    go None = refl
+    go (Some ps) = lost_packet k ps o
+
+pub both_passes : (ranges : List (ℕ × ℕ)) (o mid new : Outgoing) (result : Result (Unit {0}) NoMemory) → AcksNamed false ranges o (Ok tt) mid → AcksNamed true ranges mid result new → AcksRanges ranges o result new
+unfolding AcksNamed AcksRanges
+both_passes ranges o mid new result first late = λ falls.
+    let one = first falls in
+    acks_append (named_in false o.outstanding ranges) (named_in true o.lost.pieces ranges) o new result
+    (subst (λ (l : LostPackets). AcksBy (named_in true l.pieces ranges) (acks_out (named_in false o.outstanding ranges) o) result new) (lost_stays o.outstanding (acked_numbers o.outstanding ranges) o)
+    (subst (λ (x : Outgoing). AcksBy (named_in true x.lost.pieces ranges) x result new) one (late falls)))
+
+pub first_stops : (ranges : List (ℕ × ℕ)) (o new : Outgoing) (e e' : NoMemory) → AcksNamed false ranges o (Err e) new → AcksRanges ranges o (Err e') new
+unfolding AcksNamed AcksRanges
+first_stops ranges o new e e' first = λ falls. acks_some (named_in false o.outstanding ranges) (named_in true o.lost.pieces ranges) o new e (first falls)
+
 fall_less : (high more : ℕ) (ranges : List (ℕ × ℕ)) → high ≤ more → FallBelow high ranges → FallBelow more ranges
 fall_less high more [] le falls = tt
 fall_less high more (r ∷ rs) le falls = (omega (arith, falls.0, le), falls.1, falls.2)
 
 -- What an end is then
 
-first_view : (k : ℕ) (p : Piece) (o : Outgoing) (e : End) → with_outgoing (first_acked_out k p o) e ≡ first_acked k p (with_outgoing o e)
-first_view k (Data n c) o e = refl
-first_view k (Told (MaxData x)) o e = refl
-first_view k (Told (MaxStreamData n x)) o e = refl
-first_view k (Told (MaxStreams d x)) o e = refl
-first_view k (Told (ResetStream n code size)) o e = refl
-first_view k (Told (StopSending n x)) o e = refl
-first_view k (Told (DataBlocked x)) o e = refl
-first_view k (Told (StreamDataBlocked n x)) o e = refl
-first_view k (Told (StreamsBlocked Bidi x)) o e = refl
-first_view k (Told (StreamsBlocked Uni x)) o e = refl
+piece_view : (p : Piece) (o : Outgoing) (e : End) → with_outgoing (piece_acked_out p o) e ≡ piece_acked p (with_outgoing o e)
+piece_view (Data n c) o e = refl
+piece_view (Told (MaxData x)) o e = refl
+piece_view (Told (MaxStreamData n x)) o e = refl
+piece_view (Told (MaxStreams d x)) o e = refl
+piece_view (Told (ResetStream n code size)) o e = refl
+piece_view (Told (StopSending n x)) o e = refl
+piece_view (Told (DataBlocked x)) o e = refl
+piece_view (Told (StreamDataBlocked n x)) o e = refl
+piece_view (Told (StreamsBlocked Bidi x)) o e = refl
+piece_view (Told (StreamsBlocked Uni x)) o e = refl
 
-acks_view : (ps : List (ℕ × Piece)) (o : Outgoing) (e : End) → with_outgoing (acks_out ps o) e ≡ acks ps (with_outgoing o e)
+first_view : (a : AckedPiece) (o : Outgoing) (e : End) → with_outgoing (first_acked_out a o) e ≡ first_acked a (with_outgoing o e)
+first_view a o e = piece_view a.piece (without_piece_out a.late a.number o) e
+
+acks_view : (ps : List AckedPiece) (o : Outgoing) (e : End) → with_outgoing (acks_out ps o) e ≡ acks ps (with_outgoing o e)
 unfolding acks_out acks
 acks_view [] o e = refl
-acks_view (p ∷ ps) o e = acks_view ps (first_acked_out p.0 p.1 o) e ∙ ap (acks ps) (first_view p.0 p.1 o e)
+acks_view (p ∷ ps) o e = acks_view ps (first_acked_out p o) e ∙ ap (acks ps) (first_view p o e)
 
 pub all_ranges : (largest : ℕ) (numbers : List ℕ) (o new : Outgoing) (result : Result (Unit {0}) NoMemory) → largest < 2 ^ 62 → taken numbers ≤ largest + 1 → AcksRanges (ack_ranges_of largest numbers) o result new
-    → AcksBy (named_pieces o.outstanding (ack_ranges_of largest numbers)) o result new
+    → AcksBy (named_out o (ack_ranges_of largest numbers)) o result new
 unfolding AcksRanges
 all_ranges largest numbers o new result small above h = h (fall_less (largest + 2) PAST_NUMBERS (ack_ranges_of largest numbers) (omega (arith, small)) (ranges_fall largest numbers above))
 
@@ -248,7 +330,7 @@ pub ack_ok : (largest : ℕ) (numbers : List ℕ) (ranges : List (ℕ × ℕ)) (
     → AcksRanges ranges o result new → OnOk result (with_outgoing new e ≡ acks (named e (ack_ranges_of largest numbers)) e)
 ack_ok largest numbers ranges o new e (Ok done) same small above is h =
     ap (λ (x : Outgoing). with_outgoing x e) (all_ranges largest numbers o new (Ok done) small above (subst (λ rs. AcksRanges rs o (Ok done) new) is h))
-    ∙ acks_view (named_pieces o.outstanding (ack_ranges_of largest numbers)) o e
+    ∙ acks_view (named_out o (ack_ranges_of largest numbers)) o e
     ∙ ap (λ (x : End). acks (named x (ack_ranges_of largest numbers)) x) (sym same)
 ack_ok largest numbers ranges o new e (Err refused) same small above is h = tt
 
@@ -259,6 +341,6 @@ ack_err largest numbers ranges o new e (Err refused) same small above is h =
     let some = all_ranges largest numbers o new (Err refused) small above (subst (λ rs. AcksRanges rs o (Err refused) new) is h) in (
       some.0,
       ap (λ (x : Outgoing). with_outgoing x e) some.1
-          ∙ acks_view (take some.0 (named_pieces o.outstanding (ack_ranges_of largest numbers))) o e
+          ∙ acks_view (take some.0 (named_out o (ack_ranges_of largest numbers))) o e
           ∙ ap (λ (x : End). acks (take some.0 (named x (ack_ranges_of largest numbers))) x) (sym same),
     )

@@ -14,9 +14,9 @@ use Rattle.qs_send.specs.declared.piece.Item.TheVariants.{MaxData, MaxStreamData
 use Rattle.qs_send.specs.declared.piece.Piece.{Piece}
 use Rattle.qs_send.specs.declared.piece.Piece.TheVariants.{Data, Told}
 use Rattle.qs_send.proofs.Carrying.{rest_of, get_same-without_first, get_other-without_first}
-use Rattle.qs_conn.specs.Ends.{End}
-use Rattle.qs_conn.specs.FrameStep.{acks, first_acked, piece_acked, item_acked, named, pieces, acked_numbers, is_named}
-use Rattle.qs_conn.proofs.EndsAfter.{IsBare, bare_less}
+use Rattle.qs_conn.specs.Ends.{End, Records}
+use Rattle.qs_conn.specs.FrameStep.{AckedPiece, acked_at, held, without_piece, pieces_of, acks, first_acked, piece_acked, item_acked, named_in, named, acked_numbers, is_named}
+use Rattle.qs_conn.proofs.EndsAfter.{IsBare, bare_without}
 
 -- Lists of numbers
 
@@ -71,120 +71,152 @@ reverse_among k (x ∷ xs) a =
 
 -- What acknowledgements leave
 
-out_item : (i : Item) (e : End) → (item_acked i e).outstanding ≡ e.outstanding
-out_item (MaxData m) e = refl
-out_item (MaxStreamData n m) e = refl
-out_item (MaxStreams d m) e = refl
-out_item (ResetStream n code size) e = refl
-out_item (StopSending n code) e = refl
-out_item (DataBlocked m) e = refl
-out_item (StreamDataBlocked n m) e = refl
-out_item (StreamsBlocked Bidi m) e = refl
-out_item (StreamsBlocked Uni m) e = refl
+held_item : (late : Bool) (i : Item) (e : End) → held late (item_acked i e) ≡ held late e
+held_item late (MaxData m) e = refl
+held_item late (MaxStreamData n m) e = refl
+held_item late (MaxStreams d m) e = refl
+held_item late (ResetStream n code size) e = refl
+held_item late (StopSending n code) e = refl
+held_item late (DataBlocked m) e = refl
+held_item late (StreamDataBlocked n m) e = refl
+held_item late (StreamsBlocked Bidi m) e = refl
+held_item late (StreamsBlocked Uni m) e = refl
 
-out_piece : (p : Piece) (e : End) → (piece_acked p e).outstanding ≡ e.outstanding
-out_piece (Data n c) e = refl
-out_piece (Told i) e = out_item i e
+held_piece : (late : Bool) (p : Piece) (e : End) → held late (piece_acked p e) ≡ held late e
+held_piece late (Data n c) e = refl
+held_piece late (Told i) e = held_item late i e
 
-out_first : (k : ℕ) (p : Piece) (e : End) → (first_acked k p e).outstanding ≡ without_first e.outstanding k (fmap.get e.outstanding k)
-out_first k p e = out_piece p (record e { outstanding = without_first e.outstanding k (fmap.get e.outstanding k) })
+held_first : (late : Bool) (k : ℕ) (p : Piece) (e : End) → held late (first_acked (acked_at late k p) e) ≡ without_first (held late e) k (fmap.get (held late e) k)
+held_first true k p e = held_piece true p (without_piece true k e)
+held_first false k p e = held_piece false p (without_piece false k e)
 
 -- packet j after the first piece of packet k is acknowledged
-first_same : (k : ℕ) (p : Piece) (e : End) → fmap.get (first_acked k p e).outstanding k ≡ rest_of (fmap.get e.outstanding k)
-first_same k p e = ap (λ m. fmap.get m k) (out_first k p e) ∙ get_same-without_first e.outstanding k
+first_same : (late : Bool) (k : ℕ) (p : Piece) (e : End) → fmap.get (held late (first_acked (acked_at late k p) e)) k ≡ rest_of (fmap.get (held late e) k)
+first_same late k p e = ap (λ m. fmap.get m k) (held_first late k p e) ∙ get_same-without_first (held late e) k
 
-first_other : (k j : ℕ) (p : Piece) (e : End) → (j ≡ k → ⊥) → fmap.get (first_acked k p e).outstanding j ≡ fmap.get e.outstanding j
-first_other k j p e ne = ap (λ m. fmap.get m j) (out_first k p e) ∙ get_other-without_first e.outstanding k j ne
+first_other : (late : Bool) (k j : ℕ) (p : Piece) (e : End) → (j ≡ k → ⊥) → fmap.get (held late (first_acked (acked_at late k p) e)) j ≡ fmap.get (held late e) j
+first_other late k j p e ne = ap (λ m. fmap.get m j) (held_first late k p e) ∙ get_other-without_first (held late e) k j ne
 
-stays_bare : (ps : List (ℕ × Piece)) (e : End) (j : ℕ) → IsBare (fmap.get e.outstanding j) → IsBare (fmap.get (acks ps e).outstanding j)
+stays_bare : (late : Bool) (ps : List AckedPiece) (e : End) (j : ℕ) → IsBare (fmap.get (held late e) j) → IsBare (fmap.get (held late (acks ps e)) j)
 unfolding acks
-stays_bare [] e j h = h
-stays_bare (p ∷ ps) e j h =
-    stays_bare ps (first_acked p.0 p.1 e) j (subst (λ m. IsBare (fmap.get m j)) (sym (out_first p.0 p.1 e)) (bare_less e.outstanding p.0 j h))
+stays_bare late [] e j h = h
+stays_bare late (p ∷ ps) e j h =
+    stays_bare late ps (first_acked p e) j (subst (λ m. IsBare (fmap.get m j)) (sym (held_piece late p.piece (without_piece p.late p.number e))) (bare_without late p.late p.number e j h))
 
-stays_other : (k j : ℕ) (ps : List Piece) (e : End) → (j ≡ k → ⊥) → fmap.get (acks (map (λ p. (k, p)) ps) e).outstanding j ≡ fmap.get e.outstanding j
+stays_other : (late : Bool) (k j : ℕ) (ps : List Piece) (e : End) → (j ≡ k → ⊥) → fmap.get (held late (acks (map (acked_at late k) ps) e)) j ≡ fmap.get (held late e) j
 unfolding acks
-stays_other k j [] e ne = refl
-stays_other k j (p ∷ ps) e ne = stays_other k j ps (first_acked k p e) ne ∙ first_other k j p e ne
+stays_other late k j [] e ne = refl
+stays_other late k j (p ∷ ps) e ne = stays_other late k j ps (first_acked (acked_at late k p) e) ne ∙ first_other late k j p e ne
 
-all_taken : (k : ℕ) (ps : List Piece) (e : End) → fmap.get e.outstanding k ≡ Some ps → IsBare (fmap.get (acks (map (λ p. (k, p)) ps) e).outstanding k)
+all_taken : (late : Bool) (k : ℕ) (ps : List Piece) (e : End) → fmap.get (held late e) k ≡ Some ps → IsBare (fmap.get (held late (acks (map (acked_at late k) ps) e)) k)
 unfolding acks
-all_taken k [] e is = subst IsBare (sym is) tt
-all_taken k (p ∷ []) e is = subst IsBare (sym (first_same k p e ∙ ap rest_of is)) tt
-all_taken k (p ∷ q ∷ ps) e is = all_taken k (q ∷ ps) (first_acked k p e) (first_same k p e ∙ ap rest_of is)
+all_taken late k [] e is = subst IsBare (sym is) tt
+all_taken late k (p ∷ []) e is = subst IsBare (sym (first_same late k p e ∙ ap rest_of is)) tt
+all_taken late k (p ∷ q ∷ ps) e is = all_taken late k (q ∷ ps) (first_acked (acked_at late k p) e) (first_same late k p e ∙ ap rest_of is)
 
-acks_append : (ps qs : List (ℕ × Piece)) (e : End) → acks (ps ++ qs) e ≡ acks qs (acks ps e)
+acks_append : (ps qs : List AckedPiece) (e : End) → acks (ps ++ qs) e ≡ acks qs (acks ps e)
 unfolding acks
 acks_append [] qs e = refl
-acks_append (p ∷ ps) qs e = acks_append ps qs (first_acked p.0 p.1 e)
+acks_append (p ∷ ps) qs e = acks_append ps qs (first_acked p e)
 
 -- each packet is as it began, or has no piece left
-abbrev AreLeft : End → End → Type 0
-AreLeft e0 e = (j : ℕ) → (fmap.get e.outstanding j ≡ fmap.get e0.outstanding j) ⊎ IsBare (fmap.get e.outstanding j)
+abbrev AreLeft : Bool → Records → End → Type 0
+AreLeft late m e = (j : ℕ) → (fmap.get (held late e) j ≡ fmap.get m j) ⊎ IsBare (fmap.get (held late e) j)
 
-abbrev piece_list : ℕ → Option (List Piece) → List (ℕ × Piece)
-piece_list k o = elim o [ None ↦ [] | Some ps ↦ map (λ p. (k, p)) ps ]
+abbrev piece_list : Bool → ℕ → Option (List Piece) → List AckedPiece
+piece_list late k o = elim o [ None ↦ [] | Some ps ↦ map (acked_at late k) ps ]
 
-packet_bare : (e0 e : End) (k : ℕ) → AreLeft e0 e → IsBare (fmap.get (acks (pieces e0 k) e).outstanding k)
+packet_bare : (late : Bool) (m : Records) (e : End) (k : ℕ) → AreLeft late m e → IsBare (fmap.get (held late (acks (pieces_of late m k) e)) k)
 unfolding acks
-packet_bare e0 e k left = elim (left k) [ inl same ↦ go (fmap.get e0.outstanding k) same | inr bare ↦ stays_bare (pieces e0 k) e k bare ]
+packet_bare late m e k left = elim (left k) [ inl same ↦ go (fmap.get m k) same | inr bare ↦ stays_bare late (pieces_of late m k) e k bare ]
   where
-    go : (o : Option (List Piece)) → fmap.get e.outstanding k ≡ o → IsBare (fmap.get (acks (piece_list k o) e).outstanding k)
+    go : (o : Option (List Piece)) → fmap.get (held late e) k ≡ o → IsBare (fmap.get (held late (acks (piece_list late k o) e)) k)
     go None is = subst IsBare (sym is) tt
-    go (Some ps) is = all_taken k ps e is
+    go (Some ps) is = all_taken late k ps e is
 
-packet_left : (e0 e : End) (k : ℕ) → AreLeft e0 e → AreLeft e0 (acks (pieces e0 k) e)
+packet_left : (late : Bool) (m : Records) (e : End) (k : ℕ) → AreLeft late m e → AreLeft late m (acks (pieces_of late m k) e)
 unfolding acks
-packet_left e0 e k left j =
+packet_left late m e k left j =
     elim (cases_eq j k) [
-      | inl e1 ↦ inr (subst (λ i. IsBare (fmap.get (acks (pieces e0 k) e).outstanding i)) (sym e1) (packet_bare e0 e k left))
+      | inl e1 ↦ inr (subst (λ i. IsBare (fmap.get (held late (acks (pieces_of late m k) e)) i)) (sym e1) (packet_bare late m e k left))
       | inr ne ↦ elim (left j) [
-        | inl same ↦ inl (go ne (fmap.get e0.outstanding k) ∙ same)
-        | inr bare ↦ inr (stays_bare (pieces e0 k) e j bare)
+        | inl same ↦ inl (go ne (fmap.get m k) ∙ same)
+        | inr bare ↦ inr (stays_bare late (pieces_of late m k) e j bare)
       ]
     ]
   where
-    go : (j ≡ k → ⊥) → (o : Option (List Piece)) → fmap.get (acks (piece_list k o) e).outstanding j ≡ fmap.get e.outstanding j
+    go : (j ≡ k → ⊥) → (o : Option (List Piece)) → fmap.get (held late (acks (piece_list late k o) e)) j ≡ fmap.get (held late e) j
     go ne None = refl
-    go ne (Some ps) = stays_other k j ps e ne
+    go ne (Some ps) = stays_other late k j ps e ne
 
-packets_bare : (e0 : End) (ks : List ℕ) (e : End) → AreLeft e0 e → (k : ℕ) → Among k ks → IsBare (fmap.get (acks (flat_map (pieces e0) ks) e).outstanding k)
-packets_bare e0 [] e left k a = absurd a
-packets_bare e0 (j ∷ ks) e left k a =
-    subst (λ (x : End). IsBare (fmap.get x.outstanding k)) (sym (acks_append (pieces e0 j) (flat_map (pieces e0) ks) e)) (elim a [
-      | inl here ↦ stays_bare (flat_map (pieces e0) ks) (acks (pieces e0 j) e) k (subst (λ i. IsBare (fmap.get (acks (pieces e0 j) e).outstanding i)) (sym here) (packet_bare e0 e j left))
-      | inr later ↦ packets_bare e0 ks (acks (pieces e0 j) e) (packet_left e0 e j left) k later
+packets_bare : (late : Bool) (m : Records) (ks : List ℕ) (e : End) → AreLeft late m e → (k : ℕ) → Among k ks → IsBare (fmap.get (held late (acks (flat_map (pieces_of late m) ks) e)) k)
+packets_bare late m [] e left k a = absurd a
+packets_bare late m (j ∷ ks) e left k a =
+    subst (λ (x : End). IsBare (fmap.get (held late x) k)) (sym (acks_append (pieces_of late m j) (flat_map (pieces_of late m) ks) e)) (elim a [
+      | inl here ↦ stays_bare late (flat_map (pieces_of late m) ks) (acks (pieces_of late m j) e) k (subst (λ i. IsBare (fmap.get (held late (acks (pieces_of late m j) e)) i)) (sym here) (packet_bare late m e j left))
+      | inr later ↦ packets_bare late m ks (acks (pieces_of late m j) e) (packet_left late m e j left) k later
     ])
 
--- of a packet that an ACK names no piece is left
-pub named_bare : (e : End) (ranges : List (ℕ × ℕ)) (k : ℕ) → is_named ranges k ≡ true → IsBare (fmap.get (acks (named e ranges) e).outstanding k)
-named_bare e ranges k is = go (fmap.get e.outstanding k) refl
+in_bare : (late : Bool) (m : Records) (e : End) (ranges : List (ℕ × ℕ)) (k : ℕ) → held late e ≡ m → is_named ranges k ≡ true → IsBare (fmap.get (held late (acks (named_in late m ranges) e)) k)
+in_bare late m e ranges k same is = go (fmap.get m k) refl
   where
-    go : (o : Option (List Piece)) → fmap.get e.outstanding k ≡ o → IsBare (fmap.get (acks (named e ranges) e).outstanding k)
-    go None none = stays_bare (named e ranges) e k (subst IsBare (sym none) tt)
+    go : (o : Option (List Piece)) → fmap.get m k ≡ o → IsBare (fmap.get (held late (acks (named_in late m ranges) e)) k)
+    go None none = stays_bare late (named_in late m ranges) e k (subst IsBare (sym (ap (λ (x : Records). fmap.get x k) same ∙ none)) tt)
     go (Some ps) some =
-        let held : Among k (fmap.keys e.outstanding) = among_any k (fmap.keys e.outstanding) (sym (fmap.contains_key-keys e.outstanding k) ∙ ap is_some some) in
-        packets_bare e (acked_numbers e ranges) e (λ j. inl refl) k (among_reverse k _ (among_filter (is_named ranges) k (fmap.keys e.outstanding) held is))
+        let there : Among k (fmap.keys m) = among_any k (fmap.keys m) (sym (fmap.contains_key-keys m k) ∙ ap is_some some) in
+        packets_bare late m (acked_numbers m ranges) e (λ j. inl (ap (λ (x : Records). fmap.get x j) same)) k (among_reverse k _ (among_filter (is_named ranges) k (fmap.keys m) there is))
+
+-- the pieces of outstanding packets leave the lost ones alone
+late_packet : (k : ℕ) (ps : List Piece) (e : End) → held true (acks (map (acked_at false k) ps) e) ≡ held true e
+unfolding acks
+late_packet k [] e = refl
+late_packet k (p ∷ ps) e = late_packet k ps (first_acked (acked_at false k p) e) ∙ held_piece true p (without_piece false k e)
+
+late_stays : (m : Records) (ks : List ℕ) (e : End) → held true (acks (flat_map (pieces_of false m) ks) e) ≡ held true e
+unfolding acks
+late_stays m [] e = refl
+late_stays m (k ∷ ks) e = ap (held true) (acks_append (pieces_of false m k) (flat_map (pieces_of false m) ks) e) ∙ late_stays m ks (acks (pieces_of false m k) e) ∙ go (fmap.get m k)
+  where
+    go : (o : Option (List Piece)) → held true (acks (piece_list false k o) e) ≡ held true e
+    go None = refl
+    go (Some ps) = late_packet k ps e
+
+-- of a packet that an ACK names no piece is left, outstanding or lost
+pub named_bare : (e : End) (ranges : List (ℕ × ℕ)) (late : Bool) (k : ℕ) → is_named ranges k ≡ true → IsBare (fmap.get (held late (acks (named e ranges) e)) k)
+named_bare e ranges late k is = subst (λ (x : End). IsBare (fmap.get (held late x) k)) (sym (acks_append first second e)) (go late)
+  where
+    first : List AckedPiece
+    first = named_in false e.outstanding ranges
+
+    second : List AckedPiece
+    second = named_in true e.lost.pieces ranges
+
+    go : (b : Bool) → IsBare (fmap.get (held b (acks second (acks first e))) k)
+    go false = stays_bare false second (acks first e) k (in_bare false e.outstanding e ranges k refl is)
+    go true = in_bare true e.lost.pieces (acks first e) ranges k (late_stays e.outstanding (acked_numbers e.outstanding ranges) e) is
 
 -- What an ACK takes again
 
-bare_none : (e : End) (k : ℕ) → IsBare (fmap.get e.outstanding k) → pieces e k ≡ []
-bare_none e k h = go (fmap.get e.outstanding k) h
+bare_none : (late : Bool) (m : Records) (k : ℕ) → IsBare (fmap.get m k) → pieces_of late m k ≡ []
+bare_none late m k h = go (fmap.get m k) h
   where
-    go : (o : Option (List Piece)) → IsBare o → piece_list k o ≡ []
+    go : (o : Option (List Piece)) → IsBare o → piece_list late k o ≡ []
     go None h = refl
     go (Some []) h = refl
     go (Some (p ∷ ps)) h = absurd h
 
-none_flat : (f : ℕ → List (ℕ × Piece)) (ks : List ℕ) → ((k : ℕ) → Among k ks → f k ≡ []) → flat_map f ks ≡ []
+none_flat : (f : ℕ → List AckedPiece) (ks : List ℕ) → ((k : ℕ) → Among k ks → f k ≡ []) → flat_map f ks ≡ []
 none_flat f [] h = refl
 none_flat f (k ∷ ks) h = ap (λ xs. xs ++ flat_map f ks) (h k (inl refl)) ∙ none_flat f ks (λ j a. h j (inr a))
 
-pub named_nothing : (e : End) (ranges : List (ℕ × ℕ)) → ((k : ℕ) → is_named ranges k ≡ true → IsBare (fmap.get e.outstanding k)) → named e ranges ≡ []
-named_nothing e ranges bare =
-    none_flat (pieces e) (acked_numbers e ranges) (λ k a.
-    bare_none e k (bare k (filter_among (is_named ranges) k (fmap.keys e.outstanding) (reverse_among k _ a))))
+in_nothing : (late : Bool) (m : Records) (ranges : List (ℕ × ℕ)) → ((k : ℕ) → is_named ranges k ≡ true → IsBare (fmap.get m k)) → named_in late m ranges ≡ []
+in_nothing late m ranges bare =
+    none_flat (pieces_of late m) (acked_numbers m ranges) (λ k a.
+    bare_none late m k (bare k (filter_among (is_named ranges) k (fmap.keys m) (reverse_among k _ a))))
 
-pub named_again : (e : End) (ranges : List (ℕ × ℕ)) → ((k : ℕ) → is_named ranges k ≡ true → IsBare (fmap.get e.outstanding k)) → acks (named e ranges) e ≡ e
+pub named_nothing : (e : End) (ranges : List (ℕ × ℕ)) → ((late : Bool) (k : ℕ) → is_named ranges k ≡ true → IsBare (fmap.get (held late e) k)) → named e ranges ≡ []
+named_nothing e ranges bare = ap (λ ps. ps ++ named_in true e.lost.pieces ranges) (in_nothing false e.outstanding ranges (bare false)) ∙ in_nothing true e.lost.pieces ranges (bare true)
+
+pub named_again : (e : End) (ranges : List (ℕ × ℕ)) → ((late : Bool) (k : ℕ) → is_named ranges k ≡ true → IsBare (fmap.get (held late e) k)) → acks (named e ranges) e ≡ e
 unfolding acks
 named_again e ranges bare = ap (λ ps. acks ps e) (named_nothing e ranges bare)

@@ -20,7 +20,7 @@ use Rattle.qs_conn.specs.Ends.{End, is_own, is_own_by, is_uni, on_send, on_recv,
 use Rattle.qs_conn.specs.Credit.{spent}
 use Rattle.qs_conn.specs.Seen.{Seen, Ack, Stream, Control, Close, Plain}
 use Rattle.qs_conn.specs.Verdicts.{verdict, item_verdict, state_fault_in, state_fault_out, credit_fault, ack_fault, fault_if, or_else, or_new}
-use Rattle.qs_conn.specs.FrameStep.{frame_taken, item_taken, frames_taken, is_named, NoFault}
+use Rattle.qs_conn.specs.FrameStep.{frame_taken, item_taken, frames_taken, held, is_named, NoFault}
 use Rattle.qs_conn.specs.Receiving.{GoesOn}
 use Rattle.qs_conn.specs.Standing.{IsSound}
 use Rattle.qs_conn.specs.Repeats.{SentWasWritten, AreAmong}
@@ -137,7 +137,7 @@ ItemDone (StreamDataBlocked n m) e = (state_fault_in e n ≡ None) × WasOpened 
 ItemDone (StreamsBlocked d m) e = ⊤
 
 abbrev pub IsDone : Seen → End → Type 0
-IsDone (Ack largest ranges) e = (ack_fault e largest ≡ None) × ((k : ℕ) → is_named ranges k ≡ true → IsBare (fmap.get e.outstanding k))
+IsDone (Ack largest ranges) e = (ack_fault e largest ≡ None) × ((late : Bool) (k : ℕ) → is_named ranges k ≡ true → IsBare (fmap.get (held late e) k))
 IsDone (Stream n offset bytes fin) e = (state_fault_in e n ≡ None) × WasOpened e n × (l : RecvLane) × (lookup e.recvs n ≡ Some l) × HasData l offset (length bytes) fin
 IsDone (Control i) e = ItemDone i e
 IsDone (Close code) e = ⊥
@@ -163,7 +163,7 @@ item_stays (StreamDataBlocked n m) a b x (fine, was) = (in_stays n a b x fine, o
 item_stays (StreamsBlocked d m) a b x h = tt
 
 pub done_stays : (f : Seen) (a b : End) → IsAfter a b → IsDone f a → IsDone f b
-done_stays (Ack largest ranges) a b x (fine, bare) = (ack_stays largest a b x fine, λ k is. x.bare k (bare k is))
+done_stays (Ack largest ranges) a b x (fine, bare) = (ack_stays largest a b x fine, λ late k is. x.bare late k (bare late k is))
 done_stays (Stream n offset bytes fin) a b x (fine, was, l, is, has) =
     let (k, there, r) = x.recvs n l is in
     (in_stays n a b x fine, opened_stays n a b x was, k, there, data_stays l k offset (length bytes) fin r has)

@@ -27,7 +27,7 @@ use Rattle.qs_conn.specs.Ends.{End, Records, AckedItems, closes, is_own, is_uni,
 use Rattle.qs_conn.specs.Credit.{settle}
 use Rattle.qs_conn.specs.Seen.{Seen, Ack, Stream, Control, Close, Plain}
 use Rattle.qs_conn.specs.Verdicts.{verdict, or_new}
-use Rattle.qs_conn.specs.FrameStep.{frame_taken, item_taken, acks, first_acked, piece_acked, item_acked, named, pieces, acked_numbers}
+use Rattle.qs_conn.specs.FrameStep.{frame_taken, item_taken, AckedPiece, acked_at, held, without_piece, pieces_of, acked_numbers, named_in, named, acks, first_acked, piece_acked, item_acked}
 use Rattle.qs_conn.specs.Standing.{IsSound, HasLawfulLane}
 use Rattle.qs_conn.specs.Repeats.{IsWritten, WasWritten, SentWasWritten}
 use Rattle.qs_conn.proofs.FramesSound.{sound_opened}
@@ -96,8 +96,8 @@ pub record IsAfter (a b : End) : Type 0 where
   pub uni : a.known_uni ≤ b.known_uni
   pub recvs : KeptIn LaneAfter a.recvs b.recvs
   pub sends : KeptIn HalfAfter a.sends b.sends
-  pub bare : (k : ℕ) → IsBare (fmap.get a.outstanding k) → IsBare (fmap.get b.outstanding k)
-  pub carried : (p : Piece) → IsCarried b.outstanding p → IsCarried a.outstanding p
+  pub bare : (late : Bool) (k : ℕ) → IsBare (fmap.get (held late a) k) → IsBare (fmap.get (held late b) k)
+  pub carried : (late : Bool) (p : Piece) → IsCarried (held late b) p → IsCarried (held late a) p
 
 recvs_same : (t : Tables RecvLane) → KeptIn LaneAfter t t
 recvs_same t = kept_same LaneAfter lane_same t
@@ -105,20 +105,17 @@ recvs_same t = kept_same LaneAfter lane_same t
 sends_same : (t : Tables SendLane) → KeptIn HalfAfter t t
 sends_same t = kept_same HalfAfter half_same t
 
--- an end whose tables, records and known limits moved
-after_parts : (e : End) (s : Tables SendLane) (r : Tables RecvLane) (g d b u : ℕ) (m : Records) (a : AckedItems) → KeptIn HalfAfter e.sends s → KeptIn LaneAfter e.recvs r
-    → e.known_data ≤ d → e.known_bidi ≤ b → e.known_uni ≤ u → ((k : ℕ) → IsBare (fmap.get e.outstanding k) → IsBare (fmap.get m k)) → ((p : Piece) → IsCarried m p → IsCarried e.outstanding p)
-    → IsAfter e (record e { sends = s; recvs = r; granted = g; known_data = d; known_bidi = b; known_uni = u; outstanding = m; acked = a })
-after_parts e s r g d b u m a ss rr dd bb uu bare carried =
-    record { role = refl; settings = refl; next = omega arith; credit = dd; bidi = bb; uni = uu; recvs = rr; sends = ss; bare = bare; carried = carried }
+-- an end whose tables and known limits moved
+after_parts : (e : End) (s : Tables SendLane) (r : Tables RecvLane) (g d b u : ℕ) → KeptIn HalfAfter e.sends s → KeptIn LaneAfter e.recvs r → e.known_data ≤ d → e.known_bidi ≤ b → e.known_uni ≤ u
+    → IsAfter e (record e { sends = s; recvs = r; granted = g; known_data = d; known_bidi = b; known_uni = u })
+after_parts e s r g d b u ss rr dd bb uu =
+    record { role = refl; settings = refl; next = omega arith; credit = dd; bidi = bb; uni = uu; recvs = rr; sends = ss; bare = λ late k is. is; carried = λ late p is. is }
 
 after_tables : (e : End) (s : Tables SendLane) (r : Tables RecvLane) (g : ℕ) → KeptIn HalfAfter e.sends s → KeptIn LaneAfter e.recvs r → IsAfter e (record e { sends = s; recvs = r; granted = g })
-after_tables e s r g ss rr =
-    after_parts e s r g e.known_data e.known_bidi e.known_uni e.outstanding e.acked ss rr (omega arith) (omega arith) (omega arith) (λ k is. is) (λ p is. is)
+after_tables e s r g ss rr = after_parts e s r g e.known_data e.known_bidi e.known_uni ss rr (omega arith) (omega arith) (omega arith)
 
 after_known : (e : End) (d b u : ℕ) → e.known_data ≤ d → e.known_bidi ≤ b → e.known_uni ≤ u → IsAfter e (record e { known_data = d; known_bidi = b; known_uni = u })
-after_known e d b u dd bb uu =
-    after_parts e e.sends e.recvs e.granted d b u e.outstanding e.acked (sends_same e.sends) (recvs_same e.recvs) dd bb uu (λ k is. is) (λ p is. is)
+after_known e d b u dd bb uu = after_parts e e.sends e.recvs e.granted d b u (sends_same e.sends) (recvs_same e.recvs) dd bb uu
 
 pub after_same : (e : End) → IsAfter e e
 after_same e = after_tables e e.sends e.recvs e.granted (sends_same e.sends) (recvs_same e.recvs)
@@ -134,16 +131,16 @@ after_twice a b c x y =
       uni = omega (arith, x.uni, y.uni);
       recvs = kept_twice LaneAfter lane_same lane_twice a.recvs b.recvs c.recvs x.recvs y.recvs;
       sends = kept_twice HalfAfter half_same half_twice a.sends b.sends c.sends x.sends y.sends;
-      bare = λ k is. y.bare k (x.bare k is);
-      carried = λ p is. x.carried p (y.carried p is);
+      bare = λ late k is. y.bare late k (x.bare late k is);
+      carried = λ late p is. x.carried late p (y.carried late p is);
     }
 
 -- what neither moves the tables nor the records nor the known limits
 pub after_closes : (c : Closed) (e : End) → IsAfter e (closes c e)
-after_closes c e = record { role = refl; settings = refl; next = omega arith; credit = omega arith; bidi = omega arith; uni = omega arith; recvs = recvs_same e.recvs; sends = sends_same e.sends; bare = λ k is. is; carried = λ p is. is }
+after_closes c e = record { role = refl; settings = refl; next = omega arith; credit = omega arith; bidi = omega arith; uni = omega arith; recvs = recvs_same e.recvs; sends = sends_same e.sends; bare = λ late k is. is; carried = λ late p is. is }
 
 pub after_recorded : (k : ℕ) (asks : Bool) (e : End) → IsAfter e (recorded k asks e)
-after_recorded k asks e = record { role = refl; settings = refl; next = omega arith; credit = omega arith; bidi = omega arith; uni = omega arith; recvs = recvs_same e.recvs; sends = sends_same e.sends; bare = λ k is. is; carried = λ p is. is }
+after_recorded k asks e = record { role = refl; settings = refl; next = omega arith; credit = omega arith; bidi = omega arith; uni = omega arith; recvs = recvs_same e.recvs; sends = sends_same e.sends; bare = λ late k is. is; carried = λ late p is. is }
 
 -- Openings, and changes of a half
 
@@ -180,13 +177,37 @@ bare_less m k n h = subst IsBare (sym (get-without_first m k n)) (go (nat_eq n k
     go true same = let e : n ≡ k = grind (arith, nat_tests, same) in bare_rest (fmap.get m k) (subst (λ j. IsBare (fmap.get m j)) e h)
     go false other = h
 
-after_shorter : (e : End) (k : ℕ) (a : AckedItems) → IsAfter e (record e { outstanding = without_first e.outstanding k (fmap.get e.outstanding k); acked = a })
-after_shorter e k a =
-    after_parts e e.sends e.recvs e.granted e.known_data e.known_bidi e.known_uni _ a (sends_same e.sends) (recvs_same e.recvs) (omega arith) (omega arith) (omega arith)
-    (bare_less e.outstanding k) (carried-without_first e.outstanding k)
+-- a record without its first piece, the outstanding one or the lost one
+
+pub bare_without : (late b : Bool) (k : ℕ) (e : End) (j : ℕ) → IsBare (fmap.get (held late e) j) → IsBare (fmap.get (held late (without_piece b k e)) j)
+bare_without true true k e j h = bare_less e.lost.pieces k j h
+bare_without true false k e j h = h
+bare_without false true k e j h = h
+bare_without false false k e j h = bare_less e.outstanding k j h
+
+pub carried_without : (late b : Bool) (k : ℕ) (e : End) (p : Piece) → IsCarried (held late (without_piece b k e)) p → IsCarried (held late e) p
+carried_without true true k e p is = carried-without_first e.lost.pieces k p is
+carried_without true false k e p is = is
+carried_without false true k e p is = is
+carried_without false false k e p is = carried-without_first e.outstanding k p is
+
+after_without : (late : Bool) (k : ℕ) (e : End) → IsAfter e (without_piece late k e)
+after_without late k e =
+    record {
+      role = refl;
+      settings = refl;
+      next = omega arith;
+      credit = omega arith;
+      bidi = omega arith;
+      uni = omega arith;
+      recvs = recvs_same e.recvs;
+      sends = sends_same e.sends;
+      bare = λ b j is. bare_without b late k e j is;
+      carried = λ b p is. carried_without b late k e p is;
+    }
 
 after_acked_items : (e : End) (a : AckedItems) → IsAfter e (record e { acked = a })
-after_acked_items e a = record { role = refl; settings = refl; next = omega arith; credit = omega arith; bidi = omega arith; uni = omega arith; recvs = recvs_same e.recvs; sends = sends_same e.sends; bare = λ k is. is; carried = λ p is. is }
+after_acked_items e a = record { role = refl; settings = refl; next = omega arith; credit = omega arith; bidi = omega arith; uni = omega arith; recvs = recvs_same e.recvs; sends = sends_same e.sends; bare = λ late k is. is; carried = λ late p is. is }
 
 after_item_acked : (i : Item) (e : End) → IsAfter e (item_acked i e)
 after_item_acked (MaxData m) e = after_acked_items e _
@@ -206,10 +227,10 @@ after_piece : (p : Piece) (e : End) → WasWritten e.sends p → IsAfter e (piec
 after_piece (Data n c) e written = after_send n (λ l. acked_lane l c) e (λ l is. half_acked l c (written_lane (lookup e.sends n) l c is written))
 after_piece (Told i) e written = after_item_acked i e
 
-after_first : (k : ℕ) (p : Piece) (e : End) → WasWritten e.sends p → IsAfter e (first_acked k p e)
-after_first k p e written =
-    let short = record e { outstanding = without_first e.outstanding k (fmap.get e.outstanding k) } in
-    after_twice e short (first_acked k p e) (after_shorter e k e.acked) (after_piece p short written)
+after_first : (a : AckedPiece) (e : End) → WasWritten e.sends a.piece → IsAfter e (first_acked a e)
+after_first a e written =
+    let short = without_piece a.late a.number e in
+    after_twice e short (first_acked a e) (after_without a.late a.number e) (after_piece a.piece short written)
 
 -- what was written stays written, where no half has fewer bytes
 pub written_stays : (R : SendLane → SendLane → Type 0) → ((l m : SendLane) → R l m → l.written ≤ m.written) → (t u : Tables SendLane) → KeptIn R t u → (p : Piece) → WasWritten t p → WasWritten u p
@@ -224,49 +245,53 @@ half_longer : (l m : SendLane) → HalfAfter l m → l.written ≤ m.written
 half_longer l m r = r.written
 
 pub sent_stays : (a b : End) → IsAfter a b → SentWasWritten a → SentWasWritten b
-sent_stays a b x h p is = written_stays HalfAfter half_longer a.sends b.sends x.sends p (h p (x.carried p is))
+sent_stays a b x h late p is = written_stays HalfAfter half_longer a.sends b.sends x.sends p (h late p (x.carried late p is))
 
 -- all data of the list was written
-abbrev pub AllWritten : Tables SendLane → List (ℕ × Piece) → Type 0
+abbrev pub AllWritten : Tables SendLane → List AckedPiece → Type 0
 AllWritten t [] = ⊤
-AllWritten t (p ∷ ps) = WasWritten t p.1 × AllWritten t ps
+AllWritten t (p ∷ ps) = WasWritten t p.piece × AllWritten t ps
 
-all_stay : (t u : Tables SendLane) → KeptIn HalfAfter t u → (ps : List (ℕ × Piece)) → AllWritten t ps → AllWritten u ps
+all_stay : (t u : Tables SendLane) → KeptIn HalfAfter t u → (ps : List AckedPiece) → AllWritten t ps → AllWritten u ps
 all_stay t u kept [] h = tt
-all_stay t u kept (p ∷ ps) h = (written_stays HalfAfter half_longer t u kept p.1 h.0, all_stay t u kept ps h.1)
+all_stay t u kept (p ∷ ps) h = (written_stays HalfAfter half_longer t u kept p.piece h.0, all_stay t u kept ps h.1)
 
-pub after_acks : (ps : List (ℕ × Piece)) (e : End) → AllWritten e.sends ps → IsAfter e (acks ps e)
+pub after_acks : (ps : List AckedPiece) (e : End) → AllWritten e.sends ps → IsAfter e (acks ps e)
 unfolding acks
 after_acks [] e h = after_same e
 after_acks (p ∷ ps) e h =
-    let one = after_first p.0 p.1 e h.0 in
-    after_twice e (first_acked p.0 p.1 e) _ one (after_acks ps (first_acked p.0 p.1 e) (all_stay e.sends (first_acked p.0 p.1 e).sends one.sends ps h.1))
+    let one = after_first p e h.0 in
+    after_twice e (first_acked p e) _ one (after_acks ps (first_acked p e) (all_stay e.sends (first_acked p e).sends one.sends ps h.1))
 
-pub all_append : (t : Tables SendLane) (ps qs : List (ℕ × Piece)) → AllWritten t ps → AllWritten t qs → AllWritten t (ps ++ qs)
+pub all_append : (t : Tables SendLane) (ps qs : List AckedPiece) → AllWritten t ps → AllWritten t qs → AllWritten t (ps ++ qs)
 all_append t [] qs a b = b
 all_append t (p ∷ ps) qs a b = (a.0, all_append t ps qs a.1 b)
 
-pub all_take : (t : Tables SendLane) (m : ℕ) (ps : List (ℕ × Piece)) → AllWritten t ps → AllWritten t (take m ps)
+pub all_take : (t : Tables SendLane) (m : ℕ) (ps : List AckedPiece) → AllWritten t ps → AllWritten t (take m ps)
 all_take t zero ps h = tt
 all_take t (suc m) [] h = tt
 all_take t (suc m) (p ∷ ps) h = (h.0, all_take t m ps h.1)
 
--- what an ACK takes was outstanding
+-- what an ACK takes was outstanding, or lost
 
-all_mapped : (t : Tables SendLane) (k : ℕ) (ps : List Piece) → ((p : Piece) → Among p ps → WasWritten t p) → AllWritten t (map (λ p. (k, p)) ps)
-all_mapped t k [] h = tt
-all_mapped t k (p ∷ ps) h = (h p (inl refl), all_mapped t k ps (λ q a. h q (inr a)))
+all_mapped : (t : Tables SendLane) (late : Bool) (k : ℕ) (ps : List Piece) → ((p : Piece) → Among p ps → WasWritten t p) → AllWritten t (map (acked_at late k) ps)
+all_mapped t late k [] h = tt
+all_mapped t late k (p ∷ ps) h = (h p (inl refl), all_mapped t late k ps (λ q a. h q (inr a)))
 
-pub pieces_written : (e : End) (k : ℕ) → SentWasWritten e → AllWritten e.sends (pieces e k)
-pieces_written e k h = go (fmap.get e.outstanding k) refl
+pieces_written : (e : End) (late : Bool) (k : ℕ) → SentWasWritten e → AllWritten e.sends (pieces_of late (held late e) k)
+pieces_written e late k h = go (fmap.get (held late e) k) refl
   where
-    go : (o : Option (List Piece)) → fmap.get e.outstanding k ≡ o → AllWritten e.sends (elim o [ None ↦ [] | Some ps ↦ map (λ p. (k, p)) ps ])
+    go : (o : Option (List Piece)) → fmap.get (held late e) k ≡ o → AllWritten e.sends (elim o [ None ↦ [] | Some ps ↦ map (acked_at late k) ps ])
     go None is = tt
-    go (Some ps) is = all_mapped e.sends k ps (λ p a. h p (k, ps, is, a))
+    go (Some ps) is = all_mapped e.sends late k ps (λ p a. h late p (k, ps, is, a))
 
-pub numbers_written : (e : End) (ks : List ℕ) → SentWasWritten e → AllWritten e.sends (flat_map (pieces e) ks)
-numbers_written e [] h = tt
-numbers_written e (k ∷ ks) h = all_append e.sends (pieces e k) (flat_map (pieces e) ks) (pieces_written e k h) (numbers_written e ks h)
+numbers_written : (e : End) (late : Bool) (ks : List ℕ) → SentWasWritten e → AllWritten e.sends (flat_map (pieces_of late (held late e)) ks)
+numbers_written e late [] h = tt
+numbers_written e late (k ∷ ks) h = all_append e.sends (pieces_of late (held late e) k) (flat_map (pieces_of late (held late e)) ks) (pieces_written e late k h) (numbers_written e late ks h)
+
+pub named_written : (e : End) (ranges : List (ℕ × ℕ)) → SentWasWritten e → AllWritten e.sends (named e ranges)
+named_written e ranges h =
+    all_append e.sends (named_in false e.outstanding ranges) (named_in true e.lost.pieces ranges) (numbers_written e false (acked_numbers e.outstanding ranges) h) (numbers_written e true (acked_numbers e.lost.pieces ranges) h)
 
 -- Frames
 
@@ -307,7 +332,7 @@ after_item (StreamsBlocked d m) e v h = after_same e
 
 pub after_frame : (f : Seen) (e : End) → verdict e f ≡ None → IsSound e → SentWasWritten e → IsAfter e (frame_taken f e)
 unfolding frame_taken
-after_frame (Ack largest ranges) e v sound sent = after_acks (named e ranges) e (numbers_written e (acked_numbers e ranges) sent)
+after_frame (Ack largest ranges) e v sound sent = after_acks (named e ranges) e (named_written e ranges sent)
 after_frame (Stream n offset bytes fin) e v sound sent = after_twice e (opened_by_peer n e) _ (after_opened n e) (mid_stream n offset bytes fin e v sound)
 after_frame (Control i) e v sound sent = after_item i e v sound
 after_frame (Close code) e v sound sent = after_same e

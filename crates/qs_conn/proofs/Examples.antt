@@ -3,7 +3,7 @@ use Rattle.std.proofs.Common.{◌≡◌, ℕ, ◌<◌, List, [], ◌∷◌, ◌+
 use Rattle.std.specs.FinSet as set
 use Rattle.std.specs.FinMap as fmap
 use Rattle.std.specs.Ordering.{nat_cmp}
-use Rattle.std.specs.Prelude.{Err, max, cond, Bool, true, false, ◌&&◌, ◌==◌, is_some}
+use Rattle.std.specs.Prelude.{Err, max, cond, Bool, true, false, ◌&&◌, ◌==◌, is_some, flat_map}
 use Rattle.std.proofs.lemmas.Option.{same_Some, none-some}
 use Rattle.qs_send.specs.Lane.{SendLane, new_lane, write_lane, sent_lane, reset_lane, unacked_from, state}
 use Rattle.qs_send.specs.declared.parts.SendFault.TheVariants.{Finished}
@@ -19,13 +19,14 @@ use Rattle.qs_wire.specs.Varint.{varint_at, short_len}
 use Rattle.qs_wire.specs.Reading.{reading_of, reading_from, frames_at, frame_at, number_of_type_at, body_at, number_at, counted_at, plain_at}
 use Rattle.qs_send.specs.Records.{Among}
 use Rattle.qs_conn.specs.Lawful.{frame_put}
-use Rattle.qs_conn.specs.FrameStep.{or_zero, pieces}
+use Rattle.qs_conn.specs.FrameStep.{AckedPiece, acked_at, or_zero, is_named, pieces_of, named_in, named}
+use Rattle.qs_conn.proofs.Named.{filter_nothing}
 use Rattle.qs_conn.proofs.Choices.{not_chosen}
 use Rattle.qs_send.specs.declared.parts.SendState.TheVariants.{DataRecvd, DataSent}
 use Rattle.qs_send.specs.declared.piece.Piece.{Piece}
 use Rattle.qs_send.specs.declared.piece.Piece.TheVariants.{Data}
 use Rattle.std.specs.Cmp.{nat_cmp_total}
-use Rattle.std.proofs.lemmas.Bool.{and_right, false≢true}
+use Rattle.std.proofs.lemmas.Bool.{and_right, both_ways, false≢true}
 
 -- what came on a stream that begins ends there
 came_to : (n : ℕ) → 0 < n → end_of (set.union set.empty (numbers 0 n)) ≡ n
@@ -207,21 +208,32 @@ listed = fmap.entries-from_sorted nat_cmp two_packets tt
 found : (k : ℕ) → fmap.get (fmap.from_sorted {R = nat_cmp} two_packets) k ≡ fmap.find nat_cmp k two_packets
 found k = fmap.get-from_sorted nat_cmp two_packets k tt
 
-pieces_by : (k : ℕ) (o p : Option (List Piece)) → o ≡ p → (elim o [ None ↦ [] | Some ps ↦ map (λ q. (k, q)) ps ]) ≡ (elim p as (λ _. List (ℕ × Piece)) [ None ↦ [] | Some ps ↦ map (λ q. (k, q)) ps ])
-pieces_by k o p e = ap (λ x. elim x as (λ _. List (ℕ × Piece)) [ None ↦ [] | Some ps ↦ map (λ q. (k, q)) ps ]) e
+pieces_by : (k : ℕ) (o p : Option (List Piece)) → o ≡ p → (elim o [ None ↦ [] | Some ps ↦ map (acked_at false k) ps ]) ≡ (elim p as (λ _. List AckedPiece) [ None ↦ [] | Some ps ↦ map (acked_at false k) ps ])
+pieces_by k o p e = ap (λ x. elim x as (λ _. List AckedPiece) [ None ↦ [] | Some ps ↦ map (acked_at false k) ps ]) e
 
-first_pieces : pieces two_sent 0 ≡ (0, Data 0 first_part) ∷ []
+first_pieces : pieces_of false two_sent.outstanding 0 ≡ acked_at false 0 (Data 0 first_part) ∷ []
 first_pieces = pieces_by 0 _ (fmap.find nat_cmp 0 two_packets) (found 0)
 
-second_pieces : pieces two_sent 1 ≡ (1, Data 0 second_part) ∷ []
+second_pieces : pieces_of false two_sent.outstanding 1 ≡ acked_at false 1 (Data 0 second_part) ∷ []
 second_pieces = pieces_by 1 _ (fmap.find nat_cmp 1 two_packets) (found 1)
+
+-- nothing was lost
+none_late : (ranges : List (ℕ × ℕ)) → named_in true fmap.empty ranges ≡ []
+none_late ranges = ap (flat_map (pieces_of true fmap.empty)) (filter_nothing fmap.empty (is_named ranges) (λ j there. absurd (both_ways true (sym there ∙ ap is_some (fmap.get-empty nat_cmp j)) refl)))
+
+and_nothing : (ps : List AckedPiece) → ps ++ [] ≡ ps
+and_nothing [] = refl
+and_nothing (p ∷ ps) = ap (λ qs. p ∷ qs) (and_nothing ps)
+
+with_late : (ranges : List (ℕ × ℕ)) (ps : List AckedPiece) → named_in false two_sent.outstanding ranges ≡ ps → named two_sent ranges ≡ ps
+with_late ranges ps is = ap (λ qs. named_in false two_sent.outstanding ranges ++ qs) (none_late ranges) ∙ and_nothing (named_in false two_sent.outstanding ranges) ∙ is
 
 acks : AcksTakeWhatTheyName
 acks =
     record {
-      one = rw listed (ap (λ ps. ps ++ []) second_pieces);
-      both = rw listed (λ i. second_pieces i ++ (first_pieces i ++ []));
-      none = rw listed refl;
+      one = with_late ((1, 1) ∷ []) _ (rw listed (ap (λ ps. ps ++ []) second_pieces));
+      both = with_late ((0, 1) ∷ []) _ (rw listed (λ i. second_pieces i ++ (first_pieces i ++ [])));
+      none = with_late ((5, 9) ∷ (3, 3) ∷ []) [] (rw listed refl);
     }
 
 pub examples_hold : Examples

@@ -24,7 +24,7 @@ use Rattle.qs_conn.specs.Ends.{End, is_own, is_uni, recv_lane, opens, opened_by_
 use Rattle.qs_conn.specs.Credit.{spent, grant}
 use Rattle.qs_conn.specs.Seen.{Seen, Ack, Stream, Control, Close, Plain}
 use Rattle.qs_conn.specs.Verdicts.{verdict, item_verdict, or_else, fault_if, state_fault_in, credit_fault, lane_of, or_new, fault_code}
-use Rattle.qs_conn.specs.FrameStep.{frame_taken, item_taken, acks, first_acked, piece_acked, item_acked, named}
+use Rattle.qs_conn.specs.FrameStep.{frame_taken, item_taken, AckedPiece, without_piece, acks, first_acked, piece_acked, item_acked, named}
 use Rattle.qs_conn.specs.Standing.{KeepsCredit, IsSound}
 use Rattle.qs_conn.proofs.Choices.{not_chosen}
 use Rattle.qs_conn.proofs.TableLaws.{lookup_open, open_at, total_open}
@@ -189,10 +189,10 @@ sound_piece_acked : (p : Piece) (e : End) → IsSound e → IsSound (piece_acked
 sound_piece_acked (Data n c) e h = h
 sound_piece_acked (Told i) e h = sound_item_acked i e h
 
-pub sound_acks : (ps : List (ℕ × Piece)) (e : End) → IsSound e → IsSound (acks ps e)
+pub sound_acks : (ps : List AckedPiece) (e : End) → IsSound e → IsSound (acks ps e)
 unfolding acks
 sound_acks [] e h = h
-sound_acks (p ∷ ps) e h = sound_acks ps (first_acked p.0 p.1 e) (sound_piece_acked p.1 _ h)
+sound_acks (p ∷ ps) e h = sound_acks ps (first_acked p e) (sound_piece_acked p.piece (without_piece p.late p.number e) h)
 
 -- Frames
 

@@ -17,8 +17,9 @@ use Rattle.qs_conn.specs.declared.settings.PeerLimits.{PeerLimits}
 use Rattle.qs_conn.specs.Settings.{are_spellable}
 use Rattle.qs_conn.specs.Tables.{Tables, no_streams, lookup, updated, open_to, total}
 use Rattle.qs_conn.specs.Recording.{has_too_many, lowest_end}
-use Rattle.qs_conn.specs.Outgoing.{Outgoing, no_packets, with_sends, on_lane, sent_sum, first_acked_out, first_lost_out, pieces_in}
-use Rattle.qs_conn.specs.Runs.{losses_out, LosesBy, Loses, acks_out, AcksBy, AcksRanges, named_pieces}
+use Rattle.qs_conn.specs.Outgoing.{Outgoing, no_packets, with_sends, on_lane, sent_sum, piece_acked_out, without_piece_out, first_acked_out, first_lost_out, pieces_in}
+use Rattle.qs_conn.specs.FrameStep.{AckedPiece}
+use Rattle.qs_conn.specs.Runs.{losses_out, LosesBy, Loses, acks_out, AcksBy, AcksRanges, named_out}
 use Rattle.qs_conn.specs.Filling.{IsFunded}
 use Rattle.qs_conn.proofs.TableLaws.{total_update}
 use Rattle.qs_conn.proofs.RunLaws.{lowest_run, lowest_end_is}
@@ -84,30 +85,30 @@ funded_opened o new b n limit buffer k done due is h = funded_same o.sends new.s
 
 -- Acknowledgements and losses
 
-sum_acked : (k : ℕ) (p : Piece) (o : Outgoing) → sent_sum (first_acked_out k p o).sends ≡ sent_sum o.sends
-sum_acked k (Data n c) o = sum_lane o.sends n (λ l. acked_lane l c) (λ l. refl)
-sum_acked k (Told (ResetStream n code size)) o = sum_lane o.sends n reset_acked_lane (λ l. refl)
-sum_acked k (Told (MaxData x)) o = refl
-sum_acked k (Told (MaxStreamData n x)) o = refl
-sum_acked k (Told (MaxStreams d x)) o = refl
-sum_acked k (Told (StopSending n x)) o = refl
-sum_acked k (Told (DataBlocked x)) o = refl
-sum_acked k (Told (StreamDataBlocked n x)) o = refl
-sum_acked k (Told (StreamsBlocked d x)) o = refl
+sum_piece : (p : Piece) (o : Outgoing) → sent_sum (piece_acked_out p o).sends ≡ sent_sum o.sends
+sum_piece (Data n c) o = sum_lane o.sends n (λ l. acked_lane l c) (λ l. refl)
+sum_piece (Told (ResetStream n code size)) o = sum_lane o.sends n reset_acked_lane (λ l. refl)
+sum_piece (Told (MaxData x)) o = refl
+sum_piece (Told (MaxStreamData n x)) o = refl
+sum_piece (Told (MaxStreams d x)) o = refl
+sum_piece (Told (StopSending n x)) o = refl
+sum_piece (Told (DataBlocked x)) o = refl
+sum_piece (Told (StreamDataBlocked n x)) o = refl
+sum_piece (Told (StreamsBlocked d x)) o = refl
 
-sum_acks : (ps : List (ℕ × Piece)) (o : Outgoing) → sent_sum (acks_out ps o).sends ≡ sent_sum o.sends
+sum_acks : (ps : List AckedPiece) (o : Outgoing) → sent_sum (acks_out ps o).sends ≡ sent_sum o.sends
 unfolding acks_out
 sum_acks [] o = refl
-sum_acks (p ∷ ps) o = sum_acks ps (first_acked_out p.0 p.1 o) ∙ sum_acked p.0 p.1 o
+sum_acks (a ∷ ps) o = sum_acks ps (first_acked_out a o) ∙ sum_piece a.piece (without_piece_out a.late a.number o)
 
 pub funded_acked : (largest : ℕ) (values : List ℕ) (ranges : List (ℕ × ℕ)) (o new : Outgoing) (result : Result (Unit {0}) NoMemory) (k : ℕ) (done : NumberSet) (due : Bool) → largest < 2 ^ 62 → taken values ≤ largest + 1
     → ranges ≡ ack_ranges_of largest values → AcksRanges ranges o result new → IsFunded o.sends k done due → IsFunded new.sends k done due
 funded_acked largest values ranges o new result k done due small above is acked h =
     funded_same o.sends new.sends k done due (go result (all_ranges largest values o new result small above (subst (λ rs. AcksRanges rs o result new) is acked))) h
   where
-    go : (r : Result (Unit {0}) NoMemory) → AcksBy (named_pieces o.outstanding (ack_ranges_of largest values)) o r new → sent_sum new.sends ≡ sent_sum o.sends
-    go (Ok all) e = ap (λ (x : Outgoing). sent_sum x.sends) e ∙ sum_acks (named_pieces o.outstanding (ack_ranges_of largest values)) o
-    go (Err refused) e = ap (λ (x : Outgoing). sent_sum x.sends) e.1 ∙ sum_acks (take e.0 (named_pieces o.outstanding (ack_ranges_of largest values))) o
+    go : (r : Result (Unit {0}) NoMemory) → AcksBy (named_out o (ack_ranges_of largest values)) o r new → sent_sum new.sends ≡ sent_sum o.sends
+    go (Ok all) e = ap (λ (x : Outgoing). sent_sum x.sends) e ∙ sum_acks (named_out o (ack_ranges_of largest values)) o
+    go (Err refused) e = ap (λ (x : Outgoing). sent_sum x.sends) e.1 ∙ sum_acks (take e.0 (named_out o (ack_ranges_of largest values))) o
 
 sends_losses : (k : ℕ) (ps : List Piece) (o : Outgoing) → (losses_out k ps o).sends ≡ o.sends
 unfolding losses_out

@@ -12,8 +12,9 @@ use Rattle.qs_send.specs.declared.piece.Item.TheVariants.{MaxData, MaxStreamData
 use Rattle.qs_send.specs.declared.piece.Piece.{Piece}
 use Rattle.qs_send.specs.declared.piece.Piece.TheVariants.{Data, Told}
 use Rattle.qs_send.specs.Lane.{SendLane, Sending, new_sending, accepted, refusal, reset_refusal, finish_lane, lost_due, after_write, after_finish, after_reset, after_allow, after_blocked, after_reset_acked, after_sent, after_acked, after_lost}
+use Rattle.qs_send.specs.Records.{without_first}
 use Rattle.qs_send.specs.LostRecords.{MOST_LOST, with_number, with_piece, without_oldest}
-use Rattle.qs_send.proofs.Carrying.{carried-remove}
+use Rattle.qs_send.proofs.Carrying.{carried-remove, carried-without_first}
 use Rattle.qs_conn.specs.Tables.{Tables, table, with_table, lookup, update, updated, open_to}
 use Rattle.qs_conn.specs.Ends.{Records, LostPackets, lost_with}
 use Rattle.qs_conn.specs.Layers.{or_no_sending}
@@ -200,6 +201,10 @@ sent_lost t t' m m' new order k p halves same is sent h q out =
       | inl before ↦ h q (subst (λ (x : Records). IsCarried x q) same before)
       | inr e ↦ subst (IsSentPiece t) (sym e) sent
     ])
+
+-- a lost record has a piece less
+pub sent_less : (t : Tables Sending) (m new : Records) (k : ℕ) → new ≡ without_first m k (fmap.get m k) → AreSent t m → AreSent t new
+sent_less t m new k is h p out = h p (carried-without_first m k p (subst (λ (x : Records). IsCarried x p) is out))
 
 -- Streams
 

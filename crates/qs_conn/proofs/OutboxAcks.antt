@@ -10,14 +10,15 @@ use Rattle.qs_send.specs.Lane.{SendLane, Sending, acked_lane, reset_acked_lane, 
 use Rattle.qs_send.specs.declared.parts.SendState.{SendState}
 use Rattle.qs_send.specs.declared.parts.SendState.TheVariants.{ResetSent, ResetRecvd}
 use Rattle.qs_conn.specs.Tables.{Tables, lookup, update, updated}
-use Rattle.qs_conn.specs.Ends.{Records, AckedItems, LostPackets, lost_with}
+use Rattle.qs_send.specs.LostRecords.{without_number}
+use Rattle.qs_conn.specs.Ends.{Records, AckedItems, LostPackets, lost_with, lost_less}
 use Rattle.qs_conn.specs.FrameStep.{without_first}
-use Rattle.qs_conn.specs.Outgoing.{Outgoing, sent_sum, lanes_of, with_pending, AreBelow, AreTied, IsOutbox, IsSentPiece, IsOfReset, IsIdle, first_piece, first_acked_out, first_lost_out, shorter, halves_acked, items_acked, halves_lost}
+use Rattle.qs_conn.specs.Outgoing.{Outgoing, sent_sum, lanes_of, with_pending, AreBelow, AreTied, IsOutbox, IsSentPiece, IsOfReset, IsIdle, IsCarried, first_piece, acked_at, piece_acked_out, first_acked_out, first_lost_out, shorter, halves_acked, items_acked, halves_lost}
 use Rattle.qs_conn.proofs.TableLaws.{total_update}
 use Rattle.qs_conn.proofs.Carried.{none_some, some_is, IsShorter, shortened_is, first_carried, get_new}
-use Rattle.qs_conn.proofs.Tied.{tied_reset_acked}
+use Rattle.qs_conn.proofs.Tied.{tied_late, tied_reset_acked}
 use Rattle.qs_conn.proofs.LaneTables.{lookup_lanes, lane_there, half_of, lanes_updated, update_lanes}
-use Rattle.qs_conn.proofs.Outboxes.{stays, update_itself}
+use Rattle.qs_conn.proofs.Outboxes.{stays, update_itself, box_sends}
 use Rattle.qs_conn.proofs.Ties.{ties_updated, ties_acked, ties_lost, ties_item_gone}
 
 -- No packet is in the making
@@ -100,6 +101,24 @@ lost_follow t m m' k (Data n c) h short sent =
     at_half t m' n sent.0 (λ s. after_lost s c) sent.1 (ties_lost t m m' k n sent.0 c h short sent.1) (ap (λ (l : SendLane). l.sent_end) (lost_lane sent.0 c (is_some sent.0.lane.was_reset)))
 lost_follow t m m' k (Told i) h short sent = (ties_item_gone t m m' k i h short, refl)
 
+-- a piece of a lost packet that is acknowledged, late
+late_follow : (t : Tables Sending) (m : Records) (p : Piece) → AreTied t m → IsSentPiece t p → Follow t (halves_acked p t) m
+late_follow t m (Data n c) h sent = at_half t m n sent.0 (λ s. after_acked s c) sent.1 (ties_updated t m n sent.0 (after_acked sent.0 c) h sent.1 (tied_late m n sent.0 c (h.lanes n sent.0 sent.1)) (λ r. r)) refl
+late_follow t m (Told (ResetStream n code size)) h sent =
+    at_half t m n sent.0 after_reset_acked sent.1 (ties_updated t m n sent.0 (after_reset_acked sent.0) h sent.1 (tied_reset_acked m n sent.0 (h.lanes n sent.0 sent.1)) (λ r. r)) refl
+late_follow t m (Told (MaxData x)) h sent = (h, refl)
+late_follow t m (Told (MaxStreamData n x)) h sent = (h, refl)
+late_follow t m (Told (MaxStreams d x)) h sent = (h, refl)
+late_follow t m (Told (StopSending n x)) h sent = (h, refl)
+late_follow t m (Told (DataBlocked x)) h sent = (h, refl)
+late_follow t m (Told (StreamDataBlocked n x)) h sent = (h, refl)
+late_follow t m (Told (StreamsBlocked d x)) h sent = (h, refl)
+
+pub box_late : (t t' : Tables Sending) (m : Records) (r : Bool) (ps : List Piece) (next sent spare free : ℕ) (p : Piece) → IsOutbox t m r ps next sent spare free → t' ≡ halves_acked p t → IsSentPiece t p → IsOutbox t' m r ps next sent spare free
+box_late t t' m r ps next sent spare free p h halves was =
+    let follow = subst (λ (x : Tables Sending). Follow t x (with_pending m next ps)) (sym halves) (late_follow t (with_pending m next ps) p h.tied was) in
+    box_sends t t' m r ps next sent spare free h follow.0 follow.1
+
 -- What holds
 
 short_below : (m m' : Records) (k j : ℕ) (p : Piece) → IsShorter m k p m' → AreBelow m j → AreBelow m' j
@@ -127,7 +146,7 @@ three : (e : Outgoing) (x y : Tables SendLane) (m k : Records) (a b : AckedItems
 three e x y m k a b p q r = ap (λ z. record e { sends = z; outstanding = m; acked = a }) p ∙ ap (λ z. record e { sends = y; outstanding = z; acked = a }) q ∙ ap (λ z. record e { sends = y; outstanding = k; acked = z }) r
 
 acked_in : (k : ℕ) (p : Piece) (e : Outgoing) (t t' : Tables Sending) (m' : Records) (a' : AckedItems) → e.sends ≡ lanes_of t → t' ≡ halves_acked p t → m' ≡ without_first e.outstanding k (fmap.get e.outstanding k) → a' ≡ items_acked p e.acked
-    → ◌≡◌ {A = Outgoing} (record e { sends = lanes_of t'; outstanding = m'; acked = a' }) (first_acked_out k p e)
+    → ◌≡◌ {A = Outgoing} (record e { sends = lanes_of t'; outstanding = m'; acked = a' }) (first_acked_out (acked_at false k p) e)
 acked_in k (Data n c) e t t' m' a' sends halves out items =
     three e _ _ _ _ _ _ (ap lanes_of halves ∙ lanes_updated t n (λ s. after_acked s c) (λ l. acked_lane l c) (λ s there. refl) ∙ ap (λ x. updated x n (λ l. acked_lane l c) (lookup x n)) (sym sends)) out items
 acked_in k (Told (ResetStream n code size)) e t t' m' a' sends halves out items =
@@ -146,9 +165,9 @@ out_gone m m' next k ps none is = subst (λ qs. with_pending m' next qs ≡ with
 
 pub acked_value : (k : ℕ) (p : Piece) (e now : Outgoing) (t t' : Tables Sending) (m m' : Records) (ps : List Piece) (a' : AckedItems) → e ≡ now → e.sends ≡ lanes_of t → e.outstanding ≡ with_pending m e.next ps → ps ≡ []
     → t' ≡ halves_acked p t → m' ≡ without_first m k (fmap.get m k) → a' ≡ items_acked p e.acked
-    → ◌≡◌ {A = Outgoing} (record e { sends = lanes_of t'; outstanding = with_pending m' e.next ps; acked = a' }) (first_acked_out k p now)
+    → ◌≡◌ {A = Outgoing} (record e { sends = lanes_of t'; outstanding = with_pending m' e.next ps; acked = a' }) (first_acked_out (acked_at false k p) now)
 acked_value k p e now t t' m m' ps a' is sends out none halves gone items =
-    acked_in k p e t t' (with_pending m' e.next ps) a' sends halves (out_gone m m' e.next k ps none gone ∙ ap (λ x. without_first x k (fmap.get x k)) (sym out)) items ∙ ap (first_acked_out k p) is
+    acked_in k p e t t' (with_pending m' e.next ps) a' sends halves (out_gone m m' e.next k ps none gone ∙ ap (λ x. without_first x k (fmap.get x k)) (sym out)) items ∙ ap (first_acked_out (acked_at false k p)) is
 
 lost_lanes : (p : Piece) (t : Tables Sending) → lanes_of (halves_lost p t) ≡ lanes_of t
 lost_lanes (Told i) t = refl
@@ -175,6 +194,37 @@ lost_added k p m m' new order order' last same kept pieces numbers =
     ∙ ap (λ (x : List ℕ). record { pieces = (lost_with k p (record { pieces = m'; order = order' })).pieces; order = x }) numbers
     ∙ ap (λ (x : Records). lost_with k p (record { pieces = x; order = order' })) same
     ∙ ap (λ (x : List ℕ). lost_with k p (record { pieces = m; order = x })) kept
+
+-- the lost records, once a first piece left
+pub lost_left : (k : ℕ) (m new : Records) (order last : List ℕ) → new ≡ without_first m k (fmap.get m k) → last ≡ cond (fmap.contains_key new k) order (without_number order k)
+    → ◌≡◌ {A = LostPackets} (record { pieces = new; order = last }) (lost_less k (record { pieces = m; order = order }))
+lost_left k m new order last pieces numbers =
+    ap (λ (x : List ℕ). record { pieces = new; order = x }) numbers ∙ ap (λ (x : Records). record { pieces = x; order = cond (fmap.contains_key x k) order (without_number order k) }) pieces
+
+two : (e : Outgoing) (x y : Tables SendLane) (a b : AckedItems) → x ≡ y → a ≡ b → ◌≡◌ {A = Outgoing} (record e { sends = x; acked = a }) (record e { sends = y; acked = b })
+two e x y a b p r = ap (λ z. record e { sends = z; acked = a }) p ∙ ap (λ z. record e { sends = y; acked = z }) r
+
+piece_in : (p : Piece) (e : Outgoing) (t t' : Tables Sending) (a' : AckedItems) → e.sends ≡ lanes_of t → t' ≡ halves_acked p t → a' ≡ items_acked p e.acked → ◌≡◌ {A = Outgoing} (record e { sends = lanes_of t'; acked = a' }) (piece_acked_out p e)
+piece_in (Data n c) e t t' a' sends halves items =
+    two e _ _ _ _ (ap lanes_of halves ∙ lanes_updated t n (λ s. after_acked s c) (λ l. acked_lane l c) (λ s there. refl) ∙ ap (λ x. updated x n (λ l. acked_lane l c) (lookup x n)) (sym sends)) items
+piece_in (Told (ResetStream n code size)) e t t' a' sends halves items =
+    two e _ _ _ _ (ap lanes_of halves ∙ lanes_updated t n after_reset_acked reset_acked_lane (λ s there. refl) ∙ ap (λ x. updated x n reset_acked_lane (lookup x n)) (sym sends)) items
+piece_in (Told (MaxData x)) e t t' a' sends halves items = two e _ _ _ _ (ap lanes_of halves ∙ sym sends) items
+piece_in (Told (MaxStreamData n x)) e t t' a' sends halves items = two e _ _ _ _ (ap lanes_of halves ∙ sym sends) items
+piece_in (Told (MaxStreams d x)) e t t' a' sends halves items = two e _ _ _ _ (ap lanes_of halves ∙ sym sends) items
+piece_in (Told (StopSending n x)) e t t' a' sends halves items = two e _ _ _ _ (ap lanes_of halves ∙ sym sends) items
+piece_in (Told (DataBlocked x)) e t t' a' sends halves items = two e _ _ _ _ (ap lanes_of halves ∙ sym sends) items
+piece_in (Told (StreamDataBlocked n x)) e t t' a' sends halves items = two e _ _ _ _ (ap lanes_of halves ∙ sym sends) items
+piece_in (Told (StreamsBlocked d x)) e t t' a' sends halves items = two e _ _ _ _ (ap lanes_of halves ∙ sym sends) items
+
+pub late_value : (k : ℕ) (p : Piece) (e now : Outgoing) (t t' : Tables Sending) (a' : AckedItems) (l : LostPackets) → e ≡ now → e.sends ≡ lanes_of t → t' ≡ halves_acked p t → a' ≡ items_acked p e.acked → l ≡ lost_less k e.lost
+    → ◌≡◌ {A = Outgoing} (record e { sends = lanes_of t'; acked = a'; lost = l }) (first_acked_out (acked_at true k p) now)
+late_value k p e now t t' a' l is sends halves items less =
+    piece_in p (record e { lost = l }) t t' a' sends halves items ∙ ap (λ (x : LostPackets). piece_acked_out p (record e { lost = x })) less ∙ ap (first_acked_out (acked_at true k p)) is
+
+-- a piece that a record begins with
+pub first_in : (m : Records) (k : ℕ) (p : Piece) → first_piece (fmap.get m k) ≡ Some p → IsCarried m p
+first_in m k p first = first_carried m (without_first m k (fmap.get m k)) k p (shortened_is m k p first)
 
 -- a RESET_STREAM that is acknowledged twice changes nothing more
 pub reset_again : (t : Tables Sending) (n : ℕ) (s : Sending) → lookup t n ≡ Some s → s.lane.reset_acked ≡ true → t ≡ updated t n after_reset_acked (lookup t n)

@@ -15,7 +15,7 @@ use Rattle.qs_conn.specs.declared.closing.Received.TheVariants as received
 use Rattle.qs_conn.specs.Ends.{End, closes}
 use Rattle.qs_conn.specs.Credit.{settle}
 use Rattle.qs_conn.specs.Seen.{Seen, Ack, Stream, Control, Close, Plain, seen, seen_all, asks_ack, any_asks}
-use Rattle.qs_conn.specs.FrameStep.{frames_taken, named, acks, acked_numbers}
+use Rattle.qs_conn.specs.FrameStep.{frames_taken, named, acks}
 use Rattle.qs_conn.specs.Recording.{recorded}
 use Rattle.qs_conn.specs.Receiving.{AtEnd, RunsOut, Stops, EndsBy, GoesOn, Takes, TakesPayload}
 use Rattle.qs_conn.specs.Standing.{IsSound}
@@ -23,7 +23,7 @@ use Rattle.qs_conn.specs.Repeats.{SentWasWritten, Resumes}
 use Rattle.qs_conn.proofs.FramesSound.{sound_acks}
 use Rattle.qs_conn.proofs.CallsSound.{sound_settle}
 use Rattle.qs_conn.proofs.Prefix.{takes_prefix}
-use Rattle.qs_conn.proofs.EndsAfter.{IsAfter, after_same, after_twice, after_closes, after_recorded, after_settle, after_acks, all_take, numbers_written, sent_stays}
+use Rattle.qs_conn.proofs.EndsAfter.{IsAfter, after_same, after_twice, after_closes, after_recorded, after_settle, after_acks, all_take, named_written, sent_stays}
 use Rattle.qs_conn.proofs.AcksAgain.{named_nothing}
 use Rattle.qs_conn.proofs.Again.{IsDone, IsLeft, all_left, all_done, done_stays, frame_again}
 
@@ -55,7 +55,7 @@ left_runs_out : (e : End) (f : Seen) (new : End) → IsSound e → SentWasWritte
 left_runs_out e (Ack largest ranges) new sound sent (m, after) =
     becomes e _ new after
     (left_by e (acks (take m (named e ranges)) e) sound sent
-    (after_acks (take m (named e ranges)) e (all_take e.sends m (named e ranges) (numbers_written e (acked_numbers e ranges) sent)))
+    (after_acks (take m (named e ranges)) e (all_take e.sends m (named e ranges) (named_written e ranges sent)))
     (sound_acks (take m (named e ranges)) e sound))
 left_runs_out e (Stream n offset bytes fin) new sound sent after = becomes e e new after (left_same e sound sent)
 left_runs_out e (Control i) new sound sent after = becomes e e new after (left_same e sound sent)

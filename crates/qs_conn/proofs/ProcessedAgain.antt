@@ -24,7 +24,7 @@ use Rattle.qs_conn.specs.Tables.{Tables, each}
 use Rattle.qs_conn.specs.Ends.{End, is_own, opens, opened_by_peer}
 use Rattle.qs_conn.specs.Credit.{settle, all_taken}
 use Rattle.qs_conn.specs.Seen.{Seen, Ack, Stream, Control, Close, Plain, seen, seen_all, any_asks}
-use Rattle.qs_conn.specs.FrameStep.{frame_taken, frames_taken, item_taken, item_acked, piece_acked, first_acked, acks, named}
+use Rattle.qs_conn.specs.FrameStep.{frame_taken, frames_taken, AckedPiece, without_piece, item_taken, item_acked, piece_acked, first_acked, acks, named}
 use Rattle.qs_conn.specs.Recording.{recorded}
 use Rattle.qs_conn.specs.Receiving.{Stops, EndsBy, TakesPayload, OpenReceive, ReceiveBy, ReceiveStep}
 use Rattle.qs_conn.specs.Standing.{IsSound}
@@ -97,10 +97,10 @@ open_piece : (p : Piece) (e : End) → (piece_acked p e).closed ≡ e.closed
 open_piece (Data n c) e = refl
 open_piece (Told i) e = open_item_acked i e
 
-open_acks : (ps : List (ℕ × Piece)) (e : End) → (acks ps e).closed ≡ e.closed
+open_acks : (ps : List AckedPiece) (e : End) → (acks ps e).closed ≡ e.closed
 unfolding acks
 open_acks [] e = refl
-open_acks (p ∷ ps) e = open_acks ps (first_acked p.0 p.1 e) ∙ open_piece p.1 _
+open_acks (p ∷ ps) e = open_acks ps (first_acked p e) ∙ open_piece p.piece (without_piece p.late p.number e)
 
 open_opened : (n : ℕ) (e : End) → (opened_by_peer n e).closed ≡ e.closed
 open_opened n e = cond_both (is_own e n) e (opens n e) (λ x. x.closed ≡ e.closed) (λ _. refl) (λ _. refl)

@@ -35,7 +35,7 @@ use Rattle.qs_conn.specs.Tables.{Tables, lookup, update, updated, open_to, each}
 use Rattle.qs_conn.specs.Ends.{End, on_send, on_recv, is_own, is_uni, first_send_limit, window, opens, opened_by_peer}
 use Rattle.qs_conn.specs.Credit.{settle, all_taken}
 use Rattle.qs_conn.specs.Seen.{Seen, Ack, Stream, Control, Close, Plain, seen, seen_all, asks_ack}
-use Rattle.qs_conn.specs.FrameStep.{frame_taken, item_taken, acks, first_acked, piece_acked, item_acked, named}
+use Rattle.qs_conn.specs.FrameStep.{frame_taken, item_taken, AckedPiece, without_piece, acks, first_acked, piece_acked, item_acked, named}
 use Rattle.qs_conn.specs.Lawful.{Fills, frame_put, item_put, chunk_of}
 use Rattle.qs_conn.specs.Owner.{OpenStep, AcceptStep, ReadBy, send_refusal, recv_refusal, with_wanted, refuse_if, IsBlocked, IsOpened, GivesNone, GivesBidi, GivesUni, AcceptOpen, peer_kind}
 use Rattle.qs_conn.specs.Receiving.{AtEnd, RunsOut, Stops, Takes, ReceiveBy, TakesPayload, OpenReceive}
@@ -154,10 +154,10 @@ rises_piece_acked : (p : Piece) (e : End) → LimitsRise e (piece_acked p e)
 rises_piece_acked (Data n c) e = rises_send n (λ l. acked_lane l c) e (λ l. le_same l.limit)
 rises_piece_acked (Told i) e = rises_item_acked i e
 
-rises_acks : (ps : List (ℕ × Piece)) (e : End) → LimitsRise e (acks ps e)
+rises_acks : (ps : List AckedPiece) (e : End) → LimitsRise e (acks ps e)
 unfolding acks
 rises_acks [] e = rises_same e
-rises_acks (p ∷ ps) e = rises_twice e (first_acked p.0 p.1 e) (acks ps (first_acked p.0 p.1 e)) (rises_piece_acked p.1 _) (rises_acks ps (first_acked p.0 p.1 e))
+rises_acks (p ∷ ps) e = rises_twice e (first_acked p e) (acks ps (first_acked p e)) (rises_piece_acked p.piece (without_piece p.late p.number e)) (rises_acks ps (first_acked p e))
 
 kept_limit : (b : Bool) (l m : RecvLane) → m.limit ≡ l.limit → l.limit ≤ (cond b l m).limit
 kept_limit true l m same = le_same l.limit

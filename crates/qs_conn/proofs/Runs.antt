@@ -69,7 +69,7 @@ less_left m k p first = go (fmap.get m k) first
     go (Some (q ∷ [])) f = (let e = ap size (get_removed m k) in omega (arith, e))
     go (Some (q ∷ r ∷ rs)) f = (let e = ap size (get_new m k (r ∷ rs)) in omega (arith, e))
 
-pub loses_less : (k : ℕ) (o next : Outgoing) (p : Piece) → first_piece (fmap.get o.outstanding k) ≡ Some p → next ≡ first_lost_out k p o → pieces_left k next < pieces_left k o
+pub loses_less : (k : ℕ) (o next : Outgoing) (p : Piece) → first_piece (fmap.get o.outstanding k) ≡ Some p → next ≡ first_lost_out k p o → pieces_left false k next < pieces_left false k o
 unfolding pieces_left
 loses_less k o next p first is = subst (λ (x : Outgoing). length (pieces_in x.outstanding k) < length (pieces_in o.outstanding k)) (sym is) (less_left o.outstanding k p first)
 

@@ -31,7 +31,7 @@ use Rattle.qs_conn.specs.Tables.{Tables, lookup, updated}
 use Rattle.qs_conn.specs.Ends.{End, Records, new_end, end_made, end_unless, on_send, on_recv, is_own, is_uni, first_send_limit, opens, opened_by_peer}
 use Rattle.qs_conn.specs.Credit.{settle}
 use Rattle.qs_conn.specs.Seen.{Seen, Ack, Stream, Control, Close, Plain, seen, seen_all, asks_ack}
-use Rattle.qs_conn.specs.FrameStep.{frame_taken, item_taken, acks, first_acked, piece_acked, item_acked, named}
+use Rattle.qs_conn.specs.FrameStep.{frame_taken, item_taken, AckedPiece, held, without_piece, acks, first_acked, piece_acked, item_acked, named}
 use Rattle.qs_conn.specs.Lawful.{Fills, MayPut, frame_put, item_put, chunk_of, noted, pieces_so_far}
 use Rattle.qs_conn.specs.Owner.{OpenStep, AcceptStep, ReadBy, send_refusal, recv_refusal, with_wanted, refuse_if, IsBlocked, IsOpened, GivesNone, GivesBidi, GivesUni, AcceptOpen, peer_kind}
 use Rattle.qs_conn.specs.Receiving.{AtEnd, RunsOut, Stops, Takes, ReceiveBy, TakesPayload, OpenReceive}
@@ -48,7 +48,8 @@ use Rattle.qs_conn.specs.declared.settings.SetupFault.{SetupFault}
 use Rattle.qs_conn.specs.Settings.{setup_fault}
 use Rattle.qs_conn.specs.Repeats.{IsWritten, WasWritten, SentWasWritten}
 use Rattle.qs_conn.proofs.TablesAfter.{KeptIn, kept_same, kept_updated, kept_open}
-use Rattle.qs_conn.proofs.EndsAfter.{written_stays}
+use Rattle.qs_conn.proofs.EndsAfter.{written_stays, carried_without}
+use Rattle.qs_conn.proofs.LostSent.{lost_carried}
 use Rattle.qs_conn.proofs.Choices.{by_refusal, by_memory, by_test}
 
 -- a call leaves all outstanding data written, where it was
@@ -75,13 +76,13 @@ becomes : (old mid new : End) → new ≡ mid → Keeps old mid → Keeps old ne
 becomes old mid new same h = subst (Keeps old) (sym same) h
 
 keeps_send : (n : ℕ) (f : SendLane → SendLane) (e : End) → ((l : SendLane) → l.written ≤ (f l).written) → Keeps e (on_send n f e)
-keeps_send n f e up h = halves_keep e.sends (updated e.sends n f (lookup e.sends n)) e.outstanding (kept_updated IsLonger longer_same e.sends n f (λ l is. up l)) h
+keeps_send n f e up h late = halves_keep e.sends (updated e.sends n f (lookup e.sends n)) (held late e) (kept_updated IsLonger longer_same e.sends n f (λ l is. up l)) (h late)
 
 keeps_opens : (n : ℕ) (e : End) → Keeps e (opens n e)
-keeps_opens n e h =
-    halves_keep e.sends (opens n e).sends e.outstanding
+keeps_opens n e h late =
+    halves_keep e.sends (opens n e).sends (held late e)
     (cond_both (is_uni n && not (is_own e n)) e.sends _ (KeptIn IsLonger e.sends) (λ _. kept_same IsLonger longer_same e.sends) (λ _. kept_open IsLonger longer_same e.sends n (λ m. new_send_lane m (first_send_limit e n) e.settings.send_buffer)))
-    h
+    (h late)
 
 keeps_opened : (n : ℕ) (e : End) → Keeps e (opened_by_peer n e)
 keeps_opened n e = cond_both (is_own e n) e (opens n e) (Keeps e) (λ _. keeps_same e) (λ _. keeps_opens n e)
@@ -89,8 +90,8 @@ keeps_opened n e = cond_both (is_own e n) e (opens n e) (Keeps e) (λ _. keeps_s
 settled : (old mid new : End) → new ≡ settle mid → Keeps old mid → Keeps old new
 settled old mid new same h = becomes old (settle mid) new same h
 
-keeps_shorter : (e : End) (k : ℕ) → Keeps e (record e { outstanding = without_first e.outstanding k (fmap.get e.outstanding k) })
-keeps_shorter e k h p is = h p (carried-without_first e.outstanding k p is)
+keeps_without : (late : Bool) (k : ℕ) (e : End) → Keeps e (without_piece late k e)
+keeps_without late k e h b p is = h b p (carried_without b late k e p is)
 
 -- Lists
 
@@ -117,15 +118,15 @@ keeps_piece_acked : (p : Piece) (e : End) → Keeps e (piece_acked p e)
 keeps_piece_acked (Data n c) e = keeps_send n (λ l. acked_lane l c) e longer_same
 keeps_piece_acked (Told i) e = keeps_item_acked i e
 
-keeps_first : (k : ℕ) (p : Piece) (e : End) → Keeps e (first_acked k p e)
-keeps_first k p e =
-    let short = record e { outstanding = without_first e.outstanding k (fmap.get e.outstanding k) } in
-    keeps_twice e short (first_acked k p e) (keeps_shorter e k) (keeps_piece_acked p short)
+keeps_first : (a : AckedPiece) (e : End) → Keeps e (first_acked a e)
+keeps_first a e =
+    let short = without_piece a.late a.number e in
+    keeps_twice e short (first_acked a e) (keeps_without a.late a.number e) (keeps_piece_acked a.piece short)
 
-keeps_acks : (ps : List (ℕ × Piece)) (e : End) → Keeps e (acks ps e)
+keeps_acks : (ps : List AckedPiece) (e : End) → Keeps e (acks ps e)
 unfolding acks
 keeps_acks [] e = keeps_same e
-keeps_acks (p ∷ ps) e = keeps_twice e (first_acked p.0 p.1 e) (acks ps (first_acked p.0 p.1 e)) (keeps_first p.0 p.1 e) (keeps_acks ps (first_acked p.0 p.1 e))
+keeps_acks (p ∷ ps) e = keeps_twice e (first_acked p e) (acks ps (first_acked p e)) (keeps_first p e) (keeps_acks ps (first_acked p e))
 
 reset_written : (code : ℕ) (l : SendLane) → l.written ≤ (reset_lane l code).written
 reset_written code l = cond_both (is_some (reset_refusal l)) l (record l { was_reset = Some (record { code = code; size = cond l.fin_sent l.written l.sent_end }) }) (λ m. l.written ≤ m.written) (λ _. omega arith) (λ _. omega arith)
@@ -243,16 +244,17 @@ keeps_item_put (StreamsBlocked d m) e = keeps_same e
 
 -- what is put in a packet was written
 keeps_noted : (p : Piece) (e : End) → WasWritten e.sends p → Keeps e (noted p e)
-keeps_noted p e written h q (k, qs, is, a) = go (nat_eq k e.next) (sym (get-insert_packet e.outstanding e.next _ k) ∙ is)
+keeps_noted p e written h true q is = h true q is
+keeps_noted p e written h false q (k, qs, is, a) = go (nat_eq k e.next) (sym (get-insert_packet e.outstanding e.next _ k) ∙ is)
   where
     so_far : (o : Option (List Piece)) → fmap.get e.outstanding e.next ≡ o → Among q (elim o [ None ↦ [] | Some ps ↦ ps ] ++ p ∷ []) → WasWritten e.sends q
     so_far None at (inl same) = subst (WasWritten e.sends) (sym same) written
     so_far None at (inr none) = absurd none
-    so_far (Some ps) at among = elim (among_last q p ps among) [ inl old ↦ h q (e.next, ps, at, old) | inr same ↦ subst (WasWritten e.sends) (sym same) written ]
+    so_far (Some ps) at among = elim (among_last q p ps among) [ inl old ↦ h false q (e.next, ps, at, old) | inr same ↦ subst (WasWritten e.sends) (sym same) written ]
 
     go : (b : Bool) → cond b (Some (pieces_so_far e e.next ++ p ∷ [])) (fmap.get e.outstanding k) ≡ Some qs → WasWritten e.sends q
     go true same = so_far (fmap.get e.outstanding e.next) refl (subst (Among q) (sym (same_Some (pieces_so_far e e.next ++ p ∷ []) qs same)) a)
-    go false old = h q (k, qs, old, a)
+    go false old = h false q (k, qs, old, a)
 
 keeps_put : (old : End) (f : Seen) (e : End) → MayPut old e f → Keeps e (frame_put f e)
 unfolding frame_put
@@ -284,17 +286,32 @@ keeps_make None old room (Err making.NoMemory) text new step = becomes old old n
 keeps_make None old room (Err making.Closed) text new step = absurd step
 keeps_make None old room (Err making.Exhausted) text new step = absurd step
 
-keeps_losses : (k : ℕ) (ps : List Piece) (e : End) → Keeps e (losses k ps e)
+-- a piece that moves to the lost record was written
+keeps_first_lost : (k : ℕ) (p : Piece) (e : End) → WasWritten e.sends p → Keeps e (first_lost k p e)
+keeps_first_lost k p e written h false q is = h false q (carried-without_first e.outstanding k q is)
+keeps_first_lost k p e written h true q is = elim (lost_carried k p e.lost q is) [ inl before ↦ h true q before | inr same ↦ subst (WasWritten e.sends) (sym same) written ]
+
+keeps_losses : (k : ℕ) (ps : List Piece) (e : End) → ((p : Piece) → Among p ps → WasWritten e.sends p) → Keeps e (losses k ps e)
 unfolding losses
-keeps_losses k [] e = keeps_same e
-keeps_losses k (p ∷ ps) e = keeps_twice e (first_lost k p e) (losses k ps (first_lost k p e)) (λ h q is. h q (carried-without_first e.outstanding k q is)) (keeps_losses k ps (first_lost k p e))
+keeps_losses k [] e written = keeps_same e
+keeps_losses k (p ∷ ps) e written =
+    keeps_twice e (first_lost k p e) (losses k ps (first_lost k p e)) (keeps_first_lost k p e (written p (inl refl))) (keeps_losses k ps (first_lost k p e) (λ q a. written q (inr a)))
+
+among_take : (m : ℕ) (ps : List Piece) (q : Piece) → Among q (take m ps) → Among q ps
+among_take zero ps q a = absurd a
+among_take (suc m) [] q a = a
+among_take (suc m) (p ∷ ps) q (inl e) = inl e
+among_take (suc m) (p ∷ ps) q (inr a) = inr (among_take m ps q a)
+
+keeps_packet : (e : End) (k : ℕ) (ps some : List Piece) → fmap.get e.outstanding k ≡ Some ps → ((q : Piece) → Among q some → Among q ps) → Keeps e (losses k some e)
+keeps_packet e k ps some is among h = keeps_losses k some e (λ p a. h false p (k, ps, is, among p a)) h
 
 keeps_lose : (old : End) (k : ℕ) (answer : Answer (Lose k)) (new : End) → LoseStep old k answer new → Keeps old new
 keeps_lose old k answer new step =
     by_refusal (Keeps old new) (lose_refusal old k) old answer new _ step (λ same. becomes old old new same (keeps_same old)) (λ (ps, is, lost).
     elim lost [
-      | inl done ↦ becomes old _ new done.1 (keeps_losses k ps old)
-      | inr part ↦ (let (moved, few, none, after) = part in becomes old _ new after (keeps_losses k (take moved ps) old))
+      | inl done ↦ becomes old _ new done.1 (keeps_packet old k ps ps is (λ q a. a))
+      | inr part ↦ (let (moved, few, none, after) = part in becomes old _ new after (keeps_packet old k ps (take moved ps) is (among_take moved ps)))
     ])
 
 -- The owner's calls
@@ -352,13 +369,17 @@ keeps_call old Granted answer new step = becomes old old new step.1 (keeps_same 
 keeps_call old Spent answer new step = becomes old old new step.1 (keeps_same old)
 keeps_call old (Report n) answer new step = becomes old old new step.1 (keeps_same old)
 
--- Of a new end nothing is outstanding.
-made_keeps : (r : Option SetupFault) (made e : End) → ((p : Piece) → IsCarried made.outstanding p → ⊥) → end_unless r made ≡ Ok e → SentWasWritten e
+-- Of a new end nothing is outstanding, and nothing lost.
+made_keeps : (r : Option SetupFault) (made e : End) → ((late : Bool) (p : Piece) → IsCarried (held late made) p → ⊥) → end_unless r made ≡ Ok e → SentWasWritten e
 made_keeps (Some fault) made e none is = absurd (err_is_not_ok fault e is)
   where
     err_is_not_ok : (f : SetupFault) (k : End) → ◌≡◌ {A = Result End SetupFault} (Err f) (Ok k) → ⊥
     err_is_not_ok f k h = cc
-made_keeps None made e none is = let same : made ≡ e = cc in subst SentWasWritten same (λ p is. absurd (none p is))
+made_keeps None made e none is = let same : made ≡ e = cc in subst SentWasWritten same (λ late p is. absurd (none late p is))
+
+nothing_held : (role : Role) (s : Settings) (l : PeerLimits) (late : Bool) (p : Piece) → IsCarried (held late (new_end role s l)) p → ⊥
+nothing_held role s l true p is = carried-empty p is
+nothing_held role s l false p is = carried-empty p is
 
 pub new_keeps : (role : Role) (s : Settings) (p : PeerLimits) (e : End) → end_made role s p ≡ Ok e → SentWasWritten e
-new_keeps role s p e is = made_keeps (setup_fault s p) (new_end role s p) e carried-empty is
+new_keeps role s p e is = made_keeps (setup_fault s p) (new_end role s p) e (nothing_held role s p) is

@@ -267,6 +267,20 @@ tied_acked m m' k n s c h t =
     back : (d : Chunk) → IsCarried m' (Data n d) → IsCarried m (Data n d)
     back d out = carried_before m m' k (Data n c) h (Data n d) out
 
+-- a chunk of a lost packet is acknowledged, late
+pub tied_late : (m : Records) (n : ℕ) (s : Sending) (c : Chunk) → IsTied m n s → IsTied m n (after_acked s c)
+tied_late m n s c t =
+    record {
+      id = t.id;
+      sent = λ d out. (let w = t.sent d out in record { offsets = w.offsets; end = w.end });
+      not_due = λ q f. grind (arith, nat_tests, t.not_due q f, contains-without_range s.due.offsets c.offset (c.offset + c.len) q);
+      flies = λ q clear below un not.
+          (let out : is_within c.offset (c.offset + c.len) q ≡ false = grind (arith, un, contains-with_range s.lane.acked c.offset (c.offset + c.len) q) in
+          t.flies q clear below (grind (arith, un, contains-with_range s.lane.acked c.offset (c.offset + c.len) q)) (grind (arith, out, not, contains-without_range s.due.offsets c.offset (c.offset + c.len) q)));
+      end_not_due = λ d out fin. ap (λ b. b && not c.fin) (t.end_not_due d out fin);
+      end_flies = λ clear fin un not. (let none : c.fin ≡ false = grind (arith, un) in t.end_flies clear fin (grind (arith, un)) (grind (arith, none, not)));
+    }
+
 -- A chunk is lost
 
 pub tied_lost : (m m' : Records) (k n : ℕ) (s : Sending) (c : Chunk) → IsShorter m k (Data n c) m' → ((d : Chunk) → IsCarried m' (Data n d) → AreApart c d) → IsTied m n s → IsTied m' n (after_lost s c)

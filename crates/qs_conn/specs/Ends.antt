@@ -15,7 +15,7 @@ use Rattle.qs_conn.specs.declared.settings.SetupFault.{SetupFault}
 use Rattle.qs_conn.specs.declared.closing.Closed.{Closed}
 use Rattle.qs_conn.specs.Settings.{setup_fault}
 use Rattle.qs_conn.specs.Tables.{Tables, no_streams, kind_of, lookup, updated, open_to}
-pub use Rattle.qs_conn.specs.LostPackets.{LostPackets, no_lost, lost_with}
+pub use Rattle.qs_conn.specs.LostPackets.{LostPackets, no_lost, lost_with, lost_less}
 
 -- the pieces of packets, by packet number
 abbrev pub Records : Type 0

@@ -17,7 +17,7 @@ use Rattle.qs_conn.specs.Ends.{End, new_end, opens, on_send, on_recv, send_lane}
 use Rattle.qs_conn.specs.Credit.{settle}
 use Rattle.qs_conn.specs.Seen.{Seen, Ack, Stream, Control}
 use Rattle.qs_conn.specs.Verdicts.{verdict, FLOW_CONTROL_ERROR, STREAM_LIMIT_ERROR, STREAM_STATE_ERROR, FINAL_SIZE_ERROR, PROTOCOL_VIOLATION}
-use Rattle.qs_conn.specs.FrameStep.{frame_taken, item_acked, named}
+use Rattle.qs_conn.specs.FrameStep.{frame_taken, item_acked, acked_at, named}
 use Rattle.qs_conn.specs.Due.{IsCurrent, IsDueItem}
 use Rattle.qs_conn.specs.Lawful.{MayPut, Lawful}
 use Rattle.qs_conn.specs.Receiving.{TakesPayload}
@@ -173,8 +173,8 @@ two_sent =
 
 -- An ACK takes the pieces of the packets that it names, the highest first, and no others; numbers that aren't outstanding change nothing.
 pub record AcksTakeWhatTheyName : Type 0 where
-  pub one : named two_sent ((1, 1) ∷ []) ≡ (1, Data 0 second_part) ∷ []
-  pub both : named two_sent ((0, 1) ∷ []) ≡ (1, Data 0 second_part) ∷ (0, Data 0 first_part) ∷ []
+  pub one : named two_sent ((1, 1) ∷ []) ≡ acked_at false 1 (Data 0 second_part) ∷ []
+  pub both : named two_sent ((0, 1) ∷ []) ≡ acked_at false 1 (Data 0 second_part) ∷ acked_at false 0 (Data 0 first_part) ∷ []
   pub none : named two_sent ((5, 9) ∷ (3, 3) ∷ []) ≡ []
 
 pub record Examples : Type 0 where

@@ -1,5 +1,5 @@
 -- What a frame changes (RFC 9000, sections 3, 13.3 and 19).
-use Rattle.std.specs.Prelude.{◌≡◌, ℕ, Bool, ◌&&◌, List, [], ◌∷◌, map, reverse, flat_map, max, Option, None, Some, nat_le, ⊤}
+use Rattle.std.specs.Prelude.{◌≡◌, ℕ, Bool, true, false, if◌then◌else◌, ◌&&◌, List, [], ◌∷◌, ◌++◌, map, reverse, flat_map, max, Option, None, Some, nat_le, ⊤}
 use Rattle.std.specs.List.{list_any, filter}
 use Rattle.std.specs.Ordering.{nat_cmp}
 use Rattle.std.specs.FinMap as fmap
@@ -12,7 +12,7 @@ use Rattle.qs_send.specs.declared.piece.Item.TheVariants.{MaxData, MaxStreamData
 use Rattle.qs_send.specs.declared.piece.Piece.{Piece}
 use Rattle.qs_send.specs.declared.piece.Piece.TheVariants.{Data, Told}
 pub use Rattle.qs_send.specs.Records.{without_first}
-use Rattle.qs_conn.specs.Ends.{End, AckedItems, on_send, on_recv, opened_by_peer}
+use Rattle.qs_conn.specs.Ends.{End, Records, AckedItems, lost_less, on_send, on_recv, opened_by_peer}
 use Rattle.qs_conn.specs.Seen.{Seen, Ack, Stream, Control, Close, Plain}
 use Rattle.qs_conn.specs.Verdicts.{verdict}
 
@@ -49,30 +49,55 @@ abbrev pub piece_acked : Piece → End → End
 piece_acked (Data n chunk) e = on_send n (λ l. acked_lane l chunk) e
 piece_acked (Told item) e = item_acked item e
 
--- The first piece of packet k is acknowledged and leaves the record (RFC 9000, section 13.3).
-abbrev pub first_acked : ℕ → Piece → End → End
-first_acked k p e = piece_acked p (record e { outstanding = without_first e.outstanding k (fmap.get e.outstanding k) })
+-- a piece that an ACK takes: the packet's number, the piece, and whether it stands in a lost record
+pub record AckedPiece : Type 0 where
+  pub number : ℕ
+  pub piece : Piece
+  pub late : Bool
 
--- the outstanding pieces of packet k, each with the packet's number, in the order in which they were put in
-abbrev pub pieces : End → ℕ → List (ℕ × Piece)
-pieces e k = elim (fmap.get e.outstanding k) [ None ↦ [] | Some ps ↦ map (λ p. (k, p)) ps ]
+abbrev pub acked_at : Bool → ℕ → Piece → AckedPiece
+acked_at late k p = record { number = k; piece = p; late = late }
+
+-- the outstanding records, or the lost ones
+abbrev pub held : Bool → End → Records
+held late e = if late then e.lost.pieces else e.outstanding
+
+-- the record of packet k without its first piece: the outstanding one, or the lost one
+abbrev pub without_piece : Bool → ℕ → End → End
+without_piece late k e =
+    record e {
+      outstanding = if late then e.outstanding else without_first e.outstanding k (fmap.get e.outstanding k);
+      lost = if late then lost_less k e.lost else e.lost;
+    }
+
+-- The first piece of a packet is acknowledged and leaves the record (RFC 9000, sections 13.2.1 and 13.3).
+abbrev pub first_acked : AckedPiece → End → End
+first_acked a e = piece_acked a.piece (without_piece a.late a.number e)
+
+-- the pieces of packet k in these records, in the order in which they were put in
+abbrev pub pieces_of : Bool → Records → ℕ → List AckedPiece
+pieces_of late m k = elim (fmap.get m k) [ None ↦ [] | Some ps ↦ map (acked_at late k) ps ]
 
 -- whether a number lies in one of an ACK's ranges
 abbrev pub is_named : List (ℕ × ℕ) → ℕ → Bool
 is_named ranges k = list_any (λ r. nat_le r.0 k && nat_le k r.1) ranges
 
--- the outstanding packets that an ACK names, from the highest number down
-abbrev pub acked_numbers : End → List (ℕ × ℕ) → List ℕ
-acked_numbers e ranges = reverse (filter (is_named ranges) (fmap.keys e.outstanding))
+-- the packets of these records that an ACK names, from the highest number down
+abbrev pub acked_numbers : Records → List (ℕ × ℕ) → List ℕ
+acked_numbers m ranges = reverse (filter (is_named ranges) (fmap.keys m))
 
--- the pieces that an ACK takes, in order
-abbrev pub named : End → List (ℕ × ℕ) → List (ℕ × Piece)
-named e ranges = flat_map (pieces e) (acked_numbers e ranges)
+-- the pieces of these records that an ACK takes
+abbrev pub named_in : Bool → Records → List (ℕ × ℕ) → List AckedPiece
+named_in late m ranges = flat_map (pieces_of late m) (acked_numbers m ranges)
+
+-- the pieces that an ACK takes, in order: those of the outstanding packets that it names, and then those of the lost ones
+abbrev pub named : End → List (ℕ × ℕ) → List AckedPiece
+named e ranges = named_in false e.outstanding ranges ++ named_in true e.lost.pieces ranges
 
 -- these pieces are acknowledged, one after the other
-unfoldable pub acks : List (ℕ × Piece) → End → End
+unfoldable pub acks : List AckedPiece → End → End
 acks [] e = e
-acks (p ∷ ps) e = acks ps (first_acked p.0 p.1 e)
+acks (a ∷ ps) e = acks ps (first_acked a e)
 
 -- Frames
 

@@ -47,11 +47,11 @@ PayloadsAreTakenInOrder =
     × NoFault old (seen_all (frames_of taken))
     × EndsBy number (reading_of payload).fault (any_asks (seen_all (frames_of taken))) left (frames_taken (seen_all (frames_of taken)) old) result new
 
--- all outstanding data of a new end was written, as there is none
+-- all data of a new end that outstanding packets carried, or lost ones, was written, as there is none
 abbrev pub NewEndsSentNothing : Type 0
 NewEndsSentNothing = (role : Role) (s : Settings) (p : PeerLimits) (e : End) → end_made role s p ≡ Ok e → SentWasWritten e
 
--- no call has data outstanding that wasn't written
+-- no call has data outstanding, or lost, that wasn't written
 abbrev pub CallsSendWhatWasWritten : Type 0
 CallsSendWhatWasWritten = (old : End) (call : Call) (answer : Answer call) (new : End) → SentWasWritten old → EndStep old call answer new → SentWasWritten new
 

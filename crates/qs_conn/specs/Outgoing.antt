@@ -1,5 +1,5 @@
 -- The sending side of an end: its sending halves, its packets, and what was acknowledged of them.
-use Rattle.std.specs.Prelude.{◌≡◌, ℕ, ◌+◌, ◌-◌, ◌<◌, ◌≤◌, ◌↔◌, Bool, true, false, List, [], ◌∷◌, ◌++◌, length, map, Option, None, Some, is_some, ⊤, IsTrue}
+use Rattle.std.specs.Prelude.{◌≡◌, ℕ, ◌+◌, ◌-◌, ◌<◌, ◌≤◌, ◌↔◌, Bool, true, false, if◌then◌else◌, List, [], ◌∷◌, ◌++◌, length, map, Option, None, Some, is_some, ⊤, IsTrue}
 use Rattle.std.specs.FinMap as fmap
 use Rattle.std.specs.FinSet as set
 use Rattle.qs_wire.specs.declared.stream_id.Dir.TheVariants.{Bidi, Uni}
@@ -17,9 +17,10 @@ use Rattle.qs_send.specs.declared.piece.Piece.{Piece}
 use Rattle.qs_send.specs.declared.piece.Piece.TheVariants.{Data, Told}
 pub use Rattle.qs_send.specs.Records.{IsCarried, AreBelow, NoneEmpty, first_piece}
 use Rattle.qs_conn.specs.Tables.{Tables, no_streams, lookup, updated, total}
-use Rattle.qs_conn.specs.Ends.{End, Records, AckedItems, no_items, LostPackets, no_lost, lost_with}
+use Rattle.qs_conn.specs.Ends.{End, Records, AckedItems, no_items, LostPackets, no_lost, lost_with, lost_less}
 pub use Rattle.qs_conn.specs.Told.{item_noted}
-use Rattle.qs_conn.specs.FrameStep.{without_first}
+use Rattle.qs_conn.specs.FrameStep.{without_first, AckedPiece}
+pub use Rattle.qs_conn.specs.FrameStep.{acked_at}
 use Rattle.qs_conn.specs.Due.{Among}
 
 -- the part of an end that sends; `spare` tells for how many pieces more the packet in the making has room
@@ -70,9 +71,17 @@ abbrev pub piece_acked_out : Piece → Outgoing → Outgoing
 piece_acked_out (Data n chunk) o = on_lane n (λ l. acked_lane l chunk) o
 piece_acked_out (Told item) o = record o { sends = reset_noted item o.sends; acked = item_noted item o.acked }
 
--- the first piece of packet k is acknowledged and leaves the record
-abbrev pub first_acked_out : ℕ → Piece → Outgoing → Outgoing
-first_acked_out k p o = piece_acked_out p (shorter k o)
+-- the record of packet k without its first piece: the outstanding one, or the lost one
+abbrev pub without_piece_out : Bool → ℕ → Outgoing → Outgoing
+without_piece_out late k o =
+    record o {
+      outstanding = if late then o.outstanding else without_first o.outstanding k (fmap.get o.outstanding k);
+      lost = if late then lost_less k o.lost else o.lost;
+    }
+
+-- the first piece of a packet is acknowledged and leaves the record
+abbrev pub first_acked_out : AckedPiece → Outgoing → Outgoing
+first_acked_out a o = piece_acked_out a.piece (without_piece_out a.late a.number o)
 
 -- the first piece of packet k is lost: it moves to the lost record of that number
 abbrev pub first_lost_out : ℕ → Piece → Outgoing → Outgoing

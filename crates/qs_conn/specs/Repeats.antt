@@ -3,7 +3,7 @@ use Rattle.std.specs.Prelude.{◌≡◌, ℕ, ◌+◌, ◌≤◌, ⊤, ◌⊎◌
 use Rattle.qs_wire.specs.Layout.{PlacedValue}
 use Rattle.qs_wire.specs.declared.fault.WireFault.{WireFault}
 use Rattle.qs_send.specs.Lane.{SendLane}
-use Rattle.qs_send.specs.Records.{Among}
+use Rattle.qs_send.specs.Records.{Among, IsCarried}
 use Rattle.qs_send.specs.declared.parts.Chunk.{Chunk}
 use Rattle.qs_send.specs.declared.piece.Piece.{Piece}
 use Rattle.qs_send.specs.declared.piece.Piece.TheVariants.{Data, Told}
@@ -13,7 +13,7 @@ use Rattle.qs_conn.specs.declared.closing.Received.TheVariants.{Done, Duplicate,
 use Rattle.qs_conn.specs.Tables.{Tables, lookup}
 use Rattle.qs_conn.specs.Ends.{End}
 use Rattle.qs_conn.specs.Seen.{Seen}
-use Rattle.qs_conn.specs.Due.{IsOutstanding}
+use Rattle.qs_conn.specs.FrameStep.{held}
 use Rattle.qs_conn.specs.Recording.{recorded}
 use Rattle.qs_conn.specs.Receiving.{Takes}
 
@@ -27,9 +27,9 @@ abbrev pub WasWritten : Tables SendLane → Piece → Type 0
 WasWritten t (Data n c) = IsWritten (lookup t n) c
 WasWritten t (Told item) = ⊤
 
--- all outstanding data was written
+-- all data was written that outstanding packets carried, or lost ones
 abbrev pub SentWasWritten : End → Type 0
-SentWasWritten e = (p : Piece) → IsOutstanding e p → WasWritten e.sends p
+SentWasWritten e = (late : Bool) (p : Piece) → IsCarried (held late e) p → WasWritten e.sends p
 
 -- each of these frames is one of those
 abbrev pub AreAmong : List Seen → List Seen → Type 0

@@ -13,7 +13,7 @@ ghost use Rattle.qs_conn.specs.Receiving.{RunsOut};
 use super::Endpoint;
 use super::acking::ack_ranges;
 use qs_ranges::NoMemory;
-use qs_wire::{AckRanges, Dir, Frame, StreamId};
+use qs_wire::{Dir, Frame, StreamId};
 
 impl Endpoint {
     // A frame takes effect, or finds no memory and changes nothing; of an ACK some packets may be acknowledged then.
@@ -68,15 +68,14 @@ impl Endpoint {
         }
     }
 
-    // The outstanding packets that an ACK names are acknowledged (RFC 9000, section 13.3).
+    // The packets that an ACK names are acknowledged, also those that were declared lost (RFC 9000, sections 13.2.1 and 13.3).
     fn take_ack(&mut self, largest: u64, ranges: &[u8]) -> Result<(), NoMemory>
         requires small { largest < 2 ^ 62 }
         requires above { taken (numbers_of ranges.now) ≤ largest + 1 }
         ensures ok { OnOk result (self.new ≡ acks (named self.old (ack_ranges_of largest (numbers_of ranges.now))) self.old) }
         ensures err { OnErr result (RunsOut self.old (Ack largest (ack_ranges_of largest (numbers_of ranges.now))) self.new) }
     {
-        let left = AckRanges::new(largest, ranges);
-        ack_ranges(&mut self.outbox, left)
+        ack_ranges(&mut self.outbox, largest, ranges)
     }
 
     // The peer allows so many streams of a direction.

@@ -1,5 +1,5 @@
 //! Packets are acknowledged and lost.
-ghost use Rattle.std.specs.Prelude.{◌≡◌, ◌<◌, ◌≤◌, ◌↔◌, is_some, true, Some, IfSome, OnOk, OnErr};
+ghost use Rattle.std.specs.Prelude.{◌≡◌, ◌<◌, ◌≤◌, ◌↔◌, is_some, true, Some, false, IfSome, OnOk, OnErr};
 ghost use Rattle.std.specs.FinMap as fmap;
 ghost use Rattle.qs_send.specs.declared.piece.Item.{Item};
 ghost use Rattle.qs_send.specs.declared.piece.Piece.TheVariants as pieces;
@@ -7,14 +7,14 @@ ghost use Rattle.qs_send.specs.Records.{Among};
 ghost use Rattle.qs_send.specs.AckPass.{Falls, IsNextNamed};
 ghost use Rattle.qs_send.specs.Lane.{Sending, after_reset_acked};
 ghost use Rattle.qs_conn.specs.Tables.{lookup, updated};
-ghost use Rattle.qs_conn.specs.Outgoing.{first_piece, first_acked_out, first_lost_out, IsIdle, IsSentPiece, NoneEmpty, item_noted, halves_acked, items_acked, halves_lost};
+ghost use Rattle.qs_conn.specs.Outgoing.{first_piece, first_acked_out, first_lost_out, acked_at, IsIdle, IsSentPiece, NoneEmpty, item_noted, halves_acked, items_acked, halves_lost};
 
 use super::Outbox;
 use crate::send_tables::SendTables;
 use crate::told::ToldItems;
 use crate::told_index::ToldIndex;
 use qs_ranges::NoMemory;
-use qs_send::{AckPass, Item, Piece, SendState};
+use qs_send::{AckPass, Item, LostPass, Piece, SendState};
 use qs_wire::StreamId;
 
 impl Outbox {
@@ -58,7 +58,7 @@ impl Outbox {
     pub(crate) fn ack_first(&mut self, number: u64, piece: Piece) -> Result<(), NoMemory>
         requires idle { IsIdle self.old }
         requires first { first_piece (fmap.get self.old.outstanding number) ≡ Some piece }
-        ensures ok { OnOk result (self.new ≡ first_acked_out number piece self.old) }
+        ensures ok { OnOk result (self.new ≡ first_acked_out (acked_at false number piece) self.old) }
         ensures err { OnErr result (self.new ≡ self.old) }
         ensures idle { IsIdle self.new }
     {
@@ -66,6 +66,38 @@ impl Outbox {
         piece_acked(&mut self.sends, &mut self.told, &piece)?;
         self.records.drop_first(number);
         forget(&mut self.index, piece);
+        Ok(())
+    }
+
+    /// The next lost packet that a pass over an ACK names, `None` after the last.
+    pub(crate) fn next_lost(&self, pass: &mut LostPass<'_>) -> Option<u64>
+        ensures answer { Falls pass.old → IsNextNamed self.now.lost.pieces pass.old result pass.new }
+        ensures falls { Falls pass.old → Falls pass.new }
+        ensures below { IfSome result (λ k. (pass.new.below ≡ k) × (k < pass.old.below)) }
+    {
+        let _next = self.next;
+        pass.next(&self.lost)
+    }
+
+    /// The first piece of a lost packet.
+    pub(crate) fn first_lost(&self, number: u64) -> Option<Piece>
+        ensures { result ≡ first_piece (fmap.get self.now.lost.pieces number) }
+    {
+        let _next = self.next;
+        self.lost.first(number)
+    }
+
+    /// The first piece of a lost packet is acknowledged, late, or nothing changes.
+    pub(crate) fn ack_lost_first(&mut self, number: u64, piece: Piece) -> Result<(), NoMemory>
+        requires idle { IsIdle self.old }
+        requires first { first_piece (fmap.get self.old.lost.pieces number) ≡ Some piece }
+        ensures ok { OnOk result (self.new ≡ first_acked_out (acked_at true number piece) self.old) }
+        ensures err { OnErr result (self.new ≡ self.old) }
+        ensures idle { IsIdle self.new }
+    {
+        let _next = self.next;
+        piece_acked(&mut self.sends, &mut self.told, &piece)?;
+        self.lost.drop_first(number);
         Ok(())
     }
 

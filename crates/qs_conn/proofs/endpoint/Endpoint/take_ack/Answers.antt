@@ -6,15 +6,15 @@ use Rattle.qs_conn.proofs.endpoint.Endpoint.take_ack.Goals as goal
 
 pub returns-clause-ok : goal.returns-clause-ok
 returns-clause-ok c =
-    rw (← c.self.view_is) (ack_ok c.args.largest (numbers_of c.args.ranges.now) c.new-left.result c.self.inside.outbox c.ack_ranges.new.outbox _ c.ack_ranges.result refl c.requires.small c.requires.above c.new-left.ensures c.ack_ranges.ensures.step)
+    rw (← c.self.view_is) (ack_ok c.args.largest (numbers_of c.args.ranges.now) _ c.self.inside.outbox c.ack_ranges.new.outbox _ c.ack_ranges.result refl c.requires.small c.requires.above refl c.ack_ranges.ensures.step)
 
 pub returns-clause-err : goal.returns-clause-err
 returns-clause-err c =
-    rw (← c.self.view_is) (ack_err c.args.largest (numbers_of c.args.ranges.now) c.new-left.result c.self.inside.outbox c.ack_ranges.new.outbox _ c.ack_ranges.result refl c.requires.small c.requires.above c.new-left.ensures c.ack_ranges.ensures.step)
+    rw (← c.self.view_is) (ack_err c.args.largest (numbers_of c.args.ranges.now) _ c.self.inside.outbox c.ack_ranges.new.outbox _ c.ack_ranges.result refl c.requires.small c.requires.above refl c.ack_ranges.ensures.step)
 
 pub invariant_of-self : goal.invariant_of-self
 invariant_of-self c = (
   c.self.invariant.0,
   c.ack_ranges.ensures.idle,
-  funded_acked c.args.largest (numbers_of c.args.ranges.now) c.new-left.result c.self.inside.outbox c.ack_ranges.new.outbox c.ack_ranges.result _ _ _ c.requires.small c.requires.above c.new-left.ensures c.ack_ranges.ensures.step c.self.invariant.2,
+  funded_acked c.args.largest (numbers_of c.args.ranges.now) _ c.self.inside.outbox c.ack_ranges.new.outbox c.ack_ranges.result _ _ _ c.requires.small c.requires.above refl c.ack_ranges.ensures.step c.self.invariant.2,
 )

@@ -1,4 +1,4 @@
-use Rattle.std.proofs.Common.{Ok, Err, rules}
+use Rattle.std.proofs.Common.{Ok, Err, false, rules}
 use Rattle.qs_ranges.specs.declared.NoMemory.{NoMemory}
 use Rattle.qs_conn.specs.Runs.{AcksAhead}
 use Rattle.qs_conn.proofs.AckRuns.{pass_end, pass_stop, pass_more}
@@ -9,17 +9,17 @@ loop-number-preserved c =
     record {
       idle = c.in_ok-ack_packet.ensures.idle;
       rest = λ result new h. c.loop-number.invariant.rest result new
-          (pass_more c.loop-number.pass c.next_named.new.pass c.in-Some.number c.loop-number.outbox c.ack_packet.new.outbox new c.next_named.result result c.in-Some.is c.next_named.ensures.answer c.next_named.ensures.falls c.next_named.ensures.below
+          (pass_more false c.loop-number.pass c.next_named.new.pass c.in-Some.number c.loop-number.outbox c.ack_packet.new.outbox new c.next_named.result result c.in-Some.is c.next_named.ensures.answer c.next_named.ensures.falls c.next_named.ensures.below
           c.in_ok-ack_packet.ensures.step h);
     }
 
 pub returns-in_err-ack_packet-clause-step : goal.returns-in_err-ack_packet-clause-step
 returns-in_err-ack_packet-clause-step c =
-    let h : (e : NoMemory) → AcksAhead c.args.pass.now c.args.outbox.now (Err e) c.ack_packet.new.outbox =
+    let h : (e : NoMemory) → AcksAhead false c.args.pass.now c.args.outbox.now (Err e) c.ack_packet.new.outbox =
     λ e. c.loop-number.invariant.rest (Err e) c.ack_packet.new.outbox
-    (pass_stop c.loop-number.pass c.next_named.new.pass c.in-Some.number c.loop-number.outbox c.ack_packet.new.outbox c.next_named.result _ e c.in-Some.is c.next_named.ensures.answer c.in_err-ack_packet.ensures.step) in
+    (pass_stop false c.loop-number.pass c.next_named.new.pass c.in-Some.number c.loop-number.outbox c.ack_packet.new.outbox c.next_named.result _ e c.in-Some.is c.next_named.ensures.answer c.in_err-ack_packet.ensures.step) in
     search (rules, h, c.from_residual.ensures)
 
 pub returns-clause-step : goal.returns-clause-step
 returns-clause-step c =
-    c.loop-number.invariant.rest (Ok tt) c.loop-number.outbox (pass_end c.loop-number.pass c.next_named.new.pass c.loop-number.outbox c.next_named.result c.in_default.is c.next_named.ensures.answer)
+    c.loop-number.invariant.rest (Ok tt) c.loop-number.outbox (pass_end false c.loop-number.pass c.next_named.new.pass c.loop-number.outbox c.next_named.result c.in_default.is c.next_named.ensures.answer)

@@ -1,4 +1,4 @@
-use Rattle.std.proofs.Common.{Result}
+use Rattle.std.proofs.Common.{Result, false}
 use Rattle.qs_ranges.specs.declared.NoMemory.{NoMemory}
 use Rattle.qs_conn.specs.Outgoing.{Outgoing, IsIdle}
 use Rattle.qs_conn.specs.Runs.{AcksAhead}
@@ -9,7 +9,7 @@ abbrev pub invariant-loop-number : goal.invariant-loop-number
 invariant-loop-number l =
     record {
       idle : IsIdle l.outbox;
-      rest : (result : Result (Unit {0}) NoMemory) (new : Outgoing) → AcksAhead l.pass l.outbox result new → AcksAhead l.initial.pass l.initial.outbox result new;
+      rest : (result : Result (Unit {0}) NoMemory) (new : Outgoing) → AcksAhead false l.pass l.outbox result new → AcksAhead false l.initial.pass l.initial.outbox result new;
     }
 
 abbrev pub decreases-loop-number : goal.decreases-loop-number

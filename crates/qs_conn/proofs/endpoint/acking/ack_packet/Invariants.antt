@@ -1,4 +1,4 @@
-use Rattle.std.proofs.Common.{Result}
+use Rattle.std.proofs.Common.{Result, false}
 use Rattle.qs_ranges.specs.declared.NoMemory.{NoMemory}
 use Rattle.qs_conn.specs.Outgoing.{Outgoing, IsIdle}
 use Rattle.qs_conn.specs.Runs.{AcksPacket, pieces_left}
@@ -9,8 +9,8 @@ abbrev pub invariant-loop-piece : goal.invariant-loop-piece
 invariant-loop-piece l =
     record {
       idle : IsIdle l.outbox;
-      rest : (result : Result (Unit {0}) NoMemory) (new : Outgoing) → AcksPacket l.number l.outbox result new → AcksPacket l.number l.initial.outbox result new;
+      rest : (result : Result (Unit {0}) NoMemory) (new : Outgoing) → AcksPacket false l.number l.outbox result new → AcksPacket false l.number l.initial.outbox result new;
     }
 
 abbrev pub decreases-loop-piece : goal.decreases-loop-piece
-decreases-loop-piece l = pieces_left l.number l.outbox
+decreases-loop-piece l = pieces_left false l.number l.outbox

@@ -1,4 +1,4 @@
-use Rattle.std.proofs.Common.{Result}
+use Rattle.std.proofs.Common.{Result, false}
 use Rattle.qs_ranges.specs.declared.NoMemory.{NoMemory}
 use Rattle.qs_conn.specs.Outgoing.{Outgoing, IsIdle}
 use Rattle.qs_conn.specs.Runs.{Loses, pieces_left}
@@ -13,4 +13,4 @@ invariant-loop-piece l =
     }
 
 abbrev pub decreases-loop-piece : goal.decreases-loop-piece
-decreases-loop-piece l = pieces_left l.number l.outbox
+decreases-loop-piece l = pieces_left false l.number l.outbox

@@ -1,0 +1,25 @@
+use Rattle.std.proofs.Common.{Ok, Err, true, rules}
+use Rattle.qs_ranges.specs.declared.NoMemory.{NoMemory}
+use Rattle.qs_conn.specs.Runs.{AcksAhead}
+use Rattle.qs_conn.proofs.AckRuns.{pass_end, pass_stop, pass_more}
+use Rattle.qs_conn.proofs.endpoint.acking.ack_late.Goals as goal
+
+pub loop-number-preserved : goal.loop-number-preserved
+loop-number-preserved c =
+    record {
+      idle = c.in_ok-ack_lost_packet.ensures.idle;
+      rest = λ result new h. c.loop-number.invariant.rest result new
+          (pass_more true c.loop-number.pass c.next_lost.new.pass c.in-Some.number c.loop-number.outbox c.ack_lost_packet.new.outbox new c.next_lost.result result c.in-Some.is c.next_lost.ensures.answer c.next_lost.ensures.falls c.next_lost.ensures.below
+          c.in_ok-ack_lost_packet.ensures.step h);
+    }
+
+pub returns-in_err-ack_lost_packet-clause-step : goal.returns-in_err-ack_lost_packet-clause-step
+returns-in_err-ack_lost_packet-clause-step c =
+    let h : (e : NoMemory) → AcksAhead true c.args.pass.now c.args.outbox.now (Err e) c.ack_lost_packet.new.outbox =
+    λ e. c.loop-number.invariant.rest (Err e) c.ack_lost_packet.new.outbox
+    (pass_stop true c.loop-number.pass c.next_lost.new.pass c.in-Some.number c.loop-number.outbox c.ack_lost_packet.new.outbox c.next_lost.result _ e c.in-Some.is c.next_lost.ensures.answer c.in_err-ack_lost_packet.ensures.step) in
+    search (rules, h, c.from_residual.ensures)
+
+pub returns-clause-step : goal.returns-clause-step
+returns-clause-step c =
+    c.loop-number.invariant.rest (Ok tt) c.loop-number.outbox (pass_end true c.loop-number.pass c.next_lost.new.pass c.loop-number.outbox c.next_lost.result c.in_default.is c.next_lost.ensures.answer)

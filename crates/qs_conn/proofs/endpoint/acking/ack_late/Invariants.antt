@@ -1,0 +1,16 @@
+use Rattle.std.proofs.Common.{Result, true}
+use Rattle.qs_ranges.specs.declared.NoMemory.{NoMemory}
+use Rattle.qs_conn.specs.Outgoing.{Outgoing, IsIdle}
+use Rattle.qs_conn.specs.Runs.{AcksAhead}
+use Rattle.qs_conn.proofs.endpoint.acking.ack_late.Given as goal
+
+-- What is so of what the pass has ahead is so of all.
+abbrev pub invariant-loop-number : goal.invariant-loop-number
+invariant-loop-number l =
+    record {
+      idle : IsIdle l.outbox;
+      rest : (result : Result (Unit {0}) NoMemory) (new : Outgoing) → AcksAhead true l.pass l.outbox result new → AcksAhead true l.initial.pass l.initial.outbox result new;
+    }
+
+abbrev pub decreases-loop-number : goal.decreases-loop-number
+decreases-loop-number l = l.pass.below

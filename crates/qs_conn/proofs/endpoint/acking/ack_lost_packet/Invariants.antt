@@ -1,0 +1,16 @@
+use Rattle.std.proofs.Common.{Result, true}
+use Rattle.qs_ranges.specs.declared.NoMemory.{NoMemory}
+use Rattle.qs_conn.specs.Outgoing.{Outgoing, IsIdle}
+use Rattle.qs_conn.specs.Runs.{AcksPacket, pieces_left}
+use Rattle.qs_conn.proofs.endpoint.acking.ack_lost_packet.Given as goal
+
+-- What is so from here on is so of the whole packet.
+abbrev pub invariant-loop-piece : goal.invariant-loop-piece
+invariant-loop-piece l =
+    record {
+      idle : IsIdle l.outbox;
+      rest : (result : Result (Unit {0}) NoMemory) (new : Outgoing) → AcksPacket true l.number l.outbox result new → AcksPacket true l.number l.initial.outbox result new;
+    }
+
+abbrev pub decreases-loop-piece : goal.decreases-loop-piece
+decreases-loop-piece l = pieces_left true l.number l.outbox
