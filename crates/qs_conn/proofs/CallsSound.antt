@@ -1,5 +1,5 @@
 -- Every call keeps an end within the credit that it granted.
-use Rattle.std.proofs.Common.{◌≡◌, ℕ, ◌+◌, ◌*◌, Bool, true, false, ◌||◌, List, [], ◌∷◌, take, drop, Option, Some, None, is_some, refl, sym, subst, arith, inl, inr}
+use Rattle.std.proofs.Common.{◌≡◌, ℕ, ◌+◌, ◌*◌, Bool, true, false, ◌||◌, List, [], ◌∷◌, take, Option, Some, None, is_some, refl, sym, subst, arith, inl, inr}
 use Rattle.std.specs.Prelude.{cond, nat_lt, Result, Ok, Err, MatchBool}
 use Rattle.std.specs.FinSet as set
 use Rattle.qs_wire.specs.Layout.{PlacedValue}

@@ -1,5 +1,5 @@
 -- What lost packets carried was sent: each call of an outbox keeps it.
-use Rattle.std.proofs.Common.{◌≡◌, ℕ, ◌+◌, ◌≤◌, ◌%◌, Bool, true, false, ◌||◌, List, [], ◌∷◌, ◌++◌, ◌⊎◌, length, take, Option, Some, None, is_some, Result, Ok, Err, cond, unwrap_or, refl, sym, ap, ◌∙◌, subst, inl, inr, arith, leb, nat_cmp}
+use Rattle.std.proofs.Common.{◌≡◌, ℕ, ◌≤◌, ◌%◌, Bool, true, false, List, [], ◌∷◌, ◌++◌, ◌⊎◌, length, take, Option, Some, None, is_some, Result, Ok, Err, cond, unwrap_or, refl, sym, ap, ◌∙◌, subst, inl, inr, arith, leb, nat_cmp}
 use Rattle.std.proofs.lemmas.Bool.{cases_eq, or_left}
 use Rattle.std.specs.FinMap as fmap
 use Rattle.std.specs.FinSet as set

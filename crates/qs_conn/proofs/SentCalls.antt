@@ -1,5 +1,5 @@
 -- Every call leaves all outstanding data written.
-use Rattle.std.proofs.Common.{◌≡◌, ℕ, zero, suc, nat_eq, ◌++◌, ◌⊎◌, ◌+◌, ◌*◌, ◌≤◌, Bool, true, false, not, ◌&&◌, ◌||◌, List, [], ◌∷◌, take, drop, Option, Some, None, is_some, refl, sym, ◌∙◌, subst, arith, inl, inr}
+use Rattle.std.proofs.Common.{◌≡◌, ℕ, zero, suc, nat_eq, ◌++◌, ◌⊎◌, ◌+◌, ◌*◌, ◌≤◌, Bool, true, false, not, ◌&&◌, ◌||◌, List, [], ◌∷◌, take, Option, Some, None, is_some, refl, sym, ◌∙◌, subst, arith, inl, inr}
 use Rattle.std.specs.Prelude.{cond, nat_lt, Result, Ok, Err, MatchBool}
 use Rattle.std.specs.FinSet as set
 use Rattle.std.proofs.lemmas.Option.{same_Some}
@@ -39,9 +39,9 @@ use Rattle.qs_conn.specs.Making.{MakeAt, make_refusal, LoseStep, lose_refusal, I
 use Rattle.qs_conn.specs.EndStep.{Call, Answer, EndStep, Open, Accept, Write, Finish, Reset, Stop, ReadUpTo, Receive, Make, Lose, ClosingPayload, Stored, Granted, Spent, Report}
 use Rattle.std.specs.FinMap as fmap
 use Rattle.qs_wire.specs.declared.stream_id.Role.{Role}
-use Rattle.qs_send.specs.Records.{Among, IsCarried, without_first}
+use Rattle.qs_send.specs.Records.{Among, IsCarried}
 use Rattle.qs_send.proofs.Outstanding.{get-insert_packet}
-use Rattle.qs_send.proofs.Carrying.{carried-empty, carried-remove, carried-without_first}
+use Rattle.qs_send.proofs.Carrying.{carried-empty, carried-without_first}
 use Rattle.qs_conn.specs.declared.settings.Settings.{Settings}
 use Rattle.qs_conn.specs.declared.settings.PeerLimits.{PeerLimits}
 use Rattle.qs_conn.specs.declared.settings.SetupFault.{SetupFault}

@@ -1,5 +1,5 @@
 -- What the private loops over an end's packets do: pieces are due again, or acknowledged, one after the other, as far as there is memory.
-use Rattle.std.specs.Prelude.{◌≡◌, ℕ, ◌<◌, Bool, ◌&&◌, ◌||◌, nat_le, nat_lt, true, false, if◌then◌else◌, List, [], ◌∷◌, ◌++◌, length, take, reverse, flat_map, Option, None, Some, Result, Ok, Err}
+use Rattle.std.specs.Prelude.{◌≡◌, ℕ, ◌<◌, Bool, ◌&&◌, ◌||◌, nat_le, nat_lt, true, false, if◌then◌else◌, List, [], ◌∷◌, ◌++◌, length, take, reverse, flat_map, Result, Ok, Err}
 use Rattle.std.specs.List.{filter}
 use Rattle.std.specs.FinMap as fmap
 use Rattle.qs_ranges.specs.declared.NoMemory.{NoMemory}
