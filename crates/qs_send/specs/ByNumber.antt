@@ -5,6 +5,8 @@
 --     map_of rs           the pieces of each number
 --     AreRising low rs    the numbers rise from `low` on, and each record has a piece
 --     IsAt n rs k, IsGapAt n rs k      number n has its record at place k; it has none, and that is where it would go
+--     IsCut n rs k        the first k records are those of numbers below n
+--     room_for l n        for how many more pieces of number n there is memory
 use Rattle.std.specs.Prelude.{◌≡◌, ℕ, zero, suc, ◌+◌, ◌<◌, ◌≤◌, List, [], ◌∷◌, length, nat_eq, if◌then◌else◌, Option, None, Some, refl}
 use Rattle.std.specs.FinMap as fmap
 use Rattle.std.specs.Coded.{Coded, code_by, coded×, coded_ℕ, coded_list}

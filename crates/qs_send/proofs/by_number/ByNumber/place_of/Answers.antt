@@ -1,20 +1,19 @@
 use Rattle.std.proofs.Common.{rules, IfOk, IfErr}
+use Rattle.std.specs.Ordering.{nat_cmp}
+use Rattle.std.specs.List.Sorted.{IsBinarySearchResult}
 use Rattle.std.proofs.lemmas.List.Sorted.{answers_always}
 use Rattle.qs_send.specs.ByNumber.{Numbered, AreRising, IsAt, IsGapAt}
 use Rattle.qs_send.proofs.LostLists.{found_by, gap_by, held_by, none_by, in_range_ok, in_range_err}
 use Rattle.qs_send.proofs.by_number.ByNumber.place_of.Goals as goal
 
+searched : (c : goal.After-binary_search_by_key) → IsBinarySearchResult (λ x. nat_cmp x.number c.args.number) c.deref.result.now c.binary_search_by_key.result
+searched c = c.binary_search_by_key.ensures.position (λ (r : Numbered). r.number) (answers_always _ _ _ (λ f a r g called. search rules))
+
 found : (c : goal.After-binary_search_by_key) → IfOk c.binary_search_by_key.result (IsAt c.args.number c.deref.result.now)
-found c =
-    let facts = c.binary_search_by_key.ensures in
-    let by_key = facts.position (λ (r : Numbered). r.number) (answers_always _ _ _ (λ f a r g called. search rules)) in
-    found_by _ _ _ (rw c.deref.ensures.value c.self.invariant.0) facts.bound by_key
+found c = found_by _ _ _ (rw c.deref.ensures.value c.self.invariant.0) c.binary_search_by_key.ensures.bound (searched c)
 
 gap : (c : goal.After-binary_search_by_key) → IfErr c.binary_search_by_key.result (IsGapAt c.args.number c.deref.result.now)
-gap c =
-    let facts = c.binary_search_by_key.ensures in
-    let by_key = facts.position (λ (r : Numbered). r.number) (answers_always _ _ _ (λ f a r g called. search rules)) in
-    gap_by _ _ _ (rw c.deref.ensures.value c.self.invariant.0) facts.bound by_key
+gap c = gap_by _ _ _ (rw c.deref.ensures.value c.self.invariant.0) c.binary_search_by_key.ensures.bound (searched c)
 
 pub returns-clause-found : goal.returns-clause-found
 returns-clause-found c = rw (← c.self.view_is, ← c.deref.ensures.value) (found c)
