@@ -3,6 +3,8 @@
 #![tactic(auto)]
 
 #[cfg(test)]
+mod lost;
+#[cfg(test)]
 mod ranges;
 #[cfg(test)]
 mod records;
