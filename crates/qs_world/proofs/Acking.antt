@@ -14,16 +14,16 @@ use Rattle.qs_send.specs.declared.piece.Item.{Item}
 use Rattle.qs_send.specs.declared.piece.Item.TheVariants.{MaxData, MaxStreamData, MaxStreams, ResetStream, StopSending, DataBlocked, StreamDataBlocked, StreamsBlocked}
 use Rattle.qs_send.specs.declared.piece.Piece.{Piece}
 use Rattle.qs_send.specs.declared.piece.Piece.TheVariants.{Data, Told}
-use Rattle.qs_conn.specs.Ends.{End, AckedItems, Records, first_send_limit}
+use Rattle.qs_conn.specs.Ends.{End, AckedItems, Records, LostPackets, lost_less, first_send_limit}
 use Rattle.qs_conn.specs.Seen.{Control}
 use Rattle.qs_send.specs.Records.{without_first}
-use Rattle.qs_conn.specs.FrameStep.{piece_acked, item_acked, acks, named, acked_numbers, is_named, pieces}
+use Rattle.qs_conn.specs.FrameStep.{AckedPiece, acked_at, piece_acked, item_acked, acks, without_piece, named, named_in, acked_numbers, is_named, pieces_of}
 use Rattle.qs_send.specs.Records.{Among}
 use Rattle.qs_world.proofs.Lists.{All_append, All_filter, All_reverse}
 use Rattle.qs_world.proofs.Members.{run-cases, run-old, get-inserted, get-removed}
 use Rattle.qs_world.proofs.Base.{missing-more}
 use Rattle.qs_world.specs.Pasts.{Past, PieceOf, Tells, TellsAck}
-use Rattle.qs_world.specs.Invariant.{EndOk, SendOk}
+use Rattle.qs_world.specs.Invariant.{EndOk, SendOk, StoodIn}
 use Rattle.qs_world.proofs.Changes.{send_kept}
 
 -- One half
@@ -135,31 +135,48 @@ module _ (p : Past) (n limit : ℕ) (l : SendLane) (h : SendOk p n limit l) wher
 
 -- An end
 
--- the pair is a piece of a packet that the peer acknowledged
-abbrev pub AckedPiece : Past → ℕ × Piece → Type 0
-AckedPiece p pair = PieceOf p.mine pair.0 pair.1 × TellsAck p.theirs pair.0
+-- it is a piece of a packet that the peer acknowledged
+abbrev pub WasAcked : Past → AckedPiece → Type 0
+WasAcked p a = PieceOf p.mine a.number a.piece × TellsAck p.theirs a.number
 
 module _ (p : Past) where
-  without_first_ok : (e : End) (k : ℕ) → EndOk p e → (o : Option (List Piece)) → fmap.get e.outstanding k ≡ o → (j : ℕ) (ps : List Piece) (piece : Piece) → fmap.get (without_first e.outstanding k o) j ≡ Some ps → Among piece ps → PieceOf p.mine j piece
-  without_first_ok e k ok None is j ps piece there a = ok.packets.records j ps piece there a
-  without_first_ok e k ok (Some []) is j ps piece there a = ok.packets.records j ps piece (get-removed e.outstanding k j ps there) a
-  without_first_ok e k ok (Some (x ∷ [])) is j ps piece there a = ok.packets.records j ps piece (get-removed e.outstanding k j ps there) a
-  without_first_ok e k ok (Some (x ∷ y ∷ zs)) is j ps piece there a =
-      elim (get-inserted e.outstanding k (y ∷ zs) j ps there) [
-        | inl old ↦ ok.packets.records j ps piece old a
-        | inr new ↦ ok.packets.records j (x ∷ y ∷ zs) piece (rw new.0 is) (inr (subst (Among piece) (sym new.1) a))
+  without_first_ok : (m : Records) (k : ℕ) → StoodIn p.mine m → (o : Option (List Piece)) → fmap.get m k ≡ o → StoodIn p.mine (without_first m k o)
+  without_first_ok m k stood None is j ps piece there a = stood j ps piece there a
+  without_first_ok m k stood (Some []) is j ps piece there a = stood j ps piece (get-removed m k j ps there) a
+  without_first_ok m k stood (Some (x ∷ [])) is j ps piece there a = stood j ps piece (get-removed m k j ps there) a
+  without_first_ok m k stood (Some (x ∷ y ∷ zs)) is j ps piece there a =
+      elim (get-inserted m k (y ∷ zs) j ps there) [
+        | inl old ↦ stood j ps piece old a
+        | inr new ↦ stood j (x ∷ y ∷ zs) piece (rw new.0 is) (inr (subst (Among piece) (sym new.1) a))
       ]
 
-  pub with_records : (e : End) (m : Records) → EndOk p e → ((j : ℕ) (ps : List Piece) (piece : Piece) → fmap.get m j ≡ Some ps → Among piece ps → PieceOf p.mine j piece) → EndOk p (record e { outstanding = m })
-  with_records e m ok records =
+  -- a record lost its first piece
+  pub one_less_ok : (m : Records) (k : ℕ) → StoodIn p.mine m → StoodIn p.mine (without_first m k (fmap.get m k))
+  one_less_ok m k stood = without_first_ok m k stood (fmap.get m k) refl
+
+  pub with_records : (e : End) (m : Records) (l : LostPackets) → EndOk p e → StoodIn p.mine m → StoodIn p.mine l.pieces → EndOk p (record e { outstanding = m; lost = l })
+  with_records e m l ok records lost_records =
       record {
         sends = ok.sends;
         recvs = ok.recvs;
-        packets = record { count = ok.packets.count; records = records; acks_told = ok.packets.acks_told; kinds = ok.packets.kinds; is_done = ok.packets.is_done; above = ok.packets.above; kept = ok.packets.kept };
+        packets = record {
+          count = ok.packets.count;
+          records = records;
+          lost_records = lost_records;
+          acks_told = ok.packets.acks_told;
+          kinds = ok.packets.kinds;
+          is_done = ok.packets.is_done;
+          above = ok.packets.above;
+          kept = ok.packets.kept;
+        };
         taken = ok.taken;
         credit = ok.credit;
         streams = ok.streams;
       }
+
+  without_piece_ok : (late : Bool) (k : ℕ) (e : End) → EndOk p e → EndOk p (without_piece late k e)
+  without_piece_ok true k e ok = with_records e e.outstanding (lost_less k e.lost) ok ok.packets.records (one_less_ok e.lost.pieces k ok.packets.lost_records)
+  without_piece_ok false k e ok = with_records e (without_first e.outstanding k (fmap.get e.outstanding k)) e.lost ok (one_less_ok e.outstanding k ok.packets.records) ok.packets.lost_records
 
   -- the values acknowledged are in no clause
   with_items : (e : End) (items : AckedItems) → EndOk p e → EndOk p (record e { acked = items })
@@ -176,39 +193,42 @@ module _ (p : Past) where
   item_acked_ok e (StreamsBlocked Bidi m) ok = with_items e _ ok
   item_acked_ok e (StreamsBlocked Uni m) ok = with_items e _ ok
 
-  piece_acked_ok : (e : End) (k : ℕ) (piece : Piece) → AckedPiece p (k, piece) → EndOk p e → EndOk p (piece_acked piece e)
-  piece_acked_ok e k (Data n c) a ok = send_kept p e n ok (λ l. acked_lane l c) (λ l is h. (acked_ok p n (first_send_limit e n) l h k c a.0 a.1, refl))
-  piece_acked_ok e k (Told i) a ok = item_acked_ok e i ok
+  piece_acked_ok : (e : End) (k : ℕ) (piece : Piece) → PieceOf p.mine k piece → TellsAck p.theirs k → EndOk p e → EndOk p (piece_acked piece e)
+  piece_acked_ok e k (Data n c) stood ack ok = send_kept p e n ok (λ l. acked_lane l c) (λ l is h. (acked_ok p n (first_send_limit e n) l h k c stood ack, refl))
+  piece_acked_ok e k (Told i) stood ack ok = item_acked_ok e i ok
 
-  pub acks_ok : (pairs : List (ℕ × Piece)) (e : End) → AllByRecursion (AckedPiece p) pairs → EndOk p e → EndOk p (acks pairs e)
+  pub acks_ok : (pieces : List AckedPiece) (e : End) → AllByRecursion (WasAcked p) pieces → EndOk p e → EndOk p (acks pieces e)
   unfolding acks
   acks_ok [] e all ok = ok
-  acks_ok (pair ∷ pairs) e all ok =
-      acks_ok pairs _ all.1 (piece_acked_ok _ pair.0 pair.1 all.0 (with_records e _ ok (without_first_ok e pair.0 ok (fmap.get e.outstanding pair.0) refl)))
+  acks_ok (a ∷ pieces) e all ok = acks_ok pieces _ all.1 (piece_acked_ok _ a.number a.piece all.0.0 all.0.1 (without_piece_ok a.late a.number e ok))
 
 -- The pieces that an ACK takes
 
-module _ (p : Past) (e : End) (ok : EndOk p e) where
-  pairs_ok : (k : ℕ) → TellsAck p.theirs k → (ps : List Piece) → ((piece : Piece) → Among piece ps → PieceOf p.mine k piece) → AllByRecursion (AckedPiece p) (map (λ x. (k, x)) ps)
-  pairs_ok k ack [] all = tt
-  pairs_ok k ack (x ∷ ps) all = ((all x (inl refl), ack), pairs_ok k ack ps (λ piece a. all piece (inr a)))
+module _ (p : Past) (late : Bool) (m : Records) (stood : StoodIn p.mine m) where
+  all_acked : (k : ℕ) → TellsAck p.theirs k → (ps : List Piece) → ((piece : Piece) → Among piece ps → PieceOf p.mine k piece) → AllByRecursion (WasAcked p) (map (acked_at late k) ps)
+  all_acked k ack [] all = tt
+  all_acked k ack (x ∷ ps) all = ((all x (inl refl), ack), all_acked k ack ps (λ piece a. all piece (inr a)))
 
-  pieces_ok : (k : ℕ) → TellsAck p.theirs k → AllByRecursion (AckedPiece p) (pieces e k)
-  pieces_ok k ack = go (fmap.get e.outstanding k) refl
+  pieces_ok : (k : ℕ) → TellsAck p.theirs k → AllByRecursion (WasAcked p) (pieces_of late m k)
+  pieces_ok k ack = go (fmap.get m k) refl
     where
-      go : (o : Option (List Piece)) → fmap.get e.outstanding k ≡ o → AllByRecursion (AckedPiece p) (elim o [ None ↦ [] | Some ps ↦ map (λ x. (k, x)) ps ])
+      go : (o : Option (List Piece)) → fmap.get m k ≡ o → AllByRecursion (WasAcked p) (elim o [ None ↦ [] | Some ps ↦ map (acked_at late k) ps ])
       go None is = tt
-      go (Some ps) is = pairs_ok k ack ps (λ piece a. ok.packets.records k ps piece is a)
+      go (Some ps) is = all_acked k ack ps (λ piece a. stood k ps piece is a)
 
-  taken_pieces_ok : (numbers : List ℕ) → AllByRecursion (TellsAck p.theirs) numbers → AllByRecursion (AckedPiece p) (flat_map (pieces e) numbers)
+  taken_pieces_ok : (numbers : List ℕ) → AllByRecursion (TellsAck p.theirs) numbers → AllByRecursion (WasAcked p) (flat_map (pieces_of late m) numbers)
   taken_pieces_ok [] told = tt
-  taken_pieces_ok (k ∷ ks) told = All_append (AckedPiece p) (pieces e k) _ (pieces_ok k told.0) (taken_pieces_ok ks told.1)
+  taken_pieces_ok (k ∷ ks) told = All_append (WasAcked p) (pieces_of late m k) _ (pieces_ok k told.0) (taken_pieces_ok ks told.1)
 
   named_told : (ranges : List (ℕ × ℕ)) → ((k : ℕ) → is_named ranges k ≡ true → TellsAck p.theirs k) → (ks : List ℕ) → AllByRecursion (λ k. is_named ranges k ≡ true) ks → AllByRecursion (TellsAck p.theirs) ks
   named_told ranges told [] all = tt
   named_told ranges told (k ∷ ks) all = (told k all.0, named_told ranges told ks all.1)
 
-  pub named_pieces_ok : (ranges : List (ℕ × ℕ)) → ((k : ℕ) → is_named ranges k ≡ true → TellsAck p.theirs k) → AllByRecursion (AckedPiece p) (named e ranges)
-  named_pieces_ok ranges told =
-      taken_pieces_ok (acked_numbers e ranges)
-      (named_told ranges told (acked_numbers e ranges) (All_reverse _ (filter (is_named ranges) (fmap.keys e.outstanding)) (All_filter (is_named ranges) (fmap.keys e.outstanding))))
+  named_in_ok : (ranges : List (ℕ × ℕ)) → ((k : ℕ) → is_named ranges k ≡ true → TellsAck p.theirs k) → AllByRecursion (WasAcked p) (named_in late m ranges)
+  named_in_ok ranges told =
+      taken_pieces_ok (acked_numbers m ranges)
+      (named_told ranges told (acked_numbers m ranges) (All_reverse _ (filter (is_named ranges) (fmap.keys m)) (All_filter (is_named ranges) (fmap.keys m))))
+
+pub named_pieces_ok : (p : Past) (e : End) → EndOk p e → (ranges : List (ℕ × ℕ)) → ((k : ℕ) → is_named ranges k ≡ true → TellsAck p.theirs k) → AllByRecursion (WasAcked p) (named e ranges)
+named_pieces_ok p e ok ranges told =
+    All_append (WasAcked p) (named_in false e.outstanding ranges) _ (named_in_ok p false e.outstanding ok.packets.records ranges told) (named_in_ok p true e.lost.pieces ok.packets.lost_records ranges told)

@@ -98,7 +98,7 @@ acked_state l e = go l.reset_acked l.was_reset (is_whole l) refl refl refl
     go false None true ea eo ec = (eo, ec)
     go false None false ea eo ec = absurd (not_acked_state _ _ (rw (ea, eo, ec) at e))
 
-module _ (p q : Past) (n limit window : ℕ) (from : q.theirs ≡ p.mine) (back : p.theirs ≡ q.mine) (f : End) (packets : PacketsOk q f.next f.outstanding f.done f.floor) (all_taken : TakenOk q f.recvs) (recvs : RecvSlot q n window (recv_lane f n)) where
+module _ (p q : Past) (n limit window : ℕ) (from : q.theirs ≡ p.mine) (back : p.theirs ≡ q.mine) (f : End) (packets : PacketsOk q f.next f.outstanding f.lost.pieces f.done f.floor) (all_taken : TakenOk q f.recvs) (recvs : RecvSlot q n window (recv_lane f n)) where
   -- what a packet that the peer acknowledged tells of the lane was taken in
   acked_taken : (k offset : ℕ) (bytes : List ℕ) (fin : Bool) → Holds p.mine k (Stream n offset bytes fin) → TellsAck p.theirs k → FrameTaken f.recvs (Stream n offset bytes fin)
   acked_taken k offset bytes fin (fs, is, a) (largest, ranges, t, named) =

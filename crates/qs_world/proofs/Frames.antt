@@ -12,7 +12,7 @@ use Rattle.qs_conn.specs.Tables.{lookup, updated, open_to}
 use Rattle.qs_conn.specs.Ends.{End, is_own, is_uni, opens, opened_by_peer, window}
 use Rattle.qs_conn.specs.Seen.{Seen, Ack, Stream, Control, Close, Plain}
 use Rattle.qs_conn.specs.Verdicts.{verdict, item_verdict, credit_fault, lane_of, state_fault_in}
-use Rattle.qs_conn.specs.FrameStep.{piece_acked, item_acked, acks, named, frame_taken, item_taken}
+use Rattle.qs_conn.specs.FrameStep.{AckedPiece, piece_acked, item_acked, acks, named, frame_taken, item_taken}
 use Rattle.qs_conn.proofs.TableLaws.{lookup_same, open_at}
 use Rattle.qs_world.specs.Pasts.{Past, Tells}
 use Rattle.qs_world.specs.Invariant.{EndOk, RecvOk, RecvSlot, FrameTaken}
@@ -43,10 +43,10 @@ piece_acked_recvs (Data n c) e = refl
 piece_acked_recvs (Told i) e = item_acked_recvs i e
 
 -- an ACK leaves the receiving halves
-pub acks_recvs : (pairs : List (ℕ × Piece)) (e : End) → (acks pairs e).recvs ≡ e.recvs
+pub acks_recvs : (pieces : List AckedPiece) (e : End) → (acks pieces e).recvs ≡ e.recvs
 unfolding acks
 acks_recvs [] e = refl
-acks_recvs (pair ∷ pairs) e = acks_recvs pairs _ ∙ piece_acked_recvs pair.1 _
+acks_recvs (a ∷ pieces) e = acks_recvs pieces _ ∙ piece_acked_recvs a.piece _
 
 below_max : (n uni bidi uni' bidi' : ℕ) (b : Bool) → n / 4 < (if b then uni else bidi) → uni ≤ uni' → bidi ≤ bidi' → n / 4 < (if b then uni' else bidi')
 below_max n uni bidi uni' bidi' true h a b = omega (arith, h)

@@ -1,5 +1,5 @@
 -- What a receiving half knows it keeps, whatever happens: offsets, final size and reset.
-use Rattle.std.proofs.Common.{◌≡◌, ℕ, ◌+◌, ◌*◌, Bool, true, false, ◌||◌, List, [], ◌∷◌, drop, take, Option, Some, None, Result, Ok, Err, is_some, slice_get, refl, sym, ap, ◌∙◌, subst, inl, inr, MatchBool}
+use Rattle.std.proofs.Common.{◌≡◌, ℕ, ◌+◌, ◌*◌, Bool, true, false, ◌||◌, List, [], ◌∷◌, take, Option, Some, None, Result, Ok, Err, is_some, slice_get, refl, sym, ap, ◌∙◌, subst, inl, inr, MatchBool}
 use Rattle.std.specs.FinSet as set
 use Rattle.qs_wire.specs.Layout.{PlacedValue}
 use Rattle.qs_wire.specs.Grammar.{frames_of}
@@ -36,7 +36,7 @@ use Rattle.qs_send.specs.Records.{Among}
 use Rattle.qs_conn.specs.Due.{known_count}
 use Rattle.qs_conn.specs.Lawful.{Fills, frame_put, item_put}
 use Rattle.qs_conn.specs.Owner.{refuse_if, send_refusal, recv_refusal, peer_kind, next_stream, with_wanted, OpenStep, IsBlocked, IsOpened, AcceptStep, GivesNone, GivesBidi, GivesUni, AcceptOpen, WriteStep, FinishStep, ResetStep, StopStep, ReadStep, ReadBy}
-use Rattle.qs_conn.specs.Making.{MakeStep, MakeAt, make_refusal, LoseStep, lose_refusal, shortened}
+use Rattle.qs_conn.specs.Making.{MakeStep, MakeAt, make_refusal, LoseStep, lose_refusal, first_lost, losses}
 use Rattle.qs_conn.specs.Receiving.{ReceiveStep, ReceiveBy, ClosedReceive, TakesPayload, Takes, Stops, AtEnd}
 use Rattle.qs_world.specs.declared.event.Act.{Act}
 use Rattle.qs_world.specs.declared.event.Act.TheVariants as acts
@@ -92,9 +92,10 @@ wanted_recvs : (d : Dir) (count : ℕ) (e : End) → (with_wanted d count e).rec
 wanted_recvs Bidi count e = refl
 wanted_recvs Uni count e = refl
 
-shortened_recvs : (k : ℕ) (ps : List Piece) (e : End) → (shortened e k ps).recvs ≡ e.recvs
-shortened_recvs k [] e = refl
-shortened_recvs k (p ∷ ps) e = refl
+losses_recvs : (k : ℕ) (ps : List Piece) (e : End) → (losses k ps e).recvs ≡ e.recvs
+unfolding losses
+losses_recvs k [] e = refl
+losses_recvs k (p ∷ ps) e = losses_recvs k ps (first_lost k p e)
 
 answer_grows : (a : Read) (l : RecvLane) (size : ℕ) → Grows l (after_answer a l size)
 answer_grows (reads.Bytes n) l size = record { received = λ q is. is; final = λ x is. is; reset = λ none. none }
@@ -183,8 +184,8 @@ module _ (p : Past) (e new : End) (ok : EndOk p e) where
   lose_grows k answer step =
       elim (certain_cases (lose_refusal e k) e answer new _ step) [
         | inl (fault, is, same) ↦ same_end e new same
-        | inr (allowed, (ps, there, inl (is, same))) ↦ same_recvs e.recvs new.recvs (ap (λ x. x.recvs) same ∙ shortened_recvs k [] e)
-        | inr (allowed, (ps, there, inr (moved, lt, is, same))) ↦ same_recvs e.recvs new.recvs (ap (λ x. x.recvs) same ∙ shortened_recvs k (drop moved ps) e)
+        | inr (allowed, (ps, there, inl (is, same))) ↦ same_recvs e.recvs new.recvs (ap (λ x. x.recvs) same ∙ losses_recvs k ps e)
+        | inr (allowed, (ps, there, inr (moved, lt, is, same))) ↦ same_recvs e.recvs new.recvs (ap (λ x. x.recvs) same ∙ losses_recvs k (take moved ps) e)
       ]
 
 pub own_grows : (p : Past) (e new : End) → EndOk p e → (act : Act) (answer : Answer) → OwnStep e act answer new → AllGrow e.recvs new.recvs

@@ -14,6 +14,7 @@ pub mod Settling
 pub mod Opening
 pub mod Taking
 pub mod Acking
+pub mod Losing
 pub mod Making
 pub mod Unharmed
 pub mod Standing

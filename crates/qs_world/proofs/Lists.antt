@@ -94,10 +94,11 @@ module _ {X : Type 0} where
   Among_last [] x = inl refl
   Among_last (z ∷ xs) x = inr (Among_last xs x)
 
-  pub Among_drop : (k : ℕ) (xs : List X) (x : X) → Among x (drop k xs) → Among x xs
-  Among_drop zero xs x a = a
-  Among_drop (suc k) [] x a = absurd a
-  Among_drop (suc k) (y ∷ xs) x a = inr (Among_drop k xs x a)
+  pub Among_take : (k : ℕ) (xs : List X) (x : X) → Among x (take k xs) → Among x xs
+  Among_take zero xs x a = absurd a
+  Among_take (suc k) [] x a = absurd a
+  Among_take (suc k) (y ∷ xs) x (inl e) = inl e
+  Among_take (suc k) (y ∷ xs) x (inr a) = inr (Among_take k xs x a)
 
   pub All_append : (P : X → Type 0) (xs ys : List X) → AllByRecursion P xs → AllByRecursion P ys → AllByRecursion P (xs ++ ys)
   All_append P [] ys a b = b

@@ -23,7 +23,7 @@ use Rattle.qs_world.proofs.Members.{get-inserted}
 use Rattle.qs_world.proofs.Base.{before-missing}
 use Rattle.qs_conn.proofs.TableLaws.{slots_updated, lookup_same}
 use Rattle.qs_world.specs.Pasts.{Packets, Past, PieceOf, Holds, Tells}
-use Rattle.qs_world.specs.Invariant.{EndHas, EndOk, SendTrue, SendSlot, RecvSlot, ChunkTrue, AckTrue, IsMade, OpenOk, is_open}
+use Rattle.qs_world.specs.Invariant.{EndHas, EndOk, SendTrue, SendSlot, RecvSlot, ChunkTrue, AckTrue, IsMade, OpenOk, StoodIn, is_open}
 use Rattle.qs_world.proofs.Changes.{open_update}
 use Rattle.qs_world.proofs.Settling.{settle_ok}
 
@@ -134,6 +134,7 @@ module _ (p : Past) (more : Packets) (e : End) (sent : ℕ) (f : Seen)
         packets = record {
           count = count;
           records = λ k ps x there a. piece_up k x (ok.packets.records k ps x there a);
+          lost_records = λ k ps x there a. piece_up k x (ok.packets.lost_records k ps x there a);
           acks_told = λ largest ranges t. elim (down _ t) [ inl old ↦ ok.packets.acks_told largest ranges old | inr new ↦ true_of _ new ];
           kinds = λ g t. elim (down g t) [ inl old ↦ ok.packets.kinds g old | inr new ↦ true_is_made p e g (true_of g new) ];
           is_done = ok.packets.is_done;
@@ -216,7 +217,7 @@ module _ (mine theirs : Packets) (all : List ℕ) (n limit : ℕ) (l : SendLane)
 
 -- Fields that the invariant doesn't speak of may change, and records by what they hold.
 records_changed : (p : Past) (e : End) (sent next : ℕ) (m : Records) → EndHas p e sent → next ≡ length p.mine →
-    ((j : ℕ) (ps : List Piece) (piece : Piece) → fmap.get m j ≡ Some ps → Among piece ps → PieceOf p.mine j piece) → EndHas p (record e { outstanding = m; next = next }) sent
+    StoodIn p.mine m → EndHas p (record e { outstanding = m; next = next }) sent
 records_changed p e sent next m ok count records =
     record {
       sends = ok.sends;
@@ -227,6 +228,7 @@ records_changed p e sent next m ok count records =
       packets = record {
         count = count;
         records = records;
+        lost_records = ok.packets.lost_records;
         acks_told = ok.packets.acks_told;
         kinds = ok.packets.kinds;
         is_done = ok.packets.is_done;

@@ -63,6 +63,7 @@ module _ (role : Role) (own theirs : Settings) (p : Past) (made : p.mine ≡ [])
         packets = record {
           count = sym (ap length made);
           records = λ k ps x is a. absurd (none-some ps (sym (fmap.get-empty nat_cmp k) ∙ is));
+          lost_records = λ k ps x is a. absurd (none-some ps (sym (fmap.get-empty nat_cmp k) ∙ is));
           acks_told = λ largest ranges t. absurd (tells_nothing p.mine _ made t);
           kinds = λ f t. absurd (tells_nothing p.mine f made t);
           is_done = λ k is. absurd (false≢true (sym (set.contains-empty nat_cmp k) ∙ is));

@@ -1,8 +1,7 @@
 -- Each call of its owner keeps the invariant of an end.
-use Rattle.std.proofs.Common.{◌≡◌, ◌≢◌, ℕ, ◌+◌, ◌*◌, Bool, true, false, not, ◌&&◌, List, [], ◌∷◌, ◌++◌, length, drop, take, Option, Some, None, Result, Ok, Err, is_some, refl, sym, ap, ◌∙◌, subst, inl, inr, if◌then◌else◌, ◌==◌, append-nil, MatchBool, nat_le}
+use Rattle.std.proofs.Common.{◌≡◌, ◌≢◌, ℕ, ◌+◌, ◌*◌, Bool, true, false, not, ◌&&◌, List, [], ◌∷◌, ◌++◌, length, take, Option, Some, None, Result, Ok, Err, is_some, refl, sym, ap, ◌∙◌, subst, inl, inr, if◌then◌else◌, ◌==◌, append-nil, MatchBool, nat_le}
 use Rattle.std.proofs.lemmas.Option.{none-some}
 use Rattle.std.proofs.lemmas.Bool.{eq-eqb, ne_eqb, leb-false}
-use Rattle.std.specs.FinMap as fmap
 use Rattle.std.specs.Global.{Vec}
 use Rattle.qs_wire.specs.declared.stream_id.Dir.{Dir}
 use Rattle.qs_wire.specs.declared.stream_id.Dir.TheVariants.{Bidi, Uni}
@@ -12,7 +11,6 @@ use Rattle.qs_recv.specs.declared.half.Read.{Read}
 use Rattle.qs_recv.specs.declared.half.Read.TheVariants as reads
 use Rattle.qs_send.specs.Lane.{SendLane, accepted, refusal, reset_refusal, write_lane, finish_lane, reset_lane}
 use Rattle.qs_send.specs.declared.parts.SendFault.{SendFault}
-use Rattle.qs_send.specs.declared.piece.Piece.{Piece}
 use Rattle.qs_conn.specs.declared.making.Made.{Made}
 use Rattle.qs_conn.specs.declared.making.MakeFault.{MakeFault}
 use Rattle.qs_conn.specs.declared.making.MakeFault.TheVariants as making
@@ -25,23 +23,22 @@ use Rattle.qs_conn.specs.Tables.{lookup, update, updated}
 use Rattle.qs_conn.specs.Ends.{End, on_send, on_recv, send_lane, first_send_limit, window}
 use Rattle.qs_conn.specs.Credit.{settle}
 use Rattle.qs_conn.specs.Seen.{Seen, seen_all}
-use Rattle.qs_send.specs.Records.{Among}
 use Rattle.qs_conn.specs.Due.{known_count}
 use Rattle.qs_conn.specs.Owner.{first_refusal, refuse_if, send_refusal, recv_refusal, half_refusal, no_half, opened_count, own_kind, peer_kind, with_wanted, OpenStep, IsBlocked, IsOpened, AcceptStep, GivesNone, GivesBidi, GivesUni, AcceptOpen, WriteStep, FinishStep, ResetStep, StopStep, ReadStep, ReadBy, next_stream}
-use Rattle.qs_conn.specs.Making.{MakeStep, MakeAt, make_refusal, IsMade, LoseStep, lose_refusal, shortened}
+use Rattle.qs_conn.specs.Making.{MakeStep, MakeAt, make_refusal, IsMade, LoseStep, lose_refusal, losses}
 use Rattle.qs_world.specs.declared.event.Act.{Act}
 use Rattle.qs_world.specs.declared.event.Act.TheVariants as acts
 use Rattle.qs_world.specs.declared.answer.Answer.{Answer}
 use Rattle.qs_world.specs.declared.answer.Answer.TheVariants as answers
 use Rattle.qs_world.specs.Logs.{wrote_by, read_by, is_stop, is_end}
 use Rattle.qs_world.specs.Worlds.{OwnStep}
-use Rattle.qs_world.proofs.Lists.{Among_drop}
-use Rattle.qs_world.proofs.Members.{get-inserted, get-removed}
+use Rattle.qs_world.proofs.Lists.{Among_take}
 use Rattle.qs_world.specs.Pasts.{seen_by, Past, TellsEnd}
 use Rattle.qs_world.specs.Invariant.{EndOk, RecvTrue, RecvSlot, RecvOk}
 use Rattle.qs_world.proofs.Changes.{Grows, Grows_refl, send_kept}
 use Rattle.qs_world.proofs.Settling.{settle_ok}
-use Rattle.qs_world.proofs.Acking.{reset_ok, reset_end, with_records}
+use Rattle.qs_world.proofs.Acking.{reset_ok, reset_end}
+use Rattle.qs_world.proofs.Losing.{losses_ok}
 use Rattle.qs_world.proofs.Making.{made_ok}
 use Rattle.qs_world.proofs.Standing.{certain_cases, uncertain_cases}
 use Rattle.qs_world.proofs.Wire.{text_seen}
@@ -272,21 +269,12 @@ module _ (p : Past) (e new : End) (ok : EndOk p e) where
       by None (Err making.Closed) h = absurd h
       by None (Err making.Exhausted) h = absurd h
 
-  shorter : (k : ℕ) (ps rest : List Piece) → fmap.get e.outstanding k ≡ Some ps → ((x : Piece) → Among x rest → Among x ps) → EndOk p (shortened e k rest)
-  shorter k ps [] is sub = with_records p e _ ok (λ j qs x there a. ok.packets.records j qs x (get-removed e.outstanding k j qs there) a)
-  shorter k ps (y ∷ rest) is sub =
-      with_records p e _ ok (λ j qs x there a.
-      elim (get-inserted e.outstanding k (y ∷ rest) j qs there) [
-        | inl old ↦ ok.packets.records j qs x old a
-        | inr fresh ↦ ok.packets.records j ps x (rw fresh.0 is) (sub x (subst (Among x) (sym fresh.1) a))
-      ])
-
   lose_moves : (k : ℕ) (answer : Result (Unit {0}) LostFault) → LoseStep e k answer new → EndOk p new
   lose_moves k answer step =
       elim (certain_cases (lose_refusal e k) e answer new _ step) [
         | inl (fault, is, same) ↦ ended_by p e new same ok
-        | inr (allowed, (ps, there, inl (is, same))) ↦ ended_by p _ new same (shorter k ps [] there (λ x a. absurd a))
-        | inr (allowed, (ps, there, inr (moved, lt, is, same))) ↦ ended_by p _ new same (shorter k ps (drop moved ps) there (λ x a. Among_drop moved ps x a))
+        | inr (allowed, (ps, there, inl (is, same))) ↦ ended_by p _ new same (losses_ok p k ps e (λ x a. ok.packets.records k ps x there a) ok)
+        | inr (allowed, (ps, there, inr (moved, lt, is, same))) ↦ ended_by p _ new same (losses_ok p k (take moved ps) e (λ x a. ok.packets.records k ps x there (Among_take moved ps x a)) ok)
       ]
 
 pub own_moves : (p : Past) (e new : End) (act : Act) (answer : Answer) → EndOk p e → OwnStep e act answer new → EndOk (with_call p act answer) new

@@ -54,6 +54,7 @@ module _ (p : Past) (more : Packets) where
         packets = record {
           count = ok.packets.count;
           records = ok.packets.records;
+          lost_records = ok.packets.lost_records;
           acks_told = ok.packets.acks_told;
           kinds = ok.packets.kinds;
           is_done = ok.packets.is_done;

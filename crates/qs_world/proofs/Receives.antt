@@ -114,6 +114,7 @@ module _ (k : ℕ) where
         packets = record {
           count = ok.packets.count;
           records = ok.packets.records;
+          lost_records = ok.packets.lost_records;
           kinds = ok.packets.kinds;
           acks_told = λ largest ranges t. (let a = ok.packets.acks_told largest ranges t in record { names_largest = a.names_largest; names_processed = λ j named. or_processed (j == k && true) _ (a.names_processed j named) });
           is_done = λ j h.

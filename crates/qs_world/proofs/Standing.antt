@@ -1,5 +1,5 @@
 -- What no call of an end changes but a closing: its role, its settings, what it was told of its peer's, and that it is open.
-use Rattle.std.proofs.Common.{◌≡◌, ℕ, ◌+◌, ◌*◌, Bool, true, false, List, [], ◌∷◌, ◌⊎◌, drop, Option, Some, None, Result, Ok, Err, is_some, refl, ap, ◌∙◌, inl, inr, if◌then◌else◌, MatchBool}
+use Rattle.std.proofs.Common.{◌≡◌, ℕ, ◌+◌, ◌*◌, Bool, true, false, List, [], ◌∷◌, ◌⊎◌, take, Option, Some, None, Result, Ok, Err, is_some, refl, ap, ◌∙◌, inl, inr, if◌then◌else◌, MatchBool}
 use Rattle.qs_wire.specs.declared.stream_id.Dir.{Dir}
 use Rattle.qs_wire.specs.declared.stream_id.Dir.TheVariants.{Bidi, Uni}
 use Rattle.qs_recv.specs.declared.half.Read.{Read}
@@ -19,12 +19,12 @@ use Rattle.qs_conn.specs.declared.uses.UseFault.TheVariants.{NoMemory}
 use Rattle.qs_conn.specs.Ends.{End, is_own, opens}
 use Rattle.qs_conn.specs.Credit.{settle}
 use Rattle.qs_conn.specs.Seen.{Seen, Ack, Stream, Control, Close, Plain}
-use Rattle.qs_conn.specs.FrameStep.{piece_acked, item_acked, acks, named, frame_taken, item_taken}
+use Rattle.qs_conn.specs.FrameStep.{AckedPiece, piece_acked, item_acked, acks, named, frame_taken, item_taken}
 use Rattle.qs_conn.specs.Lawful.{Fills, frame_put, item_put}
 use Rattle.qs_conn.specs.Due.{known_count}
 use Rattle.qs_conn.specs.Owner.{Certain, Uncertain, refuse_if, send_refusal, recv_refusal, peer_kind, with_wanted, OpenStep, IsBlocked, IsOpened, AcceptStep, GivesNone, GivesBidi, GivesUni, AcceptOpen, WriteStep, FinishStep, ResetStep, StopStep, ReadStep, ReadBy}
 use Rattle.qs_world.specs.Invariant.{Standing, standing}
-use Rattle.qs_conn.specs.Making.{MakeStep, MakeAt, make_refusal, LoseStep, lose_refusal, shortened}
+use Rattle.qs_conn.specs.Making.{MakeStep, MakeAt, make_refusal, LoseStep, lose_refusal, first_lost, losses}
 
 -- that, and the number below which no packet is told apart
 abbrev pub standing_at : End → Standing × ℕ
@@ -47,10 +47,10 @@ piece_acked_stands : (piece : Piece) (e : End) → standing_at (piece_acked piec
 piece_acked_stands (Data n c) e = refl
 piece_acked_stands (Told i) e = item_acked_stands i e
 
-pub acks_stand : (pairs : List (ℕ × Piece)) (e : End) → standing_at (acks pairs e) ≡ standing_at e
+pub acks_stand : (pieces : List AckedPiece) (e : End) → standing_at (acks pieces e) ≡ standing_at e
 unfolding acks
 acks_stand [] e = refl
-acks_stand (pair ∷ pairs) e = acks_stand pairs _ ∙ piece_acked_stands pair.1 _
+acks_stand (a ∷ pieces) e = acks_stand pieces _ ∙ piece_acked_stands a.piece _
 
 opens_stand : (b : Bool) (n : ℕ) (e : End) → standing_at (if b then e else opens n e) ≡ standing_at e
 opens_stand true n e = refl
@@ -118,9 +118,10 @@ wanted_stands : (d : Dir) (count : ℕ) (e : End) → standing (settle (with_wan
 wanted_stands Bidi count e = refl
 wanted_stands Uni count e = refl
 
-shortened_stands : (k : ℕ) (ps : List Piece) (e : End) → standing (shortened e k ps) ≡ standing e
-shortened_stands k [] e = refl
-shortened_stands k (p ∷ ps) e = refl
+losses_stand : (k : ℕ) (ps : List Piece) (e : End) → standing (losses k ps e) ≡ standing e
+unfolding losses
+losses_stand k [] e = refl
+losses_stand k (p ∷ ps) e = losses_stand k ps (first_lost k p e)
 
 module _ (e new : End) where
   pub open_stands : (d : Dir) (answer : Result ℕ OpenFault) → OpenStep e d answer new → standing new ≡ standing e
@@ -202,6 +203,6 @@ module _ (e new : End) where
   lose_stands k answer step =
       elim (certain_cases (lose_refusal e k) e answer new _ step) [
         | inl (fault, is, same) ↦ ap standing same
-        | inr (allowed, (ps, there, inl (is, same))) ↦ ap standing same ∙ shortened_stands k [] e
-        | inr (allowed, (ps, there, inr (moved, lt, is, same))) ↦ ap standing same ∙ shortened_stands k (drop moved ps) e
+        | inr (allowed, (ps, there, inl (is, same))) ↦ ap standing same ∙ losses_stand k ps e
+        | inr (allowed, (ps, there, inr (moved, lt, is, same))) ↦ ap standing same ∙ losses_stand k (take moved ps) e
       ]

@@ -1,7 +1,6 @@
 -- The invariant of a run. It is local: it speaks of one end, of the calls of its owner, of what it processed, and of the packets that
 -- it and its peer made. What the two ends have in common follows from the two halves (Agreement).
 use Rattle.std.specs.Prelude.{◌≡◌, ℕ, ◌+◌, ◌/◌, ◌<◌, ◌≤◌, Bool, true, false, List, [], ◌⊎◌, length, drop, Option, Some, None, is_some, slice_get, if◌then◌else◌}
-use Rattle.std.specs.Ordering.{nat_cmp}
 use Rattle.std.specs.List.{AllByRecursion}
 use Rattle.std.specs.FinMap as fmap
 use Rattle.std.specs.FinSet as set
@@ -14,7 +13,7 @@ use Rattle.qs_send.specs.declared.parts.Reset.{Reset}
 use Rattle.qs_send.specs.declared.piece.Item.TheVariants.{MaxData, MaxStreamData, MaxStreams, ResetStream, StopSending, StreamDataBlocked}
 use Rattle.qs_send.specs.declared.piece.Piece.{Piece}
 use Rattle.qs_conn.specs.Tables.{Tables, lookup}
-use Rattle.qs_conn.specs.Ends.{End, is_own_by, is_uni, first_send_limit, window}
+use Rattle.qs_conn.specs.Ends.{End, Records, is_own_by, is_uni, first_send_limit, window}
 use Rattle.qs_conn.specs.Credit.{all_sent}
 use Rattle.qs_conn.specs.Seen.{Seen, Ack, Stream, Control, Close, Plain}
 use Rattle.qs_conn.specs.FrameStep.{is_named}
@@ -128,17 +127,22 @@ pub record AckTrue (processed : ℕ → Bool) (largest : ℕ) (ranges : List (�
   pub names_largest : is_named ranges largest ≡ true
   pub names_processed : (k : ℕ) → is_named ranges k ≡ true → processed k ≡ true
 
--- The numbers, the records, what was processed and what was acknowledged.
-pub record PacketsTrue (mine : Packets) (processed : ℕ → Bool) (next : ℕ) (outstanding : fmap.FinMap nat_cmp (List Piece)) (done : NumberSet) (floor : ℕ) : Type 0 where
+-- each piece of these records stood in the packet of the record's number
+abbrev pub StoodIn : Packets → Records → Type 0
+StoodIn mine m = (k : ℕ) (ps : List Piece) (piece : Piece) → fmap.get m k ≡ Some ps → Among piece ps → PieceOf mine k piece
+
+-- The numbers, the records of what is outstanding and of what was lost, what was processed and what was acknowledged.
+pub record PacketsTrue (mine : Packets) (processed : ℕ → Bool) (next : ℕ) (outstanding lost : Records) (done : NumberSet) (floor : ℕ) : Type 0 where
   pub count : next ≡ length mine
-  pub records : (k : ℕ) (ps : List Piece) (piece : Piece) → fmap.get outstanding k ≡ Some ps → Among piece ps → PieceOf mine k piece
+  pub records : StoodIn mine outstanding
+  pub lost_records : StoodIn mine lost
   pub acks_told : (largest : ℕ) (ranges : List (ℕ × ℕ)) → Tells mine (Ack largest ranges) → AckTrue processed largest ranges
   pub kinds : (f : Seen) → Tells mine f → IsMade f
   pub is_done : (k : ℕ) → set.contains done k ≡ true → processed k ≡ true
   pub above : (k : ℕ) → set.contains done k ≡ true → floor ≤ k
   pub kept : (k : ℕ) → processed k ≡ true → (set.contains done k ≡ true) ⊎ (k < floor)
 
-abbrev pub PacketsOk : Past → ℕ → fmap.FinMap nat_cmp (List Piece) → NumberSet → ℕ → Type 0
+abbrev pub PacketsOk : Past → ℕ → Records → Records → NumberSet → ℕ → Type 0
 PacketsOk p = PacketsTrue p.mine p.processed
 
 -- Each frame of a processed packet took effect, for good.
@@ -177,7 +181,7 @@ is_open t n = is_some (lookup t n)
 pub record EndHas (p : Past) (e : End) (sent : ℕ) : Type 0 where
   pub sends : (n : ℕ) → SendSlot p n (first_send_limit e n) (lookup e.sends n)
   pub recvs : (n : ℕ) → RecvSlot p n (window e n) (lookup e.recvs n)
-  pub packets : PacketsOk p e.next e.outstanding e.done e.floor
+  pub packets : PacketsOk p e.next e.outstanding e.lost.pieces e.done e.floor
   pub taken : TakenOk p e.recvs
   pub credit : CreditOk p sent e.known_data e.granted e.peer.max_data e.settings.conn_window
   pub streams : OpenOk p e.role e.peer.streams_bidi e.peer.streams_uni e.known_bidi e.known_uni (is_open e.sends) (is_open e.recvs)
