@@ -3,6 +3,7 @@ use Rattle.std.specs.List.{list_all}
 use Rattle.std.proofs.lemmas.Result.{IfOk-weaker}
 use Rattle.qs_world.specs.Events.{fits}
 use Rattle.qs_world.specs.Randoms.{IsRandomScript, seeded}
+use Rattle.qs_world.specs.declared.report.PlayFault.TheVariants.{NoMemory}
 use Rattle.qs_world.proofs.DrawnRuns.{begins_drawn, draws_more, is_script, script_fits}
 use Rattle.qs_world.proofs.random.random_script.Goals as goal
 
@@ -24,3 +25,8 @@ returns-clause-fit c =
     let fit : list_all fits (map (λ x. x.0) (reverse c.loop.world.log)) ≡ true = script_fits _ _ _ _ c.loop.invariant in
     let fit' = rw (← c.into_log.ensures) at fit in
     search (rules, fit')
+
+pub returns-in_err-draw_step-clause-err : goal.returns-in_err-draw_step-clause-err
+returns-in_err-draw_step-clause-err c =
+    let is : c.in_err-draw_step.field-0.0 ≡ NoMemory = c.in_err-draw_step.ensures.err in
+    search (rules, is, c.from_residual.ensures)
