@@ -25,7 +25,7 @@ use Rattle.qs_conn.specs.Credit.{settle}
 use Rattle.qs_conn.specs.Seen.{Seen, seen_all}
 use Rattle.qs_conn.specs.Due.{known_count}
 use Rattle.qs_conn.specs.Owner.{first_refusal, refuse_if, send_refusal, recv_refusal, half_refusal, no_half, opened_count, own_kind, peer_kind, with_wanted, OpenStep, IsBlocked, IsOpened, AcceptStep, GivesNone, GivesBidi, GivesUni, AcceptOpen, WriteStep, FinishStep, ResetStep, StopStep, ReadStep, ReadBy, next_stream}
-use Rattle.qs_conn.specs.Making.{MakeStep, MakeAt, make_refusal, IsMade, LoseStep, lose_refusal, losses}
+use Rattle.qs_conn.specs.Making.{MakeStep, MakeAt, make_refusal, IsMade, LoseStep, lose_refusal}
 use Rattle.qs_world.specs.declared.event.Act.{Act}
 use Rattle.qs_world.specs.declared.event.Act.TheVariants as acts
 use Rattle.qs_world.specs.declared.answer.Answer.{Answer}
