@@ -1,5 +1,5 @@
-//! A thousand packets are acknowledged by one range.
-use super::ends::{USUAL, USUAL_PEER, make, open, receive, write};
+//! A thousand packets are acknowledged by one range; and of many lost packets the oldest is forgotten.
+use super::ends::{USUAL, USUAL_PEER, lose, make, open, receive, write};
 use qs_conn::Endpoint;
 use qs_wire::Role;
 use qs_world::{Dir, Made, Received, StreamId};
@@ -19,8 +19,8 @@ fn sends_one(end: &mut Endpoint, stream: StreamId, number: u64) -> bool {
     }
 }
 
-fn sends_all(end: &mut Endpoint, stream: StreamId) -> bool {
-    for number in 0..1000 {
+fn sends_each(end: &mut Endpoint, stream: StreamId, count: u64) -> bool {
+    for number in 0..count {
         if !sends_one(end, stream, number) {
             return false;
         }
@@ -39,11 +39,50 @@ fn makes_room(end: &mut Endpoint, stream: StreamId) -> bool {
 fn sends_and_frees(alloc: Global) -> Result<bool, Fail> {
     let mut end = Endpoint::new(alloc, Role::Client, USUAL, USUAL_PEER)?;
     let stream = open(&mut end, Dir::Bidi)?;
-    Ok(sends_all(&mut end, stream) && makes_room(&mut end, stream))
+    Ok(sends_each(&mut end, stream, 1000) && makes_room(&mut end, stream))
 }
 
 #[test]
 fn a_thousand_packets_are_acknowledged_at_once(rt: HostRuntime) -> Result<(), Fail> {
     assert!(rt; sends_and_frees(rt.alloc())?);
+    Ok(())
+}
+
+fn loses_each(end: &mut Endpoint, count: u64) -> bool {
+    for number in 0..count {
+        if lose(end, number).is_err() {
+            return false;
+        }
+    }
+    true
+}
+
+/// An ACK of packet 0, and one of packet 1.
+const LATE_ACKS: [&[u8]; 2] = [b"\x02\x00\x00\x00\x00", b"\x02\x01\x00\x00\x00"];
+
+/// Byte 0 goes out once more, in a frame of its own since byte 1 doesn't, and then byte 2 and those behind it.
+const WITHOUT_BYTE_1: &[u8] = b"\x0a\x00\x01a\x0e\x00\x02";
+
+fn leaves_out_byte_1(end: &mut Endpoint) -> bool {
+    let mut out = [0u8; 128];
+    match make(end, &mut out) {
+        Ok(Some(_)) => out.starts_with(WITHOUT_BYTE_1),
+        _ => false,
+    }
+}
+
+/// Of 257 packets that were lost the first is forgotten, and the second isn't.
+fn acknowledges_late(alloc: Global) -> Result<bool, Fail> {
+    let mut end = Endpoint::new(alloc, Role::Client, USUAL, USUAL_PEER)?;
+    let stream = open(&mut end, Dir::Bidi)?;
+    let sent = sends_each(&mut end, stream, 257) && loses_each(&mut end, 257);
+    let first = receive(&mut end, 0, LATE_ACKS[0]) == Ok(Received::Done);
+    let second = receive(&mut end, 1, LATE_ACKS[1]) == Ok(Received::Done);
+    Ok(sent && first && second && leaves_out_byte_1(&mut end))
+}
+
+#[test]
+fn the_257th_lost_packet_makes_the_first_forgotten(rt: HostRuntime) -> Result<(), Fail> {
+    assert!(rt; acknowledges_late(rt.alloc())?);
     Ok(())
 }

@@ -105,6 +105,26 @@ fn lost_bytes_spend_no_credit_again(rt: HostRuntime) -> Result<(), Fail> {
     )
 }
 
+// An ACK that comes for a lost packet counts, so the loss of the packet that repeated it makes nothing due.
+#[test]
+fn a_late_ack_leaves_nothing_due(rt: HostRuntime) -> Result<(), Fail> {
+    play_rows(
+        rt.alloc(),
+        b"client
+          open bidi -> 0
+          write 0 616263 -> 3
+          make 1200 -> 0 0a0003616263
+          lose 0 -> ok
+          lose 0 -> not-outstanding
+          make 1200 -> 1 0a0003616263
+          receive 0 0200000000 -> done
+          lose 1 -> ok
+          make 1200 -> none
+          finish 0 -> ok
+          make 1200 -> 2 0f000300",
+    )
+}
+
 #[test]
 fn a_reset_is_sent_until_it_is_acknowledged(rt: HostRuntime) -> Result<(), Fail> {
     play_rows(

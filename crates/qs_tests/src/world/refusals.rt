@@ -81,9 +81,8 @@ fn played(alloc: Global, script: &[u8]) -> Result<Report, Fail> {
     found_after(alloc, &mut world, script)
 }
 
-#[test]
-fn bytes_survive_refused_memory(rt: HostRuntime) -> Result<(), Fail> {
-    let report = played(rt.alloc(), LOST_AND_SENT_AGAIN)?;
+/// Five bytes went from A to B and were acknowledged; nothing went back.
+fn lanes_of_five() -> Result<[LaneTotals; 2], Fail> {
     let sent = LaneTotals {
         written: 5,
         read: 5,
@@ -92,8 +91,37 @@ fn bytes_survive_refused_memory(rt: HostRuntime) -> Result<(), Fail> {
         known: Some(5),
         ..unused(Side::A, id(0)?)
     };
-    let lanes = [sent, unused(Side::B, id(0)?)];
-    assert!(rt; report.lanes.as_slice() == lanes.as_slice());
+    Ok([sent, unused(Side::B, id(0)?)])
+}
+
+#[test]
+fn bytes_survive_refused_memory(rt: HostRuntime) -> Result<(), Fail> {
+    let report = played(rt.alloc(), LOST_AND_SENT_AGAIN)?;
+    assert!(rt; report.lanes.as_slice() == lanes_of_five()?.as_slice());
+    assert!(rt; report.ends == [end(0), end(5)]);
+    Ok(())
+}
+
+/// The packet that was declared lost arrives, and its acknowledgement counts; the one that repeated it never does.
+const ACKNOWLEDGED_LATE: &[u8] = b"\
+open A bidi
+write A 0 68656c6c6f
+finish A 0
+make A 1200
+lose A 0
+make A 1200
+deliver A 0
+accept B
+read B 0 16
+read B 0 16
+make B 1200
+deliver B 0
+";
+
+#[test]
+fn a_late_ack_survives_refused_memory(rt: HostRuntime) -> Result<(), Fail> {
+    let report = played(rt.alloc(), ACKNOWLEDGED_LATE)?;
+    assert!(rt; report.lanes.as_slice() == lanes_of_five()?.as_slice());
     assert!(rt; report.ends == [end(0), end(5)]);
     Ok(())
 }

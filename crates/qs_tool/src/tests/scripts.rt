@@ -94,7 +94,7 @@ read B 0 16 -> bytes 68656c6c6f
 read B 0 16 -> end
 make B 1200 -> packet 0 0200000000
 deliver B 0 -> done
-lane A 0 written 5 read 5 received no declared 5 known 5
+lane A 0 written 5 read 5 received yes declared 5 known 5
 lane B 0 written 0 read 0 received no declared none known none
 end A spent 0 granted 4096 stored 0
 end B spent 5 granted 4096 stored 0

@@ -121,7 +121,7 @@ fn the_first_send_fails(rt: HostRuntime) -> Result<(), Fail> {
     let outcome = Outcome {
         deliveries: "lose A 1 -> ok\ndeliver A 0 -> done\n",
         ack: "0200000000",
-        received: "no",
+        received: "yes",
         last: "wire failures 1 strangers 0",
     };
     comes_to(&rt, rt.alloc(), &mut wire, &outcome)
