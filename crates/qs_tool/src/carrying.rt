@@ -11,12 +11,13 @@ ghost use Rattle.qs_tool.specs.Runs.{Shows};
 ghost use Rattle.qs_tool.specs.declared.status.Status.TheVariants.{Success};
 ghost use Rattle.qs_tool.specs.Carrying.{StepsBy, CarryStep, CarryOf, HasCarried, ShowsWorld, AnswersCarried, AnswersUdp, wire_line};
 
-use crate::event_copy::copy_event;
 use crate::play_text::play_text;
 use crate::scripts::{show, show_missing, show_script_fault};
 use crate::status::Status;
 use crate::wire::{Wire, other_side};
-use qs_world::{Act, Event, PlayFault, Report, Side, World, parse_script, standard_settings};
+use qs_world::{
+    Act, Event, PlayFault, Report, Side, World, copy_event, parse_script, standard_settings,
+};
 use std::alloc::{AllocError, Global};
 use std::io;
 

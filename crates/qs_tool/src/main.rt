@@ -2,7 +2,6 @@
 #![tactic(auto)]
 
 mod carrying;
-mod event_copy;
 mod fields;
 mod frame_text;
 mod frames;

@@ -7,7 +7,7 @@ use crate::event::{Act, Event};
 use std::alloc::{AllocError, Global};
 
 /// A copy of an event. It takes memory for the bytes of a write alone.
-pub(crate) fn copy_event(alloc: Global, event: &Event) -> Result<Event, AllocError>
+pub fn copy_event(alloc: Global, event: &Event) -> Result<Event, AllocError>
     ensures { IfOk result (λ copy. SameEvent copy event.now) }
 {
     let act = copy_act(alloc, &event.act)?;

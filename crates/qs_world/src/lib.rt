@@ -14,6 +14,7 @@ mod script;
 mod world;
 
 pub use answer::Answer;
+pub use copies::copy_event;
 pub use event::{Act, Event, Side};
 pub use playing::play;
 pub use qs_conn::{
