@@ -124,7 +124,7 @@ byte_of_rest c n q h =
     ∙ slice_get-drop c.bytes n (q - (c.offset + n)) ∙ ap (slice_get c.bytes) e
     ∙ sym (ap (λ b. cond b (slice_get c.bytes (q - c.offset)) None) (le-leb c.offset q (omega arith)))
 
-in_piece : (c : Piece) (cs : List Piece) (q : ℕ) → c.offset ≤ q → q < end_of_piece c → map.get (stored_in (c ∷ cs)) q ≡ byte_of c q
+pub in_piece : (c : Piece) (cs : List Piece) (q : ℕ) → c.offset ≤ q → q < end_of_piece c → map.get (stored_in (c ∷ cs)) q ≡ byte_of c q
 in_piece c cs q low high = get-stored_in c cs q ∙ ap (λ b. cond b (byte_of c q) (map.get (stored_in cs) q)) (is_in_from q c low high)
 
 pub past_piece : (c : Piece) (cs : List Piece) (q : ℕ) → end_of_piece c ≤ q → map.get (stored_in (c ∷ cs)) q ≡ map.get (stored_in cs) q

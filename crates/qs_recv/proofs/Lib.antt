@@ -12,5 +12,8 @@ pub mod ReplayLaws
 pub mod RingCount
 pub mod RingLaws
 pub mod RingPlaces
+pub mod SameChunks
+pub mod SameLaws
+pub mod SameRing
 pub mod SoundLaws
 pub mod SpotLaws

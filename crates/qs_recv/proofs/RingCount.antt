@@ -3,10 +3,11 @@
 --     missing_all, missing_none      where none came, and where all did
 --     missing_same       in two sets that agree there
 use Rattle.std.specs.Prelude.{◌≡◌, ℕ, ◌+◌, ◌-◌, ◌<◌, ◌≤◌, zero, suc, Bool, true, false, cond, refl}
-use Rattle.std.proofs.Common.{◌∙◌, ap, arith}
+use Rattle.std.proofs.Common.{◌∙◌, ap, arith, inl, inr}
 use Rattle.std.specs.FinSet as set
+use Rattle.std.proofs.lemmas.Bool.{both_ways, cases_lt}
 use Rattle.qs_ranges.specs.Numbers.{NumberSet, ContainsRange, MissesRange}
-use Rattle.qs_recv.specs.Ring.{IsGap, missing_count}
+use Rattle.qs_recv.specs.Ring.{IsNextRun, missing_count}
 
 pub missing_zero : (r : NumberSet) (from : ℕ) → missing_count r from 0 ≡ 0
 unfolding missing_count
@@ -58,10 +59,18 @@ missing_same r s from (suc n) is =
     ap (λ b. cond b (missing_count r from n) (missing_count r from n + 1)) (is (from + n) (omega arith) (omega arith))
     ∙ ap (λ k. cond (set.contains s (from + n)) k (k + 1)) (missing_same r s from n (λ q low high. is q low (omega arith)))
 
+-- there is a gap at an offset that didn't come
+pub gap_some : (r : NumberSet) (at end stop next : ℕ) → set.contains r at ≡ false → IsNextRun r at end stop next → at < stop
+gap_some r at end stop next none g =
+    elim (cases_lt at stop) [
+      | inl some ↦ some
+      | inr past ↦ absurd (both_ways _ none (g.came at past g.some))
+    ]
+
 -- past a gap, and what came behind it
-pub missing_gap : (r : NumberSet) (first at end stop next : ℕ) → first ≤ at → IsGap r at end stop next → missing_count r first (at - first) + (stop - at) ≡ missing_count r first (next - first)
-missing_gap r first at end stop next low g =
-    let some = g.some in
+pub missing_gap : (r : NumberSet) (first at end stop next : ℕ) → first ≤ at → set.contains r at ≡ false → IsNextRun r at end stop next → missing_count r first (at - first) + (stop - at) ≡ missing_count r first (next - first)
+missing_gap r first at end stop next low none g =
+    let some = gap_some r at end stop next none g in
     let ordered = g.ordered in
     let e : next - first ≡ (at - first) + ((stop - at) + (next - stop)) = omega arith in
     let a : first + (at - first) ≡ at = omega arith in

@@ -12,7 +12,7 @@ use Rattle.std.specs.FinSet as set
 use Rattle.std.proofs.lemmas.Bool.{cases_lt, cases_order}
 use Rattle.std.proofs.lemmas.Bool.Decides.{nat_tests}
 use Rattle.qs_ranges.specs.Numbers.{NumberSet, is_within}
-use Rattle.qs_recv.specs.Ring.{IsFilled, IsGap, IsWritten}
+use Rattle.qs_recv.specs.Ring.{IsFilled, IsNextRun, IsWritten}
 
 -- one turn more, or several
 one_turn : (w a b : ℕ) → a < b → w * a + w ≤ w * b
@@ -120,7 +120,7 @@ written_twice at room bytes front back old mid new pos fits rest more front_is b
 -- Copied out
 
 -- the place of an offset less than a turn past another
-place_past : (at i w : ℕ) → 0 < w → i < w → ((at + i) % w ≡ at % w + i) ⊎ ((at + i) % w + w ≡ at % w + i)
+pub place_past : (at i w : ℕ) → 0 < w → i < w → ((at + i) % w ≡ at % w + i) ⊎ ((at + i) % w + w ≡ at % w + i)
 place_past at i w pos h =
     elim (places at (at + i) w pos (omega arith) (omega arith)) [
       | inl here ↦ inl (omega arith)
@@ -180,11 +180,10 @@ and_false : (b : Bool) → (b && not true) ≡ false
 and_false true = refl
 and_false false = refl
 
-pub filled_gap : (r : NumberSet) (first at end stop next offset : ℕ) (bytes old mid new : List ℕ) → offset ≤ first → first ≤ at → end ≤ offset + length bytes → IsGap r at end stop next
+pub filled_gap : (r : NumberSet) (first at end stop next offset : ℕ) (bytes old mid new : List ℕ) → offset ≤ first → first ≤ at → end ≤ offset + length bytes → at < stop → IsNextRun r at end stop next
     → length mid ≡ length old → IsFilled r first at offset bytes old mid → IsWritten at (take (stop - offset - (at - offset)) (drop (at - offset) bytes)) mid new
     → IsFilled r first next offset bytes old new
-filled_gap r first at end stop next offset bytes old mid new begins low_at fits g len filled written q low high =
-    let some = g.some in
+filled_gap r first at end stop next offset bytes old mid new begins low_at fits some g len filled written q low high =
     let ordered = g.ordered in
     let ends = g.ends in
     let n : length (take (stop - offset - (at - offset)) (drop (at - offset) bytes)) ≡ stop - at = simp (length-take, length-drop) (omega arith) in

@@ -134,7 +134,7 @@ total_between cs first after o low high =
     omega (arith, b, at)
 
 -- the first of the pieces from a place on
-drop_first : (cs : List Piece) (k : ℕ) → k < length cs → drop k cs ≡ piece_at cs k ∷ drop (suc k) cs
+pub drop_first : (cs : List Piece) (k : ℕ) → k < length cs → drop k cs ≡ piece_at cs k ∷ drop (suc k) cs
 drop_first [] k h = absurd (omega arith)
 drop_first (c ∷ cs) zero h = refl
 drop_first (c ∷ cs) (suc k) h = drop_first cs k (omega arith)

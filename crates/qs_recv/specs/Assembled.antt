@@ -3,7 +3,8 @@
 --                    these the next ones may lie; and whether bytes are thrown away
 --     nothing_yet, put, take_front, discard      what the calls of an assembly leave
 --     front m at size      the bytes of m from an offset on, up to the first offset that isn't in m, and at most size
-use Rattle.std.specs.Prelude.{ℕ, ◌+◌, zero, suc, Bool, true, false, if◌then◌else◌, nat_le, List, [], ◌∷◌, length, Option, None, Some, refl}
+--     same m at bytes      whether bytes from an offset on are those that m has there
+use Rattle.std.specs.Prelude.{ℕ, ◌+◌, zero, suc, Bool, true, false, if◌then◌else◌, ◌==◌, ◌&&◌, nat_le, List, [], ◌∷◌, length, Option, None, Some, refl}
 use Rattle.std.specs.Ordering.{nat_cmp}
 use Rattle.std.specs.Coded.{Coded, code_by, coded×, coded_ℕ, coded_bool}
 use Rattle.std.specs.FinMap as map
@@ -70,3 +71,13 @@ take_front a size =
 -- what is stored is thrown away, and so is what comes from now on
 abbrev pub discard : Assembled → Assembled
 discard a = record a { stored = map.empty; discarding = true }
+
+-- whether a byte is the one that is stored, where one is (RFC 9000, section 2.2)
+abbrev pub agrees : Option ℕ → ℕ → Bool
+agrees None byte = true
+agrees (Some stored) byte = stored == byte
+
+-- whether each byte from an offset on is the one that is stored at its offset, where one is (RFC 9000, section 2.2)
+unfoldable pub same : map.FinMap nat_cmp ℕ → ℕ → List ℕ → Bool
+same m at [] = true
+same m at (byte ∷ bytes) = agrees (map.get m at) byte && same m (at + 1) bytes

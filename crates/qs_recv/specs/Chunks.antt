@@ -13,6 +13,10 @@ use Rattle.qs_recv.specs.Assembled.{store}
 abbrev pub byte_at : ℕ → List ℕ → ℕ → Option ℕ
 byte_at at bytes q = if nat_le at q then slice_get bytes (q - at) else None
 
+-- two runs of bytes have one byte at each offset that is in both (RFC 9000, section 2.2)
+abbrev pub AreOne : ℕ → List ℕ → ℕ → List ℕ → Type 0
+AreOne at own offset bytes = (q byte other : ℕ) → byte_at at own q ≡ Some byte → byte_at offset bytes q ≡ Some other → byte ≡ other
+
 pub record Piece : Type 0 where
   pub offset : ℕ
   pub bytes : List ℕ

@@ -8,9 +8,9 @@ use Rattle.qs_recv.specs.declared.half.Read.TheVariants.{Bytes, End, Reset, Wait
 use Rattle.qs_recv.specs.declared.half.RecvState.{RecvState}
 use Rattle.qs_recv.specs.declared.half.RecvState.TheVariants.{Recv, SizeKnown, DataRecvd, DataRead, ResetRecvd, ResetRead}
 use Rattle.qs_recv.specs.declared.half.RecvFault.{RecvFault}
-use Rattle.qs_recv.specs.declared.half.RecvFault.TheVariants.{FinalSize, StreamCredit}
+use Rattle.qs_recv.specs.declared.half.RecvFault.TheVariants.{FinalSize, StreamCredit, ChangedByte}
 use Rattle.qs_recv.specs.declared.half.Highest.{Highest}
-use Rattle.qs_recv.specs.Assembled.{Assembled, assembled_code, nothing_yet, put, take_front, front_of, discard}
+use Rattle.qs_recv.specs.Assembled.{Assembled, assembled_code, nothing_yet, put, take_front, front_of, discard, same}
 
 -- what arrived; the final size, the reset's code and the code of this end's own stop, where known; whether a reader was told of the end or
 -- the reset; and the limit on offsets that was granted (RFC 9000, sections 3.2, 3.5 and 4.1)
@@ -84,6 +84,10 @@ check_stream lane offset n fin =
     if breaks_final_size lane offset n fin then Err FinalSize
     else (if nat_lt lane.limit (max (highest lane) (offset + n)) then Err StreamCredit
     else Ok (record { before = highest lane; after = highest_after lane offset n fin }))
+
+-- a byte that is still stored doesn't change; after a reset or a stop none is stored (RFC 9000, section 2.2)
+abbrev pub check_bytes : RecvLane → ℕ → List ℕ → Result (Unit {0}) RecvFault
+check_bytes lane offset bytes = if same lane.arrived.stored offset bytes then Ok tt else Err ChangedByte
 
 -- bytes are put in order, where none is put after a reset; the end tells the final size (RFC 9000, sections 2.2, 3.2 and 4.5)
 abbrev pub take_stream : RecvLane → ℕ → List ℕ → Bool → RecvLane

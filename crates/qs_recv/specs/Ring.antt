@@ -1,7 +1,9 @@
 -- Bytes kept in a ring, and the map of bytes that they stand for. The byte of an offset stands at the offset modulo the ring's size.
 --     ring_bytes, stored_in_ring      each byte under its offset
 --     IsRing       what holds of a ring assembly's fields at all times
---     missing_count, IsGap      the offsets that didn't come
+--     missing_count      how many offsets didn't come
+--     IsNextRun      where the next offsets that came begin, and where they end
+--     IsInRing       bytes that stand at their places, as far as their offsets came
 --     IsWritten, IsFilled       what the places have after bytes were written
 use Rattle.std.specs.Prelude.{◌≡◌, ℕ, ◌+◌, ◌-◌, ◌%◌, ◌^◌, ◌<◌, ◌≤◌, zero, suc, Bool, true, false, not, ◌&&◌, if◌then◌else◌, List, length, slice_index}
 use Rattle.std.specs.Ordering.{nat_cmp}
@@ -39,9 +41,10 @@ missing_count received from zero = 0
 missing_count received from (suc n) =
     if set.contains received (from + n) then missing_count received from n else missing_count received from n + 1
 
--- none of the offsets from `at` on and below `stop` came, and all from there on and below `next`, where another gap is or the end
-pub record IsGap (received : NumberSet) (at end stop next : ℕ) : Type 0 where
-  pub some : at < stop
+-- none of the offsets from `at` on and below `stop` came, and all from there on and below `next`, where a gap is or the end
+pub record IsNextRun (received : NumberSet) (at end stop next : ℕ) : Type 0 where
+  pub begins : at ≤ stop
+  pub some : at < next
   pub ordered : stop ≤ next
   pub ends : next ≤ end
   pub missing : MissesRange received at stop
@@ -60,3 +63,13 @@ IsFilled received first end offset bytes old new =
     (q : ℕ) → end ≤ q + length old → q < first + length old
     → slice_index new (q % length old)
     ≡ (if is_within first end q && not (set.contains received q) then slice_index bytes (q - offset) else slice_index old (q % length old))
+
+-- the bytes from `at` on stand at the places of their offsets
+abbrev pub AreAt : List ℕ → ℕ → List ℕ → Type 0
+AreAt ring at bytes = (k : ℕ) → k < length bytes → slice_index bytes k ≡ slice_index ring ((at + k) % length ring)
+
+-- the same of the bytes from `offset` on, for the offsets from `start` on that came (RFC 9000, section 2.2)
+abbrev pub IsInRing : NumberSet → List ℕ → ℕ → ℕ → List ℕ → Type 0
+IsInRing received ring start offset bytes =
+    (q : ℕ) → start ≤ q → q < offset + length bytes → set.contains received q ≡ true
+    → slice_index bytes (q - offset) ≡ slice_index ring (q % length ring)

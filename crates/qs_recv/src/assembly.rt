@@ -1,7 +1,7 @@
 //! What an assembly of arrived bytes promises, however it keeps them (RFC 9000, section 2.2).
 ghost use Rattle.std.specs.Prelude.{◌≡◌, ◌+◌, ◌-◌, ◌≤◌, ◌^◌, ◌++◌, length, drop, true, false, OnOk, OnErr};
 ghost use Rattle.std.specs.FinMap as map;
-ghost use Rattle.qs_recv.specs.Assembled.{Assembled, nothing_yet, put, take_front, front_of, discard};
+ghost use Rattle.qs_recv.specs.Assembled.{Assembled, nothing_yet, put, take_front, front_of, discard, same};
 ghost use Rattle.qs_ranges.specs.Numbers.{MAX_VARINT, MissesRange, covers};
 
 use qs_ranges::{NoMemory, RangeSet};
@@ -41,6 +41,12 @@ pub trait Assembly: Drop {
     /// Throws the stored bytes away, and those that come from now on.
     fn discard(&mut self)
         ensures { holds self.new ≡ discard (holds self.old) };
+
+    /// Whether bytes are those that are stored at their offsets. Offsets where no byte is stored don't count: those that
+    /// didn't come, were read, or are thrown away.
+    fn same(&self, offset: u64, bytes: &[u8]) -> bool
+        requires in_range { offset + length bytes.now ≤ MAX_VARINT }
+        ensures { result ≡ same (holds self.now).stored offset bytes.now };
 
     /// How many bytes are stored.
     fn stored(&self) -> u64

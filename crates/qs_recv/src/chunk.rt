@@ -1,7 +1,7 @@
 //! Consecutive bytes of a stream, which grow at the back and go away at the front.
-ghost use Rattle.std.specs.Prelude.{◌≡◌, ◌+◌, ◌-◌, ◌<◌, ◌≤◌, ◌++◌, length, take, drop, IfOk, OnOk, OnErr};
+ghost use Rattle.std.specs.Prelude.{◌≡◌, ◌+◌, ◌-◌, ◌<◌, ◌≤◌, ◌++◌, length, take, drop, IfOk, OnOk, OnErr, IsTrue, ◌↔◌};
 ghost use Rattle.qs_ranges.specs.Numbers.{MAX_VARINT};
-ghost use Rattle.qs_recv.specs.Chunks.{Piece, end_of_piece, longer, rest_of, shorter};
+ghost use Rattle.qs_recv.specs.Chunks.{AreOne, Piece, end_of_piece, longer, rest_of, shorter};
 
 use qs_ranges::NoMemory;
 use std::marker::Model;
@@ -63,6 +63,14 @@ impl Chunk {
         self.bytes.len() - self.start
     }
 
+    /// Whether bytes are those of the chunk, at each offset that both have.
+    pub(crate) fn agrees(&self, offset: u64, bytes: &[u8]) -> bool
+        requires { offset + length bytes.now ≤ MAX_VARINT }
+        ensures { IsTrue result ↔ AreOne self.now.offset self.now.bytes offset bytes.now }
+    {
+        are_one(self.offset, &self.bytes[self.start..], offset, bytes)
+    }
+
     /// Copies the first bytes out.
     pub(crate) fn copy_front(&self, into: &mut [u8])
         requires { length into.old ≤ length self.now.bytes }
@@ -110,4 +118,20 @@ impl Chunk {
     pub(crate) fn into_buffer(self) -> Vec<u8> {
         self.bytes
     }
+}
+
+// Whether two runs of bytes have one byte at each offset that is in both.
+fn are_one(at: u64, own: &[u8], offset: u64, bytes: &[u8]) -> bool
+    requires own { at + length own.now ≤ MAX_VARINT }
+    requires bytes { offset + length bytes.now ≤ MAX_VARINT }
+    ensures { IsTrue result ↔ AreOne at own.now offset bytes.now }
+{
+    let from = at.max(offset);
+    let to = (at + own.len() as u64).min(offset + bytes.len() as u64);
+    if from >= to {
+        return true;
+    }
+    let ours = &own[(from - at) as usize..(to - at) as usize];
+    let theirs = &bytes[(from - offset) as usize..(to - offset) as usize];
+    ours == theirs
 }

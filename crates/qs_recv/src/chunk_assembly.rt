@@ -106,6 +106,10 @@ impl Assembly for ChunkAssembly {
         self.discarding = true;
     }
 
+    fn same(&self, offset: u64, bytes: &[u8]) -> bool {
+        self.chunks.agree(offset, bytes)
+    }
+
     fn stored(&self) -> u64 {
         self.stored
     }

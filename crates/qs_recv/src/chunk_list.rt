@@ -2,6 +2,7 @@
 ghost use Rattle.std.specs.Prelude.{◌≡◌, if◌then◌else◌, ℕ, ◌+◌, ◌-◌, ◌^◌, ◌≤◌, ◌<◌, ◌∷◌, ◌++◌, [], length, take, drop, insert, remove, min, IfOk, IfSome, IfNone, OnOk, OnErr, IsTrue, ◌↔◌};
 ghost use Rattle.std.specs.FinMap as map;
 ghost use Rattle.qs_ranges.specs.Numbers.{MAX_VARINT, is_within};
+ghost use Rattle.qs_recv.specs.Assembled.{same};
 ghost use Rattle.qs_recv.specs.Chunks.{Piece, IsOrdered, IsSpot, IsStored, byte_at, between, end_of_piece, first_bytes, first_offset, or_else, piece_at, pieces_end, stored_in, total, with_longer, with_shorter, without_first};
 
 use crate::chunk::Chunk;
@@ -154,6 +155,23 @@ impl ChunkList {
             after += 1;
         }
         (after, held)
+    }
+
+    /// Whether bytes are those of the chunks at their offsets, where the chunks have some.
+    pub(crate) fn agree(&self, offset: u64, bytes: &[u8]) -> bool
+        requires ordered { IsOrdered 0 self.now }
+        requires in_range { offset + length bytes.now ≤ MAX_VARINT }
+        ensures { result ≡ same (stored_in self.now) offset bytes.now }
+    {
+        let end = offset + bytes.len() as u64;
+        let mut next = self.place_past(offset).saturating_sub(1);
+        while next < self.len() && self.chunk(next).offset() < end {
+            if !self.chunk(next).agrees(offset, bytes) {
+                return false;
+            }
+            next += 1;
+        }
+        true
     }
 
     /// The bytes that come, from the offset `from` on, with those of the chunks between in their places.

@@ -4,7 +4,7 @@ ghost use Rattle.std.specs.FinMap as map;
 ghost use Rattle.qs_ranges.specs.Numbers.{MAX_VARINT, MissesRange, covers};
 ghost use Rattle.qs_recv.specs.Lawful.{IsLawful};
 ghost use Rattle.qs_recv.specs.Sound.{CodeFits};
-ghost use Rattle.qs_recv.specs.Lane.{new_lane, highest, highest_after, taken, state, check_stream, take_stream, check_reset, take_reset, is_whole, breaks_final_size, read_answer, bytes_read, after_read, stop, raise, raise_answer};
+ghost use Rattle.qs_recv.specs.Lane.{new_lane, highest, highest_after, taken, state, check_stream, check_bytes, take_stream, check_reset, take_reset, is_whole, breaks_final_size, read_answer, bytes_read, after_read, stop, raise, raise_answer};
 
 use crate::assembly::Assembly;
 use std::alloc::Global;
@@ -13,7 +13,8 @@ use std::marker::Model;
 // The largest value of a variable-length integer.
 const MAX_VARINT: u64 = (1 << 62) - 1;
 
-/// Why data or a reset is refused. The half is left as it was.
+/// Why data or a reset is refused. The half is left as it was. Each but NoMemory is an error of the peer, and the last is
+/// told by `check_bytes` alone.
 #[derive(Debug, Clone, Copy, PartialEq, Eq, Drop)]
 pub enum RecvFault {
     /// Another final size is named, or one below what came, or data lies past it: FINAL_SIZE_ERROR (section 4.5).
@@ -22,6 +23,8 @@ pub enum RecvFault {
     StreamCredit,
     /// A growth was refused.
     NoMemory,
+    /// Another byte stands at an offset that is still stored: PROTOCOL_VIOLATION (section 2.2).
+    ChangedByte,
 }
 
 /// The highest offset of a stream before and after a frame: the final size if known, else one more than the largest offset
@@ -124,11 +127,25 @@ impl<A: Assembly> RecvHalf<A> {
         Ok(Highest { before, after })
     }
 
-    /// Takes a STREAM frame that passed the check. The only error is NoMemory, where a growth was refused. After a reset
+    /// Whether a STREAM frame's bytes are those that are stored at their offsets, where some are still stored. It takes no
+    /// memory.
+    pub fn check_bytes(&self, offset: u64, bytes: &[u8]) -> Result<(), RecvFault>
+        requires { offset + length bytes.now ≤ MAX_VARINT }
+        ensures { result ≡ check_bytes self.now offset bytes.now }
+    {
+        if self.assembly.same(offset, bytes) {
+            Ok(())
+        } else {
+            Err(RecvFault::ChangedByte)
+        }
+    }
+
+    /// Takes a STREAM frame that passed both checks. The only error is NoMemory, where a growth was refused. After a reset
     /// or a stop its bytes are counted and thrown away.
     pub fn take_stream(&mut self, offset: u64, bytes: &[u8], fin: bool) -> Result<(), RecvFault>
         requires in_range { offset + length bytes.now ≤ MAX_VARINT }
         requires passed { IsOk (check_stream self.old offset (length bytes.now) fin) }
+        requires unchanged { IsOk (check_bytes self.old offset bytes.now) }
         ensures taken { OnOk result (self.new ≡ take_stream self.old offset bytes.now fin) }
         ensures grown { OnOk result (highest self.new ≡ highest_after self.old offset (length bytes.now) fin) }
         ensures refused { IfErr result (λ fault. (fault ≡ RecvFault.NoMemory) × (self.new ≡ self.old)) }

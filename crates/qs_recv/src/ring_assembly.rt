@@ -1,8 +1,8 @@
 //! An assembly that keeps what came in one ring: the byte of an offset stands at the offset modulo the window.
-ghost use Rattle.std.specs.Prelude.{◌≡◌, if◌then◌else◌, ℕ, ◌+◌, ◌-◌, ◌%◌, ◌<◌, ◌≤◌, ◌^◌, length, slice_index, false, OnOk, OnErr};
+ghost use Rattle.std.specs.Prelude.{◌≡◌, if◌then◌else◌, ℕ, ◌+◌, ◌-◌, ◌%◌, ◌<◌, ◌≤◌, ◌^◌, length, slice_index, true, false, IsTrue, ◌↔◌, OnOk, OnErr};
 ghost use Rattle.std.specs.FinSet as set;
 ghost use Rattle.qs_ranges.specs.Numbers.{MAX_VARINT, is_within};
-ghost use Rattle.qs_recv.specs.Ring.{IsFilled, IsGap, IsWritten, missing_count};
+ghost use Rattle.qs_recv.specs.Ring.{AreAt, IsFilled, IsInRing, IsNextRun, IsWritten, missing_count};
 
 use crate::assembly::Assembly;
 use qs_ranges::{NoMemory, RangeSet};
@@ -91,6 +91,14 @@ impl Assembly for RingAssembly {
         self.discarding = true;
     }
 
+    fn same(&self, offset: u64, bytes: &[u8]) -> bool {
+        if self.discarding {
+            return true;
+        }
+        let start = offset.max(self.read_count);
+        is_in_ring(&self.ring, &self.received, start, offset, bytes)
+    }
+
     fn stored(&self) -> u64 {
         self.stored
     }
@@ -126,7 +134,7 @@ fn fill_gaps(ring: &mut [u8], received: &RangeSet, first: u64, offset: u64, byte
     let mut at = first;
     let mut count = 0;
     while at < end {
-        let (stop, next) = gap(received, at, end);
+        let (stop, next) = next_run(received, at, end);
         copy_in(
             ring,
             at,
@@ -138,11 +146,10 @@ fn fill_gaps(ring: &mut [u8], received: &RangeSet, first: u64, offset: u64, byte
     count
 }
 
-// Where the gap at a missing offset stops, and where the next one begins: both at most at the end.
-fn gap(received: &RangeSet, at: u64, end: u64) -> (u64, u64)
-    requires below { at < end }
-    requires missing { set.contains received.now at ≡ false }
-    ensures { IsGap received.now at end result.0 result.1 }
+// Where the next offsets from `at` on that came begin, and where the gap behind them does: both at most at the end.
+fn next_run(received: &RangeSet, at: u64, end: u64) -> (u64, u64)
+    requires { at < end }
+    ensures { IsNextRun received.now at end result.0 result.1 }
 {
     match received.run_from(at) {
         Some((start, after)) if start < end => (start, after.min(end)),
@@ -195,4 +202,42 @@ fn copy_out(ring: &[u8], at: u64, into: &mut [u8])
         write_at(into, 0, &ring[place..]);
         write_at(into, room, &ring[..len - room]);
     }
+}
+
+// Whether the bytes at those offsets from `start` on that came are the ones at their places.
+fn is_in_ring(ring: &[u8], received: &RangeSet, start: u64, offset: u64, bytes: &[u8]) -> bool
+    requires in_range { offset + length bytes.now ≤ MAX_VARINT }
+    requires begins { offset ≤ start }
+    requires fits { (q : ℕ) → start ≤ q → set.contains received.now q ≡ true → q < start + length ring.now }
+    ensures { IsTrue result ↔ IsInRing received.now ring.now start offset bytes.now }
+{
+    let end = offset + bytes.len() as u64;
+    let mut at = start;
+    while at < end {
+        let (from, to) = next_run(received, at, end);
+        let run = &bytes[(from - offset) as usize..(to - offset) as usize];
+        if !are_at(ring, from, run) {
+            return false;
+        }
+        at = to;
+    }
+    true
+}
+
+// Whether bytes are the ones at the places of the offsets from `at` on, in two pieces where these wrap.
+fn are_at(ring: &[u8], at: u64, bytes: &[u8]) -> bool
+    requires { length bytes.now ≤ length ring.now }
+    ensures { IsTrue result ↔ AreAt ring.now at bytes.now }
+{
+    let len = bytes.len();
+    if len == 0 {
+        return true;
+    }
+    let place = (at % ring.len() as u64) as usize;
+    let room = ring.len() - place;
+    if len <= room {
+        return bytes == &ring[place..place + len];
+    }
+    let (front, back) = bytes.split_at(room);
+    front == &ring[place..] && back == &ring[..len - room]
 }

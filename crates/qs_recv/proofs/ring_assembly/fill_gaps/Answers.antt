@@ -1,6 +1,6 @@
 use Rattle.std.proofs.Common.{◌≡◌, ◌∙◌, ◌+◌, ◌-◌, sym, ap, arith, length}
 use Rattle.qs_recv.specs.Ring.{missing_count}
-use Rattle.qs_recv.proofs.RingCount.{missing_zero, missing_gap}
+use Rattle.qs_recv.proofs.RingCount.{gap_some, missing_zero, missing_gap}
 use Rattle.qs_recv.proofs.RingPlaces.{filled_none, filled_gap}
 use Rattle.qs_recv.proofs.ring_assembly.fill_gaps.Goals as goal
 
@@ -19,17 +19,19 @@ loop-at-init c =
 pub loop-at-preserved : goal.loop-at-preserved
 loop-at-preserved c =
     let inv = c.loop-at.invariant in
-    let g = c.gap-stop.ensures in
+    let g = c.next_run-stop.ensures in
     let at = c.loop-at.at in
-    let stop = c.gap-stop.result.0 in
-    let next = c.gap-stop.result.1 in
+    let stop = c.next_run-stop.result.0 in
+    let next = c.next_run-stop.result.1 in
     let end = c.args.offset + length c.args.bytes.now in
+    let none = inv.missing c.loop-at-test.true in
+    let some = gap_some c.args.received.now at end stop next none g in
     record {
-      begins = omega (arith, inv.begins, g.some, g.ordered);
+      begins = omega (arith, inv.begins, g.some);
       ends = g.ends;
       missing = g.next_missing;
-      counted = ap (λ k. k + (stop - at)) inv.counted ∙ missing_gap c.args.received.now c.args.first at end stop next inv.begins g;
-      small = omega (arith, inv.begins, inv.small, g.some, g.ordered);
-      filled = filled_gap c.args.received.now c.args.first at end stop next c.args.offset c.args.bytes.now c.args.ring.now c.loop-at.ring c.copy_in.new.ring c.requires.begins inv.begins (omega arith) g
+      counted = ap (λ k. k + (stop - at)) inv.counted ∙ missing_gap c.args.received.now c.args.first at end stop next inv.begins none g;
+      small = omega (arith, inv.begins, inv.small, some, g.ordered);
+      filled = filled_gap c.args.received.now c.args.first at end stop next c.args.offset c.args.bytes.now c.args.ring.now c.loop-at.ring c.copy_in.new.ring c.requires.begins inv.begins (omega arith) some g
           c.loop-at.auto.ring inv.filled c.copy_in.ensures.written;
     }

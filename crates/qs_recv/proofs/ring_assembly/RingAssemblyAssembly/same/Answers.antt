@@ -1,0 +1,23 @@
+use Rattle.std.proofs.Common.{sym, arith}
+use Rattle.std.specs.Ordering.{nat_cmp}
+use Rattle.std.specs.FinMap as map
+use Rattle.qs_recv.proofs.SameLaws.{same_none}
+use Rattle.qs_recv.proofs.SameRing.{ring_fits, same_ring}
+use Rattle.qs_recv.proofs.ring_assembly.RingAssemblyAssembly.same.Goals as goal
+
+pub returns-then-self : goal.returns-then-self
+returns-then-self c =
+    rw (← c.self.view_is, c.if-self.true) (sym (same_none map.empty c.args.offset c.args.bytes.now (λ q low high. map.get-empty nat_cmp q)))
+
+pub is_in_ring-requires-clause-fits : goal.is_in_ring-requires-clause-fits
+is_in_ring-requires-clause-fits c =
+    let s = c.self.inside in
+    rw c.deref.ensures.value
+    (ring_fits s.received s.ring.items s.window s.read_count s.stored c.max-start.result (rw c.if-self.false at c.self.invariant) (let m = c.max-start.ensures in omega (arith, m)))
+
+pub returns : goal.returns
+returns c =
+    let s = c.self.inside in
+    rw (← c.self.view_is, c.if-self.false)
+    (same_ring s.received s.ring.items c.args.bytes.now s.window s.read_count s.stored c.max-start.result c.args.offset c.is_in_ring.result (rw c.if-self.false at c.self.invariant) c.max-start.ensures
+    (rw c.deref.ensures.value at c.is_in_ring.ensures))

@@ -1,0 +1,13 @@
+use Rattle.std.proofs.Common.{◌≡◌, ℕ, ◌-◌, ◌%◌, ◌<◌, ◌≤◌, length, slice_index, true}
+use Rattle.std.specs.FinSet as set
+use Rattle.qs_recv.proofs.ring_assembly.is_in_ring.Given as goal
+
+abbrev pub invariant-loop-at : goal.invariant-loop-at
+invariant-loop-at l =
+    record {
+      begins : l.start ≤ l.at;
+      before : (q : ℕ) → l.start ≤ q → q < l.at → set.contains l.received q ≡ true → slice_index l.bytes (q - l.offset) ≡ slice_index l.ring (q % length l.ring);
+    }
+
+abbrev pub decreases-loop-at : goal.decreases-loop-at
+decreases-loop-at l = l.end - l.at
