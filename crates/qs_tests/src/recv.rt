@@ -16,6 +16,10 @@ enum Step<'a> {
     Refuse(u32, u32, bool, RecvFault),
     /// The same where nothing is wrong.
     Pass(u32, u32, bool, Highest),
+    /// Bytes of which one isn't the one that is stored at its offset.
+    Change(u32, &'a [u8]),
+    /// Bytes that are those that are stored, as far as some are.
+    Keep(u32, &'a [u8]),
     /// The code and the final size of a reset that breaks nothing.
     Reset(u32, u32),
     /// What is wrong with a reset of that final size.
@@ -44,6 +48,9 @@ fn take_once<A: Assembly>(
         return Err(RecvFault::StreamCredit);
     }
     if let Err(fault) = half.check_stream(offset, bytes.len() as u64, fin) {
+        return Err(fault);
+    }
+    if let Err(fault) = half.check_bytes(offset, bytes) {
         return Err(fault);
     }
     half.take_stream(offset, bytes, fin)
@@ -83,6 +90,15 @@ fn checks<A: Assembly>(
     half.check_stream(u64::from(offset), u64::from(len), fin) == answer
 }
 
+fn compares<A: Assembly>(
+    half: &RecvHalf<A>,
+    offset: u32,
+    bytes: &[u8],
+    answer: Result<(), RecvFault>,
+) -> bool {
+    bytes.len() <= 64 && half.check_bytes(u64::from(offset), bytes) == answer
+}
+
 fn reset<A: Assembly>(half: &mut RecvHalf<A>, code: u32, size: u32) -> Result<(), RecvFault> {
     if let Err(fault) = half.check_reset(u64::from(size)) {
         return Err(fault);
@@ -107,6 +123,10 @@ fn answers<A: Assembly>(half: &mut RecvHalf<A>, step: Step) -> bool {
         Step::Take(offset, bytes, fin) => take(half, offset, bytes, fin) == Ok(()),
         Step::Refuse(offset, len, fin, fault) => checks(half, offset, len, fin, Err(fault)),
         Step::Pass(offset, len, fin, highest) => checks(half, offset, len, fin, Ok(highest)),
+        Step::Change(offset, bytes) => {
+            compares(half, offset, bytes, Err(RecvFault::ChangedByte))
+        }
+        Step::Keep(offset, bytes) => compares(half, offset, bytes, Ok(())),
         Step::Reset(code, size) => reset(half, code, size) == Ok(()),
         Step::RefuseReset(size, fault) => half.check_reset(u64::from(size)) == Err(fault),
         Step::Stop(code) => {
@@ -289,16 +309,31 @@ fn a_read_without_room_tells_whether_a_byte_is_next(rt: HostRuntime) {
     assert_eq!(rt; played(rt.alloc(), 10, &steps), steps.len());
 }
 
+// What was read isn't compared, nor is what is thrown away. The last bytes wrap in a ring.
 #[test]
-fn the_byte_that_came_first_stays(rt: HostRuntime) {
+fn a_changed_byte_is_told(rt: HostRuntime) {
     let steps = [
-        Step::Take(3, b"fgh", false),
-        Step::Take(0, b"abc", false),
-        Step::Take(2, b"XXXXX", false),
-        Step::Counts(7, 7, 0),
-        Step::Read(5, Read::Bytes(5), b"abcfg"),
+        Step::Take(0, b"abcdef", false),
+        Step::Read(4, Read::Bytes(4), b"abcd"),
+        Step::Raise(Some(12)),
+        Step::Take(7, b"hijk", false),
+        Step::Keep(0, b"XXXXefXhijkX"),
+        Step::Change(5, b"X"),
+        Step::Change(3, b"XefXhXjk"),
+        Step::Change(6, b"XhijX"),
+        Step::Take(6, b"ghijkl", false),
+        Step::Change(6, b"X"),
+        Step::Read(8, Read::Bytes(8), b"efghijkl"),
+        Step::Keep(0, b"XXXXXXXXXXXX"),
     ];
-    assert_eq!(rt; played(rt.alloc(), 64, &steps), steps.len());
+    assert_eq!(rt; played(rt.alloc(), 8, &steps), steps.len());
+    let stopped = [
+        Step::Take(0, b"ab", false),
+        Step::Change(0, b"aX"),
+        Step::Stop(7),
+        Step::Keep(0, b"aX"),
+    ];
+    assert_eq!(rt; played(rt.alloc(), 8, &stopped), stopped.len());
 }
 
 #[test]
@@ -306,7 +341,7 @@ fn a_frame_fills_the_gaps(rt: HostRuntime) {
     let steps = [
         Step::Take(1, b"B", false),
         Step::Take(4, b"DD", false),
-        Step::Take(0, b"12345678", false),
+        Step::Take(0, b"1B34DD78", false),
         Step::Counts(8, 8, 0),
         Step::Read(10, Read::Bytes(8), b"1B34DD78"),
     ];
