@@ -12,6 +12,7 @@ pub mod ReplayLaws
 pub mod RingCount
 pub mod RingLaws
 pub mod RingPlaces
+pub mod SameAgain
 pub mod SameChunks
 pub mod SameLaws
 pub mod SameRing

@@ -1,10 +1,10 @@
 -- Laws on receiving lanes and the calls that change them.
-use Rattle.std.specs.Prelude.{◌≡◌, ℕ, ◌-◌, ◌≤◌, ◌^◌, Bool, true, List, length, slice_get, Some, IsOk}
+use Rattle.std.specs.Prelude.{◌≡◌, ℕ, ◌-◌, ◌≤◌, ◌^◌, Bool, true, List, length, slice_get, Some, IsOk, ◌↔◌}
 use Rattle.std.specs.FinMap as map
 use Rattle.std.specs.FinSet as set
 use Rattle.qs_recv.specs.Assembled.{Assembled}
 use Rattle.qs_recv.specs.Chunks.{byte_at}
-use Rattle.qs_recv.specs.Lane.{RecvLane, new_lane, highest, taken, check_stream, take_stream, check_reset, take_reset, after_read, stop, raise}
+use Rattle.qs_recv.specs.Lane.{RecvLane, new_lane, highest, taken, check_stream, check_bytes, take_stream, check_reset, take_reset, after_read, stop, raise}
 use Rattle.qs_recv.specs.Lawful.{IsLawful}
 
 -- a call that may change a lane: a frame that is taken, a read of so many bytes, a stop with a code, a raise of the limit
@@ -74,3 +74,25 @@ CarriesSent sent (RaiseLimit) = Unit {0}
 -- where each frame carries what was sent, only that is stored (RFC 9000, section 2.2)
 abbrev pub StoredBytesWereSent : Type 0
 StoredBytesWereSent = (sent : List ℕ) (lane : RecvLane) (call : LaneCall) → IsSent sent lane.arrived → CarriesSent sent call → IsSent sent (after_call lane call).arrived
+
+-- each byte from an offset on is the one that is stored at its offset, where one is
+abbrev pub IsUnchanged : Assembled → ℕ → List ℕ → Type 0
+IsUnchanged arrived offset bytes = (q byte other : ℕ) → map.get arrived.stored q ≡ Some byte → byte_at offset bytes q ≡ Some other → byte ≡ other
+
+-- exactly the frames that change no stored byte pass (RFC 9000, section 2.2)
+abbrev pub ChangedBytesAreTold : Type 0
+ChangedBytesAreTold = (lane : RecvLane) (offset : ℕ) (bytes : List ℕ) → IsOk (check_bytes lane offset bytes) ↔ IsUnchanged lane.arrived offset bytes
+
+-- where only what was sent is stored, a frame that carries what was sent passes (RFC 9000, section 2.2)
+abbrev pub SentBytesPass : Type 0
+SentBytesPass = (sent : List ℕ) (lane : RecvLane) (offset : ℕ) (bytes : List ℕ) → IsSent sent lane.arrived → IsPart sent offset bytes → IsOk (check_bytes lane offset bytes)
+
+-- a frame that passed and was taken passes if it comes again (RFC 9000, section 2.2)
+abbrev pub TakenBytesPass : Type 0
+TakenBytesPass = (lane : RecvLane) (offset : ℕ) (bytes : List ℕ) (fin : Bool) → IsOk (check_bytes lane offset bytes) → IsOk (check_bytes (take_stream lane offset bytes fin) offset bytes)
+
+-- no call stores a byte at an offset that came before it (RFC 9000, section 2.2)
+abbrev pub StoredBytesStay : Type 0
+StoredBytesStay =
+    (lane : RecvLane) (call : LaneCall) (q byte : ℕ) → set.contains lane.arrived.received q ≡ true
+    → map.get (after_call lane call).arrived.stored q ≡ Some byte → map.get lane.arrived.stored q ≡ Some byte

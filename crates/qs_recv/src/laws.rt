@@ -1,5 +1,5 @@
 //! Laws on receiving lanes, each the contract of a function.
-ghost use Rattle.qs_recv.specs.Laws.{NewLanesAreLawful, CallsKeepLanesLawful, CallsNeverTakeBack, StoredBytesWereGranted, CreditIsWithinWindow, StoredBytesWereSent};
+ghost use Rattle.qs_recv.specs.Laws.{NewLanesAreLawful, CallsKeepLanesLawful, CallsNeverTakeBack, StoredBytesWereGranted, CreditIsWithinWindow, StoredBytesWereSent, ChangedBytesAreTold, SentBytesPass, TakenBytesPass, StoredBytesStay};
 
 pub use crate::replay::{Shown, Step, replay};
 
@@ -32,4 +32,24 @@ pub fn credit_is_within_window()
 /// Where each frame carries the bytes that were sent at its offset, each stored byte is the one that was sent there.
 pub fn stored_bytes_were_sent()
     ensures { StoredBytesWereSent }
+{}
+
+/// Exactly the frames that change no stored byte pass the check of their bytes.
+pub fn changed_bytes_are_told()
+    ensures { ChangedBytesAreTold }
+{}
+
+/// Where each frame carries the bytes that were sent at its offset, each passes that check.
+pub fn sent_bytes_pass()
+    ensures { SentBytesPass }
+{}
+
+/// A frame that was taken passes that check if it comes again at once.
+pub fn taken_bytes_pass()
+    ensures { TakenBytesPass }
+{}
+
+/// No call stores a byte at an offset that came before: the byte of an offset never changes while it is stored.
+pub fn stored_bytes_stay()
+    ensures { StoredBytesStay }
 {}
