@@ -7,7 +7,7 @@ use Rattle.std.proofs.lemmas.Bool.{both_ways, cond_both}
 use Rattle.std.proofs.lemmas.Bool.Decides.{nat_tests}
 use Rattle.qs_wire.specs.declared.stream_id.Role.{Role}
 use Rattle.qs_wire.specs.declared.stream_id.Dir.TheVariants.{Bidi, Uni}
-use Rattle.qs_recv.specs.Lane.{RecvLane, new_lane as new_recv_lane, highest, check_stream, check_reset, take_stream, take_reset}
+use Rattle.qs_recv.specs.Lane.{RecvLane, new_lane as new_recv_lane, highest, check_stream, check_reset, check_bytes, take_stream, take_reset}
 use Rattle.qs_recv.specs.declared.half.Highest.{Highest}
 use Rattle.qs_recv.specs.declared.half.RecvFault.{RecvFault}
 use Rattle.qs_send.specs.Lane.{SendLane, new_lane as new_send_lane, reset_refusal, reset_lane, allow_lane}
@@ -19,7 +19,7 @@ use Rattle.qs_conn.specs.Tables.{Tables, lookup, updated, open_to}
 use Rattle.qs_conn.specs.Ends.{End, is_own, is_own_by, is_uni, on_send, on_recv, opens, opened_by_peer, first_send_limit, window}
 use Rattle.qs_conn.specs.Credit.{spent}
 use Rattle.qs_conn.specs.Seen.{Seen, Ack, Stream, Control, Close, Plain}
-use Rattle.qs_conn.specs.Verdicts.{verdict, item_verdict, state_fault_in, state_fault_out, credit_fault, ack_fault, fault_if, or_else, or_new}
+use Rattle.qs_conn.specs.Verdicts.{verdict, item_verdict, state_fault_in, state_fault_out, credit_fault, bytes_fault, fault_of, ack_fault, fault_if, or_else, or_new}
 use Rattle.qs_conn.specs.FrameStep.{frame_taken, item_taken, frames_taken, held, is_named, NoFault}
 use Rattle.qs_conn.specs.Receiving.{GoesOn}
 use Rattle.qs_conn.specs.Standing.{IsSound}
@@ -27,7 +27,7 @@ use Rattle.qs_conn.specs.Repeats.{SentWasWritten, AreAmong}
 use Rattle.qs_conn.proofs.Choices.{not_chosen}
 use Rattle.qs_conn.proofs.TableLaws.{lookup_same, open_at}
 use Rattle.qs_conn.proofs.FramesSound.{sound_frame, sound_opened}
-use Rattle.qs_conn.proofs.Taken.{out_there, in_there, stream_in, reset_in, stream_checked, reset_checked}
+use Rattle.qs_conn.proofs.Taken.{out_there, in_there, stream_in, reset_in, stream_checked, stream_unchanged, reset_checked}
 use Rattle.qs_conn.proofs.CallsSound.{no_fault_there}
 use Rattle.qs_conn.proofs.LanesAgain.{LaneAfter, HasData, HasReset, data_stays, data_taken, data_again, reset_stays, reset_taken, reset_again}
 use Rattle.qs_conn.proofs.TablesAfter.{still_open, updated_back, open_back}
@@ -138,7 +138,7 @@ ItemDone (StreamsBlocked d m) e = ⊤
 
 abbrev pub IsDone : Seen → End → Type 0
 IsDone (Ack largest ranges) e = (ack_fault e largest ≡ None) × ((late : Bool) (k : ℕ) → is_named ranges k ≡ true → IsBare (fmap.get (held late e) k))
-IsDone (Stream n offset bytes fin) e = (state_fault_in e n ≡ None) × WasOpened e n × (l : RecvLane) × (lookup e.recvs n ≡ Some l) × HasData l offset (length bytes) fin
+IsDone (Stream n offset bytes fin) e = (state_fault_in e n ≡ None) × WasOpened e n × (l : RecvLane) × (lookup e.recvs n ≡ Some l) × HasData l offset bytes fin
 IsDone (Control i) e = ItemDone i e
 IsDone (Close code) e = ⊥
 IsDone (Plain asks) e = ⊤
@@ -166,7 +166,7 @@ pub done_stays : (f : Seen) (a b : End) → IsAfter a b → IsDone f a → IsDon
 done_stays (Ack largest ranges) a b x (fine, bare) = (ack_stays largest a b x fine, λ late k is. x.bare late k (bare late k is))
 done_stays (Stream n offset bytes fin) a b x (fine, was, l, is, has) =
     let (k, there, r) = x.recvs n l is in
-    (in_stays n a b x fine, opened_stays n a b x was, k, there, data_stays l k offset (length bytes) fin r has)
+    (in_stays n a b x fine, opened_stays n a b x was, k, there, data_stays l k offset bytes fin r has)
 done_stays (Control i) a b x h = item_stays i a b x h
 done_stays (Close code) a b x h = absurd h
 done_stays (Plain asks) a b x h = tt
@@ -223,7 +223,13 @@ frame_done (Stream n offset bytes fin) e v sound sent =
     let fine = stream_in e n offset bytes fin v in
     let is = in_there e mid n fine refl in
     let ok = subst (λ o. IsOk (check_stream (or_new o 0) offset (length bytes) fin)) is (stream_checked e mid n offset bytes fin v refl) in
-    (in_stays n e _ (after_twice e mid _ (after_opened n e) x) fine, opened_stays n mid _ x (was_opened n e), _, changed mid.recvs n (λ k. take_stream k offset bytes fin) _ is, data_taken _ offset bytes fin (lawful_in mid n _ (sound_opened n e sound) is) ok)
+    let alike = subst (λ o. IsOk (check_bytes (or_new o 0) offset bytes)) is (stream_unchanged e mid n offset bytes fin v refl) in (
+      in_stays n e _ (after_twice e mid _ (after_opened n e) x) fine,
+      opened_stays n mid _ x (was_opened n e),
+      _,
+      changed mid.recvs n (λ k. take_stream k offset bytes fin) _ is,
+      data_taken _ offset bytes fin (lawful_in mid n _ (sound_opened n e sound) is) ok alike,
+    )
 frame_done (Control i) e v sound sent = item_done i e v sound
 frame_done (Close code) e goes sound sent = absurd goes
 frame_done (Plain asks) e v sound sent = tt
@@ -240,6 +246,15 @@ in_again n l e check fine is passes sound =
     ∙ ap (λ o. credit_fault e (check (or_new o (window e n)))) is
     ∙ ap (credit_fault e) passes
     ∙ ap (λ b. fault_if b 0x03) (no_growth (highest l) (spent e) e.granted sound.spent)
+
+bytes_again : (n offset : ℕ) (bytes : List ℕ) (l : RecvLane) (e : End) → lookup e.recvs n ≡ Some l → check_bytes l offset bytes ≡ Ok tt → bytes_fault e n offset bytes ≡ None
+bytes_again n offset bytes l e is passes = ap (λ o. fault_of (check_bytes (or_new o (window e n)) offset bytes)) is ∙ ap fault_of passes
+
+-- a third check that passes, past two that do
+passes_last : (a b c : Option ℕ) → or_else a b ≡ None → c ≡ None → or_else a (or_else b c) ≡ None
+passes_last None None c h last = last
+passes_last None (Some code) c h last = absurd (none-some code (sym h))
+passes_last (Some code) b c h last = absurd (none-some code (sym h))
 
 max_known : (a m : ℕ) → m ≤ a → max a m ≡ a
 max_known a m le = omega (arith, le)
@@ -267,8 +282,10 @@ pub frame_again : (f : Seen) (e : End) → IsDone f e → IsSound e → GoesOn e
 unfolding verdict frame_taken
 frame_again (Ack largest ranges) e (fine, bare) sound = (fine, named_again e ranges bare)
 frame_again (Stream n offset bytes fin) e (fine, was, l, is, has) sound =
-    let h = data_again l offset bytes fin (lawful_in e n l sound is) has in
-    (in_again n l e (λ k. check_stream k offset (length bytes) fin) fine is h.0 sound, recv_back n (λ k. take_stream k offset bytes fin) l e was is h.1)
+    let h = data_again l offset bytes fin (lawful_in e n l sound is) has in (
+      passes_last _ _ (bytes_fault e n offset bytes) (in_again n l e (λ k. check_stream k offset (length bytes) fin) fine is h.0 sound) (bytes_again n offset bytes l e is h.1),
+      recv_back n (λ k. take_stream k offset bytes fin) l e was is h.2,
+    )
 frame_again (Control i) e h sound = item_again i e h sound
 frame_again (Close code) e h sound = absurd h
 frame_again (Plain asks) e h sound = (refl, refl)

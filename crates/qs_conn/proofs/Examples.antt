@@ -1,10 +1,14 @@
 -- The examples compute.
-use Rattle.std.proofs.Common.{◌≡◌, ℕ, ◌<◌, List, [], ◌∷◌, ◌++◌, length, map, Option, Some, None, refl, sym, ap, ◌∙◌, arith, inl, inr}
+use Rattle.std.proofs.Common.{◌≡◌, ℕ, zero, suc, ◌-◌, ◌<◌, List, [], ◌∷◌, ◌++◌, length, map, Option, Some, None, refl, sym, ap, ◌∙◌, arith, inl, inr}
 use Rattle.std.specs.FinSet as set
 use Rattle.std.specs.FinMap as fmap
 use Rattle.std.specs.Ordering.{nat_cmp}
-use Rattle.std.specs.Prelude.{Err, max, cond, Bool, true, false, ◌&&◌, ◌==◌, is_some, flat_map}
+use Rattle.std.specs.Prelude.{Err, max, cond, not, Bool, true, false, ◌&&◌, ◌||◌, ◌==◌, nat_le, is_some, slice_get, flat_map}
 use Rattle.std.proofs.lemmas.Option.{same_Some, none-some}
+use Rattle.qs_recv.specs.Assembled.{front, same, store}
+use Rattle.qs_recv.specs.Chunks.{byte_at}
+use Rattle.qs_recv.proofs.AssembledLaws.{contains-with_run, get-keep_from, get-store, is_in_run}
+use Rattle.qs_recv.proofs.SameLaws.{same_none, same_true}
 use Rattle.qs_send.specs.Lane.{SendLane, new_lane, write_lane, sent_lane, reset_lane, unacked_from, state}
 use Rattle.qs_send.specs.declared.parts.SendFault.TheVariants.{Finished}
 use Rattle.qs_ranges.specs.Numbers.{numbers, end_of}
@@ -12,8 +16,9 @@ use Rattle.qs_ranges.proofs.Sets.{end_of-empty, end_of-with_range}
 use Rattle.qs_conn.specs.Tables.{lookup, update, open_to, each, total}
 use Rattle.qs_conn.specs.Verdicts.{verdict}
 use Rattle.qs_conn.specs.FrameStep.{frame_taken}
-use Rattle.qs_conn.specs.Examples.{StreamLimitHolds, ConnectionLimitHolds, FinalSizeHolds, StreamStateHolds, UnusedNumbersClose, LimitsMove, LowerStreamsOpen, StopResets, BlockedIsTold, LimitsRiseAfterwards, NewLimitIsTold, EmptyStreamIsSent, AcksTakeWhatTheyName, Examples, letters, first_part, second_part, two_sent, three_frames, three_frames_text, third_offends, server, standard}
+use Rattle.qs_conn.specs.Examples.{StreamLimitHolds, ConnectionLimitHolds, FinalSizeHolds, ChangedBytesClose, StreamStateHolds, UnusedNumbersClose, LimitsMove, LowerStreamsOpen, StopResets, BlockedIsTold, LimitsRiseAfterwards, NewLimitIsTold, EmptyStreamIsSent, AcksTakeWhatTheyName, Examples, letters, first_part, second_part, two_sent, three_frames, three_frames_text, third_offends, told_end, server, standard}
 use Rattle.qs_conn.specs.Ends.{End}
+use Rattle.qs_conn.specs.Seen.{Stream}
 use Rattle.qs_conn.specs.Receiving.{Takes, TakesPayload}
 use Rattle.qs_wire.specs.Varint.{varint_at, short_len}
 use Rattle.qs_wire.specs.Reading.{reading_of, reading_from, frames_at, frame_at, number_of_type_at, body_at, number_at, counted_at, plain_at}
@@ -32,9 +37,39 @@ use Rattle.std.proofs.lemmas.Bool.{and_right, both_ways, false≢true}
 came_to : (n : ℕ) → 0 < n → end_of (set.union set.empty (numbers 0 n)) ≡ n
 came_to n some = end_of-with_range set.empty 0 n some ∙ ap (λ k. max k n) end_of-empty ∙ omega arith
 
+-- bytes that came first on a stream
+
+abbrev nothing : fmap.FinMap nat_cmp ℕ
+nothing = fmap.empty
+
+none_differs : (at : ℕ) (bytes : List ℕ) → same nothing at bytes ≡ true
+none_differs at bytes = same_none nothing at bytes (λ q low high. fmap.get-empty nat_cmp q)
+
+came_first : (first : List ℕ) (q byte : ℕ) → fmap.get (store set.empty nothing 0 first) q ≡ Some byte → byte_at 0 first q ≡ Some byte
+came_first first q byte is = by_test _ (sym (get-store set.empty nothing 0 first q) ∙ is)
+  where
+    by_test : (b : Bool) → cond b (byte_at 0 first q) (fmap.get nothing q) ≡ Some byte → byte_at 0 first q ≡ Some byte
+    by_test true is' = is'
+    by_test false is' = absurd (none-some byte (sym (fmap.get-empty nat_cmp q) ∙ is'))
+
+a_letter : (n i byte : ℕ) → slice_get (letters n) i ≡ Some byte → byte ≡ 97
+a_letter zero i byte is = absurd (none-some byte is)
+a_letter (suc n) zero byte is = sym (same_Some 97 byte is)
+a_letter (suc n) (suc i) byte is = a_letter n i byte is
+
+letter_at : (n q byte : ℕ) → byte_at 0 (letters n) q ≡ Some byte → byte ≡ 97
+letter_at n q byte is = by_test (nat_le 0 q) is
+  where
+    by_test : (b : Bool) → cond b (slice_get (letters n) (q - 0)) None ≡ Some byte → byte ≡ 97
+    by_test true is' = a_letter n (q - 0) byte is'
+    by_test false is' = absurd (none-some byte is')
+
+letters_same : (n k : ℕ) → same (store set.empty nothing 0 (letters n)) 0 (letters k) ≡ true
+letters_same n k = same_true (store set.empty nothing 0 (letters n)) 0 (letters k) (λ q b c e f. letter_at n q b (came_first (letters n) q b e) ∙ sym (letter_at k q c f))
+
 stream_limit : StreamLimitHolds
 unfolding verdict lookup total
-stream_limit = record { within = rw end_of-empty refl; past = rw end_of-empty refl; empty_past = rw end_of-empty refl }
+stream_limit = record { within = rw end_of-empty (rw (none_differs 0 (letters 10)) refl); past = rw end_of-empty refl; empty_past = rw end_of-empty refl }
 
 stream_state : StreamStateHolds
 unfolding verdict lookup total
@@ -43,7 +78,7 @@ stream_state =
       own_bidi = refl;
       own_uni = refl;
       past_grant = refl;
-      within_grant = rw end_of-empty refl;
+      within_grant = rw end_of-empty (rw (none_differs 0 (letters 1)) refl);
       limit_of_own = refl;
       limit_of_peers_uni = refl;
       stop_of_peers_uni = refl;
@@ -68,9 +103,9 @@ connection_limit : ConnectionLimitHolds
 unfolding verdict frame_taken lookup update open_to total
 connection_limit =
     record {
-      within = rw end_of-empty (rw six refl);
+      within = rw end_of-empty (rw six (rw (none_differs 0 (letters 4)) refl));
       past = rw end_of-empty (rw six refl);
-      again = rw six (rw six refl);
+      again = rw six (rw six (rw (letters_same 6 10) refl));
       reset = rw end_of-empty (rw six refl);
     }
 
@@ -80,13 +115,49 @@ five = came_to 5 (omega arith)
 one : end_of (set.union set.empty (numbers 0 1)) ≡ 1
 one = came_to 1 (omega arith)
 
-final_size : FinalSizeHolds
+five_again : verdict told_end (Stream 0 0 (letters 5) true) ≡ None
 unfolding verdict frame_taken lookup update open_to total
+five_again = rw (letters_same 5 5) refl
+
+three : end_of (set.union set.empty (numbers 0 3)) ≡ 3
+three = came_to 3 (omega arith)
+
+abbrev abc : List ℕ
+abc = 97 ∷ 98 ∷ 99 ∷ []
+
+stored_at : (q : ℕ) → fmap.get (store set.empty nothing 0 abc) q ≡ cond (is_in_run q 0 3) (byte_at 0 abc q) None
+stored_at q =
+    get-store set.empty nothing 0 abc q
+    ∙ ap (λ b. cond (is_in_run q 0 3 && not b) (byte_at 0 abc q) (fmap.get nothing q)) (set.contains-empty nat_cmp q)
+    ∙ (λ i. cond (is_in_run q 0 3 && true) (byte_at 0 abc q) (fmap.get-empty nat_cmp q i))
+    ∙ by_test (is_in_run q 0 3)
+  where
+    by_test : (b : Bool) → cond (b && true) (byte_at 0 abc q) None ≡ cond b (byte_at 0 abc q) None
+    by_test true = refl
+    by_test false = refl
+
+first_came : set.contains (set.union set.empty (numbers 0 3)) 0 ≡ true
+first_came = contains-with_run set.empty 0 3 0 ∙ ap (λ b. b || is_in_run 0 0 3) (set.contains-empty nat_cmp 0)
+
+changed_bytes : ChangedBytesClose
+unfolding verdict frame_taken lookup update open_to total same front
+changed_bytes =
+    record {
+      changed = rw three (rw three (rw (stored_at 1) refl));
+      same = rw three (rw three (rw (stored_at 1) refl));
+      read =
+          rw first_came
+          (rw (stored_at 0) (rw (stored_at 1) (rw (stored_at 2) (rw three (rw (get-keep_from (store set.empty nothing 0 abc) 3 1) (rw three refl))))));
+      after_credit = rw three (rw three refl);
+    }
+
+final_size : FinalSizeHolds
+unfolding verdict frame_taken lookup update open_to total same
 final_size =
     record {
       past = refl;
       smaller = refl;
-      again = refl;
+      again = five_again;
       empty_past = refl;
       reset_smaller = refl;
       before_credit = refl;
@@ -142,7 +213,7 @@ afterwards =
     record {
       left = _;
       reads = read;
-      closes = by_bytes _ (inr (rw end_of-empty refl, inr (rw four (rw four refl), inl (rw end_of-empty refl, refl, refl))));
+      closes = by_bytes _ (inr (rw end_of-empty (rw (none_differs 0 (letters 4)) refl), inr (rw four (rw four refl), inl (rw end_of-empty refl, refl, refl))));
       granted = refl;
     }
 
@@ -242,6 +313,7 @@ examples_hold =
       stream_limit = stream_limit;
       connection_limit = connection_limit;
       final_size = final_size;
+      changed_bytes = changed_bytes;
       stream_state = stream_state;
       unused_numbers = unused_numbers;
       limits = limits;

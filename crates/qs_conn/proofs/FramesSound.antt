@@ -23,7 +23,7 @@ use Rattle.qs_conn.specs.Tables.{Tables, lookup, updated, open_to, total}
 use Rattle.qs_conn.specs.Ends.{End, is_own, is_uni, recv_lane, opens, opened_by_peer, window}
 use Rattle.qs_conn.specs.Credit.{spent, grant}
 use Rattle.qs_conn.specs.Seen.{Seen, Ack, Stream, Control, Close, Plain}
-use Rattle.qs_conn.specs.Verdicts.{verdict, item_verdict, or_else, fault_if, state_fault_in, credit_fault, lane_of, or_new, fault_code}
+use Rattle.qs_conn.specs.Verdicts.{verdict, item_verdict, or_else, fault_if, state_fault_in, credit_fault, bytes_fault, lane_of, or_new, fault_code}
 use Rattle.qs_conn.specs.FrameStep.{frame_taken, item_taken, AckedPiece, without_piece, acks, first_acked, piece_acked, item_acked, named}
 use Rattle.qs_conn.specs.Standing.{KeepsCredit, IsSound}
 use Rattle.qs_conn.proofs.Choices.{not_chosen}
@@ -140,8 +140,9 @@ unfolding verdict frame_taken
 sound_stream n offset bytes fin e v sound =
     let lane = lane_of e n in
     let check = check_stream lane offset (length bytes) fin in
-    let passed : state_fault_in e n ≡ None = first_passed (state_fault_in e n) (credit_fault e check) v in
-    let (h, ok, credit) = credit_passed e check (second_passed (state_fault_in e n) (credit_fault e check) v) in
+    let later = or_else (credit_fault e check) (bytes_fault e n offset bytes) in
+    let passed : state_fault_in e n ≡ None = first_passed (state_fault_in e n) later v in
+    let (h, ok, credit) = credit_passed e check (first_passed (credit_fault e check) (bytes_fault e n offset bytes) (second_passed (state_fault_in e n) later v)) in
     let (same, allowed) = two_checks (breaks_final_size lane offset (length bytes) fin) (nat_lt lane.limit (max (highest lane) (offset + length bytes))) FinalSize StreamCredit _ h ok in
     on_named n e (λ l. take_stream l offset bytes fin) h sound passed
     (λ lawful.

@@ -1,4 +1,4 @@
--- A frame that took effect on a receiving half and comes again passes its check and leaves the half as it is.
+-- A frame that took effect on a receiving half and comes again passes its checks and leaves the half as it is.
 use Rattle.std.proofs.Common.{◌≡◌, ℕ, zero, suc, ◌+◌, ◌-◌, ◌<◌, ◌≤◌, Bool, true, false, ◌||◌, cond, List, [], ◌∷◌, length, Option, Some, None, is_some, ◌⊎◌, refl, sym, ap, ◌∙◌, arith, inl, inr}
 use Rattle.std.specs.Prelude.{max, nat_lt, ◌==◌, unwrap_or, Result, Ok, Err, IsOk}
 use Rattle.std.specs.Ordering.{nat_cmp}
@@ -11,15 +11,21 @@ use Rattle.qs_ranges.specs.Numbers.{NumberSet, ContainsRange, is_within, numbers
 use Rattle.qs_ranges.proofs.Sets.{covers-is, covers-of, below-end_of}
 use Rattle.qs_ranges.proofs.Algebra.{inside, with_range-covered}
 use Rattle.qs_recv.specs.Assembled.{Assembled, put, store, discard}
-use Rattle.qs_recv.specs.Lane.{RecvLane, highest, highest_after, check_stream, check_reset, take_stream, take_reset, is_whole, whole_to, breaks_known, raise}
+use Rattle.qs_recv.specs.Lane.{RecvLane, highest, highest_after, check_stream, check_reset, check_bytes, take_stream, take_reset, is_whole, whole_to, breaks_known, raise}
 use Rattle.qs_recv.specs.Lawful.{IsLawful}
 use Rattle.qs_recv.specs.declared.half.Highest.{Highest}
-use Rattle.qs_recv.specs.declared.half.RecvFault.TheVariants.{FinalSize, StreamCredit}
+use Rattle.qs_recv.specs.declared.half.RecvFault.TheVariants.{FinalSize, StreamCredit, ChangedByte}
 use Rattle.qs_recv.proofs.AssembledLaws.{contains-with_run}
 use Rattle.qs_recv.proofs.LaneLaws.{check_fits}
-use Rattle.qs_recv.specs.Laws.{Grows, TakeStream, TakeReset}
+use Rattle.qs_recv.specs.Laws.{Grows, IsUnchanged, TakeStream, TakeReset}
+use Rattle.qs_recv.proofs.SameAgain.{check_is, taken_passes, stored_before as byte_before}
+use Rattle.qs_recv.proofs.SameLaws.{byte_in, same_none, same_true}
 use Rattle.qs_recv.proofs.LawfulLaws.{unbroken, reset_known, raised_grows}
 use Rattle.qs_recv.proofs.GrowthLaws.{grows_after_call}
+
+-- a byte that is stored at an offset that came before was stored there before
+abbrev StaysStored : RecvLane → RecvLane → Type 0
+StaysStored l m = (q byte : ℕ) → set.contains l.arrived.received q ≡ true → fmap.get m.arrived.stored q ≡ Some byte → fmap.get l.arrived.stored q ≡ Some byte
 
 -- what a receiving half keeps as frames come
 pub record LaneAfter (l m : RecvLane) : Type 0 where
@@ -27,9 +33,10 @@ pub record LaneAfter (l m : RecvLane) : Type 0 where
   pub received : (q : ℕ) → set.contains l.arrived.received q ≡ true → set.contains m.arrived.received q ≡ true
   pub size : (s : ℕ) → l.final_size ≡ Some s → m.final_size ≡ Some s
   pub reset : is_some l.reset_code ≡ true → is_some m.reset_code ≡ true
+  pub stored : StaysStored l m
 
 pub lane_same : (l : RecvLane) → LaneAfter l l
-lane_same l = record { limit = omega arith; received = λ q is. is; size = λ s is. is; reset = λ is. is }
+lane_same l = record { limit = omega arith; received = λ q is. is; size = λ s is. is; reset = λ is. is; stored = λ q byte came is. is }
 
 pub lane_twice : (l m k : RecvLane) → LaneAfter l m → LaneAfter m k → LaneAfter l k
 lane_twice l m k a b =
@@ -38,21 +45,23 @@ lane_twice l m k a b =
       received = λ q is. b.received q (a.received q is);
       size = λ s is. b.size s (a.size s is);
       reset = λ is. b.reset (a.reset is);
+      stored = λ q byte came is. a.stored q byte came (b.stored q byte (a.received q came) is);
     }
 
-grown : (l m : RecvLane) → Grows l m → (is_some l.reset_code ≡ true → is_some m.reset_code ≡ true) → LaneAfter l m
-grown l m g reset = record { limit = g.limit_grows; received = g.received_stays; size = g.final_size_stays; reset = reset }
+grown : (l m : RecvLane) → Grows l m → (is_some l.reset_code ≡ true → is_some m.reset_code ≡ true) → StaysStored l m → LaneAfter l m
+grown l m g reset stored = record { limit = g.limit_grows; received = g.received_stays; size = g.final_size_stays; reset = reset; stored = stored }
 
 pub data_after : (l : RecvLane) (offset : ℕ) (bytes : List ℕ) (fin : Bool) → IsLawful l → IsOk (check_stream l offset (length bytes) fin) → LaneAfter l (take_stream l offset bytes fin)
-data_after l offset bytes fin lawful ok = grown l (take_stream l offset bytes fin) (grows_after_call l (TakeStream offset bytes fin) lawful ok) (λ is. is)
+data_after l offset bytes fin lawful ok = grown l (take_stream l offset bytes fin) (grows_after_call l (TakeStream offset bytes fin) lawful ok) (λ is. is) (byte_before l (TakeStream offset bytes fin))
 
 pub reset_after : (l : RecvLane) (code size : ℕ) → IsLawful l → IsOk (check_reset l size) → LaneAfter l (take_reset l code size)
 reset_after l code size lawful ok =
     grown l (take_reset l code size) (grows_after_call l (TakeReset code size) lawful ok)
     (cond_both (is_some l.reset_code || is_whole l) l (record l { arrived = discard l.arrived; final_size = Some size; reset_code = Some code }) (λ m. is_some l.reset_code ≡ true → is_some m.reset_code ≡ true) (λ _ is. is) (λ _ is. refl))
+    (byte_before l (TakeReset code size))
 
 pub raise_after : (l : RecvLane) → LaneAfter l (raise l)
-raise_after l = record { limit = raised_grows l; received = λ q is. is; size = λ s is. is; reset = λ is. is }
+raise_after l = record { limit = raised_grows l; received = λ q is. is; size = λ s is. is; reset = λ is. is; stored = λ q byte came is. is }
 
 -- Data
 
@@ -63,20 +72,34 @@ pub record IsPassed (l : RecvLane) (offset n : ℕ) : Type 0 where
   pub known : l.final_size ≡ Some size
   pub inside : 0 < n → offset + n ≤ size
 
--- a frame with n bytes took effect
-pub record HasData (l : RecvLane) (offset n : ℕ) (fin : Bool) : Type 0 where
-  pub within : offset + n ≤ l.limit
-  pub sized : fin ≡ true → l.final_size ≡ Some (offset + n)
-  pub came : IsPassed l offset n ⊎ ContainsRange l.arrived.received offset (offset + n)
+-- each offset came, and where its byte is still stored it is the one that comes again
+pub record IsThere (l : RecvLane) (offset : ℕ) (bytes : List ℕ) : Type 0 where
+  pub received : ContainsRange l.arrived.received offset (offset + length bytes)
+  pub unchanged : IsUnchanged l.arrived offset bytes
 
-pub data_stays : (l m : RecvLane) (offset n : ℕ) (fin : Bool) → LaneAfter l m → HasData l offset n fin → HasData m offset n fin
-data_stays l m offset n fin a h =
+-- a frame with these bytes took effect
+pub record HasData (l : RecvLane) (offset : ℕ) (bytes : List ℕ) (fin : Bool) : Type 0 where
+  pub within : offset + length bytes ≤ l.limit
+  pub sized : fin ≡ true → l.final_size ≡ Some (offset + length bytes)
+  pub came : IsPassed l offset (length bytes) ⊎ IsThere l offset bytes
+
+there_stays : (l m : RecvLane) (offset : ℕ) (bytes : List ℕ) → LaneAfter l m → IsThere l offset bytes → IsThere m offset bytes
+there_stays l m offset bytes a all =
+    record {
+      received = λ q low high. a.received q (all.received q low high);
+      unchanged = λ q byte other is comes.
+          let r = byte_in offset bytes q other comes in
+          all.unchanged q byte other (a.stored q byte (all.received q r.0 r.1) is) comes;
+    }
+
+pub data_stays : (l m : RecvLane) (offset : ℕ) (bytes : List ℕ) (fin : Bool) → LaneAfter l m → HasData l offset bytes fin → HasData m offset bytes fin
+data_stays l m offset bytes fin a h =
     record {
       within = omega (arith, a.limit, h.within);
-      sized = λ is. a.size (offset + n) (h.sized is);
+      sized = λ is. a.size (offset + length bytes) (h.sized is);
       came = elim h.came [
         | inl p ↦ inl (record { reset = a.reset p.reset; size = p.size; known = a.size p.size p.known; inside = p.inside })
-        | inr all ↦ inr (λ q low high. a.received q (all q low high))
+        | inr all ↦ inr (there_stays l m offset bytes a all)
       ];
     }
 
@@ -85,8 +108,9 @@ passed_size None end n fin before known h = absurd (both_ways false refl known)
 passed_size (Some s) end n true before known h = (end, refl, λ some. omega arith)
 passed_size (Some s) end n false before known h = (s, refl, λ some. grind (arith, nat_tests))
 
-pub data_taken : (l : RecvLane) (offset : ℕ) (bytes : List ℕ) (fin : Bool) → IsLawful l → IsOk (check_stream l offset (length bytes) fin) → HasData (take_stream l offset bytes fin) offset (length bytes) fin
-data_taken l offset bytes fin lawful ok =
+pub data_taken : (l : RecvLane) (offset : ℕ) (bytes : List ℕ) (fin : Bool) → IsLawful l → IsOk (check_stream l offset (length bytes) fin) → IsOk (check_bytes l offset bytes)
+    → HasData (take_stream l offset bytes fin) offset bytes fin
+data_taken l offset bytes fin lawful ok alike =
     let fits = check_fits l offset (length bytes) fin ok in
     record {
       within = omega (arith, fits);
@@ -94,18 +118,25 @@ data_taken l offset bytes fin lawful ok =
       came = by_reset (is_some l.reset_code) refl;
     }
   where
-    by_reset : (b : Bool) → is_some l.reset_code ≡ b → IsPassed (take_stream l offset bytes fin) offset (length bytes) ⊎ ContainsRange (cond b l.arrived (put l.arrived offset bytes)).received offset (offset + length bytes)
+    unchanged : IsUnchanged (take_stream l offset bytes fin).arrived offset bytes
+    unchanged = (check_is (take_stream l offset bytes fin) offset bytes).0 (taken_passes l offset bytes fin alike)
+
+    by_reset : (b : Bool) → is_some l.reset_code ≡ b → IsPassed (take_stream l offset bytes fin) offset (length bytes) ⊎ IsThere (take_stream l offset bytes fin) offset bytes
     by_reset true is =
         let (s, known, small) = passed_size l.final_size (offset + length bytes) (length bytes) fin (highest l) (lawful.reset_sized is) (unbroken l offset (length bytes) fin ok) in
         inl (record { reset = is; size = s; known = known; inside = small })
-    by_reset false is = inr (λ q low high. contains-with_run l.arrived.received offset (length bytes) q ∙ or_right (set.contains l.arrived.received q) (is_within offset (offset + length bytes) q) (inside offset (offset + length bytes) q low high))
+    by_reset false is =
+        let put_there : ContainsRange (take_stream l offset bytes fin).arrived.received offset (offset + length bytes) = λ q low high.
+        ap (λ b. set.contains (cond b l.arrived (put l.arrived offset bytes)).received q) is
+        ∙ contains-with_run l.arrived.received offset (length bytes) q ∙ or_right (set.contains l.arrived.received q) (is_within offset (offset + length bytes) q) (inside offset (offset + length bytes) q low high) in
+        inr (record { received = put_there; unchanged = unchanged })
 
 -- the bytes that came again lie below the highest offset
-data_inside : (m : RecvLane) (offset n : ℕ) (fin : Bool) → IsLawful m → HasData m offset n fin → 0 < n → offset + n ≤ highest m
-data_inside m offset n fin lawful h some =
+data_inside : (m : RecvLane) (offset : ℕ) (bytes : List ℕ) (fin : Bool) → IsLawful m → HasData m offset bytes fin → 0 < length bytes → offset + length bytes ≤ highest m
+data_inside m offset bytes fin lawful h some =
     elim h.came [
       | inl p ↦ (let e : highest m ≡ p.size = ap (λ f. unwrap_or f (end_of m.arrived.received)) p.known in let le = p.inside some in omega (arith, e, le))
-      | inr all ↦ (let last = below-end_of m.arrived.received (offset + n - 1) (all (offset + n - 1) (omega arith) (omega arith)) in omega (arith, last, lawful.received_within))
+      | inr all ↦ (let last = below-end_of m.arrived.received (offset + length bytes - 1) (all.received (offset + length bytes - 1) (omega arith) (omega arith)) in omega (arith, last, lawful.received_within))
     ]
 
 not_broken : (f : Option ℕ) (end n : ℕ) (fin : Bool) (before : ℕ) → (fin ≡ true → f ≡ Some end) → ((s : ℕ) → f ≡ Some s → 0 < n → end ≤ s) → breaks_known f end n fin before ≡ false
@@ -145,10 +176,16 @@ put_again a offset bytes all =
     kept true e = refl
     kept false e = e
 
--- the frame passes its check, and leaves the half as it is
-pub data_again : (m : RecvLane) (offset : ℕ) (bytes : List ℕ) (fin : Bool) → IsLawful m → HasData m offset (length bytes) fin
-    → (check_stream m offset (length bytes) fin ≡ Ok (record { before = highest m; after = highest m })) × (take_stream m offset bytes fin ≡ m)
-data_again m offset bytes fin lawful h = (passes, stays)
+-- after a reset nothing is stored
+none_stored : (m : RecvLane) → IsLawful m → is_some m.reset_code ≡ true → (q : ℕ) → fmap.get m.arrived.stored q ≡ None
+none_stored m lawful reset q =
+    let thrown = lawful.thrown_away (lawful.discards ∙ or_left (is_some m.reset_code) (is_some m.stop_code) reset) in
+    ap (λ s. fmap.get s q) thrown ∙ fmap.get-empty nat_cmp q
+
+-- the frame passes its checks, and leaves the half as it is
+pub data_again : (m : RecvLane) (offset : ℕ) (bytes : List ℕ) (fin : Bool) → IsLawful m → HasData m offset bytes fin
+    → (check_stream m offset (length bytes) fin ≡ Ok (record { before = highest m; after = highest m })) × (check_bytes m offset bytes ≡ Ok tt) × (take_stream m offset bytes fin ≡ m)
+data_again m offset bytes fin lawful h = (passes, unchanged, stays)
   where
     n : ℕ
     n = length bytes
@@ -157,12 +194,12 @@ data_again m offset bytes fin lawful h = (passes, stays)
     whole is = sym (ap (λ f. unwrap_or f (end_of m.arrived.received)) (h.sized is))
 
     same : highest_after m offset n fin ≡ highest m
-    same = same_highest m.final_size (highest m) (offset + n) n fin whole (data_inside m offset n fin lawful h)
+    same = same_highest m.final_size (highest m) (offset + n) n fin whole (data_inside m offset bytes fin lawful h)
 
     fine : breaks_known m.final_size (offset + n) n fin (highest m) ≡ false
     fine = not_broken m.final_size (offset + n) n fin (highest m) h.sized (λ s is some.
         let e : highest m ≡ s = ap (λ f. unwrap_or f (end_of m.arrived.received)) is in
-        let le = data_inside m offset n fin lawful h some in
+        let le = data_inside m offset bytes fin lawful h some in
         omega (arith, e, le))
 
     fits : nat_lt m.limit (max (highest m) (offset + n)) ≡ false
@@ -171,10 +208,18 @@ data_again m offset bytes fin lawful h = (passes, stays)
     passes : check_stream m offset n fin ≡ Ok (record { before = highest m; after = highest m })
     passes = both_pass _ _ (record { before = highest m; after = highest_after m offset n fin }) fine fits ∙ ap (λ k. Ok (record { before = highest m; after = k })) same
 
+    unchanged : check_bytes m offset bytes ≡ Ok tt
+    unchanged =
+        ap (λ b. cond b (Ok tt) (Err ChangedByte))
+        (elim h.came [
+          | inl p ↦ same_none m.arrived.stored offset bytes (λ q low high. none_stored m lawful p.reset q)
+          | inr all ↦ same_true m.arrived.stored offset bytes all.unchanged
+        ])
+
     arrived : cond (is_some m.reset_code) m.arrived (put m.arrived offset bytes) ≡ m.arrived
     arrived = elim h.came [
       | inl p ↦ ap (λ b. cond b m.arrived (put m.arrived offset bytes)) p.reset
-      | inr all ↦ ap (λ a. cond (is_some m.reset_code) m.arrived a) (put_again m.arrived offset bytes all) ∙ either (is_some m.reset_code) m.arrived
+      | inr all ↦ ap (λ a. cond (is_some m.reset_code) m.arrived a) (put_again m.arrived offset bytes all.received) ∙ either (is_some m.reset_code) m.arrived
     ]
       where
         either : {X : Type 0} (b : Bool) (x : X) → cond b x x ≡ x

@@ -1,15 +1,16 @@
 -- What is so of a frame that ends the processing of its payload, and of one that doesn't.
-use Rattle.std.proofs.Common.{◌≡◌, ℕ, ◌<◌, ◌^◌, Bool, true, false, Option, Some, None, Result, Ok, Err, arith, rules, cond, subst}
+use Rattle.std.proofs.Common.{◌≡◌, ℕ, ◌<◌, ◌^◌, Bool, true, false, Option, Some, None, Result, Ok, Err, length, arith, rules, cond, subst}
 use Rattle.std.specs.Prelude.{⊤}
 use Rattle.qs_send.specs.declared.piece.Item.TheVariants.{MaxData, MaxStreamData, MaxStreams, ResetStream, StopSending, DataBlocked, StreamDataBlocked, StreamsBlocked}
+use Rattle.qs_recv.specs.Lane.{check_stream, check_bytes}
 use Rattle.qs_recv.specs.declared.half.Highest.{Highest}
 use Rattle.qs_recv.specs.declared.half.RecvFault.{RecvFault}
-use Rattle.qs_recv.specs.declared.half.RecvFault.TheVariants.{FinalSize, StreamCredit, NoMemory}
+use Rattle.qs_recv.specs.declared.half.RecvFault.TheVariants.{FinalSize, StreamCredit, NoMemory, ChangedByte}
 use Rattle.qs_wire.specs.Layout.{PlacedValue}
 use Rattle.qs_conn.specs.declared.closing.Received.TheVariants as received
 use Rattle.qs_conn.specs.Ends.{End, is_own, is_uni}
 use Rattle.qs_conn.specs.Seen.{Seen, Ack, Stream, Control, Close, Plain}
-use Rattle.qs_conn.specs.Verdicts.{STREAM_LIMIT_ERROR, STREAM_STATE_ERROR, verdict, or_else, fault_if, state_fault_in, state_fault_out, credit_fault}
+use Rattle.qs_conn.specs.Verdicts.{STREAM_LIMIT_ERROR, STREAM_STATE_ERROR, verdict, or_else, fault_if, state_fault_in, state_fault_out, credit_fault, bytes_fault, fault_code, fault_of, lane_of}
 use Rattle.qs_conn.specs.Receiving.{Stops, RunsOut}
 use Rattle.qs_conn.specs.Layers.{close_code}
 
@@ -39,16 +40,26 @@ small_state = omega arith
 small_out : (e : End) (n : ℕ) → Small (state_fault_out e n)
 small_out e n = small_choice (is_own e n) _ _ (small_if _ STREAM_STATE_ERROR (omega arith)) (small_choice (is_uni n) _ _ small_state (small_if _ STREAM_LIMIT_ERROR (omega arith)))
 
+small_code : (fault : RecvFault) → fault_code fault < 2 ^ 62
+small_code FinalSize = omega arith
+small_code StreamCredit = omega arith
+small_code NoMemory = omega arith
+small_code ChangedByte = omega arith
+
 small_credit : (e : End) (r : Result Highest RecvFault) → Small (credit_fault e r)
 small_credit e (Ok h) = small_if _ _ (omega arith)
-small_credit e (Err FinalSize) = omega arith
-small_credit e (Err StreamCredit) = omega arith
-small_credit e (Err NoMemory) = omega arith
+small_credit e (Err fault) = small_code fault
+
+small_told : (r : Result (Unit {0}) RecvFault) → Small (fault_of r)
+small_told (Ok passed) = tt
+small_told (Err fault) = small_code fault
 
 small : (e : End) (f : Seen) → Small (verdict e f)
 unfolding verdict
 small e (Ack largest ranges) = small_if _ _ (omega arith)
-small e (Stream n offset bytes fin) = small_or _ _ (small_in e n) (small_credit e _)
+small e (Stream n offset bytes fin) =
+    let credit = check_stream (lane_of e n) offset (length bytes) fin in
+    small_or _ _ (small_in e n) (small_or (credit_fault e credit) (bytes_fault e n offset bytes) (small_credit e credit) (small_told (check_bytes (lane_of e n) offset bytes)))
 small e (Control (MaxData m)) = tt
 small e (Control (MaxStreamData n m)) = small_out e n
 small e (Control (MaxStreams d m)) = tt

@@ -3,7 +3,7 @@ use Rattle.std.proofs.Common.{◌≡◌, ℕ, ◌%◌, Bool, true, false, not, �
 use Rattle.std.specs.Prelude.{is_none, nat_le, IsOk}
 use Rattle.qs_send.specs.Lane.{SendLane, new_lane as new_send_lane}
 use Rattle.qs_send.specs.declared.piece.Item.TheVariants.{ResetStream}
-use Rattle.qs_recv.specs.Lane.{RecvLane, new_lane, check_stream, check_reset, take_stream, take_reset}
+use Rattle.qs_recv.specs.Lane.{RecvLane, new_lane, check_stream, check_reset, check_bytes, take_stream, take_reset}
 use Rattle.qs_recv.specs.declared.half.Highest.{Highest}
 use Rattle.qs_recv.specs.declared.half.RecvFault.{RecvFault}
 use Rattle.qs_conn.specs.Credit.{grant}
@@ -11,7 +11,7 @@ use Rattle.qs_conn.specs.Tables.{Tables, table, with_table, lookup, updated, ope
 use Rattle.qs_conn.specs.Outgoing.{Outgoing, with_outgoing, with_sends, sent_sum, AreOfOpen}
 use Rattle.qs_conn.specs.Ends.{End, Records, LostPackets, window, opens, is_own, is_uni, send_lane, opened_by_peer, first_send_limit}
 use Rattle.qs_conn.specs.Seen.{Stream, Control}
-use Rattle.qs_conn.specs.Verdicts.{verdict, state_fault_in, state_fault_out, credit_fault, or_else, or_new, lane_of, fault_if, STREAM_LIMIT_ERROR}
+use Rattle.qs_conn.specs.Verdicts.{verdict, state_fault_in, state_fault_out, credit_fault, bytes_fault, fault_of, or_else, or_new, lane_of, fault_if, STREAM_LIMIT_ERROR}
 use Rattle.qs_conn.specs.FrameStep.{frame_taken}
 use Rattle.qs_conn.specs.Standing.{KeepsCredit, IsSound}
 use Rattle.qs_conn.specs.Layers.{tally_on}
@@ -48,10 +48,17 @@ first_none : (a b : Option ℕ) → or_else a b ≡ None → a ≡ None
 first_none (Some code) b h = absurd (search (rules, h))
 first_none None b h = refl
 
-checked : (a : Option ℕ) (e : End) (r : Result Highest RecvFault) → or_else a (credit_fault e r) ≡ None → IsOk r
-checked (Some code) e r h = absurd (search (rules, h))
-checked None e (Ok x) h = search rules
-checked None e (Err f) h = absurd (search (rules, h))
+second_none : (a b : Option ℕ) → or_else a b ≡ None → b ≡ None
+second_none (Some code) b h = absurd (search (rules, h))
+second_none None b h = h
+
+checked : (e : End) (r : Result Highest RecvFault) → credit_fault e r ≡ None → IsOk r
+checked e (Ok x) h = search rules
+checked e (Err f) h = absurd (search (rules, h))
+
+unchanged : (r : Result (Unit {0}) RecvFault) → fault_of r ≡ None → IsOk r
+unchanged (Ok u) h = search rules
+unchanged (Err f) h = absurd (search (rules, h))
 
 pub reset_in : (e : End) (n code size : ℕ) → verdict e (Control (ResetStream n code size)) ≡ None → state_fault_in e n ≡ None
 unfolding verdict
@@ -64,13 +71,22 @@ stream_in e n offset bytes fin h = first_none _ _ h
 pub reset_checked : (e mid : End) (n code size : ℕ) → verdict e (Control (ResetStream n code size)) ≡ None → mid ≡ opened_by_peer n e → IsOk (check_reset (or_new (lookup mid.recvs n) 0) size)
 unfolding verdict
 reset_checked e mid n code size h is =
-    subst (λ o. IsOk (check_reset (or_new o 0) size)) (sym (in_there e mid n (first_none _ _ h) is)) (checked _ e (check_reset (lane_of e n) size) h)
+    subst (λ o. IsOk (check_reset (or_new o 0) size)) (sym (in_there e mid n (first_none _ _ h) is)) (checked e (check_reset (lane_of e n) size) (second_none (state_fault_in e n) _ h))
 
 pub stream_checked : (e mid : End) (n offset : ℕ) (bytes : List ℕ) (fin : Bool) → verdict e (Stream n offset bytes fin) ≡ None → mid ≡ opened_by_peer n e
     → IsOk (check_stream (or_new (lookup mid.recvs n) 0) offset (length bytes) fin)
 unfolding verdict
 stream_checked e mid n offset bytes fin h is =
-    subst (λ o. IsOk (check_stream (or_new o 0) offset (length bytes) fin)) (sym (in_there e mid n (first_none _ _ h) is)) (checked _ e (check_stream (lane_of e n) offset (length bytes) fin) h)
+    subst (λ o. IsOk (check_stream (or_new o 0) offset (length bytes) fin)) (sym (in_there e mid n (first_none _ _ h) is))
+    (checked e (check_stream (lane_of e n) offset (length bytes) fin) (first_none _ (bytes_fault e n offset bytes) (second_none (state_fault_in e n) _ h)))
+
+pub stream_unchanged : (e mid : End) (n offset : ℕ) (bytes : List ℕ) (fin : Bool) → verdict e (Stream n offset bytes fin) ≡ None → mid ≡ opened_by_peer n e
+    → IsOk (check_bytes (or_new (lookup mid.recvs n) 0) offset bytes)
+unfolding verdict
+stream_unchanged e mid n offset bytes fin h is =
+    subst (λ o. IsOk (check_bytes (or_new o 0) offset bytes)) (sym (in_there e mid n (first_none _ _ h) is))
+    (unchanged (check_bytes (lane_of e n) offset bytes)
+    (second_none (credit_fault e (check_stream (lane_of e n) offset (length bytes) fin)) _ (second_none (state_fault_in e n) _ h)))
 
 -- the credit is kept
 

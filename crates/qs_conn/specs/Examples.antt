@@ -4,7 +4,7 @@ use Rattle.std.specs.FinMap as fmap
 use Rattle.qs_wire.specs.Layout.{PlacedValue, stream, reset_stream}
 use Rattle.qs_wire.specs.Reading.{reading_of}
 use Rattle.qs_wire.specs.declared.stream_id.Role.TheVariants.{Client, Server}
-use Rattle.qs_recv.specs.Lane.{next_limit}
+use Rattle.qs_recv.specs.Lane.{after_read, next_limit}
 use Rattle.qs_send.specs.Lane.{SendLane, state, write_lane, sent_lane, finish_lane}
 use Rattle.qs_send.specs.declared.parts.Chunk.{Chunk}
 use Rattle.qs_send.specs.declared.piece.Piece.TheVariants.{Data}
@@ -68,6 +68,21 @@ pub record FinalSizeHolds : Type 0 where
   pub reset_smaller : verdict told_end (Control (ResetStream 0 0 4)) ≡ Some FINAL_SIZE_ERROR
   pub before_credit : verdict (after (Stream 0 0 (letters 1) true) (server narrow)) (Stream 0 10 (letters 1) false) ≡ Some FINAL_SIZE_ERROR
   pub below_highest : verdict (after (Stream 0 0 (letters 5) false) (server standard)) (Control (ResetStream 0 0 4)) ≡ Some FINAL_SIZE_ERROR
+
+-- three bytes from the begin of stream 0 on, and one byte past the first
+abbrev pub three_bytes : Seen
+three_bytes = Stream 0 0 (97 ∷ 98 ∷ 99 ∷ []) false
+
+abbrev pub second_byte : ℕ → Seen
+second_byte byte = Stream 0 1 (byte ∷ []) false
+
+-- A byte that is still stored doesn't change: it may come again, and no other one in its place. Once it was read it isn't compared, and
+-- the credit is looked at first.
+pub record ChangedBytesClose : Type 0 where
+  pub changed : verdict (after three_bytes (server standard)) (second_byte 88) ≡ Some PROTOCOL_VIOLATION
+  pub same : verdict (after three_bytes (server standard)) (second_byte 98) ≡ None
+  pub read : verdict (on_recv 0 (λ l. after_read l 3) (after three_bytes (server standard))) (second_byte 88) ≡ None
+  pub after_credit : verdict (after three_bytes (server (record standard { conn_window = 3 }))) (Stream 0 1 (88 ∷ 99 ∷ 100 ∷ []) false) ≡ Some FLOW_CONTROL_ERROR
 
 -- A server takes frames on streams that it opened, and on the peer's within the grant, in the direction in which the peer may use them.
 pub record StreamStateHolds : Type 0 where
@@ -181,6 +196,7 @@ pub record Examples : Type 0 where
   pub stream_limit : StreamLimitHolds
   pub connection_limit : ConnectionLimitHolds
   pub final_size : FinalSizeHolds
+  pub changed_bytes : ChangedBytesClose
   pub stream_state : StreamStateHolds
   pub unused_numbers : UnusedNumbersClose
   pub limits : LimitsMove

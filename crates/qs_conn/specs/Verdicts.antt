@@ -1,10 +1,11 @@
 -- Whether a frame closes the connection, and with which code. The checks stand in the order in which they are made: the state and the
--- count of the stream, the final size, the stream's credit, the connection's credit (RFC 9000, sections 4, 19 and 20.1).
-use Rattle.std.specs.Prelude.{ℕ, ◌+◌, ◌-◌, Bool, length, Option, None, Some, is_none, Result, Ok, Err, nat_lt, nat_le, if◌then◌else◌}
-use Rattle.qs_recv.specs.Lane.{RecvLane, new_lane, check_stream, check_reset}
+-- count of the stream, the final size, the stream's credit, the connection's credit, the bytes that are still stored (RFC 9000, sections
+-- 2.2, 4, 19 and 20.1).
+use Rattle.std.specs.Prelude.{ℕ, ◌+◌, ◌-◌, Bool, length, Option, None, Some, is_none, Result, Ok, Err, nat_lt, nat_le, List, if◌then◌else◌}
+use Rattle.qs_recv.specs.Lane.{RecvLane, new_lane, check_stream, check_reset, check_bytes}
 use Rattle.qs_recv.specs.declared.half.Highest.{Highest}
 use Rattle.qs_recv.specs.declared.half.RecvFault.{RecvFault}
-use Rattle.qs_recv.specs.declared.half.RecvFault.TheVariants.{FinalSize, StreamCredit, NoMemory}
+use Rattle.qs_recv.specs.declared.half.RecvFault.TheVariants.{FinalSize, StreamCredit, NoMemory, ChangedByte}
 use Rattle.qs_send.specs.declared.piece.Item.{Item}
 use Rattle.qs_send.specs.declared.piece.Item.TheVariants.{MaxData, MaxStreamData, MaxStreams, ResetStream, StopSending, DataBlocked, StreamDataBlocked, StreamsBlocked}
 use Rattle.qs_conn.specs.Tables.{index_of}
@@ -59,12 +60,22 @@ abbrev pub fault_code : RecvFault → ℕ
 fault_code FinalSize = FINAL_SIZE_ERROR
 fault_code StreamCredit = FLOW_CONTROL_ERROR
 fault_code NoMemory = 0
+fault_code ChangedByte = PROTOCOL_VIOLATION
 
 -- what the half's own check says, and then whether the growth of its highest offset is within the connection limit (RFC 9000,
 -- sections 4.1 and 4.5)
 abbrev pub credit_fault : End → Result Highest RecvFault → Option ℕ
 credit_fault e (Err fault) = Some (fault_code fault)
 credit_fault e (Ok h) = fault_if (nat_lt e.granted (spent e + (h.after - h.before))) FLOW_CONTROL_ERROR
+
+-- the code of a check that failed
+abbrev pub fault_of : Result (Unit {0}) RecvFault → Option ℕ
+fault_of (Err fault) = Some (fault_code fault)
+fault_of (Ok passed) = None
+
+-- a byte that isn't the one that is still stored at its offset (RFC 9000, section 2.2)
+abbrev pub bytes_fault : End → ℕ → ℕ → List ℕ → Option ℕ
+bytes_fault e n offset bytes = fault_of (check_bytes (lane_of e n) offset bytes)
 
 -- an ACK of a number that was never used (RFC 9000, section 13.1)
 abbrev pub ack_fault : End → ℕ → Option ℕ
@@ -83,7 +94,8 @@ item_verdict e (StreamsBlocked d m) = None
 -- the code with which a frame closes the connection, None where the connection goes on
 unfoldable pub verdict : End → Seen → Option ℕ
 verdict e (Ack largest ranges) = ack_fault e largest
-verdict e (Stream n offset bytes fin) = or_else (state_fault_in e n) (credit_fault e (check_stream (lane_of e n) offset (length bytes) fin))
+verdict e (Stream n offset bytes fin) =
+    or_else (state_fault_in e n) (or_else (credit_fault e (check_stream (lane_of e n) offset (length bytes) fin)) (bytes_fault e n offset bytes))
 verdict e (Control item) = item_verdict e item
 verdict e (Close code) = None
 verdict e (Plain asks) = None

@@ -2,7 +2,7 @@
 ghost use Rattle.std.specs.Prelude.{◌≡◌, ◌+◌, ◌≤◌, ◌<◌, ◌^◌, ◌++◌, [], length, drop, map, take, slice_get, slice_index_or, option_map, ℕ, false, None, Some, IfSome, OnOk, OnErr, IsOk, IfOk, Ok};
 ghost use Rattle.std.specs.List.{sum_by};
 ghost use Rattle.qs_ranges.specs.Numbers.{MAX_VARINT};
-ghost use Rattle.qs_recv.specs.Lane.{RecvLane, new_lane, check_stream, check_reset, highest, highest_after, take_stream, take_reset, read_answer, bytes_read, after_read, raise, stop};
+ghost use Rattle.qs_recv.specs.Lane.{RecvLane, new_lane, check_stream, check_reset, check_bytes, highest, highest_after, take_stream, take_reset, read_answer, bytes_read, after_read, raise, stop};
 ghost use Rattle.qs_recv.specs.Lawful.{IsLawful};
 ghost use Rattle.qs_conn.specs.Tables.{widened};
 ghost use Rattle.qs_conn.specs.Reports.{recv_report};
@@ -123,6 +123,27 @@ impl RecvLanes {
         }
     }
 
+    /// Whether a frame's bytes are those that are stored at an index, whose lane may have yet to be opened.
+    pub(crate) fn check_bytes(
+        &self,
+        window: u64,
+        index: usize,
+        offset: u64,
+        bytes: &[u8],
+    ) -> Result<(), RecvFault>
+        requires in_range { offset + length bytes.now ≤ MAX_VARINT }
+        requires some { 1 ≤ window }
+        requires small { window ≤ 2 ^ 20 }
+        ensures { result ≡ check_bytes (or_new (slice_get self.now index) window) offset bytes.now }
+    {
+        if let Some(half) = self.halves.get(index) {
+            half.check_bytes(offset, bytes)
+        } else {
+            let fresh: Half = RecvHalf::new(self.alloc, window);
+            fresh.check_bytes(offset, bytes)
+        }
+    }
+
     /// Whether a reset may be taken at an index, whose lane may have yet to be opened.
     pub(crate) fn check_reset(
         &self,
@@ -188,7 +209,7 @@ impl RecvLanes {
         self.marks.close_to(count);
     }
 
-    /// Takes a frame that passed the check, at an open lane; or changes nothing.
+    /// Takes a frame that passed both checks, at an open lane; or changes nothing.
     pub(crate) fn take_stream(
         &mut self,
         index: usize,
@@ -199,6 +220,7 @@ impl RecvLanes {
         requires there { index < length self.old }
         requires in_range { offset + length bytes.now ≤ MAX_VARINT }
         requires passed { IsOk (check_stream (slice_index_or self.old index (new_lane 0)) offset (length bytes.now) fin) }
+        requires unchanged { IsOk (check_bytes (slice_index_or self.old index (new_lane 0)) offset bytes.now) }
         requires room { sum_by highest self.old + MAX_VARINT < 2 ^ 64 }
         ensures ok { OnOk result (self.new ≡ changed self.old index (λ l. take_stream l offset bytes.now fin) (slice_get self.old index)) }
         ensures grown { let lane = slice_index_or self.old index (new_lane 0) in

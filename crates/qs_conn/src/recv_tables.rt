@@ -1,7 +1,7 @@
 //! The receiving halves of an end.
 ghost use Rattle.std.specs.Prelude.{◌≡◌, ◌+◌, ◌≤◌, ◌<◌, ◌^◌, ◌++◌, length, drop, take, is_some, option_map, true, OnOk, OnErr, IsOk, IfOk, IfSome};
 ghost use Rattle.qs_ranges.specs.Numbers.{MAX_VARINT};
-ghost use Rattle.qs_recv.specs.Lane.{new_lane, check_stream, check_reset, highest, taken, take_stream, take_reset, read_answer, bytes_read, after_read, raise, stop};
+ghost use Rattle.qs_recv.specs.Lane.{new_lane, check_stream, check_reset, check_bytes, highest, taken, take_stream, take_reset, read_answer, bytes_read, after_read, raise, stop};
 ghost use Rattle.qs_conn.specs.Tables.{no_streams, table, with_table, lookup, updated, open_to, each, total, kind_of};
 ghost use Rattle.qs_conn.specs.Reports.{recv_report};
 ghost use Rattle.qs_conn.specs.Verdicts.{or_new};
@@ -82,6 +82,23 @@ impl RecvTables {
         lanes.check_stream(window, index_of(stream), offset, len, fin)
     }
 
+    /// Whether a frame's bytes are those that are stored, at a stream that may have yet to be opened with that window.
+    pub(crate) fn check_bytes(
+        &self,
+        window: u64,
+        stream: StreamId,
+        offset: u64,
+        bytes: &[u8],
+    ) -> Result<(), RecvFault>
+        requires in_range { offset + length bytes.now ≤ MAX_VARINT }
+        requires some { 1 ≤ window }
+        requires small { window ≤ 2 ^ 20 }
+        ensures { result ≡ check_bytes (or_new (lookup self.now stream) window) offset bytes.now }
+    {
+        let lanes = &self.types[kind_of(stream)];
+        lanes.check_bytes(window, index_of(stream), offset, bytes)
+    }
+
     /// Whether a reset may be taken, at a stream that may have yet to be opened with that window.
     pub(crate) fn check_reset(
         &self,
@@ -143,7 +160,7 @@ impl RecvTables {
         lanes.open_to(window, index_of(stream) + 1)
     }
 
-    /// Takes a frame that passed the check, at an open stream; or changes nothing.
+    /// Takes a frame that passed both checks, at an open stream; or changes nothing.
     pub(crate) fn take_stream(
         &mut self,
         stream: StreamId,
@@ -154,6 +171,7 @@ impl RecvTables {
         requires open { is_some (lookup self.old stream) ≡ true }
         requires in_range { offset + length bytes.now ≤ MAX_VARINT }
         requires passed { IsOk (check_stream (or_new (lookup self.old stream) 0) offset (length bytes.now) fin) }
+        requires unchanged { IsOk (check_bytes (or_new (lookup self.old stream) 0) offset bytes.now) }
         requires room { total highest self.old < 2 ^ 62 }
         ensures ok { OnOk result (self.new ≡ updated self.old stream (λ l. take_stream l offset bytes.now fin) (lookup self.old stream)) }
         ensures err { OnErr result (self.new ≡ self.old) }

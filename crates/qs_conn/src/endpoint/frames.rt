@@ -6,7 +6,7 @@ ghost use Rattle.qs_wire.specs.Grammar.{Fits};
 ghost use Rattle.qs_recv.specs.Lane.{check_stream, check_reset};
 ghost use Rattle.qs_conn.specs.Credit.{grant};
 ghost use Rattle.qs_conn.specs.Seen.{seen};
-ghost use Rattle.qs_conn.specs.Verdicts.{or_else, ack_fault, state_fault_in, state_fault_out, credit_fault, lane_of, verdict};
+ghost use Rattle.qs_conn.specs.Verdicts.{or_else, ack_fault, state_fault_in, state_fault_out, credit_fault, bytes_fault, fault_code, lane_of, verdict};
 
 use super::{Endpoint, is_uni};
 use qs_recv::{Highest, RecvFault};
@@ -52,7 +52,7 @@ impl Endpoint {
                 offset,
                 fin,
                 bytes,
-            } => self.stream_fault(stream, offset, bytes.len() as u64, fin),
+            } => self.stream_fault(stream, offset, bytes, fin),
             Frame::ResetStream {
                 stream,
                 final_size,
@@ -75,16 +75,24 @@ impl Endpoint {
         }
     }
 
-    fn stream_fault(&self, stream: StreamId, offset: u64, len: u64, fin: bool) -> Option<u64>
-        requires { offset + len ≤ MAX_VARINT }
-        ensures { result ≡ or_else (state_fault_in self.now stream) (credit_fault self.now (check_stream (lane_of self.now stream) offset len fin)) }
+    // The bytes come last, and only those that are still stored are compared (RFC 9000, section 2.2).
+    fn stream_fault(&self, stream: StreamId, offset: u64, bytes: &[u8], fin: bool) -> Option<u64>
+        requires { offset + length bytes.now ≤ MAX_VARINT }
+        ensures { result ≡ or_else (state_fault_in self.now stream) (or_else (credit_fault self.now (check_stream (lane_of self.now stream) offset (length bytes.now) fin)) (bytes_fault self.now stream offset bytes.now)) }
     {
         if let Some(code) = self.state_fault_in(stream) {
             return Some(code);
         }
         let window = self.window(stream);
+        let len = bytes.len() as u64;
         let check = self.recvs.check_stream(window, stream, offset, len, fin);
-        self.credit_fault(check)
+        if let Some(code) = self.credit_fault(check) {
+            return Some(code);
+        }
+        match self.recvs.check_bytes(window, stream, offset, bytes) {
+            Ok(()) => None,
+            Err(fault) => Some(code_of(fault)),
+        }
     }
 
     fn reset_fault(&self, stream: StreamId, size: u64) -> Option<u64>
@@ -141,9 +149,7 @@ impl Endpoint {
         ensures { result ≡ credit_fault self.now check }
     {
         match check {
-            Err(RecvFault::FinalSize) => Some(FINAL_SIZE_ERROR),
-            Err(RecvFault::StreamCredit) => Some(FLOW_CONTROL_ERROR),
-            Err(RecvFault::NoMemory) => Some(0),
+            Err(fault) => Some(code_of(fault)),
             Ok(highest) => {
                 let growth = highest.after.saturating_sub(highest.before);
                 if self.granted < self.spent() + growth {
@@ -164,5 +170,17 @@ impl Endpoint {
         } else {
             self.settings.grant_bidi
         }
+    }
+}
+
+// The code of a half's fault.
+fn code_of(fault: RecvFault) -> u64
+    ensures { result ≡ fault_code fault }
+{
+    match fault {
+        RecvFault::FinalSize => FINAL_SIZE_ERROR,
+        RecvFault::StreamCredit => FLOW_CONTROL_ERROR,
+        RecvFault::NoMemory => 0,
+        RecvFault::ChangedByte => PROTOCOL_VIOLATION,
     }
 }

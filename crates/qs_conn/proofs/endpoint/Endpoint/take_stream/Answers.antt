@@ -8,7 +8,7 @@ use Rattle.qs_conn.specs.Outgoing.{Outgoing, AreOfOpen, sent_sum}
 use Rattle.qs_conn.proofs.Kept.{kept_recvs}
 use Rattle.qs_conn.proofs.Runs.{idle_with}
 use Rattle.qs_conn.proofs.Funded.{funded_same}
-use Rattle.qs_conn.proofs.Taken.{in_there, stream_in, stream_checked, stream_sound, recvs_back, tally_back, restored_out, peer_none, peer_lost, peer_unsent, back_sound}
+use Rattle.qs_conn.proofs.Taken.{in_there, stream_in, stream_checked, stream_unchanged, stream_sound, recvs_back, tally_back, restored_out, peer_none, peer_lost, peer_unsent, back_sound}
 use Rattle.qs_conn.proofs.endpoint.Endpoint.take_stream.Goals as goal
 
 pub take_stream-requires-clause-open : goal.take_stream-requires-clause-open
@@ -19,6 +19,10 @@ take_stream-requires-clause-open c =
 pub take_stream-requires-clause-passed : goal.take_stream-requires-clause-passed
 take_stream-requires-clause-passed c =
     stream_checked c.args.self.now _ c.args.stream c.args.offset c.args.bytes.now c.args.fin c.requires.passed (c.self-2.view_is ∙ c.in_ok-open_by_peer.ensures.ok)
+
+pub take_stream-requires-clause-unchanged : goal.take_stream-requires-clause-unchanged
+take_stream-requires-clause-unchanged c =
+    stream_unchanged c.args.self.now _ c.args.stream c.args.offset c.args.bytes.now c.args.fin c.requires.passed (c.self-2.view_is ∙ c.in_ok-open_by_peer.ensures.ok)
 
 pub close_to-requires-in-Err : goal.close_to-requires-in-Err
 close_to-requires-in-Err c =

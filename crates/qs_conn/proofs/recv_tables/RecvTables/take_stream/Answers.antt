@@ -18,6 +18,11 @@ take_stream-requires-clause-passed c =
     let passed = rw (← c.self.view_is) at c.requires.passed in
     rw (← (lane_is c.self.inside.types c.args.stream c.kind_of.result c.index_of.result c.index-self-kind_of.result 0 c.self.invariant c.kind_of.ensures.value c.index_of.ensures.value)) passed
 
+pub take_stream-requires-clause-unchanged : goal.take_stream-requires-clause-unchanged
+take_stream-requires-clause-unchanged c =
+    let unchanged = rw (← c.self.view_is) at c.requires.unchanged in
+    rw (← (lane_is c.self.inside.types c.args.stream c.kind_of.result c.index_of.result c.index-self-kind_of.result 0 c.self.invariant c.kind_of.ensures.value c.index_of.ensures.value)) unchanged
+
 pub returns-clause-ok : goal.returns-clause-ok
 returns-clause-ok c =
     rw (← c.self.view_is) (on_ok c.take_stream.result _ _ (λ is. updated_is c.self.inside.types c.args.stream c.kind_of.result c.index_of.result c.index-self-kind_of.result c.take_stream.new.self (λ l. take_stream l c.args.offset c.args.bytes.now c.args.fin) c.self.invariant c.kind_of.ensures.value c.index_of.ensures.value is) c.take_stream.ensures.ok)
