@@ -18,7 +18,7 @@ use Rattle.qs_world.specs.Pasts.{Past, Tells}
 use Rattle.qs_world.specs.Invariant.{EndOk, RecvOk, RecvSlot, FrameTaken}
 use Rattle.qs_world.proofs.Changes.{AllGrow, all_grow_refl, grow_trans, grows_update, recv_changed, send_kept}
 use Rattle.qs_world.proofs.Opening.{new_recvs, named_by, opened_ok, opened_grows, lane_opened}
-use Rattle.qs_world.proofs.Taking.{no_fault, or_else_none, fin_fits, reset_fits, take_stream_ok, take_stream_grows, take_stream_taken, take_reset_ok, take_reset_grows, take_reset_taken}
+use Rattle.qs_world.proofs.Taking.{no_fault, or_else_none, stream_passed, fin_fits, reset_fits, take_stream_ok, take_stream_grows, take_stream_taken, take_reset_ok, take_reset_grows, take_reset_taken}
 use Rattle.qs_world.proofs.Acking.{allow_ok, reset_ok, reset_end, acks_ok, named_pieces_ok}
 
 -- What a frame that takes effect leaves: the invariant, every half grown, and the frame's own effect for good.
@@ -197,8 +197,8 @@ module _ (p : Past) where
       }
   frame_keeps e (Stream n offset bytes fin) ok t fine =
       stream_taken e (opened_by_peer n e) n offset bytes fin (lookup (opened_by_peer n e).recvs n) refl
-      (half_open e n (is_own e n) refl (or_else_none _ _ fine).0) (λ r is. lane_opened e n r (is_own e n) refl is)
-      (opened_ok p e n ok (named_by p _ n t refl) (is_own e n) refl) t (or_else_none (state_fault_in e n) _ fine).1 (opened_grows p e n ok (is_own e n))
+      (half_open e n (is_own e n) refl (stream_passed e n offset bytes fin fine).0) (λ r is. lane_opened e n r (is_own e n) refl is)
+      (opened_ok p e n ok (named_by p _ n t refl) (is_own e n) refl) t (stream_passed e n offset bytes fin fine).1 (opened_grows p e n ok (is_own e n))
   frame_keeps e (Control i) ok t fine = item_keeps e i ok t fine
   frame_keeps e (Close c) ok t fine = record { ok = ok; grow = all_grow_refl e.recvs; taken = tt }
   frame_keeps e (Plain asks) ok t fine = record { ok = ok; grow = all_grow_refl e.recvs; taken = tt }

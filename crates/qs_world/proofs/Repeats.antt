@@ -31,7 +31,7 @@ use Rattle.qs_world.specs.Pasts.{Past, Tells}
 use Rattle.qs_world.specs.Invariant.{EndOk}
 use Rattle.qs_world.proofs.Changes.{AllGrow, Grows}
 use Rattle.qs_world.proofs.Opening.{new_recvs, lane_opened}
-use Rattle.qs_world.proofs.Taking.{or_else_none, fin_fits, reset_fits}
+use Rattle.qs_world.proofs.Taking.{or_else_none, stream_passed, fin_fits, reset_fits}
 use Rattle.qs_world.proofs.Frames.{Effect, frame_keeps, acks_recvs}
 use Rattle.qs_world.proofs.Receives.{goes_on}
 use Rattle.qs_world.proofs.Unharmed.{spent_opened}
@@ -109,7 +109,7 @@ module _ (e : End) where
   stream_spends n offset bytes fin (l, is, all, known) fine =
       let there : lookup (opened_by_peer n e).recvs n ≡ Some l = lane_stays e n l is (is_own e n) in
       let this : lane_of e n ≡ l = lane_opened e n l (is_own e n) refl there in
-      let fits = fin_fits e l offset (length bytes) fin (subst (λ x. credit_fault e (check_stream x offset (length bytes) fin) ≡ None) this (or_else_none (state_fault_in e n) _ fine).1) in
+      let fits = fin_fits e l offset (length bytes) fin (subst (λ x. credit_fault e (check_stream x offset (length bytes) fin) ≡ None) this (stream_passed e n offset bytes fin fine).1) in
       spent_kept (opened_by_peer n e) n (λ x. take_stream x offset bytes fin) (lookup (opened_by_peer n e).recvs n) refl
       (λ m at. (let same : l ≡ m = same_Some l m (sym there ∙ at) in subst (λ x. highest (take_stream x offset bytes fin) ≡ highest x) same (stream_highest l offset bytes fin all known fits)))
       ∙ spent_opened e n (is_own e n)

@@ -9,7 +9,7 @@ use Rattle.qs_recv.specs.Assembled.{put, discard, store}
 use Rattle.qs_recv.specs.Lane.{RecvLane, take_stream, is_whole, breaks_final_size, check_stream, check_reset}
 use Rattle.qs_conn.specs.Ends.{End}
 use Rattle.qs_conn.specs.Seen.{Stream}
-use Rattle.qs_conn.specs.Verdicts.{fault_if, or_else, credit_fault}
+use Rattle.qs_conn.specs.Verdicts.{fault_if, or_else, state_fault_in, credit_fault, bytes_fault, lane_of}
 use Rattle.qs_world.specs.Pasts.{Past, Tells, TellsOffset, TellsByte, TellsEnd, TellsReset}
 use Rattle.qs_world.specs.Invariant.{RecvOk, StreamTaken}
 use Rattle.qs_world.proofs.Members.{run-cases, run-old, run-new, get-stored}
@@ -24,6 +24,14 @@ no_fault false code e = refl
 pub or_else_none : (a b : Option ℕ) → or_else a b ≡ None → (a ≡ None) × (b ≡ None)
 or_else_none None b e = (refl, e)
 or_else_none (Some c) b e = absurd (none-some c (sym e))
+
+-- of a STREAM frame, what the checks of the stream's state and of its credit said
+pub stream_passed : (e : End) (n offset : ℕ) (bytes : List ℕ) (fin : Bool)
+    → or_else (state_fault_in e n) (or_else (credit_fault e (check_stream (lane_of e n) offset (length bytes) fin)) (bytes_fault e n offset bytes)) ≡ None
+    → (state_fault_in e n ≡ None) × (credit_fault e (check_stream (lane_of e n) offset (length bytes) fin) ≡ None)
+stream_passed e n offset bytes fin fine =
+    let (state, later) = or_else_none (state_fault_in e n) _ fine in
+    (state, (or_else_none (credit_fault e (check_stream (lane_of e n) offset (length bytes) fin)) (bytes_fault e n offset bytes) later).0)
 
 stream_sized : (e : End) (l : RecvLane) (offset n : ℕ) (fin : Bool) → credit_fault e (check_stream l offset n fin) ≡ None → breaks_final_size l offset n fin ≡ false
 stream_sized e l offset n fin fine = go (breaks_final_size l offset n fin) refl

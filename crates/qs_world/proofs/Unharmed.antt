@@ -1,12 +1,16 @@
 -- What a peer made offends against no rule of the end that it comes to.
-use Rattle.std.proofs.Common.{◌≡◌, ℕ, ◌+◌, ◌-◌, ◌/◌, ◌<◌, ◌≤◌, max, Bool, true, false, not, ◌||◌, ◌==◌, nat_lt, List, ◌⊎◌, length, Option, Some, None, Ok, Err, unwrap_or, is_some, is_none, slice_get, refl, sym, ap, ◌∙◌, subst, arith, inl, inr, if◌then◌else◌, nat_le, le_antisymm, nat_cmp}
-use Rattle.std.proofs.lemmas.Option.{slice_get_within}
-use Rattle.std.proofs.lemmas.Bool.{or_from, true≢false, false≢true, cases_eq, eq-eqb, le-ltb, lt-leb, and_right, not_from_true}
+use Rattle.std.proofs.Common.{◌≡◌, ℕ, ◌+◌, ◌-◌, ◌/◌, ◌<◌, ◌≤◌, max, Bool, true, false, not, ◌||◌, ◌==◌, nat_lt, List, ◌⊎◌, length, Option, Some, None, Result, Ok, Err, IsOk, unwrap_or, is_some, is_none, slice_get, refl, sym, ap, ◌∙◌, subst, arith, inl, inr, if◌then◌else◌, nat_le, le_antisymm, nat_cmp}
+use Rattle.std.proofs.lemmas.Option.{none-some, slice_get_within}
+use Rattle.std.proofs.lemmas.Bool.{or_from, true≢false, false≢true, both_ways, cases_eq, cases_lt, eq-eqb, le-leb, le-ltb, lt-leb, and_right, not_from_true}
 use Rattle.std.specs.FinSet as set
 use Rattle.qs_ranges.specs.Numbers.{end_of}
 use Rattle.qs_wire.specs.declared.stream_id.Dir.TheVariants.{Bidi, Uni}
-use Rattle.qs_recv.specs.Lane.{RecvLane, highest, highest_after, breaks_known, check_stream, check_reset, new_lane as new_recv_lane}
+use Rattle.qs_recv.specs.Lane.{RecvLane, highest, highest_after, breaks_known, check_stream, check_reset, check_bytes, new_lane as new_recv_lane}
+use Rattle.qs_recv.specs.Chunks.{byte_at}
+use Rattle.qs_recv.specs.Laws.{IsSent, IsPart}
+use Rattle.qs_recv.proofs.SameAgain.{sent_passes}
 use Rattle.qs_recv.specs.declared.half.Highest.{Highest}
+use Rattle.qs_recv.specs.declared.half.RecvFault.{RecvFault}
 use Rattle.qs_recv.specs.declared.half.RecvFault.TheVariants.{FinalSize, StreamCredit}
 use Rattle.qs_send.specs.Lane.{SendLane}
 use Rattle.qs_send.specs.declared.piece.Item.TheVariants.{MaxData, MaxStreamData, MaxStreams, ResetStream, StopSending, DataBlocked, StreamDataBlocked, StreamsBlocked}
@@ -14,11 +18,12 @@ use Rattle.qs_conn.specs.Tables.{Tables, lookup, update, total, open_to}
 use Rattle.qs_conn.specs.Ends.{End, first_send_limit, window, is_own, is_uni, opens, opened_by_peer, recv_lane, send_lane}
 use Rattle.qs_conn.specs.Credit.{spent, all_sent, grant}
 use Rattle.qs_conn.specs.Seen.{Seen, Ack, Stream, Control, Close, Plain}
-use Rattle.qs_conn.specs.Verdicts.{verdict, item_verdict, state_fault_in, state_fault_out, credit_fault, ack_fault, fault_if, or_else, lane_of, STREAM_STATE_ERROR, STREAM_LIMIT_ERROR}
+use Rattle.qs_conn.specs.Verdicts.{verdict, item_verdict, state_fault_in, state_fault_out, credit_fault, bytes_fault, fault_of, ack_fault, fault_if, or_else, lane_of, STREAM_STATE_ERROR, STREAM_LIMIT_ERROR}
 use Rattle.qs_world.proofs.Members.{end-le}
 use Rattle.qs_conn.proofs.TableLaws.{value, total_le, total_update, total_open, lookup_same, lookup_other, open_lower, open_at}
 use Rattle.qs_world.specs.Pasts.{Past, Tells, TellsOffset, TellsEnd, TellsReset, IsNamed, Names}
 use Rattle.qs_world.specs.Invariant.{EndOk, SendSlot, NeverSent, RecvTrue, RecvSlot, NeverReceived, is_open}
+use Rattle.qs_world.proofs.Agreement.{byte_written}
 use Rattle.qs_world.proofs.Opening.{opened_ok, named_by, lane_opened}
 
 abbrev sent_of : Option SendLane → ℕ
@@ -106,6 +111,18 @@ reset_checked e r size known high limit credit =
     checked_fine e (record { before = highest r; after = size }) _ _
     (size_fine r.final_size size (size + 0) 0 true (highest r) known high (omega arith) (λ is. omega arith))
     (le-ltb r.limit size limit) credit
+
+-- a byte of a frame, by its place in it
+byte_of : (offset : ℕ) (bytes : List ℕ) (y b : ℕ) → byte_at offset bytes y ≡ Some b → (offset ≤ y) × (slice_get bytes (y - offset) ≡ Some b)
+byte_of offset bytes y b is =
+    elim (cases_lt y offset) [
+      | inl below ↦ absurd (none-some b (sym (ap (λ c. if c then slice_get bytes (y - offset) else None) (lt-leb offset y below)) ∙ is))
+      | inr low ↦ (low, sym (ap (λ c. if c then slice_get bytes (y - offset) else None) (le-leb offset y low)) ∙ is)
+    ]
+
+bytes_checked : (r : Result (Unit {0}) RecvFault) → IsOk r → fault_of r ≡ None
+bytes_checked (Ok passed) ok = refl
+bytes_checked (Err fault) ok = absurd (both_ways false refl ok)
 
 -- What was told of a stream shows that it is open.
 module _ (p : Past) (e : End) (ok : EndOk p e) where
@@ -311,6 +328,19 @@ module _ (p q : Past) (from : p.theirs ≡ q.mine) (back : q.theirs ≡ p.mine) 
       subst (λ x. credit_fault e (check_stream x offset (length bytes) fin) ≡ None) (sym (lane_opened e n r (is_own e n) refl is))
       (stream_checked e r l.sent_end offset (length bytes) fin known high below (λ set. (c.end set).1 ∙ sym (hs.end (c.end set).0).1) limit credit)
 
+  -- what is stored of the stream is what was written there, and so is what comes
+  bytes_lane : (n offset : ℕ) (bytes : List ℕ) (fin : Bool) → Tells q.mine (Stream n offset bytes fin) → (o : Option RecvLane) → lookup (opened_by_peer n e).recvs n ≡ o → is_some o ≡ true → bytes_fault e n offset bytes ≡ None
+  bytes_lane n offset bytes fin t None is some = absurd (false≢true some)
+  bytes_lane n offset bytes fin t (Some r) is some =
+      let written = byte_written q p n (first_send_limit f n) (window e n) from (lookup f.sends n) (their.sends n) in
+      let half = half_ok n _ t refl r is in
+      let stored : IsSent (q.bytes n) r.arrived = λ y b at. written y b (half.stored y b at) in
+      let carried : IsPart (q.bytes n) offset bytes = λ y b at.
+      let c = byte_of offset bytes y b at in
+      written y b (offset, bytes, fin, subst (λ x. Tells x (Stream n offset bytes fin)) (sym from) t, c.0, c.1) in
+      subst (λ x. fault_of (check_bytes x offset bytes) ≡ None) (sym (lane_opened e n r (is_own e n) refl is))
+      (bytes_checked (check_bytes r offset bytes) (sent_passes (q.bytes n) r offset bytes stored carried))
+
   reset_lane_fine : (n code size : ℕ) → Tells q.mine (Control (ResetStream n code size)) → (o : Option RecvLane) → lookup (opened_by_peer n e).recvs n ≡ o → is_some o ≡ true → (s : Option SendLane) → lookup f.sends n ≡ s → SendSlot q n (first_send_limit f n) s →
       credit_fault e (check_reset (lane_of e n) size) ≡ None
   reset_lane_fine n code size t None is some s there hs = absurd (false≢true some)
@@ -326,8 +356,10 @@ module _ (p q : Past) (from : p.theirs ≡ q.mine) (back : q.theirs ≡ p.mine) 
   unfolding verdict
   stream_fine n offset bytes fin t =
       let sends : is_open f.sends n ≡ true = send_is_open q f their n (λ h. h.no_stream offset bytes fin t) in
+      let there = half_open n sends (is_own e n) refl in
       both_none _ _ (state_in_fine p q from back e f facing ok their n sends)
-      (stream_lane n offset bytes fin t (lookup (opened_by_peer n e).recvs n) refl (half_open n sends (is_own e n) refl) (lookup f.sends n) refl (their.sends n))
+      (both_none (credit_fault e (check_stream (lane_of e n) offset (length bytes) fin)) (bytes_fault e n offset bytes) (stream_lane n offset bytes fin t (lookup (opened_by_peer n e).recvs n) refl there (lookup f.sends n) refl (their.sends n))
+      (bytes_lane n offset bytes fin t (lookup (opened_by_peer n e).recvs n) refl there))
 
   reset_fine : (n code size : ℕ) → Tells q.mine (Control (ResetStream n code size)) → item_verdict e (ResetStream n code size) ≡ None
   reset_fine n code size t =
