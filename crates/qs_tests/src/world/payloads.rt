@@ -80,6 +80,77 @@ fn the_final_size_is_tested_before_the_credit(rt: HostRuntime) -> Result<(), Fai
     )
 }
 
+// It names the frame that brought the byte, wherever that byte is in it.
+#[test]
+fn a_changed_byte_closes(rt: HostRuntime) -> Result<(), Fail> {
+    play_rows(
+        rt.alloc(),
+        b"server
+          receive 0 0a0003616263 -> done
+          receive 1 0e00010158 -> closing 0a 0e 0
+          close -> 1c0a0e00
+          stored -> 3",
+    )?;
+    play_rows(
+        rt.alloc(),
+        b"server
+          receive 0 0a0003616263 -> done
+          receive 1 010b00056162586465 -> closing 0a 0b 1
+          spent -> 3",
+    )
+}
+
+#[test]
+fn the_same_byte_may_come_again(rt: HostRuntime) -> Result<(), Fail> {
+    play_rows(
+        rt.alloc(),
+        b"server
+          receive 0 0a0003616263 -> done
+          receive 1 0e00010162 -> done
+          receive 2 0e0002026364 -> done
+          spent -> 4",
+    )
+}
+
+// What was read or thrown away is no longer there to be compared.
+#[test]
+fn only_stored_bytes_are_compared(rt: HostRuntime) -> Result<(), Fail> {
+    play_rows(
+        rt.alloc(),
+        b"server
+          receive 0 0a0003616263 -> done
+          read 0 3 -> bytes 616263
+          receive 1 0e00010158 -> done
+          spent -> 3",
+    )?;
+    play_rows(
+        rt.alloc(),
+        b"server
+          receive 0 0a0003616263 -> done
+          read 0 1 -> bytes 61
+          receive 1 0a00025862 -> done
+          receive 2 0a00025858 -> closing 0a 0a 0",
+    )?;
+    play_rows(
+        rt.alloc(),
+        b"server
+          receive 0 0a0003616263 -> done
+          stop 0 7 -> ok
+          receive 1 0e00010158 -> done
+          stored -> 0",
+    )
+}
+
+#[test]
+fn the_credit_is_tested_before_the_bytes(rt: HostRuntime) -> Result<(), Fail> {
+    play_rows(
+        rt.alloc(),
+        b"server conn_window=3
+          receive 0 0a0003616263 -> done
+          receive 1 0e000103586364 -> closing 03 0e 0",
+    )
+}
+
 // After it all calls say so.
 #[test]
 fn the_connections_limit_bounds_all_streams(rt: HostRuntime) -> Result<(), Fail> {
