@@ -61,12 +61,14 @@ IsNextNamed m p (Some k) q = GivesNumber m p k q
 abbrev pub turns_ahead : Passing → Recorded → ℕ
 turns_ahead p r = min (p.below - r.base) r.slots + length p.unread
 
--- What one answer says of the records and of the pass before and after it. A turn is one slot or one range less that is ahead.
+-- What one answer says of the records and of the pass before and after it. A turn is one slot or one range less that is ahead, and no
+-- turn that was counted is forgotten.
 pub record IsNext (r : Recorded) (p : Passing) (given : Option ℕ) (q : Passing) : Type 0 where
   pub answer : Falls p → IsNextNamed r.pieces p given q
   pub falls : Falls p → Falls q
   pub below : IfSome given (λ k. (q.below ≡ k) × (k < p.below))
   pub turns : q.turns + turns_ahead q r ≤ p.turns + turns_ahead p r
+  pub counted : p.turns ≤ q.turns
 
 -- the next range was read
 pub record HasRead (p : Passing) (range : ℕ × ℕ) (q : Passing) : Type 0 where

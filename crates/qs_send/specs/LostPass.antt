@@ -20,12 +20,14 @@ count_below (k ∷ ks) n = if nat_lt k n then count_below ks n + 1 else count_be
 abbrev pub lost_ahead : Passing → Lost → ℕ
 lost_ahead p l = count_below l.order p.below + length p.unread
 
--- What one answer says of the lost records and of the pass before and after it. A turn is one record or one range less that is ahead.
+-- What one answer says of the lost records and of the pass before and after it. A turn is one record or one range less that is ahead, and
+-- no turn that was counted is forgotten.
 pub record IsNextLost (l : Lost) (p : Passing) (given : Option ℕ) (q : Passing) : Type 0 where
   pub answer : Falls p → IsNextNamed l.pieces p given q
   pub falls : Falls p → Falls q
   pub below : IfSome given (λ k. (q.below ≡ k) × (k < p.below))
   pub turns : q.turns + lost_ahead q l ≤ p.turns + lost_ahead p l
+  pub counted : p.turns ≤ q.turns
 
 -- Whole passes
 

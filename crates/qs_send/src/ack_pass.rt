@@ -66,11 +66,12 @@ impl<'a> AckPass<'a> {
     fn read_range(&mut self) -> bool
         ensures read { result ≡ true → (range : ℕ × ℕ) × HasRead self.old range self.new }
         ensures ended { result ≡ false → (self.old.unread ≡ []) × (self.new ≡ self.old) }
+        ensures counted { self.old.turns ≤ self.new.turns }
     {
         let Some((low, high)) = self.ranges.next() else {
             return false;
         };
-        self.turns = self.turns.saturating_add(1);
+        self.turns = one_more(self.turns);
         self.low = low;
         self.below = self.below.min(high + 1);
         true
@@ -85,6 +86,7 @@ impl<'a> AckPass<'a> {
         ensures none { IfNone result ((j : ℕ) → self.old.low ≤ j → j < self.old.below → fmap.contains_key records.now.pieces j ≡ false) }
         ensures past { IfNone result ((j : ℕ) → self.new.below ≤ j → j < self.old.below → fmap.contains_key records.now.pieces j ≡ false) }
         ensures turns { self.new.turns + min (self.new.below - records.now.base) records.now.slots ≤ self.old.turns + min (self.old.below - records.now.base) records.now.slots }
+        ensures counted { self.old.turns ≤ self.new.turns }
     {
         self.below = records.cut(self.below);
         while self.has_slot(records.base()) {
@@ -109,9 +111,18 @@ impl<'a> AckPass<'a> {
         ensures same { (self.new.low ≡ self.old.low) × (self.new.unread ≡ self.old.unread) }
         ensures below { self.new.below + 1 ≡ self.old.below }
         ensures turns { self.new.turns ≤ self.old.turns + 1 }
+        ensures counted { self.old.turns ≤ self.new.turns }
     {
-        self.turns = self.turns.saturating_add(1);
+        self.turns = one_more(self.turns);
         self.below -= 1;
         records.is_held(self.below)
     }
+}
+
+/// One turn more. The count stays at its greatest value.
+pub(crate) fn one_more(turns: u64) -> u64
+    ensures least { turns ≤ result }
+    ensures most { result ≤ turns + 1 }
+{
+    turns.saturating_add(1)
 }

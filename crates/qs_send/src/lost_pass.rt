@@ -4,6 +4,7 @@ ghost use Rattle.std.specs.FinMap as fmap;
 ghost use Rattle.qs_send.specs.AckPass.{HasRead, pass_over};
 ghost use Rattle.qs_send.specs.LostPass.{IsNextLost, count_below};
 
+use crate::ack_pass::one_more;
 use crate::lost_records::LostRecords;
 use qs_wire::AckRanges;
 use std::marker::Model;
@@ -67,11 +68,12 @@ impl<'a> LostPass<'a> {
     fn read_range(&mut self) -> bool
         ensures read { result ≡ true → (range : ℕ × ℕ) × HasRead self.old range self.new }
         ensures ended { result ≡ false → (self.old.unread ≡ []) × (self.new ≡ self.old) }
+        ensures counted { self.old.turns ≤ self.new.turns }
     {
         let Some((low, high)) = self.ranges.next() else {
             return false;
         };
-        self.turns = self.turns.saturating_add(1);
+        self.turns = one_more(self.turns);
         self.low = low;
         self.below = self.below.min(high + 1);
         true
@@ -86,13 +88,14 @@ impl<'a> LostPass<'a> {
         ensures none { IfNone result ((j : ℕ) → self.old.low ≤ j → j < self.old.below → fmap.contains_key records.now.pieces j ≡ false) }
         ensures past { IfNone result ((j : ℕ) → self.new.below ≤ j → j < self.old.below → fmap.contains_key records.now.pieces j ≡ false) }
         ensures turns { self.new.turns + count_below records.now.order self.new.below ≤ self.old.turns + count_below records.now.order self.old.below }
+        ensures counted { self.old.turns ≤ self.new.turns }
     {
         records.is_in_order();
         let number = records.below(self.below)?;
         if number < self.low {
             return None;
         }
-        self.turns = self.turns.saturating_add(1);
+        self.turns = one_more(self.turns);
         self.below = number;
         Some(number)
     }

@@ -10,6 +10,7 @@ invariant-loop-self l = record {
   within : l.self.below ≤ l.records.base + l.records.slots;
   passed : (j : ℕ) → l.self.below ≤ j → j < l.fn.self.below → fmap.contains_key l.records.pieces j ≡ false;
   turns : l.self.turns + min (l.self.below - l.records.base) l.records.slots ≤ l.fn.self.turns + min (l.fn.self.below - l.records.base) l.records.slots;
+  counted : l.fn.self.turns ≤ l.self.turns;
 }
 
 abbrev pub decreases-loop-self : goal.decreases-loop-self

@@ -7,6 +7,7 @@ invariant-loop-number l = record {
   passed : Falls l.fn.self → HasPassed l.records.pieces l.fn.self l.self;
   below : l.self.below ≤ l.fn.self.below;
   turns : l.self.turns + turns_ahead l.self l.records ≤ l.fn.self.turns + turns_ahead l.fn.self l.records;
+  counted : l.fn.self.turns ≤ l.self.turns;
 }
 
 abbrev pub decreases-loop-number : goal.decreases-loop-number

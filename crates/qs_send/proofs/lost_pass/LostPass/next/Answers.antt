@@ -15,8 +15,12 @@ loop-number-preserved c =
     let bound = read.1.below in
     let less = was.below in
     let so_far = c.loop-number.invariant.below in
+    let rise = was.counted in
+    let one = c.read_range.ensures.counted in
+    let until = c.loop-number.invariant.counted in
     record {
       passed = λ falls. passed_range m.pieces start q cut was.same.0 was.same.1 was.below was.none was.past read.0 after read.1 (c.loop-number.invariant.passed falls);
       below = omega (arith, bound, less, so_far);
       turns = lost_turns_read start q cut after m read.0 was.same.1 was.turns read.1 c.loop-number.invariant.turns;
+      counted = omega (arith, rise, one, until);
     }
