@@ -17,12 +17,12 @@ use Rattle.qs_wire.specs.Acks.{AreAckPairs, AreApartBelow, ack_of, inclusive}
 use Rattle.qs_wire.proofs.PairLaws.{last_below, apart_take, ranges_of_pairs, ack_fits}
 use Rattle.qs_send.specs.declared.piece.Piece.{Piece}
 use Rattle.qs_send.specs.declared.piece.Piece.TheVariants.{Data}
-use Rattle.qs_conn.specs.Ends.{End}
-use Rattle.qs_conn.specs.Credit.{all_sent}
-use Rattle.qs_conn.specs.Seen.{Ack, seen}
-use Rattle.qs_conn.specs.FrameStep.{is_named}
-use Rattle.qs_conn.specs.Lawful.{MayAck, Fills, frame_put}
-use Rattle.qs_conn.specs.Making.{IsText, IsPlainAck}
+use Rattle.qs_machine.specs.Ends.{End}
+use Rattle.qs_machine.specs.Credit.{all_sent}
+use Rattle.qs_machine.specs.Seen.{Ack, seen}
+use Rattle.qs_machine.specs.FrameStep.{is_named}
+use Rattle.qs_machine.specs.Lawful.{MayAck, Fills, frame_put}
+use Rattle.qs_machine.specs.Making.{IsText, IsPlainAck}
 use Rattle.qs_conn.specs.Filling.{InPacket, Begun, IsPassed, no_slot}
 use Rattle.qs_conn.proofs.Texts.{no_text, text_push, ack_left}
 

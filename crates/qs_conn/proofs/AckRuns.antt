@@ -19,13 +19,13 @@ use Rattle.qs_wire.proofs.PairLaws.{ranges_fall}
 use Rattle.qs_wire.specs.declared.stream_id.Dir.TheVariants.{Bidi, Uni}
 use Rattle.qs_send.specs.declared.piece.Item.TheVariants.{MaxData, MaxStreamData, MaxStreams, ResetStream, StopSending, DataBlocked, StreamDataBlocked, StreamsBlocked}
 use Rattle.std.specs.Result.{OnOk, OnErr}
-use Rattle.qs_conn.specs.Ends.{End, Records, LostPackets}
-use Rattle.qs_conn.specs.FrameStep.{AckedPiece, is_named, acked_at, pieces_of, acked_numbers, piece_acked, first_acked, named_in, named, acks}
-use Rattle.qs_conn.specs.Outgoing.{Outgoing, with_outgoing, piece_acked_out, without_piece_out, first_acked_out, pieces_in}
+use Rattle.qs_machine.specs.Ends.{End, Records, LostPackets}
+use Rattle.qs_machine.specs.FrameStep.{AckedPiece, is_named, acked_at, pieces_of, acked_numbers, piece_acked, first_acked, named_in, named, acks}
+use Rattle.qs_machine.specs.Outgoing.{Outgoing, with_outgoing, piece_acked_out, without_piece_out, first_acked_out, pieces_in}
 use Rattle.qs_conn.specs.Runs.{held_out, pieces_left, acks_out, AcksBy, AcksPacket, AreSameBelow, named_out, AcksNamed, AcksRanges, is_ahead, ahead_pieces, AcksAhead}
-use Rattle.qs_conn.proofs.Carried.{none_some, some_is, get_new, get_removed}
+use Rattle.qs_machine.proofs.Carried.{none_some, some_is, get_new, get_removed}
 use Rattle.qs_conn.proofs.Runs.{less_left}
-use Rattle.qs_conn.proofs.Named.{filter_first, filter_nothing, filter_alike}
+use Rattle.qs_machine.proofs.Named.{filter_first, filter_nothing, filter_alike}
 
 -- Lists of pieces
 

@@ -15,15 +15,15 @@ use Rattle.qs_send.specs.declared.piece.Piece.TheVariants.{Data}
 use Rattle.qs_send.proofs.Packets.{cut_chunk_is_last, sendable_has_chunk, sendable_end_has_chunk}
 use Rattle.qs_recv.specs.Lane.{RecvLane}
 use Rattle.qs_conn.specs.declared.terms.Terms.{Terms}
-use Rattle.qs_conn.specs.Tables.{Tables, lookup, update, updated, total}
-use Rattle.qs_conn.specs.Ends.{End, send_lane, on_send}
-use Rattle.qs_conn.specs.Credit.{all_sent}
-use Rattle.qs_conn.specs.Seen.{Seen, Stream}
-use Rattle.qs_conn.specs.Due.{IsOutstanding, IsDue, IsEndDue, ByteGoes, EndGoes, StreamGoes}
-use Rattle.qs_conn.specs.Lawful.{MayCarry, frame_put, chunk_of}
-use Rattle.qs_conn.specs.Outgoing.{Outgoing, HasSending}
+use Rattle.qs_machine.specs.Tables.{Tables, lookup, update, updated, total}
+use Rattle.qs_machine.specs.Ends.{End, send_lane, on_send}
+use Rattle.qs_machine.specs.Credit.{all_sent}
+use Rattle.qs_machine.specs.Seen.{Seen, Stream}
+use Rattle.qs_machine.specs.Due.{IsOutstanding, IsDue, IsEndDue, ByteGoes, EndGoes, StreamGoes}
+use Rattle.qs_machine.specs.Lawful.{MayCarry, frame_put, chunk_of}
+use Rattle.qs_machine.specs.Outgoing.{Outgoing, HasSending}
 use Rattle.qs_conn.specs.Filling.{end_by, InPacket}
-use Rattle.qs_conn.proofs.TableLaws.{lookup_same, lookup_other, total_update}
+use Rattle.qs_machine.proofs.TableLaws.{lookup_same, lookup_other, total_update}
 use Rattle.qs_conn.proofs.Pieces.{put_packet, put_old, put_is, noted_new, due_more, end_due_more}
 
 -- What is due by the half is due by the end.

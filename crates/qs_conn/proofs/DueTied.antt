@@ -5,9 +5,9 @@ use Rattle.std.specs.FinSet as set
 use Rattle.qs_send.specs.declared.piece.Piece.TheVariants.{Data}
 use Rattle.qs_send.specs.Lane.{Sending}
 use Rattle.qs_send.specs.Sound.{IsLawful}
-use Rattle.qs_conn.specs.Ends.{End}
-use Rattle.qs_conn.specs.Due.{IsDue, IsEndDue}
-use Rattle.qs_conn.specs.Outgoing.{IsCarried, IsTied}
+use Rattle.qs_machine.specs.Ends.{End}
+use Rattle.qs_machine.specs.Due.{IsDue, IsEndDue}
+use Rattle.qs_machine.specs.Outgoing.{IsCarried, IsTied}
 use Rattle.qs_conn.proofs.OutboxMaking.{due_open, unreset}
 
 module _ (e : End) (n : ℕ) (s : Sending) (t : IsTied e.outstanding n s) where

@@ -21,16 +21,16 @@ use Rattle.qs_send.proofs.Held.{held_by_room_or_limits}
 use Rattle.qs_ranges.specs.Numbers.{MAX_VARINT, same_numbers}
 use Rattle.qs_recv.specs.Lane.{RecvLane}
 use Rattle.qs_conn.specs.declared.terms.Terms.{Terms}
-use Rattle.qs_conn.specs.Outgoing.{Outgoing, HasSending, chunk_put, on_lane, sent_sum}
-use Rattle.qs_conn.specs.Layers.{or_none}
-use Rattle.qs_conn.proofs.TableLaws.{lookup_same, lookup_other, total_update}
-use Rattle.qs_conn.specs.Tables.{Tables, lookup, updated}
-use Rattle.qs_conn.specs.Ends.{End, send_lane}
-use Rattle.qs_conn.specs.Credit.{all_sent}
-use Rattle.qs_conn.specs.Seen.{Seen, Ack, Stream, Control, seen_all}
-use Rattle.qs_conn.specs.Due.{Among, IsDueItem, IsDue, IsEndDue, StreamGoes}
-use Rattle.qs_conn.specs.Lawful.{Fills, AcksAll, frame_put}
-use Rattle.qs_conn.specs.Making.{IsText}
+use Rattle.qs_machine.specs.Outgoing.{Outgoing, HasSending, chunk_put, on_lane, sent_sum}
+use Rattle.qs_machine.specs.Sums.{or_none}
+use Rattle.qs_machine.proofs.TableLaws.{lookup_same, lookup_other, total_update}
+use Rattle.qs_machine.specs.Tables.{Tables, lookup, updated}
+use Rattle.qs_machine.specs.Ends.{End, send_lane}
+use Rattle.qs_machine.specs.Credit.{all_sent}
+use Rattle.qs_machine.specs.Seen.{Seen, Ack, Stream, Control, seen_all}
+use Rattle.qs_machine.specs.Due.{Among, IsDueItem, IsDue, IsEndDue, StreamGoes}
+use Rattle.qs_machine.specs.Lawful.{Fills, AcksAll, frame_put}
+use Rattle.qs_machine.specs.Making.{IsText}
 use Rattle.qs_conn.specs.Filling.{end_by, MayGo, stream_frame, InPacket, slot_of, IsPassed, all_items, Flowing, Flow, Packed, Stage}
 use Rattle.qs_conn.proofs.Pieces.{among_more}
 use Rattle.qs_conn.proofs.Items.{fills_push, sum_by_base, known_by_base}

@@ -12,19 +12,19 @@ use Rattle.qs_send.specs.declared.piece.Piece.{Piece}
 use Rattle.qs_send.specs.declared.piece.Piece.TheVariants.{Data, Told}
 use Rattle.qs_send.specs.declared.piece.Item.TheVariants.{MaxData, MaxStreamData, MaxStreams, ResetStream, StopSending, DataBlocked, StreamDataBlocked, StreamsBlocked}
 use Rattle.qs_send.specs.Lane.{SendLane, new_lane, write_lane, finish_lane, reset_lane, reset_refusal, allow_lane, acked_lane, reset_acked_lane}
-use Rattle.qs_conn.specs.declared.settings.PeerLimits.{PeerLimits}
-use Rattle.qs_conn.specs.Settings.{are_spellable}
-use Rattle.qs_conn.specs.Tables.{Tables, no_streams, lookup, updated, open_to, total}
-use Rattle.qs_conn.specs.Recording.{has_too_many, lowest_end}
-use Rattle.qs_conn.specs.Outgoing.{Outgoing, no_packets, with_sends, on_lane, sent_sum, piece_acked_out, without_piece_out, first_acked_out, first_lost_out, pieces_in}
-use Rattle.qs_conn.specs.FrameStep.{AckedPiece}
+use Rattle.qs_calls.specs.declared.settings.PeerLimits.{PeerLimits}
+use Rattle.qs_calls.specs.Settings.{are_spellable}
+use Rattle.qs_machine.specs.Tables.{Tables, no_streams, lookup, updated, open_to, total}
+use Rattle.qs_machine.specs.Recording.{has_too_many, lowest_end}
+use Rattle.qs_machine.specs.Outgoing.{Outgoing, no_packets, with_sends, on_lane, sent_sum, piece_acked_out, without_piece_out, first_acked_out, first_lost_out, pieces_in}
+use Rattle.qs_machine.specs.FrameStep.{AckedPiece}
 use Rattle.qs_conn.specs.Runs.{losses_out, LosesBy, Loses, acks_out, AcksBy, AcksRanges, named_out}
 use Rattle.qs_conn.specs.Filling.{IsFunded}
-use Rattle.qs_conn.proofs.TableLaws.{total_update}
-use Rattle.qs_conn.proofs.RunLaws.{lowest_run, lowest_end_is}
+use Rattle.qs_machine.proofs.TableLaws.{total_update}
+use Rattle.qs_machine.proofs.RunLaws.{lowest_run, lowest_end_is}
 use Rattle.qs_conn.proofs.AckLaws.{count_runs}
 use Rattle.qs_conn.proofs.AckRuns.{all_ranges}
-use Rattle.qs_conn.proofs.Taken.{sum_open}
+use Rattle.qs_machine.proofs.Taken.{sum_open}
 
 -- A new end
 

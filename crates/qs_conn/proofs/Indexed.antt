@@ -5,12 +5,12 @@ use Rattle.qs_send.specs.declared.parts.Chunk.{Chunk}
 use Rattle.qs_send.specs.declared.piece.Item.{Item}
 use Rattle.qs_send.specs.declared.piece.Piece.{Piece}
 use Rattle.qs_send.specs.declared.piece.Piece.TheVariants.{Data, Told}
-use Rattle.qs_conn.specs.Ends.{Records}
-use Rattle.qs_conn.specs.Due.{Among}
-use Rattle.qs_conn.specs.FrameStep.{without_first}
-use Rattle.qs_conn.specs.Outgoing.{Outgoing, IsCarried, IsIndexed, AreBelow, AreApartIn, Apart, first_piece, with_pending}
-use Rattle.qs_conn.proofs.Apart.{gone_apart}
-use Rattle.qs_conn.proofs.Carried.{none_some, IsShorter, shortened_is, with_piece, carried_more, carried_new, carried_is, carried_before, carried_still}
+use Rattle.qs_machine.specs.Ends.{Records}
+use Rattle.qs_machine.specs.Due.{Among}
+use Rattle.qs_machine.specs.FrameStep.{without_first}
+use Rattle.qs_machine.specs.Outgoing.{Outgoing, IsCarried, IsIndexed, AreBelow, AreApartIn, Apart, first_piece, with_pending}
+use Rattle.qs_machine.proofs.Apart.{gone_apart}
+use Rattle.qs_machine.proofs.Carried.{none_some, IsShorter, shortened_is, with_piece, carried_more, carried_new, carried_is, carried_before, carried_still}
 use Rattle.qs_conn.proofs.OutboxMaking.{one_more}
 
 pub told_same : (i j : Item) → Told i ≡ Told j → i ≡ j

@@ -10,14 +10,14 @@ use Rattle.qs_send.specs.declared.piece.Item.{Item}
 use Rattle.qs_send.specs.declared.piece.Item.TheVariants.{MaxData, MaxStreamData, MaxStreams, ResetStream, StopSending, DataBlocked, StreamDataBlocked, StreamsBlocked}
 use Rattle.qs_send.specs.declared.piece.Piece.{Piece}
 use Rattle.qs_send.specs.declared.piece.Piece.TheVariants.{Data, Told}
-use Rattle.qs_conn.specs.Tables.{Tables, lookup, update, updated, table, with_table, each, total}
-use Rattle.qs_conn.specs.Ends.{End, send_lane}
-use Rattle.qs_conn.specs.Credit.{all_sent}
-use Rattle.qs_conn.specs.Seen.{Seen, Ack, Stream, Control, Close, Plain}
-use Rattle.qs_conn.specs.Due.{Among, IsOutstanding, IsAcked, IsCurrent, wanted, known_count}
-use Rattle.qs_conn.specs.Lawful.{Fills, MayPut, frame_put, chunk_of}
+use Rattle.qs_machine.specs.Tables.{Tables, lookup, update, updated, table, with_table, each, total}
+use Rattle.qs_machine.specs.Ends.{End, send_lane}
+use Rattle.qs_machine.specs.Credit.{all_sent}
+use Rattle.qs_machine.specs.Seen.{Seen, Ack, Stream, Control, Close, Plain}
+use Rattle.qs_machine.specs.Due.{Among, IsOutstanding, IsAcked, IsCurrent, wanted, known_count}
+use Rattle.qs_machine.specs.Lawful.{Fills, MayPut, frame_put, chunk_of}
 use Rattle.qs_conn.specs.Filling.{unmarked, base}
-use Rattle.qs_conn.proofs.TableLaws.{lookup_each, total_each}
+use Rattle.qs_machine.proofs.TableLaws.{lookup_each, total_each}
 use Rattle.qs_conn.proofs.Pieces.{put_old, put_is, PieceOfFrame}
 
 -- What rests on the base alone

@@ -3,18 +3,18 @@ use Rattle.std.proofs.Common.{◌≡◌, ℕ, Bool, true, false, not, ◌&&◌, 
 use Rattle.std.proofs.lemmas.Bool.Decides.{nat_tests}
 use Rattle.qs_wire.specs.declared.stream_id.Role.{Role}
 use Rattle.qs_recv.specs.Lane.{RecvLane, new_lane, after_read, stop}
-use Rattle.qs_conn.specs.declared.settings.Settings.{Settings}
-use Rattle.qs_conn.specs.declared.settings.PeerLimits.{PeerLimits}
-use Rattle.qs_conn.specs.declared.settings.SetupFault.TheVariants.{OutOfRange, TooManyStreams}
-use Rattle.qs_conn.specs.declared.closing.Closed.{Closed}
-use Rattle.qs_conn.specs.Settings.{are_in_range, are_spellable, are_countable, setup_fault}
-use Rattle.qs_conn.specs.Tables.{Tables, no_streams, lookup, updated, open_to}
-use Rattle.qs_conn.specs.Ends.{End, new_end, end_unless, window_by}
-use Rattle.qs_conn.specs.Standing.{KeepsCredit}
+use Rattle.qs_calls.specs.declared.settings.Settings.{Settings}
+use Rattle.qs_calls.specs.declared.settings.PeerLimits.{PeerLimits}
+use Rattle.qs_calls.specs.declared.settings.SetupFault.TheVariants.{OutOfRange, TooManyStreams}
+use Rattle.qs_calls.specs.declared.closing.Closed.{Closed}
+use Rattle.qs_calls.specs.Settings.{are_in_range, are_spellable, are_countable, setup_fault}
+use Rattle.qs_machine.specs.Tables.{Tables, no_streams, lookup, updated, open_to}
+use Rattle.qs_machine.specs.Ends.{End, new_end, end_unless, window_by}
+use Rattle.qs_machine.specs.Standing.{KeepsCredit}
 use Rattle.qs_conn.specs.Layers.{IsKept}
-use Rattle.qs_conn.proofs.Sound.{keeps_open}
-use Rattle.qs_conn.proofs.CallsSound.{sound_read, sound_stop}
-use Rattle.qs_conn.proofs.Bounds.{new_ends_sound}
+use Rattle.qs_machine.proofs.Sound.{keeps_open}
+use Rattle.qs_machine.proofs.CallsSound.{sound_read, sound_stop}
+use Rattle.qs_machine.proofs.Bounds.{new_ends_sound}
 
 record AllTrue (a b c : Bool) : Type 0 where
   pub first : a ≡ true

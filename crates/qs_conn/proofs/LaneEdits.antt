@@ -8,11 +8,12 @@ use Rattle.std.proofs.lemmas.List.{append_assoc, length-append}
 use Rattle.std.proofs.Math.Seq.{take-append_seam}
 use Rattle.qs_recv.specs.Lane.{RecvLane, new_lane}
 use Rattle.qs_recv.specs.Lawful.{IsLawful}
-use Rattle.qs_conn.specs.declared.recv_lanes.Tally.{Tally}
+use Rattle.qs_machine.specs.declared.tally.Tally.{Tally}
 use Rattle.qs_conn.specs.declared.recv_lanes.Touched.{Touched}
-use Rattle.qs_conn.specs.Tables.{widened}
-use Rattle.qs_conn.specs.Layers.{changed, tally_of, moved, IsPaid, AreSettled, AreCounted}
-use Rattle.qs_conn.proofs.Tallies.{tally_set, each_paid, lawful_set, lawful_append, lawful_begun, tally_opened}
+use Rattle.qs_machine.specs.Tables.{widened}
+use Rattle.qs_machine.specs.Sums.{changed, tally_of, moved, IsPaid}
+use Rattle.qs_conn.specs.Layers.{AreSettled, AreCounted}
+use Rattle.qs_machine.proofs.Tallies.{tally_set, each_paid, lawful_set, lawful_append, lawful_begun, tally_opened}
 use Rattle.qs_conn.proofs.Settling.{are_opened}
 
 pub paid_of : (xs : List RecvLane) (t : Tally) (touched : Touched) → AreCounted xs t touched → IsPaid t

@@ -4,9 +4,10 @@ use Rattle.std.specs.List.{range_with_len}
 use Rattle.std.proofs.lemmas.List.Edits.{map_over_more}
 use Rattle.std.proofs.lemmas.Option.{none-some, same_Some, slice_get_past}
 use Rattle.qs_recv.specs.Lane.{RecvLane, new_lane, raise}
-use Rattle.qs_conn.specs.declared.recv_lanes.Tally.{Tally}
+use Rattle.qs_machine.specs.declared.tally.Tally.{Tally}
 use Rattle.qs_conn.specs.declared.recv_lanes.Touched.{Touched}
-use Rattle.qs_conn.specs.Layers.{changed, AreCounted}
+use Rattle.qs_machine.specs.Sums.{changed}
+use Rattle.qs_conn.specs.Layers.{AreCounted}
 use Rattle.qs_conn.specs.Marks.{AreMarked, IsBefore, IsNextMark, IsQuietLane}
 use Rattle.qs_conn.proofs.Marked.{more_opened, quiet_between, weaker}
 

@@ -6,15 +6,15 @@ use Rattle.std.proofs.lemmas.List.{length-take-le}
 use Rattle.std.specs.FinMap as fmap
 use Rattle.qs_ranges.specs.Numbers.{MAX_VARINT}
 use Rattle.qs_send.specs.declared.piece.Piece.{Piece}
-use Rattle.qs_conn.specs.declared.making.MakeFault.TheVariants as making
+use Rattle.qs_calls.specs.declared.making.MakeFault.TheVariants as making
 use Rattle.qs_conn.specs.declared.terms.Terms.{Terms}
-use Rattle.qs_conn.specs.Ends.{End}
-use Rattle.qs_conn.specs.Credit.{settle}
-use Rattle.qs_conn.specs.Seen.{Seen, seen_all}
-use Rattle.qs_conn.specs.Due.{Among, Sendable}
-use Rattle.qs_conn.specs.Lawful.{Fills, frame_put}
-use Rattle.qs_conn.specs.Making.{IsMade, MakeAt, MakeStep, make_refusal}
-use Rattle.qs_conn.specs.Outgoing.{Outgoing, sent_sum, with_outgoing}
+use Rattle.qs_machine.specs.Ends.{End}
+use Rattle.qs_machine.specs.Credit.{settle}
+use Rattle.qs_machine.specs.Seen.{Seen, seen_all}
+use Rattle.qs_machine.specs.Due.{Among, Sendable}
+use Rattle.qs_machine.specs.Lawful.{Fills, frame_put}
+use Rattle.qs_machine.specs.Making.{IsMade, MakeAt, MakeStep, make_refusal}
+use Rattle.qs_machine.specs.Outgoing.{Outgoing, sent_sum, with_outgoing}
 use Rattle.qs_conn.specs.Filling.{InPacket, end_by, Packed}
 use Rattle.qs_conn.proofs.Pieces.{put_next}
 use Rattle.qs_conn.proofs.Stages.{packed_none, packed_some}

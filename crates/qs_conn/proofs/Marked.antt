@@ -8,9 +8,9 @@ use Rattle.std.proofs.lemmas.List.{length-append, length-take}
 use Rattle.std.proofs.lemmas.List.FromFn.{length-map-range_with_len}
 use Rattle.std.proofs.lemmas.Option.{none-some, same_Some}
 use Rattle.qs_conn.specs.Marks.{is_marked, AreMarked, IsBefore, IsNextMark, HaveTo, least_of}
-use Rattle.qs_conn.specs.Layers.{tables_of}
-use Rattle.qs_conn.specs.Tables.{Tables, kind_of, lookup}
-use Rattle.qs_conn.proofs.TableEdits.{lookup_is}
+use Rattle.qs_machine.specs.Sums.{tables_of}
+use Rattle.qs_machine.specs.Tables.{Tables, kind_of, lookup}
+use Rattle.qs_machine.proofs.TableEdits.{lookup_is}
 
 pub mark_past : (ms : List Bool) (i : ℕ) → length ms ≤ i → is_marked ms i ≡ false
 mark_past [] i le = refl

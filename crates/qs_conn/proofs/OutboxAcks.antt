@@ -9,17 +9,17 @@ use Rattle.qs_send.specs.declared.piece.Piece.TheVariants.{Data, Told}
 use Rattle.qs_send.specs.Lane.{SendLane, Sending, acked_lane, reset_acked_lane, after_acked, after_lost, after_reset_acked, lost_due, state}
 use Rattle.qs_send.specs.declared.parts.SendState.{SendState}
 use Rattle.qs_send.specs.declared.parts.SendState.TheVariants.{ResetSent, ResetRecvd}
-use Rattle.qs_conn.specs.Tables.{Tables, lookup, update, updated}
+use Rattle.qs_machine.specs.Tables.{Tables, lookup, update, updated}
 use Rattle.qs_send.specs.LostRecords.{without_number}
-use Rattle.qs_conn.specs.Ends.{Records, AckedItems, LostPackets, lost_with, lost_less}
-use Rattle.qs_conn.specs.FrameStep.{without_first}
-use Rattle.qs_conn.specs.Outgoing.{Outgoing, sent_sum, lanes_of, with_pending, AreBelow, AreTied, IsOutbox, IsSentPiece, IsOfReset, IsIdle, IsCarried, first_piece, acked_at, piece_acked_out, first_acked_out, first_lost_out, shorter, halves_acked, items_acked, halves_lost}
-use Rattle.qs_conn.proofs.TableLaws.{total_update}
-use Rattle.qs_conn.proofs.Carried.{none_some, some_is, IsShorter, shortened_is, first_carried, get_new}
-use Rattle.qs_conn.proofs.Tied.{tied_late, tied_reset_acked}
-use Rattle.qs_conn.proofs.LaneTables.{lookup_lanes, lane_there, half_of, lanes_updated, update_lanes}
+use Rattle.qs_machine.specs.Ends.{Records, AckedItems, LostPackets, lost_with, lost_less}
+use Rattle.qs_machine.specs.FrameStep.{without_first}
+use Rattle.qs_machine.specs.Outgoing.{Outgoing, sent_sum, lanes_of, with_pending, AreBelow, AreTied, IsOutbox, IsSentPiece, IsOfReset, IsIdle, IsCarried, first_piece, acked_at, piece_acked_out, first_acked_out, first_lost_out, shorter, halves_acked, items_acked, halves_lost}
+use Rattle.qs_machine.proofs.TableLaws.{total_update}
+use Rattle.qs_machine.proofs.Carried.{none_some, some_is, IsShorter, shortened_is, first_carried, get_new}
+use Rattle.qs_machine.proofs.Tied.{tied_late, tied_reset_acked}
+use Rattle.qs_machine.proofs.LaneTables.{lookup_lanes, lane_there, half_of, lanes_updated, update_lanes}
 use Rattle.qs_conn.proofs.Outboxes.{stays, update_itself, box_sends}
-use Rattle.qs_conn.proofs.Ties.{ties_updated, ties_acked, ties_lost, ties_item_gone}
+use Rattle.qs_machine.proofs.Ties.{ties_updated, ties_acked, ties_lost, ties_item_gone}
 
 -- No packet is in the making
 

@@ -18,15 +18,15 @@ use Rattle.qs_send.specs.declared.piece.Piece.TheVariants.{Data, Told}
 use Rattle.qs_send.specs.Lane.{SendLane, Sending, sent_lane, blocked_lane, after_sent, after_blocked}
 use Rattle.qs_send.specs.Chunks.{IsDueChunk, IsNextChunk, HasNoChunk, HasBytes}
 use Rattle.qs_send.specs.Sound.{IsLawful}
-use Rattle.qs_conn.specs.Tables.{Tables, lookup, update, updated}
-use Rattle.qs_conn.specs.Ends.{Records}
-use Rattle.qs_conn.specs.Outgoing.{Outgoing, on_lane, sent_sum, lanes_of, with_pending, IsCarried, AreBelow, AreTied, IsTied, IsOutbox, HasSending, ChunkFound, MayTell, chunk_put, item_put_out, halves_told, blocked_noted}
-use Rattle.qs_conn.specs.Layers.{or_none}
-use Rattle.qs_conn.proofs.TableLaws.{total_update, lookup_same}
-use Rattle.qs_conn.proofs.Carried.{some_is, get_new, get_other, with_piece}
-use Rattle.qs_conn.proofs.Tied.{tied_blocked}
-use Rattle.qs_conn.proofs.LaneTables.{lane_there, lanes_updated, update_lanes}
-use Rattle.qs_conn.proofs.Ties.{ties_updated, ties_chunk_put, ties_item_put}
+use Rattle.qs_machine.specs.Tables.{Tables, lookup, update, updated}
+use Rattle.qs_machine.specs.Ends.{Records}
+use Rattle.qs_machine.specs.Outgoing.{Outgoing, on_lane, sent_sum, lanes_of, with_pending, IsCarried, AreBelow, AreTied, IsTied, IsOutbox, HasSending, ChunkFound, MayTell, chunk_put, item_put_out, halves_told, blocked_noted}
+use Rattle.qs_machine.specs.Sums.{or_none}
+use Rattle.qs_machine.proofs.TableLaws.{total_update, lookup_same}
+use Rattle.qs_machine.proofs.Carried.{some_is, get_new, get_other, with_piece}
+use Rattle.qs_machine.proofs.Tied.{tied_blocked}
+use Rattle.qs_machine.proofs.LaneTables.{lane_there, lanes_updated, update_lanes}
+use Rattle.qs_machine.proofs.Ties.{ties_updated, ties_chunk_put, ties_item_put}
 use Rattle.qs_conn.proofs.OutboxAcks.{none_above}
 
 pub chunk_found : (s : Sending) (room fresh : ℕ) (r : Option Chunk) → IfSome r (IsNextChunk s room fresh) → IfNone r (HasNoChunk s room fresh) → IfSome r (HasBytes s.lane) → ChunkFound s room fresh r

@@ -9,17 +9,17 @@ use Rattle.qs_send.specs.declared.parts.SendFault.TheVariants.{NoMemory}
 use Rattle.qs_send.specs.declared.piece.Piece.{Piece}
 use Rattle.qs_send.specs.Lane.{SendLane, Sending, new_sending, new_lane, accepted, refusal, reset_refusal, answer_of, write_lane, finish_lane, after_write, after_finish, after_reset, after_allow}
 use Rattle.qs_send.specs.Sound.{IsLawful}
-use Rattle.qs_conn.specs.Tables.{Tables, table, with_table, lookup, update, updated, open_to, no_streams, total}
-use Rattle.qs_conn.specs.Ends.{Records}
-use Rattle.qs_conn.specs.declared.report.SendReport.{SendReport}
-use Rattle.qs_conn.specs.Reports.{send_report}
-use Rattle.qs_conn.specs.Layers.{or_none, or_no_sending}
-use Rattle.qs_conn.specs.Outgoing.{Outgoing, with_sends, on_lane, sent_sum, lanes_of, with_pending, AreOfOpen, AreTied, IsTied, IsOutbox, HasSending}
-use Rattle.qs_conn.proofs.TableLaws.{total_update, total_open}
-use Rattle.qs_conn.proofs.Carried.{some_is}
-use Rattle.qs_conn.proofs.Tied.{tied_write, tied_finish, tied_reset, tied_allow, tied_flight}
-use Rattle.qs_conn.proofs.LaneTables.{lookup_lanes, lane_there, lanes_updated, lanes_opened, lanes_closed, update_lanes}
-use Rattle.qs_conn.proofs.Ties.{ties_none, ties_updated, ties_opened, ties_closed}
+use Rattle.qs_machine.specs.Tables.{Tables, table, with_table, lookup, update, updated, open_to, no_streams, total}
+use Rattle.qs_machine.specs.Ends.{Records}
+use Rattle.qs_calls.specs.declared.report.SendReport.{SendReport}
+use Rattle.qs_machine.specs.Reports.{send_report}
+use Rattle.qs_machine.specs.Sums.{or_none, or_no_sending}
+use Rattle.qs_machine.specs.Outgoing.{Outgoing, with_sends, on_lane, sent_sum, lanes_of, with_pending, AreOfOpen, AreTied, IsTied, IsOutbox, HasSending}
+use Rattle.qs_machine.proofs.TableLaws.{total_update, total_open}
+use Rattle.qs_machine.proofs.Carried.{some_is}
+use Rattle.qs_machine.proofs.Tied.{tied_write, tied_finish, tied_reset, tied_allow, tied_flight}
+use Rattle.qs_machine.proofs.LaneTables.{lookup_lanes, lane_there, lanes_updated, lanes_opened, lanes_closed, update_lanes}
+use Rattle.qs_machine.proofs.Ties.{ties_none, ties_updated, ties_opened, ties_closed}
 
 -- Tables
 

@@ -6,14 +6,15 @@ use Rattle.qs_recv.specs.declared.half.Read.{Read}
 use Rattle.qs_send.specs.Lane.{SendLane, accepted, refusal, reset_refusal, answer_of, write_lane, finish_lane, reset_lane}
 use Rattle.qs_send.specs.declared.parts.SendFault.{SendFault}
 use Rattle.qs_send.specs.declared.parts.SendFault.TheVariants as sends
-use Rattle.qs_conn.specs.declared.uses.UseFault.{UseFault}
-use Rattle.qs_conn.specs.declared.uses.UseFault.TheVariants.{Closed, NoMemory}
-use Rattle.qs_conn.specs.Tables.{Tables, updated}
-use Rattle.qs_conn.specs.Ends.{End, send_lane, recv_lane, on_send}
-use Rattle.qs_conn.specs.Credit.{settle}
-use Rattle.qs_conn.specs.Verdicts.{or_new}
-use Rattle.qs_conn.specs.Owner.{Certain, Uncertain, first_refusal, refuse_if, no_half, half_refusal, use_fault, send_refusal, recv_refusal, WriteStep, FinishStep, ResetStep, StopStep, ReadStep}
-use Rattle.qs_conn.specs.Layers.{no_sender, no_receiver, or_none}
+use Rattle.qs_calls.specs.declared.uses.UseFault.{UseFault}
+use Rattle.qs_calls.specs.declared.uses.UseFault.TheVariants.{Closed, NoMemory}
+use Rattle.qs_machine.specs.Tables.{Tables, updated}
+use Rattle.qs_machine.specs.Ends.{End, send_lane, recv_lane, on_send}
+use Rattle.qs_machine.specs.Credit.{settle}
+use Rattle.qs_machine.specs.Verdicts.{or_new}
+use Rattle.qs_machine.specs.Owner.{Certain, Uncertain, first_refusal, refuse_if, no_half, half_refusal, use_fault, send_refusal, recv_refusal, WriteStep, FinishStep, ResetStep, StopStep, ReadStep}
+use Rattle.qs_machine.specs.Sums.{or_none}
+use Rattle.qs_conn.specs.Layers.{no_sender, no_receiver}
 
 -- A refusal, and no refusal
 

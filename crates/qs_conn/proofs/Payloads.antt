@@ -3,12 +3,12 @@ use Rattle.std.proofs.Common.{◌≡◌, ℕ, ◌≤◌, Bool, false, List, Opti
 use Rattle.std.proofs.lemmas.Bool.Decides.{nat_tests}
 use Rattle.std.specs.Prelude.{MatchBool, nat_lt}
 use Rattle.std.specs.FinSet as set
-use Rattle.qs_conn.specs.declared.closing.Closing.{Closing}
-use Rattle.qs_conn.specs.declared.closing.Closed.{Closed}
-use Rattle.qs_conn.specs.declared.closing.Received.{Received}
-use Rattle.qs_conn.specs.Ends.{End}
-use Rattle.qs_conn.specs.Credit.{settle}
-use Rattle.qs_conn.specs.Receiving.{ReceiveBy, ReceiveStep, OpenReceive, TakesPayload}
+use Rattle.qs_calls.specs.declared.closing.Closing.{Closing}
+use Rattle.qs_calls.specs.declared.closing.Closed.{Closed}
+use Rattle.qs_calls.specs.declared.closing.Received.{Received}
+use Rattle.qs_machine.specs.Ends.{End}
+use Rattle.qs_machine.specs.Credit.{settle}
+use Rattle.qs_machine.specs.Receiving.{ReceiveBy, ReceiveStep, OpenReceive, TakesPayload}
 
 at_none : (c : Option Closed) (number : ℕ) (payload : List ℕ) (old : End) (result : Result Received Closing) (new : End) → c ≡ None
     → OpenReceive number payload old result new → ReceiveBy c number payload old result new

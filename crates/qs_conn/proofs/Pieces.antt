@@ -11,10 +11,10 @@ use Rattle.qs_send.specs.declared.piece.Item.{Item}
 use Rattle.qs_send.specs.declared.piece.Item.TheVariants.{MaxData, MaxStreamData, MaxStreams, ResetStream, StopSending, DataBlocked, StreamDataBlocked, StreamsBlocked}
 use Rattle.qs_send.specs.declared.piece.Piece.{Piece}
 use Rattle.qs_send.specs.declared.piece.Piece.TheVariants.{Data, Told}
-use Rattle.qs_conn.specs.Ends.{End, on_send}
-use Rattle.qs_conn.specs.Seen.{Seen, Ack, Stream, Control, Close, Plain}
-use Rattle.qs_conn.specs.Due.{Among, IsOutstanding, IsDue, IsEndDue}
-use Rattle.qs_conn.specs.Lawful.{frame_put, item_put, noted, pieces_so_far, chunk_of}
+use Rattle.qs_machine.specs.Ends.{End, on_send}
+use Rattle.qs_machine.specs.Seen.{Seen, Ack, Stream, Control, Close, Plain}
+use Rattle.qs_machine.specs.Due.{Among, IsOutstanding, IsDue, IsEndDue}
+use Rattle.qs_machine.specs.Lawful.{frame_put, item_put, noted, pieces_so_far, chunk_of}
 use Rattle.qs_conn.specs.Filling.{InPacket}
 
 -- Where less is outstanding, more is due.

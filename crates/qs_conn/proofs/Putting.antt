@@ -12,13 +12,13 @@ use Rattle.qs_conn.specs.declared.slot.Slot.{Slot}
 use Rattle.qs_conn.specs.declared.slot.Kind.{Kind}
 use Rattle.qs_conn.specs.declared.terms.Terms.{Terms}
 use Rattle.qs_send.specs.Lane.{SendLane, blocked_lane}
-use Rattle.qs_conn.proofs.TableLaws.{total_update}
-use Rattle.qs_conn.specs.Tables.{Tables, lookup, updated}
-use Rattle.qs_conn.specs.Ends.{End}
-use Rattle.qs_conn.specs.Seen.{Control}
-use Rattle.qs_conn.specs.Due.{IsCurrent, IsCovered}
-use Rattle.qs_conn.specs.Lawful.{frame_put}
-use Rattle.qs_conn.specs.Outgoing.{Outgoing, item_put_out, sent_sum}
+use Rattle.qs_machine.proofs.TableLaws.{total_update}
+use Rattle.qs_machine.specs.Tables.{Tables, lookup, updated}
+use Rattle.qs_machine.specs.Ends.{End}
+use Rattle.qs_machine.specs.Seen.{Control}
+use Rattle.qs_machine.specs.Due.{IsCurrent, IsCovered}
+use Rattle.qs_machine.specs.Lawful.{frame_put}
+use Rattle.qs_machine.specs.Outgoing.{Outgoing, item_put_out, sent_sum}
 use Rattle.qs_conn.specs.Filling.{slot_of, slot_at, frame_of_item, end_by, IsCurrentIn, PutsItem, Begun, Packed, Passed, and_slot, and_kind, and_below, IsPassed, Stage}
 use Rattle.qs_conn.specs.Marks.{IsIdle}
 use Rattle.qs_conn.proofs.Stages.{begun_idle, begun_fewer, begun_absent, begun_covered, begun_item, begun_too_long}

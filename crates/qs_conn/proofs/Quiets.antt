@@ -10,16 +10,16 @@ use Rattle.qs_conn.specs.declared.slot.Slot.TheVariants as slots
 use Rattle.qs_conn.specs.declared.slot.Kind.{Kind}
 use Rattle.qs_conn.specs.declared.slot.Kind.TheVariants as kinds
 use Rattle.qs_conn.specs.declared.terms.Terms.{Terms}
-use Rattle.qs_conn.specs.declared.settings.Settings.{Settings}
+use Rattle.qs_calls.specs.declared.settings.Settings.{Settings}
 use Rattle.qs_wire.specs.declared.stream_id.Role.{Role}
-use Rattle.qs_conn.specs.Tables.{Tables, kind_of, lookup}
-use Rattle.qs_conn.specs.Ends.{End, window_by, role_bit}
-use Rattle.qs_conn.specs.Due.{IsCurrent, IsCovered, IsDue, IsEndDue, StreamGoes}
-use Rattle.qs_conn.specs.Outgoing.{Outgoing, IsTied, WantsMore, lanes_of}
+use Rattle.qs_machine.specs.Tables.{Tables, kind_of, lookup}
+use Rattle.qs_machine.specs.Ends.{End, window_by, role_bit}
+use Rattle.qs_machine.specs.Due.{IsCurrent, IsCovered, IsDue, IsEndDue, StreamGoes}
+use Rattle.qs_machine.specs.Outgoing.{Outgoing, IsTied, WantsMore, lanes_of}
 use Rattle.qs_conn.specs.Filling.{end_by, slot_at, AnyWantsMore}
 use Rattle.qs_conn.specs.Marks.{IsQuiet, IsQuietAt, IsIdle, IsQuietLane, IsBefore, HaveTo, least_of}
 use Rattle.qs_conn.proofs.DueTied.{is_due, is_end_due}
-use Rattle.qs_conn.proofs.LaneTables.{lookup_lanes}
+use Rattle.qs_machine.proofs.LaneTables.{lookup_lanes}
 use Rattle.qs_conn.proofs.Slots.{of_reset_stream, of_stream_data_blocked, of_stop_sending, of_max_stream_data, stop_of}
 use Rattle.qs_conn.proofs.Marked.{by_kinds}
 

@@ -7,11 +7,11 @@ use Rattle.qs_recv.specs.declared.half.Highest.{Highest}
 use Rattle.qs_recv.specs.declared.half.RecvFault.{RecvFault}
 use Rattle.qs_recv.specs.declared.half.RecvFault.TheVariants.{FinalSize, StreamCredit, NoMemory, ChangedByte}
 use Rattle.qs_wire.specs.Layout.{PlacedValue}
-use Rattle.qs_conn.specs.declared.closing.Received.TheVariants as received
-use Rattle.qs_conn.specs.Ends.{End, is_own, is_uni}
-use Rattle.qs_conn.specs.Seen.{Seen, Ack, Stream, Control, Close, Plain}
-use Rattle.qs_conn.specs.Verdicts.{STREAM_LIMIT_ERROR, STREAM_STATE_ERROR, verdict, or_else, fault_if, state_fault_in, state_fault_out, credit_fault, bytes_fault, fault_code, fault_of, lane_of}
-use Rattle.qs_conn.specs.Receiving.{Stops, RunsOut}
+use Rattle.qs_calls.specs.declared.closing.Received.TheVariants as received
+use Rattle.qs_machine.specs.Ends.{End, is_own, is_uni}
+use Rattle.qs_machine.specs.Seen.{Seen, Ack, Stream, Control, Close, Plain}
+use Rattle.qs_machine.specs.Verdicts.{STREAM_LIMIT_ERROR, STREAM_STATE_ERROR, verdict, or_else, fault_if, state_fault_in, state_fault_out, credit_fault, bytes_fault, fault_code, fault_of, lane_of}
+use Rattle.qs_machine.specs.Receiving.{Stops, RunsOut}
 use Rattle.qs_conn.specs.Layers.{close_code}
 
 -- A code with which a frame may close the connection.

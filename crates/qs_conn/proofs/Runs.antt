@@ -6,17 +6,17 @@ use Rattle.std.specs.FinMap as fmap
 use Rattle.qs_ranges.specs.declared.NoMemory.{NoMemory}
 use Rattle.qs_send.specs.declared.piece.Piece.{Piece}
 use Rattle.qs_send.specs.Records.{NoneEmpty, first_piece, without_first}
-use Rattle.qs_conn.specs.declared.making.LostFault.{LostFault}
-use Rattle.qs_conn.specs.declared.making.LostFault.TheVariants as losing
-use Rattle.qs_conn.specs.declared.closing.Closed.{Closed}
-use Rattle.qs_conn.specs.Ends.{End, Records}
-use Rattle.qs_conn.specs.Owner.{first_refusal, refuse_if}
-use Rattle.qs_conn.specs.Making.{LoseStep, lose_refusal, losses}
-use Rattle.qs_conn.specs.Outgoing.{Outgoing, with_outgoing, with_sends, first_lost_out, no_packets, pieces_in, IsIdle}
+use Rattle.qs_calls.specs.declared.making.LostFault.{LostFault}
+use Rattle.qs_calls.specs.declared.making.LostFault.TheVariants as losing
+use Rattle.qs_calls.specs.declared.closing.Closed.{Closed}
+use Rattle.qs_machine.specs.Ends.{End, Records}
+use Rattle.qs_machine.specs.Owner.{first_refusal, refuse_if}
+use Rattle.qs_machine.specs.Making.{LoseStep, lose_refusal, losses}
+use Rattle.qs_machine.specs.Outgoing.{Outgoing, with_outgoing, with_sends, first_lost_out, no_packets, pieces_in, IsIdle}
 use Rattle.qs_conn.specs.Runs.{losses_out, pieces_left, LosesBy, Loses}
-use Rattle.qs_conn.specs.Tables.{Tables}
+use Rattle.qs_machine.specs.Tables.{Tables}
 use Rattle.qs_send.specs.Lane.{SendLane}
-use Rattle.qs_conn.proofs.Carried.{none_some, some_is, get_new, get_removed}
+use Rattle.qs_machine.proofs.Carried.{none_some, some_is, get_new, get_removed}
 
 -- Losses
 

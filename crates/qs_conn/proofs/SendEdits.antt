@@ -9,7 +9,7 @@ use Rattle.std.proofs.lemmas.Bool.{true≢false}
 use Rattle.std.proofs.lemmas.List.{get_or_default}
 use Rattle.qs_send.specs.declared.parts.SendFault.{SendFault}
 use Rattle.qs_send.specs.Lane.{Sending, new_sending, accepted, refusal, after_write}
-use Rattle.qs_conn.specs.Layers.{changed, no_sending}
+use Rattle.qs_machine.specs.Sums.{changed, no_sending}
 use Rattle.qs_conn.specs.Marks.{IsQuiet}
 use Rattle.qs_conn.proofs.LaneEdits.{changed_at}
 

@@ -10,7 +10,8 @@ use Rattle.qs_recv.specs.Lane.{RecvLane, new_lane, raise, next_limit, take_strea
 use Rattle.qs_recv.specs.Lawful.{IsLawful}
 use Rattle.qs_conn.specs.declared.recv_lanes.Touched.{Touched}
 use Rattle.qs_conn.specs.declared.recv_lanes.Touched.TheVariants.{Nothing, Lane, Several}
-use Rattle.qs_conn.specs.Layers.{changed, IsSettled, EachSettled, SettledBut, AreSettled, touch}
+use Rattle.qs_machine.specs.Sums.{changed}
+use Rattle.qs_conn.specs.Layers.{IsSettled, EachSettled, SettledBut, AreSettled, touch}
 
 -- One lane
 

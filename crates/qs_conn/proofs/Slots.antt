@@ -11,15 +11,16 @@ use Rattle.qs_send.specs.declared.piece.Item.TheVariants.{MaxData, MaxStreamData
 use Rattle.qs_conn.specs.declared.slot.Kind.{Kind}
 use Rattle.qs_conn.specs.declared.slot.Kind.TheVariants as kinds
 use Rattle.qs_conn.specs.declared.terms.Terms.{Terms}
-use Rattle.qs_conn.specs.Seen.{Control}
-use Rattle.qs_conn.specs.Lawful.{frame_put}
+use Rattle.qs_machine.specs.Seen.{Control}
+use Rattle.qs_machine.specs.Lawful.{frame_put}
 use Rattle.qs_conn.specs.declared.slot.Slot.TheVariants as slots
-use Rattle.qs_conn.specs.Tables.{Tables, lookup, table}
-use Rattle.qs_conn.specs.Ends.{End, send_lane, recv_lane, window}
-use Rattle.qs_conn.specs.Credit.{all_sent}
-use Rattle.qs_conn.specs.Due.{IsCurrent, IsAcked, WantsCredit, wanted, known_count}
-use Rattle.qs_conn.specs.Layers.{or_none, limit_to_tell, stop_to_tell}
-use Rattle.qs_conn.specs.Outgoing.{Outgoing, IsBlockedAt, WantsMore, MayTell, IsOfReset, IsAckedOut, IsAckedReset, item_put_out}
+use Rattle.qs_machine.specs.Tables.{Tables, lookup, table}
+use Rattle.qs_machine.specs.Ends.{End, send_lane, recv_lane, window}
+use Rattle.qs_machine.specs.Credit.{all_sent}
+use Rattle.qs_machine.specs.Due.{IsCurrent, IsAcked, WantsCredit, wanted, known_count}
+use Rattle.qs_machine.specs.Sums.{or_none}
+use Rattle.qs_conn.specs.Layers.{limit_to_tell, stop_to_tell}
+use Rattle.qs_machine.specs.Outgoing.{Outgoing, IsBlockedAt, WantsMore, MayTell, IsOfReset, IsAckedOut, IsAckedReset, item_put_out}
 use Rattle.qs_conn.specs.Filling.{slot_of, slot_at, end_by, IsCurrentIn, AnyWantsMore}
 
 -- What is of a slot

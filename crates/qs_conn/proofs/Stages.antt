@@ -10,12 +10,12 @@ use Rattle.qs_send.specs.declared.parts.Chunk.{Chunk}
 use Rattle.qs_send.specs.declared.piece.Piece.{Piece}
 use Rattle.qs_send.specs.declared.piece.Piece.TheVariants.{Data, Told}
 use Rattle.qs_conn.specs.declared.slot.Slot.{Slot}
-use Rattle.qs_conn.specs.Ends.{End}
-use Rattle.qs_conn.specs.Credit.{all_sent, settle}
-use Rattle.qs_conn.specs.Seen.{Seen, Ack, Stream, Control, Close, Plain, seen, seen_all}
-use Rattle.qs_conn.specs.Due.{Among, IsCurrent, IsCovered, IsDueItem, StreamGoes, Sendable}
-use Rattle.qs_conn.specs.Lawful.{Fills, AcksAll, IsWhole, frame_put}
-use Rattle.qs_conn.specs.Making.{IsMade}
+use Rattle.qs_machine.specs.Ends.{End}
+use Rattle.qs_machine.specs.Credit.{all_sent, settle}
+use Rattle.qs_machine.specs.Seen.{Seen, Ack, Stream, Control, Close, Plain, seen, seen_all}
+use Rattle.qs_machine.specs.Due.{Among, IsCurrent, IsCovered, IsDueItem, StreamGoes, Sendable}
+use Rattle.qs_machine.specs.Lawful.{Fills, AcksAll, IsWhole, frame_put}
+use Rattle.qs_machine.specs.Making.{IsMade}
 use Rattle.qs_conn.specs.Filling.{InPacket, slot_of, frame_of_item, no_slot, IsPassed, Begun, Packed}
 use Rattle.qs_conn.proofs.Pieces.{put_packet, among_more, among_last, due_more, end_due_more, item_ack_due}
 use Rattle.qs_conn.proofs.Items.{current_by_base, acked_by_base, sum_by_base, known_by_base, base_item, fills_push, out_old, out_is}

@@ -8,12 +8,12 @@ use Rattle.qs_send.specs.declared.parts.SendState.TheVariants.{Ready, Send, Data
 use Rattle.qs_send.specs.declared.piece.Item.{Item}
 use Rattle.qs_send.specs.declared.piece.Item.TheVariants.{MaxData, MaxStreamData, MaxStreams, ResetStream, StopSending, DataBlocked, StreamDataBlocked, StreamsBlocked}
 use Rattle.qs_send.specs.Lane.{SendLane, Sending, state, declared_size, size_of}
-use Rattle.qs_conn.specs.Tables.{Tables, lookup}
-use Rattle.qs_conn.specs.Layers.{or_none}
-use Rattle.qs_conn.specs.Told.{IsNoted}
-use Rattle.qs_conn.specs.Outgoing.{Outgoing, lanes_of, IsAckedOut, IsAckedReset, IsBlockedAt, WantsMore, reset_by}
-use Rattle.qs_conn.proofs.Carried.{none_some, some_is}
-use Rattle.qs_conn.proofs.LaneTables.{lane_there}
+use Rattle.qs_machine.specs.Tables.{Tables, lookup}
+use Rattle.qs_machine.specs.Sums.{or_none}
+use Rattle.qs_machine.specs.Told.{IsNoted}
+use Rattle.qs_machine.specs.Outgoing.{Outgoing, lanes_of, IsAckedOut, IsAckedReset, IsBlockedAt, WantsMore, reset_by}
+use Rattle.qs_machine.proofs.Carried.{none_some, some_is}
+use Rattle.qs_machine.proofs.LaneTables.{lane_there}
 use Rattle.qs_conn.proofs.Outboxes.{open_now}
 
 pub no_lookup : (e now : Outgoing) (t : Tables Sending) (n : ℕ) → e ≡ now → e.sends ≡ lanes_of t → is_some (lookup t n) ≡ false → lookup now.sends n ≡ None

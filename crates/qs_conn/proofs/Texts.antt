@@ -13,8 +13,8 @@ use Rattle.qs_wire.proofs.Numbers.{short_most, short_positive}
 use Rattle.qs_wire.proofs.PairLaws.{last_below, text_more_len, length-ack_take, lies_below, last_le}
 use Rattle.qs_send.specs.declared.piece.Item.{Item}
 use Rattle.qs_send.specs.declared.piece.Item.TheVariants.{MaxData, MaxStreamData, MaxStreams, ResetStream, StopSending, DataBlocked, StreamDataBlocked, StreamsBlocked}
-use Rattle.qs_conn.specs.Seen.{Control, seen, seen_all}
-use Rattle.qs_conn.specs.Making.{IsText, IsPlainAck}
+use Rattle.qs_machine.specs.Seen.{Control, seen, seen_all}
+use Rattle.qs_machine.specs.Making.{IsText, IsPlainAck}
 use Rattle.qs_conn.specs.Filling.{frame_of_item}
 
 all_push : {X : Type 0} (P : X → Type 0) (xs : List X) (x : X) → AllByRecursion P xs → P x → AllByRecursion P (xs ++ x ∷ [])

@@ -15,10 +15,10 @@ use Rattle.qs_ranges.specs.Numbers.{NumberSet, numbers, is_within, contains-with
 use Rattle.qs_wire.specs.declared.stream_id.Dir.TheVariants.{Bidi, Uni}
 use Rattle.qs_send.specs.declared.piece.Item.{Item}
 use Rattle.qs_send.specs.declared.piece.Item.TheVariants.{MaxData, MaxStreamData, MaxStreams, ResetStream, StopSending, DataBlocked, StreamDataBlocked, StreamsBlocked}
-use Rattle.qs_conn.specs.Ends.{End}
-use Rattle.qs_conn.specs.FrameStep.{or_zero, item_acked, with_acked}
-use Rattle.qs_conn.specs.Due.{IsAcked}
-use Rattle.qs_conn.specs.Told.{item_noted, IsNoted}
+use Rattle.qs_machine.specs.Ends.{End}
+use Rattle.qs_machine.specs.FrameStep.{or_zero, item_acked, with_acked}
+use Rattle.qs_machine.specs.Due.{IsAcked}
+use Rattle.qs_machine.specs.Told.{item_noted, IsNoted}
 
 find-lookup : (es : List (ℕ × ℕ)) (q : ℕ) → fmap.find nat_cmp q es ≡ lookup (is_at (nat_cmp q)) es
 find-lookup [] q = refl

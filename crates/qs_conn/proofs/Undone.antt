@@ -1,12 +1,12 @@
 -- Streams that were opened are closed again: the sending side is as before.
 use Rattle.std.proofs.Common.{◌≡◌, ℕ, ◌%◌, Bool, true, false, length, take, cond, refl, sym, ap, ◌∙◌, subst}
 use Rattle.qs_send.specs.Lane.{SendLane, new_lane}
-use Rattle.qs_conn.specs.Tables.{Tables, table, with_table, open_to}
-use Rattle.qs_conn.specs.Ends.{End, Records, is_own, opens, opened_by_peer, first_send_limit}
-use Rattle.qs_conn.specs.Outgoing.{Outgoing, with_sends, sent_sum, AreOfOpen}
-use Rattle.qs_conn.proofs.TableLaws.{total_open}
-use Rattle.qs_conn.proofs.TableEdits.{opened_closed}
-use Rattle.qs_conn.proofs.Taken.{mid_sends}
+use Rattle.qs_machine.specs.Tables.{Tables, table, with_table, open_to}
+use Rattle.qs_machine.specs.Ends.{End, Records, is_own, opens, opened_by_peer, first_send_limit}
+use Rattle.qs_machine.specs.Outgoing.{Outgoing, with_sends, sent_sum, AreOfOpen}
+use Rattle.qs_machine.proofs.TableLaws.{total_open}
+use Rattle.qs_machine.proofs.TableEdits.{opened_closed}
+use Rattle.qs_machine.proofs.Taken.{mid_sends}
 
 -- the table with the type of stream n cut back
 abbrev cut : Tables SendLane → ℕ → ℕ → Tables SendLane

@@ -2,8 +2,8 @@
 use Rattle.std.specs.Prelude.{◌≡◌, ℕ, ◌+◌, ◌-◌, ◌*◌, ◌<◌, ◌≤◌, ◌^◌, Bool, true, false, List, [], ◌++◌, ◌⊎◌, length, take, Option, None, Some, Result, Ok, Err}
 use Rattle.std.specs.FinMap as fmap
 use Rattle.std.specs.FinSet as set
-use Rattle.qs_conn.specs.declared.making.Made.{Made}
-use Rattle.qs_conn.specs.declared.making.MakeFault.{MakeFault}
+use Rattle.qs_calls.specs.declared.making.Made.{Made}
+use Rattle.qs_calls.specs.declared.making.MakeFault.{MakeFault}
 use Rattle.qs_ranges.specs.Numbers.{MAX_VARINT, NumberSet, run_starts}
 use Rattle.qs_wire.specs.declared.stream_id.Dir.TheVariants.{Bidi, Uni}
 use Rattle.qs_wire.specs.Grammar.{Fits, canonical}
@@ -21,15 +21,15 @@ use Rattle.qs_conn.specs.declared.slot.Kind.{Kind}
 use Rattle.qs_conn.specs.declared.slot.Kind.TheVariants as kinds
 use Rattle.qs_conn.specs.declared.terms.Terms.{Terms}
 use Rattle.qs_conn.specs.declared.slot.Slot.TheVariants as slots
-use Rattle.qs_conn.specs.Tables.{Tables, lookup, each}
-use Rattle.qs_conn.specs.Ends.{End}
-use Rattle.qs_conn.specs.Credit.{all_sent}
-use Rattle.qs_conn.specs.Seen.{Control, seen_all}
-use Rattle.qs_conn.specs.Due.{Among, IsCurrent, IsDueItem, StreamGoes}
-use Rattle.qs_conn.specs.Outgoing.{Outgoing, sent_sum, HasSending, WantsMore, item_put_out}
-use Rattle.qs_conn.specs.Layers.{or_none}
-use Rattle.qs_conn.specs.Lawful.{Fills, AcksAll, HasAll, pieces_so_far}
-use Rattle.qs_conn.specs.Making.{IsText}
+use Rattle.qs_machine.specs.Tables.{Tables, lookup, each}
+use Rattle.qs_machine.specs.Ends.{End}
+use Rattle.qs_machine.specs.Credit.{all_sent}
+use Rattle.qs_machine.specs.Seen.{Control, seen_all}
+use Rattle.qs_machine.specs.Due.{Among, IsCurrent, IsDueItem, StreamGoes}
+use Rattle.qs_machine.specs.Outgoing.{Outgoing, sent_sum, HasSending, WantsMore, item_put_out}
+use Rattle.qs_machine.specs.Sums.{or_none}
+use Rattle.qs_machine.specs.Lawful.{Fills, AcksAll, HasAll, pieces_so_far}
+use Rattle.qs_machine.specs.Making.{IsText}
 
 -- what an item speaks of
 abbrev pub slot_of : Item → Slot

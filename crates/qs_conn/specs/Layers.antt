@@ -7,50 +7,27 @@ use Rattle.qs_wire.specs.declared.stream_id.Role.{Role}
 use Rattle.qs_recv.specs.Lane.{RecvLane, is_whole, highest, taken, raised_limit}
 use Rattle.qs_recv.specs.Lawful.{IsLawful}
 use Rattle.qs_send.specs.Lane.{SendLane, Sending, new_sending, new_lane as new_send_lane}
-use Rattle.qs_conn.specs.declared.recv_lanes.Tally.{Tally}
+use Rattle.qs_machine.specs.declared.tally.Tally.{Tally}
 use Rattle.qs_conn.specs.declared.recv_lanes.Touched.{Touched}
 use Rattle.qs_conn.specs.declared.recv_lanes.Touched.TheVariants.{Nothing, Lane, Several}
-use Rattle.qs_conn.specs.declared.settings.Settings.{Settings}
-use Rattle.qs_conn.specs.declared.settings.PeerLimits.{PeerLimits}
-use Rattle.qs_conn.specs.declared.uses.UseFault.{UseFault}
-use Rattle.qs_conn.specs.declared.uses.UseFault.TheVariants as uses
-use Rattle.qs_conn.specs.declared.closing.Closed.{Closed}
-use Rattle.qs_conn.specs.declared.closing.Closed.TheVariants.{ByUs, ByPeer}
-use Rattle.qs_conn.specs.Settings.{are_spellable}
-use Rattle.qs_conn.specs.Tables.{Tables}
-use Rattle.qs_conn.specs.Ends.{End, send_lane, recv_lane}
-use Rattle.qs_conn.specs.Owner.{first_refusal, refuse_if, no_half}
-use Rattle.qs_conn.specs.Standing.{KeepsCredit}
+use Rattle.qs_calls.specs.declared.settings.Settings.{Settings}
+use Rattle.qs_calls.specs.declared.settings.PeerLimits.{PeerLimits}
+use Rattle.qs_calls.specs.declared.uses.UseFault.{UseFault}
+use Rattle.qs_calls.specs.declared.uses.UseFault.TheVariants as uses
+use Rattle.qs_calls.specs.declared.closing.Closed.{Closed}
+use Rattle.qs_calls.specs.declared.closing.Closed.TheVariants.{ByUs, ByPeer}
+use Rattle.qs_calls.specs.Settings.{are_spellable}
+use Rattle.qs_machine.specs.Tables.{Tables}
+use Rattle.qs_machine.specs.Ends.{End, send_lane, recv_lane}
+use Rattle.qs_machine.specs.Owner.{first_refusal, refuse_if, no_half}
+use Rattle.qs_machine.specs.Standing.{KeepsCredit}
 use Rattle.qs_wire.specs.Layout.{PlacedValue}
 use Rattle.qs_conn.specs.declared.endpoint.receiving.Progress.{Progress}
 use Rattle.qs_conn.specs.declared.endpoint.receiving.Progress.TheVariants as progress
-use Rattle.qs_conn.specs.Seen.{Seen, Close, seen}
-use Rattle.qs_conn.specs.FrameStep.{frame_taken}
-use Rattle.qs_conn.specs.Receiving.{Stops, GoesOn}
-
--- the list with the element at an index changed by f, where there is one
-abbrev pub changed : {X : Type 0} → List X → ℕ → (X → X) → Option X → List X
-changed xs i f None = xs
-changed xs i f (Some x) = slice_set xs i (f x)
-
--- a sending lane where none is
-abbrev pub no_lane : SendLane
-no_lane = new_send_lane 0 0 0
-
-abbrev pub or_none : Option SendLane → SendLane
-or_none None = no_lane
-or_none (Some lane) = lane
-
--- a sending half where none is
-abbrev pub no_sending : Sending
-no_sending = new_sending 0 0 0
-
-abbrev pub or_no_sending : Option Sending → Sending
-or_no_sending None = no_sending
-or_no_sending (Some s) = s
-
-abbrev pub stored_on : RecvLane → ℕ
-stored_on lane = fmap.len lane.arrived.stored
+use Rattle.qs_machine.specs.Seen.{Seen, Close, seen}
+use Rattle.qs_machine.specs.FrameStep.{frame_taken}
+use Rattle.qs_machine.specs.Receiving.{Stops, GoesOn}
+use Rattle.qs_machine.specs.Sums.{changed, no_lane, or_none, no_sending, or_no_sending, stored_on, tally_of, tally_on, moved, IsPart, IsPaid, EachLawful, tables_of}
 
 -- the limit of a lane of which no final size is known
 abbrev pub limit_to_tell : Option RecvLane → Option ℕ
@@ -61,32 +38,6 @@ limit_to_tell (Some lane) = if is_some lane.final_size then None else Some lane.
 abbrev pub stop_to_tell : Option RecvLane → Option ℕ
 stop_to_tell None = None
 stop_to_tell (Some lane) = if is_some lane.reset_code then None else (if is_whole lane then None else lane.stop_code)
-
--- what a lane adds to the sums
-abbrev pub tally_of : RecvLane → Tally
-tally_of lane = record { spent = highest lane; taken = taken lane; stored = stored_on lane }
-
--- the sums over all lanes
-abbrev pub tally_on : List RecvLane → Tally
-tally_on lanes = record { spent = sum_by highest lanes; taken = sum_by taken lanes; stored = sum_by stored_on lanes }
-
--- the sums once one lane's part became another
-abbrev pub moved : Tally → Tally → Tally → Tally
-moved total was is =
-    record { spent = total.spent - was.spent + is.spent; taken = total.taken - was.taken + is.taken; stored = total.stored - was.stored + is.stored }
-
-pub record IsPart (part total : Tally) : Type 0 where
-  pub spent : part.spent ≤ total.spent
-  pub taken : part.taken ≤ total.taken
-  pub stored : part.stored ≤ total.stored
-
--- nothing is stored or taken that wasn't spent, and not both
-abbrev pub IsPaid : Tally → Type 0
-IsPaid tally = tally.stored + tally.taken ≤ tally.spent
-
-abbrev pub EachLawful : List RecvLane → Type 0
-EachLawful [] = ⊤
-EachLawful (lane ∷ lanes) = IsLawful lane × EachLawful lanes
 
 -- the limit is the next one already
 abbrev pub IsSettled : RecvLane → Type 0
@@ -120,16 +71,6 @@ pub record AreCounted (lanes : List RecvLane) (tally : Tally) (touched : Touched
   pub lawful : EachLawful lanes
   pub settled : AreSettled touched lanes
   pub few : length lanes ≤ 2 ^ 60
-
--- the tables of four lists, in the order of the types' bits
-abbrev pub tables_of : {X : Type 0} → List (List X) → Tables X
-tables_of lists =
-    record {
-      client_bidi = slice_index_or lists 0 [];
-      server_bidi = slice_index_or lists 1 [];
-      client_uni = slice_index_or lists 2 [];
-      server_uni = slice_index_or lists 3 [];
-    }
 
 -- why a stream can't be sent on: the end is closed, or there is no such half
 abbrev pub no_sender : End → ℕ → Option UseFault

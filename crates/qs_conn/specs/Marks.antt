@@ -3,14 +3,14 @@ use Rattle.std.specs.Prelude.{◌≡◌, ℕ, ◌≤◌, ◌<◌, Bool, true, fa
 use Rattle.qs_ranges.specs.Numbers.{EndsBefore}
 use Rattle.qs_recv.specs.Lane.{RecvLane}
 use Rattle.qs_send.specs.Lane.{SendLane, Sending}
-use Rattle.qs_conn.specs.Tables.{Tables, kind_of, lookup}
+use Rattle.qs_machine.specs.Tables.{Tables, kind_of, lookup}
 use Rattle.qs_send.specs.declared.piece.Item.{Item}
 use Rattle.qs_conn.specs.declared.slot.Slot.{Slot}
-use Rattle.qs_conn.specs.Ends.{End}
-use Rattle.qs_conn.specs.Due.{IsCurrent, IsCovered}
+use Rattle.qs_machine.specs.Ends.{End}
+use Rattle.qs_machine.specs.Due.{IsCurrent, IsCovered}
 use Rattle.qs_conn.specs.Filling.{slot_of}
 use Rattle.qs_conn.specs.Layers.{stop_to_tell}
-use Rattle.qs_conn.specs.Outgoing.{Outgoing, IsTied}
+use Rattle.qs_machine.specs.Outgoing.{Outgoing, IsTied}
 
 -- whether an index is marked
 abbrev pub is_marked : List Bool → ℕ → Bool

@@ -6,9 +6,9 @@ use Rattle.qs_ranges.specs.declared.NoMemory.{NoMemory}
 use Rattle.qs_send.specs.declared.piece.Piece.{Piece}
 use Rattle.qs_wire.specs.Acks.{FallBelow}
 use Rattle.qs_send.specs.AckPass.{Passing, PAST_NUMBERS, Falls}
-use Rattle.qs_conn.specs.Ends.{Records}
-use Rattle.qs_conn.specs.FrameStep.{AckedPiece, is_named, pieces_of, named_in}
-use Rattle.qs_conn.specs.Outgoing.{Outgoing, pieces_in, first_acked_out, first_lost_out}
+use Rattle.qs_machine.specs.Ends.{Records}
+use Rattle.qs_machine.specs.FrameStep.{AckedPiece, is_named, pieces_of, named_in}
+use Rattle.qs_machine.specs.Outgoing.{Outgoing, pieces_in, first_acked_out, first_lost_out}
 
 -- the outstanding records, or the lost ones
 abbrev pub held_out : Bool → Outgoing → Records

@@ -2,18 +2,17 @@
 ghost use Rattle.std.specs.Prelude.{◌≡◌, ◌+◌, ◌≤◌, ◌<◌, ◌^◌, length, Some};
 ghost use Rattle.qs_ranges.specs.Numbers.{MAX_VARINT};
 ghost use Rattle.qs_recv.specs.Lane.{next_limit};
-ghost use Rattle.qs_conn.specs.Ends.{end_made, role_bit, is_uni, is_own, window, first_send_limit};
-ghost use Rattle.qs_conn.specs.Credit.{spent, all_stored, settle};
-ghost use Rattle.qs_conn.specs.Making.{ClosePayload, ClosePayloadBy, close_text_of};
+ghost use Rattle.qs_machine.specs.Ends.{end_made, role_bit, is_uni, is_own, window, first_send_limit};
+ghost use Rattle.qs_machine.specs.Credit.{spent, all_stored, settle};
+ghost use Rattle.qs_machine.specs.Making.{ClosePayload, ClosePayloadBy, close_text_of};
 ghost use Rattle.qs_conn.specs.Layers.{ClosingFits};
-ghost use Rattle.qs_conn.specs.Standing.{IsSound, IsWithinCredit};
+ghost use Rattle.qs_machine.specs.Standing.{IsSound, IsWithinCredit};
 
-use crate::closing::{Closed, Closing};
 use crate::outbox::Outbox;
 use crate::places::kind_of;
 use crate::recv_tables::RecvTables;
-use crate::settings::{PeerLimits, Settings, SetupFault};
 use crate::setup::setup_fault;
+use qs_calls::{Closed, Closing, PeerLimits, Settings, SetupFault};
 use qs_ranges::RangeSet;
 use qs_wire::{Frame, Role, StreamId, put};
 use std::alloc::Global;
@@ -55,10 +54,10 @@ pub struct Endpoint {
 }
 
 impl Model for Endpoint {
-    ghost use Rattle.qs_conn.specs.Ends.{End};
-    ghost use Rattle.qs_conn.specs.EndCodes.{end_code};
+    ghost use Rattle.qs_machine.specs.Ends.{End};
+    ghost use Rattle.qs_machine.specs.EndCodes.{end_code};
     ghost use Rattle.qs_conn.specs.Layers.{IsKept};
-    ghost use Rattle.qs_conn.specs.Outgoing.{IsIdle};
+    ghost use Rattle.qs_machine.specs.Outgoing.{IsIdle};
     ghost use Rattle.qs_conn.specs.Filling.{IsFunded};
 
     ghost Value = { End };

@@ -2,15 +2,15 @@
 ghost use Rattle.std.specs.Prelude.{◌≡◌, ◌≤◌, ◌^◌, ◌<◌, length, take, is_some, option_map, unwrap_or, true, OnOk, OnErr, IfOk, IfErr};
 ghost use Rattle.qs_ranges.specs.Numbers.{MAX_VARINT};
 ghost use Rattle.qs_send.specs.Lane.{Sending, new_lane, accepted, refusal, reset_refusal, answer_of, write_lane, finish_lane, reset_lane, allow_lane};
-ghost use Rattle.qs_conn.specs.Tables.{table, with_table, lookup, open_to, kind_of};
-ghost use Rattle.qs_conn.specs.Reports.{send_report};
-ghost use Rattle.qs_conn.specs.Layers.{or_none};
-ghost use Rattle.qs_conn.specs.Outgoing.{no_packets, with_sends, on_lane, sent_sum, HasSending, AreOfOpen};
+ghost use Rattle.qs_machine.specs.Tables.{table, with_table, lookup, open_to, kind_of};
+ghost use Rattle.qs_machine.specs.Reports.{send_report};
+ghost use Rattle.qs_machine.specs.Sums.{or_none};
+ghost use Rattle.qs_machine.specs.Outgoing.{no_packets, with_sends, on_lane, sent_sum, HasSending, AreOfOpen};
 
-use crate::report::SendReport;
 use crate::send_tables::SendTables;
 use crate::told::ToldItems;
 use crate::told_index::ToldIndex;
+use qs_calls::SendReport;
 use qs_ranges::NoMemory;
 use qs_send::{LostRecords, Piece, Records, SendFault};
 use qs_wire::StreamId;
@@ -44,8 +44,8 @@ pub(crate) struct Outbox {
 // Clauses see the lanes. What of them is due stays inside: what was written and is neither acknowledged nor outstanding.
 impl Model for Outbox {
     ghost use Rattle.std.specs.Prelude.{◌-◌, nat_lt, vec_len, vec_capacity};
-    ghost use Rattle.qs_conn.specs.Outgoing.{Outgoing, IsOutbox, IsIndexed, AreSent, lanes_of, with_pending};
-    ghost use Rattle.qs_conn.specs.EndCodes.{outgoing_code};
+    ghost use Rattle.qs_machine.specs.Outgoing.{Outgoing, IsOutbox, IsIndexed, AreSent, lanes_of, with_pending};
+    ghost use Rattle.qs_machine.specs.EndCodes.{outgoing_code};
 
     ghost Value = { Outgoing };
 

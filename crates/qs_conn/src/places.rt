@@ -1,6 +1,6 @@
 //! Where a stream stands in a table.
 ghost use Rattle.std.specs.Prelude.{◌≡◌, ◌<◌, ◌^◌};
-ghost use Rattle.qs_conn.specs.Tables.{kind_of, index_of};
+ghost use Rattle.qs_machine.specs.Tables.{kind_of, index_of};
 
 use qs_wire::StreamId;
 

@@ -4,28 +4,22 @@ ghost use Rattle.std.specs.List.{sum_by};
 ghost use Rattle.qs_ranges.specs.Numbers.{MAX_VARINT};
 ghost use Rattle.qs_recv.specs.Lane.{RecvLane, new_lane, check_stream, check_reset, check_bytes, highest, highest_after, take_stream, take_reset, read_answer, bytes_read, after_read, raise, stop};
 ghost use Rattle.qs_recv.specs.Lawful.{IsLawful};
-ghost use Rattle.qs_conn.specs.Tables.{widened};
-ghost use Rattle.qs_conn.specs.Reports.{recv_report};
-ghost use Rattle.qs_conn.specs.Verdicts.{or_new};
-ghost use Rattle.qs_conn.specs.Layers.{limit_to_tell, stop_to_tell, changed, tally_of, tally_on, moved, IsPart, IsPaid, EachLawful, AreSettled, touch};
+ghost use Rattle.qs_machine.specs.Tables.{widened};
+ghost use Rattle.qs_machine.specs.Reports.{recv_report};
+ghost use Rattle.qs_machine.specs.Verdicts.{or_new};
+ghost use Rattle.qs_machine.specs.Sums.{changed, tally_of, tally_on, moved, IsPart, IsPaid, EachLawful};
+ghost use Rattle.qs_conn.specs.Layers.{limit_to_tell, stop_to_tell, AreSettled, touch};
 ghost use Rattle.qs_conn.specs.Marks.{IsBefore, AreMarked, IsQuietLane};
 
 use crate::marks::Marks;
-use crate::report::RecvReport;
+use qs_calls::RecvReport;
+use qs_machine::Tally;
 use qs_ranges::NoMemory;
 use qs_recv::{Highest, Read, RecvFault, RecvHalf, RecvState, RingAssembly};
 use std::alloc::Global;
 use std::marker::Model;
 
 type Half = RecvHalf<RingAssembly>;
-
-/// What lanes add to the connection's credit: the highest offsets, what was taken, and what is stored, in bytes.
-#[derive(Clone, Copy, Drop)]
-pub(crate) struct Tally {
-    pub(crate) spent: u64,
-    pub(crate) taken: u64,
-    pub(crate) stored: u64,
-}
 
 /// Which lanes may have a limit that is to be raised.
 #[derive(Clone, Copy, Drop)]

@@ -2,15 +2,17 @@
 ghost use Rattle.std.specs.Prelude.{◌≡◌, ◌+◌, ◌≤◌, ◌<◌, ◌^◌, ◌++◌, length, drop, take, is_some, option_map, true, OnOk, OnErr, IsOk, IfOk, IfSome};
 ghost use Rattle.qs_ranges.specs.Numbers.{MAX_VARINT};
 ghost use Rattle.qs_recv.specs.Lane.{new_lane, check_stream, check_reset, check_bytes, highest, taken, take_stream, take_reset, read_answer, bytes_read, after_read, raise, stop};
-ghost use Rattle.qs_conn.specs.Tables.{no_streams, table, with_table, lookup, updated, open_to, each, total, kind_of};
-ghost use Rattle.qs_conn.specs.Reports.{recv_report};
-ghost use Rattle.qs_conn.specs.Verdicts.{or_new};
-ghost use Rattle.qs_conn.specs.Layers.{stored_on, tally_on, IsPaid, limit_to_tell, stop_to_tell};
+ghost use Rattle.qs_machine.specs.Tables.{no_streams, table, with_table, lookup, updated, open_to, each, total, kind_of};
+ghost use Rattle.qs_machine.specs.Reports.{recv_report};
+ghost use Rattle.qs_machine.specs.Verdicts.{or_new};
+ghost use Rattle.qs_machine.specs.Sums.{stored_on, tally_on, IsPaid};
+ghost use Rattle.qs_conn.specs.Layers.{limit_to_tell, stop_to_tell};
 ghost use Rattle.qs_conn.specs.Marks.{HaveTo, IsQuietLane};
 
 use crate::places::{index_of, kind_of};
-use crate::recv_lanes::{RecvLanes, Tally};
-use crate::report::RecvReport;
+use crate::recv_lanes::RecvLanes;
+use qs_calls::RecvReport;
+use qs_machine::Tally;
 use qs_ranges::NoMemory;
 use qs_recv::{Highest, Read, RecvFault};
 use qs_wire::StreamId;
@@ -27,10 +29,10 @@ pub(crate) struct RecvTables {
 impl Model for RecvTables {
     ghost use Rattle.std.specs.Prelude.{◌≡◌, length};
     ghost use Rattle.qs_recv.specs.Lane.{RecvLane};
-    ghost use Rattle.qs_conn.specs.Tables.{Tables};
+    ghost use Rattle.qs_machine.specs.Tables.{Tables};
     ghost use Rattle.qs_recv.specs.Lane.{lane_code};
-    ghost use Rattle.qs_conn.specs.EndCodes.{tables_code};
-    ghost use Rattle.qs_conn.specs.Layers.{tables_of};
+    ghost use Rattle.qs_machine.specs.EndCodes.{tables_code};
+    ghost use Rattle.qs_machine.specs.Sums.{tables_of};
 
     ghost Value = { Tables RecvLane };
 

@@ -3,8 +3,8 @@ ghost use Rattle.std.specs.Prelude.{◌≡◌, ◌+◌, ◌*◌, ◌≤◌, ◌<
 ghost use Rattle.qs_ranges.specs.Numbers.{MAX_VARINT};
 ghost use Rattle.qs_send.specs.Lane.{Sending, new_sending, accepted, refusal, reset_refusal, answer_of, state, after_write, after_finish, after_reset, after_reset_acked, after_blocked, after_allow, after_sent, after_acked, after_lost};
 ghost use Rattle.qs_send.specs.Chunks.{IsDueChunk, WasSent};
-ghost use Rattle.qs_conn.specs.Tables.{widened};
-ghost use Rattle.qs_conn.specs.Layers.{changed, no_sending};
+ghost use Rattle.qs_machine.specs.Tables.{widened};
+ghost use Rattle.qs_machine.specs.Sums.{changed, no_sending};
 ghost use Rattle.qs_conn.specs.Marks.{IsBefore, IsQuiet};
 
 use crate::marks::Marks;

@@ -3,8 +3,8 @@ ghost use Rattle.std.specs.Prelude.{◌≡◌, ◌≤◌, ◌<◌, ◌^◌, ℕ,
 ghost use Rattle.qs_ranges.specs.Numbers.{MAX_VARINT};
 ghost use Rattle.qs_send.specs.Lane.{Sending, new_sending, accepted, refusal, reset_refusal, answer_of, state, after_write, after_finish, after_reset, after_reset_acked, after_blocked, after_allow, after_sent, after_acked, after_lost};
 ghost use Rattle.qs_send.specs.Chunks.{IsDueChunk, WasSent};
-ghost use Rattle.qs_conn.specs.Tables.{no_streams, table, with_table, lookup, updated, open_to, kind_of};
-ghost use Rattle.qs_conn.specs.Layers.{or_no_sending};
+ghost use Rattle.qs_machine.specs.Tables.{no_streams, table, with_table, lookup, updated, open_to, kind_of};
+ghost use Rattle.qs_machine.specs.Sums.{or_no_sending};
 ghost use Rattle.qs_conn.specs.Marks.{IsBefore, IsQuiet, HaveTo};
 
 use crate::marks::least;
@@ -26,9 +26,9 @@ pub(crate) struct SendTables {
 impl Model for SendTables {
     ghost use Rattle.std.specs.Prelude.{◌≡◌, length};
     ghost use Rattle.qs_send.specs.Lane.{Sending, sending_code};
-    ghost use Rattle.qs_conn.specs.Tables.{Tables};
-    ghost use Rattle.qs_conn.specs.EndCodes.{tables_code};
-    ghost use Rattle.qs_conn.specs.Layers.{tables_of};
+    ghost use Rattle.qs_machine.specs.Tables.{Tables};
+    ghost use Rattle.qs_machine.specs.EndCodes.{tables_code};
+    ghost use Rattle.qs_machine.specs.Sums.{tables_of};
 
     ghost Value = { Tables Sending };
 

@@ -1,8 +1,8 @@
 //! Whether an end can be made.
 ghost use Rattle.std.specs.Prelude.{◌≡◌};
-ghost use Rattle.qs_conn.specs.Settings.{is_between, are_in_range, are_spellable, are_countable, setup_fault};
+ghost use Rattle.qs_calls.specs.Settings.{is_between, are_in_range, are_spellable, are_countable, setup_fault};
 
-use crate::settings::{PeerLimits, Settings, SetupFault};
+use qs_calls::{PeerLimits, Settings, SetupFault};
 
 const MAX_VARINT: u64 = (1 << 62) - 1;
 

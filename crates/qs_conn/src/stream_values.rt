@@ -1,7 +1,7 @@
 //! A value for each of some streams.
 ghost use Rattle.std.specs.Prelude.{◌≡◌, ◌↔◌, IsTrue, OnOk, OnErr, Some};
 ghost use Rattle.std.specs.FinMap as fmap;
-ghost use Rattle.qs_conn.specs.FrameStep.{greatest_of};
+ghost use Rattle.qs_machine.specs.FrameStep.{greatest_of};
 
 use qs_ranges::NoMemory;
 use qs_wire::StreamId;
@@ -19,7 +19,7 @@ impl Model for StreamValues {
     ghost use Rattle.std.specs.Prelude.{ℕ};
     ghost use Rattle.std.specs.Ordering.{nat_cmp};
     ghost use Rattle.std.specs.FinMap as fmap;
-    ghost use Rattle.qs_conn.specs.EndCodes.{values_code};
+    ghost use Rattle.qs_machine.specs.EndCodes.{values_code};
 
     ghost Value = { fmap.FinMap nat_cmp ℕ };
 

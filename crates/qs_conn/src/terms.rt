@@ -2,10 +2,10 @@
 ghost use Rattle.std.specs.Prelude.{◌≡◌, ◌≤◌, ◌<◌, ◌↔◌, ◌^◌, IsTrue, ℕ, Some, IfSome};
 ghost use Rattle.qs_recv.specs.Lane.{RecvLane};
 ghost use Rattle.qs_conn.specs.declared.slot.Slot.TheVariants as slots;
-ghost use Rattle.qs_conn.specs.Tables.{Tables, lookup};
-ghost use Rattle.qs_conn.specs.Ends.{End, window_by};
+ghost use Rattle.qs_machine.specs.Tables.{Tables, lookup};
+ghost use Rattle.qs_machine.specs.Ends.{End, window_by};
 ghost use Rattle.qs_conn.specs.declared.terms.Terms.{Terms};
-ghost use Rattle.qs_conn.specs.Outgoing.{Outgoing};
+ghost use Rattle.qs_machine.specs.Outgoing.{Outgoing};
 ghost use Rattle.qs_conn.specs.Marks.{HaveTo, IsBefore, IsQuietLane};
 ghost use Rattle.qs_conn.specs.Filling.{end_by, IsCurrentIn, ItemFits, TermsFit, AnyWantsMore};
 
@@ -14,8 +14,8 @@ use crate::marks::least;
 use crate::outbox::Outbox;
 use crate::places::kind_of;
 use crate::recv_tables::RecvTables;
-use crate::settings::Settings;
 use crate::slot::Slot;
+use qs_calls::Settings;
 use qs_send::Item;
 use qs_wire::{Dir, Role, StreamId};
 

@@ -1,9 +1,9 @@
 //! What was acknowledged of control items.
 ghost use Rattle.std.specs.Prelude.{◌≡◌, ◌↔◌, ◌<◌, IsTrue, OnOk, OnErr, Some};
 ghost use Rattle.std.specs.FinSet as set;
-ghost use Rattle.qs_conn.specs.Ends.{no_items};
-ghost use Rattle.qs_conn.specs.FrameStep.{greatest};
-ghost use Rattle.qs_conn.specs.Told.{item_noted, IsNoted};
+ghost use Rattle.qs_machine.specs.Ends.{no_items};
+ghost use Rattle.qs_machine.specs.FrameStep.{greatest};
+ghost use Rattle.qs_machine.specs.Told.{item_noted, IsNoted};
 
 use crate::stream_values::StreamValues;
 use qs_ranges::{NoMemory, RangeSet};
@@ -25,8 +25,8 @@ pub(crate) struct ToldItems {
 }
 
 impl Model for ToldItems {
-    ghost use Rattle.qs_conn.specs.Ends.{AckedItems};
-    ghost use Rattle.qs_conn.specs.EndCodes.{acked_code};
+    ghost use Rattle.qs_machine.specs.Ends.{AckedItems};
+    ghost use Rattle.qs_machine.specs.EndCodes.{acked_code};
 
     ghost Value = { AckedItems };
 

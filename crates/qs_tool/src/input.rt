@@ -1,9 +1,9 @@
 //! Reads a script whole.
 
 ghost use Rattle.std.specs.Prelude.{◌≡◌, ◌≤◌, length, IfOk, IfErr};
-ghost use Rattle.qs_tool.specs.declared.status.Status.TheVariants.{Failed};
+ghost use Rattle.qs_cli.specs.declared.status.Status.TheVariants.{Failed};
 
-use crate::status::Status;
+use qs_cli::Status;
 use std::alloc::Global;
 use std::fs;
 use std::io::Read;

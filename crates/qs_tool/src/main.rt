@@ -1,30 +1,14 @@
 //! The program: shows the frames of a payload, plays scripts, and makes random ones.
 #![tactic(auto)]
 
-mod carrying;
-mod fields;
-mod frame_text;
-mod frames;
 mod input;
-mod largest;
-mod memory_wire;
-mod play_text;
 mod request;
-mod scripts;
-mod status;
 #[cfg(test)]
 mod tests;
-mod text;
-mod udp_wire;
-mod wire;
 
-use crate::carrying::run_udp;
-use crate::frames::run_frames;
 use crate::input::read_file;
 use crate::request::Request;
-use crate::scripts::{run_play, run_random};
-use crate::status::Status;
-use crate::udp_wire::UdpWire;
+use qs_cli::{Status, UdpWire, run_frames, run_play, run_random, run_udp};
 use std::process::ExitCode;
 use std::{env, io};
 

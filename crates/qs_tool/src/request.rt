@@ -1,8 +1,8 @@
 //! What the command line asks for.
 
-use crate::status::Status;
 use clap::error::ErrorKind;
 use clap::{Arg, ArgMatches, Command, Error};
+use qs_cli::Status;
 use std::alloc::{AllocError, Global};
 
 /// The most events of a random script.

@@ -1,7 +1,6 @@
 //! What the program prints.
 
-use crate::frames::run_frames;
-use crate::status::Status;
+use qs_cli::{Status, run_frames};
 use std::alloc::Global;
 use std::process::Abort;
 use std::test::Fail;

@@ -3,16 +3,16 @@ use Rattle.std.proofs.Common.{◌≡◌, ℕ, zero, suc, ◌<◌, ◌==◌, Bool
 use Rattle.std.proofs.lemmas.Option.{slice_get-get_or, none-some}
 use Rattle.std.proofs.lemmas.Nat.{mod_below}
 use Rattle.rand_pcg.specs.Lcg.{Lcg}
-use Rattle.qs_world.specs.declared.event.Side.{Side}
-use Rattle.qs_world.specs.declared.event.Act.{Act}
-use Rattle.qs_world.specs.declared.event.Act.TheVariants as acts
-use Rattle.qs_world.specs.declared.event.Event.{Event}
+use Rattle.qs_calls.specs.declared.event.Side.{Side}
+use Rattle.qs_calls.specs.declared.event.Act.{Act}
+use Rattle.qs_calls.specs.declared.event.Act.TheVariants as acts
+use Rattle.qs_calls.specs.declared.event.Event.{Event}
 use Rattle.qs_world.specs.declared.draws.Kind.{Kind}
 use Rattle.qs_world.specs.declared.draws.Kind.TheVariants as kinds
 use Rattle.qs_world.specs.declared.report.PlayFault.{PlayFault}
 use Rattle.qs_world.specs.declared.report.PlayFault.TheVariants as faults
 use Rattle.qs_world.specs.Draws.{draw, after, end_of_stream, of_packets, IsChosen, IsDrawn}
-use Rattle.qs_world.specs.Logs.{History, made}
+use Rattle.qs_runs.specs.Logs.{History, made}
 use Rattle.qs_world.specs.Plays.{Played, IsMissing, IsMissingBy, PlayStep}
 
 draw_below : (m : ℕ) (g : Lcg) → 0 < m → draw m g < m

@@ -5,11 +5,11 @@ use Rattle.std.proofs.lemmas.List.{length-reverse, length-map}
 use Rattle.std.proofs.lemmas.List.Folds.{list_all-map, list_all-append}
 use Rattle.std.proofs.lemmas.Grind.{common_steps, reverse_onto}
 use Rattle.rand_pcg.specs.Lcg.{Lcg}
-use Rattle.qs_conn.specs.declared.settings.Settings.{Settings}
-use Rattle.qs_conn.specs.declared.settings.SetupFault.{SetupFault}
-use Rattle.qs_conn.specs.Examples.{standard}
-use Rattle.qs_world.specs.Events.{fits}
-use Rattle.qs_world.specs.Worlds.{World, world_made}
+use Rattle.qs_calls.specs.declared.settings.Settings.{Settings}
+use Rattle.qs_calls.specs.declared.settings.SetupFault.{SetupFault}
+use Rattle.qs_machine.specs.Examples.{standard}
+use Rattle.qs_calls.specs.Events.{fits}
+use Rattle.qs_runs.specs.Worlds.{World, world_made}
 use Rattle.qs_world.specs.Plays.{Played, begun}
 use Rattle.qs_world.specs.Randoms.{DrawnStep, IsDrawnRun, IsRandomScript}
 

@@ -2,17 +2,17 @@
 use Rattle.std.proofs.Common.{◌≡◌, ℕ, [], ◌∷◌, refl, sym, ap, subst, arith, inl, inr}
 use Rattle.std.specs.Prelude.{Result, Ok, Err}
 use Rattle.qs_wire.specs.declared.stream_id.Role.TheVariants.{Client, Server}
-use Rattle.qs_conn.specs.Settings.{limits_of}
-use Rattle.qs_conn.specs.Ends.{End, new_end, opens}
-use Rattle.qs_conn.specs.Credit.{settle}
-use Rattle.qs_conn.specs.Examples.{standard}
-use Rattle.qs_conn.specs.declared.uses.OpenFault.{OpenFault}
-use Rattle.qs_conn.specs.declared.settings.SetupFault.{SetupFault}
+use Rattle.qs_calls.specs.Settings.{limits_of}
+use Rattle.qs_machine.specs.Ends.{End, new_end, opens}
+use Rattle.qs_machine.specs.Credit.{settle}
+use Rattle.qs_machine.specs.Examples.{standard}
+use Rattle.qs_calls.specs.declared.uses.OpenFault.{OpenFault}
+use Rattle.qs_calls.specs.declared.settings.SetupFault.{SetupFault}
 use Rattle.qs_wire.specs.declared.stream_id.Dir.TheVariants.{Bidi}
-use Rattle.qs_world.specs.declared.event.Side.TheVariants.{A}
-use Rattle.qs_world.specs.declared.event.Act.TheVariants as acts
-use Rattle.qs_world.specs.declared.answer.Answer.TheVariants as answers
-use Rattle.qs_world.specs.Worlds.{World, WorldStep, Run}
+use Rattle.qs_calls.specs.declared.event.Side.TheVariants.{A}
+use Rattle.qs_calls.specs.declared.event.Act.TheVariants as acts
+use Rattle.qs_calls.specs.declared.answer.Answer.TheVariants as answers
+use Rattle.qs_runs.specs.Worlds.{World, WorldStep, Run}
 use Rattle.std.specs.Fmt.{digits}
 use Rattle.hex.specs.Hex.{encode_with}
 use Rattle.qs_world.specs.Examples.{StreamsBeginAtZero, EventLines, AnswerLines, ReportLines, Examples}

@@ -5,14 +5,14 @@ use Rattle.std.proofs.lemmas.Grind.{flat_map-append}
 use Rattle.std.proofs.lemmas.Option.{slice_get_past}
 use Rattle.qs_send.specs.Lane.{SendLane}
 use Rattle.qs_recv.specs.Lane.{RecvLane}
-use Rattle.qs_conn.specs.declared.report.LaneReport.{LaneReport}
-use Rattle.qs_conn.specs.Ends.{send_lane, recv_lane}
-use Rattle.qs_conn.specs.Reports.{send_report, recv_report, report_if, lane_report}
-use Rattle.qs_conn.specs.Tables.{Tables, table, lookup}
-use Rattle.qs_world.specs.declared.event.Side.{Side}
-use Rattle.qs_world.specs.declared.event.Side.TheVariants.{A, B}
+use Rattle.qs_calls.specs.declared.report.LaneReport.{LaneReport}
+use Rattle.qs_machine.specs.Ends.{send_lane, recv_lane}
+use Rattle.qs_machine.specs.Reports.{send_report, recv_report, report_if, lane_report}
+use Rattle.qs_machine.specs.Tables.{Tables, table, lookup}
+use Rattle.qs_calls.specs.declared.event.Side.{Side}
+use Rattle.qs_calls.specs.declared.event.Side.TheVariants.{A, B}
 use Rattle.qs_world.specs.declared.report.LaneTotals.{LaneTotals}
-use Rattle.qs_world.specs.Worlds.{World}
+use Rattle.qs_runs.specs.Worlds.{World}
 use Rattle.qs_world.specs.Reports.{totals_by, lane_totals, longest, stream_bound, all_lanes}
 use Rattle.qs_world.specs.LaneLists.{sending, receiving, told_lane, lanes_of, lanes_from}
 

@@ -1,8 +1,8 @@
 -- Logs that are copied entry by entry.
 use Rattle.std.proofs.Common.{◌≡◌, ℕ, ◌+◌, ◌<◌, List, [], ◌∷◌, ◌++◌, length, take, get_or, sym, ap, ◌∙◌, subst}
 use Rattle.std.proofs.lemmas.List.{take_more}
-use Rattle.qs_world.specs.declared.event.Event.{Event}
-use Rattle.qs_world.specs.declared.answer.Answer.{Answer}
+use Rattle.qs_calls.specs.declared.event.Event.{Event}
+use Rattle.qs_calls.specs.declared.answer.Answer.{Answer}
 use Rattle.qs_world.specs.Plays.{SameEvent, SameAnswer, SameLog}
 
 same_log_push : (xs ys : List (Event × Answer)) (x y : Event × Answer) → SameLog xs ys → SameEvent x.0 y.0 → SameAnswer x.1 y.1 → SameLog (xs ++ x ∷ []) (ys ++ y ∷ [])

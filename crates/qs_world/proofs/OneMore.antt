@@ -1,18 +1,18 @@
 -- Every run agrees, and so does a run with one step more. The settings of its ends stay.
 use Rattle.std.proofs.Common.{◌≡◌, [], ◌∷◌, Ok, ap, subst, sym, ◌∙◌}
-use Rattle.qs_conn.specs.declared.settings.Settings.{Settings}
-use Rattle.qs_conn.specs.declared.settings.PeerLimits.{PeerLimits}
-use Rattle.qs_conn.specs.Settings.{limits_of}
-use Rattle.qs_conn.specs.Ends.{End, end_made}
+use Rattle.qs_calls.specs.declared.settings.Settings.{Settings}
+use Rattle.qs_calls.specs.declared.settings.PeerLimits.{PeerLimits}
+use Rattle.qs_calls.specs.Settings.{limits_of}
+use Rattle.qs_machine.specs.Ends.{End, end_made}
 use Rattle.qs_wire.specs.declared.stream_id.Role.TheVariants.{Client, Server}
-use Rattle.qs_world.specs.declared.event.Event.{Event}
-use Rattle.qs_world.specs.declared.event.Side.TheVariants.{A, B}
-use Rattle.qs_world.specs.declared.answer.Answer.{Answer}
-use Rattle.qs_world.specs.Logs.{History}
-use Rattle.qs_world.specs.Worlds.{World, WorldStep, Run, world_made, both_made}
+use Rattle.qs_calls.specs.declared.event.Event.{Event}
+use Rattle.qs_calls.specs.declared.event.Side.TheVariants.{A, B}
+use Rattle.qs_calls.specs.declared.answer.Answer.{Answer}
+use Rattle.qs_runs.specs.Logs.{History}
+use Rattle.qs_runs.specs.Worlds.{World, WorldStep, Run, world_made, both_made}
 use Rattle.qs_world.specs.Plays.{AgreeingRun, HasAgreed}
-use Rattle.qs_world.proofs.Runs.{run_keeps}
-use Rattle.qs_world.proofs.Agrees.{agrees, step_agrees}
+use Rattle.qs_runs.proofs.Runs.{run_keeps}
+use Rattle.qs_runs.proofs.Agrees.{agrees, step_agrees}
 
 -- an agreeing run is a run
 pub is_run : (a b : Settings) (h : History) (w : World) → AgreeingRun a b h w → Run a b h w

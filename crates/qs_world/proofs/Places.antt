@@ -2,15 +2,15 @@
 use Rattle.std.proofs.Common.{◌≡◌, ℕ, zero, suc, Bool, true, false, not, ◌&&◌, List, [], ◌∷◌, ◌++◌, length, reverse, Option, Some, None, Ok, slice_get, IfSome, IfNone, refl, sym, ap, ◌∙◌, subst, if◌then◌else◌, append-nil}
 use Rattle.std.proofs.lemmas.List.{reverse-append}
 use Rattle.std.proofs.lemmas.Option.{none-some, same_Some}
-use Rattle.qs_world.specs.declared.event.Side.{Side}
-use Rattle.qs_world.specs.declared.event.Act.{Act}
-use Rattle.qs_world.specs.declared.event.Act.TheVariants as acts
-use Rattle.qs_world.specs.declared.event.Event.{Event}
-use Rattle.qs_world.specs.declared.answer.Answer.{Answer}
-use Rattle.qs_world.specs.declared.answer.Answer.TheVariants as answers
-use Rattle.qs_world.specs.Logs.{History, payload, same_side, is_delivery, own_calls, made, made_in, made_by}
+use Rattle.qs_calls.specs.declared.event.Side.{Side}
+use Rattle.qs_calls.specs.declared.event.Act.{Act}
+use Rattle.qs_calls.specs.declared.event.Act.TheVariants as acts
+use Rattle.qs_calls.specs.declared.event.Event.{Event}
+use Rattle.qs_calls.specs.declared.answer.Answer.{Answer}
+use Rattle.qs_calls.specs.declared.answer.Answer.TheVariants as answers
+use Rattle.qs_runs.specs.Logs.{History, payload, same_side, is_delivery, own_calls, made, made_in, made_by}
 use Rattle.qs_world.specs.Places.{makes, makes_by, text_of, IsPlace, ArePlaces, IsPlaceOf}
-use Rattle.qs_world.proofs.Lists.{slice_get-append, slice_get-last}
+use Rattle.qs_runs.proofs.Lists.{slice_get-append, slice_get-last}
 
 -- the payload that an event made at an end
 abbrev pub made_at : Side → Event → Answer → List (List ℕ)

@@ -5,23 +5,23 @@ use Rattle.std.proofs.lemmas.List.{take_more, take_all, length-reverse}
 use Rattle.std.proofs.lemmas.List.Folds.{list_all_at}
 use Rattle.std.proofs.lemmas.Grind.{reverse_onto}
 use Rattle.std.specs.Global.{Vec}
-use Rattle.qs_conn.specs.declared.settings.Settings.{Settings}
-use Rattle.qs_conn.specs.declared.settings.SetupFault.{SetupFault}
-use Rattle.qs_world.specs.declared.event.Act.{Act}
-use Rattle.qs_world.specs.declared.event.Act.TheVariants as acts
-use Rattle.qs_world.specs.declared.event.Event.{Event}
-use Rattle.qs_world.specs.declared.answer.Answer.{Answer}
+use Rattle.qs_calls.specs.declared.settings.Settings.{Settings}
+use Rattle.qs_calls.specs.declared.settings.SetupFault.{SetupFault}
+use Rattle.qs_calls.specs.declared.event.Act.{Act}
+use Rattle.qs_calls.specs.declared.event.Act.TheVariants as acts
+use Rattle.qs_calls.specs.declared.event.Event.{Event}
+use Rattle.qs_calls.specs.declared.answer.Answer.{Answer}
 use Rattle.qs_world.specs.declared.report.Report.{Report}
 use Rattle.qs_world.specs.declared.report.PlayFault.{PlayFault}
 use Rattle.qs_world.specs.declared.report.PlayFault.TheVariants as faults
-use Rattle.qs_world.specs.Events.{act_fits, fits}
-use Rattle.qs_world.specs.Logs.{History}
-use Rattle.qs_world.specs.Worlds.{World, world_made, WorldStep, Run}
-use Rattle.qs_world.specs.Invariant.{WorldOk}
+use Rattle.qs_calls.specs.Events.{act_fits, fits}
+use Rattle.qs_runs.specs.Logs.{History}
+use Rattle.qs_runs.specs.Worlds.{World, world_made, WorldStep, Run}
+use Rattle.qs_runs.specs.Invariant.{WorldOk}
 use Rattle.qs_world.specs.Reports.{IsReport}
-use Rattle.qs_world.specs.Plays.{SameAct, SameEvent, AreEvents, AgreeingRun, Played, begun, IsMissingBy, IsMissing, PlayStep, PlayOf}
-use Rattle.qs_world.proofs.Runs.{run_keeps, step_keeps}
-use Rattle.qs_world.proofs.Agrees.{agrees, step_agrees}
+use Rattle.qs_world.specs.Plays.{SameAct, SameEvent, AreEvents, AgreeingRun, Played, HasPlayed, begun, IsMissingBy, IsMissing, PlayStep, PlayOf}
+use Rattle.qs_runs.proofs.Runs.{run_keeps, step_keeps}
+use Rattle.qs_runs.proofs.Agrees.{agrees, step_agrees}
 
 -- Runs
 
@@ -107,11 +107,6 @@ split_at (x ∷ xs) (suc i) d lt = ap (λ l. x ∷ l) (split_at xs i d (omega ar
 
 -- What is played
 
--- so many events were played
-pub record HasPlayed (a b : Settings) (events : List Event) (i : ℕ) (p : Played) : Type 0 where
-  pub run : AgreeingRun a b p.log p.ends
-  pub are : AreEvents (reverse p.log) (take i events)
-
 pub played_none : (a b : Settings) (events : List Event) (p : Played) → Ok p ≡ begun (world_made a b) → HasPlayed a b events 0 p
 played_none a b events p is = go (world_made a b) refl is
   where
@@ -134,6 +129,10 @@ play_stops a b events i event copy (faults.NoSuchPacket k) old new lt is played 
     (old.log, old.ends, take i events, drop (suc i) events, event, all, played.run, played.are, copy_missing old.log copy event same missing, place ∙ ap suc count)
 play_stops a b events i event copy faults.NoMemory old new lt is played same step = tt
 play_stops a b events i event copy (faults.Setup fault) old new lt is played same step = absurd step
+
+pub played_all : (a b : Settings) (events : List Event) (i : ℕ) (p : Played) → length events ≤ i → HasPlayed a b events i p → HasPlayed a b events (length events) p
+played_all a b events i p all played =
+    record { run = played.run; are = subst (AreEvents (reverse p.log)) (take_all i events all ∙ sym (take_all (length events) events (omega arith))) played.are }
 
 pub play_ends : (a b : Settings) (events : List Event) (i : ℕ) (p : Played) (result : Result Report PlayFault) → length events ≤ i → HasPlayed a b events i p →
     IfOk result (IsReport p.log p.ends) → IfErr result (λ fault. fault ≡ faults.NoMemory) → PlayOf a b events result

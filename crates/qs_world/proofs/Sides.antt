@@ -1,18 +1,18 @@
 -- What happens at one side happens in the world of both.
 use Rattle.std.proofs.Common.{◌≡◌, ℕ, false, List, Some, Result, refl}
-use Rattle.qs_conn.specs.declared.closing.Closing.{Closing}
-use Rattle.qs_conn.specs.declared.closing.Received.{Received}
-use Rattle.qs_conn.specs.Ends.{End}
-use Rattle.qs_conn.specs.Receiving.{ReceiveStep}
-use Rattle.qs_world.specs.declared.event.Side.{Side}
-use Rattle.qs_world.specs.declared.event.Side.TheVariants.{A, B}
-use Rattle.qs_world.specs.declared.event.Act.{Act}
-use Rattle.qs_world.specs.declared.event.Act.TheVariants as acts
-use Rattle.qs_world.specs.declared.answer.Answer.{Answer}
-use Rattle.qs_world.specs.declared.answer.Answer.TheVariants as answers
-use Rattle.qs_world.specs.Logs.{History, other, is_delivery, payload}
+use Rattle.qs_calls.specs.declared.closing.Closing.{Closing}
+use Rattle.qs_calls.specs.declared.closing.Received.{Received}
+use Rattle.qs_machine.specs.Ends.{End}
+use Rattle.qs_machine.specs.Receiving.{ReceiveStep}
+use Rattle.qs_calls.specs.declared.event.Side.{Side}
+use Rattle.qs_calls.specs.declared.event.Side.TheVariants.{A, B}
+use Rattle.qs_calls.specs.declared.event.Act.{Act}
+use Rattle.qs_calls.specs.declared.event.Act.TheVariants as acts
+use Rattle.qs_calls.specs.declared.answer.Answer.{Answer}
+use Rattle.qs_calls.specs.declared.answer.Answer.TheVariants as answers
+use Rattle.qs_runs.specs.Logs.{History, other, is_delivery, payload}
 use Rattle.qs_world.specs.Plays.{world_by}
-use Rattle.qs_world.specs.Worlds.{World, end_of, OwnStep, StepBy}
+use Rattle.qs_runs.specs.Worlds.{World, end_of, OwnStep, StepBy}
 
 -- a payload comes to the other side
 pub delivered : (h : History) (s : Side) (k : ℕ) (own peer after : End) (result : Result Received Closing) →

@@ -2,13 +2,13 @@
 use Rattle.std.specs.Prelude.{ℕ, List, [], Option, Some, Result, Ok}
 use Rattle.qs_recv.specs.declared.half.Read.{Read}
 use Rattle.qs_recv.specs.declared.half.Read.TheVariants.{Bytes}
-use Rattle.qs_conn.specs.declared.uses.UseFault.{UseFault}
-use Rattle.qs_conn.specs.declared.making.Made.{Made}
-use Rattle.qs_conn.specs.declared.making.MakeFault.{MakeFault}
-use Rattle.qs_world.specs.declared.event.Act.{Act}
-use Rattle.qs_world.specs.declared.event.Act.TheVariants.{ReadUpTo, Make}
-use Rattle.qs_world.specs.declared.answer.Answer.{Answer}
-use Rattle.qs_world.specs.declared.answer.Answer.TheVariants as answers
+use Rattle.qs_calls.specs.declared.uses.UseFault.{UseFault}
+use Rattle.qs_calls.specs.declared.making.Made.{Made}
+use Rattle.qs_calls.specs.declared.making.MakeFault.{MakeFault}
+use Rattle.qs_calls.specs.declared.event.Act.{Act}
+use Rattle.qs_calls.specs.declared.event.Act.TheVariants.{ReadUpTo, Make}
+use Rattle.qs_calls.specs.declared.answer.Answer.{Answer}
+use Rattle.qs_calls.specs.declared.answer.Answer.TheVariants as answers
 
 -- the most bytes with which an act is answered
 abbrev pub room_of : Act → ℕ

@@ -2,14 +2,14 @@
 use Rattle.std.specs.Prelude.{◌≡◌, true, false, [], ◌∷◌, codes, None, Some, Ok, Err}
 use Rattle.qs_wire.specs.declared.stream_id.Dir.TheVariants.{Bidi}
 use Rattle.qs_recv.specs.declared.half.Read.TheVariants as reads
-use Rattle.qs_conn.specs.declared.making.LostFault.TheVariants as losing
-use Rattle.qs_conn.specs.declared.uses.OpenFault.TheVariants as opening
-use Rattle.qs_conn.specs.declared.uses.UseFault.TheVariants as uses
-use Rattle.qs_world.specs.declared.event.Side.TheVariants.{A, B}
-use Rattle.qs_world.specs.declared.event.Act.TheVariants as acts
-use Rattle.qs_world.specs.declared.answer.Answer.TheVariants as answers
-use Rattle.qs_conn.specs.Examples.{standard}
-use Rattle.qs_world.specs.Worlds.{World, Run}
+use Rattle.qs_calls.specs.declared.making.LostFault.TheVariants as losing
+use Rattle.qs_calls.specs.declared.uses.OpenFault.TheVariants as opening
+use Rattle.qs_calls.specs.declared.uses.UseFault.TheVariants as uses
+use Rattle.qs_calls.specs.declared.event.Side.TheVariants.{A, B}
+use Rattle.qs_calls.specs.declared.event.Act.TheVariants as acts
+use Rattle.qs_calls.specs.declared.answer.Answer.TheVariants as answers
+use Rattle.qs_machine.specs.Examples.{standard}
+use Rattle.qs_runs.specs.Worlds.{World, Run}
 use Rattle.qs_world.specs.PlayText.{event_text, answer_text, read_text, make_text, lane_text, end_text}
 
 pub record EventLines : Type 0 where

@@ -3,14 +3,14 @@ use Rattle.std.specs.Prelude.{ℕ, List, ◌++◌, Option, None, Some, unwrap_or
 use Rattle.std.specs.List.{flat_map, range_with_len}
 use Rattle.qs_send.specs.declared.parts.SendState.TheVariants.{Ready}
 use Rattle.qs_recv.specs.declared.half.RecvState.TheVariants.{Recv}
-use Rattle.qs_conn.specs.declared.report.LaneReport.{LaneReport}
-use Rattle.qs_conn.specs.declared.report.SendReport.{SendReport}
-use Rattle.qs_conn.specs.declared.report.RecvReport.{RecvReport}
-use Rattle.qs_world.specs.declared.event.Side.{Side}
-use Rattle.qs_world.specs.declared.event.Side.TheVariants.{A, B}
+use Rattle.qs_calls.specs.declared.report.LaneReport.{LaneReport}
+use Rattle.qs_calls.specs.declared.report.SendReport.{SendReport}
+use Rattle.qs_calls.specs.declared.report.RecvReport.{RecvReport}
+use Rattle.qs_calls.specs.declared.event.Side.{Side}
+use Rattle.qs_calls.specs.declared.event.Side.TheVariants.{A, B}
 use Rattle.qs_world.specs.declared.report.LaneTotals.{LaneTotals}
 use Rattle.qs_world.specs.Reports.{is_received, lane_totals}
-use Rattle.qs_world.specs.Worlds.{World}
+use Rattle.qs_runs.specs.Worlds.{World}
 
 -- what an end tells of its sending half
 abbrev pub sending : Option LaneReport → Option SendReport

@@ -1,10 +1,6 @@
-pub mod Events
 pub mod Scripts
 pub mod Draws
 pub mod Randoms
-pub mod Worlds
-pub mod Logs
-pub mod Agree
 pub mod Reports
 pub mod LaneLists
 pub mod Plays
@@ -12,7 +8,3 @@ pub mod Places
 pub mod Buffers
 pub mod PlayText
 pub mod Examples
-pub mod Pasts
-pub mod Invariant
-pub mod Clauses
-pub mod Laws

@@ -1,13 +1,13 @@
 -- A log in which a payload is found by its number: for each end the places of its payloads are kept.
 use Rattle.std.specs.Prelude.{◌≡◌, ℕ, Bool, true, false, ◌&&◌, List, [], ◌∷◌, reverse, Option, None, Some, Ok, ⊤, slice_get, refl}
 use Rattle.std.specs.Coded.{Coded, code_by, coded×, coded_bool, coded_list}
-use Rattle.qs_world.specs.declared.event.Side.{Side}
-use Rattle.qs_world.specs.declared.event.Act.{Act}
-use Rattle.qs_world.specs.declared.event.Act.TheVariants as acts
-use Rattle.qs_world.specs.declared.event.Event.{Event}
-use Rattle.qs_world.specs.declared.answer.Answer.{Answer}
-use Rattle.qs_world.specs.declared.answer.Answer.TheVariants as answers
-use Rattle.qs_world.specs.Logs.{History, same_side, payload}
+use Rattle.qs_calls.specs.declared.event.Side.{Side}
+use Rattle.qs_calls.specs.declared.event.Act.{Act}
+use Rattle.qs_calls.specs.declared.event.Act.TheVariants as acts
+use Rattle.qs_calls.specs.declared.event.Event.{Event}
+use Rattle.qs_calls.specs.declared.answer.Answer.{Answer}
+use Rattle.qs_calls.specs.declared.answer.Answer.TheVariants as answers
+use Rattle.qs_runs.specs.Logs.{History, same_side, payload}
 
 -- what happened, and whether there is room for one event more
 pub record Logged : Type 0 where

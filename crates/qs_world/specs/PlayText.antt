@@ -6,25 +6,25 @@ use Rattle.qs_wire.specs.declared.stream_id.Dir.{Dir}
 use Rattle.qs_wire.specs.declared.stream_id.Dir.TheVariants.{Bidi, Uni}
 use Rattle.qs_recv.specs.declared.half.Read.{Read}
 use Rattle.qs_recv.specs.declared.half.Read.TheVariants as reads
-use Rattle.qs_conn.specs.declared.closing.Closing.{Closing}
-use Rattle.qs_conn.specs.declared.closing.Received.{Received}
-use Rattle.qs_conn.specs.declared.closing.Received.TheVariants as received
-use Rattle.qs_conn.specs.declared.making.Made.{Made}
-use Rattle.qs_conn.specs.declared.making.MakeFault.{MakeFault}
-use Rattle.qs_conn.specs.declared.making.MakeFault.TheVariants as making
-use Rattle.qs_conn.specs.declared.making.LostFault.{LostFault}
-use Rattle.qs_conn.specs.declared.making.LostFault.TheVariants as losing
-use Rattle.qs_conn.specs.declared.uses.OpenFault.{OpenFault}
-use Rattle.qs_conn.specs.declared.uses.OpenFault.TheVariants as opening
-use Rattle.qs_conn.specs.declared.uses.UseFault.{UseFault}
-use Rattle.qs_conn.specs.declared.uses.UseFault.TheVariants as uses
-use Rattle.qs_world.specs.declared.event.Side.{Side}
-use Rattle.qs_world.specs.declared.event.Side.TheVariants.{A, B}
-use Rattle.qs_world.specs.declared.event.Act.{Act}
-use Rattle.qs_world.specs.declared.event.Act.TheVariants as acts
-use Rattle.qs_world.specs.declared.event.Event.{Event}
-use Rattle.qs_world.specs.declared.answer.Answer.{Answer}
-use Rattle.qs_world.specs.declared.answer.Answer.TheVariants as answers
+use Rattle.qs_calls.specs.declared.closing.Closing.{Closing}
+use Rattle.qs_calls.specs.declared.closing.Received.{Received}
+use Rattle.qs_calls.specs.declared.closing.Received.TheVariants as received
+use Rattle.qs_calls.specs.declared.making.Made.{Made}
+use Rattle.qs_calls.specs.declared.making.MakeFault.{MakeFault}
+use Rattle.qs_calls.specs.declared.making.MakeFault.TheVariants as making
+use Rattle.qs_calls.specs.declared.making.LostFault.{LostFault}
+use Rattle.qs_calls.specs.declared.making.LostFault.TheVariants as losing
+use Rattle.qs_calls.specs.declared.uses.OpenFault.{OpenFault}
+use Rattle.qs_calls.specs.declared.uses.OpenFault.TheVariants as opening
+use Rattle.qs_calls.specs.declared.uses.UseFault.{UseFault}
+use Rattle.qs_calls.specs.declared.uses.UseFault.TheVariants as uses
+use Rattle.qs_calls.specs.declared.event.Side.{Side}
+use Rattle.qs_calls.specs.declared.event.Side.TheVariants.{A, B}
+use Rattle.qs_calls.specs.declared.event.Act.{Act}
+use Rattle.qs_calls.specs.declared.event.Act.TheVariants as acts
+use Rattle.qs_calls.specs.declared.event.Event.{Event}
+use Rattle.qs_calls.specs.declared.answer.Answer.{Answer}
+use Rattle.qs_calls.specs.declared.answer.Answer.TheVariants as answers
 use Rattle.qs_world.specs.declared.report.LaneTotals.{LaneTotals}
 use Rattle.qs_world.specs.declared.report.EndTotals.{EndTotals}
 use Rattle.qs_world.specs.declared.report.Report.{Report}

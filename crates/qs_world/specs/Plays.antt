@@ -1,23 +1,23 @@
 -- Events are played: what two ends have come to, and what happened to them.
-use Rattle.std.specs.Prelude.{◌≡◌, suc, List, [], ◌∷◌, ◌++◌, length, reverse, None, Result, Ok, Err, ⊤, refl}
+use Rattle.std.specs.Prelude.{◌≡◌, ℕ, suc, List, [], ◌∷◌, ◌++◌, length, reverse, take, None, Result, Ok, Err, ⊤, refl}
 use Rattle.std.specs.Coded.{Coded, code_by, coded×, coded_list}
-use Rattle.qs_conn.specs.EndCodes.{end_code}
-use Rattle.qs_conn.specs.Ends.{End}
-use Rattle.qs_conn.specs.declared.settings.Settings.{Settings}
-use Rattle.qs_conn.specs.declared.settings.SetupFault.{SetupFault}
-use Rattle.qs_world.specs.declared.event.Side.{Side}
-use Rattle.qs_world.specs.declared.event.Side.TheVariants.{A, B}
-use Rattle.qs_world.specs.declared.event.Act.{Act}
-use Rattle.qs_world.specs.declared.event.Act.TheVariants as acts
-use Rattle.qs_world.specs.declared.event.Event.{Event}
-use Rattle.qs_world.specs.declared.answer.Answer.{Answer}
-use Rattle.qs_world.specs.declared.answer.Answer.TheVariants as answers
+use Rattle.qs_machine.specs.EndCodes.{end_code}
+use Rattle.qs_machine.specs.Ends.{End}
+use Rattle.qs_calls.specs.declared.settings.Settings.{Settings}
+use Rattle.qs_calls.specs.declared.settings.SetupFault.{SetupFault}
+use Rattle.qs_calls.specs.declared.event.Side.{Side}
+use Rattle.qs_calls.specs.declared.event.Side.TheVariants.{A, B}
+use Rattle.qs_calls.specs.declared.event.Act.{Act}
+use Rattle.qs_calls.specs.declared.event.Act.TheVariants as acts
+use Rattle.qs_calls.specs.declared.event.Event.{Event}
+use Rattle.qs_calls.specs.declared.answer.Answer.{Answer}
+use Rattle.qs_calls.specs.declared.answer.Answer.TheVariants as answers
 use Rattle.qs_world.specs.declared.report.Report.{Report}
 use Rattle.qs_world.specs.declared.report.PlayFault.{PlayFault}
 use Rattle.qs_world.specs.declared.report.PlayFault.TheVariants as faults
-use Rattle.qs_world.specs.Logs.{History, payload}
-use Rattle.qs_world.specs.Worlds.{World, world_made, WorldStep}
-use Rattle.qs_world.specs.Agree.{Agree, StepAgrees}
+use Rattle.qs_runs.specs.Logs.{History, payload}
+use Rattle.qs_runs.specs.Worlds.{World, world_made, WorldStep}
+use Rattle.qs_runs.specs.Agree.{Agree, StepAgrees}
 use Rattle.qs_world.specs.Reports.{IsReport, all_lanes, end_totals}
 
 -- The same but for where bytes lie in memory
@@ -70,6 +70,11 @@ played_code event answer =
 abbrev pub world_by : Side → End → End → World
 world_by A own peer = record { a = own; b = peer }
 world_by B own peer = record { a = peer; b = own }
+
+-- so many of the events were played
+pub record HasPlayed (a b : Settings) (events : List Event) (i : ℕ) (p : Played) : Type 0 where
+  pub run : AgreeingRun a b p.log p.ends
+  pub are : AreEvents (reverse p.log) (take i events)
 
 -- nothing has happened yet
 abbrev pub begun : Result World SetupFault → Result Played SetupFault

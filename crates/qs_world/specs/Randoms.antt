@@ -3,13 +3,13 @@ use Rattle.std.specs.Prelude.{◌≡◌, ℕ, List, [], ◌∷◌, length, map, 
 use Rattle.std.specs.List.{list_all}
 use Rattle.rand_pcg.specs.Lcg.{Lcg, started, increment_of}
 use Rattle.rand_pcg.specs.Pcg.{multiplier_64}
-use Rattle.qs_conn.specs.Examples.{standard}
-use Rattle.qs_world.specs.declared.event.Event.{Event}
+use Rattle.qs_machine.specs.Examples.{standard}
+use Rattle.qs_calls.specs.declared.event.Event.{Event}
 use Rattle.qs_world.specs.Draws.{draw, after, side_drawn, kind_of, IsDrawn}
-use Rattle.qs_world.specs.declared.answer.Answer.{Answer}
-use Rattle.qs_world.specs.Events.{fits}
-use Rattle.qs_world.specs.Logs.{History, made}
-use Rattle.qs_world.specs.Worlds.{World, Run, WorldStep}
+use Rattle.qs_calls.specs.declared.answer.Answer.{Answer}
+use Rattle.qs_calls.specs.Events.{fits}
+use Rattle.qs_runs.specs.Logs.{History, made}
+use Rattle.qs_runs.specs.Worlds.{World, Run, WorldStep}
 use Rattle.qs_world.specs.Plays.{Played}
 
 -- the generator that a seed determines

@@ -5,17 +5,17 @@ use Rattle.qs_recv.specs.Lane.{RecvLane}
 use Rattle.qs_send.specs.Lane.{SendLane, state, declared_size}
 use Rattle.qs_send.specs.declared.parts.SendState.{SendState}
 use Rattle.qs_send.specs.declared.parts.SendState.TheVariants.{DataRecvd}
-use Rattle.qs_conn.specs.Tables.{Tables}
-use Rattle.qs_conn.specs.Ends.{End, send_lane, recv_lane}
-use Rattle.qs_conn.specs.Credit.{spent, all_stored}
-use Rattle.qs_conn.specs.Reports.{own_closing}
-use Rattle.qs_world.specs.declared.event.Side.{Side}
-use Rattle.qs_world.specs.declared.event.Side.TheVariants.{A, B}
+use Rattle.qs_machine.specs.Tables.{Tables}
+use Rattle.qs_machine.specs.Ends.{End, send_lane, recv_lane}
+use Rattle.qs_machine.specs.Credit.{spent, all_stored}
+use Rattle.qs_machine.specs.Reports.{own_closing}
+use Rattle.qs_calls.specs.declared.event.Side.{Side}
+use Rattle.qs_calls.specs.declared.event.Side.TheVariants.{A, B}
 use Rattle.qs_world.specs.declared.report.LaneTotals.{LaneTotals}
 use Rattle.qs_world.specs.declared.report.EndTotals.{EndTotals}
 use Rattle.qs_world.specs.declared.report.Report.{Report}
-use Rattle.qs_world.specs.Logs.{History, other}
-use Rattle.qs_world.specs.Worlds.{World, end_of}
+use Rattle.qs_runs.specs.Logs.{History, other}
+use Rattle.qs_runs.specs.Worlds.{World, end_of}
 
 abbrev pub is_received : SendState → Bool
 is_received DataRecvd = true

@@ -2,8 +2,7 @@
 ghost use Rattle.std.specs.Prelude.{IfOk};
 ghost use Rattle.qs_world.specs.Plays.{SameEvent, SameAct, SameAnswer, SameLog};
 
-use crate::answer::Answer;
-use crate::event::{Act, Event};
+use qs_calls::{Act, Answer, Event};
 use std::alloc::{AllocError, Global};
 
 /// A copy of an event. It takes memory for the bytes of a write alone.

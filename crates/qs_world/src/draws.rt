@@ -1,10 +1,10 @@
 //! Events drawn at random.
 
 ghost use Rattle.std.specs.Prelude.{◌≡◌, ◌+◌, ◌^◌, ◌<◌, ◌≤◌, length, true, IfOk, OnOk};
-ghost use Rattle.qs_world.specs.Events.{act_fits};
+ghost use Rattle.qs_calls.specs.Events.{act_fits};
 ghost use Rattle.qs_world.specs.Draws.{draw, after, bytes_from, after_all, side_drawn, dir_drawn, kind_of, end_of_stream, IsChosen, IsDrawn};
 
-use crate::event::{Act, MIN_ROOM, Side};
+use qs_calls::{Act, MIN_ROOM, Side};
 use qs_wire::{Dir, StreamId};
 use rand_core::utils::NextWord;
 use rand_pcg::Lcg64Xsh32;

@@ -1,119 +1,15 @@
-//! Laws of the definitions alone: each is a function whose contract is the law. The invariant holds of two new ends, and every step keeps
-//! it; each of its clauses is a law, and so is each part of what agrees. The last law joins them over whole runs.
+//! Laws of the definitions alone: those of runs, and of what is printed.
 
-ghost use Rattle.qs_world.specs.Agree.{EveryRunAgrees};
 ghost use Rattle.qs_world.specs.Examples.{Examples};
-ghost use Rattle.qs_world.specs.Laws.{NewEndsMeetInvariant, StepsKeepInvariant, PiecesAreAlwaysWritten, ReceivedIsAlwaysBelowSent, StoredIsAlwaysWritten, ReadIsAlwaysWritten, ProcessedWasAlwaysTaken, AckedWasAlwaysProcessed, FinalSizeIsAlwaysDeclared, WhatIsKnownStays, ResetCodeIsAlwaysTheSenders, SentIsAlwaysWithinKnown, KnownIsAlwaysWithinGranted, StreamsAreOpenAtInitiator, OpenedIsAlwaysBelowKnown, ReadIsAPrefix, SpentIsBelowSent, RepeatsSpendNothing, ReceivedIsWhole, FinalSizesAlwaysAgree, NoEndCloses};
 
-/// Two new ends, each told the other's limits, meet the invariant.
-pub fn new_ends_meet_invariant()
-    ensures { NewEndsMeetInvariant }
-{}
-
-/// Whatever happens, the invariant stays.
-pub fn steps_keep_invariant()
-    ensures { StepsKeepInvariant }
-{}
-
-/// What ever stood in a packet are the bytes that were written at its offsets, below the sent end.
-pub fn pieces_are_written()
-    ensures { PiecesAreAlwaysWritten }
-{}
-
-/// Every offset that was received was sent.
-pub fn received_is_below_sent()
-    ensures { ReceivedIsAlwaysBelowSent }
-{}
-
-/// Every stored byte is the one that was written at its offset.
-pub fn stored_is_written()
-    ensures { StoredIsAlwaysWritten }
-{}
-
-/// Every byte that was read is the one that was written at its offset.
-pub fn read_is_written()
-    ensures { ReadIsAlwaysWritten }
-{}
-
-/// Every frame on data in a packet that was processed took effect, for good.
-pub fn processed_was_taken()
-    ensures { ProcessedWasAlwaysTaken }
-{}
-
-/// What counts as acknowledged stood in a packet that the peer processed.
-pub fn acked_was_processed()
-    ensures { AckedWasAlwaysProcessed }
-{}
-
-/// A final size that is known is the declared one, which is the sent end, and without a known reset the count written.
-pub fn final_size_is_declared()
-    ensures { FinalSizeIsAlwaysDeclared }
-{}
-
-/// What a receiving half knows it keeps, so a known final size never changes.
-pub fn what_is_known_stays()
-    ensures { WhatIsKnownStays }
-{}
-
-/// The code of a reset that is known is that of the sender's reset.
-pub fn reset_code_is_the_senders()
-    ensures { ResetCodeIsAlwaysTheSenders }
-{}
-
-/// What was sent is within the limits that the sender knows.
-pub fn sent_is_within_known()
-    ensures { SentIsAlwaysWithinKnown }
-{}
-
-/// The limits that a sender knows are within those that its peer granted.
-pub fn known_is_within_granted()
-    ensures { KnownIsAlwaysWithinGranted }
-{}
-
-/// A stream that is open at one end is open at the end that opened it.
-pub fn open_at_initiator()
-    ensures { StreamsAreOpenAtInitiator }
-{}
-
-/// An end's own streams are below the count that it knows, and that is at most the granted one.
-pub fn opened_is_below_known()
-    ensures { OpenedIsAlwaysBelowKnown }
-{}
-
-/// What is read is a prefix of what was written, and all of it once the end was told to a reader that had not stopped.
-pub fn read_is_a_prefix()
-    ensures { ReadIsAPrefix }
-{}
-
-/// What is spent of an end's credit is at most what its peer sent.
-pub fn spent_is_below_sent()
-    ensures { SpentIsBelowSent }
-{}
-
-/// A packet that was processed leaves an end as it was, and one that tells nothing new spends no credit.
-pub fn repeats_spend_nothing()
-    ensures { RepeatsSpendNothing }
-{}
-
-/// A stream that counts as received at its sender was received in whole.
-pub fn received_is_whole()
-    ensures { ReceivedIsWhole }
-{}
-
-/// Final sizes and reset codes that are known are the sender's.
-pub fn final_sizes_agree()
-    ensures { FinalSizesAlwaysAgree }
-{}
-
-/// Neither end closes, and neither sees its peer close.
-pub fn no_end_closes()
-    ensures { NoEndCloses }
-{}
-
-/// Whatever two ends are asked to do, in whatever order and number their packets come, each run of them agrees.
-pub fn every_run_agrees()
-    ensures { EveryRunAgrees }
-{}
+pub use qs_runs::laws::{
+    acked_was_processed, every_run_agrees, final_size_is_declared, final_sizes_agree,
+    known_is_within_granted, new_ends_meet_invariant, no_end_closes, open_at_initiator,
+    opened_is_below_known, pieces_are_written, processed_was_taken, read_is_a_prefix,
+    read_is_written, received_is_below_sent, received_is_whole, repeats_spend_nothing,
+    reset_code_is_the_senders, sent_is_within_known, spent_is_below_sent, steps_keep_invariant,
+    stored_is_written, what_is_known_stays,
+};
 
 /// Printed lines, computed by the definitions.
 pub fn examples()

@@ -1,10 +1,8 @@
 //! Two ends of a connection, and what happens between them.
 #![tactic(auto)]
 
-mod answer;
 mod copies;
 mod draws;
-mod event;
 pub mod laws;
 mod playing;
 mod random;
@@ -13,10 +11,9 @@ mod reporting;
 mod script;
 mod world;
 
-pub use answer::Answer;
 pub use copies::copy_event;
-pub use event::{Act, Event, Side};
 pub use playing::play;
+pub use qs_calls::{Act, Answer, Event, Side};
 pub use qs_conn::{
     Closing, LostFault, Made, MakeFault, OpenFault, Received, Settings, SetupFault, UseFault,
 };

@@ -1,13 +1,14 @@
 //! Events are played.
-ghost use Rattle.std.specs.Prelude.{◌≡◌, true};
+ghost use Rattle.std.specs.Prelude.{◌≡◌, true, length, OnOk, IfErr, Err};
 ghost use Rattle.std.specs.List.{list_all};
-ghost use Rattle.qs_world.specs.Events.{fits};
-ghost use Rattle.qs_world.specs.Plays.{PlayOf};
+ghost use Rattle.qs_calls.specs.Events.{fits};
+ghost use Rattle.qs_calls.specs.declared.settings.Settings.{Settings};
+ghost use Rattle.qs_world.specs.Plays.{PlayOf, HasPlayed};
 
 use crate::copies::copy_event;
-use crate::event::Event;
 use crate::report::{PlayFault, Report};
 use crate::world::World;
+use qs_calls::Event;
 use qs_conn::Settings;
 use std::alloc::Global;
 
@@ -27,6 +28,18 @@ pub fn play(alloc: Global, a: Settings, b: Settings, events: &[Event]) -> Result
         Ok(world) => world,
         Err(fault) => return Err(PlayFault::Setup(fault)),
     };
+    match play_each(alloc, &mut world, events) {
+        Ok(()) => world.into_report(),
+        Err(fault) => Err(fault),
+    }
+}
+
+// Plays the events in order, up to the first that is refused.
+fn play_each(alloc: Global, world: &mut World, events: &[Event]) -> Result<(), PlayFault>
+    requires { list_all fits events.now ≡ true }
+    ensures ok { OnOk result ((a b : Settings) → HasPlayed a b events.now 0 world.old → HasPlayed a b events.now (length events.now) world.new) }
+    ensures err { IfErr result (λ fault. (a b : Settings) → HasPlayed a b events.now 0 world.old → PlayOf a b events.now (Err fault)) }
+{
     for event in events {
         let Ok(copy) = copy_event(alloc, event) else {
             return Err(PlayFault::NoMemory);
@@ -35,5 +48,5 @@ pub fn play(alloc: Global, a: Settings, b: Settings, events: &[Event]) -> Result
             return Err(fault);
         }
     }
-    world.into_report()
+    Ok(())
 }

@@ -1,16 +1,15 @@
 //! Scripts of random events.
 ghost use Rattle.std.specs.Prelude.{◌≡◌, true, map, IfOk, IfErr, OnOk};
 ghost use Rattle.std.specs.List.{list_all};
-ghost use Rattle.qs_conn.specs.Examples.{standard};
-ghost use Rattle.qs_world.specs.Events.{fits};
+ghost use Rattle.qs_machine.specs.Examples.{standard};
+ghost use Rattle.qs_calls.specs.Events.{fits};
 ghost use Rattle.qs_world.specs.Randoms.{IsRandomScript, DrawnStep, seeded};
 ghost use Rattle.qs_world.specs.declared.report.PlayFault.TheVariants.{NoMemory};
 
-use crate::answer::Answer;
 use crate::draws::{draw_act, draw_side};
-use crate::event::Event;
 use crate::report::PlayFault;
 use crate::world::World;
+use qs_calls::{Answer, Event};
 use qs_conn::Settings;
 use rand_pcg::Lcg64Xsh32;
 use std::alloc::Global;

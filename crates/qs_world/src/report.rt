@@ -1,7 +1,6 @@
 //! What two ends have come to.
 
-use crate::answer::Answer;
-use crate::event::{Event, Side};
+use qs_calls::{Answer, Event, Side};
 use qs_conn::{Closing, SetupFault};
 use qs_wire::StreamId;
 use thiserror::Error;

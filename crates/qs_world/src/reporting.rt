@@ -5,10 +5,9 @@ ghost use Rattle.qs_world.specs.Plays.{IsReportOf};
 ghost use Rattle.qs_world.specs.Reports.{is_received, all_lanes, end_totals};
 ghost use Rattle.qs_world.specs.declared.report.PlayFault.TheVariants.{NoMemory};
 
-use crate::answer::Answer;
 use crate::copies::copy_log;
-use crate::event::{Event, Side};
 use crate::report::{EndTotals, LaneTotals, PlayFault, Report};
+use qs_calls::{Answer, Event, Side};
 use qs_conn::{Endpoint, LaneReport, RecvReport, SendReport};
 use qs_recv::RecvState;
 use qs_send::SendState;

@@ -2,14 +2,14 @@
 
 ghost use Rattle.std.specs.Prelude.{◌≡◌, ◌≤◌, ◌<◌, ◌∷◌, length, IfOk, IfErr, OnOk, true, position, ◌==◌};
 ghost use Rattle.std.specs.List.{list_all};
-ghost use Rattle.qs_world.specs.Events.{fits};
+ghost use Rattle.qs_calls.specs.Events.{fits};
 ghost use Rattle.qs_world.specs.Scripts.{lines_of, reason_number};
 
 mod line;
 mod words;
 
-use crate::event::Event;
 use line::parse_line;
+use qs_calls::Event;
 use std::alloc::Global;
 use thiserror::Error;
 

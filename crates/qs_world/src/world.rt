@@ -1,19 +1,18 @@
 //! Two ends, and what happened to them.
 ghost use Rattle.std.specs.Prelude.{◌≡◌, length, reverse, true, Some, None, IfSome, IfNone, IfOk, IfErr};
-ghost use Rattle.qs_world.specs.Events.{fits};
-ghost use Rattle.qs_world.specs.Logs.{made, payload};
-ghost use Rattle.qs_world.specs.Worlds.{world_made};
+ghost use Rattle.qs_calls.specs.Events.{fits};
+ghost use Rattle.qs_runs.specs.Logs.{made, payload};
+ghost use Rattle.qs_runs.specs.Worlds.{world_made};
 ghost use Rattle.qs_world.specs.Reports.{IsReport};
 ghost use Rattle.qs_world.specs.Plays.{begun, PlayStep, HasAgreed, IsReportOf};
 ghost use Rattle.qs_world.specs.declared.report.PlayFault.TheVariants.{NoMemory};
 
-use crate::answer::Answer;
-use crate::event::{Event, Side};
 use crate::report::{PlayFault, Report};
 use crate::reporting::{all_lanes, end_totals, report_of};
 use calls::{room_of, twin};
 use happening::{buffer_of, happen, is_missing};
 use log::Log;
+use qs_calls::{Answer, Event, Side};
 use qs_conn::{Endpoint, Settings, SetupFault};
 use qs_wire::Role;
 use std::alloc::Global;
@@ -36,8 +35,8 @@ pub struct World {
 
 impl Model for World {
     ghost use Rattle.qs_world.specs.Plays.{Played, HasAgreed, played_code};
-    ghost use Rattle.qs_world.specs.contracts.event.Event as event;
-    ghost use Rattle.qs_world.specs.contracts.answer.Answer as answer;
+    ghost use Rattle.qs_calls.specs.contracts.event.Event as event;
+    ghost use Rattle.qs_calls.specs.contracts.answer.Answer as answer;
 
     ghost Value = { Played };
 
@@ -123,14 +122,13 @@ impl World {
         ensures ok { IfOk result (IsReport self.log self.ends) }
         ensures err { IfErr result (λ fault. fault ≡ NoMemory) }
     {
-        let Ok(lanes) = all_lanes(self.alloc, &self.a, &self.b) else {
-            return Err(PlayFault::NoMemory);
-        };
-        Ok(Report {
-            ends: [end_totals(&self.a), end_totals(&self.b)],
-            log: self.log.into_entries(),
-            lanes,
-        })
+        let lanes = all_lanes(self.alloc, &self.a, &self.b);
+        let ends = [end_totals(&self.a), end_totals(&self.b)];
+        let log = self.into_log();
+        match lanes {
+            Ok(lanes) => Ok(Report { log, lanes, ends }),
+            Err(_refused) => Err(PlayFault::NoMemory),
+        }
     }
 
     /// What happened, in order.

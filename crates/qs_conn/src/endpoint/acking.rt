@@ -2,7 +2,7 @@
 ghost use Rattle.std.specs.Prelude.{◌<◌, ◌^◌, true, false};
 ghost use Rattle.qs_wire.specs.Varint.{numbers_of};
 ghost use Rattle.qs_wire.specs.Layout.{ack_ranges_of};
-ghost use Rattle.qs_conn.specs.Outgoing.{IsIdle};
+ghost use Rattle.qs_machine.specs.Outgoing.{IsIdle};
 ghost use Rattle.qs_conn.specs.Runs.{AcksAhead, AcksNamed, AcksPacket, AcksRanges};
 
 use crate::outbox::Outbox;

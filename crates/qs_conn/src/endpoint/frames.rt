@@ -4,9 +4,9 @@ ghost use Rattle.qs_ranges.specs.Numbers.{MAX_VARINT};
 ghost use Rattle.qs_wire.specs.Layout.{view};
 ghost use Rattle.qs_wire.specs.Grammar.{Fits};
 ghost use Rattle.qs_recv.specs.Lane.{check_stream, check_reset};
-ghost use Rattle.qs_conn.specs.Credit.{grant};
-ghost use Rattle.qs_conn.specs.Seen.{seen};
-ghost use Rattle.qs_conn.specs.Verdicts.{or_else, ack_fault, state_fault_in, state_fault_out, credit_fault, bytes_fault, fault_code, lane_of, verdict};
+ghost use Rattle.qs_machine.specs.Credit.{grant};
+ghost use Rattle.qs_machine.specs.Seen.{seen};
+ghost use Rattle.qs_machine.specs.Verdicts.{or_else, ack_fault, state_fault_in, state_fault_out, credit_fault, bytes_fault, fault_code, lane_of, verdict};
 
 use super::{Endpoint, is_uni};
 use qs_recv::{Highest, RecvFault};
@@ -25,7 +25,7 @@ const PROTOCOL_VIOLATION: u64 = 0x0a;
 
 impl Endpoint {
     // The code with which a frame closes the connection.
-    #[tactic(auto, unfolding(crate::specs::Verdicts::verdict))]
+    #[tactic(auto, unfolding(qs_machine::specs::Verdicts::verdict))]
     pub(super) fn verdict(&self, frame: &Frame<'_>) -> Option<u64>
         requires { Fits (view frame.now) }
         ensures { result ≡ verdict self.now (seen (view frame.now)) }

@@ -1,12 +1,12 @@
 //! A packet is declared lost.
 ghost use Rattle.std.specs.Prelude.{◌≡◌};
-ghost use Rattle.qs_conn.specs.Making.{LoseStep, lose_refusal};
-ghost use Rattle.qs_conn.specs.Outgoing.{IsIdle, NoneEmpty};
+ghost use Rattle.qs_machine.specs.Making.{LoseStep, lose_refusal};
+ghost use Rattle.qs_machine.specs.Outgoing.{IsIdle, NoneEmpty};
 ghost use Rattle.qs_conn.specs.Runs.{Loses};
 
 use super::Endpoint;
-use crate::making::LostFault;
 use crate::outbox::Outbox;
+use qs_calls::LostFault;
 use qs_ranges::NoMemory;
 
 impl Endpoint {

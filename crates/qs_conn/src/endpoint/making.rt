@@ -1,12 +1,12 @@
 //! Packets are made.
 ghost use Rattle.std.specs.Prelude.{◌≡◌, ◌≤◌, length};
-ghost use Rattle.qs_conn.specs.Making.{MakeStep};
+ghost use Rattle.qs_machine.specs.Making.{MakeStep};
 ghost use Rattle.qs_conn.specs.Filling.{end_by, made_text};
 
 use super::Endpoint;
 use crate::filling::fill;
-use crate::making::{Made, MakeFault};
 use crate::terms::Terms;
+use qs_calls::{Made, MakeFault};
 
 /// The largest packet number (RFC 9000, section 12.3).
 const MAX_NUMBER: u64 = (1 << 62) - 1;

@@ -3,17 +3,17 @@ ghost use Rattle.std.specs.Prelude.{◌≡◌, ◌≤◌, ◌<◌, ◌^◌, leng
 ghost use Rattle.qs_ranges.specs.Numbers.{MAX_VARINT};
 ghost use Rattle.qs_recv.specs.Lane.{new_lane as new_recv_lane};
 ghost use Rattle.qs_send.specs.Lane.{new_lane as new_send_lane};
-ghost use Rattle.qs_conn.specs.Tables.{open_to};
-ghost use Rattle.qs_conn.specs.Ends.{opens, opened_by_peer};
-ghost use Rattle.qs_conn.specs.Credit.{settle};
-ghost use Rattle.qs_conn.specs.Due.{known_count};
-ghost use Rattle.qs_conn.specs.Outgoing.{with_sends};
-ghost use Rattle.qs_conn.specs.Owner.{OpenStep, AcceptStep, own_kind, peer_kind, opened_count, with_wanted};
+ghost use Rattle.qs_machine.specs.Tables.{open_to};
+ghost use Rattle.qs_machine.specs.Ends.{opens, opened_by_peer};
+ghost use Rattle.qs_machine.specs.Credit.{settle};
+ghost use Rattle.qs_machine.specs.Due.{known_count};
+ghost use Rattle.qs_machine.specs.Outgoing.{with_sends};
+ghost use Rattle.qs_machine.specs.Owner.{OpenStep, AcceptStep, own_kind, peer_kind, opened_count, with_wanted};
 
 use super::{Endpoint, is_uni, role_bit};
 use crate::outbox::Outbox;
 use crate::recv_tables::RecvTables;
-use crate::uses::OpenFault;
+use qs_calls::OpenFault;
 use qs_ranges::NoMemory;
 use qs_wire::{Dir, StreamId};
 

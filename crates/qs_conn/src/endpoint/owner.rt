@@ -1,13 +1,11 @@
 //! What an end's owner does with its streams.
 ghost use Rattle.std.specs.Prelude.{◌≡◌, ◌<◌, ◌^◌, ◌++◌, List, length, drop, ℕ};
-ghost use Rattle.qs_conn.specs.Owner.{WriteStep, FinishStep, ResetStep, StopStep, ReadStep, no_half, use_fault};
-ghost use Rattle.qs_conn.specs.Reports.{lane_report, own_closing};
+ghost use Rattle.qs_machine.specs.Owner.{WriteStep, FinishStep, ResetStep, StopStep, ReadStep, no_half, use_fault};
+ghost use Rattle.qs_machine.specs.Reports.{lane_report, own_closing};
 ghost use Rattle.qs_conn.specs.Layers.{no_sender, no_receiver};
 
 use super::Endpoint;
-use crate::closing::{Closed, Closing};
-use crate::report::LaneReport;
-use crate::uses::UseFault;
+use qs_calls::{Closed, Closing, LaneReport, UseFault};
 use qs_recv::Read;
 use qs_send::SendFault;
 use qs_wire::StreamId;

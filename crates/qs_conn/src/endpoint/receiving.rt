@@ -3,13 +3,13 @@ ghost use Rattle.std.specs.Prelude.{◌≡◌, ◌<◌, ◌^◌};
 ghost use Rattle.qs_wire.specs.Layout.{view};
 ghost use Rattle.qs_wire.specs.Grammar.{Fits};
 ghost use Rattle.qs_wire.specs.Reading.{view_placed};
-ghost use Rattle.qs_conn.specs.Ends.{closes};
-ghost use Rattle.qs_conn.specs.Seen.{seen, asks_ack};
-ghost use Rattle.qs_conn.specs.Receiving.{ReceiveStep, TakesPayload, AtEnd, closing_at, closing_of};
+ghost use Rattle.qs_machine.specs.Ends.{closes};
+ghost use Rattle.qs_machine.specs.Seen.{seen, asks_ack};
+ghost use Rattle.qs_machine.specs.Receiving.{ReceiveStep, TakesPayload, AtEnd, closing_at, closing_of};
 ghost use Rattle.qs_conn.specs.Layers.{TakesFrame, close_code};
 
 use super::Endpoint;
-use crate::closing::{Closed, Closing, Received};
+use qs_calls::{Closed, Closing, Received};
 use qs_wire::{Frame, Frames, Placed, WireFault};
 
 /// What one frame does to the processing of its payload.

@@ -2,7 +2,7 @@
 ghost use Rattle.std.specs.Prelude.{◌≡◌, ◌<◌, ◌^◌, ◌||◌, if◌then◌else◌, OnOk, OnErr};
 ghost use Rattle.std.specs.FinSet as set;
 ghost use Rattle.qs_ranges.specs.Numbers.{numbers};
-ghost use Rattle.qs_conn.specs.Recording.{has_too_many, least_in, lowest_end, recorded};
+ghost use Rattle.qs_machine.specs.Recording.{has_too_many, least_in, lowest_end, recorded};
 
 use super::Endpoint;
 use qs_ranges::{NoMemory, RangeSet};
@@ -37,7 +37,7 @@ fn trim(done: &mut RangeSet, floor: u64) -> u64
     end
 }
 
-#[tactic(auto, unfolding(crate::specs::Recording::has_too_many))]
+#[tactic(auto, unfolding(qs_machine::specs::Recording::has_too_many))]
 fn has_too_many(done: &RangeSet) -> bool
     ensures { result ≡ has_too_many done.now }
 {

@@ -5,10 +5,10 @@ ghost use Rattle.qs_wire.specs.Varint.{numbers_of};
 ghost use Rattle.qs_wire.specs.Layout.{view, taken, ack_ranges_of};
 ghost use Rattle.qs_wire.specs.Grammar.{Fits};
 ghost use Rattle.qs_send.specs.declared.piece.Item.TheVariants as items;
-ghost use Rattle.qs_conn.specs.Seen.{seen, Ack, Stream, Control};
-ghost use Rattle.qs_conn.specs.Verdicts.{state_fault_out, verdict};
-ghost use Rattle.qs_conn.specs.FrameStep.{named, acks, item_taken, frame_taken};
-ghost use Rattle.qs_conn.specs.Receiving.{RunsOut};
+ghost use Rattle.qs_machine.specs.Seen.{seen, Ack, Stream, Control};
+ghost use Rattle.qs_machine.specs.Verdicts.{state_fault_out, verdict};
+ghost use Rattle.qs_machine.specs.FrameStep.{named, acks, item_taken, frame_taken};
+ghost use Rattle.qs_machine.specs.Receiving.{RunsOut};
 
 use super::Endpoint;
 use super::acking::ack_ranges;
@@ -17,7 +17,7 @@ use qs_wire::{Dir, Frame, StreamId};
 
 impl Endpoint {
     // A frame takes effect, or finds no memory and changes nothing; of an ACK some packets may be acknowledged then.
-    #[tactic(auto, unfolding(crate::specs::FrameStep::frame_taken))]
+    #[tactic(auto, unfolding(qs_machine::specs::FrameStep::frame_taken))]
     pub(super) fn take(&mut self, frame: &Frame<'_>) -> Result<(), NoMemory>
         requires fits { Fits (view frame.now) }
         requires passed { verdict self.old (seen (view frame.now)) ≡ None }
@@ -129,7 +129,7 @@ impl Endpoint {
     }
 
     // Bytes of a stream came.
-    #[tactic(auto, unfolding(crate::specs::FrameStep::frame_taken))]
+    #[tactic(auto, unfolding(qs_machine::specs::FrameStep::frame_taken))]
     fn take_stream(
         &mut self,
         stream: StreamId,

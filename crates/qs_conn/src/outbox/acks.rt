@@ -6,8 +6,8 @@ ghost use Rattle.qs_send.specs.declared.piece.Piece.TheVariants as pieces;
 ghost use Rattle.qs_send.specs.Records.{Among};
 ghost use Rattle.qs_send.specs.AckPass.{Falls, IsNextNamed};
 ghost use Rattle.qs_send.specs.Lane.{Sending, after_reset_acked};
-ghost use Rattle.qs_conn.specs.Tables.{lookup, updated};
-ghost use Rattle.qs_conn.specs.Outgoing.{first_piece, first_acked_out, first_lost_out, acked_at, IsIdle, IsSentPiece, NoneEmpty, item_noted, halves_acked, items_acked, halves_lost};
+ghost use Rattle.qs_machine.specs.Tables.{lookup, updated};
+ghost use Rattle.qs_machine.specs.Outgoing.{first_piece, first_acked_out, first_lost_out, acked_at, IsIdle, IsSentPiece, NoneEmpty, item_noted, halves_acked, items_acked, halves_lost};
 
 use super::Outbox;
 use crate::send_tables::SendTables;

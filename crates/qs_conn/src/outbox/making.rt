@@ -4,9 +4,9 @@ ghost use Rattle.qs_ranges.specs.Numbers.{MAX_VARINT};
 ghost use Rattle.qs_send.specs.declared.piece.Piece.TheVariants as pieces;
 ghost use Rattle.qs_send.specs.Lane.{Sending, sent_lane, bytes_of, after_blocked};
 ghost use Rattle.qs_send.specs.Chunks.{IsDueChunk, IsHeldByRoom, HasBytes};
-ghost use Rattle.qs_conn.specs.Tables.{lookup, updated};
-ghost use Rattle.qs_conn.specs.Layers.{or_none};
-ghost use Rattle.qs_conn.specs.Outgoing.{on_lane, sent_sum, chunk_put, item_put_out, HasSending, ChunkFound, MayTell, IsCarried, IsIdle, AreBelow, halves_told, with_pending};
+ghost use Rattle.qs_machine.specs.Tables.{lookup, updated};
+ghost use Rattle.qs_machine.specs.Sums.{or_none};
+ghost use Rattle.qs_machine.specs.Outgoing.{on_lane, sent_sum, chunk_put, item_put_out, HasSending, ChunkFound, MayTell, IsCarried, IsIdle, AreBelow, halves_told, with_pending};
 
 use super::Outbox;
 use crate::send_tables::SendTables;

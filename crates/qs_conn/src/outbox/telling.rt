@@ -2,10 +2,10 @@
 ghost use Rattle.std.specs.Prelude.{◌≡◌, ◌≤◌, ◌^◌, ◌↔◌, IsTrue, ℕ, IfSome, IfNone};
 ghost use Rattle.qs_ranges.specs.Numbers.{MAX_VARINT};
 ghost use Rattle.qs_send.specs.declared.piece.Piece.TheVariants as pieces;
-ghost use Rattle.qs_conn.specs.Tables.{lookup};
-ghost use Rattle.qs_conn.specs.Layers.{or_none};
+ghost use Rattle.qs_machine.specs.Tables.{lookup};
+ghost use Rattle.qs_machine.specs.Sums.{or_none};
 ghost use Rattle.qs_conn.specs.Marks.{IsBefore, IsQuietAt};
-ghost use Rattle.qs_conn.specs.Outgoing.{IsCarried, IsAckedOut, IsAckedReset, IsBlockedAt, WantsMore, reset_by};
+ghost use Rattle.qs_machine.specs.Outgoing.{IsCarried, IsAckedOut, IsAckedReset, IsBlockedAt, WantsMore, reset_by};
 
 use super::Outbox;
 use qs_send::{Item, Reset, SendState};

@@ -1,6 +1,6 @@
 //! The texts of reports and of scripts.
 
-use crate::play_text::{play_text, script_text};
+use qs_cli::{play_text, script_text};
 use qs_world::{
     Act, Answer, Closing, EndTotals, Event, LostFault, MakeFault, OpenFault, Read, Received,
     Report, Side, UseFault, parse_script,

@@ -2,7 +2,7 @@
 
 use crate::input::read_whole;
 use crate::request::Request;
-use crate::status::Status;
+use qs_cli::Status;
 use std::alloc::Global;
 use std::process::Abort;
 use std::test::Fail;

@@ -1,7 +1,6 @@
 //! What scripts are answered with.
 
-use crate::scripts::{run_events, run_play, run_random};
-use crate::status::Status;
+use qs_cli::{Status, run_events, run_play, run_random};
 use qs_world::{parse_script, random_script, standard_settings};
 use std::alloc::Global;
 use std::process::Abort;

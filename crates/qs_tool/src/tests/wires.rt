@@ -1,10 +1,6 @@
 //! What scripts come to over a wire.
 
-use crate::carrying::run_udp;
-use crate::memory_wire::MemoryWire;
-use crate::status::Status;
-use crate::udp_wire::UdpWire;
-use crate::wire::Wire;
+use qs_cli::{MemoryWire, Status, UdpWire, Wire, run_udp};
 use qs_world::Side;
 use std::alloc::{AllocError, Global};
 use std::process::Abort;

@@ -1,13 +1,13 @@
 //! A line of a script.
 
 ghost use Rattle.std.specs.Prelude.{◌≡◌, IfOk, IfSome, true};
-ghost use Rattle.qs_world.specs.Events.{act_fits, fits};
+ghost use Rattle.qs_calls.specs.Events.{act_fits, fits};
 
-use crate::event::{Act, Event, MAX_BYTES, MAX_ROOM, MIN_ROOM};
 use crate::script::Reason;
 use crate::script::words::{
     first_words, parse_bytes, parse_dir, parse_number, parse_side, parse_size, parse_stream,
 };
+use qs_calls::{Act, Event, MAX_BYTES, MAX_ROOM, MIN_ROOM};
 use std::alloc::Global;
 
 /// The first word of a line.

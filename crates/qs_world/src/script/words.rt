@@ -2,8 +2,8 @@
 
 ghost use Rattle.std.specs.Prelude.{◌≡◌, ◌≤◌, length, IfOk};
 
-use crate::event::{MAX_BYTES, MAX_VARINT, Side};
 use crate::script::Reason;
+use qs_calls::{MAX_BYTES, MAX_VARINT, Side};
 use qs_wire::{Dir, StreamId};
 use std::alloc::Global;
 use std::str;

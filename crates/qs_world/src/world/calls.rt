@@ -1,14 +1,13 @@
 //! What an end's owner does.
 ghost use Rattle.std.specs.Prelude.{◌≡◌, ◌≤◌, ◌<◌, ◌^◌, length, false, true};
-ghost use Rattle.qs_world.specs.Events.{act_fits};
-ghost use Rattle.qs_world.specs.declared.event.Act.TheVariants.{ReadUpTo, Make};
-ghost use Rattle.qs_world.specs.Logs.{is_delivery};
-ghost use Rattle.qs_world.specs.Worlds.{OwnStep};
+ghost use Rattle.qs_calls.specs.Events.{act_fits};
+ghost use Rattle.qs_calls.specs.declared.event.Act.TheVariants.{ReadUpTo, Make};
+ghost use Rattle.qs_runs.specs.Logs.{is_delivery};
+ghost use Rattle.qs_runs.specs.Worlds.{OwnStep};
 ghost use Rattle.qs_world.specs.Buffers.{room_of, bytes_of, count_read, count_made};
 ghost use Rattle.qs_world.specs.Plays.{SameAnswer};
 
-use crate::answer::Answer;
-use crate::event::Act;
+use qs_calls::{Act, Answer};
 use qs_conn::{Endpoint, Made, MakeFault, UseFault};
 use qs_recv::Read;
 use qs_wire::StreamId;

@@ -1,16 +1,15 @@
 //! One event happens to two ends.
 ghost use Rattle.std.specs.Prelude.{◌≡◌, ◌≤◌, ◌<◌, ◌^◌, List, ℕ, length, true, None, Some, IfOk, MatchBool};
-ghost use Rattle.qs_conn.specs.Receiving.{ReceiveStep};
+ghost use Rattle.qs_machine.specs.Receiving.{ReceiveStep};
 ghost use Rattle.qs_world.specs.Buffers.{room_of, bytes_of};
-ghost use Rattle.qs_world.specs.Events.{act_fits, fits};
-ghost use Rattle.qs_world.specs.Logs.{payload};
+ghost use Rattle.qs_calls.specs.Events.{act_fits, fits};
+ghost use Rattle.qs_runs.specs.Logs.{payload};
 ghost use Rattle.qs_world.specs.Plays.{IsMissing, IsMissingBy, world_by};
-ghost use Rattle.qs_world.specs.Worlds.{WorldStep, StepBy};
+ghost use Rattle.qs_runs.specs.Worlds.{WorldStep, StepBy};
 
 use super::calls::own_call;
 use super::log::Log;
-use crate::answer::Answer;
-use crate::event::{Act, Event, Side};
+use qs_calls::{Act, Answer, Event, Side};
 use qs_conn::{Closing, Endpoint, Received};
 use std::alloc::{AllocError, Global};
 

@@ -1,10 +1,9 @@
 //! The log of a world, in which a payload is found by its number.
 ghost use Rattle.std.specs.Prelude.{◌≡◌, ◌+◌, ◌<◌, ◌≤◌, ◌^◌, ◌++◌, ◌∷◌, [], length, reverse, true, Some, None, IfSome, IfNone, OnOk, OnErr, vec_len, vec_capacity, slice_get, if◌then◌else◌};
-ghost use Rattle.qs_world.specs.Logs.{made, payload, same_side};
+ghost use Rattle.qs_runs.specs.Logs.{made, payload, same_side};
 ghost use Rattle.qs_world.specs.Places.{ArePlaces, IsPlaceOf, makes, makes_by, text_of};
 
-use crate::answer::Answer;
-use crate::event::{Act, Event, Side};
+use qs_calls::{Act, Answer, Event, Side};
 use std::alloc::{AllocError, Global};
 use std::marker::Model;
 
@@ -20,11 +19,11 @@ pub(crate) struct Log {
 
 impl Model for Log {
     ghost use Rattle.std.specs.Prelude.{◌&&◌, reverse, nat_lt, vec_len, vec_capacity};
-    ghost use Rattle.qs_world.specs.declared.event.Side.TheVariants.{A, B};
-    ghost use Rattle.qs_world.specs.Logs.{made};
+    ghost use Rattle.qs_calls.specs.declared.event.Side.TheVariants.{A, B};
+    ghost use Rattle.qs_runs.specs.Logs.{made};
     ghost use Rattle.qs_world.specs.Places.{Logged, logged_code, ArePlaces};
-    ghost use Rattle.qs_world.specs.contracts.event.Event as event;
-    ghost use Rattle.qs_world.specs.contracts.answer.Answer as answer;
+    ghost use Rattle.qs_calls.specs.contracts.event.Event as event;
+    ghost use Rattle.qs_calls.specs.contracts.answer.Answer as answer;
 
     ghost Value = { Logged };
 

@@ -1,7 +1,7 @@
 use Rattle.std.proofs.Common.{◌≡◌, ◌≤◌, arith, sym, ap, subst, ◌∙◌, take, length, false}
-use Rattle.qs_conn.specs.Ends.{End}
-use Rattle.qs_conn.specs.Credit.{all_sent}
-use Rattle.qs_conn.specs.Outgoing.{sent_sum}
+use Rattle.qs_machine.specs.Ends.{End}
+use Rattle.qs_machine.specs.Credit.{all_sent}
+use Rattle.qs_machine.specs.Outgoing.{sent_sum}
 use Rattle.qs_conn.specs.Filling.{end_by, no_slot, IsPassed, Begun}
 use Rattle.qs_conn.proofs.Flows.{flow_first}
 use Rattle.qs_conn.proofs.filling.fill.Goals as goal

@@ -1,6 +1,6 @@
 use Rattle.std.proofs.Common.{◌≡◌, ◌≤◌, ◌-◌, true, None, is_some, length, take, arith, refl, sym, ap, subst, ◌∙◌}
-use Rattle.qs_conn.specs.Tables.{lookup}
-use Rattle.qs_conn.specs.Outgoing.{sent_sum}
+use Rattle.qs_machine.specs.Tables.{lookup}
+use Rattle.qs_machine.specs.Outgoing.{sent_sum}
 use Rattle.qs_conn.specs.Filling.{end_by}
 use Rattle.qs_conn.proofs.Flows.{Chunking, flow_begins, may_go, sum_within, sum_small, chunking_put, still_open, none_stays, flow_ends}
 use Rattle.qs_conn.proofs.filling.put_chunks.Goals as goal

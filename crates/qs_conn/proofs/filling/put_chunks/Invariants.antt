@@ -1,8 +1,8 @@
 use Rattle.std.proofs.Common.{◌≡◌, ℕ, ◌-◌, ◌≤◌, true, None, is_some, length, take}
 use Rattle.qs_recv.specs.Lane.{RecvLane}
-use Rattle.qs_conn.specs.Tables.{Tables, lookup}
-use Rattle.qs_conn.specs.Ends.{End}
-use Rattle.qs_conn.specs.Outgoing.{sent_sum}
+use Rattle.qs_machine.specs.Tables.{Tables, lookup}
+use Rattle.qs_machine.specs.Ends.{End}
+use Rattle.qs_machine.specs.Outgoing.{sent_sum}
 use Rattle.qs_conn.specs.Filling.{end_by, HasSpare, Flow}
 use Rattle.qs_conn.proofs.Flows.{Chunking}
 use Rattle.qs_conn.proofs.filling.put_chunks.Given as goal

@@ -1,6 +1,6 @@
 use Rattle.std.proofs.Common.{◌≡◌, ℕ, ◌-◌, ◌≤◌, ◌^◌, length, take}
-use Rattle.qs_conn.specs.Ends.{End}
-use Rattle.qs_conn.specs.Outgoing.{sent_sum}
+use Rattle.qs_machine.specs.Ends.{End}
+use Rattle.qs_machine.specs.Outgoing.{sent_sum}
 use Rattle.qs_conn.specs.Filling.{end_by, HasSpare, Passed, and_below, Stage}
 use Rattle.qs_conn.proofs.filling.put_kind.Given as goal
 

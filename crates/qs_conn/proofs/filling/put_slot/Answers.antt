@@ -1,5 +1,5 @@
 use Rattle.std.proofs.Common.{take, inl}
-use Rattle.qs_conn.specs.Ends.{new_end}
+use Rattle.qs_machine.specs.Ends.{new_end}
 use Rattle.qs_conn.specs.Filling.{end_by}
 use Rattle.qs_conn.proofs.Putting.{stage_absent, stage_covered, stage_put}
 use Rattle.qs_conn.proofs.Slots.{may_tell}

@@ -1,6 +1,6 @@
 use Rattle.std.proofs.Common.{ℕ, ◌-◌, ◌<◌, ◌≤◌, ◌^◌}
-use Rattle.qs_conn.specs.Tables.{lookup}
-use Rattle.qs_conn.specs.Outgoing.{WantsMore}
+use Rattle.qs_machine.specs.Tables.{lookup}
+use Rattle.qs_machine.specs.Outgoing.{WantsMore}
 use Rattle.qs_conn.proofs.terms.any_wants_more.Given as goal
 
 abbrev pub invariant-loop-stream : goal.invariant-loop-stream

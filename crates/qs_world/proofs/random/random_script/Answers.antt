@@ -1,7 +1,7 @@
 use Rattle.std.proofs.Common.{◌≡◌, arith, map, reverse, true, rules}
 use Rattle.std.specs.List.{list_all}
 use Rattle.std.proofs.lemmas.Result.{IfOk-weaker}
-use Rattle.qs_world.specs.Events.{fits}
+use Rattle.qs_calls.specs.Events.{fits}
 use Rattle.qs_world.specs.Randoms.{IsRandomScript, seeded}
 use Rattle.qs_world.specs.declared.report.PlayFault.TheVariants.{NoMemory}
 use Rattle.qs_world.proofs.DrawnRuns.{begins_drawn, draws_more, is_script, script_fits}

@@ -1,5 +1,5 @@
 use Rattle.std.proofs.Common.{◌≡◌, length, arith}
-use Rattle.qs_world.specs.Worlds.{World}
+use Rattle.qs_runs.specs.Worlds.{World}
 use Rattle.qs_world.proofs.LaneLists.{index_more, lanes_end}
 use Rattle.qs_world.proofs.reporting.all_lanes.Goals as goal
 

@@ -1,6 +1,6 @@
 use Rattle.std.proofs.Common.{◌++◌, ◌*◌, ◌∙◌, ap}
 use Rattle.qs_world.specs.LaneLists.{lanes_of}
-use Rattle.qs_world.specs.Worlds.{World}
+use Rattle.qs_runs.specs.Worlds.{World}
 use Rattle.qs_world.proofs.LaneLists.{lanes_more}
 use Rattle.qs_world.proofs.reporting.push_index.Goals as goal
 

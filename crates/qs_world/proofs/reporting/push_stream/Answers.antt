@@ -1,5 +1,5 @@
 use Rattle.std.proofs.Common.{◌++◌, option_to_list, ◌∙◌}
-use Rattle.qs_world.specs.declared.event.Side.TheVariants.{A, B}
+use Rattle.qs_calls.specs.declared.event.Side.TheVariants.{A, B}
 use Rattle.qs_world.specs.LaneLists.{told_lane}
 use Rattle.qs_world.proofs.LaneLists.{stream_told}
 use Rattle.qs_world.proofs.reporting.push_stream.Goals as goal

@@ -1,6 +1,6 @@
 use Rattle.std.proofs.Common.{◌≡◌, ◌+◌, ◌≤◌, length, true}
 use Rattle.std.specs.List.{list_all}
-use Rattle.qs_world.specs.Events.{fits}
+use Rattle.qs_calls.specs.Events.{fits}
 use Rattle.qs_world.specs.Scripts.{lines_of}
 use Rattle.qs_world.proofs.script.parse_script.Given as goal
 

@@ -1,8 +1,8 @@
 use Rattle.std.proofs.Common.{refl, sym, ap, ◌∙◌, subst}
-use Rattle.qs_conn.specs.Ends.{End, window}
-use Rattle.qs_conn.specs.Outgoing.{Outgoing, IsIdle}
+use Rattle.qs_machine.specs.Ends.{End, window}
+use Rattle.qs_machine.specs.Outgoing.{Outgoing, IsIdle}
 use Rattle.qs_conn.specs.Filling.{IsFunded}
-use Rattle.qs_conn.proofs.Taken.{none_back, lost_back, unsent_back, out_back}
+use Rattle.qs_machine.proofs.Taken.{none_back, lost_back, unsent_back, out_back}
 use Rattle.qs_conn.proofs.Kept.{kept_opened}
 use Rattle.qs_conn.proofs.Runs.{idle_with}
 use Rattle.qs_conn.proofs.Funded.{funded_opened}

@@ -1,5 +1,5 @@
 use Rattle.std.proofs.Common.{refl, ◌∙◌}
-use Rattle.qs_conn.proofs.RunLaws.{insert_is_range}
+use Rattle.qs_machine.proofs.RunLaws.{insert_is_range}
 use Rattle.qs_conn.proofs.Funded.{funded_recorded}
 use Rattle.qs_conn.proofs.endpoint.Endpoint.record.Goals as goal
 

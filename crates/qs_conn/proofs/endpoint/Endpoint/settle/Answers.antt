@@ -1,9 +1,9 @@
 use Rattle.std.proofs.Common.{arith, refl, ap, sym, ◌∙◌, ℕ, subst}
 use Rattle.qs_recv.specs.Lane.{RecvLane, highest, taken, raise, next_limit}
-use Rattle.qs_conn.specs.Tables.{Tables, total}
-use Rattle.qs_conn.specs.Standing.{KeepsCredit}
-use Rattle.qs_conn.proofs.TableLaws.{total_each}
-use Rattle.qs_conn.proofs.Sound.{keeps_settle}
+use Rattle.qs_machine.specs.Tables.{Tables, total}
+use Rattle.qs_machine.specs.Standing.{KeepsCredit}
+use Rattle.qs_machine.proofs.TableLaws.{total_each}
+use Rattle.qs_machine.proofs.Sound.{keeps_settle}
 use Rattle.qs_conn.proofs.endpoint.Endpoint.settle.Goals as goal
 
 pub tally-taken-requires : goal.tally-taken-requires

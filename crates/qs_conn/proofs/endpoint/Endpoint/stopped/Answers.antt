@@ -1,5 +1,5 @@
 use Rattle.std.proofs.Common.{◌∙◌}
-use Rattle.qs_conn.proofs.Taken.{out_there}
+use Rattle.qs_machine.proofs.Taken.{out_there}
 use Rattle.qs_conn.proofs.Runs.{idle_with}
 use Rattle.qs_conn.proofs.Funded.{funded_reset}
 use Rattle.qs_conn.proofs.endpoint.Endpoint.stopped.Goals as goal

@@ -1,4 +1,4 @@
-use Rattle.qs_conn.proofs.Bounds.{within_credit}
+use Rattle.qs_machine.proofs.Bounds.{within_credit}
 use Rattle.qs_conn.proofs.endpoint.Endpoint.stored.Goals as goal
 
 pub returns-clause-within : goal.returns-clause-within

@@ -1,5 +1,5 @@
 use Rattle.std.proofs.Common.{arith}
-use Rattle.qs_conn.specs.Verdicts.{verdict}
+use Rattle.qs_machine.specs.Verdicts.{verdict}
 use Rattle.qs_conn.proofs.Funded.{funded_raised}
 use Rattle.qs_conn.proofs.endpoint.Endpoint.take.Goals as goal
 

@@ -1,8 +1,8 @@
 use Rattle.std.proofs.Common.{Result, length}
-use Rattle.qs_conn.specs.declared.closing.Closing.{Closing}
-use Rattle.qs_conn.specs.declared.closing.Received.{Received}
-use Rattle.qs_conn.specs.Ends.{End}
-use Rattle.qs_conn.specs.Receiving.{Takes, TakesPayload}
+use Rattle.qs_calls.specs.declared.closing.Closing.{Closing}
+use Rattle.qs_calls.specs.declared.closing.Received.{Received}
+use Rattle.qs_machine.specs.Ends.{End}
+use Rattle.qs_machine.specs.Receiving.{Takes, TakesPayload}
 use Rattle.qs_conn.proofs.endpoint.Endpoint.take_payload.Given as goal
 
 -- What is so from here on is so of the whole payload.

@@ -1,8 +1,8 @@
 use Rattle.std.proofs.Common.{is_some, ap, ◌∙◌, subst}
-use Rattle.qs_conn.specs.Ends.{End}
-use Rattle.qs_conn.specs.Standing.{IsSound}
+use Rattle.qs_machine.specs.Ends.{End}
+use Rattle.qs_machine.specs.Standing.{IsSound}
 use Rattle.qs_conn.proofs.Kept.{kept_recvs}
-use Rattle.qs_conn.proofs.Taken.{in_there, reset_in, reset_checked, reset_sound}
+use Rattle.qs_machine.proofs.Taken.{in_there, reset_in, reset_checked, reset_sound}
 use Rattle.qs_conn.proofs.endpoint.Endpoint.take_reset.Goals as goal
 
 pub take_reset-requires-clause-open : goal.take_reset-requires-clause-open

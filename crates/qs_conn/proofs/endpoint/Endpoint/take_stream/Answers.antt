@@ -1,14 +1,14 @@
 use Rattle.std.proofs.Common.{◌≡◌, is_some, length, sym, ap, ◌∙◌, subst, take, ◌%◌}
 use Rattle.qs_recv.specs.Lane.{RecvLane}
-use Rattle.qs_conn.specs.Tables.{Tables, table, with_table}
-use Rattle.qs_conn.specs.Ends.{End}
-use Rattle.qs_conn.specs.Standing.{IsSound}
-use Rattle.qs_conn.specs.Layers.{tally_on}
-use Rattle.qs_conn.specs.Outgoing.{Outgoing, AreOfOpen, sent_sum}
+use Rattle.qs_machine.specs.Tables.{Tables, table, with_table}
+use Rattle.qs_machine.specs.Ends.{End}
+use Rattle.qs_machine.specs.Standing.{IsSound}
+use Rattle.qs_machine.specs.Sums.{tally_on}
+use Rattle.qs_machine.specs.Outgoing.{Outgoing, AreOfOpen, sent_sum}
 use Rattle.qs_conn.proofs.Kept.{kept_recvs}
 use Rattle.qs_conn.proofs.Runs.{idle_with}
 use Rattle.qs_conn.proofs.Funded.{funded_same}
-use Rattle.qs_conn.proofs.Taken.{in_there, stream_in, stream_checked, stream_unchanged, stream_sound, recvs_back, tally_back, restored_out, peer_none, peer_lost, peer_unsent, back_sound}
+use Rattle.qs_machine.proofs.Taken.{in_there, stream_in, stream_checked, stream_unchanged, stream_sound, recvs_back, tally_back, restored_out, peer_none, peer_lost, peer_unsent, back_sound}
 use Rattle.qs_conn.proofs.endpoint.Endpoint.take_stream.Goals as goal
 
 pub take_stream-requires-clause-open : goal.take_stream-requires-clause-open

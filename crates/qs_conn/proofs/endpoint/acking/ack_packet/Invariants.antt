@@ -1,6 +1,6 @@
 use Rattle.std.proofs.Common.{Result, false}
 use Rattle.qs_ranges.specs.declared.NoMemory.{NoMemory}
-use Rattle.qs_conn.specs.Outgoing.{Outgoing, IsIdle}
+use Rattle.qs_machine.specs.Outgoing.{Outgoing, IsIdle}
 use Rattle.qs_conn.specs.Runs.{AcksPacket, pieces_left}
 use Rattle.qs_conn.proofs.endpoint.acking.ack_packet.Given as goal
 

@@ -6,8 +6,8 @@ use Rattle.std.proofs.lemmas.Bool.{both_ways, or_left, eq-eqb}
 use Rattle.qs_ranges.proofs.Algebra.{has_empty}
 use Rattle.std.specs.FinSet as set
 use Rattle.qs_ranges.specs.Numbers.{NumberSet}
-use Rattle.qs_conn.specs.Recording.{least_in}
-use Rattle.qs_conn.proofs.RunLaws.{least_member}
+use Rattle.qs_machine.specs.Recording.{least_in}
+use Rattle.qs_machine.proofs.RunLaws.{least_member}
 use Rattle.qs_conn.proofs.endpoint.recording.lowest.Goals as goal
 
 pub returns-in-Some : goal.returns-in-Some

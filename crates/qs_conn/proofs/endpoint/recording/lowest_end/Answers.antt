@@ -1,7 +1,7 @@
 use Rattle.std.proofs.Common.{ap, ◌∙◌}
 use Rattle.qs_ranges.specs.Numbers.{missing_from}
 use Rattle.qs_ranges.proofs.Sets.{missing_from-of}
-use Rattle.qs_conn.specs.Recording.{lowest_end}
+use Rattle.qs_machine.specs.Recording.{lowest_end}
 use Rattle.qs_conn.proofs.endpoint.recording.lowest_end.Goals as goal
 
 pub returns : goal.returns

@@ -1,6 +1,6 @@
 use Rattle.std.proofs.Common.{refl}
 use Rattle.qs_conn.proofs.OutboxAcks.{first_in, box_late, lost_left, late_value}
-use Rattle.qs_conn.proofs.LostSent.{sent_acked, sent_less}
+use Rattle.qs_machine.proofs.LostSent.{sent_acked, sent_less}
 use Rattle.qs_conn.proofs.outbox.Outbox.ack_lost_first.Goals as goal
 
 pub piece_acked-requires : goal.piece_acked-requires

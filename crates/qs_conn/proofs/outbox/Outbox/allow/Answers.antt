@@ -1,9 +1,9 @@
 use Rattle.std.proofs.Common.{ap, ◌∙◌, refl}
 use Rattle.qs_send.specs.Lane.{allow_lane, after_allow}
-use Rattle.qs_conn.specs.Outgoing.{lanes_of}
-use Rattle.qs_conn.proofs.LaneTables.{lanes_updated}
+use Rattle.qs_machine.specs.Outgoing.{lanes_of}
+use Rattle.qs_machine.proofs.LaneTables.{lanes_updated}
 use Rattle.qs_conn.proofs.Outboxes.{half_there, lane_step, box_allowed}
-use Rattle.qs_conn.proofs.LostSent.{sent_allow}
+use Rattle.qs_machine.proofs.LostSent.{sent_allow}
 use Rattle.qs_conn.proofs.outbox.Outbox.allow.Goals as goal
 
 pub allow-requires-clause-there : goal.allow-requires-clause-there

@@ -1,6 +1,6 @@
 use Rattle.std.proofs.Common.{subst}
-use Rattle.qs_conn.specs.Outgoing.{Outgoing, AreOfOpen}
-use Rattle.qs_conn.proofs.LostSent.{all_open}
+use Rattle.qs_machine.specs.Outgoing.{Outgoing, AreOfOpen}
+use Rattle.qs_machine.proofs.LostSent.{all_open}
 use Rattle.qs_conn.proofs.outbox.Outbox.are_of_open.Goals as goal
 
 pub returns-clause-lost : goal.returns-clause-lost

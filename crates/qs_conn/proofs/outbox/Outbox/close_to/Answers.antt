@@ -1,9 +1,9 @@
 use Rattle.std.proofs.Common.{ap, ◌∙◌, take, ◌%◌}
-use Rattle.qs_conn.specs.Tables.{table, with_table}
-use Rattle.qs_conn.specs.Outgoing.{lanes_of}
-use Rattle.qs_conn.proofs.LaneTables.{lanes_closed}
+use Rattle.qs_machine.specs.Tables.{table, with_table}
+use Rattle.qs_machine.specs.Outgoing.{lanes_of}
+use Rattle.qs_machine.proofs.LaneTables.{lanes_closed}
 use Rattle.qs_conn.proofs.Outboxes.{sends_step, box_closed}
-use Rattle.qs_conn.proofs.LostSent.{sent_close}
+use Rattle.qs_machine.proofs.LostSent.{sent_close}
 use Rattle.qs_conn.proofs.outbox.Outbox.close_to.Goals as goal
 
 pub invariant_of-self : goal.invariant_of-self

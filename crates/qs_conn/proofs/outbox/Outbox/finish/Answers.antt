@@ -1,9 +1,9 @@
 use Rattle.std.proofs.Common.{ap, ◌∙◌, refl, sym}
 use Rattle.qs_send.specs.Lane.{refusal, answer_of, finish_lane}
-use Rattle.qs_conn.specs.Outgoing.{lanes_of}
-use Rattle.qs_conn.proofs.TableEdits.{on_ok}
+use Rattle.qs_machine.specs.Outgoing.{lanes_of}
+use Rattle.qs_machine.proofs.TableEdits.{on_ok}
 use Rattle.qs_conn.proofs.Outboxes.{half_there, lane_now, lane_step, same_step, box_finished, finish_ok, finish_err, on_error}
-use Rattle.qs_conn.proofs.LostSent.{sent_finish}
+use Rattle.qs_machine.proofs.LostSent.{sent_finish}
 use Rattle.qs_conn.proofs.outbox.Outbox.finish.Goals as goal
 
 pub get-requires : goal.get-requires

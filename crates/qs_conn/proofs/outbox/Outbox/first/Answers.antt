@@ -1,7 +1,7 @@
 use Rattle.std.proofs.Common.{refl, ◌∙◌, ap}
 use Rattle.std.specs.FinMap as fmap
-use Rattle.qs_conn.specs.Ends.{Records}
-use Rattle.qs_conn.specs.Outgoing.{first_piece}
+use Rattle.qs_machine.specs.Ends.{Records}
+use Rattle.qs_machine.specs.Outgoing.{first_piece}
 use Rattle.qs_conn.proofs.OutboxAcks.{idle_out}
 use Rattle.qs_conn.proofs.outbox.Outbox.first.Goals as goal
 

@@ -2,7 +2,7 @@ use Rattle.std.proofs.Common.{◌≡◌, ◌≤◌, ℕ, refl, arith}
 use Rattle.qs_conn.proofs.OutboxMaking.{room_stays}
 use Rattle.qs_conn.proofs.OutboxAcks.{idle_none, first_at, tied_at, sent_piece, box_lost, lost_value, lost_added, idle_after}
 use Rattle.qs_conn.proofs.Indexed.{indexed_first_gone}
-use Rattle.qs_conn.proofs.LostSent.{sent_lost}
+use Rattle.qs_machine.proofs.LostSent.{sent_lost}
 use Rattle.qs_conn.proofs.outbox.Outbox.lose_first.Goals as goal
 
 kept : {a b : ℕ} → a ≡ b → b ≤ a

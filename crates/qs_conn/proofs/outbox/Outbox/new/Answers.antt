@@ -1,8 +1,8 @@
 use Rattle.std.proofs.Common.{refl, ap, ◌∙◌}
-use Rattle.qs_conn.specs.Outgoing.{with_pending}
+use Rattle.qs_machine.specs.Outgoing.{with_pending}
 use Rattle.qs_conn.proofs.Outboxes.{box_new}
 use Rattle.qs_conn.proofs.Indexed.{indexed_new}
-use Rattle.qs_conn.proofs.LostSent.{sent_none}
+use Rattle.qs_machine.proofs.LostSent.{sent_none}
 use Rattle.qs_conn.proofs.outbox.Outbox.new.Goals as goal
 
 pub invariant_of-result : goal.invariant_of-result

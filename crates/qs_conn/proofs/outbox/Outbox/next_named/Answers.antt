@@ -1,6 +1,6 @@
 use Rattle.std.proofs.Common.{refl, subst}
 use Rattle.qs_send.specs.AckPass.{IsNextNamed}
-use Rattle.qs_conn.specs.Ends.{Records}
+use Rattle.qs_machine.specs.Ends.{Records}
 use Rattle.qs_conn.proofs.OutboxAcks.{idle_out}
 use Rattle.qs_conn.proofs.outbox.Outbox.next_named.Goals as goal
 

@@ -1,6 +1,6 @@
 use Rattle.std.proofs.Common.{refl, subst}
-use Rattle.qs_conn.specs.Ends.{Records}
-use Rattle.qs_conn.specs.Outgoing.{NoneEmpty}
+use Rattle.qs_machine.specs.Ends.{Records}
+use Rattle.qs_machine.specs.Outgoing.{NoneEmpty}
 use Rattle.qs_conn.proofs.OutboxAcks.{idle_out}
 use Rattle.qs_conn.proofs.outbox.Outbox.none_is_empty.Goals as goal
 

@@ -1,11 +1,11 @@
 use Rattle.std.proofs.Common.{ap, ◌∙◌}
 use Rattle.qs_send.specs.Lane.{new_lane, new_sending}
-use Rattle.qs_conn.specs.Tables.{open_to}
-use Rattle.qs_conn.specs.Outgoing.{lanes_of}
-use Rattle.qs_conn.proofs.TableEdits.{on_ok}
-use Rattle.qs_conn.proofs.LaneTables.{lanes_opened}
+use Rattle.qs_machine.specs.Tables.{open_to}
+use Rattle.qs_machine.specs.Outgoing.{lanes_of}
+use Rattle.qs_machine.proofs.TableEdits.{on_ok}
+use Rattle.qs_machine.proofs.LaneTables.{lanes_opened}
 use Rattle.qs_conn.proofs.Outboxes.{sends_step, same_step, on_error, box_open}
-use Rattle.qs_conn.proofs.LostSent.{sent_open}
+use Rattle.qs_machine.proofs.LostSent.{sent_open}
 use Rattle.qs_conn.proofs.outbox.Outbox.open_to.Goals as goal
 
 pub invariant_of-self : goal.invariant_of-self

@@ -2,11 +2,11 @@ use Rattle.std.proofs.Common.{refl, subst, sym, ap, ◌∙◌, arith, ◌≤◌,
 use Rattle.qs_ranges.specs.Numbers.{MAX_VARINT}
 use Rattle.qs_send.specs.Lane.{Sending}
 use Rattle.qs_send.specs.Chunks.{IsDueChunk}
-use Rattle.qs_conn.specs.Layers.{or_no_sending}
+use Rattle.qs_machine.specs.Sums.{or_no_sending}
 use Rattle.qs_conn.proofs.Outboxes.{half_there, sending_is}
 use Rattle.qs_conn.proofs.OutboxMaking.{open_half, due_half, still_open, sent_half, end_within, sum_now, box_chunk, chunk_value}
 use Rattle.qs_conn.proofs.Indexed.{indexed_chunk_put}
-use Rattle.qs_conn.proofs.LostSent.{sent_put}
+use Rattle.qs_machine.proofs.LostSent.{sent_put}
 use Rattle.qs_conn.proofs.outbox.Outbox.put_chunk.Goals as goal
 
 pub get-half-requires : goal.get-half-requires

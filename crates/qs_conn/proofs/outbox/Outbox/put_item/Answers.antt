@@ -1,7 +1,7 @@
 use Rattle.std.proofs.Common.{refl, arith}
 use Rattle.qs_conn.proofs.OutboxMaking.{box_item, item_value, told_now}
 use Rattle.qs_conn.proofs.Indexed.{indexed_item_put}
-use Rattle.qs_conn.proofs.LostSent.{sent_told}
+use Rattle.qs_machine.proofs.LostSent.{sent_told}
 use Rattle.qs_conn.proofs.outbox.Outbox.put_item.Goals as goal
 
 pub insert-requires : goal.insert-requires

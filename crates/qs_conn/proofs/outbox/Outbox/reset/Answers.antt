@@ -1,9 +1,9 @@
 use Rattle.std.proofs.Common.{ap, ◌∙◌, refl, sym}
 use Rattle.qs_send.specs.Lane.{reset_refusal, answer_of, reset_lane, after_reset}
-use Rattle.qs_conn.specs.Outgoing.{lanes_of}
-use Rattle.qs_conn.proofs.LaneTables.{lanes_updated}
+use Rattle.qs_machine.specs.Outgoing.{lanes_of}
+use Rattle.qs_machine.proofs.LaneTables.{lanes_updated}
 use Rattle.qs_conn.proofs.Outboxes.{half_there, lane_now, lane_step, same_step, box_reset, reset_err, on_error}
-use Rattle.qs_conn.proofs.LostSent.{sent_reset}
+use Rattle.qs_machine.proofs.LostSent.{sent_reset}
 use Rattle.qs_conn.proofs.outbox.Outbox.reset.Goals as goal
 
 pub reset-requires-clause-open : goal.reset-requires-clause-open

@@ -1,5 +1,5 @@
 use Rattle.std.proofs.Common.{ap, ◌∙◌, sym}
-use Rattle.qs_conn.specs.Outgoing.{Outgoing, sent_sum}
+use Rattle.qs_machine.specs.Outgoing.{Outgoing, sent_sum}
 use Rattle.qs_conn.proofs.outbox.Outbox.sent_sum.Goals as goal
 
 pub returns-clause-value : goal.returns-clause-value

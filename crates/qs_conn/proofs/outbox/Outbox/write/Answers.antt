@@ -1,6 +1,6 @@
 use Rattle.std.proofs.Common.{refl}
 use Rattle.qs_conn.proofs.Outboxes.{half_there, box_written, write_ok, write_err}
-use Rattle.qs_conn.proofs.LostSent.{sent_write}
+use Rattle.qs_machine.proofs.LostSent.{sent_write}
 use Rattle.qs_conn.proofs.outbox.Outbox.write.Goals as goal
 
 pub get-requires : goal.get-requires

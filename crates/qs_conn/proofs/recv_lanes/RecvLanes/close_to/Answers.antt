@@ -2,7 +2,7 @@ use Rattle.std.proofs.Common.{arith, ◌∙◌}
 use Rattle.std.proofs.lemmas.List.{length-take}
 use Rattle.qs_conn.specs.Marks.{IsQuietLane}
 use Rattle.qs_conn.proofs.Marked.{marked_take}
-use Rattle.qs_conn.proofs.Tallies.{lawful_take}
+use Rattle.qs_machine.proofs.Tallies.{lawful_take}
 use Rattle.qs_conn.proofs.Settling.{are_taken}
 use Rattle.qs_conn.proofs.recv_lanes.RecvLanes.close_to.Goals as goal
 

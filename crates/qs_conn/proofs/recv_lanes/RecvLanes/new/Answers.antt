@@ -1,5 +1,5 @@
 use Rattle.std.proofs.Common.{arith, ap}
-use Rattle.qs_conn.specs.Layers.{tally_on}
+use Rattle.qs_machine.specs.Sums.{tally_on}
 use Rattle.qs_conn.proofs.recv_lanes.RecvLanes.new.Goals as goal
 
 pub invariant_of-result : goal.invariant_of-result

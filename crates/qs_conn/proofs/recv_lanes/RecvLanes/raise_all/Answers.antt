@@ -1,6 +1,6 @@
 use Rattle.std.proofs.Common.{◌∙◌}
 use Rattle.std.proofs.lemmas.List.{length-map}
-use Rattle.qs_conn.proofs.Tallies.{tally_raised, lawful_raised}
+use Rattle.qs_machine.proofs.Tallies.{tally_raised, lawful_raised}
 use Rattle.qs_conn.proofs.Settling.{all_settled}
 use Rattle.qs_conn.proofs.recv_lanes.RecvLanes.raise_all.Goals as goal
 

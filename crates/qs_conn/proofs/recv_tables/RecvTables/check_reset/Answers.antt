@@ -1,6 +1,6 @@
 use Rattle.std.proofs.Common.{ap, ◌∙◌}
 use Rattle.qs_recv.specs.Lane.{check_reset}
-use Rattle.qs_conn.proofs.TableEdits.{lane_looked}
+use Rattle.qs_machine.proofs.TableEdits.{lane_looked}
 use Rattle.qs_conn.proofs.recv_tables.RecvTables.check_reset.Goals as goal
 
 pub returns : goal.returns

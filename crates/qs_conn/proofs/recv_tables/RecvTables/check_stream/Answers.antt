@@ -1,6 +1,6 @@
 use Rattle.std.proofs.Common.{ap, ◌∙◌}
 use Rattle.qs_recv.specs.Lane.{check_stream}
-use Rattle.qs_conn.proofs.TableEdits.{lane_looked}
+use Rattle.qs_machine.proofs.TableEdits.{lane_looked}
 use Rattle.qs_conn.proofs.recv_tables.RecvTables.check_stream.Goals as goal
 
 pub returns-clause-value : goal.returns-clause-value

@@ -1,6 +1,6 @@
 use Rattle.std.proofs.Common.{ap, sym, ◌∙◌, take}
-use Rattle.qs_conn.specs.Layers.{tally_on}
-use Rattle.qs_conn.proofs.TableEdits.{table_is}
+use Rattle.qs_machine.specs.Sums.{tally_on}
+use Rattle.qs_machine.proofs.TableEdits.{table_is}
 use Rattle.qs_conn.proofs.recv_tables.RecvTables.close_to.Goals as goal
 
 pub close_to-requires : goal.close_to-requires

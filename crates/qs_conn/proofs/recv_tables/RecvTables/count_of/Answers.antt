@@ -1,5 +1,5 @@
 use Rattle.std.proofs.Common.{ap, sym, ◌∙◌, length}
-use Rattle.qs_conn.proofs.TableEdits.{table_at}
+use Rattle.qs_machine.proofs.TableEdits.{table_at}
 use Rattle.qs_conn.proofs.recv_tables.RecvTables.count_of.Goals as goal
 
 pub returns-clause-value : goal.returns-clause-value

@@ -1,4 +1,4 @@
-use Rattle.qs_conn.proofs.TableEdits.{some_tested, lookup_is}
+use Rattle.qs_machine.proofs.TableEdits.{some_tested, lookup_is}
 use Rattle.qs_conn.proofs.recv_tables.RecvTables.is_open.Goals as goal
 
 pub returns : goal.returns

@@ -1,4 +1,4 @@
-use Rattle.qs_conn.proofs.TableEdits.{lookup_is}
+use Rattle.qs_machine.proofs.TableEdits.{lookup_is}
 use Rattle.qs_conn.proofs.recv_tables.RecvTables.limit_to_tell.Goals as goal
 
 pub returns-clause-value : goal.returns-clause-value

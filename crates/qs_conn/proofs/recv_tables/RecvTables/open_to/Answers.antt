@@ -1,5 +1,5 @@
 use Rattle.qs_recv.specs.Lane.{new_lane}
-use Rattle.qs_conn.proofs.TableEdits.{opened_is, on_ok}
+use Rattle.qs_machine.proofs.TableEdits.{opened_is, on_ok}
 use Rattle.qs_conn.proofs.recv_tables.RecvTables.open_to.Goals as goal
 
 pub returns-clause-ok : goal.returns-clause-ok

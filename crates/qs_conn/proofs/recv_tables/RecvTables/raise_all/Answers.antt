@@ -1,5 +1,5 @@
 use Rattle.qs_recv.specs.Lane.{raise}
-use Rattle.qs_conn.proofs.TableEdits.{each_is}
+use Rattle.qs_machine.proofs.TableEdits.{each_is}
 use Rattle.qs_conn.proofs.recv_tables.RecvTables.raise_all.Goals as goal
 
 pub returns : goal.returns

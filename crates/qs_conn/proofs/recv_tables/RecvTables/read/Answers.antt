@@ -1,6 +1,6 @@
 use Rattle.std.proofs.Common.{ap, ◌∙◌, sym, arith, length, drop, ◌++◌}
 use Rattle.qs_recv.specs.Lane.{highest, read_answer, bytes_read, after_read}
-use Rattle.qs_conn.proofs.TableEdits.{open_there, updated_is, sum_le, lane_is}
+use Rattle.qs_machine.proofs.TableEdits.{open_there, updated_is, sum_le, lane_is}
 use Rattle.qs_conn.proofs.recv_tables.RecvTables.read.Goals as goal
 
 pub read-requires-clause-there : goal.read-requires-clause-there

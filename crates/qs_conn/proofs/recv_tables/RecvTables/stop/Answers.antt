@@ -1,6 +1,6 @@
 use Rattle.std.proofs.Common.{arith}
 use Rattle.qs_recv.specs.Lane.{highest, stop}
-use Rattle.qs_conn.proofs.TableEdits.{open_there, updated_is, sum_le}
+use Rattle.qs_machine.proofs.TableEdits.{open_there, updated_is, sum_le}
 use Rattle.qs_conn.proofs.recv_tables.RecvTables.stop.Goals as goal
 
 pub stop-requires-clause-there : goal.stop-requires-clause-there

@@ -1,6 +1,6 @@
 use Rattle.std.proofs.Common.{arith}
 use Rattle.qs_recv.specs.Lane.{highest, take_reset}
-use Rattle.qs_conn.proofs.TableEdits.{open_there, updated_is, sum_le, lane_is}
+use Rattle.qs_machine.proofs.TableEdits.{open_there, updated_is, sum_le, lane_is}
 use Rattle.qs_conn.proofs.recv_tables.RecvTables.take_reset.Goals as goal
 
 pub take_reset-requires-clause-there : goal.take_reset-requires-clause-there

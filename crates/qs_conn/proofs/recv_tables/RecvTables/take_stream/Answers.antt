@@ -1,6 +1,6 @@
 use Rattle.std.proofs.Common.{arith}
 use Rattle.qs_recv.specs.Lane.{highest, take_stream}
-use Rattle.qs_conn.proofs.TableEdits.{open_there, updated_is, sum_le, on_ok, lane_is}
+use Rattle.qs_machine.proofs.TableEdits.{open_there, updated_is, sum_le, on_ok, lane_is}
 use Rattle.qs_conn.proofs.recv_tables.RecvTables.take_stream.Goals as goal
 
 pub take_stream-requires-clause-there : goal.take_stream-requires-clause-there

@@ -1,8 +1,8 @@
 use Rattle.std.proofs.Common.{[], ap, arith}
 use Rattle.qs_recv.specs.Lane.{highest, taken}
-use Rattle.qs_conn.specs.declared.recv_lanes.Tally.{Tally}
-use Rattle.qs_conn.specs.Layers.{stored_on}
-use Rattle.qs_conn.proofs.TableEdits.{total_four}
+use Rattle.qs_machine.specs.declared.tally.Tally.{Tally}
+use Rattle.qs_machine.specs.Sums.{stored_on}
+use Rattle.qs_machine.proofs.TableEdits.{total_four}
 use Rattle.qs_conn.proofs.recv_tables.RecvTables.tally.Goals as goal
 
 pub sum-bidi-requires-clause-small : goal.sum-bidi-requires-clause-small

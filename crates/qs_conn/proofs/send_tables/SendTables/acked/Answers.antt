@@ -1,7 +1,7 @@
 use Rattle.std.proofs.Common.{subst}
 use Rattle.qs_send.specs.Chunks.{WasSent}
 use Rattle.qs_send.specs.Lane.{Sending, after_acked}
-use Rattle.qs_conn.proofs.TableEdits.{open_there, updated_is, on_ok, half_is}
+use Rattle.qs_machine.proofs.TableEdits.{open_there, updated_is, on_ok, half_is}
 use Rattle.qs_conn.proofs.send_tables.SendTables.acked.Goals as goal
 
 pub acked-requires-clause-there : goal.acked-requires-clause-there

@@ -1,5 +1,5 @@
 use Rattle.qs_send.specs.Lane.{after_allow}
-use Rattle.qs_conn.proofs.TableEdits.{open_there, updated_is}
+use Rattle.qs_machine.proofs.TableEdits.{open_there, updated_is}
 use Rattle.qs_conn.proofs.send_tables.SendTables.allow.Goals as goal
 
 pub allow-requires-clause-there : goal.allow-requires-clause-there

@@ -1,6 +1,6 @@
 use Rattle.std.proofs.Common.{ap, sym, ◌∙◌}
 use Rattle.qs_send.specs.Lane.{Sending, refusal, answer_of, after_finish}
-use Rattle.qs_conn.proofs.TableEdits.{open_there, updated_is, half_is}
+use Rattle.qs_machine.proofs.TableEdits.{open_there, updated_is, half_is}
 use Rattle.qs_conn.proofs.send_tables.SendTables.finish.Goals as goal
 
 pub finish-requires : goal.finish-requires

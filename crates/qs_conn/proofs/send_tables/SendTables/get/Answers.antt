@@ -1,4 +1,4 @@
-use Rattle.qs_conn.proofs.TableEdits.{open_there, half_at}
+use Rattle.qs_machine.proofs.TableEdits.{open_there, half_at}
 use Rattle.qs_conn.proofs.send_tables.SendTables.get.Goals as goal
 
 pub get-requires : goal.get-requires

@@ -1,4 +1,4 @@
-use Rattle.qs_conn.proofs.TableEdits.{lookup_is, some_tested}
+use Rattle.qs_machine.proofs.TableEdits.{lookup_is, some_tested}
 use Rattle.qs_conn.proofs.send_tables.SendTables.is_open.Goals as goal
 
 pub returns : goal.returns

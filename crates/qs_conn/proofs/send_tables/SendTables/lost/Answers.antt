@@ -1,7 +1,7 @@
 use Rattle.std.proofs.Common.{subst}
 use Rattle.qs_send.specs.Chunks.{WasSent}
 use Rattle.qs_send.specs.Lane.{Sending, after_lost}
-use Rattle.qs_conn.proofs.TableEdits.{open_there, updated_is, on_ok, half_is}
+use Rattle.qs_machine.proofs.TableEdits.{open_there, updated_is, on_ok, half_is}
 use Rattle.qs_conn.proofs.send_tables.SendTables.lost.Goals as goal
 
 pub lost-requires-clause-there : goal.lost-requires-clause-there

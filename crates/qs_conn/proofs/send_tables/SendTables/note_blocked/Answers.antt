@@ -1,5 +1,5 @@
 use Rattle.qs_send.specs.Lane.{after_blocked}
-use Rattle.qs_conn.proofs.TableEdits.{open_there, updated_is}
+use Rattle.qs_machine.proofs.TableEdits.{open_there, updated_is}
 use Rattle.qs_conn.proofs.send_tables.SendTables.note_blocked.Goals as goal
 
 pub note_blocked-requires : goal.note_blocked-requires

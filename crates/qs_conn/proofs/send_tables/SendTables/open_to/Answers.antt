@@ -1,7 +1,7 @@
 use Rattle.std.proofs.Common.{◌*◌, get_or, ap, ◌∙◌, ◌+◌}
 use Rattle.qs_send.specs.Lane.{new_sending}
-use Rattle.qs_conn.specs.Tables.{widened}
-use Rattle.qs_conn.proofs.TableEdits.{opened_is, on_ok}
+use Rattle.qs_machine.specs.Tables.{widened}
+use Rattle.qs_machine.proofs.TableEdits.{opened_is, on_ok}
 use Rattle.qs_conn.proofs.send_tables.SendTables.open_to.Goals as goal
 
 pub returns-clause-ok : goal.returns-clause-ok

@@ -1,6 +1,6 @@
 use Rattle.std.proofs.Common.{ap, sym, ◌∙◌}
 use Rattle.qs_send.specs.Lane.{Sending, reset_refusal, answer_of, after_reset}
-use Rattle.qs_conn.proofs.TableEdits.{open_there, updated_is, half_is}
+use Rattle.qs_machine.proofs.TableEdits.{open_there, updated_is, half_is}
 use Rattle.qs_conn.proofs.send_tables.SendTables.reset.Goals as goal
 
 pub reset-requires-clause-there : goal.reset-requires-clause-there

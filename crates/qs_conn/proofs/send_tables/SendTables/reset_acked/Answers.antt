@@ -1,7 +1,7 @@
 use Rattle.std.proofs.Common.{subst, ◌≡◌}
 use Rattle.qs_send.specs.declared.parts.SendState.TheVariants.{ResetSent}
 use Rattle.qs_send.specs.Lane.{Sending, state, after_reset_acked}
-use Rattle.qs_conn.proofs.TableEdits.{open_there, updated_is, half_is}
+use Rattle.qs_machine.proofs.TableEdits.{open_there, updated_is, half_is}
 use Rattle.qs_conn.proofs.send_tables.SendTables.reset_acked.Goals as goal
 
 pub reset_acked-requires-clause-there : goal.reset_acked-requires-clause-there

@@ -1,7 +1,7 @@
 use Rattle.std.proofs.Common.{subst}
 use Rattle.qs_send.specs.Chunks.{IsDueChunk}
 use Rattle.qs_send.specs.Lane.{Sending, after_sent}
-use Rattle.qs_conn.proofs.TableEdits.{open_there, updated_is, half_is}
+use Rattle.qs_machine.proofs.TableEdits.{open_there, updated_is, half_is}
 use Rattle.qs_conn.proofs.send_tables.SendTables.sent.Goals as goal
 
 pub sent-requires-clause-there : goal.sent-requires-clause-there

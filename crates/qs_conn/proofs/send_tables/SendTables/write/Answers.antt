@@ -1,4 +1,4 @@
-use Rattle.qs_conn.proofs.TableEdits.{open_there, written_is, refused_is}
+use Rattle.qs_machine.proofs.TableEdits.{open_there, written_is, refused_is}
 use Rattle.qs_conn.proofs.send_tables.SendTables.write.Goals as goal
 
 pub write-requires : goal.write-requires

@@ -3,7 +3,7 @@ use Rattle.std.specs.Option.{unwrap_or}
 use Rattle.std.specs.Ordering.{nat_cmp}
 use Rattle.std.specs.BTreeMap as tree
 use Rattle.std.specs.FinMap as fmap
-use Rattle.qs_conn.specs.FrameStep.{or_zero}
+use Rattle.qs_machine.specs.FrameStep.{or_zero}
 use Rattle.qs_conn.proofs.ToldLaws.{value_at, inserted, or_zero-unwrap}
 use Rattle.qs_conn.proofs.stream_values.StreamValues.raise.Goals as goal
 

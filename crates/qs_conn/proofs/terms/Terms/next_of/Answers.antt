@@ -1,5 +1,5 @@
 use Rattle.std.proofs.Common.{ap, subst, ◌∙◌}
-use Rattle.qs_conn.specs.Ends.{window_by}
+use Rattle.qs_machine.specs.Ends.{window_by}
 use Rattle.qs_conn.specs.Marks.{HaveTo, IsQuietLane}
 use Rattle.qs_conn.proofs.SendEdits.{id_is}
 use Rattle.qs_conn.proofs.terms.Terms.next_of.Goals as goal

@@ -1,4 +1,4 @@
-use Rattle.qs_world.specs.declared.event.Side.TheVariants.{A, B}
+use Rattle.qs_calls.specs.declared.event.Side.TheVariants.{A, B}
 use Rattle.qs_world.proofs.Places.{no_places}
 use Rattle.qs_world.proofs.world.log.Log.new.Goals as goal
 

@@ -1,5 +1,5 @@
 use Rattle.std.proofs.Common.{rules}
-use Rattle.qs_world.specs.declared.event.Side.TheVariants.{A, B}
+use Rattle.qs_calls.specs.declared.event.Side.TheVariants.{A, B}
 use Rattle.qs_world.proofs.Places.{kept_by}
 use Rattle.qs_world.proofs.world.log.Log.push.Goals as goal
 

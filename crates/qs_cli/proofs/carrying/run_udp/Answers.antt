@@ -1,0 +1,10 @@
+use Rattle.std.proofs.Common.{◌≡◌, true}
+use Rattle.std.specs.List.{list_all}
+use Rattle.qs_calls.specs.Events.{fits}
+use Rattle.qs_cli.proofs.Answered.{carried_answer}
+use Rattle.qs_cli.proofs.carrying.run_udp.Goals as goal
+
+pub returns-in-Ok : goal.returns-in-Ok
+returns-in-Ok g c =
+    let fit : list_all fits c.deref.result.now ≡ true = rw c.deref.ensures.value c.in-Ok.ensures.fit in
+    carried_answer _ _ _ _ _ _ _ fit c.udp_events.ensures

@@ -1,5 +1,0 @@
-use Rattle.qs_conn.proofs.Lasting.{closed_stays}
-use Rattle.qs_conn.proofs.laws.closed_ends_stay.Goals as goal
-
-pub returns : goal.returns
-returns c = λ old call answer new is step. closed_stays old call answer new is step

@@ -1,5 +1,0 @@
-use Rattle.qs_conn.proofs.Again.{frames_repeat}
-use Rattle.qs_conn.proofs.laws.effects_repeat.Goals as goal
-
-pub returns : goal.returns
-returns c = λ e frames again sound sent h among. frames_repeat e frames again sound sent h among

@@ -1,5 +1,0 @@
-use Rattle.qs_conn.proofs.Bounds.{new_ends_sound}
-use Rattle.qs_conn.proofs.laws.new_ends_are_sound.Goals as goal
-
-pub returns : goal.returns
-returns c = λ role s p e made. new_ends_sound role s p e made

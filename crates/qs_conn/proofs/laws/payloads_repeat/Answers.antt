@@ -1,5 +1,0 @@
-use Rattle.qs_conn.proofs.PayloadsAgain.{payloads_repeat as resumes}
-use Rattle.qs_conn.proofs.laws.payloads_repeat.Goals as goal
-
-pub returns : goal.returns
-returns c = λ number again payload old mid result sound sent takes. resumes number again payload old mid result sound sent takes

@@ -1,5 +1,0 @@
-use Rattle.qs_conn.proofs.ProcessedAgain.{processed_repeat}
-use Rattle.qs_conn.proofs.laws.processed_payloads_repeat.Goals as goal
-
-pub returns : goal.returns
-returns c = λ number again payload old new later answer sound sent step next. processed_repeat number again payload old new later answer sound sent step next

@@ -1,5 +1,0 @@
-use Rattle.qs_conn.proofs.Bounds.{within_credit}
-use Rattle.qs_conn.proofs.laws.stored_bytes_were_granted.Goals as goal
-
-pub returns : goal.returns
-returns c = λ e h. within_credit e h

@@ -1,0 +1,98 @@
+-- A sound end stores at most what it granted, and a new end is sound.
+use Rattle.std.proofs.Common.{◌≡◌, ℕ, zero, suc, ◌+◌, ◌-◌, ◌/◌, ◌%◌, ◌≤◌, [], slice_get, Bool, true, false, not, ◌&&◌, ◌||◌, Option, Some, None, is_some, refl, sym, ap, ◌∙◌, subst, arith}
+use Rattle.std.specs.Prelude.{cond, Result, Ok, Err}
+use Rattle.std.specs.FinMap as fmap
+use Rattle.std.specs.Ordering.{nat_cmp}
+use Rattle.std.proofs.lemmas.Option.{none-some}
+use Rattle.qs_ranges.proofs.Sets.{below-end_of}
+use Rattle.qs_wire.specs.declared.stream_id.Role.{Role}
+use Rattle.qs_recv.specs.Lane.{RecvLane, highest, taken}
+use Rattle.qs_recv.specs.Lawful.{IsLawful}
+use Rattle.qs_recv.proofs.LaneLaws.{len_within}
+use Rattle.qs_recv.proofs.LawfulLaws.{stored_within, taken_within}
+use Rattle.qs_calls.specs.declared.settings.Settings.{Settings}
+use Rattle.qs_calls.specs.declared.settings.PeerLimits.{PeerLimits}
+use Rattle.qs_calls.specs.declared.settings.SetupFault.{SetupFault}
+use Rattle.qs_calls.specs.declared.settings.SetupFault.TheVariants.{OutOfRange, TooManyStreams}
+use Rattle.qs_calls.specs.Settings.{are_in_range, are_spellable, are_countable, setup_fault}
+use Rattle.qs_machine.specs.Tables.{table, lookup, total, no_streams}
+use Rattle.qs_machine.specs.Ends.{End, window, new_end, end_made, end_unless}
+use Rattle.qs_machine.specs.Credit.{spent, all_taken, all_stored}
+use Rattle.qs_machine.specs.Standing.{HasLawfulLane, IsSound, IsLaneWithin, IsWithinCredit}
+use Rattle.qs_machine.proofs.TableLaws.{value, total_le, total_both}
+
+-- of one lane: what is stored and what was taken, together, the peer has used up
+pub stored_and_taken : (l : RecvLane) → IsLawful l → fmap.len l.arrived.stored + taken l ≤ highest l
+stored_and_taken l h = by_use (is_some l.reset_code || is_some l.stop_code) h.discards (taken_within l h)
+  where
+    by_use : (b : Bool) → l.arrived.discarding ≡ b → cond b (highest l) l.arrived.read_count ≤ highest l → fmap.len l.arrived.stored + cond b (highest l) l.arrived.read_count ≤ highest l
+    by_use true is within =
+        let none : fmap.len l.arrived.stored ≡ 0 = ap fmap.len (h.thrown_away is) ∙ fmap.len-empty nat_cmp ℕ in
+        omega arith
+    by_use false is within =
+        let few : fmap.len l.arrived.stored ≤ highest l - l.arrived.read_count =
+        len_within (highest l - l.arrived.read_count) l.arrived.read_count l.arrived.stored (λ q some.
+        let p = h.stored_received q some in
+        let below = below-end_of l.arrived.received q p.1 in
+        (p.0, omega (arith, below, h.received_within, p.0))) in
+        omega arith
+
+lane_within : (l : RecvLane) (w : ℕ) → IsLawful l → l.arrived.window ≡ w → IsLaneWithin l w
+lane_within l w h same = record { stored = stored_within l h; credit = omega (arith, h.in_window, same); spent = h.granted }
+
+slot_within : (role : Role) (s : Settings) (n : ℕ) (o : Option RecvLane) → HasLawfulLane role s n o → value (λ l. fmap.len l.arrived.stored + taken l) o ≤ value highest o
+slot_within role s n None h = omega arith
+slot_within role s n (Some l) h = stored_and_taken l h.0
+
+pub within_credit : (e : End) → IsSound e → IsWithinCredit e
+within_credit e h =
+    let all : all_stored e + all_taken e ≤ spent e =
+    omega (
+      arith,
+      total_both (λ l. fmap.len l.arrived.stored) taken e.recvs,
+      total_le (λ l. fmap.len l.arrived.stored + taken l) highest e.recvs e.recvs (λ n. slot_within e.role e.settings n (lookup e.recvs n) (h.lanes n)),
+    ) in
+    record {
+      stored = omega (arith, all, h.spent);
+      credit = omega (arith, h.in_window);
+      spent = h.spent;
+      lanes = λ n l is. (let p : HasLawfulLane e.role e.settings n (Some l) = subst (HasLawfulLane e.role e.settings n) is (h.lanes n) in lane_within l (window e n) p.0 p.1);
+    }
+
+-- A new end
+
+no_table : (k : ℕ) → table (no_streams {X = RecvLane}) k ≡ []
+no_table zero = refl
+no_table (suc zero) = refl
+no_table (suc (suc zero)) = refl
+no_table (suc (suc (suc k))) = refl
+
+no_lane : (n : ℕ) → lookup (no_streams {X = RecvLane}) n ≡ None
+unfolding lookup
+no_lane n = ap (λ xs. slice_get xs (n / 4)) (no_table (n % 4))
+
+new_end_sound : (role : Role) (s : Settings) (p : PeerLimits) → are_in_range s ≡ true → IsSound (new_end role s p)
+unfolding total
+new_end_sound role s p fits =
+    record {
+      settings = fits;
+      lanes = λ n. subst (HasLawfulLane role s n) (sym (no_lane n)) tt;
+      spent = omega arith;
+      in_window = omega arith;
+    }
+
+in_range : (a b c : Bool) → cond (not (a && b)) (Some OutOfRange) (cond (not c) (Some TooManyStreams) None) ≡ None → a ≡ true
+in_range true b c e = refl
+in_range false b c e = absurd (none-some OutOfRange (sym e))
+
+made_end : (o : Option SetupFault) (x e : End) → end_unless o x ≡ Ok e → (o ≡ None) × (x ≡ e)
+made_end None x e made = (refl, cc)
+made_end (Some fault) x e made = absurd (fault_is_no_end fault e made)
+  where
+    fault_is_no_end : (f : SetupFault) (e : End) → ◌≡◌ {A = Result End SetupFault} (Err f) (Ok e) → ⊥
+    fault_is_no_end f e is = cc
+
+pub new_ends_sound : (role : Role) (s : Settings) (p : PeerLimits) (e : End) → end_made role s p ≡ Ok e → IsSound e
+new_ends_sound role s p e made =
+    let (none, is) = made_end (setup_fault s p) (new_end role s p) e made in
+    subst IsSound is (new_end_sound role s p (in_range (are_in_range s) (are_spellable p) (are_countable p) none))

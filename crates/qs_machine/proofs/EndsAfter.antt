@@ -1,0 +1,339 @@
+-- What an end keeps as frames come and as a call ends.
+use Rattle.std.proofs.Common.{◌≡◌, ℕ, zero, suc, take, ◌+◌, ◌≤◌, Bool, true, false, not, ◌&&◌, ◌||◌, cond, nat_eq, List, [], ◌∷◌, ◌++◌, length, map, Option, Some, None, is_some, refl, sym, ap, ◌∙◌, subst, arith, inl, inr}
+use Rattle.std.specs.Prelude.{⊤, flat_map, IsOk, ◌==◌}
+use Rattle.std.specs.FinMap as fmap
+use Rattle.std.specs.FinSet as set
+use Rattle.std.proofs.lemmas.Bool.{both_ways, cond_both, and_parts, or_left}
+use Rattle.std.proofs.lemmas.Bool.Decides.{nat_tests}
+use Rattle.qs_ranges.specs.Numbers.{missing_from}
+use Rattle.qs_ranges.proofs.Sets.{missing_from-with_later}
+use Rattle.qs_wire.specs.declared.stream_id.Dir.TheVariants.{Bidi, Uni}
+use Rattle.qs_recv.specs.Lane.{RecvLane, new_lane as new_recv_lane, check_stream, check_reset, take_stream, take_reset, raise}
+use Rattle.qs_recv.specs.Lawful.{IsLawful}
+use Rattle.qs_send.specs.Lane.{SendLane, new_lane as new_send_lane, reset_refusal, is_whole, unacked_from, chunk_offsets, acked_lane, reset_lane, reset_acked_lane, allow_lane}
+use Rattle.qs_send.specs.Records.{Among, IsCarried, without_first}
+use Rattle.qs_send.specs.declared.parts.Chunk.{Chunk}
+use Rattle.qs_send.specs.declared.parts.SendFault.{SendFault}
+use Rattle.qs_send.specs.declared.parts.SendFault.TheVariants.{Finished, WasReset}
+use Rattle.qs_send.specs.declared.piece.Item.{Item}
+use Rattle.qs_send.specs.declared.piece.Item.TheVariants.{MaxData, MaxStreamData, MaxStreams, ResetStream, StopSending, DataBlocked, StreamDataBlocked, StreamsBlocked}
+use Rattle.qs_send.specs.declared.piece.Piece.{Piece}
+use Rattle.qs_send.specs.declared.piece.Piece.TheVariants.{Data, Told}
+use Rattle.qs_send.proofs.Carrying.{rest_of, get-without_first, carried-without_first}
+use Rattle.qs_machine.specs.Tables.{Tables, lookup}
+use Rattle.qs_calls.specs.declared.closing.Closed.{Closed}
+use Rattle.qs_machine.specs.Recording.{recorded}
+use Rattle.qs_machine.specs.Ends.{End, Records, AckedItems, closes, is_own, is_uni, on_send, on_recv, opens, opened_by_peer, first_send_limit, window}
+use Rattle.qs_machine.specs.Credit.{settle}
+use Rattle.qs_machine.specs.Seen.{Seen, Ack, Stream, Control, Close, Plain}
+use Rattle.qs_machine.specs.Verdicts.{verdict, or_new}
+use Rattle.qs_machine.specs.FrameStep.{frame_taken, item_taken, AckedPiece, acked_at, held, without_piece, pieces_of, acked_numbers, named_in, named, acks, first_acked, piece_acked, item_acked}
+use Rattle.qs_machine.specs.Standing.{IsSound, HasLawfulLane}
+use Rattle.qs_machine.specs.Repeats.{IsWritten, WasWritten, SentWasWritten}
+use Rattle.qs_machine.proofs.FramesSound.{sound_opened}
+use Rattle.qs_machine.proofs.Taken.{stream_checked, reset_checked}
+use Rattle.qs_machine.proofs.LanesAgain.{LaneAfter, lane_same, lane_twice, data_after, reset_after, raise_after}
+use Rattle.qs_machine.proofs.TablesAfter.{KeptIn, kept_same, kept_twice, kept_updated, kept_open, kept_each}
+
+-- Sending halves
+
+-- what a sending half keeps as frames come
+pub record HalfAfter (l m : SendLane) : Type 0 where
+  pub limit : l.limit ≤ m.limit
+  pub written : l.written ≤ m.written
+  pub refused : is_some (reset_refusal l) ≡ true → is_some (reset_refusal m) ≡ true
+
+pub half_same : (l : SendLane) → HalfAfter l l
+half_same l = record { limit = omega arith; written = omega arith; refused = λ is. is }
+
+pub half_twice : (l m k : SendLane) → HalfAfter l m → HalfAfter m k → HalfAfter l k
+half_twice l m k a b = record { limit = omega (arith, a.limit, b.limit); written = omega (arith, a.written, b.written); refused = λ is. b.refused (a.refused is) }
+
+half_allow : (l : SendLane) (m : ℕ) → HalfAfter l (allow_lane l m)
+half_allow l m = record { limit = omega arith; written = omega arith; refused = λ is. is }
+
+half_reset : (l : SendLane) (code : ℕ) → HalfAfter l (reset_lane l code)
+half_reset l code =
+    cond_both (is_some (reset_refusal l)) l (record l { was_reset = Some (record { code = code; size = cond l.fin_sent l.written l.sent_end }) }) (HalfAfter l)
+    (λ _. half_same l) (λ _. record { limit = omega arith; written = omega arith; refused = λ is. refl })
+
+half_reset_acked : (l : SendLane) → HalfAfter l (reset_acked_lane l)
+half_reset_acked l = record { limit = omega arith; written = omega arith; refused = λ is. is }
+
+refused_more : (a b c : Bool) → (b ≡ true → c ≡ true) → is_some {T = SendFault} (cond a (Some WasReset) (cond b (Some Finished) None)) ≡ true → is_some {T = SendFault} (cond a (Some WasReset) (cond c (Some Finished) None)) ≡ true
+refused_more true b c more is = refl
+refused_more false true c more is = ap (λ d. is_some {T = SendFault} (cond d (Some Finished) None)) (more refl)
+refused_more false false c more is = absurd (both_ways false refl is)
+
+-- what is acknowledged twice stays whole, where it was written
+half_acked : (l : SendLane) (c : Chunk) → c.offset + c.len ≤ l.written → HalfAfter l (acked_lane l c)
+half_acked l c within =
+    record {
+      limit = omega arith;
+      written = omega arith;
+      refused = refused_more (is_some l.was_reset) (is_whole l) (is_whole (acked_lane l c)) (λ whole.
+          let (all, end) = and_parts (unacked_from l == l.written) l.fin_acked whole in
+          let from : unacked_from l ≡ l.written = grind (arith, nat_tests, all) in
+          let later : missing_from (set.union l.acked (chunk_offsets c)) 0 ≡ unacked_from l = missing_from-with_later l.acked 0 c.offset (c.offset + c.len) (inr (omega (arith, within, from))) in
+          ap (λ k. (k == l.written) && (l.fin_acked || c.fin)) later ∙ ap (λ b. b && (l.fin_acked || c.fin)) all ∙ or_left l.fin_acked c.fin end);
+    }
+
+-- Ends
+
+-- no piece of a packet is outstanding
+abbrev pub IsBare : Option (List Piece) → Type 0
+IsBare None = ⊤
+IsBare (Some []) = ⊤
+IsBare (Some (p ∷ ps)) = ⊥
+
+-- what an end keeps as frames come
+pub record IsAfter (a b : End) : Type 0 where
+  pub role : b.role ≡ a.role
+  pub settings : b.settings ≡ a.settings
+  pub next : a.next ≤ b.next
+  pub credit : a.known_data ≤ b.known_data
+  pub bidi : a.known_bidi ≤ b.known_bidi
+  pub uni : a.known_uni ≤ b.known_uni
+  pub recvs : KeptIn LaneAfter a.recvs b.recvs
+  pub sends : KeptIn HalfAfter a.sends b.sends
+  pub bare : (late : Bool) (k : ℕ) → IsBare (fmap.get (held late a) k) → IsBare (fmap.get (held late b) k)
+  pub carried : (late : Bool) (p : Piece) → IsCarried (held late b) p → IsCarried (held late a) p
+
+recvs_same : (t : Tables RecvLane) → KeptIn LaneAfter t t
+recvs_same t = kept_same LaneAfter lane_same t
+
+sends_same : (t : Tables SendLane) → KeptIn HalfAfter t t
+sends_same t = kept_same HalfAfter half_same t
+
+-- an end whose tables and known limits moved
+after_parts : (e : End) (s : Tables SendLane) (r : Tables RecvLane) (g d b u : ℕ) → KeptIn HalfAfter e.sends s → KeptIn LaneAfter e.recvs r → e.known_data ≤ d → e.known_bidi ≤ b → e.known_uni ≤ u
+    → IsAfter e (record e { sends = s; recvs = r; granted = g; known_data = d; known_bidi = b; known_uni = u })
+after_parts e s r g d b u ss rr dd bb uu =
+    record { role = refl; settings = refl; next = omega arith; credit = dd; bidi = bb; uni = uu; recvs = rr; sends = ss; bare = λ late k is. is; carried = λ late p is. is }
+
+after_tables : (e : End) (s : Tables SendLane) (r : Tables RecvLane) (g : ℕ) → KeptIn HalfAfter e.sends s → KeptIn LaneAfter e.recvs r → IsAfter e (record e { sends = s; recvs = r; granted = g })
+after_tables e s r g ss rr = after_parts e s r g e.known_data e.known_bidi e.known_uni ss rr (omega arith) (omega arith) (omega arith)
+
+after_known : (e : End) (d b u : ℕ) → e.known_data ≤ d → e.known_bidi ≤ b → e.known_uni ≤ u → IsAfter e (record e { known_data = d; known_bidi = b; known_uni = u })
+after_known e d b u dd bb uu = after_parts e e.sends e.recvs e.granted d b u (sends_same e.sends) (recvs_same e.recvs) dd bb uu
+
+pub after_same : (e : End) → IsAfter e e
+after_same e = after_tables e e.sends e.recvs e.granted (sends_same e.sends) (recvs_same e.recvs)
+
+pub after_twice : (a b c : End) → IsAfter a b → IsAfter b c → IsAfter a c
+after_twice a b c x y =
+    record {
+      role = y.role ∙ x.role;
+      settings = y.settings ∙ x.settings;
+      next = omega (arith, x.next, y.next);
+      credit = omega (arith, x.credit, y.credit);
+      bidi = omega (arith, x.bidi, y.bidi);
+      uni = omega (arith, x.uni, y.uni);
+      recvs = kept_twice LaneAfter lane_same lane_twice a.recvs b.recvs c.recvs x.recvs y.recvs;
+      sends = kept_twice HalfAfter half_same half_twice a.sends b.sends c.sends x.sends y.sends;
+      bare = λ late k is. y.bare late k (x.bare late k is);
+      carried = λ late p is. x.carried late p (y.carried late p is);
+    }
+
+-- what neither moves the tables nor the records nor the known limits
+pub after_closes : (c : Closed) (e : End) → IsAfter e (closes c e)
+after_closes c e = record { role = refl; settings = refl; next = omega arith; credit = omega arith; bidi = omega arith; uni = omega arith; recvs = recvs_same e.recvs; sends = sends_same e.sends; bare = λ late k is. is; carried = λ late p is. is }
+
+pub after_recorded : (k : ℕ) (asks : Bool) (e : End) → IsAfter e (recorded k asks e)
+after_recorded k asks e = record { role = refl; settings = refl; next = omega arith; credit = omega arith; bidi = omega arith; uni = omega arith; recvs = recvs_same e.recvs; sends = sends_same e.sends; bare = λ late k is. is; carried = λ late p is. is }
+
+-- Openings, and changes of a half
+
+after_opens : (n : ℕ) (e : End) → IsAfter e (opens n e)
+after_opens n e =
+    after_tables e _ _ e.granted
+    (cond_both (is_uni n && not (is_own e n)) e.sends _ (KeptIn HalfAfter e.sends) (λ _. sends_same e.sends) (λ _. kept_open HalfAfter half_same e.sends n (λ m. new_send_lane m (first_send_limit e n) e.settings.send_buffer)))
+    (cond_both (is_uni n && is_own e n) e.recvs _ (KeptIn LaneAfter e.recvs) (λ _. recvs_same e.recvs) (λ _. kept_open LaneAfter lane_same e.recvs n (λ m. new_recv_lane (window e n))))
+
+pub after_opened : (n : ℕ) (e : End) → IsAfter e (opened_by_peer n e)
+after_opened n e = cond_both (is_own e n) e (opens n e) (IsAfter e) (λ _. after_same e) (λ _. after_opens n e)
+
+after_send : (n : ℕ) (f : SendLane → SendLane) (e : End) → ((l : SendLane) → lookup e.sends n ≡ Some l → HalfAfter l (f l)) → IsAfter e (on_send n f e)
+after_send n f e kept = after_tables e _ e.recvs e.granted (kept_updated HalfAfter half_same e.sends n f kept) (recvs_same e.recvs)
+
+after_recv : (n : ℕ) (f : RecvLane → RecvLane) (e : End) → ((l : RecvLane) → lookup e.recvs n ≡ Some l → LaneAfter l (f l)) → IsAfter e (on_recv n f e)
+after_recv n f e kept = after_tables e e.sends _ e.granted (sends_same e.sends) (kept_updated LaneAfter lane_same e.recvs n f kept)
+
+pub after_settle : (e : End) → IsAfter e (settle e)
+after_settle e = after_tables e e.sends _ _ (sends_same e.sends) (kept_each LaneAfter lane_same e.recvs raise raise_after)
+
+-- Acknowledgements
+
+bare_rest : (o : Option (List Piece)) → IsBare o → IsBare (rest_of o)
+bare_rest None h = tt
+bare_rest (Some []) h = tt
+bare_rest (Some (p ∷ [])) h = tt
+bare_rest (Some (p ∷ q ∷ ps)) h = absurd h
+
+pub bare_less : (m : Records) (k n : ℕ) → IsBare (fmap.get m n) → IsBare (fmap.get (without_first m k (fmap.get m k)) n)
+bare_less m k n h = subst IsBare (sym (get-without_first m k n)) (go (nat_eq n k) refl)
+  where
+    go : (b : Bool) → nat_eq n k ≡ b → IsBare (cond b (rest_of (fmap.get m k)) (fmap.get m n))
+    go true same = let e : n ≡ k = grind (arith, nat_tests, same) in bare_rest (fmap.get m k) (subst (λ j. IsBare (fmap.get m j)) e h)
+    go false other = h
+
+-- a record without its first piece, the outstanding one or the lost one
+
+pub bare_without : (late b : Bool) (k : ℕ) (e : End) (j : ℕ) → IsBare (fmap.get (held late e) j) → IsBare (fmap.get (held late (without_piece b k e)) j)
+bare_without true true k e j h = bare_less e.lost.pieces k j h
+bare_without true false k e j h = h
+bare_without false true k e j h = h
+bare_without false false k e j h = bare_less e.outstanding k j h
+
+pub carried_without : (late b : Bool) (k : ℕ) (e : End) (p : Piece) → IsCarried (held late (without_piece b k e)) p → IsCarried (held late e) p
+carried_without true true k e p is = carried-without_first e.lost.pieces k p is
+carried_without true false k e p is = is
+carried_without false true k e p is = is
+carried_without false false k e p is = carried-without_first e.outstanding k p is
+
+after_without : (late : Bool) (k : ℕ) (e : End) → IsAfter e (without_piece late k e)
+after_without late k e =
+    record {
+      role = refl;
+      settings = refl;
+      next = omega arith;
+      credit = omega arith;
+      bidi = omega arith;
+      uni = omega arith;
+      recvs = recvs_same e.recvs;
+      sends = sends_same e.sends;
+      bare = λ b j is. bare_without b late k e j is;
+      carried = λ b p is. carried_without b late k e p is;
+    }
+
+after_acked_items : (e : End) (a : AckedItems) → IsAfter e (record e { acked = a })
+after_acked_items e a = record { role = refl; settings = refl; next = omega arith; credit = omega arith; bidi = omega arith; uni = omega arith; recvs = recvs_same e.recvs; sends = sends_same e.sends; bare = λ late k is. is; carried = λ late p is. is }
+
+after_item_acked : (i : Item) (e : End) → IsAfter e (item_acked i e)
+after_item_acked (MaxData m) e = after_acked_items e _
+after_item_acked (MaxStreamData n m) e = after_acked_items e _
+after_item_acked (MaxStreams d m) e = after_same e
+after_item_acked (ResetStream n code size) e = after_send n reset_acked_lane e (λ l is. half_reset_acked l)
+after_item_acked (StopSending n code) e = after_acked_items e _
+after_item_acked (DataBlocked m) e = after_acked_items e _
+after_item_acked (StreamDataBlocked n m) e = after_acked_items e _
+after_item_acked (StreamsBlocked Bidi m) e = after_acked_items e _
+after_item_acked (StreamsBlocked Uni m) e = after_acked_items e _
+
+written_lane : (o : Option SendLane) (l : SendLane) (c : Chunk) → o ≡ Some l → IsWritten o c → c.offset + c.len ≤ l.written
+written_lane o l c is h = subst (λ x. IsWritten x c) is h
+
+after_piece : (p : Piece) (e : End) → WasWritten e.sends p → IsAfter e (piece_acked p e)
+after_piece (Data n c) e written = after_send n (λ l. acked_lane l c) e (λ l is. half_acked l c (written_lane (lookup e.sends n) l c is written))
+after_piece (Told i) e written = after_item_acked i e
+
+after_first : (a : AckedPiece) (e : End) → WasWritten e.sends a.piece → IsAfter e (first_acked a e)
+after_first a e written =
+    let short = without_piece a.late a.number e in
+    after_twice e short (first_acked a e) (after_without a.late a.number e) (after_piece a.piece short written)
+
+-- what was written stays written, where no half has fewer bytes
+pub written_stays : (R : SendLane → SendLane → Type 0) → ((l m : SendLane) → R l m → l.written ≤ m.written) → (t u : Tables SendLane) → KeptIn R t u → (p : Piece) → WasWritten t p → WasWritten u p
+written_stays R longer t u kept (Told i) h = tt
+written_stays R longer t u kept (Data n c) h = go (lookup t n) refl h
+  where
+    go : (o : Option SendLane) → lookup t n ≡ o → IsWritten o c → IsWritten (lookup u n) c
+    go None is none = absurd none
+    go (Some l) is within = let (m, there, r) = kept n l is in let more = longer l m r in subst (λ x. IsWritten x c) (sym there) (omega (arith, within, more))
+
+half_longer : (l m : SendLane) → HalfAfter l m → l.written ≤ m.written
+half_longer l m r = r.written
+
+pub sent_stays : (a b : End) → IsAfter a b → SentWasWritten a → SentWasWritten b
+sent_stays a b x h late p is = written_stays HalfAfter half_longer a.sends b.sends x.sends p (h late p (x.carried late p is))
+
+-- all data of the list was written
+abbrev pub AllWritten : Tables SendLane → List AckedPiece → Type 0
+AllWritten t [] = ⊤
+AllWritten t (p ∷ ps) = WasWritten t p.piece × AllWritten t ps
+
+all_stay : (t u : Tables SendLane) → KeptIn HalfAfter t u → (ps : List AckedPiece) → AllWritten t ps → AllWritten u ps
+all_stay t u kept [] h = tt
+all_stay t u kept (p ∷ ps) h = (written_stays HalfAfter half_longer t u kept p.piece h.0, all_stay t u kept ps h.1)
+
+pub after_acks : (ps : List AckedPiece) (e : End) → AllWritten e.sends ps → IsAfter e (acks ps e)
+unfolding acks
+after_acks [] e h = after_same e
+after_acks (p ∷ ps) e h =
+    let one = after_first p e h.0 in
+    after_twice e (first_acked p e) _ one (after_acks ps (first_acked p e) (all_stay e.sends (first_acked p e).sends one.sends ps h.1))
+
+pub all_append : (t : Tables SendLane) (ps qs : List AckedPiece) → AllWritten t ps → AllWritten t qs → AllWritten t (ps ++ qs)
+all_append t [] qs a b = b
+all_append t (p ∷ ps) qs a b = (a.0, all_append t ps qs a.1 b)
+
+pub all_take : (t : Tables SendLane) (m : ℕ) (ps : List AckedPiece) → AllWritten t ps → AllWritten t (take m ps)
+all_take t zero ps h = tt
+all_take t (suc m) [] h = tt
+all_take t (suc m) (p ∷ ps) h = (h.0, all_take t m ps h.1)
+
+-- what an ACK takes was outstanding, or lost
+
+all_mapped : (t : Tables SendLane) (late : Bool) (k : ℕ) (ps : List Piece) → ((p : Piece) → Among p ps → WasWritten t p) → AllWritten t (map (acked_at late k) ps)
+all_mapped t late k [] h = tt
+all_mapped t late k (p ∷ ps) h = (h p (inl refl), all_mapped t late k ps (λ q a. h q (inr a)))
+
+pieces_written : (e : End) (late : Bool) (k : ℕ) → SentWasWritten e → AllWritten e.sends (pieces_of late (held late e) k)
+pieces_written e late k h = go (fmap.get (held late e) k) refl
+  where
+    go : (o : Option (List Piece)) → fmap.get (held late e) k ≡ o → AllWritten e.sends (elim o [ None ↦ [] | Some ps ↦ map (acked_at late k) ps ])
+    go None is = tt
+    go (Some ps) is = all_mapped e.sends late k ps (λ p a. h late p (k, ps, is, a))
+
+numbers_written : (e : End) (late : Bool) (ks : List ℕ) → SentWasWritten e → AllWritten e.sends (flat_map (pieces_of late (held late e)) ks)
+numbers_written e late [] h = tt
+numbers_written e late (k ∷ ks) h = all_append e.sends (pieces_of late (held late e) k) (flat_map (pieces_of late (held late e)) ks) (pieces_written e late k h) (numbers_written e late ks h)
+
+pub named_written : (e : End) (ranges : List (ℕ × ℕ)) → SentWasWritten e → AllWritten e.sends (named e ranges)
+named_written e ranges h =
+    all_append e.sends (named_in false e.outstanding ranges) (named_in true e.lost.pieces ranges) (numbers_written e false (acked_numbers e.outstanding ranges) h) (numbers_written e true (acked_numbers e.lost.pieces ranges) h)
+
+-- Frames
+
+pub lawful_in : (e : End) (n : ℕ) (l : RecvLane) → IsSound e → lookup e.recvs n ≡ Some l → IsLawful l
+lawful_in e n l sound is = (subst (HasLawfulLane e.role e.settings n) is (sound.lanes n)).0
+
+-- of the end with the stream open
+pub mid_stream : (n offset : ℕ) (bytes : List ℕ) (fin : Bool) (e : End) → verdict e (Stream n offset bytes fin) ≡ None → IsSound e
+    → IsAfter (opened_by_peer n e) (on_recv n (λ l. take_stream l offset bytes fin) (opened_by_peer n e))
+mid_stream n offset bytes fin e v sound =
+    after_recv n (λ l. take_stream l offset bytes fin) (opened_by_peer n e) (λ l is.
+    data_after l offset bytes fin (lawful_in (opened_by_peer n e) n l (sound_opened n e sound) is)
+    (subst (λ o. IsOk (check_stream (or_new o 0) offset (length bytes) fin)) is (stream_checked e (opened_by_peer n e) n offset bytes fin v refl)))
+
+pub mid_reset : (n code size : ℕ) (e : End) → verdict e (Control (ResetStream n code size)) ≡ None → IsSound e
+    → IsAfter (opened_by_peer n e) (on_recv n (λ l. take_reset l code size) (opened_by_peer n e))
+mid_reset n code size e v sound =
+    after_recv n (λ l. take_reset l code size) (opened_by_peer n e) (λ l is.
+    reset_after l code size (lawful_in (opened_by_peer n e) n l (sound_opened n e sound) is)
+    (subst (λ o. IsOk (check_reset (or_new o 0) size)) is (reset_checked e (opened_by_peer n e) n code size v refl)))
+
+pub mid_allow : (n m : ℕ) (e : End) → IsAfter (opened_by_peer n e) (on_send n (λ l. allow_lane l m) (opened_by_peer n e))
+mid_allow n m e = after_send n (λ l. allow_lane l m) (opened_by_peer n e) (λ l is. half_allow l m)
+
+pub mid_stop : (n code : ℕ) (e : End) → IsAfter (opened_by_peer n e) (on_send n (λ l. reset_lane l code) (opened_by_peer n e))
+mid_stop n code e = after_send n (λ l. reset_lane l code) (opened_by_peer n e) (λ l is. half_reset l code)
+
+after_item : (i : Item) (e : End) → verdict e (Control i) ≡ None → IsSound e → IsAfter e (item_taken i e)
+after_item (MaxData m) e v h = after_known e _ e.known_bidi e.known_uni (omega arith) (omega arith) (omega arith)
+after_item (MaxStreamData n m) e v h = after_twice e (opened_by_peer n e) _ (after_opened n e) (mid_allow n m e)
+after_item (MaxStreams Bidi m) e v h = after_known e e.known_data _ e.known_uni (omega arith) (omega arith) (omega arith)
+after_item (MaxStreams Uni m) e v h = after_known e e.known_data e.known_bidi _ (omega arith) (omega arith) (omega arith)
+after_item (ResetStream n code size) e v h = after_twice e (opened_by_peer n e) _ (after_opened n e) (mid_reset n code size e v h)
+after_item (StopSending n code) e v h = after_twice e (opened_by_peer n e) _ (after_opened n e) (mid_stop n code e)
+after_item (DataBlocked m) e v h = after_same e
+after_item (StreamDataBlocked n m) e v h = after_opened n e
+after_item (StreamsBlocked d m) e v h = after_same e
+
+pub after_frame : (f : Seen) (e : End) → verdict e f ≡ None → IsSound e → SentWasWritten e → IsAfter e (frame_taken f e)
+unfolding frame_taken
+after_frame (Ack largest ranges) e v sound sent = after_acks (named e ranges) e (named_written e ranges sent)
+after_frame (Stream n offset bytes fin) e v sound sent = after_twice e (opened_by_peer n e) _ (after_opened n e) (mid_stream n offset bytes fin e v sound)
+after_frame (Control i) e v sound sent = after_item i e v sound
+after_frame (Close code) e v sound sent = after_same e
+after_frame (Plain asks) e v sound sent = after_same e

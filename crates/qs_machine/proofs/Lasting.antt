@@ -1,0 +1,64 @@
+-- After a closing nothing changes.
+use Rattle.std.proofs.Common.{◌≡◌, ℕ, Bool, true, false, List, Option, Some, None, is_some}
+use Rattle.std.specs.Prelude.{Result, MatchBool}
+use Rattle.std.proofs.lemmas.Bool.{false≢true}
+use Rattle.qs_calls.specs.declared.closing.Closing.{Closing}
+use Rattle.qs_calls.specs.declared.closing.Closed.{Closed}
+use Rattle.qs_calls.specs.declared.closing.Closed.TheVariants.{ByUs, ByPeer}
+use Rattle.qs_calls.specs.declared.closing.Received.{Received}
+use Rattle.qs_calls.specs.declared.making.MakeFault.{MakeFault}
+use Rattle.qs_calls.specs.declared.making.MakeFault.TheVariants as making
+use Rattle.qs_calls.specs.declared.making.LostFault.TheVariants as losing
+use Rattle.qs_calls.specs.declared.uses.OpenFault.TheVariants as opening
+use Rattle.qs_calls.specs.declared.uses.UseFault.{UseFault}
+use Rattle.qs_calls.specs.declared.uses.UseFault.TheVariants as uses
+use Rattle.qs_machine.specs.Ends.{End}
+use Rattle.qs_machine.specs.Owner.{Certain, first_refusal, refuse_if, ReadBy, AcceptOpen, GivesNone}
+use Rattle.qs_machine.specs.Receiving.{ReceiveBy}
+use Rattle.qs_machine.specs.Making.{MakeAt}
+use Rattle.qs_machine.specs.EndStep.{Call, Answer, EndStep, Open, Accept, Write, Finish, Reset, Stop, ReadUpTo, Receive, Make, Lose, ClosingPayload, Stored, Granted, Spent, Report}
+
+-- a call whose first refusal is a closing
+refused : {A F : Type 0} (b : Bool) (fault : F) (old : End) (answer : Result A F) (new : End) (Effect : Type 0) → b ≡ true → Certain (refuse_if b fault) old answer new Effect → new ≡ old
+refused true fault old answer new Effect is h = h.1
+refused false fault old answer new Effect is h = absurd (false≢true is)
+
+refused_first : {A F : Type 0} (b : Bool) (fault : F) (r : Option F) (old : End) (answer : Result A F) (new : End) (Effect : Type 0) → b ≡ true → Certain (first_refusal (refuse_if b fault) r) old answer new Effect → new ≡ old
+refused_first true fault r old answer new Effect is h = h.1
+refused_first false fault r old answer new Effect is h = absurd (false≢true is)
+
+read_refused : (b : Bool) (r : Option UseFault) (old : End) (n size : ℕ) (answer : Answer (ReadUpTo n size)) (new : End) → b ≡ true
+    → ReadBy (first_refusal (refuse_if b uses.Closed) r) old n size answer.0 answer.1 new → new ≡ old
+read_refused true r old n size answer new is h = h.2
+read_refused false r old n size answer new is h = absurd (false≢true is)
+
+make_refused : (b : Bool) (r : Option MakeFault) (old : End) (room : ℕ) (answer : Answer (Make room)) (new : End) → b ≡ true
+    → MakeAt (first_refusal (refuse_if b making.Closed) r) old room answer.0 answer.1 new → new ≡ old
+make_refused true r old room answer new is h = h.2
+make_refused false r old room answer new is h = absurd (false≢true is)
+
+accept_none : (b : Bool) (old : End) (answer : Option ℕ) (new : End) → b ≡ true → MatchBool b (GivesNone old answer new) (AcceptOpen old answer new) → new ≡ old
+accept_none true old answer new is h = h.1
+accept_none false old answer new is h = absurd (false≢true is)
+
+receive_again : (c : Option Closed) (number : ℕ) (payload : List ℕ) (old : End) (result : Result Received Closing) (new : End) → is_some c ≡ true → ReceiveBy c number payload old result new → new ≡ old
+receive_again None number payload old result new is h = absurd (false≢true is)
+receive_again (Some (ByUs closing)) number payload old result new is h = h.1
+receive_again (Some (ByPeer code)) number payload old result new is h = h.1
+
+pub closed_stays : (old : End) (call : Call) (answer : Answer call) (new : End) → is_some old.closed ≡ true → EndStep old call answer new → new ≡ old
+closed_stays old (Open d) answer new is h = refused (is_some old.closed) opening.Closed old answer new _ is h
+closed_stays old Accept answer new is h = accept_none (is_some old.closed) old answer new is h
+closed_stays old (Write n bytes) answer new is h = refused_first (is_some old.closed) uses.Closed _ old answer new _ is h
+closed_stays old (Finish n) answer new is h = refused_first (is_some old.closed) uses.Closed _ old answer new _ is h
+closed_stays old (Reset n code) answer new is h = refused_first (is_some old.closed) uses.Closed _ old answer new _ is h
+closed_stays old (Stop n code) answer new is h = refused_first (is_some old.closed) uses.Closed _ old answer new _ is h
+closed_stays old (ReadUpTo n size) answer new is h = read_refused (is_some old.closed) _ old n size answer new is h
+closed_stays old (Receive k payload) answer new is h = receive_again old.closed k payload old answer new is h
+closed_stays old (Make room) answer new is h = make_refused (is_some old.closed) _ old room answer new is h
+closed_stays old (Lose k) answer new is h = refused_first (is_some old.closed) losing.Closed _ old answer new _ is h
+closed_stays old (ClosingPayload slice) answer new is h = h.1
+closed_stays old Stored answer new is h = h.1
+closed_stays old Granted answer new is h = h.1
+closed_stays old Spent answer new is h = h.1
+closed_stays old (Report n) answer new is h = h.1

@@ -1,0 +1,214 @@
+-- A payload that was processed and comes again only records its number.
+use Rattle.std.proofs.Common.{◌≡◌, ℕ, ◌+◌, ◌/◌, Bool, true, false, ◌&&◌, ◌||◌, cond, List, [], ◌∷◌, ◌++◌, map, Option, Some, None, is_some, refl, sym, ap, ◌∙◌, subst, arith, inl, inr}
+use Rattle.std.specs.Prelude.{min, max, nat_le, nat_lt, ◌==◌, Result, Ok, Err, MatchBool}
+use Rattle.std.specs.FinSet as set
+use Rattle.std.proofs.lemmas.Bool.{cond_both}
+use Rattle.std.proofs.lemmas.Bool.Decides.{nat_tests}
+use Rattle.qs_ranges.specs.Numbers.{MAX_VARINT}
+use Rattle.qs_wire.specs.Layout.{PlacedValue}
+use Rattle.qs_wire.specs.Grammar.{frames_of}
+use Rattle.qs_wire.specs.Reading.{reading_of}
+use Rattle.qs_wire.specs.declared.fault.WireFault.{WireFault}
+use Rattle.qs_wire.specs.declared.stream_id.Dir.TheVariants.{Bidi, Uni}
+use Rattle.qs_recv.specs.Lane.{RecvLane, taken, raise, next_limit}
+use Rattle.qs_send.specs.declared.piece.Item.{Item}
+use Rattle.qs_send.specs.declared.piece.Item.TheVariants.{MaxData, MaxStreamData, MaxStreams, ResetStream, StopSending, DataBlocked, StreamDataBlocked, StreamsBlocked}
+use Rattle.qs_send.specs.declared.piece.Piece.{Piece}
+use Rattle.qs_send.specs.declared.piece.Piece.TheVariants.{Data, Told}
+use Rattle.qs_calls.specs.declared.closing.Closing.{Closing}
+use Rattle.qs_calls.specs.declared.closing.Closed.{Closed}
+use Rattle.qs_calls.specs.declared.closing.Closed.TheVariants.{ByUs, ByPeer}
+use Rattle.qs_calls.specs.declared.closing.Received.{Received}
+use Rattle.qs_calls.specs.declared.closing.Received.TheVariants as received
+use Rattle.qs_machine.specs.Tables.{Tables, each}
+use Rattle.qs_machine.specs.Ends.{End, is_own, opens, opened_by_peer}
+use Rattle.qs_machine.specs.Credit.{settle, all_taken}
+use Rattle.qs_machine.specs.Seen.{Seen, Ack, Stream, Control, Close, Plain, seen, seen_all, any_asks}
+use Rattle.qs_machine.specs.FrameStep.{frame_taken, frames_taken, AckedPiece, without_piece, item_taken, item_acked, piece_acked, first_acked, acks, named}
+use Rattle.qs_machine.specs.Recording.{recorded}
+use Rattle.qs_machine.specs.Receiving.{Stops, EndsBy, TakesPayload, OpenReceive, ReceiveBy, ReceiveStep}
+use Rattle.qs_machine.specs.Standing.{IsSound}
+use Rattle.qs_machine.specs.Repeats.{SentWasWritten, Resumes, OnlyRecords}
+use Rattle.qs_machine.proofs.Choices.{by_test}
+use Rattle.qs_machine.proofs.TableLaws.{total_each}
+use Rattle.qs_machine.proofs.PayloadsAgain.{payloads_repeat}
+
+-- Limits that moved don't move again
+
+next_twice : (l t w : ℕ) → next_limit (next_limit l t w) t w ≡ next_limit l t w
+next_twice l t w = go (moves l) refl
+  where
+    m : ℕ
+    m = min MAX_VARINT (t + w)
+
+    moves : ℕ → Bool
+    moves k = nat_le (k + max 1 (w / 2)) m || ((m == MAX_VARINT) && nat_lt k m)
+
+    no_more : moves m ≡ false
+    no_more = let a : nat_le (m + max 1 (w / 2)) m ≡ false = grind (arith, nat_tests) in let b : nat_lt m m ≡ false = grind (arith, nat_tests) in
+        ap (λ c. c || ((m == MAX_VARINT) && nat_lt m m)) a ∙ ap (λ c. (m == MAX_VARINT) && c) b ∙ none (m == MAX_VARINT)
+      where
+        none : (c : Bool) → (c && false) ≡ false
+        none true = refl
+        none false = refl
+
+    go : (b : Bool) → moves l ≡ b → cond (moves (cond b m l)) m (cond b m l) ≡ cond b m l
+    go true is = ap (λ c. cond c m m) no_more
+    go false is = ap (λ c. cond c m l) is
+
+raise_twice : (l : RecvLane) → raise (raise l) ≡ raise l
+raise_twice l = ap (λ k. record l { limit = k }) (go (is_some l.final_size))
+  where
+    go : (b : Bool) → cond b (cond b l.limit (next_limit l.limit (taken l) l.arrived.window)) (next_limit (cond b l.limit (next_limit l.limit (taken l) l.arrived.window)) (taken l) l.arrived.window)
+        ≡ cond b l.limit (next_limit l.limit (taken l) l.arrived.window)
+    go true = refl
+    go false = next_twice l.limit (taken l) l.arrived.window
+
+map_twice : {X : Type 0} (f : X → X) → ((x : X) → f (f x) ≡ f x) → (xs : List X) → map f (map f xs) ≡ map f xs
+map_twice f same [] = refl
+map_twice f same (x ∷ xs) = λ i. same x i ∷ map_twice f same xs i
+
+each_twice : {X : Type 0} (f : X → X) → ((x : X) → f (f x) ≡ f x) → (t : Tables X) → each f (each f t) ≡ each f t
+unfolding each
+each_twice f same t = λ i. record { client_bidi = map_twice f same t.client_bidi i; server_bidi = map_twice f same t.server_bidi i; client_uni = map_twice f same t.client_uni i; server_uni = map_twice f same t.server_uni i }
+
+pub settle_twice : (e : End) → settle (settle e) ≡ settle e
+settle_twice e =
+    let r : each raise (each raise e.recvs) ≡ each raise e.recvs = each_twice raise raise_twice e.recvs in
+    let t : all_taken (settle e) ≡ all_taken e = total_each taken raise e.recvs (λ l. refl) in
+    let g : next_limit (next_limit e.granted (all_taken e) e.settings.conn_window) (all_taken (settle e)) e.settings.conn_window ≡ next_limit e.granted (all_taken e) e.settings.conn_window =
+    ap (λ k. next_limit (next_limit e.granted (all_taken e) e.settings.conn_window) k e.settings.conn_window) t ∙ next_twice e.granted (all_taken e) e.settings.conn_window in
+    λ i. record e { recvs = r i; granted = g i }
+
+-- Frames close nothing
+
+open_item_acked : (i : Item) (e : End) → (item_acked i e).closed ≡ e.closed
+open_item_acked (MaxData m) e = refl
+open_item_acked (MaxStreamData n m) e = refl
+open_item_acked (MaxStreams d m) e = refl
+open_item_acked (ResetStream n code size) e = refl
+open_item_acked (StopSending n code) e = refl
+open_item_acked (DataBlocked m) e = refl
+open_item_acked (StreamDataBlocked n m) e = refl
+open_item_acked (StreamsBlocked Bidi m) e = refl
+open_item_acked (StreamsBlocked Uni m) e = refl
+
+open_piece : (p : Piece) (e : End) → (piece_acked p e).closed ≡ e.closed
+open_piece (Data n c) e = refl
+open_piece (Told i) e = open_item_acked i e
+
+open_acks : (ps : List AckedPiece) (e : End) → (acks ps e).closed ≡ e.closed
+unfolding acks
+open_acks [] e = refl
+open_acks (p ∷ ps) e = open_acks ps (first_acked p e) ∙ open_piece p.piece (without_piece p.late p.number e)
+
+open_opened : (n : ℕ) (e : End) → (opened_by_peer n e).closed ≡ e.closed
+open_opened n e = cond_both (is_own e n) e (opens n e) (λ x. x.closed ≡ e.closed) (λ _. refl) (λ _. refl)
+
+open_item : (i : Item) (e : End) → (item_taken i e).closed ≡ e.closed
+open_item (MaxData m) e = refl
+open_item (MaxStreamData n m) e = open_opened n e
+open_item (MaxStreams Bidi m) e = refl
+open_item (MaxStreams Uni m) e = refl
+open_item (ResetStream n code size) e = open_opened n e
+open_item (StopSending n code) e = open_opened n e
+open_item (DataBlocked m) e = refl
+open_item (StreamDataBlocked n m) e = open_opened n e
+open_item (StreamsBlocked d m) e = refl
+
+open_frame : (f : Seen) (e : End) → (frame_taken f e).closed ≡ e.closed
+unfolding frame_taken
+open_frame (Ack largest ranges) e = open_acks (named e ranges) e
+open_frame (Stream n offset bytes fin) e = open_opened n e
+open_frame (Control i) e = open_item i e
+open_frame (Close code) e = refl
+open_frame (Plain asks) e = refl
+
+open_frames : (fs : List Seen) (e : End) → (frames_taken fs e).closed ≡ e.closed
+unfolding frames_taken
+open_frames [] e = refl
+open_frames (f ∷ fs) e = open_frames fs (frame_taken f e) ∙ open_frame f e
+
+-- A payload that was processed
+
+never_done : (p : PlacedValue) (f : Seen) (e new : End) → Stops p f e (Ok received.Done) new → ⊥
+never_done p (Ack largest ranges) e new h = h
+never_done p (Stream n offset bytes fin) e new h = h
+never_done p (Control i) e new h = h
+never_done p (Close code) e new h = h
+never_done p (Plain asks) e new h = h
+
+-- all its frames took effect, and it ended without a fault
+all_taken_by : (number : ℕ) (fault : Option WireFault) (asks : Bool) (left : List PlacedValue) (e mid : End) → EndsBy number fault asks left e (Ok received.Done) mid → (left ≡ []) × (fault ≡ None) × (mid ≡ recorded number asks e)
+all_taken_by number None asks [] e mid h = (refl, refl, h)
+all_taken_by number (Some fault) asks [] e mid h = absurd h
+all_taken_by number fault asks (p ∷ ps) e mid h = absurd (never_done p (seen p.frame) e mid h)
+
+was_open : (c : Option Closed) (number : ℕ) (payload : List ℕ) (old new : End) → ReceiveBy c number payload old (Ok received.Done) new
+    → (c ≡ None) × (mid : End) × TakesPayload number payload old (Ok received.Done) mid × (new ≡ settle mid)
+was_open (Some (ByUs closing)) number payload old new step = absurd (not_ok closing step.0)
+  where
+    not_ok : (c : Closing) → ◌≡◌ {A = Result Received Closing} (Ok received.Done) (Err c) → ⊥
+    not_ok c h = cc
+was_open (Some (ByPeer code)) number payload old new step = absurd (not_done code step.0)
+  where
+    not_done : (code : ℕ) → ◌≡◌ {A = Result Received Closing} (Ok received.Done) (Ok (received.PeerClosed code)) → ⊥
+    not_done code h = cc
+was_open None number payload old new step =
+    let Rest : Type 0 = (mid : End) × TakesPayload number payload old (Ok received.Done) mid × (new ≡ settle mid) in
+    let found : Rest = by_test Rest (nat_lt number old.floor) ((◌≡◌ {A = Result Received Closing} (Ok received.Done) (Ok received.BelowFloor)) × (new ≡ old)) (MatchBool (set.contains old.done number) ((◌≡◌ {A = Result Received Closing} (Ok received.Done) (Ok received.Duplicate)) × (new ≡ old)) Rest) step
+    (λ b. absurd (not_below b.0)) (λ more.
+    by_test Rest (set.contains old.done number) ((◌≡◌ {A = Result Received Closing} (Ok received.Done) (Ok received.Duplicate)) × (new ≡ old)) Rest more (λ d. absurd (not_again d.0)) (λ r. r)) in
+    (refl, found.0, found.1, found.2)
+  where
+    not_below : ◌≡◌ {A = Result Received Closing} (Ok received.Done) (Ok received.BelowFloor) → ⊥
+    not_below h = cc
+
+    not_again : ◌≡◌ {A = Result Received Closing} (Ok received.Done) (Ok received.Duplicate) → ⊥
+    not_again h = cc
+
+-- what comes of it again, where no frame is left and no fault follows
+ends_again : (again : ℕ) (asks : Bool) (answer : Result Received Closing) (e mid later : End) → settle e ≡ e → Resumes again None asks e [] answer mid → later ≡ settle mid → OnlyRecords again asks answer e later
+ends_again again asks answer e mid later same (inl out) is = subst (λ a. OnlyRecords again asks a e later) (sym out.0) (is ∙ ap settle out.1 ∙ same)
+ends_again again asks (Ok received.Done) e mid later same (inr end) is = is ∙ ap settle end ∙ ap (recorded again asks) same
+ends_again again asks (Ok received.NoMemory) e mid later same (inr end) is = is ∙ ap settle end ∙ same
+ends_again again asks (Ok received.Duplicate) e mid later same (inr end) is = absurd end
+ends_again again asks (Ok received.BelowFloor) e mid later same (inr end) is = absurd end
+ends_again again asks (Ok (received.PeerClosed code)) e mid later same (inr end) is = absurd end
+ends_again again asks (Err closing) e mid later same (inr end) is = absurd end
+
+opened_again : (again : ℕ) (payload : List ℕ) (asks : Bool) (e : End) (answer : Result Received Closing) (later : End) → ((mid : End) → TakesPayload again payload e answer mid → later ≡ settle mid → OnlyRecords again asks answer e later)
+    → OpenReceive again payload e answer later → OnlyRecords again asks answer e later
+opened_again again payload asks e answer later taken step =
+    let Rest : Type 0 = (mid : End) × TakesPayload again payload e answer mid × (later ≡ settle mid) in
+    let below : Type 0 = (answer ≡ Ok received.BelowFloor) × (later ≡ e) in
+    let duplicate : Type 0 = (answer ≡ Ok received.Duplicate) × (later ≡ e) in
+    let Goal : Type 0 = OnlyRecords again asks answer e later in
+    by_test Goal (nat_lt again e.floor) below (MatchBool (set.contains e.done again) duplicate Rest) step
+    (λ b. subst (λ a. OnlyRecords again asks a e later) (sym b.0) b.1) (λ more.
+    by_test Goal (set.contains e.done again) duplicate Rest more (λ d. subst (λ a. OnlyRecords again asks a e later) (sym d.0) d.1) (λ r. taken r.0 r.1 r.2))
+
+append_none : (ps : List PlacedValue) → ps ++ [] ≡ ps
+append_none [] = refl
+append_none (p ∷ ps) = ap (λ qs. p ∷ qs) (append_none ps)
+
+pub processed_repeat : (number again : ℕ) (payload : List ℕ) (old new later : End) (answer : Result Received Closing) → IsSound old → SentWasWritten old
+    → ReceiveStep old number payload (Ok received.Done) new → ReceiveStep new again payload answer later
+    → OnlyRecords again (any_asks (seen_all (frames_of (reading_of payload).left))) answer new later
+processed_repeat number again payload old new later answer sound sent step next =
+    let (unclosed, mid, takes, is) = was_open old.closed number payload old new step in
+    let (taken, left, parts, ends, resume) = payloads_repeat number again payload old mid (Ok received.Done) sound sent takes in
+    let (none, fine, at) = all_taken_by number (reading_of payload).fault (any_asks (seen_all (frames_of taken))) left (frames_taken (seen_all (frames_of taken)) old) mid ends in
+    let whole : taken ≡ (reading_of payload).left = sym (parts ∙ ap (λ qs. taken ++ qs) none ∙ append_none taken) in
+    let still : new.closed ≡ None = ap (λ (k : End). k.closed) is ∙ ap (λ (k : End). k.closed) at ∙ open_frames (seen_all (frames_of taken)) old ∙ unclosed in
+    let settled : settle new ≡ new = ap settle is ∙ settle_twice mid ∙ sym is in
+    subst (λ ps. OnlyRecords again (any_asks (seen_all (frames_of ps))) answer new later) whole
+    (opened_again again payload (any_asks (seen_all (frames_of taken))) new answer later
+    (λ end more ended.
+    let on : Resumes again (reading_of payload).fault (any_asks (seen_all (frames_of taken))) (settle mid) left answer end = resume answer end (subst (λ (k : End). TakesPayload again payload k answer end) is more) in
+    let there : Resumes again None (any_asks (seen_all (frames_of taken))) new [] answer end =
+    subst (λ (k : End). Resumes again None (any_asks (seen_all (frames_of taken))) k [] answer end) (sym is)
+    (subst (λ qs. Resumes again None (any_asks (seen_all (frames_of taken))) (settle mid) qs answer end) none
+    (subst (λ fault. Resumes again fault (any_asks (seen_all (frames_of taken))) (settle mid) left answer end) fine on)) in
+    ends_again again (any_asks (seen_all (frames_of taken))) answer new end later settled there ended)
+    (subst (λ c. ReceiveBy c again payload new answer later) still next))

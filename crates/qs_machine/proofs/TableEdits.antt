@@ -1,0 +1,272 @@
+-- Four lists stand for the tables: what a change of one list is to them.
+use Rattle.std.proofs.Common.{◌≡◌, ℕ, zero, suc, ◌+◌, ◌*◌, ◌/◌, ◌%◌, ◌<◌, ◌≤◌, Bool, true, false, List, [], ◌∷◌, length, get_or, map, take, Option, Some, None, is_some, Result, Ok, Err, nat_lt, cond, unwrap_or, refl, ap, sym, ◌∙◌, arith, subst}
+use Rattle.std.specs.List.{slice_get, sum_by}
+use Rattle.std.specs.Result.{OnOk, IfOk, IfErr}
+use Rattle.std.proofs.Math.ListN.{set}
+use Rattle.std.proofs.Math.Seq.{take-append_seam, take-length}
+use Rattle.std.proofs.lemmas.Bool.{both_ways}
+use Rattle.std.proofs.lemmas.Bool.Decides.{nat_tests}
+use Rattle.std.proofs.lemmas.List.{set-get_or, get_or_default}
+use Rattle.qs_recv.specs.Lane.{RecvLane, new_lane}
+use Rattle.qs_machine.specs.Tables.{Tables, table, with_table, lookup, update, updated, open_to, each, total, widened}
+use Rattle.qs_machine.specs.Verdicts.{or_new}
+use Rattle.qs_send.specs.declared.parts.SendFault.{SendFault}
+use Rattle.qs_send.specs.declared.parts.SendFault.TheVariants.{NoMemory}
+use Rattle.qs_send.specs.Lane.{Sending, accepted, refusal, after_write}
+use Rattle.qs_machine.proofs.Tallies.{tally_opened}
+use Rattle.qs_machine.specs.Sums.{tables_of, tally_on, changed, no_sending, or_no_sending}
+
+pub or_new_is : (xs : List RecvLane) (i w : ℕ) → or_new (slice_get xs i) w ≡ get_or xs i (new_lane w)
+or_new_is [] i w = refl
+or_new_is (x ∷ xs) zero w = refl
+or_new_is (x ∷ xs) (suc i) w = or_new_is xs i w
+
+-- a refusal, or a change
+pub on_ok : {A E : Type 0} (r : Result A E) (P Q : Type 0) → (P → Q) → OnOk r P → OnOk r Q
+on_ok (Ok a) P Q f p = f p
+on_ok (Err e) P Q f p = tt
+
+four : {Y : Type 0} (ls : List Y) → length ls ≡ 4 → (a : Y) × (b : Y) × (c : Y) × (d : Y) × (ls ≡ a ∷ b ∷ c ∷ d ∷ [])
+four (a ∷ b ∷ c ∷ d ∷ []) len = (a, b, c, d, refl)
+four [] len = absurd (omega (arith, len))
+four (a ∷ []) len = absurd (omega (arith, len))
+four (a ∷ b ∷ []) len = absurd (omega (arith, len))
+four (a ∷ b ∷ c ∷ []) len = absurd (omega (arith, len))
+four (a ∷ b ∷ c ∷ d ∷ e ∷ ls) len = absurd (omega (arith, len))
+
+pub some_tested : {X : Type 0} (xs : List X) (i n : ℕ) → n ≡ length xs → nat_lt i n ≡ is_some (slice_get xs i)
+some_tested xs i n is = ap (nat_lt i) is ∙ tested xs i
+  where
+    tested : {X : Type 0} (xs : List X) (i : ℕ) → nat_lt i (length xs) ≡ is_some (slice_get xs i)
+    tested [] i = grind (arith, nat_tests)
+    tested (x ∷ xs) zero = grind (arith, nat_tests)
+    tested (x ∷ xs) (suc i) = grind (arith, nat_tests, tested xs i)
+
+module _ {X : Type 0} where
+  -- a list of the four, whatever is told in its place past the end
+  listed : (ls : List (List X)) (n k : ℕ) (d : List X) → length ls ≡ 4 → k ≡ n % 4 → get_or ls k d ≡ get_or ls k (get_or ls k d)
+  listed ls n k d len kind =
+      let lt : k < length ls = omega (arith, len, kind) in
+      get_or_default ls k d (get_or ls k d) lt
+
+  table_four : (a b c d xs : List X) (k : ℕ) → k < 4 → table (tables_of (a ∷ b ∷ c ∷ d ∷ [])) k ≡ get_or (a ∷ b ∷ c ∷ d ∷ []) k xs
+  table_four a b c d xs zero lt = refl
+  table_four a b c d xs (suc zero) lt = refl
+  table_four a b c d xs (suc (suc zero)) lt = refl
+  table_four a b c d xs (suc (suc (suc zero))) lt = refl
+  table_four a b c d xs (suc (suc (suc (suc k)))) lt = absurd (omega arith)
+
+  with_four : (a b c d xs : List X) (k : ℕ) → k < 4 → tables_of (set (a ∷ b ∷ c ∷ d ∷ []) k xs) ≡ with_table (tables_of (a ∷ b ∷ c ∷ d ∷ [])) k xs
+  with_four a b c d xs zero lt = refl
+  with_four a b c d xs (suc zero) lt = refl
+  with_four a b c d xs (suc (suc zero)) lt = refl
+  with_four a b c d xs (suc (suc (suc zero))) lt = refl
+  with_four a b c d xs (suc (suc (suc (suc k)))) lt = absurd (omega arith)
+
+  table_is_at : (ls : List (List X)) (n k : ℕ) (xs : List X) → length ls ≡ 4 → k ≡ n % 4 → xs ≡ get_or ls k xs → table (tables_of ls) (n % 4) ≡ xs
+  table_is_at ls n k xs len kind at =
+      let h = four ls len in
+      let lt : n % 4 < 4 = omega arith in
+      ap (λ l. table (tables_of l) (n % 4)) h.4 ∙ table_four h.0 h.1 h.2 h.3 xs (n % 4) lt ∙ ap (λ l. get_or l (n % 4) xs) (sym h.4) ∙ ap (λ j. get_or ls j xs) (sym kind) ∙ sym at
+
+  pub with_is : (ls : List (List X)) (n k : ℕ) (ys : List X) → length ls ≡ 4 → k ≡ n % 4 → tables_of (set ls k ys) ≡ with_table (tables_of ls) (n % 4) ys
+  with_is ls n k ys len kind =
+      let h = four ls len in
+      let lt : n % 4 < 4 = omega arith in
+      ap (λ j. tables_of (set ls j ys)) kind ∙ ap (λ l. tables_of (set l (n % 4) ys)) h.4 ∙ with_four h.0 h.1 h.2 h.3 ys (n % 4) lt ∙ ap (λ l. with_table (tables_of l) (n % 4) ys) (sym h.4)
+
+  lookup_is_at : (ls : List (List X)) (n k i : ℕ) (xs : List X) → length ls ≡ 4 → k ≡ n % 4 → i ≡ n / 4 → xs ≡ get_or ls k xs → lookup (tables_of ls) n ≡ slice_get xs i
+  unfolding lookup
+  lookup_is_at ls n k i xs len kind index at = ap (λ l. slice_get l (n / 4)) (table_is_at ls n k xs len kind at) ∙ ap (slice_get xs) (sym index)
+
+  some_within : (xs : List X) (i : ℕ) → is_some (slice_get xs i) ≡ true → i < length xs
+  some_within [] i is = absurd (both_ways true (sym is) refl)
+  some_within (x ∷ xs) zero is = omega arith
+  some_within (x ∷ xs) (suc i) is = omega (arith, some_within xs i is)
+
+  open_there_at : (ls : List (List X)) (n k i : ℕ) (xs : List X) → length ls ≡ 4 → k ≡ n % 4 → i ≡ n / 4 → xs ≡ get_or ls k xs → is_some (lookup (tables_of ls) n) ≡ true → i < length xs
+  open_there_at ls n k i xs len kind index at is = some_within xs i (ap is_some (sym (lookup_is_at ls n k i xs len kind index at)) ∙ is)
+
+  by_look : (t : Tables X) (n : ℕ) (xs : List X) (f : X → X) (o : Option X) → table t (n % 4) ≡ xs → with_table t (n % 4) xs ≡ t → with_table t (n % 4) (changed xs (n / 4) f o) ≡ updated t n f o
+  unfolding update
+  by_look t n xs f None is same = same
+  by_look t n xs f (Some x) is same = ap (λ l. with_table t (n % 4) (set l (n / 4) (f x))) (sym is)
+
+  updated_is_at : (ls : List (List X)) (n k i : ℕ) (xs ys : List X) (f : X → X) → length ls ≡ 4 → k ≡ n % 4 → i ≡ n / 4 → xs ≡ get_or ls k xs → ys ≡ changed xs i f (slice_get xs i)
+      → tables_of (set ls k ys) ≡ updated (tables_of ls) n f (lookup (tables_of ls) n)
+  updated_is_at ls n k i xs ys f len kind index at is =
+      let same : with_table (tables_of ls) (n % 4) xs ≡ tables_of ls = sym (with_is ls n k xs len kind) ∙ ap (λ l. tables_of (set ls k l)) at ∙ ap tables_of (set-get_or ls k xs) in
+      with_is ls n k ys len kind
+      ∙ ap (with_table (tables_of ls) (n % 4)) (is ∙ ap (λ j. changed xs j f (slice_get xs j)) index)
+      ∙ ap (λ o. with_table (tables_of ls) (n % 4) (changed xs (n / 4) f o)) (ap (slice_get xs) (sym index) ∙ sym (lookup_is_at ls n k i xs len kind index at))
+      ∙ by_look (tables_of ls) n xs f (lookup (tables_of ls) n) (table_is_at ls n k xs len kind at) same
+
+  opened_is_at : (ls : List (List X)) (n k i : ℕ) (xs ys : List X) (begin : ℕ → X) → length ls ≡ 4 → k ≡ n % 4 → i ≡ n / 4 → xs ≡ get_or ls k xs
+      → ys ≡ widened xs (i + 1) (λ j. begin (j * 4 + n % 4)) → tables_of (set ls k ys) ≡ open_to (tables_of ls) n begin
+  unfolding open_to
+  opened_is_at ls n k i xs ys begin len kind index at is =
+      with_is ls n k ys len kind
+      ∙ ap (with_table (tables_of ls) (n % 4)) (is ∙ ap (λ j. widened xs (j + 1) (λ j. begin (j * 4 + n % 4))) index ∙ ap (λ l. widened l (n / 4 + 1) (λ j. begin (j * 4 + n % 4))) (sym (table_is_at ls n k xs len kind at)))
+
+  closed_is_at : (ls : List (List X)) (n k m : ℕ) (xs ys : List X) → length ls ≡ 4 → k ≡ n % 4 → xs ≡ get_or ls k xs → ys ≡ take m xs
+      → tables_of (set ls k ys) ≡ with_table (tables_of ls) (n % 4) (take m (table (tables_of ls) (n % 4)))
+  closed_is_at ls n k m xs ys len kind at is =
+      with_is ls n k ys len kind ∙ ap (with_table (tables_of ls) (n % 4)) (is ∙ ap (take m) (sym (table_is_at ls n k xs len kind at)))
+
+  -- each list was mapped, one after the other
+  pub each_is : (f : X → X) (ls : List (List X)) (a b c d k l m n : List X) → length ls ≡ 4 → a ≡ map f (get_or ls 0 k) → b ≡ map f (get_or (set ls 0 a) 1 l)
+      → c ≡ map f (get_or (set (set ls 0 a) 1 b) 2 m) → d ≡ map f (get_or (set (set (set ls 0 a) 1 b) 2 c) 3 n) → tables_of (set (set (set (set ls 0 a) 1 b) 2 c) 3 d) ≡ each f (tables_of ls)
+  unfolding each
+  each_is f ls a b c d k l m n len p q r s =
+      let h = four ls len in
+      let p' : a ≡ map f h.0 = subst (λ xs. a ≡ map f (get_or xs 0 k)) h.4 p in
+      let q' : b ≡ map f h.1 = subst (λ xs. b ≡ map f (get_or (set xs 0 a) 1 l)) h.4 q in
+      let r' : c ≡ map f h.2 = subst (λ xs. c ≡ map f (get_or (set (set xs 0 a) 1 b) 2 m)) h.4 r in
+      let s' : d ≡ map f h.3 = subst (λ xs. d ≡ map f (get_or (set (set (set xs 0 a) 1 b) 2 c) 3 n)) h.4 s in
+      ap (λ xs. tables_of (set (set (set (set xs 0 a) 1 b) 2 c) 3 d)) h.4 ∙ rw (p', q', r', s') refl ∙ ap (λ xs. each f (tables_of xs)) (sym h.4)
+
+  sum_four : (f : X → ℕ) (t : Tables X) (k : ℕ) → sum_by f (table t k) ≤ total f t
+  unfolding total
+  sum_four f t zero = omega arith
+  sum_four f t (suc zero) = omega arith
+  sum_four f t (suc (suc zero)) = omega arith
+  sum_four f t (suc (suc (suc k))) = omega arith
+
+  -- one type's sum is part of the whole
+  sum_le_at : (f : X → ℕ) (ls : List (List X)) (n k : ℕ) (xs : List X) → length ls ≡ 4 → k ≡ n % 4 → xs ≡ get_or ls k xs → sum_by f xs ≤ total f (tables_of ls)
+  sum_le_at f ls n k xs len kind at = subst (λ l. sum_by f l ≤ total f (tables_of ls)) (table_is_at ls n k xs len kind at) (sum_four f (tables_of ls) (n % 4))
+
+  pub total_four : (f : X → ℕ) (ls : List (List X)) (k l m n : List X) → length ls ≡ 4
+      → total f (tables_of ls) ≡ sum_by f (get_or ls 0 k) + sum_by f (get_or ls 1 l) + sum_by f (get_or ls 2 m) + sum_by f (get_or ls 3 n)
+  unfolding total
+  total_four f ls k l m n len =
+      let h = four ls len in
+      ap (λ xs. total f (tables_of xs)) h.4 ∙ ap (λ xs. sum_by f (get_or xs 0 k) + sum_by f (get_or xs 1 l) + sum_by f (get_or xs 2 m) + sum_by f (get_or xs 3 n)) (sym h.4)
+
+  own_table : (t : Tables X) (k : ℕ) → with_table t k (table t k) ≡ t
+  own_table t zero = refl
+  own_table t (suc zero) = refl
+  own_table t (suc (suc zero)) = refl
+  own_table t (suc (suc (suc k))) = refl
+
+  table_with : (t : Tables X) (k : ℕ) (ys : List X) → table (with_table t k ys) k ≡ ys
+  table_with t zero ys = refl
+  table_with t (suc zero) ys = refl
+  table_with t (suc (suc zero)) ys = refl
+  table_with t (suc (suc (suc k))) ys = refl
+
+  with_twice : (t : Tables X) (k : ℕ) (ys zs : List X) → with_table (with_table t k ys) k zs ≡ with_table t k zs
+  with_twice t zero ys zs = refl
+  with_twice t (suc zero) ys zs = refl
+  with_twice t (suc (suc zero)) ys zs = refl
+  with_twice t (suc (suc (suc k))) ys zs = refl
+
+  -- a table that was opened, or wasn't, and then was cut back is as before
+  pub opened_closed : (t : Tables X) (n : ℕ) (begin : ℕ → X) (b : Bool) (mid now : Tables X) (m : ℕ) → mid ≡ cond b t (open_to t n begin) → m ≡ length (table t (n % 4))
+      → now ≡ with_table mid (n % 4) (take m (table mid (n % 4))) → now ≡ t
+  unfolding open_to
+  opened_closed t n begin true mid now m is len cut =
+      let k = n % 4 in
+      cut ∙ ap (λ (l : Tables X). with_table l k (take m (table l k))) is ∙ ap (λ j. with_table t k (take j (table t k))) len ∙ ap (with_table t k) (take-length (table t k)) ∙ own_table t k
+  opened_closed t n begin false mid now m is len cut =
+      let k = n % 4 in
+      let ys = widened (table t k) (n / 4 + 1) (λ j. begin (j * 4 + k)) in
+      cut
+      ∙ ap (λ (l : Tables X). with_table l k (take m (table l k))) is
+      ∙ ap (λ xs. with_table (with_table t k ys) k (take m xs)) (table_with t k ys)
+      ∙ with_twice t k ys (take m ys)
+      ∙ ap (λ j. with_table t k (take j ys)) len
+      ∙ ap (with_table t k) (take-append_seam (table t k) _)
+      ∙ own_table t k
+
+  -- the same, of the list at a place
+
+  pub table_is : (ls : List (List X)) (n k : ℕ) (d : List X) → length ls ≡ 4 → k ≡ n % 4 → table (tables_of ls) (n % 4) ≡ get_or ls k d
+  table_is ls n k d len kind = table_is_at ls n k (get_or ls k d) len kind (listed ls n k d len kind)
+
+  pub table_at : (ls : List (List X)) (k : ℕ) (d : List X) → length ls ≡ 4 → k < 4 → table (tables_of ls) k ≡ get_or ls k d
+  table_at ls k d len lt =
+      let h = four ls len in
+      ap (λ l. table (tables_of l) k) h.4 ∙ table_four h.0 h.1 h.2 h.3 d k lt ∙ ap (λ l. get_or l k d) (sym h.4)
+
+  pub lookup_is : (ls : List (List X)) (n k i : ℕ) (d : List X) → length ls ≡ 4 → k ≡ n % 4 → i ≡ n / 4 → lookup (tables_of ls) n ≡ slice_get (get_or ls k d) i
+  lookup_is ls n k i d len kind index = lookup_is_at ls n k i (get_or ls k d) len kind index (listed ls n k d len kind)
+
+  pub open_there : (ls : List (List X)) (n k i : ℕ) (d : List X) → length ls ≡ 4 → k ≡ n % 4 → i ≡ n / 4 → is_some (lookup (tables_of ls) n) ≡ true → i < length (get_or ls k d)
+  open_there ls n k i d len kind index is = open_there_at ls n k i (get_or ls k d) len kind index (listed ls n k d len kind) is
+
+  pub updated_is : (ls : List (List X)) (n k i : ℕ) (d ys : List X) (f : X → X) → length ls ≡ 4 → k ≡ n % 4 → i ≡ n / 4 → ys ≡ changed (get_or ls k d) i f (slice_get (get_or ls k d) i)
+      → tables_of (set ls k ys) ≡ updated (tables_of ls) n f (lookup (tables_of ls) n)
+  updated_is ls n k i d ys f len kind index is = updated_is_at ls n k i (get_or ls k d) ys f len kind index (listed ls n k d len kind) is
+
+  pub opened_is : (ls : List (List X)) (n k i : ℕ) (d ys : List X) (begin : ℕ → X) → length ls ≡ 4 → k ≡ n % 4 → i ≡ n / 4
+      → ys ≡ widened (get_or ls k d) (i + 1) (λ j. begin (j * 4 + n % 4)) → tables_of (set ls k ys) ≡ open_to (tables_of ls) n begin
+  opened_is ls n k i d ys begin len kind index is = opened_is_at ls n k i (get_or ls k d) ys begin len kind index (listed ls n k d len kind) is
+
+  pub closed_is : (ls : List (List X)) (n k m : ℕ) (d ys : List X) → length ls ≡ 4 → k ≡ n % 4 → ys ≡ take m (get_or ls k d)
+      → tables_of (set ls k ys) ≡ with_table (tables_of ls) (n % 4) (take m (table (tables_of ls) (n % 4)))
+  closed_is ls n k m d ys len kind is = closed_is_at ls n k m (get_or ls k d) ys len kind (listed ls n k d len kind) is
+
+  pub sum_le : (f : X → ℕ) (ls : List (List X)) (n k : ℕ) (d : List X) → length ls ≡ 4 → k ≡ n % 4 → sum_by f (get_or ls k d) ≤ total f (tables_of ls)
+  sum_le f ls n k d len kind = sum_le_at f ls n k (get_or ls k d) len kind (listed ls n k d len kind)
+
+pub lane_is : (ls : List (List RecvLane)) (n k i : ℕ) (d : List RecvLane) (w : ℕ) → length ls ≡ 4 → k ≡ n % 4 → i ≡ n / 4 → or_new (lookup (tables_of ls) n) w ≡ get_or (get_or ls k d) i (new_lane w)
+lane_is ls n k i d w len kind index = ap (λ o. or_new o w) (lookup_is ls n k i d len kind index) ∙ or_new_is (get_or ls k d) i w
+
+pub lane_looked : (ls : List (List RecvLane)) (n k i : ℕ) (d : List RecvLane) (w : ℕ) → length ls ≡ 4 → k ≡ n % 4 → i ≡ n / 4 → or_new (slice_get (get_or ls k d) i) w ≡ or_new (lookup (tables_of ls) n) w
+lane_looked ls n k i d w len kind index = ap (λ o. or_new o w) (sym (lookup_is ls n k i d len kind index))
+
+or_no_sending_is : (xs : List Sending) (i : ℕ) → or_no_sending (slice_get xs i) ≡ get_or xs i no_sending
+or_no_sending_is [] i = refl
+or_no_sending_is (x ∷ xs) zero = refl
+or_no_sending_is (x ∷ xs) (suc i) = or_no_sending_is xs i
+
+pub half_is : (ls : List (List Sending)) (n k i : ℕ) (d : List Sending) → length ls ≡ 4 → k ≡ n % 4 → i ≡ n / 4 → or_no_sending (lookup (tables_of ls) n) ≡ get_or (get_or ls k d) i no_sending
+half_is ls n k i d len kind index = ap or_no_sending (lookup_is ls n k i d len kind index) ∙ or_no_sending_is (get_or ls k d) i
+
+half_got : (xs : List Sending) (i : ℕ) → i < length xs → slice_get xs i ≡ Some (get_or xs i no_sending)
+half_got [] i lt = absurd (omega (arith, lt))
+half_got (x ∷ xs) zero lt = refl
+half_got (x ∷ xs) (suc i) lt = half_got xs i (omega (arith, lt))
+
+pub half_at : (ls : List (List Sending)) (n k i : ℕ) (d : List Sending) (s : Sending) → length ls ≡ 4 → k ≡ n % 4 → i ≡ n / 4 → is_some (lookup (tables_of ls) n) ≡ true
+    → s ≡ get_or (get_or ls k d) i no_sending → lookup (tables_of ls) n ≡ Some s
+half_at ls n k i d s len kind index is at =
+    lookup_is ls n k i d len kind index ∙ half_got (get_or ls k d) i (open_there ls n k i d len kind index is) ∙ ap (λ x. Some x) (sym at)
+
+pub written_is : (ls : List (List Sending)) (n k i : ℕ) (d ys : List Sending) (bytes : List ℕ) (r : Result ℕ SendFault) → length ls ≡ 4 → k ≡ n % 4 → i ≡ n / 4
+    → (let half = get_or (get_or ls k d) i no_sending in
+    IfOk r (λ m. (refusal half.lane ≡ None) × (m ≡ accepted half.lane (length bytes)) × (ys ≡ changed (get_or ls k d) i (λ s. after_write s (take m bytes)) (slice_get (get_or ls k d) i))))
+    → (let half = or_no_sending (lookup (tables_of ls) n) in
+    IfOk r (λ m. (refusal half.lane ≡ None) × (m ≡ accepted half.lane (length bytes)) × (tables_of (set ls k ys) ≡ updated (tables_of ls) n (λ s. after_write s (take m bytes)) (lookup (tables_of ls) n))))
+written_is ls n k i d ys bytes (Ok m) len kind index h =
+    let e = half_is ls n k i d len kind index in
+    (ap (λ (s : Sending). refusal s.lane) e ∙ h.0, h.1 ∙ ap (λ (s : Sending). accepted s.lane (length bytes)) (sym e), updated_is ls n k i d ys (λ s. after_write s (take m bytes)) len kind index h.2)
+written_is ls n k i d ys bytes (Err f) len kind index h = tt
+
+pub refused_is : (ls : List (List Sending)) (n k i : ℕ) (d ys : List Sending) (r : Result ℕ SendFault) → length ls ≡ 4 → k ≡ n % 4 → i ≡ n / 4
+    → IfErr r (λ f. (ys ≡ get_or ls k d) × (f ≡ unwrap_or (refusal (get_or (get_or ls k d) i no_sending).lane) NoMemory))
+    → IfErr r (λ f. (tables_of (set ls k ys) ≡ tables_of ls) × (f ≡ unwrap_or (refusal (or_no_sending (lookup (tables_of ls) n)).lane) NoMemory))
+refused_is ls n k i d ys (Ok m) len kind index h = tt
+refused_is ls n k i d ys (Err f) len kind index h = (
+  ap (λ l. tables_of (set ls k l)) h.0 ∙ ap tables_of (set-get_or ls k d),
+  h.1 ∙ ap (λ (s : Sending). unwrap_or (refusal s.lane) NoMemory) (sym (half_is ls n k i d len kind index)),
+)
+
+-- lanes that were opened, or weren't, add nothing to the sums
+pub same_tally : (t : Tables RecvLane) (n w : ℕ) (b : Bool) (mid : Tables RecvLane) (m : ℕ) → mid ≡ cond b t (open_to t n (λ j. new_lane w)) → m ≡ length (table t (n % 4))
+    → tally_on (take m (table mid (n % 4))) ≡ tally_on (table mid (n % 4))
+unfolding open_to
+same_tally t n w true mid m is len =
+    let k = n % 4 in
+    ap (λ (l : Tables RecvLane). tally_on (take m (table l k))) is ∙ ap (λ j. tally_on (take j (table t k))) len ∙ ap tally_on (take-length (table t k)) ∙ ap (λ (l : Tables RecvLane). tally_on (table l k)) (sym is)
+same_tally t n w false mid m is len =
+    let k = n % 4 in
+    let xs = table t k in
+    let ys = widened xs (n / 4 + 1) (λ j. new_lane w) in
+    let is_ys : table mid k ≡ ys = ap (λ (l : Tables RecvLane). table l k) is ∙ table_with t k ys in
+    ap (λ l. tally_on (take m l)) is_ys
+    ∙ ap (λ j. tally_on (take j ys)) len
+    ∙ ap tally_on (take-append_seam xs _)
+    ∙ sym (tally_opened xs w _)
+    ∙ ap tally_on (sym is_ys)

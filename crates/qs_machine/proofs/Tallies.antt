@@ -1,0 +1,125 @@
+-- The sums over the receiving lanes of one type of stream, where one of them changes, and where some are opened.
+use Rattle.std.proofs.Common.{◌≡◌, ℕ, zero, suc, ◌+◌, ◌-◌, ◌<◌, ◌≤◌, ◌^◌, ◌||◌, Bool, true, false, List, [], ◌∷◌, ◌++◌, length, get_or, map, take, is_some, refl, ap, sym, ◌∙◌, arith, cond}
+use Rattle.std.specs.List.{sum_by}
+use Rattle.std.specs.Ordering.{nat_cmp}
+use Rattle.std.specs.FinMap as fmap
+use Rattle.std.proofs.lemmas.List.Sums.{sum_by-set, sum_by-cons, sum_by-append, get_or-le-sum_by}
+use Rattle.std.proofs.Math.ListN.{set}
+use Rattle.qs_ranges.proofs.Sets.{below-end_of, end_of-empty}
+use Rattle.qs_recv.specs.Lane.{RecvLane, new_lane, highest, taken, raise}
+use Rattle.qs_recv.specs.Lawful.{IsLawful}
+use Rattle.qs_recv.proofs.LaneLaws.{len_within}
+use Rattle.qs_recv.proofs.LawfulLaws.{lawful_new, lawful_raise, read_within}
+use Rattle.qs_machine.specs.declared.tally.Tally.{Tally}
+use Rattle.qs_machine.specs.Sums.{stored_on, tally_of, tally_on, moved, IsPart, IsPaid, EachLawful}
+
+-- what is stored and what was taken is at most the highest offset
+pub lane_paid : (lane : RecvLane) → IsLawful lane → fmap.len lane.arrived.stored + taken lane ≤ highest lane
+lane_paid lane h = by_use (is_some lane.reset_code) (is_some lane.stop_code) h.discards
+  where
+    by_use : (b c : Bool) → lane.arrived.discarding ≡ (b || c) → fmap.len lane.arrived.stored + cond (b || c) (highest lane) lane.arrived.read_count ≤ highest lane
+    by_use true c is =
+        let none : fmap.len lane.arrived.stored ≡ 0 = ap fmap.len (h.thrown_away is) ∙ fmap.len-empty nat_cmp ℕ in
+        omega arith
+    by_use false true is =
+        let none : fmap.len lane.arrived.stored ≡ 0 = ap fmap.len (h.thrown_away is) ∙ fmap.len-empty nat_cmp ℕ in
+        omega arith
+    by_use false false is =
+        let within = len_within (highest lane - lane.arrived.read_count) lane.arrived.read_count lane.arrived.stored (λ q some.
+        let p = h.stored_received q some in
+        let below = below-end_of lane.arrived.received q p.1 in
+        (p.0, omega (arith, below, h.received_within, p.0))) in
+        omega (arith, within, read_within lane h, h.received_within)
+
+-- One lane among all
+
+sum_part : (f : RecvLane → ℕ) (xs : List RecvLane) (i : ℕ) (x : RecvLane) → i < length xs → x ≡ get_or xs i x → f x ≤ sum_by f xs
+sum_part f xs i x there is =
+    let le = get_or-le-sum_by f xs i x there in
+    let e : f (get_or xs i x) ≡ f x = ap f (sym is) in
+    omega (arith, le, e)
+
+sum_set : (f : RecvLane → ℕ) (xs : List RecvLane) (i : ℕ) (x y : RecvLane) → i < length xs → x ≡ get_or xs i x → sum_by f (set xs i y) ≡ sum_by f xs - f x + f y
+sum_set f xs i x y there is =
+    let le = sum_part f xs i x there is in
+    let whole = sum_by-set f xs i y x there in
+    let e : f (get_or xs i x) ≡ f x = ap f (sym is) in
+    omega (arith, le, e, whole)
+
+pub tally_part : (xs : List RecvLane) (i : ℕ) (x : RecvLane) → i < length xs → x ≡ get_or xs i x → IsPart (tally_of x) (tally_on xs)
+tally_part xs i x there is =
+    record { spent = sum_part highest xs i x there is; taken = sum_part taken xs i x there is; stored = sum_part stored_on xs i x there is }
+
+abbrev sums : ℕ → ℕ → ℕ → Tally
+sums spent taken stored = record { spent = spent; taken = taken; stored = stored }
+
+same_tally : (a b : Tally) → a.spent ≡ b.spent → a.taken ≡ b.taken → a.stored ≡ b.stored → a ≡ b
+same_tally a b p q r = ap (λ k. sums k a.taken a.stored) p ∙ ap (λ k. sums b.spent k a.stored) q ∙ ap (sums b.spent b.taken) r
+
+pub tally_set : (xs : List RecvLane) (i : ℕ) (x y : RecvLane) → i < length xs → x ≡ get_or xs i x → tally_on (set xs i y) ≡ moved (tally_on xs) (tally_of x) (tally_of y)
+tally_set xs i x y there is = same_tally _ _ (sum_set highest xs i x y there is) (sum_set taken xs i x y there is) (sum_set stored_on xs i x y there is)
+
+pub spent_set : (xs : List RecvLane) (i : ℕ) (x y d : RecvLane) → i < length xs → x ≡ get_or xs i x → sum_by highest (set xs i y) + highest x ≡ sum_by highest xs + highest y
+spent_set xs i x y d there is =
+    let whole = sum_by-set highest xs i y x there in
+    let e : highest (get_or xs i x) ≡ highest x = ap highest (sym is) in
+    omega (arith, e, whole)
+
+pub each_paid : (xs : List RecvLane) → EachLawful xs → IsPaid (tally_on xs)
+each_paid [] each = omega arith
+each_paid (x ∷ xs) each =
+    let rest = each_paid xs each.1 in
+    let one = lane_paid x each.0 in
+    omega (arith, rest, one, sum_by-cons taken x xs, sum_by-cons highest x xs, sum_by-cons stored_on x xs)
+
+-- Each lane is lawful
+
+pub lawful_set : (xs : List RecvLane) (i : ℕ) (y : RecvLane) → IsLawful y → EachLawful xs → EachLawful (set xs i y)
+lawful_set [] i y is each = tt
+lawful_set (x ∷ xs) zero y is each = (is, each.1)
+lawful_set (x ∷ xs) (suc i) y is each = (each.0, lawful_set xs i y is each.1)
+
+pub lawful_take : (n : ℕ) (xs : List RecvLane) → EachLawful xs → EachLawful (take n xs)
+lawful_take zero xs each = tt
+lawful_take (suc n) [] each = tt
+lawful_take (suc n) (x ∷ xs) each = (each.0, lawful_take n xs each.1)
+
+pub lawful_append : (xs ys : List RecvLane) → EachLawful xs → EachLawful ys → EachLawful (xs ++ ys)
+lawful_append [] ys a b = b
+lawful_append (x ∷ xs) ys a b = (a.0, lawful_append xs ys a.1 b)
+
+pub lawful_begun : (w : ℕ) (ks : List ℕ) → 1 ≤ w → w ≤ 2 ^ 20 → EachLawful (map (λ (i : ℕ). new_lane w) ks)
+lawful_begun w [] some small = tt
+lawful_begun w (k ∷ ks) some small = (lawful_new w some small, lawful_begun w ks some small)
+
+pub lawful_raised : (xs : List RecvLane) → EachLawful xs → EachLawful (map raise xs)
+lawful_raised [] each = tt
+lawful_raised (x ∷ xs) each = (lawful_raise x each.0, lawful_raised xs each.1)
+
+-- Lanes that are opened have spent nothing
+
+sum_begun : (f : RecvLane → ℕ) (w : ℕ) (ks : List ℕ) → f (new_lane w) ≡ 0 → sum_by f (map (λ (i : ℕ). new_lane w) ks) ≡ 0
+sum_begun f w [] none = refl
+sum_begun f w (k ∷ ks) none = sum_by-cons f (new_lane w) (map (λ (i : ℕ). new_lane w) ks) ∙ omega (arith, none, sum_begun f w ks none)
+
+sum_opened : (f : RecvLane → ℕ) (xs : List RecvLane) (w : ℕ) (ks : List ℕ) → f (new_lane w) ≡ 0 → sum_by f (xs ++ map (λ (i : ℕ). new_lane w) ks) ≡ sum_by f xs
+sum_opened f xs w ks none = sum_by-append f xs (map (λ (i : ℕ). new_lane w) ks) ∙ omega (arith, sum_begun f w ks none)
+
+none_stored : (w : ℕ) → stored_on (new_lane w) ≡ 0
+none_stored w = fmap.len-empty nat_cmp ℕ
+
+pub tally_opened : (xs : List RecvLane) (w : ℕ) (ks : List ℕ) → tally_on (xs ++ map (λ (i : ℕ). new_lane w) ks) ≡ tally_on xs
+tally_opened xs w ks =
+    same_tally _ _ (sum_opened highest xs w ks end_of-empty) (sum_opened taken xs w ks refl) (sum_opened stored_on xs w ks (none_stored w))
+
+-- A raised limit changes no sum
+
+sum_raised : (f : RecvLane → ℕ) → ((l : RecvLane) → f (raise l) ≡ f l) → (xs : List RecvLane) → sum_by f (map raise xs) ≡ sum_by f xs
+sum_raised f same [] = refl
+sum_raised f same (x ∷ xs) =
+    let rest = sum_raised f same xs in
+    let one = same x in
+    sum_by-cons f (raise x) (map raise xs) ∙ omega (arith, rest, one, sum_by-cons f x xs)
+
+pub tally_raised : (xs : List RecvLane) → tally_on (map raise xs) ≡ tally_on xs
+tally_raised xs = same_tally _ _ (sum_raised highest (λ l. refl) xs) (sum_raised taken (λ l. refl) xs) (sum_raised stored_on (λ l. refl) xs)

@@ -1,0 +1,5 @@
+use Rattle.qs_machine.proofs.Lasting.{closed_stays}
+use Rattle.qs_machine.proofs.laws.closed_ends_stay.Goals as goal
+
+pub returns : goal.returns
+returns c = λ old call answer new is step. closed_stays old call answer new is step

@@ -1,0 +1,169 @@
+-- An end as numbers, lists and maps, so that it can be what contracts see of an endpoint.
+use Rattle.std.specs.Prelude.{◌≡◌, ℕ, zero, suc, Bool, List, ◌⊎◌, Option, refl}
+use Rattle.std.proofs.Common.{inl, inr}
+use Rattle.std.specs.Coded.{Coded, code_by, coded×, coded⊎, coded_ℕ, coded_bool, coded_list, coded_option}
+use Rattle.std.specs.Ordering.{nat_cmp}
+use Rattle.std.specs.FinMap as fmap
+use Rattle.std.specs.FinSet as set
+use Rattle.qs_ranges.specs.Numbers.{NumberSet}
+use Rattle.qs_wire.specs.declared.stream_id.Role.{Role}
+use Rattle.qs_wire.specs.declared.stream_id.Role.TheVariants.{Client, Server}
+use Rattle.qs_recv.specs.Lane.{RecvLane, lane_code as recv_code}
+use Rattle.qs_send.specs.Lane.{SendLane, lane_code as send_code}
+use Rattle.qs_send.specs.Records.{packet_pieces_code}
+use Rattle.qs_calls.specs.declared.settings.Settings.{Settings}
+use Rattle.qs_calls.specs.declared.settings.PeerLimits.{PeerLimits}
+use Rattle.qs_calls.specs.declared.closing.Closing.{Closing}
+use Rattle.qs_calls.specs.declared.closing.Closed.{Closed}
+use Rattle.qs_calls.specs.declared.closing.Closed.TheVariants.{ByUs, ByPeer}
+use Rattle.qs_machine.specs.Tables.{Tables}
+use Rattle.qs_machine.specs.LostPackets.{LostPackets, lost_packets_code}
+use Rattle.qs_machine.specs.Ends.{End, Records, AckedItems}
+use Rattle.qs_machine.specs.Outgoing.{Outgoing}
+
+-- Roles, settings, closings
+
+abbrev pub role_number : Role → ℕ
+role_number Client = 0
+role_number Server = 1
+
+abbrev pub role_of : ℕ → Role
+role_of zero = Client
+role_of (suc n) = Server
+
+pub role_back : (r : Role) → role_of (role_number r) ≡ r
+role_back Client = refl
+role_back Server = refl
+
+abbrev pub role_code : Coded Role
+role_code = code_by ℕ coded_ℕ role_number role_of role_back
+
+abbrev pub settings_code : Coded Settings
+settings_code =
+    code_by (ℕ × (ℕ × (ℕ × (ℕ × (ℕ × (ℕ × ℕ))))))
+    (coded× coded_ℕ (coded× coded_ℕ (coded× coded_ℕ (coded× coded_ℕ (coded× coded_ℕ (coded× coded_ℕ coded_ℕ))))))
+    (λ s. (s.conn_window, (s.bidi_local, (s.bidi_remote, (s.uni, (s.send_buffer, (s.grant_bidi, s.grant_uni)))))))
+    (λ p. record { conn_window = p.0; bidi_local = p.1.0; bidi_remote = p.1.1.0; uni = p.1.1.1.0; send_buffer = p.1.1.1.1.0; grant_bidi = p.1.1.1.1.1.0; grant_uni = p.1.1.1.1.1.1 })
+    (λ _. refl)
+
+abbrev pub limits_code : Coded PeerLimits
+limits_code =
+    code_by (ℕ × (ℕ × (ℕ × (ℕ × (ℕ × ℕ)))))
+    (coded× coded_ℕ (coded× coded_ℕ (coded× coded_ℕ (coded× coded_ℕ (coded× coded_ℕ coded_ℕ)))))
+    (λ p. (p.max_data, (p.bidi_local, (p.bidi_remote, (p.uni, (p.streams_bidi, p.streams_uni))))))
+    (λ p. record { max_data = p.0; bidi_local = p.1.0; bidi_remote = p.1.1.0; uni = p.1.1.1.0; streams_bidi = p.1.1.1.1.0; streams_uni = p.1.1.1.1.1 })
+    (λ _. refl)
+
+abbrev pub closing_code : Coded Closing
+closing_code =
+    code_by (ℕ × (ℕ × ℕ)) (coded× coded_ℕ (coded× coded_ℕ coded_ℕ)) (λ c. (c.code, (c.frame_type, c.place)))
+    (λ p. record { code = p.0; frame_type = p.1.0; place = p.1.1 })
+    (λ _. refl)
+
+abbrev pub closed_cases : Closed → Closing ⊎ ℕ
+closed_cases (ByUs closing) = inl closing
+closed_cases (ByPeer code) = inr code
+
+abbrev pub closed_of : Closing ⊎ ℕ → Closed
+closed_of (inl closing) = ByUs closing
+closed_of (inr code) = ByPeer code
+
+pub closed_back : (c : Closed) → closed_of (closed_cases c) ≡ c
+closed_back (ByUs closing) = refl
+closed_back (ByPeer code) = refl
+
+abbrev pub closed_code : Coded Closed
+closed_code = code_by (Closing ⊎ ℕ) (coded⊎ closing_code coded_ℕ) closed_cases closed_of closed_back
+
+-- Ends
+
+abbrev pub tables_code : {X : Type 0} → Coded X → Coded (Tables X)
+tables_code {X} x =
+    code_by (List X × (List X × (List X × List X)))
+    (coded× (coded_list x) (coded× (coded_list x) (coded× (coded_list x) (coded_list x))))
+    (λ t. (t.client_bidi, (t.server_bidi, (t.client_uni, t.server_uni))))
+    (λ p. record { client_bidi = p.0; server_bidi = p.1.0; client_uni = p.1.1.0; server_uni = p.1.1.1 })
+    (λ _. refl)
+
+abbrev pub values_code : Coded (fmap.FinMap nat_cmp ℕ)
+values_code = fmap.code coded_ℕ coded_ℕ
+
+abbrev pub acked_code : Coded AckedItems
+acked_code =
+    code_by (Option ℕ × (fmap.FinMap nat_cmp ℕ × (NumberSet × (Option ℕ × (fmap.FinMap nat_cmp ℕ × (Option ℕ × Option ℕ))))))
+    (coded× (coded_option coded_ℕ) (coded× values_code (coded× (set.code coded_ℕ) (coded× (coded_option coded_ℕ) (coded× values_code (coded× (coded_option coded_ℕ) (coded_option coded_ℕ)))))))
+    (λ a. (a.max_data, (a.max_stream_data, (a.stop_sending, (a.data_blocked, (a.stream_data_blocked, (a.bidi_blocked, a.uni_blocked)))))))
+    (λ p. record { max_data = p.0; max_stream_data = p.1.0; stop_sending = p.1.1.0; data_blocked = p.1.1.1.0; stream_data_blocked = p.1.1.1.1.0; bidi_blocked = p.1.1.1.1.1.0; uni_blocked = p.1.1.1.1.1.1 })
+    (λ _. refl)
+
+-- the parts of an end: what it is set to, its streams, its credit, what it processed, what it sent
+abbrev Set_to : Type 0
+Set_to = Role × (Settings × (PeerLimits × Option Closed))
+
+abbrev Streams : Type 0
+Streams = Tables SendLane × (Tables RecvLane × (ℕ × (ℕ × (Option ℕ × Option ℕ))))
+
+abbrev Limits : Type 0
+Limits = ℕ × (ℕ × (ℕ × ℕ))
+
+abbrev Processed : Type 0
+Processed = NumberSet × (ℕ × Bool)
+
+abbrev Sent : Type 0
+Sent = ℕ × (Records × (LostPackets × AckedItems))
+
+abbrev pub end_code : Coded End
+end_code =
+    code_by (Set_to × (Streams × (Limits × (Processed × Sent))))
+    (coded× (coded× role_code (coded× settings_code (coded× limits_code (coded_option closed_code))))
+    (coded× (coded× (tables_code send_code) (coded× (tables_code recv_code) (coded× coded_ℕ (coded× coded_ℕ (coded× (coded_option coded_ℕ) (coded_option coded_ℕ))))))
+    (coded× (coded× coded_ℕ (coded× coded_ℕ (coded× coded_ℕ coded_ℕ)))
+    (coded× (coded× (set.code coded_ℕ) (coded× coded_ℕ coded_bool))
+    (coded× coded_ℕ (coded× packet_pieces_code (coded× lost_packets_code acked_code)))))))
+    (λ e. (
+      (e.role, (e.settings, (e.peer, e.closed))),
+      (
+        (e.sends, (e.recvs, (e.accepted_bidi, (e.accepted_uni, (e.wanted_bidi, e.wanted_uni))))),
+        (
+          (e.granted, (e.known_data, (e.known_bidi, e.known_uni))),
+          (
+            (e.done, (e.floor, e.ack_due)),
+            (e.next, (e.outstanding, (e.lost, e.acked))),
+          ),
+        ),
+      ),
+    ))
+    (λ p. record {
+      role = p.0.0;
+      settings = p.0.1.0;
+      peer = p.0.1.1.0;
+      closed = p.0.1.1.1;
+      sends = p.1.0.0;
+      recvs = p.1.0.1.0;
+      accepted_bidi = p.1.0.1.1.0;
+      accepted_uni = p.1.0.1.1.1.0;
+      wanted_bidi = p.1.0.1.1.1.1.0;
+      wanted_uni = p.1.0.1.1.1.1.1;
+      granted = p.1.1.0.0;
+      known_data = p.1.1.0.1.0;
+      known_bidi = p.1.1.0.1.1.0;
+      known_uni = p.1.1.0.1.1.1;
+      done = p.1.1.1.0.0;
+      floor = p.1.1.1.0.1.0;
+      ack_due = p.1.1.1.0.1.1;
+      next = p.1.1.1.1.0;
+      outstanding = p.1.1.1.1.1.0;
+      lost = p.1.1.1.1.1.1.0;
+      acked = p.1.1.1.1.1.1.1;
+    })
+    (λ _. refl)
+
+-- The sending side
+
+abbrev pub outgoing_code : Coded Outgoing
+outgoing_code =
+    code_by (Tables SendLane × (ℕ × (Records × (LostPackets × (AckedItems × ℕ)))))
+    (coded× (tables_code send_code) (coded× coded_ℕ (coded× packet_pieces_code (coded× lost_packets_code (coded× acked_code coded_ℕ)))))
+    (λ o. (o.sends, (o.next, (o.outstanding, (o.lost, (o.acked, o.spare))))))
+    (λ p. record { sends = p.0; next = p.1.0; outstanding = p.1.1.0; lost = p.1.1.1.0; acked = p.1.1.1.1.0; spare = p.1.1.1.1.1 })
+    (λ _. refl)

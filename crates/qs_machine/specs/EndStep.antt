@@ -1,0 +1,72 @@
+-- The calls of an end, and what each may answer and leave.
+use Rattle.std.specs.Prelude.{◌≡◌, ℕ, List, Option, Result}
+use Rattle.qs_wire.specs.declared.stream_id.Dir.{Dir}
+use Rattle.qs_recv.specs.declared.half.Read.{Read}
+use Rattle.qs_calls.specs.declared.closing.Closing.{Closing}
+use Rattle.qs_calls.specs.declared.closing.Received.{Received}
+use Rattle.qs_calls.specs.declared.making.Made.{Made}
+use Rattle.qs_calls.specs.declared.making.MakeFault.{MakeFault}
+use Rattle.qs_calls.specs.declared.making.LostFault.{LostFault}
+use Rattle.qs_calls.specs.declared.report.LaneReport.{LaneReport}
+use Rattle.qs_calls.specs.declared.uses.OpenFault.{OpenFault}
+use Rattle.qs_calls.specs.declared.uses.UseFault.{UseFault}
+use Rattle.qs_machine.specs.Ends.{End}
+use Rattle.qs_machine.specs.Credit.{spent, all_stored}
+use Rattle.qs_machine.specs.Owner.{OpenStep, AcceptStep, WriteStep, FinishStep, ResetStep, StopStep, ReadStep}
+use Rattle.qs_machine.specs.Receiving.{ReceiveStep}
+use Rattle.qs_machine.specs.Making.{MakeStep, LoseStep, ClosePayload}
+use Rattle.qs_machine.specs.Reports.{lane_report}
+
+-- a call of an end; of a slice that is written into only what counts, its size or its bytes
+pub data Call : Type 0 where
+  Open : (dir : Dir) → Call
+  Accept : Call
+  Write : (stream : ℕ) (bytes : List ℕ) → Call
+  Finish : (stream : ℕ) → Call
+  Reset : (stream code : ℕ) → Call
+  Stop : (stream code : ℕ) → Call
+  ReadUpTo : (stream size : ℕ) → Call
+  Receive : (number : ℕ) (payload : List ℕ) → Call
+  Make : (room : ℕ) → Call
+  Lose : (number : ℕ) → Call
+  ClosingPayload : (slice : List ℕ) → Call
+  Stored : Call
+  Granted : Call
+  Spent : Call
+  Report : (stream : ℕ) → Call
+
+-- what the call answers, with the bytes that it wrote into a slice
+abbrev pub Answer : Call → Type 0
+Answer (Open d) = Result ℕ OpenFault
+Answer Accept = Option ℕ
+Answer (Write n bytes) = Result ℕ UseFault
+Answer (Finish n) = Result (Unit {0}) UseFault
+Answer (Reset n code) = Result (Unit {0}) UseFault
+Answer (Stop n code) = Result (Unit {0}) UseFault
+Answer (ReadUpTo n size) = Result Read UseFault × List ℕ
+Answer (Receive k payload) = Result Received Closing
+Answer (Make room) = Result (Option Made) MakeFault × List ℕ
+Answer (Lose k) = Result (Unit {0}) LostFault
+Answer (ClosingPayload slice) = Option ℕ × List ℕ
+Answer Stored = ℕ
+Answer Granted = ℕ
+Answer Spent = ℕ
+Answer (Report n) = Option LaneReport
+
+-- The call may answer so and lead from old to new.
+abbrev pub EndStep : End → (call : Call) → Answer call → End → Type 0
+EndStep old (Open d) answer new = OpenStep old d answer new
+EndStep old Accept answer new = AcceptStep old answer new
+EndStep old (Write n bytes) answer new = WriteStep old n bytes answer new
+EndStep old (Finish n) answer new = FinishStep old n answer new
+EndStep old (Reset n code) answer new = ResetStep old n code answer new
+EndStep old (Stop n code) answer new = StopStep old n code answer new
+EndStep old (ReadUpTo n size) answer new = ReadStep old n size answer.0 answer.1 new
+EndStep old (Receive k payload) answer new = ReceiveStep old k payload answer new
+EndStep old (Make room) answer new = MakeStep old room answer.0 answer.1 new
+EndStep old (Lose k) answer new = LoseStep old k answer new
+EndStep old (ClosingPayload slice) answer new = ClosePayload old slice answer.0 answer.1 × (new ≡ old)
+EndStep old Stored answer new = (answer ≡ all_stored old) × (new ≡ old)
+EndStep old Granted answer new = (answer ≡ old.granted) × (new ≡ old)
+EndStep old Spent answer new = (answer ≡ spent old) × (new ≡ old)
+EndStep old (Report n) answer new = (answer ≡ lane_report old n) × (new ≡ old)

@@ -1,0 +1,81 @@
+-- Laws on ends and their calls.
+use Rattle.std.specs.Prelude.{◌≡◌, ℕ, true, List, ◌++◌, is_some, Result, Ok}
+use Rattle.qs_wire.specs.Layout.{PlacedValue}
+use Rattle.qs_wire.specs.Grammar.{frames_of}
+use Rattle.qs_wire.specs.Reading.{reading_of}
+use Rattle.qs_wire.specs.declared.stream_id.Role.{Role}
+use Rattle.qs_calls.specs.declared.settings.Settings.{Settings}
+use Rattle.qs_calls.specs.declared.settings.PeerLimits.{PeerLimits}
+use Rattle.qs_calls.specs.declared.closing.Closing.{Closing}
+use Rattle.qs_calls.specs.declared.closing.Received.{Received}
+use Rattle.qs_calls.specs.declared.closing.Received.TheVariants.{Done}
+use Rattle.qs_machine.specs.Ends.{End, end_made}
+use Rattle.qs_machine.specs.Credit.{settle}
+use Rattle.qs_machine.specs.Seen.{Seen, seen_all, any_asks}
+use Rattle.qs_machine.specs.FrameStep.{NoFault, frames_taken}
+use Rattle.qs_machine.specs.Receiving.{TakesPayload, EndsBy, ReceiveStep}
+use Rattle.qs_machine.specs.EndStep.{Call, Answer, EndStep}
+use Rattle.qs_machine.specs.Standing.{IsSound, IsWithinCredit, LimitsRise}
+use Rattle.qs_machine.specs.Repeats.{SentWasWritten, AreAmong, Resumes, OnlyRecords}
+
+-- a new end is sound
+abbrev pub NewEndsAreSound : Type 0
+NewEndsAreSound = (role : Role) (s : Settings) (p : PeerLimits) (e : End) → end_made role s p ≡ Ok e → IsSound e
+
+-- every call leaves a sound end sound, whoever made the payloads that come to it
+abbrev pub CallsKeepEndsSound : Type 0
+CallsKeepEndsSound = (old : End) (call : Call) (answer : Answer call) (new : End) → IsSound old → EndStep old call answer new → IsSound new
+
+-- a sound end stores at most what it granted
+abbrev pub StoredBytesWereGranted : Type 0
+StoredBytesWereGranted = (e : End) → IsSound e → IsWithinCredit e
+
+-- no call lowers a limit
+abbrev pub LimitsNeverFall : Type 0
+LimitsNeverFall = (old : End) (call : Call) (answer : Answer call) (new : End) → EndStep old call answer new → LimitsRise old new
+
+-- after a closing nothing changes
+abbrev pub ClosedEndsStay : Type 0
+ClosedEndsStay = (old : End) (call : Call) (answer : Answer call) (new : End) → is_some old.closed ≡ true → EndStep old call answer new → new ≡ old
+
+-- Of the frames of a payload the first ones took effect, one after the other and each without a fault; and then the processing ended.
+abbrev pub PayloadsAreTakenInOrder : Type 0
+PayloadsAreTakenInOrder =
+    (number : ℕ) (payload : List ℕ) (old : End) (result : Result Received Closing) (new : End) → TakesPayload number payload old result new →
+    (taken : List PlacedValue) × (left : List PlacedValue)
+    × ((reading_of payload).left ≡ taken ++ left)
+    × NoFault old (seen_all (frames_of taken))
+    × EndsBy number (reading_of payload).fault (any_asks (seen_all (frames_of taken))) left (frames_taken (seen_all (frames_of taken)) old) result new
+
+-- all data of a new end that outstanding packets carried, or lost ones, was written, as there is none
+abbrev pub NewEndsSentNothing : Type 0
+NewEndsSentNothing = (role : Role) (s : Settings) (p : PeerLimits) (e : End) → end_made role s p ≡ Ok e → SentWasWritten e
+
+-- no call has data outstanding, or lost, that wasn't written
+abbrev pub CallsSendWhatWasWritten : Type 0
+CallsSendWhatWasWritten = (old : End) (call : Call) (answer : Answer call) (new : End) → SentWasWritten old → EndStep old call answer new → SentWasWritten new
+
+-- Once frames took effect, one after the other and each without a fault, any of them may come again, in any order and more than once:
+-- none has a fault, and nothing changes (RFC 9000, sections 2.2, 3.2, 4.1 and 13.3).
+abbrev pub EffectsRepeat : Type 0
+EffectsRepeat =
+    (e : End) (frames again : List Seen) → IsSound e → SentWasWritten e → NoFault e frames → AreAmong again frames →
+    NoFault (frames_taken frames e) again × (frames_taken again (frames_taken frames e) ≡ frames_taken frames e)
+
+-- Of the frames of a payload the first ones took effect, and then the processing ended. Where the payload comes again after the call,
+-- under its number or another one, these frames change nothing, and the processing goes on with the frames that were left.
+abbrev pub PayloadsRepeat : Type 0
+PayloadsRepeat =
+    (number again : ℕ) (payload : List ℕ) (old mid : End) (result : Result Received Closing) → IsSound old → SentWasWritten old → TakesPayload number payload old result mid →
+    (taken : List PlacedValue) × (left : List PlacedValue)
+    × ((reading_of payload).left ≡ taken ++ left)
+    × EndsBy number (reading_of payload).fault (any_asks (seen_all (frames_of taken))) left (frames_taken (seen_all (frames_of taken)) old) result mid
+    × ((next : Result Received Closing) (new : End) → TakesPayload again payload (settle mid) next new →
+    Resumes again (reading_of payload).fault (any_asks (seen_all (frames_of taken))) (settle mid) left next new)
+
+-- A payload that was processed and comes at once again, under its number or another one, is no fault, and changes nothing but which
+-- numbers are kept and whether an ACK is due.
+abbrev pub ProcessedPayloadsRepeat : Type 0
+ProcessedPayloadsRepeat =
+    (number again : ℕ) (payload : List ℕ) (old new later : End) (answer : Result Received Closing) → IsSound old → SentWasWritten old → ReceiveStep old number payload (Ok Done) new → ReceiveStep new again payload answer later →
+    OnlyRecords again (any_asks (seen_all (frames_of (reading_of payload).left))) answer new later

@@ -1,0 +1,109 @@
+-- Packets that are made, packets that are lost, and the payload that tells of a closing (RFC 9000, sections 10.2.3, 12.3 and 13.3).
+use Rattle.std.specs.Prelude.{◌≡◌, ℕ, ◌+◌, ◌<◌, ◌≤◌, List, [], ◌∷◌, ◌++◌, length, take, drop, ◌⊎◌, Option, None, Some, is_some, is_none, Result, Ok, Err, nat_le, MatchBool}
+use Rattle.std.specs.List.{AllByRecursion}
+use Rattle.std.specs.FinMap as fmap
+use Rattle.qs_ranges.specs.Numbers.{MAX_VARINT}
+use Rattle.qs_wire.specs.Layout.{FrameValue, ack, connection_close}
+use Rattle.qs_wire.specs.Grammar.{Fits, canonical, canonical_all}
+use Rattle.qs_send.specs.declared.piece.Piece.{Piece}
+use Rattle.qs_send.specs.Records.{without_first}
+use Rattle.qs_calls.specs.declared.closing.Closed.{Closed}
+use Rattle.qs_calls.specs.declared.closing.Closed.TheVariants.{ByUs, ByPeer}
+use Rattle.qs_calls.specs.declared.making.Made.{Made}
+use Rattle.qs_calls.specs.declared.making.MakeFault.{MakeFault}
+use Rattle.qs_calls.specs.declared.making.MakeFault.TheVariants as making
+use Rattle.qs_calls.specs.declared.making.LostFault.{LostFault}
+use Rattle.qs_calls.specs.declared.making.LostFault.TheVariants as losing
+use Rattle.qs_machine.specs.Ends.{End, lost_with}
+use Rattle.qs_machine.specs.Credit.{settle}
+use Rattle.qs_machine.specs.Seen.{seen_all}
+use Rattle.qs_machine.specs.Due.{Sendable}
+use Rattle.qs_machine.specs.Lawful.{Lawful, HasAll}
+use Rattle.qs_machine.specs.Owner.{Certain, first_refusal, refuse_if}
+
+-- an ACK is written with a delay of 0 and without ECN counts (RFC 9000, section 19.3)
+abbrev pub IsPlainAck : FrameValue → Type 0
+IsPlainAck (ack largest delay ranges ecn) = (delay ≡ 0) × (ecn ≡ None)
+IsPlainAck frame = Unit {0}
+
+-- the bytes are the canonical text of these frames
+pub record IsText (frames : List FrameValue) (text : List ℕ) : Type 0 where
+  pub fits : AllByRecursion Fits frames
+  pub plain : AllByRecursion IsPlainAck frames
+  pub canonical : text ≡ canonical_all frames
+
+-- A packet of the next number was made: the canonical text of a lawful packet that fits the room and leaves nothing out that it had room
+-- for.
+pub record IsMade (old : End) (room : ℕ) (made : Made) (text : List ℕ) (new : End) : Type 0 where
+  pub number : made.number ≡ old.next
+  pub len : made.len ≡ length text
+  pub fits : length text ≤ room
+  pub frames : List FrameValue
+  pub spells : IsText frames text
+  pub mid : End
+  pub lawful : Lawful old (seen_all frames) mid
+  pub whole : HasAll room (length text) old (seen_all frames) mid
+  pub after : new ≡ settle mid
+
+abbrev pub MakeBy : End → ℕ → Result (Option Made) MakeFault → List ℕ → End → Type 0
+MakeBy old room (Ok (Some made)) text new = IsMade old room made text new
+MakeBy old room (Ok None) text new = (Sendable old → ⊥) × (text ≡ []) × (new ≡ old)
+MakeBy old room (Err making.NoMemory) text new = (text ≡ []) × (new ≡ old)
+MakeBy old room (Err fault) text new = ⊥
+
+-- an end that closed makes no packet, and one that used the last number none either
+abbrev pub make_refusal : End → Option MakeFault
+make_refusal e = first_refusal (refuse_if (is_some e.closed) making.Closed) (refuse_if (nat_le (MAX_VARINT + 1) e.next) making.Exhausted)
+
+abbrev pub MakeAt : Option MakeFault → End → ℕ → Result (Option Made) MakeFault → List ℕ → End → Type 0
+MakeAt (Some fault) old room answer text new = (answer ≡ Err fault) × (text ≡ []) × (new ≡ old)
+MakeAt None old room answer text new = MakeBy old room answer text new
+
+-- `make_packet` into a slice of that size, with the payload that it writes
+abbrev pub MakeStep : End → ℕ → Result (Option Made) MakeFault → List ℕ → End → Type 0
+MakeStep old room answer text new = MakeAt (make_refusal old) old room answer text new
+
+-- Losses
+
+-- The first piece of packet k is lost. It leaves the outstanding record, and so is due again if it is of use, and stands in the lost
+-- record of that number, which a late ACK may name (RFC 9000, sections 13.2.1 and 13.3).
+abbrev pub first_lost : ℕ → Piece → End → End
+first_lost k p e = record e { outstanding = without_first e.outstanding k (fmap.get e.outstanding k); lost = lost_with k p e.lost }
+
+-- these pieces of packet k are lost, one after the other
+unfoldable pub losses : ℕ → List Piece → End → End
+losses k [] e = e
+losses k (p ∷ ps) e = losses k ps (first_lost k p e)
+
+abbrev pub lose_refusal : End → ℕ → Option LostFault
+lose_refusal e k = first_refusal (refuse_if (is_some e.closed) losing.Closed) (refuse_if (is_none (fmap.get e.outstanding k)) losing.NotOutstanding)
+
+-- All pieces of the record are lost; where there is no memory, some first ones are.
+abbrev pub LoseStep : End → ℕ → Result (Unit {0}) LostFault → End → Type 0
+LoseStep old k answer new =
+    Certain (lose_refusal old k) old answer new
+    ((ps : List Piece) × (fmap.get old.outstanding k ≡ Some ps) × (
+    ((answer ≡ Ok tt) × (new ≡ losses k ps old))
+    ⊎ ((moved : ℕ) × (moved < length ps) × (answer ≡ Err losing.NoMemory) × (new ≡ losses k (take moved ps) old))))
+
+-- The payload of a closing
+
+abbrev pub close_text_of : Option Closed → Option (List ℕ)
+close_text_of None = None
+close_text_of (Some (ByPeer code)) = None
+close_text_of (Some (ByUs closing)) = Some (canonical (connection_close closing.code closing.frame_type []))
+
+-- the CONNECTION_CLOSE of this end's own closing, with an empty reason (RFC 9000, section 19.19)
+abbrev pub close_text : End → Option (List ℕ)
+close_text e = close_text_of e.closed
+
+abbrev pub ClosePayloadBy : Option (List ℕ) → List ℕ → Option ℕ → List ℕ → Type 0
+ClosePayloadBy None before answer after = (answer ≡ None) × (after ≡ before)
+ClosePayloadBy (Some text) before answer after =
+    MatchBool (nat_le (length text) (length before))
+    ((answer ≡ Some (length text)) × (after ≡ text ++ drop (length text) before))
+    ((answer ≡ None) × (after ≡ before))
+
+-- `close_payload` into a slice: nothing is written where the text doesn't fit
+abbrev pub ClosePayload : End → List ℕ → Option ℕ → List ℕ → Type 0
+ClosePayload e before answer after = ClosePayloadBy (close_text e) before answer after

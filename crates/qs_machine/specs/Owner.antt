@@ -1,0 +1,158 @@
+-- The calls of an end's owner on streams: what each answers and leaves (RFC 9000, sections 2.4 and 3). As each ends, the limits move.
+use Rattle.std.specs.Prelude.{◌≡◌, ℕ, ◌+◌, ◌-◌, ◌*◌, Bool, List, [], ◌⊎◌, length, take, max, Option, None, Some, is_some, Result, Ok, Err, nat_le, nat_lt, MatchBool, if◌then◌else◌}
+use Rattle.qs_wire.specs.declared.stream_id.Dir.{Dir}
+use Rattle.qs_wire.specs.declared.stream_id.Dir.TheVariants.{Bidi, Uni}
+use Rattle.qs_recv.specs.Lane.{RecvLane, read_answer, bytes_read, after_read, stop}
+use Rattle.qs_recv.specs.declared.half.Read.{Read}
+use Rattle.qs_send.specs.Lane.{SendLane, accepted, refusal, reset_refusal, write_lane, finish_lane, reset_lane}
+use Rattle.qs_send.specs.declared.parts.SendFault.{SendFault}
+use Rattle.qs_send.specs.declared.parts.SendFault.TheVariants as sends
+use Rattle.qs_calls.specs.declared.uses.OpenFault.{OpenFault}
+use Rattle.qs_calls.specs.declared.uses.OpenFault.TheVariants as opening
+use Rattle.qs_calls.specs.declared.uses.UseFault.{UseFault}
+use Rattle.qs_calls.specs.declared.uses.UseFault.TheVariants.{NoSuchStream, WrongDirection, Finished, WasReset, Closed, NoMemory}
+use Rattle.qs_machine.specs.Tables.{table}
+use Rattle.qs_machine.specs.Ends.{End, role_bit, send_lane, recv_lane, on_send, on_recv, opens}
+use Rattle.qs_machine.specs.Credit.{settle}
+use Rattle.qs_machine.specs.Due.{known_count}
+
+-- The call is refused and changes nothing; or, where nothing speaks against it, it has its effect.
+abbrev pub Certain : {A F : Type 0} → Option F → End → Result A F → End → Type 0 → Type 0
+Certain (Some fault) old answer new Effect = (answer ≡ Err fault) × (new ≡ old)
+Certain None old answer new Effect = Effect
+
+-- The same of a call that takes memory: there may be none, and then nothing changes.
+abbrev pub Uncertain : {A F : Type 0} → Option F → F → End → Result A F → End → Type 0 → Type 0
+Uncertain refusal no_memory old answer new Effect =
+    Certain refusal old answer new (((answer ≡ Err no_memory) × (new ≡ old)) ⊎ Effect)
+
+abbrev pub first_refusal : {F : Type 0} → Option F → Option F → Option F
+first_refusal (Some fault) next = Some fault
+first_refusal None next = next
+
+abbrev pub refuse_if : {F : Type 0} → Bool → F → Option F
+refuse_if b fault = if b then Some fault else None
+
+-- Opening
+
+-- the type of the streams that an end opens, and of those that its peer does (RFC 9000, section 2.1)
+abbrev pub own_kind : End → Dir → ℕ
+own_kind e Bidi = role_bit e.role
+own_kind e Uni = 2 + role_bit e.role
+
+abbrev pub peer_kind : End → Dir → ℕ
+peer_kind e Bidi = 1 - role_bit e.role
+peer_kind e Uni = 3 - role_bit e.role
+
+-- how many streams of a type are open
+abbrev pub opened_count : End → ℕ → ℕ
+opened_count e kind = max (length (table e.sends kind)) (length (table e.recvs kind))
+
+-- the number of the next stream that an end opens
+abbrev pub next_stream : End → Dir → ℕ
+next_stream e d = opened_count e (own_kind e d) * 4 + own_kind e d
+
+abbrev pub with_wanted : Dir → ℕ → End → End
+with_wanted Bidi count e = record e { wanted_bidi = Some count }
+with_wanted Uni count e = record e { wanted_uni = Some count }
+
+-- as many streams are open as the peer allows; that one was wanted is noted (RFC 9000, sections 4.6 and 19.14)
+abbrev pub IsBlocked : End → Dir → Result ℕ OpenFault → End → Type 0
+IsBlocked old d answer new = (answer ≡ Err (opening.Blocked (known_count old d))) × (new ≡ settle (with_wanted d (known_count old d) old))
+
+-- the next stream opens, or there is no memory for it
+abbrev pub IsOpened : End → Dir → Result ℕ OpenFault → End → Type 0
+IsOpened old d answer new =
+    ((answer ≡ Err opening.NoMemory) × (new ≡ old)) ⊎ ((answer ≡ Ok (next_stream old d)) × (new ≡ settle (opens (next_stream old d) old)))
+
+-- the end's owner opens a stream (RFC 9000, section 2.1)
+abbrev pub OpenStep : End → Dir → Result ℕ OpenFault → End → Type 0
+OpenStep old d answer new =
+    Certain (refuse_if (is_some old.closed) opening.Closed) old answer new
+    (MatchBool (nat_le (known_count old d) (opened_count old (own_kind old d))) (IsBlocked old d answer new) (IsOpened old d answer new))
+
+abbrev pub GivesNone : End → Option ℕ → End → Type 0
+GivesNone old answer new = (answer ≡ None) × (new ≡ old)
+
+abbrev pub GivesBidi : End → Option ℕ → End → Type 0
+GivesBidi old answer new =
+    (answer ≡ Some (old.accepted_bidi * 4 + peer_kind old Bidi)) × (new ≡ settle (record old { accepted_bidi = old.accepted_bidi + 1 }))
+
+abbrev pub GivesUni : End → Option ℕ → End → Type 0
+GivesUni old answer new =
+    MatchBool (nat_lt old.accepted_uni (opened_count old (peer_kind old Uni)))
+    ((answer ≡ Some (old.accepted_uni * 4 + peer_kind old Uni)) × (new ≡ settle (record old { accepted_uni = old.accepted_uni + 1 })))
+    (GivesNone old answer new)
+
+-- each stream that the peer opened, once: bidirectional ones first, lower numbers first
+abbrev pub AcceptOpen : End → Option ℕ → End → Type 0
+AcceptOpen old answer new =
+    MatchBool (nat_lt old.accepted_bidi (opened_count old (peer_kind old Bidi))) (GivesBidi old answer new) (GivesUni old answer new)
+
+abbrev pub AcceptStep : End → Option ℕ → End → Type 0
+AcceptStep old answer new = MatchBool (is_some old.closed) (GivesNone old answer new) (AcceptOpen old answer new)
+
+-- Sending
+
+-- the stream has no such half: it isn't open, or it goes the other way
+abbrev pub no_half : Bool → UseFault
+no_half other = if other then WrongDirection else NoSuchStream
+
+abbrev pub use_fault : SendFault → UseFault
+use_fault sends.Finished = Finished
+use_fault sends.WasReset = WasReset
+use_fault sends.NoMemory = NoMemory
+
+abbrev pub half_refusal : Option SendFault → Option UseFault
+half_refusal None = None
+half_refusal (Some fault) = Some (use_fault fault)
+
+-- what speaks against a call on a sending half: a closing, no such half, and then what the half itself says
+abbrev pub send_refusal : End → ℕ → (SendLane → Option SendFault) → Option UseFault
+send_refusal e n says =
+    first_refusal (refuse_if (is_some e.closed) Closed)
+    (elim (send_lane e n) [ None ↦ Some (no_half (is_some (recv_lane e n))) | Some l ↦ half_refusal (says l) ])
+
+-- as many bytes as there is room for are accepted
+abbrev pub WriteStep : End → ℕ → List ℕ → Result ℕ UseFault → End → Type 0
+WriteStep old n bytes answer new =
+    Uncertain (send_refusal old n refusal) NoMemory old answer new
+    ((l : SendLane) × (send_lane old n ≡ Some l) × (
+    let count = accepted l (length bytes) in
+    (answer ≡ Ok count) × (new ≡ settle (on_send n (λ m. write_lane m (take count bytes)) old))))
+
+abbrev pub FinishStep : End → ℕ → Result (Unit {0}) UseFault → End → Type 0
+FinishStep old n answer new =
+    Certain (send_refusal old n refusal) old answer new
+    ((answer ≡ Ok tt) × (new ≡ settle (on_send n finish_lane old)))
+
+-- a reset tells the declared final size, else the sent end (RFC 9000, sections 3.1 and 4.5)
+abbrev pub ResetStep : End → ℕ → ℕ → Result (Unit {0}) UseFault → End → Type 0
+ResetStep old n code answer new =
+    Certain (send_refusal old n reset_refusal) old answer new
+    ((answer ≡ Ok tt) × (new ≡ settle (on_send n (λ m. reset_lane m code) old)))
+
+-- Receiving
+
+abbrev pub recv_refusal : End → ℕ → Option UseFault
+recv_refusal e n =
+    first_refusal (refuse_if (is_some e.closed) Closed)
+    (elim (recv_lane e n) [ None ↦ Some (no_half (is_some (send_lane e n))) | Some l ↦ None ])
+
+-- the first stop counts (RFC 9000, section 3.5)
+abbrev pub StopStep : End → ℕ → ℕ → Result (Unit {0}) UseFault → End → Type 0
+StopStep old n code answer new =
+    Certain (recv_refusal old n) old answer new
+    ((answer ≡ Ok tt) × (new ≡ settle (on_recv n (λ m. stop m code) old)))
+
+abbrev pub ReadBy : Option UseFault → End → ℕ → ℕ → Result Read UseFault → List ℕ → End → Type 0
+ReadBy (Some fault) old n size answer bytes new = (answer ≡ Err fault) × (bytes ≡ []) × (new ≡ old)
+ReadBy None old n size answer bytes new =
+    (l : RecvLane) × (recv_lane old n ≡ Some l)
+    × (answer ≡ Ok (read_answer l size))
+    × (bytes ≡ bytes_read l size)
+    × (new ≡ settle (on_recv n (λ m. after_read m size) old))
+
+-- a read into a slice of that size, with the bytes that it gives (RFC 9000, section 2.2)
+abbrev pub ReadStep : End → ℕ → ℕ → Result Read UseFault → List ℕ → End → Type 0
+ReadStep old n size answer bytes new = ReadBy (recv_refusal old n) old n size answer bytes new

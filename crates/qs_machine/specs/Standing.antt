@@ -1,0 +1,55 @@
+-- What holds of an end at all times, and what no call takes back (RFC 9000, section 4.1).
+use Rattle.std.specs.Prelude.{◌≡◌, ℕ, ◌+◌, ◌-◌, ◌≤◌, true, ⊤, Option, None, Some}
+use Rattle.std.specs.FinMap as fmap
+use Rattle.qs_wire.specs.declared.stream_id.Role.{Role}
+use Rattle.qs_recv.specs.Lane.{RecvLane, highest, taken}
+use Rattle.qs_recv.specs.Lawful.{IsLawful}
+use Rattle.qs_calls.specs.declared.settings.Settings.{Settings}
+use Rattle.qs_calls.specs.Settings.{are_in_range}
+use Rattle.qs_machine.specs.Tables.{Tables, lookup, total}
+use Rattle.qs_machine.specs.Ends.{End, window_by, window, recv_lane}
+use Rattle.qs_machine.specs.Credit.{spent, all_taken, all_stored}
+
+-- a receiving half that is open is lawful, and has the window of its type of stream
+abbrev pub HasLawfulLane : Role → Settings → ℕ → Option RecvLane → Type 0
+HasLawfulLane role s n None = ⊤
+HasLawfulLane role s n (Some l) = IsLawful l × (l.arrived.window ≡ window_by role s n)
+
+-- the peer is within the connection limit, and that within the window
+pub record KeepsCredit (role : Role) (s : Settings) (recvs : Tables RecvLane) (granted : ℕ) : Type 0 where
+  pub settings : are_in_range s ≡ true
+  pub lanes : (n : ℕ) → HasLawfulLane role s n (lookup recvs n)
+  pub spent : total highest recvs ≤ granted
+  pub in_window : granted ≤ total taken recvs + s.conn_window
+
+-- every end that is reached is sound
+abbrev pub IsSound : End → Type 0
+IsSound e = KeepsCredit e.role e.settings e.recvs e.granted
+
+-- of one stream: its stored bytes were granted and aren't taken, and that is within the window
+pub record IsLaneWithin (l : RecvLane) (window : ℕ) : Type 0 where
+  pub stored : fmap.len l.arrived.stored ≤ l.limit - taken l
+  pub credit : l.limit - taken l ≤ window
+  pub spent : highest l ≤ l.limit
+
+-- the bytes that an end stores were granted and aren't taken, and that is within the window; and so of each stream
+pub record IsWithinCredit (e : End) : Type 0 where
+  pub stored : all_stored e ≤ e.granted - all_taken e
+  pub credit : e.granted - all_taken e ≤ e.settings.conn_window
+  pub spent : spent e ≤ e.granted
+  pub lanes : (n : ℕ) (l : RecvLane) → recv_lane e n ≡ Some l → IsLaneWithin l (window e n)
+
+-- each half that is open stays so, and its limit is no lower
+abbrev pub LimitsRiseIn : {X : Type 0} → (X → ℕ) → Tables X → Tables X → Type 0
+LimitsRiseIn {X} limit old new = (n : ℕ) (x : X) → lookup old n ≡ Some x → (y : X) × (lookup new n ≡ Some y) × (limit x ≤ limit y)
+
+-- no limit is lower: the connection limit granted, those of the peer as far as they are known, the counts of streams, and the limit of
+-- each half
+abbrev pub LimitsRise : End → End → Type 0
+LimitsRise old new =
+    (old.granted ≤ new.granted)
+    × (old.known_data ≤ new.known_data)
+    × (old.known_bidi ≤ new.known_bidi)
+    × (old.known_uni ≤ new.known_uni)
+    × LimitsRiseIn (λ l. l.limit) old.recvs new.recvs
+    × LimitsRiseIn (λ l. l.limit) old.sends new.sends

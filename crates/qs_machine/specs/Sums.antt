@@ -1,0 +1,85 @@
+-- Sums over the streams of an end, and lists of streams as tables.
+use Rattle.std.specs.Prelude.{◌≡◌, ℕ, zero, suc, ◌+◌, ◌-◌, ◌≤◌, ◌<◌, ◌^◌, ◌==◌, true, if◌then◌else◌, List, [], ◌∷◌, length, slice_set, slice_index_or, Option, None, Some, is_some, is_none, ⊤}
+use Rattle.std.specs.List.{sum_by}
+use Rattle.std.specs.FinMap as fmap
+use Rattle.qs_ranges.specs.Numbers.{MAX_VARINT}
+use Rattle.qs_wire.specs.declared.stream_id.Role.{Role}
+use Rattle.qs_recv.specs.Lane.{RecvLane, is_whole, highest, taken, raised_limit}
+use Rattle.qs_recv.specs.Lawful.{IsLawful}
+use Rattle.qs_send.specs.Lane.{SendLane, Sending, new_sending, new_lane as new_send_lane}
+use Rattle.qs_machine.specs.declared.tally.Tally.{Tally}
+use Rattle.qs_calls.specs.declared.settings.Settings.{Settings}
+use Rattle.qs_calls.specs.declared.settings.PeerLimits.{PeerLimits}
+use Rattle.qs_calls.specs.declared.uses.UseFault.{UseFault}
+use Rattle.qs_calls.specs.declared.uses.UseFault.TheVariants as uses
+use Rattle.qs_calls.specs.declared.closing.Closed.{Closed}
+use Rattle.qs_calls.specs.declared.closing.Closed.TheVariants.{ByUs, ByPeer}
+use Rattle.qs_calls.specs.Settings.{are_spellable}
+use Rattle.qs_machine.specs.Tables.{Tables}
+use Rattle.qs_machine.specs.Ends.{End, send_lane, recv_lane}
+use Rattle.qs_machine.specs.Owner.{first_refusal, refuse_if, no_half}
+use Rattle.qs_machine.specs.Standing.{KeepsCredit}
+use Rattle.qs_wire.specs.Layout.{PlacedValue}
+use Rattle.qs_machine.specs.Seen.{Seen, Close, seen}
+use Rattle.qs_machine.specs.FrameStep.{frame_taken}
+use Rattle.qs_machine.specs.Receiving.{Stops, GoesOn}
+
+-- the list with the element at an index changed by f, where there is one
+abbrev pub changed : {X : Type 0} → List X → ℕ → (X → X) → Option X → List X
+changed xs i f None = xs
+changed xs i f (Some x) = slice_set xs i (f x)
+
+-- a sending lane where none is
+abbrev pub no_lane : SendLane
+no_lane = new_send_lane 0 0 0
+
+abbrev pub or_none : Option SendLane → SendLane
+or_none None = no_lane
+or_none (Some lane) = lane
+
+-- a sending half where none is
+abbrev pub no_sending : Sending
+no_sending = new_sending 0 0 0
+
+abbrev pub or_no_sending : Option Sending → Sending
+or_no_sending None = no_sending
+or_no_sending (Some s) = s
+
+abbrev pub stored_on : RecvLane → ℕ
+stored_on lane = fmap.len lane.arrived.stored
+
+-- what a lane adds to the sums
+abbrev pub tally_of : RecvLane → Tally
+tally_of lane = record { spent = highest lane; taken = taken lane; stored = stored_on lane }
+
+-- the sums over all lanes
+abbrev pub tally_on : List RecvLane → Tally
+tally_on lanes = record { spent = sum_by highest lanes; taken = sum_by taken lanes; stored = sum_by stored_on lanes }
+
+-- the sums once one lane's part became another
+abbrev pub moved : Tally → Tally → Tally → Tally
+moved total was is =
+    record { spent = total.spent - was.spent + is.spent; taken = total.taken - was.taken + is.taken; stored = total.stored - was.stored + is.stored }
+
+pub record IsPart (part total : Tally) : Type 0 where
+  pub spent : part.spent ≤ total.spent
+  pub taken : part.taken ≤ total.taken
+  pub stored : part.stored ≤ total.stored
+
+-- nothing is stored or taken that wasn't spent, and not both
+abbrev pub IsPaid : Tally → Type 0
+IsPaid tally = tally.stored + tally.taken ≤ tally.spent
+
+abbrev pub EachLawful : List RecvLane → Type 0
+EachLawful [] = ⊤
+EachLawful (lane ∷ lanes) = IsLawful lane × EachLawful lanes
+
+-- the tables of four lists, in the order of the types' bits
+abbrev pub tables_of : {X : Type 0} → List (List X) → Tables X
+tables_of lists =
+    record {
+      client_bidi = slice_index_or lists 0 [];
+      server_bidi = slice_index_or lists 1 [];
+      client_uni = slice_index_or lists 2 [];
+      server_uni = slice_index_or lists 3 [];
+    }

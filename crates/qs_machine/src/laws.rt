@@ -1,0 +1,60 @@
+//! Laws on ends and their calls, each the contract of a function.
+
+ghost use Rattle.qs_machine.specs.Laws.{NewEndsAreSound, CallsKeepEndsSound, StoredBytesWereGranted, LimitsNeverFall, ClosedEndsStay, PayloadsAreTakenInOrder, EffectsRepeat, PayloadsRepeat, ProcessedPayloadsRepeat, NewEndsSentNothing, CallsSendWhatWasWritten};
+ghost use Rattle.qs_machine.specs.Examples.{Examples};
+
+/// A new end is sound.
+pub fn new_ends_are_sound()
+    ensures { NewEndsAreSound }
+{}
+
+/// Every call leaves a sound end sound, whoever made the payloads that come to it.
+pub fn calls_keep_ends_sound()
+    ensures { CallsKeepEndsSound }
+{}
+
+/// A sound end stores at most what it granted, which is at most its window; and so of each stream.
+pub fn stored_bytes_were_granted()
+    ensures { StoredBytesWereGranted }
+{}
+
+/// No call lowers a limit that was granted or one that is known, or a count of streams.
+pub fn limits_never_fall()
+    ensures { LimitsNeverFall }
+{}
+
+/// After a closing nothing changes any more.
+pub fn closed_ends_stay()
+    ensures { ClosedEndsStay }
+{}
+
+/// Of a payload's frames some first ones take effect, in order, and then the processing ends.
+pub fn payloads_are_taken_in_order()
+    ensures { PayloadsAreTakenInOrder }
+{}
+
+/// Of a new end, and after every call, all outstanding data was written.
+pub fn outstanding_was_written()
+    ensures new { NewEndsSentNothing }
+    ensures calls { CallsSendWhatWasWritten }
+{}
+
+/// Frames that took effect and come again have no fault and change nothing: nothing is spent, opened or reset twice.
+pub fn effects_repeat()
+    ensures { EffectsRepeat }
+{}
+
+/// A payload that found no memory, or was processed, may come again from its start: it goes on where it ended.
+pub fn payloads_repeat()
+    ensures { PayloadsRepeat }
+{}
+
+/// A payload that was processed and comes again changes nothing but which numbers are kept and whether an ACK is due.
+pub fn processed_payloads_repeat()
+    ensures { ProcessedPayloadsRepeat }
+{}
+
+/// Decisive steps of small connections, computed by the definitions.
+pub fn examples()
+    ensures { Examples }
+{}

@@ -1,0 +1,9 @@
+//! Sums over the streams of an end.
+
+/// What streams add to the connection's credit: the highest offsets, what was taken, and what is stored, in bytes (RFC 9000, section 4.1).
+#[derive(Clone, Copy, Drop)]
+pub struct Tally {
+    pub spent: u64,
+    pub taken: u64,
+    pub stored: u64,
+}

@@ -1,0 +1,234 @@
+-- A sending half that is allowed more, reset and acknowledged; and what an ACK does to an end.
+use Rattle.std.proofs.Common.{◌≡◌, ℕ, ◌+◌, ◌-◌, ◌≤◌, max, Bool, true, false, List, [], ◌∷◌, drop, map, flat_map, Option, Some, None, is_some, refl, sym, ap, ◌∙◌, subst, arith, inl, inr, if◌then◌else◌, drop-drop}
+use Rattle.std.proofs.lemmas.Option.{none-some, same_Some}
+use Rattle.std.proofs.lemmas.Bool.{or_cases, true≢false, cases_lt}
+use Rattle.std.specs.FinMap as fmap
+use Rattle.std.specs.FinSet as set
+use Rattle.std.specs.List.{AllByRecursion, filter}
+use Rattle.qs_ranges.specs.Numbers.{missing_from}
+use Rattle.qs_wire.specs.declared.stream_id.Dir.TheVariants.{Bidi, Uni}
+use Rattle.qs_send.specs.Lane.{SendLane, allow_lane, reset_lane, reset_refusal, acked_lane, reset_acked_lane, unacked_from, chunk_offsets}
+use Rattle.qs_send.specs.declared.parts.Chunk.{Chunk}
+use Rattle.qs_send.specs.declared.parts.Reset.{Reset}
+use Rattle.qs_send.specs.declared.piece.Item.{Item}
+use Rattle.qs_send.specs.declared.piece.Item.TheVariants.{MaxData, MaxStreamData, MaxStreams, ResetStream, StopSending, DataBlocked, StreamDataBlocked, StreamsBlocked}
+use Rattle.qs_send.specs.declared.piece.Piece.{Piece}
+use Rattle.qs_send.specs.declared.piece.Piece.TheVariants.{Data, Told}
+use Rattle.qs_machine.specs.Ends.{End, AckedItems, Records, LostPackets, lost_less, first_send_limit}
+use Rattle.qs_machine.specs.Seen.{Control}
+use Rattle.qs_send.specs.Records.{without_first}
+use Rattle.qs_machine.specs.FrameStep.{AckedPiece, acked_at, piece_acked, item_acked, acks, without_piece, named, named_in, acked_numbers, is_named, pieces_of}
+use Rattle.qs_send.specs.Records.{Among}
+use Rattle.qs_runs.proofs.Lists.{All_append, All_filter, All_reverse}
+use Rattle.qs_runs.proofs.Members.{run-cases, run-old, get-inserted, get-removed}
+use Rattle.qs_runs.proofs.Base.{missing-more}
+use Rattle.qs_runs.specs.Pasts.{Past, PieceOf, Tells, TellsAck}
+use Rattle.qs_runs.specs.Invariant.{EndOk, SendOk, StoodIn}
+use Rattle.qs_runs.proofs.Changes.{send_kept}
+
+-- One half
+
+-- what can be reset wasn't
+pub not_reset : (l : SendLane) → is_some (reset_refusal l) ≡ false → l.was_reset ≡ None
+not_reset l e = go l.was_reset refl
+  where
+    go : (o : Option Reset) → l.was_reset ≡ o → l.was_reset ≡ None
+    go None is = is
+    go (Some r) is = absurd (true≢false (rw is at e))
+
+module _ (p : Past) (n limit : ℕ) (l : SendLane) (h : SendOk p n limit l) where
+  pub allow_ok : (m : ℕ) → Tells p.theirs (Control (MaxStreamData n m)) → SendOk p n limit (allow_lane l m)
+  allow_ok m t =
+      record {
+        count = h.count;
+        kept = h.kept;
+        sent_written = h.sent_written;
+        sent_limit = omega (arith, h.sent_limit);
+        end = h.end;
+        reset_size = h.reset_size;
+        told = h.told;
+        told_reset = h.told_reset;
+        acked = h.acked;
+        end_acked = h.end_acked;
+        limit_told = elim (cases_lt l.limit m) [
+          | inl lt ↦ (let e : max l.limit m ≡ m = omega arith in inr (rw e t))
+          | inr ge ↦ (let e : max l.limit m ≡ l.limit = omega arith in rw e h.limit_told)
+        ];
+      }
+
+  size_is_end : (b : Bool) → l.fin_sent ≡ b → (if b then l.written else l.sent_end) ≡ l.sent_end
+  size_is_end true e = sym (h.end e).1
+  size_is_end false e = refl
+
+  reset_by : (code : ℕ) (b : Bool) → is_some (reset_refusal l) ≡ b →
+      SendOk p n limit (if b then l else record l { was_reset = Some (record { code = code; size = if l.fin_sent then l.written else l.sent_end }) })
+  reset_by code true refused = h
+  reset_by code false allowed =
+      let none : l.was_reset ≡ None = not_reset l allowed in
+      record {
+        count = h.count;
+        kept = h.kept;
+        sent_written = h.sent_written;
+        sent_limit = h.sent_limit;
+        end = h.end;
+        reset_size = λ r is. ap (λ x. x.size) (sym (same_Some _ r is)) ∙ size_is_end l.fin_sent refl;
+        told = h.told;
+        told_reset = λ c size t. absurd (none-some _ (sym none ∙ h.told_reset c size t));
+        acked = h.acked;
+        end_acked = h.end_acked;
+        limit_told = h.limit_told;
+      }
+
+  -- a reset tells the sent end, once (RFC 9000, section 4.5)
+  pub reset_ok : (code : ℕ) → SendOk p n limit (reset_lane l code)
+  reset_ok code = reset_by code (is_some (reset_refusal l)) refl
+
+  end_by : (code : ℕ) (b : Bool) → (if b then l else record l { was_reset = Some (record { code = code; size = if l.fin_sent then l.written else l.sent_end }) }).sent_end ≡ l.sent_end
+  end_by code true = refl
+  end_by code false = refl
+
+  pub reset_end : (code : ℕ) → (reset_lane l code).sent_end ≡ l.sent_end
+  reset_end code = end_by code (is_some (reset_refusal l))
+
+  -- what is acknowledged stood in packet k, which the peer acknowledged
+  pub acked_ok : (k : ℕ) (c : Chunk) → PieceOf p.mine k (Data n c) → TellsAck p.theirs k → SendOk p n limit (acked_lane l c)
+  acked_ok k c (bytes, holds, is) ack =
+      let now : ℕ = missing_from (set.union l.acked (chunk_offsets c)) 0 in
+      let rises : unacked_from l ≤ now = missing-more l.acked (set.union l.acked (chunk_offsets c)) (λ q old. run-old l.acked c.offset (c.offset + c.len) q old) in
+      let moved : unacked_from l + (now - unacked_from l) ≡ now = omega arith in
+      record {
+        count = h.count;
+        kept = ap (drop (now - unacked_from l)) h.kept ∙ drop-drop (now - unacked_from l) (unacked_from l) (p.bytes n) ∙ ap (λ x. drop x (p.bytes n)) moved;
+        sent_written = h.sent_written;
+        sent_limit = h.sent_limit;
+        end = h.end;
+        reset_size = h.reset_size;
+        told = h.told;
+        told_reset = h.told_reset;
+        acked = λ q has_it. elim (run-cases l.acked c.offset (c.offset + c.len) q has_it) [
+          | inl old ↦ h.acked q old
+          | inr new ↦ (k, c.offset, bytes, c.fin, holds, new.0, omega (arith, new.1), ack)
+        ];
+        end_acked = λ set. elim (or_cases _ _ set) [
+          | inl old ↦ h.end_acked old
+          | inr new ↦ (k, c.offset, bytes, rw new at holds, ack)
+        ];
+        limit_told = h.limit_told;
+      }
+
+  -- the mark that the reset was acknowledged is in no clause
+  pub reset_acked_ok : SendOk p n limit (reset_acked_lane l)
+  reset_acked_ok =
+      record {
+        count = h.count;
+        kept = h.kept;
+        sent_written = h.sent_written;
+        sent_limit = h.sent_limit;
+        end = h.end;
+        reset_size = h.reset_size;
+        told = h.told;
+        told_reset = h.told_reset;
+        acked = h.acked;
+        end_acked = h.end_acked;
+        limit_told = h.limit_told;
+      }
+
+-- An end
+
+-- it is a piece of a packet that the peer acknowledged
+abbrev pub WasAcked : Past → AckedPiece → Type 0
+WasAcked p a = PieceOf p.mine a.number a.piece × TellsAck p.theirs a.number
+
+module _ (p : Past) where
+  without_first_ok : (m : Records) (k : ℕ) → StoodIn p.mine m → (o : Option (List Piece)) → fmap.get m k ≡ o → StoodIn p.mine (without_first m k o)
+  without_first_ok m k stood None is j ps piece there a = stood j ps piece there a
+  without_first_ok m k stood (Some []) is j ps piece there a = stood j ps piece (get-removed m k j ps there) a
+  without_first_ok m k stood (Some (x ∷ [])) is j ps piece there a = stood j ps piece (get-removed m k j ps there) a
+  without_first_ok m k stood (Some (x ∷ y ∷ zs)) is j ps piece there a =
+      elim (get-inserted m k (y ∷ zs) j ps there) [
+        | inl old ↦ stood j ps piece old a
+        | inr new ↦ stood j (x ∷ y ∷ zs) piece (rw new.0 is) (inr (subst (Among piece) (sym new.1) a))
+      ]
+
+  -- a record lost its first piece
+  pub one_less_ok : (m : Records) (k : ℕ) → StoodIn p.mine m → StoodIn p.mine (without_first m k (fmap.get m k))
+  one_less_ok m k stood = without_first_ok m k stood (fmap.get m k) refl
+
+  pub with_records : (e : End) (m : Records) (l : LostPackets) → EndOk p e → StoodIn p.mine m → StoodIn p.mine l.pieces → EndOk p (record e { outstanding = m; lost = l })
+  with_records e m l ok records lost_records =
+      record {
+        sends = ok.sends;
+        recvs = ok.recvs;
+        packets = record {
+          count = ok.packets.count;
+          records = records;
+          lost_records = lost_records;
+          acks_told = ok.packets.acks_told;
+          kinds = ok.packets.kinds;
+          is_done = ok.packets.is_done;
+          above = ok.packets.above;
+          kept = ok.packets.kept;
+        };
+        taken = ok.taken;
+        credit = ok.credit;
+        streams = ok.streams;
+      }
+
+  without_piece_ok : (late : Bool) (k : ℕ) (e : End) → EndOk p e → EndOk p (without_piece late k e)
+  without_piece_ok true k e ok = with_records e e.outstanding (lost_less k e.lost) ok ok.packets.records (one_less_ok e.lost.pieces k ok.packets.lost_records)
+  without_piece_ok false k e ok = with_records e (without_first e.outstanding k (fmap.get e.outstanding k)) e.lost ok (one_less_ok e.outstanding k ok.packets.records) ok.packets.lost_records
+
+  -- the values acknowledged are in no clause
+  with_items : (e : End) (items : AckedItems) → EndOk p e → EndOk p (record e { acked = items })
+  with_items e items ok = record { sends = ok.sends; recvs = ok.recvs; packets = ok.packets; taken = ok.taken; credit = ok.credit; streams = ok.streams }
+
+  item_acked_ok : (e : End) (i : Item) → EndOk p e → EndOk p (item_acked i e)
+  item_acked_ok e (ResetStream n code size) ok = send_kept p e n ok reset_acked_lane (λ l is h. (reset_acked_ok p n (first_send_limit e n) l h, refl))
+  item_acked_ok e (MaxData m) ok = with_items e _ ok
+  item_acked_ok e (MaxStreamData n m) ok = with_items e _ ok
+  item_acked_ok e (MaxStreams d m) ok = ok
+  item_acked_ok e (StopSending n c) ok = with_items e _ ok
+  item_acked_ok e (DataBlocked m) ok = with_items e _ ok
+  item_acked_ok e (StreamDataBlocked n m) ok = with_items e _ ok
+  item_acked_ok e (StreamsBlocked Bidi m) ok = with_items e _ ok
+  item_acked_ok e (StreamsBlocked Uni m) ok = with_items e _ ok
+
+  piece_acked_ok : (e : End) (k : ℕ) (piece : Piece) → PieceOf p.mine k piece → TellsAck p.theirs k → EndOk p e → EndOk p (piece_acked piece e)
+  piece_acked_ok e k (Data n c) stood ack ok = send_kept p e n ok (λ l. acked_lane l c) (λ l is h. (acked_ok p n (first_send_limit e n) l h k c stood ack, refl))
+  piece_acked_ok e k (Told i) stood ack ok = item_acked_ok e i ok
+
+  pub acks_ok : (pieces : List AckedPiece) (e : End) → AllByRecursion (WasAcked p) pieces → EndOk p e → EndOk p (acks pieces e)
+  unfolding acks
+  acks_ok [] e all ok = ok
+  acks_ok (a ∷ pieces) e all ok = acks_ok pieces _ all.1 (piece_acked_ok _ a.number a.piece all.0.0 all.0.1 (without_piece_ok a.late a.number e ok))
+
+-- The pieces that an ACK takes
+
+module _ (p : Past) (late : Bool) (m : Records) (stood : StoodIn p.mine m) where
+  all_acked : (k : ℕ) → TellsAck p.theirs k → (ps : List Piece) → ((piece : Piece) → Among piece ps → PieceOf p.mine k piece) → AllByRecursion (WasAcked p) (map (acked_at late k) ps)
+  all_acked k ack [] all = tt
+  all_acked k ack (x ∷ ps) all = ((all x (inl refl), ack), all_acked k ack ps (λ piece a. all piece (inr a)))
+
+  pieces_ok : (k : ℕ) → TellsAck p.theirs k → AllByRecursion (WasAcked p) (pieces_of late m k)
+  pieces_ok k ack = go (fmap.get m k) refl
+    where
+      go : (o : Option (List Piece)) → fmap.get m k ≡ o → AllByRecursion (WasAcked p) (elim o [ None ↦ [] | Some ps ↦ map (acked_at late k) ps ])
+      go None is = tt
+      go (Some ps) is = all_acked k ack ps (λ piece a. stood k ps piece is a)
+
+  taken_pieces_ok : (numbers : List ℕ) → AllByRecursion (TellsAck p.theirs) numbers → AllByRecursion (WasAcked p) (flat_map (pieces_of late m) numbers)
+  taken_pieces_ok [] told = tt
+  taken_pieces_ok (k ∷ ks) told = All_append (WasAcked p) (pieces_of late m k) _ (pieces_ok k told.0) (taken_pieces_ok ks told.1)
+
+  named_told : (ranges : List (ℕ × ℕ)) → ((k : ℕ) → is_named ranges k ≡ true → TellsAck p.theirs k) → (ks : List ℕ) → AllByRecursion (λ k. is_named ranges k ≡ true) ks → AllByRecursion (TellsAck p.theirs) ks
+  named_told ranges told [] all = tt
+  named_told ranges told (k ∷ ks) all = (told k all.0, named_told ranges told ks all.1)
+
+  named_in_ok : (ranges : List (ℕ × ℕ)) → ((k : ℕ) → is_named ranges k ≡ true → TellsAck p.theirs k) → AllByRecursion (WasAcked p) (named_in late m ranges)
+  named_in_ok ranges told =
+      taken_pieces_ok (acked_numbers m ranges)
+      (named_told ranges told (acked_numbers m ranges) (All_reverse _ (filter (is_named ranges) (fmap.keys m)) (All_filter (is_named ranges) (fmap.keys m))))
+
+pub named_pieces_ok : (p : Past) (e : End) → EndOk p e → (ranges : List (ℕ × ℕ)) → ((k : ℕ) → is_named ranges k ≡ true → TellsAck p.theirs k) → AllByRecursion (WasAcked p) (named e ranges)
+named_pieces_ok p e ok ranges told =
+    All_append (WasAcked p) (named_in false e.outstanding ranges) _ (named_in_ok p false e.outstanding ok.packets.records ranges told) (named_in_ok p true e.lost.pieces ok.packets.lost_records ranges told)

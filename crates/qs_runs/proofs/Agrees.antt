@@ -1,0 +1,89 @@
+-- What agrees in a world that meets the invariant, and at each step from it.
+use Rattle.std.proofs.Common.{◌≡◌, ℕ, List, Some, sym, subst, refl, ap, ◌∙◌, slice_get}
+use Rattle.std.proofs.lemmas.Option.{same_Some}
+use Rattle.std.specs.List.{AllByRecursion}
+use Rattle.qs_calls.specs.declared.settings.Settings.{Settings}
+use Rattle.qs_machine.specs.Tables.{lookup}
+use Rattle.qs_machine.specs.Ends.{End, first_send_limit, window}
+use Rattle.qs_calls.specs.declared.event.Side.{Side}
+use Rattle.qs_calls.specs.declared.event.Side.TheVariants.{A, B}
+use Rattle.qs_calls.specs.declared.event.Act.{Act}
+use Rattle.qs_calls.specs.declared.event.Act.TheVariants as acts
+use Rattle.qs_calls.specs.declared.event.Event.{Event}
+use Rattle.qs_calls.specs.declared.answer.Answer.{Answer}
+use Rattle.qs_calls.specs.declared.answer.Answer.TheVariants as answers
+use Rattle.qs_runs.specs.Logs.{History, other, payload}
+use Rattle.qs_runs.specs.Worlds.{World, end_of, StepBy, WorldStep}
+use Rattle.qs_runs.specs.Agree.{Agree, PrefixAgrees, WholeAgrees, FinalSizesAgree, CreditAgrees, StaysOpen, RepeatAgrees, StepAgrees, StepAgreesBy, EveryRunAgrees, IsOld, frames_in}
+use Rattle.qs_runs.specs.Invariant.{WorldOk, SendSlot, RecvSlot}
+use Rattle.qs_runs.proofs.Unharmed.{spent_le}
+use Rattle.qs_runs.proofs.Agreement.{prefix_agrees, whole_agrees, received_agrees, size_agrees, reset_agrees}
+use Rattle.qs_runs.proofs.Repeats.{repeats, spends_nothing}
+use Rattle.qs_runs.specs.Pasts.{past}
+use Rattle.qs_runs.proofs.Histories.{theirs_mine, payload_seen}
+use Rattle.qs_runs.proofs.Runs.{ends_face, is_open_end, run_keeps}
+
+module _ (a b : Settings) (h : History) (w : World) (ok : WorldOk a b h w) where
+  pub prefix : (s : Side) (n : ℕ) → PrefixAgrees h s n
+  prefix s n =
+      let sender : End = end_of w s in
+      let receiver : End = end_of w (other s) in
+      record {
+        prefix = prefix_agrees (past s h) (past (other s) h) n (first_send_limit sender n) (window receiver n) (theirs_mine s h) (lookup sender.sends n) (lookup receiver.recvs n) ((ok.ends s).sends n) ((ok.ends (other s)).recvs n);
+        ended = whole_agrees (past s h) (past (other s) h) n (first_send_limit sender n) (window receiver n) (theirs_mine s h) (lookup sender.sends n) (lookup receiver.recvs n) ((ok.ends s).sends n) ((ok.ends (other s)).recvs n);
+      }
+
+  pub whole : (s : Side) (n : ℕ) → WholeAgrees h w s n
+  whole s n l there =
+      let sender : End = end_of w s in
+      let receiver : End = end_of w (other s) in
+      received_agrees (past s h) (past (other s) h) n (first_send_limit sender n) (window receiver n) (theirs_mine s h) refl receiver (ok.ends (other s)).packets (ok.ends (other s)).taken ((ok.ends (other s)).recvs n) l
+      (subst (SendSlot (past s h) n (first_send_limit sender n)) there ((ok.ends s).sends n))
+
+  pub final_sizes : (s : Side) (n : ℕ) → FinalSizesAgree w s n
+  final_sizes s n =
+      let sender : End = end_of w s in
+      let receiver : End = end_of w (other s) in
+      record {
+        size = λ r size there. size_agrees (past s h) (past (other s) h) n (first_send_limit sender n) (window receiver n) (theirs_mine s h) (lookup sender.sends n) r size ((ok.ends s).sends n)
+            (subst (RecvSlot (past (other s) h) n (window receiver n)) there ((ok.ends (other s)).recvs n));
+        code = λ r code there. reset_agrees (past s h) (past (other s) h) n (first_send_limit sender n) (window receiver n) (theirs_mine s h) (lookup sender.sends n) r code ((ok.ends s).sends n)
+            (subst (RecvSlot (past (other s) h) n (window receiver n)) there ((ok.ends (other s)).recvs n));
+      }
+
+  -- the receiver is the side that was asked for
+  pub credit : (s : Side) → CreditAgrees w s
+  credit A = spent_le (past A h) (past B h) refl refl w.a w.b (ends_face a b h w ok B) (ok.ends A) (ok.ends B)
+  credit B = spent_le (past B h) (past A h) refl refl w.b w.a (ends_face a b h w ok A) (ok.ends B) (ok.ends A)
+
+  pub stays_open : (s : Side) → StaysOpen w s
+  stays_open s = is_open_end a b h w ok s
+
+  pub agrees : Agree h w
+  agrees = record { prefix = prefix; credit = credit; whole = whole; final_sizes = final_sizes; stays_open = stays_open }
+
+  repeat_agrees : (s : Side) (k : ℕ) (answer : Answer) (new : World) → StepBy h w s (acts.Deliver k) answer new → RepeatAgrees h w new (other s) k
+  repeat_agrees s k (answers.Deliver result) new (text, is, step, same) =
+      let there = ap (λ x. slice_get x k) (theirs_mine s h) ∙ payload_seen s k h text is in
+      record {
+        again = λ done. repeats (past (other s) h) (end_of w (other s)) (end_of new (other s)) k text result (ok.ends (other s)) (is_open_end a b h w ok (other s)) step done;
+        old_news = λ t at all. spends_nothing (past (other s) h) (end_of w (other s)) (end_of new (other s)) k text result (ok.ends (other s)) there (is_open_end a b h w ok (other s)) step
+            (subst (λ x. AllByRecursion (IsOld (end_of w (other s))) (frames_in x)) (same_text s t text at is) all);
+      }
+    where
+      same_text : (s : Side) (t text : List ℕ) → payload (other (other s)) k h ≡ Some t → payload s k h ≡ Some text → t ≡ text
+      same_text A t text x y = same_Some t text (sym x ∙ y)
+      same_text B t text x y = same_Some t text (sym x ∙ y)
+  repeat_agrees s k answer new step = absurd step
+
+  step_agrees_by : (s : Side) (act : Act) (answer : Answer) (new : World) → StepBy h w s act answer new → StepAgreesBy h w s act new
+  step_agrees_by s (acts.Deliver k) answer new step = repeat_agrees s k answer new step
+  step_agrees_by s act answer new step = tt
+
+  pub step_agrees : (event : Event) (answer : Answer) (new : World) → WorldStep h w event answer new → StepAgrees h w event new
+  step_agrees event answer new step = step_agrees_by event.end event.act answer new step
+
+pub every_run_agrees : EveryRunAgrees
+every_run_agrees a b h w run =
+    let ok : WorldOk a b h w = run_keeps a b h w run in
+    (agrees a b h w ok, λ event answer new s. step_agrees a b h w ok event answer new s)

@@ -1,0 +1,167 @@
+-- Each clause follows from the invariant of the two ends.
+use Rattle.std.proofs.Common.{◌≡◌, ℕ, ◌+◌, ◌<◌, ◌≤◌, ◌⊎◌, List, length, Option, None, Some, is_some, slice_get, option_map, Bool, true, false, not, sym, subst, refl, ap, ◌∙◌, arith, inl, inr, if◌then◌else◌}
+use Rattle.std.proofs.lemmas.Option.{none-some, same_Some, slice_get-map}
+use Rattle.qs_recv.specs.Lane.{RecvLane}
+use Rattle.qs_send.specs.Lane.{SendLane}
+use Rattle.qs_send.specs.declared.piece.Item.TheVariants.{ResetStream}
+use Rattle.qs_calls.specs.declared.settings.Settings.{Settings}
+use Rattle.qs_machine.specs.Tables.{index_of}
+use Rattle.qs_machine.specs.Ends.{End, first_send_limit, window, is_own, is_uni}
+use Rattle.qs_send.specs.Records.{Among}
+use Rattle.qs_machine.specs.Seen.{Seen, Stream, Control}
+use Rattle.qs_calls.specs.declared.event.Side.{Side}
+use Rattle.qs_runs.specs.Logs.{History, other, processed, written, made, own_calls}
+use Rattle.qs_runs.specs.Worlds.{World, end_of}
+use Rattle.qs_runs.specs.Agree.{frames_in}
+use Rattle.qs_runs.specs.Pasts.{past, Holds, Tells, IsNamed}
+use Rattle.qs_runs.specs.Invariant.{WorldOk, EndOk, SendSlot, RecvSlot, FrameTaken}
+use Rattle.qs_runs.specs.Clauses.{Carries, sending, receiving, PiecesAreWritten, ReceivedIsBelowSent, StoredIsWritten, ReadIsWritten, ProcessedWasTaken, ProcessedResetWasTaken, AckedWasProcessed, FinalSizeIsDeclared, ResetCodeIsTheSenders, SentIsWithinKnown, KnownIsWithinGranted, IsOpen, IsOpenAtInitiator, known_for, OpenedIsBelowKnown}
+use Rattle.qs_runs.proofs.Lists.{All_at}
+use Rattle.qs_runs.proofs.Unharmed.{Facing, lane_limit, own_sends, final_sent, data_granted, bidi_granted, uni_granted}
+use Rattle.qs_runs.proofs.Agreement.{byte_written, gave_written, end_written, written_count, size_agrees, reset_agrees}
+use Rattle.qs_runs.proofs.Histories.{theirs_mine, payload_seen, seen_made}
+use Rattle.qs_runs.proofs.Runs.{opposite, ends_face}
+
+mapped_some : {X Y : Type 0} (f : X → Y) (o : Option X) (y : Y) → option_map f o ≡ Some y → (x : X) × (o ≡ Some x) × (f x ≡ y)
+mapped_some f None y e = absurd (none-some y e)
+mapped_some f (Some x) y e = (x, refl, same_Some (f x) y e)
+
+-- a packet carries what it holds
+carries_holds : (s : Side) (h : History) (k : ℕ) (f : Seen) → Carries h s k f → Holds (past s h).mine k f
+carries_holds s h k f (text, is, a) = (frames_in text, payload_seen s k h text is, a)
+
+holds_carries : (s : Side) (h : History) (k : ℕ) (f : Seen) → Holds (past s h).mine k f → Carries h s k f
+holds_carries s h k f (fs, is, a) =
+    let seen : option_map frames_in (slice_get (made s h) k) ≡ Some fs = sym (ap (λ x. slice_get x k) (seen_made (own_calls s h)) ∙ slice_get-map frames_in (made s h) k) ∙ is in
+    let (text, there, same) = mapped_some frames_in (slice_get (made s h) k) fs seen in
+    (text, there, subst (Among f) (sym same) a)
+
+module _ (a b : Settings) (h : History) (w : World) (ok : WorldOk a b h w) (s : Side) where
+  abbrev sender : End
+  sender = end_of w s
+
+  abbrev receiver : End
+  receiver = end_of w (other s)
+
+  sends_ok : EndOk (past s h) (end_of w s)
+  sends_ok = ok.ends s
+
+  recvs_ok : EndOk (past (other s) h) (end_of w (other s))
+  recvs_ok = ok.ends (other s)
+
+  module _ (n : ℕ) where
+    send_slot : SendSlot (past s h) n (first_send_limit sender n) (sending w s n)
+    send_slot = sends_ok.sends n
+
+    recv_at : (r : RecvLane) → receiving w s n ≡ Some r → RecvSlot (past (other s) h) n (window receiver n) (Some r)
+    recv_at r is = subst (RecvSlot (past (other s) h) n (window receiver n)) is (recvs_ok.recvs n)
+
+    send_at : (l : SendLane) → sending w s n ≡ Some l → SendSlot (past s h) n (first_send_limit sender n) (Some l)
+    send_at l is = subst (SendSlot (past s h) n (first_send_limit sender n)) is (sends_ok.sends n)
+
+    pub pieces_are_written : PiecesAreWritten h w s n
+    pieces_are_written k offset bytes fin c = by (sending w s n) refl send_slot
+      where
+        by : (o : Option SendLane) → sending w s n ≡ o → SendSlot (past s h) n (first_send_limit sender n) o → (l : SendLane) × (sending w s n ≡ Some l)
+            × ((i b : ℕ) → slice_get bytes i ≡ Some b → slice_get (written s n h) (offset + i) ≡ Some b) × (offset + length bytes ≤ l.sent_end)
+        by None is slot = absurd (slot.no_stream offset bytes fin (k, carries_holds s h k _ c))
+        by (Some l) is slot = (let t = slot.told offset bytes fin (k, carries_holds s h k _ c) in (l, is, t.same, t.below))
+
+    pub received_is_below_sent : ReceivedIsBelowSent w s n
+    received_is_below_sent r q is has_it =
+        let (offset, bytes, fin, t, low, high) = (recv_at r is).received q has_it in
+        by (sending w s n) refl send_slot offset bytes fin (subst (λ x. Tells x (Stream n offset bytes fin)) (theirs_mine s h) t) low high
+      where
+        by : (o : Option SendLane) → sending w s n ≡ o → SendSlot (past s h) n (first_send_limit sender n) o → (offset : ℕ) (bytes : List ℕ) (fin : Bool) → Tells (past s h).mine (Stream n offset bytes fin) → offset ≤ q → q < offset + length bytes →
+            (l : SendLane) × (sending w s n ≡ Some l) × (q < l.sent_end)
+        by None at slot offset bytes fin t low high = absurd (slot.no_stream offset bytes fin t)
+        by (Some l) at slot offset bytes fin t low high = (let below : offset + length bytes ≤ l.sent_end = (slot.told offset bytes fin t).below in (l, at, omega arith))
+
+    pub stored_is_written : StoredIsWritten h w s n
+    stored_is_written r q b is has_it = byte_written (past s h) (past (other s) h) n (first_send_limit sender n) (window receiver n) (theirs_mine s h) (sending w s n) send_slot q b ((recv_at r is).stored q b has_it)
+
+    pub read_is_written : ReadIsWritten h s n
+    read_is_written q b has_it = gave_written (past s h) (past (other s) h) n (first_send_limit sender n) (window receiver n) (theirs_mine s h) (sending w s n) (receiving w s n) send_slot (recvs_ok.recvs n) q b has_it
+
+    -- a frame of a packet that was processed took effect
+    frame_taken_by : (k : ℕ) (f : Seen) → processed (other s) k h ≡ true → Carries h s k f → FrameTaken receiver.recvs f
+    frame_taken_by k f done (text, is, a) =
+        let (fs, there, all) = recvs_ok.taken k done in
+        let seen : slice_get (past (other s) h).theirs k ≡ Some (frames_in text) = ap (λ x. slice_get x k) (theirs_mine s h) ∙ payload_seen s k h text is in
+        let same : frames_in text ≡ fs = same_Some (frames_in text) fs (sym seen ∙ there) in
+        All_at (FrameTaken receiver.recvs) fs f all (subst (Among f) same a)
+
+    pub processed_was_taken : ProcessedWasTaken h w s n
+    processed_was_taken k offset bytes fin done c =
+        let (r, is, taken) = frame_taken_by k (Stream n offset bytes fin) done c in
+        (r, is, by r.reset_code refl (λ none. taken.offsets none), taken.end)
+      where
+        by : {P : Type 0} (o : Option ℕ) {x : Option ℕ} → x ≡ o → (x ≡ None → P) → P ⊎ (is_some x ≡ true)
+        by None e f = inl (f e)
+        by (Some code) e f = inr (ap is_some e)
+
+    pub processed_reset_was_taken : ProcessedResetWasTaken h w s n
+    processed_reset_was_taken k code size done c = frame_taken_by k (Control (ResetStream n code size)) done c
+
+    pub acked_was_processed : AckedWasProcessed h w s n
+    acked_was_processed =
+        record {
+          offsets = λ l q is has_it.
+              let (k, offset, bytes, fin, holds, low, high, (largest, ranges, t, named)) = (send_at l is).acked q has_it in
+              (k, offset, bytes, fin, holds_carries s h k _ holds, low, high, (recvs_ok.packets.acks_told largest ranges t).names_processed k named);
+          end = λ l is set.
+              let (k, offset, bytes, holds, (largest, ranges, t, named)) = (send_at l is).end_acked set in
+              (k, offset, bytes, holds_carries s h k _ holds, (recvs_ok.packets.acks_told largest ranges t).names_processed k named);
+        }
+
+    pub final_size_is_declared : FinalSizeIsDeclared h w s n
+    final_size_is_declared r size is final =
+        let (l, at, declared) = size_agrees (past s h) (past (other s) h) n (first_send_limit sender n) (window receiver n) (theirs_mine s h) (sending w s n) r size send_slot (recv_at r is) final in
+        (l, at, declared, sym (final_sent (past (other s) h) (past s h) (theirs_mine s h) n (first_send_limit sender n) (window receiver n) (Some l) r (send_at l at) (recv_at r is) size final), λ none. count l at none)
+      where
+        count : (l : SendLane) → sending w s n ≡ Some l → r.reset_code ≡ None → length (written s n h) ≡ size
+        count l at none =
+            elim ((recv_at r is).final size final) [
+              | inl t ↦ (
+                  let (m, there, sent, end) = end_written (past s h) (past (other s) h) n (first_send_limit sender n) (window receiver n) (theirs_mine s h) (sending w s n) size send_slot t in
+                  written_count (past s h) (past (other s) h) n (first_send_limit sender n) (window receiver n) (theirs_mine s h) (sending w s n) m send_slot there ∙ end)
+              | inr t ↦ absurd (none-some t.0 (sym none ∙ t.1))
+            ]
+
+    pub reset_code_is_the_senders : ResetCodeIsTheSenders w s n
+    reset_code_is_the_senders r code is known = reset_agrees (past s h) (past (other s) h) n (first_send_limit sender n) (window receiver n) (theirs_mine s h) (sending w s n) r code send_slot (recv_at r is) known
+
+  pub sent_is_within_known : SentIsWithinKnown w s
+  sent_is_within_known = record { connection = sends_ok.credit.sent_known; streams = λ n l is. (send_at n l is).sent_limit }
+
+  -- the receiver faces the sender
+  face : Facing receiver sender
+  face = ends_face a b h w ok s
+
+  pub known_is_within_granted : KnownIsWithinGranted w s
+  known_is_within_granted =
+      record {
+        connection = data_granted (past (other s) h) (past s h) (theirs_mine s h) refl receiver sender face recvs_ok sends_ok;
+        streams = λ n l r there is. lane_limit (past (other s) h) (past s h) (theirs_mine s h) refl receiver sender face recvs_ok sends_ok n l r there is;
+      }
+
+  pub is_open_at_initiator : (n : ℕ) → IsOpenAtInitiator w s n
+  is_open_at_initiator n open_here own = own_sends (past (other s) h) (past s h) (theirs_mine s h) refl receiver sender face recvs_ok sends_ok n own (named open_here)
+    where
+      theirs : is_own sender n ≡ false
+      theirs = opposite a b h w ok s n ∙ ap not own
+
+      named : IsOpen w s n → IsNamed (past s h).theirs n
+      named (inl sends) = (sends_ok.streams.their_send n sends theirs).1
+      named (inr recvs) = sends_ok.streams.their_recv n recvs theirs
+
+  pub opened_is_below_known : OpenedIsBelowKnown w s
+  opened_is_below_known = record { opened = opened; known = λ n. known n (is_uni n) }
+    where
+      opened : (n : ℕ) → IsOpen w s n → is_own sender n ≡ true → index_of n < known_for sender n
+      opened n (inl sends) own = sends_ok.streams.own_send n sends own
+      opened n (inr recvs) own = sends_ok.streams.own_send n (sends_ok.streams.own_recv n recvs own).1 own
+
+      known : (n : ℕ) (u : Bool) → (if u then sender.known_uni else sender.known_bidi) ≤ (if u then receiver.settings.grant_uni else receiver.settings.grant_bidi)
+      known n true = uni_granted (past (other s) h) (past s h) (theirs_mine s h) refl receiver sender face recvs_ok sends_ok
+      known n false = bidi_granted (past (other s) h) (past s h) (theirs_mine s h) refl receiver sender face recvs_ok sends_ok

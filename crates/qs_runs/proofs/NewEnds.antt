@@ -1,0 +1,97 @@
+-- A new end meets the invariant: nothing was made, written or read.
+use Rattle.std.proofs.Common.{◌≡◌, ℕ, zero, suc, ◌%◌, ◌/◌, true, false, [], length, Option, None, Some, Ok, is_some, slice_get, refl, sym, ap, ◌∙◌, subst, arith, inl, nat_cmp}
+use Rattle.std.proofs.lemmas.Option.{none-some}
+use Rattle.std.proofs.lemmas.Bool.{false≢true}
+use Rattle.std.specs.FinSet as set
+use Rattle.std.specs.FinMap as fmap
+use Rattle.qs_wire.specs.declared.stream_id.Role.{Role}
+use Rattle.qs_wire.specs.declared.stream_id.Role.TheVariants.{Client, Server}
+use Rattle.qs_recv.specs.Lane.{RecvLane}
+use Rattle.qs_send.specs.Lane.{SendLane}
+use Rattle.qs_calls.specs.declared.settings.Settings.{Settings}
+use Rattle.qs_calls.specs.declared.settings.SetupFault.{SetupFault}
+use Rattle.qs_calls.specs.Settings.{limits_of, setup_fault}
+use Rattle.qs_machine.specs.Tables.{table, lookup, total, no_streams}
+use Rattle.qs_machine.specs.Ends.{first_send_limit, window, new_end, end_unless}
+use Rattle.qs_machine.specs.Seen.{Seen}
+use Rattle.qs_runs.specs.Worlds.{World, world_made, both_made}
+use Rattle.qs_runs.specs.Pasts.{Packets, Past, Tells}
+use Rattle.qs_runs.specs.Invariant.{EndOk, SendSlot, RecvSlot, is_open}
+
+no_table : {X : Type 0} (k : ℕ) → table (no_streams {X = X}) k ≡ []
+no_table zero = refl
+no_table (suc zero) = refl
+no_table (suc (suc zero)) = refl
+no_table (suc (suc (suc k))) = refl
+
+no_stream : {X : Type 0} (n : ℕ) → lookup (no_streams {X = X}) n ≡ None
+unfolding lookup
+no_stream n = ap (λ xs. slice_get xs (n / 4)) (no_table (n % 4))
+
+tells_nothing : (ms : Packets) (f : Seen) → ms ≡ [] → Tells ms f → ⊥
+tells_nothing ms f none (k, (fs, at, a)) = none-some fs (rw none at at)
+
+module _ (role : Role) (own theirs : Settings) (p : Past) (made : p.mine ≡ []) (wrote : (n : ℕ) → p.bytes n ≡ []) (gave : (n : ℕ) → p.gave n ≡ []) (stopped : (n : ℕ) → p.stopped n ≡ false) (ended : (n : ℕ) → p.ended n ≡ false) (processed : (k : ℕ) → p.processed k ≡ false) where
+  new_send : (n limit : ℕ) → SendSlot p n limit None
+  new_send n limit =
+      record {
+        no_bytes = wrote n;
+        no_stream = λ offset bytes fin t. tells_nothing p.mine _ made t;
+        no_reset = λ code size t. tells_nothing p.mine _ made t;
+        no_blocked = λ limit t. tells_nothing p.mine _ made t;
+      }
+
+  new_recv : (n window : ℕ) → RecvSlot p n window None
+  new_recv n window =
+      record {
+        no_bytes = gave n;
+        no_end = ended n;
+        not_stopped = stopped n;
+        no_limit = λ limit t. tells_nothing p.mine _ made t;
+        no_stop = λ code t. tells_nothing p.mine _ made t;
+      }
+
+  not_open : (X : Type 0) (n : ℕ) → is_open (no_streams {X = X}) n ≡ true → ⊥
+  not_open X n is = false≢true (sym (ap is_some (no_stream {X = X} n)) ∙ is)
+
+  pub new_ok : EndOk p (new_end role own (limits_of theirs))
+  unfolding total
+  new_ok =
+      record {
+        sends = λ n. subst (SendSlot p n (first_send_limit (new_end role own (limits_of theirs)) n)) (sym (no_stream n)) (new_send n (first_send_limit (new_end role own (limits_of theirs)) n));
+        recvs = λ n. subst (RecvSlot p n (window (new_end role own (limits_of theirs)) n)) (sym (no_stream n)) (new_recv n (window (new_end role own (limits_of theirs)) n));
+        packets = record {
+          count = sym (ap length made);
+          records = λ k ps x is a. absurd (none-some ps (sym (fmap.get-empty nat_cmp k) ∙ is));
+          lost_records = λ k ps x is a. absurd (none-some ps (sym (fmap.get-empty nat_cmp k) ∙ is));
+          acks_told = λ largest ranges t. absurd (tells_nothing p.mine _ made t);
+          kinds = λ f t. absurd (tells_nothing p.mine f made t);
+          is_done = λ k is. absurd (false≢true (sym (set.contains-empty nat_cmp k) ∙ is));
+          above = λ k is. omega arith;
+          kept = λ k is. absurd (false≢true (sym (processed k) ∙ is));
+        };
+        taken = λ k is. absurd (false≢true (sym (processed k) ∙ is));
+        credit = record { sent_known = omega arith; known_told = inl refl; window_granted = omega arith; granted_told = λ limit t. absurd (tells_nothing p.mine _ made t) };
+        streams = record {
+          own_send = λ n is o. absurd (not_open SendLane n is);
+          own_recv = λ n is o. absurd (not_open RecvLane n is);
+          own_both = λ n is o b. absurd (not_open SendLane n is);
+          their_send = λ n is o. absurd (not_open SendLane n is);
+          their_recv = λ n is o. absurd (not_open RecvLane n is);
+          bidi_told = inl refl;
+          uni_told = inl refl;
+        };
+      }
+
+-- the two ends that the first world has
+abbrev pub first_world : Settings → Settings → World
+first_world a b = record { a = new_end Client a (limits_of b); b = new_end Server b (limits_of a) }
+
+pub made_first : (a b : Settings) (w : World) → world_made a b ≡ Ok w → w ≡ first_world a b
+made_first a b w is = go (setup_fault a (limits_of b)) (setup_fault b (limits_of a)) is
+  where
+    go : (x y : Option SetupFault) →
+        both_made (end_unless x (new_end Client a (limits_of b))) (end_unless y (new_end Server b (limits_of a))) ≡ Ok w → w ≡ first_world a b
+    go (Some fault) y e = absurd (cc)
+    go None (Some fault) e = absurd (cc)
+    go None None e = cc

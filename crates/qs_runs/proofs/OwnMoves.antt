@@ -1,0 +1,290 @@
+-- Each call of its owner keeps the invariant of an end.
+use Rattle.std.proofs.Common.{◌≡◌, ◌≢◌, ℕ, ◌+◌, ◌*◌, Bool, true, false, not, ◌&&◌, List, [], ◌∷◌, ◌++◌, length, take, Option, Some, None, Result, Ok, Err, is_some, refl, sym, ap, ◌∙◌, subst, inl, inr, if◌then◌else◌, ◌==◌, append-nil, MatchBool, nat_le}
+use Rattle.std.proofs.lemmas.Option.{none-some}
+use Rattle.std.proofs.lemmas.Bool.{eq-eqb, ne_eqb, leb-false}
+use Rattle.std.specs.Global.{Vec}
+use Rattle.qs_wire.specs.declared.stream_id.Dir.{Dir}
+use Rattle.qs_wire.specs.declared.stream_id.Dir.TheVariants.{Bidi, Uni}
+use Rattle.qs_recv.specs.Assembled.{front_of}
+use Rattle.qs_recv.specs.Lane.{RecvLane, read_answer, bytes_of, after_answer, stop}
+use Rattle.qs_recv.specs.declared.half.Read.{Read}
+use Rattle.qs_recv.specs.declared.half.Read.TheVariants as reads
+use Rattle.qs_send.specs.Lane.{SendLane, accepted, refusal, reset_refusal, write_lane, finish_lane, reset_lane}
+use Rattle.qs_send.specs.declared.parts.SendFault.{SendFault}
+use Rattle.qs_calls.specs.declared.making.Made.{Made}
+use Rattle.qs_calls.specs.declared.making.MakeFault.{MakeFault}
+use Rattle.qs_calls.specs.declared.making.MakeFault.TheVariants as making
+use Rattle.qs_calls.specs.declared.making.LostFault.{LostFault}
+use Rattle.qs_calls.specs.declared.uses.OpenFault.{OpenFault}
+use Rattle.qs_calls.specs.declared.uses.OpenFault.TheVariants as opening
+use Rattle.qs_calls.specs.declared.uses.UseFault.{UseFault}
+use Rattle.qs_calls.specs.declared.uses.UseFault.TheVariants.{NoMemory, Closed}
+use Rattle.qs_machine.specs.Tables.{lookup, update, updated}
+use Rattle.qs_machine.specs.Ends.{End, on_send, on_recv, send_lane, first_send_limit, window}
+use Rattle.qs_machine.specs.Credit.{settle}
+use Rattle.qs_machine.specs.Seen.{Seen, seen_all}
+use Rattle.qs_machine.specs.Due.{known_count}
+use Rattle.qs_machine.specs.Owner.{first_refusal, refuse_if, send_refusal, recv_refusal, half_refusal, no_half, opened_count, own_kind, peer_kind, with_wanted, OpenStep, IsBlocked, IsOpened, AcceptStep, GivesNone, GivesBidi, GivesUni, AcceptOpen, WriteStep, FinishStep, ResetStep, StopStep, ReadStep, ReadBy, next_stream}
+use Rattle.qs_machine.specs.Making.{MakeStep, MakeAt, make_refusal, IsMade, LoseStep, lose_refusal}
+use Rattle.qs_calls.specs.declared.event.Act.{Act}
+use Rattle.qs_calls.specs.declared.event.Act.TheVariants as acts
+use Rattle.qs_calls.specs.declared.answer.Answer.{Answer}
+use Rattle.qs_calls.specs.declared.answer.Answer.TheVariants as answers
+use Rattle.qs_runs.specs.Logs.{wrote_by, read_by, is_stop, is_end}
+use Rattle.qs_runs.specs.Worlds.{OwnStep}
+use Rattle.qs_runs.proofs.Lists.{Among_take}
+use Rattle.qs_runs.specs.Pasts.{seen_by, Past, TellsEnd}
+use Rattle.qs_runs.specs.Invariant.{EndOk, RecvTrue, RecvSlot, RecvOk}
+use Rattle.qs_runs.proofs.Changes.{Grows, Grows_refl, send_kept}
+use Rattle.qs_runs.proofs.Settling.{settle_ok}
+use Rattle.qs_runs.proofs.Acking.{reset_ok, reset_end}
+use Rattle.qs_runs.proofs.Losing.{losses_ok}
+use Rattle.qs_runs.proofs.Making.{made_ok}
+use Rattle.qs_runs.proofs.Standing.{certain_cases, uncertain_cases}
+use Rattle.qs_runs.proofs.Wire.{text_seen}
+use Rattle.qs_runs.proofs.Writing.{write_allowed, finish_ok, wrote_ok, with_bytes}
+use Rattle.qs_runs.proofs.Reading.{not_at_end, end_by_fin, read_bytes_ok, read_told_ok, stop_ok, stop_grows, recv_view}
+use Rattle.qs_runs.proofs.OwnStreams.{next_own, next_below, own_opened}
+
+-- what an end lived through, with one more call
+abbrev pub with_call : Past → Act → Answer → Past
+with_call p act answer =
+    record p {
+      mine = p.mine ++ seen_by act answer;
+      bytes = λ n. p.bytes n ++ wrote_by n act answer;
+      gave = λ n. p.gave n ++ read_by n act answer;
+      stopped = λ n. if is_stop n act answer then true else p.stopped n;
+      ended = λ n. if is_end n act answer && not (p.stopped n) then true else p.ended n;
+    }
+
+-- A call that writes, reads, stops and makes nothing leaves it as it was.
+quiet : (p : Past) (act : Act) (answer : Answer) → seen_by act answer ≡ [] → ((n : ℕ) → wrote_by n act answer ≡ []) → ((n : ℕ) → read_by n act answer ≡ []) →
+    ((n : ℕ) → is_stop n act answer ≡ false) → ((n : ℕ) → is_end n act answer ≡ false) → with_call p act answer ≡ p
+quiet p act answer a b c d f =
+    λ i. record {
+      mine = (ap (λ x. p.mine ++ x) a ∙ append-nil p.mine) i;
+      theirs = p.theirs;
+      bytes = λ n. (ap (λ x. p.bytes n ++ x) (b n) ∙ append-nil (p.bytes n)) i;
+      gave = λ n. (ap (λ x. p.gave n ++ x) (c n) ∙ append-nil (p.gave n)) i;
+      stopped = λ n. ap (λ x. if x then true else p.stopped n) (d n) i;
+      ended = λ n. ap (λ x. if x && not (p.stopped n) then true else p.ended n) (f n) i;
+      processed = p.processed;
+    }
+
+-- What speaks against a call
+
+no_refusal : {F : Type 0} (a b : Option F) → first_refusal a b ≡ None → (a ≡ None) × (b ≡ None)
+no_refusal None b e = (refl, e)
+no_refusal (Some r) b e = absurd (none-some r (sym e))
+
+no_half_refusal : (o : Option SendFault) → half_refusal o ≡ None → o ≡ None
+no_half_refusal None e = refl
+no_half_refusal (Some fault) e = absurd (none-some _ (sym e))
+
+-- what the half itself says is nothing, where there is a half
+send_says : (e : End) (n : ℕ) (says : SendLane → Option SendFault) → send_refusal e n says ≡ None → (l : SendLane) → lookup e.sends n ≡ Some l → says l ≡ None
+send_says e n says is l there = no_half_refusal (says l) (no_refusal (refuse_if (is_some e.closed) Closed) (half_refusal (says l)) (rw there at is)).1
+
+-- fields of which the invariant doesn't speak
+rest_ok : (p : Past) (e : End) (ab au : ℕ) (wb wu : Option ℕ) → EndOk p e → EndOk p (record e { accepted_bidi = ab; accepted_uni = au; wanted_bidi = wb; wanted_uni = wu })
+rest_ok p e ab au wb wu ok = record { sends = ok.sends; recvs = ok.recvs; packets = ok.packets; taken = ok.taken; credit = ok.credit; streams = ok.streams }
+
+wanted_ok : (p : Past) (e : End) (d : Dir) (count : ℕ) → EndOk p e → EndOk p (with_wanted d count e)
+wanted_ok p e Bidi count ok = rest_ok p e e.accepted_bidi e.accepted_uni (Some count) e.wanted_uni ok
+wanted_ok p e Uni count ok = rest_ok p e e.accepted_bidi e.accepted_uni e.wanted_bidi (Some count) ok
+
+ended_by : (p : Past) (e new : End) → new ≡ e → EndOk p e → EndOk p new
+ended_by p e new is ok = subst (EndOk p) (sym is) ok
+
+module _ (p : Past) (e new : End) (ok : EndOk p e) where
+  quiet_moves : (act : Act) (answer : Answer) → with_call p act answer ≡ p → EndOk p new → EndOk (with_call p act answer) new
+  quiet_moves act answer same h = subst (λ x. EndOk x new) (sym same) h
+
+  -- Opening
+
+  open_moves : (d : Dir) (answer : Result ℕ OpenFault) → OpenStep e d answer new → EndOk p new
+  open_moves d answer step =
+      elim (certain_cases (refuse_if (is_some e.closed) opening.Closed) e answer new _ step) [
+        | inl (fault, is, same) ↦ ended_by p e new same ok
+        | inr (allowed, h) ↦ by _ refl h
+      ]
+    where
+      by : (b : Bool) → nat_le (known_count e d) (opened_count e (own_kind e d)) ≡ b → MatchBool b (IsBlocked e d answer new) (IsOpened e d answer new) → EndOk p new
+      by true le h = ended_by p _ new h.1 (settle_ok p _ (wanted_ok p e d (known_count e d) ok))
+      by false gt (inl h) = ended_by p _ new h.1 ok
+      by false gt (inr h) = ended_by p _ new h.1 (settle_ok p _ (own_opened p e (next_stream e d) ok (next_own e d) (next_below e d (leb-false _ _ gt))))
+
+  accept_moves : (answer : Option ℕ) → AcceptStep e answer new → EndOk p new
+  accept_moves answer step = first _ step
+    where
+      third : (b : Bool) → MatchBool b ((answer ≡ Some (e.accepted_uni * 4 + peer_kind e Uni)) × (new ≡ settle (record e { accepted_uni = e.accepted_uni + 1 }))) (GivesNone e answer new) → EndOk p new
+      third true h = ended_by p _ new h.1 (settle_ok p _ (rest_ok p e e.accepted_bidi (e.accepted_uni + 1) e.wanted_bidi e.wanted_uni ok))
+      third false h = ended_by p _ new h.1 ok
+
+      second : (b : Bool) → MatchBool b (GivesBidi e answer new) (GivesUni e answer new) → EndOk p new
+      second true h = ended_by p _ new h.1 (settle_ok p _ (rest_ok p e (e.accepted_bidi + 1) e.accepted_uni e.wanted_bidi e.wanted_uni ok))
+      second false h = third _ h
+
+      first : (b : Bool) → MatchBool b (GivesNone e answer new) (AcceptOpen e answer new) → EndOk p new
+      first true h = ended_by p _ new h.1 ok
+      first false h = second _ h
+
+  -- Sending
+
+  wrote_view : (n : ℕ) (bytes : Vec ℕ) (count : ℕ) → with_call p (acts.Write n bytes) (answers.Write (Ok count)) ≡ with_bytes p n (take count bytes.items)
+  wrote_view n bytes count =
+      λ i. record {
+        mine = append-nil p.mine i;
+        theirs = p.theirs;
+        bytes = λ m. p.bytes m ++ (if m == n then take count bytes.items else []);
+        gave = λ m. append-nil (p.gave m) i;
+        stopped = p.stopped;
+        ended = p.ended;
+        processed = p.processed;
+      }
+
+  write_moves : (n : ℕ) (bytes : Vec ℕ) (answer : Result ℕ UseFault) → WriteStep e n bytes.items answer new → EndOk (with_call p (acts.Write n bytes) (answers.Write answer)) new
+  write_moves n bytes answer step =
+      elim (uncertain_cases (send_refusal e n refusal) NoMemory e answer new _ step) [
+        | inl (fault, is, same) ↦ subst (λ a. EndOk (with_call p (acts.Write n bytes) (answers.Write a)) new) (sym is)
+            (quiet_moves (acts.Write n bytes) (answers.Write (Err fault)) (quiet p (acts.Write n bytes) (answers.Write (Err fault)) refl (λ m. refl) (λ m. refl) (λ m. refl) (λ m. refl)) (ended_by p e new same ok))
+        | inr (allowed, (l, there, (is, same))) ↦ (
+            let count : ℕ = accepted l (length bytes.items) in
+            let (none, open_end) = write_allowed l (send_says e n refusal allowed l there) in
+            let moved = settle_ok _ _ (wrote_ok p e n ok (take count bytes.items) l there none open_end) in
+            let e_same : record e { sends = update e.sends n (write_lane l (take count bytes.items)) } ≡ on_send n (λ m. write_lane m (take count bytes.items)) e = ap (λ o. record e { sends = updated e.sends n (λ m. write_lane m (take count bytes.items)) o }) (sym there) in
+            subst (λ a. EndOk (with_call p (acts.Write n bytes) (answers.Write a)) new) (sym is)
+            (subst (λ x. EndOk x new) (sym (wrote_view n bytes count))
+            (ended_by _ _ new (same ∙ ap settle (sym e_same)) moved)))
+      ]
+
+  finish_moves : (n : ℕ) (answer : Result (Unit {0}) UseFault) → FinishStep e n answer new → EndOk p new
+  finish_moves n answer step =
+      elim (certain_cases (send_refusal e n refusal) e answer new _ step) [
+        | inl (fault, is, same) ↦ ended_by p e new same ok
+        | inr (allowed, (is, same)) ↦ ended_by p _ new same (settle_ok p _ (send_kept p e n ok finish_lane (λ l there h. (finish_ok p.mine p.theirs (p.bytes n) n (first_send_limit e n) l h, refl))))
+      ]
+
+  reset_moves : (n code : ℕ) (answer : Result (Unit {0}) UseFault) → ResetStep e n code answer new → EndOk p new
+  reset_moves n code answer step =
+      elim (certain_cases (send_refusal e n reset_refusal) e answer new _ step) [
+        | inl (fault, is, same) ↦ ended_by p e new same ok
+        | inr (allowed, (is, same)) ↦ ended_by p _ new same (settle_ok p _ (send_kept p e n ok (λ m. reset_lane m code) (λ l there h. (reset_ok p n (first_send_limit e n) l h code, reset_end p n (first_send_limit e n) l h code))))
+      ]
+
+  -- Receiving
+
+  -- the half that a call speaks of
+  changed_half : (q : Past) (n : ℕ) (f : RecvLane → RecvLane) (l : RecvLane) → lookup e.recvs n ≡ Some l → (given : ℕ → List ℕ) (stopped ended : ℕ → Bool) →
+      q ≡ record p { gave = given; stopped = stopped; ended = ended } → ((j : ℕ) → j ≢ n → (given j ≡ p.gave j) × (stopped j ≡ p.stopped j) × (ended j ≡ p.ended j)) →
+      RecvTrue p.mine p.theirs (given n) (stopped n) (ended n) n (window e n) (f l) → Grows l (f l) → new ≡ settle (on_recv n f e) → EndOk q new
+  changed_half q n f l there given stopped ended view same this g is =
+      let moved = settle_ok _ _ (recv_view p e n ok given stopped ended l (f l) same there this g) in
+      let e_same : record e { recvs = update e.recvs n (f l) } ≡ on_recv n f e = ap (λ o. record e { recvs = updated e.recvs n f o }) (sym there) in
+      subst (λ x. EndOk x new) (sym view) (ended_by _ _ new (is ∙ ap settle (sym e_same)) moved)
+
+  stop_moves : (n code : ℕ) (answer : Result (Unit {0}) UseFault) → StopStep e n code answer new → EndOk (with_call p (acts.Stop n code) (answers.Stop answer)) new
+  stop_moves n code answer step =
+      elim (certain_cases (recv_refusal e n) e answer new _ step) [
+        | inl (fault, is, same) ↦ subst (λ a. EndOk (with_call p (acts.Stop n code) (answers.Stop a)) new) (sym is)
+            (quiet_moves (acts.Stop n code) (answers.Stop (Err fault)) (quiet p (acts.Stop n code) (answers.Stop (Err fault)) refl (λ m. refl) (λ m. refl) (λ m. refl) (λ m. refl)) (ended_by p e new same ok))
+        | inr (allowed, (is, same)) ↦ subst (λ a. EndOk (with_call p (acts.Stop n code) (answers.Stop a)) new) (sym is) (go allowed (lookup e.recvs n) refl same)
+      ]
+    where
+      go : recv_refusal e n ≡ None → (o : Option RecvLane) → lookup e.recvs n ≡ o → new ≡ settle (on_recv n (λ m. stop m code) e) → EndOk (with_call p (acts.Stop n code) (answers.Stop (Ok tt))) new
+      go allowed None there same = absurd (none-some _ (sym (no_refusal (refuse_if (is_some e.closed) Closed) (Some (no_half (is_some (send_lane e n)))) (rw there at allowed)).1))
+      go allowed (Some l) there same =
+          let h : RecvOk p n (window e n) l = subst (RecvSlot p n (window e n)) there (ok.recvs n) in
+          changed_half _ n (λ m. stop m code) l there p.gave (λ m. if m == n then true else p.stopped m) p.ended
+          (λ i. record { mine = append-nil p.mine i; theirs = p.theirs; bytes = λ m. append-nil (p.bytes m) i; gave = λ m. append-nil (p.gave m) i; stopped = λ m. if m == n then true else p.stopped m; ended = p.ended; processed = p.processed })
+          (λ j ne. (refl, rw (ne_eqb j n ne) refl, refl))
+          (subst (λ b. RecvTrue p.mine p.theirs (p.gave n) (if b then true else p.stopped n) (p.ended n) n (window e n) (stop l code)) (sym (eq-eqb n n refl)) (stop_ok p n (window e n) l h code (is_some l.stop_code)))
+          (stop_grows p n (window e n) l h code (is_some l.stop_code)) same
+
+  read_moves : (n size : ℕ) (answer : Result Read UseFault) (bytes : Vec ℕ) → ReadStep e n size answer bytes.items new → EndOk (with_call p (acts.ReadUpTo n size) (answers.ReadUpTo answer bytes)) new
+  read_moves n size answer bytes step = by (recv_refusal e n) step
+    where
+      go : (l : RecvLane) → lookup e.recvs n ≡ Some l → (a : Read) → read_answer l size ≡ a → bytes.items ≡ bytes_of a l size → new ≡ settle (on_recv n (λ m. after_answer (read_answer m size) m size) e) → EndOk (with_call p (acts.ReadUpTo n size) (answers.ReadUpTo (Ok a) bytes)) new
+      go l there (reads.Bytes count) at given same =
+          let h : RecvOk p n (window e n) l = subst (RecvSlot p n (window e n)) there (ok.recvs n) in
+          changed_half _ n (λ m. after_answer (read_answer m size) m size) l there (λ m. p.gave m ++ (if m == n then bytes.items else [])) p.stopped p.ended
+          (λ i. record { mine = append-nil p.mine i; theirs = p.theirs; bytes = λ m. append-nil (p.bytes m) i; gave = λ m. p.gave m ++ (if m == n then bytes.items else []); stopped = p.stopped; ended = p.ended; processed = p.processed })
+          (λ j ne. (rw (ne_eqb j n ne) (append-nil (p.gave j)), refl, refl))
+          (subst (λ b. RecvTrue p.mine p.theirs (p.gave n ++ (if b then bytes.items else [])) (p.stopped n) (p.ended n) n (window e n) (after_answer (read_answer l size) l size)) (sym (eq-eqb n n refl))
+          (subst (λ x. RecvTrue p.mine p.theirs (p.gave n ++ x) (p.stopped n) (p.ended n) n (window e n) (after_answer (read_answer l size) l size)) (sym given)
+          (subst (λ a. RecvTrue p.mine p.theirs (p.gave n ++ front_of l.arrived size) (p.stopped n) (p.ended n) n (window e n) (after_answer a l size)) (sym at)
+          (read_bytes_ok p n (window e n) l h size count (not_at_end l size count at)))))
+          (subst (λ a. Grows l (after_answer a l size)) (sym at) (record { received = λ q is. is; final = λ x is. is; reset = λ none. none })) same
+      go l there reads.End at given same =
+          let h : RecvOk p n (window e n) l = subst (RecvSlot p n (window e n)) there (ok.recvs n) in
+          changed_half _ n (λ m. after_answer (read_answer m size) m size) l there p.gave p.stopped (λ m. if m == n && not (p.stopped m) then true else p.ended m)
+          (λ i. record { mine = append-nil p.mine i; theirs = p.theirs; bytes = λ m. append-nil (p.bytes m) i; gave = λ m. append-nil (p.gave m) i; stopped = p.stopped; ended = λ m. if m == n && not (p.stopped m) then true else p.ended m; processed = p.processed })
+          (λ j ne. (refl, refl, rw (ne_eqb j n ne) refl))
+          (subst (λ a. RecvTrue p.mine p.theirs (p.gave n) (p.stopped n) (if n == n && not (p.stopped n) then true else p.ended n) n (window e n) (after_answer a l size)) (sym at)
+          (read_told_ok p n (window e n) l h _ (λ is. ended_now l h at is)))
+          (subst (λ a. Grows l (after_answer a l size)) (sym at) (record { received = λ q is. is; final = λ x is. is; reset = λ none. none })) same
+        where
+          ended_now : (l : RecvLane) (h : RecvOk p n (window e n) l) → read_answer l size ≡ reads.End → (if n == n && not (p.stopped n) then true else p.ended n) ≡ true → (end : ℕ) × (l.arrived.read_count ≡ end) × (l.final_size ≡ Some end) × TellsEnd p.theirs n end
+          ended_now l h at is = split (p.stopped n) refl is
+            where
+              split : (b : Bool) → p.stopped n ≡ b → (if n == n && not b then true else p.ended n) ≡ true → (end : ℕ) × (l.arrived.read_count ≡ end) × (l.final_size ≡ Some end) × TellsEnd p.theirs n end
+              split false unstopped is = end_by_fin p n (window e n) l h size at (h.not_stopped unstopped)
+              split true stopped is = (let was : p.ended n ≡ true = rw (eq-eqb n n refl) at is in h.ended was)
+      go l there (reads.Reset c) at given same =
+          let h : RecvOk p n (window e n) l = subst (RecvSlot p n (window e n)) there (ok.recvs n) in
+          changed_half _ n (λ m. after_answer (read_answer m size) m size) l there p.gave p.stopped p.ended (quiet p (acts.ReadUpTo n size) (answers.ReadUpTo (Ok (reads.Reset c)) bytes) refl (λ m. refl) (λ m. refl) (λ m. refl) (λ m. refl)) (λ j ne. (refl, refl, refl))
+          (subst (λ a. RecvTrue p.mine p.theirs (p.gave n) (p.stopped n) (p.ended n) n (window e n) (after_answer a l size)) (sym at) (read_told_ok p n (window e n) l h (p.ended n) h.ended))
+          (subst (λ a. Grows l (after_answer a l size)) (sym at) (record { received = λ q is. is; final = λ x is. is; reset = λ none. none })) same
+      go l there reads.Wait at given same =
+          let h : RecvOk p n (window e n) l = subst (RecvSlot p n (window e n)) there (ok.recvs n) in
+          changed_half _ n (λ m. after_answer (read_answer m size) m size) l there p.gave p.stopped p.ended (quiet p (acts.ReadUpTo n size) (answers.ReadUpTo (Ok reads.Wait) bytes) refl (λ m. refl) (λ m. refl) (λ m. refl) (λ m. refl)) (λ j ne. (refl, refl, refl))
+          (subst (λ a. RecvTrue p.mine p.theirs (p.gave n) (p.stopped n) (p.ended n) n (window e n) (after_answer a l size)) (sym at) h)
+          (subst (λ a. Grows l (after_answer a l size)) (sym at) (Grows_refl l)) same
+
+      by : (o : Option UseFault) → ReadBy o e n size answer bytes.items new → EndOk (with_call p (acts.ReadUpTo n size) (answers.ReadUpTo answer bytes)) new
+      by (Some fault) (is, none, same) = subst (λ a. EndOk (with_call p (acts.ReadUpTo n size) (answers.ReadUpTo a bytes)) new) (sym is)
+          (quiet_moves (acts.ReadUpTo n size) (answers.ReadUpTo (Err fault) bytes) (quiet p (acts.ReadUpTo n size) (answers.ReadUpTo (Err fault) bytes) refl (λ m. refl) (λ m. refl) (λ m. refl) (λ m. refl)) (ended_by p e new same ok))
+      by None (l, there, is, given, same) = subst (λ a. EndOk (with_call p (acts.ReadUpTo n size) (answers.ReadUpTo a bytes)) new) (sym is) (go l there (read_answer l size) refl given same)
+
+  -- Packets
+
+  made_moves : (room : ℕ) (made : Made) (text : Vec ℕ) → IsMade e room made text.items new → EndOk (with_call p (acts.Make room) (answers.Make (Ok (Some made)) text)) new
+  made_moves room made text h =
+      let frames : List Seen = seen_all h.frames in
+      subst (λ x. EndOk x new)
+      (λ i. record { mine = p.mine ++ sym (text_seen h.frames text.items h.lawful.some h.spells) i ∷ []; theirs = p.theirs; bytes = λ m. sym (append-nil (p.bytes m)) i; gave = λ m. sym (append-nil (p.gave m)) i; stopped = p.stopped; ended = p.ended; processed = p.processed })
+      (ended_by _ _ new h.after (made_ok p e h.mid frames ok h.lawful))
+
+  make_moves : (room : ℕ) (answer : Result (Option Made) MakeFault) (text : Vec ℕ) → MakeStep e room answer text.items new → EndOk (with_call p (acts.Make room) (answers.Make answer text)) new
+  make_moves room answer text step = by (make_refusal e) answer step
+    where
+      silent : (answer : Result (Option Made) MakeFault) → seen_by (acts.Make room) (answers.Make answer text) ≡ [] → new ≡ e → EndOk (with_call p (acts.Make room) (answers.Make answer text)) new
+      silent answer none same = quiet_moves (acts.Make room) (answers.Make answer text) (quiet p (acts.Make room) (answers.Make answer text) none (λ m. refl) (λ m. refl) (λ m. refl) (λ m. refl)) (ended_by p e new same ok)
+
+      by : (o : Option MakeFault) (answer : Result (Option Made) MakeFault) → MakeAt o e room answer text.items new → EndOk (with_call p (acts.Make room) (answers.Make answer text)) new
+      by (Some fault) answer h = subst (λ a. EndOk (with_call p (acts.Make room) (answers.Make a text)) new) (sym h.0) (silent (Err fault) refl h.2)
+      by None (Ok (Some made)) h = made_moves room made text h
+      by None (Ok None) h = silent (Ok None) refl h.2
+      by None (Err making.NoMemory) h = silent (Err making.NoMemory) refl h.1
+      by None (Err making.Closed) h = absurd h
+      by None (Err making.Exhausted) h = absurd h
+
+  lose_moves : (k : ℕ) (answer : Result (Unit {0}) LostFault) → LoseStep e k answer new → EndOk p new
+  lose_moves k answer step =
+      elim (certain_cases (lose_refusal e k) e answer new _ step) [
+        | inl (fault, is, same) ↦ ended_by p e new same ok
+        | inr (allowed, (ps, there, inl (is, same))) ↦ ended_by p _ new same (losses_ok p k ps e (λ x a. ok.packets.records k ps x there a) ok)
+        | inr (allowed, (ps, there, inr (moved, lt, is, same))) ↦ ended_by p _ new same (losses_ok p k (take moved ps) e (λ x a. ok.packets.records k ps x there (Among_take moved ps x a)) ok)
+      ]
+
+pub own_moves : (p : Past) (e new : End) (act : Act) (answer : Answer) → EndOk p e → OwnStep e act answer new → EndOk (with_call p act answer) new
+own_moves p e new (acts.OpenStream dir) (answers.OpenStream r) ok step = quiet_moves p e new ok (acts.OpenStream dir) (answers.OpenStream r) (quiet p (acts.OpenStream dir) (answers.OpenStream r) refl (λ m. refl) (λ m. refl) (λ m. refl) (λ m. refl)) (open_moves p e new ok dir r step)
+own_moves p e new acts.Accept (answers.Accept r) ok step = quiet_moves p e new ok acts.Accept (answers.Accept r) (quiet p acts.Accept (answers.Accept r) refl (λ m. refl) (λ m. refl) (λ m. refl) (λ m. refl)) (accept_moves p e new ok r step)
+own_moves p e new (acts.Write n bytes) (answers.Write r) ok step = write_moves p e new ok n bytes r step
+own_moves p e new (acts.Finish n) (answers.Finish r) ok step = quiet_moves p e new ok (acts.Finish n) (answers.Finish r) (quiet p (acts.Finish n) (answers.Finish r) refl (λ m. refl) (λ m. refl) (λ m. refl) (λ m. refl)) (finish_moves p e new ok n r step)
+own_moves p e new (acts.Reset n code) (answers.Reset r) ok step = quiet_moves p e new ok (acts.Reset n code) (answers.Reset r) (quiet p (acts.Reset n code) (answers.Reset r) refl (λ m. refl) (λ m. refl) (λ m. refl) (λ m. refl)) (reset_moves p e new ok n code r step)
+own_moves p e new (acts.Stop n code) (answers.Stop r) ok step = stop_moves p e new ok n code r step
+own_moves p e new (acts.ReadUpTo n size) (answers.ReadUpTo r bytes) ok step = read_moves p e new ok n size r bytes step
+own_moves p e new (acts.Make room) (answers.Make r text) ok step = make_moves p e new ok room r text step
+own_moves p e new (acts.Lose k) (answers.Lose r) ok step = quiet_moves p e new ok (acts.Lose k) (answers.Lose r) (quiet p (acts.Lose k) (answers.Lose r) refl (λ m. refl) (λ m. refl) (λ m. refl) (λ m. refl)) (lose_moves p e new ok k r step)
+own_moves p e new act answer ok step = absurd step

@@ -1,0 +1,215 @@
+-- A repeat leaves an end as it was, and what tells nothing new spends nothing.
+use Rattle.std.proofs.Common.{◌≡◌, ◌≢◌, ℕ, ◌+◌, ◌≤◌, ◌<◌, Bool, true, false, ◌||◌, List, [], ◌∷◌, length, take, Option, Some, None, Result, Ok, Err, unwrap_or, is_some, slice_get, refl, sym, ap, ◌∙◌, subst, arith, inl, inr, if◌then◌else◌, MatchBool, nat_lt, le_antisymm}
+use Rattle.std.proofs.lemmas.Option.{none-some, same_Some}
+use Rattle.std.proofs.lemmas.Bool.{lt-ltb, true≢false}
+use Rattle.std.specs.FinSet as set
+use Rattle.std.specs.List.{AllByRecursion}
+use Rattle.qs_ranges.specs.Numbers.{NumberSet, numbers, end_of}
+use Rattle.qs_wire.specs.Layout.{PlacedValue}
+use Rattle.qs_wire.specs.Grammar.{frames_of}
+use Rattle.qs_wire.specs.Reading.{reading_of}
+use Rattle.qs_wire.specs.declared.fault.WireFault.{WireFault}
+use Rattle.qs_wire.specs.declared.stream_id.Dir.TheVariants.{Bidi, Uni}
+use Rattle.qs_recv.specs.Assembled.{put, discard}
+use Rattle.qs_recv.specs.Lane.{RecvLane, highest, take_stream, take_reset, is_whole, raise, check_stream, check_reset}
+use Rattle.qs_send.specs.declared.piece.Item.TheVariants.{MaxData, MaxStreamData, MaxStreams, ResetStream, StopSending, DataBlocked, StreamDataBlocked, StreamsBlocked}
+use Rattle.qs_calls.specs.declared.closing.Closing.{Closing}
+use Rattle.qs_calls.specs.declared.closing.Received.{Received}
+use Rattle.qs_calls.specs.declared.closing.Received.TheVariants.{Done, Duplicate, BelowFloor, PeerClosed, NoMemory}
+use Rattle.qs_machine.specs.Tables.{lookup, updated, total, open_to}
+use Rattle.qs_machine.specs.Ends.{End, is_own, opens, opened_by_peer}
+use Rattle.qs_machine.specs.Credit.{spent, settle}
+use Rattle.qs_machine.specs.Seen.{Seen, Ack, Stream, Control, Close, Plain, seen, seen_all, asks_ack}
+use Rattle.qs_machine.specs.Verdicts.{verdict, item_verdict, credit_fault, lane_of, state_fault_in}
+use Rattle.qs_machine.specs.FrameStep.{named, frame_taken, item_taken}
+use Rattle.qs_send.specs.Records.{Among}
+use Rattle.qs_machine.specs.Receiving.{ReceiveStep, ReceiveBy, TakesPayload, Takes, Stops, AtEnd}
+use Rattle.qs_runs.specs.Agree.{IsOld, frames_in}
+use Rattle.qs_runs.proofs.Members.{run-cases, run-old, below-end, end-le}
+use Rattle.qs_machine.proofs.TableLaws.{lookup_open, total_update, total_each}
+use Rattle.qs_runs.specs.Pasts.{Past, Tells}
+use Rattle.qs_runs.specs.Invariant.{EndOk}
+use Rattle.qs_runs.proofs.Changes.{AllGrow, Grows}
+use Rattle.qs_runs.proofs.Opening.{new_recvs, lane_opened}
+use Rattle.qs_runs.proofs.Taking.{or_else_none, stream_passed, fin_fits, reset_fits}
+use Rattle.qs_runs.proofs.Frames.{Effect, frame_keeps, acks_recvs}
+use Rattle.qs_runs.proofs.Receives.{goes_on}
+use Rattle.qs_runs.proofs.Unharmed.{spent_opened}
+
+-- a packet that was processed
+pub repeats : (p : Past) (e new : End) (k : ℕ) (text : List ℕ) (result : Result Received Closing) → EndOk p e → e.closed ≡ None → ReceiveStep e k text result new → p.processed k ≡ true → new ≡ e
+repeats p e new k text result ok not_closed step done = by_floor _ refl (subst (λ o. ReceiveBy o k text e result new) not_closed step)
+  where
+    by_kept : (b : Bool) → set.contains e.done k ≡ b → nat_lt k e.floor ≡ false → MatchBool b ((result ≡ Ok Duplicate) × (new ≡ e)) ((mid : End) × TakesPayload k text e result mid × (new ≡ settle mid)) → new ≡ e
+    by_kept true is low h = h.1
+    by_kept false is low h =
+        elim (ok.packets.kept k done) [
+          | inl kept ↦ absurd (true≢false (sym kept ∙ is))
+          | inr below ↦ absurd (true≢false (sym (lt-ltb k e.floor below) ∙ low))
+        ]
+
+    by_floor : (b : Bool) → nat_lt k e.floor ≡ b → MatchBool b ((result ≡ Ok BelowFloor) × (new ≡ e)) (MatchBool (set.contains e.done k) ((result ≡ Ok Duplicate) × (new ≡ e)) ((mid : End) × TakesPayload k text e result mid × (new ≡ settle mid))) → new ≡ e
+    by_floor true low h = h.1
+    by_floor false low h = by_kept _ refl low h
+
+-- a run of members adds nothing
+same_end : (s : NumberSet) (lo hi : ℕ) → ((q : ℕ) → lo ≤ q → q < hi → set.contains s q ≡ true) → end_of (set.union s (numbers lo hi)) ≡ end_of s
+same_end s lo hi all =
+    le_antisymm
+    (end-le (set.union s (numbers lo hi)) (end_of s) (λ q is. elim (run-cases s lo hi q is) [ inl old ↦ below-end s q old | inr new ↦ below-end s q (all q new.0 new.1) ]))
+    (end-le s (end_of (set.union s (numbers lo hi))) (λ q is. below-end (set.union s (numbers lo hi)) q (run-old s lo hi q is)))
+
+stream_highest : (l : RecvLane) (offset : ℕ) (bytes : List ℕ) (fin : Bool) → ((q : ℕ) → offset ≤ q → q < offset + length bytes → set.contains l.arrived.received q ≡ true) → (fin ≡ true → l.final_size ≢ None) →
+    ((size : ℕ) → l.final_size ≡ Some size → fin ≡ true → offset + length bytes ≡ size) → highest (take_stream l offset bytes fin) ≡ highest l
+stream_highest l offset bytes fin all known fits = go l.final_size refl fin refl
+  where
+    received : (b : Bool) → end_of (if b then l.arrived else put l.arrived offset bytes).received ≡ end_of l.arrived.received
+    received true = refl
+    received false = same_end l.arrived.received offset (offset + length bytes) all
+
+    go : (x : Option ℕ) → l.final_size ≡ x → (b : Bool) → fin ≡ b →
+        unwrap_or (if b then Some (offset + length bytes) else x) (end_of (if is_some l.reset_code then l.arrived else put l.arrived offset bytes).received) ≡ unwrap_or x (end_of l.arrived.received)
+    go (Some size) is true set = fits size is set
+    go None is true set = absurd (known set is)
+    go (Some size) is false set = refl
+    go None is false set = received (is_some l.reset_code)
+
+reset_highest : (l : RecvLane) (code size : ℕ) → l.final_size ≢ None → ((known : ℕ) → l.final_size ≡ Some known → size ≡ known) → highest (take_reset l code size) ≡ highest l
+reset_highest l code size known fits = by _ refl
+  where
+    go : (x : Option ℕ) → l.final_size ≡ x → size ≡ unwrap_or x (end_of l.arrived.received)
+    go (Some y) is = fits y is
+    go None is = absurd (known is)
+
+    by : (b : Bool) → (is_some l.reset_code || is_whole l) ≡ b → highest (if b then l else record l { arrived = discard l.arrived; final_size = Some size; reset_code = Some code }) ≡ highest l
+    by true e = refl
+    by false e = go l.final_size refl
+
+-- one half changes and keeps its highest offset
+spent_kept : (e : End) (n : ℕ) (f : RecvLane → RecvLane) (o : Option RecvLane) → lookup e.recvs n ≡ o → ((l : RecvLane) → lookup e.recvs n ≡ Some l → highest (f l) ≡ highest l) → total highest (updated e.recvs n f o) ≡ total highest e.recvs
+spent_kept e n f None is same = refl
+spent_kept e n f (Some l) is same = omega (arith, total_update highest e.recvs n l (f l) is, same l is)
+
+-- opening leaves a half that is there
+lane_stays : (e : End) (n : ℕ) (l : RecvLane) → lookup e.recvs n ≡ Some l → (b : Bool) → lookup (if b then e else opens n e).recvs n ≡ Some l
+lane_stays e n l is true = is
+lane_stays e n l is false = by _
+  where
+    by : (b : Bool) → lookup (if b then e.recvs else open_to e.recvs n (new_recvs e n)) n ≡ Some l
+    by true = is
+    by false =
+        elim (lookup_open e.recvs n n (new_recvs e n)) [
+          | inl same ↦ same ∙ is
+          | inr new ↦ absurd (none-some l (sym new.0 ∙ is))
+        ]
+
+module _ (e : End) where
+  stream_spends : (n offset : ℕ) (bytes : List ℕ) (fin : Bool) → IsOld e (Stream n offset bytes fin) → verdict e (Stream n offset bytes fin) ≡ None → spent (frame_taken (Stream n offset bytes fin) e) ≡ spent e
+  unfolding verdict frame_taken
+  stream_spends n offset bytes fin (l, is, all, known) fine =
+      let there : lookup (opened_by_peer n e).recvs n ≡ Some l = lane_stays e n l is (is_own e n) in
+      let this : lane_of e n ≡ l = lane_opened e n l (is_own e n) refl there in
+      let fits = fin_fits e l offset (length bytes) fin (subst (λ x. credit_fault e (check_stream x offset (length bytes) fin) ≡ None) this (stream_passed e n offset bytes fin fine).1) in
+      spent_kept (opened_by_peer n e) n (λ x. take_stream x offset bytes fin) (lookup (opened_by_peer n e).recvs n) refl
+      (λ m at. (let same : l ≡ m = same_Some l m (sym there ∙ at) in subst (λ x. highest (take_stream x offset bytes fin) ≡ highest x) same (stream_highest l offset bytes fin all known fits)))
+      ∙ spent_opened e n (is_own e n)
+
+  reset_spends : (n code size : ℕ) → IsOld e (Control (ResetStream n code size)) → item_verdict e (ResetStream n code size) ≡ None → spent (item_taken (ResetStream n code size) e) ≡ spent e
+  reset_spends n code size (l, is, known) fine =
+      let there : lookup (opened_by_peer n e).recvs n ≡ Some l = lane_stays e n l is (is_own e n) in
+      let this : lane_of e n ≡ l = lane_opened e n l (is_own e n) refl there in
+      let fits = reset_fits e l size (subst (λ x. credit_fault e (check_reset x size) ≡ None) this (or_else_none (state_fault_in e n) _ fine).1) in
+      spent_kept (opened_by_peer n e) n (λ x. take_reset x code size) (lookup (opened_by_peer n e).recvs n) refl
+      (λ m at. (let same : l ≡ m = same_Some l m (sym there ∙ at) in subst (λ x. highest (take_reset x code size) ≡ highest x) same (reset_highest l code size known fits)))
+      ∙ spent_opened e n (is_own e n)
+
+  frame_spends : (f : Seen) → IsOld e f → verdict e f ≡ None → spent (frame_taken f e) ≡ spent e
+  unfolding verdict frame_taken
+  frame_spends (Ack largest ranges) old fine = ap (total highest) (acks_recvs (named e ranges) e)
+  frame_spends (Stream n offset bytes fin) old fine = stream_spends n offset bytes fin old fine
+  frame_spends (Control (MaxData m)) old fine = refl
+  frame_spends (Control (MaxStreamData n m)) old fine = spent_opened e n (is_own e n)
+  frame_spends (Control (MaxStreams Bidi m)) old fine = refl
+  frame_spends (Control (MaxStreams Uni m)) old fine = refl
+  frame_spends (Control (ResetStream n code size)) old fine = reset_spends n code size old fine
+  frame_spends (Control (StopSending n code)) old fine = spent_opened e n (is_own e n)
+  frame_spends (Control (DataBlocked m)) old fine = refl
+  frame_spends (Control (StreamDataBlocked n m)) old fine = spent_opened e n (is_own e n)
+  frame_spends (Control (StreamsBlocked d m)) old fine = refl
+  frame_spends (Close c) old fine = refl
+  frame_spends (Plain asks) old fine = refl
+
+-- What is old stays old.
+known_stays : (l m : RecvLane) → Grows l m → l.final_size ≢ None → m.final_size ≢ None
+known_stays l m g known none = go l.final_size refl
+  where
+    go : (x : Option ℕ) → l.final_size ≡ x → ⊥
+    go None is = known is
+    go (Some size) is = none-some size (sym none ∙ g.final size is)
+
+old_stays : (a b : End) → AllGrow a.recvs b.recvs → (f : Seen) → IsOld a f → IsOld b f
+old_stays a b grow (Stream n offset bytes fin) (l, is, all, known) =
+    let (m, there, g) = grow n l is in
+    (m, there, λ q low high. g.received q (all q low high), λ set. known_stays l m g (known set))
+old_stays a b grow (Control (ResetStream n code size)) (l, is, known) = (let (m, there, g) = grow n l is in (m, there, known_stays l m g known))
+old_stays a b grow (Control (MaxData m)) old = tt
+old_stays a b grow (Control (MaxStreamData n m)) old = tt
+old_stays a b grow (Control (MaxStreams d m)) old = tt
+old_stays a b grow (Control (StopSending n code)) old = tt
+old_stays a b grow (Control (DataBlocked m)) old = tt
+old_stays a b grow (Control (StreamDataBlocked n m)) old = tt
+old_stays a b grow (Control (StreamsBlocked d m)) old = tt
+old_stays a b grow (Ack largest ranges) old = tt
+old_stays a b grow (Close c) old = tt
+old_stays a b grow (Plain asks) old = tt
+
+all_old : (a b : End) → AllGrow a.recvs b.recvs → (fs : List Seen) → AllByRecursion (IsOld a) fs → AllByRecursion (IsOld b) fs
+all_old a b grow [] all = tt
+all_old a b grow (f ∷ fs) all = (old_stays a b grow f all.0, all_old a b grow fs all.1)
+
+settle_spends : (e : End) → spent (settle e) ≡ spent e
+settle_spends e = total_each highest raise e.recvs (λ l. refl)
+
+-- The frames of a payload, one after the other
+
+stops_spend : (v : PlacedValue) (f : Seen) (e : End) (result : Result Received Closing) (new : End) → Stops v f e result new → spent new ≡ spent e
+stops_spend v (Close code) e (Ok (PeerClosed told)) new h = ap spent h.1
+stops_spend v (Ack largest ranges) e (Ok NoMemory) new (fine, (m, h)) = ap spent h ∙ ap (total highest) (acks_recvs (take m (named e ranges)) e)
+stops_spend v (Stream n offset bytes fin) e (Ok NoMemory) new h = ap spent h.1
+stops_spend v (Control i) e (Ok NoMemory) new h = ap spent h.1
+stops_spend v (Plain asks) e (Ok NoMemory) new h = ap spent h.1
+stops_spend v (Ack largest ranges) e (Err closing) new h = ap spent h.2
+stops_spend v (Stream n offset bytes fin) e (Err closing) new h = ap spent h.2
+stops_spend v (Control i) e (Err closing) new h = ap spent h.2
+stops_spend v (Plain asks) e (Err closing) new h = ap spent h.2
+stops_spend v f e result new h = absurd h
+
+at_end_spends : (k : ℕ) (asks : Bool) (fault : Option WireFault) (e : End) (result : Result Received Closing) (new : End) → AtEnd k asks fault e result new → spent new ≡ spent e
+at_end_spends k asks None e (Ok Done) new h = ap spent h
+at_end_spends k asks None e (Ok NoMemory) new h = ap spent h
+at_end_spends k asks (Some fault) e (Err closing) new h = ap spent h.1
+at_end_spends k asks fault e result new h = absurd h
+
+takes_spend : (left : List PlacedValue) (p : Past) (k : ℕ) (asks : Bool) (fault : Option WireFault) (e : End) (result : Result Received Closing) (new : End) → EndOk p e → ((f : Seen) → Among f (seen_all (frames_of left)) → Tells p.theirs f) →
+    AllByRecursion (IsOld e) (seen_all (frames_of left)) → Takes k fault asks e left result new → spent new ≡ spent e
+takes_spend [] p k asks fault e result new ok told all h = at_end_spends k asks fault e result new h
+takes_spend (v ∷ left) p k asks fault e result new ok told all (inl stops) = stops_spend v (seen v.frame) e result new stops
+takes_spend (v ∷ left) p k asks fault e result new ok told all (inr (goes, rest)) =
+    let f : Seen = seen v.frame in
+    let one : Effect p e (frame_taken f e) f = frame_keeps p e f ok (told f (inl refl)) (goes_on e f goes) in
+    takes_spend left p k (asks || asks_ack f) fault (frame_taken f e) result new one.ok (λ g a. told g (inr a)) (all_old e (frame_taken f e) one.grow (seen_all (frames_of left)) all.1) rest
+    ∙ frame_spends e f all.0 (goes_on e f goes)
+
+-- a payload that tells nothing new spends nothing
+pub spends_nothing : (p : Past) (e new : End) (k : ℕ) (text : List ℕ) (result : Result Received Closing) → EndOk p e → slice_get p.theirs k ≡ Some (frames_in text) → e.closed ≡ None → ReceiveStep e k text result new →
+    AllByRecursion (IsOld e) (frames_in text) → spent new ≡ spent e
+spends_nothing p e new k text result ok is not_closed step all = by_floor _ (subst (λ o. ReceiveBy o k text e result new) not_closed step)
+  where
+    by_kept : (b : Bool) → MatchBool b ((result ≡ Ok Duplicate) × (new ≡ e)) ((mid : End) × TakesPayload k text e result mid × (new ≡ settle mid)) → spent new ≡ spent e
+    by_kept true h = ap spent h.1
+    by_kept false (mid, takes, same) =
+        ap spent same ∙ settle_spends mid ∙ takes_spend (reading_of text).left p k false (reading_of text).fault e result mid ok (λ g a. (k, (frames_in text, is, a))) all takes
+
+    by_floor : (b : Bool) → MatchBool b ((result ≡ Ok BelowFloor) × (new ≡ e)) (MatchBool (set.contains e.done k) ((result ≡ Ok Duplicate) × (new ≡ e)) ((mid : End) × TakesPayload k text e result mid × (new ≡ settle mid))) → spent new ≡ spent e
+    by_floor true h = ap spent h.1
+    by_floor false h = by_kept _ h

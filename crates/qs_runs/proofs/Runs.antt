@@ -1,0 +1,146 @@
+-- Every run keeps the invariant of both ends.
+use Rattle.std.proofs.Common.{◌≡◌, ℕ, [], ◌∷◌, ◌++◌, None, false, not, sym, subst, refl, ap, ◌∙◌, slice_get}
+use Rattle.qs_wire.specs.declared.stream_id.Role.TheVariants.{Client, Server}
+use Rattle.qs_calls.specs.declared.settings.Settings.{Settings}
+use Rattle.qs_calls.specs.Settings.{limits_of}
+use Rattle.qs_machine.specs.Ends.{is_own_by}
+use Rattle.qs_calls.specs.declared.event.Side.{Side}
+use Rattle.qs_calls.specs.declared.event.Side.TheVariants.{A, B}
+use Rattle.qs_calls.specs.declared.event.Act.{Act}
+use Rattle.qs_calls.specs.declared.event.Act.TheVariants as acts
+use Rattle.qs_calls.specs.declared.event.Event.{Event}
+use Rattle.qs_calls.specs.declared.answer.Answer.{Answer}
+use Rattle.qs_calls.specs.declared.answer.Answer.TheVariants as answers
+use Rattle.qs_runs.specs.Logs.{History, other, own_calls, processed, is_delivery, made, made_by}
+use Rattle.qs_runs.specs.Worlds.{World, end_of, OwnStep, DeliverStep, StepBy, WorldStep, Run}
+use Rattle.qs_runs.proofs.Lists.{All_append}
+use Rattle.qs_runs.specs.Pasts.{past}
+use Rattle.qs_runs.specs.Invariant.{EndOk, WorldOk, role_of, stands_as}
+use Rattle.qs_runs.proofs.Unharmed.{Facing}
+use Rattle.qs_runs.specs.Invariant.{standing}
+use Rattle.qs_runs.proofs.Receives.{receives}
+use Rattle.qs_runs.proofs.OwnMoves.{own_moves}
+use Rattle.qs_runs.proofs.OwnStands.{own_stands}
+use Rattle.qs_runs.proofs.PeerMoves.{peer_moves}
+use Rattle.qs_runs.proofs.Facing.{facing, opposite_roles, receive_stands}
+use Rattle.qs_runs.proofs.Histories.{past_own, past_peer, past_sender, past_receiver, does, theirs_mine, payload_seen, AreFaultless, faultless_at, own_faultless}
+use Rattle.qs_runs.proofs.NewEnds.{first_world, made_first, new_ok}
+
+-- what holds of a side and of the other holds of each
+pub two_sides : (P : Side → Type 0) (s : Side) → P s → P (other s) → (t : Side) → P t
+two_sides P A x y A = x
+two_sides P A x y B = y
+two_sides P B x y A = y
+two_sides P B x y B = x
+
+pub roles_face : (s : Side) (n : ℕ) → is_own_by (role_of s) n ≡ not (is_own_by (role_of (other s)) n)
+roles_face A n = (opposite_roles n).1
+roles_face B n = (opposite_roles n).0
+
+peer_limits : (a b : Settings) (s : Side) → (stands_as a b s).peer ≡ limits_of (stands_as a b (other s)).settings
+peer_limits a b A = refl
+peer_limits a b B = refl
+
+module _ (a b : Settings) (h : History) (w : World) (ok : WorldOk a b h w) where
+  pub opposite : (s : Side) (n : ℕ) → is_own_by (end_of w s).role n ≡ not (is_own_by (end_of w (other s)).role n)
+  opposite s n = ap (λ x. is_own_by x.role n) (ok.stand s) ∙ roles_face s n ∙ ap (λ x. not (is_own_by x.role n)) (sym (ok.stand (other s)))
+
+  pub told_limits : (s : Side) → (end_of w s).peer ≡ limits_of (end_of w (other s)).settings
+  told_limits s = ap (λ x. x.peer) (ok.stand s) ∙ peer_limits a b s ∙ ap (λ x. limits_of x.settings) (sym (ok.stand (other s)))
+
+  pub is_open_end : (s : Side) → (end_of w s).closed ≡ None
+  is_open_end s = ap (λ x. x.closed) (ok.stand s)
+
+  -- each end faces the other
+  pub ends_face : (s : Side) → Facing (end_of w (other s)) (end_of w s)
+  ends_face s = facing (end_of w (other s)) (end_of w s) (opposite s) (told_limits s)
+
+moved : {X : Type 0} (P : X → Type 0) (x y : X) → y ≡ x → P x → P y
+moved P x y e h = subst P (sym e) h
+
+-- the two ends begin in agreement
+pub start : (a b : Settings) → WorldOk a b [] (first_world a b)
+unfolding own_calls processed
+start a b = record { ends = ends; stand = stand; texts = texts }
+  where
+    ends : (s : Side) → EndOk (past s []) (end_of (first_world a b) s)
+    ends A = new_ok Client a b (past A []) refl (λ n. refl) (λ n. refl) (λ n. refl) (λ n. refl) (λ k. refl)
+    ends B = new_ok Server b a (past B []) refl (λ n. refl) (λ n. refl) (λ n. refl) (λ n. refl) (λ k. refl)
+
+    stand : (s : Side) → standing (end_of (first_world a b) s) ≡ stands_as a b s
+    stand A = refl
+    stand B = refl
+
+    texts : (s : Side) → AreFaultless (made s [])
+    texts A = tt
+    texts B = tt
+
+made_own : (s : Side) (act : Act) (answer : Answer) (h : History) → is_delivery act ≡ false → made s ((does s act, answer) ∷ h) ≡ made s h ++ made_by act answer
+unfolding own_calls
+made_own A act answer h own = rw own refl
+made_own B act answer h own = rw own refl
+
+made_peer : (s : Side) (act : Act) (answer : Answer) (h : History) → made (other s) ((does s act, answer) ∷ h) ≡ made (other s) h
+unfolding own_calls
+made_peer A act answer h = refl
+made_peer B act answer h = refl
+
+made_sender : (s : Side) (k : ℕ) (answer : Answer) (h : History) → made s ((does s (acts.Deliver k), answer) ∷ h) ≡ made s h
+unfolding own_calls
+made_sender A k answer h = refl
+made_sender B k answer h = refl
+
+module _ (a b : Settings) (h : History) (v w : World) (s : Side) (ok : WorldOk a b h v) where
+  -- the owner of an end does something
+  own_step : (act : Act) (answer : Answer) → is_delivery act ≡ false → OwnStep (end_of v s) act answer (end_of w s) → end_of w (other s) ≡ end_of v (other s) → WorldOk a b ((does s act, answer) ∷ h) w
+  own_step act answer own step same =
+      record {
+        ends = two_sides (λ t. EndOk (past t ((does s act, answer) ∷ h)) (end_of w t)) s
+            (moved (λ p. EndOk p (end_of w s)) _ _ (past_own s act answer h own) (own_moves (past s h) (end_of v s) (end_of w s) act answer (ok.ends s) step))
+            (moved (λ p. EndOk p (end_of w (other s))) _ _ (past_peer s act answer h own) (moved (EndOk _) _ _ same (peer_moves (past (other s) h) _ (end_of v (other s)) (ok.ends (other s)))));
+        stand = two_sides (λ t. standing (end_of w t) ≡ stands_as a b t) s
+            (own_stands (end_of v s) (end_of w s) act answer step ∙ ok.stand s)
+            (ap standing same ∙ ok.stand (other s));
+        texts = two_sides (λ t. AreFaultless (made t ((does s act, answer) ∷ h))) s
+            (moved AreFaultless _ _ (made_own s act answer h own) (All_append _ (made s h) (made_by act answer) (ok.texts s) (own_faultless (end_of v s) act answer (end_of w s) step)))
+            (moved AreFaultless _ _ (made_peer s act answer h) (ok.texts (other s)));
+      }
+
+  -- a payload comes to the other end
+  deliver_step : (k : ℕ) (answer : Answer) → DeliverStep h v s k answer w → WorldOk a b ((does s (acts.Deliver k), answer) ∷ h) w
+  deliver_step k (answers.Deliver result) (text, is, step, same) =
+      let there = ap (λ x. slice_get x k) (theirs_mine s h) ∙ payload_seen s k h text is in
+      record {
+        ends = two_sides (λ t. EndOk (past t ((does s (acts.Deliver k), answers.Deliver result) ∷ h)) (end_of w t)) s
+            (moved (λ p. EndOk p (end_of w s)) _ _ (past_sender s k (answers.Deliver result) h) (moved (EndOk _) _ _ same (ok.ends s)))
+            (moved (λ p. EndOk p (end_of w (other s))) _ _ (past_receiver s k result h) (receives (past (other s) h) (end_of v (other s)) (end_of w (other s)) k text result (ok.ends (other s)) there step));
+        stand = two_sides (λ t. standing (end_of w t) ≡ stands_as a b t) s
+            (ap standing same ∙ ok.stand s)
+            (receive_stands (past (other s) h) (past s h) (end_of v (other s)) (end_of v s) (ok.ends s) (theirs_mine s h) refl (opposite a b h v ok s) (told_limits a b h v ok s)
+            (end_of w (other s)) k text result (ok.ends (other s)) (is_open_end a b h v ok (other s)) (faultless_at (made s h) k text (ok.texts s) is) there step ∙ ok.stand (other s));
+        texts = two_sides (λ t. AreFaultless (made t ((does s (acts.Deliver k), answers.Deliver result) ∷ h))) s
+            (moved AreFaultless _ _ (made_sender s k (answers.Deliver result) h) (ok.texts s))
+            (moved AreFaultless _ _ (made_peer s (acts.Deliver k) (answers.Deliver result) h) (ok.texts (other s)));
+      }
+  deliver_step k answer step = absurd step
+
+  step_by : (act : Act) (answer : Answer) → StepBy h v s act answer w → WorldOk a b ((does s act, answer) ∷ h) w
+  step_by (acts.Deliver k) answer step = deliver_step k answer step
+  step_by (acts.OpenStream dir) answer step = own_step (acts.OpenStream dir) answer refl step.0 step.1
+  step_by acts.Accept answer step = own_step acts.Accept answer refl step.0 step.1
+  step_by (acts.Write n bytes) answer step = own_step (acts.Write n bytes) answer refl step.0 step.1
+  step_by (acts.Finish n) answer step = own_step (acts.Finish n) answer refl step.0 step.1
+  step_by (acts.Reset n code) answer step = own_step (acts.Reset n code) answer refl step.0 step.1
+  step_by (acts.Stop n code) answer step = own_step (acts.Stop n code) answer refl step.0 step.1
+  step_by (acts.ReadUpTo n size) answer step = own_step (acts.ReadUpTo n size) answer refl step.0 step.1
+  step_by (acts.Make room) answer step = own_step (acts.Make room) answer refl step.0 step.1
+  step_by (acts.Lose k) answer step = own_step (acts.Lose k) answer refl step.0 step.1
+
+-- one step keeps the invariant
+pub step_keeps : (a b : Settings) (h : History) (v w : World) (event : Event) (answer : Answer) → WorldOk a b h v → WorldStep h v event answer w → WorldOk a b ((event, answer) ∷ h) w
+step_keeps a b h v w event answer ok step = step_by a b h v w event.end ok event.act answer step
+
+-- and so does a run
+pub run_keeps : (a b : Settings) (h : History) (w : World) → Run a b h w → WorldOk a b h w
+run_keeps a b [] w is = moved (WorldOk a b []) _ _ (made_first a b w is) (start a b)
+run_keeps a b ((event, answer) ∷ h) w (v, before, step) = step_keeps a b h v w event answer (run_keeps a b h v before) step

@@ -1,0 +1,83 @@
+-- As a call ends the limits rise.
+use Rattle.std.proofs.Common.{◌≡◌, ℕ, ◌+◌, ◌/◌, ◌<◌, ◌≤◌, min, max, Bool, true, false, ◌||◌, ◌&&◌, Option, Some, None, is_some, option_map, refl, sym, ap, ◌∙◌, subst, arith, inl, inr, ◌==◌, nat_lt, nat_le, if◌then◌else◌}
+use Rattle.std.proofs.lemmas.Bool.{or_cases, and_parts, leb-true, ltb-true}
+use Rattle.qs_ranges.specs.Numbers.{MAX_VARINT}
+use Rattle.qs_recv.specs.Lane.{RecvLane, raise, next_limit, taken}
+use Rattle.qs_machine.specs.Tables.{Tables, lookup, each}
+use Rattle.qs_machine.specs.Ends.{End, window}
+use Rattle.qs_machine.specs.Credit.{settle, all_taken}
+use Rattle.qs_runs.specs.Pasts.{Past}
+use Rattle.qs_runs.specs.Invariant.{EndOk, RecvOk, RecvSlot, OpenOk, is_open}
+use Rattle.qs_machine.proofs.TableLaws.{lookup_each, slots_each}
+use Rattle.qs_runs.proofs.Changes.{Grows, AllGrow, taken_stays}
+
+rises : (limit step most : ℕ) → (b : Bool) → (nat_le (limit + step) most || (most == MAX_VARINT && nat_lt limit most)) ≡ b → limit ≤ (if b then most else limit)
+rises limit step most false e = omega arith
+rises limit step most true e =
+    elim (or_cases _ _ e) [
+      | inl a ↦ (let le : limit + step ≤ most = leb-true (limit + step) most a in omega arith)
+      | inr b ↦ (let lt : limit < most = ltb-true limit most (and_parts (most == MAX_VARINT) (nat_lt limit most) b).1 in omega arith)
+    ]
+
+-- no limit falls
+pub limit_rises : (limit t w : ℕ) → limit ≤ next_limit limit t w
+limit_rises limit t w = rises limit (max 1 (w / 2)) (min MAX_VARINT (t + w)) _ refl
+
+raised_by : (p : Past) (n window w : ℕ) (l : RecvLane) → RecvOk p n window l → (b : Bool) → RecvOk p n window (record l { limit = if b then l.limit else next_limit l.limit (taken l) w })
+raised_by p n window w l h b =
+    record {
+      received = h.received;
+      stored = h.stored;
+      count = h.count;
+      gave = h.gave;
+      final = h.final;
+      reset = h.reset;
+      not_stopped = h.not_stopped;
+      ended = h.ended;
+      window_granted = omega (arith, h.window_granted, risen b);
+      limit_told = λ limit t. omega (arith, h.limit_told limit t, risen b);
+    }
+  where
+    risen : (b : Bool) → l.limit ≤ (if b then l.limit else next_limit l.limit (taken l) w)
+    risen true = omega arith
+    risen false = limit_rises l.limit (taken l) w
+
+pub raise_grows : (l : RecvLane) → Grows l (raise l)
+raise_grows l = record { received = λ q h. h; final = λ s h. h; reset = λ h. h }
+
+pub each_grows : (f : RecvLane → RecvLane) (t : Tables RecvLane) → ((l : RecvLane) → Grows l (f l)) → AllGrow t (each f t)
+each_grows f t grows n l is = (f l, lookup_each f t n ∙ ap (option_map f) is, grows l)
+
+some_mapped : {X : Type 0} (g : X → X) (o : Option X) → is_some (option_map g o) ≡ is_some o
+some_mapped g None = refl
+some_mapped g (Some x) = refl
+
+open_each : {X : Type 0} (f : X → X) (t : Tables X) → is_open (each f t) ≡ is_open t
+open_each f t = λ i n. go n i
+  where
+    go : (n : ℕ) → is_open (each f t) n ≡ is_open t n
+    go n = ap is_some (lookup_each f t n) ∙ some_mapped f (lookup t n)
+
+module _ (p : Past) (e : End) (ok : EndOk p e) where
+  slot_raised : (n : ℕ) (o : Option RecvLane) → RecvSlot p n (window e n) o → RecvSlot p n (window e n) (option_map raise o)
+  slot_raised n None h = h
+  slot_raised n (Some l) h = raised_by p n (window e n) l.arrived.window l h (is_some l.final_size)
+
+  pub settle_grows : AllGrow e.recvs (settle e).recvs
+  settle_grows = each_grows raise e.recvs raise_grows
+
+  pub settle_ok : EndOk p (settle e)
+  settle_ok =
+      record {
+        sends = ok.sends;
+        recvs = slots_each (λ n o. RecvSlot p n (window e n) o) raise e.recvs (λ n. slot_raised n (lookup e.recvs n) (ok.recvs n));
+        packets = ok.packets;
+        taken = taken_stays p e.recvs _ settle_grows ok.taken;
+        credit = record {
+          sent_known = ok.credit.sent_known;
+          known_told = ok.credit.known_told;
+          window_granted = omega (arith, ok.credit.window_granted, limit_rises e.granted (all_taken e) e.settings.conn_window);
+          granted_told = λ limit t. omega (arith, ok.credit.granted_told limit t, limit_rises e.granted (all_taken e) e.settings.conn_window);
+        };
+        streams = subst (λ r. OpenOk p e.role e.peer.streams_bidi e.peer.streams_uni e.known_bidi e.known_uni (is_open e.sends) r) (sym (open_each raise e.recvs)) ok.streams;
+      }

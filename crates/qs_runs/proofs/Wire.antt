@@ -1,0 +1,24 @@
+-- How bytes enter: a canonical text has no fault and gives its frames.
+use Rattle.std.proofs.Common.{◌≡◌, ◌≢◌, ℕ, ◌<◌, List, [], ◌∷◌, length, None, refl, ap, ◌∙◌, arith}
+use Rattle.std.specs.List.{AllByRecursion}
+use Rattle.qs_wire.specs.Layout.{FrameValue}
+use Rattle.qs_wire.specs.Grammar.{Fits, canonical_all, frames_of}
+use Rattle.qs_wire.specs.Reading.{reading_of}
+use Rattle.qs_wire.proofs.PayloadLaws.{canonical_payload, payload_again}
+use Rattle.qs_machine.specs.Seen.{seen_all}
+use Rattle.qs_machine.specs.Making.{IsText}
+use Rattle.qs_runs.specs.Agree.{frames_in}
+
+pub canonical_reads_back : (frames : List FrameValue) → 0 < length frames → AllByRecursion Fits frames → (frames_of (reading_of (canonical_all frames)).left ≡ frames) × ((reading_of (canonical_all frames)).fault ≡ None)
+canonical_reads_back frames some fit = payload_again frames (canonical_all frames) (canonical_payload frames some fit)
+
+not_empty : (frames : List FrameValue) → seen_all frames ≢ [] → 0 < length frames
+not_empty [] some = absurd (some refl)
+not_empty (f ∷ fs) some = omega arith
+
+-- a text that was made gives the frames that were put in it, and has no fault
+pub text_seen : (frames : List FrameValue) (text : List ℕ) → seen_all frames ≢ [] → IsText frames text → frames_in text ≡ seen_all frames
+text_seen frames text some is = ap frames_in is.canonical ∙ ap seen_all (canonical_reads_back frames (not_empty frames some) is.fits).0
+
+pub text_faultless : (frames : List FrameValue) (text : List ℕ) → seen_all frames ≢ [] → IsText frames text → (reading_of text).fault ≡ None
+text_faultless frames text some is = ap (λ t. (reading_of t).fault) is.canonical ∙ (canonical_reads_back frames (not_empty frames some) is.fits).1

@@ -1,0 +1,5 @@
+use Rattle.qs_runs.proofs.Agrees.{every_run_agrees}
+use Rattle.qs_runs.proofs.laws.every_run_agrees.Goals as goal
+
+pub returns : goal.returns
+returns c = every_run_agrees

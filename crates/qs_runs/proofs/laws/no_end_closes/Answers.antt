@@ -1,0 +1,5 @@
+use Rattle.qs_runs.proofs.Statements.{law_no_end_closes}
+use Rattle.qs_runs.proofs.laws.no_end_closes.Goals as goal
+
+pub returns : goal.returns
+returns c = law_no_end_closes

@@ -1,0 +1,5 @@
+use Rattle.qs_runs.proofs.Statements.{law_opened_is_below_known}
+use Rattle.qs_runs.proofs.laws.opened_is_below_known.Goals as goal
+
+pub returns : goal.returns
+returns c = law_opened_is_below_known

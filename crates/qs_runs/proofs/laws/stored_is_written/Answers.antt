@@ -1,0 +1,5 @@
+use Rattle.qs_runs.proofs.Statements.{law_stored_is_written}
+use Rattle.qs_runs.proofs.laws.stored_is_written.Goals as goal
+
+pub returns : goal.returns
+returns c = law_stored_is_written

@@ -1,0 +1,96 @@
+-- What two ends agree on, whatever happens to them and to their packets.
+use Rattle.std.specs.Prelude.{◌≡◌, ◌≢◌, ℕ, ◌+◌, ◌<◌, ◌≤◌, true, List, ◌++◌, length, None, Some, ⊤}
+use Rattle.std.specs.List.{AllByRecursion}
+use Rattle.std.specs.FinSet as set
+use Rattle.qs_wire.specs.Grammar.{frames_of}
+use Rattle.qs_wire.specs.Reading.{reading_of}
+use Rattle.qs_recv.specs.Lane.{RecvLane}
+use Rattle.qs_send.specs.Lane.{SendLane, state, declared_size}
+use Rattle.qs_send.specs.declared.parts.SendState.TheVariants.{DataRecvd}
+use Rattle.qs_send.specs.declared.piece.Item.TheVariants.{ResetStream}
+use Rattle.qs_calls.specs.declared.settings.Settings.{Settings}
+use Rattle.qs_machine.specs.Ends.{End, send_lane, recv_lane}
+use Rattle.qs_machine.specs.Credit.{spent, all_sent}
+use Rattle.qs_machine.specs.Seen.{Seen, Stream, Control, seen_all}
+use Rattle.qs_calls.specs.declared.event.Side.{Side}
+use Rattle.qs_calls.specs.declared.event.Act.{Act}
+use Rattle.qs_calls.specs.declared.event.Act.TheVariants as acts
+use Rattle.qs_calls.specs.declared.event.Event.{Event}
+use Rattle.qs_calls.specs.declared.answer.Answer.{Answer}
+use Rattle.qs_runs.specs.Logs.{History, other, written, read, payload, processed, read_whole}
+use Rattle.qs_runs.specs.Worlds.{World, end_of, WorldStep, Run}
+
+abbrev pub IsPrefixOf : {X : Type 0} → List X → List X → Type 0
+IsPrefixOf {X} xs ys = (rest : List X) × (xs ++ rest ≡ ys)
+
+-- Stream n as side s sends it and the other side receives it: what is read is a prefix of what was written (RFC 9000, section 2.2), and
+-- all of it once the end was told to a reader that had not stopped.
+pub record PrefixAgrees (h : History) (s : Side) (n : ℕ) : Type 0 where
+  pub prefix : IsPrefixOf (read (other s) n h) (written s n h)
+  pub ended : read_whole (other s) n h ≡ true → read (other s) n h ≡ written s n h
+
+-- what counts as received at the sender was received in whole (RFC 9000, section 3.1)
+abbrev pub WholeAgrees : History → World → Side → ℕ → Type 0
+WholeAgrees h w s n =
+    (l : SendLane) → send_lane (end_of w s) n ≡ Some l → state l ≡ DataRecvd →
+    (r : RecvLane) × (recv_lane (end_of w (other s)) n ≡ Some r)
+    × (r.final_size ≡ Some (length (written s n h)))
+    × ((q : ℕ) → q < length (written s n h) → set.contains r.arrived.received q ≡ true)
+
+-- a final size that is known is the declared one, and the code of a known reset is the sender's (RFC 9000, section 4.5)
+pub record FinalSizesAgree (w : World) (s : Side) (n : ℕ) : Type 0 where
+  pub size : (r : RecvLane) (size : ℕ) → recv_lane (end_of w (other s)) n ≡ Some r → r.final_size ≡ Some size →
+      (l : SendLane) × (send_lane (end_of w s) n ≡ Some l) × (declared_size l ≡ Some size)
+  pub code : (r : RecvLane) (code : ℕ) → recv_lane (end_of w (other s)) n ≡ Some r → r.reset_code ≡ Some code →
+      (l : SendLane) × (size : ℕ) × (send_lane (end_of w s) n ≡ Some l) × (l.was_reset ≡ Some (record { code = code; size = size }))
+
+-- what is spent of an end's credit is at most what its peer sent (RFC 9000, section 4.1)
+abbrev pub CreditAgrees : World → Side → Type 0
+CreditAgrees w s = spent (end_of w s) ≤ all_sent (end_of w (other s))
+
+-- an end has neither closed nor seen its peer close
+abbrev pub StaysOpen : World → Side → Type 0
+StaysOpen w s = (end_of w s).closed ≡ None
+
+-- what agrees in a world with this history
+pub record Agree (h : History) (w : World) : Type 0 where
+  pub prefix : (s : Side) (n : ℕ) → PrefixAgrees h s n
+  pub credit : (s : Side) → CreditAgrees w s
+  pub whole : (s : Side) (n : ℕ) → WholeAgrees h w s n
+  pub final_sizes : (s : Side) (n : ℕ) → FinalSizesAgree w s n
+  pub stays_open : (s : Side) → StaysOpen w s
+
+-- Repeats
+
+-- everything that a frame tells of offsets and final sizes was known before
+abbrev pub IsOld : End → Seen → Type 0
+IsOld e (Stream n offset bytes fin) =
+    (l : RecvLane) × (recv_lane e n ≡ Some l)
+    × ((q : ℕ) → offset ≤ q → q < offset + length bytes → set.contains l.arrived.received q ≡ true)
+    × (fin ≡ true → l.final_size ≢ None)
+IsOld e (Control (ResetStream n code size)) = (l : RecvLane) × (recv_lane e n ≡ Some l) × (l.final_size ≢ None)
+IsOld e f = ⊤
+
+-- what an end reads in a payload
+abbrev pub frames_in : List ℕ → List Seen
+frames_in text = seen_all (frames_of (reading_of text).left)
+
+-- A repeat spends no credit: the peer's packet k comes to side s.
+pub record RepeatAgrees (h : History) (old new : World) (s : Side) (k : ℕ) : Type 0 where
+  -- one that was processed leaves the end as it was
+  pub again : processed s k h ≡ true → end_of new s ≡ end_of old s
+  -- one that tells nothing new spends nothing
+  pub old_news : (text : List ℕ) → payload (other s) k h ≡ Some text → AllByRecursion (IsOld (end_of old s)) (frames_in text) → spent (end_of new s) ≡ spent (end_of old s)
+
+abbrev pub StepAgreesBy : History → World → Side → Act → World → Type 0
+StepAgreesBy h old s (acts.Deliver k) new = RepeatAgrees h old new (other s) k
+StepAgreesBy h old s act new = ⊤
+
+abbrev pub StepAgrees : History → World → Event → World → Type 0
+StepAgrees h old event new = StepAgreesBy h old event.end event.act new
+
+-- every world of a run agrees, and so does every step
+abbrev pub EveryRunAgrees : Type 0
+EveryRunAgrees =
+    (a b : Settings) (h : History) (w : World) → Run a b h w →
+    Agree h w × ((event : Event) (answer : Answer) (new : World) → WorldStep h w event answer new → StepAgrees h w event new)

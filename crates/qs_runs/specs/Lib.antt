@@ -1,0 +1,7 @@
+pub mod Worlds
+pub mod Logs
+pub mod Agree
+pub mod Pasts
+pub mod Invariant
+pub mod Clauses
+pub mod Laws

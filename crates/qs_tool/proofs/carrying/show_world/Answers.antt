@@ -1,5 +1,0 @@
-use Rattle.qs_tool.proofs.Carried.{shown_world}
-use Rattle.qs_tool.proofs.carrying.show_world.Goals as goal
-
-pub returns-in-Ok : goal.returns-in-Ok
-returns-in-Ok g c = shown_world c.show_report.result c.args.world.now c.in-Ok.report c.args.failures c.args.strangers _ _ c.in-Ok.ensures.ok c.show_report.ensures

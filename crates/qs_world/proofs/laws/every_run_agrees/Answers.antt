@@ -1,5 +1,0 @@
-use Rattle.qs_world.proofs.Agrees.{every_run_agrees}
-use Rattle.qs_world.proofs.laws.every_run_agrees.Goals as goal
-
-pub returns : goal.returns
-returns c = every_run_agrees

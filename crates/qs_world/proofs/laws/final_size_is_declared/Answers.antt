@@ -1,5 +1,0 @@
-use Rattle.qs_world.proofs.Statements.{law_final_size_is_declared}
-use Rattle.qs_world.proofs.laws.final_size_is_declared.Goals as goal
-
-pub returns : goal.returns
-returns c = law_final_size_is_declared

@@ -1,5 +1,0 @@
-use Rattle.qs_world.proofs.Statements.{law_final_sizes_agree}
-use Rattle.qs_world.proofs.laws.final_sizes_agree.Goals as goal
-
-pub returns : goal.returns
-returns c = law_final_sizes_agree

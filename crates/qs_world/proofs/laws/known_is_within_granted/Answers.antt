@@ -1,5 +1,0 @@
-use Rattle.qs_world.proofs.Statements.{law_known_is_within_granted}
-use Rattle.qs_world.proofs.laws.known_is_within_granted.Goals as goal
-
-pub returns : goal.returns
-returns c = law_known_is_within_granted

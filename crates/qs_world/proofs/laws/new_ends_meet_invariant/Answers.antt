@@ -1,5 +1,0 @@
-use Rattle.qs_world.proofs.Statements.{law_new_ends_meet_invariant}
-use Rattle.qs_world.proofs.laws.new_ends_meet_invariant.Goals as goal
-
-pub returns : goal.returns
-returns c = law_new_ends_meet_invariant

@@ -1,5 +1,0 @@
-use Rattle.qs_world.proofs.Statements.{law_no_end_closes}
-use Rattle.qs_world.proofs.laws.no_end_closes.Goals as goal
-
-pub returns : goal.returns
-returns c = law_no_end_closes

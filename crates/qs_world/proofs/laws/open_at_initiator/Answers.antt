@@ -1,5 +1,0 @@
-use Rattle.qs_world.proofs.Statements.{law_open_at_initiator}
-use Rattle.qs_world.proofs.laws.open_at_initiator.Goals as goal
-
-pub returns : goal.returns
-returns c = law_open_at_initiator

@@ -1,5 +1,0 @@
-use Rattle.qs_world.proofs.Statements.{law_opened_is_below_known}
-use Rattle.qs_world.proofs.laws.opened_is_below_known.Goals as goal
-
-pub returns : goal.returns
-returns c = law_opened_is_below_known

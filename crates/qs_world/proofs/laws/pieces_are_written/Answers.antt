@@ -1,5 +1,0 @@
-use Rattle.qs_world.proofs.Statements.{law_pieces_are_written}
-use Rattle.qs_world.proofs.laws.pieces_are_written.Goals as goal
-
-pub returns : goal.returns
-returns c = law_pieces_are_written

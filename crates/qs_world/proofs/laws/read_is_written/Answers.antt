@@ -1,5 +1,0 @@
-use Rattle.qs_world.proofs.Statements.{law_read_is_written}
-use Rattle.qs_world.proofs.laws.read_is_written.Goals as goal
-
-pub returns : goal.returns
-returns c = law_read_is_written

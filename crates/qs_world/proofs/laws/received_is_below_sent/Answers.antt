@@ -1,5 +1,0 @@
-use Rattle.qs_world.proofs.Statements.{law_received_is_below_sent}
-use Rattle.qs_world.proofs.laws.received_is_below_sent.Goals as goal
-
-pub returns : goal.returns
-returns c = law_received_is_below_sent

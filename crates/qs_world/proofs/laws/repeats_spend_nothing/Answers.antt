@@ -1,5 +1,0 @@
-use Rattle.qs_world.proofs.Statements.{law_repeats_spend_nothing}
-use Rattle.qs_world.proofs.laws.repeats_spend_nothing.Goals as goal
-
-pub returns : goal.returns
-returns c = law_repeats_spend_nothing

@@ -1,5 +1,0 @@
-use Rattle.qs_world.proofs.Statements.{law_reset_code_is_the_senders}
-use Rattle.qs_world.proofs.laws.reset_code_is_the_senders.Goals as goal
-
-pub returns : goal.returns
-returns c = law_reset_code_is_the_senders

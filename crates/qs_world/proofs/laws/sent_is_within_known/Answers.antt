@@ -1,5 +1,0 @@
-use Rattle.qs_world.proofs.Statements.{law_sent_is_within_known}
-use Rattle.qs_world.proofs.laws.sent_is_within_known.Goals as goal
-
-pub returns : goal.returns
-returns c = law_sent_is_within_known
