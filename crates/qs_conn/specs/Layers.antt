@@ -1,12 +1,8 @@
 -- What the private layers of an endpoint keep beside their values.
-use Rattle.std.specs.Prelude.{◌≡◌, ℕ, zero, suc, ◌+◌, ◌-◌, ◌≤◌, ◌<◌, ◌^◌, ◌==◌, true, if◌then◌else◌, List, [], ◌∷◌, length, slice_set, slice_index_or, Option, None, Some, is_some, is_none, ⊤}
-use Rattle.std.specs.List.{sum_by}
-use Rattle.std.specs.FinMap as fmap
+use Rattle.std.specs.Prelude.{◌≡◌, ℕ, zero, suc, ◌≤◌, ◌<◌, ◌^◌, ◌==◌, true, if◌then◌else◌, List, [], ◌∷◌, length, Option, None, Some, is_some, is_none, ⊤}
 use Rattle.qs_ranges.specs.Numbers.{MAX_VARINT}
 use Rattle.qs_wire.specs.declared.stream_id.Role.{Role}
-use Rattle.qs_recv.specs.Lane.{RecvLane, is_whole, highest, taken, raised_limit}
-use Rattle.qs_recv.specs.Lawful.{IsLawful}
-use Rattle.qs_send.specs.Lane.{SendLane, Sending, new_sending, new_lane as new_send_lane}
+use Rattle.qs_recv.specs.Lane.{RecvLane, is_whole, raised_limit}
 use Rattle.qs_machine.specs.declared.tally.Tally.{Tally}
 use Rattle.qs_conn.specs.declared.recv_lanes.Touched.{Touched}
 use Rattle.qs_conn.specs.declared.recv_lanes.Touched.TheVariants.{Nothing, Lane, Several}
@@ -27,7 +23,7 @@ use Rattle.qs_conn.specs.declared.endpoint.receiving.Progress.TheVariants as pro
 use Rattle.qs_machine.specs.Seen.{Seen, Close, seen}
 use Rattle.qs_machine.specs.FrameStep.{frame_taken}
 use Rattle.qs_machine.specs.Receiving.{Stops, GoesOn}
-use Rattle.qs_machine.specs.Sums.{changed, no_lane, or_none, no_sending, or_no_sending, stored_on, tally_of, tally_on, moved, IsPart, IsPaid, EachLawful, tables_of}
+use Rattle.qs_machine.specs.Sums.{tally_on, EachLawful}
 
 -- the limit of a lane of which no final size is known
 abbrev pub limit_to_tell : Option RecvLane → Option ℕ

@@ -1,28 +1,12 @@
 -- Sums over the streams of an end, and lists of streams as tables.
-use Rattle.std.specs.Prelude.{◌≡◌, ℕ, zero, suc, ◌+◌, ◌-◌, ◌≤◌, ◌<◌, ◌^◌, ◌==◌, true, if◌then◌else◌, List, [], ◌∷◌, length, slice_set, slice_index_or, Option, None, Some, is_some, is_none, ⊤}
+use Rattle.std.specs.Prelude.{ℕ, ◌+◌, ◌-◌, ◌≤◌, List, [], ◌∷◌, slice_set, slice_index_or, Option, None, Some, ⊤}
 use Rattle.std.specs.List.{sum_by}
 use Rattle.std.specs.FinMap as fmap
-use Rattle.qs_ranges.specs.Numbers.{MAX_VARINT}
-use Rattle.qs_wire.specs.declared.stream_id.Role.{Role}
-use Rattle.qs_recv.specs.Lane.{RecvLane, is_whole, highest, taken, raised_limit}
+use Rattle.qs_recv.specs.Lane.{RecvLane, highest, taken}
 use Rattle.qs_recv.specs.Lawful.{IsLawful}
 use Rattle.qs_send.specs.Lane.{SendLane, Sending, new_sending, new_lane as new_send_lane}
 use Rattle.qs_machine.specs.declared.tally.Tally.{Tally}
-use Rattle.qs_calls.specs.declared.settings.Settings.{Settings}
-use Rattle.qs_calls.specs.declared.settings.PeerLimits.{PeerLimits}
-use Rattle.qs_calls.specs.declared.uses.UseFault.{UseFault}
-use Rattle.qs_calls.specs.declared.uses.UseFault.TheVariants as uses
-use Rattle.qs_calls.specs.declared.closing.Closed.{Closed}
-use Rattle.qs_calls.specs.declared.closing.Closed.TheVariants.{ByUs, ByPeer}
-use Rattle.qs_calls.specs.Settings.{are_spellable}
 use Rattle.qs_machine.specs.Tables.{Tables}
-use Rattle.qs_machine.specs.Ends.{End, send_lane, recv_lane}
-use Rattle.qs_machine.specs.Owner.{first_refusal, refuse_if, no_half}
-use Rattle.qs_machine.specs.Standing.{KeepsCredit}
-use Rattle.qs_wire.specs.Layout.{PlacedValue}
-use Rattle.qs_machine.specs.Seen.{Seen, Close, seen}
-use Rattle.qs_machine.specs.FrameStep.{frame_taken}
-use Rattle.qs_machine.specs.Receiving.{Stops, GoesOn}
 
 -- the list with the element at an index changed by f, where there is one
 abbrev pub changed : {X : Type 0} → List X → ℕ → (X → X) → Option X → List X
