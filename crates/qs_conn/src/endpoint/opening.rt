@@ -114,13 +114,8 @@ impl Endpoint {
         ensures { self.new ≡ self.old }
     {
         let (uni, own) = (is_uni(stream), self.is_own(stream));
-        if !both(uni, !own) {
-            self.outbox.reserve(stream)?;
-        }
-        if !both(uni, own) {
-            self.recvs.reserve(stream)?;
-        }
-        Ok(())
+        let (sends, receives) = (!both(uni, !own), !both(uni, own));
+        reserve_halves(&mut self.outbox, &mut self.recvs, stream, sends, receives)
     }
 
     // That another stream was wanted is noted.
@@ -208,6 +203,26 @@ fn open_recvs(
         return Ok(());
     }
     recvs.open_to(window, stream)
+}
+
+// Takes the memory for those halves of a stream that it has, and opens none.
+fn reserve_halves(
+    outbox: &mut Outbox,
+    recvs: &mut RecvTables,
+    stream: StreamId,
+    sends: bool,
+    receives: bool,
+) -> Result<(), NoMemory>
+    ensures sends { outbox.new ≡ outbox.old }
+    ensures receives { recvs.new ≡ recvs.old }
+{
+    if sends {
+        outbox.reserve(stream)?;
+    }
+    if receives {
+        recvs.reserve(stream)?;
+    }
+    Ok(())
 }
 
 fn both(a: bool, b: bool) -> bool
