@@ -28,7 +28,7 @@ use qs_send::{Chunk, Item};
 use qs_wire::{Dir, Frame, StreamId, put, put_ack};
 
 /// How far a packet is.
-#[derive(Clone, Copy, Debug, PartialEq, Eq, Drop)]
+#[derive(Clone, Copy, Drop)]
 pub(crate) struct Packet {
     /// How many bytes it has.
     pub len: usize,

@@ -5,7 +5,7 @@ ghost use Rattle.qs_conn.specs.Filling.{slot_at};
 use qs_wire::{Dir, StreamId};
 
 /// What a control item speaks of, without its value. At any moment at most one item of a slot is current.
-#[derive(Clone, Copy, Debug, PartialEq, Eq, Drop)]
+#[derive(Clone, Copy, Drop)]
 pub(crate) enum Slot {
     MaxData,
     MaxStreamData(StreamId),
@@ -18,7 +18,7 @@ pub(crate) enum Slot {
 }
 
 /// The kinds of control items that each stream has.
-#[derive(Clone, Copy, Debug, PartialEq, Eq, Drop)]
+#[derive(Clone, Copy, Drop)]
 pub(crate) enum Kind {
     ResetStream,
     StopSending,

@@ -6,7 +6,7 @@ ghost use Rattle.qs_wire.specs.Layout.{type_of, number_of_type};
 use crate::stream_id::Dir;
 
 /// What a frame type's number tells of the frame.
-#[derive(Clone, Copy, Debug)]
+#[derive(Clone, Copy)]
 pub(crate) enum FrameType {
     Padding,
     Ping,

@@ -13,7 +13,7 @@ use crate::frame_type::FrameType;
 use crate::varint::{read_varint, varint_len};
 
 /// What is wrong with a frame, of which type.
-#[derive(Clone, Copy, Debug)]
+#[derive(Clone, Copy)]
 pub(crate) struct Broken {
     pub(crate) kind: FaultKind,
     pub(crate) frame_type: u64,

@@ -14,7 +14,7 @@ use crate::varint::{read_varint, spell, varint_len};
 use Part::{Counted, Counts, Identifier, Number, Plain, Ranges};
 
 /// A part of a frame's canonical text.
-#[derive(Clone, Copy, Debug)]
+#[derive(Clone, Copy)]
 pub(crate) enum Part<'a> {
     Nothing,
     Number(u64),

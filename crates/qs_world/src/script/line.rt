@@ -11,7 +11,7 @@ use qs_calls::{Act, Event, MAX_BYTES, MAX_ROOM, MIN_ROOM};
 use std::alloc::Global;
 
 /// The first word of a line.
-#[derive(Clone, Copy, Debug, PartialEq, Eq)]
+#[derive(Clone, Copy)]
 enum Verb {
     Open,
     Accept,
