@@ -32,6 +32,8 @@ are_in_range s =
     && is_between 1 (2 ^ 20) s.send_buffer
     && nat_le s.grant_bidi 4096
     && nat_le s.grant_uni 4096
+    && is_between s.grant_bidi (2 ^ 16) s.lifetime_bidi
+    && is_between s.grant_uni (2 ^ 16) s.lifetime_uni
 
 -- whether each of the peer's data limits has a spelling (RFC 9000, section 16)
 abbrev pub are_spellable : PeerLimits → Bool

@@ -22,6 +22,10 @@ pub struct Settings {
     pub grant_bidi: u64,
     /// How many unidirectional streams the peer may open.
     pub grant_uni: u64,
+    /// How many bidirectional streams the peer may open in all, as those that it opened come to their end.
+    pub lifetime_bidi: u64,
+    /// The same of unidirectional streams.
+    pub lifetime_uni: u64,
 }
 
 /// The limits that an end begins with, as its peer grants them (RFC 9000, section 18.2). `local` and `remote` are seen from the

@@ -305,7 +305,8 @@ piece_view : (p : Piece) (o : Outgoing) (e : End) → with_outgoing (piece_acked
 piece_view (Data n c) o e = refl
 piece_view (Told (MaxData x)) o e = refl
 piece_view (Told (MaxStreamData n x)) o e = refl
-piece_view (Told (MaxStreams d x)) o e = refl
+piece_view (Told (MaxStreams Bidi x)) o e = refl
+piece_view (Told (MaxStreams Uni x)) o e = refl
 piece_view (Told (ResetStream n code size)) o e = refl
 piece_view (Told (StopSending n x)) o e = refl
 piece_view (Told (DataBlocked x)) o e = refl

@@ -67,7 +67,9 @@ flow_first room old text e false s =
     }
   where
     passed : (i : Item) → IsDueItem old i → IsPassed all_items (slot_of i)
-    passed (MaxData m) due = inl (inl (inl (inl (inl (inl (inl (inr refl)))))))
+    passed (MaxData m) due = inl (inl (inl (inl (inl (inl (inl (inl (inl (inr refl)))))))))
+    passed (MaxStreams Bidi m) due = inl (inl (inl (inl (inl (inl (inl (inl (inr refl))))))))
+    passed (MaxStreams Uni m) due = inl (inl (inl (inl (inl (inl (inl (inr refl)))))))
     passed (ResetStream n code size) due = inl (inl (inl (inl (inl (inl (inr (n, refl)))))))
     passed (StopSending n code) due = inl (inl (inl (inl (inl (inr (n, refl))))))
     passed (MaxStreamData n m) due = inl (inl (inl (inl (inr (n, refl)))))
@@ -75,7 +77,6 @@ flow_first room old text e false s =
     passed (StreamDataBlocked n m) due = inl (inl (inr (n, refl)))
     passed (StreamsBlocked Bidi m) due = inl (inr refl)
     passed (StreamsBlocked Uni m) due = inr refl
-    passed (MaxStreams d m) due = absurd due.0
 
 -- a stream begins
 pub chunking_begins : (room : ℕ) (old : End) (text : List ℕ) (e : End) (n : ℕ) → Flowing room old text e n → Chunking room old text e n

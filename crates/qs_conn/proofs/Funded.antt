@@ -114,13 +114,16 @@ unfolding losses_out
 sends_losses k [] o = refl
 sends_losses k (p ∷ ps) o = sends_losses k ps (first_lost_out k p o)
 
-pub funded_lost : (j : ℕ) (o new : Outgoing) (result : Result (Unit {0}) NoMemory) (k : ℕ) (done : NumberSet) (due : Bool) → Loses j o result new → IsFunded o.sends k done due → IsFunded new.sends k done due
+pub sends_lost : (j : ℕ) (o new : Outgoing) (result : Result (Unit {0}) NoMemory) → Loses j o result new → new.sends ≡ o.sends
 unfolding Loses
-funded_lost j o new result k done due lost h = subst (λ (t : Tables SendLane). IsFunded t k done due) (sym (go result lost)) h
+sends_lost j o new result lost = go result lost
   where
     go : (r : Result (Unit {0}) NoMemory) → LosesBy j (pieces_in o.outstanding j) o r new → new.sends ≡ o.sends
     go (Ok all) e = ap (λ (x : Outgoing). x.sends) e ∙ sends_losses j (pieces_in o.outstanding j) o
     go (Err refused) e = ap (λ (x : Outgoing). x.sends) e.2 ∙ sends_losses j (take e.0 (pieces_in o.outstanding j)) o
+
+pub funded_lost : (j : ℕ) (o new : Outgoing) (result : Result (Unit {0}) NoMemory) (k : ℕ) (done : NumberSet) (due : Bool) → Loses j o result new → IsFunded o.sends k done due → IsFunded new.sends k done due
+funded_lost j o new result k done due lost h = subst (λ (t : Tables SendLane). IsFunded t k done due) (sym (sends_lost j o new result lost)) h
 
 -- The peer's credit rises
 

@@ -19,13 +19,13 @@ use Rattle.qs_conn.proofs.Ordered.{among_place, comparisons_rise, not_among_gap}
 -- the item of a key
 item_of : ℕ → ℕ → ℕ → ℕ → Item
 item_of zero a b c = MaxData b
-item_of (suc zero) a b c = ResetStream a b c
-item_of (suc (suc zero)) a b c = StopSending a b
-item_of (suc (suc (suc zero))) a b c = MaxStreamData a b
-item_of (suc (suc (suc (suc zero)))) a b c = DataBlocked b
-item_of (suc (suc (suc (suc (suc zero))))) a b c = StreamDataBlocked a b
-item_of (suc (suc (suc (suc (suc (suc zero)))))) a b c = StreamsBlocked (dir_of a) b
-item_of (suc (suc (suc (suc (suc (suc (suc n))))))) a b c = MaxStreams (dir_of a) b
+item_of (suc zero) a b c = MaxStreams (dir_of a) b
+item_of (suc (suc zero)) a b c = ResetStream a b c
+item_of (suc (suc (suc zero))) a b c = StopSending a b
+item_of (suc (suc (suc (suc zero)))) a b c = MaxStreamData a b
+item_of (suc (suc (suc (suc (suc zero))))) a b c = DataBlocked b
+item_of (suc (suc (suc (suc (suc (suc zero)))))) a b c = StreamDataBlocked a b
+item_of (suc (suc (suc (suc (suc (suc (suc n))))))) a b c = StreamsBlocked (dir_of a) b
 
 of_key : ItemKey → Item
 of_key k = item_of k.0 k.1 k.2 k.3

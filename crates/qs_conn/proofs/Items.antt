@@ -47,7 +47,7 @@ module _ (a b : End) (same : base a ≡ base b) where
   pub current_by_base : (i : Item) → IsCurrent a i → IsCurrent b i
   current_by_base (MaxData m) c = subst (λ e. (m ≡ e.granted) × (e.settings.conn_window < m)) same c
   current_by_base (MaxStreamData n m) c = subst (λ e. IsCurrent e (MaxStreamData n m)) same c
-  current_by_base (MaxStreams d m) c = c
+  current_by_base (MaxStreams d m) c = subst (λ e. IsCurrent e (MaxStreams d m)) same c
   current_by_base (ResetStream n code size) (l, there, is) = (let (m, at, eq) = lane n l there in (m, at, sym (ap (λ x. x.was_reset) eq) ∙ is))
   current_by_base (StopSending n code) c = subst (λ e. IsCurrent e (StopSending n code)) same c
   current_by_base (DataBlocked m) (is, sum, (n, l, w)) = (
@@ -71,7 +71,8 @@ module _ (a b : End) (same : base a ≡ base b) where
   pub acked_by_base : (i : Item) → IsAcked a i → IsAcked b i
   acked_by_base (MaxData m) c = subst (λ e. e.acked.max_data ≡ Some m) same c
   acked_by_base (MaxStreamData n m) c = subst (λ e. fmap.get e.acked.max_stream_data n ≡ Some m) same c
-  acked_by_base (MaxStreams d m) c = c
+  acked_by_base (MaxStreams Bidi m) c = subst (λ e. e.acked.bidi_streams ≡ Some m) same c
+  acked_by_base (MaxStreams Uni m) c = subst (λ e. e.acked.uni_streams ≡ Some m) same c
   acked_by_base (ResetStream n code size) (l, there, is) = (let (m, at, eq) = lane n l there in (m, at, sym (ap (λ x. x.reset_acked) eq) ∙ is))
   acked_by_base (StopSending n code) c = subst (λ e. set.contains e.acked.stop_sending n ≡ true) same c
   acked_by_base (DataBlocked m) c = subst (λ e. e.acked.data_blocked ≡ Some m) same c

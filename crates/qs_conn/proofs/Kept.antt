@@ -35,7 +35,7 @@ kept_new role s p recvs is none =
     let in_range = h.first in
     let countable = h.third in
     record {
-      sound = subst (λ (t : Tables RecvLane). KeepsCredit role s t s.conn_window) (sym none) (new_ends_sound role s p (new_end role s p) (ap (λ o. end_unless o (new_end role s p)) is));
+      sound = subst (λ (t : Tables RecvLane). KeepsCredit role s t s.conn_window) (sym none) (new_ends_sound role s p (new_end role s p) (ap (λ o. end_unless o (new_end role s p)) is)).0;
       granted_fits = grind (arith, nat_tests, in_range);
       peer_fits = h.second;
       bidi_fits = grind (arith, nat_tests, countable);

@@ -1,5 +1,7 @@
 pub mod AckLaws
 pub mod Chunks
+pub mod Counting
+pub mod Counted
 pub mod DueTied
 pub mod Flows
 pub mod Funded
@@ -11,6 +13,7 @@ pub mod Indexed
 pub mod ItemOrders
 pub mod Ordered
 pub mod OutboxAcks
+pub mod Over
 pub mod OutboxMaking
 pub mod Outboxes
 pub mod OwnerSteps
@@ -27,6 +30,7 @@ pub mod Stages
 pub mod Stops
 pub mod Telling
 pub mod Texts
+pub mod ToldEnds
 pub mod ToldLaws
 pub mod Undone
 pub mod Marked

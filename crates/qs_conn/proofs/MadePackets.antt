@@ -16,6 +16,10 @@ use Rattle.qs_machine.specs.Lawful.{Fills, frame_put}
 use Rattle.qs_machine.specs.Making.{IsMade, MakeAt, MakeStep, make_refusal}
 use Rattle.qs_machine.specs.Outgoing.{Outgoing, sent_sum, with_outgoing}
 use Rattle.qs_conn.specs.Filling.{InPacket, end_by, Packed}
+use Rattle.qs_wire.specs.declared.stream_id.Role.{Role}
+use Rattle.qs_conn.specs.declared.ended.EndedStreams.{EndedStreams}
+use Rattle.qs_conn.specs.Ended.{AreAllCounted}
+use Rattle.qs_conn.proofs.Counted.{fills_counted}
 use Rattle.qs_conn.proofs.Pieces.{put_next}
 use Rattle.qs_conn.proofs.Stages.{packed_none, packed_some}
 
@@ -39,7 +43,7 @@ fills_next old e mid [] is = ap (λ (x : End). x.next) is
 fills_next old e mid (f ∷ fs) (may, rest) = fills_next old (frame_put f e) mid fs rest ∙ put_next f e
 
 abbrev pub terms_of : End → Terms
-terms_of v = record { role = v.role; settings = v.settings; granted = v.granted; known_data = v.known_data; known_bidi = v.known_bidi; known_uni = v.known_uni; wanted_bidi = v.wanted_bidi; wanted_uni = v.wanted_uni }
+terms_of v = record { role = v.role; settings = v.settings; granted = v.granted; granted_bidi = v.granted_bidi; granted_uni = v.granted_uni; known_data = v.known_data; known_bidi = v.known_bidi; known_uni = v.known_uni; wanted_bidi = v.wanted_bidi; wanted_uni = v.wanted_uni }
 
 abbrev pub outgoing_of : ℕ → End → Outgoing
 outgoing_of spare v = record { sends = v.sends; next = v.next; outstanding = v.outstanding; lost = v.lost; acked = v.acked; spare = spare }
@@ -62,6 +66,9 @@ module _ (v old : End) (same : v ≡ old) (t : Terms) (o o' : Outgoing) (spare r
   pub filled_credit : sent_sum o'.sends ≤ v.known_data
   filled_credit = (let known : t.known_data ≡ v.known_data = ap (λ (x : Terms). x.known_data) t_is in omega (arith, known, packed.within))
 
+  pub filled_counted : (role : Role) (c : EndedStreams) → AreAllCounted role v.recvs v.sends c → AreAllCounted role v.recvs o'.sends c
+  filled_counted role c h = fills_counted role v v filled (seen_all packed.frames) c packed.fills h
+
   none_is : 25 ≤ room → len ≡ 0 → (Sendable v → ⊥) × (filled ≡ v)
   none_is enough none = packed_none room v (take len out) filled packed enough (ap (λ k. take k out) none)
 
@@ -83,6 +90,7 @@ module _ (v old : End) (same : v ≡ old) (t : Terms) (o o' : Outgoing) (spare r
   make_some new o'' number clear le some within count is after settled =
       let inside : length (take len out) ≡ len = length-take-le len out (omega (arith, within, count)) in
       let made = packed_some room v (take len out) filled packed number len is (sym inside) within (λ none. omega (arith, some, inside, ap length none)) in
-      let end : new ≡ settle (record filled { next = v.next + 1 }) = settled ∙ ap settle (rw (after, t_is, filled_next) refl) in
+      let mid : with_outgoing o'' (record v { ack_due = false }) ≡ record filled { next = v.next + 1 } = rw (after, t_is, filled_next) refl in
+      let end : new ≡ settle (record filled { next = v.next + 1 }) = settled ∙ ap settle mid in
       subst (λ e. MakeStep e room (Ok (Some (record { number = number; len = len }))) (take len out) new) same
       (subst (λ r. MakeAt r v room (Ok (Some (record { number = number; len = len }))) (take len out) new) (sym (no_refusal v clear le)) (subst (IsMade v room (record { number = number; len = len }) (take len out)) (sym end) made))

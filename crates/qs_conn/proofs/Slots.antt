@@ -16,7 +16,7 @@ use Rattle.qs_machine.specs.Lawful.{frame_put}
 use Rattle.qs_conn.specs.declared.slot.Slot.TheVariants as slots
 use Rattle.qs_machine.specs.Tables.{Tables, lookup, table}
 use Rattle.qs_machine.specs.Ends.{End, send_lane, recv_lane, window}
-use Rattle.qs_machine.specs.Credit.{all_sent}
+use Rattle.qs_machine.specs.Credit.{all_sent, granted_streams, first_grant}
 use Rattle.qs_machine.specs.Due.{IsCurrent, IsAcked, WantsCredit, wanted, known_count}
 use Rattle.qs_machine.specs.Sums.{or_none}
 use Rattle.qs_conn.specs.Layers.{limit_to_tell, stop_to_tell}
@@ -95,6 +95,16 @@ of_streams_blocked P d p (DataBlocked m2) is = absurd (cc is)
 of_streams_blocked P d p (StreamDataBlocked n2 m2) is = absurd (cc is)
 of_streams_blocked P d p (StreamsBlocked k m) is = (let same : k ≡ d = cc in subst (λ x. P (StreamsBlocked x m)) (sym same) (p m))
 
+of_max_streams : (P : Item → Type 0) (d : Dir) → ((m : ℕ) → P (MaxStreams d m)) → (j : Item) → slot_of j ≡ slots.MaxStreams d → P j
+of_max_streams P d p (MaxData m2) is = absurd (cc is)
+of_max_streams P d p (MaxStreamData n2 m2) is = absurd (cc is)
+of_max_streams P d p (MaxStreams k m) is = (let same : k ≡ d = cc in subst (λ x. P (MaxStreams x m)) (sym same) (p m))
+of_max_streams P d p (ResetStream n2 code2 size2) is = absurd (cc is)
+of_max_streams P d p (StopSending n2 code2) is = absurd (cc is)
+of_max_streams P d p (DataBlocked m2) is = absurd (cc is)
+of_max_streams P d p (StreamDataBlocked n2 m2) is = absurd (cc is)
+of_max_streams P d p (StreamsBlocked d2 m2) is = absurd (cc is)
+
 -- The current item, or that there is none
 
 pub max_data_there : (e : End) (m : ℕ) → m ≡ e.granted → e.settings.conn_window < m → IsCurrentIn e slots.MaxData (Some (MaxData m))
@@ -102,6 +112,12 @@ max_data_there e m is lt = ((is, lt), refl, of_max_data (λ j. IsCurrent e j →
 
 pub max_data_none : (e : End) → e.granted ≤ e.settings.conn_window → IsCurrentIn e slots.MaxData None
 max_data_none e le = of_max_data (λ j. IsCurrent e j → ⊥) (λ k c. omega (arith, c.0, c.1, le))
+
+pub max_streams_there : (e : End) (d : Dir) (m : ℕ) → m ≡ granted_streams e d → first_grant e.settings d < m → IsCurrentIn e (slots.MaxStreams d) (Some (MaxStreams d m))
+max_streams_there e d m is lt = ((is, lt), refl, of_max_streams (λ j. IsCurrent e j → j ≡ MaxStreams d m) d (λ k c. ap (MaxStreams d) (c.0 ∙ sym is)))
+
+pub max_streams_none : (e : End) (d : Dir) → granted_streams e d ≤ first_grant e.settings d → IsCurrentIn e (slots.MaxStreams d) None
+max_streams_none e d le = of_max_streams (λ j. IsCurrent e j → ⊥) d (λ k c. omega (arith, c.0, c.1, le))
 
 limit_some : (o : Option RecvLane) (m : ℕ) → limit_to_tell o ≡ Some m → (l : RecvLane) × (o ≡ Some l) × (m ≡ l.limit) × (l.final_size ≡ None)
 limit_some None m is = absurd (none-some m is)
@@ -240,7 +256,8 @@ may_tell e (StreamsBlocked d m) c = tt
 pub acked_out : (t : Terms) (recvs : Tables RecvLane) (o : Outgoing) (e : End) (i : Item) → IsAckedOut o i → IsAcked (end_by t recvs o e) i
 acked_out t recvs o e (MaxData m) a = a
 acked_out t recvs o e (MaxStreamData n m) a = a
-acked_out t recvs o e (MaxStreams d m) a = a
+acked_out t recvs o e (MaxStreams Bidi m) a = a
+acked_out t recvs o e (MaxStreams Uni m) a = a
 acked_out t recvs o e (ResetStream n code size) a = go (lookup o.sends n) refl a
   where
     go : (x : Option SendLane) → lookup o.sends n ≡ x → IsAckedReset x → (l : SendLane) × (lookup o.sends n ≡ Some l) × (l.reset_acked ≡ true)
@@ -255,7 +272,8 @@ acked_out t recvs o e (StreamsBlocked Uni m) a = a
 pub acked_in : (t : Terms) (recvs : Tables RecvLane) (o : Outgoing) (e : End) (i : Item) → IsAcked (end_by t recvs o e) i → IsAckedOut o i
 acked_in t recvs o e (MaxData m) a = a
 acked_in t recvs o e (MaxStreamData n m) a = a
-acked_in t recvs o e (MaxStreams d m) a = a
+acked_in t recvs o e (MaxStreams Bidi m) a = a
+acked_in t recvs o e (MaxStreams Uni m) a = a
 acked_in t recvs o e (ResetStream n code size) (l, there, is) = subst IsAckedReset (sym there) is
 acked_in t recvs o e (StopSending n code) a = a
 acked_in t recvs o e (DataBlocked m) a = a

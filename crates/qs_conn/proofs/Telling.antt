@@ -74,7 +74,8 @@ has_size l code e f = go l.was_reset _ e f
 pub noted_out : (o : Outgoing) (i : Item) → ((n code size : ℕ) → i ≡ ResetStream n code size → ⊥) → IsNoted o.acked i ↔ IsAckedOut o i
 noted_out o (MaxData m) other = ((λ h. h), (λ h. h))
 noted_out o (MaxStreamData n m) other = ((λ h. h), (λ h. h))
-noted_out o (MaxStreams d m) other = ((λ h. h), (λ h. h))
+noted_out o (MaxStreams Bidi m) other = ((λ h. h), (λ h. h))
+noted_out o (MaxStreams Uni m) other = ((λ h. h), (λ h. h))
 noted_out o (ResetStream n code size) other = absurd (other n code size refl)
 noted_out o (StopSending n code) other = ((λ h. h), (λ h. h))
 noted_out o (DataBlocked m) other = ((λ h. h), (λ h. h))

@@ -65,7 +65,8 @@ insert-numbers s n = same_set nat_cmp_total nat_cmp-IsAntisymmetric _ _ (λ q.
 pub item_acked-noted : (i : Item) (e : End) → ((n code size : ℕ) → i ≡ ResetStream n code size → ⊥) → item_acked i e ≡ with_acked (item_noted i e.acked) e
 item_acked-noted (MaxData m) e other = refl
 item_acked-noted (MaxStreamData n m) e other = refl
-item_acked-noted (MaxStreams d m) e other = refl
+item_acked-noted (MaxStreams Bidi m) e other = refl
+item_acked-noted (MaxStreams Uni m) e other = refl
 item_acked-noted (ResetStream n code size) e other = absurd (other n code size refl)
 item_acked-noted (StopSending n code) e other = refl
 item_acked-noted (DataBlocked m) e other = refl
@@ -76,7 +77,8 @@ item_acked-noted (StreamsBlocked Uni m) e other = refl
 pub noted_is_acked : (e : End) (i : Item) → IsNoted e.acked i → IsAcked e i
 noted_is_acked e (MaxData m) noted = noted
 noted_is_acked e (MaxStreamData n m) noted = noted
-noted_is_acked e (MaxStreams d m) noted = noted
+noted_is_acked e (MaxStreams Bidi m) noted = noted
+noted_is_acked e (MaxStreams Uni m) noted = noted
 noted_is_acked e (ResetStream n code size) noted = absurd noted
 noted_is_acked e (StopSending n code) noted = noted
 noted_is_acked e (DataBlocked m) noted = noted
@@ -87,7 +89,8 @@ noted_is_acked e (StreamsBlocked Uni m) noted = noted
 pub acked_is_noted : (e : End) (i : Item) → ((n code size : ℕ) → i ≡ ResetStream n code size → ⊥) → IsAcked e i → IsNoted e.acked i
 acked_is_noted e (MaxData m) other acked = acked
 acked_is_noted e (MaxStreamData n m) other acked = acked
-acked_is_noted e (MaxStreams d m) other acked = acked
+acked_is_noted e (MaxStreams Bidi m) other acked = acked
+acked_is_noted e (MaxStreams Uni m) other acked = acked
 acked_is_noted e (ResetStream n code size) other acked = absurd (other n code size refl)
 acked_is_noted e (StopSending n code) other acked = acked
 acked_is_noted e (DataBlocked m) other acked = acked

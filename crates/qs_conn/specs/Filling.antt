@@ -61,6 +61,8 @@ end_by t recvs o e =
       settings = t.settings;
       recvs = recvs;
       granted = t.granted;
+      granted_bidi = t.granted_bidi;
+      granted_uni = t.granted_uni;
       known_data = t.known_data;
       known_bidi = t.known_bidi;
       known_uni = t.known_uni;
@@ -86,6 +88,8 @@ ItemFits (Some i) = Fits (frame_of_item i)
 -- what an end has to tell has a text
 pub record TermsFit (t : Terms) : Type 0 where
   pub granted : t.granted ≤ MAX_VARINT
+  pub granted_bidi : t.granted_bidi ≤ 2 ^ 60
+  pub granted_uni : t.granted_uni ≤ 2 ^ 60
   pub known : t.known_data ≤ MAX_VARINT
   pub bidi : t.known_bidi ≤ 2 ^ 60
   pub uni : t.known_uni ≤ 2 ^ 60
@@ -120,10 +124,10 @@ IsPassed (and_slot passed slot) s = IsPassed passed s ⊎ (s ≡ slot)
 IsPassed (and_kind passed kind) s = IsPassed passed s ⊎ IsOfKind kind s
 IsPassed (and_below passed kind bound) s = IsPassed passed s ⊎ IsBelow kind bound s
 
--- all slots but those of MAX_STREAMS, which is never current, in the order in which they are passed
+-- all slots, in the order in which they are passed
 abbrev pub all_items : Passed
 all_items =
-    and_slot (and_slot (and_kind (and_slot (and_kind (and_kind (and_kind (and_slot no_slot slots.MaxData) kinds.ResetStream) kinds.StopSending) kinds.MaxStreamData) slots.DataBlocked) kinds.StreamDataBlocked) (slots.StreamsBlocked Bidi)) (slots.StreamsBlocked Uni)
+    and_slot (and_slot (and_kind (and_slot (and_kind (and_kind (and_kind (and_slot (and_slot (and_slot no_slot slots.MaxData) (slots.MaxStreams Bidi)) (slots.MaxStreams Uni)) kinds.ResetStream) kinds.StopSending) kinds.MaxStreamData) slots.DataBlocked) kinds.StreamDataBlocked) (slots.StreamsBlocked Bidi)) (slots.StreamsBlocked Uni)
 
 -- there is room for a piece of two bytes or more for each that may come
 abbrev pub HasSpare : ℕ → ℕ → ℕ → Type 0

@@ -26,13 +26,13 @@ ItemKey = ℕ × ℕ × ℕ × ℕ
 
 abbrev pub item_key : Item → ItemKey
 item_key (MaxData m) = (0, 0, m, 0)
-item_key (ResetStream n code size) = (1, n, code, size)
-item_key (StopSending n code) = (2, n, code, 0)
-item_key (MaxStreamData n m) = (3, n, m, 0)
-item_key (DataBlocked m) = (4, 0, m, 0)
-item_key (StreamDataBlocked n m) = (5, n, m, 0)
-item_key (StreamsBlocked d m) = (6, dir_number d, m, 0)
-item_key (MaxStreams d m) = (7, dir_number d, m, 0)
+item_key (MaxStreams d m) = (1, dir_number d, m, 0)
+item_key (ResetStream n code size) = (2, n, code, size)
+item_key (StopSending n code) = (3, n, code, 0)
+item_key (MaxStreamData n m) = (4, n, m, 0)
+item_key (DataBlocked m) = (5, 0, m, 0)
+item_key (StreamDataBlocked n m) = (6, n, m, 0)
+item_key (StreamsBlocked d m) = (7, dir_number d, m, 0)
 
 abbrev pub key_cmp : ItemKey → ItemKey → Ordering
 key_cmp a b = ordering_then (ordering_then (ordering_then (nat_cmp a.0 b.0) (nat_cmp a.1 b.1)) (nat_cmp a.2 b.2)) (nat_cmp a.3 b.3)

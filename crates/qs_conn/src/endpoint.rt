@@ -1,20 +1,21 @@
 //! One end of a connection.
-ghost use Rattle.std.specs.Prelude.{◌≡◌, ◌+◌, ◌≤◌, ◌<◌, ◌^◌, length, Some};
+ghost use Rattle.std.specs.Prelude.{◌≡◌, ◌+◌, ◌≤◌, ◌<◌, ◌^◌, length, min, Some};
 ghost use Rattle.qs_ranges.specs.Numbers.{MAX_VARINT};
 ghost use Rattle.qs_recv.specs.Lane.{next_limit};
 ghost use Rattle.qs_machine.specs.Ends.{end_made, role_bit, is_uni, is_own, window, first_send_limit};
-ghost use Rattle.qs_machine.specs.Credit.{spent, all_stored, settle};
+ghost use Rattle.qs_machine.specs.Credit.{spent, all_stored, granted_streams, settle};
 ghost use Rattle.qs_machine.specs.Making.{ClosePayload, ClosePayloadBy, close_text_of};
 ghost use Rattle.qs_conn.specs.Layers.{ClosingFits};
 ghost use Rattle.qs_machine.specs.Standing.{IsSound, IsWithinCredit};
 
+use crate::ended::EndedStreams;
 use crate::outbox::Outbox;
 use crate::places::kind_of;
 use crate::recv_tables::RecvTables;
 use crate::setup::setup_fault;
 use qs_calls::{Closed, Closing, PeerLimits, Settings, SetupFault};
 use qs_ranges::RangeSet;
-use qs_wire::{Frame, Role, StreamId, put};
+use qs_wire::{Dir, Frame, Role, StreamId, put};
 use std::alloc::Global;
 use std::marker::Model;
 
@@ -40,6 +41,9 @@ pub struct Endpoint {
     outbox: Outbox,
     recvs: RecvTables,
     granted: u64,
+    granted_bidi: u64,
+    granted_uni: u64,
+    ended: EndedStreams,
     known_data: u64,
     known_bidi: u64,
     known_uni: u64,
@@ -59,6 +63,7 @@ impl Model for Endpoint {
     ghost use Rattle.qs_conn.specs.Layers.{IsKept};
     ghost use Rattle.qs_machine.specs.Outgoing.{IsIdle};
     ghost use Rattle.qs_conn.specs.Filling.{IsFunded};
+    ghost use Rattle.qs_conn.specs.Ended.{CountsFit};
 
     ghost Value = { End };
 
@@ -71,6 +76,8 @@ impl Model for Endpoint {
       sends = e.outbox.sends;
       recvs = e.recvs;
       granted = e.granted;
+      granted_bidi = e.granted_bidi;
+      granted_uni = e.granted_uni;
       known_data = e.known_data;
       known_bidi = e.known_bidi;
       known_uni = e.known_uni;
@@ -88,8 +95,8 @@ impl Model for Endpoint {
       closed = e.closed;
     } };
 
-    // Between calls no packet is in the making, and one may be made.
-    ghost invariant = { λ e. IsKept e.role e.settings e.peer e.recvs e.granted e.known_bidi e.known_uni e.closed × IsIdle e.outbox × IsFunded e.outbox.sends e.known_data e.done e.ack_due };
+    // Between calls no packet is in the making, and one may be made; the counts of streams are right.
+    ghost invariant = { λ e. IsKept e.role e.settings e.peer e.recvs e.granted e.known_bidi e.known_uni e.closed × IsIdle e.outbox × IsFunded e.outbox.sends e.known_data e.done e.ack_due × CountsFit e.role e.settings e.recvs e.outbox.sends e.ended e.granted_bidi e.granted_uni };
 }
 
 impl Endpoint {
@@ -113,6 +120,9 @@ impl Endpoint {
             outbox: Outbox::new(alloc),
             recvs: RecvTables::new(alloc),
             granted: settings.conn_window,
+            granted_bidi: settings.grant_bidi,
+            granted_uni: settings.grant_uni,
+            ended: EndedStreams { bidi: 0, uni: 0 },
             known_data: peer.max_data,
             known_bidi: peer.streams_bidi,
             known_uni: peer.streams_uni,
@@ -143,6 +153,17 @@ impl Endpoint {
         self.granted
     }
 
+    /// How many streams of a direction the peer may open: the grant, and one more for each of its streams that came to its end, up to
+    /// the lifetime's count (RFC 9000, section 4.6). It takes no memory.
+    pub fn granted_streams(&self, dir: Dir) -> u64
+        ensures { result ≡ granted_streams self.now dir }
+    {
+        match dir {
+            Dir::Bidi => self.granted_bidi,
+            Dir::Uni => self.granted_uni,
+        }
+    }
+
     /// The sum of the highest offsets of all streams, which the connection limit bounds.
     pub fn spent(&self) -> u64
         ensures { result ≡ spent self.now }
@@ -162,14 +183,21 @@ impl Endpoint {
         put_close(closing, out)
     }
 
-    // Each limit becomes the next one.
+    // Each limit becomes the next one, and each granted count of streams.
     fn settle(&mut self)
         ensures { self.new ≡ settle self.old }
     {
         let _granted = self.granted;
         self.recvs.raise_all();
         let taken = self.recvs.tally().taken;
-        self.granted = next_limit(self.granted, taken, self.settings.conn_window);
+        let settings = &self.settings;
+        self.granted = next_limit(self.granted, taken, settings.conn_window);
+        self.granted_bidi = next_count(
+            settings.grant_bidi,
+            settings.lifetime_bidi,
+            self.ended.bidi,
+        );
+        self.granted_uni = next_count(settings.grant_uni, settings.lifetime_uni, self.ended.uni);
     }
 
     // Whether this end opens the stream.
@@ -242,6 +270,14 @@ fn next_limit(limit: u64, taken: u64, window: u64) -> u64
     } else {
         limit
     }
+}
+
+// How many streams may be opened, where so many came to their end (RFC 9000, section 4.6).
+fn next_count(grant: u64, lifetime: u64, ended: u64) -> u64
+    requires { grant ≤ lifetime }
+    ensures { result ≡ min lifetime (grant + ended) }
+{
+    grant + ended.min(lifetime - grant)
 }
 
 fn put_close(closing: Closing, out: &mut [u8]) -> Option<usize>

@@ -225,27 +225,19 @@ pub(crate) fn put_items(
     ensures room { length out.new ≡ length out.old }
 {
     let packet = put_slot(terms, recvs, outbox, Slot::MaxData, out, packet);
+    let bidi_streams = Slot::MaxStreams(Dir::Bidi);
+    let packet = put_slot(terms, recvs, outbox, bidi_streams, out, packet);
+    let uni_streams = Slot::MaxStreams(Dir::Uni);
+    let packet = put_slot(terms, recvs, outbox, uni_streams, out, packet);
     let packet = put_kind(terms, recvs, outbox, Kind::ResetStream, out, packet);
     let packet = put_kind(terms, recvs, outbox, Kind::StopSending, out, packet);
     let packet = put_kind(terms, recvs, outbox, Kind::MaxStreamData, out, packet);
     let packet = put_slot(terms, recvs, outbox, Slot::DataBlocked, out, packet);
     let packet = put_kind(terms, recvs, outbox, Kind::StreamDataBlocked, out, packet);
-    let packet = put_slot(
-        terms,
-        recvs,
-        outbox,
-        Slot::StreamsBlocked(Dir::Bidi),
-        out,
-        packet,
-    );
-    put_slot(
-        terms,
-        recvs,
-        outbox,
-        Slot::StreamsBlocked(Dir::Uni),
-        out,
-        packet,
-    )
+    let bidi_blocked = Slot::StreamsBlocked(Dir::Bidi);
+    let packet = put_slot(terms, recvs, outbox, bidi_blocked, out, packet);
+    let uni_blocked = Slot::StreamsBlocked(Dir::Uni);
+    put_slot(terms, recvs, outbox, uni_blocked, out, packet)
 }
 
 /// Puts a chunk into the packet that is known to fit, and answers how many bytes there are then.

@@ -1,6 +1,7 @@
 //! One end of a connection: its streams, its credit, and what its packets carry.
 #![tactic(auto)]
 
+mod ended;
 mod endpoint;
 mod filling;
 mod marks;

@@ -5,6 +5,7 @@ ghost use Rattle.qs_send.specs.Lane.{Sending, new_lane, accepted, refusal, reset
 ghost use Rattle.qs_machine.specs.Tables.{table, with_table, lookup, open_to, kind_of};
 ghost use Rattle.qs_machine.specs.Reports.{send_report};
 ghost use Rattle.qs_machine.specs.Sums.{or_none};
+ghost use Rattle.qs_conn.specs.Ended.{send_over};
 ghost use Rattle.qs_machine.specs.Outgoing.{no_packets, with_sends, on_lane, sent_sum, HasSending, AreOfOpen};
 
 use crate::send_tables::SendTables;
@@ -12,7 +13,7 @@ use crate::told::ToldItems;
 use crate::told_index::ToldIndex;
 use qs_calls::SendReport;
 use qs_ranges::NoMemory;
-use qs_send::{LostRecords, Piece, Records, SendFault};
+use qs_send::{LostRecords, Piece, Records, SendFault, SendState};
 use qs_wire::StreamId;
 use std::alloc::Global;
 use std::marker::Model;
@@ -119,6 +120,18 @@ impl Outbox {
         ensures small { result ≤ 2 ^ 60 }
     {
         self.sends.count_of(kind)
+    }
+
+    /// Whether a stream's sending half is in Data Recvd or Reset Recvd (RFC 9000, section 3.1).
+    pub(crate) fn has_ended(&self, stream: StreamId) -> bool
+        ensures { result ≡ send_over (lookup self.now.sends stream) }
+    {
+        if !self.sends.is_open(stream) {
+            return false;
+        }
+        let half = self.sends.get(stream);
+        half.is_lawful();
+        matches!(half.state(), SendState::DataRecvd | SendState::ResetRecvd)
     }
 
     /// How a stream's sending half stands, where it is open.

@@ -8,6 +8,7 @@ ghost use Rattle.qs_machine.specs.Tables.{widened};
 ghost use Rattle.qs_machine.specs.Reports.{recv_report};
 ghost use Rattle.qs_machine.specs.Verdicts.{or_new};
 ghost use Rattle.qs_machine.specs.Sums.{changed, tally_of, tally_on, moved, IsPart, IsPaid, EachLawful};
+ghost use Rattle.qs_conn.specs.Ended.{recv_over};
 ghost use Rattle.qs_conn.specs.Layers.{limit_to_tell, stop_to_tell, AreSettled, touch};
 ghost use Rattle.qs_conn.specs.Marks.{IsBefore, AreMarked, IsQuietLane};
 
@@ -287,6 +288,16 @@ impl RecvLanes {
         self.marks.set(index, true);
         self.tally = moved(self.tally, was, is);
         self.touched = touch(self.touched, index);
+    }
+
+    /// Whether a lane is in Data Read or Reset Read (RFC 9000, section 3.2).
+    pub(crate) fn has_ended(&self, index: usize) -> bool
+        ensures { result ≡ recv_over (slice_get self.now index) }
+    {
+        let Some(half) = self.halves.get(index) else {
+            return false;
+        };
+        matches!(half.state(), RecvState::DataRead | RecvState::ResetRead)
     }
 
     /// How a lane stands, where it is open.

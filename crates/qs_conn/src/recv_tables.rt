@@ -1,11 +1,12 @@
 //! The receiving halves of an end.
-ghost use Rattle.std.specs.Prelude.{◌≡◌, ◌+◌, ◌≤◌, ◌<◌, ◌^◌, ◌++◌, length, drop, take, is_some, option_map, true, OnOk, OnErr, IsOk, IfOk, IfSome};
+ghost use Rattle.std.specs.Prelude.{◌≡◌, ◌+◌, ◌≤◌, ◌<◌, ◌^◌, ◌++◌, ℕ, length, drop, take, is_some, option_map, true, OnOk, OnErr, IsOk, IfOk, IfSome};
 ghost use Rattle.qs_ranges.specs.Numbers.{MAX_VARINT};
 ghost use Rattle.qs_recv.specs.Lane.{new_lane, check_stream, check_reset, check_bytes, highest, taken, take_stream, take_reset, read_answer, bytes_read, after_read, raise, stop};
 ghost use Rattle.qs_machine.specs.Tables.{no_streams, table, with_table, lookup, updated, open_to, each, total, kind_of};
 ghost use Rattle.qs_machine.specs.Reports.{recv_report};
 ghost use Rattle.qs_machine.specs.Verdicts.{or_new};
 ghost use Rattle.qs_machine.specs.Sums.{stored_on, tally_on, IsPaid};
+ghost use Rattle.qs_conn.specs.Ended.{recv_over};
 ghost use Rattle.qs_conn.specs.Layers.{limit_to_tell, stop_to_tell};
 ghost use Rattle.qs_conn.specs.Marks.{HaveTo, IsQuietLane};
 
@@ -215,6 +216,24 @@ impl RecvTables {
     {
         let lanes = &mut self.types[kind_of(stream)];
         lanes.stop(index_of(stream), code);
+    }
+
+    /// Whether a stream's receiving half is in Data Read or Reset Read (RFC 9000, section 3.2).
+    pub(crate) fn has_ended(&self, stream: StreamId) -> bool
+        ensures { result ≡ recv_over (lookup self.now stream) }
+    {
+        let lanes = &self.types[kind_of(stream)];
+        lanes.has_ended(index_of(stream))
+    }
+
+    /// No type has more streams than have a number. It does nothing: a caller learns the clause.
+    pub(crate) fn are_few(&self)
+        ensures { (k : ℕ) → k < 4 → length (table self.now k) ≤ 2 ^ 60 }
+    {
+        let _client_bidi = self.types[0].len();
+        let _server_bidi = self.types[1].len();
+        let _client_uni = self.types[2].len();
+        let _server_uni = self.types[3].len();
     }
 
     /// How a stream stands, where it is open.

@@ -36,6 +36,8 @@ fn are_in_range(s: &Settings) -> bool
         && is_between(1, 1 << 20, s.send_buffer as u64)
         && s.grant_bidi <= 4096
         && s.grant_uni <= 4096
+        && is_between(s.grant_bidi, 1 << 16, s.lifetime_bidi)
+        && is_between(s.grant_uni, 1 << 16, s.lifetime_uni)
 }
 
 // Whether each of the peer's data limits has a spelling (RFC 9000, section 16).

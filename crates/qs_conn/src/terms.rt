@@ -25,6 +25,8 @@ pub(crate) struct Terms {
     pub role: Role,
     pub settings: Settings,
     pub granted: u64,
+    pub granted_bidi: u64,
+    pub granted_uni: u64,
     pub known_data: u64,
     pub known_bidi: u64,
     pub known_uni: u64,
@@ -42,7 +44,7 @@ impl Terms {
         match slot {
             Slot::MaxData => self.max_data(),
             Slot::MaxStreamData(stream) => self.max_stream_data(recvs, stream),
-            Slot::MaxStreams(_dir) => None,
+            Slot::MaxStreams(dir) => self.max_streams(dir),
             Slot::ResetStream(stream) => reset_stream(outbox, stream),
             Slot::StopSending(stream) => stop_sending(recvs, stream),
             Slot::DataBlocked => self.data_blocked(outbox),
@@ -63,6 +65,23 @@ impl Terms {
         Some(Item::MaxData {
             maximum: self.granted,
         })
+    }
+
+    // The count of streams granted, once it was raised.
+    #[tactic(auto, using(crate::proofs::Slots::max_streams_there, crate::proofs::Slots::max_streams_none))]
+    fn max_streams(&self, dir: Dir) -> Option<Item>
+        requires { TermsFit self.now }
+        ensures current { (recvs : Tables RecvLane) (o : Outgoing) (e : End) → IsCurrentIn (end_by self.now recvs o e) (slots.MaxStreams dir) result }
+        ensures fits { ItemFits result }
+    {
+        let (first, count) = match dir {
+            Dir::Bidi => (self.settings.grant_bidi, self.granted_bidi),
+            Dir::Uni => (self.settings.grant_uni, self.granted_uni),
+        };
+        if count <= first {
+            return None;
+        }
+        Some(Item::MaxStreams { dir, count })
     }
 
     // A stream's limit, once it was raised, while no final size is known.

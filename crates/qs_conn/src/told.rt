@@ -22,6 +22,8 @@ pub(crate) struct ToldItems {
     stream_data_blocked: StreamValues,
     bidi_blocked: Option<u64>,
     uni_blocked: Option<u64>,
+    bidi_streams: Option<u64>,
+    uni_streams: Option<u64>,
 }
 
 impl Model for ToldItems {
@@ -40,6 +42,8 @@ impl Model for ToldItems {
       stream_data_blocked = t.stream_data_blocked;
       bidi_blocked = t.bidi_blocked;
       uni_blocked = t.uni_blocked;
+      bidi_streams = t.bidi_streams;
+      uni_streams = t.uni_streams;
     } };
 }
 
@@ -56,6 +60,8 @@ impl ToldItems {
             stream_data_blocked: StreamValues::new(alloc),
             bidi_blocked: None,
             uni_blocked: None,
+            bidi_streams: None,
+            uni_streams: None,
         }
     }
 
@@ -72,7 +78,13 @@ impl ToldItems {
             Item::MaxStreamData { stream, maximum } => {
                 self.max_stream_data.raise(stream, maximum)
             }
-            Item::MaxStreams { .. } => Ok(()),
+            Item::MaxStreams { dir, count } => {
+                match dir {
+                    Dir::Bidi => raise(&mut self.bidi_streams, count),
+                    Dir::Uni => raise(&mut self.uni_streams, count),
+                }
+                Ok(())
+            }
             Item::ResetStream { .. } => Ok(()),
             Item::StopSending { stream, .. } => add(&mut self.stop_sending, stream),
             Item::DataBlocked { limit } => {
@@ -101,7 +113,10 @@ impl ToldItems {
             Item::MaxStreamData { stream, maximum } => {
                 self.max_stream_data.is_greatest(stream, maximum)
             }
-            Item::MaxStreams { .. } => false,
+            Item::MaxStreams { dir, count } => match dir {
+                Dir::Bidi => self.bidi_streams == Some(count),
+                Dir::Uni => self.uni_streams == Some(count),
+            },
             Item::ResetStream { .. } => false,
             Item::StopSending { stream, .. } => self.stop_sending.has(stream.value()),
             Item::DataBlocked { limit } => self.data_blocked == Some(limit),

@@ -94,17 +94,17 @@ fn key_of(item: &Item) -> (u64, u64, u64, u64)
 {
     match *item {
         Item::MaxData { maximum } => (0, 0, maximum, 0),
+        Item::MaxStreams { dir, count } => (1, number_of(dir), count, 0),
         Item::ResetStream {
             stream,
             code,
             final_size,
-        } => (1, stream.value(), code, final_size),
-        Item::StopSending { stream, code } => (2, stream.value(), code, 0),
-        Item::MaxStreamData { stream, maximum } => (3, stream.value(), maximum, 0),
-        Item::DataBlocked { limit } => (4, 0, limit, 0),
-        Item::StreamDataBlocked { stream, limit } => (5, stream.value(), limit, 0),
-        Item::StreamsBlocked { dir, count } => (6, number_of(dir), count, 0),
-        Item::MaxStreams { dir, count } => (7, number_of(dir), count, 0),
+        } => (2, stream.value(), code, final_size),
+        Item::StopSending { stream, code } => (3, stream.value(), code, 0),
+        Item::MaxStreamData { stream, maximum } => (4, stream.value(), maximum, 0),
+        Item::DataBlocked { limit } => (5, 0, limit, 0),
+        Item::StreamDataBlocked { stream, limit } => (6, stream.value(), limit, 0),
+        Item::StreamsBlocked { dir, count } => (7, number_of(dir), count, 0),
     }
 }
 

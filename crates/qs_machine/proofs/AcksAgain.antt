@@ -74,7 +74,8 @@ reverse_among k (x ∷ xs) a =
 held_item : (late : Bool) (i : Item) (e : End) → held late (item_acked i e) ≡ held late e
 held_item late (MaxData m) e = refl
 held_item late (MaxStreamData n m) e = refl
-held_item late (MaxStreams d m) e = refl
+held_item late (MaxStreams Bidi m) e = refl
+held_item late (MaxStreams Uni m) e = refl
 held_item late (ResetStream n code size) e = refl
 held_item late (StopSending n code) e = refl
 held_item late (DataBlocked m) e = refl

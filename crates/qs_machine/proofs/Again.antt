@@ -14,7 +14,6 @@ use Rattle.qs_send.specs.Lane.{SendLane, new_lane as new_send_lane, reset_refusa
 use Rattle.qs_send.specs.Records.{Among}
 use Rattle.qs_send.specs.declared.piece.Item.{Item}
 use Rattle.qs_send.specs.declared.piece.Item.TheVariants.{MaxData, MaxStreamData, MaxStreams, ResetStream, StopSending, DataBlocked, StreamDataBlocked, StreamsBlocked}
-use Rattle.qs_calls.specs.declared.settings.Settings.{Settings}
 use Rattle.qs_machine.specs.Tables.{Tables, lookup, updated, open_to}
 use Rattle.qs_machine.specs.Ends.{End, is_own, is_own_by, is_uni, on_send, on_recv, opens, opened_by_peer, first_send_limit, window}
 use Rattle.qs_machine.specs.Credit.{spent}
@@ -22,7 +21,7 @@ use Rattle.qs_machine.specs.Seen.{Seen, Ack, Stream, Control, Close, Plain}
 use Rattle.qs_machine.specs.Verdicts.{verdict, item_verdict, state_fault_in, state_fault_out, credit_fault, bytes_fault, fault_of, ack_fault, fault_if, or_else, or_new}
 use Rattle.qs_machine.specs.FrameStep.{frame_taken, item_taken, frames_taken, held, is_named, NoFault}
 use Rattle.qs_machine.specs.Receiving.{GoesOn}
-use Rattle.qs_machine.specs.Standing.{IsSound}
+use Rattle.qs_machine.specs.Standing.{IsInCredit, IsSound}
 use Rattle.qs_machine.specs.Repeats.{SentWasWritten, AreAmong}
 use Rattle.qs_machine.proofs.Choices.{not_chosen}
 use Rattle.qs_machine.proofs.TableLaws.{lookup_same, open_at}
@@ -89,28 +88,60 @@ send_back n f l e was is stays =
 
 -- Verdicts on the stream
 
-abbrev in_of : Role → Settings → Option RecvLane → ℕ → Option ℕ
-in_of role s o n = cond (is_own_by role n) (fault_if (is_none o) 0x05) (fault_if (nat_le (cond (is_uni n) s.grant_uni s.grant_bidi) (n / 4)) 0x04)
+-- by the counts that are granted
+abbrev count_fault : ℕ → ℕ → ℕ → Option ℕ
+count_fault bidi uni n = fault_if (nat_le (cond (is_uni n) uni bidi) (n / 4)) 0x04
 
-abbrev out_of : Role → Settings → Option SendLane → ℕ → Option ℕ
-out_of role s o n = cond (is_own_by role n) (fault_if (is_none o) 0x05) (cond (is_uni n) (Some 0x05) (fault_if (nat_le (cond (is_uni n) s.grant_uni s.grant_bidi) (n / 4)) 0x04))
+abbrev in_of : Role → Option RecvLane → ℕ → ℕ → ℕ → Option ℕ
+in_of role o bidi uni n = cond (is_own_by role n) (fault_if (is_none o) 0x05) (count_fault bidi uni n)
+
+abbrev out_of : Role → Option SendLane → ℕ → ℕ → ℕ → Option ℕ
+out_of role o bidi uni n = cond (is_own_by role n) (fault_if (is_none o) 0x05) (cond (is_uni n) (Some 0x05) (count_fault bidi uni n))
+
+-- a stream within the counts stays so where they rise
+count_stays : (bidi uni more_bidi more_uni n : ℕ) → bidi ≤ more_bidi → uni ≤ more_uni → count_fault bidi uni n ≡ None → count_fault more_bidi more_uni n ≡ None
+count_stays bidi uni more_bidi more_uni n le_bidi le_uni = go (is_uni n)
+  where
+    within : (few more : ℕ) → few ≤ more → fault_if (nat_le few (n / 4)) 0x04 ≡ None → fault_if (nat_le more (n / 4)) 0x04 ≡ None
+    within few more le h =
+        let below : nat_le few (n / 4) ≡ false = passed (nat_le few (n / 4)) h in
+        let still : nat_le more (n / 4) ≡ false = grind (arith, nat_tests) in
+        ap (λ c. fault_if c 0x04) still
+      where
+        passed : (c : Bool) → fault_if c 0x04 ≡ None → c ≡ false
+        passed true h = absurd (none-some 0x04 (sym h))
+        passed false h = refl
+
+    go : (u : Bool) → fault_if (nat_le (cond u uni bidi) (n / 4)) 0x04 ≡ None → fault_if (nat_le (cond u more_uni more_bidi) (n / 4)) 0x04 ≡ None
+    go true h = within uni more_uni le_uni h
+    go false h = within bidi more_bidi le_bidi h
 
 -- a half that is there stays there
-own_stays : {X : Type 0} (own : Bool) (other : Option ℕ) (o p : Option X) → (is_some o ≡ true → is_some p ≡ true) → cond own (fault_if (is_none o) 0x05) other ≡ None → cond own (fault_if (is_none p) 0x05) other ≡ None
-own_stays true other None p more h = absurd (none-some 0x05 (sym h))
-own_stays true other (Some x) None more h = absurd (both_ways false refl (more refl))
-own_stays true other (Some x) (Some y) more h = refl
-own_stays false other o p more h = h
+own_stays : {X : Type 0} (own : Bool) (other later : Option ℕ) (o p : Option X) → (is_some o ≡ true → is_some p ≡ true) → (other ≡ None → later ≡ None) → cond own (fault_if (is_none o) 0x05) other ≡ None → cond own (fault_if (is_none p) 0x05) later ≡ None
+own_stays true other later None p more fine h = absurd (none-some 0x05 (sym h))
+own_stays true other later (Some x) None more fine h = absurd (both_ways false refl (more refl))
+own_stays true other later (Some x) (Some y) more fine h = refl
+own_stays false other later o p more fine h = fine h
+
+uni_stays : (uni : Bool) (few more : Option ℕ) → (few ≡ None → more ≡ None) → cond uni (Some 0x05) few ≡ None → cond uni (Some 0x05) more ≡ None
+uni_stays true few more fine h = h
+uni_stays false few more fine h = fine h
 
 in_stays : (n : ℕ) (a b : End) → IsAfter a b → state_fault_in a n ≡ None → state_fault_in b n ≡ None
 in_stays n a b x h =
-    let there : in_of a.role a.settings (lookup b.recvs n) n ≡ None = own_stays (is_own_by a.role n) _ (lookup a.recvs n) (lookup b.recvs n) (still_open LaneAfter a.recvs b.recvs n x.recvs) h in
-    ap (λ r. in_of r b.settings (lookup b.recvs n) n) x.role ∙ ap (λ s. in_of a.role s (lookup b.recvs n) n) x.settings ∙ there
+    let there : in_of a.role (lookup b.recvs n) b.granted_bidi b.granted_uni n ≡ None =
+    own_stays (is_own_by a.role n) (count_fault a.granted_bidi a.granted_uni n) (count_fault b.granted_bidi b.granted_uni n) (lookup a.recvs n) (lookup b.recvs n) (still_open LaneAfter a.recvs b.recvs n x.recvs)
+    (count_stays a.granted_bidi a.granted_uni b.granted_bidi b.granted_uni n x.bidi_granted x.uni_granted) h in
+    ap (λ r. in_of r (lookup b.recvs n) b.granted_bidi b.granted_uni n) x.role ∙ there
 
 out_stays : (n : ℕ) (a b : End) → IsAfter a b → state_fault_out a n ≡ None → state_fault_out b n ≡ None
 out_stays n a b x h =
-    let there : out_of a.role a.settings (lookup b.sends n) n ≡ None = own_stays (is_own_by a.role n) _ (lookup a.sends n) (lookup b.sends n) (still_open HalfAfter a.sends b.sends n x.sends) h in
-    ap (λ r. out_of r b.settings (lookup b.sends n) n) x.role ∙ ap (λ s. out_of a.role s (lookup b.sends n) n) x.settings ∙ there
+    let few = count_fault a.granted_bidi a.granted_uni n in
+    let more = count_fault b.granted_bidi b.granted_uni n in
+    let there : out_of a.role (lookup b.sends n) b.granted_bidi b.granted_uni n ≡ None =
+    own_stays (is_own_by a.role n) (cond (is_uni n) (Some 0x05) few) (cond (is_uni n) (Some 0x05) more) (lookup a.sends n) (lookup b.sends n) (still_open HalfAfter a.sends b.sends n x.sends)
+    (uni_stays (is_uni n) few more (count_stays a.granted_bidi a.granted_uni b.granted_bidi b.granted_uni n x.bidi_granted x.uni_granted)) h in
+    ap (λ r. out_of r (lookup b.sends n) b.granted_bidi b.granted_uni n) x.role ∙ there
 
 ack_stays : (largest : ℕ) (a b : End) → IsAfter a b → ack_fault a largest ≡ None → ack_fault b largest ≡ None
 ack_stays largest a b x h =
@@ -184,7 +215,7 @@ refused_then : (l : SendLane) (code : ℕ) → is_some (reset_refusal (reset_lan
 refused_then l code =
     cond_both (is_some (reset_refusal l)) l (record l { was_reset = Some (record { code = code; size = cond l.fin_sent l.written l.sent_end }) }) (λ m. is_some (reset_refusal m) ≡ true) (λ is. is) (λ _. refl)
 
-item_done : (i : Item) (e : End) → verdict e (Control i) ≡ None → IsSound e → ItemDone i (item_taken i e)
+item_done : (i : Item) (e : End) → verdict e (Control i) ≡ None → IsInCredit e → ItemDone i (item_taken i e)
 unfolding verdict
 item_done (MaxData m) e v sound = omega arith
 item_done (MaxStreamData n m) e v sound =
@@ -210,11 +241,11 @@ item_done (DataBlocked m) e v sound = tt
 item_done (StreamDataBlocked n m) e v sound = (in_stays n e _ (after_opened n e) v, was_opened n e)
 item_done (StreamsBlocked d m) e v sound = tt
 
-ack_done : (largest : ℕ) (ranges : List (ℕ × ℕ)) (e : End) → verdict e (Ack largest ranges) ≡ None → IsSound e → SentWasWritten e → ack_fault (frame_taken (Ack largest ranges) e) largest ≡ None
+ack_done : (largest : ℕ) (ranges : List (ℕ × ℕ)) (e : End) → verdict e (Ack largest ranges) ≡ None → IsInCredit e → SentWasWritten e → ack_fault (frame_taken (Ack largest ranges) e) largest ≡ None
 unfolding verdict
 ack_done largest ranges e v sound sent = ack_stays largest e (frame_taken (Ack largest ranges) e) (after_frame (Ack largest ranges) e v sound sent) v
 
-pub frame_done : (f : Seen) (e : End) → GoesOn e f → IsSound e → SentWasWritten e → IsDone f (frame_taken f e)
+pub frame_done : (f : Seen) (e : End) → GoesOn e f → IsInCredit e → SentWasWritten e → IsDone f (frame_taken f e)
 unfolding frame_taken
 frame_done (Ack largest ranges) e goes sound sent = (ack_done largest ranges e goes sound sent, named_bare e ranges)
 frame_done (Stream n offset bytes fin) e v sound sent =
@@ -239,7 +270,7 @@ frame_done (Plain asks) e v sound sent = tt
 no_growth : (h spent granted : ℕ) → spent ≤ granted → nat_lt granted (spent + (h - h)) ≡ false
 no_growth h spent granted le = grind (arith, nat_tests)
 
-in_again : (n : ℕ) (l : RecvLane) (e : End) (check : RecvLane → Result Highest RecvFault) → state_fault_in e n ≡ None → lookup e.recvs n ≡ Some l → check l ≡ Ok (record { before = highest l; after = highest l }) → IsSound e
+in_again : (n : ℕ) (l : RecvLane) (e : End) (check : RecvLane → Result Highest RecvFault) → state_fault_in e n ≡ None → lookup e.recvs n ≡ Some l → check l ≡ Ok (record { before = highest l; after = highest l }) → IsInCredit e
     → or_else (state_fault_in e n) (credit_fault e (check (or_new (lookup e.recvs n) (window e n)))) ≡ None
 in_again n l e check fine is passes sound =
     ap (λ a. or_else a (credit_fault e (check (or_new (lookup e.recvs n) (window e n))))) fine
@@ -265,7 +296,7 @@ refused_back l code is = ap (λ b. cond b l (record l { was_reset = Some (record
 allow_back : (l : SendLane) (m : ℕ) → m ≤ l.limit → allow_lane l m ≡ l
 allow_back l m le = ap (λ k. record l { limit = k }) (max_known l.limit m le)
 
-item_again : (i : Item) (e : End) → ItemDone i e → IsSound e → (item_verdict e i ≡ None) × (item_taken i e ≡ e)
+item_again : (i : Item) (e : End) → ItemDone i e → IsInCredit e → (item_verdict e i ≡ None) × (item_taken i e ≡ e)
 item_again (MaxData m) e le sound = (refl, ap (λ k. record e { known_data = k }) (max_known e.known_data m le))
 item_again (MaxStreamData n m) e (fine, was, l, is, le) sound = (fine, send_back n (λ k. allow_lane k m) l e was is (allow_back l m le))
 item_again (MaxStreams Bidi m) e le sound = (refl, ap (λ k. record e { known_bidi = k }) (max_known e.known_bidi m le))
@@ -278,7 +309,7 @@ item_again (DataBlocked m) e h sound = (refl, refl)
 item_again (StreamDataBlocked n m) e (fine, was) sound = (fine, opened_back n e was)
 item_again (StreamsBlocked d m) e h sound = (refl, refl)
 
-pub frame_again : (f : Seen) (e : End) → IsDone f e → IsSound e → GoesOn e f × (frame_taken f e ≡ e)
+pub frame_again : (f : Seen) (e : End) → IsDone f e → IsInCredit e → GoesOn e f × (frame_taken f e ≡ e)
 unfolding verdict frame_taken
 frame_again (Ack largest ranges) e (fine, bare) sound = (fine, named_again e ranges bare)
 frame_again (Stream n offset bytes fin) e (fine, was, l, is, has) sound =
@@ -315,8 +346,8 @@ pub record IsLeft (e new : End) : Type 0 where
 pub one_left : (f : Seen) (e : End) → GoesOn e f → IsSound e → SentWasWritten e → IsLeft e (frame_taken f e)
 one_left f e goes sound sent =
     let v = no_fault_there e f goes in
-    let x = after_frame f e v sound sent in
-    record { after = x; sound = sound_frame f e v sound; sent = sent_stays e (frame_taken f e) x sent }
+    let x = after_frame f e v sound.0 sent in
+    record { after = x; sound = (sound_frame f e v sound.0, x.counts sound.1); sent = sent_stays e (frame_taken f e) x sent }
 
 pub all_left : (fs : List Seen) (e : End) → IsSound e → SentWasWritten e → NoFault e fs → IsLeft e (frames_taken fs e)
 unfolding frames_taken
@@ -334,11 +365,11 @@ all_done (g ∷ fs) e sound sent h f a =
     let (goes, rest) = first_goes e g fs h in
     let one = one_left g e goes sound sent in
     elim a [
-      | inl is ↦ subst (λ k. IsDone k (frames_taken fs (frame_taken g e))) (sym is) (done_stays g (frame_taken g e) _ (all_left fs (frame_taken g e) one.sound one.sent rest).after (frame_done g e goes sound sent))
+      | inl is ↦ subst (λ k. IsDone k (frames_taken fs (frame_taken g e))) (sym is) (done_stays g (frame_taken g e) _ (all_left fs (frame_taken g e) one.sound one.sent rest).after (frame_done g e goes sound.0 sent))
       | inr later ↦ all_done fs (frame_taken g e) one.sound one.sent rest f later
     ]
 
-pub all_again : (fs : List Seen) (e : End) → IsSound e → ((f : Seen) → Among f fs → IsDone f e) → NoFault e fs × (frames_taken fs e ≡ e)
+pub all_again : (fs : List Seen) (e : End) → IsInCredit e → ((f : Seen) → Among f fs → IsDone f e) → NoFault e fs × (frames_taken fs e ≡ e)
 unfolding frames_taken
 all_again [] e sound h = (tt, refl)
 all_again (f ∷ fs) e sound h =
@@ -350,4 +381,4 @@ all_again (f ∷ fs) e sound h =
 pub frames_repeat : (e : End) (frames again : List Seen) → IsSound e → SentWasWritten e → NoFault e frames → AreAmong again frames
     → NoFault (frames_taken frames e) again × (frames_taken again (frames_taken frames e) ≡ frames_taken frames e)
 frames_repeat e frames again sound sent h among =
-    all_again again (frames_taken frames e) (all_left frames e sound sent h).sound (λ f a. all_done frames e sound sent h f (among f a))
+    all_again again (frames_taken frames e) (all_left frames e sound sent h).sound.0 (λ f a. all_done frames e sound sent h f (among f a))

@@ -1,11 +1,16 @@
 -- A sound end stores at most what it granted, and a new end is sound.
 use Rattle.std.proofs.Common.{◌≡◌, ℕ, zero, suc, ◌+◌, ◌-◌, ◌/◌, ◌%◌, ◌≤◌, [], slice_get, Bool, true, false, not, ◌&&◌, ◌||◌, Option, Some, None, is_some, refl, sym, ap, ◌∙◌, subst, arith}
-use Rattle.std.specs.Prelude.{cond, Result, Ok, Err}
+use Rattle.std.specs.Prelude.{cond, Result, Ok, Err, List, length, zip}
+use Rattle.std.specs.List.{filter}
 use Rattle.std.specs.FinMap as fmap
 use Rattle.std.specs.Ordering.{nat_cmp}
 use Rattle.std.proofs.lemmas.Option.{none-some}
+use Rattle.std.proofs.lemmas.Bool.Decides.{nat_tests}
 use Rattle.qs_ranges.proofs.Sets.{below-end_of}
+use Rattle.qs_wire.specs.declared.stream_id.Dir.{Dir}
+use Rattle.qs_wire.specs.declared.stream_id.Dir.TheVariants.{Bidi, Uni}
 use Rattle.qs_wire.specs.declared.stream_id.Role.{Role}
+use Rattle.qs_send.specs.Lane.{SendLane}
 use Rattle.qs_recv.specs.Lane.{RecvLane, highest, taken}
 use Rattle.qs_recv.specs.Lawful.{IsLawful}
 use Rattle.qs_recv.proofs.LaneLaws.{len_within}
@@ -16,9 +21,10 @@ use Rattle.qs_calls.specs.declared.settings.SetupFault.{SetupFault}
 use Rattle.qs_calls.specs.declared.settings.SetupFault.TheVariants.{OutOfRange, TooManyStreams}
 use Rattle.qs_calls.specs.Settings.{are_in_range, are_spellable, are_countable, setup_fault}
 use Rattle.qs_machine.specs.Tables.{table, lookup, total, no_streams}
-use Rattle.qs_machine.specs.Ends.{End, window, new_end, end_made, end_unless}
-use Rattle.qs_machine.specs.Credit.{spent, all_taken, all_stored}
-use Rattle.qs_machine.specs.Standing.{HasLawfulLane, IsSound, IsLaneWithin, IsWithinCredit}
+use Rattle.qs_machine.specs.Ends.{End, role_bit, window, new_end, end_made, end_unless}
+use Rattle.qs_machine.specs.Credit.{spent, all_taken, all_stored, granted_streams, lifetime, recv_ended, both_ended, ended}
+use Rattle.qs_machine.specs.Standing.{HasLawfulLane, IsInCredit, CountsStand, IsSound, CountsAreSettled, IsLaneWithin, IsWithinCredit}
+use Rattle.qs_machine.proofs.Counts.{settled_stand}
 use Rattle.qs_machine.proofs.TableLaws.{value, total_le, total_both}
 
 -- of one lane: what is stored and what was taken, together, the peer has used up
@@ -44,24 +50,29 @@ slot_within : (role : Role) (s : Settings) (n : ℕ) (o : Option RecvLane) → H
 slot_within role s n None h = omega arith
 slot_within role s n (Some l) h = stored_and_taken l h.0
 
+few_counts : (e : End) → CountsStand e → (d : Dir) → granted_streams e d ≤ lifetime e.settings d
+few_counts e h Bidi = omega (arith, h.0)
+few_counts e h Uni = omega (arith, h.1)
+
 pub within_credit : (e : End) → IsSound e → IsWithinCredit e
 within_credit e h =
     let all : all_stored e + all_taken e ≤ spent e =
     omega (
       arith,
       total_both (λ l. fmap.len l.arrived.stored) taken e.recvs,
-      total_le (λ l. fmap.len l.arrived.stored + taken l) highest e.recvs e.recvs (λ n. slot_within e.role e.settings n (lookup e.recvs n) (h.lanes n)),
+      total_le (λ l. fmap.len l.arrived.stored + taken l) highest e.recvs e.recvs (λ n. slot_within e.role e.settings n (lookup e.recvs n) (h.0.lanes n)),
     ) in
     record {
-      stored = omega (arith, all, h.spent);
-      credit = omega (arith, h.in_window);
-      spent = h.spent;
-      lanes = λ n l is. (let p : HasLawfulLane e.role e.settings n (Some l) = subst (HasLawfulLane e.role e.settings n) is (h.lanes n) in lane_within l (window e n) p.0 p.1);
+      stored = omega (arith, all, h.0.spent);
+      credit = omega (arith, h.0.in_window);
+      spent = h.0.spent;
+      lanes = λ n l is. (let p : HasLawfulLane e.role e.settings n (Some l) = subst (HasLawfulLane e.role e.settings n) is (h.0.lanes n) in lane_within l (window e n) p.0 p.1);
+      counts = few_counts e h.1;
     }
 
 -- A new end
 
-no_table : (k : ℕ) → table (no_streams {X = RecvLane}) k ≡ []
+no_table : {X : Type 0} (k : ℕ) → table (no_streams {X = X}) k ≡ []
 no_table zero = refl
 no_table (suc zero) = refl
 no_table (suc (suc zero)) = refl
@@ -71,15 +82,35 @@ no_lane : (n : ℕ) → lookup (no_streams {X = RecvLane}) n ≡ None
 unfolding lookup
 no_lane n = ap (λ xs. slice_get xs (n / 4)) (no_table (n % 4))
 
-new_end_sound : (role : Role) (s : Settings) (p : PeerLimits) → are_in_range s ≡ true → IsSound (new_end role s p)
+new_end_in_credit : (role : Role) (s : Settings) (p : PeerLimits) → are_in_range s ≡ true → IsInCredit (new_end role s p)
 unfolding total
-new_end_sound role s p fits =
+new_end_in_credit role s p fits =
     record {
       settings = fits;
       lanes = λ n. subst (HasLawfulLane role s n) (sym (no_lane n)) tt;
       spent = omega arith;
       in_window = omega arith;
     }
+
+-- none of its streams ended
+
+none_ended : (role : Role) (s : Settings) (p : PeerLimits) (d : Dir) → ended (new_end role s p) d ≡ 0
+none_ended role s p Bidi = ap (λ (xs : List RecvLane). length (filter both_ended (zip xs (table (no_streams {X = SendLane}) (1 - role_bit role))))) (no_table (1 - role_bit role))
+none_ended role s p Uni = ap (λ (xs : List RecvLane). length (filter recv_ended xs)) (no_table (3 - role_bit role))
+
+pub record GrantsFit (s : Settings) : Type 0 where
+  pub bidi : s.grant_bidi ≤ s.lifetime_bidi
+  pub uni : s.grant_uni ≤ s.lifetime_uni
+
+grants_fit : (s : Settings) → are_in_range s ≡ true → GrantsFit s
+grants_fit s h = record { bidi = grind (arith, nat_tests, h); uni = grind (arith, nat_tests, h) }
+
+new_end_settled : (role : Role) (s : Settings) (p : PeerLimits) → are_in_range s ≡ true → CountsAreSettled (new_end role s p)
+new_end_settled role s p fits Bidi = omega (arith, none_ended role s p Bidi, (grants_fit s fits).bidi)
+new_end_settled role s p fits Uni = omega (arith, none_ended role s p Uni, (grants_fit s fits).uni)
+
+new_end_sound : (role : Role) (s : Settings) (p : PeerLimits) → are_in_range s ≡ true → IsSound (new_end role s p)
+new_end_sound role s p fits = (new_end_in_credit role s p fits, settled_stand (new_end role s p) (new_end_settled role s p fits))
 
 in_range : (a b c : Bool) → cond (not (a && b)) (Some OutOfRange) (cond (not c) (Some TooManyStreams) None) ≡ None → a ≡ true
 in_range true b c e = refl
@@ -96,3 +127,8 @@ pub new_ends_sound : (role : Role) (s : Settings) (p : PeerLimits) (e : End) →
 new_ends_sound role s p e made =
     let (none, is) = made_end (setup_fault s p) (new_end role s p) e made in
     subst IsSound is (new_end_sound role s p (in_range (are_in_range s) (are_spellable p) (are_countable p) none))
+
+pub new_ends_settled : (role : Role) (s : Settings) (p : PeerLimits) (e : End) → end_made role s p ≡ Ok e → CountsAreSettled e
+new_ends_settled role s p e made =
+    let (none, is) = made_end (setup_fault s p) (new_end role s p) e made in
+    subst CountsAreSettled is (new_end_settled role s p (in_range (are_in_range s) (are_spellable p) (are_countable p) none))

@@ -11,6 +11,11 @@ pub by_refusal : {A F : Type 0} (P : Type 0) (r : Option F) (old : End) (answer 
 by_refusal P (Some fault) old answer new Effect h same effect = same h.1
 by_refusal P None old answer new Effect h same effect = effect h
 
+-- the same, with what tells that nothing was refused
+pub if_allowed : {A F : Type 0} (P : Type 0) (r : Option F) (old : End) (answer : Result A F) (new : End) (Effect : Type 0) → Certain r old answer new Effect → (new ≡ old → P) → (r ≡ None → Effect → P) → P
+if_allowed P (Some fault) old answer new Effect h same effect = same h.1
+if_allowed P None old answer new Effect h same effect = effect refl h
+
 pub by_memory : {A F : Type 0} (P : Type 0) (r : Option F) (f : F) (old : End) (answer : Result A F) (new : End) (Effect : Type 0) → Uncertain r f old answer new Effect → (new ≡ old → P) → (Effect → P) → P
 by_memory P r f old answer new Effect h same effect =
     by_refusal P r old answer new _ h same (λ e. elim e [ inl none ↦ same none.1 | inr done ↦ effect done ])

@@ -1,16 +1,14 @@
 -- What an end keeps as frames come and as a call ends.
-use Rattle.std.proofs.Common.{◌≡◌, ℕ, zero, suc, take, ◌+◌, ◌≤◌, Bool, true, false, not, ◌&&◌, ◌||◌, cond, nat_eq, List, [], ◌∷◌, ◌++◌, length, map, Option, Some, None, is_some, refl, sym, ap, ◌∙◌, subst, arith, inl, inr}
-use Rattle.std.specs.Prelude.{⊤, flat_map, IsOk, ◌==◌}
+use Rattle.std.proofs.Common.{◌≡◌, ℕ, zero, suc, take, ◌+◌, ◌≤◌, Bool, true, false, not, ◌&&◌, cond, nat_eq, List, [], ◌∷◌, ◌++◌, length, map, Option, Some, None, is_some, refl, sym, ap, ◌∙◌, subst, arith, inl, inr}
+use Rattle.std.specs.Prelude.{⊤, flat_map, IsOk}
 use Rattle.std.specs.FinMap as fmap
-use Rattle.std.specs.FinSet as set
-use Rattle.std.proofs.lemmas.Bool.{both_ways, cond_both, and_parts, or_left}
+use Rattle.std.proofs.lemmas.Bool.{both_ways, cond_both}
 use Rattle.std.proofs.lemmas.Bool.Decides.{nat_tests}
-use Rattle.qs_ranges.specs.Numbers.{missing_from}
-use Rattle.qs_ranges.proofs.Sets.{missing_from-with_later}
+use Rattle.qs_wire.specs.declared.stream_id.Dir.{Dir}
 use Rattle.qs_wire.specs.declared.stream_id.Dir.TheVariants.{Bidi, Uni}
 use Rattle.qs_recv.specs.Lane.{RecvLane, new_lane as new_recv_lane, check_stream, check_reset, take_stream, take_reset, raise}
 use Rattle.qs_recv.specs.Lawful.{IsLawful}
-use Rattle.qs_send.specs.Lane.{SendLane, new_lane as new_send_lane, reset_refusal, is_whole, unacked_from, chunk_offsets, acked_lane, reset_lane, reset_acked_lane, allow_lane}
+use Rattle.qs_send.specs.Lane.{SendLane, new_lane as new_send_lane, reset_refusal, is_whole, acked_lane, reset_lane, reset_acked_lane, allow_lane}
 use Rattle.qs_send.specs.Records.{Among, IsCarried, without_first}
 use Rattle.qs_send.specs.declared.parts.Chunk.{Chunk}
 use Rattle.qs_send.specs.declared.parts.SendFault.{SendFault}
@@ -24,12 +22,14 @@ use Rattle.qs_machine.specs.Tables.{Tables, lookup}
 use Rattle.qs_calls.specs.declared.closing.Closed.{Closed}
 use Rattle.qs_machine.specs.Recording.{recorded}
 use Rattle.qs_machine.specs.Ends.{End, Records, AckedItems, closes, is_own, is_uni, on_send, on_recv, opens, opened_by_peer, first_send_limit, window}
-use Rattle.qs_machine.specs.Credit.{settle}
+use Rattle.qs_machine.specs.Credit.{next_count, settle}
 use Rattle.qs_machine.specs.Seen.{Seen, Ack, Stream, Control, Close, Plain}
 use Rattle.qs_machine.specs.Verdicts.{verdict, or_new}
 use Rattle.qs_machine.specs.FrameStep.{frame_taken, item_taken, AckedPiece, acked_at, held, without_piece, pieces_of, acked_numbers, named_in, named, acks, first_acked, piece_acked, item_acked}
-use Rattle.qs_machine.specs.Standing.{IsSound, HasLawfulLane}
+use Rattle.qs_machine.specs.Standing.{IsInCredit, CountsStand, HasLawfulLane}
 use Rattle.qs_machine.specs.Repeats.{IsWritten, WasWritten, SentWasWritten}
+use Rattle.qs_machine.proofs.EndedHalves.{RecvStays, SendStays, reset_by, new_reset_keeps, reset_acked_keeps, whole_acked, acked_keeps}
+use Rattle.qs_machine.proofs.Counts.{next_grows, counts_stand}
 use Rattle.qs_machine.proofs.FramesSound.{sound_opened}
 use Rattle.qs_machine.proofs.Taken.{stream_checked, reset_checked}
 use Rattle.qs_machine.proofs.LanesAgain.{LaneAfter, lane_same, lane_twice, data_after, reset_after, raise_after}
@@ -42,23 +42,24 @@ pub record HalfAfter (l m : SendLane) : Type 0 where
   pub limit : l.limit ≤ m.limit
   pub written : l.written ≤ m.written
   pub refused : is_some (reset_refusal l) ≡ true → is_some (reset_refusal m) ≡ true
+  pub ended : SendStays l m
 
 pub half_same : (l : SendLane) → HalfAfter l l
-half_same l = record { limit = omega arith; written = omega arith; refused = λ is. is }
+half_same l = record { limit = omega arith; written = omega arith; refused = λ is. is; ended = λ is. is }
 
 pub half_twice : (l m k : SendLane) → HalfAfter l m → HalfAfter m k → HalfAfter l k
-half_twice l m k a b = record { limit = omega (arith, a.limit, b.limit); written = omega (arith, a.written, b.written); refused = λ is. b.refused (a.refused is) }
+half_twice l m k a b = record { limit = omega (arith, a.limit, b.limit); written = omega (arith, a.written, b.written); refused = λ is. b.refused (a.refused is); ended = λ is. b.ended (a.ended is) }
 
 half_allow : (l : SendLane) (m : ℕ) → HalfAfter l (allow_lane l m)
-half_allow l m = record { limit = omega arith; written = omega arith; refused = λ is. is }
+half_allow l m = record { limit = omega arith; written = omega arith; refused = λ is. is; ended = λ is. is }
 
 half_reset : (l : SendLane) (code : ℕ) → HalfAfter l (reset_lane l code)
 half_reset l code =
-    cond_both (is_some (reset_refusal l)) l (record l { was_reset = Some (record { code = code; size = cond l.fin_sent l.written l.sent_end }) }) (HalfAfter l)
-    (λ _. half_same l) (λ _. record { limit = omega arith; written = omega arith; refused = λ is. refl })
+    cond_both (is_some (reset_refusal l)) l (reset_by code l) (HalfAfter l) (λ _. half_same l) (λ allowed.
+    record { limit = omega arith; written = omega arith; refused = λ is. refl; ended = new_reset_keeps code l allowed })
 
 half_reset_acked : (l : SendLane) → HalfAfter l (reset_acked_lane l)
-half_reset_acked l = record { limit = omega arith; written = omega arith; refused = λ is. is }
+half_reset_acked l = record { limit = omega arith; written = omega arith; refused = λ is. is; ended = reset_acked_keeps l }
 
 refused_more : (a b c : Bool) → (b ≡ true → c ≡ true) → is_some {T = SendFault} (cond a (Some WasReset) (cond b (Some Finished) None)) ≡ true → is_some {T = SendFault} (cond a (Some WasReset) (cond c (Some Finished) None)) ≡ true
 refused_more true b c more is = refl
@@ -71,11 +72,8 @@ half_acked l c within =
     record {
       limit = omega arith;
       written = omega arith;
-      refused = refused_more (is_some l.was_reset) (is_whole l) (is_whole (acked_lane l c)) (λ whole.
-          let (all, end) = and_parts (unacked_from l == l.written) l.fin_acked whole in
-          let from : unacked_from l ≡ l.written = grind (arith, nat_tests, all) in
-          let later : missing_from (set.union l.acked (chunk_offsets c)) 0 ≡ unacked_from l = missing_from-with_later l.acked 0 c.offset (c.offset + c.len) (inr (omega (arith, within, from))) in
-          ap (λ k. (k == l.written) && (l.fin_acked || c.fin)) later ∙ ap (λ b. b && (l.fin_acked || c.fin)) all ∙ or_left l.fin_acked c.fin end);
+      refused = refused_more (is_some l.was_reset) (is_whole l) (is_whole (acked_lane l c)) (whole_acked l c within);
+      ended = acked_keeps l c within;
     }
 
 -- Ends
@@ -94,6 +92,9 @@ pub record IsAfter (a b : End) : Type 0 where
   pub credit : a.known_data ≤ b.known_data
   pub bidi : a.known_bidi ≤ b.known_bidi
   pub uni : a.known_uni ≤ b.known_uni
+  pub bidi_granted : a.granted_bidi ≤ b.granted_bidi
+  pub uni_granted : a.granted_uni ≤ b.granted_uni
+  pub counts : CountsStand a → CountsStand b
   pub recvs : KeptIn LaneAfter a.recvs b.recvs
   pub sends : KeptIn HalfAfter a.sends b.sends
   pub bare : (late : Bool) (k : ℕ) → IsBare (fmap.get (held late a) k) → IsBare (fmap.get (held late b) k)
@@ -105,11 +106,36 @@ recvs_same t = kept_same LaneAfter lane_same t
 sends_same : (t : Tables SendLane) → KeptIn HalfAfter t t
 sends_same t = kept_same HalfAfter half_same t
 
+-- halves that ended stay so
+pub lanes_stay : (t u : Tables RecvLane) → KeptIn LaneAfter t u → KeptIn RecvStays t u
+lanes_stay t u kept n l is = let (m, there, r) = kept n l is in (m, there, r.ended)
+
+pub halves_stay : (t u : Tables SendLane) → KeptIn HalfAfter t u → KeptIn SendStays t u
+halves_stay t u kept n l is = let (m, there, r) = kept n l is in (m, there, r.ended)
+
+next_after : (a b : End) → b.role ≡ a.role → b.settings ≡ a.settings → KeptIn LaneAfter a.recvs b.recvs → KeptIn HalfAfter a.sends b.sends → (d : Dir) → next_count a d ≤ next_count b d
+next_after a b role settings rr ss d = next_grows a b role settings (lanes_stay a.recvs b.recvs rr) (halves_stay a.sends b.sends ss) d
+
 -- an end whose tables and known limits moved
 after_parts : (e : End) (s : Tables SendLane) (r : Tables RecvLane) (g d b u : ℕ) → KeptIn HalfAfter e.sends s → KeptIn LaneAfter e.recvs r → e.known_data ≤ d → e.known_bidi ≤ b → e.known_uni ≤ u
     → IsAfter e (record e { sends = s; recvs = r; granted = g; known_data = d; known_bidi = b; known_uni = u })
 after_parts e s r g d b u ss rr dd bb uu =
-    record { role = refl; settings = refl; next = omega arith; credit = dd; bidi = bb; uni = uu; recvs = rr; sends = ss; bare = λ late k is. is; carried = λ late p is. is }
+    let new : End = record e { sends = s; recvs = r; granted = g; known_data = d; known_bidi = b; known_uni = u } in
+    record {
+      role = refl;
+      settings = refl;
+      next = omega arith;
+      credit = dd;
+      bidi = bb;
+      uni = uu;
+      bidi_granted = omega arith;
+      uni_granted = omega arith;
+      counts = λ h. (omega (arith, h.0, next_after e new refl refl rr ss Bidi), omega (arith, h.1, next_after e new refl refl rr ss Uni));
+      recvs = rr;
+      sends = ss;
+      bare = λ late k is. is;
+      carried = λ late p is. is;
+    }
 
 after_tables : (e : End) (s : Tables SendLane) (r : Tables RecvLane) (g : ℕ) → KeptIn HalfAfter e.sends s → KeptIn LaneAfter e.recvs r → IsAfter e (record e { sends = s; recvs = r; granted = g })
 after_tables e s r g ss rr = after_parts e s r g e.known_data e.known_bidi e.known_uni ss rr (omega arith) (omega arith) (omega arith)
@@ -129,6 +155,9 @@ after_twice a b c x y =
       credit = omega (arith, x.credit, y.credit);
       bidi = omega (arith, x.bidi, y.bidi);
       uni = omega (arith, x.uni, y.uni);
+      bidi_granted = omega (arith, x.bidi_granted, y.bidi_granted);
+      uni_granted = omega (arith, x.uni_granted, y.uni_granted);
+      counts = λ h. y.counts (x.counts h);
       recvs = kept_twice LaneAfter lane_same lane_twice a.recvs b.recvs c.recvs x.recvs y.recvs;
       sends = kept_twice HalfAfter half_same half_twice a.sends b.sends c.sends x.sends y.sends;
       bare = λ late k is. y.bare late k (x.bare late k is);
@@ -137,10 +166,10 @@ after_twice a b c x y =
 
 -- what neither moves the tables nor the records nor the known limits
 pub after_closes : (c : Closed) (e : End) → IsAfter e (closes c e)
-after_closes c e = record { role = refl; settings = refl; next = omega arith; credit = omega arith; bidi = omega arith; uni = omega arith; recvs = recvs_same e.recvs; sends = sends_same e.sends; bare = λ late k is. is; carried = λ late p is. is }
+after_closes c e = record { role = refl; settings = refl; next = omega arith; credit = omega arith; bidi = omega arith; uni = omega arith; bidi_granted = omega arith; uni_granted = omega arith; counts = λ h. h; recvs = recvs_same e.recvs; sends = sends_same e.sends; bare = λ late k is. is; carried = λ late p is. is }
 
 pub after_recorded : (k : ℕ) (asks : Bool) (e : End) → IsAfter e (recorded k asks e)
-after_recorded k asks e = record { role = refl; settings = refl; next = omega arith; credit = omega arith; bidi = omega arith; uni = omega arith; recvs = recvs_same e.recvs; sends = sends_same e.sends; bare = λ late k is. is; carried = λ late p is. is }
+after_recorded k asks e = record { role = refl; settings = refl; next = omega arith; credit = omega arith; bidi = omega arith; uni = omega arith; bidi_granted = omega arith; uni_granted = omega arith; counts = λ h. h; recvs = recvs_same e.recvs; sends = sends_same e.sends; bare = λ late k is. is; carried = λ late p is. is }
 
 -- Openings, and changes of a half
 
@@ -159,8 +188,24 @@ after_send n f e kept = after_tables e _ e.recvs e.granted (kept_updated HalfAft
 after_recv : (n : ℕ) (f : RecvLane → RecvLane) (e : End) → ((l : RecvLane) → lookup e.recvs n ≡ Some l → LaneAfter l (f l)) → IsAfter e (on_recv n f e)
 after_recv n f e kept = after_tables e e.sends _ e.granted (sends_same e.sends) (kept_updated LaneAfter lane_same e.recvs n f kept)
 
-pub after_settle : (e : End) → IsAfter e (settle e)
-after_settle e = after_tables e e.sends _ _ (sends_same e.sends) (kept_each LaneAfter lane_same e.recvs raise raise_after)
+-- as a call ends, no count falls, where each was at most the next one
+pub after_settle : (e : End) → CountsStand e → IsAfter e (settle e)
+after_settle e h =
+    record {
+      role = refl;
+      settings = refl;
+      next = omega arith;
+      credit = omega arith;
+      bidi = omega arith;
+      uni = omega arith;
+      bidi_granted = h.0;
+      uni_granted = h.1;
+      counts = λ _. counts_stand e;
+      recvs = kept_each LaneAfter lane_same e.recvs raise raise_after;
+      sends = sends_same e.sends;
+      bare = λ late k is. is;
+      carried = λ late p is. is;
+    }
 
 -- Acknowledgements
 
@@ -200,6 +245,9 @@ after_without late k e =
       credit = omega arith;
       bidi = omega arith;
       uni = omega arith;
+      bidi_granted = omega arith;
+      uni_granted = omega arith;
+      counts = λ h. h;
       recvs = recvs_same e.recvs;
       sends = sends_same e.sends;
       bare = λ b j is. bare_without b late k e j is;
@@ -207,12 +255,13 @@ after_without late k e =
     }
 
 after_acked_items : (e : End) (a : AckedItems) → IsAfter e (record e { acked = a })
-after_acked_items e a = record { role = refl; settings = refl; next = omega arith; credit = omega arith; bidi = omega arith; uni = omega arith; recvs = recvs_same e.recvs; sends = sends_same e.sends; bare = λ late k is. is; carried = λ late p is. is }
+after_acked_items e a = record { role = refl; settings = refl; next = omega arith; credit = omega arith; bidi = omega arith; uni = omega arith; bidi_granted = omega arith; uni_granted = omega arith; counts = λ h. h; recvs = recvs_same e.recvs; sends = sends_same e.sends; bare = λ late k is. is; carried = λ late p is. is }
 
 after_item_acked : (i : Item) (e : End) → IsAfter e (item_acked i e)
 after_item_acked (MaxData m) e = after_acked_items e _
 after_item_acked (MaxStreamData n m) e = after_acked_items e _
-after_item_acked (MaxStreams d m) e = after_same e
+after_item_acked (MaxStreams Bidi m) e = after_acked_items e _
+after_item_acked (MaxStreams Uni m) e = after_acked_items e _
 after_item_acked (ResetStream n code size) e = after_send n reset_acked_lane e (λ l is. half_reset_acked l)
 after_item_acked (StopSending n code) e = after_acked_items e _
 after_item_acked (DataBlocked m) e = after_acked_items e _
@@ -295,18 +344,18 @@ named_written e ranges h =
 
 -- Frames
 
-pub lawful_in : (e : End) (n : ℕ) (l : RecvLane) → IsSound e → lookup e.recvs n ≡ Some l → IsLawful l
+pub lawful_in : (e : End) (n : ℕ) (l : RecvLane) → IsInCredit e → lookup e.recvs n ≡ Some l → IsLawful l
 lawful_in e n l sound is = (subst (HasLawfulLane e.role e.settings n) is (sound.lanes n)).0
 
 -- of the end with the stream open
-pub mid_stream : (n offset : ℕ) (bytes : List ℕ) (fin : Bool) (e : End) → verdict e (Stream n offset bytes fin) ≡ None → IsSound e
+pub mid_stream : (n offset : ℕ) (bytes : List ℕ) (fin : Bool) (e : End) → verdict e (Stream n offset bytes fin) ≡ None → IsInCredit e
     → IsAfter (opened_by_peer n e) (on_recv n (λ l. take_stream l offset bytes fin) (opened_by_peer n e))
 mid_stream n offset bytes fin e v sound =
     after_recv n (λ l. take_stream l offset bytes fin) (opened_by_peer n e) (λ l is.
     data_after l offset bytes fin (lawful_in (opened_by_peer n e) n l (sound_opened n e sound) is)
     (subst (λ o. IsOk (check_stream (or_new o 0) offset (length bytes) fin)) is (stream_checked e (opened_by_peer n e) n offset bytes fin v refl)))
 
-pub mid_reset : (n code size : ℕ) (e : End) → verdict e (Control (ResetStream n code size)) ≡ None → IsSound e
+pub mid_reset : (n code size : ℕ) (e : End) → verdict e (Control (ResetStream n code size)) ≡ None → IsInCredit e
     → IsAfter (opened_by_peer n e) (on_recv n (λ l. take_reset l code size) (opened_by_peer n e))
 mid_reset n code size e v sound =
     after_recv n (λ l. take_reset l code size) (opened_by_peer n e) (λ l is.
@@ -319,7 +368,7 @@ mid_allow n m e = after_send n (λ l. allow_lane l m) (opened_by_peer n e) (λ l
 pub mid_stop : (n code : ℕ) (e : End) → IsAfter (opened_by_peer n e) (on_send n (λ l. reset_lane l code) (opened_by_peer n e))
 mid_stop n code e = after_send n (λ l. reset_lane l code) (opened_by_peer n e) (λ l is. half_reset l code)
 
-after_item : (i : Item) (e : End) → verdict e (Control i) ≡ None → IsSound e → IsAfter e (item_taken i e)
+after_item : (i : Item) (e : End) → verdict e (Control i) ≡ None → IsInCredit e → IsAfter e (item_taken i e)
 after_item (MaxData m) e v h = after_known e _ e.known_bidi e.known_uni (omega arith) (omega arith) (omega arith)
 after_item (MaxStreamData n m) e v h = after_twice e (opened_by_peer n e) _ (after_opened n e) (mid_allow n m e)
 after_item (MaxStreams Bidi m) e v h = after_known e e.known_data _ e.known_uni (omega arith) (omega arith) (omega arith)
@@ -330,7 +379,7 @@ after_item (DataBlocked m) e v h = after_same e
 after_item (StreamDataBlocked n m) e v h = after_opened n e
 after_item (StreamsBlocked d m) e v h = after_same e
 
-pub after_frame : (f : Seen) (e : End) → verdict e f ≡ None → IsSound e → SentWasWritten e → IsAfter e (frame_taken f e)
+pub after_frame : (f : Seen) (e : End) → verdict e f ≡ None → IsInCredit e → SentWasWritten e → IsAfter e (frame_taken f e)
 unfolding frame_taken
 after_frame (Ack largest ranges) e v sound sent = after_acks (named e ranges) e (named_written e ranges sent)
 after_frame (Stream n offset bytes fin) e v sound sent = after_twice e (opened_by_peer n e) _ (after_opened n e) (mid_stream n offset bytes fin e v sound)

@@ -16,7 +16,7 @@ use Rattle.qs_ranges.proofs.Sets.{end_of-empty, end_of-with_range}
 use Rattle.qs_machine.specs.Tables.{lookup, update, open_to, each, total}
 use Rattle.qs_machine.specs.Verdicts.{verdict}
 use Rattle.qs_machine.specs.FrameStep.{frame_taken}
-use Rattle.qs_machine.specs.Examples.{StreamLimitHolds, ConnectionLimitHolds, FinalSizeHolds, ChangedBytesClose, StreamStateHolds, UnusedNumbersClose, LimitsMove, LowerStreamsOpen, StopResets, BlockedIsTold, LimitsRiseAfterwards, NewLimitIsTold, EmptyStreamIsSent, AcksTakeWhatTheyName, Examples, letters, first_part, second_part, two_sent, three_frames, three_frames_text, third_offends, told_end, server, standard}
+use Rattle.qs_machine.specs.Examples.{StreamLimitHolds, ConnectionLimitHolds, FinalSizeHolds, ChangedBytesClose, StreamStateHolds, UnusedNumbersClose, LimitsMove, LowerStreamsOpen, StopResets, BlockedIsTold, LimitsRiseAfterwards, NewLimitIsTold, StreamCountsGrow, EmptyStreamIsSent, AcksTakeWhatTheyName, Examples, letters, first_part, second_part, two_sent, three_frames, three_frames_text, third_offends, told_end, server, standard}
 use Rattle.qs_machine.specs.Ends.{End}
 use Rattle.qs_machine.specs.Seen.{Stream}
 use Rattle.qs_machine.specs.Receiving.{Takes, TakesPayload}
@@ -228,6 +228,20 @@ new_limit =
       once = λ due. due.1 (inr (fmap.get-insert nat_cmp_total fmap.empty 0 _ 0 ∙ ap (λ o. Some (max (or_zero o) 15)) (fmap.get-empty nat_cmp 0)));
     }
 
+counts : StreamCountsGrow
+unfolding verdict frame_taken lookup update open_to each total
+counts =
+    record {
+      uni = refl;
+      tells = ((refl, omega arith), λ covered. elim covered [ inl flies ↦ none_outstanding flies.0 flies.1 flies.2 | inr acked ↦ none-some 2 acked ]);
+      once = λ due. due.1 (inr refl);
+      within = rw end_of-empty refl;
+      past = refl;
+      one_half = refl;
+      both_halves = refl;
+      no_more = refl;
+    }
+
 nothing_noted : (o : Option (List Piece)) (p : Piece) → o ≡ None → Among p (elim o [ None ↦ [] | Some ps ↦ ps ]) → ⊥
 nothing_noted None p none there = there
 nothing_noted (Some ps) p none there = none-some ps (sym none)
@@ -322,6 +336,7 @@ examples_hold =
       blocked_stream = blocked_stream;
       afterwards = afterwards;
       new_limit = new_limit;
+      counts = counts;
       empty_stream = empty_stream;
       acks = acks;
     }

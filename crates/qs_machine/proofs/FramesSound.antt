@@ -25,7 +25,7 @@ use Rattle.qs_machine.specs.Credit.{spent, grant}
 use Rattle.qs_machine.specs.Seen.{Seen, Ack, Stream, Control, Close, Plain}
 use Rattle.qs_machine.specs.Verdicts.{verdict, item_verdict, or_else, fault_if, state_fault_in, credit_fault, bytes_fault, lane_of, or_new, fault_code}
 use Rattle.qs_machine.specs.FrameStep.{frame_taken, item_taken, AckedPiece, without_piece, acks, first_acked, piece_acked, item_acked, named}
-use Rattle.qs_machine.specs.Standing.{KeepsCredit, IsSound}
+use Rattle.qs_machine.specs.Standing.{KeepsCredit, IsInCredit}
 use Rattle.qs_machine.proofs.Choices.{not_chosen}
 use Rattle.qs_machine.proofs.TableLaws.{lookup_open, open_at, total_open}
 use Rattle.qs_machine.proofs.Sound.{keeps_open, keeps_updated}
@@ -66,13 +66,13 @@ two_checks false false f g x h e = (cc, refl)
 
 -- Opening
 
-pub sound_opens : (n : ℕ) (e : End) → IsSound e → IsSound (opens n e)
+pub sound_opens : (n : ℕ) (e : End) → IsInCredit e → IsInCredit (opens n e)
 sound_opens n e h =
     cond_both (is_uni n && is_own e n) e.recvs (open_to e.recvs n (λ m. new_lane (window e n))) (λ t. KeepsCredit e.role e.settings t e.granted)
     (λ _. h) (λ _. keeps_open e.role e.settings e.recvs e.granted h n)
 
-pub sound_opened : (n : ℕ) (e : End) → IsSound e → IsSound (opened_by_peer n e)
-sound_opened n e h = cond_both (is_own e n) e (opens n e) IsSound (λ _. h) (λ _. sound_opens n e h)
+pub sound_opened : (n : ℕ) (e : End) → IsInCredit e → IsInCredit (opened_by_peer n e)
+sound_opened n e h = cond_both (is_own e n) e (opens n e) IsInCredit (λ _. h) (λ _. sound_opens n e h)
 
 spent_opens : (n : ℕ) (e : End) → spent (opens n e) ≡ spent e
 spent_opens n e =
@@ -117,7 +117,7 @@ assembled_window true a a' e = refl
 assembled_window false a a' e = e
 
 -- a change of the lane that a frame names, by a call that passed its check
-on_named : (n : ℕ) (e : End) (f : RecvLane → RecvLane) (h : Highest) → IsSound e → state_fault_in e n ≡ None
+on_named : (n : ℕ) (e : End) (f : RecvLane → RecvLane) (h : Highest) → IsInCredit e → state_fault_in e n ≡ None
     → (IsLawful (lane_of e n) → IsLawful (f (lane_of e n)) × (taken (lane_of e n) ≤ taken (f (lane_of e n))) × (highest (lane_of e n) ≤ highest (f (lane_of e n))))
     → (f (lane_of e n)).arrived.window ≡ (lane_of e n).arrived.window
     → (IsLawful (lane_of e n) → (h.before ≡ highest (lane_of e n)) × (highest (f (lane_of e n)) ≤ max h.before h.after))
@@ -135,7 +135,7 @@ on_named n e f h sound passed keeps same counts credit =
     omega (arith, spent_opened n e, granted_opened n e, credit, c.0, c.1, k.2) in
     subst (λ x. IsLawful (f x) × ((f x).arrived.window ≡ x.arrived.window) × (taken x ≤ taken (f x)) × (spent open_end + highest (f x) ≤ open_end.granted + highest x)) this (k.0, same, k.1, growth))
 
-sound_stream : (n offset : ℕ) (bytes : List ℕ) (fin : Bool) (e : End) → verdict e (Stream n offset bytes fin) ≡ None → IsSound e → IsSound (frame_taken (Stream n offset bytes fin) e)
+sound_stream : (n offset : ℕ) (bytes : List ℕ) (fin : Bool) (e : End) → verdict e (Stream n offset bytes fin) ≡ None → IsInCredit e → IsInCredit (frame_taken (Stream n offset bytes fin) e)
 unfolding verdict frame_taken
 sound_stream n offset bytes fin e v sound =
     let lane = lane_of e n in
@@ -155,7 +155,7 @@ sound_stream n offset bytes fin e v sound =
     (sym (ap (λ (x : Highest). x.before) same), most))
     credit
 
-sound_reset : (n code size : ℕ) (e : End) → item_verdict e (ResetStream n code size) ≡ None → IsSound e → IsSound (item_taken (ResetStream n code size) e)
+sound_reset : (n code size : ℕ) (e : End) → item_verdict e (ResetStream n code size) ≡ None → IsInCredit e → IsInCredit (item_taken (ResetStream n code size) e)
 sound_reset n code size e v sound =
     let lane = lane_of e n in
     let check = check_reset lane size in
@@ -175,10 +175,11 @@ sound_reset n code size e v sound =
 
 -- Acknowledgements
 
-sound_item_acked : (i : Item) (e : End) → IsSound e → IsSound (item_acked i e)
+sound_item_acked : (i : Item) (e : End) → IsInCredit e → IsInCredit (item_acked i e)
 sound_item_acked (MaxData m) e h = h
 sound_item_acked (MaxStreamData n m) e h = h
-sound_item_acked (MaxStreams d m) e h = h
+sound_item_acked (MaxStreams Bidi m) e h = h
+sound_item_acked (MaxStreams Uni m) e h = h
 sound_item_acked (ResetStream n code size) e h = h
 sound_item_acked (StopSending n code) e h = h
 sound_item_acked (DataBlocked m) e h = h
@@ -186,18 +187,18 @@ sound_item_acked (StreamDataBlocked n m) e h = h
 sound_item_acked (StreamsBlocked Bidi m) e h = h
 sound_item_acked (StreamsBlocked Uni m) e h = h
 
-sound_piece_acked : (p : Piece) (e : End) → IsSound e → IsSound (piece_acked p e)
+sound_piece_acked : (p : Piece) (e : End) → IsInCredit e → IsInCredit (piece_acked p e)
 sound_piece_acked (Data n c) e h = h
 sound_piece_acked (Told i) e h = sound_item_acked i e h
 
-pub sound_acks : (ps : List AckedPiece) (e : End) → IsSound e → IsSound (acks ps e)
+pub sound_acks : (ps : List AckedPiece) (e : End) → IsInCredit e → IsInCredit (acks ps e)
 unfolding acks
 sound_acks [] e h = h
 sound_acks (p ∷ ps) e h = sound_acks ps (first_acked p e) (sound_piece_acked p.piece (without_piece p.late p.number e) h)
 
 -- Frames
 
-sound_item : (i : Item) (e : End) → item_verdict e i ≡ None → IsSound e → IsSound (item_taken i e)
+sound_item : (i : Item) (e : End) → item_verdict e i ≡ None → IsInCredit e → IsInCredit (item_taken i e)
 sound_item (MaxData m) e v h = h
 sound_item (MaxStreamData n m) e v h = sound_opened n e h
 sound_item (MaxStreams Bidi m) e v h = h
@@ -208,7 +209,7 @@ sound_item (DataBlocked m) e v h = h
 sound_item (StreamDataBlocked n m) e v h = sound_opened n e h
 sound_item (StreamsBlocked d m) e v h = h
 
-pub sound_frame : (f : Seen) (e : End) → verdict e f ≡ None → IsSound e → IsSound (frame_taken f e)
+pub sound_frame : (f : Seen) (e : End) → verdict e f ≡ None → IsInCredit e → IsInCredit (frame_taken f e)
 unfolding verdict frame_taken
 sound_frame (Ack largest ranges) e v h = sound_acks (named e ranges) e h
 sound_frame (Stream n offset bytes fin) e v h = sound_stream n offset bytes fin e v h

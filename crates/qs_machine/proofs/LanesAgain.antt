@@ -22,6 +22,7 @@ use Rattle.qs_recv.proofs.SameAgain.{check_is, taken_passes, stored_before as by
 use Rattle.qs_recv.proofs.SameLaws.{byte_in, same_none, same_true}
 use Rattle.qs_recv.proofs.LawfulLaws.{unbroken, reset_known, raised_grows}
 use Rattle.qs_recv.proofs.GrowthLaws.{grows_after_call}
+use Rattle.qs_machine.proofs.EndedHalves.{RecvStays, recv_stays, whole_stays, reset_stays_ended}
 
 -- a byte that is stored at an offset that came before was stored there before
 abbrev StaysStored : RecvLane → RecvLane → Type 0
@@ -34,9 +35,10 @@ pub record LaneAfter (l m : RecvLane) : Type 0 where
   pub size : (s : ℕ) → l.final_size ≡ Some s → m.final_size ≡ Some s
   pub reset : is_some l.reset_code ≡ true → is_some m.reset_code ≡ true
   pub stored : StaysStored l m
+  pub ended : RecvStays l m
 
 pub lane_same : (l : RecvLane) → LaneAfter l l
-lane_same l = record { limit = omega arith; received = λ q is. is; size = λ s is. is; reset = λ is. is; stored = λ q byte came is. is }
+lane_same l = record { limit = omega arith; received = λ q is. is; size = λ s is. is; reset = λ is. is; stored = λ q byte came is. is; ended = λ is. is }
 
 pub lane_twice : (l m k : RecvLane) → LaneAfter l m → LaneAfter m k → LaneAfter l k
 lane_twice l m k a b =
@@ -46,22 +48,26 @@ lane_twice l m k a b =
       size = λ s is. b.size s (a.size s is);
       reset = λ is. b.reset (a.reset is);
       stored = λ q byte came is. a.stored q byte came (b.stored q byte (a.received q came) is);
+      ended = λ is. b.ended (a.ended is);
     }
 
-grown : (l m : RecvLane) → Grows l m → (is_some l.reset_code ≡ true → is_some m.reset_code ≡ true) → StaysStored l m → LaneAfter l m
-grown l m g reset stored = record { limit = g.limit_grows; received = g.received_stays; size = g.final_size_stays; reset = reset; stored = stored }
+grown : (l m : RecvLane) → Grows l m → (is_some l.reset_code ≡ true → is_some m.reset_code ≡ true) → StaysStored l m → RecvStays l m → LaneAfter l m
+grown l m g reset stored ended = record { limit = g.limit_grows; received = g.received_stays; size = g.final_size_stays; reset = reset; stored = stored; ended = ended }
 
 pub data_after : (l : RecvLane) (offset : ℕ) (bytes : List ℕ) (fin : Bool) → IsLawful l → IsOk (check_stream l offset (length bytes) fin) → LaneAfter l (take_stream l offset bytes fin)
-data_after l offset bytes fin lawful ok = grown l (take_stream l offset bytes fin) (grows_after_call l (TakeStream offset bytes fin) lawful ok) (λ is. is) (byte_before l (TakeStream offset bytes fin))
+data_after l offset bytes fin lawful ok =
+    let m = take_stream l offset bytes fin in
+    let g = grows_after_call l (TakeStream offset bytes fin) lawful ok in
+    grown l m g (λ is. is) (byte_before l (TakeStream offset bytes fin)) (recv_stays l m refl (λ is. is) (whole_stays l m g.received_stays g.final_size_stays))
 
 pub reset_after : (l : RecvLane) (code size : ℕ) → IsLawful l → IsOk (check_reset l size) → LaneAfter l (take_reset l code size)
 reset_after l code size lawful ok =
     grown l (take_reset l code size) (grows_after_call l (TakeReset code size) lawful ok)
     (cond_both (is_some l.reset_code || is_whole l) l (record l { arrived = discard l.arrived; final_size = Some size; reset_code = Some code }) (λ m. is_some l.reset_code ≡ true → is_some m.reset_code ≡ true) (λ _ is. is) (λ _ is. refl))
-    (byte_before l (TakeReset code size))
+    (byte_before l (TakeReset code size)) (reset_stays_ended l code size)
 
 pub raise_after : (l : RecvLane) → LaneAfter l (raise l)
-raise_after l = record { limit = raised_grows l; received = λ q is. is; size = λ s is. is; reset = λ is. is; stored = λ q byte came is. is }
+raise_after l = record { limit = raised_grows l; received = λ q is. is; size = λ s is. is; reset = λ is. is; stored = λ q byte came is. is; ended = λ is. is }
 
 -- Data
 

@@ -16,7 +16,7 @@ use Rattle.qs_machine.specs.Ends.{End}
 use Rattle.qs_machine.specs.Owner.{Certain, first_refusal, refuse_if, ReadBy, AcceptOpen, GivesNone}
 use Rattle.qs_machine.specs.Receiving.{ReceiveBy}
 use Rattle.qs_machine.specs.Making.{MakeAt}
-use Rattle.qs_machine.specs.EndStep.{Call, Answer, EndStep, Open, Accept, Write, Finish, Reset, Stop, ReadUpTo, Receive, Make, Lose, ClosingPayload, Stored, Granted, Spent, Report}
+use Rattle.qs_machine.specs.EndStep.{Call, Answer, EndStep, Open, Accept, Write, Finish, Reset, Stop, ReadUpTo, Receive, Make, Lose, ClosingPayload, Stored, Granted, Spent, GrantedStreams, Report}
 
 -- a call whose first refusal is a closing
 refused : {A F : Type 0} (b : Bool) (fault : F) (old : End) (answer : Result A F) (new : End) (Effect : Type 0) → b ≡ true → Certain (refuse_if b fault) old answer new Effect → new ≡ old
@@ -61,4 +61,5 @@ closed_stays old (ClosingPayload slice) answer new is h = h.1
 closed_stays old Stored answer new is h = h.1
 closed_stays old Granted answer new is h = h.1
 closed_stays old Spent answer new is h = h.1
+closed_stays old (GrantedStreams d) answer new is h = h.1
 closed_stays old (Report n) answer new is h = h.1

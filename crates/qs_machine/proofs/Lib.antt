@@ -20,10 +20,14 @@ pub mod Tied
 pub mod Ties
 pub mod LanesAgain
 pub mod TablesAfter
+pub mod EndedHalves
+pub mod Counts
+pub mod CountMoves
 pub mod EndsAfter
 pub mod AcksAgain
 pub mod Again
 pub mod SentCalls
 pub mod PayloadsAgain
+pub mod CallsCounts
 pub mod ProcessedAgain
 pub mod RunLaws

@@ -18,7 +18,7 @@ use Rattle.qs_machine.specs.Seen.{Seen, Ack, Stream, Control, Close, Plain, seen
 use Rattle.qs_machine.specs.FrameStep.{frames_taken, named, acks}
 use Rattle.qs_machine.specs.Recording.{recorded}
 use Rattle.qs_machine.specs.Receiving.{AtEnd, RunsOut, Stops, EndsBy, GoesOn, Takes, TakesPayload}
-use Rattle.qs_machine.specs.Standing.{IsSound}
+use Rattle.qs_machine.specs.Standing.{IsInCredit, IsSound}
 use Rattle.qs_machine.specs.Repeats.{SentWasWritten, Resumes}
 use Rattle.qs_machine.proofs.FramesSound.{sound_acks}
 use Rattle.qs_machine.proofs.CallsSound.{sound_settle}
@@ -29,20 +29,20 @@ use Rattle.qs_machine.proofs.Again.{IsDone, IsLeft, all_left, all_done, done_sta
 
 -- What the end of a processing leaves
 
-left_by : (e new : End) → IsSound e → SentWasWritten e → IsAfter e new → IsSound new → IsLeft e new
-left_by e new sound sent x keeps = record { after = x; sound = keeps; sent = sent_stays e new x sent }
+left_by : (e new : End) → IsSound e → SentWasWritten e → IsAfter e new → IsInCredit new → IsLeft e new
+left_by e new sound sent x keeps = record { after = x; sound = (keeps, x.counts sound.1); sent = sent_stays e new x sent }
 
 becomes : (e mid new : End) → new ≡ mid → IsLeft e mid → IsLeft e new
 becomes e mid new same h = subst (IsLeft e) (sym same) h
 
 left_same : (e : End) → IsSound e → SentWasWritten e → IsLeft e e
-left_same e sound sent = left_by e e sound sent (after_same e) sound
+left_same e sound sent = left_by e e sound sent (after_same e) sound.0
 
 left_closes : (c : Closed) (e : End) → IsSound e → SentWasWritten e → IsLeft e (closes c e)
-left_closes c e sound sent = left_by e (closes c e) sound sent (after_closes c e) sound
+left_closes c e sound sent = left_by e (closes c e) sound sent (after_closes c e) sound.0
 
 left_end : (number : ℕ) (asks : Bool) (fault : Option WireFault) (e : End) (result : Result Received Closing) (new : End) → IsSound e → SentWasWritten e → AtEnd number asks fault e result new → IsLeft e new
-left_end number asks None e (Ok received.Done) new sound sent step = becomes e _ new step (left_by e (recorded number asks e) sound sent (after_recorded number asks e) sound)
+left_end number asks None e (Ok received.Done) new sound sent step = becomes e _ new step (left_by e (recorded number asks e) sound sent (after_recorded number asks e) sound.0)
 left_end number asks None e (Ok received.NoMemory) new sound sent step = becomes e e new step (left_same e sound sent)
 left_end number asks None e (Ok received.Duplicate) new sound sent step = absurd step
 left_end number asks None e (Ok received.BelowFloor) new sound sent step = absurd step
@@ -56,7 +56,7 @@ left_runs_out e (Ack largest ranges) new sound sent (m, after) =
     becomes e _ new after
     (left_by e (acks (take m (named e ranges)) e) sound sent
     (after_acks (take m (named e ranges)) e (all_take e.sends m (named e ranges) (named_written e ranges sent)))
-    (sound_acks (take m (named e ranges)) e sound))
+    (sound_acks (take m (named e ranges)) e sound.0))
 left_runs_out e (Stream n offset bytes fin) new sound sent after = becomes e e new after (left_same e sound sent)
 left_runs_out e (Control i) new sound sent after = becomes e e new after (left_same e sound sent)
 left_runs_out e (Close code) new sound sent after = becomes e e new after (left_same e sound sent)
@@ -96,7 +96,7 @@ stops_by P p (Plain asks) e (Ok received.BelowFloor) new stops shut out = absurd
 stops_by P p (Plain asks) e (Ok (received.PeerClosed code)) new stops shut out = absurd stops
 stops_by P p (Plain asks) e (Err closing) new stops shut out = shut (ByUs closing) stops.2 (λ goes. none-some closing.code (sym goes ∙ stops.0))
 
-left_ends : (number : ℕ) (fault : Option WireFault) (asks : Bool) (left : List PlacedValue) (e : End) (result : Result Received Closing) (new : End)
+pub left_ends : (number : ℕ) (fault : Option WireFault) (asks : Bool) (left : List PlacedValue) (e : End) (result : Result Received Closing) (new : End)
     → IsSound e → SentWasWritten e → EndsBy number fault asks left e result new → IsLeft e new
 left_ends number fault asks [] e result new sound sent h = left_end number asks fault e result new sound sent h
 left_ends number fault asks (p ∷ ps) e result new sound sent h =
@@ -131,7 +131,7 @@ or_twice true b c = refl
 or_twice false b c = refl
 
 takes_again : (number : ℕ) (fault : Option WireFault) (asks : Bool) (e : End) (taken left : List PlacedValue) (result : Result Received Closing) (new : End)
-    → IsSound e → ((f : Seen) → Among f (seen_in taken) → IsDone f e) → Takes number fault asks e (taken ++ left) result new → Resumes number fault (asks || any_asks (seen_in taken)) e left result new
+    → IsInCredit e → ((f : Seen) → Among f (seen_in taken) → IsDone f e) → Takes number fault asks e (taken ++ left) result new → Resumes number fault (asks || any_asks (seen_in taken)) e left result new
 takes_again number fault asks e [] left result new sound done takes = inr (subst (λ a. Takes number fault a e left result new) (or_false asks) takes)
 takes_again number fault asks e (p ∷ taken) left result new sound done takes =
     let f = seen p.frame in
@@ -158,13 +158,13 @@ payloads_repeat number again payload old mid result sound sent takes =
     let then_end = frames_taken (seen_in taken) old in
     let first = all_left (seen_in taken) old sound sent fine in
     let last = left_ends number (reading_of payload).fault (any_asks (seen_in taken)) left then_end result mid first.sound first.sent ends in
-    let x : IsAfter then_end (settle mid) = after_twice then_end mid (settle mid) last.after (after_settle mid) in
+    let x : IsAfter then_end (settle mid) = after_twice then_end mid (settle mid) last.after (after_settle mid last.sound.1) in
     let done : (f : Seen) → Among f (seen_in taken) → IsDone f (settle mid) = λ f a. done_stays f then_end (settle mid) x (all_done (seen_in taken) old sound sent fine f a) in (
       taken,
       left,
       parts,
       ends,
       λ next new more.
-          takes_again again (reading_of payload).fault false (settle mid) taken left next new (sound_settle mid last.sound) done
+          takes_again again (reading_of payload).fault false (settle mid) taken left next new (sound_settle mid last.sound.0) done
           (subst (λ ps. Takes again (reading_of payload).fault false (settle mid) ps next new) parts more),
     )

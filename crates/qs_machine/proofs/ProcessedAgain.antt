@@ -31,6 +31,7 @@ use Rattle.qs_machine.specs.Standing.{IsSound}
 use Rattle.qs_machine.specs.Repeats.{SentWasWritten, Resumes, OnlyRecords}
 use Rattle.qs_machine.proofs.Choices.{by_test}
 use Rattle.qs_machine.proofs.TableLaws.{total_each}
+use Rattle.qs_machine.proofs.Counts.{next_settle}
 use Rattle.qs_machine.proofs.PayloadsAgain.{payloads_repeat}
 
 -- Limits that moved don't move again
@@ -78,14 +79,15 @@ settle_twice e =
     let t : all_taken (settle e) ≡ all_taken e = total_each taken raise e.recvs (λ l. refl) in
     let g : next_limit (next_limit e.granted (all_taken e) e.settings.conn_window) (all_taken (settle e)) e.settings.conn_window ≡ next_limit e.granted (all_taken e) e.settings.conn_window =
     ap (λ k. next_limit (next_limit e.granted (all_taken e) e.settings.conn_window) k e.settings.conn_window) t ∙ next_twice e.granted (all_taken e) e.settings.conn_window in
-    λ i. record e { recvs = r i; granted = g i }
+    λ i. record e { recvs = r i; granted = g i; granted_bidi = next_settle e Bidi i; granted_uni = next_settle e Uni i }
 
 -- Frames close nothing
 
 open_item_acked : (i : Item) (e : End) → (item_acked i e).closed ≡ e.closed
 open_item_acked (MaxData m) e = refl
 open_item_acked (MaxStreamData n m) e = refl
-open_item_acked (MaxStreams d m) e = refl
+open_item_acked (MaxStreams Bidi m) e = refl
+open_item_acked (MaxStreams Uni m) e = refl
 open_item_acked (ResetStream n code size) e = refl
 open_item_acked (StopSending n code) e = refl
 open_item_acked (DataBlocked m) e = refl

@@ -1,5 +1,5 @@
 -- No call lowers a limit.
-use Rattle.std.proofs.Common.{◌≡◌, ℕ, ◌+◌, ◌*◌, ◌≤◌, Bool, true, false, not, ◌&&◌, ◌||◌, List, [], ◌∷◌, take, Option, Some, None, is_some, option_map, refl, sym, ap, ◌∙◌, subst, arith, inl, inr}
+use Rattle.std.proofs.Common.{◌≡◌, ℕ, ◌+◌, ◌*◌, ◌≤◌, Bool, true, false, not, ◌&&◌, ◌||◌, List, [], ◌∷◌, length, take, Option, Some, None, is_some, option_map, refl, sym, ap, ◌∙◌, subst, arith, inl, inr}
 use Rattle.std.specs.Prelude.{cond, nat_lt, Result, Ok, Err, MatchBool}
 use Rattle.std.specs.FinSet as set
 use Rattle.std.proofs.lemmas.Option.{none-some, same_Some}
@@ -15,7 +15,7 @@ use Rattle.qs_recv.specs.Lane.{RecvLane, new_lane as new_recv_lane, take_stream,
 use Rattle.qs_recv.specs.declared.half.Read.{Read}
 use Rattle.qs_recv.specs.declared.half.Read.TheVariants as reads
 use Rattle.qs_recv.proofs.LawfulLaws.{raised_grows}
-use Rattle.qs_send.specs.Lane.{SendLane, new_lane as new_send_lane, refusal, reset_refusal, finish_lane, reset_lane, acked_lane, allow_lane, reset_acked_lane, blocked_lane, sent_lane}
+use Rattle.qs_send.specs.Lane.{SendLane, new_lane as new_send_lane, refusal, reset_refusal, accepted, write_lane, finish_lane, reset_lane, acked_lane, allow_lane, reset_acked_lane, blocked_lane, sent_lane}
 use Rattle.qs_send.specs.declared.piece.Item.{Item}
 use Rattle.qs_send.specs.declared.piece.Item.TheVariants.{MaxData, MaxStreamData, MaxStreams, ResetStream, StopSending, DataBlocked, StreamDataBlocked, StreamsBlocked}
 use Rattle.qs_send.specs.declared.piece.Piece.{Piece}
@@ -32,15 +32,16 @@ use Rattle.qs_calls.specs.declared.uses.OpenFault.TheVariants as opening
 use Rattle.qs_calls.specs.declared.uses.UseFault.{UseFault}
 use Rattle.qs_calls.specs.declared.uses.UseFault.TheVariants as uses
 use Rattle.qs_machine.specs.Tables.{Tables, lookup, update, updated, open_to, each}
+use Rattle.qs_machine.specs.Due.{known_count}
 use Rattle.qs_machine.specs.Ends.{End, on_send, on_recv, is_own, is_uni, first_send_limit, window, opens, opened_by_peer}
 use Rattle.qs_machine.specs.Credit.{settle, all_taken}
 use Rattle.qs_machine.specs.Seen.{Seen, Ack, Stream, Control, Close, Plain, seen, seen_all, asks_ack}
 use Rattle.qs_machine.specs.FrameStep.{frame_taken, item_taken, AckedPiece, without_piece, acks, first_acked, piece_acked, item_acked, named}
 use Rattle.qs_machine.specs.Lawful.{Fills, frame_put, item_put, chunk_of}
-use Rattle.qs_machine.specs.Owner.{OpenStep, AcceptStep, ReadBy, send_refusal, recv_refusal, with_wanted, refuse_if, IsBlocked, IsOpened, GivesNone, GivesBidi, GivesUni, AcceptOpen, peer_kind}
+use Rattle.qs_machine.specs.Owner.{OpenStep, AcceptStep, ReadBy, send_refusal, recv_refusal, with_wanted, refuse_if, IsBlocked, IsOpened, GivesNone, GivesBidi, GivesUni, AcceptOpen, peer_kind, next_stream}
 use Rattle.qs_machine.specs.Receiving.{AtEnd, RunsOut, Stops, Takes, ReceiveBy, TakesPayload, OpenReceive}
 use Rattle.qs_machine.specs.Making.{MakeAt, make_refusal, LoseStep, lose_refusal, IsMade, first_lost, losses}
-use Rattle.qs_machine.specs.EndStep.{Call, Answer, EndStep, Open, Accept, Write, Finish, Reset, Stop, ReadUpTo, Receive, Make, Lose, ClosingPayload, Stored, Granted, Spent, Report}
+use Rattle.qs_machine.specs.EndStep.{Call, Answer, EndStep, Open, Accept, Write, Finish, Reset, Stop, ReadUpTo, Receive, Make, Lose, ClosingPayload, Stored, Granted, Spent, GrantedStreams, Report}
 use Rattle.qs_machine.specs.Standing.{LimitsRiseIn, LimitsRise}
 use Rattle.qs_machine.proofs.Choices.{by_refusal, by_memory, by_test}
 use Rattle.qs_machine.proofs.TableLaws.{lookup_same, lookup_other, lookup_open, lookup_each}
@@ -142,7 +143,8 @@ settled old mid new same h = becomes old (settle mid) new same (rises_twice old 
 rises_item_acked : (i : Item) (e : End) → LimitsRise e (item_acked i e)
 rises_item_acked (MaxData m) e = rises_same e
 rises_item_acked (MaxStreamData n m) e = rises_same e
-rises_item_acked (MaxStreams d m) e = rises_same e
+rises_item_acked (MaxStreams Bidi m) e = rises_same e
+rises_item_acked (MaxStreams Uni m) e = rises_same e
 rises_item_acked (ResetStream n code size) e = rises_send n reset_acked_lane e (λ l. le_same l.limit)
 rises_item_acked (StopSending n code) e = rises_same e
 rises_item_acked (DataBlocked m) e = rises_same e
@@ -335,8 +337,8 @@ rises_open : (old : End) (d : Dir) (answer : Answer (Open d)) (new : End) → Op
 rises_open old d answer new step =
     by_refusal (LimitsRise old new) (refuse_if (is_some old.closed) opening.Closed) old answer new _ step (λ same. becomes old old new same (rises_same old)) (λ opened.
     by_test (LimitsRise old new) _ (IsBlocked old d answer new) (IsOpened old d answer new) opened
-    (λ blocked. settled old _ new blocked.1 (rises_wanted d _ old))
-    (λ done. elim done [ inl none ↦ becomes old old new none.1 (rises_same old) | inr is ↦ settled old _ new is.1 (rises_opens _ old) ]))
+    (λ blocked. settled old (with_wanted d (known_count old d) old) new blocked.1 (rises_wanted d (known_count old d) old))
+    (λ done. elim done [ inl none ↦ becomes old old new none.1 (rises_same old) | inr is ↦ settled old (opens (next_stream old d) old) new is.1 (rises_opens (next_stream old d) old) ]))
 
 rises_accept : (old : End) (answer : Answer Accept) (new : End) → AcceptStep old answer new → LimitsRise old new
 rises_accept old answer new step =
@@ -369,16 +371,16 @@ rises_call old (Open d) answer new step = rises_open old d answer new step
 rises_call old Accept answer new step = rises_accept old answer new step
 rises_call old (Write n bytes) answer new step =
     by_memory (LimitsRise old new) (send_refusal old n refusal) uses.NoMemory old answer new _ step (λ same. becomes old old new same (rises_same old)) (λ (l, is, done).
-    settled old _ new done.1 (rises_send n _ old (λ m. le_same m.limit)))
+    settled old (on_send n (λ m. write_lane m (take (accepted l (length bytes)) bytes)) old) new done.1 (rises_send n (λ m. write_lane m (take (accepted l (length bytes)) bytes)) old (λ m. le_same m.limit)))
 rises_call old (Finish n) answer new step =
     by_refusal (LimitsRise old new) (send_refusal old n refusal) old answer new _ step (λ same. becomes old old new same (rises_same old)) (λ done.
-    settled old _ new done.1 (rises_send n finish_lane old (λ m. le_same m.limit)))
+    settled old (on_send n finish_lane old) new done.1 (rises_send n finish_lane old (λ m. le_same m.limit)))
 rises_call old (Reset n code) answer new step =
     by_refusal (LimitsRise old new) (send_refusal old n reset_refusal) old answer new _ step (λ same. becomes old old new same (rises_same old)) (λ done.
-    settled old _ new done.1 (rises_send n (λ m. reset_lane m code) old (reset_limit code)))
+    settled old (on_send n (λ m. reset_lane m code) old) new done.1 (rises_send n (λ m. reset_lane m code) old (reset_limit code)))
 rises_call old (Stop n code) answer new step =
     by_refusal (LimitsRise old new) (recv_refusal old n) old answer new _ step (λ same. becomes old old new same (rises_same old)) (λ done.
-    settled old _ new done.1 (rises_recv n (λ m. stop m code) old (stop_limit code)))
+    settled old (on_recv n (λ m. stop m code) old) new done.1 (rises_recv n (λ m. stop m code) old (stop_limit code)))
 rises_call old (ReadUpTo n size) answer new step = rises_read_by (recv_refusal old n) old n size answer.0 answer.1 new step
 rises_call old (Receive k payload) answer new step = rises_receive old.closed k payload old answer new step
 rises_call old (Make room) answer new step = rises_make (make_refusal old) old room answer.0 answer.1 new step
@@ -387,4 +389,5 @@ rises_call old (ClosingPayload slice) answer new step = becomes old old new step
 rises_call old Stored answer new step = becomes old old new step.1 (rises_same old)
 rises_call old Granted answer new step = becomes old old new step.1 (rises_same old)
 rises_call old Spent answer new step = becomes old old new step.1 (rises_same old)
+rises_call old (GrantedStreams d) answer new step = becomes old old new step.1 (rises_same old)
 rises_call old (Report n) answer new step = becomes old old new step.1 (rises_same old)

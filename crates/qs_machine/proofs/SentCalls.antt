@@ -1,5 +1,5 @@
 -- Every call leaves all outstanding data written.
-use Rattle.std.proofs.Common.{◌≡◌, ℕ, zero, suc, nat_eq, ◌++◌, ◌⊎◌, ◌+◌, ◌*◌, ◌≤◌, Bool, true, false, not, ◌&&◌, ◌||◌, List, [], ◌∷◌, take, Option, Some, None, is_some, refl, sym, ◌∙◌, subst, arith, inl, inr}
+use Rattle.std.proofs.Common.{◌≡◌, ℕ, zero, suc, nat_eq, ◌++◌, ◌⊎◌, ◌+◌, ◌*◌, ◌≤◌, Bool, true, false, not, ◌&&◌, ◌||◌, List, [], ◌∷◌, length, take, Option, Some, None, is_some, refl, sym, ◌∙◌, subst, arith, inl, inr}
 use Rattle.std.specs.Prelude.{cond, nat_lt, Result, Ok, Err, MatchBool}
 use Rattle.std.specs.FinSet as set
 use Rattle.std.proofs.lemmas.Option.{same_Some}
@@ -9,9 +9,9 @@ use Rattle.qs_wire.specs.Reading.{reading_of}
 use Rattle.qs_wire.specs.declared.fault.WireFault.{WireFault}
 use Rattle.qs_wire.specs.declared.stream_id.Dir.{Dir}
 use Rattle.qs_wire.specs.declared.stream_id.Dir.TheVariants.{Bidi, Uni}
-use Rattle.qs_recv.specs.Lane.{after_read}
+use Rattle.qs_recv.specs.Lane.{after_read, stop}
 use Rattle.qs_recv.specs.declared.half.Read.{Read}
-use Rattle.qs_send.specs.Lane.{SendLane, new_lane as new_send_lane, refusal, reset_refusal, finish_lane, reset_lane, acked_lane, allow_lane, reset_acked_lane, blocked_lane, sent_lane}
+use Rattle.qs_send.specs.Lane.{SendLane, new_lane as new_send_lane, refusal, reset_refusal, accepted, write_lane, finish_lane, reset_lane, acked_lane, allow_lane, reset_acked_lane, blocked_lane, sent_lane}
 use Rattle.qs_send.specs.declared.piece.Item.{Item}
 use Rattle.qs_send.specs.declared.piece.Item.TheVariants.{MaxData, MaxStreamData, MaxStreams, ResetStream, StopSending, DataBlocked, StreamDataBlocked, StreamsBlocked}
 use Rattle.qs_send.specs.declared.piece.Piece.{Piece}
@@ -28,15 +28,16 @@ use Rattle.qs_calls.specs.declared.uses.OpenFault.TheVariants as opening
 use Rattle.qs_calls.specs.declared.uses.UseFault.{UseFault}
 use Rattle.qs_calls.specs.declared.uses.UseFault.TheVariants as uses
 use Rattle.qs_machine.specs.Tables.{Tables, lookup, updated}
+use Rattle.qs_machine.specs.Due.{known_count}
 use Rattle.qs_machine.specs.Ends.{End, Records, new_end, end_made, end_unless, on_send, on_recv, is_own, is_uni, first_send_limit, opens, opened_by_peer}
 use Rattle.qs_machine.specs.Credit.{settle}
 use Rattle.qs_machine.specs.Seen.{Seen, Ack, Stream, Control, Close, Plain, seen, seen_all, asks_ack}
 use Rattle.qs_machine.specs.FrameStep.{frame_taken, item_taken, AckedPiece, held, without_piece, acks, first_acked, piece_acked, item_acked, named}
 use Rattle.qs_machine.specs.Lawful.{Fills, MayPut, frame_put, item_put, chunk_of, noted, pieces_so_far}
-use Rattle.qs_machine.specs.Owner.{OpenStep, AcceptStep, ReadBy, send_refusal, recv_refusal, with_wanted, refuse_if, IsBlocked, IsOpened, GivesNone, GivesBidi, GivesUni, AcceptOpen, peer_kind}
+use Rattle.qs_machine.specs.Owner.{OpenStep, AcceptStep, ReadBy, send_refusal, recv_refusal, with_wanted, refuse_if, IsBlocked, IsOpened, GivesNone, GivesBidi, GivesUni, AcceptOpen, peer_kind, next_stream}
 use Rattle.qs_machine.specs.Receiving.{AtEnd, RunsOut, Stops, Takes, ReceiveBy, TakesPayload, OpenReceive}
 use Rattle.qs_machine.specs.Making.{MakeAt, make_refusal, LoseStep, lose_refusal, IsMade, first_lost, losses}
-use Rattle.qs_machine.specs.EndStep.{Call, Answer, EndStep, Open, Accept, Write, Finish, Reset, Stop, ReadUpTo, Receive, Make, Lose, ClosingPayload, Stored, Granted, Spent, Report}
+use Rattle.qs_machine.specs.EndStep.{Call, Answer, EndStep, Open, Accept, Write, Finish, Reset, Stop, ReadUpTo, Receive, Make, Lose, ClosingPayload, Stored, Granted, Spent, GrantedStreams, Report}
 use Rattle.std.specs.FinMap as fmap
 use Rattle.qs_wire.specs.declared.stream_id.Role.{Role}
 use Rattle.qs_send.specs.Records.{Among, IsCarried}
@@ -106,7 +107,8 @@ among_last q p (r ∷ rs) (inr a) = elim (among_last q p rs a) [ inl b ↦ inl (
 keeps_item_acked : (i : Item) (e : End) → Keeps e (item_acked i e)
 keeps_item_acked (MaxData m) e = keeps_same e
 keeps_item_acked (MaxStreamData n m) e = keeps_same e
-keeps_item_acked (MaxStreams d m) e = keeps_same e
+keeps_item_acked (MaxStreams Bidi m) e = keeps_same e
+keeps_item_acked (MaxStreams Uni m) e = keeps_same e
 keeps_item_acked (ResetStream n code size) e = keeps_send n reset_acked_lane e longer_same
 keeps_item_acked (StopSending n code) e = keeps_same e
 keeps_item_acked (DataBlocked m) e = keeps_same e
@@ -324,8 +326,8 @@ keeps_open : (old : End) (d : Dir) (answer : Answer (Open d)) (new : End) → Op
 keeps_open old d answer new step =
     by_refusal (Keeps old new) (refuse_if (is_some old.closed) opening.Closed) old answer new _ step (λ same. becomes old old new same (keeps_same old)) (λ opened.
     by_test (Keeps old new) _ (IsBlocked old d answer new) (IsOpened old d answer new) opened
-    (λ blocked. settled old _ new blocked.1 (keeps_wanted d _ old))
-    (λ done. elim done [ inl none ↦ becomes old old new none.1 (keeps_same old) | inr is ↦ settled old _ new is.1 (keeps_opens _ old) ]))
+    (λ blocked. settled old (with_wanted d (known_count old d) old) new blocked.1 (keeps_wanted d (known_count old d) old))
+    (λ done. elim done [ inl none ↦ becomes old old new none.1 (keeps_same old) | inr is ↦ settled old (opens (next_stream old d) old) new is.1 (keeps_opens (next_stream old d) old) ]))
 
 keeps_accept : (old : End) (answer : Answer Accept) (new : End) → AcceptStep old answer new → Keeps old new
 keeps_accept old answer new step =
@@ -349,16 +351,16 @@ keeps_call old (Open d) answer new step = keeps_open old d answer new step
 keeps_call old Accept answer new step = keeps_accept old answer new step
 keeps_call old (Write n bytes) answer new step =
     by_memory (Keeps old new) (send_refusal old n refusal) uses.NoMemory old answer new _ step (λ same. becomes old old new same (keeps_same old)) (λ (l, is, done).
-    settled old _ new done.1 (keeps_send n _ old (λ m. omega arith)))
+    settled old (on_send n (λ m. write_lane m (take (accepted l (length bytes)) bytes)) old) new done.1 (keeps_send n (λ m. write_lane m (take (accepted l (length bytes)) bytes)) old (λ m. omega arith)))
 keeps_call old (Finish n) answer new step =
     by_refusal (Keeps old new) (send_refusal old n refusal) old answer new _ step (λ same. becomes old old new same (keeps_same old)) (λ done.
-    settled old _ new done.1 (keeps_send n finish_lane old longer_same))
+    settled old (on_send n finish_lane old) new done.1 (keeps_send n finish_lane old longer_same))
 keeps_call old (Reset n code) answer new step =
     by_refusal (Keeps old new) (send_refusal old n reset_refusal) old answer new _ step (λ same. becomes old old new same (keeps_same old)) (λ done.
-    settled old _ new done.1 (keeps_send n (λ m. reset_lane m code) old (reset_written code)))
+    settled old (on_send n (λ m. reset_lane m code) old) new done.1 (keeps_send n (λ m. reset_lane m code) old (reset_written code)))
 keeps_call old (Stop n code) answer new step =
     by_refusal (Keeps old new) (recv_refusal old n) old answer new _ step (λ same. becomes old old new same (keeps_same old)) (λ done.
-    settled old _ new done.1 (keeps_same old))
+    settled old (on_recv n (λ m. stop m code) old) new done.1 (keeps_same old))
 keeps_call old (ReadUpTo n size) answer new step = keeps_read_by (recv_refusal old n) old n size answer.0 answer.1 new step
 keeps_call old (Receive k payload) answer new step = keeps_receive old.closed k payload old answer new step
 keeps_call old (Make room) answer new step = keeps_make (make_refusal old) old room answer.0 answer.1 new step
@@ -367,6 +369,7 @@ keeps_call old (ClosingPayload slice) answer new step = becomes old old new step
 keeps_call old Stored answer new step = becomes old old new step.1 (keeps_same old)
 keeps_call old Granted answer new step = becomes old old new step.1 (keeps_same old)
 keeps_call old Spent answer new step = becomes old old new step.1 (keeps_same old)
+keeps_call old (GrantedStreams d) answer new step = becomes old old new step.1 (keeps_same old)
 keeps_call old (Report n) answer new step = becomes old old new step.1 (keeps_same old)
 
 -- Of a new end nothing is outstanding, and nothing lost.

@@ -19,13 +19,13 @@ module _ {X : Type 0} where
   get_set_other (z ∷ xs) (suc i) zero y ne = refl
   get_set_other (z ∷ xs) (suc i) (suc j) y ne = get_set_other xs i j y (λ e. ne (ap suc e))
 
-  table_same : (t : Tables X) (k : ℕ) (xs : List X) → table (with_table t k xs) k ≡ xs
+  pub table_same : (t : Tables X) (k : ℕ) (xs : List X) → table (with_table t k xs) k ≡ xs
   table_same t zero xs = refl
   table_same t (suc zero) xs = refl
   table_same t (suc (suc zero)) xs = refl
   table_same t (suc (suc (suc k))) xs = refl
 
-  table_other : (t : Tables X) (k j : ℕ) (xs : List X) → k < 4 → j < 4 → j ≢ k → table (with_table t k xs) j ≡ table t j
+  pub table_other : (t : Tables X) (k j : ℕ) (xs : List X) → k < 4 → j < 4 → j ≢ k → table (with_table t k xs) j ≡ table t j
   table_other t zero zero xs a b ne = absurd (ne refl)
   table_other t zero (suc zero) xs a b ne = refl
   table_other t zero (suc (suc zero)) xs a b ne = refl

@@ -13,7 +13,7 @@ use Rattle.qs_machine.specs.Ends.{End, Records, LostPackets, window, opens, is_o
 use Rattle.qs_machine.specs.Seen.{Stream, Control}
 use Rattle.qs_machine.specs.Verdicts.{verdict, state_fault_in, state_fault_out, credit_fault, bytes_fault, fault_of, or_else, or_new, lane_of, fault_if, STREAM_LIMIT_ERROR}
 use Rattle.qs_machine.specs.FrameStep.{frame_taken}
-use Rattle.qs_machine.specs.Standing.{KeepsCredit, IsSound}
+use Rattle.qs_machine.specs.Standing.{KeepsCredit, IsInCredit}
 use Rattle.qs_machine.specs.Sums.{tally_on}
 use Rattle.qs_machine.proofs.TableEdits.{opened_closed, same_tally}
 use Rattle.qs_machine.proofs.TableLaws.{open_at, total_open}
@@ -90,7 +90,7 @@ stream_unchanged e mid n offset bytes fin h is =
 
 -- the credit is kept
 
-pub reset_sound : (e mid : End) (n code size : ℕ) (recvs : Tables RecvLane) → IsSound e → verdict e (Control (ResetStream n code size)) ≡ None → mid ≡ opened_by_peer n e
+pub reset_sound : (e mid : End) (n code size : ℕ) (recvs : Tables RecvLane) → IsInCredit e → verdict e (Control (ResetStream n code size)) ≡ None → mid ≡ opened_by_peer n e
     → recvs ≡ updated mid.recvs n (λ l. take_reset l code size) (lookup mid.recvs n) → KeepsCredit mid.role mid.settings recvs mid.granted
 unfolding frame_taken
 reset_sound e mid n code size recvs sound passed is after =
@@ -98,7 +98,7 @@ reset_sound e mid n code size recvs sound passed is after =
     (subst (λ (k : End). KeepsCredit k.role k.settings (updated k.recvs n (λ l. take_reset l code size) (lookup k.recvs n)) k.granted) (sym is)
     (sound_frame (Control (ResetStream n code size)) e passed sound))
 
-pub stream_sound : (e mid : End) (n offset : ℕ) (bytes : List ℕ) (fin : Bool) (recvs : Tables RecvLane) → IsSound e → verdict e (Stream n offset bytes fin) ≡ None → mid ≡ opened_by_peer n e
+pub stream_sound : (e mid : End) (n offset : ℕ) (bytes : List ℕ) (fin : Bool) (recvs : Tables RecvLane) → IsInCredit e → verdict e (Stream n offset bytes fin) ≡ None → mid ≡ opened_by_peer n e
     → recvs ≡ updated mid.recvs n (λ l. take_stream l offset bytes fin) (lookup mid.recvs n) → KeepsCredit mid.role mid.settings recvs mid.granted
 unfolding frame_taken
 stream_sound e mid n offset bytes fin recvs sound passed is after =
@@ -147,7 +147,7 @@ restored e mid n sends recvs is p q =
     by_own true = refl
     by_own false = refl
 
-pub back_sound : (e mid : End) (n : ℕ) (recvs : Tables RecvLane) → IsSound e → mid ≡ opened_by_peer n e → recvs ≡ e.recvs → KeepsCredit mid.role mid.settings recvs mid.granted
+pub back_sound : (e mid : End) (n : ℕ) (recvs : Tables RecvLane) → IsInCredit e → mid ≡ opened_by_peer n e → recvs ≡ e.recvs → KeepsCredit mid.role mid.settings recvs mid.granted
 back_sound e mid n recvs sound is same =
     subst (λ (t : Tables RecvLane). KeepsCredit mid.role mid.settings t mid.granted) (sym same)
     (subst (λ (k : End). KeepsCredit k.role k.settings e.recvs k.granted) (sym is) (by_own (is_own e n)))

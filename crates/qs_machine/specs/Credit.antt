@@ -1,9 +1,14 @@
 -- Credit: what the peer may send and has used up, and how the limits move (RFC 9000, section 4).
-use Rattle.std.specs.Prelude.{ℕ, if◌then◌else◌}
+use Rattle.std.specs.Prelude.{ℕ, ◌+◌, Bool, ◌&&◌, ◌||◌, length, min, zip, is_some, is_none, if◌then◌else◌}
+use Rattle.std.specs.List.{filter}
 use Rattle.std.specs.FinMap as fmap
-use Rattle.qs_recv.specs.Lane.{highest, taken, raise, next_limit}
-use Rattle.qs_machine.specs.Tables.{each, total}
-use Rattle.qs_machine.specs.Ends.{End, is_uni}
+use Rattle.qs_wire.specs.declared.stream_id.Dir.{Dir}
+use Rattle.qs_wire.specs.declared.stream_id.Dir.TheVariants.{Bidi, Uni}
+use Rattle.qs_recv.specs.Lane.{RecvLane, highest, taken, raise, next_limit, is_whole as recv_whole}
+use Rattle.qs_send.specs.Lane.{SendLane, is_whole as send_whole}
+use Rattle.qs_calls.specs.declared.settings.Settings.{Settings}
+use Rattle.qs_machine.specs.Tables.{table, each, total}
+use Rattle.qs_machine.specs.Ends.{End, is_uni, peer_kind}
 
 -- the sum of the highest offsets of all receiving halves: what the connection limit bounds (RFC 9000, section 4.1)
 abbrev pub spent : End → ℕ
@@ -21,14 +26,50 @@ all_stored e = total (λ l. fmap.len l.arrived.stored) e.recvs
 abbrev pub all_sent : End → ℕ
 all_sent e = total (λ l. l.sent_end) e.sends
 
--- how many streams of its type the peer may open (RFC 9000, section 4.6)
-abbrev pub grant : End → ℕ → ℕ
-grant e n = if is_uni n then e.settings.grant_uni else e.settings.grant_bidi
+-- how many streams of a direction the peer may open (RFC 9000, section 4.6)
+abbrev pub granted_streams : End → Dir → ℕ
+granted_streams e Bidi = e.granted_bidi
+granted_streams e Uni = e.granted_uni
 
--- What happens as a call ends: every limit becomes the next one (RFC 9000, section 4.2).
+-- how many streams of its type the peer may open
+abbrev pub grant : End → ℕ → ℕ
+grant e n = if is_uni n then e.granted_uni else e.granted_bidi
+
+-- how many it may open at first, and in all
+abbrev pub first_grant : Settings → Dir → ℕ
+first_grant s Bidi = s.grant_bidi
+first_grant s Uni = s.grant_uni
+
+abbrev pub lifetime : Settings → Dir → ℕ
+lifetime s Bidi = s.lifetime_bidi
+lifetime s Uni = s.lifetime_uni
+
+-- all bytes and the end, or the reset, were handed to the reader: Data Read or Reset Read (RFC 9000, section 3.2)
+abbrev pub recv_ended : RecvLane → Bool
+recv_ended l = l.told && (is_some l.reset_code || recv_whole l)
+
+-- all bytes and the end that was asked for, or the reset, were acknowledged: Data Recvd or Reset Recvd (RFC 9000, section 3.1)
+abbrev pub send_ended : SendLane → Bool
+send_ended l = l.reset_acked || (is_none l.was_reset && l.finished && send_whole l)
+
+abbrev pub both_ended : RecvLane × SendLane → Bool
+both_ended halves = recv_ended halves.0 && send_ended halves.1
+
+-- how many streams of a direction the peer opened and came to their end (RFC 9000, sections 3 and 4.6)
+abbrev pub ended : End → Dir → ℕ
+ended e Bidi = length (filter both_ended (zip (table e.recvs (peer_kind e Bidi)) (table e.sends (peer_kind e Bidi))))
+ended e Uni = length (filter recv_ended (table e.recvs (peer_kind e Uni)))
+
+-- the count to which a direction's grant is brought: a stream more for each one that ended, up to the lifetime's
+abbrev pub next_count : End → Dir → ℕ
+next_count e d = min (lifetime e.settings d) (first_grant e.settings d + ended e d)
+
+-- What happens as a call ends: every limit and each count of streams becomes the next one (RFC 9000, sections 4.2 and 4.6).
 abbrev pub settle : End → End
 settle e =
     record e {
       recvs = each raise e.recvs;
       granted = next_limit e.granted (all_taken e) e.settings.conn_window;
+      granted_bidi = next_count e Bidi;
+      granted_uni = next_count e Uni;
     }

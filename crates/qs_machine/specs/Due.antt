@@ -14,7 +14,7 @@ use Rattle.qs_send.specs.declared.piece.Piece.TheVariants.{Data, Told}
 pub use Rattle.qs_send.specs.Records.{Among}
 use Rattle.qs_send.specs.Records.{IsCarried}
 use Rattle.qs_machine.specs.Ends.{End, send_lane, recv_lane, window}
-use Rattle.qs_machine.specs.Credit.{all_sent}
+use Rattle.qs_machine.specs.Credit.{all_sent, granted_streams, first_grant}
 
 -- some outstanding packet carried the piece
 abbrev pub IsOutstanding : End → Piece → Type 0
@@ -55,12 +55,11 @@ abbrev pub known_count : End → Dir → ℕ
 known_count e Bidi = e.known_bidi
 known_count e Uni = e.known_uni
 
--- There is a reason to tell the item, and it has its current value (RFC 9000, sections 4.1, 4.6 and 13.3). Counts of streams aren't
--- raised.
+-- There is a reason to tell the item, and it has its current value (RFC 9000, sections 4.1, 4.6 and 13.3).
 abbrev pub IsCurrent : End → Item → Type 0
 IsCurrent e (MaxData m) = (m ≡ e.granted) × (e.settings.conn_window < m)
 IsCurrent e (MaxStreamData n m) = (l : RecvLane) × (recv_lane e n ≡ Some l) × (m ≡ l.limit) × (window e n < m) × (l.final_size ≡ None)
-IsCurrent e (MaxStreams d m) = ⊥
+IsCurrent e (MaxStreams d m) = (m ≡ granted_streams e d) × (first_grant e.settings d < m)
 IsCurrent e (ResetStream n code size) = (l : SendLane) × (send_lane e n ≡ Some l) × (l.was_reset ≡ Some (record { code = code; size = size }))
 IsCurrent e (StopSending n code) = (l : RecvLane) × (recv_lane e n ≡ Some l) × (l.stop_code ≡ Some code) × (l.reset_code ≡ None) × (is_whole l ≡ false)
 IsCurrent e (DataBlocked m) = (m ≡ e.known_data) × (all_sent e ≡ m) × ((n : ℕ) × (l : SendLane) × WantsCredit e n l)
@@ -72,7 +71,8 @@ IsCurrent e (StreamsBlocked d m) = (wanted e d ≡ Some m) × (m ≡ known_count
 abbrev pub IsAcked : End → Item → Type 0
 IsAcked e (MaxData m) = e.acked.max_data ≡ Some m
 IsAcked e (MaxStreamData n m) = fmap.get e.acked.max_stream_data n ≡ Some m
-IsAcked e (MaxStreams d m) = ⊥
+IsAcked e (MaxStreams Bidi m) = e.acked.bidi_streams ≡ Some m
+IsAcked e (MaxStreams Uni m) = e.acked.uni_streams ≡ Some m
 IsAcked e (ResetStream n code size) = (l : SendLane) × (send_lane e n ≡ Some l) × (l.reset_acked ≡ true)
 IsAcked e (StopSending n code) = set.contains e.acked.stop_sending n ≡ true
 IsAcked e (DataBlocked m) = e.acked.data_blocked ≡ Some m

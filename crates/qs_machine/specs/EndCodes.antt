@@ -40,10 +40,20 @@ role_code = code_by ℕ coded_ℕ role_number role_of role_back
 
 abbrev pub settings_code : Coded Settings
 settings_code =
-    code_by (ℕ × (ℕ × (ℕ × (ℕ × (ℕ × (ℕ × ℕ))))))
-    (coded× coded_ℕ (coded× coded_ℕ (coded× coded_ℕ (coded× coded_ℕ (coded× coded_ℕ (coded× coded_ℕ coded_ℕ))))))
-    (λ s. (s.conn_window, (s.bidi_local, (s.bidi_remote, (s.uni, (s.send_buffer, (s.grant_bidi, s.grant_uni)))))))
-    (λ p. record { conn_window = p.0; bidi_local = p.1.0; bidi_remote = p.1.1.0; uni = p.1.1.1.0; send_buffer = p.1.1.1.1.0; grant_bidi = p.1.1.1.1.1.0; grant_uni = p.1.1.1.1.1.1 })
+    code_by (ℕ × (ℕ × (ℕ × (ℕ × (ℕ × (ℕ × (ℕ × (ℕ × ℕ))))))))
+    (coded× coded_ℕ (coded× coded_ℕ (coded× coded_ℕ (coded× coded_ℕ (coded× coded_ℕ (coded× coded_ℕ (coded× coded_ℕ (coded× coded_ℕ coded_ℕ))))))))
+    (λ s. (s.conn_window, (s.bidi_local, (s.bidi_remote, (s.uni, (s.send_buffer, (s.grant_bidi, (s.grant_uni, (s.lifetime_bidi, s.lifetime_uni)))))))))
+    (λ p. record {
+      conn_window = p.0;
+      bidi_local = p.1.0;
+      bidi_remote = p.1.1.0;
+      uni = p.1.1.1.0;
+      send_buffer = p.1.1.1.1.0;
+      grant_bidi = p.1.1.1.1.1.0;
+      grant_uni = p.1.1.1.1.1.1.0;
+      lifetime_bidi = p.1.1.1.1.1.1.1.0;
+      lifetime_uni = p.1.1.1.1.1.1.1.1;
+    })
     (λ _. refl)
 
 abbrev pub limits_code : Coded PeerLimits
@@ -90,10 +100,23 @@ values_code = fmap.code coded_ℕ coded_ℕ
 
 abbrev pub acked_code : Coded AckedItems
 acked_code =
-    code_by (Option ℕ × (fmap.FinMap nat_cmp ℕ × (NumberSet × (Option ℕ × (fmap.FinMap nat_cmp ℕ × (Option ℕ × Option ℕ))))))
-    (coded× (coded_option coded_ℕ) (coded× values_code (coded× (set.code coded_ℕ) (coded× (coded_option coded_ℕ) (coded× values_code (coded× (coded_option coded_ℕ) (coded_option coded_ℕ)))))))
-    (λ a. (a.max_data, (a.max_stream_data, (a.stop_sending, (a.data_blocked, (a.stream_data_blocked, (a.bidi_blocked, a.uni_blocked)))))))
-    (λ p. record { max_data = p.0; max_stream_data = p.1.0; stop_sending = p.1.1.0; data_blocked = p.1.1.1.0; stream_data_blocked = p.1.1.1.1.0; bidi_blocked = p.1.1.1.1.1.0; uni_blocked = p.1.1.1.1.1.1 })
+    code_by (Option ℕ × (fmap.FinMap nat_cmp ℕ × (NumberSet × (Option ℕ × (fmap.FinMap nat_cmp ℕ × (Option ℕ × (Option ℕ × (Option ℕ × Option ℕ))))))))
+    (coded× (coded_option coded_ℕ)
+    (coded× values_code
+    (coded× (set.code coded_ℕ)
+    (coded× (coded_option coded_ℕ) (coded× values_code (coded× (coded_option coded_ℕ) (coded× (coded_option coded_ℕ) (coded× (coded_option coded_ℕ) (coded_option coded_ℕ)))))))))
+    (λ a. (a.max_data, (a.max_stream_data, (a.stop_sending, (a.data_blocked, (a.stream_data_blocked, (a.bidi_blocked, (a.uni_blocked, (a.bidi_streams, a.uni_streams)))))))))
+    (λ p. record {
+      max_data = p.0;
+      max_stream_data = p.1.0;
+      stop_sending = p.1.1.0;
+      data_blocked = p.1.1.1.0;
+      stream_data_blocked = p.1.1.1.1.0;
+      bidi_blocked = p.1.1.1.1.1.0;
+      uni_blocked = p.1.1.1.1.1.1.0;
+      bidi_streams = p.1.1.1.1.1.1.1.0;
+      uni_streams = p.1.1.1.1.1.1.1.1;
+    })
     (λ _. refl)
 
 -- the parts of an end: what it is set to, its streams, its credit, what it processed, what it sent
@@ -104,7 +127,7 @@ abbrev Streams : Type 0
 Streams = Tables SendLane × (Tables RecvLane × (ℕ × (ℕ × (Option ℕ × Option ℕ))))
 
 abbrev Limits : Type 0
-Limits = ℕ × (ℕ × (ℕ × ℕ))
+Limits = ℕ × (ℕ × (ℕ × (ℕ × (ℕ × ℕ))))
 
 abbrev Processed : Type 0
 Processed = NumberSet × (ℕ × Bool)
@@ -117,7 +140,7 @@ end_code =
     code_by (Set_to × (Streams × (Limits × (Processed × Sent))))
     (coded× (coded× role_code (coded× settings_code (coded× limits_code (coded_option closed_code))))
     (coded× (coded× (tables_code send_code) (coded× (tables_code recv_code) (coded× coded_ℕ (coded× coded_ℕ (coded× (coded_option coded_ℕ) (coded_option coded_ℕ))))))
-    (coded× (coded× coded_ℕ (coded× coded_ℕ (coded× coded_ℕ coded_ℕ)))
+    (coded× (coded× coded_ℕ (coded× coded_ℕ (coded× coded_ℕ (coded× coded_ℕ (coded× coded_ℕ coded_ℕ)))))
     (coded× (coded× (set.code coded_ℕ) (coded× coded_ℕ coded_bool))
     (coded× coded_ℕ (coded× packet_pieces_code (coded× lost_packets_code acked_code)))))))
     (λ e. (
@@ -125,7 +148,7 @@ end_code =
       (
         (e.sends, (e.recvs, (e.accepted_bidi, (e.accepted_uni, (e.wanted_bidi, e.wanted_uni))))),
         (
-          (e.granted, (e.known_data, (e.known_bidi, e.known_uni))),
+          (e.granted, (e.granted_bidi, (e.granted_uni, (e.known_data, (e.known_bidi, e.known_uni))))),
           (
             (e.done, (e.floor, e.ack_due)),
             (e.next, (e.outstanding, (e.lost, e.acked))),
@@ -145,9 +168,11 @@ end_code =
       wanted_bidi = p.1.0.1.1.1.1.0;
       wanted_uni = p.1.0.1.1.1.1.1;
       granted = p.1.1.0.0;
-      known_data = p.1.1.0.1.0;
-      known_bidi = p.1.1.0.1.1.0;
-      known_uni = p.1.1.0.1.1.1;
+      granted_bidi = p.1.1.0.1.0;
+      granted_uni = p.1.1.0.1.1.0;
+      known_data = p.1.1.0.1.1.1.0;
+      known_bidi = p.1.1.0.1.1.1.1.0;
+      known_uni = p.1.1.0.1.1.1.1.1;
       done = p.1.1.1.0.0;
       floor = p.1.1.1.0.1.0;
       ack_due = p.1.1.1.0.1.1;

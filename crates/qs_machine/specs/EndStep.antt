@@ -11,7 +11,7 @@ use Rattle.qs_calls.specs.declared.report.LaneReport.{LaneReport}
 use Rattle.qs_calls.specs.declared.uses.OpenFault.{OpenFault}
 use Rattle.qs_calls.specs.declared.uses.UseFault.{UseFault}
 use Rattle.qs_machine.specs.Ends.{End}
-use Rattle.qs_machine.specs.Credit.{spent, all_stored}
+use Rattle.qs_machine.specs.Credit.{spent, all_stored, granted_streams}
 use Rattle.qs_machine.specs.Owner.{OpenStep, AcceptStep, WriteStep, FinishStep, ResetStep, StopStep, ReadStep}
 use Rattle.qs_machine.specs.Receiving.{ReceiveStep}
 use Rattle.qs_machine.specs.Making.{MakeStep, LoseStep, ClosePayload}
@@ -33,6 +33,7 @@ pub data Call : Type 0 where
   Stored : Call
   Granted : Call
   Spent : Call
+  GrantedStreams : (dir : Dir) → Call
   Report : (stream : ℕ) → Call
 
 -- what the call answers, with the bytes that it wrote into a slice
@@ -51,6 +52,7 @@ Answer (ClosingPayload slice) = Option ℕ × List ℕ
 Answer Stored = ℕ
 Answer Granted = ℕ
 Answer Spent = ℕ
+Answer (GrantedStreams d) = ℕ
 Answer (Report n) = Option LaneReport
 
 -- The call may answer so and lead from old to new.
@@ -69,4 +71,5 @@ EndStep old (ClosingPayload slice) answer new = ClosePayload old slice answer.0 
 EndStep old Stored answer new = (answer ≡ all_stored old) × (new ≡ old)
 EndStep old Granted answer new = (answer ≡ old.granted) × (new ≡ old)
 EndStep old Spent answer new = (answer ≡ spent old) × (new ≡ old)
+EndStep old (GrantedStreams d) answer new = (answer ≡ granted_streams old d) × (new ≡ old)
 EndStep old (Report n) answer new = (answer ≡ lane_report old n) × (new ≡ old)

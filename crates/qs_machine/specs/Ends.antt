@@ -1,9 +1,11 @@
 -- One end of a connection: its streams, its credit and its packets (RFC 9000, sections 2 to 4 and 13).
-use Rattle.std.specs.Prelude.{ℕ, ◌%◌, Bool, false, not, ◌&&◌, ◌==◌, nat_le, Option, None, Some, Result, Ok, Err, if◌then◌else◌}
+use Rattle.std.specs.Prelude.{ℕ, ◌+◌, ◌-◌, ◌%◌, Bool, false, not, ◌&&◌, ◌==◌, nat_le, Option, None, Some, Result, Ok, Err, if◌then◌else◌}
 use Rattle.std.specs.Ordering.{nat_cmp}
 use Rattle.std.specs.FinMap as fmap
 use Rattle.std.specs.FinSet as set
 use Rattle.qs_ranges.specs.Numbers.{NumberSet}
+use Rattle.qs_wire.specs.declared.stream_id.Dir.{Dir}
+use Rattle.qs_wire.specs.declared.stream_id.Dir.TheVariants.{Bidi, Uni}
 use Rattle.qs_wire.specs.declared.stream_id.Role.{Role}
 use Rattle.qs_wire.specs.declared.stream_id.Role.TheVariants.{Client, Server}
 use Rattle.qs_recv.specs.Lane.{RecvLane, new_lane as new_recv_lane}
@@ -33,6 +35,8 @@ pub record AckedItems : Type 0 where
   pub stream_data_blocked : fmap.FinMap nat_cmp ℕ
   pub bidi_blocked : Option ℕ
   pub uni_blocked : Option ℕ
+  pub bidi_streams : Option ℕ
+  pub uni_streams : Option ℕ
 
 pub record End : Type 0 where
   pub role : Role
@@ -41,8 +45,10 @@ pub record End : Type 0 where
   pub peer : PeerLimits
   pub sends : Tables SendLane
   pub recvs : Tables RecvLane
-  -- the connection limit granted to the peer
+  -- the connection limit and the counts of streams granted to the peer
   pub granted : ℕ
+  pub granted_bidi : ℕ
+  pub granted_uni : ℕ
   -- the peer's connection limit and its counts of streams, as far as they are known
   pub known_data : ℕ
   pub known_bidi : ℕ
@@ -77,6 +83,15 @@ is_own_by role n = kind_of n % 2 == role_bit role
 -- whether this end opens the stream
 abbrev pub is_own : End → ℕ → Bool
 is_own e n = is_own_by e.role n
+
+-- the type of the streams that an end opens, and of those that its peer does (RFC 9000, section 2.1)
+abbrev pub own_kind : End → Dir → ℕ
+own_kind e Bidi = role_bit e.role
+own_kind e Uni = 2 + role_bit e.role
+
+abbrev pub peer_kind : End → Dir → ℕ
+peer_kind e Bidi = 1 - role_bit e.role
+peer_kind e Uni = 3 - role_bit e.role
 
 -- whether only the initiator sends (RFC 9000, section 2.1)
 abbrev pub is_uni : ℕ → Bool
@@ -124,7 +139,7 @@ closes c e = record e { closed = Some c }
 
 abbrev pub no_items : AckedItems
 no_items =
-    record { max_data = None; max_stream_data = fmap.empty; stop_sending = set.empty; data_blocked = None; stream_data_blocked = fmap.empty; bidi_blocked = None; uni_blocked = None }
+    record { max_data = None; max_stream_data = fmap.empty; stop_sending = set.empty; data_blocked = None; stream_data_blocked = fmap.empty; bidi_blocked = None; uni_blocked = None; bidi_streams = None; uni_streams = None }
 
 -- a new end
 abbrev pub new_end : Role → Settings → PeerLimits → End
@@ -136,6 +151,8 @@ new_end role settings peer =
       sends = no_streams;
       recvs = no_streams;
       granted = settings.conn_window;
+      granted_bidi = settings.grant_bidi;
+      granted_uni = settings.grant_uni;
       known_data = peer.max_data;
       known_bidi = peer.streams_bidi;
       known_uni = peer.streams_uni;

@@ -3,13 +3,14 @@ use Rattle.std.specs.Prelude.{◌≡◌, ℕ, true, false, List, [], ◌∷◌, 
 use Rattle.std.specs.FinMap as fmap
 use Rattle.qs_wire.specs.Layout.{PlacedValue, stream, reset_stream}
 use Rattle.qs_wire.specs.Reading.{reading_of}
+use Rattle.qs_wire.specs.declared.stream_id.Dir.TheVariants.{Uni}
 use Rattle.qs_wire.specs.declared.stream_id.Role.TheVariants.{Client, Server}
 use Rattle.qs_recv.specs.Lane.{after_read, next_limit}
-use Rattle.qs_send.specs.Lane.{SendLane, state, write_lane, sent_lane, finish_lane}
+use Rattle.qs_send.specs.Lane.{SendLane, state, write_lane, sent_lane, finish_lane, reset_acked_lane}
 use Rattle.qs_send.specs.declared.parts.Chunk.{Chunk}
 use Rattle.qs_send.specs.declared.piece.Piece.TheVariants.{Data}
 use Rattle.qs_send.specs.declared.parts.SendState.TheVariants.{DataSent, ResetSent}
-use Rattle.qs_send.specs.declared.piece.Item.TheVariants.{MaxStreamData, ResetStream, StopSending, StreamDataBlocked}
+use Rattle.qs_send.specs.declared.piece.Item.TheVariants.{MaxStreamData, MaxStreams, ResetStream, StopSending, StreamDataBlocked}
 use Rattle.qs_calls.specs.declared.settings.Settings.{Settings}
 use Rattle.qs_calls.specs.declared.closing.Closing.{Closing}
 use Rattle.qs_calls.specs.Settings.{limits_of}
@@ -23,7 +24,7 @@ use Rattle.qs_machine.specs.Lawful.{MayPut, Lawful}
 use Rattle.qs_machine.specs.Receiving.{TakesPayload}
 
 abbrev pub standard : Settings
-standard = record { conn_window = 4096; bidi_local = 1024; bidi_remote = 1024; uni = 1024; send_buffer = 2048; grant_bidi = 8; grant_uni = 8 }
+standard = record { conn_window = 4096; bidi_local = 1024; bidi_remote = 1024; uni = 1024; send_buffer = 2048; grant_bidi = 8; grant_uni = 8; lifetime_bidi = 8; lifetime_uni = 8 }
 
 -- a server with these settings, and a client whose peer has these; the other end has the standard ones
 abbrev pub server : Settings → End
@@ -161,6 +162,26 @@ pub record NewLimitIsTold : Type 0 where
   pub tells : IsDueItem half_read (MaxStreamData 0 15)
   pub once : IsDueItem (item_acked (MaxStreamData 0 15) half_read) (MaxStreamData 0 15) → ⊥
 
+-- a reset came on the peer's stream, and its reader was told so
+abbrev pub told_reset : ℕ → End → End
+told_reset n e = on_recv n (λ l. after_read l 1) (after (Control (ResetStream n 7 0)) e)
+
+-- a server that grants one stream of each type at first and two in all, once that happened on the first ones, as the call ends
+abbrev pub two_told : End
+two_told = settle (told_reset 0 (told_reset 2 (server (record standard { grant_bidi = 1; lifetime_bidi = 2; grant_uni = 1; lifetime_uni = 2 }))))
+
+-- A unidirectional stream that ended makes room for one more, which is told. A bidirectional one does so once its sending half ended too.
+-- No more streams are granted than in the lifetime.
+pub record StreamCountsGrow : Type 0 where
+  pub uni : two_told.granted_uni ≡ 2
+  pub tells : IsDueItem two_told (MaxStreams Uni 2)
+  pub once : IsDueItem (item_acked (MaxStreams Uni 2) two_told) (MaxStreams Uni 2) → ⊥
+  pub within : verdict two_told (Control (ResetStream 6 7 0)) ≡ None
+  pub past : verdict two_told (Control (ResetStream 10 7 0)) ≡ Some STREAM_LIMIT_ERROR
+  pub one_half : two_told.granted_bidi ≡ 1
+  pub both_halves : (settle (on_send 0 reset_acked_lane two_told)).granted_bidi ≡ 2
+  pub no_more : (settle (told_reset 6 two_told)).granted_uni ≡ 2
+
 -- a client that opened stream 0 and finished it with nothing written
 abbrev pub ended : End
 ended = on_send 0 finish_lane (opens 0 (client_of standard))
@@ -205,5 +226,6 @@ pub record Examples : Type 0 where
   pub blocked_stream : BlockedIsTold
   pub afterwards : LimitsRiseAfterwards
   pub new_limit : NewLimitIsTold
+  pub counts : StreamCountsGrow
   pub empty_stream : EmptyStreamIsSent
   pub acks : AcksTakeWhatTheyName

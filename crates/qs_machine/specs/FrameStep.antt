@@ -37,7 +37,8 @@ with_acked items e = record e { acked = items }
 abbrev pub item_acked : Item → End → End
 item_acked (MaxData m) e = with_acked (record e.acked { max_data = greatest e.acked.max_data m }) e
 item_acked (MaxStreamData n m) e = with_acked (record e.acked { max_stream_data = greatest_of e.acked.max_stream_data n m }) e
-item_acked (MaxStreams d m) e = e
+item_acked (MaxStreams Bidi m) e = with_acked (record e.acked { bidi_streams = greatest e.acked.bidi_streams m }) e
+item_acked (MaxStreams Uni m) e = with_acked (record e.acked { uni_streams = greatest e.acked.uni_streams m }) e
 item_acked (ResetStream n code size) e = on_send n reset_acked_lane e
 item_acked (StopSending n code) e = with_acked (record e.acked { stop_sending = set.insert e.acked.stop_sending n }) e
 item_acked (DataBlocked m) e = with_acked (record e.acked { data_blocked = greatest e.acked.data_blocked m }) e

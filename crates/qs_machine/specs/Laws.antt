@@ -1,21 +1,28 @@
 -- Laws on ends and their calls.
-use Rattle.std.specs.Prelude.{◌≡◌, ℕ, true, List, ◌++◌, is_some, Result, Ok}
+use Rattle.std.specs.Prelude.{◌≡◌, ℕ, Bool, true, false, List, ◌++◌, is_some, Result, Ok}
 use Rattle.qs_wire.specs.Layout.{PlacedValue}
 use Rattle.qs_wire.specs.Grammar.{frames_of}
 use Rattle.qs_wire.specs.Reading.{reading_of}
 use Rattle.qs_wire.specs.declared.stream_id.Role.{Role}
+use Rattle.qs_recv.specs.Lane.{RecvLane, state as recv_state}
+use Rattle.qs_recv.specs.declared.half.RecvState.{RecvState}
+use Rattle.qs_recv.specs.declared.half.RecvState.TheVariants.{DataRead, ResetRead}
+use Rattle.qs_send.specs.Lane.{Sending, state as send_state}
+use Rattle.qs_send.specs.Sound.{IsLawful}
+use Rattle.qs_send.specs.declared.parts.SendState.{SendState}
+use Rattle.qs_send.specs.declared.parts.SendState.TheVariants.{DataRecvd, ResetRecvd}
 use Rattle.qs_calls.specs.declared.settings.Settings.{Settings}
 use Rattle.qs_calls.specs.declared.settings.PeerLimits.{PeerLimits}
 use Rattle.qs_calls.specs.declared.closing.Closing.{Closing}
 use Rattle.qs_calls.specs.declared.closing.Received.{Received}
 use Rattle.qs_calls.specs.declared.closing.Received.TheVariants.{Done}
 use Rattle.qs_machine.specs.Ends.{End, end_made}
-use Rattle.qs_machine.specs.Credit.{settle}
+use Rattle.qs_machine.specs.Credit.{settle, recv_ended, send_ended}
 use Rattle.qs_machine.specs.Seen.{Seen, seen_all, any_asks}
 use Rattle.qs_machine.specs.FrameStep.{NoFault, frames_taken}
 use Rattle.qs_machine.specs.Receiving.{TakesPayload, EndsBy, ReceiveStep}
 use Rattle.qs_machine.specs.EndStep.{Call, Answer, EndStep}
-use Rattle.qs_machine.specs.Standing.{IsSound, IsWithinCredit, LimitsRise}
+use Rattle.qs_machine.specs.Standing.{IsSound, IsWithinCredit, CountsAreSettled, LimitsRise, CountsRise}
 use Rattle.qs_machine.specs.Repeats.{SentWasWritten, AreAmong, Resumes, OnlyRecords}
 
 -- a new end is sound
@@ -26,9 +33,38 @@ NewEndsAreSound = (role : Role) (s : Settings) (p : PeerLimits) (e : End) → en
 abbrev pub CallsKeepEndsSound : Type 0
 CallsKeepEndsSound = (old : End) (call : Call) (answer : Answer call) (new : End) → IsSound old → EndStep old call answer new → IsSound new
 
--- a sound end stores at most what it granted
+-- a sound end stores at most what it granted, and grants no more streams than in its lifetime
 abbrev pub StoredBytesWereGranted : Type 0
 StoredBytesWereGranted = (e : End) → IsSound e → IsWithinCredit e
+
+-- the last states of a receiving half (RFC 9000, section 3.2), and of a sending one (section 3.1)
+abbrev pub is_last_recv : RecvState → Bool
+is_last_recv DataRead = true
+is_last_recv ResetRead = true
+is_last_recv state = false
+
+abbrev pub is_last_send : SendState → Bool
+is_last_send DataRecvd = true
+is_last_send ResetRecvd = true
+is_last_send state = false
+
+-- a half ended exactly where it is in one of its last states
+pub record EndedIsLastState : Type 0 where
+  pub recv : (l : RecvLane) → recv_ended l ≡ is_last_recv (recv_state l)
+  pub send : (s : Sending) → IsLawful s → send_ended s.lane ≡ is_last_send (send_state s.lane)
+
+-- a new end grants as many streams as at first, when none ended
+abbrev pub NewEndsSettleCounts : Type 0
+NewEndsSettleCounts = (role : Role) (s : Settings) (p : PeerLimits) (e : End) → end_made role s p ≡ Ok e → CountsAreSettled e
+
+-- as each call ends, the granted counts are what the streams that ended make them
+abbrev pub CallsSettleCounts : Type 0
+CallsSettleCounts = (old : End) (call : Call) (answer : Answer call) (new : End) → CountsAreSettled old → EndStep old call answer new → CountsAreSettled new
+
+-- no call of a sound end lowers a count that was granted
+abbrev pub CountsNeverFall : Type 0
+CountsNeverFall =
+    (old : End) (call : Call) (answer : Answer call) (new : End) → IsSound old → SentWasWritten old → EndStep old call answer new → CountsRise old new
 
 -- no call lowers a limit
 abbrev pub LimitsNeverFall : Type 0

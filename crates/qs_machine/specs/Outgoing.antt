@@ -268,7 +268,8 @@ IsAckedReset (Some l) = l.reset_acked ≡ true
 abbrev pub IsAckedOut : Outgoing → Item → Type 0
 IsAckedOut o (MaxData m) = o.acked.max_data ≡ Some m
 IsAckedOut o (MaxStreamData n m) = fmap.get o.acked.max_stream_data n ≡ Some m
-IsAckedOut o (MaxStreams d m) = ⊥
+IsAckedOut o (MaxStreams Bidi m) = o.acked.bidi_streams ≡ Some m
+IsAckedOut o (MaxStreams Uni m) = o.acked.uni_streams ≡ Some m
 IsAckedOut o (ResetStream n code size) = IsAckedReset (lookup o.sends n)
 IsAckedOut o (StopSending n code) = set.contains o.acked.stop_sending n ≡ true
 IsAckedOut o (DataBlocked m) = o.acked.data_blocked ≡ Some m

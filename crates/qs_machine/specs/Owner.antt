@@ -1,5 +1,5 @@
 -- The calls of an end's owner on streams: what each answers and leaves (RFC 9000, sections 2.4 and 3). As each ends, the limits move.
-use Rattle.std.specs.Prelude.{◌≡◌, ℕ, ◌+◌, ◌-◌, ◌*◌, Bool, List, [], ◌⊎◌, length, take, max, Option, None, Some, is_some, Result, Ok, Err, nat_le, nat_lt, MatchBool, if◌then◌else◌}
+use Rattle.std.specs.Prelude.{◌≡◌, ℕ, ◌+◌, ◌*◌, Bool, List, [], ◌⊎◌, length, take, max, Option, None, Some, is_some, Result, Ok, Err, nat_le, nat_lt, MatchBool, if◌then◌else◌}
 use Rattle.qs_wire.specs.declared.stream_id.Dir.{Dir}
 use Rattle.qs_wire.specs.declared.stream_id.Dir.TheVariants.{Bidi, Uni}
 use Rattle.qs_recv.specs.Lane.{RecvLane, read_answer, bytes_read, after_read, stop}
@@ -12,7 +12,8 @@ use Rattle.qs_calls.specs.declared.uses.OpenFault.TheVariants as opening
 use Rattle.qs_calls.specs.declared.uses.UseFault.{UseFault}
 use Rattle.qs_calls.specs.declared.uses.UseFault.TheVariants.{NoSuchStream, WrongDirection, Finished, WasReset, Closed, NoMemory}
 use Rattle.qs_machine.specs.Tables.{table}
-use Rattle.qs_machine.specs.Ends.{End, role_bit, send_lane, recv_lane, on_send, on_recv, opens}
+use Rattle.qs_machine.specs.Ends.{End, send_lane, recv_lane, on_send, on_recv, opens}
+pub use Rattle.qs_machine.specs.Ends.{own_kind, peer_kind}
 use Rattle.qs_machine.specs.Credit.{settle}
 use Rattle.qs_machine.specs.Due.{known_count}
 
@@ -34,15 +35,6 @@ abbrev pub refuse_if : {F : Type 0} → Bool → F → Option F
 refuse_if b fault = if b then Some fault else None
 
 -- Opening
-
--- the type of the streams that an end opens, and of those that its peer does (RFC 9000, section 2.1)
-abbrev pub own_kind : End → Dir → ℕ
-own_kind e Bidi = role_bit e.role
-own_kind e Uni = 2 + role_bit e.role
-
-abbrev pub peer_kind : End → Dir → ℕ
-peer_kind e Bidi = 1 - role_bit e.role
-peer_kind e Uni = 3 - role_bit e.role
 
 -- how many streams of a type are open
 abbrev pub opened_count : End → ℕ → ℕ

@@ -1,6 +1,8 @@
 -- What holds of an end at all times, and what no call takes back (RFC 9000, section 4.1).
 use Rattle.std.specs.Prelude.{◌≡◌, ℕ, ◌+◌, ◌-◌, ◌≤◌, true, ⊤, Option, None, Some}
 use Rattle.std.specs.FinMap as fmap
+use Rattle.qs_wire.specs.declared.stream_id.Dir.{Dir}
+use Rattle.qs_wire.specs.declared.stream_id.Dir.TheVariants.{Bidi, Uni}
 use Rattle.qs_wire.specs.declared.stream_id.Role.{Role}
 use Rattle.qs_recv.specs.Lane.{RecvLane, highest, taken}
 use Rattle.qs_recv.specs.Lawful.{IsLawful}
@@ -8,7 +10,7 @@ use Rattle.qs_calls.specs.declared.settings.Settings.{Settings}
 use Rattle.qs_calls.specs.Settings.{are_in_range}
 use Rattle.qs_machine.specs.Tables.{Tables, lookup, total}
 use Rattle.qs_machine.specs.Ends.{End, window_by, window, recv_lane}
-use Rattle.qs_machine.specs.Credit.{spent, all_taken, all_stored}
+use Rattle.qs_machine.specs.Credit.{spent, all_taken, all_stored, granted_streams, lifetime, next_count}
 
 -- a receiving half that is open is lawful, and has the window of its type of stream
 abbrev pub HasLawfulLane : Role → Settings → ℕ → Option RecvLane → Type 0
@@ -22,9 +24,21 @@ pub record KeepsCredit (role : Role) (s : Settings) (recvs : Tables RecvLane) (g
   pub spent : total highest recvs ≤ granted
   pub in_window : granted ≤ total taken recvs + s.conn_window
 
+-- of an end: its peer is within the credit
+abbrev pub IsInCredit : End → Type 0
+IsInCredit e = KeepsCredit e.role e.settings e.recvs e.granted
+
+-- no granted count of streams is above the next one, and so none above its lifetime's (RFC 9000, section 4.6)
+abbrev pub CountsStand : End → Type 0
+CountsStand e = (granted_streams e Bidi ≤ next_count e Bidi) × (granted_streams e Uni ≤ next_count e Uni)
+
 -- every end that is reached is sound
 abbrev pub IsSound : End → Type 0
-IsSound e = KeepsCredit e.role e.settings e.recvs e.granted
+IsSound e = IsInCredit e × CountsStand e
+
+-- between calls each granted count is the next one: the first, and a stream more for each one that ended, up to the lifetime's
+abbrev pub CountsAreSettled : End → Type 0
+CountsAreSettled e = (d : Dir) → granted_streams e d ≡ next_count e d
 
 -- of one stream: its stored bytes were granted and aren't taken, and that is within the window
 pub record IsLaneWithin (l : RecvLane) (window : ℕ) : Type 0 where
@@ -32,18 +46,20 @@ pub record IsLaneWithin (l : RecvLane) (window : ℕ) : Type 0 where
   pub credit : l.limit - taken l ≤ window
   pub spent : highest l ≤ l.limit
 
--- the bytes that an end stores were granted and aren't taken, and that is within the window; and so of each stream
+-- the bytes that an end stores were granted and aren't taken, and that is within the window; and so of each stream; no count of streams
+-- is above its lifetime's
 pub record IsWithinCredit (e : End) : Type 0 where
   pub stored : all_stored e ≤ e.granted - all_taken e
   pub credit : e.granted - all_taken e ≤ e.settings.conn_window
   pub spent : spent e ≤ e.granted
   pub lanes : (n : ℕ) (l : RecvLane) → recv_lane e n ≡ Some l → IsLaneWithin l (window e n)
+  pub counts : (d : Dir) → granted_streams e d ≤ lifetime e.settings d
 
 -- each half that is open stays so, and its limit is no lower
 abbrev pub LimitsRiseIn : {X : Type 0} → (X → ℕ) → Tables X → Tables X → Type 0
 LimitsRiseIn {X} limit old new = (n : ℕ) (x : X) → lookup old n ≡ Some x → (y : X) × (lookup new n ≡ Some y) × (limit x ≤ limit y)
 
--- no limit is lower: the connection limit granted, those of the peer as far as they are known, the counts of streams, and the limit of
+-- no limit is lower: the connection limit granted, those of the peer as far as they are known, its counts of streams, and the limit of
 -- each half
 abbrev pub LimitsRise : End → End → Type 0
 LimitsRise old new =
@@ -53,3 +69,7 @@ LimitsRise old new =
     × (old.known_uni ≤ new.known_uni)
     × LimitsRiseIn (λ l. l.limit) old.recvs new.recvs
     × LimitsRiseIn (λ l. l.limit) old.sends new.sends
+
+-- no granted count of streams is lower (RFC 9000, section 4.6)
+abbrev pub CountsRise : End → End → Type 0
+CountsRise old new = (d : Dir) → granted_streams old d ≤ granted_streams new d

@@ -12,7 +12,8 @@ use Rattle.qs_machine.specs.FrameStep.{greatest, greatest_of}
 abbrev pub item_noted : Item → AckedItems → AckedItems
 item_noted (MaxData m) a = record a { max_data = greatest a.max_data m }
 item_noted (MaxStreamData n m) a = record a { max_stream_data = greatest_of a.max_stream_data n m }
-item_noted (MaxStreams d m) a = a
+item_noted (MaxStreams Bidi m) a = record a { bidi_streams = greatest a.bidi_streams m }
+item_noted (MaxStreams Uni m) a = record a { uni_streams = greatest a.uni_streams m }
 item_noted (ResetStream n code size) a = a
 item_noted (StopSending n code) a = record a { stop_sending = set.insert a.stop_sending n }
 item_noted (DataBlocked m) a = record a { data_blocked = greatest a.data_blocked m }
@@ -24,7 +25,8 @@ item_noted (StreamsBlocked Uni m) a = record a { uni_blocked = greatest a.uni_bl
 abbrev pub IsNoted : AckedItems → Item → Type 0
 IsNoted a (MaxData m) = a.max_data ≡ Some m
 IsNoted a (MaxStreamData n m) = fmap.get a.max_stream_data n ≡ Some m
-IsNoted a (MaxStreams d m) = ⊥
+IsNoted a (MaxStreams Bidi m) = a.bidi_streams ≡ Some m
+IsNoted a (MaxStreams Uni m) = a.uni_streams ≡ Some m
 IsNoted a (ResetStream n code size) = ⊥
 IsNoted a (StopSending n code) = set.contains a.stop_sending n ≡ true
 IsNoted a (DataBlocked m) = a.data_blocked ≡ Some m

@@ -1,6 +1,6 @@
 //! Laws on ends and their calls, each the contract of a function.
 
-ghost use Rattle.qs_machine.specs.Laws.{NewEndsAreSound, CallsKeepEndsSound, StoredBytesWereGranted, LimitsNeverFall, ClosedEndsStay, PayloadsAreTakenInOrder, EffectsRepeat, PayloadsRepeat, ProcessedPayloadsRepeat, NewEndsSentNothing, CallsSendWhatWasWritten};
+ghost use Rattle.qs_machine.specs.Laws.{NewEndsAreSound, CallsKeepEndsSound, StoredBytesWereGranted, EndedIsLastState, NewEndsSettleCounts, CallsSettleCounts, CountsNeverFall, LimitsNeverFall, ClosedEndsStay, PayloadsAreTakenInOrder, EffectsRepeat, PayloadsRepeat, ProcessedPayloadsRepeat, NewEndsSentNothing, CallsSendWhatWasWritten};
 ghost use Rattle.qs_machine.specs.Examples.{Examples};
 
 /// A new end is sound.
@@ -13,12 +13,29 @@ pub fn calls_keep_ends_sound()
     ensures { CallsKeepEndsSound }
 {}
 
-/// A sound end stores at most what it granted, which is at most its window; and so of each stream.
+/// A sound end stores at most what it granted, which is at most its window; and so of each stream. It grants no more streams than it
+/// may in its lifetime.
 pub fn stored_bytes_were_granted()
     ensures { StoredBytesWereGranted }
 {}
 
-/// No call lowers a limit that was granted or one that is known, or a count of streams.
+/// A half of a stream counts as ended exactly in Data Read and Reset Read, or in Data Recvd and Reset Recvd.
+pub fn ended_is_last_state()
+    ensures { EndedIsLastState }
+{}
+
+/// Of a new end, and after every call, each granted count of streams is what the streams that ended make it.
+pub fn counts_are_settled()
+    ensures new { NewEndsSettleCounts }
+    ensures calls { CallsSettleCounts }
+{}
+
+/// No call lowers a granted count of streams: a stream that ended stays so.
+pub fn counts_never_fall()
+    ensures { CountsNeverFall }
+{}
+
+/// No call lowers a limit that was granted or one that is known, or a known count of streams.
 pub fn limits_never_fall()
     ensures { LimitsNeverFall }
 {}

@@ -186,7 +186,8 @@ module _ (p : Past) where
   item_acked_ok e (ResetStream n code size) ok = send_kept p e n ok reset_acked_lane (λ l is h. (reset_acked_ok p n (first_send_limit e n) l h, refl))
   item_acked_ok e (MaxData m) ok = with_items e _ ok
   item_acked_ok e (MaxStreamData n m) ok = with_items e _ ok
-  item_acked_ok e (MaxStreams d m) ok = ok
+  item_acked_ok e (MaxStreams Bidi m) ok = with_items e _ ok
+  item_acked_ok e (MaxStreams Uni m) ok = with_items e _ ok
   item_acked_ok e (StopSending n c) ok = with_items e _ ok
   item_acked_ok e (DataBlocked m) ok = with_items e _ ok
   item_acked_ok e (StreamDataBlocked n m) ok = with_items e _ ok

@@ -17,7 +17,7 @@ use Rattle.qs_runs.specs.Pasts.{past, Holds, Tells, IsNamed}
 use Rattle.qs_runs.specs.Invariant.{WorldOk, EndOk, SendSlot, RecvSlot, FrameTaken}
 use Rattle.qs_runs.specs.Clauses.{Carries, sending, receiving, PiecesAreWritten, ReceivedIsBelowSent, StoredIsWritten, ReadIsWritten, ProcessedWasTaken, ProcessedResetWasTaken, AckedWasProcessed, FinalSizeIsDeclared, ResetCodeIsTheSenders, SentIsWithinKnown, KnownIsWithinGranted, IsOpen, IsOpenAtInitiator, known_for, OpenedIsBelowKnown}
 use Rattle.qs_runs.proofs.Lists.{All_at}
-use Rattle.qs_runs.proofs.Unharmed.{Facing, lane_limit, own_sends, final_sent, data_granted, bidi_granted, uni_granted}
+use Rattle.qs_runs.proofs.Unharmed.{Facing, lane_limit, own_sends, final_sent, data_granted}
 use Rattle.qs_runs.proofs.Agreement.{byte_written, gave_written, end_written, written_count, size_agrees, reset_agrees}
 use Rattle.qs_runs.proofs.Histories.{theirs_mine, payload_seen, seen_made}
 use Rattle.qs_runs.proofs.Runs.{opposite, ends_face}
@@ -162,6 +162,6 @@ module _ (a b : Settings) (h : History) (w : World) (ok : WorldOk a b h w) (s : 
       opened n (inl sends) own = sends_ok.streams.own_send n sends own
       opened n (inr recvs) own = sends_ok.streams.own_send n (sends_ok.streams.own_recv n recvs own).1 own
 
-      known : (n : ℕ) (u : Bool) → (if u then sender.known_uni else sender.known_bidi) ≤ (if u then receiver.settings.grant_uni else receiver.settings.grant_bidi)
-      known n true = uni_granted (past (other s) h) (past s h) (theirs_mine s h) refl receiver sender face recvs_ok sends_ok
-      known n false = bidi_granted (past (other s) h) (past s h) (theirs_mine s h) refl receiver sender face recvs_ok sends_ok
+      known : (n : ℕ) (u : Bool) → (if u then sender.known_uni else sender.known_bidi) ≤ (if u then receiver.granted_uni else receiver.granted_bidi)
+      known n true = face.uni
+      known n false = face.bidi

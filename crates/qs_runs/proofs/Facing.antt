@@ -1,5 +1,5 @@
 -- What the peer made closes nothing.
-use Rattle.std.proofs.Common.{◌≡◌, ℕ, ◌%◌, ◌<◌, Bool, true, false, not, List, [], ◌∷◌, take, Option, Some, None, Result, Ok, Err, slice_get, refl, sym, ap, ◌∙◌, subst, arith, inl, inr, if◌then◌else◌, ◌||◌, ◌==◌, MatchBool}
+use Rattle.std.proofs.Common.{◌≡◌, ℕ, ◌%◌, ◌<◌, ◌≤◌, Bool, true, false, not, List, [], ◌∷◌, take, Option, Some, None, Result, Ok, Err, slice_get, refl, sym, ap, ◌∙◌, subst, arith, inl, inr, if◌then◌else◌, ◌||◌, ◌==◌, MatchBool}
 use Rattle.std.proofs.lemmas.Option.{none-some}
 use Rattle.std.proofs.lemmas.Bool.{cases_eq}
 use Rattle.std.specs.FinSet as set
@@ -44,30 +44,34 @@ limit_by true b x y z = refl
 limit_by false true x y z = refl
 limit_by false false x y z = refl
 
-pub facing : (e f : End) → ((n : ℕ) → is_own_by f.role n ≡ not (is_own_by e.role n)) → f.peer ≡ limits_of e.settings → Facing e f
-facing e f opposite peer =
+pub facing : (e f : End) → ((n : ℕ) → is_own_by f.role n ≡ not (is_own_by e.role n)) → f.peer ≡ limits_of e.settings → f.known_bidi ≤ e.granted_bidi → f.known_uni ≤ e.granted_uni → Facing e f
+facing e f opposite peer bidi uni =
     record {
       opposite = opposite;
       first_limit = λ n. rw (peer, opposite n) (limit_by (is_uni n) (is_own e n) e.settings.uni e.settings.bidi_remote e.settings.bidi_local);
       first_data = ap (λ x. x.max_data) peer;
-      first_bidi = ap (λ x. x.streams_bidi) peer;
-      first_uni = ap (λ x. x.streams_uni) peer;
+      bidi = bidi;
+      uni = uni;
     }
 
 module _ (p q : Past) (e f : End) (their : EndOk q f) (from : p.theirs ≡ q.mine) (back : q.theirs ≡ p.mine)
-    (opposite : (n : ℕ) → is_own_by f.role n ≡ not (is_own_by e.role n)) (peer : f.peer ≡ limits_of e.settings) where
-  -- at every moment of a payload the two ends face each other
-  fine_now : (mid : End) → EndOk p mid → standing mid ≡ standing e → (g : Seen) → Tells p.theirs g → verdict mid g ≡ None
+    (opposite : (n : ℕ) → is_own_by f.role n ≡ not (is_own_by e.role n)) (peer : f.peer ≡ limits_of e.settings) (bidi : f.known_bidi ≤ e.granted_bidi) (uni : f.known_uni ≤ e.granted_uni) where
+  -- at every moment of a payload the end stands as it did, and grants as many streams
+  abbrev IsThere : End → Type 0
+  IsThere mid = (standing mid ≡ standing e) × (mid.granted_bidi ≡ e.granted_bidi) × (mid.granted_uni ≡ e.granted_uni)
+
+  -- so the two ends face each other
+  fine_now : (mid : End) → EndOk p mid → IsThere mid → (g : Seen) → Tells p.theirs g → verdict mid g ≡ None
   fine_now mid ok same g t =
-      let faces : Facing mid f = facing mid f (λ n. opposite n ∙ ap (λ x. not (is_own_by x.role n)) (sym same)) (peer ∙ ap (λ x. limits_of x.settings) (sym same)) in
+      let faces : Facing mid f = facing mid f (λ n. opposite n ∙ ap (λ x. not (is_own_by x.role n)) (sym same.0)) (peer ∙ ap (λ x. limits_of x.settings) (sym same.0)) (omega (arith, bidi, same.1)) (omega (arith, uni, same.2)) in
       told_fine p q from back mid f faces ok their g (subst (λ x. Tells x g) from t)
 
-  stops_stand : (v : PlacedValue) (g : Seen) (mid : End) (result : Result Received Closing) (new : End) → EndOk p mid → standing mid ≡ standing e → Tells p.theirs g → Stops v g mid result new → standing new ≡ standing e
+  stops_stand : (v : PlacedValue) (g : Seen) (mid : End) (result : Result Received Closing) (new : End) → EndOk p mid → IsThere mid → Tells p.theirs g → Stops v g mid result new → standing new ≡ standing e
   stops_stand v (Close code) mid (Ok (PeerClosed told)) new ok same t h = absurd (their.packets.kinds (Close code) (subst (λ x. Tells x (Close code)) from t))
-  stops_stand v (Ack largest ranges) mid (Ok NoMemory) new ok same t (fine, (m, h)) = ap standing h ∙ ap (λ x. x.0) (acks_stand (take m (named mid ranges)) mid) ∙ same
-  stops_stand v (Stream n offset bytes fin) mid (Ok NoMemory) new ok same t h = ap standing h.1 ∙ same
-  stops_stand v (Control i) mid (Ok NoMemory) new ok same t h = ap standing h.1 ∙ same
-  stops_stand v (Plain asks) mid (Ok NoMemory) new ok same t h = ap standing h.1 ∙ same
+  stops_stand v (Ack largest ranges) mid (Ok NoMemory) new ok same t (fine, (m, h)) = ap standing h ∙ ap (λ x. x.0) (acks_stand (take m (named mid ranges)) mid) ∙ same.0
+  stops_stand v (Stream n offset bytes fin) mid (Ok NoMemory) new ok same t h = ap standing h.1 ∙ same.0
+  stops_stand v (Control i) mid (Ok NoMemory) new ok same t h = ap standing h.1 ∙ same.0
+  stops_stand v (Plain asks) mid (Ok NoMemory) new ok same t h = ap standing h.1 ∙ same.0
   stops_stand v (Ack largest ranges) mid (Err closing) new ok same t h = absurd (none-some closing.code (sym (fine_now mid ok same (Ack largest ranges) t) ∙ h.0))
   stops_stand v (Stream n offset bytes fin) mid (Err closing) new ok same t h = absurd (none-some closing.code (sym (fine_now mid ok same (Stream n offset bytes fin) t) ∙ h.0))
   stops_stand v (Control i) mid (Err closing) new ok same t h = absurd (none-some closing.code (sym (fine_now mid ok same (Control i) t) ∙ h.0))
@@ -80,14 +84,15 @@ module _ (p q : Past) (e f : End) (their : EndOk q f) (from : p.theirs ≡ q.min
   at_end_stands k asks (Some fault) mid (Err closing) new none same h = absurd (none-some fault (sym none))
   at_end_stands k asks fault mid result new none same h = absurd h
 
-  takes_stand : (left : List PlacedValue) (k : ℕ) (asks : Bool) (fault : Option WireFault) (mid : End) (result : Result Received Closing) (new : End) → fault ≡ None → EndOk p mid → standing mid ≡ standing e →
+  takes_stand : (left : List PlacedValue) (k : ℕ) (asks : Bool) (fault : Option WireFault) (mid : End) (result : Result Received Closing) (new : End) → fault ≡ None → EndOk p mid → IsThere mid →
       ((g : Seen) → Among g (seen_all (frames_of left)) → Tells p.theirs g) → Takes k fault asks mid left result new → standing new ≡ standing e
-  takes_stand [] k asks fault mid result new none ok same told h = at_end_stands k asks fault mid result new none same h
+  takes_stand [] k asks fault mid result new none ok same told h = at_end_stands k asks fault mid result new none same.0 h
   takes_stand (v ∷ left) k asks fault mid result new none ok same told (inl stops) = stops_stand v (seen v.frame) mid result new ok same (told (seen v.frame) (inl refl)) stops
   takes_stand (v ∷ left) k asks fault mid result new none ok same told (inr (goes, rest)) =
       let g : Seen = seen v.frame in
       let one : Effect p mid (frame_taken g mid) g = frame_keeps p mid g ok (told g (inl refl)) (goes_on mid g goes) in
-      takes_stand left k (asks || asks_ack g) fault (frame_taken g mid) result new none one.ok (ap (λ x. x.0) (frame_taken_stands g mid) ∙ same) (λ x a. told x (inr a)) rest
+      let still = frame_taken_stands g mid in
+      takes_stand left k (asks || asks_ack g) fault (frame_taken g mid) result new none one.ok (ap (λ x. x.0) still ∙ same.0, ap (λ x. x.2) still ∙ same.1, ap (λ x. x.3) still ∙ same.2) (λ x a. told x (inr a)) rest
 
   -- a payload that the peer made, without a fault, leaves the end open
   pub receive_stands : (new : End) (k : ℕ) (text : List ℕ) (result : Result Received Closing) → EndOk p e → e.closed ≡ None → (reading_of text).fault ≡ None → slice_get p.theirs k ≡ Some (frames_in text) → ReceiveStep e k text result new → standing new ≡ standing e
@@ -96,7 +101,7 @@ module _ (p q : Past) (e f : End) (their : EndOk q f) (from : p.theirs ≡ q.min
       by_kept : (b : Bool) → MatchBool b ((result ≡ Ok Duplicate) × (new ≡ e)) ((mid : End) × TakesPayload k text e result mid × (new ≡ settle mid)) → standing new ≡ standing e
       by_kept true h = ap standing h.1
       by_kept false (mid, takes, same) =
-          ap standing same ∙ takes_stand (reading_of text).left k false (reading_of text).fault e result mid faultless ok refl (λ g a. (k, (frames_in text, is, a))) takes
+          ap standing same ∙ takes_stand (reading_of text).left k false (reading_of text).fault e result mid faultless ok (refl, refl, refl) (λ g a. (k, (frames_in text, is, a))) takes
 
       by_floor : (b : Bool) → MatchBool b ((result ≡ Ok BelowFloor) × (new ≡ e)) (MatchBool (set.contains e.done k) ((result ≡ Ok Duplicate) × (new ≡ e)) ((mid : End) × TakesPayload k text e result mid × (new ≡ settle mid))) → standing new ≡ standing e
       by_floor true h = ap standing h.1

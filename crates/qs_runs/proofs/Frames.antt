@@ -30,7 +30,8 @@ pub record Effect (p : Past) (old new : End) (f : Seen) : Type 0 where
 item_acked_recvs : (i : Item) (e : End) → (item_acked i e).recvs ≡ e.recvs
 item_acked_recvs (MaxData m) e = refl
 item_acked_recvs (MaxStreamData n m) e = refl
-item_acked_recvs (MaxStreams d m) e = refl
+item_acked_recvs (MaxStreams Bidi m) e = refl
+item_acked_recvs (MaxStreams Uni m) e = refl
 item_acked_recvs (ResetStream n code size) e = refl
 item_acked_recvs (StopSending n c) e = refl
 item_acked_recvs (DataBlocked m) e = refl

@@ -1,5 +1,5 @@
 -- What a receiving half knows it keeps, whatever happens: offsets, final size and reset.
-use Rattle.std.proofs.Common.{◌≡◌, ℕ, ◌+◌, ◌*◌, Bool, true, false, ◌||◌, List, [], ◌∷◌, take, Option, Some, None, Result, Ok, Err, is_some, slice_get, refl, sym, ap, ◌∙◌, subst, inl, inr, MatchBool}
+use Rattle.std.proofs.Common.{◌≡◌, ℕ, ◌+◌, ◌*◌, Bool, true, false, ◌||◌, List, [], ◌∷◌, length, take, Option, Some, None, Result, Ok, Err, is_some, slice_get, refl, sym, ap, ◌∙◌, subst, inl, inr, MatchBool}
 use Rattle.std.specs.FinSet as set
 use Rattle.qs_wire.specs.Layout.{PlacedValue}
 use Rattle.qs_wire.specs.Grammar.{frames_of}
@@ -10,7 +10,7 @@ use Rattle.qs_wire.specs.declared.stream_id.Dir.TheVariants.{Bidi, Uni}
 use Rattle.qs_recv.specs.Lane.{RecvLane, raise, read_answer, after_answer, after_read, stop}
 use Rattle.qs_recv.specs.declared.half.Read.{Read}
 use Rattle.qs_recv.specs.declared.half.Read.TheVariants as reads
-use Rattle.qs_send.specs.Lane.{refusal, reset_refusal}
+use Rattle.qs_send.specs.Lane.{refusal, reset_refusal, accepted, write_lane, finish_lane, reset_lane}
 use Rattle.qs_send.specs.declared.piece.Item.{Item}
 use Rattle.qs_send.specs.declared.piece.Item.TheVariants.{MaxData, MaxStreamData, MaxStreams, ResetStream, StopSending, DataBlocked, StreamDataBlocked, StreamsBlocked}
 use Rattle.qs_send.specs.declared.piece.Piece.{Piece}
@@ -28,7 +28,7 @@ use Rattle.qs_calls.specs.declared.uses.OpenFault.TheVariants as opening
 use Rattle.qs_calls.specs.declared.uses.UseFault.{UseFault}
 use Rattle.qs_calls.specs.declared.uses.UseFault.TheVariants as uses
 use Rattle.qs_machine.specs.Tables.{Tables}
-use Rattle.qs_machine.specs.Ends.{End, opens, on_recv, window}
+use Rattle.qs_machine.specs.Ends.{End, opens, on_send, on_recv, window}
 use Rattle.qs_machine.specs.Credit.{settle}
 use Rattle.qs_machine.specs.Seen.{Seen, Ack, Stream, Control, Close, Plain, seen, seen_all, asks_ack}
 use Rattle.qs_machine.specs.FrameStep.{named, frame_taken}
@@ -135,21 +135,21 @@ module _ (p : Past) (e new : End) (ok : EndOk p e) where
   write_grows n bytes answer step =
       elim (uncertain_cases (send_refusal e n refusal) uses.NoMemory e answer new _ step) [
         | inl (fault, is, same) ↦ same_end e new same
-        | inr (allowed, (l, there, (is, same))) ↦ settled e.recvs _ new (all_grow_refl e.recvs) same
+        | inr (allowed, (l, there, (is, same))) ↦ settled e.recvs (on_send n (λ m. write_lane m (take (accepted l (length bytes)) bytes)) e) new (all_grow_refl e.recvs) same
       ]
 
   finish_grows : (n : ℕ) (answer : Result (Unit {0}) UseFault) → FinishStep e n answer new → AllGrow e.recvs new.recvs
   finish_grows n answer step =
       elim (certain_cases (send_refusal e n refusal) e answer new _ step) [
         | inl (fault, is, same) ↦ same_end e new same
-        | inr (allowed, (is, same)) ↦ settled e.recvs _ new (all_grow_refl e.recvs) same
+        | inr (allowed, (is, same)) ↦ settled e.recvs (on_send n finish_lane e) new (all_grow_refl e.recvs) same
       ]
 
   reset_grows : (n code : ℕ) (answer : Result (Unit {0}) UseFault) → ResetStep e n code answer new → AllGrow e.recvs new.recvs
   reset_grows n code answer step =
       elim (certain_cases (send_refusal e n reset_refusal) e answer new _ step) [
         | inl (fault, is, same) ↦ same_end e new same
-        | inr (allowed, (is, same)) ↦ settled e.recvs _ new (all_grow_refl e.recvs) same
+        | inr (allowed, (is, same)) ↦ settled e.recvs (on_send n (λ m. reset_lane m code) e) new (all_grow_refl e.recvs) same
       ]
 
   stop_all_grow : (n code : ℕ) (answer : Result (Unit {0}) UseFault) → StopStep e n code answer new → AllGrow e.recvs new.recvs

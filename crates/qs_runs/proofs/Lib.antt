@@ -19,11 +19,12 @@ pub mod Reading
 pub mod OwnStreams
 pub mod OwnMoves
 pub mod PeerMoves
+pub mod NewEnds
+pub mod Granting
 pub mod Facing
 pub mod Agreement
 pub mod Repeats
 pub mod Histories
-pub mod NewEnds
 pub mod OwnStands
 pub mod Runs
 pub mod Agrees

@@ -33,7 +33,7 @@ FrameTrue p e (Ack largest ranges) = AckTrue p.processed largest ranges
 FrameTrue p e (Stream n offset bytes fin) = (l : SendLane) × (lookup e.sends n ≡ Some l) × ChunkTrue (p.bytes n) l.written l.sent_end l.fin_sent offset bytes fin
 FrameTrue p e (Control (MaxData m)) = m ≤ e.granted
 FrameTrue p e (Control (MaxStreamData n m)) = (l : RecvLane) × (lookup e.recvs n ≡ Some l) × (m ≤ l.limit)
-FrameTrue p e (Control (MaxStreams d m)) = ⊥
+FrameTrue p e (Control (MaxStreams d m)) = Unit {0}
 FrameTrue p e (Control (ResetStream n code size)) = (l : SendLane) × (lookup e.sends n ≡ Some l) × (l.was_reset ≡ Some (record { code = code; size = size }))
 FrameTrue p e (Control (StopSending n code)) = (l : RecvLane) × (lookup e.recvs n ≡ Some l)
 FrameTrue p e (Control (DataBlocked m)) = Unit {0}
@@ -47,7 +47,7 @@ true_is_made p e (Ack largest ranges) t = tt
 true_is_made p e (Stream n offset bytes fin) t = tt
 true_is_made p e (Control (MaxData m)) t = tt
 true_is_made p e (Control (MaxStreamData n m)) t = tt
-true_is_made p e (Control (MaxStreams d m)) t = absurd t
+true_is_made p e (Control (MaxStreams d m)) t = tt
 true_is_made p e (Control (ResetStream n code size)) t = tt
 true_is_made p e (Control (StopSending n code)) t = tt
 true_is_made p e (Control (DataBlocked m)) t = tt
@@ -298,7 +298,7 @@ module _ (p : Past) (pre : List Seen) where
   item_true : (e : End) (i : Item) → IsCurrent e i → FrameTrue (with_packet p pre) (counted e) (Control i)
   item_true e (MaxData m) (is, more) = omega arith
   item_true e (MaxStreamData n m) (l, lane, is, more, unknown) = (l, lane, omega arith)
-  item_true e (MaxStreams d m) c = c
+  item_true e (MaxStreams d m) c = tt
   item_true e (ResetStream n code size) c = c
   item_true e (StopSending n code) c = (c.0, c.1)
   item_true e (DataBlocked m) c = tt

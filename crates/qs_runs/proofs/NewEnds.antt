@@ -1,5 +1,5 @@
 -- A new end meets the invariant: nothing was made, written or read.
-use Rattle.std.proofs.Common.{◌≡◌, ℕ, zero, suc, ◌%◌, ◌/◌, true, false, [], length, Option, None, Some, Ok, is_some, slice_get, refl, sym, ap, ◌∙◌, subst, arith, inl, nat_cmp}
+use Rattle.std.proofs.Common.{◌≡◌, ℕ, zero, suc, ◌%◌, ◌/◌, true, false, [], length, Option, None, Some, Result, Ok, Err, is_some, slice_get, refl, sym, ap, ◌∙◌, subst, arith, inl, nat_cmp}
 use Rattle.std.proofs.lemmas.Option.{none-some}
 use Rattle.std.proofs.lemmas.Bool.{false≢true}
 use Rattle.std.specs.FinSet as set
@@ -12,7 +12,7 @@ use Rattle.qs_calls.specs.declared.settings.Settings.{Settings}
 use Rattle.qs_calls.specs.declared.settings.SetupFault.{SetupFault}
 use Rattle.qs_calls.specs.Settings.{limits_of, setup_fault}
 use Rattle.qs_machine.specs.Tables.{table, lookup, total, no_streams}
-use Rattle.qs_machine.specs.Ends.{first_send_limit, window, new_end, end_unless}
+use Rattle.qs_machine.specs.Ends.{End, first_send_limit, window, new_end, end_made, end_unless}
 use Rattle.qs_machine.specs.Seen.{Seen}
 use Rattle.qs_runs.specs.Worlds.{World, world_made, both_made}
 use Rattle.qs_runs.specs.Pasts.{Packets, Past, Tells}
@@ -28,7 +28,7 @@ no_stream : {X : Type 0} (n : ℕ) → lookup (no_streams {X = X}) n ≡ None
 unfolding lookup
 no_stream n = ap (λ xs. slice_get xs (n / 4)) (no_table (n % 4))
 
-tells_nothing : (ms : Packets) (f : Seen) → ms ≡ [] → Tells ms f → ⊥
+pub tells_nothing : (ms : Packets) (f : Seen) → ms ≡ [] → Tells ms f → ⊥
 tells_nothing ms f none (k, (fs, at, a)) = none-some fs (rw none at at)
 
 module _ (role : Role) (own theirs : Settings) (p : Past) (made : p.mine ≡ []) (wrote : (n : ℕ) → p.bytes n ≡ []) (gave : (n : ℕ) → p.gave n ≡ []) (stopped : (n : ℕ) → p.stopped n ≡ false) (ended : (n : ℕ) → p.ended n ≡ false) (processed : (k : ℕ) → p.processed k ≡ false) where
@@ -95,3 +95,14 @@ made_first a b w is = go (setup_fault a (limits_of b)) (setup_fault b (limits_of
     go (Some fault) y e = absurd (cc)
     go None (Some fault) e = absurd (cc)
     go None None e = cc
+
+-- each end of it was made
+pub ends_made : (a b : Settings) (w : World) → world_made a b ≡ Ok w → (end_made Client a (limits_of b) ≡ Ok w.a) × (end_made Server b (limits_of a) ≡ Ok w.b)
+ends_made a b w is = go (end_made Client a (limits_of b)) (end_made Server b (limits_of a)) is
+  where
+    go : (x y : Result End SetupFault) → both_made x y ≡ Ok w → (x ≡ Ok w.a) × (y ≡ Ok w.b)
+    go (Err fault) y e = absurd (cc)
+    go (Ok c) (Err fault) e = absurd (cc)
+    go (Ok c) (Ok s) e =
+        let same : record { a = c; b = s } ≡ w = cc in
+        (ap (λ (x : World). Ok x.a) same, ap (λ (x : World). Ok x.b) same)

@@ -26,16 +26,17 @@ use Rattle.qs_machine.specs.Owner.{Certain, Uncertain, refuse_if, send_refusal, 
 use Rattle.qs_runs.specs.Invariant.{Standing, standing}
 use Rattle.qs_machine.specs.Making.{MakeStep, MakeAt, make_refusal, LoseStep, lose_refusal, first_lost, losses}
 
--- that, and the number below which no packet is told apart
-abbrev pub standing_at : End → Standing × ℕ
-standing_at e = (standing e, e.floor)
+-- that, the number below which no packet is told apart, and the granted counts of streams
+abbrev pub standing_at : End → Standing × ℕ × ℕ × ℕ
+standing_at e = (standing e, e.floor, e.granted_bidi, e.granted_uni)
 
 -- Frames
 
 item_acked_stands : (i : Item) (e : End) → standing_at (item_acked i e) ≡ standing_at e
 item_acked_stands (MaxData m) e = refl
 item_acked_stands (MaxStreamData n m) e = refl
-item_acked_stands (MaxStreams d m) e = refl
+item_acked_stands (MaxStreams Bidi m) e = refl
+item_acked_stands (MaxStreams Uni m) e = refl
 item_acked_stands (ResetStream n code size) e = refl
 item_acked_stands (StopSending n c) e = refl
 item_acked_stands (DataBlocked m) e = refl

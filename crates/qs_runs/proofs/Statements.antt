@@ -1,14 +1,12 @@
 -- The laws, as they are stated.
-use Rattle.std.proofs.Common.{[], ◌∷◌, sym, subst}
-use Rattle.qs_runs.specs.Invariant.{WorldOk}
+use Rattle.std.proofs.Common.{◌∷◌}
 use Rattle.qs_runs.specs.Laws.{NewEndsMeetInvariant, StepsKeepInvariant, PiecesAreAlwaysWritten, ReceivedIsAlwaysBelowSent, StoredIsAlwaysWritten, ReadIsAlwaysWritten, ProcessedWasAlwaysTaken, AckedWasAlwaysProcessed, FinalSizeIsAlwaysDeclared, ResetCodeIsAlwaysTheSenders, SentIsAlwaysWithinKnown, KnownIsAlwaysWithinGranted, StreamsAreOpenAtInitiator, OpenedIsAlwaysBelowKnown, ReadIsAPrefix, SpentIsBelowSent, RepeatsSpendNothing, ReceivedIsWhole, FinalSizesAlwaysAgree, NoEndCloses}
-use Rattle.qs_runs.proofs.NewEnds.{made_first}
 use Rattle.qs_runs.proofs.Runs.{start, step_keeps}
 use Rattle.qs_runs.proofs.Agrees.{prefix, credit, whole, final_sizes, stays_open, step_agrees}
 use Rattle.qs_runs.proofs.Clauses.{pieces_are_written, received_is_below_sent, stored_is_written, read_is_written, processed_was_taken, processed_reset_was_taken, acked_was_processed, final_size_is_declared, reset_code_is_the_senders, sent_is_within_known, known_is_within_granted, is_open_at_initiator, opened_is_below_known}
 
 pub law_new_ends_meet_invariant : NewEndsMeetInvariant
-law_new_ends_meet_invariant = λ a b w is. subst (WorldOk a b []) (sym (made_first a b w is)) (start a b)
+law_new_ends_meet_invariant = λ a b w is. start a b w is
 
 pub law_steps_keep_invariant : StepsKeepInvariant
 law_steps_keep_invariant = step_keeps

@@ -4,7 +4,6 @@ use Rattle.std.proofs.lemmas.Option.{none-some, slice_get_within}
 use Rattle.std.proofs.lemmas.Bool.{or_from, true≢false, false≢true, both_ways, cases_eq, cases_lt, eq-eqb, le-leb, le-ltb, lt-leb, and_right, not_from_true}
 use Rattle.std.specs.FinSet as set
 use Rattle.qs_ranges.specs.Numbers.{end_of}
-use Rattle.qs_wire.specs.declared.stream_id.Dir.TheVariants.{Bidi, Uni}
 use Rattle.qs_recv.specs.Lane.{RecvLane, highest, highest_after, breaks_known, check_stream, check_reset, check_bytes, new_lane as new_recv_lane}
 use Rattle.qs_recv.specs.Chunks.{byte_at}
 use Rattle.qs_recv.specs.Laws.{IsSent, IsPart}
@@ -29,13 +28,13 @@ use Rattle.qs_runs.proofs.Opening.{opened_ok, named_by, lane_opened}
 abbrev sent_of : Option SendLane → ℕ
 sent_of o = value (λ l. l.sent_end) o
 
--- Two ends that face each other: each end's first limits are what the other granted.
+-- Two ends that face each other: f's first limits are what e granted, and f knows of no more streams than e grants.
 pub record Facing (e f : End) : Type 0 where
   pub opposite : (n : ℕ) → is_own f n ≡ not (is_own e n)
   pub first_limit : (n : ℕ) → first_send_limit f n ≡ window e n
   pub first_data : f.peer.max_data ≡ e.settings.conn_window
-  pub first_bidi : f.peer.streams_bidi ≡ e.settings.grant_bidi
-  pub first_uni : f.peer.streams_uni ≡ e.settings.grant_uni
+  pub bidi : f.known_bidi ≤ e.granted_bidi
+  pub uni : f.known_uni ≤ e.granted_uni
 
 module _ (p q : Past) (from : p.theirs ≡ q.mine) (n limit w : ℕ) where
   -- what was received lies below the sent end, and a final size is the sent end
@@ -160,21 +159,6 @@ module _ (p q : Past) (from : p.theirs ≡ q.mine) (back : q.theirs ≡ p.mine) 
   sent_granted : all_sent f ≤ e.granted
   sent_granted = (let within : all_sent f ≤ f.known_data = their.credit.sent_known in omega (arith, data_granted))
 
-  -- counts of streams aren't raised
-  pub uni_granted : f.known_uni ≤ e.settings.grant_uni
-  uni_granted =
-      elim their.streams.uni_told [
-        | inl first ↦ omega (arith, first, facing.first_uni)
-        | inr told ↦ absurd (ok.packets.kinds _ (subst (λ x. Tells x (Control (MaxStreams Uni f.known_uni))) back told))
-      ]
-
-  pub bidi_granted : f.known_bidi ≤ e.settings.grant_bidi
-  bidi_granted =
-      elim their.streams.bidi_told [
-        | inl first ↦ omega (arith, first, facing.first_bidi)
-        | inr told ↦ absurd (ok.packets.kinds _ (subst (λ x. Tells x (Control (MaxStreams Bidi f.known_bidi))) back told))
-      ]
-
   -- one lane may grow up to what was sent of it
   growth_fine : (n : ℕ) (r : RecvLane) (end : ℕ) → lookup e.recvs n ≡ Some r → highest r ≤ end → end ≤ sent_of (lookup f.sends n) → spent e + (end - highest r) ≤ e.granted
   growth_fine n r end is low le =
@@ -228,9 +212,9 @@ module _ (p q : Past) (from : p.theirs ≡ q.mine) (back : q.theirs ≡ p.mine) 
   theirs_own : (n : ℕ) → is_own e n ≡ false → is_own f n ≡ true
   theirs_own n own = facing.opposite n ∙ ap not own
 
-  known_granted : (n : ℕ) (b : Bool) → n / 4 < (if b then f.known_uni else f.known_bidi) → n / 4 < (if b then e.settings.grant_uni else e.settings.grant_bidi)
-  known_granted n true lt = omega (arith, lt, uni_granted)
-  known_granted n false lt = omega (arith, lt, bidi_granted)
+  known_granted : (n : ℕ) (b : Bool) → n / 4 < (if b then f.known_uni else f.known_bidi) → n / 4 < (if b then e.granted_uni else e.granted_bidi)
+  known_granted n true lt = omega (arith, lt, facing.uni)
+  known_granted n false lt = omega (arith, lt, facing.bidi)
 
   not_none : {X : Type 0} (o : Option X) → is_some o ≡ true → is_none o ≡ false
   not_none None e = absurd (false≢true e)
@@ -263,7 +247,7 @@ module _ (p q : Past) (from : p.theirs ≡ q.mine) (back : q.theirs ≡ p.mine) 
 -- the same ends, once the stream that a frame names is open
 facing_by : (e f : End) (n : ℕ) (b : Bool) → Facing e f → Facing (if b then e else opens n e) f
 facing_by e f n true h = h
-facing_by e f n false h = record { opposite = h.opposite; first_limit = h.first_limit; first_data = h.first_data; first_bidi = h.first_bidi; first_uni = h.first_uni }
+facing_by e f n false h = record { opposite = h.opposite; first_limit = h.first_limit; first_data = h.first_data; bidi = h.bidi; uni = h.uni }
 
 new_highest : (window : ℕ) → highest (new_recv_lane window) ≡ 0
 new_highest window = le_antisymm (end-le set.empty 0 (λ q is. absurd (false≢true (sym (set.contains-empty nat_cmp q) ∙ is)))) (omega arith)

@@ -6,6 +6,7 @@ use Rattle.std.specs.FinMap as fmap
 use Rattle.std.specs.FinSet as set
 use Rattle.qs_ranges.specs.Numbers.{NumberSet}
 use Rattle.qs_wire.specs.declared.stream_id.Role.{Role}
+use Rattle.qs_wire.specs.declared.stream_id.Dir.{Dir}
 use Rattle.qs_wire.specs.declared.stream_id.Dir.TheVariants.{Bidi, Uni}
 use Rattle.qs_recv.specs.Lane.{RecvLane}
 use Rattle.qs_send.specs.Lane.{SendLane, unacked_from}
@@ -14,7 +15,9 @@ use Rattle.qs_send.specs.declared.piece.Item.TheVariants.{MaxData, MaxStreamData
 use Rattle.qs_send.specs.declared.piece.Piece.{Piece}
 use Rattle.qs_machine.specs.Tables.{Tables, lookup}
 use Rattle.qs_machine.specs.Ends.{End, Records, is_own_by, is_uni, first_send_limit, window}
-use Rattle.qs_machine.specs.Credit.{all_sent}
+use Rattle.qs_machine.specs.Credit.{all_sent, first_grant, granted_streams}
+use Rattle.qs_machine.specs.Standing.{IsSound}
+use Rattle.qs_machine.specs.Repeats.{SentWasWritten}
 use Rattle.qs_machine.specs.Seen.{Seen, Ack, Stream, Control, Close, Plain}
 use Rattle.qs_machine.specs.FrameStep.{is_named}
 use Rattle.qs_send.specs.Records.{Among}
@@ -119,7 +122,6 @@ FrameTaken t f = Unit {0}
 abbrev pub IsMade : Seen → Type 0
 IsMade (Close code) = ⊥
 IsMade (Plain asks) = ⊥
-IsMade (Control (MaxStreams d m)) = ⊥
 IsMade f = Unit {0}
 
 -- An ACK names processed numbers alone, its largest among them.
@@ -190,6 +192,14 @@ pub record EndHas (p : Past) (e : End) (sent : ℕ) : Type 0 where
 abbrev pub EndOk : Past → End → Type 0
 EndOk p e = EndHas p e (all_sent e)
 
+-- Each count of streams that an end told is at most the one that it grants, which never falls below the first (RFC 9000, section 4.6).
+pub record CountsTrue (mine : Packets) (s : Settings) (granted : Dir → ℕ) : Type 0 where
+  pub first_granted : (d : Dir) → first_grant s d ≤ granted d
+  pub told : (d : Dir) (count : ℕ) → Tells mine (Control (MaxStreams d count)) → count ≤ granted d
+
+abbrev pub CountsOk : Past → End → Type 0
+CountsOk p e = CountsTrue p.mine e.settings (granted_streams e)
+
 -- Two ends
 
 pub record Standing : Type 0 where
@@ -217,8 +227,12 @@ stands_as a b s = record { role = role_of s; settings = settings_of a b s; peer 
 abbrev pub HasNoFault : List ℕ → Type 0
 HasNoFault text = (reading_of text).fault ≡ None
 
--- The invariant of a world: that of each end, about what it lived through; and each payload that was made has no fault.
+-- The invariant of a world: that of each end, about what it lived through; each end is sound, and what it sent was written; and each
+-- payload that was made has no fault.
 pub record WorldOk (a b : Settings) (h : History) (w : World) : Type 0 where
   pub ends : (s : Side) → EndOk (past s h) (end_of w s)
+  pub counts : (s : Side) → CountsOk (past s h) (end_of w s)
+  pub sound : (s : Side) → IsSound (end_of w s)
+  pub sent : (s : Side) → SentWasWritten (end_of w s)
   pub stand : (s : Side) → standing (end_of w s) ≡ stands_as a b s
   pub texts : (s : Side) → AllByRecursion HasNoFault (made s h)

@@ -1,5 +1,6 @@
 //! Which events fit; and what an endpoint does, whose tests stand here since they would cost more beside its proofs.
 
+mod counts;
 mod draws;
 mod ends;
 mod every_payload;

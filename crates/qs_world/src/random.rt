@@ -26,6 +26,8 @@ pub fn standard_settings() -> Settings
         send_buffer: 2048,
         grant_bidi: 8,
         grant_uni: 8,
+        lifetime_bidi: 8,
+        lifetime_uni: 8,
     }
 }
 

@@ -166,9 +166,9 @@ impl Endpoint {
         ensures { result ≡ grant self.now stream }
     {
         if is_uni(stream) {
-            self.settings.grant_uni
+            self.granted_uni
         } else {
-            self.settings.grant_bidi
+            self.granted_bidi
         }
     }
 }

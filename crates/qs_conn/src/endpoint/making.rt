@@ -51,12 +51,14 @@ impl Endpoint {
 
     // What is to be told beside what the streams have.
     fn terms(&self) -> Terms
-        ensures { result ≡ record { role = self.now.role; settings = self.now.settings; granted = self.now.granted; known_data = self.now.known_data; known_bidi = self.now.known_bidi; known_uni = self.now.known_uni; wanted_bidi = self.now.wanted_bidi; wanted_uni = self.now.wanted_uni } }
+        ensures { result ≡ record { role = self.now.role; settings = self.now.settings; granted = self.now.granted; granted_bidi = self.now.granted_bidi; granted_uni = self.now.granted_uni; known_data = self.now.known_data; known_bidi = self.now.known_bidi; known_uni = self.now.known_uni; wanted_bidi = self.now.wanted_bidi; wanted_uni = self.now.wanted_uni } }
     {
         Terms {
             role: self.role,
             settings: self.settings,
             granted: self.granted,
+            granted_bidi: self.granted_bidi,
+            granted_uni: self.granted_uni,
             known_data: self.known_data,
             known_bidi: self.known_bidi,
             known_uni: self.known_uni,

@@ -5,6 +5,7 @@ ghost use Rattle.qs_machine.specs.Reports.{lane_report, own_closing};
 ghost use Rattle.qs_conn.specs.Layers.{no_sender, no_receiver};
 
 use super::Endpoint;
+use crate::ended::is_over;
 use qs_calls::{Closed, Closing, LaneReport, UseFault};
 use qs_recv::Read;
 use qs_send::SendFault;
@@ -41,6 +42,7 @@ impl Endpoint {
         if let Some(fault) = self.no_sender(stream) {
             return Err(fault);
         }
+        self.outbox.has_sending(stream);
         match self.outbox.finish(stream) {
             Ok(()) => {
                 self.settle();
@@ -80,7 +82,10 @@ impl Endpoint {
         if let Some(fault) = self.no_receiver(stream) {
             return Err(fault);
         }
+        let was = is_over(self.role, &self.recvs, &self.outbox, stream);
         let answer = self.recvs.read(stream, into);
+        let is = is_over(self.role, &self.recvs, &self.outbox, stream);
+        self.ended.recount(stream, was, is);
         self.settle();
         Ok(answer)
     }

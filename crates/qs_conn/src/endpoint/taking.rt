@@ -75,7 +75,15 @@ impl Endpoint {
         ensures ok { OnOk result (self.new ≡ acks (named self.old (ack_ranges_of largest (numbers_of ranges.now))) self.old) }
         ensures err { OnErr result (RunsOut self.old (Ack largest (ack_ranges_of largest (numbers_of ranges.now))) self.new) }
     {
-        ack_ranges(&mut self.outbox, largest, ranges)
+        let (role, recvs) = (self.role, &self.recvs);
+        ack_ranges(
+            &mut self.outbox,
+            role,
+            recvs,
+            &mut self.ended,
+            largest,
+            ranges,
+        )
     }
 
     // The peer allows so many streams of a direction.

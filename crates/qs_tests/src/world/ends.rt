@@ -20,6 +20,8 @@ pub(super) const USUAL: Settings = Settings {
     send_buffer: 2048,
     grant_bidi: 8,
     grant_uni: 8,
+    lifetime_bidi: 8,
+    lifetime_uni: 8,
 };
 
 /// What its peer grants.

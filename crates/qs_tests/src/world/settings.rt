@@ -12,6 +12,8 @@ fn settings_are_told_by_name(rt: HostRuntime) -> Result<(), Fail> {
         send_buffer: 2048,
         grant_bidi: 8,
         grant_uni: 9,
+        lifetime_bidi: 10,
+        lifetime_uni: 11,
     };
     let told = PeerLimits {
         max_data: 4096,

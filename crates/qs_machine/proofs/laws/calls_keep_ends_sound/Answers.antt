@@ -1,5 +1,5 @@
-use Rattle.qs_machine.proofs.CallsSound.{sound_call}
+use Rattle.qs_machine.proofs.CallsCounts.{sound_end}
 use Rattle.qs_machine.proofs.laws.calls_keep_ends_sound.Goals as goal
 
 pub returns : goal.returns
-returns c = λ old call answer new h step. sound_call old call answer new h step
+returns c = λ old call answer new h step. sound_end old call answer new h step

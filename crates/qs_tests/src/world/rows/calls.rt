@@ -40,6 +40,7 @@ fn question(end: &Endpoint, words: Words, answer: &mut String) -> Result<(), Row
     match words[0] {
         b"stored" => tell_number(answer, end.stored()),
         b"granted" => tell_number(answer, end.granted()),
+        b"granted_streams" => tell_number(answer, end.granted_streams(dir(words[1])?)),
         b"spent" => tell_number(answer, end.spent()),
         b"close" => close(end, answer),
         b"sending" => sending(end, words, answer),

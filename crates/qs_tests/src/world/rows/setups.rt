@@ -56,7 +56,7 @@ impl Setup {
 }
 
 /// There are so many settings and limits.
-const MOST_CHANGES: usize = 13;
+const MOST_CHANGES: usize = 15;
 
 fn role(word: &[u8]) -> Result<Role, RowFault> {
     match word {
@@ -80,6 +80,10 @@ fn change_settings(settings: &mut Settings, name: &[u8], value: &[u8]) -> Result
         settings.grant_bidi = value;
     } else if name == b"grant_uni".as_slice() {
         settings.grant_uni = value;
+    } else if name == b"lifetime_bidi".as_slice() {
+        settings.lifetime_bidi = value;
+    } else if name == b"lifetime_uni".as_slice() {
+        settings.lifetime_uni = value;
     } else {
         return Err(RowFault::Unreadable);
     }

@@ -1,6 +1,7 @@
 use Rattle.std.proofs.Common.{◌/◌, ◌∙◌, arith, sym, length}
 use Rattle.std.proofs.lemmas.Bool.{true≢false}
-use Rattle.qs_conn.proofs.MadePackets.{make_exhausted, make_none, idle_none, make_some, filled_next, filled_credit}
+use Rattle.qs_conn.proofs.MadePackets.{make_exhausted, make_none, idle_none, make_some, filled_next, filled_credit, filled_counted}
+use Rattle.qs_conn.proofs.Counted.{fit_sends}
 use Rattle.qs_conn.proofs.endpoint.Endpoint.make_packet.Goals as goal
 
 pub returns-then-number-gt-MAX_NUMBER : goal.returns-then-number-gt-MAX_NUMBER
@@ -16,6 +17,7 @@ invariant_of-self-then-len-eq0 c = (
     few = c.self.invariant.2.few;
     acks = c.self.invariant.2.acks;
   },
+  fit_sends _ _ _ _ _ _ _ c.self.invariant.3 _ _ (filled_counted _ c.args.self.now c.self.view_is c.terms-terms.result c.begin.new.self c.fill-len.new.outbox (length c.args.out.now / 2) (length c.args.out.now) c.fill-len.result c.fill-len.new.out c.self.invariant.1 c.terms-terms.ensures c.in_default.ensures.ok c.fill-len.ensures.packed c.self.inside.role c.self.inside.ended c.self.invariant.3.counted),
 )
 
 pub returns-then-len-eq0 : goal.returns-then-len-eq0
@@ -39,6 +41,7 @@ invariant_of-self-3 c =
         few = c.self.invariant.2.few;
         acks = λ due. absurd (true≢false (sym due));
       },
+      rw c.commit.ensures.after (fit_sends _ _ _ _ _ _ _ c.self.invariant.3 _ _ (filled_counted _ c.args.self.now c.self.view_is c.terms-terms.result c.begin.new.self c.fill-len.new.outbox (length c.args.out.now / 2) (length c.args.out.now) c.fill-len.result c.fill-len.new.out c.self.invariant.1 c.terms-terms.ensures c.in_default.ensures.ok c.fill-len.ensures.packed c.self.inside.role c.self.inside.ended c.self.invariant.3.counted)),
     )
 
 pub returns : goal.returns

@@ -3,6 +3,8 @@ use Rattle.qs_machine.specs.Ends.{End, window}
 use Rattle.qs_machine.specs.Outgoing.{Outgoing, IsIdle}
 use Rattle.qs_conn.specs.Filling.{IsFunded}
 use Rattle.qs_machine.proofs.Taken.{none_back, lost_back, unsent_back, out_back}
+use Rattle.qs_conn.specs.Ended.{CountsFit}
+use Rattle.qs_conn.proofs.Counted.{fit_opened}
 use Rattle.qs_conn.proofs.Kept.{kept_opened}
 use Rattle.qs_conn.proofs.Runs.{idle_with}
 use Rattle.qs_conn.proofs.Funded.{funded_opened}
@@ -18,6 +20,7 @@ invariant_of-self-in_default c = (
   kept_opened _ _ _ _ _ _ _ _ c.args.stream c.window-window.result _ _ c.self.invariant.0 (c.window-window.ensures.value ∙ ap (λ (e : End). window e c.args.stream) (sym c.self.view_is)) c.in_default.ensures.ok,
   idle_with c.self.inside.outbox _ _ c.in_ok-open_sends.ensures.ok c.self.invariant.1,
   funded_opened c.self.inside.outbox _ _ _ _ _ _ _ _ c.in_ok-open_sends.ensures.ok c.self.invariant.2,
+  fit_opened _ _ _ _ _ _ _ c.self.invariant.3 _ _ c.args.stream _ _ _ _ _ (ap (λ (o : Outgoing). o.sends) c.in_ok-open_sends.ensures.ok) c.in_default.ensures.ok,
 )
 
 pub close_to-requires-clause-none : goal.close_to-requires-clause-none
@@ -35,4 +38,5 @@ invariant_of-self-in-Err c =
       rw c.in-Err.ensures.err c.self.invariant.0,
       subst (λ (o : Outgoing). IsIdle o) (sym back) c.self.invariant.1,
       subst (λ (o : Outgoing). IsFunded o.sends c.self.inside.known_data c.self.inside.done c.self.inside.ack_due) (sym back) c.self.invariant.2,
+      rw c.in-Err.ensures.err (subst (λ (o : Outgoing). CountsFit c.self.inside.role c.self.inside.settings c.self.inside.recvs o.sends c.self.inside.ended c.self.inside.granted_bidi c.self.inside.granted_uni) (sym back) c.self.invariant.3),
     )

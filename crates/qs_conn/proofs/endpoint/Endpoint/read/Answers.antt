@@ -1,5 +1,18 @@
 use Rattle.qs_conn.proofs.Kept.{kept_read}
+use Rattle.qs_conn.proofs.Counting.{counted_small, counted_part}
+use Rattle.qs_conn.proofs.Counted.{fit_read}
 use Rattle.qs_conn.proofs.endpoint.Endpoint.read.Goals as goal
 
+pub recount-requires-clause-small : goal.recount-requires-clause-small
+recount-requires-clause-small c = counted_small _ _ _ _ c.self.invariant.3.counted c.is_over-was.ensures.few
+
+pub recount-requires-clause-part : goal.recount-requires-clause-part
+recount-requires-clause-part c = counted_part _ _ _ _ _ _ c.self.invariant.3.counted c.is_over-was.ensures.value
+
 pub invariant_of-self : goal.invariant_of-self
-invariant_of-self c = (kept_read _ _ _ _ _ _ _ _ _ _ _ c.self.invariant.0 c.read-answer.ensures.after, c.self.invariant.1, c.self.invariant.2)
+invariant_of-self c = (
+  kept_read _ _ _ _ _ _ _ _ _ _ _ c.self.invariant.0 c.read-answer.ensures.after,
+  c.self.invariant.1,
+  c.self.invariant.2,
+  fit_read _ _ _ _ _ _ _ c.self.invariant.3 _ c.self.invariant.0.sound _ c.args.stream _ _ _ _ c.read-answer.ensures.after c.is_over-was.ensures.value c.is_over-is.ensures.value c.recount.ensures,
+)

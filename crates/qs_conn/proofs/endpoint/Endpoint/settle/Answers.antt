@@ -1,9 +1,10 @@
-use Rattle.std.proofs.Common.{arith, refl, ap, sym, ◌∙◌, ℕ, subst}
+use Rattle.std.proofs.Common.{arith, refl, ap, sym, ◌∙◌, ℕ, ◌+◌, min, subst}
 use Rattle.qs_recv.specs.Lane.{RecvLane, highest, taken, raise, next_limit}
 use Rattle.qs_machine.specs.Tables.{Tables, total}
 use Rattle.qs_machine.specs.Standing.{KeepsCredit}
 use Rattle.qs_machine.proofs.TableLaws.{total_each}
 use Rattle.qs_machine.proofs.Sound.{keeps_settle}
+use Rattle.qs_conn.proofs.Counted.{fit_settled, grants_fit}
 use Rattle.qs_conn.proofs.endpoint.Endpoint.settle.Goals as goal
 
 pub tally-taken-requires : goal.tally-taken-requires
@@ -34,6 +35,7 @@ invariant_of-self c =
       },
       c.self.invariant.1,
       c.self.invariant.2,
+      fit_settled _ _ _ _ _ _ _ c.self.invariant.3 _ _ _ c.raise_all.ensures c.next_count-self-inside.ensures c.next_count-self-inside-2.ensures,
     )
 
 pub returns : goal.returns
@@ -41,4 +43,12 @@ returns c =
     let inside = c.self.inside in
     let paid = c.tally-taken.ensures.taken ∙ ap (total taken) c.raise_all.ensures ∙ total_each taken raise inside.recvs (λ l. refl) in
     let limit = c.next_limit-self-inside.ensures.value ∙ ap (λ k. next_limit inside.granted k inside.settings.conn_window) paid in
-    rw (← c.self.view_is, limit, c.raise_all.ensures) refl
+    let bidi = c.next_count-self-inside.ensures ∙ ap (λ k. min inside.settings.lifetime_bidi (inside.settings.grant_bidi + k)) c.self.invariant.3.counted.bidi in
+    let uni = c.next_count-self-inside-2.ensures ∙ ap (λ k. min inside.settings.lifetime_uni (inside.settings.grant_uni + k)) c.self.invariant.3.counted.uni in
+    rw (← c.self.view_is, limit, c.raise_all.ensures, bidi, uni) refl
+
+pub next_count-self-inside-requires : goal.next_count-self-inside-requires
+next_count-self-inside-requires c = (grants_fit c.self.inside.settings c.self.invariant.0.sound.settings).0
+
+pub next_count-self-inside-requires-2 : goal.next_count-self-inside-requires-2
+next_count-self-inside-requires-2 c = (grants_fit c.self.inside.settings c.self.invariant.0.sound.settings).1

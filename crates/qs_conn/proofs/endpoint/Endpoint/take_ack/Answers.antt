@@ -1,6 +1,7 @@
 use Rattle.std.proofs.Common.{refl}
 use Rattle.qs_wire.specs.Varint.{numbers_of}
 use Rattle.qs_conn.proofs.AckRuns.{ack_ok, ack_err}
+use Rattle.qs_conn.proofs.Counted.{fit_sends}
 use Rattle.qs_conn.proofs.Funded.{funded_acked}
 use Rattle.qs_conn.proofs.endpoint.Endpoint.take_ack.Goals as goal
 
@@ -17,4 +18,5 @@ invariant_of-self c = (
   c.self.invariant.0,
   c.ack_ranges.ensures.idle,
   funded_acked c.args.largest (numbers_of c.args.ranges.now) _ c.self.inside.outbox c.ack_ranges.new.outbox c.ack_ranges.result _ _ _ c.requires.small c.requires.above refl c.ack_ranges.ensures.step c.self.invariant.2,
+  fit_sends _ _ _ _ _ _ _ c.self.invariant.3 _ _ c.ack_ranges.ensures.counted,
 )

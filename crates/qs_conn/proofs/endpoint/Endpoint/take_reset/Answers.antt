@@ -1,6 +1,7 @@
 use Rattle.std.proofs.Common.{is_some, ap, ◌∙◌, subst}
 use Rattle.qs_machine.specs.Ends.{End}
-use Rattle.qs_machine.specs.Standing.{IsSound}
+use Rattle.qs_machine.specs.Standing.{IsInCredit}
+use Rattle.qs_conn.proofs.Counted.{fit_broken}
 use Rattle.qs_conn.proofs.Kept.{kept_recvs}
 use Rattle.qs_machine.proofs.Taken.{in_there, reset_in, reset_checked, reset_sound}
 use Rattle.qs_conn.proofs.endpoint.Endpoint.take_reset.Goals as goal
@@ -15,9 +16,10 @@ take_reset-requires-clause-passed c =
 
 pub invariant_of-self : goal.invariant_of-self
 invariant_of-self c =
-    let sound : IsSound c.args.self.now = subst (λ (k : End). IsSound k) c.self.view_is c.self.invariant.0.sound in (
+    let sound : IsInCredit c.args.self.now = subst (λ (k : End). IsInCredit k) c.self.view_is c.self.invariant.0.sound in (
       kept_recvs _ _ _ _ _ _ _ _ _ c.self-2.invariant.0
           (reset_sound c.args.self.now _ c.args.stream c.args.code c.args.size c.take_reset.new.self sound c.requires.passed (c.self-2.view_is ∙ c.in_ok-open_by_peer.ensures.ok) c.take_reset.ensures),
       c.self-2.invariant.1,
       c.self-2.invariant.2,
+      fit_broken _ _ _ _ _ _ _ c.self-2.invariant.3 _ c.args.stream _ _ c.take_reset.ensures,
     )

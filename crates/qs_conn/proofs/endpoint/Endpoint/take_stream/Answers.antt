@@ -1,14 +1,16 @@
-use Rattle.std.proofs.Common.{◌≡◌, is_some, length, sym, ap, ◌∙◌, subst, take, ◌%◌}
+use Rattle.std.proofs.Common.{◌≡◌, ℕ, is_some, length, sym, ap, ◌∙◌, subst, take, ◌%◌}
 use Rattle.qs_recv.specs.Lane.{RecvLane}
-use Rattle.qs_machine.specs.Tables.{Tables, table, with_table}
+use Rattle.qs_machine.specs.Tables.{Tables, table, with_table, lookup}
 use Rattle.qs_machine.specs.Ends.{End}
-use Rattle.qs_machine.specs.Standing.{IsSound}
+use Rattle.qs_machine.specs.Standing.{IsInCredit}
 use Rattle.qs_machine.specs.Sums.{tally_on}
 use Rattle.qs_machine.specs.Outgoing.{Outgoing, AreOfOpen, sent_sum}
+use Rattle.qs_conn.proofs.Counted.{fit_recvs, fit_streamed, closed_counted}
+use Rattle.qs_conn.specs.Ended.{AreAllCounted, IsToldOfEnd}
 use Rattle.qs_conn.proofs.Kept.{kept_recvs}
 use Rattle.qs_conn.proofs.Runs.{idle_with}
 use Rattle.qs_conn.proofs.Funded.{funded_same}
-use Rattle.qs_machine.proofs.Taken.{in_there, stream_in, stream_checked, stream_unchanged, stream_sound, recvs_back, tally_back, restored_out, peer_none, peer_lost, peer_unsent, back_sound}
+use Rattle.qs_machine.proofs.Taken.{in_there, stream_in, stream_checked, stream_unchanged, stream_sound, sends_back, recvs_back, tally_back, restored_out, peer_none, peer_lost, peer_unsent, back_sound}
 use Rattle.qs_conn.proofs.endpoint.Endpoint.take_stream.Goals as goal
 
 pub take_stream-requires-clause-open : goal.take_stream-requires-clause-open
@@ -31,11 +33,14 @@ close_to-requires-in-Err c =
 
 pub invariant_of-self : goal.invariant_of-self
 invariant_of-self c =
-    let sound : IsSound c.args.self.now = subst (λ (k : End). IsSound k) c.self.view_is c.self.invariant.0.sound in
-    let back = recvs_back c.args.self.now _ c.args.stream c.count-recvs.result c.close_to-in-Err.new.self (c.self-2.view_is ∙ c.in_ok-open_by_peer.ensures.ok) (c.count-recvs.ensures ∙ ap (λ (e : End). length (table e.recvs (c.args.stream % 4))) c.self.view_is) (c.close_to-in-Err.ensures ∙ ap (λ (t : Tables RecvLane). with_table t (c.args.stream % 4) (take c.count-recvs.result (table t (c.args.stream % 4)))) c.in-Err.ensures.err) in (
+    let sound : IsInCredit c.args.self.now = subst (λ (k : End). IsInCredit k) c.self.view_is c.self.invariant.0.sound in
+    let back = recvs_back c.args.self.now _ c.args.stream c.count-recvs.result c.close_to-in-Err.new.self (c.self-2.view_is ∙ c.in_ok-open_by_peer.ensures.ok) (c.count-recvs.ensures ∙ ap (λ (e : End). length (table e.recvs (c.args.stream % 4))) c.self.view_is) (c.close_to-in-Err.ensures ∙ ap (λ (t : Tables RecvLane). with_table t (c.args.stream % 4) (take c.count-recvs.result (table t (c.args.stream % 4)))) c.in-Err.ensures.err) in
+    let sends = sends_back c.args.self.now _ c.args.stream c.count-sends.result c.close_to.new.self.sends (c.self-2.view_is ∙ c.in_ok-open_by_peer.ensures.ok) (c.count-sends.ensures ∙ ap (λ (e : End). length (table e.sends (c.args.stream % 4))) c.self.view_is) (ap (λ (x : Outgoing). x.sends) c.close_to.ensures) in (
       kept_recvs _ _ _ _ _ _ _ _ _ c.self-2.invariant.0 (back_sound c.args.self.now _ c.args.stream c.close_to-in-Err.new.self sound (c.self-2.view_is ∙ c.in_ok-open_by_peer.ensures.ok) back),
       idle_with c.self-2.inside.outbox _ _ c.close_to.ensures c.self-2.invariant.1,
       funded_same _ _ _ _ _ (ap (λ (x : Outgoing). sent_sum x.sends) c.close_to.ensures ∙ peer_unsent c.args.self.now _ c.args.stream c.count-sends.result (c.self-2.view_is ∙ c.in_ok-open_by_peer.ensures.ok) (c.count-sends.ensures ∙ ap (λ (e : End). length (table e.sends (c.args.stream % 4))) c.self.view_is)) c.self-2.invariant.2,
+      fit_recvs _ _ _ _ _ _ _ c.self-2.invariant.3 _ _ _ (closed_counted c.args.self.now _ c.args.stream _ _ c.self.inside.ended _ (c.self-2.view_is ∙ c.in_ok-open_by_peer.ensures.ok) back sends (subst (λ (k : End). AreAllCounted k.role k.recvs k.sends c.self.inside.ended) c.self.view_is c.self.invariant.3.counted) c.self-2.invariant.3.counted)
+          (subst (λ (t : Tables RecvLane). (n : ℕ) → IsToldOfEnd (lookup t n)) (sym back) (subst (λ (k : End). (n : ℕ) → IsToldOfEnd (lookup k.recvs n)) c.self.view_is c.self.invariant.3.told)),
     )
 
 pub returns-in-Err-clause-err : goal.returns-in-Err-clause-err
@@ -60,9 +65,11 @@ close_to-requires-clause-unsent c =
 
 pub invariant_of-self-in_default : goal.invariant_of-self-in_default
 invariant_of-self-in_default c =
-    let sound : IsSound c.args.self.now = subst (λ (k : End). IsSound k) c.self.view_is c.self.invariant.0.sound in (
+    let sound : IsInCredit c.args.self.now = subst (λ (k : End). IsInCredit k) c.self.view_is c.self.invariant.0.sound in (
       kept_recvs _ _ _ _ _ _ _ _ _ c.self-2.invariant.0
           (stream_sound c.args.self.now _ c.args.stream c.args.offset c.args.bytes.now c.args.fin c.take_stream.new.self sound c.requires.passed (c.self-2.view_is ∙ c.in_ok-open_by_peer.ensures.ok) c.in_default.ensures.ok),
       c.self-2.invariant.1,
       c.self-2.invariant.2,
+      fit_streamed _ _ _ _ _ _ _ c.self-2.invariant.3 _ c.self-2.invariant.0.sound _ c.args.stream _ _ _
+          (stream_checked c.args.self.now _ c.args.stream c.args.offset c.args.bytes.now c.args.fin c.requires.passed (c.self-2.view_is ∙ c.in_ok-open_by_peer.ensures.ok)) c.in_default.ensures.ok,
     )

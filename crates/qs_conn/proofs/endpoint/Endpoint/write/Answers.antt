@@ -1,3 +1,6 @@
+use Rattle.std.proofs.Common.{ap}
+use Rattle.qs_machine.specs.Outgoing.{Outgoing}
+use Rattle.qs_conn.proofs.Counted.{fit_written}
 use Rattle.qs_conn.proofs.Runs.{idle_with}
 use Rattle.qs_conn.proofs.Funded.{funded_written}
 use Rattle.qs_conn.proofs.endpoint.Endpoint.write.Goals as goal
@@ -7,4 +10,5 @@ invariant_of-self c = (
   c.self.invariant.0,
   idle_with c.self.inside.outbox _ _ c.in-Ok.ensures.accepted.2 c.self.invariant.1,
   funded_written c.self.inside.outbox _ _ _ _ _ _ c.in-Ok.ensures.accepted.2 c.self.invariant.2,
+  fit_written _ _ _ _ _ _ _ c.self.invariant.3 _ c.args.stream _ c.in-Ok.ensures.accepted.0 (ap (λ (o : Outgoing). o.sends) c.in-Ok.ensures.accepted.2),
 )

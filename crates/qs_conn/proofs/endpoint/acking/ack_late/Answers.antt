@@ -8,6 +8,7 @@ pub loop-number-preserved : goal.loop-number-preserved
 loop-number-preserved c =
     record {
       idle = c.in_ok-ack_lost_packet.ensures.idle;
+      counted = c.in_ok-ack_lost_packet.ensures.counted;
       rest = λ result new h. c.loop-number.invariant.rest result new
           (pass_more true c.loop-number.pass c.next_lost.new.pass c.in-Some.number c.loop-number.outbox c.ack_lost_packet.new.outbox new c.next_lost.result result c.in-Some.is c.next_lost.ensures.answer c.next_lost.ensures.falls c.next_lost.ensures.below
           c.in_ok-ack_lost_packet.ensures.step h);

@@ -1,6 +1,7 @@
 use Rattle.std.proofs.Common.{Result, true}
 use Rattle.qs_ranges.specs.declared.NoMemory.{NoMemory}
 use Rattle.qs_machine.specs.Outgoing.{Outgoing, IsIdle}
+use Rattle.qs_conn.specs.Ended.{AreAllCounted}
 use Rattle.qs_conn.specs.Runs.{AcksAhead}
 use Rattle.qs_conn.proofs.endpoint.acking.ack_late.Given as goal
 
@@ -9,6 +10,7 @@ abbrev pub invariant-loop-number : goal.invariant-loop-number
 invariant-loop-number l =
     record {
       idle : IsIdle l.outbox;
+      counted : AreAllCounted l.role l.recvs l.outbox.sends l.ended;
       rest : (result : Result (Unit {0}) NoMemory) (new : Outgoing) → AcksAhead true l.pass l.outbox result new → AcksAhead true l.initial.pass l.initial.outbox result new;
     }
 

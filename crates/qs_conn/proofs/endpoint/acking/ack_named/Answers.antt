@@ -8,6 +8,7 @@ pub loop-number-preserved : goal.loop-number-preserved
 loop-number-preserved c =
     record {
       idle = c.in_ok-ack_packet.ensures.idle;
+      counted = c.in_ok-ack_packet.ensures.counted;
       rest = λ result new h. c.loop-number.invariant.rest result new
           (pass_more false c.loop-number.pass c.next_named.new.pass c.in-Some.number c.loop-number.outbox c.ack_packet.new.outbox new c.next_named.result result c.in-Some.is c.next_named.ensures.answer c.next_named.ensures.falls c.next_named.ensures.below
           c.in_ok-ack_packet.ensures.step h);

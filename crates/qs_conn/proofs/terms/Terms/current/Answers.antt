@@ -20,3 +20,6 @@ returns-in-StreamDataBlocked-clause-current c = rw c.in-StreamDataBlocked.is (λ
 
 pub returns-in-StreamsBlocked-clause-current : goal.returns-in-StreamsBlocked-clause-current
 returns-in-StreamsBlocked-clause-current c = rw c.in-StreamsBlocked.is (λ e. c.streams_blocked.ensures.current c.args.recvs.now c.args.outbox.now e)
+
+pub returns-in-MaxStreams-clause-current : goal.returns-in-MaxStreams-clause-current
+returns-in-MaxStreams-clause-current c = rw c.in-MaxStreams.is (λ e. c.max_streams.ensures.current c.args.recvs.now c.args.outbox.now e)

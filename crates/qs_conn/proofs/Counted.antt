@@ -1,0 +1,246 @@
+-- The counts of the streams that came to their end: each call keeps them right.
+use Rattle.std.proofs.Common.{◌≡◌, ℕ, ◌+◌, ◌≤◌, ◌^◌, Bool, true, false, not, ◌&&◌, ◌||◌, cond, List, [], ◌∷◌, length, Option, None, Some, is_some, refl, sym, ap, ◌∙◌, subst, arith}
+use Rattle.std.specs.Prelude.{min, is_none, ◌==◌, Ok, IsOk}
+use Rattle.std.proofs.lemmas.Bool.{both_ways}
+use Rattle.std.proofs.lemmas.Option.{none-some, same_Some}
+use Rattle.qs_wire.specs.declared.stream_id.Role.{Role}
+use Rattle.qs_recv.specs.Lane.{RecvLane, stop, raise, after_read, take_stream, take_reset, check_stream, is_whole as recv_whole}
+use Rattle.qs_recv.specs.Lawful.{IsLawful}
+use Rattle.qs_recv.specs.Lane.{new_lane as new_recv_lane}
+use Rattle.qs_recv.specs.Assembled.{discard}
+use Rattle.qs_send.specs.Lane.{new_lane as new_send_lane}
+use Rattle.qs_send.specs.declared.parts.SendFault.{SendFault}
+use Rattle.qs_send.specs.declared.parts.SendFault.TheVariants.{Finished, WasReset}
+use Rattle.qs_send.specs.declared.parts.Reset.{Reset}
+use Rattle.qs_send.specs.Lane.{Sending, SendLane, is_whole, unacked_from, answer_of, write_lane, finish_lane, reset_lane, reset_refusal, refusal, allow_lane, blocked_lane, sent_lane, acked_lane, reset_acked_lane}
+use Rattle.qs_send.specs.declared.piece.Item.TheVariants.{MaxData, MaxStreamData, MaxStreams, ResetStream, StopSending, DataBlocked, StreamDataBlocked, StreamsBlocked}
+use Rattle.qs_send.specs.declared.piece.Piece.{Piece}
+use Rattle.qs_send.specs.declared.piece.Piece.TheVariants.{Data, Told}
+use Rattle.qs_calls.specs.declared.settings.Settings.{Settings}
+use Rattle.qs_calls.specs.Settings.{are_in_range}
+use Rattle.std.proofs.lemmas.Bool.Decides.{nat_tests}
+use Rattle.qs_machine.specs.Tables.{Tables, no_streams, lookup, updated, open_to, each}
+use Rattle.qs_machine.specs.Ends.{End, is_uni, is_own, window, first_send_limit, opens, opened_by_peer}
+use Rattle.qs_wire.specs.declared.stream_id.Dir.{Dir}
+use Rattle.qs_wire.specs.declared.stream_id.Dir.TheVariants.{Bidi, Uni}
+use Rattle.qs_machine.specs.Standing.{KeepsCredit, HasLawfulLane, IsInCredit, IsWithinCredit}
+use Rattle.qs_machine.specs.Verdicts.{or_new}
+use Rattle.qs_machine.proofs.EndedHalves.{RecvStays, stop_stays, reset_stays_ended}
+use Rattle.qs_machine.proofs.LanesAgain.{data_after}
+use Rattle.qs_conn.proofs.ToldEnds.{same_end, still_told, told_updated, told_read, told_opened, told_raised, none_told}
+use Rattle.qs_machine.proofs.Bounds.{within_credit}
+use Rattle.qs_machine.specs.Credit.{recv_ended, send_ended, granted_streams, lifetime}
+use Rattle.qs_machine.specs.Seen.{Seen, Ack, Stream, Control, Close, Plain}
+use Rattle.qs_machine.specs.Lawful.{Fills, frame_put, chunk_of}
+use Rattle.qs_machine.specs.Sums.{or_none}
+use Rattle.qs_machine.specs.Outgoing.{Outgoing, HasSending, first_acked_out, acked_at}
+use Rattle.qs_machine.proofs.TableLaws.{lookup_same}
+use Rattle.qs_conn.specs.declared.ended.EndedStreams.{EndedStreams}
+use Rattle.qs_conn.specs.Ended.{recv_over, send_over, over, is_over, recounted, half_of, AreAllCounted, IsToldOfEnd, CountsFit}
+use Rattle.qs_conn.proofs.Counting.{recv_recounted, send_recounted, nothing_recounted, recvs_opened, sends_opened, counted_raised, none_counted}
+
+-- Changes that end no half
+
+pub sends_same : (role : Role) (recvs : Tables RecvLane) (sends now : Tables SendLane) (n : ℕ) (f : SendLane → SendLane) (e : EndedStreams) → AreAllCounted role recvs sends e → now ≡ updated sends n f (lookup sends n)
+    → ((l : SendLane) → lookup sends n ≡ Some l → send_ended (f l) ≡ send_ended l) → AreAllCounted role recvs now e
+sends_same role recvs sends now n f e h after same =
+    subst (AreAllCounted role recvs now) (ap (λ a. recounted n (is_over role recvs sends n) a e) over_same ∙ nothing_recounted n (is_over role recvs sends n) e)
+    (send_recounted role recvs sends now n f e _ (is_over role recvs sends n) (is_over role recvs now n) h after refl refl refl)
+  where
+    at : (o : Option SendLane) → lookup sends n ≡ o → now ≡ updated sends n f o → send_over (lookup now n) ≡ send_over o
+    at None there is = ap (λ (t : Tables SendLane). send_over (lookup t n)) is ∙ ap send_over there
+    at (Some l) there is = ap (λ (t : Tables SendLane). send_over (lookup t n)) is ∙ ap send_over (lookup_same sends n l (f l) there) ∙ same l there
+
+    over_same : is_over role recvs now n ≡ is_over role recvs sends n
+    over_same = ap (λ b. over role n (recv_over (lookup recvs n)) b) (at (lookup sends n) refl after)
+
+pub recvs_same : (role : Role) (recvs now : Tables RecvLane) (sends : Tables SendLane) (n : ℕ) (f : RecvLane → RecvLane) (e : EndedStreams) → AreAllCounted role recvs sends e → now ≡ updated recvs n f (lookup recvs n)
+    → ((l : RecvLane) → lookup recvs n ≡ Some l → recv_ended (f l) ≡ recv_ended l) → AreAllCounted role now sends e
+recvs_same role recvs now sends n f e h after same =
+    subst (AreAllCounted role now sends) (ap (λ a. recounted n (is_over role recvs sends n) a e) over_same ∙ nothing_recounted n (is_over role recvs sends n) e)
+    (recv_recounted role recvs now sends n f e _ (is_over role recvs sends n) (is_over role now sends n) h after refl refl refl)
+  where
+    at : (o : Option RecvLane) → lookup recvs n ≡ o → now ≡ updated recvs n f o → recv_over (lookup now n) ≡ recv_over o
+    at None there is = ap (λ (t : Tables RecvLane). recv_over (lookup t n)) is ∙ ap recv_over there
+    at (Some l) there is = ap (λ (t : Tables RecvLane). recv_over (lookup t n)) is ∙ ap recv_over (lookup_same recvs n l (f l) there) ∙ same l there
+
+    over_same : is_over role now sends n ≡ is_over role recvs sends n
+    over_same = ap (λ b. over role n b (send_over (lookup sends n))) (at (lookup recvs n) refl after)
+
+-- What holds of an endpoint's counts
+
+pub grants_fit : (s : Settings) → are_in_range s ≡ true → (s.grant_bidi ≤ s.lifetime_bidi) × (s.grant_uni ≤ s.lifetime_uni)
+grants_fit s fits = (grind (arith, nat_tests, fits), grind (arith, nat_tests, fits))
+
+-- a new end
+pub fit_new : (role : Role) (s : Settings) (recvs : Tables RecvLane) (sends : Tables SendLane) → are_in_range s ≡ true → recvs ≡ no_streams → CountsFit role s recvs sends (record { bidi = 0; uni = 0 }) s.grant_bidi s.grant_uni
+fit_new role s recvs sends fits none = (let g = grants_fit s fits in record { counted = none_counted role recvs sends none; told = none_told recvs none; bidi = g.0; uni = g.1 })
+
+module _ (role : Role) (s : Settings) (recvs : Tables RecvLane) (sends : Tables SendLane) (e : EndedStreams) (b u : ℕ) (h : CountsFit role s recvs sends e b u) where
+  pub fit_sends : (now : Tables SendLane) (e' : EndedStreams) → AreAllCounted role recvs now e' → CountsFit role s recvs now e' b u
+  fit_sends now e' is = record { counted = is; told = h.told; bidi = h.bidi; uni = h.uni }
+
+  pub fit_recvs : (now_r : Tables RecvLane) (now_s : Tables SendLane) (e' : EndedStreams) → AreAllCounted role now_r now_s e' → ((n : ℕ) → IsToldOfEnd (lookup now_r n)) → CountsFit role s now_r now_s e' b u
+  fit_recvs now_r now_s e' is told = record { counted = is; told = told; bidi = h.bidi; uni = h.uni }
+
+  -- a half of which nothing is told, and which stays ended
+  unread : (now : Tables RecvLane) (n : ℕ) (f : RecvLane → RecvLane) → now ≡ updated recvs n f (lookup recvs n) → ((l : RecvLane) → lookup recvs n ≡ Some l → ((f l).told ≡ l.told) × RecvStays l (f l)) → CountsFit role s now sends e b u
+  unread now n f is keeps =
+      fit_recvs now sends e
+      (recvs_same role recvs now sends n f e h.counted is (λ l there. same_end l (f l) (subst IsToldOfEnd there (h.told n)) (keeps l there).0 (keeps l there).1))
+      (told_updated recvs now n f h.told is (λ l there told. still_told l (f l) told (keeps l there).0 (keeps l there).1))
+
+  -- a stop
+  pub fit_stopped : (now : Tables RecvLane) (n code : ℕ) → now ≡ updated recvs n (λ l. stop l code) (lookup recvs n) → CountsFit role s now sends e b u
+  fit_stopped now n code is = unread now n (λ l. stop l code) is (λ l there. (by_test l (is_some l.stop_code), stop_stays code l))
+    where
+      by_test : (l : RecvLane) (t : Bool) → (cond t l (record l { arrived = discard l.arrived; stop_code = Some code })).told ≡ l.told
+      by_test l true = refl
+      by_test l false = refl
+
+  -- a reset came
+  pub fit_broken : (now : Tables RecvLane) (n code size : ℕ) → now ≡ updated recvs n (λ l. take_reset l code size) (lookup recvs n) → CountsFit role s now sends e b u
+  fit_broken now n code size is = unread now n (λ l. take_reset l code size) is (λ l there. (by_test l (is_some l.reset_code || recv_whole l), reset_stays_ended l code size))
+    where
+      by_test : (l : RecvLane) (t : Bool) → (cond t l (record l { arrived = discard l.arrived; final_size = Some size; reset_code = Some code })).told ≡ l.told
+      by_test l true = refl
+      by_test l false = refl
+
+  module _ (g : ℕ) (k : KeepsCredit role s recvs g) where
+    lawful_at : (n : ℕ) (l : RecvLane) → lookup recvs n ≡ Some l → IsLawful l
+    lawful_at n l there = (subst (HasLawfulLane role s n) there (k.lanes n)).0
+
+    -- bytes came that passed the check
+    pub fit_streamed : (now : Tables RecvLane) (n offset : ℕ) (bytes : List ℕ) (fin : Bool) → IsOk (check_stream (or_new (lookup recvs n) 0) offset (length bytes) fin) → now ≡ updated recvs n (λ l. take_stream l offset bytes fin) (lookup recvs n)
+        → CountsFit role s now sends e b u
+    fit_streamed now n offset bytes fin passed is =
+        unread now n (λ l. take_stream l offset bytes fin) is (λ l there. (refl, (data_after l offset bytes fin (lawful_at n l there) (subst (λ o. IsOk (check_stream (or_new o 0) offset (length bytes) fin)) there passed)).ended))
+
+    -- a stream is read, and counted anew
+    pub fit_read : (now : Tables RecvLane) (n size : ℕ) (e' : EndedStreams) (was is : Bool) → now ≡ updated recvs n (λ l. after_read l size) (lookup recvs n) → was ≡ is_over role recvs sends n → is ≡ is_over role now sends n → e' ≡ recounted n was is e
+        → CountsFit role s now sends e' b u
+    fit_read now n size e' was is after before behind to =
+        fit_recvs now sends e' (recv_recounted role recvs now sends n (λ l. after_read l size) e e' was is h.counted after before behind to) (told_read recvs now n size h.told after (lawful_at n))
+
+  pub fit_allowed : (now : Tables SendLane) (n limit : ℕ) → now ≡ updated sends n (λ l. allow_lane l limit) (lookup sends n) → CountsFit role s recvs now e b u
+  fit_allowed now n limit is = fit_sends now e (sends_same role recvs sends now n (λ l. allow_lane l limit) e h.counted is (λ l there. refl))
+
+  -- bytes are written, of a half that isn't finished
+  pub fit_written : (now : Tables SendLane) (n : ℕ) (bytes : List ℕ) → refusal (or_none (lookup sends n)) ≡ None → now ≡ updated sends n (λ l. write_lane l bytes) (lookup sends n) → CountsFit role s recvs now e b u
+  fit_written now n bytes allowed is =
+      fit_sends now e (sends_same role recvs sends now n (λ l. write_lane l bytes) e h.counted is (λ l there.
+      not_finished l.was_reset l.finished l.reset_acked (is_whole (write_lane l bytes)) (is_whole l) (subst (λ o. refusal (or_none o) ≡ None) there allowed)))
+    where
+      not_finished : (r : Option Reset) (f a v w : Bool) → cond (is_some r) (Some WasReset) (cond f (Some Finished) None) ≡ None → (a || (is_none r && f && v)) ≡ (a || (is_none r && f && w))
+      not_finished (Some r) f a v w none = refl
+      not_finished None true a v w none = absurd (none-some Finished (sym none))
+      not_finished None false a v w none = refl
+
+  -- the end is asked for, of a half that isn't finished
+  pub fit_finished : (now : Tables SendLane) (n : ℕ) (o : Outgoing) (half : Sending) → o.sends ≡ sends → HasSending o n half → answer_of (refusal (or_none (lookup sends n))) ≡ Ok tt → now ≡ updated sends n finish_lane (lookup sends n) → CountsFit role s recvs now e b u
+  fit_finished now n o half same has allowed is = fit_sends now e (sends_same role recvs sends now n finish_lane e h.counted is each_lane)
+    where
+      finished : (r : Option Reset) (f a from end : Bool) → answer_of (cond (is_some r) (Some WasReset) (cond f (Some Finished) None)) ≡ Ok tt → (end ≡ true → f ≡ true) → (a || (is_none r && true && (from && end))) ≡ (a || (is_none r && f && (from && end)))
+      finished (Some r) f a from end ok asked = refl
+      finished None true a from end ok asked = refl
+      finished None false a true true ok asked = absurd (both_ways false refl (asked refl))
+      finished None false a true false ok asked = refl
+      finished None false a false end ok asked = refl
+
+      each_lane : (l : SendLane) → lookup sends n ≡ Some l → send_ended (finish_lane l) ≡ send_ended l
+      each_lane l there =
+          let lane : half.lane ≡ l = same_Some half.lane l (sym has.lane ∙ ap (λ (t : Tables SendLane). lookup t n) same ∙ there) in
+          finished l.was_reset l.finished l.reset_acked (unacked_from l == l.written) l.fin_acked (subst (λ x. answer_of (refusal (or_none x)) ≡ Ok tt) there allowed)
+          (subst (λ (x : SendLane). x.fin_acked ≡ true → x.finished ≡ true) lane (λ acked. has.lawful.ends.sent_asked (has.lawful.ends.acked_sent acked)))
+
+  -- a half is broken off
+  pub fit_reset : (now : Tables SendLane) (n code : ℕ) → now ≡ updated sends n (λ l. reset_lane l code) (lookup sends n) → CountsFit role s recvs now e b u
+  fit_reset now n code is = fit_sends now e (sends_same role recvs sends now n (λ l. reset_lane l code) e h.counted is (λ l there. by_refusal l (is_some (reset_refusal l)) refl))
+    where
+      -- a half that may be broken off isn't at its end
+      open_still : (r : Option Reset) (w f a : Bool) → is_some {T = SendFault} (cond (is_some r) (Some WasReset) (cond w (Some Finished) None)) ≡ false → (a || false) ≡ (a || (is_none r && f && w))
+      open_still (Some r) w f a is = absurd (both_ways true is refl)
+      open_still None true f a is = absurd (both_ways true is refl)
+      open_still None false true a is = refl
+      open_still None false false a is = refl
+
+      by_refusal : (l : SendLane) (t : Bool) → is_some (reset_refusal l) ≡ t → send_ended (cond t l (record l { was_reset = Some (record { code = code; size = cond l.fin_sent l.written l.sent_end }) })) ≡ send_ended l
+      by_refusal l true is = refl
+      by_refusal l false is = open_still l.was_reset (is_whole l) l.finished l.reset_acked is
+
+  -- streams are opened
+  pub fit_opened : (now_r : Tables RecvLane) (now_s : Tables SendLane) (n w limit buffer : ℕ) (no_send no_recv : Bool) → now_s ≡ cond no_send sends (open_to sends n (λ m. new_send_lane m limit buffer))
+      → now_r ≡ cond no_recv recvs (open_to recvs n (λ m. new_recv_lane w)) → CountsFit role s now_r now_s e b u
+  fit_opened now_r now_s n w limit buffer no_send no_recv sent received =
+      fit_recvs now_r now_s e (recvs_opened role recvs now_r now_s e n w no_recv (sends_opened role recvs sends now_s e n limit buffer no_send h.counted sent) received) (told_opened recvs now_r n w no_recv h.told received)
+
+  -- limits rise, and each granted count becomes the next one
+  pub fit_settled : (now : Tables RecvLane) (g v : ℕ) → now ≡ each raise recvs → g ≡ min s.lifetime_bidi (s.grant_bidi + e.bidi) → v ≡ min s.lifetime_uni (s.grant_uni + e.uni) → CountsFit role s now sends e g v
+  fit_settled now g v is bidi uni = record { counted = counted_raised role recvs now sends e h.counted is; told = told_raised recvs now h.told is; bidi = omega (arith, bidi); uni = omega (arith, uni) }
+
+-- an end within the credit, whose granted counts are within its lifetimes
+pub within_counted : (e : End) → IsInCredit e → e.granted_bidi ≤ e.settings.lifetime_bidi → e.granted_uni ≤ e.settings.lifetime_uni → IsWithinCredit e
+within_counted e sound bidi uni =
+    let w = within_credit (record e { granted_bidi = 0; granted_uni = 0 }) (sound, (omega arith, omega arith)) in
+    record { stored = w.stored; credit = w.credit; spent = w.spent; lanes = w.lanes; counts = counts }
+  where
+    counts : (d : Dir) → granted_streams e d ≤ lifetime e.settings d
+    counts Bidi = bidi
+    counts Uni = uni
+
+-- Streams that a frame opened are taken away
+
+opened_counted : (e : End) (n : ℕ) (c : EndedStreams) (own : Bool) → AreAllCounted e.role e.recvs e.sends c → AreAllCounted e.role (cond own e (opens n e)).recvs (cond own e (opens n e)).sends c
+opened_counted e n c true h = h
+opened_counted e n c false h =
+    recvs_opened e.role e.recvs _ _ c n (window e n) (is_uni n && is_own e n) (sends_opened e.role e.recvs e.sends _ c n (first_send_limit e n) e.settings.send_buffer (is_uni n && not (is_own e n)) h refl) refl
+
+same_role : (e : End) (n : ℕ) (own : Bool) → (cond own e (opens n e)).role ≡ e.role
+same_role e n true = refl
+same_role e n false = refl
+
+pub closed_counted : (e mid : End) (n : ℕ) (recvs : Tables RecvLane) (sends : Tables SendLane) (c c' : EndedStreams) → mid ≡ opened_by_peer n e → recvs ≡ e.recvs → sends ≡ e.sends → AreAllCounted e.role e.recvs e.sends c → AreAllCounted mid.role mid.recvs mid.sends c'
+    → AreAllCounted mid.role recvs sends c'
+closed_counted e mid n recvs sends c c' is r s h mid_h =
+    let role : mid.role ≡ e.role = ap (λ (x : End). x.role) is ∙ same_role e n (is_own e n) in
+    let opened : AreAllCounted e.role mid.recvs mid.sends c = subst (λ (x : End). AreAllCounted e.role x.recvs x.sends c) (sym is) (opened_counted e n c (is_own e n) h) in
+    let after : AreAllCounted e.role mid.recvs mid.sends c' = subst (λ (x : Role). AreAllCounted x mid.recvs mid.sends c') role mid_h in
+    let back : AreAllCounted e.role e.recvs e.sends c' = record { bidi = after.bidi ∙ sym opened.bidi ∙ h.bidi; uni = after.uni ∙ sym opened.uni ∙ h.uni } in
+    subst (λ (x : Role). AreAllCounted x recvs sends c') (sym role) (subst (λ (t : Tables RecvLane). AreAllCounted e.role t sends c') (sym r) (subst (λ (t : Tables SendLane). AreAllCounted e.role e.recvs t c') (sym s) back))
+
+-- A packet is filled
+
+put_counted : (role : Role) (e : End) (x : Seen) (c : EndedStreams) → AreAllCounted role e.recvs e.sends c → AreAllCounted role (frame_put x e).recvs (frame_put x e).sends c
+unfolding frame_put
+put_counted role e (Ack largest ranges) c h = h
+put_counted role e (Stream n offset bytes fin) c h = sends_same role e.recvs e.sends _ n (λ l. sent_lane l (chunk_of offset bytes fin)) c h refl (λ l there. refl)
+put_counted role e (Control (MaxData m)) c h = h
+put_counted role e (Control (MaxStreamData n m)) c h = h
+put_counted role e (Control (MaxStreams d m)) c h = h
+put_counted role e (Control (ResetStream n code size)) c h = h
+put_counted role e (Control (StopSending n code)) c h = h
+put_counted role e (Control (DataBlocked m)) c h = h
+put_counted role e (Control (StreamDataBlocked n m)) c h = sends_same role e.recvs e.sends _ n blocked_lane c h refl (λ l there. refl)
+put_counted role e (Control (StreamsBlocked d m)) c h = h
+put_counted role e (Close code) c h = h
+put_counted role e (Plain asks) c h = h
+
+pub fills_counted : (role : Role) (old e mid : End) (fs : List Seen) (c : EndedStreams) → Fills old e fs mid → AreAllCounted role e.recvs e.sends c → AreAllCounted role mid.recvs mid.sends c
+fills_counted role old e mid [] c is h = subst (λ (x : End). AreAllCounted role x.recvs x.sends c) (sym is) h
+fills_counted role old e mid (f ∷ fs) c (may, rest) h = fills_counted role old (frame_put f e) mid fs c rest (put_counted role e f c h)
+
+-- a piece of a stream is acknowledged, and the stream is counted anew
+pub piece_recounted : (role : Role) (recvs : Tables RecvLane) (late : Bool) (k n : ℕ) (p : Piece) (o new : Outgoing) (e e' : EndedStreams) (was is : Bool) → half_of p ≡ Some n → new ≡ first_acked_out (acked_at late k p) o → AreAllCounted role recvs o.sends e
+    → was ≡ is_over role recvs o.sends n → is ≡ is_over role recvs new.sends n → e' ≡ recounted n was is e → AreAllCounted role recvs new.sends e'
+piece_recounted role recvs late k n p o new e e' was is half after h before behind to = go p half (ap (λ (x : Outgoing). x.sends) after)
+  where
+    go : (p : Piece) → half_of p ≡ Some n → new.sends ≡ (first_acked_out (acked_at late k p) o).sends → AreAllCounted role recvs new.sends e'
+    go (Data m c) half at = (let same : m ≡ n = same_Some m n half in send_recounted role recvs o.sends new.sends n (λ l. acked_lane l c) e e' was is h (at ∙ ap (λ j. updated o.sends j (λ l. acked_lane l c) (lookup o.sends j)) same) before behind to)
+    go (Told (ResetStream m code size)) half at = (let same : m ≡ n = same_Some m n half in send_recounted role recvs o.sends new.sends n reset_acked_lane e e' was is h (at ∙ ap (λ j. updated o.sends j reset_acked_lane (lookup o.sends j)) same) before behind to)
+    go (Told (MaxData m)) half at = absurd (none-some n half)
+    go (Told (MaxStreamData m x)) half at = absurd (none-some n half)
+    go (Told (MaxStreams d m)) half at = absurd (none-some n half)
+    go (Told (StopSending m code)) half at = absurd (none-some n half)
+    go (Told (DataBlocked m)) half at = absurd (none-some n half)
+    go (Told (StreamDataBlocked m x)) half at = absurd (none-some n half)
+    go (Told (StreamsBlocked d m)) half at = absurd (none-some n half)

@@ -1,0 +1,55 @@
+//! Which streams of the peer came to their end.
+ghost use Rattle.std.specs.Prelude.{◌≡◌, ◌+◌, ◌-◌, ◌≤◌, ◌<◌, ◌^◌, ℕ, length, if◌then◌else◌};
+ghost use Rattle.qs_machine.specs.Tables.{table};
+ghost use Rattle.qs_machine.specs.Ends.{is_uni};
+ghost use Rattle.qs_conn.specs.Ended.{is_over, one_if, recounted};
+
+use crate::endpoint::{is_uni, role_bit};
+use crate::outbox::Outbox;
+use crate::places::kind_of;
+use crate::recv_tables::RecvTables;
+use qs_wire::{Role, StreamId};
+
+/// How many streams of the peer came to their end, of each direction (RFC 9000, sections 3 and 4.6).
+#[derive(Clone, Copy, Drop)]
+pub(crate) struct EndedStreams {
+    pub bidi: u64,
+    pub uni: u64,
+}
+
+impl EndedStreams {
+    /// Counts a stream anew, which was at its end or wasn't, and is now or isn't.
+    pub(crate) fn recount(&mut self, stream: StreamId, was: bool, is: bool)
+        requires small { (self.old.bidi ≤ 2 ^ 60) × (self.old.uni ≤ 2 ^ 60) }
+        requires part { one_if was ≤ (if is_uni stream then self.old.uni else self.old.bidi) }
+        ensures { self.new ≡ recounted stream was is self.old }
+    {
+        if is_uni(stream) {
+            self.uni = moved(self.uni, was, is);
+        } else {
+            self.bidi = moved(self.bidi, was, is);
+        }
+    }
+}
+
+// A count with what a stream adds, and without what it added.
+fn moved(count: u64, was: bool, is: bool) -> u64
+    requires small { count ≤ 2 ^ 60 }
+    requires part { one_if was ≤ count }
+    ensures { result ≡ count + one_if is - one_if was }
+{
+    count + u64::from(is) - u64::from(was)
+}
+
+/// Whether a stream is one of the peer's that came to its end: its receiving half, and if it has one its sending half (RFC 9000,
+/// section 3).
+pub(crate) fn is_over(role: Role, recvs: &RecvTables, outbox: &Outbox, stream: StreamId) -> bool
+    ensures value { result ≡ is_over role recvs.now outbox.now.sends stream }
+    ensures few { (k : ℕ) → k < 4 → length (table recvs.now k) ≤ 2 ^ 60 }
+{
+    recvs.are_few();
+    if kind_of(stream) % 2 == role_bit(role) {
+        return false;
+    }
+    recvs.has_ended(stream) && (is_uni(stream) || outbox.has_ended(stream))
+}

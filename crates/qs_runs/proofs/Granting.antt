@@ -1,0 +1,125 @@
+-- The counts of streams that an end tells are at most those that it grants, and these never fall.
+use Rattle.std.proofs.Common.{◌≡◌, ℕ, zero, suc, ◌≤◌, List, [], ◌∷◌, ◌++◌, ◌⊎◌, Option, Some, None, Result, Ok, Err, refl, sym, ap, subst, arith, inl, inr}
+use Rattle.std.proofs.lemmas.Option.{none-some, same_Some}
+use Rattle.std.specs.Global.{Vec}
+use Rattle.qs_wire.specs.declared.stream_id.Dir.{Dir}
+use Rattle.qs_wire.specs.declared.stream_id.Dir.TheVariants.{Bidi, Uni}
+use Rattle.qs_send.specs.declared.piece.Item.TheVariants.{MaxStreams}
+use Rattle.qs_send.specs.Records.{Among}
+use Rattle.qs_calls.specs.declared.settings.Settings.{Settings}
+use Rattle.qs_calls.specs.declared.making.Made.{Made}
+use Rattle.qs_calls.specs.declared.making.MakeFault.{MakeFault}
+use Rattle.qs_calls.specs.Settings.{limits_of}
+use Rattle.qs_calls.specs.declared.event.Act.{Act}
+use Rattle.qs_calls.specs.declared.event.Act.TheVariants as acts
+use Rattle.qs_calls.specs.declared.answer.Answer.{Answer}
+use Rattle.qs_calls.specs.declared.answer.Answer.TheVariants as answers
+use Rattle.qs_machine.specs.Ends.{End}
+use Rattle.qs_machine.specs.Credit.{first_grant, granted_streams}
+use Rattle.qs_machine.specs.Seen.{Seen, Control, seen_all}
+use Rattle.qs_machine.specs.Lawful.{MayPut, Fills, frame_put}
+use Rattle.qs_machine.specs.Making.{MakeAt, make_refusal, IsMade}
+use Rattle.qs_machine.specs.EndStep.{Call, Answer as CallAnswer, EndStep, Open, Accept, Write, Finish, Reset, Stop, ReadUpTo, Make, Lose}
+use Rattle.qs_machine.specs.Standing.{CountsRise}
+use Rattle.qs_runs.specs.Worlds.{OwnStep}
+use Rattle.qs_runs.specs.Pasts.{Packets, Past, Tells, seen_by}
+use Rattle.qs_runs.specs.Invariant.{EndOk, CountsTrue, CountsOk}
+use Rattle.qs_runs.proofs.NewEnds.{tells_nothing}
+use Rattle.qs_runs.proofs.Wire.{text_seen}
+
+-- what an owner does is a call of the end
+pub own_call : (e new : End) (act : Act) (answer : Answer) → OwnStep e act answer new → (call : Call) × (given : CallAnswer call) × EndStep e call given new
+own_call e new (acts.OpenStream dir) (answers.OpenStream r) step = (Open dir, r, step)
+own_call e new acts.Accept (answers.Accept r) step = (Accept, r, step)
+own_call e new (acts.Write n bytes) (answers.Write r) step = (Write n bytes.items, r, step)
+own_call e new (acts.Finish n) (answers.Finish r) step = (Finish n, r, step)
+own_call e new (acts.Reset n code) (answers.Reset r) step = (Reset n code, r, step)
+own_call e new (acts.Stop n code) (answers.Stop r) step = (Stop n code, r, step)
+own_call e new (acts.ReadUpTo n size) (answers.ReadUpTo r bytes) step = (ReadUpTo n size, (r, bytes.items), step)
+own_call e new (acts.Make room) (answers.Make r text) step = (Make room, (r, text.items), step)
+own_call e new (acts.Lose k) (answers.Lose r) step = (Lose k, r, step)
+own_call e new act answer step = absurd step
+
+-- What a packet tells
+
+told_split : (ps qs : Packets) (f : Seen) → Tells (ps ++ qs) f → Tells ps f ⊎ Tells qs f
+told_split [] qs f t = inr t
+told_split (x ∷ ps) qs f (zero, h) = inl (zero, h)
+told_split (x ∷ ps) qs f (suc k, h) = elim (told_split ps qs f (k, h)) [ inl (j, old) ↦ inl (suc j, old) | inr new ↦ inr new ]
+
+told_one : (fs : List Seen) (f : Seen) → Tells (fs ∷ []) f → Among f fs
+told_one fs f (zero, (gs, at, a)) = subst (Among f) (sym (same_Some fs gs at)) a
+told_one fs f (suc k, (gs, at, a)) = absurd (none-some gs at)
+
+-- a count that is put in a packet is the granted one
+put_count : (old e : End) (f : Seen) (d : Dir) (count : ℕ) → MayPut old e f → f ≡ Control (MaxStreams d count) → count ≤ granted_streams old d
+put_count old e f d count may is =
+    let due : MayPut old e (Control (MaxStreams d count)) = subst (MayPut old e) is may in
+    omega (arith, due.0.0.0)
+
+filled_count : (old e mid : End) (fs : List Seen) (d : Dir) (count : ℕ) → Fills old e fs mid → Among (Control (MaxStreams d count)) fs → count ≤ granted_streams old d
+filled_count old e mid [] d count fills a = absurd a
+filled_count old e mid (f ∷ fs) d count fills (inl is) = put_count old e f d count fills.0 (sym is)
+filled_count old e mid (f ∷ fs) d count fills (inr a) = filled_count old (frame_put f e) mid fs d count fills.1 a
+
+made_count : (e new : End) (room : ℕ) (made : Made) (text : Vec ℕ) (d : Dir) (count : ℕ) → IsMade e room made text.items new → Tells (seen_by (acts.Make room) (answers.Make (Ok (Some made)) text)) (Control (MaxStreams d count)) → count ≤ granted_streams e d
+made_count e new room made text d count h t =
+    let (last, fills, is) = h.lawful.filled in
+    filled_count e e last (seen_all h.frames) d count fills
+    (subst (Among (Control (MaxStreams d count))) (text_seen h.frames text.items h.lawful.some h.spells) (told_one _ (Control (MaxStreams d count)) t))
+
+make_count : (o : Option MakeFault) (e new : End) (room : ℕ) (r : Result (Option Made) MakeFault) (text : Vec ℕ) (d : Dir) (count : ℕ) → MakeAt o e room r text.items new
+    → Tells (seen_by (acts.Make room) (answers.Make r text)) (Control (MaxStreams d count)) → count ≤ granted_streams e d
+make_count None e new room (Ok (Some made)) text d count h t = made_count e new room made text d count h t
+make_count None e new room (Ok None) text d count h t = absurd (tells_nothing _ _ refl t)
+make_count None e new room (Err fault) text d count h t = absurd (tells_nothing _ _ refl t)
+make_count (Some fault) e new room r text d count h t = absurd (tells_nothing _ _ (ap (λ x. seen_by (acts.Make room) (answers.Make x text)) h.0) t)
+
+told_now : (e new : End) (act : Act) (answer : Answer) (d : Dir) (count : ℕ) → OwnStep e act answer new → Tells (seen_by act answer) (Control (MaxStreams d count)) → count ≤ granted_streams e d
+told_now e new (acts.Make room) (answers.Make r text) d count step t = make_count (make_refusal e) e new room r text d count step t
+told_now e new (acts.OpenStream dir) (answers.OpenStream r) d count step t = absurd (tells_nothing _ _ refl t)
+told_now e new acts.Accept (answers.Accept r) d count step t = absurd (tells_nothing _ _ refl t)
+told_now e new (acts.Write n bytes) (answers.Write r) d count step t = absurd (tells_nothing _ _ refl t)
+told_now e new (acts.Finish n) (answers.Finish r) d count step t = absurd (tells_nothing _ _ refl t)
+told_now e new (acts.Reset n code) (answers.Reset r) d count step t = absurd (tells_nothing _ _ refl t)
+told_now e new (acts.Stop n code) (answers.Stop r) d count step t = absurd (tells_nothing _ _ refl t)
+told_now e new (acts.ReadUpTo n size) (answers.ReadUpTo r bytes) d count step t = absurd (tells_nothing _ _ refl t)
+told_now e new (acts.Lose k) (answers.Lose r) d count step t = absurd (tells_nothing _ _ refl t)
+told_now e new act answer d count step t = absurd step
+
+-- The clause on counts
+
+module _ (mine : Packets) (e new : End) (ok : CountsTrue mine e.settings (granted_streams e)) (settings : new.settings ≡ e.settings) (rise : CountsRise e new) where
+  first_stays : (d : Dir) → first_grant new.settings d ≤ granted_streams new d
+  first_stays d = subst (λ (s : Settings). first_grant s d ≤ granted_streams new d) (sym settings) (omega (arith, ok.first_granted d, rise d))
+
+  -- a call that tells nothing
+  pub counts_stay : CountsTrue mine new.settings (granted_streams new)
+  counts_stay = record { first_granted = first_stays; told = λ d count t. omega (arith, ok.told d count t, rise d) }
+
+  -- and one that may
+  pub counts_told : (act : Act) (answer : Answer) → OwnStep e act answer new → CountsTrue (mine ++ seen_by act answer) new.settings (granted_streams new)
+  counts_told act answer step =
+      record {
+        first_granted = first_stays;
+        told = λ d count t. elim (told_split mine (seen_by act answer) (Control (MaxStreams d count)) t) [
+          | inl old ↦ omega (arith, ok.told d count old, rise d)
+          | inr now ↦ omega (arith, told_now e new act answer d count step now, rise d)
+        ];
+      }
+
+-- what the peer knows of its counts is at most what this end grants
+pub known_within : (p q : Past) (e f : End) → q.theirs ≡ p.mine → CountsOk p e → EndOk q f → f.peer ≡ limits_of e.settings → (f.known_bidi ≤ e.granted_bidi) × (f.known_uni ≤ e.granted_uni)
+known_within p q e f back ok their peer = (bidi, uni)
+  where
+    bidi : f.known_bidi ≤ e.granted_bidi
+    bidi = elim their.streams.bidi_told [
+      | inl first ↦ (let limit = ap (λ x. x.streams_bidi) peer in omega (arith, first, limit, ok.first_granted Bidi))
+      | inr told ↦ ok.told Bidi f.known_bidi (subst (λ x. Tells x (Control (MaxStreams Bidi f.known_bidi))) back told)
+    ]
+
+    uni : f.known_uni ≤ e.granted_uni
+    uni = elim their.streams.uni_told [
+      | inl first ↦ (let limit = ap (λ x. x.streams_uni) peer in omega (arith, first, limit, ok.first_granted Uni))
+      | inr told ↦ ok.told Uni f.known_uni (subst (λ x. Tells x (Control (MaxStreams Uni f.known_uni))) back told)
+    ]
