@@ -1,7 +1,6 @@
 -- What playing a script answers.
 use Rattle.std.proofs.Common.{◌≡◌, ℕ, List, Option, Result, Ok, Err, IfOk, true, inl, sym, subst}
 use Rattle.std.specs.List.{list_all}
-use Rattle.qs_machine.specs.Examples.{standard}
 use Rattle.qs_calls.specs.declared.settings.Settings.{Settings}
 use Rattle.qs_calls.specs.declared.event.Event.{Event}
 use Rattle.qs_world.specs.declared.report.Report.{Report}
@@ -15,12 +14,12 @@ use Rattle.qs_cli.specs.Runs.{AnswersEvents, AnswersPlay, Shows, missing_line}
 use Rattle.qs_cli.specs.Carrying.{AnswersCarried, AnswersUdp}
 
 -- a script is answered as some events are
-pub events_answer : (status : Status) (script : List ℕ) (events : List Event) (old new : Option (List ℕ))
-    → list_all fits events ≡ true → AnswersEvents status standard events old new → AnswersPlay status script old new
-events_answer Success script events old new fit shown = (events, fit, shown)
-events_answer FaultShown script events old new fit shown = inl (events, fit, shown)
-events_answer BadUsage script events old new fit shown = shown
-events_answer Failed script events old new fit shown = shown
+pub events_answer : (status : Status) (s : Settings) (script : List ℕ) (events : List Event) (old new : Option (List ℕ))
+    → list_all fits events ≡ true → AnswersEvents status s events old new → AnswersPlay status s script old new
+events_answer Success s script events old new fit shown = (events, fit, shown)
+events_answer FaultShown s script events old new fit shown = inl (events, fit, shown)
+events_answer BadUsage s script events old new fit shown = shown
+events_answer Failed s script events old new fit shown = shown
 
 -- and so is one over a wire
 pub carried_answer : (status : Status) (script : List ℕ) (events : List Event) (before after : ℕ) (old new : Option (List ℕ))

@@ -5,7 +5,6 @@ use Rattle.std.specs.List.{list_all}
 use Rattle.hex.specs.Hex.{decode_of}
 use Rattle.qs_wire.specs.Reading.{reading_of}
 use Rattle.qs_calls.specs.declared.settings.Settings.{Settings}
-use Rattle.qs_machine.specs.Examples.{standard}
 use Rattle.qs_calls.specs.declared.event.Event.{Event}
 use Rattle.qs_world.specs.declared.report.Report.{Report}
 use Rattle.qs_world.specs.declared.report.PlayFault.TheVariants.{NoSuchPacket}
@@ -60,9 +59,9 @@ AnswersEvents FaultShown s events old new = (k : ℕ) × PlayOf s s events (Err 
 AnswersEvents BadUsage s events old new = ⊥
 AnswersEvents Failed s events old new = ⊤
 
--- what playing some events that fit between two ends of the standard settings answers
-abbrev pub AnswersSome : Status → Option (List ℕ) → Option (List ℕ) → Type 0
-AnswersSome status old new = (events : List Event) × (list_all fits events ≡ true) × AnswersEvents status standard events old new
+-- what playing some events that fit between two ends of these settings answers
+abbrev pub AnswersSome : Status → Settings → Option (List ℕ) → Option (List ℕ) → Type 0
+AnswersSome status s old new = (events : List Event) × (list_all fits events ≡ true) × AnswersEvents status s events old new
 
 -- the fault of a script was named, which isn't want of memory
 abbrev pub ShowsScriptFault : Status → ScriptFault → Option (List ℕ) → Option (List ℕ) → Type 0
@@ -76,12 +75,12 @@ abbrev pub IsLineOf : List ℕ → ℕ → Type 0
 IsLineOf script n = (1 ≤ n) × (n ≤ length (lines_of script))
 
 -- Some events were played, or the fault of a line was named; where memory or the writer failed nothing is said.
-abbrev pub AnswersPlay : Status → List ℕ → Option (List ℕ) → Option (List ℕ) → Type 0
-AnswersPlay Success script old new = AnswersSome Success old new
-AnswersPlay FaultShown script old new =
-    AnswersSome FaultShown old new ⊎ ((fault : ScriptFault) × IsLineOf script fault.line × ShowsScriptFault FaultShown fault old new)
-AnswersPlay BadUsage script old new = ⊥
-AnswersPlay Failed script old new = ⊤
+abbrev pub AnswersPlay : Status → Settings → List ℕ → Option (List ℕ) → Option (List ℕ) → Type 0
+AnswersPlay Success s script old new = AnswersSome Success s old new
+AnswersPlay FaultShown s script old new =
+    AnswersSome FaultShown s old new ⊎ ((fault : ScriptFault) × IsLineOf script fault.line × ShowsScriptFault FaultShown fault old new)
+AnswersPlay BadUsage s script old new = ⊥
+AnswersPlay Failed s script old new = ⊤
 
 -- The text of so many random events was written; where memory or the writer failed nothing is said.
 abbrev pub AnswersRandom : Status → ℕ → ℕ → Option (List ℕ) → Option (List ℕ) → Type 0

@@ -18,7 +18,7 @@ pub use carrying::{run_udp, udp_events};
 pub use frames::run_frames;
 pub use memory_wire::MemoryWire;
 pub use report_text::{play_text, script_text};
-pub use scripts::{run_events, run_play, run_random};
+pub use scripts::{run_events, run_play, run_play_with, run_random};
 pub use status::Status;
 pub use udp_wire::UdpWire;
 pub use wire::{Wire, WireError};

@@ -4,6 +4,7 @@ ghost use Rattle.std.specs.Prelude.{◌≡◌, true, IfOk};
 ghost use Rattle.std.specs.List.{list_all};
 ghost use Rattle.std.specs.String.{string_bytes};
 ghost use Rattle.qs_calls.specs.Settings.{are_in_range};
+ghost use Rattle.qs_machine.specs.Examples.{standard};
 ghost use Rattle.qs_calls.specs.Events.{fits};
 ghost use Rattle.qs_world.specs.PlayText.{play_text};
 ghost use Rattle.qs_cli.specs.declared.status.Status.TheVariants.{Success, FaultShown};
@@ -76,13 +77,26 @@ pub fn show<W: io::Write>(text: &String, status: Status, out: &mut W) -> io::Res
     Ok(status)
 }
 
-/// Plays a script between two ends of the standard settings, and writes the report as [`run_events`] does. The fault of a script that
-/// can't be read is named in place of it all.
+/// Plays a script between two ends of the standard settings, as [`run_play_with`] does.
 pub fn run_play<W: io::Write>(alloc: Global, script: &[u8], out: &mut W) -> Status
-    ensures { AnswersPlay result script.now (W.contents out.old) (W.contents out.new) }
+    ensures { AnswersPlay result standard script.now (W.contents out.old) (W.contents out.new) }
+{
+    run_play_with(alloc, standard_settings(), script, out)
+}
+
+/// Plays a script between two ends of these settings, and writes the report as [`run_events`] does. The fault of a script that can't be
+/// read is named in place of it all.
+pub fn run_play_with<W: io::Write>(
+    alloc: Global,
+    settings: Settings,
+    script: &[u8],
+    out: &mut W,
+) -> Status
+    requires range { are_in_range settings ≡ true }
+    ensures { AnswersPlay result settings script.now (W.contents out.old) (W.contents out.new) }
 {
     match parse_script(alloc, script) {
-        Ok(events) => run_events(alloc, standard_settings(), &events, out),
+        Ok(events) => run_events(alloc, settings, &events, out),
         Err(fault) => show_script_fault(alloc, fault, out).unwrap_or(Status::Failed),
     }
 }

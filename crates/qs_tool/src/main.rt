@@ -1,6 +1,8 @@
 //! The program: shows the frames of a payload, plays scripts, and makes random ones.
 #![tactic(auto)]
 
+ghost use Rattle.qs_tool.specs.Requests.{IsPlayable};
+
 mod input;
 mod request;
 #[cfg(test)]
@@ -8,7 +10,7 @@ mod tests;
 
 use crate::input::read_file;
 use crate::request::Request;
-use qs_cli::{Status, UdpWire, run_frames, run_play, run_random, run_udp};
+use qs_cli::{Status, UdpWire, run_frames, run_play_with, run_random, run_udp};
 use std::process::ExitCode;
 use std::{env, io};
 
@@ -36,12 +38,14 @@ fn run(rt: &HostRuntime) -> Status {
     }
 }
 
-fn answer(rt: &HostRuntime, request: Request) -> Status {
+fn answer(rt: &HostRuntime, request: Request) -> Status
+    requires { IsPlayable request }
+{
     let mut out = io::writer(rt);
     match request {
         Request::Frames(hex) => run_frames(rt.alloc(), hex, &mut out),
-        Request::Play(name) => match read_file(rt, name) {
-            Ok(script) => run_play(rt.alloc(), &script, &mut out),
+        Request::Play { file, settings } => match read_file(rt, file) {
+            Ok(script) => run_play_with(rt.alloc(), settings, &script, &mut out),
             Err(status) => status,
         },
         Request::Udp(name) => match read_file(rt, name) {

@@ -1,20 +1,32 @@
 //! What the command line asks for.
 
+ghost use Rattle.std.specs.Prelude.{IfOk, IfSome};
+ghost use Rattle.qs_tool.specs.Requests.{IsPlayable};
+
 use clap::error::ErrorKind;
 use clap::{Arg, ArgMatches, Command, Error};
 use qs_cli::Status;
+use qs_world::{Settings, standard_settings};
 use std::alloc::{AllocError, Global};
 
 /// The most events of a random script.
 const MAX_EVENTS: u64 = 10_000;
+
+/// How many streams of each direction an end grants at first, at most and where nothing else is asked for.
+const MAX_GRANT: u64 = 4096;
+
+const USUAL_GRANT: u64 = 8;
+
+/// How many it grants in all, at most.
+const MAX_LIFETIME: u64 = 65_536;
 
 /// What the program is asked to do.
 #[derive(Clone, Copy, Debug, PartialEq, Eq)]
 pub enum Request<'a> {
     /// Show the frames of the payload that the word spells in hex.
     Frames(&'a str),
-    /// Play the script in the file of that name.
-    Play(&'a str),
+    /// Play the script in the file of that name, between two ends of these settings.
+    Play { file: &'a str, settings: Settings },
     /// Play the script in the file of that name, with its packets over UDP.
     Udp(&'a str),
     /// Show a script of `n` random events, at most 10,000, which the seed determines.
@@ -24,7 +36,9 @@ pub enum Request<'a> {
 impl<'a> Request<'a> {
     /// What the words ask for, the program's name first. `BadUsage` where they make no sense, as a request
     /// for help does not either, and `Failed` where memory was refused.
-    pub fn parse(alloc: Global, words: &'a [String]) -> Result<Request<'a>, Status> {
+    pub fn parse(alloc: Global, words: &'a [String]) -> Result<Request<'a>, Status>
+        ensures { IfOk result IsPlayable }
+    {
         let Ok(command) = command(alloc) else {
             return Err(Status::Failed);
         };
@@ -40,17 +54,53 @@ impl<'a> Request<'a> {
 }
 
 /// What a subcommand of that name asks for with these arguments.
-fn asked_for<'a>(name: &str, found: &ArgMatches<'a>) -> Option<Request<'a>> {
+fn asked_for<'a>(name: &str, found: &ArgMatches<'a>) -> Option<Request<'a>>
+    ensures { IfSome result IsPlayable }
+{
     match name {
-        "frames" => found.get_str("hex").map(Request::Frames),
-        "play" => found.get_str("file").map(Request::Play),
-        "udp" => found.get_str("file").map(Request::Udp),
+        "frames" => Some(Request::Frames(found.get_str("hex")?)),
+        "play" => play(
+            found.get_str("file")?,
+            found.get_str("grant"),
+            found.get_str("lifetime"),
+        ),
+        "udp" => Some(Request::Udp(found.get_str("file")?)),
         "random" => random(found.get_str("seed")?, found.get_str("n")?),
         _ => None,
     }
 }
 
-fn random<'a>(seed: &str, n: &str) -> Option<Request<'a>> {
+/// To play the file between ends that grant so many streams of each direction at first, and so many in all. Where these aren't named, 8 at
+/// first, and 8 in all or as many as at first.
+fn play<'a>(file: &'a str, grant: Option<&str>, lifetime: Option<&str>) -> Option<Request<'a>>
+    ensures { IfSome result IsPlayable }
+{
+    let grant = number_or(grant, USUAL_GRANT)?;
+    let lifetime = number_or(lifetime, grant.max(USUAL_GRANT))?;
+    if grant > MAX_GRANT || lifetime < grant || lifetime > MAX_LIFETIME {
+        return None;
+    }
+    let settings = Settings {
+        grant_bidi: grant,
+        grant_uni: grant,
+        lifetime_bidi: lifetime,
+        lifetime_uni: lifetime,
+        ..standard_settings()
+    };
+    Some(Request::Play { file, settings })
+}
+
+/// The number that the word spells, or the usual one where there is no word.
+fn number_or(word: Option<&str>, usual: u64) -> Option<u64> {
+    match word {
+        Some(word) => number(word),
+        None => Some(usual),
+    }
+}
+
+fn random<'a>(seed: &str, n: &str) -> Option<Request<'a>>
+    ensures { IfSome result IsPlayable }
+{
     let (seed, n) = (number(seed)?, number(n)?);
     if n > MAX_EVENTS {
         return None;
@@ -79,6 +129,12 @@ fn file_command<'a>(alloc: Global, name: &'a str) -> Result<Command<'a>, AllocEr
     Command::new(alloc, name).arg(Arg::new(alloc, "file").required(true))
 }
 
+fn play_command<'a>(alloc: Global) -> Result<Command<'a>, AllocError> {
+    file_command(alloc, "play")?
+        .arg(Arg::new(alloc, "grant").long("grant"))?
+        .arg(Arg::new(alloc, "lifetime").long("lifetime"))
+}
+
 fn random_command<'a>(alloc: Global) -> Result<Command<'a>, AllocError> {
     Command::new(alloc, "random")
         .arg(Arg::new(alloc, "seed").required(true))?
@@ -89,7 +145,7 @@ fn command<'a>(alloc: Global) -> Result<Command<'a>, AllocError> {
     Command::new(alloc, "qstream")
         .subcommand_required(true)
         .subcommand(frames_command(alloc)?)?
-        .subcommand(file_command(alloc, "play")?)?
+        .subcommand(play_command(alloc)?)?
         .subcommand(file_command(alloc, "udp")?)?
         .subcommand(random_command(alloc)?)
 }

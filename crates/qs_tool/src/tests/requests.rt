@@ -3,6 +3,7 @@
 use crate::input::read_whole;
 use crate::request::Request;
 use qs_cli::Status;
+use qs_world::standard_settings;
 use std::alloc::Global;
 use std::process::Abort;
 use std::test::Fail;
@@ -26,7 +27,7 @@ fn the_command_line_names_a_payload(rt: HostRuntime) -> Result<(), Fail> {
 
 #[test]
 fn other_command_lines_make_no_sense(rt: HostRuntime) -> Result<(), Fail> {
-    let lines: [&[&str]; 14] = [
+    let lines: [&[&str]; 16] = [
         &["qstream"],
         &["qstream", "frames"],
         &["qstream", "frames", "01", "02"],
@@ -41,6 +42,8 @@ fn other_command_lines_make_no_sense(rt: HostRuntime) -> Result<(), Fail> {
         &["qstream", "random", "1", "2", "3"],
         &["qstream", "help"],
         &["qstream", "udp"],
+        &["qstream", "udp", "one", "--grant", "1"],
+        &["qstream", "random", "1", "2", "--lifetime", "9"],
     ];
     for line in lines {
         let line = words(rt.alloc(), line)?;
@@ -52,9 +55,72 @@ fn other_command_lines_make_no_sense(rt: HostRuntime) -> Result<(), Fail> {
 #[test]
 fn the_command_line_names_a_file(rt: HostRuntime) -> Result<(), Fail> {
     let line = words(rt.alloc(), &["qstream", "play", "a file"])?;
-    assert!(rt; Request::parse(rt.alloc(), &line) == Ok(Request::Play("a file")));
+    let settings = standard_settings();
+    let play = Request::Play {
+        file: "a file",
+        settings,
+    };
+    assert!(rt; Request::parse(rt.alloc(), &line) == Ok(play));
     let line = words(rt.alloc(), &["qstream", "udp", "a file"])?;
     assert!(rt; Request::parse(rt.alloc(), &line) == Ok(Request::Udp("a file")));
+    Ok(())
+}
+
+/// How many streams of each direction `play` grants at first and in all with these words, where they are the same for both.
+fn streams_granted(alloc: Global, options: &[&str]) -> Result<Option<(u64, u64)>, Fail> {
+    let mut line = words(alloc, &["qstream", "play", "a file"])?;
+    for option in options {
+        line.push(String::from_str(alloc, option)?)?;
+    }
+    match Request::parse(alloc, &line) {
+        Ok(Request::Play { settings, .. })
+            if settings.grant_uni == settings.grant_bidi
+                && settings.lifetime_uni == settings.lifetime_bidi => {
+            Ok(Some((settings.grant_bidi, settings.lifetime_bidi)))
+        }
+        _ => Ok(None),
+    }
+}
+
+#[test]
+fn the_command_line_names_counts_of_streams(rt: HostRuntime) -> Result<(), Fail> {
+    let counts: [(&[&str], (u64, u64)); 7] = [
+        (&["--grant", "1", "--lifetime", "2"], (1, 2)),
+        (&["--lifetime=9"], (8, 9)),
+        (&["--grant", "3"], (3, 8)),
+        (&["--grant", "9"], (9, 9)),
+        (&["--grant", "0", "--lifetime", "0"], (0, 0)),
+        (&["--grant", "4096", "--lifetime", "65536"], (4096, 65_536)),
+        (&["--lifetime", "8", "--grant", "08"], (8, 8)),
+    ];
+    for (options, count) in counts {
+        assert!(rt;
+            streams_granted(rt.alloc(), options)? == Some(count),
+            "{options:?}"
+        );
+    }
+    Ok(())
+}
+
+#[test]
+fn counts_of_streams_lie_within_bounds(rt: HostRuntime) -> Result<(), Fail> {
+    let wrong: [&[&str]; 9] = [
+        &["--lifetime", "7"],
+        &["--grant", "4097"],
+        &["--grant", "1", "--lifetime", "65537"],
+        &["--grant", "2", "--lifetime", "1"],
+        &["--grant", "-1"],
+        &["--grant", "1", "--grant", "1"],
+        &["--grant"],
+        &["--grant", ""],
+        &["--lifetime", "18446744073709551616"],
+    ];
+    for options in wrong {
+        assert!(rt;
+            streams_granted(rt.alloc(), options)?.is_none(),
+            "{options:?}"
+        );
+    }
     Ok(())
 }
 

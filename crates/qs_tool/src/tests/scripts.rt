@@ -1,7 +1,7 @@
 //! What scripts are answered with.
 
-use qs_cli::{Status, run_events, run_play, run_random};
-use qs_world::{parse_script, random_script, standard_settings};
+use qs_cli::{Status, run_events, run_play, run_play_with, run_random};
+use qs_world::{Settings, parse_script, random_script, standard_settings};
 use std::alloc::Global;
 use std::process::Abort;
 use std::test::Fail;
@@ -144,6 +144,59 @@ fn a_reset_overtakes_its_bytes(rt: HostRuntime) {
         Status::Success,
         OVERTAKING,
     );
+}
+
+const OPENING_SCRIPT: &[u8] = b"\
+open A uni
+open A uni
+write A 2 6869
+finish A 2
+make A 1200
+deliver A 0
+read B 2 16
+read B 2 16
+make B 1200
+lose B 0
+make B 1200
+deliver B 1
+open A uni
+open A uni
+make A 1200
+";
+
+/// One stream may be open at first, and a second one once the first has come to its end, which the peer is told again after a loss (RFC
+/// 9000, sections 4.6 and 13.3).
+const OPENING: &str = "\
+open A uni -> stream 2
+open A uni -> blocked 1
+write A 2 6869 -> wrote 2
+finish A 2 -> ok
+make A 1200 -> packet 0 17010b02026869
+deliver A 0 -> done
+read B 2 16 -> bytes 6869
+read B 2 16 -> end
+make B 1200 -> packet 0 02000000001302
+lose B 0 -> ok
+make B 1200 -> packet 1 1302
+deliver B 1 -> done
+open A uni -> stream 6
+open A uni -> blocked 2
+make A 1200 -> packet 1 02010000001702
+";
+
+#[test]
+fn a_stream_more_for_one_that_ended(rt: HostRuntime) {
+    let settings = Settings {
+        grant_bidi: 1,
+        grant_uni: 1,
+        lifetime_bidi: 2,
+        lifetime_uni: 2,
+        ..standard_settings()
+    };
+    let mut out = Vec::new(rt.alloc());
+    let status = run_play_with(rt.alloc(), settings, OPENING_SCRIPT, &mut out);
+    assert!(rt; status == Status::Success);
+    assert!(rt; out.starts_with(OPENING.as_bytes()));
 }
 
 const NOTHING_HAPPENED: &str = "\

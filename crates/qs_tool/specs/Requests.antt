@@ -1,0 +1,12 @@
+-- What the program can be asked to do.
+use Rattle.std.specs.Prelude.{◌≡◌, true, ⊤}
+use Rattle.qs_calls.specs.Settings.{are_in_range}
+use Rattle.qs_tool.specs.declared.request.Request.{Request}
+use Rattle.qs_tool.specs.declared.request.Request.TheVariants.{Frames, Play, Udp, Random}
+
+-- an end can be made of the settings between which a script is to be played
+abbrev pub IsPlayable : Request → Type 0
+IsPlayable (Frames hex) = ⊤
+IsPlayable (Play file settings) = are_in_range settings ≡ true
+IsPlayable (Udp file) = ⊤
+IsPlayable (Random seed n) = ⊤
