@@ -22,7 +22,6 @@ pub mod LanesAgain
 pub mod TablesAfter
 pub mod EndedHalves
 pub mod Counts
-pub mod CountMoves
 pub mod EndsAfter
 pub mod AcksAgain
 pub mod Again

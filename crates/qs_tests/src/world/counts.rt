@@ -137,3 +137,20 @@ fn counts_are_told_behind_the_connection_limit(rt: HostRuntime) -> Result<(), Fa
           make 1200 -> 1 0201000001100412021302",
     )
 }
+
+#[test]
+fn own_streams_count_for_nothing(rt: HostRuntime) -> Result<(), Fail> {
+    play_rows(
+        rt.alloc(),
+        b"server grant_bidi=1 grant_uni=1
+          open bidi -> 1
+          finish 1 -> ok
+          open uni -> 3
+          finish 3 -> ok
+          make 1200 -> 0 0b01000b0300
+          receive 0 02000000000b0100 -> done
+          read 1 16 -> end
+          granted_streams bidi -> 1
+          granted_streams uni -> 1",
+    )
+}
