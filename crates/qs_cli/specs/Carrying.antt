@@ -1,5 +1,6 @@
 -- Packets go over a wire that may fail: which events take place, and what is written of them.
-use Rattle.std.specs.Prelude.{◌≡◌, ℕ, suc, ◌-◌, ◌^◌, List, [], ◌∷◌, ◌++◌, length, reverse, codes, decimal, Option, Result, Ok, Err, nat_lt, true, ⊤, ◌⊎◌, if◌then◌else◌}
+use Rattle.std.specs.Prelude.{◌≡◌, ℕ, suc, ◌-◌, ◌≤◌, ◌^◌, List, [], ◌∷◌, ◌++◌, length, take, drop, reverse, codes, decimal, Option, Some, Result, Ok, Err, nat_lt, true, ⊤, ◌⊎◌, if◌then◌else◌}
+use Rattle.std.specs.Int.{w64, from_be_bytes}
 use Rattle.std.specs.Io.KnownBytes.{Appends}
 use Rattle.std.specs.List.{list_all}
 use Rattle.qs_machine.specs.Examples.{standard}
@@ -12,8 +13,8 @@ use Rattle.qs_world.specs.declared.report.Report.{Report}
 use Rattle.qs_world.specs.declared.report.PlayFault.{PlayFault}
 use Rattle.qs_world.specs.declared.report.PlayFault.TheVariants as faults
 use Rattle.qs_world.specs.declared.script.ScriptFault.{ScriptFault}
-use Rattle.qs_calls.specs.Events.{fits}
-use Rattle.qs_runs.specs.Logs.{History}
+use Rattle.qs_calls.specs.Events.{fits, act_fits}
+use Rattle.qs_runs.specs.Logs.{History, payload}
 use Rattle.qs_runs.specs.Worlds.{WorldStep}
 use Rattle.qs_world.specs.Plays.{SameEvent, AgreeingRun, Played, IsMissing, IsReportOf}
 use Rattle.qs_world.specs.PlayText.{play_text}
@@ -29,6 +30,16 @@ one_more n = if nat_lt n (2 ^ 64 - 1) then suc n else n
 abbrev pub counted : {X E : Type 0} → Result X E → ℕ → ℕ
 counted (Ok answer) n = n
 counted (Err error) n = one_more n
+
+-- A datagram is the packet that an end made under that number: the number in eight bytes, the most significant one first, and then the
+-- payload.
+abbrev pub IsPacketOf : Side → History → ℕ → List ℕ → Type 0
+IsPacketOf s h k datagram =
+    (8 ≤ length datagram) × (k ≡ from_be_bytes w64 (take 8 datagram)) × (act_fits (Deliver k) ≡ true) × (payload s k h ≡ Some (drop 8 datagram))
+
+-- a datagram is none of an end's packets
+abbrev pub IsStranger : Side → History → List ℕ → Type 0
+IsStranger s h datagram = (k : ℕ) → IsPacketOf s h k datagram → ⊥
 
 -- the packet of that number is declared lost, or some packet of the end is delivered
 abbrev pub ComesOfDelivery : Side → ℕ → Event → Type 0

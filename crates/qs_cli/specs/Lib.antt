@@ -2,3 +2,4 @@ pub mod Carrying
 pub mod Fields
 pub mod FrameText
 pub mod Runs
+pub mod Waiting

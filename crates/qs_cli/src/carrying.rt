@@ -1,15 +1,15 @@
 //! Plays events and scripts over a wire that may fail.
 
-ghost use Rattle.std.specs.Prelude.{◌≡◌, ◌≤◌, ◌++◌, [], true, length, drop, Some, IfOk, OnOk, IfSome};
+ghost use Rattle.std.specs.Prelude.{◌≡◌, ◌≤◌, ◌++◌, [], true, length, IfOk, OnOk, IfSome, IfNone};
 ghost use Rattle.std.specs.List.{list_all};
+ghost use Rattle.std.specs.Int.{w64, to_be_bytes};
 ghost use Rattle.std.specs.String.{string_bytes};
 ghost use Rattle.qs_calls.specs.Events.{fits, act_fits};
-ghost use Rattle.qs_runs.specs.Logs.{payload};
 ghost use Rattle.qs_world.specs.PlayText.{play_text};
 ghost use Rattle.qs_calls.specs.declared.event.Act.TheVariants.{Lose, Deliver};
 ghost use Rattle.qs_cli.specs.Runs.{Shows};
 ghost use Rattle.qs_cli.specs.declared.status.Status.TheVariants.{Success};
-ghost use Rattle.qs_cli.specs.Carrying.{StepsBy, CarryStep, CarryOf, HasCarried, ShowsWorld, AnswersCarried, AnswersUdp, wire_line};
+ghost use Rattle.qs_cli.specs.Carrying.{IsPacketOf, IsStranger, StepsBy, CarryStep, CarryOf, HasCarried, ShowsWorld, AnswersCarried, AnswersUdp, wire_line};
 
 use crate::report_text::play_text;
 use crate::scripts::{show, show_missing, show_script_fault};
@@ -205,7 +205,9 @@ impl Room {
     }
 
     /// The datagram of that packet is to be sent.
-    fn put(&mut self, number: u64, payload: &[u8]) -> Result<(), AllocError> {
+    fn put(&mut self, number: u64, payload: &[u8]) -> Result<(), AllocError>
+        ensures { OnOk result (self.new.sent.items ≡ to_be_bytes w64 number ++ payload.now) }
+    {
         self.sent.clear();
         self.sent.extend_from_slice(&number.to_be_bytes())?;
         self.sent.extend_from_slice(payload)
@@ -294,8 +296,8 @@ fn step(world: &mut World, event: Event) -> Result<bool, PlayFault>
 
 /// The number that a datagram bears, where it is the packet that the end made under that number.
 fn borne(world: &World, end: Side, datagram: &[u8]) -> Option<u64>
-    ensures fits { IfSome result (λ number. act_fits (Deliver number) ≡ true) }
-    ensures made { IfSome result (λ number. payload end number world.now.log ≡ Some (drop 8 datagram.now)) }
+    ensures packet { IfSome result (λ number. IsPacketOf end world.now.log number datagram.now) }
+    ensures stranger { IfNone result (IsStranger end world.now.log datagram.now) }
 {
     let (head, text) = datagram.split_first_chunk::<8>()?;
     let number = u64::from_be_bytes(*head);

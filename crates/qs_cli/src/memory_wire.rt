@@ -1,12 +1,13 @@
 //! A wire in memory, which fails where it is told to.
 
-ghost use Rattle.std.specs.Prelude.{◌≡◌, ◌≤◌, length, OnErr};
-ghost use Rattle.qs_cli.specs.Carrying.{one_more};
+ghost use Rattle.std.specs.Prelude.{◌≡◌, ◌≤◌, length, OnOk, OnErr};
+ghost use Rattle.qs_cli.specs.Waiting.{nothing_waits, waiting_with};
 
-use crate::wire::{Wire, WireError, other_side};
+use crate::wire::{Failures, Wire, WireError, other_side};
 use qs_world::Side;
 use std::alloc::{AllocError, Global};
 use std::collections::VecDeque;
+use std::marker::Model;
 
 /// A wire in memory. Datagrams wait at an end in the order in which they were sent to it.
 #[derive(Drop)]
@@ -16,15 +17,30 @@ pub struct MemoryWire<'a> {
     failing_recvs: &'a [u64],
     sends: u64,
     recvs: u64,
-    failures: u64,
+    failures: Failures,
     at_a: VecDeque<Vec<u8>>,
     at_b: VecDeque<Vec<u8>>,
+}
+
+impl<'a> Model for MemoryWire<'a> {
+    ghost use Rattle.std.specs.Prelude.{map};
+    ghost use Rattle.qs_cli.specs.Waiting.{Waiting, waiting_code};
+
+    ghost Value = { Waiting };
+
+    ghost coded = { waiting_code };
+
+    ghost view = { λ w. record {
+      failures = w.failures;
+      at_a = map (λ d. d.items) w.at_a.items;
+      at_b = map (λ d. d.items) w.at_b.items;
+    } };
 }
 
 impl<'a> MemoryWire<'a> {
     /// Nothing waits at either end. The sends and the receives of these numbers fail, each counted from 1.
     pub fn new(alloc: Global, failing_sends: &'a [u64], failing_recvs: &'a [u64]) -> MemoryWire<'a>
-        ensures { result.failures ≡ 0 }
+        ensures { result ≡ nothing_waits }
     {
         MemoryWire {
             alloc,
@@ -32,7 +48,7 @@ impl<'a> MemoryWire<'a> {
             failing_recvs,
             sends: 0,
             recvs: 0,
-            failures: 0,
+            failures: Failures::none(),
             at_a: VecDeque::new(alloc),
             at_b: VecDeque::new(alloc),
         }
@@ -40,8 +56,8 @@ impl<'a> MemoryWire<'a> {
 
     /// A stranger's datagram waits at an end, behind those that wait there. Where memory is refused nothing changed.
     pub fn inject(&mut self, at: Side, bytes: &[u8]) -> Result<(), AllocError>
-        ensures failed { self.new.failures ≡ self.old.failures }
-        ensures err { OnErr result ((self.new.at_a.items ≡ self.old.at_a.items) × (self.new.at_b.items ≡ self.old.at_b.items)) }
+        ensures ok { OnOk result (self.new ≡ waiting_with at bytes.now self.old) }
+        ensures err { OnErr result (self.new ≡ self.old) }
     {
         let datagram = Vec::from_slice(self.alloc, bytes)?;
         match at {
@@ -49,15 +65,6 @@ impl<'a> MemoryWire<'a> {
             Side::B => self.at_b.push_back(datagram)?,
         }
         Ok(())
-    }
-
-    fn fail(&mut self) -> WireError
-        ensures { self.new.failures ≡ one_more self.old.failures }
-    {
-        if self.failures < u64::MAX {
-            self.failures += 1;
-        }
-        WireError
     }
 }
 
@@ -68,11 +75,11 @@ impl<'a> Wire for MemoryWire<'a> {
     fn send(&mut self, from: Side, bytes: &[u8]) -> Result<(), WireError> {
         self.sends = self.sends.saturating_add(1);
         if self.failing_sends.contains(&self.sends) {
-            return Err(self.fail());
+            return Err(self.failures.note());
         }
         match self.inject(other_side(from), bytes) {
             Ok(()) => Ok(()),
-            Err(_) => Err(self.fail()),
+            Err(_) => Err(self.failures.note()),
         }
     }
 
@@ -80,7 +87,7 @@ impl<'a> Wire for MemoryWire<'a> {
     fn recv(&mut self, at: Side, into: &mut [u8]) -> Result<usize, WireError> {
         self.recvs = self.recvs.saturating_add(1);
         if self.failing_recvs.contains(&self.recvs) {
-            return Err(self.fail());
+            return Err(self.failures.note());
         }
         let waiting = match at {
             Side::A => self.at_a.pop_front(),
@@ -88,12 +95,12 @@ impl<'a> Wire for MemoryWire<'a> {
         };
         match waiting {
             Some(datagram) => Ok(copy_front(&datagram, into)),
-            None => Err(self.fail()),
+            None => Err(self.failures.note()),
         }
     }
 
     fn failures(&self) -> u64 {
-        self.failures
+        self.failures.count()
     }
 }
 

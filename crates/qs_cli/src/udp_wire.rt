@@ -1,11 +1,11 @@
 //! A wire over UDP on this machine.
 
 ghost use Rattle.std.specs.Prelude.{◌≡◌, IfOk};
-ghost use Rattle.qs_cli.specs.Carrying.{one_more};
 
-use crate::wire::{Wire, WireError};
+use crate::wire::{Failures, Wire, WireError};
 use qs_world::Side;
 use std::io;
+use std::marker::Model;
 use std::net::{Ipv4Addr, Net, SocketAddr, UdpSocket};
 use std::time::Duration;
 
@@ -14,32 +14,39 @@ use std::time::Duration;
 pub struct UdpWire {
     a: UdpSocket,
     b: UdpSocket,
-    failures: u64,
+    failures: Failures,
+}
+
+// It is seen as how many calls failed.
+impl Model for UdpWire {
+    ghost use Rattle.std.specs.Prelude.{ℕ};
+    ghost use Rattle.std.specs.Coded.{coded_ℕ};
+
+    ghost Value = { ℕ };
+
+    ghost coded = { coded_ℕ };
+
+    ghost view = { λ wire. wire.failures };
 }
 
 impl UdpWire {
     /// Binds both sockets to 127.0.0.1, at ports that are free.
     pub fn bind<R: Net>(net: &R) -> Result<UdpWire, WireError>
-        ensures { IfOk result (λ wire. wire.failures ≡ 0) }
+        ensures { IfOk result (λ wire. wire ≡ 0) }
     {
         match bind_both(net) {
-            Ok((a, b)) => Ok(UdpWire { a, b, failures: 0 }),
+            Ok((a, b)) => Ok(UdpWire {
+                a,
+                b,
+                failures: Failures::none(),
+            }),
             Err(_) => Err(WireError),
         }
-    }
-
-    fn fail(&mut self) -> WireError
-        ensures { self.new.failures ≡ one_more self.old.failures }
-    {
-        if self.failures < u64::MAX {
-            self.failures += 1;
-        }
-        WireError
     }
 }
 
 impl Wire for UdpWire {
-    ghost failed = { λ wire. wire.failures };
+    ghost failed = { λ wire. wire };
 
     fn send(&mut self, from: Side, bytes: &[u8]) -> Result<(), WireError> {
         let sent = match from {
@@ -48,7 +55,7 @@ impl Wire for UdpWire {
         };
         match sent {
             Ok(count) if count == bytes.len() => Ok(()),
-            _ => Err(self.fail()),
+            _ => Err(self.failures.note()),
         }
     }
 
@@ -59,12 +66,12 @@ impl Wire for UdpWire {
         };
         match received {
             Ok(count) => Ok(count),
-            Err(_) => Err(self.fail()),
+            Err(_) => Err(self.failures.note()),
         }
     }
 
     fn failures(&self) -> u64 {
-        self.failures
+        self.failures.count()
     }
 }
 

@@ -2,9 +2,10 @@
 
 ghost use Rattle.std.specs.Prelude.{◌≡◌, ℕ, ◌≤◌, length, IfOk};
 ghost use Rattle.qs_runs.specs.Logs.{other};
-ghost use Rattle.qs_cli.specs.Carrying.{counted};
+ghost use Rattle.qs_cli.specs.Carrying.{counted, one_more};
 
 use qs_world::Side;
+use std::marker::Model;
 
 /// A call of a wire failed.
 #[derive(Clone, Copy, Debug, PartialEq, Eq, Drop)]
@@ -29,6 +30,47 @@ pub trait Wire {
     /// How many calls failed.
     fn failures(&self) -> u64
         ensures { result ≡ failed self.now };
+}
+
+/// How many calls of a wire failed.
+#[derive(Drop)]
+pub(crate) struct Failures {
+    count: u64,
+}
+
+impl Model for Failures {
+    ghost use Rattle.std.specs.Prelude.{ℕ};
+    ghost use Rattle.std.specs.Coded.{coded_ℕ};
+
+    ghost Value = { ℕ };
+
+    ghost coded = { coded_ℕ };
+
+    ghost view = { λ f. f.count };
+}
+
+impl Failures {
+    pub(crate) fn none() -> Failures
+        ensures { result ≡ 0 }
+    {
+        Failures { count: 0 }
+    }
+
+    /// One call more failed, which is answered so.
+    pub(crate) fn note(&mut self) -> WireError
+        ensures { self.new ≡ one_more self.old }
+    {
+        if self.count < u64::MAX {
+            self.count += 1;
+        }
+        WireError
+    }
+
+    pub(crate) fn count(&self) -> u64
+        ensures { result ≡ self.now }
+    {
+        self.count
+    }
 }
 
 /// The end to which the other end's datagrams come.
