@@ -118,6 +118,10 @@ fn the_oldest_packet_goes(rt: HostRuntime) -> Result<(), Fail> {
     Ok(())
 }
 
+fn next_three(pass: &mut LostPass<'_>, records: &LostRecords) -> [Option<u64>; 3] {
+    [pass.next(records), pass.next(records), pass.next(records)]
+}
+
 // The ranges 8 to 9 and 2 to 4, of which 3 and 9 were lost, and 0 and 6 beside.
 #[test]
 fn a_late_pass_gives_what_the_ranges_name(rt: HostRuntime) -> Result<(), Fail> {
@@ -131,9 +135,7 @@ fn a_late_pass_gives_what_the_ranges_name(rt: HostRuntime) -> Result<(), Fail> {
     assert_eq!(rt; played(&mut records, &steps)?, steps.len());
     let ranges = [1, 2, 2];
     let mut pass = LostPass::new(AckRanges::new(9, &ranges));
-    assert_eq!(rt; pass.next(&records), Some(9));
-    assert_eq!(rt; pass.next(&records), Some(3));
-    assert_eq!(rt; pass.next(&records), None);
+    assert!(rt; next_three(&mut pass, &records) == [Some(9), Some(3), None]);
     assert!(rt; pass.turns() <= 4);
     Ok(())
 }

@@ -6,7 +6,8 @@ ghost use Rattle.std.specs.Prelude.{◌<◌, ◌^◌};
 use qs_conn::{Endpoint, PeerLimits};
 use qs_wire::Role;
 use qs_world::{
-    Closing, Dir, LostFault, Made, MakeFault, OpenFault, Received, Settings, StreamId, UseFault,
+    Closing, Dir, LostFault, Made, MakeFault, OpenFault, Received, Settings, SetupFault, StreamId,
+    UseFault, World, standard_settings,
 };
 use std::alloc::Global;
 use std::test::Fail;
@@ -37,6 +38,28 @@ pub(super) const USUAL_PEER: PeerLimits = PeerLimits {
 /// A server that grants so much.
 pub(super) fn server(alloc: Global, settings: Settings) -> Result<Endpoint, Fail> {
     Ok(Endpoint::new(alloc, Role::Server, settings, USUAL_PEER)?)
+}
+
+/// A world, or why there is none. It is handed on by reference, so that few proofs follow how it is dropped.
+pub(super) type NewWorld = Result<World, SetupFault>;
+
+pub(super) fn new_world(alloc: Global) -> NewWorld {
+    World::new(alloc, standard_settings(), standard_settings())
+}
+
+/// The same of an end.
+pub(super) type NewEnd = Result<Endpoint, SetupFault>;
+
+pub(super) fn new_client(alloc: Global) -> NewEnd {
+    Endpoint::new(alloc, Role::Client, USUAL, USUAL_PEER)
+}
+
+/// What was made.
+pub(super) fn made<T>(new: &mut Result<T, SetupFault>) -> Result<&mut T, SetupFault> {
+    match new {
+        Ok(made) => Ok(made),
+        Err(fault) => Err(*fault),
+    }
 }
 
 pub(super) fn receive(end: &mut Endpoint, number: u64, payload: &[u8]) -> Result<Received, Closing>

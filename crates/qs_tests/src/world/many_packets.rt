@@ -1,9 +1,7 @@
 //! A thousand packets are acknowledged by one range; and of many lost packets the oldest is forgotten.
-use super::ends::{USUAL, USUAL_PEER, lose, make, open, receive, write};
+use super::ends::{NewEnd, lose, made, make, new_client, open, receive, write};
 use qs_conn::Endpoint;
-use qs_wire::Role;
 use qs_world::{Dir, Made, Received, StreamId};
-use std::alloc::Global;
 use std::test::Fail;
 
 /// An ACK of 999 and the 999 numbers below.
@@ -36,15 +34,16 @@ fn makes_room(end: &mut Endpoint, stream: StreamId) -> bool {
     first && second && write(end, stream, b"c") == Ok(0)
 }
 
-fn sends_and_frees(alloc: Global) -> Result<bool, Fail> {
-    let mut end = Endpoint::new(alloc, Role::Client, USUAL, USUAL_PEER)?;
-    let stream = open(&mut end, Dir::Bidi)?;
-    Ok(sends_each(&mut end, stream, 1000) && makes_room(&mut end, stream))
+fn sends_and_frees(new: &mut NewEnd) -> Result<bool, Fail> {
+    let end = made(new)?;
+    let stream = open(end, Dir::Bidi)?;
+    Ok(sends_each(end, stream, 1000) && makes_room(end, stream))
 }
 
 #[test]
 fn a_thousand_packets_are_acknowledged_at_once(rt: HostRuntime) -> Result<(), Fail> {
-    assert!(rt; sends_and_frees(rt.alloc())?);
+    let freed = sends_and_frees(&mut new_client(rt.alloc()));
+    assert!(rt; freed?);
     Ok(())
 }
 
@@ -72,17 +71,18 @@ fn leaves_out_byte_1(end: &mut Endpoint) -> bool {
 }
 
 /// Of 257 packets that were lost the first is forgotten, and the second isn't.
-fn acknowledges_late(alloc: Global) -> Result<bool, Fail> {
-    let mut end = Endpoint::new(alloc, Role::Client, USUAL, USUAL_PEER)?;
-    let stream = open(&mut end, Dir::Bidi)?;
-    let sent = sends_each(&mut end, stream, 257) && loses_each(&mut end, 257);
-    let first = receive(&mut end, 0, LATE_ACKS[0]) == Ok(Received::Done);
-    let second = receive(&mut end, 1, LATE_ACKS[1]) == Ok(Received::Done);
-    Ok(sent && first && second && leaves_out_byte_1(&mut end))
+fn acknowledges_late(new: &mut NewEnd) -> Result<bool, Fail> {
+    let end = made(new)?;
+    let stream = open(end, Dir::Bidi)?;
+    let sent = sends_each(end, stream, 257) && loses_each(end, 257);
+    let first = receive(end, 0, LATE_ACKS[0]) == Ok(Received::Done);
+    let second = receive(end, 1, LATE_ACKS[1]) == Ok(Received::Done);
+    Ok(sent && first && second && leaves_out_byte_1(end))
 }
 
 #[test]
 fn the_257th_lost_packet_makes_the_first_forgotten(rt: HostRuntime) -> Result<(), Fail> {
-    assert!(rt; acknowledges_late(rt.alloc())?);
+    let acknowledged = acknowledges_late(&mut new_client(rt.alloc()));
+    assert!(rt; acknowledged?);
     Ok(())
 }

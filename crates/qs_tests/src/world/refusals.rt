@@ -1,5 +1,6 @@
 //! Two ends where memory is refused: nothing is lost, and the call that is made again succeeds. With each allocation refused in turn, these
 //! tests meet every refusal of a run.
+use super::ends::{NewWorld, made, new_world};
 use super::plays::{LOST_AND_SENT_AGAIN, end, id, ran_short, unused};
 use qs_world::{
     Answer, Event, LaneTotals, PlayFault, Report, Side, World, parse_script, standard_settings,
@@ -70,15 +71,15 @@ fn step_each(alloc: Global, world: &mut World, script: &[u8]) -> Result<(), Fail
     Ok(())
 }
 
-/// What came of the lines of a script in a world.
-fn found_after(alloc: Global, world: &mut World, script: &[u8]) -> Result<Report, Fail> {
+/// What came of the lines of a script in a new world.
+fn found_after(alloc: Global, new: &mut NewWorld, script: &[u8]) -> Result<Report, Fail> {
+    let world = made(new)?;
     step_each(alloc, world, script)?;
     Ok(report(world)?)
 }
 
 fn played(alloc: Global, script: &[u8]) -> Result<Report, Fail> {
-    let mut world = World::new(alloc, standard_settings(), standard_settings())?;
-    found_after(alloc, &mut world, script)
+    found_after(alloc, &mut new_world(alloc), script)
 }
 
 /// Five bytes went from A to B and were acknowledged; nothing went back.

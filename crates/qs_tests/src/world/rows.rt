@@ -11,7 +11,7 @@ mod words;
 
 use calls::call;
 use qs_conn::Endpoint;
-use setups::{Setup, setup_word};
+use setups::{Made, Setup, setup_word};
 use std::alloc::{AllocError, Global};
 use std::str;
 use std::test::Fail;
@@ -56,19 +56,24 @@ fn fault_at(row: &[u8], fault: RowFault) -> Fail {
 
 /// Plays a text; fails at the first row that answers something else.
 pub(super) fn play_rows(alloc: Global, text: &[u8]) -> Result<(), Fail> {
+    let (first, _) = split_line(text);
+    let (words, _) = split_answer(first);
+    match Setup::parse(words) {
+        Ok(setup) => play_made(alloc, &mut setup.end(alloc), text),
+        Err(fault) => Err(fault_at(first, fault)),
+    }
+}
+
+/// The end was made by the text's first row.
+fn play_made(alloc: Global, made: &mut Made, text: &[u8]) -> Result<(), Fail> {
     let (first, rest) = split_line(text);
-    let (words, expected) = split_answer(first);
-    let setup = match Setup::parse(words) {
-        Ok(setup) => setup,
-        Err(fault) => return Err(fault_at(first, fault)),
-    };
-    let made = setup.end(alloc);
-    let word = setup_word(&made);
+    let (_, expected) = split_answer(first);
+    let word = setup_word(made);
     if word.as_bytes() != made_unless(expected) {
         return Err(unlike(first, word));
     }
     match made {
-        Ok(mut end) => play_calls(alloc, &mut end, rest),
+        Ok(end) => play_calls(alloc, end, rest),
         Err(_) => Ok(()),
     }
 }

@@ -1,6 +1,7 @@
 //! Long runs of two ends: random scripts, and busy ones that use up every limit.
 ghost use Rattle.std.specs.Prelude.{◌<◌};
 
+use super::ends::{NewWorld, made, new_world};
 use qs_wire::{Frame, Frames};
 use qs_world::{
     Act, Answer, Dir, Event, Report, Side, StreamId, World, play, random_script, standard_settings,
@@ -161,8 +162,9 @@ fn busy_step(alloc: Global, words: &mut Lcg64Xsh32, world: &mut World) -> Result
     Ok(())
 }
 
-/// What came of 2,000 busy events in a world.
-fn busy_report(alloc: Global, seed: u64, world: &mut World) -> Result<Report, Fail> {
+/// What came of 2,000 busy events in a new world.
+fn busy_report(alloc: Global, seed: u64, new: &mut NewWorld) -> Result<Report, Fail> {
+    let world = made(new)?;
     let mut words = Lcg64Xsh32::new(seed, 0);
     for _ in 0..2000 {
         busy_step(alloc, &mut words, world)?;
@@ -171,8 +173,7 @@ fn busy_report(alloc: Global, seed: u64, world: &mut World) -> Result<Report, Fa
 }
 
 fn busy_run(alloc: Global, seed: u64) -> Result<Report, Fail> {
-    let mut world = World::new(alloc, standard_settings(), standard_settings())?;
-    busy_report(alloc, seed, &mut world)
+    busy_report(alloc, seed, &mut new_world(alloc))
 }
 
 /// A run of 2,000 events comes to its end, and neither end closes.

@@ -19,6 +19,12 @@ pub(super) fn call(end: &mut Endpoint, words: Words, answer: &mut String) -> Res
         b"receive" => receive(end, words, answer),
         b"make" => make(end, words, answer),
         b"lose" => lose(end, words, answer),
+        _ => stream_call(end, words, answer),
+    }
+}
+
+fn stream_call(end: &mut Endpoint, words: Words, answer: &mut String) -> Result<(), RowFault> {
+    match words[0] {
         b"open" => open(end, words, answer),
         b"accept" => accept(end, answer),
         b"write" => write(end, words, answer),
@@ -38,13 +44,19 @@ fn breaking_off(end: &mut Endpoint, words: Words, answer: &mut String) -> Result
 
 fn question(end: &Endpoint, words: Words, answer: &mut String) -> Result<(), RowFault> {
     match words[0] {
+        b"close" => close(end, answer),
+        b"sending" => sending(end, words, answer),
+        b"receiving" => receiving(end, words, answer),
+        _ => credit(end, words, answer),
+    }
+}
+
+fn credit(end: &Endpoint, words: Words, answer: &mut String) -> Result<(), RowFault> {
+    match words[0] {
         b"stored" => tell_number(answer, end.stored()),
         b"granted" => tell_number(answer, end.granted()),
         b"granted_streams" => tell_number(answer, end.granted_streams(dir(words[1])?)),
         b"spent" => tell_number(answer, end.spent()),
-        b"close" => close(end, answer),
-        b"sending" => sending(end, words, answer),
-        b"receiving" => receiving(end, words, answer),
         _ => Err(RowFault::Unreadable),
     }
 }

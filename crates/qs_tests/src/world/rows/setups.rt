@@ -8,6 +8,9 @@ use qs_wire::Role;
 use qs_world::{Settings, SetupFault};
 use std::alloc::Global;
 
+/// An end, or why there is none.
+pub(super) type Made = Result<Endpoint, SetupFault>;
+
 /// What an end is made of.
 #[derive(Clone, Copy, Drop)]
 pub(super) struct Setup {
@@ -50,7 +53,7 @@ impl Setup {
         }
     }
 
-    pub(super) fn end(&self, alloc: Global) -> Result<Endpoint, SetupFault> {
+    pub(super) fn end(&self, alloc: Global) -> Made {
         Endpoint::new(alloc, self.role, self.settings, self.peer)
     }
 }
@@ -111,7 +114,7 @@ fn change_peer(peer: &mut PeerLimits, name: &[u8], value: &[u8]) -> Result<(), R
 }
 
 /// What the making of an end answers.
-pub(super) fn setup_word(made: &Result<Endpoint, SetupFault>) -> &'static str {
+pub(super) fn setup_word(made: &Made) -> &'static str {
     match made {
         Ok(_) => "made",
         Err(SetupFault::OutOfRange) => "out-of-range",
