@@ -1,0 +1,507 @@
+//! Takes the ghosts out of one file. What stays is left as it is, but for the edits that `KINDS.md` lists.
+
+use crate::display;
+use crate::lex::{Kind, Token, tokens};
+
+/// Where a file stands: its crate, and what its paths mean.
+pub struct Place<'a> {
+    pub krate: &'a str,
+    /// The crates that are erased, and so are modules.
+    pub erased: &'a [&'a str],
+    /// Whether functions without parameters and with an empty body are laws.
+    pub laws: bool,
+}
+
+/// What the eraser doesn't know, and the byte of the file at which it stands.
+pub struct Unknown {
+    pub at: usize,
+    pub what: String,
+}
+
+pub type Erased<T> = Result<T, Unknown>;
+
+/// The file's text as Rust.
+pub fn erase(place: &Place<'_>, text: &str) -> Erased<String> {
+    let tokens = tokens(text).map_err(|at| Unknown {
+        at,
+        what: "a token without an end, or a block comment".to_owned(),
+    })?;
+    let mut eraser = Eraser {
+        place,
+        text,
+        tokens,
+        edits: Vec::new(),
+        shim: Vec::new(),
+    };
+    let mut at = 0;
+    while at < eraser.tokens.len() {
+        at = eraser.step(at)?;
+    }
+    eraser.import();
+    Ok(eraser.apply())
+}
+
+/// Names of Rattle's prelude that Rust's has not, or has with another meaning. A macro is named with its sign.
+const PRELUDE: [&str; 10] = [
+    "HostRuntime", "String", "Vec", "assert!", "assert_eq!", "assert_ne!", "format!", "panic!", "vec!",
+    "Box",
+];
+
+/// Crates for which a module of the shim stands.
+const SHIMMED: [&str; 6] = ["std", "byteorder", "hex", "rand_core", "rand_pcg", "clap"];
+
+/// Crates of laws alone.
+const LAWS: [&str; 1] = ["qs_runs"];
+
+/// Calls that take an allocator and that Rust has under the same name without one: the shim's names for them, and the traits that have
+/// them.
+const CALLS: [(&str, &str, &str); 2] = [
+    ("to_vec", "copied_in", "SliceCalls"),
+    ("collect", "collected_in", "IteratorCalls"),
+];
+
+/// Calls of std that take memory and can't fail, or that the shim has under another name where they can. None may stay.
+const BANNED: [&str; 14] = [
+    "alloc", "collect", "concat", "into_boxed_slice", "into_vec", "join", "repeat", "sort", "sort_by",
+    "sort_by_key", "sort_by_cached_key", "to_owned", "to_string", "to_vec",
+];
+
+struct Edit {
+    start: usize,
+    end: usize,
+    new: String,
+}
+
+pub struct Eraser<'a> {
+    place: &'a Place<'a>,
+    pub text: &'a str,
+    pub tokens: Vec<Token>,
+    edits: Vec<Edit>,
+    /// The names of the shim's prelude that the file needs.
+    shim: Vec<&'static str>,
+}
+
+impl<'a> Eraser<'a> {
+    /// Looks at a token, and answers the next one to be looked at.
+    fn step(&mut self, at: usize) -> Erased<usize> {
+        match self.word(at) {
+            "ghost" => self.ghost(at),
+            "#" => self.attribute(at),
+            "impl" if self.is_model(at) => {
+                let open = self.find(at, "{")?;
+                Ok(self.cut_item(at, self.close(open)?))
+            }
+            "fn" if self.is_name(at + 1) => self.function(at),
+            "use" => self.import_of(at),
+            "Drop" => self.bound(at),
+            "requires" | "ensures" | "invariant" | "prove" => self.unknown(at, "a clause here"),
+            _ if self.tokens[at].kind == Kind::Name => self.name(at),
+            sign if sign.is_ascii() => Ok(at + 1),
+            _ if matches!(self.tokens[at].kind, Kind::Text | Kind::Char) => Ok(at + 1),
+            _ => self.unknown(at, "a sign that Rust hasn't"),
+        }
+    }
+
+    /// A ghost import, member or field.
+    fn ghost(&mut self, at: usize) -> Erased<usize> {
+        if self.word(at + 1) == "use" {
+            let end = self.find(at, ";")?;
+            return Ok(self.cut_item(at, end));
+        }
+        if !self.is_name(at + 1) || !matches!(self.word(at + 2), ":" | "=") {
+            return self.unknown(at, "a ghost");
+        }
+        if self.word(at + 3) != "{" {
+            return self.unknown(at, "a ghost without braces");
+        }
+        let end = self.close(at + 3)? + 1;
+        match self.word(end) {
+            ";" | "," => Ok(self.cut_item(at, end)),
+            _ => self.unknown(end, "an end of a ghost"),
+        }
+    }
+
+    fn attribute(&mut self, at: usize) -> Erased<usize> {
+        let open = if self.word(at + 1) == "!" {
+            at + 2
+        } else {
+            at + 1
+        };
+        let close = self.close(open)?;
+        match self.word(open + 1) {
+            "tactic" => Ok(self.cut_lines(at, close)),
+            "error" => Ok(self.cut_item(at, close)),
+            "derive" => self.derive(at, open + 2, close),
+            "test" => self.test(close + 1),
+            "cfg" | "default" => Ok(close + 1),
+            _ => self.unknown(open + 1, "an attribute"),
+        }
+    }
+
+    /// Derives without those that Rust hasn't; for an error's the impls that it stands for.
+    fn derive(&mut self, at: usize, open: usize, close: usize) -> Erased<usize> {
+        let all: Vec<&str> = (open + 1..close - 1)
+            .map(|i| self.word(i))
+            .filter(|word| *word != ",")
+            .collect();
+        let kept: Vec<&str> = all
+            .iter()
+            .copied()
+            .filter(|word| !matches!(*word, "Drop" | "Error"))
+            .collect();
+        if all.contains(&"Error") {
+            let (end, impls) = display::impls(self, close + 1)?;
+            let end = self.tokens[end].end;
+            self.edits.push(edit(end, end, format!("\n\n{impls}")));
+        }
+        if kept.is_empty() {
+            return Ok(self.cut_lines(at, close));
+        }
+        if kept.len() < all.len() {
+            let (start, end) = (self.tokens[open].end, self.tokens[close - 1].start);
+            self.edits.push(edit(start, end, kept.join(", ")));
+        }
+        Ok(close + 1)
+    }
+
+    /// A test gets its runtime from the shim, and not as a parameter.
+    fn test(&mut self, at: usize) -> Erased<usize> {
+        let params = at + 2;
+        if self.word(at) != "fn" || self.word(params) != "(" {
+            return self.unknown(at, "a test");
+        }
+        let close = self.close(params)?;
+        if close > params + 1 {
+            if self.words(params + 1, close) != ["rt", ":", "HostRuntime"] {
+                return self.unknown(params, "the parameters of a test");
+            }
+            let (start, end) = (self.tokens[params].end, self.tokens[close].start);
+            self.edits.push(edit(start, end, String::new()));
+            let body = self.find(close, "{")?;
+            let end = self.tokens[body].end;
+            self.edits
+                .push(edit(end, end, "\n    let rt = HostRuntime::new();".to_owned()));
+            self.need("HostRuntime");
+        }
+        Ok(close + 1)
+    }
+
+    /// A function loses its contract. A law goes whole.
+    fn function(&mut self, at: usize) -> Erased<usize> {
+        let mut end = at + 2;
+        while !matches!(self.word(end), "{" | ";" | "requires" | "ensures") {
+            end = match self.word(end) {
+                "(" | "[" => self.close(end)? + 1,
+                "" => return self.unknown(at, "a function without an end"),
+                _ => end + 1,
+            };
+        }
+        let mut body = end;
+        while matches!(self.word(body), "requires" | "ensures") {
+            let open = body + 1 + usize::from(self.is_name(body + 1));
+            if self.word(open) != "{" {
+                return self.unknown(body, "a clause");
+            }
+            body = self.close(open)? + 1;
+        }
+        if !matches!(self.word(body), "{" | ";") {
+            return self.unknown(body, "an end of a contract");
+        }
+        if self.place.laws && self.is_law(at, end, body) {
+            return Ok(self.cut_item(at - 1, body + 1));
+        }
+        if body > end {
+            let gap = if self.word(body) == "{" { " " } else { "" };
+            let (start, end) = (self.tokens[end - 1].end, self.tokens[body].start);
+            self.edits.push(edit(start, end, gap.to_owned()));
+        }
+        self.signature(at + 1, end)?;
+        Ok(body)
+    }
+
+    fn signature(&mut self, from: usize, to: usize) -> Erased<()> {
+        let mut at = from;
+        while at < to {
+            at = self.step(at)?;
+        }
+        Ok(())
+    }
+
+    fn is_law(&self, at: usize, end: usize, body: usize) -> bool {
+        self.word(at - 1) == "pub"
+            && self.words(at + 2, end) == ["(", ")"]
+            && body > end
+            && self.words(body, body + 2) == ["{", "}"]
+    }
+
+    /// An import of what only proofs need goes.
+    fn import_of(&mut self, at: usize) -> Erased<usize> {
+        let end = self.find(at, ";")?;
+        let path = self.words(at + 1, end).concat();
+        let is_public = self.word(at - usize::from(at > 0)) == "pub";
+        let first = at - usize::from(is_public);
+        if matches!(path.as_str(), "std::marker::Model" | "thiserror::Error")
+            || LAWS.contains(&self.word(at + 1))
+        {
+            return Ok(self.cut_item(first, end));
+        }
+        self.signature(at + 1, end)?;
+        Ok(end)
+    }
+
+    /// `Drop` as a bound or the base of a trait.
+    fn bound(&mut self, at: usize) -> Erased<usize> {
+        let (from, to) = match (self.word(at - 1), self.word(at + 1)) {
+            (":", "+") => (at, at + 1),
+            (":", ">" | "," | "{") => (at - 1, at),
+            ("+", ">" | "," | "{" | "+") => (at - 1, at),
+            _ => return self.unknown(at, "a bound"),
+        };
+        let (mut start, mut end) = (self.tokens[from].start, self.tokens[to].end);
+        if from == at {
+            end = self.tokens[to + 1].start;
+        } else {
+            start = start.min(self.tokens[from - 1].end);
+        }
+        self.edits.push(edit(start, end, String::new()));
+        Ok(at + 1)
+    }
+
+    /// A name: the first of a path, one of the prelude, or a call.
+    fn name(&mut self, at: usize) -> Erased<usize> {
+        let word = self.word(at);
+        let before = self.word_before(at);
+        if self.is_sign(at + 1, "::") && !(at >= 2 && self.is_sign(at - 2, "::")) {
+            return self.path(at);
+        }
+        if before == "." && self.word(at + 1) == "(" {
+            if self.word(at + 2) != ")"
+                && let Some((_, new, owner)) = CALLS.iter().find(|(old, _, _)| *old == word)
+            {
+                let Token { start, end, .. } = self.tokens[at];
+                self.edits.push(edit(start, end, (*new).to_owned()));
+                self.need(owner);
+            } else if BANNED.contains(&word) && !(word == "alloc" && self.is_runtime(at)) {
+                return self.unknown(at, "a call that takes memory and can't fail");
+            }
+            return Ok(at + 1);
+        }
+        let is_macro = self.word(at + 1) == "!" && self.word(at + 2) != "=";
+        for name in PRELUDE {
+            let needed = match name.strip_suffix('!') {
+                Some(bare) => is_macro && bare == word,
+                None => name == word,
+            };
+            if needed {
+                self.need(name);
+            }
+        }
+        Ok(at + 1)
+    }
+
+    /// `rt.alloc()`.
+    fn is_runtime(&self, at: usize) -> bool {
+        at >= 2 && self.word(at - 2) == "rt"
+    }
+
+    /// The first name of a path says which crate it is in.
+    fn path(&mut self, at: usize) -> Erased<usize> {
+        let word = self.word(at);
+        let Token { start, end, .. } = self.tokens[at];
+        if word == "crate" {
+            let new = format!("crate::proved::{}", self.place.krate);
+            self.edits.push(edit(start, end, new));
+        } else if self.place.erased.contains(&word) {
+            self.edits
+                .push(edit(start, start, "crate::proved::".to_owned()));
+        } else if word == "std" {
+            self.edits.push(edit(start, end, "crate::shim".to_owned()));
+        } else if SHIMMED.contains(&word) {
+            self.edits
+                .push(edit(start, start, "crate::shim::".to_owned()));
+        } else if word.starts_with("qs_") || word == "core" || word == "alloc" {
+            return self.unknown(at, "a crate");
+        } else if PRELUDE.contains(&word) {
+            self.need(PRELUDE[PRELUDE.iter().position(|name| *name == word).unwrap_or(0)]);
+        }
+        Ok(at + 1)
+    }
+
+    fn need(&mut self, name: &'static str) {
+        if !self.shim.contains(&name) {
+            self.shim.push(name);
+        }
+    }
+
+    /// Imports what the file needs of the shim's prelude, before its first item.
+    fn import(&mut self) {
+        self.shim.sort_unstable();
+        let names: Vec<&str> = self
+            .shim
+            .iter()
+            .map(|name| name.trim_end_matches('!'))
+            .collect();
+        let import = match names.as_slice() {
+            [] => return,
+            [name] => format!("use crate::shim::{name};\n"),
+            names => format!("use crate::shim::{{{}}};\n", names.join(", ")),
+        };
+        let mut at = 0;
+        for line in self.text.split_inclusive('\n') {
+            if !line.starts_with("//!") && !line.starts_with("#!") && !line.trim().is_empty() {
+                break;
+            }
+            at += line.len();
+        }
+        self.edits.push(edit(at, at, import));
+    }
+
+    /// The text with its edits. Blank lines that follow one another become one.
+    fn apply(mut self) -> String {
+        self.edits.sort_by_key(|edit| (edit.start, edit.end));
+        let mut out = String::new();
+        let mut from = 0;
+        for edit in &self.edits {
+            if edit.start < from {
+                continue;
+            }
+            out.push_str(&self.text[from..edit.start]);
+            out.push_str(&edit.new);
+            from = edit.end;
+            let starts = out.is_empty() || out.ends_with("\n\n") || out.ends_with("{\n");
+            if starts && edit.end > edit.start && edit.new.is_empty() {
+                let rest = &self.text[from..];
+                from += rest.len() - rest.trim_start_matches('\n').len();
+            }
+        }
+        out.push_str(&self.text[from..]);
+        out
+    }
+
+    /// Takes an item out, with the comments above it.
+    fn cut_item(&mut self, first: usize, last: usize) -> usize {
+        let mut start = self.line_start(self.tokens[first].start);
+        while start > 0 {
+            let above = self.line_start(start - 1);
+            let line = self.text[above..start].trim_start();
+            let is_comment = line.starts_with("//") && !line.starts_with("//!");
+            if !is_comment && !line.starts_with("#[error") {
+                break;
+            }
+            start = above;
+        }
+        if self.word(first) == "#" {
+            start = self.line_start(self.tokens[first].start);
+        }
+        self.cut(start, last)
+    }
+
+    /// Takes the lines of tokens out.
+    fn cut_lines(&mut self, first: usize, last: usize) -> usize {
+        self.cut(self.line_start(self.tokens[first].start), last)
+    }
+
+    fn cut(&mut self, start: usize, last: usize) -> usize {
+        let end = self.tokens[last].end;
+        let rest = &self.text[end..];
+        let line = rest.find('\n').map_or(rest.len(), |at| at + 1);
+        let (start, end) = if rest[..line].trim().is_empty() {
+            (start, end + line)
+        } else {
+            (self.tokens[last].end, end)
+        };
+        self.edits.push(edit(start, end, String::new()));
+        last + 1
+    }
+
+    fn line_start(&self, at: usize) -> usize {
+        self.text[..at].rfind('\n').map_or(0, |feed| feed + 1)
+    }
+
+    fn is_model(&self, at: usize) -> bool {
+        let mut at = at + 1;
+        if self.word(at) == "<" {
+            let mut depth = 0;
+            loop {
+                match self.word(at) {
+                    "<" => depth += 1,
+                    ">" => depth -= 1,
+                    "" => return false,
+                    _ => {}
+                }
+                at += 1;
+                if depth == 0 {
+                    break;
+                }
+            }
+        }
+        self.word(at) == "Model" && self.word(at + 1) == "for"
+    }
+
+    /// The next token of that text, over what stands in brackets.
+    fn find(&self, from: usize, word: &str) -> Erased<usize> {
+        let mut at = from;
+        loop {
+            match self.word(at) {
+                found if found == word => return Ok(at),
+                "(" | "[" | "{" => at = self.close(at)? + 1,
+                "" => return self.unknown(from, "an item without an end"),
+                _ => at += 1,
+            }
+        }
+    }
+
+    /// The bracket that closes this one.
+    pub fn close(&self, open: usize) -> Erased<usize> {
+        let mut depth = 0;
+        for at in open..self.tokens.len() {
+            match self.word(at) {
+                "(" | "[" | "{" => depth += 1,
+                ")" | "]" | "}" => depth -= 1,
+                _ => {}
+            }
+            if depth == 0 {
+                return Ok(at);
+            }
+        }
+        self.unknown(open, "a bracket that isn't closed")
+    }
+
+    /// The token's text, empty past the end.
+    pub fn word(&self, at: usize) -> &'a str {
+        self.tokens
+            .get(at)
+            .map_or("", |token| &self.text[token.start..token.end])
+    }
+
+    fn word_before(&self, at: usize) -> &'a str {
+        at.checked_sub(1).map_or("", |at| self.word(at))
+    }
+
+    fn words(&self, from: usize, to: usize) -> Vec<&'a str> {
+        (from..to).map(|at| self.word(at)).collect()
+    }
+
+    fn is_name(&self, at: usize) -> bool {
+        self.tokens.get(at).is_some_and(|token| token.kind == Kind::Name)
+    }
+
+    /// Whether a sign of several characters stands here.
+    fn is_sign(&self, at: usize, sign: &str) -> bool {
+        self.tokens
+            .get(at)
+            .is_some_and(|token| self.text[token.start..].starts_with(sign))
+    }
+
+    pub fn unknown<T>(&self, at: usize, what: &str) -> Erased<T> {
+        let at = at.min(self.tokens.len().saturating_sub(1));
+        Err(Unknown {
+            at: self.tokens.get(at).map_or(0, |token| token.start),
+            what: format!("{what}: '{}'", self.word(at)),
+        })
+    }
+}
+
+fn edit(start: usize, end: usize, new: String) -> Edit {
+    Edit { start, end, new }
+}

@@ -1,0 +1,148 @@
+//! Makes the Rust sources of gotsavena from the proved ones, with their ghosts erased.
+//!
+//! It reads `crates/*/src/**/*.rt` and writes `rust/src/proved` and `rust/qstream/src/proved`. With the word `--check` it writes nothing,
+//! and fails where a file isn't what it would write.
+
+mod display;
+mod erase;
+mod lex;
+
+use crate::erase::{Place, erase};
+use std::collections::BTreeMap;
+use std::path::{Path, PathBuf};
+use std::process::ExitCode;
+use std::{env, fs};
+
+/// The crates that the library is made of, and where they go.
+const LIBRARY: [&str; 7] = [
+    "qs_wire", "qs_ranges", "qs_recv", "qs_send", "qs_calls", "qs_machine", "qs_conn",
+];
+
+const LIBRARY_FOLDER: &str = "rust/src/proved";
+
+/// The crates of the program and of its tests.
+const PROGRAM: [&str; 4] = ["qs_world", "qs_cli", "qs_tool", "qs_tests"];
+
+const PROGRAM_FOLDER: &str = "rust/qstream/src/proved";
+
+fn main() -> ExitCode {
+    let top = Path::new(env!("CARGO_MANIFEST_DIR")).join("../..");
+    let is_check = env::args().skip(1).any(|word| word == "--check");
+    match run(&top, is_check) {
+        Ok(count) => {
+            println!("erase: {count} files");
+            ExitCode::SUCCESS
+        }
+        Err(message) => {
+            eprintln!("erase: {message}");
+            ExitCode::FAILURE
+        }
+    }
+}
+
+fn run(top: &Path, is_check: bool) -> Result<usize, String> {
+    let erased: Vec<&str> = LIBRARY.iter().chain(&PROGRAM).copied().collect();
+    let mut made = BTreeMap::new();
+    for krate in &LIBRARY {
+        make(top, krate, &erased, LIBRARY_FOLDER, &mut made)?;
+    }
+    for krate in &PROGRAM {
+        make(top, krate, &erased, PROGRAM_FOLDER, &mut made)?;
+    }
+    for folder in [LIBRARY_FOLDER, PROGRAM_FOLDER] {
+        keep_only(top, Path::new(folder), &made, is_check)?;
+    }
+    for (path, text) in &made {
+        put(&top.join(path), text, is_check)?;
+    }
+    Ok(made.len())
+}
+
+/// Makes the files of a crate.
+fn make(
+    top: &Path,
+    krate: &str,
+    erased: &[&str],
+    folder: &str,
+    made: &mut BTreeMap<PathBuf, String>,
+) -> Result<(), String> {
+    let source = Path::new("crates").join(krate).join("src");
+    for path in files(&top.join(&source), "rt")? {
+        let inner = path.strip_prefix(top.join(&source)).map_err(|e| e.to_string())?;
+        let from = source.join(inner);
+        let text = fs::read_to_string(&path).map_err(|e| format!("{}: {e}", from.display()))?;
+        let place = Place {
+            krate,
+            erased,
+            laws: inner == Path::new("laws.rt"),
+        };
+        let rust = erase(&place, &text).map_err(|unknown| {
+            let line = text[..unknown.at].matches('\n').count() + 1;
+            format!("{}:{line}: {}", from.display(), unknown.what)
+        })?;
+        let to = if inner == Path::new("lib.rt") || inner == Path::new("main.rt") {
+            PathBuf::from("mod.rs")
+        } else {
+            inner.with_extension("rs")
+        };
+        let head = format!(
+            "// Made from {} by rust/erase; not edited by hand.\n",
+            from.display()
+        );
+        made.insert(Path::new(folder).join(krate).join(to), head + &rust);
+    }
+    Ok(())
+}
+
+/// Files of folders that a made file doesn't stand for are taken away. The modules' root is made by hand.
+fn keep_only(
+    top: &Path,
+    folder: &Path,
+    made: &BTreeMap<PathBuf, String>,
+    is_check: bool,
+) -> Result<(), String> {
+    if !top.join(folder).exists() {
+        return Ok(());
+    }
+    for path in files(&top.join(folder), "rs")? {
+        let inner = path.strip_prefix(top).map_err(|e| e.to_string())?;
+        if made.contains_key(inner) || inner == folder.join("mod.rs") {
+            continue;
+        }
+        if is_check {
+            return Err(format!("{} is made from nothing", inner.display()));
+        }
+        fs::remove_file(&path).map_err(|e| format!("{}: {e}", inner.display()))?;
+    }
+    Ok(())
+}
+
+fn put(path: &Path, text: &str, is_check: bool) -> Result<(), String> {
+    let told = |e: &dyn std::fmt::Display| format!("{}: {e}", path.display());
+    if fs::read_to_string(path).is_ok_and(|old| old == text) {
+        return Ok(());
+    }
+    if is_check {
+        return Err(told(&"it isn't what would be made"));
+    }
+    if let Some(folder) = path.parent() {
+        fs::create_dir_all(folder).map_err(|e| told(&e))?;
+    }
+    fs::write(path, text).map_err(|e| told(&e))
+}
+
+/// The files of that kind in a folder and those below it, by their names.
+fn files(folder: &Path, kind: &str) -> Result<Vec<PathBuf>, String> {
+    let told = |e: std::io::Error| format!("{}: {e}", folder.display());
+    let mut found = Vec::new();
+    for entry in fs::read_dir(folder).map_err(told)? {
+        let path = entry.map_err(told)?.path();
+        if path.is_dir() {
+            found.append(&mut files(&path, kind)?);
+        } else if path.extension().is_some_and(|it| it == kind) {
+            found.push(path);
+        }
+    }
+    found.sort();
+    Ok(found)
+}

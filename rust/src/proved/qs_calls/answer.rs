@@ -1,0 +1,27 @@
+// Made from crates/qs_calls/src/answer.rt by rust/erase; not edited by hand.
+//! What the ends answer.
+
+use crate::shim::Vec;
+use crate::proved::qs_calls::closing::{Closing, Received};
+use crate::proved::qs_calls::making::{LostFault, Made, MakeFault};
+use crate::proved::qs_calls::uses::{OpenFault, UseFault};
+use crate::proved::qs_recv::Read;
+use crate::proved::qs_wire::StreamId;
+
+/// What the call answered, for each act.
+#[derive(Debug, PartialEq, Eq)]
+pub enum Answer {
+    OpenStream(Result<StreamId, OpenFault>),
+    Accept(Option<StreamId>),
+    Write(Result<usize, UseFault>),
+    Finish(Result<(), UseFault>),
+    Reset(Result<(), UseFault>),
+    Stop(Result<(), UseFault>),
+    /// With the bytes that were read.
+    ReadUpTo(Result<Read, UseFault>, Vec<u8>),
+    /// With the payload.
+    Make(Result<Option<Made>, MakeFault>, Vec<u8>),
+    Lose(Result<(), LostFault>),
+    /// Of the end that the payload came to.
+    Deliver(Result<Received, Closing>),
+}

@@ -1,0 +1,18 @@
+// Made from crates/qs_calls/src/lib.rt by rust/erase; not edited by hand.
+//! The calls of an end as values: what it is set to, what may be asked of it, and what it answers.
+
+mod answer;
+mod closing;
+mod event;
+mod making;
+mod report;
+mod settings;
+mod uses;
+
+pub use answer::Answer;
+pub use closing::{Closed, Closing, Received};
+pub use event::{Act, Event, MAX_BYTES, MAX_ROOM, MAX_VARINT, MIN_ROOM, Side};
+pub use making::{LostFault, Made, MakeFault};
+pub use report::{LaneReport, RecvReport, SendReport};
+pub use settings::{PeerLimits, Settings, SetupFault};
+pub use uses::{OpenFault, UseFault};

@@ -1,0 +1,36 @@
+// Made from crates/qs_calls/src/report.rt by rust/erase; not edited by hand.
+//! What an end tells of a stream.
+
+use crate::proved::qs_recv::RecvState;
+use crate::proved::qs_send::SendState;
+
+/// The halves of a stream at this end.
+#[derive(Clone, Copy, Debug, PartialEq, Eq)]
+pub struct LaneReport {
+    pub send: Option<SendReport>,
+    pub recv: Option<RecvReport>,
+}
+
+/// A sending half (RFC 9000, section 3.1).
+#[derive(Clone, Copy, Debug, PartialEq, Eq)]
+pub struct SendReport {
+    pub state: SendState,
+    /// How many bytes were accepted.
+    pub written: u64,
+    /// The final size, once it is declared.
+    pub final_size: Option<u64>,
+}
+
+/// A receiving half (RFC 9000, section 3.2).
+#[derive(Clone, Copy, Debug, PartialEq, Eq)]
+pub struct RecvReport {
+    pub state: RecvState,
+    /// How many bytes were read.
+    pub read_count: u64,
+    /// The final size if known, else one more than the largest received offset, or 0.
+    pub highest: u64,
+    /// The limit on offsets that was granted.
+    pub limit: u64,
+    /// The final size, once it is known.
+    pub final_size: Option<u64>,
+}

@@ -1,0 +1,83 @@
+// Made from crates/qs_calls/src/settings.rt by rust/erase; not edited by hand.
+//! What an end is set to, and what it tells the other one.
+
+/// The credit that an end grants, and the size of its sending buffers. Windows and sizes are in bytes, counts in streams.
+#[derive(Clone, Copy, Debug, PartialEq, Eq)]
+pub struct Settings {
+    /// How far the bytes received on all streams may run ahead of those taken (RFC 9000, section 4.1).
+    pub conn_window: u64,
+    /// The same for each bidirectional stream that this end opens.
+    pub bidi_local: u64,
+    /// The same for each bidirectional stream that the peer opens.
+    pub bidi_remote: u64,
+    /// The same for each unidirectional stream that the peer opens.
+    pub uni: u64,
+    /// How many bytes that aren't acknowledged each sending half keeps.
+    pub send_buffer: usize,
+    /// How many bidirectional streams the peer may open (section 4.6).
+    pub grant_bidi: u64,
+    /// How many unidirectional streams the peer may open.
+    pub grant_uni: u64,
+    /// How many bidirectional streams the peer may open in all, as those that it opened come to their end.
+    pub lifetime_bidi: u64,
+    /// The same of unidirectional streams.
+    pub lifetime_uni: u64,
+}
+
+/// The limits that an end begins with, as its peer grants them (RFC 9000, section 18.2). `local` and `remote` are seen from the
+/// end that grants.
+#[derive(Clone, Copy, Debug, PartialEq, Eq)]
+pub struct PeerLimits {
+    pub max_data: u64,
+    pub bidi_local: u64,
+    pub bidi_remote: u64,
+    pub uni: u64,
+    pub streams_bidi: u64,
+    pub streams_uni: u64,
+}
+
+/// Why no end can be made.
+#[derive(Clone, Copy, Debug, PartialEq, Eq)]
+pub enum SetupFault {
+    /// A setting lies outside its range, or a limit of the peer above 2^62-1.
+    OutOfRange,
+    /// The peer grants more than 2^60 streams of one direction (RFC 9000, section 4.6).
+    TooManyStreams,
+}
+
+impl core::fmt::Display for SetupFault {
+    fn fmt(&self, f: &mut core::fmt::Formatter<'_>) -> core::fmt::Result {
+        match self {
+            Self::OutOfRange => f.write_str("a setting is out of its range"),
+            Self::TooManyStreams => f.write_str("the peer allows too many streams"),
+        }
+    }
+}
+
+impl core::error::Error for SetupFault {}
+
+impl Settings {
+    /// What the other end is told of these settings.
+    pub fn limits(&self) -> PeerLimits {
+        PeerLimits {
+            max_data: self.conn_window,
+            bidi_local: self.bidi_local,
+            bidi_remote: self.bidi_remote,
+            uni: self.uni,
+            streams_bidi: self.grant_bidi,
+            streams_uni: self.grant_uni,
+        }
+    }
+}
+
+impl SetupFault {
+    /// The code with which the connection is refused, where the peer is at fault.
+    pub fn code(self) -> Option<u64> {
+        match self {
+            SetupFault::OutOfRange => None,
+            SetupFault::TooManyStreams => Some(TRANSPORT_PARAMETER_ERROR),
+        }
+    }
+}
+
+const TRANSPORT_PARAMETER_ERROR: u64 = 0x08;

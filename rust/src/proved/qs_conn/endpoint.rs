@@ -1,0 +1,204 @@
+// Made from crates/qs_conn/src/endpoint.rt by rust/erase; not edited by hand.
+//! One end of a connection.
+
+use crate::proved::qs_conn::ended::EndedStreams;
+use crate::proved::qs_conn::outbox::Outbox;
+use crate::proved::qs_conn::places::kind_of;
+use crate::proved::qs_conn::recv_tables::RecvTables;
+use crate::proved::qs_conn::setup::setup_fault;
+use crate::proved::qs_calls::{Closed, Closing, PeerLimits, Settings, SetupFault};
+use crate::proved::qs_ranges::RangeSet;
+use crate::proved::qs_wire::{Dir, Frame, Role, StreamId, put};
+use crate::shim::alloc::Global;
+
+mod acking;
+mod frames;
+mod losing;
+mod making;
+mod opening;
+mod owner;
+mod receiving;
+mod recording;
+mod taking;
+
+/// One end of a connection. It takes in the payloads of packets and makes packets, and its owner opens, accepts, writes,
+/// finishes, resets, reads and stops streams, and declares packets lost (RFC 9000, sections 2 to 4 and 13).
+///
+/// Contracts see the end as a record.
+pub struct Endpoint {
+    role: Role,
+    settings: Settings,
+    peer: PeerLimits,
+    outbox: Outbox,
+    recvs: RecvTables,
+    granted: u64,
+    granted_bidi: u64,
+    granted_uni: u64,
+    ended: EndedStreams,
+    known_data: u64,
+    known_bidi: u64,
+    known_uni: u64,
+    accepted_bidi: u64,
+    accepted_uni: u64,
+    wanted_bidi: Option<u64>,
+    wanted_uni: Option<u64>,
+    done: RangeSet,
+    floor: u64,
+    ack_due: bool,
+    closed: Option<Closed>,
+}
+
+impl Endpoint {
+    /// A new end. Refused where a setting is out of its range, or where the peer allows more streams than have a number (RFC 9000,
+    /// section 4.6).
+    pub fn new(
+        alloc: Global,
+        role: Role,
+        settings: Settings,
+        peer: PeerLimits,
+    ) -> Result<Endpoint, SetupFault> {
+        if let Some(fault) = setup_fault(&settings, &peer) {
+            return Err(fault);
+        }
+        Ok(Endpoint {
+            role,
+            settings,
+            peer,
+            outbox: Outbox::new(alloc),
+            recvs: RecvTables::new(alloc),
+            granted: settings.conn_window,
+            granted_bidi: settings.grant_bidi,
+            granted_uni: settings.grant_uni,
+            ended: EndedStreams { bidi: 0, uni: 0 },
+            known_data: peer.max_data,
+            known_bidi: peer.streams_bidi,
+            known_uni: peer.streams_uni,
+            accepted_bidi: 0,
+            accepted_uni: 0,
+            wanted_bidi: None,
+            wanted_uni: None,
+            done: RangeSet::new(alloc),
+            floor: 0,
+            ack_due: false,
+            closed: None,
+        })
+    }
+
+    /// How many bytes are stored: at most what was granted and isn't taken.
+    pub fn stored(&self) -> u64 {
+        let _granted = self.granted;
+        self.recvs.tally().stored
+    }
+
+    /// The connection limit granted to the peer (RFC 9000, section 4.1).
+    pub fn granted(&self) -> u64 {
+        self.granted
+    }
+
+    /// How many streams of a direction the peer may open: the grant, and one more for each of its streams that came to its end, up to
+    /// the lifetime's count (RFC 9000, section 4.6). It takes no memory.
+    pub fn granted_streams(&self, dir: Dir) -> u64 {
+        match dir {
+            Dir::Bidi => self.granted_bidi,
+            Dir::Uni => self.granted_uni,
+        }
+    }
+
+    /// The sum of the highest offsets of all streams, which the connection limit bounds.
+    pub fn spent(&self) -> u64 {
+        let _granted = self.granted;
+        self.recvs.tally().spent
+    }
+
+    /// Writes the payload that tells of this end's own closing: a CONNECTION_CLOSE with an empty reason (RFC 9000, section 10.2).
+    /// Answers its length. `None` where this end didn't close, or where it doesn't fit; then nothing is written.
+    pub fn close_payload(&self, out: &mut [u8]) -> Option<usize> {
+        let Some(Closed::ByUs(closing)) = self.closed else {
+            return None;
+        };
+        put_close(closing, out)
+    }
+
+    // Each limit becomes the next one, and each granted count of streams.
+    fn settle(&mut self) {
+        let _granted = self.granted;
+        self.recvs.raise_all();
+        let taken = self.recvs.tally().taken;
+        let settings = &self.settings;
+        self.granted = next_limit(self.granted, taken, settings.conn_window);
+        self.granted_bidi = next_count(
+            settings.grant_bidi,
+            settings.lifetime_bidi,
+            self.ended.bidi,
+        );
+        self.granted_uni = next_count(settings.grant_uni, settings.lifetime_uni, self.ended.uni);
+    }
+
+    // Whether this end opens the stream.
+    fn is_own(&self, stream: StreamId) -> bool {
+        kind_of(stream) % 2 == role_bit(self.role)
+    }
+
+    // The window of a receiving half, which is its first limit too.
+    fn window(&self, stream: StreamId) -> u64 {
+        if is_uni(stream) {
+            self.settings.uni
+        } else if self.is_own(stream) {
+            self.settings.bidi_local
+        } else {
+            self.settings.bidi_remote
+        }
+    }
+
+    // The limit with which a sending half begins.
+    fn first_send_limit(&self, stream: StreamId) -> u64 {
+        if is_uni(stream) {
+            self.peer.uni
+        } else if self.is_own(stream) {
+            self.peer.bidi_remote
+        } else {
+            self.peer.bidi_local
+        }
+    }
+}
+
+// The bit that names the initiator (RFC 9000, section 2.1).
+pub(crate) fn role_bit(role: Role) -> usize {
+    match role {
+        Role::Client => 0,
+        Role::Server => 1,
+    }
+}
+
+// Whether only the initiator sends (RFC 9000, section 2.1).
+pub(crate) fn is_uni(stream: StreamId) -> bool {
+    kind_of(stream) >= 2
+}
+
+// The limit that follows, where so much was taken of a window (RFC 9000, section 4.2).
+fn next_limit(limit: u64, taken: u64, window: u64) -> u64 {
+    let next = (taken + window).min((1 << 62) - 1);
+    let step = (window / 2).max(1);
+    if limit + step <= next || (next == (1 << 62) - 1 && limit < next) {
+        next
+    } else {
+        limit
+    }
+}
+
+// How many streams may be opened, where so many came to their end (RFC 9000, section 4.6).
+fn next_count(grant: u64, lifetime: u64, ended: u64) -> u64 {
+    grant + ended.min(lifetime - grant)
+}
+
+fn put_close(closing: Closing, out: &mut [u8]) -> Option<usize> {
+    let frame = Frame::ConnectionClose {
+        code: closing.code,
+        frame_type: closing.frame_type,
+        reason: &[],
+    };
+    match put(&frame, out) {
+        Ok(len) => Some(len),
+        Err(_full) => None,
+    }
+}

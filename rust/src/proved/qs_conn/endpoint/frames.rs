@@ -1,0 +1,156 @@
+// Made from crates/qs_conn/src/endpoint/frames.rt by rust/erase; not edited by hand.
+//! What the frames of a payload do.
+
+use super::{Endpoint, is_uni};
+use crate::proved::qs_recv::{Highest, RecvFault};
+use crate::proved::qs_wire::{Frame, StreamId};
+
+// Codes of errors (RFC 9000, section 20.1).
+const FLOW_CONTROL_ERROR: u64 = 0x03;
+
+const STREAM_LIMIT_ERROR: u64 = 0x04;
+
+const STREAM_STATE_ERROR: u64 = 0x05;
+
+const FINAL_SIZE_ERROR: u64 = 0x06;
+
+const PROTOCOL_VIOLATION: u64 = 0x0a;
+
+impl Endpoint {
+    // The code with which a frame closes the connection.
+    pub(super) fn verdict(&self, frame: &Frame<'_>) -> Option<u64> {
+        match *frame {
+            Frame::Padding
+            | Frame::Ping
+            | Frame::Crypto { .. }
+            | Frame::NewToken { .. }
+            | Frame::MaxData { .. }
+            | Frame::MaxStreams { .. }
+            | Frame::DataBlocked { .. }
+            | Frame::StreamsBlocked { .. }
+            | Frame::NewConnectionId { .. }
+            | Frame::RetireConnectionId { .. }
+            | Frame::PathChallenge { .. }
+            | Frame::PathResponse { .. }
+            | Frame::ConnectionClose { .. }
+            | Frame::ApplicationClose { .. }
+            | Frame::HandshakeDone => None,
+            Frame::Ack { largest, .. } => self.ack_fault(largest),
+            Frame::Stream {
+                stream,
+                offset,
+                fin,
+                bytes,
+            } => self.stream_fault(stream, offset, bytes, fin),
+            Frame::ResetStream {
+                stream,
+                final_size,
+                ..
+            } => self.reset_fault(stream, final_size),
+            Frame::StreamDataBlocked { stream, .. } => self.state_fault_in(stream),
+            Frame::StopSending { stream, .. } => self.state_fault_out(stream),
+            Frame::MaxStreamData { stream, .. } => self.state_fault_out(stream),
+        }
+    }
+
+    // Of an ACK, which may name no number that wasn't used (RFC 9000, section 13.1).
+    fn ack_fault(&self, largest: u64) -> Option<u64> {
+        if largest >= self.outbox.next() {
+            Some(PROTOCOL_VIOLATION)
+        } else {
+            None
+        }
+    }
+
+    // The bytes come last, and only those that are still stored are compared (RFC 9000, section 2.2).
+    fn stream_fault(&self, stream: StreamId, offset: u64, bytes: &[u8], fin: bool) -> Option<u64> {
+        if let Some(code) = self.state_fault_in(stream) {
+            return Some(code);
+        }
+        let window = self.window(stream);
+        let len = bytes.len() as u64;
+        let check = self.recvs.check_stream(window, stream, offset, len, fin);
+        if let Some(code) = self.credit_fault(check) {
+            return Some(code);
+        }
+        match self.recvs.check_bytes(window, stream, offset, bytes) {
+            Ok(()) => None,
+            Err(fault) => Some(code_of(fault)),
+        }
+    }
+
+    fn reset_fault(&self, stream: StreamId, size: u64) -> Option<u64> {
+        if let Some(code) = self.state_fault_in(stream) {
+            return Some(code);
+        }
+        let window = self.window(stream);
+        let check = self.recvs.check_reset(window, stream, size);
+        self.credit_fault(check)
+    }
+
+    // Of a frame on what the peer sends.
+    fn state_fault_in(&self, stream: StreamId) -> Option<u64> {
+        if self.is_own(stream) {
+            if self.recvs.is_open(stream) {
+                None
+            } else {
+                Some(STREAM_STATE_ERROR)
+            }
+        } else if self.grant(stream) <= stream.index() {
+            Some(STREAM_LIMIT_ERROR)
+        } else {
+            None
+        }
+    }
+
+    // Of a frame on what this end sends.
+    fn state_fault_out(&self, stream: StreamId) -> Option<u64> {
+        if self.is_own(stream) {
+            if self.outbox.is_open(stream) {
+                None
+            } else {
+                Some(STREAM_STATE_ERROR)
+            }
+        } else if is_uni(stream) {
+            Some(STREAM_STATE_ERROR)
+        } else if self.grant(stream) <= stream.index() {
+            Some(STREAM_LIMIT_ERROR)
+        } else {
+            None
+        }
+    }
+
+    // What a half's check says, and then whether the connection has the credit.
+    fn credit_fault(&self, check: Result<Highest, RecvFault>) -> Option<u64> {
+        match check {
+            Err(fault) => Some(code_of(fault)),
+            Ok(highest) => {
+                let growth = highest.after.saturating_sub(highest.before);
+                if self.granted < self.spent() + growth {
+                    Some(FLOW_CONTROL_ERROR)
+                } else {
+                    None
+                }
+            }
+        }
+    }
+
+    // How many streams of its type the peer may open (RFC 9000, section 4.6).
+    fn grant(&self, stream: StreamId) -> u64 {
+        if is_uni(stream) {
+            self.granted_uni
+        } else {
+            self.granted_bidi
+        }
+    }
+}
+
+// The code of a half's fault.
+fn code_of(fault: RecvFault) -> u64 {
+    match fault {
+        RecvFault::FinalSize => FINAL_SIZE_ERROR,
+        RecvFault::StreamCredit => FLOW_CONTROL_ERROR,
+        RecvFault::NoMemory => 0,
+        RecvFault::ChangedByte => PROTOCOL_VIOLATION,
+    }
+}

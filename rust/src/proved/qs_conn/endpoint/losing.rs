@@ -1,0 +1,52 @@
+// Made from crates/qs_conn/src/endpoint/losing.rt by rust/erase; not edited by hand.
+//! A packet is declared lost.
+
+use super::Endpoint;
+use crate::proved::qs_conn::outbox::Outbox;
+use crate::proved::qs_calls::LostFault;
+use crate::proved::qs_ranges::NoMemory;
+
+impl Endpoint {
+    /// Declares the packet of a number lost: what it carried and is still of use is due again (RFC 9000, section 13.3). It is kept
+    /// for a late acknowledgement, of the latest 256 packets by the order in which they were first declared lost (section 13.2.1).
+    ///
+    /// Refused: `Closed`; `NotOutstanding` where no such packet is outstanding; and `NoMemory` where memory was refused. Then the
+    /// first pieces of the packet may be lost already; the others are outstanding still, and the call may be made again.
+    pub fn declare_lost(&mut self, number: u64) -> Result<(), LostFault> {
+        if let Some(fault) = self.lose_refusal(number) {
+            return Err(fault);
+        }
+        self.outbox.none_is_empty();
+        match lose_packet(&mut self.outbox, number) {
+            Ok(()) => Ok(()),
+            Err(_refused) => Err(LostFault::NoMemory),
+        }
+    }
+
+    // Why the packet can't be lost.
+    fn lose_refusal(&self, number: u64) -> Option<LostFault> {
+        if self.closed.is_some() {
+            return Some(LostFault::Closed);
+        }
+        self.outbox.none_is_empty();
+        if self.outbox.first(number).is_none() {
+            return Some(LostFault::NotOutstanding);
+        }
+        None
+    }
+}
+
+// The pieces of a packet are lost, and the packet is outstanding no more.
+fn lose_packet(outbox: &mut Outbox, number: u64) -> Result<(), NoMemory> {
+    let result = lose_pieces(outbox, number);
+    outbox.trim();
+    result
+}
+
+// The pieces of a packet are lost, from the first on.
+fn lose_pieces(outbox: &mut Outbox, number: u64) -> Result<(), NoMemory> {
+    while let Some(piece) = outbox.first(number) {
+        outbox.lose_first(number, piece)?;
+    }
+    Ok(())
+}

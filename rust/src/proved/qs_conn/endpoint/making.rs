@@ -1,0 +1,61 @@
+// Made from crates/qs_conn/src/endpoint/making.rt by rust/erase; not edited by hand.
+//! Packets are made.
+
+use super::Endpoint;
+use crate::proved::qs_conn::filling::fill;
+use crate::proved::qs_conn::terms::Terms;
+use crate::proved::qs_calls::{Made, MakeFault};
+
+/// The largest packet number (RFC 9000, section 12.3).
+const MAX_NUMBER: u64 = (1 << 62) - 1;
+
+impl Endpoint {
+    /// Makes the next packet: writes its payload at the slice's front. `None` where nothing is to be sent that the limits allow. What
+    /// is due goes in as far as there is room, in the order ACK, control items, bytes of streams (RFC 9000, sections 4, 13.2 and 13.3).
+    ///
+    /// Refused, and then unchanged: `Closed`; `Exhausted` where the last packet number was used; `NoMemory` where memory was refused.
+    pub fn make_packet(&mut self, out: &mut [u8]) -> Result<Option<Made>, MakeFault> {
+        if self.closed.is_some() {
+            return Err(MakeFault::Closed);
+        }
+        let number = self.outbox.next();
+        if number > MAX_NUMBER {
+            return Err(MakeFault::Exhausted);
+        }
+        if let Err(_refused) = self.outbox.begin(out.len() / 2) {
+            return Err(MakeFault::NoMemory);
+        }
+        let terms = self.terms();
+        let len = fill(
+            &terms,
+            &self.recvs,
+            &self.done,
+            self.ack_due,
+            &mut self.outbox,
+            out,
+        );
+        if len == 0 {
+            return Ok(None);
+        }
+        self.ack_due = false;
+        self.outbox.commit();
+        self.settle();
+        Ok(Some(Made { number, len }))
+    }
+
+    // What is to be told beside what the streams have.
+    fn terms(&self) -> Terms {
+        Terms {
+            role: self.role,
+            settings: self.settings,
+            granted: self.granted,
+            granted_bidi: self.granted_bidi,
+            granted_uni: self.granted_uni,
+            known_data: self.known_data,
+            known_bidi: self.known_bidi,
+            known_uni: self.known_uni,
+            wanted_bidi: self.wanted_bidi,
+            wanted_uni: self.wanted_uni,
+        }
+    }
+}

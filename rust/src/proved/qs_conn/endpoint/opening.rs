@@ -1,0 +1,178 @@
+// Made from crates/qs_conn/src/endpoint/opening.rt by rust/erase; not edited by hand.
+//! Streams are opened, and given out.
+
+use super::{Endpoint, is_uni, role_bit};
+use crate::proved::qs_conn::outbox::Outbox;
+use crate::proved::qs_conn::recv_tables::RecvTables;
+use crate::proved::qs_calls::OpenFault;
+use crate::proved::qs_ranges::NoMemory;
+use crate::proved::qs_wire::{Dir, StreamId};
+
+impl Endpoint {
+    /// Opens the next stream of that direction, and answers its number.
+    ///
+    /// Refused: `Closed`; `Blocked` with the peer's count where as many are open; and `NoMemory` where memory was refused, and then
+    /// nothing changed.
+    pub fn open(&mut self, dir: Dir) -> Result<StreamId, OpenFault> {
+        if self.closed.is_some() {
+            return Err(OpenFault::Closed);
+        }
+        let kind = self.own_kind(dir);
+        let count = self.opened_count(kind);
+        let known = self.known_count(dir);
+        if known <= count as u64 {
+            self.want(dir, known);
+            self.settle();
+            return Err(OpenFault::Blocked(known));
+        }
+        let stream = StreamId::new(count as u64 * 4 + kind as u64).unwrap();
+        if let Err(_refused) = self.open_stream(stream) {
+            return Err(OpenFault::NoMemory);
+        }
+        self.settle();
+        Ok(stream)
+    }
+
+    /// Gives out each stream that the peer opened, once: bidirectional ones first, lower numbers first.
+    pub fn accept(&mut self) -> Option<StreamId> {
+        if self.closed.is_some() {
+            return None;
+        }
+        let bidi = self.peer_kind(Dir::Bidi);
+        if self.accepted_bidi < self.opened_count(bidi) as u64 {
+            let stream = StreamId::new(self.accepted_bidi * 4 + bidi as u64).unwrap();
+            self.accepted_bidi += 1;
+            self.settle();
+            return Some(stream);
+        }
+        let uni = self.peer_kind(Dir::Uni);
+        if self.accepted_uni < self.opened_count(uni) as u64 {
+            let stream = StreamId::new(self.accepted_uni * 4 + uni as u64).unwrap();
+            self.accepted_uni += 1;
+            self.settle();
+            return Some(stream);
+        }
+        None
+    }
+
+    // A frame that names a stream of the peer opens it (RFC 9000, section 3.2).
+    pub(super) fn open_by_peer(&mut self, stream: StreamId) -> Result<(), NoMemory> {
+        if self.is_own(stream) {
+            return Ok(());
+        }
+        self.open_stream(stream)
+    }
+
+    // Opens a stream and all lower ones of its type, or changes nothing. Memory is taken first.
+    fn open_stream(&mut self, stream: StreamId) -> Result<(), NoMemory> {
+        self.reserve(stream)?;
+        self.open_reserved(stream)
+    }
+
+    // The same, where memory was taken. No clause tells that, so a refusal is undone.
+    fn open_reserved(&mut self, stream: StreamId) -> Result<(), NoMemory> {
+        let (uni, own) = (is_uni(stream), self.is_own(stream));
+        let limit = self.first_send_limit(stream);
+        let window = self.window(stream);
+        let buffer = self.settings.send_buffer;
+        self.outbox.are_of_open();
+        let before = self.outbox.count(stream);
+        self.outbox.are_of_open();
+        open_sends(&mut self.outbox, both(uni, !own), limit, buffer, stream)?;
+        if let Err(refused) = open_recvs(&mut self.recvs, both(uni, own), window, stream) {
+            self.outbox.close_to(stream, before);
+            return Err(refused);
+        }
+        Ok(())
+    }
+
+    // Takes the memory that the opening wants, so that a refusal comes before anything changes.
+    fn reserve(&mut self, stream: StreamId) -> Result<(), NoMemory> {
+        let (uni, own) = (is_uni(stream), self.is_own(stream));
+        let (sends, receives) = (!both(uni, !own), !both(uni, own));
+        reserve_halves(&mut self.outbox, &mut self.recvs, stream, sends, receives)
+    }
+
+    // That another stream was wanted is noted.
+    fn want(&mut self, dir: Dir, count: u64) {
+        match dir {
+            Dir::Bidi => self.wanted_bidi = Some(count),
+            Dir::Uni => self.wanted_uni = Some(count),
+        }
+    }
+
+    // How many streams of a direction the peer allows.
+    fn known_count(&self, dir: Dir) -> u64 {
+        match dir {
+            Dir::Bidi => self.known_bidi,
+            Dir::Uni => self.known_uni,
+        }
+    }
+
+    // How many streams of a type are open.
+    fn opened_count(&self, kind: usize) -> usize {
+        self.outbox.count_of(kind).max(self.recvs.count_of(kind))
+    }
+
+    // The type of the streams that this end opens.
+    fn own_kind(&self, dir: Dir) -> usize {
+        match dir {
+            Dir::Bidi => role_bit(self.role),
+            Dir::Uni => 2 + role_bit(self.role),
+        }
+    }
+
+    // The type of the streams that the peer opens.
+    fn peer_kind(&self, dir: Dir) -> usize {
+        match dir {
+            Dir::Bidi => 1 - role_bit(self.role),
+            Dir::Uni => 3 - role_bit(self.role),
+        }
+    }
+}
+
+fn open_sends(
+    outbox: &mut Outbox,
+    absent: bool,
+    limit: u64,
+    buffer: usize,
+    stream: StreamId,
+) -> Result<(), NoMemory> {
+    if absent {
+        return Ok(());
+    }
+    outbox.open_to(limit, buffer, stream)
+}
+
+fn open_recvs(
+    recvs: &mut RecvTables,
+    absent: bool,
+    window: u64,
+    stream: StreamId,
+) -> Result<(), NoMemory> {
+    if absent {
+        return Ok(());
+    }
+    recvs.open_to(window, stream)
+}
+
+// Takes the memory for those halves of a stream that it has, and opens none.
+fn reserve_halves(
+    outbox: &mut Outbox,
+    recvs: &mut RecvTables,
+    stream: StreamId,
+    sends: bool,
+    receives: bool,
+) -> Result<(), NoMemory> {
+    if sends {
+        outbox.reserve(stream)?;
+    }
+    if receives {
+        recvs.reserve(stream)?;
+    }
+    Ok(())
+}
+
+fn both(a: bool, b: bool) -> bool {
+    a && b
+}

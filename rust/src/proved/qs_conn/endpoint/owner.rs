@@ -1,0 +1,143 @@
+// Made from crates/qs_conn/src/endpoint/owner.rt by rust/erase; not edited by hand.
+//! What an end's owner does with its streams.
+
+use super::Endpoint;
+use crate::proved::qs_conn::ended::is_over;
+use crate::proved::qs_calls::{Closed, Closing, LaneReport, UseFault};
+use crate::proved::qs_recv::Read;
+use crate::proved::qs_send::SendFault;
+use crate::proved::qs_wire::StreamId;
+
+impl Endpoint {
+    /// Accepts the front of the bytes for sending, as many as there is room for, and answers how many.
+    ///
+    /// Refused, and then unchanged: `Closed`; `NoSuchStream` or `WrongDirection` where the stream has no sending half; `WasReset`;
+    /// `Finished`; and `NoMemory` where memory was refused.
+    pub fn write(&mut self, stream: StreamId, bytes: &[u8]) -> Result<usize, UseFault> {
+        if let Some(fault) = self.no_sender(stream) {
+            return Err(fault);
+        }
+        match self.outbox.write(stream, bytes) {
+            Ok(count) => {
+                self.settle();
+                Ok(count)
+            }
+            Err(fault) => Err(use_fault(fault)),
+        }
+    }
+
+    /// Asks for the end of the stream after the bytes written so far.
+    ///
+    /// Refused as `write` is, but never for want of memory.
+    pub fn finish(&mut self, stream: StreamId) -> Result<(), UseFault> {
+        if let Some(fault) = self.no_sender(stream) {
+            return Err(fault);
+        }
+        self.outbox.has_sending(stream);
+        match self.outbox.finish(stream) {
+            Ok(()) => {
+                self.settle();
+                Ok(())
+            }
+            Err(fault) => Err(use_fault(fault)),
+        }
+    }
+
+    /// Breaks the stream's sending half off with the application's code, below 2^62 (RFC 9000, sections 3.1 and 20.2).
+    ///
+    /// Refused, and then unchanged: as `write` is; `Finished` only once all was acknowledged.
+    pub fn reset(&mut self, stream: StreamId, code: u64) -> Result<(), UseFault> {
+        if let Some(fault) = self.no_sender(stream) {
+            return Err(fault);
+        }
+        match self.outbox.reset(stream, code) {
+            Ok(()) => {
+                self.settle();
+                Ok(())
+            }
+            Err(fault) => Err(use_fault(fault)),
+        }
+    }
+
+    /// Reads the bytes that are next, or tells how the stream stands (RFC 9000, section 2.2).
+    ///
+    /// Refused, and then unchanged: `Closed`; `NoSuchStream` or `WrongDirection` where the stream has no receiving half.
+    pub fn read(&mut self, stream: StreamId, into: &mut [u8]) -> Result<Read, UseFault> {
+        if let Some(fault) = self.no_receiver(stream) {
+            return Err(fault);
+        }
+        let was = is_over(self.role, &self.recvs, &self.outbox, stream);
+        let answer = self.recvs.read(stream, into);
+        let is = is_over(self.role, &self.recvs, &self.outbox, stream);
+        self.ended.recount(stream, was, is);
+        self.settle();
+        Ok(answer)
+    }
+
+    /// Throws the stream's bytes away, those stored and those still to come (RFC 9000, section 3.5). The first code
+    /// stays; the application's codes lie below 2^62.
+    ///
+    /// Refused as `read` is.
+    pub fn stop(&mut self, stream: StreamId, code: u64) -> Result<(), UseFault> {
+        if let Some(fault) = self.no_receiver(stream) {
+            return Err(fault);
+        }
+        self.recvs.stop(stream, code);
+        self.settle();
+        Ok(())
+    }
+
+    /// How the halves of a stream stand at this end, `None` where it isn't open.
+    pub fn lane_report(&self, stream: StreamId) -> Option<LaneReport> {
+        match (self.outbox.report(stream), self.recvs.report(stream)) {
+            (None, None) => None,
+            (send, recv) => Some(LaneReport { send, recv }),
+        }
+    }
+
+    /// Why this end closed, `None` where it is open or saw its peer close (RFC 9000, section 10.2).
+    pub fn closing(&self) -> Option<Closing> {
+        match self.closed {
+            Some(Closed::ByUs(closing)) => Some(closing),
+            _ => None,
+        }
+    }
+
+    // Why the stream can't be sent on.
+    fn no_sender(&self, stream: StreamId) -> Option<UseFault> {
+        if self.closed.is_some() {
+            Some(UseFault::Closed)
+        } else if self.outbox.is_open(stream) {
+            None
+        } else {
+            Some(no_half(self.recvs.is_open(stream)))
+        }
+    }
+
+    // Why the stream can't be read.
+    fn no_receiver(&self, stream: StreamId) -> Option<UseFault> {
+        if self.closed.is_some() {
+            Some(UseFault::Closed)
+        } else if self.recvs.is_open(stream) {
+            None
+        } else {
+            Some(no_half(self.outbox.is_open(stream)))
+        }
+    }
+}
+
+fn no_half(other: bool) -> UseFault {
+    if other {
+        UseFault::WrongDirection
+    } else {
+        UseFault::NoSuchStream
+    }
+}
+
+fn use_fault(fault: SendFault) -> UseFault {
+    match fault {
+        SendFault::Finished => UseFault::Finished,
+        SendFault::WasReset => UseFault::WasReset,
+        SendFault::NoMemory => UseFault::NoMemory,
+    }
+}

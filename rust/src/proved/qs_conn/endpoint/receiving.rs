@@ -1,0 +1,128 @@
+// Made from crates/qs_conn/src/endpoint/receiving.rt by rust/erase; not edited by hand.
+//! A payload is taken in.
+
+use super::Endpoint;
+use crate::proved::qs_calls::{Closed, Closing, Received};
+use crate::proved::qs_wire::{Frame, Frames, Placed, WireFault};
+
+/// What one frame does to the processing of its payload.
+pub(crate) enum Progress {
+    GoesOn,
+    Ends(Result<Received, Closing>),
+}
+
+impl Endpoint {
+    /// Takes in the payload of a packet: its frames take effect, one after the other, in order (RFC 9000, sections 12.3, 12.4
+    /// and 13.1). `number` is the packet's number, below 2^62; `payload` is all bytes of its frames.
+    ///
+    /// Answers
+    /// - `Done` once all frames took effect. The number is kept, and where a frame asks for it an ACK is due (section 13.2).
+    /// - `Duplicate` where the number is kept already, and `BelowFloor` where it lies below all that are still told apart (section
+    ///   13.2.3). Nothing changes.
+    /// - `NoMemory` where memory was refused. The frames before took effect, the number isn't kept, and the same payload may come
+    ///   again.
+    /// - `PeerClosed` with the code of the peer's CONNECTION_CLOSE. The frames before it took effect; the end is closed from now on
+    ///   (section 10.2.2).
+    ///
+    /// Refused with a `Closing` where the bytes are no frames (section 12.4) or a frame breaks a rule (sections 4, 13.1, 19 and 20.1):
+    /// its code, and the type and the place of that frame. The frames before it took effect; the end is closed from now on, and
+    /// `close_payload` tells the peer so (section 10.2).
+    ///
+    /// An end that is closed answers as it did when it closed, and nothing changes.
+    pub fn receive(&mut self, number: u64, payload: &[u8]) -> Result<Received, Closing> {
+        match self.closed {
+            Some(Closed::ByUs(closing)) => return Err(closing),
+            Some(Closed::ByPeer(code)) => return Ok(Received::PeerClosed(code)),
+            None => {}
+        }
+        if number < self.floor {
+            return Ok(Received::BelowFloor);
+        }
+        if self.done.has(number) {
+            return Ok(Received::Duplicate);
+        }
+        let taken = self.take_payload(number, payload);
+        self.settle();
+        taken
+    }
+
+    // The frames of a payload take effect, one after the other, as far as they may.
+    fn take_payload(&mut self, number: u64, payload: &[u8]) -> Result<Received, Closing> {
+        let mut frames = Frames::new(payload);
+        let mut asks = false;
+        loop {
+            match frames.next() {
+                Ok(Some(placed)) => match self.take_placed(&placed) {
+                    Progress::GoesOn => asks |= asks_ack(&placed.frame),
+                    Progress::Ends(result) => return result,
+                },
+                Ok(None) => return Ok(self.record_all(number, asks)),
+                Err(fault) => return Err(self.close_by(fault)),
+            }
+        }
+    }
+
+    // One frame takes effect, or the processing ends with it.
+    fn take_placed(&mut self, placed: &Placed<'_>) -> Progress {
+        if let Some(code) = close_code(&placed.frame) {
+            self.closed = Some(Closed::ByPeer(code));
+            return Progress::Ends(Ok(Received::PeerClosed(code)));
+        }
+        if let Some(code) = self.verdict(&placed.frame) {
+            return Progress::Ends(Err(self.close_at(placed, code)));
+        }
+        if let Err(_refused) = self.take(&placed.frame) {
+            return Progress::Ends(Ok(Received::NoMemory));
+        }
+        Progress::GoesOn
+    }
+
+    // No frame is left.
+    fn record_all(&mut self, number: u64, asks: bool) -> Received {
+        if let Err(_refused) = self.record(number, asks) {
+            return Received::NoMemory;
+        }
+        Received::Done
+    }
+
+    // This end closes for a frame that has a fault.
+    fn close_at(&mut self, placed: &Placed<'_>, code: u64) -> Closing {
+        let closing = Closing {
+            code,
+            frame_type: placed.frame_type,
+            place: placed.place,
+        };
+        self.closed = Some(Closed::ByUs(closing));
+        closing
+    }
+
+    // This end closes for bytes that are no frame.
+    fn close_by(&mut self, fault: WireFault) -> Closing {
+        let closing = Closing {
+            code: fault.code,
+            frame_type: fault.frame_type,
+            place: fault.place,
+        };
+        self.closed = Some(Closed::ByUs(closing));
+        closing
+    }
+}
+
+// The code of a CONNECTION_CLOSE.
+fn close_code(frame: &Frame<'_>) -> Option<u64> {
+    match *frame {
+        Frame::ConnectionClose { code, .. } | Frame::ApplicationClose { code, .. } => Some(code),
+        _ => None,
+    }
+}
+
+// Whether a frame asks for an ACK (RFC 9000, section 13.2).
+fn asks_ack(frame: &Frame<'_>) -> bool {
+    !matches!(
+        *frame,
+        Frame::Padding
+            | Frame::Ack { .. }
+            | Frame::ConnectionClose { .. }
+            | Frame::ApplicationClose { .. }
+    )
+}

@@ -1,0 +1,119 @@
+// Made from crates/qs_conn/src/endpoint/taking.rt by rust/erase; not edited by hand.
+//! A frame without a fault takes effect.
+
+use super::Endpoint;
+use super::acking::ack_ranges;
+use crate::proved::qs_ranges::NoMemory;
+use crate::proved::qs_wire::{Dir, Frame, StreamId};
+
+impl Endpoint {
+    // A frame takes effect, or finds no memory and changes nothing; of an ACK some packets may be acknowledged then.
+    pub(super) fn take(&mut self, frame: &Frame<'_>) -> Result<(), NoMemory> {
+        match *frame {
+            Frame::Padding
+            | Frame::Ping
+            | Frame::Crypto { .. }
+            | Frame::NewToken { .. }
+            | Frame::DataBlocked { .. }
+            | Frame::StreamsBlocked { .. }
+            | Frame::NewConnectionId { .. }
+            | Frame::RetireConnectionId { .. }
+            | Frame::PathChallenge { .. }
+            | Frame::PathResponse { .. }
+            | Frame::ConnectionClose { .. }
+            | Frame::ApplicationClose { .. }
+            | Frame::HandshakeDone => Ok(()),
+            Frame::Ack {
+                largest,
+                ranges,
+                ..
+            } => self.take_ack(largest, ranges),
+            Frame::MaxData { maximum } => {
+                self.known_data = self.known_data.max(maximum);
+                Ok(())
+            }
+            Frame::MaxStreams { dir, count } => {
+                self.allow_streams(dir, count);
+                Ok(())
+            }
+            Frame::MaxStreamData { stream, maximum } => self.allow(stream, maximum),
+            Frame::StopSending { stream, code } => self.stopped(stream, code),
+            Frame::StreamDataBlocked { stream, .. } => self.open_by_peer(stream),
+            Frame::ResetStream {
+                stream,
+                code,
+                final_size,
+            } => self.take_reset(stream, code, final_size),
+            Frame::Stream {
+                stream,
+                offset,
+                fin,
+                bytes,
+            } => self.take_stream(stream, offset, bytes, fin),
+        }
+    }
+
+    // The packets that an ACK names are acknowledged, also those that were declared lost (RFC 9000, sections 13.2.1 and 13.3).
+    fn take_ack(&mut self, largest: u64, ranges: &[u8]) -> Result<(), NoMemory> {
+        let (role, recvs) = (self.role, &self.recvs);
+        ack_ranges(
+            &mut self.outbox,
+            role,
+            recvs,
+            &mut self.ended,
+            largest,
+            ranges,
+        )
+    }
+
+    // The peer allows so many streams of a direction.
+    fn allow_streams(&mut self, dir: Dir, count: u64) {
+        match dir {
+            Dir::Bidi => self.known_bidi = self.known_bidi.max(count),
+            Dir::Uni => self.known_uni = self.known_uni.max(count),
+        }
+    }
+
+    // The peer allows the offsets of a stream below a limit.
+    fn allow(&mut self, stream: StreamId, maximum: u64) -> Result<(), NoMemory> {
+        self.open_by_peer(stream)?;
+        self.outbox.allow(stream, maximum);
+        Ok(())
+    }
+
+    // The peer reads a stream no more.
+    fn stopped(&mut self, stream: StreamId, code: u64) -> Result<(), NoMemory> {
+        self.open_by_peer(stream)?;
+        let _ = self.outbox.reset(stream, code);
+        Ok(())
+    }
+
+    // The peer broke a stream off.
+    fn take_reset(&mut self, stream: StreamId, code: u64, size: u64) -> Result<(), NoMemory> {
+        let _granted = self.granted;
+        self.open_by_peer(stream)?;
+        self.recvs.take_reset(stream, code, size);
+        Ok(())
+    }
+
+    // Bytes of a stream came.
+    fn take_stream(
+        &mut self,
+        stream: StreamId,
+        offset: u64,
+        bytes: &[u8],
+        fin: bool,
+    ) -> Result<(), NoMemory> {
+        self.outbox.are_of_open();
+        let sends = self.outbox.count(stream);
+        self.outbox.are_of_open();
+        let recvs = self.recvs.count(stream);
+        self.open_by_peer(stream)?;
+        if let Err(refused) = self.recvs.take_stream(stream, offset, bytes, fin) {
+            self.outbox.close_to(stream, sends);
+            self.recvs.close_to(stream, recvs);
+            return Err(refused);
+        }
+        Ok(())
+    }
+}

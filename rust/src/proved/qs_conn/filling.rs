@@ -1,0 +1,276 @@
+// Made from crates/qs_conn/src/filling.rt by rust/erase; not edited by hand.
+//! A packet is filled: what is due goes into a slice, frame by frame.
+
+use crate::proved::qs_conn::outbox::Outbox;
+use crate::proved::qs_conn::recv_tables::RecvTables;
+use crate::proved::qs_conn::slot::{Kind, Slot};
+use crate::proved::qs_conn::terms::Terms;
+use crate::proved::qs_ranges::RangeSet;
+use crate::proved::qs_send::{Chunk, Item};
+use crate::proved::qs_wire::{Dir, Frame, StreamId, put, put_ack};
+
+/// How far a packet is.
+#[derive(Clone, Copy)]
+pub(crate) struct Packet {
+    /// How many bytes it has.
+    pub len: usize,
+    /// Something didn't fit, so nothing more goes in.
+    pub is_full: bool,
+}
+
+/// Writes a frame behind the bytes that are there, and answers how many there are then. `None` where it doesn't fit; then nothing is
+/// written.
+fn put_frame(frame: &Frame<'_>, out: &mut [u8], len: usize) -> Option<usize> {
+    match put(frame, &mut out[len..]) {
+        Ok(more) => Some(len + more),
+        Err(_full) => None,
+    }
+}
+
+// The frame that tells an item.
+fn frame_of(item: &Item) -> Frame<'static> {
+    match *item {
+        Item::MaxData { maximum } => Frame::MaxData { maximum },
+        Item::MaxStreamData { stream, maximum } => Frame::MaxStreamData { stream, maximum },
+        Item::MaxStreams { dir, count } => Frame::MaxStreams { dir, count },
+        Item::ResetStream {
+            stream,
+            code,
+            final_size,
+        } => Frame::ResetStream {
+            stream,
+            code,
+            final_size,
+        },
+        Item::StopSending { stream, code } => Frame::StopSending { stream, code },
+        Item::DataBlocked { limit } => Frame::DataBlocked { limit },
+        Item::StreamDataBlocked { stream, limit } => Frame::StreamDataBlocked { stream, limit },
+        Item::StreamsBlocked { dir, count } => Frame::StreamsBlocked { dir, count },
+    }
+}
+
+// An item goes into the packet, or doesn't fit.
+fn put_item(outbox: &mut Outbox, item: &Item, out: &mut [u8], packet: Packet) -> Packet {
+    match put_frame(&frame_of(item), out, packet.len) {
+        Some(len) => {
+            outbox.put_item(*item);
+            Packet {
+                len,
+                is_full: false,
+            }
+        }
+        None => Packet {
+            len: packet.len,
+            is_full: true,
+        },
+    }
+}
+
+// Whether an outstanding or acknowledged packet told the item with this value.
+fn is_covered(outbox: &Outbox, item: &Item) -> bool {
+    if outbox.tells(*item) {
+        return true;
+    }
+    outbox.is_acked(*item)
+}
+
+/// Puts the item of a slot into the packet, if it is due.
+pub(crate) fn put_slot(
+    terms: &Terms,
+    recvs: &RecvTables,
+    outbox: &mut Outbox,
+    slot: Slot,
+    out: &mut [u8],
+    packet: Packet,
+) -> Packet {
+    if packet.is_full {
+        return packet;
+    }
+    let Some(item) = terms.current(outbox, recvs, slot) else {
+        return packet;
+    };
+    if is_covered(outbox, &item) {
+        return packet;
+    }
+    put_item(outbox, &item, out, packet)
+}
+
+// The least number from one on of a stream that may have an item of a kind. Of the streams between none is due.
+fn next_of_kind(
+    terms: &Terms,
+    recvs: &RecvTables,
+    outbox: &Outbox,
+    kind: Kind,
+    from: u64,
+) -> Option<StreamId> {
+    match kind {
+        Kind::ResetStream | Kind::StreamDataBlocked => outbox.next_marked(from),
+        Kind::StopSending | Kind::MaxStreamData => terms.next_receiving(recvs, from),
+    }
+}
+
+/// Puts the items of a kind into the packet that are due, lower stream numbers first.
+pub(crate) fn put_kind(
+    terms: &Terms,
+    recvs: &RecvTables,
+    outbox: &mut Outbox,
+    kind: Kind,
+    out: &mut [u8],
+    packet: Packet,
+) -> Packet {
+    if packet.is_full {
+        return packet;
+    }
+    let mut packet = packet;
+    let mut from = 0;
+    while let Some(stream) = next_of_kind(terms, recvs, outbox, kind, from) {
+        packet = put_slot(terms, recvs, outbox, kind.at(stream), out, packet);
+        if packet.is_full {
+            return packet;
+        }
+        from = stream.value() + 1;
+    }
+    packet
+}
+
+/// Puts the control items into the packet that are due.
+pub(crate) fn put_items(
+    terms: &Terms,
+    recvs: &RecvTables,
+    outbox: &mut Outbox,
+    out: &mut [u8],
+    packet: Packet,
+) -> Packet {
+    let packet = put_slot(terms, recvs, outbox, Slot::MaxData, out, packet);
+    let bidi_streams = Slot::MaxStreams(Dir::Bidi);
+    let packet = put_slot(terms, recvs, outbox, bidi_streams, out, packet);
+    let uni_streams = Slot::MaxStreams(Dir::Uni);
+    let packet = put_slot(terms, recvs, outbox, uni_streams, out, packet);
+    let packet = put_kind(terms, recvs, outbox, Kind::ResetStream, out, packet);
+    let packet = put_kind(terms, recvs, outbox, Kind::StopSending, out, packet);
+    let packet = put_kind(terms, recvs, outbox, Kind::MaxStreamData, out, packet);
+    let packet = put_slot(terms, recvs, outbox, Slot::DataBlocked, out, packet);
+    let packet = put_kind(terms, recvs, outbox, Kind::StreamDataBlocked, out, packet);
+    let bidi_blocked = Slot::StreamsBlocked(Dir::Bidi);
+    let packet = put_slot(terms, recvs, outbox, bidi_blocked, out, packet);
+    let uni_blocked = Slot::StreamsBlocked(Dir::Uni);
+    put_slot(terms, recvs, outbox, uni_blocked, out, packet)
+}
+
+/// Puts a chunk into the packet that is known to fit, and answers how many bytes there are then.
+pub(crate) fn put_chunk(
+    outbox: &mut Outbox,
+    stream: StreamId,
+    chunk: Chunk,
+    out: &mut [u8],
+    len: usize,
+) -> usize {
+    let frame = Frame::Stream {
+        stream,
+        offset: chunk.offset,
+        fin: chunk.fin,
+        bytes: outbox.bytes(stream, chunk),
+    };
+    match put_frame(&frame, out, len) {
+        Some(end) => {
+            outbox.put_chunk(stream, chunk);
+            end
+        }
+        None => len,
+    }
+}
+
+/// Puts chunks of a stream into the packet, one for each run of due offsets, as far as the limits and the room allow.
+pub(crate) fn put_chunks(
+    terms: &Terms,
+    outbox: &mut Outbox,
+    stream: StreamId,
+    out: &mut [u8],
+    packet: Packet,
+) -> Packet {
+    if packet.is_full {
+        return packet;
+    }
+    let mut len = packet.len;
+    let mut fresh = terms.known_data - outbox.sent_sum();
+    while let Some(chunk) = outbox.next_chunk(stream, out.len() - len, fresh) {
+        len = put_chunk(outbox, stream, chunk, out, len);
+        fresh = terms.known_data - outbox.sent_sum();
+    }
+    let is_full = outbox.is_held_by_room(stream, out.len() - len, fresh);
+    Packet { len, is_full }
+}
+
+// Puts chunks of a stream into the packet, if it is one that can send.
+fn put_stream(
+    terms: &Terms,
+    outbox: &mut Outbox,
+    stream: StreamId,
+    out: &mut [u8],
+    packet: Packet,
+) -> Packet {
+    if outbox.is_open(stream) {
+        return put_chunks(terms, outbox, stream, out, packet);
+    }
+    packet
+}
+
+/// Puts the bytes of all streams into the packet, lower numbers first, as far as the limits and the room allow.
+pub(crate) fn put_streams(
+    terms: &Terms,
+    outbox: &mut Outbox,
+    out: &mut [u8],
+    packet: Packet,
+) -> Packet {
+    let mut packet = packet;
+    let mut from = 0;
+    while let Some(stream) = outbox.next_marked(from) {
+        packet = put_stream(terms, outbox, stream, out, packet);
+        if packet.is_full {
+            return packet;
+        }
+        from = stream.value() + 1;
+    }
+    packet
+}
+
+/// Writes an ACK of the kept numbers at the slice's front, the highest ranges first and as many as fit, and answers its length.
+pub(crate) fn put_kept(done: &RangeSet, out: &mut [u8]) -> usize {
+    let runs = done.pairs();
+    let mut pairs = [(0, 0); 32];
+    let highest = &mut pairs[..runs.len()];
+    highest.copy_from_slice(runs);
+    highest.reverse();
+    match put_ack(highest, out) {
+        Ok((_count, len)) => len,
+        Err(_full) => 0,
+    }
+}
+
+// Begins a packet with an ACK, if one is due.
+fn put_ack_if(done: &RangeSet, ack_due: bool, out: &mut [u8]) -> usize {
+    if ack_due {
+        return put_kept(done, out);
+    }
+    0
+}
+
+/// Fills a packet from its first byte on, and answers how many bytes it has: the ACK if one is due, control items, and the bytes of
+/// streams (RFC 9000, sections 4, 13.2 and 13.3).
+pub(crate) fn fill(
+    terms: &Terms,
+    recvs: &RecvTables,
+    done: &RangeSet,
+    ack_due: bool,
+    outbox: &mut Outbox,
+    out: &mut [u8],
+) -> usize {
+    let len = put_ack_if(done, ack_due, out);
+    let start = Packet {
+        len,
+        is_full: false,
+    };
+    let packet = put_items(terms, recvs, outbox, out, start);
+    let packet = put_streams(terms, outbox, out, packet);
+    packet.len
+}

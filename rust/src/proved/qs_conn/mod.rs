@@ -1,0 +1,26 @@
+// Made from crates/qs_conn/src/lib.rt by rust/erase; not edited by hand.
+//! One end of a connection: its streams, its credit, and what its packets carry.
+
+mod ended;
+mod endpoint;
+mod filling;
+mod marks;
+mod outbox;
+mod places;
+mod recv_lanes;
+mod recv_tables;
+mod send_lanes;
+mod send_tables;
+mod setup;
+mod slot;
+mod stream_values;
+mod terms;
+mod told;
+mod told_index;
+
+pub use endpoint::Endpoint;
+pub use crate::proved::qs_calls::{
+    Closed, Closing, LaneReport, LostFault, Made, MakeFault, OpenFault, PeerLimits, Received,
+    RecvReport, SendReport, Settings, SetupFault, UseFault,
+};
+pub use crate::proved::qs_machine::laws;

@@ -1,0 +1,159 @@
+// Made from crates/qs_conn/src/outbox.rt by rust/erase; not edited by hand.
+//! The sending side of an end.
+use crate::shim::Vec;
+
+use crate::proved::qs_conn::send_tables::SendTables;
+use crate::proved::qs_conn::told::ToldItems;
+use crate::proved::qs_conn::told_index::ToldIndex;
+use crate::proved::qs_calls::SendReport;
+use crate::proved::qs_ranges::NoMemory;
+use crate::proved::qs_send::{LostRecords, Piece, Records, SendFault, SendState};
+use crate::proved::qs_wire::StreamId;
+use crate::shim::alloc::Global;
+
+mod acks;
+mod making;
+mod telling;
+
+/// What an end sends: its sending halves, what its packets carried, and what was acknowledged of them.
+pub(crate) struct Outbox {
+    alloc: Global,
+    sends: SendTables,
+    // The sum of all sent ends.
+    sent: u64,
+    records: Records,
+    // What the packets carried that were declared lost.
+    lost: LostRecords,
+    // The pieces of the packet in the making.
+    pending: Vec<Piece>,
+    // The items that outstanding packets and the one in the making told.
+    index: ToldIndex,
+    // For how many more pieces there is memory.
+    spare: usize,
+    next: u64,
+    told: ToldItems,
+}
+
+impl Outbox {
+    pub(crate) fn new(alloc: Global) -> Self {
+        Outbox {
+            alloc,
+            sends: SendTables::new(alloc),
+            sent: 0,
+            records: Records::new(alloc),
+            lost: LostRecords::new(alloc),
+            pending: Vec::new(alloc),
+            index: ToldIndex::new(alloc),
+            spare: 0,
+            next: 0,
+            told: ToldItems::new(alloc),
+        }
+    }
+
+    /// Each outstanding piece is of an open stream, and each lost one. It does nothing: a caller learns the clauses.
+    pub(crate) fn are_of_open(&self) {
+        let _next = self.next;
+    }
+
+    /// What holds of an open stream's half. It does nothing: a caller learns the clause.
+    pub(crate) fn has_sending(&self, stream: StreamId) {
+        let _next = self.next;
+        self.sends.get(stream).is_lawful();
+    }
+
+    /// Whether the stream has a sending half.
+    pub(crate) fn is_open(&self, stream: StreamId) -> bool {
+        self.sends.is_open(stream)
+    }
+
+    /// How many streams of the type of this one are open.
+    pub(crate) fn count(&self, stream: StreamId) -> usize {
+        self.sends.count(stream)
+    }
+
+    /// How many streams of a type are open.
+    pub(crate) fn count_of(&self, kind: usize) -> usize {
+        self.sends.count_of(kind)
+    }
+
+    /// Whether a stream's sending half is in Data Recvd or Reset Recvd (RFC 9000, section 3.1).
+    pub(crate) fn has_ended(&self, stream: StreamId) -> bool {
+        if !self.sends.is_open(stream) {
+            return false;
+        }
+        let half = self.sends.get(stream);
+        half.is_lawful();
+        matches!(half.state(), SendState::DataRecvd | SendState::ResetRecvd)
+    }
+
+    /// How a stream's sending half stands, where it is open.
+    pub(crate) fn report(&self, stream: StreamId) -> Option<SendReport> {
+        if !self.sends.is_open(stream) {
+            return None;
+        }
+        let half = self.sends.get(stream);
+        Some(SendReport {
+            state: half.state(),
+            written: half.written(),
+            final_size: half.final_size(),
+        })
+    }
+
+    /// The number of the next packet.
+    pub(crate) fn next(&self) -> u64 {
+        self.next
+    }
+
+    /// For how many pieces more the packet in the making has room.
+    pub(crate) fn spare(&self) -> usize {
+        self.spare
+    }
+
+    /// The sum of all sent ends.
+    pub(crate) fn sent_sum(&self) -> u64 {
+        self.sent
+    }
+
+    /// Opens a stream and all lower ones of its type.
+    pub(crate) fn open_to(
+        &mut self,
+        limit: u64,
+        buffer: usize,
+        stream: StreamId,
+    ) -> Result<(), NoMemory> {
+        self.sends.open_to(limit, buffer, stream)
+    }
+
+    /// Takes the memory for the sending halves of a stream and of all lower ones of its type, and opens none.
+    pub(crate) fn reserve(&mut self, stream: StreamId) -> Result<(), NoMemory> {
+        self.sends.reserve(stream)
+    }
+
+    /// Takes the streams of the type of this one from a count on away. Nothing of them was sent.
+    pub(crate) fn close_to(&mut self, stream: StreamId, count: usize) {
+        let _next = self.next;
+        self.sends.close_to(stream, count);
+    }
+
+    /// Accepts bytes at an open stream, as many as there is room for; or changes nothing.
+    pub(crate) fn write(&mut self, stream: StreamId, bytes: &[u8]) -> Result<usize, SendFault> {
+        self.sends.get(stream).is_lawful();
+        self.sends.write(stream, bytes)
+    }
+
+    /// Asks for the end of an open stream.
+    pub(crate) fn finish(&mut self, stream: StreamId) -> Result<(), SendFault> {
+        self.sends.get(stream).is_lawful();
+        self.sends.finish(stream)
+    }
+
+    /// Breaks an open stream off.
+    pub(crate) fn reset(&mut self, stream: StreamId, code: u64) -> Result<(), SendFault> {
+        self.sends.reset(stream, code)
+    }
+
+    /// Takes in that the peer allows the offsets of an open stream below a limit.
+    pub(crate) fn allow(&mut self, stream: StreamId, limit: u64) {
+        self.sends.allow(stream, limit);
+    }
+}

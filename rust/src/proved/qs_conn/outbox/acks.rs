@@ -1,0 +1,115 @@
+// Made from crates/qs_conn/src/outbox/acks.rt by rust/erase; not edited by hand.
+//! Packets are acknowledged and lost.
+
+use super::Outbox;
+use crate::proved::qs_conn::send_tables::SendTables;
+use crate::proved::qs_conn::told::ToldItems;
+use crate::proved::qs_conn::told_index::ToldIndex;
+use crate::proved::qs_ranges::NoMemory;
+use crate::proved::qs_send::{AckPass, Item, LostPass, Piece, SendState};
+use crate::proved::qs_wire::StreamId;
+
+impl Outbox {
+    /// Each outstanding packet has a piece. It does nothing: a caller learns the clause.
+    pub(crate) fn none_is_empty(&self) {
+        let _next = self.next;
+        self.records.none_is_empty();
+    }
+
+    /// The next outstanding packet that a pass over an ACK names, `None` after the last.
+    pub(crate) fn next_named(&self, pass: &mut AckPass<'_>) -> Option<u64> {
+        let _next = self.next;
+        pass.next(&self.records)
+    }
+
+    /// Lets go what is kept of the packets below the lowest outstanding one. No clause sees it.
+    pub(crate) fn trim(&mut self) {
+        self.records.trim();
+    }
+
+    /// The first piece of an outstanding packet.
+    pub(crate) fn first(&self, number: u64) -> Option<Piece> {
+        let _next = self.next;
+        self.records.first(number)
+    }
+
+    /// The first piece of an outstanding packet is acknowledged, or nothing changes.
+    pub(crate) fn ack_first(&mut self, number: u64, piece: Piece) -> Result<(), NoMemory> {
+        let _next = self.next;
+        piece_acked(&mut self.sends, &mut self.told, &piece)?;
+        self.records.drop_first(number);
+        forget(&mut self.index, piece);
+        Ok(())
+    }
+
+    /// The next lost packet that a pass over an ACK names, `None` after the last.
+    pub(crate) fn next_lost(&self, pass: &mut LostPass<'_>) -> Option<u64> {
+        let _next = self.next;
+        pass.next(&self.lost)
+    }
+
+    /// The first piece of a lost packet.
+    pub(crate) fn first_lost(&self, number: u64) -> Option<Piece> {
+        let _next = self.next;
+        self.lost.first(number)
+    }
+
+    /// The first piece of a lost packet is acknowledged, late, or nothing changes.
+    pub(crate) fn ack_lost_first(&mut self, number: u64, piece: Piece) -> Result<(), NoMemory> {
+        let _next = self.next;
+        piece_acked(&mut self.sends, &mut self.told, &piece)?;
+        self.lost.drop_first(number);
+        Ok(())
+    }
+
+    /// The first piece of an outstanding packet is lost, or nothing changes. It is due again, if it is of use, and kept for a late
+    /// acknowledgement.
+    pub(crate) fn lose_first(&mut self, number: u64, piece: Piece) -> Result<(), NoMemory> {
+        let _next = self.next;
+        self.lost.make_room(number)?;
+        piece_lost(&mut self.sends, &piece)?;
+        self.lost.add(number, piece);
+        self.records.drop_first(number);
+        forget(&mut self.index, piece);
+        Ok(())
+    }
+}
+
+// A chunk, or an item, is acknowledged; or nothing changes.
+fn piece_acked(sends: &mut SendTables, told: &mut ToldItems, piece: &Piece) -> Result<(), NoMemory> {
+    match *piece {
+        Piece::Data { stream, chunk } => sends.acked(stream, chunk),
+        Piece::Told(item) => item_acked(sends, told, item),
+    }
+}
+
+// An item is acknowledged, or nothing changes. A RESET_STREAM is marked in its half, once.
+fn item_acked(sends: &mut SendTables, told: &mut ToldItems, item: Item) -> Result<(), NoMemory> {
+    if let Item::ResetStream { stream, .. } = item {
+        reset_acked(sends, stream);
+        return Ok(());
+    }
+    told.note(item)
+}
+
+// The RESET_STREAM of a half is acknowledged, once more or for the first time.
+fn reset_acked(sends: &mut SendTables, stream: StreamId) {
+    if matches!(sends.get(stream).state(), SendState::ResetSent) {
+        sends.reset_acked(stream);
+    }
+}
+
+// A chunk is due again, or nothing changes. An item is due by itself.
+fn piece_lost(sends: &mut SendTables, piece: &Piece) -> Result<(), NoMemory> {
+    match *piece {
+        Piece::Data { stream, chunk } => sends.lost(stream, chunk),
+        Piece::Told(_) => Ok(()),
+    }
+}
+
+// An item that left the records is told no more.
+fn forget(index: &mut ToldIndex, piece: Piece) {
+    if let Piece::Told(item) = piece {
+        index.remove(item);
+    }
+}

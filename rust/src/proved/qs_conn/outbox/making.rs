@@ -1,0 +1,100 @@
+// Made from crates/qs_conn/src/outbox/making.rt by rust/erase; not edited by hand.
+//! Packets are made.
+use crate::shim::Vec;
+
+use super::Outbox;
+use crate::proved::qs_conn::send_tables::SendTables;
+use crate::proved::qs_ranges::NoMemory;
+use crate::proved::qs_send::{Chunk, Item, Piece, Records};
+use crate::proved::qs_wire::StreamId;
+use crate::shim::mem;
+
+impl Outbox {
+    /// Makes room for a packet of so many pieces. Nothing else changes.
+    pub(crate) fn begin(&mut self, count: usize) -> Result<(), NoMemory> {
+        self.records.make_room(self.next)?;
+        self.pending.reserve(count)?;
+        self.index.reserve(count)?;
+        self.spare = count;
+        Ok(())
+    }
+
+    /// The longest chunk of an open stream that may go out in a frame of at most `room` bytes, with `fresh` bytes of credit.
+    pub(crate) fn next_chunk(&self, stream: StreamId, room: usize, fresh: u64) -> Option<Chunk> {
+        let _next = self.next;
+        let half = self.sends.get(stream);
+        half.is_lawful();
+        half.next_chunk(room, fresh)
+    }
+
+    /// Whether the room alone holds a chunk of an open stream back.
+    pub(crate) fn is_held_by_room(&self, stream: StreamId, room: usize, fresh: u64) -> bool {
+        let _next = self.next;
+        let half = self.sends.get(stream);
+        half.is_lawful();
+        half.is_held_by_room(room, fresh)
+    }
+
+    /// The bytes of a chunk that is still in the buffer.
+    pub(crate) fn bytes(&self, stream: StreamId, chunk: Chunk) -> &[u8] {
+        self.sends.get(stream).bytes(chunk)
+    }
+
+    /// The chunk stands in the packet in the making.
+    pub(crate) fn put_chunk(&mut self, stream: StreamId, chunk: Chunk) {
+        let half = self.sends.get(stream);
+        half.is_lawful();
+        let before = half.sent_end();
+        self.sends.sent(stream, chunk);
+        let after = self.sends.get(stream).sent_end();
+        self.sent = self.sent - before + after;
+        hold(&mut self.pending, Piece::Data { stream, chunk });
+        self.spare -= 1;
+    }
+
+    /// The item stands in the packet in the making. No outstanding packet told it with this value.
+    pub(crate) fn put_item(&mut self, item: Item) {
+        let _next = self.next;
+        note_told(&mut self.sends, &item);
+        hold(&mut self.pending, Piece::Told(item));
+        self.index.insert(item);
+        self.spare -= 1;
+    }
+
+    /// The packet is made, and the next one has the next number.
+    pub(crate) fn commit(&mut self) {
+        let pieces = mem::replace(&mut self.pending, Vec::new(self.alloc));
+        put_pieces(&mut self.records, self.next, pieces);
+        self.next += 1;
+        self.spare = 0;
+    }
+}
+
+// That a STREAM_DATA_BLOCKED was sent is marked in its half.
+fn note_told(sends: &mut SendTables, item: &Item) {
+    if let Item::StreamDataBlocked { stream, .. } = *item {
+        note_blocked(sends, stream);
+    }
+}
+
+fn note_blocked(sends: &mut SendTables, stream: StreamId) {
+    if sends.is_open(stream) {
+        sends.note_blocked(stream);
+    }
+}
+
+// The pieces of a packet are kept, where it has some, and no more memory than they need.
+fn put_pieces(records: &mut Records, number: u64, mut pieces: Vec<Piece>) {
+    if pieces.len() > 0 {
+        pieces.shrink_to_fit();
+        records.put(number, pieces);
+    }
+}
+
+// One piece more, for which there is memory.
+fn hold(pending: &mut Vec<Piece>, piece: Piece) {
+    let _ = match piece {
+        Piece::Data { stream, chunk } => pending.push(Piece::Data { stream, chunk }),
+        Piece::Told(item) => pending.push(Piece::Told(item)),
+    };
+}

@@ -1,0 +1,14 @@
+// Made from crates/qs_conn/src/places.rt by rust/erase; not edited by hand.
+//! Where a stream stands in a table.
+
+use crate::proved::qs_wire::StreamId;
+
+/// The type of a stream, 0 to 3: its two lowest bits (RFC 9000, section 2.1).
+pub(crate) fn kind_of(stream: StreamId) -> usize {
+    (stream.value() % 4) as usize
+}
+
+/// How many streams of its type have a lower number.
+pub(crate) fn index_of(stream: StreamId) -> usize {
+    (stream.value() / 4) as usize
+}

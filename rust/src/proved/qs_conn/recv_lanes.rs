@@ -1,0 +1,324 @@
+// Made from crates/qs_conn/src/recv_lanes.rt by rust/erase; not edited by hand.
+//! The receiving halves of the streams of one type.
+use crate::shim::Vec;
+
+use crate::proved::qs_conn::marks::Marks;
+use crate::proved::qs_calls::RecvReport;
+use crate::proved::qs_machine::Tally;
+use crate::proved::qs_ranges::NoMemory;
+use crate::proved::qs_recv::{Highest, Read, RecvFault, RecvHalf, RecvState, RingAssembly};
+use crate::shim::alloc::Global;
+
+type Half = RecvHalf<RingAssembly>;
+
+/// Which lanes may have a limit that is to be raised.
+#[derive(Clone, Copy)]
+pub(crate) enum Touched {
+    Nothing,
+    Lane(usize),
+    Several,
+}
+
+/// The receiving halves of the streams of one type, by index.
+pub(crate) struct RecvLanes {
+    alloc: Global,
+    halves: Vec<Half>,
+    tally: Tally,
+    touched: Touched,
+    // The greatest window that a lane began with.
+    first: u64,
+    // A lane without a mark has nothing to tell.
+    marks: Marks,
+}
+
+impl RecvLanes {
+    pub(crate) fn new(alloc: Global) -> Self {
+        RecvLanes {
+            alloc,
+            halves: Vec::new(alloc),
+            tally: Tally {
+                spent: 0,
+                taken: 0,
+                stored: 0,
+            },
+            touched: Touched::Nothing,
+            first: 0,
+            marks: Marks::new(alloc),
+        }
+    }
+
+    /// How many lanes are open.
+    pub(crate) fn len(&self) -> usize {
+        self.halves.len()
+    }
+
+    /// The sums over all lanes.
+    pub(crate) fn tally(&self) -> Tally {
+        self.tally
+    }
+
+    /// Whether a frame may be taken at an index, whose lane may have yet to be opened.
+    pub(crate) fn check_stream(
+        &self,
+        window: u64,
+        index: usize,
+        offset: u64,
+        len: u64,
+        fin: bool,
+    ) -> Result<Highest, RecvFault> {
+        if let Some(half) = self.halves.get(index) {
+            half.check_stream(offset, len, fin)
+        } else {
+            let fresh: Half = RecvHalf::new(self.alloc, window);
+            fresh.check_stream(offset, len, fin)
+        }
+    }
+
+    /// Whether a frame's bytes are those that are stored at an index, whose lane may have yet to be opened.
+    pub(crate) fn check_bytes(
+        &self,
+        window: u64,
+        index: usize,
+        offset: u64,
+        bytes: &[u8],
+    ) -> Result<(), RecvFault> {
+        if let Some(half) = self.halves.get(index) {
+            half.check_bytes(offset, bytes)
+        } else {
+            let fresh: Half = RecvHalf::new(self.alloc, window);
+            fresh.check_bytes(offset, bytes)
+        }
+    }
+
+    /// Whether a reset may be taken at an index, whose lane may have yet to be opened.
+    pub(crate) fn check_reset(
+        &self,
+        window: u64,
+        index: usize,
+        size: u64,
+    ) -> Result<Highest, RecvFault> {
+        if let Some(half) = self.halves.get(index) {
+            half.check_reset(size)
+        } else {
+            let fresh: Half = RecvHalf::new(self.alloc, window);
+            fresh.check_reset(size)
+        }
+    }
+
+    /// Opens the lanes of all indexes below a count.
+    pub(crate) fn open_to(&mut self, window: u64, count: usize) -> Result<(), NoMemory> {
+        let before = self.halves.len();
+        let missing = count.saturating_sub(before);
+        for _opened in 0..missing {
+            let fresh: Half = RecvHalf::new(self.alloc, window);
+            if let Err(_refused) = self.halves.push(fresh) {
+                self.halves.truncate(before);
+                return Err(NoMemory);
+            }
+        }
+        if let Err(_refused) = self.marks.open_to(count) {
+            self.halves.truncate(before);
+            return Err(NoMemory);
+        }
+        self.first = self.first.max(window);
+        Ok(())
+    }
+
+    /// Takes the memory for the lanes of all indexes below a count, and opens none.
+    pub(crate) fn reserve_to(&mut self, count: usize) -> Result<(), NoMemory> {
+        let missing = count.saturating_sub(self.halves.len());
+        match self.halves.reserve(missing) {
+            Ok(()) => self.marks.reserve(count),
+            Err(_refused) => Err(NoMemory),
+        }
+    }
+
+    /// Takes the lanes from a count on away, which nothing came for.
+    pub(crate) fn close_to(&mut self, count: usize) {
+        self.halves.truncate(count);
+        self.marks.close_to(count);
+    }
+
+    /// Takes a frame that passed both checks, at an open lane; or changes nothing.
+    pub(crate) fn take_stream(
+        &mut self,
+        index: usize,
+        offset: u64,
+        bytes: &[u8],
+        fin: bool,
+    ) -> Result<(), NoMemory> {
+        let half = &mut self.halves[index];
+        let was = measure(half);
+        let stopped = half.stop_code().is_some();
+        if let Err(_refused) = half.take_stream(offset, bytes, fin) {
+            return Err(NoMemory);
+        }
+        let is = measure(half);
+        self.marks.set(index, is_busy(half, self.first));
+        self.tally = moved(self.tally, was, is);
+        if stopped {
+            self.touched = touch(self.touched, index);
+        }
+        Ok(())
+    }
+
+    /// Takes a reset that passed the check, at an open lane.
+    pub(crate) fn take_reset(&mut self, index: usize, code: u64, size: u64) {
+        let half = &mut self.halves[index];
+        let was = measure(half);
+        half.take_reset(code, size);
+        let is = measure(half);
+        self.marks.set(index, is_busy(half, self.first));
+        self.tally = moved(self.tally, was, is);
+    }
+
+    /// Reads at an open lane.
+    pub(crate) fn read(&mut self, index: usize, into: &mut [u8]) -> Read {
+        let half = &mut self.halves[index];
+        let was = measure(half);
+        let answer = half.read(into);
+        let is = measure(half);
+        self.marks.set(index, is_busy(half, self.first));
+        self.tally = moved(self.tally, was, is);
+        self.touched = touch(self.touched, index);
+        answer
+    }
+
+    /// Stops an open lane.
+    pub(crate) fn stop(&mut self, index: usize, code: u64) {
+        let half = &mut self.halves[index];
+        let was = measure(half);
+        half.stop(code);
+        let is = measure(half);
+        self.marks.set(index, true);
+        self.tally = moved(self.tally, was, is);
+        self.touched = touch(self.touched, index);
+    }
+
+    /// Whether a lane is in Data Read or Reset Read (RFC 9000, section 3.2).
+    pub(crate) fn has_ended(&self, index: usize) -> bool {
+        let Some(half) = self.halves.get(index) else {
+            return false;
+        };
+        matches!(half.state(), RecvState::DataRead | RecvState::ResetRead)
+    }
+
+    /// How a lane stands, where it is open.
+    pub(crate) fn report(&self, index: usize) -> Option<RecvReport> {
+        let half = self.halves.get(index)?;
+        Some(RecvReport {
+            state: half.state(),
+            read_count: half.read_count(),
+            highest: half.highest(),
+            limit: half.limit(),
+            final_size: half.final_size(),
+        })
+    }
+
+    /// The limit of an open lane of which no final size is known.
+    pub(crate) fn limit_to_tell(&self, index: usize) -> Option<u64> {
+        let half = self.halves.get(index)?;
+        half.is_lawful();
+        match half.final_size() {
+            Some(_known) => None,
+            None => Some(half.limit()),
+        }
+    }
+
+    /// The code of a stop that the peer is to be told of.
+    pub(crate) fn stop_to_tell(&self, index: usize) -> Option<u64> {
+        let half = self.halves.get(index)?;
+        match half.state() {
+            RecvState::Recv | RecvState::SizeKnown => half.stop_code(),
+            _ => None,
+        }
+    }
+
+    /// Each limit becomes the next one. Only lanes that were touched are looked at.
+    pub(crate) fn raise_all(&mut self) {
+        raise_touched(&mut self.halves, &mut self.marks, self.first, self.touched);
+        self.touched = Touched::Nothing;
+    }
+
+    /// The least index from one on whose lane may have a stop or a limit above `window` to tell.
+    pub(crate) fn next_marked(&self, from: usize, window: u64) -> Option<usize> {
+        if window < self.first {
+            // Some lanes began with more, so each of them may have a limit to tell.
+            return self.next_open(from);
+        }
+        self.marks.next(from)
+    }
+
+    // An index from one on, where a lane is open there.
+    fn next_open(&self, from: usize) -> Option<usize> {
+        if from < self.halves.len() {
+            return Some(from);
+        }
+        None
+    }
+}
+
+// Whether a lane has a stop to tell, or a limit above the window that lanes began with.
+fn is_busy(half: &Half, first: u64) -> bool {
+    if first < half.limit() && half.final_size().is_none() {
+        return true;
+    }
+    match half.state() {
+        RecvState::Recv | RecvState::SizeKnown => half.stop_code().is_some(),
+        _ => false,
+    }
+}
+
+// What a half adds to the sums.
+fn measure(half: &Half) -> Tally {
+    half.is_lawful();
+    Tally {
+        spent: half.highest(),
+        taken: half.taken(),
+        stored: half.stored(),
+    }
+}
+
+// The sums once a lane's part became another.
+fn moved(total: Tally, was: Tally, is: Tally) -> Tally {
+    Tally {
+        spent: total.spent - was.spent + is.spent,
+        taken: total.taken - was.taken + is.taken,
+        stored: total.stored - was.stored + is.stored,
+    }
+}
+
+// One lane more was touched.
+fn touch(touched: Touched, index: usize) -> Touched {
+    match touched {
+        Touched::Nothing => Touched::Lane(index),
+        Touched::Lane(before) if before == index => Touched::Lane(index),
+        _ => Touched::Several,
+    }
+}
+
+fn raise_touched(halves: &mut Vec<Half>, marks: &mut Marks, first: u64, touched: Touched) {
+    match touched {
+        Touched::Nothing => {}
+        Touched::Lane(index) => raise_one(halves, marks, first, index),
+        Touched::Several => raise_each(halves, marks, first),
+    }
+}
+
+fn raise_one(halves: &mut Vec<Half>, marks: &mut Marks, first: u64, index: usize) {
+    if index < halves.len() {
+        raise_at(halves, marks, first, index);
+    }
+}
+
+fn raise_each(halves: &mut Vec<Half>, marks: &mut Marks, first: u64) {
+    for index in 0..halves.len() {
+        raise_at(halves, marks, first, index);
+    }
+}
+
+fn raise_at(halves: &mut Vec<Half>, marks: &mut Marks, first: u64, index: usize) {
+    let half = &mut halves[index];
+    let _ = half.raise();
+    marks.set(index, is_busy(half, first));
+}

@@ -1,0 +1,194 @@
+// Made from crates/qs_conn/src/recv_tables.rt by rust/erase; not edited by hand.
+//! The receiving halves of an end.
+
+use crate::proved::qs_conn::places::{index_of, kind_of};
+use crate::proved::qs_conn::recv_lanes::RecvLanes;
+use crate::proved::qs_calls::RecvReport;
+use crate::proved::qs_machine::Tally;
+use crate::proved::qs_ranges::NoMemory;
+use crate::proved::qs_recv::{Highest, Read, RecvFault};
+use crate::proved::qs_wire::StreamId;
+use crate::shim::alloc::Global;
+
+/// The receiving halves of an end, by the type of the stream and by its index.
+pub(crate) struct RecvTables {
+    // Of each of the four types, in the order of their bits.
+    types: [RecvLanes; 4],
+}
+
+impl RecvTables {
+    pub(crate) fn new(alloc: Global) -> Self {
+        RecvTables {
+            types: [
+                RecvLanes::new(alloc),
+                RecvLanes::new(alloc),
+                RecvLanes::new(alloc),
+                RecvLanes::new(alloc),
+            ],
+        }
+    }
+
+    /// Whether the stream has a receiving half.
+    pub(crate) fn is_open(&self, stream: StreamId) -> bool {
+        let lanes = &self.types[kind_of(stream)];
+        index_of(stream) < lanes.len()
+    }
+
+    /// Whether a frame may be taken, at a stream that may have yet to be opened with that window.
+    pub(crate) fn check_stream(
+        &self,
+        window: u64,
+        stream: StreamId,
+        offset: u64,
+        len: u64,
+        fin: bool,
+    ) -> Result<Highest, RecvFault> {
+        let lanes = &self.types[kind_of(stream)];
+        lanes.check_stream(window, index_of(stream), offset, len, fin)
+    }
+
+    /// Whether a frame's bytes are those that are stored, at a stream that may have yet to be opened with that window.
+    pub(crate) fn check_bytes(
+        &self,
+        window: u64,
+        stream: StreamId,
+        offset: u64,
+        bytes: &[u8],
+    ) -> Result<(), RecvFault> {
+        let lanes = &self.types[kind_of(stream)];
+        lanes.check_bytes(window, index_of(stream), offset, bytes)
+    }
+
+    /// Whether a reset may be taken, at a stream that may have yet to be opened with that window.
+    pub(crate) fn check_reset(
+        &self,
+        window: u64,
+        stream: StreamId,
+        size: u64,
+    ) -> Result<Highest, RecvFault> {
+        let lanes = &self.types[kind_of(stream)];
+        lanes.check_reset(window, index_of(stream), size)
+    }
+
+    /// How many streams of the type of this one are open.
+    pub(crate) fn count(&self, stream: StreamId) -> usize {
+        self.count_of(kind_of(stream))
+    }
+
+    /// How many streams of a type are open.
+    pub(crate) fn count_of(&self, kind: usize) -> usize {
+        let lanes = &self.types[kind];
+        lanes.len()
+    }
+
+    /// Takes the memory for a stream and all lower ones of its type, and opens none.
+    pub(crate) fn reserve(&mut self, stream: StreamId) -> Result<(), NoMemory> {
+        let lanes = &mut self.types[kind_of(stream)];
+        lanes.reserve_to(index_of(stream) + 1)
+    }
+
+    /// Takes the streams of the type of this one from a count on away, which nothing came for.
+    pub(crate) fn close_to(&mut self, stream: StreamId, count: usize) {
+        let lanes = &mut self.types[kind_of(stream)];
+        lanes.close_to(count);
+    }
+
+    /// Opens a stream and all lower ones of its type.
+    pub(crate) fn open_to(&mut self, window: u64, stream: StreamId) -> Result<(), NoMemory> {
+        let lanes = &mut self.types[kind_of(stream)];
+        lanes.open_to(window, index_of(stream) + 1)
+    }
+
+    /// Takes a frame that passed both checks, at an open stream; or changes nothing.
+    pub(crate) fn take_stream(
+        &mut self,
+        stream: StreamId,
+        offset: u64,
+        bytes: &[u8],
+        fin: bool,
+    ) -> Result<(), NoMemory> {
+        let lanes = &mut self.types[kind_of(stream)];
+        lanes.take_stream(index_of(stream), offset, bytes, fin)
+    }
+
+    /// Takes a reset that passed the check, at an open stream.
+    pub(crate) fn take_reset(&mut self, stream: StreamId, code: u64, size: u64) {
+        let lanes = &mut self.types[kind_of(stream)];
+        lanes.take_reset(index_of(stream), code, size);
+    }
+
+    /// Reads at an open stream.
+    pub(crate) fn read(&mut self, stream: StreamId, into: &mut [u8]) -> Read {
+        let lanes = &mut self.types[kind_of(stream)];
+        lanes.read(index_of(stream), into)
+    }
+
+    /// Stops an open stream.
+    pub(crate) fn stop(&mut self, stream: StreamId, code: u64) {
+        let lanes = &mut self.types[kind_of(stream)];
+        lanes.stop(index_of(stream), code);
+    }
+
+    /// Whether a stream's receiving half is in Data Read or Reset Read (RFC 9000, section 3.2).
+    pub(crate) fn has_ended(&self, stream: StreamId) -> bool {
+        let lanes = &self.types[kind_of(stream)];
+        lanes.has_ended(index_of(stream))
+    }
+
+    /// No type has more streams than have a number. It does nothing: a caller learns the clause.
+    pub(crate) fn are_few(&self) {
+        let _client_bidi = self.types[0].len();
+        let _server_bidi = self.types[1].len();
+        let _client_uni = self.types[2].len();
+        let _server_uni = self.types[3].len();
+    }
+
+    /// How a stream stands, where it is open.
+    pub(crate) fn report(&self, stream: StreamId) -> Option<RecvReport> {
+        let lanes = &self.types[kind_of(stream)];
+        lanes.report(index_of(stream))
+    }
+
+    /// The limit of an open stream of which no final size is known.
+    pub(crate) fn limit_to_tell(&self, stream: StreamId) -> Option<u64> {
+        let lanes = &self.types[kind_of(stream)];
+        lanes.limit_to_tell(index_of(stream))
+    }
+
+    /// The code of a stop that the peer is to be told of.
+    pub(crate) fn stop_to_tell(&self, stream: StreamId) -> Option<u64> {
+        let lanes = &self.types[kind_of(stream)];
+        lanes.stop_to_tell(index_of(stream))
+    }
+
+    /// The least number from one on of a stream of a type that may have a stop or a limit above `window` to tell.
+    pub(crate) fn next_of(&self, kind: usize, window: u64, from: u64) -> Option<u64> {
+        let lanes = &self.types[kind];
+        let first = (from + 3 - kind as u64) / 4;
+        let index = lanes.next_marked(first as usize, window)?;
+        Some((index * 4 + kind) as u64)
+    }
+
+    /// The sums over all streams.
+    pub(crate) fn tally(&self) -> Tally {
+        let bidi = sum(self.types[0].tally(), self.types[1].tally());
+        let uni = sum(self.types[2].tally(), self.types[3].tally());
+        sum(bidi, uni)
+    }
+
+    /// Each limit becomes the next one.
+    pub(crate) fn raise_all(&mut self) {
+        self.types[0].raise_all();
+        self.types[1].raise_all();
+        self.types[2].raise_all();
+        self.types[3].raise_all();
+    }
+}
+
+fn sum(a: Tally, b: Tally) -> Tally {
+    Tally {
+        spent: a.spent + b.spent,
+        taken: a.taken + b.taken,
+        stored: a.stored + b.stored,
+    }
+}

@@ -1,0 +1,163 @@
+// Made from crates/qs_conn/src/send_lanes.rt by rust/erase; not edited by hand.
+//! The sending halves of the streams of one type.
+use crate::shim::Vec;
+
+use crate::proved::qs_conn::marks::Marks;
+use crate::proved::qs_ranges::NoMemory;
+use crate::proved::qs_send::{Chunk, SendFault, SendHalf, SendState};
+use crate::proved::qs_wire::StreamId;
+use crate::shim::alloc::Global;
+
+/// The sending halves of the streams of one type, by index.
+pub(crate) struct SendLanes {
+    alloc: Global,
+    halves: Vec<SendHalf>,
+    // A half without a mark is quiet.
+    marks: Marks,
+}
+
+impl SendLanes {
+    pub(crate) fn new(alloc: Global) -> Self {
+        SendLanes {
+            alloc,
+            halves: Vec::new(alloc),
+            marks: Marks::new(alloc),
+        }
+    }
+
+    /// How many halves are open.
+    pub(crate) fn len(&self) -> usize {
+        self.halves.len()
+    }
+
+    /// An open half.
+    pub(crate) fn get(&self, index: usize) -> &SendHalf {
+        &self.halves[index]
+    }
+
+    /// Opens the halves of all indexes below a count, in streams of that type.
+    pub(crate) fn open_to(
+        &mut self,
+        kind: u64,
+        limit: u64,
+        buffer: usize,
+        count: usize,
+    ) -> Result<(), NoMemory> {
+        let before = self.halves.len();
+        let missing = count.saturating_sub(before);
+        for opened in 0..missing {
+            let number = (before + opened) as u64 * 4 + kind;
+            let id = StreamId::new(number).unwrap();
+            let fresh = SendHalf::new(self.alloc, id, limit, buffer);
+            if let Err(_refused) = self.halves.push(fresh) {
+                self.halves.truncate(before);
+                return Err(NoMemory);
+            }
+        }
+        if let Err(_refused) = self.marks.open_to(count) {
+            self.halves.truncate(before);
+            return Err(NoMemory);
+        }
+        Ok(())
+    }
+
+    /// Takes the memory for the lanes of all indexes below a count, and opens none.
+    pub(crate) fn reserve_to(&mut self, count: usize) -> Result<(), NoMemory> {
+        let missing = count.saturating_sub(self.halves.len());
+        match self.halves.reserve(missing) {
+            Ok(()) => self.marks.reserve(count),
+            Err(_refused) => Err(NoMemory),
+        }
+    }
+
+    /// Takes the halves from a count on away.
+    pub(crate) fn close_to(&mut self, count: usize) {
+        self.halves.truncate(count);
+        self.marks.close_to(count);
+    }
+
+    /// Accepts bytes at an open half, as many as there is room for; or changes nothing.
+    pub(crate) fn write(&mut self, index: usize, bytes: &[u8]) -> Result<usize, SendFault> {
+        let half = &mut self.halves[index];
+        let answer = half.write(bytes);
+        self.marks.set(index, is_busy(half));
+        answer
+    }
+
+    /// Asks for the end of an open half.
+    pub(crate) fn finish(&mut self, index: usize) -> Result<(), SendFault> {
+        let half = &mut self.halves[index];
+        let answer = half.finish();
+        self.marks.set(index, is_busy(half));
+        answer
+    }
+
+    /// Breaks an open half off.
+    pub(crate) fn reset(&mut self, index: usize, code: u64) -> Result<(), SendFault> {
+        let half = &mut self.halves[index];
+        let answer = half.reset(code);
+        self.marks.set(index, is_busy(half));
+        answer
+    }
+
+    /// Takes in that the peer allows the offsets of an open half below a limit.
+    pub(crate) fn allow(&mut self, index: usize, limit: u64) {
+        let half = &mut self.halves[index];
+        half.allow(limit);
+    }
+
+    /// Takes in that a STREAM_DATA_BLOCKED was sent.
+    pub(crate) fn note_blocked(&mut self, index: usize) {
+        let half = &mut self.halves[index];
+        half.note_blocked();
+    }
+
+    /// Takes in that the RESET_STREAM is acknowledged.
+    pub(crate) fn reset_acked(&mut self, index: usize) {
+        let half = &mut self.halves[index];
+        half.reset_acked();
+        self.marks.set(index, is_busy(half));
+    }
+
+    /// Takes in that a chunk was sent.
+    pub(crate) fn sent(&mut self, index: usize, chunk: Chunk) {
+        let half = &mut self.halves[index];
+        half.sent(chunk);
+        self.marks.set(index, is_busy(half));
+    }
+
+    /// Takes in that a chunk is acknowledged, or changes nothing.
+    pub(crate) fn acked(&mut self, index: usize, chunk: Chunk) -> Result<(), NoMemory> {
+        let half = &mut self.halves[index];
+        let answer = half.acked(chunk);
+        self.marks.set(index, is_busy(half));
+        answer
+    }
+
+    /// Takes in that a chunk is lost, or changes nothing.
+    pub(crate) fn lost(&mut self, index: usize, chunk: Chunk) -> Result<(), NoMemory> {
+        let half = &mut self.halves[index];
+        let answer = half.lost(chunk);
+        self.marks.set(index, is_busy(half));
+        answer
+    }
+
+    /// The least index from one on whose half may have something to send. The halves between are quiet.
+    pub(crate) fn next_marked(&self, from: usize) -> Option<usize> {
+        self.marks.next(from)
+    }
+}
+
+// Whether a half has something to send or to tell: unacknowledged bytes or an end that is due, or a reset that isn't acknowledged.
+fn is_busy(half: &SendHalf) -> bool {
+    if half.end_due() {
+        return true;
+    }
+    if let Some(_offset) = half.lowest_due() {
+        return true;
+    }
+    if let Some(_code) = half.reset_code() {
+        return !matches!(half.state(), SendState::ResetRecvd);
+    }
+    half.sent_end() < half.written()
+}

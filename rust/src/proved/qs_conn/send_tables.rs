@@ -1,0 +1,144 @@
+// Made from crates/qs_conn/src/send_tables.rt by rust/erase; not edited by hand.
+//! The sending halves of an end.
+
+use crate::proved::qs_conn::marks::least;
+use crate::proved::qs_conn::places::{index_of, kind_of};
+use crate::proved::qs_conn::send_lanes::SendLanes;
+use crate::proved::qs_ranges::NoMemory;
+use crate::proved::qs_send::{Chunk, SendFault, SendHalf, SendState};
+use crate::proved::qs_wire::StreamId;
+use crate::shim::alloc::Global;
+
+/// The sending halves of an end, by the type of the stream and by its index.
+pub(crate) struct SendTables {
+    // Of each of the four types, in the order of their bits.
+    types: [SendLanes; 4],
+}
+
+impl SendTables {
+    pub(crate) fn new(alloc: Global) -> Self {
+        SendTables {
+            types: [
+                SendLanes::new(alloc),
+                SendLanes::new(alloc),
+                SendLanes::new(alloc),
+                SendLanes::new(alloc),
+            ],
+        }
+    }
+
+    /// Whether the stream has a sending half.
+    pub(crate) fn is_open(&self, stream: StreamId) -> bool {
+        let lanes = &self.types[kind_of(stream)];
+        index_of(stream) < lanes.len()
+    }
+
+    /// The half of an open stream.
+    pub(crate) fn get(&self, stream: StreamId) -> &SendHalf {
+        let lanes = &self.types[kind_of(stream)];
+        lanes.get(index_of(stream))
+    }
+
+    /// How many streams of the type of this one are open.
+    pub(crate) fn count(&self, stream: StreamId) -> usize {
+        self.count_of(kind_of(stream))
+    }
+
+    /// How many streams of a type are open.
+    pub(crate) fn count_of(&self, kind: usize) -> usize {
+        let lanes = &self.types[kind];
+        lanes.len()
+    }
+
+    /// Opens a stream and all lower ones of its type.
+    pub(crate) fn open_to(
+        &mut self,
+        limit: u64,
+        buffer: usize,
+        stream: StreamId,
+    ) -> Result<(), NoMemory> {
+        let lanes = &mut self.types[kind_of(stream)];
+        lanes.open_to(kind_of(stream) as u64, limit, buffer, index_of(stream) + 1)
+    }
+
+    /// Takes the memory for a stream and all lower ones of its type, and opens none.
+    pub(crate) fn reserve(&mut self, stream: StreamId) -> Result<(), NoMemory> {
+        let lanes = &mut self.types[kind_of(stream)];
+        lanes.reserve_to(index_of(stream) + 1)
+    }
+
+    /// Takes the streams of the type of this one from a count on away.
+    pub(crate) fn close_to(&mut self, stream: StreamId, count: usize) {
+        let lanes = &mut self.types[kind_of(stream)];
+        lanes.close_to(count);
+    }
+
+    /// Accepts bytes at an open stream, as many as there is room for; or changes nothing.
+    pub(crate) fn write(&mut self, stream: StreamId, bytes: &[u8]) -> Result<usize, SendFault> {
+        let lanes = &mut self.types[kind_of(stream)];
+        lanes.write(index_of(stream), bytes)
+    }
+
+    /// Asks for the end of an open stream.
+    pub(crate) fn finish(&mut self, stream: StreamId) -> Result<(), SendFault> {
+        let lanes = &mut self.types[kind_of(stream)];
+        lanes.finish(index_of(stream))
+    }
+
+    /// Breaks an open stream off.
+    pub(crate) fn reset(&mut self, stream: StreamId, code: u64) -> Result<(), SendFault> {
+        let lanes = &mut self.types[kind_of(stream)];
+        lanes.reset(index_of(stream), code)
+    }
+
+    /// Takes in that the peer allows the offsets of an open stream below a limit.
+    pub(crate) fn allow(&mut self, stream: StreamId, limit: u64) {
+        let lanes = &mut self.types[kind_of(stream)];
+        lanes.allow(index_of(stream), limit);
+    }
+
+    /// Takes in that a STREAM_DATA_BLOCKED was sent.
+    pub(crate) fn note_blocked(&mut self, stream: StreamId) {
+        let lanes = &mut self.types[kind_of(stream)];
+        lanes.note_blocked(index_of(stream));
+    }
+
+    /// Takes in that the RESET_STREAM is acknowledged.
+    pub(crate) fn reset_acked(&mut self, stream: StreamId) {
+        let lanes = &mut self.types[kind_of(stream)];
+        lanes.reset_acked(index_of(stream));
+    }
+
+    /// Takes in that a chunk was sent.
+    pub(crate) fn sent(&mut self, stream: StreamId, chunk: Chunk) {
+        let lanes = &mut self.types[kind_of(stream)];
+        lanes.sent(index_of(stream), chunk);
+    }
+
+    /// Takes in that a chunk is acknowledged, or changes nothing.
+    pub(crate) fn acked(&mut self, stream: StreamId, chunk: Chunk) -> Result<(), NoMemory> {
+        let lanes = &mut self.types[kind_of(stream)];
+        lanes.acked(index_of(stream), chunk)
+    }
+
+    /// Takes in that a chunk is lost, or changes nothing.
+    pub(crate) fn lost(&mut self, stream: StreamId, chunk: Chunk) -> Result<(), NoMemory> {
+        let lanes = &mut self.types[kind_of(stream)];
+        lanes.lost(index_of(stream), chunk)
+    }
+
+    /// The least number from one on of a stream that may have something to send. The halves of the streams between are quiet.
+    pub(crate) fn next_marked(&self, from: u64) -> Option<StreamId> {
+        let bidi = least(self.next_of(0, from), self.next_of(1, from));
+        let uni = least(self.next_of(2, from), self.next_of(3, from));
+        StreamId::new(least(bidi, uni)?)
+    }
+
+    // The least such number among the streams of a type.
+    fn next_of(&self, kind: usize, from: u64) -> Option<u64> {
+        let lanes = &self.types[kind];
+        let first = (from + 3 - kind as u64) / 4;
+        let index = lanes.next_marked(first as usize)?;
+        Some((index * 4 + kind) as u64)
+    }
+}

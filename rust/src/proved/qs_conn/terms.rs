@@ -1,0 +1,153 @@
+// Made from crates/qs_conn/src/terms.rt by rust/erase; not edited by hand.
+//! Which control items an end has to tell.
+
+use crate::proved::qs_conn::endpoint::{is_uni, role_bit};
+use crate::proved::qs_conn::marks::least;
+use crate::proved::qs_conn::outbox::Outbox;
+use crate::proved::qs_conn::places::kind_of;
+use crate::proved::qs_conn::recv_tables::RecvTables;
+use crate::proved::qs_conn::slot::Slot;
+use crate::proved::qs_calls::Settings;
+use crate::proved::qs_send::Item;
+use crate::proved::qs_wire::{Dir, Role, StreamId};
+
+/// What an end has to tell beside what its streams have.
+#[derive(Clone, Copy)]
+pub(crate) struct Terms {
+    pub role: Role,
+    pub settings: Settings,
+    pub granted: u64,
+    pub granted_bidi: u64,
+    pub granted_uni: u64,
+    pub known_data: u64,
+    pub known_bidi: u64,
+    pub known_uni: u64,
+    pub wanted_bidi: Option<u64>,
+    pub wanted_uni: Option<u64>,
+}
+
+impl Terms {
+    /// The item of a slot that is to be told while no packet told it (RFC 9000, sections 4.1, 4.6 and 13.3).
+    pub(crate) fn current(&self, outbox: &Outbox, recvs: &RecvTables, slot: Slot) -> Option<Item> {
+        match slot {
+            Slot::MaxData => self.max_data(),
+            Slot::MaxStreamData(stream) => self.max_stream_data(recvs, stream),
+            Slot::MaxStreams(dir) => self.max_streams(dir),
+            Slot::ResetStream(stream) => reset_stream(outbox, stream),
+            Slot::StopSending(stream) => stop_sending(recvs, stream),
+            Slot::DataBlocked => self.data_blocked(outbox),
+            Slot::StreamDataBlocked(stream) => stream_data_blocked(outbox, stream),
+            Slot::StreamsBlocked(dir) => self.streams_blocked(dir),
+        }
+    }
+
+    // The connection's limit, once it was raised.
+    fn max_data(&self) -> Option<Item> {
+        if self.granted <= self.settings.conn_window {
+            return None;
+        }
+        Some(Item::MaxData {
+            maximum: self.granted,
+        })
+    }
+
+    // The count of streams granted, once it was raised.
+    fn max_streams(&self, dir: Dir) -> Option<Item> {
+        let (first, count) = match dir {
+            Dir::Bidi => (self.settings.grant_bidi, self.granted_bidi),
+            Dir::Uni => (self.settings.grant_uni, self.granted_uni),
+        };
+        if count <= first {
+            return None;
+        }
+        Some(Item::MaxStreams { dir, count })
+    }
+
+    // A stream's limit, once it was raised, while no final size is known.
+    fn max_stream_data(&self, recvs: &RecvTables, stream: StreamId) -> Option<Item> {
+        match recvs.limit_to_tell(stream) {
+            Some(maximum) if self.window(stream) < maximum => {
+                Some(Item::MaxStreamData { stream, maximum })
+            }
+            _ => None,
+        }
+    }
+
+    // The window of a receiving half.
+    fn window(&self, stream: StreamId) -> u64 {
+        if is_uni(stream) {
+            self.settings.uni
+        } else if kind_of(stream) % 2 == role_bit(self.role) {
+            self.settings.bidi_local
+        } else {
+            self.settings.bidi_remote
+        }
+    }
+
+    /// The least number from one on of a stream that may have a stop or a raised limit to tell.
+    pub(crate) fn next_receiving(&self, recvs: &RecvTables, from: u64) -> Option<StreamId> {
+        let bidi = least(self.next_of(recvs, 0, from), self.next_of(recvs, 1, from));
+        let uni = least(self.next_of(recvs, 2, from), self.next_of(recvs, 3, from));
+        StreamId::new(least(bidi, uni)?)
+    }
+
+    // The least such number among the streams of a type.
+    fn next_of(&self, recvs: &RecvTables, kind: usize, from: u64) -> Option<u64> {
+        let any_of_the_type = StreamId::new(kind as u64).unwrap();
+        recvs.next_of(kind, self.window(any_of_the_type), from)
+    }
+
+    // The connection's limit, where it holds bytes of a stream back.
+    fn data_blocked(&self, outbox: &Outbox) -> Option<Item> {
+        if outbox.sent_sum() == self.known_data && any_wants_more(outbox) {
+            Some(Item::DataBlocked {
+                limit: self.known_data,
+            })
+        } else {
+            None
+        }
+    }
+
+    // The count of streams at which `open` was blocked, while it is the peer's.
+    fn streams_blocked(&self, dir: Dir) -> Option<Item> {
+        let (wanted, count) = match dir {
+            Dir::Bidi => (self.wanted_bidi, self.known_bidi),
+            Dir::Uni => (self.wanted_uni, self.known_uni),
+        };
+        match wanted {
+            Some(blocked) if blocked == count => Some(Item::StreamsBlocked { dir, count }),
+            _ => None,
+        }
+    }
+}
+
+fn reset_stream(outbox: &Outbox, stream: StreamId) -> Option<Item> {
+    let reset = outbox.reset_of(stream)?;
+    Some(Item::ResetStream {
+        stream,
+        code: reset.code,
+        final_size: reset.size,
+    })
+}
+
+fn stop_sending(recvs: &RecvTables, stream: StreamId) -> Option<Item> {
+    let code = recvs.stop_to_tell(stream)?;
+    Some(Item::StopSending { stream, code })
+}
+
+fn stream_data_blocked(outbox: &Outbox, stream: StreamId) -> Option<Item> {
+    let limit = outbox.blocked_at(stream)?;
+    Some(Item::StreamDataBlocked { stream, limit })
+}
+
+// Whether the connection's credit alone holds bytes of some stream back.
+fn any_wants_more(outbox: &Outbox) -> bool {
+    let mut from = 0;
+    while let Some(stream) = outbox.next_marked(from) {
+        if outbox.wants_more(stream) {
+            return true;
+        }
+        from = stream.value() + 1;
+    }
+    false
+}

@@ -1,0 +1,112 @@
+// Made from crates/qs_conn/src/told.rt by rust/erase; not edited by hand.
+//! What was acknowledged of control items.
+
+use crate::proved::qs_conn::stream_values::StreamValues;
+use crate::proved::qs_ranges::{NoMemory, RangeSet};
+use crate::proved::qs_send::Item;
+use crate::proved::qs_wire::{Dir, StreamId};
+use crate::shim::alloc::Global;
+
+/// The greatest acknowledged value of each control item. Of a reset the stream's sending half tells it.
+pub(crate) struct ToldItems {
+    max_data: Option<u64>,
+    max_stream_data: StreamValues,
+    stop_sending: RangeSet,
+    data_blocked: Option<u64>,
+    stream_data_blocked: StreamValues,
+    bidi_blocked: Option<u64>,
+    uni_blocked: Option<u64>,
+    bidi_streams: Option<u64>,
+    uni_streams: Option<u64>,
+}
+
+impl ToldItems {
+    /// Nothing was acknowledged. It takes no memory.
+    pub(crate) fn new(alloc: Global) -> Self {
+        ToldItems {
+            max_data: None,
+            max_stream_data: StreamValues::new(alloc),
+            stop_sending: RangeSet::new(alloc),
+            data_blocked: None,
+            stream_data_blocked: StreamValues::new(alloc),
+            bidi_blocked: None,
+            uni_blocked: None,
+            bidi_streams: None,
+            uni_streams: None,
+        }
+    }
+
+    /// A packet that told the item was acknowledged.
+    pub(crate) fn note(&mut self, item: Item) -> Result<(), NoMemory> {
+        match item {
+            Item::MaxData { maximum } => {
+                raise(&mut self.max_data, maximum);
+                Ok(())
+            }
+            Item::MaxStreamData { stream, maximum } => {
+                self.max_stream_data.raise(stream, maximum)
+            }
+            Item::MaxStreams { dir, count } => {
+                match dir {
+                    Dir::Bidi => raise(&mut self.bidi_streams, count),
+                    Dir::Uni => raise(&mut self.uni_streams, count),
+                }
+                Ok(())
+            }
+            Item::ResetStream { .. } => Ok(()),
+            Item::StopSending { stream, .. } => add(&mut self.stop_sending, stream),
+            Item::DataBlocked { limit } => {
+                raise(&mut self.data_blocked, limit);
+                Ok(())
+            }
+            Item::StreamDataBlocked { stream, limit } => {
+                self.stream_data_blocked.raise(stream, limit)
+            }
+            Item::StreamsBlocked { dir, count } => {
+                match dir {
+                    Dir::Bidi => raise(&mut self.bidi_blocked, count),
+                    Dir::Uni => raise(&mut self.uni_blocked, count),
+                }
+                Ok(())
+            }
+        }
+    }
+
+    /// Whether a packet that told the item with this value was acknowledged, of any item but a reset.
+    pub(crate) fn is_acked(&self, item: Item) -> bool {
+        match item {
+            Item::MaxData { maximum } => self.max_data == Some(maximum),
+            Item::MaxStreamData { stream, maximum } => {
+                self.max_stream_data.is_greatest(stream, maximum)
+            }
+            Item::MaxStreams { dir, count } => match dir {
+                Dir::Bidi => self.bidi_streams == Some(count),
+                Dir::Uni => self.uni_streams == Some(count),
+            },
+            Item::ResetStream { .. } => false,
+            Item::StopSending { stream, .. } => self.stop_sending.has(stream.value()),
+            Item::DataBlocked { limit } => self.data_blocked == Some(limit),
+            Item::StreamDataBlocked { stream, limit } => {
+                self.stream_data_blocked.is_greatest(stream, limit)
+            }
+            Item::StreamsBlocked { dir, count } => match dir {
+                Dir::Bidi => self.bidi_blocked == Some(count),
+                Dir::Uni => self.uni_blocked == Some(count),
+            },
+        }
+    }
+}
+
+// Keeps the value, where it is greater than the one known.
+fn raise(known: &mut Option<u64>, value: u64) {
+    *known = match *known {
+        Some(before) => Some(before.max(value)),
+        None => Some(value),
+    };
+}
+
+// Adds the stream's number.
+fn add(streams: &mut RangeSet, stream: StreamId) -> Result<(), NoMemory> {
+    let number = stream.value();
+    streams.insert(number, number + 1)
+}

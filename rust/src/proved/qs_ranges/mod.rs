@@ -1,0 +1,209 @@
+// Made from crates/qs_ranges/src/lib.rt by rust/erase; not edited by hand.
+//! Sets of numbers, kept as the longest runs of their members.
+
+use crate::shim::Vec;
+
+use crate::shim::alloc::{AllocError, AllocFailed, Global};
+
+pub mod laws;
+
+/// No memory was left.
+#[derive(Clone, Copy, Debug, PartialEq, Eq)]
+pub struct NoMemory;
+
+impl From<AllocError> for NoMemory {
+    fn from(_error: AllocError) -> Self {
+        NoMemory
+    }
+}
+
+impl<T> From<AllocFailed<T>> for NoMemory {
+    fn from(_error: AllocFailed<T>) -> Self {
+        NoMemory
+    }
+}
+
+/// A set of numbers below 2^62, kept as its longest runs in rising order.
+pub struct RangeSet {
+    runs: Vec<(u64, u64)>,
+}
+
+impl RangeSet {
+    /// The empty set. It takes no memory.
+    pub fn new(alloc: Global) -> Self {
+        Self {
+            runs: Vec::new(alloc),
+        }
+    }
+
+    /// Adds the numbers from `lo` on and below `hi`; an empty range changes nothing. `NoMemory` leaves the set as it was.
+    ///
+    /// It takes constant time at or past the end of the set, and elsewhere a search and one move of the runs behind.
+    pub fn insert(&mut self, lo: u64, hi: u64) -> Result<(), NoMemory> {
+        if lo == hi {
+            return Ok(());
+        }
+        let (from, to) = span_of(&self.runs, lo, hi + 1);
+        if from == to {
+            self.runs.insert(from, (lo, hi))?;
+        } else {
+            let start = lo.min(self.runs[from].0);
+            let end = hi.max(self.runs[to - 1].1);
+            replace(&mut self.runs, from, to, (start, end));
+        }
+        Ok(())
+    }
+
+    /// Takes out the numbers from `lo` on and below `hi`; an empty range changes nothing. `NoMemory` leaves the set as it was.
+    pub fn remove(&mut self, lo: u64, hi: u64) -> Result<(), NoMemory> {
+        if lo == hi {
+            return Ok(());
+        }
+        let (from, to) = span_of(&self.runs, lo + 1, hi);
+        if from == to {
+            return Ok(());
+        }
+        let start = self.runs[from].0;
+        let end = self.runs[to - 1].1;
+        match (start < lo, hi < end) {
+            (false, false) => {
+                take_out(&mut self.runs, from, to);
+            }
+            (true, false) => replace(&mut self.runs, from, to, (start, lo)),
+            (false, true) => replace(&mut self.runs, from, to, (hi, end)),
+            (true, true) => split(&mut self.runs, from, to, (start, lo), (hi, end))?,
+        }
+        Ok(())
+    }
+
+    /// Takes out the numbers below `n`. It takes constant time up to the end of the first run.
+    pub fn drop_below(&mut self, n: u64) {
+        if n == 0 {
+            return;
+        }
+        let (from, to) = span_of(&self.runs, 1, n);
+        if from == to {
+            return;
+        }
+        let end = self.runs[to - 1].1;
+        if n < end {
+            replace(&mut self.runs, from, to, (n, end));
+        } else {
+            take_out(&mut self.runs, from, to);
+        }
+    }
+
+    /// The longest runs of members, each a first number and the number after the last.
+    pub fn pairs(&self) -> &[(u64, u64)] {
+        &self.runs
+    }
+
+    /// Whether `n` is a member.
+    pub fn has(&self, n: u64) -> bool {
+        matches!(self.run_above(n), Some((start, _)) if start <= n)
+    }
+
+    /// Whether each number from `lo` on and below `hi` is a member, as it is of an empty range.
+    pub fn covers(&self, lo: u64, hi: u64) -> bool {
+        if lo >= hi {
+            return true;
+        }
+        matches!(self.run_above(lo), Some((start, end)) if start <= lo && hi <= end)
+    }
+
+    /// The least member.
+    pub fn first(&self) -> Option<u64> {
+        let (start, _) = self.run_from(0)?;
+        Some(start)
+    }
+
+    /// The lowest run of members at or above `n`: its first number, and the number after its last.
+    pub fn run_from(&self, n: u64) -> Option<(u64, u64)> {
+        let (start, end) = self.run_above(n)?;
+        Some((start.max(n), end))
+    }
+
+    /// The least number at or above `n` that is not a member.
+    pub fn first_missing(&self, n: u64) -> u64 {
+        match self.run_above(n) {
+            Some((start, end)) if start <= n => end,
+            _ => n,
+        }
+    }
+
+    /// How many runs there are: the members whose predecessor is not a member.
+    pub fn count(&self) -> usize {
+        self.runs.len()
+    }
+
+    /// Every member is below 2^62. It does nothing: a proof calls it for what it ensures.
+    pub fn members_fit(&self) {
+        let _runs = &self.runs;
+    }
+
+    // The first run that ends above `n`.
+    fn run_above(&self, n: u64) -> Option<(u64, u64)> {
+        let at = self.runs.partition_point(|run| run.1 <= n);
+        self.runs.get(at).copied()
+    }
+}
+
+// The places of the runs that end at `low` or later and start below `high`: with no search where the last run or the first decides.
+fn span_of(runs: &[(u64, u64)], low: u64, high: u64) -> (usize, usize) {
+    if let Some(&(start, end)) = runs.last() {
+        if end < low {
+            return (runs.len(), runs.len());
+        }
+        if start < low {
+            return (runs.len() - 1, runs.len());
+        }
+    }
+    if let Some(&(start, end)) = runs.first() {
+        if high <= start {
+            return (0, 0);
+        }
+        if high <= end {
+            return (0, 1);
+        }
+    }
+    search_span(runs, low, high)
+}
+
+fn search_span(runs: &[(u64, u64)], low: u64, high: u64) -> (usize, usize) {
+    let from = runs.partition_point(|run| run.1 < low);
+    let to = runs.partition_point(|run| run.0 < high);
+    (from, to)
+}
+
+// Puts `run` in the place of the runs from `from` on and before `to`.
+fn replace(runs: &mut Vec<(u64, u64)>, from: usize, to: usize, run: (u64, u64)) {
+    runs[from] = run;
+    take_out(runs, from + 1, to);
+}
+
+// Takes out the runs from `from` on and before `to`, by one move of those behind.
+fn take_out(runs: &mut Vec<(u64, u64)>, from: usize, to: usize) {
+    if from < to {
+        let kept = runs.len() - (to - from);
+        runs.copy_within(to.., from);
+        runs.truncate(kept);
+    }
+}
+
+// Puts `left` and `right` in the place of the runs from `from` on and before `to`.
+fn split(
+    runs: &mut Vec<(u64, u64)>,
+    from: usize,
+    to: usize,
+    left: (u64, u64),
+    right: (u64, u64),
+) -> Result<(), NoMemory> {
+    if from + 1 == to {
+        runs.insert(to, right)?;
+        runs[from] = left;
+    } else {
+        runs[to - 1] = right;
+        replace(runs, from, to - 1, left);
+    }
+    Ok(())
+}

@@ -1,0 +1,30 @@
+// Made from crates/qs_recv/src/assembly.rt by rust/erase; not edited by hand.
+//! What an assembly of arrived bytes promises, however it keeps them (RFC 9000, section 2.2).
+
+use crate::proved::qs_ranges::{NoMemory, RangeSet};
+use crate::shim::alloc::Global;
+
+/// The bytes of a stream from the first one that wasn't read on, in whatever order they come.
+pub trait Assembly {
+    /// An assembly of which at most `window` bytes past those that were read are stored. It takes no memory.
+    fn new(alloc: Global, window: u64) -> Self;
+
+    /// Stores the bytes at offsets that didn't come before, and notes the offsets. NoMemory where a growth was refused.
+    fn put(&mut self, offset: u64, bytes: &[u8]) -> Result<(), NoMemory>;
+
+    /// Moves the bytes that are next to be read into the slice's front, and answers how many.
+    fn take(&mut self, into: &mut [u8]) -> usize;
+
+    /// Throws the stored bytes away, and those that come from now on.
+    fn discard(&mut self);
+
+    /// Whether bytes are those that are stored at their offsets. Offsets where no byte is stored don't count: those that
+    /// didn't come, were read, or are thrown away.
+    fn same(&self, offset: u64, bytes: &[u8]) -> bool;
+
+    /// How many bytes are stored.
+    fn stored(&self) -> u64;
+
+    /// Every offset that came.
+    fn received(&self) -> &RangeSet;
+}

@@ -1,0 +1,194 @@
+// Made from crates/qs_recv/src/chunk_list.rt by rust/erase; not edited by hand.
+//! Chunks in order, with the memory of one that was read kept for the next.
+use crate::shim::{SliceCalls, Vec};
+
+use crate::proved::qs_recv::chunk::Chunk;
+use crate::proved::qs_ranges::NoMemory;
+use crate::shim::alloc::Global;
+use crate::shim::collections::VecDeque;
+use crate::shim::mem;
+
+/// Chunks, and a buffer that is free.
+pub(crate) struct ChunkList {
+    alloc: Global,
+    chunks: VecDeque<Chunk>,
+    spare: Vec<u8>,
+}
+
+/// A range of offsets from `from` on and below `to`. The chunks at places from `first` on and before `after` lie within
+/// it and hold `held` bytes. Where it joins, the chunk before them ends at `from`.
+#[derive(Clone, Copy)]
+pub(crate) struct Spot {
+    pub(crate) first: usize,
+    pub(crate) after: usize,
+    pub(crate) from: u64,
+    pub(crate) to: u64,
+    pub(crate) held: u64,
+    pub(crate) joins: bool,
+}
+
+impl ChunkList {
+    pub(crate) fn new(alloc: Global) -> Self {
+        ChunkList {
+            alloc,
+            chunks: VecDeque::new(alloc),
+            spare: Vec::new(alloc),
+        }
+    }
+
+    /// A range of offsets of those from `start` on and below `end`: all outside of it are stored, and one in it isn't.
+    pub(crate) fn find_spot(&self, start: u64, end: u64) -> Option<Spot> {
+        let first = self.place_past(start);
+        let left_end = self.end_before(first);
+        let from = start.max(left_end);
+        if from >= end {
+            return None;
+        }
+        let (after, held) = self.inner(first, end);
+        let to = self.next_begin(after).min(end);
+        if to.saturating_sub(from) <= held {
+            return None;
+        }
+        Some(Spot {
+            first,
+            after,
+            from,
+            to,
+            held,
+            joins: left_end == from && first > 0,
+        })
+    }
+
+    fn len(&self) -> usize {
+        self.chunks.len()
+    }
+
+    fn chunk(&self, place: usize) -> &Chunk {
+        &self.chunks[place]
+    }
+
+    // How many chunks begin at `start` or below it. Where all do, none but the last is looked at.
+    fn place_past(&self, start: u64) -> usize {
+        match self.chunks.back() {
+            Some(last) if last.offset() > start => {
+                self.chunks.partition_point(|chunk| chunk.offset() <= start)
+            }
+            _ => self.len(),
+        }
+    }
+
+    // Where the chunk before a place ends, or 0.
+    fn end_before(&self, place: usize) -> u64 {
+        if place > 0 {
+            self.chunk(place - 1).end()
+        } else {
+            0
+        }
+    }
+
+    // Where the chunk at a place begins, or past all offsets.
+    fn next_begin(&self, place: usize) -> u64 {
+        match self.chunks.get(place) {
+            Some(chunk) => chunk.offset(),
+            None => u64::MAX,
+        }
+    }
+
+    // The place after the last of the chunks from `first` on that end at `end` or below it, and how many bytes they hold.
+    fn inner(&self, first: usize, end: u64) -> (usize, u64) {
+        let mut after = first;
+        let mut held = 0;
+        while after < self.len() && self.chunk(after).end() <= end {
+            held += self.chunk(after).len() as u64;
+            after += 1;
+        }
+        (after, held)
+    }
+
+    /// Whether bytes are those of the chunks at their offsets, where the chunks have some.
+    pub(crate) fn agree(&self, offset: u64, bytes: &[u8]) -> bool {
+        let end = offset + bytes.len() as u64;
+        let mut next = self.place_past(offset).saturating_sub(1);
+        while next < self.len() && self.chunk(next).offset() < end {
+            if !self.chunk(next).agrees(offset, bytes) {
+                return false;
+            }
+            next += 1;
+        }
+        true
+    }
+
+    /// The bytes that come, from the offset `from` on, with those of the chunks between in their places.
+    pub(crate) fn patched(&self, spot: Spot, bytes: &[u8]) -> Result<Vec<u8>, NoMemory> {
+        let mut new = bytes.copied_in(self.alloc)?;
+        let mut place = spot.first;
+        while place < spot.after {
+            patch(&mut new, spot.from, self.chunk(place));
+            place += 1;
+        }
+        Ok(new)
+    }
+
+    /// Puts bytes behind those of the chunk before a spot.
+    pub(crate) fn extend(&mut self, spot: Spot, bytes: &[u8]) -> Result<(), NoMemory> {
+        self.chunks[spot.first - 1].append(bytes)
+    }
+
+    /// Takes the last bytes of the chunk before a spot away.
+    pub(crate) fn shorten(&mut self, spot: Spot, count: usize) {
+        self.chunks[spot.first - 1].truncate(count);
+    }
+
+    /// Puts a chunk of its own at a spot, before those in it.
+    pub(crate) fn insert(&mut self, spot: Spot, bytes: &[u8]) -> Result<(), NoMemory> {
+        let buffer = mem::replace(&mut self.spare, Vec::new(self.alloc));
+        let chunk = Chunk::new(buffer, spot.from, bytes)?;
+        self.chunks.insert(spot.first, chunk)?;
+        Ok(())
+    }
+
+    /// Takes a chunk out.
+    pub(crate) fn remove(&mut self, place: usize) {
+        drop(self.chunks.remove(place));
+    }
+
+    /// Takes out the `count` chunks behind the one at a place.
+    pub(crate) fn clear_behind(&mut self, place: usize, count: usize) {
+        if count > 0 {
+            let first = place + 1;
+            self.chunks.drain(first..first + count);
+        }
+    }
+
+    /// Takes as many bytes as fit out of the first chunk.
+    pub(crate) fn take_front(&mut self, into: &mut [u8]) -> usize {
+        let first = &mut self.chunks[0];
+        let len = first.len();
+        let count = len.min(into.len());
+        first.copy_front(&mut into[..count]);
+        if count < len {
+            first.skip(count);
+        } else if let Some(first) = self.chunks.pop_front() {
+            self.spare = first.into_buffer();
+        }
+        count
+    }
+
+    /// Whether the first chunk begins at an offset.
+    pub(crate) fn begins_at(&self, offset: u64) -> bool {
+        matches!(self.chunks.front(), Some(first) if first.offset() == offset)
+    }
+
+    /// Lets all memory go.
+    pub(crate) fn clear_all(&mut self) {
+        self.chunks = VecDeque::new(self.alloc);
+        self.spare = Vec::new(self.alloc);
+    }
+}
+
+// Copies a chunk's bytes over the bytes that come from an offset on.
+fn patch(bytes: &mut [u8], from: u64, chunk: &Chunk) {
+    let at = (chunk.offset() - from) as usize;
+    let end = at + chunk.len();
+    chunk.copy_front(&mut bytes[at..end]);
+}

@@ -1,0 +1,16 @@
+// Made from crates/qs_recv/src/lib.rt by rust/erase; not edited by hand.
+//! The receiving half of a stream: what arrived is put in order, read once, and paid back as credit.
+
+mod assembly;
+mod chunk;
+mod chunk_assembly;
+mod chunk_list;
+mod half;
+pub mod laws;
+mod replay;
+mod ring_assembly;
+
+pub use assembly::Assembly;
+pub use chunk_assembly::ChunkAssembly;
+pub use half::{Highest, Read, RecvFault, RecvHalf, RecvState};
+pub use ring_assembly::RingAssembly;

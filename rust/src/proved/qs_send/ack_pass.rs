@@ -1,0 +1,83 @@
+// Made from crates/qs_send/src/ack_pass.rt by rust/erase; not edited by hand.
+//! Which outstanding packets an ACK names.
+
+use crate::proved::qs_send::records::Records;
+use crate::proved::qs_wire::AckRanges;
+
+/// One pass over the records from the highest number that an ACK's ranges name down to the lowest (RFC 9000, section 13.3). Each
+/// slot and each range takes at most one turn.
+pub struct AckPass<'a> {
+    // Of the range that was read last, the numbers from `low` on and below `below` are left.
+    low: u64,
+    below: u64,
+    ranges: AckRanges<'a>,
+    turns: u64,
+}
+
+impl<'a> AckPass<'a> {
+    /// A pass over the ranges that are left of an ACK.
+    pub fn new(ranges: AckRanges<'a>) -> AckPass<'a> {
+        AckPass {
+            low: u64::MAX,
+            below: u64::MAX,
+            ranges,
+            turns: 0,
+        }
+    }
+
+    /// The greatest outstanding number that the ranges name below the one given last, `None` where there is none.
+    pub fn next(&mut self, records: &Records) -> Option<u64> {
+        loop {
+            if let Some(number) = self.in_range(records) {
+                return Some(number);
+            }
+            if !self.read_range() {
+                return None;
+            }
+        }
+    }
+
+    /// How many turns it took: slots that it looked at, and ranges that it read.
+    pub fn turns(&self) -> u64 {
+        self.turns
+    }
+
+    // The next range, `false` after the last.
+    fn read_range(&mut self) -> bool {
+        let Some((low, high)) = self.ranges.next() else {
+            return false;
+        };
+        self.turns = one_more(self.turns);
+        self.low = low;
+        self.below = self.below.min(high + 1);
+        true
+    }
+
+    // The greatest outstanding number of the range that was read last, below the one given last.
+    fn in_range(&mut self, records: &Records) -> Option<u64> {
+        self.below = records.cut(self.below);
+        while self.has_slot(records.base()) {
+            if self.look(records) {
+                return Some(self.below);
+            }
+        }
+        None
+    }
+
+    // Whether a number of the range that was read last is left, from `base` on.
+    fn has_slot(&self, base: u64) -> bool {
+        base < self.below && self.low < self.below
+    }
+
+    // Whether the next number below is outstanding.
+    fn look(&mut self, records: &Records) -> bool {
+        self.turns = one_more(self.turns);
+        self.below -= 1;
+        records.is_held(self.below)
+    }
+}
+
+/// One turn more. The count stays at its greatest value.
+pub(crate) fn one_more(turns: u64) -> u64 {
+    turns.saturating_add(1)
+}

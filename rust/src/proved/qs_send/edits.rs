@@ -1,0 +1,19 @@
+// Made from crates/qs_send/src/edits.rt by rust/erase; not edited by hand.
+//! Edits of sets of offsets.
+
+use crate::proved::qs_ranges::{NoMemory, RangeSet};
+
+/// Adds the offsets from `lo` on and below `hi`. Memory is taken only where there are some, and the set has
+/// none of them and none beside them.
+pub fn add(offsets: &mut RangeSet, lo: u64, hi: u64) -> Result<(), NoMemory> {
+    if lo == hi {
+        return Ok(());
+    }
+    offsets.insert(lo, hi)
+}
+
+/// Takes out the offsets from `lo` on and below `hi`. Where a run would have to be split and memory for that is
+/// refused, they stay.
+pub fn forget(offsets: &mut RangeSet, lo: u64, hi: u64) {
+    let _ = offsets.remove(lo, hi);
+}

@@ -1,0 +1,13 @@
+// Made from crates/qs_send/src/fit.rt by rust/erase; not edited by hand.
+//! How many bytes fit beside the number that counts them.
+
+/// The greatest count of bytes, at most `most`, that fits into the room together with the count's own
+/// shortest spelling. 0 where none does.
+pub fn longest_fit(room: usize, most: u64) -> u64 {
+    let room = room as u64;
+    let one = room.saturating_sub(1).min(0x3f);
+    let two = room.saturating_sub(2).min(0x3fff);
+    let four = room.saturating_sub(4).min(0x3fff_ffff);
+    let eight = room.saturating_sub(8);
+    one.max(two).max(four).max(eight).min(most)
+}

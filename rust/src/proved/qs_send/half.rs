@@ -1,0 +1,249 @@
+// Made from crates/qs_send/src/half.rt by rust/erase; not edited by hand.
+//! The sending half of a stream (RFC 9000, sections 2.2, 3.1 and 13.3).
+
+use crate::proved::qs_send::edits::{add, forget};
+use crate::proved::qs_send::kept::Kept;
+use crate::proved::qs_send::parts::{Chunk, Reset, SendFault, SendState};
+use crate::proved::qs_ranges::{NoMemory, RangeSet};
+use crate::proved::qs_wire::StreamId;
+use crate::shim::alloc::Global;
+
+mod chunks;
+
+/// The largest value of a variable-length integer (RFC 9000, section 16).
+pub const MAX_VARINT: u64 = (1 << 62) - 1;
+
+/// The sending half of a stream: bytes are written once, go out in chunks, and stay until they are
+/// acknowledged. What is lost goes out again, and a reset ends it (RFC 9000, sections 3.1 and 13.3).
+///
+/// Contracts see the sending lane and what of it is due.
+pub struct SendHalf {
+    id: StreamId,
+    written: u64,
+    // From the lowest offset not acknowledged on.
+    kept: Kept,
+    acked: RangeSet,
+    // The offsets that were noted as due; the due ones are those not acknowledged.
+    noted: RangeSet,
+    sent_end: u64,
+    finished: bool,
+    fin_sent: bool,
+    fin_acked: bool,
+    fin_noted: bool,
+    blocked_sent: bool,
+    was_reset: Option<Reset>,
+    reset_acked: bool,
+    limit: u64,
+    buffer: usize,
+}
+
+impl SendHalf {
+    /// A half in the state Ready, which may send the offsets below `limit` and keeps at most `buffer`
+    /// bytes. It takes no memory yet.
+    pub fn new(alloc: Global, id: StreamId, limit: u64, buffer: usize) -> Self {
+        let _number = id.value();
+        Self {
+            id,
+            written: 0,
+            kept: Kept::new(alloc),
+            acked: RangeSet::new(alloc),
+            noted: RangeSet::new(alloc),
+            sent_end: 0,
+            finished: false,
+            fin_sent: false,
+            fin_acked: false,
+            fin_noted: false,
+            blocked_sent: false,
+            was_reset: None,
+            reset_acked: false,
+            limit,
+            buffer,
+        }
+    }
+
+    /// What holds of every half. It does nothing: a caller learns the clause.
+    pub fn is_lawful(&self) {
+        let _written = self.written;
+    }
+
+    /// Accepts the front of the bytes, as many as there is room for, and answers how many. They are due.
+    ///
+    /// Refused, and then unchanged: `WasReset` after a reset, else `Finished` after `finish`, else
+    /// `NoMemory` where memory was refused.
+    pub fn write(&mut self, bytes: &[u8]) -> Result<usize, SendFault> {
+        if self.was_reset.is_some() {
+            return Err(SendFault::WasReset);
+        }
+        if self.finished {
+            return Err(SendFault::Finished);
+        }
+        let most = (self.room() as u64).min(MAX_VARINT - self.written);
+        let len = bytes.len().min(most as usize);
+        if len == 0 {
+            return Ok(0);
+        }
+        let (taken, _) = bytes.split_at(len);
+        let before = self.kept.len();
+        if let Err(_) = self.kept.append(taken, self.buffer) {
+            return Err(SendFault::NoMemory);
+        }
+        let end = self.written + len as u64;
+        if let Err(_) = self.noted.insert(self.written, end) {
+            self.kept.truncate(before);
+            return Err(SendFault::NoMemory);
+        }
+        self.written = end;
+        Ok(len)
+    }
+
+    /// Asks for the end of the stream after the bytes written so far. The end is due.
+    ///
+    /// Refused, and then unchanged: `WasReset` after a reset, else `Finished` after another `finish`.
+    pub fn finish(&mut self) -> Result<(), SendFault> {
+        if self.was_reset.is_some() {
+            return Err(SendFault::WasReset);
+        }
+        if self.finished {
+            return Err(SendFault::Finished);
+        }
+        self.finished = true;
+        self.fin_noted = true;
+        Ok(())
+    }
+
+    /// Breaks the stream off in Ready, Send or Data Sent, with the count of offsets that went out as its
+    /// final size. From then on only the RESET_STREAM is to be sent (RFC 9000, sections 3.1 and 4.5). The
+    /// code is at most 2^62 - 1, so that the frame can tell it.
+    ///
+    /// Refused, and then unchanged: `WasReset` after another reset, else `Finished` in Data Recvd.
+    pub fn reset(&mut self, code: u64) -> Result<(), SendFault> {
+        if self.was_reset.is_some() {
+            return Err(SendFault::WasReset);
+        }
+        if self.is_whole() {
+            return Err(SendFault::Finished);
+        }
+        let size = self.sent_end;
+        self.was_reset = Some(Reset { code, size });
+        self.noted.drop_below(self.written);
+        self.fin_noted = false;
+        Ok(())
+    }
+
+    /// Takes in a STOP_SENDING: a reset with its code, where one can still be made (RFC 9000, section
+    /// 3.5).
+    pub fn stopped(&mut self, code: u64) {
+        let _ = self.reset(code);
+    }
+
+    /// Takes in that the peer allows the offsets below `limit`. A limit that is no higher changes nothing
+    /// (RFC 9000, section 4.1).
+    pub fn allow(&mut self, limit: u64) {
+        self.limit = self.limit.max(limit);
+    }
+
+    /// Takes in that a STREAM_DATA_BLOCKED was sent.
+    pub fn note_blocked(&mut self) {
+        self.blocked_sent = true;
+    }
+
+    /// Takes in that the RESET_STREAM is acknowledged.
+    pub fn reset_acked(&mut self) {
+        self.reset_acked = true;
+    }
+
+    /// Takes in that the chunk was sent: it is in flight.
+    pub fn sent(&mut self, chunk: Chunk) {
+        let before = self.sent_end;
+        let end = chunk.offset + chunk.len as u64;
+        self.noted.drop_below(end);
+        self.sent_end = before.max(end);
+        self.fin_sent |= chunk.fin;
+        self.fin_noted &= !chunk.fin;
+    }
+
+    /// Takes in that a chunk which was sent is acknowledged, also where it was lost before. The bytes
+    /// below the lowest offset not acknowledged are let go. Unchanged where memory was refused.
+    pub fn acked(&mut self, chunk: Chunk) -> Result<(), NoMemory> {
+        let before = self.written - self.kept.len() as u64;
+        let end = chunk.offset + chunk.len as u64;
+        add(&mut self.acked, chunk.offset, end)?;
+        // What is acknowledged need not stay noted.
+        forget(&mut self.noted, chunk.offset, end);
+        let low = self.acked.first_missing(0);
+        self.kept.let_go((low - before) as usize);
+        self.fin_acked |= chunk.fin;
+        Ok(())
+    }
+
+    /// Takes in that a chunk which was sent is lost: what of it isn't acknowledged is due again, but
+    /// after a reset nothing is (RFC 9000, section 13.3). Unchanged where memory was refused.
+    pub fn lost(&mut self, chunk: Chunk) -> Result<(), NoMemory> {
+        if self.was_reset.is_some() {
+            return Ok(());
+        }
+        let end = chunk.offset + chunk.len as u64;
+        add(&mut self.noted, chunk.offset, end)?;
+        self.fin_noted |= chunk.fin;
+        Ok(())
+    }
+
+    /// The state (RFC 9000, section 3.1).
+    pub fn state(&self) -> SendState {
+        if self.reset_acked {
+            SendState::ResetRecvd
+        } else if self.was_reset.is_some() {
+            SendState::ResetSent
+        } else if self.is_whole() {
+            SendState::DataRecvd
+        } else if self.fin_sent {
+            SendState::DataSent
+        } else if self.sent_end > 0 || self.blocked_sent {
+            SendState::Send
+        } else {
+            SendState::Ready
+        }
+    }
+
+    /// The final size that was declared, by a reset or by the end that was sent (RFC 9000, section 4.5).
+    pub fn final_size(&self) -> Option<u64> {
+        match self.was_reset {
+            Some(reset) => Some(reset.size),
+            None if self.fin_sent => Some(self.written),
+            None => None,
+        }
+    }
+
+    /// The application's code of the reset: at most 2^62 - 1.
+    pub fn reset_code(&self) -> Option<u64> {
+        match self.was_reset {
+            Some(reset) => Some(reset.code),
+            None => None,
+        }
+    }
+
+    /// How many bytes were written.
+    pub fn written(&self) -> u64 {
+        self.written
+    }
+
+    /// The number after the largest offset that was sent; 0 where none was.
+    pub fn sent_end(&self) -> u64 {
+        self.sent_end
+    }
+
+    /// The offsets below it may be sent.
+    pub fn limit(&self) -> u64 {
+        self.limit
+    }
+
+    /// How many bytes the buffer can take.
+    pub fn room(&self) -> usize {
+        self.buffer - self.kept.len()
+    }
+
+    // Whether every written offset and the end were acknowledged.
+    fn is_whole(&self) -> bool {
+        self.kept.len() == 0 && self.fin_acked
+    }
+}

@@ -1,0 +1,128 @@
+// Made from crates/qs_send/src/half/chunks.rt by rust/erase; not edited by hand.
+//! Which chunk of a half goes out next, and what it holds.
+
+use super::SendHalf;
+use crate::proved::qs_send::fit::longest_fit;
+use crate::proved::qs_send::parts::Chunk;
+use crate::proved::qs_wire::varint_len;
+
+impl SendHalf {
+    /// The longest chunk from the lowest due offset on whose STREAM frame takes at most `room` bytes, with
+    /// `fresh` bytes of connection credit left for bytes that were never sent. It carries the end where
+    /// the end is due and it reaches the last written byte. `None` where no chunk may go.
+    pub fn next_chunk(&self, room: usize, fresh: u64) -> Option<Chunk> {
+        self.is_lawful();
+        let Some((offset, end)) = self.due_run() else {
+            return self.end_chunk(room);
+        };
+        let head = self.head_len(offset);
+        if room <= head {
+            return None;
+        }
+        let most = end
+            .min(self.limit())
+            .min(self.sent_end().saturating_add(fresh));
+        if most <= offset {
+            return None;
+        }
+        let len = longest_fit(room - head, most - offset);
+        if len == 0 {
+            return None;
+        }
+        let fin = self.end_due() && offset + len == self.written();
+        Some(Chunk {
+            offset,
+            len: len as usize,
+            fin,
+        })
+    }
+
+    /// Whether the room alone holds a chunk back: one that is due, below the stream's limit and within the
+    /// credit, and whose frame is longer than `room`.
+    pub fn is_held_by_room(&self, room: usize, fresh: u64) -> bool {
+        self.is_lawful();
+        match self.next_chunk(usize::MAX, fresh) {
+            Some(chunk) => self.frame_len(chunk) > room,
+            None => false,
+        }
+    }
+
+    /// The lowest due offset.
+    pub fn lowest_due(&self) -> Option<u64> {
+        let (offset, _) = self.due_run()?;
+        Some(offset)
+    }
+
+    /// Whether the end is due.
+    pub fn end_due(&self) -> bool {
+        self.fin_noted && !self.fin_acked
+    }
+
+    /// The bytes of a chunk that is still in the buffer.
+    pub fn bytes(&self, chunk: Chunk) -> &[u8] {
+        let first = self.written - self.kept.len() as u64;
+        self.kept.part((chunk.offset - first) as usize, chunk.len)
+    }
+
+    /// Writes the bytes of a chunk that is still in the buffer into the slice.
+    pub fn copy(&self, chunk: Chunk, into: &mut [u8]) {
+        into.copy_from_slice(self.bytes(chunk));
+    }
+
+    /// How many bytes the chunk's STREAM frame takes (RFC 9000, section 19.8).
+    pub fn frame_len(&self, chunk: Chunk) -> usize {
+        let _written = self.written;
+        self.head_len(chunk.offset) + varint_len(chunk.len as u64) + chunk.len
+    }
+
+    /// Whether the chunk was sent at some time.
+    pub fn has_sent(&self, chunk: Chunk) -> bool {
+        chunk.offset <= self.sent_end
+            && chunk.len as u64 <= self.sent_end - chunk.offset
+            && (!chunk.fin || self.fin_sent)
+    }
+
+    // The lowest due offsets that stand in a row.
+    fn due_run(&self) -> Option<(u64, u64)> {
+        let mut from = 0;
+        while let Some((start, end)) = self.noted.run_from(from) {
+            let low = self.acked.first_missing(start);
+            if low < end {
+                let high = match self.acked.run_from(low) {
+                    Some((next, _)) => next.min(end),
+                    None => end,
+                };
+                return Some((low, high));
+            }
+            from = low;
+        }
+        None
+    }
+
+    // A frame without bytes, where no byte is due.
+    fn end_chunk(&self, room: usize) -> Option<Chunk> {
+        self.is_lawful();
+        if !self.end_due() {
+            return None;
+        }
+        let offset = self.written();
+        if room <= self.head_len(offset) {
+            return None;
+        }
+        Some(Chunk {
+            offset,
+            len: 0,
+            fin: true,
+        })
+    }
+
+    // The length of a frame's type, stream and offset.
+    fn head_len(&self, offset: u64) -> usize {
+        let id_len = varint_len(self.id.value());
+        if offset == 0 {
+            1 + id_len
+        } else {
+            1 + id_len + varint_len(offset)
+        }
+    }
+}

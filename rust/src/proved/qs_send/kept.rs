@@ -1,0 +1,63 @@
+// Made from crates/qs_send/src/kept.rt by rust/erase; not edited by hand.
+//! Bytes that come in at the back and are let go at the front.
+use crate::shim::Vec;
+
+use crate::proved::qs_ranges::NoMemory;
+use crate::shim::alloc::Global;
+
+/// The bytes stand in a row from `start` on. Those before it were let go, and never take more than half of the room.
+pub struct Kept {
+    bytes: Vec<u8>,
+    start: usize,
+}
+
+impl Kept {
+    pub fn new(alloc: Global) -> Self {
+        Self {
+            bytes: Vec::new(alloc),
+            start: 0,
+        }
+    }
+
+    pub fn len(&self) -> usize {
+        self.bytes.len() - self.start
+    }
+
+    /// Appends the bytes. Where `most` bytes at most are ever kept, no more than twice as many are
+    /// allocated, and once these are there nothing is.
+    pub fn append(&mut self, bytes: &[u8], most: usize) -> Result<(), NoMemory> {
+        let len = self.bytes.len();
+        let capacity = self.bytes.capacity();
+        if capacity - len < bytes.len() {
+            let grown = capacity.min(most).saturating_mul(2);
+            self.bytes
+                .reserve_exact(grown.saturating_sub(len).max(bytes.len()))?;
+        }
+        self.bytes.extend_from_slice(bytes)?;
+        Ok(())
+    }
+
+    /// Leaves the first `n` bytes.
+    pub fn truncate(&mut self, n: usize) {
+        self.bytes.truncate(self.start + n);
+    }
+
+    /// Lets the first `n` bytes go. What is left is moved only once it is no more than what was let go before it.
+    pub fn let_go(&mut self, n: usize) {
+        let start = self.start + n;
+        let left = self.bytes.len() - start;
+        if left <= start {
+            self.bytes.copy_within(start.., 0);
+            self.bytes.truncate(left);
+            self.start = 0;
+        } else {
+            self.start = start;
+        }
+    }
+
+    /// The `len` bytes from a place on.
+    pub fn part(&self, from: usize, len: usize) -> &[u8] {
+        let first = self.start + from;
+        &self.bytes[first..first + len]
+    }
+}

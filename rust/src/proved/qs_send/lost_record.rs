@@ -1,0 +1,63 @@
+// Made from crates/qs_send/src/lost_record.rt by rust/erase; not edited by hand.
+//! What one packet carried that was declared lost.
+use crate::shim::Vec;
+
+use crate::proved::qs_send::piece::Piece;
+use crate::proved::qs_ranges::NoMemory;
+
+/// The pieces of a packet in the order in which they were declared lost. The first `start` ones of the vector were let go.
+pub(crate) struct LostRecord {
+    number: u64,
+    start: usize,
+    pieces: Vec<Piece>,
+}
+
+impl LostRecord {
+    pub(crate) fn new(number: u64, pieces: Vec<Piece>) -> Self {
+        LostRecord {
+            number,
+            start: 0,
+            pieces,
+        }
+    }
+
+    pub(crate) fn number(&self) -> u64 {
+        self.number
+    }
+
+    pub(crate) fn first(&self) -> Option<Piece> {
+        match self.pieces.get(self.start) {
+            Some(piece) => Some(*piece),
+            None => None,
+        }
+    }
+
+    /// Whether no other piece follows the first one.
+    pub(crate) fn is_last(&self) -> bool {
+        self.pieces.len() - self.start <= 1
+    }
+
+    /// Makes room for one piece more.
+    pub(crate) fn reserve(&mut self) -> Result<(), NoMemory> {
+        self.pieces.reserve(1)?;
+        Ok(())
+    }
+
+    /// One piece more. It takes no memory.
+    pub(crate) fn push(&mut self, piece: Piece) {
+        hold(&mut self.pieces, piece);
+    }
+
+    /// Lets the first piece go, of several.
+    pub(crate) fn drop_first(&mut self) {
+        self.start += 1;
+    }
+}
+
+// One piece more, for which there is memory.
+pub(crate) fn hold(pieces: &mut Vec<Piece>, piece: Piece) {
+    let _ = match piece {
+        Piece::Data { stream, chunk } => pieces.push(Piece::Data { stream, chunk }),
+        Piece::Told(item) => pieces.push(Piece::Told(item)),
+    };
+}

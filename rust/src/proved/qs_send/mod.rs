@@ -1,0 +1,25 @@
+// Made from crates/qs_send/src/lib.rt by rust/erase; not edited by hand.
+//! The sending half of a stream: what is written goes out in chunks, and again where a chunk was lost.
+
+mod ack_pass;
+mod by_number;
+mod carried;
+mod edits;
+mod fit;
+mod half;
+mod kept;
+pub mod laws;
+mod lost_pass;
+mod lost_record;
+mod lost_records;
+mod parts;
+mod piece;
+mod records;
+
+pub use ack_pass::AckPass;
+pub use half::SendHalf;
+pub use lost_pass::LostPass;
+pub use lost_records::LostRecords;
+pub use parts::{Chunk, Reset, SendFault, SendState};
+pub use piece::{Item, Piece};
+pub use records::Records;

@@ -1,0 +1,87 @@
+// Made from crates/qs_wire/src/fields.rt by rust/erase; not edited by hand.
+//! Reading the fields of a frame.
+
+use crate::proved::qs_wire::fault::FaultKind;
+use crate::proved::qs_wire::frame::EcnCounts;
+use crate::proved::qs_wire::varint::read_varint;
+
+pub(crate) fn number_at(bytes: &[u8]) -> Result<(u64, &[u8]), FaultKind> {
+    let (value, len) = read_varint(bytes).ok_or(FaultKind::Truncated)?;
+    Ok((value, &bytes[len..]))
+}
+
+/// So many bytes.
+pub(crate) fn plain_at(len: u64, bytes: &[u8]) -> Result<(&[u8], &[u8]), FaultKind> {
+    if (bytes.len() as u64) < len {
+        return Err(FaultKind::Truncated);
+    }
+    Ok(bytes.split_at(len as usize))
+}
+
+/// The bytes that a number counts.
+pub(crate) fn counted_at(bytes: &[u8]) -> Result<(&[u8], &[u8]), FaultKind> {
+    let (len, rest) = number_at(bytes)?;
+    plain_at(len, rest)
+}
+
+/// The bytes that one byte counts, which has to be the length of a connection identifier.
+pub(crate) fn identifier_at(bytes: &[u8]) -> Result<(&[u8], &[u8]), FaultKind> {
+    let Some((&len, rest)) = bytes.split_first() else {
+        return Err(FaultKind::Truncated);
+    };
+    match len {
+        1..=20 => plain_at(u64::from(len), rest),
+        _ => Err(FaultKind::IdentifierLength),
+    }
+}
+
+/// A number, or 0 where there is none.
+pub(crate) fn number_if(there: bool, bytes: &[u8]) -> Result<(u64, &[u8]), FaultKind> {
+    if there {
+        number_at(bytes)
+    } else {
+        Ok((0, bytes))
+    }
+}
+
+/// The bytes that a number counts, or all where none does.
+pub(crate) fn counted_if(there: bool, bytes: &[u8]) -> Result<(&[u8], &[u8]), FaultKind> {
+    if there {
+        counted_at(bytes)
+    } else {
+        Ok(bytes.split_at(bytes.len()))
+    }
+}
+
+fn counts_at(bytes: &[u8]) -> Result<(Option<EcnCounts>, &[u8]), FaultKind> {
+    let (ect0, rest) = number_at(bytes)?;
+    let (ect1, rest) = number_at(rest)?;
+    let (ce, rest) = number_at(rest)?;
+    Ok((Some(EcnCounts { ect0, ect1, ce }), rest))
+}
+
+/// The counts, or none where there are none.
+pub(crate) fn ecn_if(there: bool, bytes: &[u8]) -> Result<(Option<EcnCounts>, &[u8]), FaultKind> {
+    if there {
+        counts_at(bytes)
+    } else {
+        Ok((None, bytes))
+    }
+}
+
+/// What follows so many numbers.
+fn skip_numbers(count: u64, bytes: &[u8]) -> Result<&[u8], FaultKind> {
+    let mut rest = bytes;
+    for _ in 0..count {
+        let (_, after) = number_at(rest)?;
+        rest = after;
+    }
+    Ok(rest)
+}
+
+/// The numbers of an ACK's ranges.
+pub(crate) fn ranges_at(bytes: &[u8]) -> Result<(&[u8], &[u8]), FaultKind> {
+    let (pairs, numbers) = number_at(bytes)?;
+    let rest = skip_numbers(2 * pairs + 1, numbers)?;
+    Ok((&numbers[..numbers.len() - rest.len()], rest))
+}

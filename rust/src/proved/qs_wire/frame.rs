@@ -1,0 +1,128 @@
+// Made from crates/qs_wire/src/frame.rt by rust/erase; not edited by hand.
+//! The frames.
+
+use crate::proved::qs_wire::stream_id::{Dir, StreamId};
+
+/// A frame (RFC 9000, section 19), whose bytes are a part of the payload.
+#[derive(Clone, Copy, Debug, PartialEq, Eq)]
+pub enum Frame<'a> {
+    /// Section 19.1. Each byte is a frame of its own.
+    Padding,
+    /// Section 19.2.
+    Ping,
+    /// Section 19.3, of both types: that with ECN counts and that without.
+    Ack {
+        largest: u64,
+        delay: u64,
+        /// The length of the first range, and then of each next one the gap before it and its length, as
+        /// the payload spells them. [`AckRanges`](crate::AckRanges) reads them.
+        ranges: &'a [u8],
+        ecn: Option<EcnCounts>,
+    },
+    /// Section 19.4.
+    ResetStream {
+        stream: StreamId,
+        code: u64,
+        final_size: u64,
+    },
+    /// Section 19.5.
+    StopSending {
+        stream: StreamId,
+        code: u64,
+    },
+    /// Section 19.6.
+    Crypto {
+        offset: u64,
+        bytes: &'a [u8],
+    },
+    /// Section 19.7.
+    NewToken {
+        bytes: &'a [u8],
+    },
+    /// Section 19.8.
+    Stream {
+        stream: StreamId,
+        offset: u64,
+        fin: bool,
+        bytes: &'a [u8],
+    },
+    /// Section 19.9.
+    MaxData {
+        maximum: u64,
+    },
+    /// Section 19.10.
+    MaxStreamData {
+        stream: StreamId,
+        maximum: u64,
+    },
+    /// Section 19.11, of both types: one for each direction.
+    MaxStreams {
+        dir: Dir,
+        count: u64,
+    },
+    /// Section 19.12.
+    DataBlocked {
+        limit: u64,
+    },
+    /// Section 19.13.
+    StreamDataBlocked {
+        stream: StreamId,
+        limit: u64,
+    },
+    /// Section 19.14, of both types: one for each direction.
+    StreamsBlocked {
+        dir: Dir,
+        count: u64,
+    },
+    /// Section 19.15.
+    NewConnectionId {
+        sequence: u64,
+        retire: u64,
+        /// 1 to 20 bytes.
+        identifier: &'a [u8],
+        /// 16 bytes.
+        reset_token: &'a [u8],
+    },
+    /// Section 19.16.
+    RetireConnectionId {
+        sequence: u64,
+    },
+    /// Section 19.17. 8 bytes.
+    PathChallenge {
+        bytes: &'a [u8],
+    },
+    /// Section 19.18. 8 bytes.
+    PathResponse {
+        bytes: &'a [u8],
+    },
+    /// Section 19.19, of the type that QUIC itself closes with.
+    ConnectionClose {
+        code: u64,
+        /// The type of the frame that was at fault, 0 where none was.
+        frame_type: u64,
+        reason: &'a [u8],
+    },
+    /// Section 19.19, of the type that an application closes with.
+    ApplicationClose {
+        code: u64,
+        reason: &'a [u8],
+    },
+    /// Section 19.20.
+    HandshakeDone,
+}
+
+/// How many packets came with each mark of congestion (RFC 9000, section 19.3.2).
+#[derive(Clone, Copy, Debug, PartialEq, Eq)]
+pub struct EcnCounts {
+    pub ect0: u64,
+    pub ect1: u64,
+    pub ce: u64,
+}
+
+/// A frame, the place of its first byte in the payload, and the number of its type as it was read.
+#[derive(Clone, Copy, Debug, PartialEq, Eq)]
+pub struct Placed<'a> {
+    pub place: usize,
+    pub frame: Frame<'a>,
+    pub frame_type: u64,
+}

@@ -1,0 +1,156 @@
+//! Queues and maps whose every growth can fail.
+
+use super::Vec;
+use super::alloc::{AllocError, AllocFailed, Global};
+use super::heap::collections::VecDeque as HeapDeque;
+use super::heap::collections::vec_deque::{Drain, Iter};
+use core::ops::{Index, IndexMut, RangeBounds};
+
+/// A queue with two ends. Where memory is refused it stays as it was.
+pub struct VecDeque<T> {
+    items: HeapDeque<T>,
+}
+
+impl<T> VecDeque<T> {
+    /// An empty queue. It takes no memory.
+    pub const fn new(_alloc: Global) -> Self {
+        VecDeque {
+            items: HeapDeque::new(),
+        }
+    }
+
+    /// Makes room for so many items more.
+    pub fn reserve(&mut self, count: usize) -> Result<(), AllocError> {
+        match self.items.try_reserve(count) {
+            Ok(()) => Ok(()),
+            Err(_) => Err(AllocError),
+        }
+    }
+
+    pub fn push_back(&mut self, value: T) -> Result<(), AllocFailed<T>> {
+        match self.reserve(1) {
+            Ok(()) => {
+                self.items.push_back(value);
+                Ok(())
+            }
+            Err(AllocError) => Err(AllocFailed { value }),
+        }
+    }
+
+    /// Puts an item behind the last, for which there is room. Without room the item is let go; that no caller does is proved.
+    pub fn push_back_reserved(&mut self, value: T) {
+        debug_assert!(self.items.len() < self.items.capacity());
+        if self.items.len() < self.items.capacity() {
+            self.items.push_back(value);
+        }
+    }
+
+    pub fn insert(&mut self, place: usize, value: T) -> Result<(), AllocFailed<T>> {
+        match self.reserve(1) {
+            Ok(()) => {
+                self.items.insert(place, value);
+                Ok(())
+            }
+            Err(AllocError) => Err(AllocFailed { value }),
+        }
+    }
+
+    pub fn remove(&mut self, place: usize) -> Option<T> {
+        self.items.remove(place)
+    }
+
+    pub fn drain<R: RangeBounds<usize>>(&mut self, range: R) -> Drain<'_, T> {
+        self.items.drain(range)
+    }
+
+    pub fn pop_front(&mut self) -> Option<T> {
+        self.items.pop_front()
+    }
+
+    pub fn pop_back(&mut self) -> Option<T> {
+        self.items.pop_back()
+    }
+
+    pub fn front(&self) -> Option<&T> {
+        self.items.front()
+    }
+
+    pub fn back(&self) -> Option<&T> {
+        self.items.back()
+    }
+
+    pub fn get(&self, place: usize) -> Option<&T> {
+        self.items.get(place)
+    }
+
+    pub fn len(&self) -> usize {
+        self.items.len()
+    }
+
+    pub fn is_empty(&self) -> bool {
+        self.items.is_empty()
+    }
+
+    pub fn iter(&self) -> Iter<'_, T> {
+        self.items.iter()
+    }
+
+    pub fn partition_point<P: FnMut(&T) -> bool>(&self, is_before: P) -> usize {
+        self.items.partition_point(is_before)
+    }
+
+    pub fn retain<F: FnMut(&T) -> bool>(&mut self, keep: F) {
+        self.items.retain(keep);
+    }
+}
+
+impl<T> Index<usize> for VecDeque<T> {
+    type Output = T;
+
+    fn index(&self, place: usize) -> &T {
+        &self.items[place]
+    }
+}
+
+impl<T> IndexMut<usize> for VecDeque<T> {
+    fn index_mut(&mut self, place: usize) -> &mut T {
+        &mut self.items[place]
+    }
+}
+
+/// A map, kept as a vector of its entries in the order of their keys: `alloc`'s tree has no insert that can fail.
+pub struct BTreeMap<K, V> {
+    entries: Vec<(K, V)>,
+}
+
+impl<K: Ord, V> BTreeMap<K, V> {
+    /// An empty map. It takes no memory.
+    pub const fn new(alloc: Global) -> Self {
+        BTreeMap {
+            entries: Vec::new(alloc),
+        }
+    }
+
+    pub fn get(&self, key: &K) -> Option<&V> {
+        let place = self.place_of(key).ok()?;
+        Some(&self.entries[place].1)
+    }
+
+    /// Puts a value at a key, and answers the one that was there.
+    pub fn insert(&mut self, key: K, value: V) -> Result<Option<V>, AllocFailed<(K, V)>> {
+        match self.place_of(&key) {
+            Ok(place) => {
+                let old = core::mem::replace(&mut self.entries[place].1, value);
+                Ok(Some(old))
+            }
+            Err(place) => {
+                self.entries.insert(place, (key, value))?;
+                Ok(None)
+            }
+        }
+    }
+
+    fn place_of(&self, key: &K) -> Result<usize, usize> {
+        self.entries.binary_search_by(|entry| entry.0.cmp(key))
+    }
+}

@@ -1,0 +1,206 @@
+//! Vectors whose every growth can fail.
+
+use super::alloc::{AllocError, AllocFailed, Global};
+use super::heap::vec::{Drain, IntoIter, Vec as HeapVec};
+use core::fmt;
+use core::ops::{Deref, DerefMut, RangeBounds};
+
+/// A vector. Where memory is refused it stays as it was.
+pub struct Vec<T> {
+    items: HeapVec<T>,
+}
+
+impl<T> Vec<T> {
+    /// An empty vector. It takes no memory.
+    pub const fn new(_alloc: Global) -> Self {
+        Vec {
+            items: HeapVec::new(),
+        }
+    }
+
+    /// An empty vector with room for so many items.
+    pub fn with_capacity(alloc: Global, count: usize) -> Result<Self, AllocError> {
+        let mut made = Vec::new(alloc);
+        match made.items.try_reserve_exact(count) {
+            Ok(()) => Ok(made),
+            Err(_) => Err(AllocError),
+        }
+    }
+
+    pub fn from_array<const N: usize>(alloc: Global, items: [T; N]) -> Result<Self, AllocError> {
+        let mut made = Vec::with_capacity(alloc, N)?;
+        made.items.extend(items);
+        Ok(made)
+    }
+
+    /// Makes room for so many items more.
+    pub fn reserve(&mut self, count: usize) -> Result<(), AllocError> {
+        match self.items.try_reserve(count) {
+            Ok(()) => Ok(()),
+            Err(_) => Err(AllocError),
+        }
+    }
+
+    /// The same, and for no more where memory is taken.
+    pub fn reserve_exact(&mut self, count: usize) -> Result<(), AllocError> {
+        match self.items.try_reserve_exact(count) {
+            Ok(()) => Ok(()),
+            Err(_) => Err(AllocError),
+        }
+    }
+
+    pub fn push(&mut self, value: T) -> Result<(), AllocFailed<T>> {
+        match self.reserve(1) {
+            Ok(()) => {
+                self.items.push(value);
+                Ok(())
+            }
+            Err(AllocError) => Err(AllocFailed { value }),
+        }
+    }
+
+    pub fn insert(&mut self, place: usize, value: T) -> Result<(), AllocFailed<T>> {
+        match self.reserve(1) {
+            Ok(()) => {
+                self.items.insert(place, value);
+                Ok(())
+            }
+            Err(AllocError) => Err(AllocFailed { value }),
+        }
+    }
+
+    pub fn pop(&mut self) -> Option<T> {
+        self.items.pop()
+    }
+
+    pub fn remove(&mut self, place: usize) -> T {
+        self.items.remove(place)
+    }
+
+    pub fn truncate(&mut self, count: usize) {
+        self.items.truncate(count);
+    }
+
+    pub fn clear(&mut self) {
+        self.items.clear();
+    }
+
+    pub fn drain<R: RangeBounds<usize>>(&mut self, range: R) -> Drain<'_, T> {
+        self.items.drain(range)
+    }
+
+    /// Gives memory back that isn't used. Where the lesser memory is refused, the vector keeps what it has.
+    pub fn shrink_to_fit(&mut self) {
+        let mut fitting = HeapVec::new();
+        if fitting.try_reserve_exact(self.items.len()).is_ok() {
+            fitting.append(&mut self.items);
+            self.items = fitting;
+        }
+    }
+
+    pub fn capacity(&self) -> usize {
+        self.items.capacity()
+    }
+
+    pub fn as_slice(&self) -> &[T] {
+        &self.items
+    }
+
+    pub fn as_mut_slice(&mut self) -> &mut [T] {
+        &mut self.items
+    }
+}
+
+impl<T: Copy> Vec<T> {
+    pub fn from_slice(alloc: Global, items: &[T]) -> Result<Self, AllocError> {
+        let mut made = Vec::with_capacity(alloc, items.len())?;
+        made.items.extend_from_slice(items);
+        Ok(made)
+    }
+
+    /// So many times the same item.
+    pub fn from_elem(alloc: Global, item: T, count: usize) -> Result<Self, AllocError> {
+        let mut made = Vec::with_capacity(alloc, count)?;
+        made.items.resize(count, item);
+        Ok(made)
+    }
+
+    pub fn extend_from_slice(&mut self, items: &[T]) -> Result<(), AllocError> {
+        self.reserve(items.len())?;
+        self.items.extend_from_slice(items);
+        Ok(())
+    }
+
+    pub fn resize(&mut self, count: usize, item: T) -> Result<(), AllocError> {
+        self.reserve(count.saturating_sub(self.items.len()))?;
+        self.items.resize(count, item);
+        Ok(())
+    }
+}
+
+impl<T> Deref for Vec<T> {
+    type Target = [T];
+
+    fn deref(&self) -> &[T] {
+        &self.items
+    }
+}
+
+impl<T> DerefMut for Vec<T> {
+    fn deref_mut(&mut self) -> &mut [T] {
+        &mut self.items
+    }
+}
+
+impl<T: fmt::Debug> fmt::Debug for Vec<T> {
+    fn fmt(&self, f: &mut fmt::Formatter<'_>) -> fmt::Result {
+        self.items.fmt(f)
+    }
+}
+
+impl<T: PartialEq> PartialEq for Vec<T> {
+    fn eq(&self, other: &Self) -> bool {
+        self.items == other.items
+    }
+}
+
+impl<T: Eq> Eq for Vec<T> {}
+
+impl<T> IntoIterator for Vec<T> {
+    type Item = T;
+    type IntoIter = IntoIter<T>;
+
+    fn into_iter(self) -> IntoIter<T> {
+        self.items.into_iter()
+    }
+}
+
+impl<'a, T> IntoIterator for &'a Vec<T> {
+    type Item = &'a T;
+    type IntoIter = core::slice::Iter<'a, T>;
+
+    fn into_iter(self) -> Self::IntoIter {
+        self.items.iter()
+    }
+}
+
+/// The calls of a slice that take memory.
+pub trait SliceCalls<T> {
+    /// A vector of the same items.
+    fn copied_in(&self, alloc: Global) -> Result<Vec<T>, AllocError>;
+}
+
+impl<T: Copy> SliceCalls<T> for [T] {
+    fn copied_in(&self, alloc: Global) -> Result<Vec<T>, AllocError> {
+        Vec::from_slice(alloc, self)
+    }
+}
+
+/// `vec![in alloc; item; count]`: so many times the same item.
+macro_rules! vec_in {
+    (in $alloc:expr; $item:expr; $count:expr) => {
+        $crate::shim::Vec::from_elem($alloc, $item, $count)
+    };
+}
+
+pub(crate) use vec_in;
