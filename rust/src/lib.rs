@@ -1,9 +1,92 @@
-//! The stream layer of a QUIC v1 endpoint: the proved source with its ghosts erased.
+//! The stream layer of a QUIC version 1 endpoint (RFC 9000, sections 2, 3, 4, 13.3, 16 and the stream and flow control
+//! frames of 19): **the proved source with its ghosts erased**.
+//!
+//! It turns packets that may be lost, repeated and reordered into ordered byte streams, each with its own credit, its
+//! own end and its own abort. Payloads of packets go in and come out. Handshake, packet protection, loss detection,
+//! congestion control and timers lie beneath and are not here; nor is a socket, a clock or a thread.
+//!
+//! # The loop of a server
+//!
+//! ```no_run
+#![doc = include_str!("../examples/loop.rs")]
+//! ```
+//!
+//! An [`Endpoint`] is one end. [`Endpoint::receive`] takes a payload in, [`Endpoint::make_packet`] makes the next one,
+//! [`Endpoint::declare_lost`] tells that one was lost. The owner [opens](Endpoint::open) and
+//! [accepts](Endpoint::accept) streams, [writes](Endpoint::write), [finishes](Endpoint::finish),
+//! [resets](Endpoint::reset), [reads](Endpoint::read) and [stops](Endpoint::stop) them; [`SendStream`] and
+//! [`RecvStream`] are one stream's halves, and std's `Write` and `Read`. [`frames`], [`put`] and [`put_ack`] read and
+//! write payloads without an end.
+//!
+//! # What the layer beneath brings
+//!
+//! Each payload that it hands to `receive` is that of an authenticated packet of the application's number space, with
+//! its full packet number. It sends each payload that was made under the number that was told, in a packet of its own,
+//! once; and it declares a packet lost (RFC 9002, section 6) so that what it carried goes out again. It calls
+//! `make_packet` only where the congestion window allows a packet. The limits of each end go to the other one in the
+//! handshake ([`Settings::limits`], [`PeerLimits`]).
+//!
+//! # What was proved, and of what
+//!
+//! The source of this crate's `proved` modules is written in Rattle, Rust with contracts, and there each of its
+//! functions is proved to meet its contract, to be safe and to end. Of that source it is proved, among more, that
+//!
+//! - `receive` takes effect exactly as the frames that the bytes spell say, one after the other, or closes with the code,
+//!   the frame type and the place of the first frame that offends;
+//! - a packet that is made is the canonical text of lawful frames, and spends no credit that wasn't granted;
+//! - no more is stored than was granted beyond what was taken, whatever the peer sends, and that is at most a window;
+//! - each refusal leaves what is stated, want of memory too: every allocation may fail, and is answered `NoMemory`;
+//! - of two such ends, whatever the network loses, repeats and reorders, what is read is a prefix of what was written,
+//!   a stream counted as received was taken in whole, and neither end closes.
+//!
+//! The modules here are that text, token by token, with contracts and other ghosts taken out by a script. No proof
+//! speaks of them. Whoever compiles them trusts anew, beside what the proof rests on:
+//!
+//! - **the eraser** (`rust/erase`), which an audit with a lexer of its own (`rust/audit`) holds against the source, token
+//!   by token: each difference is of a kind on a committed list;
+//! - **the shim** (`shim`), a few hundred lines in which the containers of Rattle's library stand over those of `alloc`,
+//!   with `try_reserve`;
+//! - **this front**: the types of this page, and the tests that stand for what the contracts require of a caller;
+//! - **rustc**, its `core` and its `alloc`, where the proof trusts Rattle's compiler.
+//!
+//! # Calls
+//!
+//! No call panics, whatever its arguments: what a contract requires of its caller is tested first, and answered
+//! `Invalid`, with nothing changed. No call allocates but fallibly. There is no `unsafe` code. The crate needs `alloc`
+//! and a 64-bit target.
+//!
+//! # Features
+//!
+//! `std`, on by default: std's `Read` and `Write` for the halves of streams.
 #![no_std]
 #![forbid(unsafe_code)]
+#![deny(missing_docs)]
 
 #[cfg(not(target_pointer_width = "64"))]
 compile_error!("gotsavena needs a target with pointers of 64 bits");
 
+#[cfg(feature = "std")]
+extern crate std;
+
+mod answers;
+mod endpoint;
+mod faults;
+mod frame;
+mod ids;
 pub(crate) mod proved;
+mod settings;
 pub(crate) mod shim;
+mod streams;
+
+pub use answers::{
+    Closing, Made, Read, Received, RecvReport, RecvState, SendReport, SendState, StreamReport,
+};
+pub use endpoint::{Endpoint, MAX_PAYLOAD, MAX_ROOM, MIN_ROOM};
+pub use faults::{LostFault, MakeFault, OpenFault, PutFault, ReceiveFault, SetupFault, UseFault};
+pub use frame::{
+    AckRanges, EcnCounts, FaultKind, Frame, Frames, Placed, WireFault, frames, put, put_ack,
+    read_varint, write_varint,
+};
+pub use ids::{Dir, Role, StreamId};
+pub use settings::{PeerLimits, Settings};
+pub use streams::{RecvStream, SendStream};

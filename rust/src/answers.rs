@@ -1,0 +1,236 @@
+//! What the calls of an end answer.
+
+use crate::proved::{qs_calls as calls, qs_recv as recv, qs_send as send};
+use core::error::Error;
+use core::fmt;
+
+/// Why this end closed the connection: the peer broke a rule (RFC 9000, sections 10.2 and 20.1).
+///
+/// [`Endpoint::close_payload`](crate::Endpoint::close_payload) writes the CONNECTION_CLOSE that tells the peer.
+#[derive(Clone, Copy, Debug, PartialEq, Eq)]
+pub struct Closing {
+    /// The transport error code of section 20.1.
+    pub code: u64,
+    /// The type of the frame that offended, 0 where none was read.
+    pub frame_type: u64,
+    /// Where the frame's first byte stands in its payload, counted in bytes from 0.
+    pub place: usize,
+}
+
+/// What came of a payload that didn't make this end close.
+#[derive(Clone, Copy, Debug, PartialEq, Eq)]
+pub enum Received {
+    /// All frames took effect, and the packet number is kept. If the layer beneath makes ACKs of its own, they may name
+    /// only numbers that were answered so.
+    Done,
+    /// The packet number was processed before. Nothing changed.
+    Duplicate,
+    /// The packet number lies below those that are still told apart (RFC 9000, section 13.2.3). Nothing changed.
+    BelowFloor,
+    /// The peer closed the connection, now or before, with this code. The frames before its CONNECTION_CLOSE took effect.
+    PeerClosed(u64),
+    /// Memory was refused. The first frames took effect, the number isn't kept, and the same payload may come again.
+    NoMemory,
+}
+
+/// What a reader is told (RFC 9000, section 2.2).
+#[derive(Clone, Copy, Debug, PartialEq, Eq)]
+pub enum Read {
+    /// So many bytes were read, at the slice's front.
+    Bytes(usize),
+    /// All bytes were read before.
+    End,
+    /// The peer broke the stream off, with this code.
+    Reset(u64),
+    /// Nothing is there to read now.
+    Wait,
+}
+
+/// A packet that was made.
+#[derive(Clone, Copy, Debug, PartialEq, Eq)]
+pub struct Made {
+    /// Its number, below 2^62 (RFC 9000, section 12.3). The packet is to be sent under this one.
+    pub number: u64,
+    /// The length of its payload in bytes.
+    pub len: usize,
+}
+
+/// How the halves of a stream stand at an end.
+#[derive(Clone, Copy, Debug, PartialEq, Eq)]
+pub struct StreamReport {
+    /// The sending half, where the stream has one here.
+    pub send: Option<SendReport>,
+    /// The receiving half, where the stream has one here.
+    pub recv: Option<RecvReport>,
+}
+
+/// How a sending half stands (RFC 9000, section 3.1).
+#[derive(Clone, Copy, Debug, PartialEq, Eq)]
+pub struct SendReport {
+    /// Its state.
+    pub state: SendState,
+    /// How many bytes were accepted.
+    pub written: u64,
+    /// The final size in bytes, once it is declared.
+    pub final_size: Option<u64>,
+}
+
+/// How a receiving half stands (RFC 9000, section 3.2).
+#[derive(Clone, Copy, Debug, PartialEq, Eq)]
+pub struct RecvReport {
+    /// Its state.
+    pub state: RecvState,
+    /// How many bytes were read.
+    pub read_count: u64,
+    /// The final size if it is known, else one more than the largest offset that came, or 0.
+    pub highest: u64,
+    /// The limit on offsets that the peer was granted.
+    pub limit: u64,
+    /// The final size in bytes, once it is known.
+    pub final_size: Option<u64>,
+}
+
+/// The states of a sending half (RFC 9000, section 3.1).
+#[derive(Clone, Copy, Debug, PartialEq, Eq)]
+pub enum SendState {
+    /// Nothing was sent.
+    Ready,
+    /// Something was sent; the end wasn't.
+    Send,
+    /// The end was sent.
+    DataSent,
+    /// All was acknowledged, the end too.
+    DataRecvd,
+    /// It was broken off.
+    ResetSent,
+    /// The peer knows that it was broken off.
+    ResetRecvd,
+}
+
+/// The states of a receiving half (RFC 9000, section 3.2).
+#[derive(Clone, Copy, Debug, PartialEq, Eq)]
+pub enum RecvState {
+    /// Bytes come, and the final size isn't known.
+    Recv,
+    /// The final size is known; bytes are missing.
+    SizeKnown,
+    /// All bytes came.
+    DataRecvd,
+    /// All bytes were read, and the reader was told so.
+    DataRead,
+    /// The peer broke it off.
+    ResetRecvd,
+    /// The reader was told that the peer broke it off.
+    ResetRead,
+}
+
+impl fmt::Display for Closing {
+    fn fmt(&self, f: &mut fmt::Formatter<'_>) -> fmt::Result {
+        write!(
+            f,
+            "the connection is closed with code {:#04x} for a frame of type {:#04x} at byte {}",
+            self.code, self.frame_type, self.place
+        )
+    }
+}
+
+impl Error for Closing {}
+
+impl Closing {
+    pub(crate) fn of(closing: calls::Closing) -> Closing {
+        Closing {
+            code: closing.code,
+            frame_type: closing.frame_type,
+            place: closing.place,
+        }
+    }
+}
+
+impl Received {
+    pub(crate) fn of(received: calls::Received) -> Received {
+        match received {
+            calls::Received::Done => Received::Done,
+            calls::Received::Duplicate => Received::Duplicate,
+            calls::Received::BelowFloor => Received::BelowFloor,
+            calls::Received::PeerClosed(code) => Received::PeerClosed(code),
+            calls::Received::NoMemory => Received::NoMemory,
+        }
+    }
+}
+
+impl Read {
+    pub(crate) fn of(read: recv::Read) -> Read {
+        match read {
+            recv::Read::Bytes(count) => Read::Bytes(count),
+            recv::Read::End => Read::End,
+            recv::Read::Reset(code) => Read::Reset(code),
+            recv::Read::Wait => Read::Wait,
+        }
+    }
+}
+
+impl Made {
+    pub(crate) fn of(made: calls::Made) -> Made {
+        Made {
+            number: made.number,
+            len: made.len,
+        }
+    }
+}
+
+impl StreamReport {
+    pub(crate) fn of(report: calls::LaneReport) -> StreamReport {
+        StreamReport {
+            send: report.send.map(SendReport::of),
+            recv: report.recv.map(RecvReport::of),
+        }
+    }
+}
+
+impl SendReport {
+    fn of(report: calls::SendReport) -> SendReport {
+        SendReport {
+            state: SendState::of(report.state),
+            written: report.written,
+            final_size: report.final_size,
+        }
+    }
+}
+
+impl RecvReport {
+    fn of(report: calls::RecvReport) -> RecvReport {
+        RecvReport {
+            state: RecvState::of(report.state),
+            read_count: report.read_count,
+            highest: report.highest,
+            limit: report.limit,
+            final_size: report.final_size,
+        }
+    }
+}
+
+impl SendState {
+    fn of(state: send::SendState) -> SendState {
+        match state {
+            send::SendState::Ready => SendState::Ready,
+            send::SendState::Send => SendState::Send,
+            send::SendState::DataSent => SendState::DataSent,
+            send::SendState::DataRecvd => SendState::DataRecvd,
+            send::SendState::ResetSent => SendState::ResetSent,
+            send::SendState::ResetRecvd => SendState::ResetRecvd,
+        }
+    }
+}
+
+impl RecvState {
+    fn of(state: recv::RecvState) -> RecvState {
+        match state {
+            recv::RecvState::Recv => RecvState::Recv,
+            recv::RecvState::SizeKnown => RecvState::SizeKnown,
+            recv::RecvState::DataRecvd => RecvState::DataRecvd,
+            recv::RecvState::DataRead => RecvState::DataRead,
+            recv::RecvState::ResetRecvd => RecvState::ResetRecvd,
+            recv::RecvState::ResetRead => RecvState::ResetRead,
+        }
+    }
+}

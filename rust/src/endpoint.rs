@@ -1,0 +1,262 @@
+//! One end of a connection.
+
+use crate::answers::{Closing, Made, Read, Received, StreamReport};
+use crate::faults::{LostFault, MakeFault, OpenFault, ReceiveFault, SetupFault, UseFault};
+use crate::frame::MAX_VARINT;
+use crate::ids::{Dir, Role, StreamId};
+use crate::proved::qs_conn as conn;
+use crate::settings::{PeerLimits, Settings};
+use crate::shim::alloc::Global;
+use crate::streams::{RecvStream, SendStream};
+use core::fmt;
+
+/// The least room of a packet's payload, in bytes.
+pub const MIN_ROOM: usize = 128;
+
+/// The most room of a packet's payload, in bytes.
+pub const MAX_ROOM: usize = 16_383;
+
+/// The most bytes of a payload that comes.
+pub const MAX_PAYLOAD: usize = 65_535;
+
+/// One end of a connection: its streams, its credit, and what its packets carry (RFC 9000, sections 2 to 4 and 13).
+///
+/// It takes in the payloads of packets and makes packets, and its owner opens, accepts, writes, finishes, resets, reads
+/// and stops streams, and tells which packets were lost. It has no clock, no socket and no thread.
+///
+/// ```
+/// use gotsavena::{Dir, Endpoint, Read, Received, Role, Settings};
+///
+/// let settings = Settings::default();
+/// let mut client = Endpoint::new(Role::Client, settings, settings.limits())?;
+/// let mut server = Endpoint::new(Role::Server, settings, settings.limits())?;
+///
+/// let stream = client.open(Dir::Bidi)?;
+/// assert_eq!(client.write(stream, b"hello")?, 5);
+/// client.finish(stream)?;
+///
+/// let mut payload = [0; 1200];
+/// let made = client.make_packet(&mut payload)?.expect("bytes are due");
+/// assert_eq!(server.receive(made.number, &payload[..made.len])?, Received::Done);
+///
+/// assert_eq!(server.accept(), Some(stream));
+/// let mut bytes = [0; 16];
+/// assert_eq!(server.read(stream, &mut bytes)?, Read::Bytes(5));
+/// assert_eq!(&bytes[..5], b"hello");
+/// assert_eq!(server.read(stream, &mut bytes)?, Read::End);
+/// # Ok::<(), Box<dyn std::error::Error>>(())
+/// ```
+pub struct Endpoint {
+    inner: conn::Endpoint,
+}
+
+impl Endpoint {
+    /// A new end. `peer` is what the other end grants: its transport parameters (RFC 9000, section 18.2). It takes no
+    /// memory.
+    ///
+    /// # Errors
+    ///
+    /// `OutOfRange` where a setting or a limit of the peer lies outside its range, and `TooManyStreams` where the peer
+    /// grants more than 2^60 streams of a direction (section 4.6).
+    pub fn new(role: Role, settings: Settings, peer: PeerLimits) -> Result<Endpoint, SetupFault> {
+        match conn::Endpoint::new(Global, role.inner(), settings.inner(), peer.inner()) {
+            Ok(inner) => Ok(Endpoint { inner }),
+            Err(fault) => Err(SetupFault::of(fault)),
+        }
+    }
+
+    /// Opens the next stream of that direction, and answers its number (RFC 9000, sections 2.1 and 4.6).
+    ///
+    /// # Errors
+    ///
+    /// `Closed`; `Blocked` with the peer's count where as many are open; and `NoMemory`, and then nothing changed.
+    pub fn open(&mut self, dir: Dir) -> Result<StreamId, OpenFault> {
+        self.inner
+            .open(dir.inner())
+            .map(StreamId::of)
+            .map_err(OpenFault::of)
+    }
+
+    /// Gives out each stream that the peer opened, once: bidirectional ones first, lower numbers first. `None` where
+    /// there is none, or the connection is closed.
+    pub fn accept(&mut self) -> Option<StreamId> {
+        self.inner.accept().map(StreamId::of)
+    }
+
+    /// Accepts the front of the bytes for sending, as many as there is room for in the stream's buffer, and answers how
+    /// many: 0 where the buffer is full.
+    ///
+    /// # Errors
+    ///
+    /// `Closed`; `NoSuchStream` or `WrongDirection` where the stream has no sending half here; `WasReset`; `Finished`;
+    /// and `NoMemory`. Then nothing changed.
+    pub fn write(&mut self, stream: StreamId, bytes: &[u8]) -> Result<usize, UseFault> {
+        self.inner
+            .write(stream.inner(), bytes)
+            .map_err(UseFault::of)
+    }
+
+    /// Asks for the end of the stream after the bytes written so far.
+    ///
+    /// # Errors
+    ///
+    /// As of [`Endpoint::write`], but never for want of memory.
+    pub fn finish(&mut self, stream: StreamId) -> Result<(), UseFault> {
+        self.inner.finish(stream.inner()).map_err(UseFault::of)
+    }
+
+    /// Breaks the stream's sending half off with the application's code, below 2^62 (RFC 9000, sections 3.1 and 20.2).
+    ///
+    /// # Errors
+    ///
+    /// As of [`Endpoint::write`]; `Finished` only once all was acknowledged; `Invalid` for a code of 2^62 or more.
+    pub fn reset(&mut self, stream: StreamId, code: u64) -> Result<(), UseFault> {
+        if code > MAX_VARINT {
+            return Err(UseFault::Invalid);
+        }
+        self.inner.reset(stream.inner(), code).map_err(UseFault::of)
+    }
+
+    /// Reads the bytes that are next into the slice's front, or tells how the stream stands (RFC 9000, section 2.2).
+    ///
+    /// A stream of the peer gives its place to a new one once it was read to `End` or `Reset` (section 4.6), one that
+    /// was stopped too: read on until then.
+    ///
+    /// # Errors
+    ///
+    /// `Closed`; `NoSuchStream` or `WrongDirection` where the stream has no receiving half here. Then nothing changed.
+    pub fn read(&mut self, stream: StreamId, into: &mut [u8]) -> Result<Read, UseFault> {
+        self.inner
+            .read(stream.inner(), into)
+            .map(Read::of)
+            .map_err(UseFault::of)
+    }
+
+    /// Throws the stream's bytes away, those stored and those still to come, and asks the peer to stop sending with the
+    /// application's code, below 2^62 (RFC 9000, sections 3.5 and 20.2). The first code stays.
+    ///
+    /// # Errors
+    ///
+    /// As of [`Endpoint::read`]; `Invalid` for a code of 2^62 or more.
+    pub fn stop(&mut self, stream: StreamId, code: u64) -> Result<(), UseFault> {
+        if code > MAX_VARINT {
+            return Err(UseFault::Invalid);
+        }
+        self.inner.stop(stream.inner(), code).map_err(UseFault::of)
+    }
+
+    /// Makes the next packet: writes its payload at the slice's front. `None` where nothing is to be sent that the
+    /// limits allow. What is due goes in as far as there is room: an ACK, control items, bytes of streams (RFC 9000,
+    /// sections 4, 13.2 and 13.3).
+    ///
+    /// The packet's number is used up: it is to be sent, or to be declared lost. `out` has 128 to 16,383 bytes
+    /// ([`MIN_ROOM`], [`MAX_ROOM`]).
+    ///
+    /// # Errors
+    ///
+    /// `Invalid` where the room isn't so; `Closed`; `Exhausted` where the last packet number was used (section 12.3);
+    /// and `NoMemory`. Then nothing changed.
+    pub fn make_packet(&mut self, out: &mut [u8]) -> Result<Option<Made>, MakeFault> {
+        if out.len() < MIN_ROOM || out.len() > MAX_ROOM {
+            return Err(MakeFault::Invalid);
+        }
+        match self.inner.make_packet(out) {
+            Ok(made) => Ok(made.map(Made::of)),
+            Err(fault) => Err(MakeFault::of(fault)),
+        }
+    }
+
+    /// Declares the packet of a number lost: what it carried and is still of use is due again (RFC 9000, section 13.3).
+    /// An acknowledgement that comes late still counts, of the 256 packets that were declared lost last.
+    ///
+    /// # Errors
+    ///
+    /// `Closed`; `NotOutstanding` where no such packet is outstanding; and `NoMemory`: then some first pieces of the
+    /// packet may be due again already, and the call may be made again.
+    pub fn declare_lost(&mut self, number: u64) -> Result<(), LostFault> {
+        self.inner.declare_lost(number).map_err(LostFault::of)
+    }
+
+    /// Takes in the payload of a packet: its frames take effect, one after the other (RFC 9000, sections 12.3, 12.4 and
+    /// 13.1). `number` is the packet's number, below 2^62; `payload` is all bytes of its frames, at most 65,535
+    /// ([`MAX_PAYLOAD`]).
+    ///
+    /// It may come in any order, again and after it was declared lost. An end that is closed answers as it did when it
+    /// closed.
+    ///
+    /// # Errors
+    ///
+    /// `Closing` where the bytes are no frames (section 12.4) or a frame breaks a rule (sections 4, 13.1, 19 and 20.1).
+    /// The frames before it took effect; the end is closed from now on, and [`Endpoint::close_payload`] tells the peer
+    /// so (section 10.2). `Invalid` where the number or the payload's length isn't so; then nothing changed.
+    pub fn receive(&mut self, number: u64, payload: &[u8]) -> Result<Received, ReceiveFault> {
+        if number > MAX_VARINT || payload.len() > MAX_PAYLOAD {
+            return Err(ReceiveFault::Invalid);
+        }
+        match self.inner.receive(number, payload) {
+            Ok(received) => Ok(Received::of(received)),
+            Err(closing) => Err(ReceiveFault::Closing(Closing::of(closing))),
+        }
+    }
+
+    /// Writes the payload that tells of this end's own closing: a CONNECTION_CLOSE with an empty reason (RFC 9000,
+    /// section 10.2). Answers its length in bytes. `None` where this end didn't close, or where it doesn't fit; then
+    /// nothing is written.
+    pub fn close_payload(&self, out: &mut [u8]) -> Option<usize> {
+        self.inner.close_payload(out)
+    }
+
+    /// Why this end closed; `None` where it is open or saw its peer close (RFC 9000, section 10.2).
+    pub fn closing(&self) -> Option<Closing> {
+        self.inner.closing().map(Closing::of)
+    }
+
+    /// How many bytes wait to be read: at most what was granted and isn't taken, and that is at most the connection's
+    /// window (RFC 9000, section 4.1).
+    pub fn stored(&self) -> u64 {
+        self.inner.stored()
+    }
+
+    /// The connection's limit in bytes that the peer was granted (RFC 9000, section 4.1).
+    pub fn granted(&self) -> u64 {
+        self.inner.granted()
+    }
+
+    /// How many bytes of that limit the peer used up: the sum of the highest offsets of all streams (RFC 9000, section
+    /// 4.1).
+    pub fn spent(&self) -> u64 {
+        self.inner.spent()
+    }
+
+    /// How many streams of a direction the peer may open: the first count, and one more for each of its streams that
+    /// came to its end, up to the settings' count of all (RFC 9000, section 4.6).
+    pub fn granted_streams(&self, dir: Dir) -> u64 {
+        self.inner.granted_streams(dir.inner())
+    }
+
+    /// How the halves of a stream stand at this end; `None` where it isn't open (RFC 9000, section 3).
+    pub fn report(&self, stream: StreamId) -> Option<StreamReport> {
+        self.inner.lane_report(stream.inner()).map(StreamReport::of)
+    }
+
+    /// The sending half of a stream, to write to. Whether it is one is told as it is used.
+    pub fn send_stream(&mut self, stream: StreamId) -> SendStream<'_> {
+        SendStream::new(self, stream)
+    }
+
+    /// The receiving half of a stream, to read from. Whether it is one is told as it is used.
+    pub fn recv_stream(&mut self, stream: StreamId) -> RecvStream<'_> {
+        RecvStream::new(self, stream)
+    }
+}
+
+impl fmt::Debug for Endpoint {
+    fn fmt(&self, f: &mut fmt::Formatter<'_>) -> fmt::Result {
+        f.debug_struct("Endpoint")
+            .field("granted", &self.granted())
+            .field("spent", &self.spent())
+            .field("stored", &self.stored())
+            .field("closing", &self.closing())
+            .finish_non_exhaustive()
+    }
+}

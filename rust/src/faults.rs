@@ -1,0 +1,249 @@
+//! Why a call was refused.
+
+use crate::answers::Closing;
+use crate::proved::qs_calls as calls;
+use core::error::Error;
+use core::fmt;
+
+/// Why no end can be made.
+#[derive(Clone, Copy, Debug, PartialEq, Eq)]
+#[non_exhaustive]
+pub enum SetupFault {
+    /// A setting lies outside its range, or a limit of the peer above 2^62-1.
+    OutOfRange,
+    /// The peer grants more than 2^60 streams of one direction: TRANSPORT_PARAMETER_ERROR (RFC 9000, section 4.6).
+    TooManyStreams,
+}
+
+/// Why no stream was opened.
+#[derive(Clone, Copy, Debug, PartialEq, Eq)]
+#[non_exhaustive]
+pub enum OpenFault {
+    /// As many streams are open as the peer allows: so many (RFC 9000, section 4.6). The peer is told by a
+    /// STREAMS_BLOCKED.
+    Blocked(u64),
+    /// The connection is closed.
+    Closed,
+    /// Memory was refused. Nothing changed.
+    NoMemory,
+}
+
+/// Why a stream can't be used so. Nothing changed.
+#[derive(Clone, Copy, Debug, PartialEq, Eq)]
+#[non_exhaustive]
+pub enum UseFault {
+    /// No stream of that number is open.
+    NoSuchStream,
+    /// The stream has no half of that kind at this end.
+    WrongDirection,
+    /// The end of the stream was asked for already.
+    Finished,
+    /// The sending half was broken off, by this end or by the peer's STOP_SENDING.
+    WasReset,
+    /// The connection is closed.
+    Closed,
+    /// Memory was refused.
+    NoMemory,
+    /// A code of 2^62 or more, which no frame can tell (RFC 9000, section 16).
+    Invalid,
+}
+
+/// Why no packet was made. Nothing changed.
+#[derive(Clone, Copy, Debug, PartialEq, Eq)]
+#[non_exhaustive]
+pub enum MakeFault {
+    /// The connection is closed.
+    Closed,
+    /// Memory was refused.
+    NoMemory,
+    /// The last packet number was used (RFC 9000, section 12.3).
+    Exhausted,
+    /// The room isn't of 128 to 16,383 bytes.
+    Invalid,
+}
+
+/// Why a packet wasn't declared lost, or not in whole.
+#[derive(Clone, Copy, Debug, PartialEq, Eq)]
+#[non_exhaustive]
+pub enum LostFault {
+    /// No such packet is outstanding: it wasn't made, it is acknowledged or lost, or it needs no answer. Nothing changed.
+    NotOutstanding,
+    /// Memory was refused. Some of what the packet carried may be due again; the call may be made again.
+    NoMemory,
+    /// The connection is closed. Nothing changed.
+    Closed,
+}
+
+/// Why a payload wasn't taken in.
+#[derive(Clone, Copy, Debug, PartialEq, Eq)]
+#[non_exhaustive]
+pub enum ReceiveFault {
+    /// This end closed the connection, now or before, since a frame offended.
+    Closing(Closing),
+    /// A packet number of 2^62 or more, or a payload of more than 65,535 bytes. Nothing changed.
+    Invalid,
+}
+
+/// Why a frame wasn't written. Nothing was.
+#[derive(Clone, Copy, Debug, PartialEq, Eq)]
+#[non_exhaustive]
+pub enum PutFault {
+    /// It doesn't fit the slice.
+    Full,
+    /// No payload can spell it: a number of 2^62 or more, a count of streams above 2^60, an identifier, token or
+    /// challenge of a wrong length, or ranges that aren't those of an ACK (RFC 9000, sections 16 and 19).
+    Invalid,
+}
+
+impl SetupFault {
+    /// The code with which the connection is refused, where the peer is at fault (RFC 9000, section 20.1).
+    pub fn code(self) -> Option<u64> {
+        match self {
+            SetupFault::OutOfRange => calls::SetupFault::OutOfRange.code(),
+            SetupFault::TooManyStreams => calls::SetupFault::TooManyStreams.code(),
+        }
+    }
+
+    pub(crate) fn of(fault: calls::SetupFault) -> SetupFault {
+        match fault {
+            calls::SetupFault::OutOfRange => SetupFault::OutOfRange,
+            calls::SetupFault::TooManyStreams => SetupFault::TooManyStreams,
+        }
+    }
+}
+
+impl OpenFault {
+    pub(crate) fn of(fault: calls::OpenFault) -> OpenFault {
+        match fault {
+            calls::OpenFault::Blocked(count) => OpenFault::Blocked(count),
+            calls::OpenFault::Closed => OpenFault::Closed,
+            calls::OpenFault::NoMemory => OpenFault::NoMemory,
+        }
+    }
+}
+
+impl UseFault {
+    pub(crate) fn of(fault: calls::UseFault) -> UseFault {
+        match fault {
+            calls::UseFault::NoSuchStream => UseFault::NoSuchStream,
+            calls::UseFault::WrongDirection => UseFault::WrongDirection,
+            calls::UseFault::Finished => UseFault::Finished,
+            calls::UseFault::WasReset => UseFault::WasReset,
+            calls::UseFault::Closed => UseFault::Closed,
+            calls::UseFault::NoMemory => UseFault::NoMemory,
+        }
+    }
+}
+
+impl MakeFault {
+    pub(crate) fn of(fault: calls::MakeFault) -> MakeFault {
+        match fault {
+            calls::MakeFault::Closed => MakeFault::Closed,
+            calls::MakeFault::NoMemory => MakeFault::NoMemory,
+            calls::MakeFault::Exhausted => MakeFault::Exhausted,
+        }
+    }
+}
+
+impl LostFault {
+    pub(crate) fn of(fault: calls::LostFault) -> LostFault {
+        match fault {
+            calls::LostFault::NotOutstanding => LostFault::NotOutstanding,
+            calls::LostFault::NoMemory => LostFault::NoMemory,
+            calls::LostFault::Closed => LostFault::Closed,
+        }
+    }
+}
+
+const CLOSED: &str = "the connection is closed";
+const NO_MEMORY: &str = "out of memory";
+
+impl fmt::Display for SetupFault {
+    fn fmt(&self, f: &mut fmt::Formatter<'_>) -> fmt::Result {
+        f.write_str(match self {
+            SetupFault::OutOfRange => "a setting is out of its range",
+            SetupFault::TooManyStreams => "the peer allows too many streams",
+        })
+    }
+}
+
+impl fmt::Display for OpenFault {
+    fn fmt(&self, f: &mut fmt::Formatter<'_>) -> fmt::Result {
+        match self {
+            OpenFault::Blocked(count) => write!(f, "the peer allows {count} streams"),
+            OpenFault::Closed => f.write_str(CLOSED),
+            OpenFault::NoMemory => f.write_str(NO_MEMORY),
+        }
+    }
+}
+
+impl fmt::Display for UseFault {
+    fn fmt(&self, f: &mut fmt::Formatter<'_>) -> fmt::Result {
+        f.write_str(match self {
+            UseFault::NoSuchStream => "the stream is not open",
+            UseFault::WrongDirection => "the stream goes the other way",
+            UseFault::Finished => "the stream was finished",
+            UseFault::WasReset => "the stream was reset",
+            UseFault::Closed => CLOSED,
+            UseFault::NoMemory => NO_MEMORY,
+            UseFault::Invalid => "a code lies above 2^62-1",
+        })
+    }
+}
+
+impl fmt::Display for MakeFault {
+    fn fmt(&self, f: &mut fmt::Formatter<'_>) -> fmt::Result {
+        f.write_str(match self {
+            MakeFault::Closed => CLOSED,
+            MakeFault::NoMemory => NO_MEMORY,
+            MakeFault::Exhausted => "there is no packet number left",
+            MakeFault::Invalid => "a packet needs a room of 128 to 16383 bytes",
+        })
+    }
+}
+
+impl fmt::Display for LostFault {
+    fn fmt(&self, f: &mut fmt::Formatter<'_>) -> fmt::Result {
+        f.write_str(match self {
+            LostFault::NotOutstanding => "no such packet is outstanding",
+            LostFault::NoMemory => NO_MEMORY,
+            LostFault::Closed => CLOSED,
+        })
+    }
+}
+
+impl fmt::Display for ReceiveFault {
+    fn fmt(&self, f: &mut fmt::Formatter<'_>) -> fmt::Result {
+        match self {
+            ReceiveFault::Closing(closing) => closing.fmt(f),
+            ReceiveFault::Invalid => f.write_str(
+                "a packet number lies above 2^62-1, or a payload has more than 65535 bytes",
+            ),
+        }
+    }
+}
+
+impl fmt::Display for PutFault {
+    fn fmt(&self, f: &mut fmt::Formatter<'_>) -> fmt::Result {
+        f.write_str(match self {
+            PutFault::Full => "the frame does not fit",
+            PutFault::Invalid => "no payload can spell the frame",
+        })
+    }
+}
+
+impl Error for SetupFault {}
+impl Error for OpenFault {}
+impl Error for UseFault {}
+impl Error for MakeFault {}
+impl Error for LostFault {}
+impl Error for PutFault {}
+
+impl Error for ReceiveFault {
+    fn source(&self) -> Option<&(dyn Error + 'static)> {
+        match self {
+            ReceiveFault::Closing(closing) => Some(closing),
+            ReceiveFault::Invalid => None,
+        }
+    }
+}

@@ -1,0 +1,555 @@
+//! The frames of a payload, read and written (RFC 9000, sections 16 and 19).
+
+use crate::faults::PutFault;
+use crate::ids::{Dir, StreamId};
+use crate::proved::qs_wire as wire;
+use core::error::Error;
+use core::fmt;
+use core::iter::FusedIterator;
+use core::ops::Range;
+
+mod between;
+
+/// A frame (RFC 9000, section 19), whose bytes are a part of the payload.
+#[derive(Clone, Copy, Debug, PartialEq, Eq)]
+pub enum Frame<'a> {
+    /// Section 19.1. Each byte is a frame of its own.
+    Padding,
+    /// Section 19.2.
+    Ping,
+    /// Section 19.3, of both types: that with ECN counts and that without.
+    Ack {
+        /// The largest number that is acknowledged.
+        largest: u64,
+        /// The delay, as the payload tells it: in microseconds divided by two to the power of `ack_delay_exponent`
+        /// (section 18.2).
+        delay: u64,
+        /// The length of the first range, and then of each next one the gap before it and its length, as the payload
+        /// spells them. [`AckRanges`] reads them.
+        ranges: &'a [u8],
+        /// The counts of a frame of type 0x03.
+        ecn: Option<EcnCounts>,
+    },
+    /// Section 19.4.
+    ResetStream {
+        /// The stream that is broken off.
+        stream: StreamId,
+        /// The application's code.
+        code: u64,
+        /// How many bytes the stream has, as far as credit goes.
+        final_size: u64,
+    },
+    /// Section 19.5.
+    StopSending {
+        /// The stream whose reader gave up.
+        stream: StreamId,
+        /// The application's code.
+        code: u64,
+    },
+    /// Section 19.6.
+    Crypto {
+        /// The offset of the first byte.
+        offset: u64,
+        /// The bytes of the handshake.
+        bytes: &'a [u8],
+    },
+    /// Section 19.7.
+    NewToken {
+        /// The token.
+        bytes: &'a [u8],
+    },
+    /// Section 19.8, of all eight types.
+    Stream {
+        /// The stream.
+        stream: StreamId,
+        /// The offset of the first byte.
+        offset: u64,
+        /// Whether the stream ends behind these bytes.
+        fin: bool,
+        /// The bytes.
+        bytes: &'a [u8],
+    },
+    /// Section 19.9.
+    MaxData {
+        /// How many bytes the other end may send on all streams together.
+        maximum: u64,
+    },
+    /// Section 19.10.
+    MaxStreamData {
+        /// The stream.
+        stream: StreamId,
+        /// How many bytes the other end may send on it.
+        maximum: u64,
+    },
+    /// Section 19.11, of both types: one for each direction.
+    MaxStreams {
+        /// The direction of the streams.
+        dir: Dir,
+        /// How many of them the other end may open, at most 2^60.
+        count: u64,
+    },
+    /// Section 19.12.
+    DataBlocked {
+        /// The limit that holds bytes back.
+        limit: u64,
+    },
+    /// Section 19.13.
+    StreamDataBlocked {
+        /// The stream.
+        stream: StreamId,
+        /// The limit that holds its bytes back.
+        limit: u64,
+    },
+    /// Section 19.14, of both types: one for each direction.
+    StreamsBlocked {
+        /// The direction of the streams.
+        dir: Dir,
+        /// The count that holds a stream back, at most 2^60.
+        count: u64,
+    },
+    /// Section 19.15.
+    NewConnectionId {
+        /// The identifier's number.
+        sequence: u64,
+        /// Identifiers of lower numbers are to be retired.
+        retire: u64,
+        /// 1 to 20 bytes.
+        identifier: &'a [u8],
+        /// 16 bytes.
+        reset_token: &'a [u8],
+    },
+    /// Section 19.16.
+    RetireConnectionId {
+        /// The identifier's number.
+        sequence: u64,
+    },
+    /// Section 19.17.
+    PathChallenge {
+        /// 8 bytes.
+        bytes: &'a [u8],
+    },
+    /// Section 19.18.
+    PathResponse {
+        /// 8 bytes.
+        bytes: &'a [u8],
+    },
+    /// Section 19.19, of the type that QUIC itself closes with.
+    ConnectionClose {
+        /// The code of section 20.1.
+        code: u64,
+        /// The type of the frame that was at fault, 0 where none was.
+        frame_type: u64,
+        /// Why, in words.
+        reason: &'a [u8],
+    },
+    /// Section 19.19, of the type that an application closes with.
+    ApplicationClose {
+        /// The application's code.
+        code: u64,
+        /// Why, in words.
+        reason: &'a [u8],
+    },
+    /// Section 19.20.
+    HandshakeDone,
+}
+
+/// How many packets came with each mark of congestion (RFC 9000, section 19.3.2).
+#[derive(Clone, Copy, Debug, PartialEq, Eq)]
+pub struct EcnCounts {
+    /// Packets that came with ECT(0).
+    pub ect0: u64,
+    /// Packets that came with ECT(1).
+    pub ect1: u64,
+    /// Packets that came with CE.
+    pub ce: u64,
+}
+
+/// A frame as it stands in a payload.
+#[derive(Clone, Copy, Debug, PartialEq, Eq)]
+pub struct Placed<'a> {
+    /// Where its first byte stands, counted in bytes from 0.
+    pub place: usize,
+    /// The frame.
+    pub frame: Frame<'a>,
+    /// The number of its type, as it was read.
+    pub frame_type: u64,
+}
+
+/// What is wrong with a payload, or with the frame at a place in it.
+#[derive(Clone, Copy, Debug, PartialEq, Eq)]
+pub enum FaultKind {
+    /// The payload has no frame (RFC 9000, section 12.4).
+    Empty,
+    /// A frame type has a shorter spelling (section 12.4).
+    LongType,
+    /// No frame has this type (section 12.4).
+    UnknownType,
+    /// A field, or the bytes that it counts, end past the payload.
+    Truncated,
+    /// An offset plus a length is above 2^62-1 (sections 19.6 and 19.8).
+    OffsetTooLarge,
+    /// A count of streams is above 2^60 (sections 19.11 and 19.14).
+    CountTooLarge,
+    /// An ACK names a number below zero (section 19.3.1).
+    BelowZero,
+    /// A connection identifier has no byte or more than 20 (section 19.15).
+    IdentifierLength,
+}
+
+/// The first fault of a payload: it stands in place of a frame.
+#[derive(Clone, Copy, Debug, PartialEq, Eq)]
+pub struct WireFault {
+    /// What is wrong.
+    pub kind: FaultKind,
+    /// Where the frame's first byte stands, counted in bytes from 0.
+    pub place: usize,
+    /// The code that QUIC closes a connection with (RFC 9000, section 20.1).
+    pub code: u64,
+    /// The frame's type, 0 where none was read.
+    pub frame_type: u64,
+}
+
+/// The frames of a payload, one after the other. [`frames`] makes it.
+#[derive(Debug)]
+pub struct Frames<'a> {
+    rest: wire::Frames<'a>,
+    faulty: bool,
+}
+
+/// The frames of a payload in order, each with its place; then the fault that stands in place of a frame, if there is
+/// one (RFC 9000, sections 12.4 and 19).
+///
+/// Frames of extensions aren't known: a layer beneath that takes them itself writes PADDING over them first, which has
+/// no effect, and PING where they ask for an ACK.
+///
+/// ```
+/// use gotsavena::{Frame, StreamId, frames};
+///
+/// let payload = [0x01, 0x0b, 0x00, 0x03, 0x61, 0x62, 0x63];
+/// let mut found = frames(&payload);
+/// assert_eq!(found.next().unwrap()?.frame, Frame::Ping);
+/// let second = found.next().unwrap()?;
+/// assert_eq!(second.place, 1);
+/// let stream = StreamId::new(0).unwrap();
+/// assert_eq!(second.frame, Frame::Stream { stream, offset: 0, fin: true, bytes: b"abc" });
+/// assert!(found.next().is_none());
+///
+/// // A frame type that has a shorter spelling closes a connection.
+/// let fault = frames(&[0x40, 0x01]).next().unwrap().unwrap_err();
+/// assert_eq!(fault.code, 0x0a);
+/// # Ok::<(), gotsavena::WireFault>(())
+/// ```
+pub fn frames(payload: &[u8]) -> Frames<'_> {
+    Frames {
+        rest: wire::Frames::new(payload),
+        faulty: false,
+    }
+}
+
+/// The ranges of an ACK as smallest and largest packet number, the highest first (RFC 9000, section 19.3.1).
+///
+/// ```
+/// use gotsavena::{AckRanges, Frame, frames};
+///
+/// let payload = [0x02, 0x09, 0x00, 0x01, 0x01, 0x02, 0x00];
+/// let Frame::Ack { largest, ranges, .. } = frames(&payload).next().unwrap()?.frame else {
+///     panic!("no ACK");
+/// };
+/// let ranges: Vec<_> = AckRanges::new(largest, ranges).unwrap().collect();
+/// assert_eq!(ranges, [(8, 9), (4, 4)]);
+/// # Ok::<(), gotsavena::WireFault>(())
+/// ```
+#[derive(Debug)]
+pub struct AckRanges<'a> {
+    rest: wire::AckRanges<'a>,
+}
+
+impl<'a> AckRanges<'a> {
+    /// The ranges below a frame's largest number; `None` where that is 2^62 or more. Of bytes that no frame has that was
+    /// read, a range that falls below zero begins at 0.
+    pub fn new(largest: u64, ranges: &'a [u8]) -> Option<AckRanges<'a>> {
+        if largest > MAX_VARINT {
+            return None;
+        }
+        Some(AckRanges {
+            rest: wire::AckRanges::new(largest, ranges),
+        })
+    }
+}
+
+impl Iterator for AckRanges<'_> {
+    type Item = (u64, u64);
+
+    fn next(&mut self) -> Option<(u64, u64)> {
+        self.rest.next()
+    }
+}
+
+impl FusedIterator for AckRanges<'_> {}
+
+impl<'a> Iterator for Frames<'a> {
+    type Item = Result<Placed<'a>, WireFault>;
+
+    fn next(&mut self) -> Option<Self::Item> {
+        if self.faulty {
+            return None;
+        }
+        match self.rest.next() {
+            Ok(placed) => Some(Ok(Placed::of(placed?))),
+            Err(fault) => {
+                self.faulty = true;
+                Some(Err(WireFault::of(fault)))
+            }
+        }
+    }
+}
+
+impl FusedIterator for Frames<'_> {}
+
+/// Writes the canonical text of a frame at the slice's front and answers its length in bytes: each number in its
+/// shortest spelling; of a STREAM frame the length always, and the offset where it isn't 0 (RFC 9000, sections 16
+/// and 19). Of a frame that is no text or doesn't fit nothing is written.
+///
+/// ```
+/// use gotsavena::{Frame, PutFault, put};
+///
+/// let mut out = [0; 8];
+/// assert_eq!(put(&Frame::MaxData { maximum: 4096 }, &mut out), Ok(3));
+/// assert_eq!(out[..3], [0x10, 0x50, 0x00]);
+/// assert_eq!(put(&Frame::MaxData { maximum: 1 << 62 }, &mut out), Err(PutFault::Invalid));
+/// assert_eq!(put(&Frame::Crypto { offset: 0, bytes: b"too long" }, &mut out), Err(PutFault::Full));
+/// ```
+///
+/// # Errors
+///
+/// `Invalid` where no payload can spell the frame, and else `Full` where it doesn't fit.
+pub fn put(frame: &Frame<'_>, out: &mut [u8]) -> Result<usize, PutFault> {
+    if !frame.has_text() {
+        return Err(PutFault::Invalid);
+    }
+    wire::put(&frame.inner(), out).map_err(|_full| PutFault::Full)
+}
+
+/// Writes an ACK frame without delay and ECN counts, of as many ranges as fit, at the slice's front, and answers how
+/// many and the frame's length in bytes (RFC 9000, section 19.3.1). The ranges are half-open, the highest first.
+///
+/// ```
+/// use gotsavena::{PutFault, put_ack};
+///
+/// let mut out = [0; 16];
+/// assert_eq!(put_ack(&[8..10, 4..5], &mut out), Ok((2, 7)));
+/// assert_eq!(out[..7], [0x02, 0x09, 0x00, 0x01, 0x01, 0x02, 0x00]);
+/// // Ranges that touch are one.
+/// assert_eq!(put_ack(&[8..10, 4..8], &mut out), Err(PutFault::Invalid));
+/// ```
+///
+/// # Errors
+///
+/// `Invalid` where there are no ranges or more than 32, one is empty or goes above 2^62-1, or a number is lacking
+/// between two; and else `Full` where not even the first fits. Then nothing is written.
+pub fn put_ack(ranges: &[Range<u64>], out: &mut [u8]) -> Result<(usize, usize), PutFault> {
+    let mut pairs = [(0, 0); MAX_RANGES];
+    let Some(pairs) = pairs.get_mut(..ranges.len()) else {
+        return Err(PutFault::Invalid);
+    };
+    let mut above = MAX_VARINT + 2;
+    for (pair, range) in pairs.iter_mut().zip(ranges) {
+        if range.is_empty() || range.end >= above {
+            return Err(PutFault::Invalid);
+        }
+        above = range.start;
+        *pair = (range.start, range.end);
+    }
+    if pairs.is_empty() {
+        return Err(PutFault::Invalid);
+    }
+    wire::put_ack(pairs, out).map_err(|_full| PutFault::Full)
+}
+
+/// The number at the front of the bytes, and how many bytes it takes; `None` where the bytes end before it does
+/// (RFC 9000, section 16).
+pub fn read_varint(bytes: &[u8]) -> Option<(u64, usize)> {
+    wire::read_varint(bytes)
+}
+
+/// Writes the shortest spelling of a number at the slice's front, and answers its length in bytes (RFC 9000, section
+/// 16). `None` where the number is 2^62 or more or the spelling doesn't fit; then nothing is written.
+pub fn write_varint(value: u64, out: &mut [u8]) -> Option<usize> {
+    wire::write_varint(value, out)
+}
+
+/// The greatest number that a frame can hold (RFC 9000, section 16).
+pub(crate) const MAX_VARINT: u64 = (1 << 62) - 1;
+
+/// The most streams of a direction (RFC 9000, section 4.6).
+const MAX_STREAMS: u64 = 1 << 60;
+
+/// The most ranges of an ACK that is written.
+const MAX_RANGES: usize = 32;
+
+fn fits(value: u64) -> bool {
+    value <= MAX_VARINT
+}
+
+/// Whether bytes from an offset on end at 2^62-1 or before.
+fn run_fits(offset: u64, bytes: &[u8]) -> bool {
+    match offset.checked_add(bytes.len() as u64) {
+        Some(end) => fits(end),
+        None => false,
+    }
+}
+
+/// Whether the bytes spell the length of a range, and then gaps and lengths by turns, none of which goes below zero.
+fn are_ranges(largest: u64, ranges: &[u8]) -> bool {
+    let mut left = largest + 1;
+    let mut rest = ranges;
+    let mut odd = false;
+    while let Some((value, len)) = wire::read_varint(rest) {
+        if value >= left {
+            return false;
+        }
+        left -= value + 1;
+        rest = &rest[len..];
+        odd = !odd;
+    }
+    odd && rest.is_empty()
+}
+
+impl EcnCounts {
+    fn fit(&self) -> bool {
+        fits(self.ect0) && fits(self.ect1) && fits(self.ce)
+    }
+}
+
+impl<'a> Frame<'a> {
+    /// Whether some payload spells the frame.
+    fn has_text(&self) -> bool {
+        match *self {
+            Frame::Padding | Frame::Ping | Frame::HandshakeDone => true,
+            Frame::Ack {
+                largest,
+                delay,
+                ranges,
+                ecn,
+            } => {
+                fits(largest)
+                    && fits(delay)
+                    && are_ranges(largest, ranges)
+                    && ecn.is_none_or(|counts| counts.fit())
+            }
+            Frame::ResetStream {
+                code, final_size, ..
+            } => fits(code) && fits(final_size),
+            Frame::StopSending { code, .. } => fits(code),
+            Frame::Crypto { offset, bytes } | Frame::Stream { offset, bytes, .. } => {
+                run_fits(offset, bytes)
+            }
+            Frame::NewToken { bytes } => run_fits(0, bytes),
+            Frame::MaxData { maximum } | Frame::MaxStreamData { maximum, .. } => fits(maximum),
+            Frame::MaxStreams { count, .. } | Frame::StreamsBlocked { count, .. } => {
+                count <= MAX_STREAMS
+            }
+            Frame::DataBlocked { limit } | Frame::StreamDataBlocked { limit, .. } => fits(limit),
+            Frame::NewConnectionId {
+                sequence,
+                retire,
+                identifier,
+                reset_token,
+            } => {
+                fits(sequence)
+                    && fits(retire)
+                    && (1..=20).contains(&identifier.len())
+                    && reset_token.len() == 16
+            }
+            Frame::RetireConnectionId { sequence } => fits(sequence),
+            Frame::PathChallenge { bytes } | Frame::PathResponse { bytes } => bytes.len() == 8,
+            Frame::ConnectionClose {
+                code,
+                frame_type,
+                reason,
+            } => fits(code) && fits(frame_type) && run_fits(0, reason),
+            Frame::ApplicationClose { code, reason } => fits(code) && run_fits(0, reason),
+        }
+    }
+}
+
+impl EcnCounts {
+    fn of(counts: wire::EcnCounts) -> EcnCounts {
+        EcnCounts {
+            ect0: counts.ect0,
+            ect1: counts.ect1,
+            ce: counts.ce,
+        }
+    }
+
+    fn inner(self) -> wire::EcnCounts {
+        wire::EcnCounts {
+            ect0: self.ect0,
+            ect1: self.ect1,
+            ce: self.ce,
+        }
+    }
+}
+
+impl<'a> Placed<'a> {
+    fn of(placed: wire::Placed<'a>) -> Placed<'a> {
+        Placed {
+            place: placed.place,
+            frame: Frame::of(placed.frame),
+            frame_type: placed.frame_type,
+        }
+    }
+}
+
+impl WireFault {
+    fn of(fault: wire::WireFault) -> WireFault {
+        WireFault {
+            kind: FaultKind::of(fault.kind),
+            place: fault.place,
+            code: fault.code,
+            frame_type: fault.frame_type,
+        }
+    }
+}
+
+impl FaultKind {
+    fn of(kind: wire::FaultKind) -> FaultKind {
+        match kind {
+            wire::FaultKind::Empty => FaultKind::Empty,
+            wire::FaultKind::LongType => FaultKind::LongType,
+            wire::FaultKind::UnknownType => FaultKind::UnknownType,
+            wire::FaultKind::Truncated => FaultKind::Truncated,
+            wire::FaultKind::OffsetTooLarge => FaultKind::OffsetTooLarge,
+            wire::FaultKind::CountTooLarge => FaultKind::CountTooLarge,
+            wire::FaultKind::BelowZero => FaultKind::BelowZero,
+            wire::FaultKind::IdentifierLength => FaultKind::IdentifierLength,
+        }
+    }
+}
+
+impl fmt::Display for FaultKind {
+    fn fmt(&self, f: &mut fmt::Formatter<'_>) -> fmt::Result {
+        f.write_str(match self {
+            FaultKind::Empty => "the payload has no frame",
+            FaultKind::LongType => "the frame type has a shorter spelling",
+            FaultKind::UnknownType => "no frame has this type",
+            FaultKind::Truncated => "the frame ends past the payload",
+            FaultKind::OffsetTooLarge => "an offset lies above 2^62-1",
+            FaultKind::CountTooLarge => "a count of streams lies above 2^60",
+            FaultKind::BelowZero => "an ACK names a number below zero",
+            FaultKind::IdentifierLength => "a connection identifier has no byte or more than 20",
+        })
+    }
+}
+
+impl fmt::Display for WireFault {
+    fn fmt(&self, f: &mut fmt::Formatter<'_>) -> fmt::Result {
+        write!(
+            f,
+            "{} (code {:#04x}, frame type {:#04x}, byte {})",
+            self.kind, self.code, self.frame_type, self.place
+        )
+    }
+}
+
+impl Error for WireFault {}

@@ -1,0 +1,155 @@
+//! Ends, directions and the numbers of streams.
+
+use crate::proved::qs_wire as wire;
+use core::cmp::Ordering;
+use core::fmt;
+use core::hash::{Hash, Hasher};
+
+/// An end of a connection (RFC 9000, section 2.1).
+#[derive(Clone, Copy, Debug, PartialEq, Eq, Hash, PartialOrd, Ord)]
+pub enum Role {
+    /// The end that opened the connection.
+    Client,
+    /// The end that answered it.
+    Server,
+}
+
+/// Whether both ends of a stream send (RFC 9000, section 2.1).
+#[derive(Clone, Copy, Debug, PartialEq, Eq, Hash, PartialOrd, Ord)]
+pub enum Dir {
+    /// Both ends send.
+    Bidi,
+    /// The end that opens the stream sends; the other one reads.
+    Uni,
+}
+
+/// The number of a stream, below 2^62 (RFC 9000, section 2.1).
+///
+/// Its two lowest bits tell who opens it and its direction, the rest counts the streams of that type.
+///
+/// ```
+/// use gotsavena::{Dir, Role, StreamId};
+///
+/// let stream = StreamId::from_parts(Role::Server, Dir::Uni, 2).unwrap();
+/// assert_eq!(stream.value(), 11);
+/// assert_eq!(StreamId::new(11), Some(stream));
+/// assert_eq!(StreamId::new(1 << 62), None);
+/// ```
+#[derive(Clone, Copy, PartialEq, Eq)]
+pub struct StreamId(wire::StreamId);
+
+impl StreamId {
+    /// The stream of that number; `None` where it is 2^62 or more.
+    pub fn new(value: u64) -> Option<StreamId> {
+        wire::StreamId::new(value).map(StreamId)
+    }
+
+    /// The stream of that type with that index, counted from 0; `None` where the index is 2^60 or more.
+    pub fn from_parts(initiator: Role, dir: Dir, index: u64) -> Option<StreamId> {
+        wire::StreamId::from_parts(initiator.inner(), dir.inner(), index).map(StreamId)
+    }
+
+    /// The number.
+    pub fn value(self) -> u64 {
+        self.0.value()
+    }
+
+    /// The end that opens the stream.
+    pub fn initiator(self) -> Role {
+        Role::of(self.0.initiator())
+    }
+
+    /// Whether both ends send on it.
+    pub fn dir(self) -> Dir {
+        Dir::of(self.0.dir())
+    }
+
+    /// How many streams of its type have a lower number.
+    pub fn index(self) -> u64 {
+        self.0.index()
+    }
+
+    pub(crate) fn of(stream: wire::StreamId) -> StreamId {
+        StreamId(stream)
+    }
+
+    pub(crate) fn inner(self) -> wire::StreamId {
+        self.0
+    }
+}
+
+impl fmt::Debug for StreamId {
+    fn fmt(&self, f: &mut fmt::Formatter<'_>) -> fmt::Result {
+        write!(f, "StreamId({})", self.value())
+    }
+}
+
+impl fmt::Display for StreamId {
+    fn fmt(&self, f: &mut fmt::Formatter<'_>) -> fmt::Result {
+        self.value().fmt(f)
+    }
+}
+
+impl Hash for StreamId {
+    fn hash<H: Hasher>(&self, state: &mut H) {
+        self.value().hash(state);
+    }
+}
+
+impl Ord for StreamId {
+    fn cmp(&self, other: &StreamId) -> Ordering {
+        self.value().cmp(&other.value())
+    }
+}
+
+impl PartialOrd for StreamId {
+    fn partial_cmp(&self, other: &StreamId) -> Option<Ordering> {
+        Some(self.cmp(other))
+    }
+}
+
+impl From<StreamId> for u64 {
+    fn from(stream: StreamId) -> u64 {
+        stream.value()
+    }
+}
+
+impl Role {
+    /// The other end.
+    pub fn peer(self) -> Role {
+        match self {
+            Role::Client => Role::Server,
+            Role::Server => Role::Client,
+        }
+    }
+
+    pub(crate) fn of(role: wire::Role) -> Role {
+        match role {
+            wire::Role::Client => Role::Client,
+            wire::Role::Server => Role::Server,
+        }
+    }
+
+    pub(crate) fn inner(self) -> wire::Role {
+        match self {
+            Role::Client => wire::Role::Client,
+            Role::Server => wire::Role::Server,
+        }
+    }
+}
+
+impl Dir {
+    pub(crate) fn of(dir: wire::Dir) -> Dir {
+        match dir {
+            wire::Dir::Bidi => Dir::Bidi,
+            wire::Dir::Uni => Dir::Uni,
+        }
+    }
+
+    pub(crate) fn inner(self) -> wire::Dir {
+        match self {
+            Dir::Bidi => wire::Dir::Bidi,
+            Dir::Uni => wire::Dir::Uni,
+        }
+    }
+}

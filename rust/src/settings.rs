@@ -1,0 +1,154 @@
+//! What an end is set to, and what it knows of its peer's limits.
+
+use crate::proved::qs_calls as calls;
+
+/// The credit that an end grants, and the size of its sending buffers.
+///
+/// [`Settings::default`] are the standard settings, those of the scripts: a connection window of 4,096 bytes, windows
+/// of 1,024 bytes for each stream, a sending buffer of 2,048 bytes for each stream, and eight streams of each direction,
+/// in all. They are small, for trying. A real end sets its own:
+///
+/// ```
+/// use gotsavena::Settings;
+///
+/// let settings = Settings::default()
+///     .conn_window(1 << 24)
+///     .stream_windows(1 << 20)
+///     .send_buffer(1 << 20)
+///     .streams(100, 1 << 16);
+/// assert_eq!(settings.limits().max_data, 1 << 24);
+/// ```
+///
+/// Whether each value lies in its range is told by [`Endpoint::new`](crate::Endpoint::new).
+#[derive(Clone, Copy, Debug, PartialEq, Eq)]
+pub struct Settings(calls::Settings);
+
+/// The limits that an end begins with, as its peer grants them: the transport parameters of RFC 9000, section 18.2.
+///
+/// `local` and `remote` are seen from the end that grants, as in the standard. What this end grants is told by
+/// [`Settings::limits`]; the layer beneath carries both ways in the handshake.
+///
+/// A client knows the peer's limits only after the handshake: it makes its end then. With 0-RTT it makes the end with
+/// the remembered limits; the new ones aren't lower for a server that accepts 0-RTT (section 7.4.1).
+#[derive(Clone, Copy, Debug, Default, PartialEq, Eq)]
+pub struct PeerLimits {
+    /// `initial_max_data`: bytes on all streams together, below 2^62.
+    pub max_data: u64,
+    /// `initial_max_stream_data_bidi_local`: bytes on each bidirectional stream that the granting end opens, below 2^62.
+    pub bidi_local: u64,
+    /// `initial_max_stream_data_bidi_remote`: the same for each one that the other end opens, below 2^62.
+    pub bidi_remote: u64,
+    /// `initial_max_stream_data_uni`: the same for each unidirectional stream, below 2^62.
+    pub uni: u64,
+    /// `initial_max_streams_bidi`: how many bidirectional streams may be opened, at most 2^60.
+    pub streams_bidi: u64,
+    /// `initial_max_streams_uni`: how many unidirectional streams may be opened, at most 2^60.
+    pub streams_uni: u64,
+}
+
+impl Default for Settings {
+    fn default() -> Settings {
+        Settings(calls::Settings {
+            conn_window: 4096,
+            bidi_local: 1024,
+            bidi_remote: 1024,
+            uni: 1024,
+            send_buffer: 2048,
+            grant_bidi: 8,
+            grant_uni: 8,
+            lifetime_bidi: 8,
+            lifetime_uni: 8,
+        })
+    }
+}
+
+impl Settings {
+    /// How far the bytes received on all streams may run ahead of those taken: 1 to 2^24 bytes (RFC 9000, section 4.1).
+    /// At most so many bytes are stored.
+    pub fn conn_window(mut self, bytes: u64) -> Settings {
+        self.0.conn_window = bytes;
+        self
+    }
+
+    /// The same for each bidirectional stream that this end opens: 1 to 2^20 bytes.
+    pub fn bidi_local_window(mut self, bytes: u64) -> Settings {
+        self.0.bidi_local = bytes;
+        self
+    }
+
+    /// The same for each bidirectional stream that the peer opens: 1 to 2^20 bytes.
+    pub fn bidi_remote_window(mut self, bytes: u64) -> Settings {
+        self.0.bidi_remote = bytes;
+        self
+    }
+
+    /// The same for each unidirectional stream that the peer opens: 1 to 2^20 bytes.
+    pub fn uni_window(mut self, bytes: u64) -> Settings {
+        self.0.uni = bytes;
+        self
+    }
+
+    /// The three windows of streams at once: 1 to 2^20 bytes.
+    pub fn stream_windows(self, bytes: u64) -> Settings {
+        self.bidi_local_window(bytes)
+            .bidi_remote_window(bytes)
+            .uni_window(bytes)
+    }
+
+    /// How many bytes that aren't acknowledged each sending half keeps: 1 to 2^20.
+    pub fn send_buffer(mut self, bytes: usize) -> Settings {
+        self.0.send_buffer = bytes;
+        self
+    }
+
+    /// How many streams of each direction the peer may open at first (0 to 4,096), and in all, as those that it opened
+    /// come to their end (the first number to 65,536; RFC 9000, section 4.6).
+    pub fn streams(self, at_first: u64, in_all: u64) -> Settings {
+        self.bidi_streams(at_first, in_all)
+            .uni_streams(at_first, in_all)
+    }
+
+    /// The same of bidirectional streams.
+    pub fn bidi_streams(mut self, at_first: u64, in_all: u64) -> Settings {
+        self.0.grant_bidi = at_first;
+        self.0.lifetime_bidi = in_all;
+        self
+    }
+
+    /// The same of unidirectional streams.
+    pub fn uni_streams(mut self, at_first: u64, in_all: u64) -> Settings {
+        self.0.grant_uni = at_first;
+        self.0.lifetime_uni = in_all;
+        self
+    }
+
+    /// What the other end is told of these settings (RFC 9000, section 18.2).
+    pub fn limits(&self) -> PeerLimits {
+        let limits = self.0.limits();
+        PeerLimits {
+            max_data: limits.max_data,
+            bidi_local: limits.bidi_local,
+            bidi_remote: limits.bidi_remote,
+            uni: limits.uni,
+            streams_bidi: limits.streams_bidi,
+            streams_uni: limits.streams_uni,
+        }
+    }
+
+    pub(crate) fn inner(&self) -> calls::Settings {
+        self.0
+    }
+}
+
+impl PeerLimits {
+    pub(crate) fn inner(&self) -> calls::PeerLimits {
+        calls::PeerLimits {
+            max_data: self.max_data,
+            bidi_local: self.bidi_local,
+            bidi_remote: self.bidi_remote,
+            uni: self.uni,
+            streams_bidi: self.streams_bidi,
+            streams_uni: self.streams_uni,
+        }
+    }
+}

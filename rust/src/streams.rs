@@ -1,0 +1,203 @@
+//! The halves of one stream.
+
+use crate::answers::{Read, RecvReport, SendReport};
+use crate::endpoint::Endpoint;
+use crate::faults::UseFault;
+use crate::ids::StreamId;
+
+/// The sending half of a stream at an end (RFC 9000, section 3.1).
+///
+/// With the feature `std` it is a [`Write`](std::io::Write): a write that finds the stream's buffer full is
+/// `WouldBlock`, and one of a stream that was finished, reset or closed is an error whose inner error is the
+/// [`UseFault`].
+///
+/// ```
+/// # #[cfg(feature = "std")] {
+/// use gotsavena::{Dir, Endpoint, Role, Settings};
+/// use std::io::{ErrorKind, Write};
+///
+/// let settings = Settings::default().send_buffer(4);
+/// let mut client = Endpoint::new(Role::Client, settings, settings.limits())?;
+/// let stream = client.open(Dir::Uni)?;
+///
+/// let mut sender = client.send_stream(stream);
+/// assert_eq!(sender.write(b"hello")?, 4);
+/// assert_eq!(sender.write(b"o").unwrap_err().kind(), ErrorKind::WouldBlock);
+/// sender.finish()?;
+/// # }
+/// # Ok::<(), Box<dyn std::error::Error>>(())
+/// ```
+#[derive(Debug)]
+pub struct SendStream<'a> {
+    end: &'a mut Endpoint,
+    stream: StreamId,
+}
+
+/// The receiving half of a stream at an end (RFC 9000, section 3.2).
+///
+/// With the feature `std` it is a [`Read`](std::io::Read): `WouldBlock` where nothing is there, 0 at the end, and
+/// `ConnectionReset` where the peer broke the stream off; other errors have the [`UseFault`] as inner error.
+///
+/// ```
+/// # #[cfg(feature = "std")] {
+/// use gotsavena::{Dir, Endpoint, Role, Settings};
+/// use std::io::{ErrorKind, Read};
+///
+/// let settings = Settings::default();
+/// let mut client = Endpoint::new(Role::Client, settings, settings.limits())?;
+/// let mut server = Endpoint::new(Role::Server, settings, settings.limits())?;
+/// let stream = client.open(Dir::Uni)?;
+/// client.write(stream, b"hello")?;
+/// client.finish(stream)?;
+/// let mut payload = [0; 1200];
+/// let made = client.make_packet(&mut payload)?.expect("bytes are due");
+/// server.receive(made.number, &payload[..made.len])?;
+///
+/// let mut text = String::new();
+/// server.recv_stream(stream).read_to_string(&mut text)?;
+/// assert_eq!(text, "hello");
+/// # }
+/// # Ok::<(), Box<dyn std::error::Error>>(())
+/// ```
+#[derive(Debug)]
+pub struct RecvStream<'a> {
+    end: &'a mut Endpoint,
+    stream: StreamId,
+}
+
+impl<'a> SendStream<'a> {
+    pub(crate) fn new(end: &'a mut Endpoint, stream: StreamId) -> SendStream<'a> {
+        SendStream { end, stream }
+    }
+
+    /// The stream's number.
+    pub fn id(&self) -> StreamId {
+        self.stream
+    }
+
+    /// Accepts the front of the bytes for sending, as [`Endpoint::write`] does.
+    ///
+    /// # Errors
+    ///
+    /// Those of that call.
+    pub fn try_write(&mut self, bytes: &[u8]) -> Result<usize, UseFault> {
+        self.end.write(self.stream, bytes)
+    }
+
+    /// Asks for the end of the stream, as [`Endpoint::finish`] does.
+    ///
+    /// # Errors
+    ///
+    /// Those of that call.
+    pub fn finish(&mut self) -> Result<(), UseFault> {
+        self.end.finish(self.stream)
+    }
+
+    /// Breaks the sending half off, as [`Endpoint::reset`] does.
+    ///
+    /// # Errors
+    ///
+    /// Those of that call.
+    pub fn reset(&mut self, code: u64) -> Result<(), UseFault> {
+        self.end.reset(self.stream, code)
+    }
+
+    /// How the half stands; `None` where there is none.
+    pub fn report(&self) -> Option<SendReport> {
+        self.end.report(self.stream)?.send
+    }
+}
+
+impl<'a> RecvStream<'a> {
+    pub(crate) fn new(end: &'a mut Endpoint, stream: StreamId) -> RecvStream<'a> {
+        RecvStream { end, stream }
+    }
+
+    /// The stream's number.
+    pub fn id(&self) -> StreamId {
+        self.stream
+    }
+
+    /// Reads the bytes that are next, as [`Endpoint::read`] does.
+    ///
+    /// # Errors
+    ///
+    /// Those of that call.
+    pub fn try_read(&mut self, into: &mut [u8]) -> Result<Read, UseFault> {
+        self.end.read(self.stream, into)
+    }
+
+    /// Throws the stream's bytes away, as [`Endpoint::stop`] does.
+    ///
+    /// # Errors
+    ///
+    /// Those of that call.
+    pub fn stop(&mut self, code: u64) -> Result<(), UseFault> {
+        self.end.stop(self.stream, code)
+    }
+
+    /// How the half stands; `None` where there is none.
+    pub fn report(&self) -> Option<RecvReport> {
+        self.end.report(self.stream)?.recv
+    }
+}
+
+#[cfg(feature = "std")]
+mod io {
+    use super::{Read, RecvStream, SendStream, UseFault};
+    use core::error::Error;
+    use core::fmt;
+    use std::io::{self, ErrorKind};
+
+    /// The peer broke a stream off.
+    #[derive(Debug)]
+    struct WasReset(u64);
+
+    impl fmt::Display for WasReset {
+        fn fmt(&self, f: &mut fmt::Formatter<'_>) -> fmt::Result {
+            write!(f, "the stream was reset with code {}", self.0)
+        }
+    }
+
+    impl Error for WasReset {}
+
+    impl From<UseFault> for io::Error {
+        fn from(fault: UseFault) -> io::Error {
+            let kind = match fault {
+                UseFault::NoSuchStream => ErrorKind::NotFound,
+                UseFault::WrongDirection | UseFault::Invalid => ErrorKind::InvalidInput,
+                UseFault::Finished | UseFault::WasReset => ErrorKind::BrokenPipe,
+                UseFault::Closed => ErrorKind::NotConnected,
+                UseFault::NoMemory => return ErrorKind::OutOfMemory.into(),
+            };
+            io::Error::new(kind, fault)
+        }
+    }
+
+    impl io::Write for SendStream<'_> {
+        fn write(&mut self, bytes: &[u8]) -> io::Result<usize> {
+            match self.try_write(bytes)? {
+                0 if !bytes.is_empty() => Err(ErrorKind::WouldBlock.into()),
+                count => Ok(count),
+            }
+        }
+
+        fn flush(&mut self) -> io::Result<()> {
+            Ok(())
+        }
+    }
+
+    impl io::Read for RecvStream<'_> {
+        fn read(&mut self, into: &mut [u8]) -> io::Result<usize> {
+            match self.try_read(into)? {
+                Read::Bytes(count) => Ok(count),
+                Read::End => Ok(0),
+                Read::Reset(code) => {
+                    Err(io::Error::new(ErrorKind::ConnectionReset, WasReset(code)))
+                }
+                Read::Wait if into.is_empty() => Ok(0),
+                Read::Wait => Err(ErrorKind::WouldBlock.into()),
+            }
+        }
+    }
+}
