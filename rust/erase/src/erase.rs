@@ -10,6 +10,8 @@ pub struct Place<'a> {
     pub erased: &'a [&'a str],
     /// Whether functions without parameters and with an empty body are laws.
     pub laws: bool,
+    /// Whether a function `main` is the program.
+    pub program: bool,
 }
 
 /// What the eraser doesn't know, and the byte of the file at which it stands.
@@ -210,6 +212,10 @@ impl<'a> Eraser<'a> {
         if self.place.laws && self.is_law(at, end, body) {
             return Ok(self.cut_item(at - 1, body + 1));
         }
+        if self.place.program && self.word(at + 1) == "main" {
+            let start = self.tokens[at].start;
+            self.edits.push(edit(start, start, "pub(crate) ".to_owned()));
+        }
         if body > end {
             let gap = if self.word(body) == "{" { " " } else { "" };
             let (start, end) = (self.tokens[end - 1].end, self.tokens[body].start);
@@ -275,6 +281,11 @@ impl<'a> Eraser<'a> {
             return self.path(at);
         }
         if before == "." && self.word(at + 1) == "(" {
+            if word == "expect" && self.words(at + 2, at + 5) == ["&", "rt", ","] {
+                let (start, end) = (self.tokens[at + 2].start, self.tokens[at + 5].start);
+                self.edits.push(edit(start, end, String::new()));
+                return Ok(at + 5);
+            }
             if self.word(at + 2) != ")"
                 && let Some((_, new, owner)) = CALLS.iter().find(|(old, _, _)| *old == word)
             {

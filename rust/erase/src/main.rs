@@ -75,6 +75,7 @@ fn make(
             krate,
             erased,
             laws: inner == Path::new("laws.rt"),
+            program: inner == Path::new("main.rt"),
         };
         let rust = erase(&place, &text).map_err(|unknown| {
             let line = text[..unknown.at].matches('\n').count() + 1;

@@ -1,0 +1,36 @@
+//! The proved source with its ghosts erased. The modules are made by `rust/erase`, a module for each crate; this list is made by hand.
+//! The library's are the very files that it has.
+
+// What only the library's users need is dead in the program, and imports of what it doesn't use are unused.
+#![allow(dead_code, unused_imports)]
+// Forms that clippy would have otherwise: the text stays as it was proved.
+#![allow(
+    clippy::len_zero,
+    clippy::manual_map,
+    clippy::manual_ok_err,
+    clippy::manual_unwrap_or,
+    clippy::manual_unwrap_or_default,
+    clippy::question_mark,
+    clippy::redundant_pattern_matching
+)]
+
+#[path = "../../../src/proved/qs_calls/mod.rs"]
+pub(crate) mod qs_calls;
+#[path = "../../../src/proved/qs_conn/mod.rs"]
+pub(crate) mod qs_conn;
+#[path = "../../../src/proved/qs_machine/mod.rs"]
+pub(crate) mod qs_machine;
+#[path = "../../../src/proved/qs_ranges/mod.rs"]
+pub(crate) mod qs_ranges;
+#[path = "../../../src/proved/qs_recv/mod.rs"]
+pub(crate) mod qs_recv;
+#[path = "../../../src/proved/qs_send/mod.rs"]
+pub(crate) mod qs_send;
+#[path = "../../../src/proved/qs_wire/mod.rs"]
+pub(crate) mod qs_wire;
+
+pub(crate) mod qs_cli;
+#[cfg(test)]
+mod qs_tests;
+pub(crate) mod qs_tool;
+pub(crate) mod qs_world;

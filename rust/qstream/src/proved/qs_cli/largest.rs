@@ -1,0 +1,18 @@
+// Made from crates/qs_cli/src/largest.rt by rust/erase; not edited by hand.
+//! The packet number at which the ranges of an ACK begin.
+
+/// The largest packet number that an ACK names.
+#[derive(Clone, Copy, Debug)]
+pub struct Largest {
+    number: u64,
+}
+
+impl Largest {
+    pub fn new(number: u64) -> Largest {
+        Largest { number }
+    }
+
+    pub fn number(self) -> u64 {
+        self.number
+    }
+}

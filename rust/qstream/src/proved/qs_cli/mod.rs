@@ -1,0 +1,24 @@
+// Made from crates/qs_cli/src/lib.rt by rust/erase; not edited by hand.
+//! What the program does, over any writer: it shows the frames of a payload, plays scripts, over a wire too, and makes random ones.
+
+mod carrying;
+mod fields;
+mod frame_text;
+mod frames;
+mod largest;
+mod memory_wire;
+mod report_text;
+mod scripts;
+mod status;
+mod text;
+mod udp_wire;
+mod wire;
+
+pub use carrying::{run_udp, udp_events};
+pub use frames::run_frames;
+pub use memory_wire::MemoryWire;
+pub use report_text::{play_text, script_text};
+pub use scripts::{run_events, run_play, run_play_with, run_random};
+pub use status::Status;
+pub use udp_wire::UdpWire;
+pub use wire::{Wire, WireError};

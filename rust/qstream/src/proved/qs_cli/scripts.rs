@@ -1,0 +1,114 @@
+// Made from crates/qs_cli/src/scripts.rt by rust/erase; not edited by hand.
+//! Plays events and scripts, and makes scripts of random events.
+
+use crate::shim::{String, format};
+
+use crate::proved::qs_cli::report_text::{play_text, script_text};
+use crate::proved::qs_cli::status::Status;
+use crate::proved::qs_world::{
+    Event, PlayFault, Reason, Report, ScriptFault, Settings, parse_script, play, random_script,
+    standard_settings,
+};
+use crate::shim::alloc::{AllocError, Global};
+use crate::shim::io;
+
+/// Plays events between two ends of these settings, and writes the report: a line for each event with its answer, for each lane and for
+/// each end. An event that delivers a packet which wasn't made is named in place of it all.
+///
+/// It is written once the text stands whole. `Failed` where memory was refused or writing failed.
+pub fn run_events<W: io::Write>(
+    alloc: Global,
+    settings: Settings,
+    events: &[Event],
+    out: &mut W,
+) -> Status {
+    show_events(alloc, settings, events, out).unwrap_or(Status::Failed)
+}
+
+fn show_events<W: io::Write>(
+    alloc: Global,
+    settings: Settings,
+    events: &[Event],
+    out: &mut W,
+) -> io::Result<Status> {
+    match play(alloc, settings, settings, events) {
+        Ok(report) => show_report(alloc, &report, out),
+        Err(PlayFault::NoSuchPacket { event }) => show_missing(alloc, event, out),
+        Err(PlayFault::NoMemory) => Ok(Status::Failed),
+        Err(PlayFault::Setup(_)) => unreachable!(),
+    }
+}
+
+fn show_report<W: io::Write>(alloc: Global, report: &Report, out: &mut W) -> io::Result<Status> {
+    let text = play_text(alloc, report)?;
+    show(&text, Status::Success, out)
+}
+
+/// Writes the line that names an event whose packet wasn't made.
+pub fn show_missing<W: io::Write>(alloc: Global, event: usize, out: &mut W) -> io::Result<Status> {
+    let text = format!(in alloc; "fault: no such packet at event {event}\n")?;
+    show(&text, Status::FaultShown, out)
+}
+
+/// Writes a text, and answers the status that goes with it.
+pub fn show<W: io::Write>(text: &String, status: Status, out: &mut W) -> io::Result<Status> {
+    out.write_all(text.as_bytes())?;
+    Ok(status)
+}
+
+/// Plays a script between two ends of the standard settings, as [`run_play_with`] does.
+pub fn run_play<W: io::Write>(alloc: Global, script: &[u8], out: &mut W) -> Status {
+    run_play_with(alloc, standard_settings(), script, out)
+}
+
+/// Plays a script between two ends of these settings, and writes the report as [`run_events`] does. The fault of a script that can't be
+/// read is named in place of it all.
+pub fn run_play_with<W: io::Write>(
+    alloc: Global,
+    settings: Settings,
+    script: &[u8],
+    out: &mut W,
+) -> Status {
+    match parse_script(alloc, script) {
+        Ok(events) => run_events(alloc, settings, &events, out),
+        Err(fault) => show_script_fault(alloc, fault, out).unwrap_or(Status::Failed),
+    }
+}
+
+/// Writes the line that names the fault of a script, unless it is want of memory.
+pub fn show_script_fault<W: io::Write>(
+    alloc: Global,
+    fault: ScriptFault,
+    out: &mut W,
+) -> io::Result<Status> {
+    match fault.reason {
+        Reason::NoMemory => Ok(Status::Failed),
+        _ => {
+            let text = script_fault_text(alloc, fault)?;
+            show(&text, Status::FaultShown, out)
+        }
+    }
+}
+
+fn script_fault_text(alloc: Global, fault: ScriptFault) -> Result<String, AllocError> {
+    let (line, reason) = (fault.line, fault.reason.number());
+    let mut text = String::new(alloc);
+    write!(text, "fault: line {line} reason {reason}\n")?;
+    Ok(text)
+}
+
+/// Writes a script of so many random events, which the seed determines.
+pub fn run_random<W: io::Write>(alloc: Global, seed: u64, n: usize, out: &mut W) -> Status {
+    let events = match random_script(alloc, seed, n) {
+        Ok(events) => events,
+        Err(_) => return Status::Failed,
+    };
+    let text = match script_text(alloc, &events) {
+        Ok(text) => text,
+        Err(_) => return Status::Failed,
+    };
+    match out.write_all(text.as_bytes()) {
+        Ok(()) => Status::Success,
+        Err(_) => Status::Failed,
+    }
+}

@@ -1,0 +1,73 @@
+// Made from crates/qs_cli/src/udp_wire.rt by rust/erase; not edited by hand.
+//! A wire over UDP on this machine.
+
+use crate::proved::qs_cli::wire::{Failures, Wire, WireError};
+use crate::proved::qs_world::Side;
+use crate::shim::io;
+use crate::shim::net::{Ipv4Addr, Net, SocketAddr, UdpSocket};
+use crate::shim::time::Duration;
+
+/// Two UDP sockets, one for each end. A receive that waits longer than a second fails.
+pub struct UdpWire {
+    a: UdpSocket,
+    b: UdpSocket,
+    failures: Failures,
+}
+
+impl UdpWire {
+    /// Binds both sockets to 127.0.0.1, at ports that are free.
+    pub fn bind<R: Net>(net: &R) -> Result<UdpWire, WireError> {
+        match bind_both(net) {
+            Ok((a, b)) => Ok(UdpWire {
+                a,
+                b,
+                failures: Failures::none(),
+            }),
+            Err(_) => Err(WireError),
+        }
+    }
+}
+
+impl Wire for UdpWire {
+    fn send(&mut self, from: Side, bytes: &[u8]) -> Result<(), WireError> {
+        let sent = match from {
+            Side::A => send_to(&self.a, &self.b, bytes),
+            Side::B => send_to(&self.b, &self.a, bytes),
+        };
+        match sent {
+            Ok(count) if count == bytes.len() => Ok(()),
+            _ => Err(self.failures.note()),
+        }
+    }
+
+    fn recv(&mut self, at: Side, into: &mut [u8]) -> Result<usize, WireError> {
+        let received = match at {
+            Side::A => self.a.recv(into),
+            Side::B => self.b.recv(into),
+        };
+        match received {
+            Ok(count) => Ok(count),
+            Err(_) => Err(self.failures.note()),
+        }
+    }
+
+    fn failures(&self) -> u64 {
+        self.failures.count()
+    }
+}
+
+fn bind_both<R: Net>(net: &R) -> io::Result<(UdpSocket, UdpSocket)> {
+    let a = bind_one(net)?;
+    let b = bind_one(net)?;
+    Ok((a, b))
+}
+
+fn bind_one<R: Net>(net: &R) -> io::Result<UdpSocket> {
+    let socket = UdpSocket::bind(net, SocketAddr::from((Ipv4Addr::LOCALHOST, 0)))?;
+    socket.set_read_timeout(Some(Duration::from_secs(1)))?;
+    Ok(socket)
+}
+
+fn send_to(from: &UdpSocket, to: &UdpSocket, bytes: &[u8]) -> io::Result<usize> {
+    from.send_to(bytes, to.local_addr()?)
+}

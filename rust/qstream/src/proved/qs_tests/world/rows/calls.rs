@@ -1,0 +1,203 @@
+// Made from crates/qs_tests/src/world/rows/calls.rt by rust/erase; not edited by hand.
+//! A call for each kind of row. Each tells its answer.
+
+use crate::shim::String;
+use super::RowFault;
+use super::told::{
+    lost_fault, make_fault, tell_bytes, tell_closing, tell_count, tell_number, tell_open_fault,
+    tell_received, tell_receiving, tell_sending, tell_word, use_fault,
+};
+use super::words::{Words, bytes, dir, number, size, stream};
+use crate::proved::qs_tests::world::ends;
+use crate::proved::qs_conn::Endpoint;
+use crate::proved::qs_world::{Read, UseFault};
+
+/// No bytes of a call are more.
+const ROOM: usize = 1200;
+
+/// Makes the call that the words name, and tells what it answers.
+pub(super) fn call(end: &mut Endpoint, words: Words, answer: &mut String) -> Result<(), RowFault> {
+    match words[0] {
+        b"receive" => receive(end, words, answer),
+        b"make" => make(end, words, answer),
+        b"lose" => lose(end, words, answer),
+        _ => stream_call(end, words, answer),
+    }
+}
+
+fn stream_call(end: &mut Endpoint, words: Words, answer: &mut String) -> Result<(), RowFault> {
+    match words[0] {
+        b"open" => open(end, words, answer),
+        b"accept" => accept(end, answer),
+        b"write" => write(end, words, answer),
+        b"read" => read(end, words, answer),
+        _ => breaking_off(end, words, answer),
+    }
+}
+
+fn breaking_off(end: &mut Endpoint, words: Words, answer: &mut String) -> Result<(), RowFault> {
+    match words[0] {
+        b"finish" => finish(end, words, answer),
+        b"reset" => reset(end, words, answer),
+        b"stop" => stop(end, words, answer),
+        _ => question(end, words, answer),
+    }
+}
+
+fn question(end: &Endpoint, words: Words, answer: &mut String) -> Result<(), RowFault> {
+    match words[0] {
+        b"close" => close(end, answer),
+        b"sending" => sending(end, words, answer),
+        b"receiving" => receiving(end, words, answer),
+        _ => credit(end, words, answer),
+    }
+}
+
+fn credit(end: &Endpoint, words: Words, answer: &mut String) -> Result<(), RowFault> {
+    match words[0] {
+        b"stored" => tell_number(answer, end.stored()),
+        b"granted" => tell_number(answer, end.granted()),
+        b"granted_streams" => tell_number(answer, end.granted_streams(dir(words[1])?)),
+        b"spent" => tell_number(answer, end.spent()),
+        _ => Err(RowFault::Unreadable),
+    }
+}
+
+fn receive(end: &mut Endpoint, words: Words, answer: &mut String) -> Result<(), RowFault> {
+    let packet = number(words[1])?;
+    let mut room = [0u8; ROOM];
+    let payload = bytes(words[2], &mut room)?;
+    match ends::receive(end, packet, payload) {
+        Ok(received) => tell_received(answer, received),
+        Err(closing) => tell_closing(answer, closing),
+    }
+}
+
+fn make(end: &mut Endpoint, words: Words, answer: &mut String) -> Result<(), RowFault> {
+    let mut room = [0u8; ROOM];
+    let Some(out) = room.get_mut(..size(words[1])?) else {
+        return Err(RowFault::Unreadable);
+    };
+    match ends::make(end, out) {
+        Ok(Some(made)) => {
+            let Some(payload) = out.get(..made.len) else {
+                return Err(RowFault::Unreadable);
+            };
+            tell_number(answer, made.number)?;
+            tell_word(answer, " ")?;
+            tell_bytes(answer, payload)
+        }
+        Ok(None) => tell_word(answer, "none"),
+        Err(fault) => tell_word(answer, make_fault(fault)),
+    }
+}
+
+fn lose(end: &mut Endpoint, words: Words, answer: &mut String) -> Result<(), RowFault> {
+    match ends::lose(end, number(words[1])?) {
+        Ok(()) => tell_word(answer, "ok"),
+        Err(fault) => tell_word(answer, lost_fault(fault)),
+    }
+}
+
+fn open(end: &mut Endpoint, words: Words, answer: &mut String) -> Result<(), RowFault> {
+    match ends::open(end, dir(words[1])?) {
+        Ok(stream) => tell_number(answer, stream.value()),
+        Err(fault) => tell_open_fault(answer, fault),
+    }
+}
+
+fn accept(end: &mut Endpoint, answer: &mut String) -> Result<(), RowFault> {
+    match end.accept() {
+        Some(stream) => tell_number(answer, stream.value()),
+        None => tell_word(answer, "none"),
+    }
+}
+
+fn write(end: &mut Endpoint, words: Words, answer: &mut String) -> Result<(), RowFault> {
+    let mut room = [0u8; ROOM];
+    let data = bytes(words[2], &mut room)?;
+    match ends::write(end, stream(words[1])?, data) {
+        Ok(count) => tell_count(answer, count),
+        Err(fault) => tell_word(answer, use_fault(fault)),
+    }
+}
+
+fn read(end: &mut Endpoint, words: Words, answer: &mut String) -> Result<(), RowFault> {
+    let mut room = [0u8; ROOM];
+    let Some(into) = room.get_mut(..size(words[2])?) else {
+        return Err(RowFault::Unreadable);
+    };
+    match end.read(stream(words[1])?, into) {
+        Ok(found) => tell_read(answer, found, into),
+        Err(fault) => tell_word(answer, use_fault(fault)),
+    }
+}
+
+fn tell_read(answer: &mut String, found: Read, into: &[u8]) -> Result<(), RowFault> {
+    match found {
+        Read::Bytes(count) => {
+            let Some(data) = into.get(..count) else {
+                return Err(RowFault::Unreadable);
+            };
+            tell_word(answer, "bytes ")?;
+            tell_bytes(answer, data)
+        }
+        Read::End => tell_word(answer, "end"),
+        Read::Reset(code) => {
+            tell_word(answer, "reset ")?;
+            tell_number(answer, code)
+        }
+        Read::Wait => tell_word(answer, "wait"),
+    }
+}
+
+fn tell_done(answer: &mut String, done: Result<(), UseFault>) -> Result<(), RowFault> {
+    match done {
+        Ok(()) => tell_word(answer, "ok"),
+        Err(fault) => tell_word(answer, use_fault(fault)),
+    }
+}
+
+fn finish(end: &mut Endpoint, words: Words, answer: &mut String) -> Result<(), RowFault> {
+    let done = end.finish(stream(words[1])?);
+    tell_done(answer, done)
+}
+
+fn reset(end: &mut Endpoint, words: Words, answer: &mut String) -> Result<(), RowFault> {
+    let code = number(words[2])?;
+    let done = end.reset(stream(words[1])?, code);
+    tell_done(answer, done)
+}
+
+fn stop(end: &mut Endpoint, words: Words, answer: &mut String) -> Result<(), RowFault> {
+    let code = number(words[2])?;
+    let done = end.stop(stream(words[1])?, code);
+    tell_done(answer, done)
+}
+
+fn close(end: &Endpoint, answer: &mut String) -> Result<(), RowFault> {
+    let mut room = [0u8; 32];
+    let Some(len) = end.close_payload(&mut room) else {
+        return tell_word(answer, "none");
+    };
+    match room.get(..len) {
+        Some(payload) => tell_bytes(answer, payload),
+        None => Err(RowFault::Unreadable),
+    }
+}
+
+fn sending(end: &Endpoint, words: Words, answer: &mut String) -> Result<(), RowFault> {
+    let report = end.lane_report(stream(words[1])?);
+    match report.and_then(|report| report.send) {
+        Some(half) => tell_sending(answer, half),
+        None => tell_word(answer, "none"),
+    }
+}
+
+fn receiving(end: &Endpoint, words: Words, answer: &mut String) -> Result<(), RowFault> {
+    let report = end.lane_report(stream(words[1])?);
+    match report.and_then(|report| report.recv) {
+        Some(half) => tell_receiving(answer, half),
+        None => tell_word(answer, "none"),
+    }
+}

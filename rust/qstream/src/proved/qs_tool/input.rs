@@ -1,0 +1,33 @@
+// Made from crates/qs_tool/src/input.rt by rust/erase; not edited by hand.
+//! Reads a script whole.
+
+use crate::shim::{HostRuntime, Vec};
+
+use crate::proved::qs_cli::Status;
+use crate::shim::alloc::Global;
+use crate::shim::fs;
+use crate::shim::io::Read;
+
+/// The most bytes of a script.
+const MAX_SCRIPT: usize = 16_777_216;
+
+/// The bytes of the file of that name. `Failed` as [`read_whole`], and where the file can't be opened.
+pub fn read_file(rt: &HostRuntime, name: &str) -> Result<Vec<u8>, Status> {
+    match fs::open(rt, name) {
+        Ok(mut file) => read_whole(rt.alloc(), &mut file),
+        Err(_) => Err(Status::Failed),
+    }
+}
+
+/// All bytes that a reader has left. `Failed` where these are more than 16,777,216, reading failed or memory was refused.
+pub fn read_whole<R: Read>(alloc: Global, reader: &mut R) -> Result<Vec<u8>, Status> {
+    let mut bytes = Vec::new(alloc);
+    match reader
+        .by_ref()
+        .take(MAX_SCRIPT as u64 + 1)
+        .read_to_end(&mut bytes)
+    {
+        Ok(_) if bytes.len() <= MAX_SCRIPT => Ok(bytes),
+        _ => Err(Status::Failed),
+    }
+}

@@ -1,0 +1,71 @@
+// Made from crates/qs_tool/src/main.rt by rust/erase; not edited by hand.
+//! The program: shows the frames of a payload, plays scripts, and makes random ones.
+
+use crate::shim::{HostRuntime, IteratorCalls, String, Vec};
+
+mod input;
+mod request;
+#[cfg(test)]
+mod tests;
+
+use crate::proved::qs_tool::input::read_file;
+use crate::proved::qs_tool::request::Request;
+use crate::proved::qs_cli::{Status, UdpWire, run_frames, run_play_with, run_random, run_udp};
+use crate::shim::process::ExitCode;
+use crate::shim::{env, io};
+
+pub(crate) fn main(rt: HostRuntime) -> ExitCode {
+    let status = run(&rt);
+    let told = match status {
+        Status::Success | Status::FaultShown => Ok(()),
+        Status::BadUsage => rt.eprintln("qstream: bad usage"),
+        Status::Failed => rt.eprintln("qstream: failed"),
+    };
+    match told {
+        Ok(()) => ExitCode::from(status.code()),
+        Err(_) => ExitCode::from(Status::Failed.code()),
+    }
+}
+
+fn run(rt: &HostRuntime) -> Status {
+    let words: Vec<String> = match arguments(rt) {
+        Ok(words) => words,
+        Err(status) => return status,
+    };
+    match Request::parse(rt.alloc(), &words) {
+        Ok(request) => answer(rt, request),
+        Err(status) => status,
+    }
+}
+
+fn answer(rt: &HostRuntime, request: Request) -> Status {
+    let mut out = io::writer(rt);
+    match request {
+        Request::Frames(hex) => run_frames(rt.alloc(), hex, &mut out),
+        Request::Play { file, settings } => match read_file(rt, file) {
+            Ok(script) => run_play_with(rt.alloc(), settings, &script, &mut out),
+            Err(status) => status,
+        },
+        Request::Udp(name) => match read_file(rt, name) {
+            Ok(script) => over_udp(rt, &script, &mut out),
+            Err(status) => status,
+        },
+        Request::Random { seed, n } => run_random(rt.alloc(), seed, n, &mut out),
+    }
+}
+
+fn over_udp<W: io::Write>(rt: &HostRuntime, script: &[u8], out: &mut W) -> Status {
+    match UdpWire::bind(rt) {
+        Ok(mut wire) => run_udp(rt.alloc(), script, &mut wire, out),
+        Err(_) => Status::Failed,
+    }
+}
+
+/// The words of the command line. One that is no text makes no sense.
+fn arguments(rt: &HostRuntime) -> Result<Vec<String>, Status> {
+    match env::args(rt) {
+        Ok(words) => words.collected_in(rt.alloc()).map_err(|_| Status::Failed),
+        Err(error) if error.kind() == io::ErrorKind::InvalidData => Err(Status::BadUsage),
+        Err(_) => Err(Status::Failed),
+    }
+}

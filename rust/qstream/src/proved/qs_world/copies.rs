@@ -1,0 +1,62 @@
+// Made from crates/qs_world/src/copies.rt by rust/erase; not edited by hand.
+//! Copies of what happened, in memory of their own.
+use crate::shim::Vec;
+
+use crate::proved::qs_calls::{Act, Answer, Event};
+use crate::shim::alloc::{AllocError, Global};
+
+/// A copy of an event. It takes memory for the bytes of a write alone.
+pub fn copy_event(alloc: Global, event: &Event) -> Result<Event, AllocError> {
+    let act = copy_act(alloc, &event.act)?;
+    Ok(Event {
+        end: event.end,
+        act,
+    })
+}
+
+/// A copy of an answer. It takes memory for the bytes of a read and for a payload alone.
+pub(crate) fn copy_answer(alloc: Global, answer: &Answer) -> Result<Answer, AllocError> {
+    Ok(match answer {
+        Answer::OpenStream(result) => Answer::OpenStream(*result),
+        Answer::Accept(stream) => Answer::Accept(*stream),
+        Answer::Write(result) => Answer::Write(*result),
+        Answer::Finish(result) => Answer::Finish(*result),
+        Answer::Reset(result) => Answer::Reset(*result),
+        Answer::Stop(result) => Answer::Stop(*result),
+        Answer::ReadUpTo(result, bytes) => {
+            Answer::ReadUpTo(*result, Vec::from_slice(alloc, bytes)?)
+        }
+        Answer::Make(result, payload) => Answer::Make(*result, Vec::from_slice(alloc, payload)?),
+        Answer::Lose(result) => Answer::Lose(*result),
+        Answer::Deliver(result) => Answer::Deliver(*result),
+    })
+}
+
+/// A copy of a log, in the same order.
+pub(crate) fn copy_log(
+    alloc: Global,
+    log: &[(Event, Answer)],
+) -> Result<Vec<(Event, Answer)>, AllocError> {
+    let mut copy = Vec::with_capacity(alloc, log.len())?;
+    for (event, answer) in log {
+        let event = copy_event(alloc, event)?;
+        let answer = copy_answer(alloc, answer)?;
+        copy.push((event, answer))?;
+    }
+    Ok(copy)
+}
+
+fn copy_act(alloc: Global, act: &Act) -> Result<Act, AllocError> {
+    Ok(match act {
+        Act::OpenStream(dir) => Act::OpenStream(*dir),
+        Act::Accept => Act::Accept,
+        Act::Write(stream, bytes) => Act::Write(*stream, Vec::from_slice(alloc, bytes)?),
+        Act::Finish(stream) => Act::Finish(*stream),
+        Act::Reset(stream, code) => Act::Reset(*stream, *code),
+        Act::Stop(stream, code) => Act::Stop(*stream, *code),
+        Act::ReadUpTo(stream, size) => Act::ReadUpTo(*stream, *size),
+        Act::Make(room) => Act::Make(*room),
+        Act::Lose(number) => Act::Lose(*number),
+        Act::Deliver(number) => Act::Deliver(*number),
+    })
+}

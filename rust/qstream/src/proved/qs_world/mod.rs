@@ -1,0 +1,25 @@
+// Made from crates/qs_world/src/lib.rt by rust/erase; not edited by hand.
+//! Two ends of a connection, and what happens between them.
+
+mod copies;
+mod draws;
+pub mod laws;
+mod playing;
+mod random;
+mod report;
+mod reporting;
+mod script;
+mod world;
+
+pub use copies::copy_event;
+pub use playing::play;
+pub use crate::proved::qs_calls::{Act, Answer, Event, Side};
+pub use crate::proved::qs_conn::{
+    Closing, LostFault, Made, MakeFault, OpenFault, Received, Settings, SetupFault, UseFault,
+};
+pub use crate::proved::qs_recv::Read;
+pub use crate::proved::qs_wire::{Dir, StreamId};
+pub use random::{random_script, standard_settings};
+pub use report::{EndTotals, LaneTotals, PlayFault, Report};
+pub use script::{Reason, ScriptFault, parse_script};
+pub use world::World;

@@ -1,0 +1,64 @@
+// Made from crates/qs_world/src/random.rt by rust/erase; not edited by hand.
+//! Scripts of random events.
+use crate::shim::{IteratorCalls, Vec};
+
+use crate::proved::qs_world::draws::{draw_act, draw_side};
+use crate::proved::qs_world::report::PlayFault;
+use crate::proved::qs_world::world::World;
+use crate::proved::qs_calls::{Answer, Event};
+use crate::proved::qs_conn::Settings;
+use crate::shim::rand_pcg::Lcg64Xsh32;
+use crate::shim::alloc::Global;
+
+/// The settings of both ends in a script that the program plays.
+pub fn standard_settings() -> Settings {
+    Settings {
+        conn_window: 4096,
+        bidi_local: 1024,
+        bidi_remote: 1024,
+        uni: 1024,
+        send_buffer: 2048,
+        grant_bidi: 8,
+        grant_uni: 8,
+        lifetime_bidi: 8,
+        lifetime_uni: 8,
+    }
+}
+
+/// So many random events between two ends of the standard settings. Each is drawn from the words of a generator that the seed
+/// determines, and from how many packets its end has made by then.
+///
+/// Refused: `NoMemory`.
+pub fn random_script(alloc: Global, seed: u64, n: usize) -> Result<Vec<Event>, PlayFault> {
+    let settings = standard_settings();
+    let mut world = match World::new(alloc, settings, settings) {
+        Ok(world) => world,
+        Err(_) => unreachable!(),
+    };
+    let mut words = Lcg64Xsh32::new(seed, 0);
+    for _ in 0..n {
+        draw_step(alloc, &mut world, &mut words)?;
+    }
+    events_of(alloc, world.into_log())
+}
+
+/// One more event happens between the two ends, drawn from the generator's next words.
+fn draw_step(alloc: Global, world: &mut World, words: &mut Lcg64Xsh32) -> Result<(), PlayFault> {
+    let end = draw_side(words);
+    let made = world.made(end);
+    match draw_act(alloc, words, made) {
+        Ok(act) => {
+            world.step(Event { end, act })?;
+            Ok(())
+        }
+        Err(_) => Err(PlayFault::NoMemory),
+    }
+}
+
+/// The events of a log, in order.
+fn events_of(alloc: Global, log: Vec<(Event, Answer)>) -> Result<Vec<Event>, PlayFault> {
+    match log.into_iter().map(|(event, _)| event).collected_in(alloc) {
+        Ok(events) => Ok(events),
+        Err(_) => Err(PlayFault::NoMemory),
+    }
+}

@@ -1,0 +1,100 @@
+// Made from crates/qs_world/src/world.rt by rust/erase; not edited by hand.
+//! Two ends, and what happened to them.
+use crate::shim::Vec;
+
+use crate::proved::qs_world::report::{PlayFault, Report};
+use crate::proved::qs_world::reporting::{all_lanes, end_totals, report_of};
+use calls::{room_of, twin};
+use happening::{buffer_of, happen, is_missing};
+use log::Log;
+use crate::proved::qs_calls::{Answer, Event, Side};
+use crate::proved::qs_conn::{Endpoint, Settings, SetupFault};
+use crate::proved::qs_wire::Role;
+use crate::shim::alloc::Global;
+
+mod calls;
+mod happening;
+mod log;
+
+/// Two ends, each made with the other's limits, and the log of what happened to them.
+///
+/// Contracts see the log, the newest first, and the two ends.
+pub struct World {
+    alloc: Global,
+    a: Endpoint,
+    b: Endpoint,
+    log: Log,
+}
+
+impl World {
+    /// Two new ends, A the client, each told the other's limits. It takes no memory.
+    ///
+    /// Refused as [`Endpoint::new`] is, A first.
+    pub fn new(alloc: Global, a: Settings, b: Settings) -> Result<World, SetupFault> {
+        let client = Endpoint::new(alloc, Role::Client, a, b.limits())?;
+        let server = Endpoint::new(alloc, Role::Server, b, a.limits())?;
+        Ok(World {
+            alloc,
+            a: client,
+            b: server,
+            log: Log::new(alloc),
+        })
+    }
+
+    /// One event happens, and is logged with its answer. A refusal of memory by an end is an answer.
+    ///
+    /// Refused, and then nothing changed: `NoSuchPacket` where a packet is to be delivered that its end hasn't made, with one more than
+    /// the events so far; and `NoMemory` where the log found none.
+    pub fn step(&mut self, event: Event) -> Result<Answer, PlayFault> {
+        if is_missing(&self.log, &event) {
+            return Err(PlayFault::NoSuchPacket {
+                event: self.log.len() + 1,
+            });
+        }
+        let size = room_of(&event.act);
+        let Ok(buffer) = buffer_of(self.alloc, size) else {
+            return Err(PlayFault::NoMemory);
+        };
+        let Ok(spare) = buffer_of(self.alloc, size) else {
+            return Err(PlayFault::NoMemory);
+        };
+        if let Err(_refused) = self.log.make_room() {
+            return Err(PlayFault::NoMemory);
+        }
+        let answer = happen(&self.log, &mut self.a, &mut self.b, &event, buffer);
+        let again = twin(&answer, spare);
+        self.log.push(event, answer);
+        Ok(again)
+    }
+
+    /// How many packets an end has made. Their numbers begin at 0.
+    pub fn made(&self, end: Side) -> u64 {
+        self.log.made(end)
+    }
+
+    /// The payload of a packet that the end made.
+    pub fn payload(&self, end: Side, number: u64) -> Option<&[u8]> {
+        self.log.payload(end, number)
+    }
+
+    /// What happened, each stream that either end opened, and the credit of both ends. The world stays.
+    pub fn report(&self) -> Result<Report, PlayFault> {
+        report_of(self.alloc, self.log.entries(), &self.a, &self.b)
+    }
+
+    /// The same report, with the log itself in place of a copy.
+    pub(crate) fn into_report(self) -> Result<Report, PlayFault> {
+        let lanes = all_lanes(self.alloc, &self.a, &self.b);
+        let ends = [end_totals(&self.a), end_totals(&self.b)];
+        let log = self.into_log();
+        match lanes {
+            Ok(lanes) => Ok(Report { log, lanes, ends }),
+            Err(_refused) => Err(PlayFault::NoMemory),
+        }
+    }
+
+    /// What happened, in order.
+    pub(crate) fn into_log(self) -> Vec<(Event, Answer)> {
+        self.log.into_entries()
+    }
+}

@@ -1,0 +1,59 @@
+// Made from crates/qs_world/src/world/happening.rt by rust/erase; not edited by hand.
+//! One event happens to two ends.
+use crate::shim::{Vec, vec};
+
+use super::calls::own_call;
+use super::log::Log;
+use crate::proved::qs_calls::{Act, Answer, Event, Side};
+use crate::proved::qs_conn::{Closing, Endpoint, Received};
+use crate::shim::alloc::{AllocError, Global};
+
+/// Whether the event delivers a packet that its end hasn't made.
+pub(crate) fn is_missing(log: &Log, event: &Event) -> bool {
+    match &event.act {
+        Act::Deliver(number) => log.payload(event.end, *number).is_none(),
+        _ => false,
+    }
+}
+
+/// A buffer of that many bytes.
+pub(crate) fn buffer_of(alloc: Global, size: usize) -> Result<Vec<u8>, AllocError> {
+    vec![in alloc; 0; size]
+}
+
+/// One event happens, and is answered with the buffer's front where it is answered with bytes.
+pub(crate) fn happen(
+    log: &Log,
+    a: &mut Endpoint,
+    b: &mut Endpoint,
+    event: &Event,
+    buffer: Vec<u8>,
+) -> Answer {
+    match event.end {
+        Side::A => happen_at(log, Side::A, a, b, &event.act, buffer),
+        Side::B => happen_at(log, Side::B, b, a, &event.act, buffer),
+    }
+}
+
+// The same, where the event is one of that side.
+fn happen_at(
+    log: &Log,
+    side: Side,
+    own: &mut Endpoint,
+    peer: &mut Endpoint,
+    act: &Act,
+    buffer: Vec<u8>,
+) -> Answer {
+    match act {
+        Act::Deliver(number) => Answer::Deliver(deliver(log, side, peer, *number)),
+        _ => own_call(own, act, buffer),
+    }
+}
+
+// The payload that one end made under that number comes to the other.
+fn deliver(log: &Log, from: Side, to: &mut Endpoint, number: u64) -> Result<Received, Closing> {
+    let Some(text) = log.payload(from, number) else {
+        unreachable!()
+    };
+    to.receive(number, text)
+}

@@ -1,0 +1,135 @@
+// Made from crates/qs_world/src/world/log.rt by rust/erase; not edited by hand.
+//! The log of a world, in which a payload is found by its number.
+use crate::shim::Vec;
+
+use crate::proved::qs_calls::{Act, Answer, Event, Side};
+use crate::shim::alloc::{AllocError, Global};
+
+/// What happened, in order, and the places of the payloads that each end made.
+///
+/// Contracts see the log, the newest first, and whether there is room for one event more.
+pub(crate) struct Log {
+    entries: Vec<(Event, Answer)>,
+    made_a: Vec<usize>,
+    made_b: Vec<usize>,
+}
+
+impl Log {
+    /// Nothing has happened. It takes no memory.
+    pub(crate) fn new(alloc: Global) -> Log {
+        Log {
+            entries: Vec::new(alloc),
+            made_a: Vec::new(alloc),
+            made_b: Vec::new(alloc),
+        }
+    }
+
+    /// How many events happened.
+    pub(crate) fn len(&self) -> usize {
+        self.entries.len()
+    }
+
+    /// How many packets an end has made.
+    pub(crate) fn made(&self, end: Side) -> u64 {
+        self.places(end).len() as u64
+    }
+
+    /// The payload of a packet that the end made.
+    pub(crate) fn payload(&self, end: Side, number: u64) -> Option<&[u8]> {
+        let Some(place) = self.place(end, number) else {
+            return None;
+        };
+        text_of(&self.entries[place].1)
+    }
+
+    // Where the payload stands.
+    fn place(&self, end: Side, number: u64) -> Option<usize> {
+        nth(self.places(end), number)
+    }
+
+    // Where the payloads stand that the end made.
+    fn places(&self, end: Side) -> &[usize] {
+        match end {
+            Side::A => &self.made_a,
+            Side::B => &self.made_b,
+        }
+    }
+
+    /// Makes room for one event more, which stays until the next `push`.
+    pub(crate) fn make_room(&mut self) -> Result<(), AllocError> {
+        self.entries.reserve(1)?;
+        self.made_a.reserve(1)?;
+        self.made_b.reserve(1)?;
+        Ok(())
+    }
+
+    /// One event happened, and was answered. It takes no memory.
+    pub(crate) fn push(&mut self, event: Event, answer: Answer) {
+        let place = self.entries.len();
+        let by_a = makes(Side::A, &event, &answer);
+        let by_b = makes(Side::B, &event, &answer);
+        note(&mut self.made_a, by_a, place);
+        note(&mut self.made_b, by_b, place);
+        add(&mut self.entries, event, answer);
+    }
+
+    /// What happened, in order.
+    pub(crate) fn entries(&self) -> &[(Event, Answer)] {
+        &self.entries
+    }
+
+    /// The same, handed out.
+    pub(crate) fn into_entries(self) -> Vec<(Event, Answer)> {
+        self.entries
+    }
+}
+
+// The number at a place.
+fn nth(numbers: &[usize], place: u64) -> Option<usize> {
+    numbers.get(place as usize).copied()
+}
+
+// The payload that stands in an answer.
+fn text_of(answer: &Answer) -> Option<&[u8]> {
+    match answer {
+        Answer::Make(_, text) => Some(text),
+        _ => None,
+    }
+}
+
+// Whether the event made a packet of that end.
+fn makes(end: Side, event: &Event, answer: &Answer) -> bool {
+    if same_side(end, event.end) {
+        makes_by(&event.act, answer)
+    } else {
+        false
+    }
+}
+
+// Whether the call made a packet.
+fn makes_by(act: &Act, answer: &Answer) -> bool {
+    match (act, answer) {
+        (Act::Make(_), Answer::Make(Ok(Some(_)), _)) => true,
+        _ => false,
+    }
+}
+
+fn same_side(a: Side, b: Side) -> bool {
+    match (a, b) {
+        (Side::A, Side::A) => true,
+        (Side::B, Side::B) => true,
+        _ => false,
+    }
+}
+
+// The place is noted, where there is room for it.
+fn note(places: &mut Vec<usize>, made: bool, place: usize) {
+    if made {
+        let _ = places.push(place);
+    }
+}
+
+// The event goes in last, where there is room for it.
+fn add(entries: &mut Vec<(Event, Answer)>, event: Event, answer: Answer) {
+    let _ = entries.push((event, answer));
+}
