@@ -118,9 +118,9 @@ fn quoted_len(rest: &str) -> Option<usize> {
 /// The length of a character between two quotes, `None` where it is none, as in a lifetime.
 fn char_len(rest: &str) -> Option<usize> {
     let inner = &rest[1..];
-    if inner.starts_with('\\') {
-        let escaped = inner[1..].chars().next()?.len_utf8();
-        return inner[1 + escaped..]
+    if let Some(escape) = inner.strip_prefix('\\') {
+        let escaped = escape.chars().next()?.len_utf8();
+        return escape[escaped..]
             .find('\'')
             .map(|at| 2 + escaped + at + 1);
     }

@@ -5,13 +5,16 @@
 #![allow(dead_code, unused_imports)]
 // Forms that clippy would have otherwise: the text stays as it was proved.
 #![allow(
+    clippy::implicit_saturating_add,
     clippy::len_zero,
     clippy::manual_map,
     clippy::manual_ok_err,
     clippy::manual_unwrap_or,
     clippy::manual_unwrap_or_default,
+    clippy::match_like_matches_macro,
     clippy::question_mark,
-    clippy::redundant_pattern_matching
+    clippy::redundant_pattern_matching,
+    clippy::write_with_newline
 )]
 
 #[path = "../../../src/proved/qs_calls/mod.rs"]

@@ -45,6 +45,7 @@ impl String {
         &self.text
     }
 
+    #[allow(dead_code, reason = "only tests call it")]
     pub fn clear(&mut self) {
         self.text.clear();
     }
