@@ -2,9 +2,9 @@
 """Changes one token, or drops one statement, of the Rust files, and sees that the audit refuses each change.
 
     mutants.py [--seed S] [--count N]      the audit reads each changed text; no file is touched
-    mutants.py .. --run 'COMMAND'          each change is written into its file, the command is run in `rust/`, and the
-                                           file is put back; told is how many changes the command failed on.
-                                           For a copy of the repository.
+    mutants.py .. --run 'COMMAND'          each change of the library is written into its file, the command is run in
+                                           `rust/`, and the file is put back; told is how many changes the command
+                                           failed on. For a copy of the repository.
 
 The last line is `N passed, M failed`: how many changes were refused, and how many weren't.
 """
@@ -16,7 +16,7 @@ import sys
 from collections import Counter
 
 import rust_lexer
-from audit import KINDS, ROOT, Refused, audit_file, made_files
+from audit import FOLDERS, KINDS, ROOT, Refused, audit_file, made_files
 from kinds import read_kinds
 
 _SWAPS = {
@@ -127,6 +127,8 @@ def main():
     # Files by their length, so that each token is as likely as any other.
     files = []
     for made, folder, text in texts:
+        if options.run and folder != ROOT / FOLDERS[0]:
+            continue
         spans = rust_lexer.spans(text)
         files += [(made, folder, text, spans)] * ((len(spans) + 499) // 500)
     refused, kinds = 0, Counter()

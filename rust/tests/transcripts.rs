@@ -1,0 +1,60 @@
+//! Random scripts of `qstream random`, played over this crate's ends, print what `qstream play` prints.
+//!
+//! The program is the proved one where it is built (`./qstream` builds it), or the one of `rust/qstream`; the variable
+//! QSTREAM names another. Where there is none the test tells so and does nothing.
+
+mod support;
+
+use gotsavena::Settings;
+use std::path::{Path, PathBuf};
+use std::process::Command;
+use support::Player;
+
+const SCRIPTS: u64 = 500;
+
+fn program() -> Option<PathBuf> {
+    if let Some(named) = std::env::var_os("QSTREAM") {
+        return Some(named.into());
+    }
+    let here = Path::new(env!("CARGO_MANIFEST_DIR"));
+    let places = [
+        "../crates/qs_tool/out/qs_tool",
+        "target/release/qstream",
+        "target/debug/qstream",
+    ];
+    places
+        .iter()
+        .map(|place| here.join(place))
+        .find(|place| place.is_file())
+}
+
+fn printed(program: &Path, words: &[&str]) -> String {
+    let output = Command::new(program).args(words).output();
+    let output = output.unwrap_or_else(|error| panic!("{}: {error}", program.display()));
+    assert!(output.status.success(), "{words:?}: {:?}", output.status);
+    String::from_utf8(output.stdout).expect("text")
+}
+
+#[test]
+fn random_scripts_print_the_same() {
+    let Some(program) = program() else {
+        println!("skipped: there is no program qstream to compare with");
+        return;
+    };
+    println!("compared with {}", program.display());
+    let folder = std::env::temp_dir().join(format!("gotsavena-{}", std::process::id()));
+    std::fs::create_dir_all(&folder).expect("a folder");
+    let file = folder.join("script");
+    let mut events = 0;
+    for seed in 0..SCRIPTS {
+        let count = 50 + seed % 7 * 75;
+        let script = printed(&program, &["random", &seed.to_string(), &count.to_string()]);
+        std::fs::write(&file, &script).expect("a file");
+        let expected = printed(&program, &["play", &file.to_string_lossy()]);
+        let played = Player::new(Settings::default()).play(&script);
+        assert_eq!(played, expected, "script {seed} of {count} events");
+        events += script.lines().count();
+    }
+    std::fs::remove_dir_all(&folder).expect("the folder");
+    println!("{SCRIPTS} scripts, {events} events");
+}
