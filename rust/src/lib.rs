@@ -73,6 +73,7 @@ mod endpoint;
 mod faults;
 mod frame;
 mod ids;
+#[rustfmt::skip]
 pub(crate) mod proved;
 mod settings;
 pub(crate) mod shim;

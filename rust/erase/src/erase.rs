@@ -44,10 +44,7 @@ pub fn erase(place: &Place<'_>, text: &str) -> Erased<String> {
 }
 
 /// Names of Rattle's prelude that Rust's has not, or has with another meaning. A macro is named with its sign.
-const PRELUDE: [&str; 10] = [
-    "HostRuntime", "String", "Vec", "assert!", "assert_eq!", "assert_ne!", "format!", "panic!", "vec!",
-    "Box",
-];
+const PRELUDE: &str = "HostRuntime String Vec assert! assert_eq! format! panic! vec!";
 
 /// Crates for which a module of the shim stands.
 const SHIMMED: [&str; 6] = ["std", "byteorder", "hex", "rand_core", "rand_pcg", "clap"];
@@ -62,11 +59,9 @@ const CALLS: [(&str, &str, &str); 2] = [
     ("collect", "collected_in", "IteratorCalls"),
 ];
 
-/// Calls of std that take memory and can't fail, or that the shim has under another name where they can. None may stay.
-const BANNED: [&str; 14] = [
-    "alloc", "collect", "concat", "into_boxed_slice", "into_vec", "join", "repeat", "sort", "sort_by",
-    "sort_by_key", "sort_by_cached_key", "to_owned", "to_string", "to_vec",
-];
+/// Calls that take memory and can't fail, or that the shim has under another name where they can. None may stay.
+const BANNED: &str = "alloc collect concat into_boxed_slice into_vec join repeat sort sort_by sort_by_cached_key sort_by_key to_owned \
+                      to_string to_vec";
 
 struct Edit {
     start: usize,
@@ -181,8 +176,11 @@ impl<'a> Eraser<'a> {
             self.edits.push(edit(start, end, String::new()));
             let body = self.find(close, "{")?;
             let end = self.tokens[body].end;
-            self.edits
-                .push(edit(end, end, "\n    let rt = HostRuntime::new();".to_owned()));
+            self.edits.push(edit(
+                end,
+                end,
+                "\n    let rt = HostRuntime::new();".to_owned(),
+            ));
             self.need("HostRuntime");
         }
         Ok(close + 1)
@@ -214,7 +212,8 @@ impl<'a> Eraser<'a> {
         }
         if self.place.program && self.word(at + 1) == "main" {
             let start = self.tokens[at].start;
-            self.edits.push(edit(start, start, "pub(crate) ".to_owned()));
+            self.edits
+                .push(edit(start, start, "pub(crate) ".to_owned()));
         }
         if body > end {
             let gap = if self.word(body) == "{" { " " } else { "" };
@@ -286,26 +285,29 @@ impl<'a> Eraser<'a> {
                 self.edits.push(edit(start, end, String::new()));
                 return Ok(at + 5);
             }
-            if self.word(at + 2) != ")"
-                && let Some((_, new, owner)) = CALLS.iter().find(|(old, _, _)| *old == word)
-            {
+            let renamed = CALLS
+                .iter()
+                .find(|(old, _, _)| *old == word && self.word(at + 2) != ")");
+            if let Some((_, new, owner)) = renamed {
                 let Token { start, end, .. } = self.tokens[at];
                 self.edits.push(edit(start, end, (*new).to_owned()));
                 self.need(owner);
-            } else if BANNED.contains(&word) && !(word == "alloc" && self.is_runtime(at)) {
+            } else if BANNED.split(' ').any(|call| call == word)
+                && !(word == "alloc" && self.is_runtime(at))
+            {
                 return self.unknown(at, "a call that takes memory and can't fail");
             }
             return Ok(at + 1);
         }
         let is_macro = self.word(at + 1) == "!" && self.word(at + 2) != "=";
-        for name in PRELUDE {
-            let needed = match name.strip_suffix('!') {
+        let needed = PRELUDE
+            .split(' ')
+            .find(|name| match name.strip_suffix('!') {
                 Some(bare) => is_macro && bare == word,
-                None => name == word,
-            };
-            if needed {
-                self.need(name);
-            }
+                None => *name == word,
+            });
+        if let Some(name) = needed {
+            self.need(name);
         }
         Ok(at + 1)
     }
@@ -332,8 +334,8 @@ impl<'a> Eraser<'a> {
                 .push(edit(start, start, "crate::shim::".to_owned()));
         } else if word.starts_with("qs_") || word == "core" || word == "alloc" {
             return self.unknown(at, "a crate");
-        } else if PRELUDE.contains(&word) {
-            self.need(PRELUDE[PRELUDE.iter().position(|name| *name == word).unwrap_or(0)]);
+        } else if let Some(name) = PRELUDE.split(' ').find(|name| *name == word) {
+            self.need(name);
         }
         Ok(at + 1)
     }
@@ -494,7 +496,9 @@ impl<'a> Eraser<'a> {
     }
 
     fn is_name(&self, at: usize) -> bool {
-        self.tokens.get(at).is_some_and(|token| token.kind == Kind::Name)
+        self.tokens
+            .get(at)
+            .is_some_and(|token| token.kind == Kind::Name)
     }
 
     /// Whether a sign of several characters stands here.

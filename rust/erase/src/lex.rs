@@ -120,9 +120,7 @@ fn char_len(rest: &str) -> Option<usize> {
     let inner = &rest[1..];
     if let Some(escape) = inner.strip_prefix('\\') {
         let escaped = escape.chars().next()?.len_utf8();
-        return escape[escaped..]
-            .find('\'')
-            .map(|at| 2 + escaped + at + 1);
+        return escape[escaped..].find('\'').map(|at| 2 + escaped + at + 1);
     }
     let first = inner.chars().next()?;
     inner[first.len_utf8()..]

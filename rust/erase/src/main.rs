@@ -6,6 +6,8 @@
 mod display;
 mod erase;
 mod lex;
+#[cfg(test)]
+mod tests;
 
 use crate::erase::{Place, erase};
 use std::collections::BTreeMap;
@@ -15,7 +17,13 @@ use std::{env, fs};
 
 /// The crates that the library is made of, and where they go.
 const LIBRARY: [&str; 7] = [
-    "qs_wire", "qs_ranges", "qs_recv", "qs_send", "qs_calls", "qs_machine", "qs_conn",
+    "qs_wire",
+    "qs_ranges",
+    "qs_recv",
+    "qs_send",
+    "qs_calls",
+    "qs_machine",
+    "qs_conn",
 ];
 
 const LIBRARY_FOLDER: &str = "rust/src/proved";
@@ -68,7 +76,9 @@ fn make(
 ) -> Result<(), String> {
     let source = Path::new("crates").join(krate).join("src");
     for path in files(&top.join(&source), "rt")? {
-        let inner = path.strip_prefix(top.join(&source)).map_err(|e| e.to_string())?;
+        let inner = path
+            .strip_prefix(top.join(&source))
+            .map_err(|e| e.to_string())?;
         let from = source.join(inner);
         let text = fs::read_to_string(&path).map_err(|e| format!("{}: {e}", from.display()))?;
         let place = Place {

@@ -5,6 +5,7 @@
 #[cfg(not(target_pointer_width = "64"))]
 compile_error!("qstream needs a target with pointers of 64 bits");
 
+#[rustfmt::skip]
 mod proved;
 mod shim;
 

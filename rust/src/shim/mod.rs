@@ -14,5 +14,5 @@ pub mod collections;
 mod vec;
 
 pub use core::mem;
-pub use vec::{SliceCalls, Vec};
 pub(crate) use vec::vec_in as vec;
+pub use vec::{SliceCalls, Vec};

@@ -10,9 +10,8 @@ pub struct Args {
 
 /// The words, the program's name first. `InvalidData` where one is no text.
 pub fn args(_rt: &HostRuntime) -> io::Result<Args> {
-    let words: Result<std::vec::Vec<_>, _> = std::env::args_os()
-        .map(|word| word.into_string())
-        .collect();
+    let words: Result<std::vec::Vec<_>, _> =
+        std::env::args_os().map(|word| word.into_string()).collect();
     match words {
         Ok(words) => Ok(Args {
             words: words.into_iter(),

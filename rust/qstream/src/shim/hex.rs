@@ -7,7 +7,10 @@ use super::{String, Vec};
 #[derive(Clone, Copy, Debug, PartialEq, Eq)]
 pub enum FromHexError {
     /// A character that is no digit, and where it stands.
-    InvalidHexCharacter { c: char, index: usize },
+    InvalidHexCharacter {
+        c: char,
+        index: usize,
+    },
     OddLength,
     /// The bytes are not as many as the slice has.
     InvalidStringLength,

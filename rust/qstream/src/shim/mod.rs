@@ -19,12 +19,12 @@ mod string;
 #[cfg(test)]
 pub mod test;
 
+pub(crate) use base::vec;
 pub use base::*;
 pub use iterators::IteratorCalls;
 pub use runtime::HostRuntime;
 pub use std::{str, time};
 pub use string::String;
-pub(crate) use base::vec;
 pub(crate) use string::format_in as format;
 #[cfg(test)]
 pub(crate) use test::{assert_eq_in as assert_eq, assert_in as assert, panic_in as panic};

@@ -1,0 +1,84 @@
+//! What is taken out, and what isn't known.
+
+use crate::erase::{Place, erase};
+
+const PLACE: Place<'_> = Place {
+    krate: "qs_own",
+    erased: &["qs_own", "qs_other"],
+    laws: false,
+    program: false,
+};
+
+fn is_made(rattle: &str, rust: &str) {
+    assert_eq!(
+        erase(&PLACE, rattle).map_err(|unknown| unknown.what),
+        Ok(rust.to_owned())
+    );
+}
+
+/// The eraser stops at that text.
+fn stops(rattle: &str, at: &str) {
+    match erase(&PLACE, rattle) {
+        Ok(rust) => panic!("it made {rust:?}"),
+        Err(unknown) => assert!(rattle[unknown.at..].starts_with(at), "{}", unknown.what),
+    }
+}
+
+#[test]
+fn a_contract_goes() {
+    is_made(
+        "fn f(a: u8) -> u8\n    requires { a < 2 ^ 4 }\n    // Why.\n    ensures same { result ≡ a }\n{\n    a\n}\n",
+        "fn f(a: u8) -> u8 {\n    a\n}\n",
+    );
+    is_made("fn f(a: u8)\n    requires { a < 4 };\n", "fn f(a: u8);\n");
+}
+
+#[test]
+fn ghosts_go_with_their_comments() {
+    is_made(
+        "//! A file.\n\nghost use A.{◌≡◌};\n\nuse std::marker::Model;\nuse std::mem;\n\n// A view.\nimpl<'a> Model for T<'a> {\n    ghost view = { λ t. t };\n}\n\nstruct S;\n",
+        "//! A file.\n\nuse crate::shim::mem;\n\nstruct S;\n",
+    );
+}
+
+#[test]
+fn paths_have_their_roots() {
+    is_made(
+        "use crate::a::B;\nuse qs_other::C;\nuse a::D;\n",
+        "use crate::proved::qs_own::a::B;\nuse crate::proved::qs_other::C;\nuse a::D;\n",
+    );
+    stops("use qs_unknown::C;\n", "qs_unknown");
+}
+
+#[test]
+fn text_and_characters_stay() {
+    is_made(
+        "const A: &str = \"ghost // requires \\\" {\";\nconst B: u8 = b'\\'';\nconst C: char = '{';\n",
+        "const A: &str = \"ghost // requires \\\" {\";\nconst B: u8 = b'\\'';\nconst C: char = '{';\n",
+    );
+}
+
+#[test]
+fn an_error_has_its_message() {
+    is_made(
+        "#[derive(Debug, Drop, Error)]\npub enum E {\n    /// Why.\n    #[error(\"no {0:x}\")]\n    No(u8),\n    #[error(\"it\")]\n    It { a: u8 },\n}\n",
+        "#[derive(Debug)]\npub enum E {\n    /// Why.\n    No(u8),\n    It { a: u8 },\n}\n\nimpl core::fmt::Display for E {\n    fn fmt(&self, f: &mut core::fmt::Formatter<'_>) -> core::fmt::Result {\n        match self {\n            Self::No(field) => write!(f, \"no {0:x}\", field),\n            Self::It { .. } => f.write_str(\"it\"),\n        }\n    }\n}\n\nimpl core::error::Error for E {}\n",
+    );
+}
+
+#[test]
+fn unknown_forms_stop_it() {
+    stops("fn f() {\n    let ghost = 1;\n}\n", "ghost");
+    stops("fn f()\n    ensures a ≡ b\n{}\n", "ensures");
+    stops("fn f() {\n    prove!(a < b);\n}\n", "prove");
+    stops("fn f() {\n    v.sort();\n}\n", "sort");
+    stops("fn f() {\n    let v = i.collect();\n}\n", "collect");
+    stops("#[inline]\nfn f() {}\n", "inline");
+    stops(
+        "type D = Box<dyn A + Drop + B>;\nfn f(d: Drop) {}\n",
+        "Drop)",
+    );
+    stops("fn f() {\n    a ≤ b\n}\n", "≤");
+    stops("/* a */\n", "/*");
+    stops("const A: &str = \"\n", "\"");
+}
