@@ -40,6 +40,7 @@ pub fn erase(place: &Place<'_>, text: &str) -> Erased<String> {
         at = eraser.step(at)?;
     }
     eraser.import();
+    eraser.link();
     Ok(eraser.apply())
 }
 
@@ -367,6 +368,25 @@ impl<'a> Eraser<'a> {
             at += line.len();
         }
         self.edits.push(edit(at, at, import));
+    }
+
+    /// Links of doc comments have the paths that names have.
+    fn link(&mut self) {
+        let mut at = 0;
+        for line in self.text.split_inclusive('\n') {
+            let words = line.trim_start();
+            let links = line
+                .match_indices("[`crate::")
+                .chain(line.match_indices("(crate::"));
+            for (place, opening) in links {
+                if words.starts_with("///") || words.starts_with("//!") {
+                    let end = at + place + opening.len();
+                    let new = format!("proved::{}::", self.place.krate);
+                    self.edits.push(edit(end, end, new));
+                }
+            }
+            at += line.len();
+        }
     }
 
     /// The text with its edits. Blank lines that follow one another become one.

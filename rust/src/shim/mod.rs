@@ -4,7 +4,7 @@
 //! The types hold those of `alloc` and hand out slices of them, never the types themselves, so that no call that can't fail slips in.
 
 // The program and the tests, which have this module too, use more of it than the library does.
-#![allow(dead_code)]
+#![allow(dead_code, unused_imports)]
 
 extern crate alloc as heap;
 
@@ -13,6 +13,7 @@ pub mod byteorder;
 pub mod collections;
 mod vec;
 
-pub use core::mem;
+// Modules in which nothing takes memory.
+pub use core::{array, cmp, fmt, iter, mem, num, ops, str};
 pub(crate) use vec::vec_in as vec;
 pub use vec::{SliceCalls, Vec};

@@ -23,7 +23,7 @@ pub(crate) use base::vec;
 pub use base::*;
 pub use iterators::IteratorCalls;
 pub use runtime::HostRuntime;
-pub use std::{str, time};
+pub use std::time;
 pub use string::String;
 pub(crate) use string::format_in as format;
 #[cfg(test)]

@@ -15,7 +15,7 @@ pub enum Frame<'a> {
         largest: u64,
         delay: u64,
         /// The length of the first range, and then of each next one the gap before it and its length, as
-        /// the payload spells them. [`AckRanges`](crate::AckRanges) reads them.
+        /// the payload spells them. [`AckRanges`](crate::proved::qs_wire::AckRanges) reads them.
         ranges: &'a [u8],
         ecn: Option<EcnCounts>,
     },

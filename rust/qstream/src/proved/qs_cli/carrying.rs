@@ -31,7 +31,7 @@ pub fn run_udp<Wi: Wire, W: io::Write>(
 }
 
 /// Plays events between two ends of the standard settings, whose packets go over a wire. It writes the report of what took place, as
-/// [`crate::scripts::run_events`] does, and then how many calls of the wire failed and how many datagrams were a stranger's.
+/// [`crate::proved::qs_cli::scripts::run_events`] does, and then how many calls of the wire failed and how many datagrams were a stranger's.
 ///
 /// To deliver a packet its datagram is sent, which is the number in eight bytes and then the payload, and one datagram is received at the
 /// other end. Where sending fails the packet is declared lost. Where receiving fails nothing happens. A datagram that is no packet which

@@ -14,7 +14,7 @@ use crate::shim::alloc::Global;
 /// to a reader that hadn't stopped; a repeat spends no credit; a stream that counts as received was taken in whole; final sizes that are
 /// known are the sender's; and neither end closes.
 ///
-/// Refused: `Setup` as [`crate::World::new`]; `NoSuchPacket` at the first event that delivers a packet which its end hasn't made; and
+/// Refused: `Setup` as [`crate::proved::qs_world::World::new`]; `NoSuchPacket` at the first event that delivers a packet which its end hasn't made; and
 /// `NoMemory` where the log found none.
 pub fn play(alloc: Global, a: Settings, b: Settings, events: &[Event]) -> Result<Report, PlayFault> {
     let mut world = match World::new(alloc, a, b) {
