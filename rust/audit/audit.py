@@ -40,7 +40,8 @@ def _words(tokens):
 
 
 def _stands_in(words, tokens):
-    return any(tokens[at:at + len(words)] == words for at in range(len(tokens)))
+    first = words[0]
+    return any(token == first and tokens[at:at + len(words)] == words for at, token in enumerate(tokens))
 
 
 def imported(imports, tokens):

@@ -92,6 +92,8 @@ def _item(tokens, at):
 
 # Whether the derive at a place names Error.
 def _derives_error(tokens, at):
+    if tokens[at][0] != "#":
+        return False
     words = [token for token, _line in tokens[at:at + 4]]
     if words != ["#", "[", "derive", "("]:
         return False

@@ -38,8 +38,8 @@ class _Reader:
         self.at += 1
 
     def skip_line(self):
-        while self.peek() not in ("", "\n"):
-            self.step()
+        end = self.text.find("\n", self.at)
+        self.at = len(self.text) if end < 0 else end
 
     def skip_block(self):
         depth = 0
@@ -60,10 +60,11 @@ class _Reader:
                 return
 
     def word(self):
-        start = self.at
-        while self.peek() in _WORD and self.peek() != "":
-            self.step()
-        return self.text[start:self.at]
+        text, start, at = self.text, self.at, self.at
+        while at < len(text) and text[at] in _WORD:
+            at += 1
+        self.at = at
+        return text[start:at]
 
     def number(self):
         start = self.at
@@ -149,24 +150,23 @@ class _Reader:
             size = max((n for n in (1, 2, 3) if self.text[start:start + n] in _OPERATORS[n]), default=0)
             if size == 0:
                 raise LexError(f"line {self.line}: no token begins with {char!r}")
-            for _ in range(size):
-                self.step()
+            self.at += size
         return self.text[start:self.at]
 
 
 def tokens(text):
     """The tokens, each with the number of its line."""
     reader = _Reader(text)
-    while reader.peek() != "":
-        two = reader.text[reader.at:reader.at + 2]
-        if reader.peek() in " \t\r\n":
+    while reader.at < len(text):
+        char = text[reader.at]
+        if char in " \t\r\n":
             reader.step()
-        elif two == "//":
+        elif char == "/" and reader.peek(1) == "/":
             reader.skip_line()
-        elif two == "/*":
+        elif char == "/" and reader.peek(1) == "*":
             reader.skip_block()
         else:
             line = reader.line
-            text_of = reader.token()
-            reader.found.append((text_of, line, reader.at))
+            token = reader.token()
+            reader.found.append((token, line, reader.at))
     return [(token, line) for token, line, _end in reader.found]

@@ -25,13 +25,13 @@ _NUMBER = re.compile(
     r"|[0-9][0-9_]*(?:\.[0-9][0-9_]*)?(?:[eE][+-]?[0-9_]+)?(?:[iuf](?:8|16|32|64|128|size))?"
 )
 # The longest first.
-_SIGNS = (
+_SIGN = re.compile("|".join(re.escape(sign) for sign in (
     "<<=", ">>=", "...", "..=",
     "::", "->", "=>", "==", "!=", "<=", ">=", "&&", "||", "<<", ">>", "..",
     "+=", "-=", "*=", "/=", "%=", "^=", "&=", "|=",
     "+", "-", "*", "/", "%", "^", "!", "&", "|", "=", "<", ">", "@", ".", ",", ";", ":",
     "#", "$", "?", "~", "{", "}", "[", "]", "(", ")",
-)
+)))
 
 
 def _end_of_block_comment(text, at):
@@ -50,24 +50,17 @@ def _end_of_block_comment(text, at):
     raise LexError("a comment has no end")
 
 
-def _sign_at(text, at):
-    for sign in _SIGNS:
-        if text.startswith(sign, at):
-            return at + len(sign)
-    return None
-
-
 def _end_of_token(text, at):
     raw = _RAW_STRING.match(text, at)
     if raw:
         closing = '"' + raw.group(1)
         end = text.find(closing, raw.end())
         return None if end < 0 else end + len(closing)
-    for form in (_STRING, _CHAR, _LIFETIME, _NAME, _NUMBER):
+    for form in (_STRING, _CHAR, _LIFETIME, _NAME, _NUMBER, _SIGN):
         found = form.match(text, at)
         if found:
             return found.end()
-    return _sign_at(text, at)
+    return None
 
 
 def spans(text):

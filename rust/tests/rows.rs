@@ -1,5 +1,8 @@
 //! The worked examples of the repository's README and documents, and what the front answers by itself.
 
+// Ranges are what an ACK is made of.
+#![allow(clippy::single_range_in_vec_init)]
+
 mod support;
 
 use gotsavena::{
