@@ -396,6 +396,10 @@ impl<'a> Eraser<'a> {
         let mut from = 0;
         for edit in &self.edits {
             if edit.start < from {
+                assert!(
+                    edit.end <= from,
+                    "an edit goes past an item that is taken out"
+                );
                 continue;
             }
             out.push_str(&self.text[from..edit.start]);

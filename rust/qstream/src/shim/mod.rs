@@ -1,5 +1,6 @@
 //! What stands for the parts of Rattle's standard library and of its crates that the proved source of the program and of the tests uses,
-//! beside those that the library has.
+//! beside those that the library has. Only Rust's own `std` takes memory that can't be refused here: for the words of the command line as
+//! the program begins, and for the buffer of its standard output.
 
 #[path = "../../../src/shim/mod.rs"]
 mod base;
