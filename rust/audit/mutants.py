@@ -2,9 +2,10 @@
 """Changes one token, or drops one statement, of the Rust files, and sees that the audit refuses each change.
 
     mutants.py [--seed S] [--count N]      the audit reads each changed text; no file is touched
-    mutants.py .. --run 'COMMAND'          each change of the library is written into its file, the command is run in
-                                           `rust/`, and the file is put back; told is how many changes the command
-                                           failed on. For a copy of the repository.
+    mutants.py .. --library                of the library's files alone
+    mutants.py .. --run 'COMMAND'          each change is written into its file, the command is run in `rust/`, and the
+                                           file is put back; told is how many changes the command failed on.
+                                           For a copy of the repository.
 
 The last line is `N passed, M failed`: how many changes were refused, and how many weren't.
 """
@@ -119,6 +120,7 @@ def main():
     parser = argparse.ArgumentParser()
     parser.add_argument("--seed", type=int, default=1)
     parser.add_argument("--count", type=int, default=12)
+    parser.add_argument("--library", action="store_true")
     parser.add_argument("--run")
     options = parser.parse_args()
     draw = random.Random(options.seed)
@@ -127,7 +129,7 @@ def main():
     # Files by their length, so that each token is as likely as any other.
     files = []
     for made, folder, text in texts:
-        if options.run and folder != ROOT / FOLDERS[0]:
+        if options.library and folder != ROOT / FOLDERS[0]:
             continue
         spans = rust_lexer.spans(text)
         files += [(made, folder, text, spans)] * ((len(spans) + 499) // 500)

@@ -33,11 +33,14 @@ struct Run {
 impl Run {
     fn new(seed: u64) -> Run {
         let mut random = Random::new(seed);
-        let window = 1 + random.below(4000);
+        // Now and then windows and buffers of some bytes.
+        let tiny = seed % 16 == 0;
+        let (most, most_of_streams, buffer) = if tiny { (4, 4, 64) } else { (4000, 2000, 3000) };
+        let window = 1 + random.below(most);
         let settings = Settings::default()
             .conn_window(window)
-            .stream_windows(1 + random.below(2000))
-            .send_buffer(1 + random.below(3000) as usize)
+            .stream_windows(1 + random.below(most_of_streams))
+            .send_buffer(1 + random.below(buffer) as usize)
             .streams(random.below(5), 5 + random.below(5));
         Run {
             ends: two_ends(settings),
@@ -246,7 +249,7 @@ impl Run {
     // The network is good from now on, readers read on, and what was to come comes.
     fn calm(&mut self) {
         for round in 0.. {
-            assert!(round < 10_000, "{}: it doesn't end", self.what);
+            assert!(round < 20_000, "{}: it doesn't end", self.what);
             let mut moved = false;
             for side in 0..2 {
                 while self.make(side) {

@@ -453,6 +453,11 @@ fn streams_tell_their_parts() {
     assert!(id < stream(13));
     assert_eq!(StreamId::from_parts(Role::Client, Dir::Bidi, 1 << 60), None);
     assert_eq!(Role::Client.peer(), Role::Server);
+    assert_eq!(
+        StreamId::new((1 << 62) - 1).map(StreamId::index),
+        Some((1 << 60) - 1)
+    );
+    assert_eq!(StreamId::new(1 << 62), None);
 }
 
 #[test]
