@@ -470,6 +470,36 @@ fn reads_of_resets_and_ends() {
     assert_eq!(player.ends[0].read(stream(3), &mut []), Ok(Read::End));
 }
 
+#[test]
+fn a_stop_is_told_whatever_its_code() {
+    let mut player = Player::new(Settings::default());
+    let zeros = "00".repeat(1024);
+    let script = format!(
+        "open A bidi\nwrite A 0 {zeros}\nmake A 1200\ndeliver A 0\nread B 0 1024\nmake B 1200"
+    );
+    for line in script.lines() {
+        player.line(line);
+    }
+    let found = |payload: &[u8], wanted| {
+        frames(payload)
+            .flatten()
+            .any(|placed| placed.frame == wanted)
+    };
+    let raised = Frame::MaxStreamData {
+        stream: stream(0),
+        maximum: 2048,
+    };
+    assert!(found(&player.made[1][0], raised));
+    // The code is the limit that is told, and not acknowledged.
+    assert_eq!(player.line("stop B 0 2048"), "ok");
+    player.line("make B 1200");
+    let stop = Frame::StopSending {
+        stream: stream(0),
+        code: 2048,
+    };
+    assert!(found(&player.made[1][1], stop));
+}
+
 #[cfg(feature = "std")]
 mod io {
     use super::{Settings, two_ends};
