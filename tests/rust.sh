@@ -42,8 +42,13 @@ tests() {
   grep -E '^(compared with|skipped:|[0-9]+ (scripts|allocations|closings|bytes))' "$scratch/log"
 }
 
+# Whether a command fails and names a text.
 refuses() {
-  ! "$@"
+  local text=$1 told
+  shift
+  told=$("$@" 2>&1) && return 1
+  echo "$told"
+  grep -qF -- "$text" <<<"$told"
 }
 
 # One token of a copy of the repository is changed, as `rust/audit/changed-token.edit` says.
@@ -65,14 +70,15 @@ if ! command -v cargo >/dev/null 2>&1; then
 fi
 export CARGO_TERM_COLOR=never CARGO_NET_OFFLINE=true
 rust=$root/rust
+changed=$(sed -n 's/^file: //p' "$rust/audit/changed-token.edit")
 
 step 'the made files are those that the crates make' "$rust" cargo run -q --offline --manifest-path erase/Cargo.toml -- --check
 if command -v python3 >/dev/null 2>&1; then
   step 'each difference is of a listed kind' "$rust" python3 audit/audit.py
   step 'a changed token is refused: 25 of them' "$rust" python3 audit/mutants.py --seed 5 --count 25
   step 'a copy with one changed token' "$root" change_a_token
-  step 'the audit refuses it' "$scratch/copy/rust" refuses python3 audit/audit.py
-  step 'it is not what the crates make' "$scratch/copy/rust" refuses env CARGO_TARGET_DIR="$scratch/target" cargo run -q --offline --manifest-path erase/Cargo.toml -- --check
+  step 'the audit refuses it' "$scratch/copy/rust" refuses "$changed" python3 audit/audit.py
+  step 'it is not what the crates make' "$scratch/copy/rust" refuses "$changed" env CARGO_TARGET_DIR="$scratch/target" cargo run -q --offline --manifest-path erase/Cargo.toml -- --check
 else
   echo 'skipped: there is no python3 here, so nothing is audited'
 fi
