@@ -415,10 +415,18 @@ fn are_ranges(largest: u64, ranges: &[u8]) -> bool {
     odd && rest.is_empty()
 }
 
-impl EcnCounts {
-    fn fit(&self) -> bool {
-        fits(self.ect0) && fits(self.ect1) && fits(self.ce)
-    }
+fn has_ack_text(largest: u64, delay: u64, ranges: &[u8], ecn: Option<EcnCounts>) -> bool {
+    let counts_fit = ecn.is_none_or(|counts| {
+        [counts.ect0, counts.ect1, counts.ce]
+            .iter()
+            .all(|&n| fits(n))
+    });
+    fits(largest) && fits(delay) && are_ranges(largest, ranges) && counts_fit
+}
+
+/// Whether an identifier and its token have lengths that a frame can have (RFC 9000, section 19.15).
+fn are_id_fields(identifier: &[u8], reset_token: &[u8]) -> bool {
+    (1..=20).contains(&identifier.len()) && reset_token.len() == 16
 }
 
 impl<'a> Frame<'a> {
@@ -431,12 +439,7 @@ impl<'a> Frame<'a> {
                 delay,
                 ranges,
                 ecn,
-            } => {
-                fits(largest)
-                    && fits(delay)
-                    && are_ranges(largest, ranges)
-                    && ecn.is_none_or(|counts| counts.fit())
-            }
+            } => has_ack_text(largest, delay, ranges, ecn),
             Frame::ResetStream {
                 code, final_size, ..
             } => fits(code) && fits(final_size),
@@ -455,12 +458,7 @@ impl<'a> Frame<'a> {
                 retire,
                 identifier,
                 reset_token,
-            } => {
-                fits(sequence)
-                    && fits(retire)
-                    && (1..=20).contains(&identifier.len())
-                    && reset_token.len() == 16
-            }
+            } => fits(sequence) && fits(retire) && are_id_fields(identifier, reset_token),
             Frame::RetireConnectionId { sequence } => fits(sequence),
             Frame::PathChallenge { bytes } | Frame::PathResponse { bytes } => bytes.len() == 8,
             Frame::ConnectionClose {
