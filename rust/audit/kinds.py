@@ -1,6 +1,6 @@
 """The kinds of differences that are allowed, and where one of them stands.
 
-A line of kinds.txt is `name: OLD => NEW`: the tokens OLD of the Rattle file stand as the tokens NEW in the Rust file.
+A line of kinds.txt is `NAME: OLD =>> NEW`: the tokens OLD of the Rattle file stand as the tokens NEW in the Rust file.
 Tokens are parted by spaces. Beside plain tokens a pattern may have
 
     $name      one word, the same one wherever the pattern has that name
