@@ -35,5 +35,7 @@ pub mod ToldLaws
 pub mod Undone
 pub mod Marked
 pub mod Words
+pub mod Summed
+pub mod Tasks
 pub mod Quiets
 pub mod LaneMarks

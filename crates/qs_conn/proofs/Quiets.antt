@@ -15,26 +15,30 @@ use Rattle.qs_wire.specs.declared.stream_id.Role.{Role}
 use Rattle.qs_machine.specs.Tables.{Tables, kind_of, lookup}
 use Rattle.qs_machine.specs.Ends.{End, window_by, role_bit}
 use Rattle.qs_machine.specs.Due.{IsCurrent, IsCovered, IsDue, IsEndDue, StreamGoes}
-use Rattle.qs_machine.specs.Outgoing.{Outgoing, IsTied, WantsMore, lanes_of}
+use Rattle.qs_machine.specs.Outgoing.{Outgoing, IsTied, IsBlockedAt, WantsMore, lanes_of}
 use Rattle.qs_conn.specs.Filling.{end_by, slot_at, AnyWantsMore}
-use Rattle.qs_conn.specs.Marks.{IsQuiet, IsQuietAt, IsIdle, IsQuietLane, IsBefore, HaveTo, least_of}
+use Rattle.qs_conn.specs.declared.send_marks.Task.{Task}
+use Rattle.qs_conn.specs.declared.send_marks.Task.TheVariants as tasks
+use Rattle.qs_conn.specs.Marks.{IsIdle, IsQuietLane, IsBefore, HaveTo, least_of}
+use Rattle.qs_conn.specs.Tasks.{IsQuiet, IsQuietAt}
 use Rattle.qs_conn.proofs.DueTied.{is_due, is_end_due}
 use Rattle.qs_machine.proofs.LaneTables.{lookup_lanes}
 use Rattle.qs_conn.proofs.Slots.{of_reset_stream, of_stream_data_blocked, of_stop_sending, of_max_stream_data, stop_of}
 use Rattle.qs_conn.proofs.Marked.{by_kinds}
 
 -- of a quiet half among the halves
-pub quiet_at : (v o : Outgoing) (t : Tables Sending) (n : ℕ) → v ≡ o → lanes_of t ≡ v.sends → ((s : Sending) → lookup t n ≡ Some s → IsTied v.outstanding n s) → ((s : Sending) → lookup t n ≡ Some s → IsQuiet s) → IsQuietAt o n
-quiet_at v o t n is lanes tied quiet = subst (λ x. IsQuietAt x n) is there
+pub quiet_at : (task : Task) (v o : Outgoing) (t : Tables Sending) (n : ℕ) → v ≡ o → lanes_of t ≡ v.sends → ((s : Sending) → lookup t n ≡ Some s → IsTied v.outstanding n s) → ((s : Sending) → lookup t n ≡ Some s → IsQuiet task s) → IsQuietAt task o n
+quiet_at task v o t n is lanes tied quiet = subst (λ x. IsQuietAt task x n) is there
   where
-    go : (x : Option Sending) → lookup t n ≡ x → (l : SendLane) → option_map (λ (s : Sending). s.lane) x ≡ Some l → (s : Sending) × (s.lane ≡ l) × IsTied v.outstanding n s × IsQuiet s
+    go : (x : Option Sending) → lookup t n ≡ x → (l : SendLane) → option_map (λ (s : Sending). s.lane) x ≡ Some l → (s : Sending) × (s.lane ≡ l) × IsTied v.outstanding n s × IsQuiet task s
     go None e l h = absurd (none-some l h)
     go (Some s) e l h = (s, same_Some s.lane l h, tied s e, quiet s e)
 
-    there : IsQuietAt v n
+    there : IsQuietAt task v n
     there l h = go (lookup t n) refl l (sym (lookup_lanes t n) ∙ ap (λ x. lookup x n) lanes ∙ h)
 
-module _ (o : Outgoing) (n : ℕ) (q : IsQuietAt o n) where
+-- no bytes and no end
+module _ (o : Outgoing) (n : ℕ) (q : IsQuietAt tasks.Bytes o n) where
   pub no_wants : WantsMore (lookup o.sends n) → ⊥
   no_wants w = go (lookup o.sends n) refl w
     where
@@ -42,56 +46,50 @@ module _ (o : Outgoing) (n : ℕ) (q : IsQuietAt o n) where
       go None e w = w
       go (Some l) e (none, more, below) =
           let (s, is, tied, quiet) = q l e in
-          let sent : s.lane.written ≤ s.lane.sent_end = quiet.sent (ap (λ x. x.was_reset) is ∙ none) in
           let same : l.sent_end ≡ s.lane.sent_end = ap (λ x. x.sent_end) (sym is) in
           let all : l.written ≡ s.lane.written = ap (λ x. x.written) (sym is) in
+          let limit : l.limit ≡ s.lane.limit = ap (λ x. x.limit) (sym is) in
+          let sent : s.lane.written ≤ s.lane.sent_end = quiet.sent (ap (λ x. x.was_reset) is ∙ none) (omega (arith, below, same, limit)) in
           omega (arith, more, sent, same, all)
 
-  module _ (t : Terms) (recvs : Tables RecvLane) (e : End) where
-    abbrev pub there : End
-    there = end_by t recvs o e
+  pub no_goes : (t : Terms) (recvs : Tables RecvLane) (e : End) → StreamGoes (end_by t recvs o e) n → ⊥
+  no_goes t recvs e (l, at, inl (k, due, below, credit)) =
+      let (s, is, tied, quiet) = q l at in
+      let there = end_by t recvs o e in
+      let limit : l.limit ≡ s.lane.limit = ap (λ x. x.limit) (sym is) in
+      both_ways (set.contains s.due.offsets k) (quiet.no_offset k (omega (arith, below, limit))) (is_due there n s tied k (subst (λ x. IsDue there n x k) (sym is) due))
+  no_goes t recvs e (l, at, inr (due, whole)) =
+      let (s, is, tied, quiet) = q l at in
+      let there = end_by t recvs o e in
+      both_ways s.due.fin (quiet.no_end (ap (λ x. x.sent_end) is ∙ whole ∙ ap (λ x. x.written) (sym is))) (is_end_due there n s tied (subst (IsEndDue there n) (sym is) due))
 
-    pub no_goes : StreamGoes there n → ⊥
-    no_goes (l, at, inl (k, due, below, credit)) =
-        let (s, is, tied, quiet) = q l at in
-        both_ways (set.contains s.due.offsets k) (quiet.no_offset k (omega arith)) (is_due there n s tied k (subst (λ x. IsDue there n x k) (sym is) due))
-    no_goes (l, at, inr (due, whole)) =
-        let (s, is, tied, quiet) = q l at in
-        both_ways s.due.fin quiet.no_end (is_end_due there n s tied (subst (IsEndDue there n) (sym is) due))
+module _ (o : Outgoing) (n : ℕ) (t : Terms) (recvs : Tables RecvLane) (e : End) where
+  abbrev pub there : End
+  there = end_by t recvs o e
 
-    pub reset_idle : IsIdle there (slots.ResetStream n)
-    reset_idle = of_reset_stream (λ i. IsCurrent there i → IsCovered there i) n told
-      where
-        told : (code size : ℕ) → IsCurrent there (ResetStream n code size) → IsCovered there (ResetStream n code size)
-        told code size (l, at, reset) =
-            let (s, is, tied, quiet) = q l at in
-            inr (l, at, ap (λ x. x.reset_acked) (sym is) ∙ quiet.told (ap (λ x. is_some x.was_reset) is ∙ ap is_some reset))
+  pub reset_idle : IsQuietAt tasks.Reset o n → IsIdle there (slots.ResetStream n)
+  reset_idle q = of_reset_stream (λ i. IsCurrent there i → IsCovered there i) n told
+    where
+      told : (code size : ℕ) → IsCurrent there (ResetStream n code size) → IsCovered there (ResetStream n code size)
+      told code size (l, at, reset) =
+          let (s, is, tied, quiet) = q l at in
+          inr (l, at, ap (λ x. x.reset_acked) (sym is) ∙ quiet (ap (λ x. is_some x.was_reset) is ∙ ap is_some reset))
 
-    pub blocked_idle : IsIdle there (slots.StreamDataBlocked n)
-    blocked_idle = of_stream_data_blocked (λ i. IsCurrent there i → IsCovered there i) n (λ m (l, at, none, limit, more, sent). (
-        let (s, is, tied, quiet) = q l at in
-        let all : s.lane.written ≤ s.lane.sent_end = quiet.sent (ap (λ x. x.was_reset) is ∙ none) in
-        let same : l.sent_end ≡ s.lane.sent_end = ap (λ x. x.sent_end) (sym is) in
-        let written : l.written ≡ s.lane.written = ap (λ x. x.written) (sym is) in
-        absurd (omega (arith, more, sent, all, same, written))))
+  pub blocked_idle : IsQuietAt tasks.Blocked o n → IsIdle there (slots.StreamDataBlocked n)
+  blocked_idle q = of_stream_data_blocked (λ i. IsCurrent there i → IsCovered there i) n (λ m (l, at, none, limit, more, sent). (
+      let (s, is, tied, quiet) = q l at in
+      absurd (quiet m (subst (λ x. IsBlockedAt (Some x) m) (sym is) (none, limit, more, sent)))))
 
 -- the streams below a number want no more, and those up to the next one that is looked at
-pub wants_next : (o : Outgoing) (from m : ℕ) → ((n : ℕ) → n < from → WantsMore (lookup o.sends n) → ⊥) → ((n : ℕ) → from ≤ n → n < m → IsQuietAt o n) → (WantsMore (lookup o.sends m) → ⊥) → (n : ℕ) → n < m + 1 → WantsMore (lookup o.sends n) → ⊥
+pub wants_next : (o : Outgoing) (from m : ℕ) → ((n : ℕ) → n < from → WantsMore (lookup o.sends n) → ⊥) → ((n : ℕ) → from ≤ n → n < m → IsQuietAt tasks.Bytes o n) → (WantsMore (lookup o.sends m) → ⊥) → (n : ℕ) → n < m + 1 → WantsMore (lookup o.sends n) → ⊥
 wants_next o from m below quiet here n lt w =
     elim (cases_lt n from) [
       | inl before ↦ below n before w
       | inr ge ↦ elim (cases_lt n m) [ inl between ↦ no_wants o n (quiet n ge between) w | inr past ↦ (let same : n ≡ m = omega (arith, lt, past) in here (subst (λ k. WantsMore (lookup o.sends k)) same w)) ]
     ]
 
-pub none_wants : (o : Outgoing) (from : ℕ) → ((n : ℕ) → n < from → WantsMore (lookup o.sends n) → ⊥) → ((n : ℕ) → from ≤ n → IsQuietAt o n) → AnyWantsMore o.sends → ⊥
+pub none_wants : (o : Outgoing) (from : ℕ) → ((n : ℕ) → n < from → WantsMore (lookup o.sends n) → ⊥) → ((n : ℕ) → from ≤ n → IsQuietAt tasks.Bytes o n) → AnyWantsMore o.sends → ⊥
 none_wants o from below quiet (n, w) = elim (cases_lt n from) [ inl before ↦ below n before w | inr ge ↦ no_wants o n (quiet n ge) w ]
-
--- of a kind that the sending half tells
-pub sends_idle : (t : Terms) (recvs : Tables RecvLane) (o : Outgoing) (e : End) (n : ℕ) (kind : Kind) → (kind ≡ kinds.ResetStream) ⊎ (kind ≡ kinds.StreamDataBlocked) → IsQuietAt o n → IsIdle (end_by t recvs o e) (slot_at kind n)
-sends_idle t recvs o e n kinds.ResetStream is q = reset_idle o n q t recvs e
-sends_idle t recvs o e n kinds.StreamDataBlocked is q = blocked_idle o n q t recvs e
-sends_idle t recvs o e n kinds.StopSending is q = absurd (elim is [ inl a ↦ (cc a) | inr b ↦ (cc b) ])
-sends_idle t recvs o e n kinds.MaxStreamData is q = absurd (elim is [ inl a ↦ (cc a) | inr b ↦ (cc b) ])
 
 -- the window is that of the type
 pub window_same : (r : Role) (s : Settings) (n k : ℕ) → kind_of n ≡ k → k < 4 → window_by r s k ≡ window_by r s n

@@ -10,7 +10,9 @@ use Rattle.std.proofs.lemmas.List.{get_or_default}
 use Rattle.qs_send.specs.declared.parts.SendFault.{SendFault}
 use Rattle.qs_send.specs.Lane.{Sending, new_sending, accepted, refusal, after_write}
 use Rattle.qs_machine.specs.Sums.{changed, no_sending}
-use Rattle.qs_conn.specs.Marks.{IsQuiet}
+use Rattle.qs_conn.specs.declared.send_marks.Task.{Task}
+use Rattle.qs_conn.specs.declared.send_marks.Task.TheVariants as tasks
+use Rattle.qs_conn.specs.Tasks.{IsQuiet}
 use Rattle.qs_conn.proofs.LaneEdits.{changed_at}
 
 -- a sending half is opened: its number
@@ -31,5 +33,7 @@ wrote_at (Ok n) xs i x y bytes there at h =
 wrote_at (Err e) xs i x y bytes there at h = tt
 
 -- a half begins quiet
-pub begins_quiet : (id limit buffer : ℕ) → IsQuiet (new_sending id limit buffer)
-begins_quiet id limit buffer = record { no_offset = λ q le. set.contains-empty nat_cmp q; no_end = refl; sent = λ none. omega arith; told = λ is. absurd (true≢false (sym is)) }
+pub begins_quiet : (t : Task) (id limit buffer : ℕ) → IsQuiet t (new_sending id limit buffer)
+begins_quiet tasks.Bytes id limit buffer = record { no_offset = λ q lt. set.contains-empty nat_cmp q; no_end = λ whole. refl; sent = λ none lt. omega arith }
+begins_quiet tasks.Reset id limit buffer = λ is. absurd (true≢false (sym is))
+begins_quiet tasks.Blocked id limit buffer = λ m (none, is, more, at). omega (arith, more)

@@ -7,7 +7,7 @@ use Rattle.std.proofs.lemmas.List.FromFn.{length-map-range_with_len, get_or-map-
 use Rattle.std.proofs.lemmas.Nat.{shr-shr, one_shl, shr_le}
 use Rattle.std.proofs.lemmas.Nat.Bits.{bit_at-zero, bit_at_above, bit_at_and, bit_at_ones, bit_at_ones_above, bit_at-lt, bit_at-trailing_zeros, bit_at_set_same, bit_at_set_other, bit_at_clear_same, bit_at_clear_other}
 use Rattle.std.proofs.lemmas.Option.{none-some, same_Some}
-use Rattle.qs_conn.specs.Marks.{is_marked, IsBefore, IsNextMark}
+use Rattle.qs_conn.specs.Marks.{is_marked, IsBefore, IsNextMark, IsNextInWord}
 use Rattle.qs_conn.specs.Words.{flag, flags, AreFlags, HasBit, IsCutAt, IsLowestBit}
 
 pub bit_set : (word bit : ℕ) → bit < 64 → HasBit word bit true (bit_or word (1 * 2 ^ bit % 2 ^ 64))
@@ -71,7 +71,7 @@ module _ (word from : ℕ) (fits : word < 2 ^ 64) (some : 0 < word / 2 ^ from) w
 
 -- Words
 
-padded : {A : Type 0} (xs : List A) (n k : ℕ) (d : A) → get_or (xs ++ replicate n d) k d ≡ get_or xs k d
+pub padded : {A : Type 0} (xs : List A) (n k : ℕ) (d : A) → get_or (xs ++ replicate n d) k d ≡ get_or xs k d
 padded [] zero k d = refl
 padded [] (suc n) zero d = refl
 padded [] (suc n) (suc k) d = padded [] n k d
@@ -262,3 +262,30 @@ module _ (ws : List ℕ) (count from place bit : ℕ) (are : AreFlags ws count) 
                 (omega (arith, passed.1, found.0), marked_is ws count (place * 64 + marked) are ∙ flag_found);
             unmarked = λ i le before. marked_is ws count i are ∙ before_lowest word (Some marked) word_at lowest i le (omega (arith, before, found.1)) (λ from_here. omega (arith, before, from_here));
           }
+
+-- A search within a word
+
+pub clear_here : (ws : List ℕ) (from : ℕ) → IsClearTo ws from (from / 64) (from % 64)
+clear_here ws from = (omega arith, omega arith, λ i le lt. absurd (omega (arith, le, lt)))
+
+module _ (ws : List ℕ) (count from : ℕ) (are : AreFlags ws count) where
+  pub none_in_word : IsClearTo ws from (from / 64 + 1) 0 → IsNextInWord (flags ws count) from None
+  none_in_word clear =
+      record {
+        found = λ n is. absurd (none-some n is);
+        unmarked = λ i le at before. marked_is ws count i are ∙ clear.2 i le (omega (arith, at));
+      }
+
+  pub no_word_there : length ws ≤ from / 64 → IsNextInWord (flags ws count) from None
+  no_word_there past =
+      record {
+        found = λ n is. absurd (none-some n is);
+        unmarked = λ i le at before. marked_is ws count i are ∙ flag_past ws i (omega (arith, at, past));
+      }
+
+  pub found_in_word : (marked : ℕ) → marked < 64 → IsNextMark (flags ws count) from (Some (from / 64 * 64 + marked)) → IsNextInWord (flags ws count) from (Some (from / 64 * 64 + marked))
+  found_in_word marked lt next =
+      record {
+        found = λ n is. let at = next.found n is in (at.0, omega (arith, same_Some (from / 64 * 64 + marked) n is, lt), at.1);
+        unmarked = λ i le at before. next.unmarked i le before;
+      }

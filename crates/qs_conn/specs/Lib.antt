@@ -4,4 +4,5 @@ pub mod ItemOrder
 pub mod Filling
 pub mod Runs
 pub mod Marks
+pub mod Tasks
 pub mod Words

@@ -1,8 +1,6 @@
 -- Which streams may have something to send or to tell: a mark for each index, and streams that have nothing.
-use Rattle.std.specs.Prelude.{◌≡◌, ℕ, ◌≤◌, ◌<◌, Bool, true, false, List, [], ◌∷◌, slice_index_or, min, Option, None, Some, is_some, ⊤}
-use Rattle.qs_ranges.specs.Numbers.{EndsBefore}
+use Rattle.std.specs.Prelude.{◌≡◌, ℕ, ◌+◌, ◌*◌, ◌/◌, ◌^◌, ◌≤◌, ◌<◌, length, Bool, true, false, List, [], ◌∷◌, slice_index_or, min, Option, None, Some, ⊤}
 use Rattle.qs_recv.specs.Lane.{RecvLane}
-use Rattle.qs_send.specs.Lane.{SendLane, Sending}
 use Rattle.qs_machine.specs.Tables.{Tables, kind_of, lookup}
 use Rattle.qs_send.specs.declared.piece.Item.{Item}
 use Rattle.qs_conn.specs.declared.slot.Slot.{Slot}
@@ -10,7 +8,6 @@ use Rattle.qs_machine.specs.Ends.{End}
 use Rattle.qs_machine.specs.Due.{IsCurrent, IsCovered}
 use Rattle.qs_conn.specs.Filling.{slot_of}
 use Rattle.qs_conn.specs.Layers.{stop_to_tell}
-use Rattle.qs_machine.specs.Outgoing.{Outgoing, IsTied}
 
 -- whether an index is marked
 abbrev pub is_marked : List Bool → ℕ → Bool
@@ -43,17 +40,20 @@ pub record IsNextMark (marks : List Bool) (from : ℕ) (answer : Option ℕ) : T
   pub found : (n : ℕ) → answer ≡ Some n → (from ≤ n) × (is_marked marks n ≡ true)
   pub unmarked : (i : ℕ) → from ≤ i → IsBefore i answer → is_marked marks i ≡ false
 
--- A half that has nothing to send or to tell: nothing of it is due, what was written was sent, and a reset is acknowledged (RFC 9000,
--- sections 3.1 and 13.3).
-pub record IsQuiet (s : Sending) : Type 0 where
-  pub no_offset : EndsBefore s.due.offsets 0
-  pub no_end : s.due.fin ≡ false
-  pub sent : s.lane.was_reset ≡ None → s.lane.written ≤ s.lane.sent_end
-  pub told : is_some s.lane.was_reset ≡ true → s.lane.reset_acked ≡ true
+-- the least marked index from one on, among those of its word of 64
+pub record IsNextInWord (marks : List Bool) (from : ℕ) (answer : Option ℕ) : Type 0 where
+  pub found : (n : ℕ) → answer ≡ Some n → (from ≤ n) × (n / 64 ≡ from / 64) × (is_marked marks n ≡ true)
+  pub unmarked : (i : ℕ) → from ≤ i → i / 64 ≡ from / 64 → IsBefore i answer → is_marked marks i ≡ false
 
--- the stream's half, where it has one, is quiet
-abbrev pub IsQuietAt : Outgoing → ℕ → Type 0
-IsQuietAt o n = (l : SendLane) → lookup o.sends n ≡ Some l → (s : Sending) × (s.lane ≡ l) × IsTied o.outstanding n s × IsQuiet s
+-- no index of a word of 64 is marked
+abbrev pub HasNoMark : List Bool → ℕ → Type 0
+HasNoMark marks word = (i : ℕ) → i / 64 ≡ word → is_marked marks i ≡ false
+
+-- There is a flag for each word of marks, and a word without one has no mark.
+pub record AreSummed (marks words : List Bool) : Type 0 where
+  pub room : length marks ≤ 64 * length words
+  pub fits : 64 * length words < 2 ^ 64 + 64
+  pub none : (word : ℕ) → is_marked words word ≡ false → HasNoMark marks word
 
 -- what is current of the slot was told already
 abbrev pub IsIdle : End → Slot → Type 0

@@ -21,6 +21,7 @@ ghost use Rattle.qs_conn.specs.Filling.{frame_of_item, slot_at, end_by, TermsFit
 
 use crate::outbox::Outbox;
 use crate::recv_tables::RecvTables;
+use crate::send_marks::Task;
 use crate::slot::{Kind, Slot};
 use crate::terms::Terms;
 use qs_ranges::RangeSet;
@@ -165,7 +166,8 @@ fn next_of_kind(
     ensures idle { (n : ℕ) (e : End) → from ≤ n → IsBefore n result → IsIdle (end_by terms.now recvs.now outbox.now e) (slot_at kind n) }
 {
     match kind {
-        Kind::ResetStream | Kind::StreamDataBlocked => outbox.next_marked(from),
+        Kind::ResetStream => outbox.next_marked(Task::Reset, from),
+        Kind::StreamDataBlocked => outbox.next_marked(Task::Blocked, from),
         Kind::StopSending | Kind::MaxStreamData => terms.next_receiving(recvs, from),
     }
 }
@@ -358,7 +360,7 @@ pub(crate) fn put_streams(
 {
     let mut packet = packet;
     let mut from = 0;
-    while let Some(stream) = outbox.next_marked(from) {
+    while let Some(stream) = outbox.next_marked(Task::Bytes, from) {
         packet = put_stream(terms, outbox, stream, out, packet);
         if packet.is_full {
             return packet;

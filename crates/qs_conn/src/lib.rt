@@ -1,6 +1,7 @@
 //! One end of a connection: its streams, its credit, and what its packets carry.
 #![tactic(auto)]
 
+mod bits;
 mod ended;
 mod endpoint;
 mod filling;
@@ -10,6 +11,7 @@ mod places;
 mod recv_lanes;
 mod recv_tables;
 mod send_lanes;
+mod send_marks;
 mod send_tables;
 mod setup;
 mod slot;

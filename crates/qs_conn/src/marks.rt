@@ -1,34 +1,33 @@
 //! Which streams of one type may have something to send or to tell.
-ghost use Rattle.std.specs.Prelude.{◌≡◌, ◌++◌, ◌-◌, ◌<◌, [], false, length, take, slice_set, replicate, OnOk, OnErr};
-ghost use Rattle.qs_conn.specs.Marks.{IsNextMark, least_of};
-ghost use Rattle.qs_conn.specs.Words.{HasBit, IsCutAt, IsLowestBit};
+ghost use Rattle.std.specs.Prelude.{◌≡◌, ◌++◌, ◌*◌, ◌-◌, ◌<◌, ◌^◌, [], false, length, take, slice_set, replicate, OnOk, OnErr};
+ghost use Rattle.qs_conn.specs.Marks.{IsNextMark, HasNoMark, least_of};
 
+use crate::bits::{Bits, FLAGS_PER_WORD};
 use qs_ranges::NoMemory;
 use std::alloc::Global;
 use std::marker::Model;
 
-/// How many marks a word has.
-const MARKS_PER_WORD: usize = 64;
-
-/// A mark for each index of the streams of one type. A search jumps over indexes that aren't marked, a word of them at a time.
+/// A mark for each index of the streams of one type, and a flag for each word of marks that has one: so a search looks at one word of
+/// flags for 4,096 indexes without a mark.
 #[derive(Drop)]
 pub(crate) struct Marks {
-    words: Vec<u64>,
-    count: usize,
+    marks: Bits,
+    // A word without a flag has no mark.
+    words: Bits,
 }
 
 impl Model for Marks {
     ghost use Rattle.std.specs.Prelude.{List, Bool};
     ghost use Rattle.std.specs.Coded.{coded_list, coded_bool};
-    ghost use Rattle.qs_conn.specs.Words.{flags, AreFlags};
+    ghost use Rattle.qs_conn.specs.Marks.{AreSummed};
 
     ghost Value = { List Bool };
 
     ghost coded = { coded_list coded_bool };
 
-    ghost view = { λ m. flags m.words.items m.count };
+    ghost view = { λ m. m.marks };
 
-    ghost invariant = { λ m. AreFlags m.words.items m.count };
+    ghost invariant = { λ m. AreSummed m.marks m.words };
 }
 
 impl Marks {
@@ -37,22 +36,24 @@ impl Marks {
         ensures { result ≡ [] }
     {
         Marks {
-            words: Vec::new(alloc),
-            count: 0,
+            marks: Bits::new(alloc),
+            words: Bits::new(alloc),
         }
+    }
+
+    /// How many indexes there are.
+    pub(crate) fn len(&self) -> usize
+        ensures { result ≡ length self.now }
+    {
+        self.marks.len()
     }
 
     /// Takes the memory for the indexes below a count.
     pub(crate) fn reserve(&mut self, count: usize) -> Result<(), NoMemory>
         ensures { self.new ≡ self.old }
     {
-        let missing = count
-            .div_ceil(MARKS_PER_WORD)
-            .saturating_sub(self.words.len());
-        match self.words.reserve(missing) {
-            Ok(()) => Ok(()),
-            Err(_refused) => Err(NoMemory),
-        }
+        self.marks.reserve(count)?;
+        self.words.reserve(count.div_ceil(FLAGS_PER_WORD))
     }
 
     /// Makes room for all indexes below a count: the new ones aren't marked.
@@ -60,29 +61,19 @@ impl Marks {
         ensures ok { OnOk result (self.new ≡ self.old ++ replicate (count - length self.old) false) }
         ensures err { OnErr result (self.new ≡ self.old) }
     {
-        if count <= self.count {
+        if count <= self.marks.len() {
             return Ok(());
         }
-        match self.words.resize(count.div_ceil(MARKS_PER_WORD), 0) {
-            Ok(()) => {
-                self.count = count;
-                Ok(())
-            }
-            Err(_refused) => Err(NoMemory),
-        }
+        // More words than there are marks for sum up the same marks.
+        self.words.open_to(count.div_ceil(FLAGS_PER_WORD))?;
+        self.marks.open_to(count)
     }
 
     /// Takes the indexes from a count on away.
     pub(crate) fn close_to(&mut self, count: usize)
         ensures { self.new ≡ take count self.old }
     {
-        if self.count <= count {
-            return;
-        }
-        let last = count / MARKS_PER_WORD;
-        self.words.truncate(last + 1);
-        self.words[last] = cut_at(self.words[last], count % MARKS_PER_WORD);
-        self.count = count;
+        self.marks.close_to(count);
     }
 
     /// Marks an index, or takes its mark away.
@@ -90,55 +81,35 @@ impl Marks {
         requires { index < length self.old }
         ensures { self.new ≡ slice_set self.old index is_marked }
     {
-        let place = index / MARKS_PER_WORD;
-        self.words[place] = with_bit(self.words[place], index % MARKS_PER_WORD, is_marked);
+        self.marks.set(index, is_marked);
+        let word = index / FLAGS_PER_WORD;
+        self.words.set(word, has_mark(&self.marks, word));
     }
 
     /// The least marked index from an index on.
     pub(crate) fn next(&self, from: usize) -> Option<usize>
         ensures { IsNextMark self.now from result }
     {
-        let mut bit = from % MARKS_PER_WORD;
-        for place in from / MARKS_PER_WORD..self.words.len() {
-            if let Some(marked) = lowest_bit(self.words[place], bit) {
-                return Some(place * MARKS_PER_WORD + marked);
+        if let Some(index) = self.marks.next_in_word(from) {
+            return Some(index);
+        }
+        let mut next = from / FLAGS_PER_WORD + 1;
+        while let Some(word) = self.words.next(next) {
+            if let Some(index) = self.marks.next_in_word(word * FLAGS_PER_WORD) {
+                return Some(index);
             }
-            bit = 0;
+            next = word + 1;
         }
         None
     }
 }
 
-/// A word with one of its bits set or cleared.
-fn with_bit(word: u64, bit: usize, is_set: bool) -> u64
-    requires { bit < 64 }
-    ensures { HasBit word bit is_set result }
+// Whether a word of marks has one.
+fn has_mark(marks: &Bits, word: usize) -> bool
+    requires { word * 64 < 2 ^ 64 }
+    ensures { result ≡ false → HasNoMark marks.now word }
 {
-    if is_set {
-        word | (1 << bit)
-    } else {
-        word & !(1 << bit)
-    }
-}
-
-/// A word with its bits from one on cleared.
-fn cut_at(word: u64, bit: usize) -> u64
-    requires { bit < 64 }
-    ensures { IsCutAt word bit result }
-{
-    word & ((1 << bit) - 1)
-}
-
-/// The least bit that is set, from one on.
-fn lowest_bit(word: u64, from: usize) -> Option<usize>
-    requires { from < 64 }
-    ensures { IsLowestBit word from result }
-{
-    let rest = word >> from;
-    if rest == 0 {
-        return None;
-    }
-    Some(from + rest.trailing_zeros() as usize)
+    marks.next_in_word(word * FLAGS_PER_WORD).is_some()
 }
 
 /// The lesser of two numbers, where there are some.

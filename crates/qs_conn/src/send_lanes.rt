@@ -5,9 +5,10 @@ ghost use Rattle.qs_send.specs.Lane.{Sending, new_sending, accepted, refusal, re
 ghost use Rattle.qs_send.specs.Chunks.{IsDueChunk, WasSent};
 ghost use Rattle.qs_machine.specs.Tables.{widened};
 ghost use Rattle.qs_machine.specs.Sums.{changed, no_sending};
-ghost use Rattle.qs_conn.specs.Marks.{IsBefore, IsQuiet};
+ghost use Rattle.qs_conn.specs.Marks.{IsBefore};
+ghost use Rattle.qs_conn.specs.Tasks.{IsQuiet};
 
-use crate::marks::Marks;
+use crate::send_marks::{SendMarks, Task};
 use qs_ranges::NoMemory;
 use qs_send::{Chunk, SendFault, SendHalf, SendState};
 use qs_wire::StreamId;
@@ -19,8 +20,8 @@ use std::marker::Model;
 pub(crate) struct SendLanes {
     alloc: Global,
     halves: Vec<SendHalf>,
-    // A half without a mark is quiet.
-    marks: Marks,
+    // A half without a mark for a task is quiet of it.
+    marks: SendMarks,
 }
 
 // Clauses see the halves: each lane and what of it is due.
@@ -28,7 +29,7 @@ impl Model for SendLanes {
     ghost use Rattle.std.specs.Prelude.{◌≤◌, ◌^◌, List, length};
     ghost use Rattle.std.specs.Coded.{coded_list};
     ghost use Rattle.qs_send.specs.Lane.{Sending, sending_code};
-    ghost use Rattle.qs_conn.specs.Marks.{AreMarked, IsQuiet};
+    ghost use Rattle.qs_conn.specs.Tasks.{AreAllMarked};
 
     ghost Value = { List Sending };
 
@@ -36,7 +37,7 @@ impl Model for SendLanes {
 
     ghost view = { λ l. l.halves.items };
 
-    ghost invariant = { λ l. (length l.halves.items ≤ 2 ^ 60) × AreMarked IsQuiet l.halves.items l.marks };
+    ghost invariant = { λ l. (length l.halves.items ≤ 2 ^ 60) × AreAllMarked l.halves.items l.marks };
 }
 
 impl SendLanes {
@@ -46,7 +47,7 @@ impl SendLanes {
         SendLanes {
             alloc,
             halves: Vec::new(alloc),
-            marks: Marks::new(alloc),
+            marks: SendMarks::new(alloc),
         }
     }
 
@@ -127,7 +128,7 @@ impl SendLanes {
     {
         let half = &mut self.halves[index];
         let answer = half.write(bytes);
-        self.marks.set(index, is_busy(half));
+        self.marks.look(index, half);
         answer
     }
 
@@ -139,7 +140,7 @@ impl SendLanes {
     {
         let half = &mut self.halves[index];
         let answer = half.finish();
-        self.marks.set(index, is_busy(half));
+        self.marks.look(index, half);
         answer
     }
 
@@ -152,7 +153,7 @@ impl SendLanes {
     {
         let half = &mut self.halves[index];
         let answer = half.reset(code);
-        self.marks.set(index, is_busy(half));
+        self.marks.look(index, half);
         answer
     }
 
@@ -164,6 +165,7 @@ impl SendLanes {
     {
         let half = &mut self.halves[index];
         half.allow(limit);
+        self.marks.look(index, half);
     }
 
     /// Takes in that a STREAM_DATA_BLOCKED was sent.
@@ -173,6 +175,7 @@ impl SendLanes {
     {
         let half = &mut self.halves[index];
         half.note_blocked();
+        self.marks.look(index, half);
     }
 
     /// Takes in that the RESET_STREAM is acknowledged.
@@ -183,7 +186,7 @@ impl SendLanes {
     {
         let half = &mut self.halves[index];
         half.reset_acked();
-        self.marks.set(index, is_busy(half));
+        self.marks.look(index, half);
     }
 
     /// Takes in that a chunk was sent.
@@ -194,7 +197,7 @@ impl SendLanes {
     {
         let half = &mut self.halves[index];
         half.sent(chunk);
-        self.marks.set(index, is_busy(half));
+        self.marks.look(index, half);
     }
 
     /// Takes in that a chunk is acknowledged, or changes nothing.
@@ -206,7 +209,7 @@ impl SendLanes {
     {
         let half = &mut self.halves[index];
         let answer = half.acked(chunk);
-        self.marks.set(index, is_busy(half));
+        self.marks.look(index, half);
         answer
     }
 
@@ -219,32 +222,16 @@ impl SendLanes {
     {
         let half = &mut self.halves[index];
         let answer = half.lost(chunk);
-        self.marks.set(index, is_busy(half));
+        self.marks.look(index, half);
         answer
     }
 
-    /// The least index from one on whose half may have something to send. The halves between are quiet.
-    pub(crate) fn next_marked(&self, from: usize) -> Option<usize>
+    /// The least index from one on whose half may have a task. The halves between are quiet of it.
+    pub(crate) fn next_marked(&self, task: Task, from: usize) -> Option<usize>
         ensures from { IfSome result (λ n. from ≤ n) }
         ensures small { IfSome result (λ n. n < 2 ^ 60) }
-        ensures quiet { (i : ℕ) (s : Sending) → from ≤ i → IsBefore i result → slice_get self.now i ≡ Some s → IsQuiet s }
+        ensures quiet { (i : ℕ) (s : Sending) → from ≤ i → IsBefore i result → slice_get self.now i ≡ Some s → IsQuiet task s }
     {
-        self.marks.next(from)
+        self.marks.next(task, from)
     }
-}
-
-// Whether a half has something to send or to tell: unacknowledged bytes or an end that is due, or a reset that isn't acknowledged.
-fn is_busy(half: &SendHalf) -> bool
-    ensures { result ≡ false → IsQuiet half.now }
-{
-    if half.end_due() {
-        return true;
-    }
-    if let Some(_offset) = half.lowest_due() {
-        return true;
-    }
-    if let Some(_code) = half.reset_code() {
-        return !matches!(half.state(), SendState::ResetRecvd);
-    }
-    half.sent_end() < half.written()
 }

@@ -5,11 +5,13 @@ ghost use Rattle.qs_send.specs.Lane.{Sending, new_sending, accepted, refusal, re
 ghost use Rattle.qs_send.specs.Chunks.{IsDueChunk, WasSent};
 ghost use Rattle.qs_machine.specs.Tables.{no_streams, table, with_table, lookup, updated, open_to, kind_of};
 ghost use Rattle.qs_machine.specs.Sums.{or_no_sending};
-ghost use Rattle.qs_conn.specs.Marks.{IsBefore, IsQuiet, HaveTo};
+ghost use Rattle.qs_conn.specs.Marks.{IsBefore, HaveTo};
+ghost use Rattle.qs_conn.specs.Tasks.{IsQuiet};
 
 use crate::marks::least;
 use crate::places::{index_of, kind_of};
 use crate::send_lanes::SendLanes;
+use crate::send_marks::Task;
 use qs_ranges::NoMemory;
 use qs_send::{Chunk, SendFault, SendHalf, SendState};
 use qs_wire::StreamId;
@@ -212,27 +214,27 @@ impl SendTables {
         lanes.lost(index_of(stream), chunk)
     }
 
-    /// The least number from one on of a stream that may have something to send. The halves of the streams between are quiet.
-    pub(crate) fn next_marked(&self, from: u64) -> Option<StreamId>
+    /// The least number from one on of a stream that may have a task. The halves of the streams between are quiet of it.
+    pub(crate) fn next_marked(&self, task: Task, from: u64) -> Option<StreamId>
         requires { from ≤ 2 ^ 62 }
         ensures from { IfSome result (λ n. from ≤ n) }
-        ensures quiet { (n : ℕ) (s : Sending) → from ≤ n → IsBefore n result → lookup self.now n ≡ Some s → IsQuiet s }
+        ensures quiet { (n : ℕ) (s : Sending) → from ≤ n → IsBefore n result → lookup self.now n ≡ Some s → IsQuiet task s }
     {
-        let bidi = least(self.next_of(0, from), self.next_of(1, from));
-        let uni = least(self.next_of(2, from), self.next_of(3, from));
+        let bidi = least(self.next_of(task, 0, from), self.next_of(task, 1, from));
+        let uni = least(self.next_of(task, 2, from), self.next_of(task, 3, from));
         StreamId::new(least(bidi, uni)?)
     }
 
     // The least such number among the streams of a type.
-    fn next_of(&self, kind: usize, from: u64) -> Option<u64>
+    fn next_of(&self, task: Task, kind: usize, from: u64) -> Option<u64>
         requires kind { kind < 4 }
         requires from { from ≤ 2 ^ 62 }
         ensures found { IfSome result (λ n. (from ≤ n) × (n < 2 ^ 62)) }
-        ensures quiet { HaveTo IsQuiet self.now from result kind }
+        ensures quiet { HaveTo (IsQuiet task) self.now from result kind }
     {
         let lanes = &self.types[kind];
         let first = (from + 3 - kind as u64) / 4;
-        let index = lanes.next_marked(first as usize)?;
+        let index = lanes.next_marked(task, first as usize)?;
         Some((index * 4 + kind) as u64)
     }
 }

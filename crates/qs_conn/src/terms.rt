@@ -14,6 +14,7 @@ use crate::marks::least;
 use crate::outbox::Outbox;
 use crate::places::kind_of;
 use crate::recv_tables::RecvTables;
+use crate::send_marks::Task;
 use crate::slot::Slot;
 use qs_calls::Settings;
 use qs_send::Item;
@@ -204,7 +205,7 @@ fn any_wants_more(outbox: &Outbox) -> bool
     ensures { IsTrue result ↔ AnyWantsMore outbox.now.sends }
 {
     let mut from = 0;
-    while let Some(stream) = outbox.next_marked(from) {
+    while let Some(stream) = outbox.next_marked(Task::Bytes, from) {
         if outbox.wants_more(stream) {
             return true;
         }

@@ -13,6 +13,7 @@ use crate::send_tables::SendTables;
 use qs_ranges::NoMemory;
 use qs_send::{Chunk, Item, Piece, Records};
 use qs_wire::StreamId;
+use std::alloc::Global;
 use std::mem;
 
 impl Outbox {
@@ -97,7 +98,7 @@ impl Outbox {
         ensures after { self.new ≡ record self.old { next = self.old.next + 1; spare = 0 } }
         ensures idle { IsIdle self.new }
     {
-        let pieces = mem::replace(&mut self.pending, Vec::new(self.alloc));
+        let pieces = hand_over(self.alloc, &mut self.pending);
         put_pieces(&mut self.records, self.next, pieces);
         self.next += 1;
         self.spare = 0;
@@ -121,14 +122,28 @@ fn note_blocked(sends: &mut SendTables, stream: StreamId)
     }
 }
 
-// The pieces of a packet are kept, where it has some, and no more memory than they need.
-fn put_pieces(records: &mut Records, number: u64, mut pieces: Vec<Piece>)
+// The pieces of the packet in the making, in no more memory than they need: the buffer stays for the next packet, so that a steady flow
+// doesn't take it anew. Where that memory is refused, the buffer itself goes.
+fn hand_over(alloc: Global, pending: &mut Vec<Piece>) -> Vec<Piece>
+    ensures pieces { result.items ≡ pending.old.items }
+    ensures empty { pending.new.items ≡ [] }
+{
+    match pending.to_vec(alloc) {
+        Ok(pieces) => {
+            pending.clear();
+            pieces
+        }
+        Err(_refused) => mem::replace(pending, Vec::new(alloc)),
+    }
+}
+
+// The pieces of a packet are kept, where it has some.
+fn put_pieces(records: &mut Records, number: u64, pieces: Vec<Piece>)
     requires ready { 0 < length pieces.items → number < records.old.room }
     requires above { AreBelow records.old.pieces number }
     ensures { records.new.pieces ≡ with_pending records.old.pieces number pieces.items }
 {
     if pieces.len() > 0 {
-        pieces.shrink_to_fit();
         records.put(number, pieces);
     }
 }

@@ -4,10 +4,12 @@ ghost use Rattle.qs_ranges.specs.Numbers.{MAX_VARINT};
 ghost use Rattle.qs_send.specs.declared.piece.Piece.TheVariants as pieces;
 ghost use Rattle.qs_machine.specs.Tables.{lookup};
 ghost use Rattle.qs_machine.specs.Sums.{or_none};
-ghost use Rattle.qs_conn.specs.Marks.{IsBefore, IsQuietAt};
+ghost use Rattle.qs_conn.specs.Marks.{IsBefore};
+ghost use Rattle.qs_conn.specs.Tasks.{IsQuietAt};
 ghost use Rattle.qs_machine.specs.Outgoing.{IsCarried, IsAckedOut, IsAckedReset, IsBlockedAt, WantsMore, reset_by};
 
 use super::Outbox;
+use crate::send_marks::Task;
 use qs_send::{Item, Reset, SendState};
 use qs_wire::StreamId;
 
@@ -88,14 +90,14 @@ impl Outbox {
         half.sent_end() < half.written().min(half.limit())
     }
 
-    /// The least number from one on of a stream that may have something to send. The streams between have nothing.
-    pub(crate) fn next_marked(&self, from: u64) -> Option<StreamId>
+    /// The least number from one on of a stream that may have a task. The streams between have none of it.
+    pub(crate) fn next_marked(&self, task: Task, from: u64) -> Option<StreamId>
         requires { from ≤ 2 ^ 62 }
         ensures from { IfSome result (λ n. from ≤ n) }
-        ensures quiet { (n : ℕ) → from ≤ n → IsBefore n result → IsQuietAt self.now n }
+        ensures quiet { (n : ℕ) → from ≤ n → IsBefore n result → IsQuietAt task self.now n }
     {
         let _next = self.next;
-        self.sends.next_marked(from)
+        self.sends.next_marked(task, from)
     }
 }
 

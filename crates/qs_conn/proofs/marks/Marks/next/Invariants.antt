@@ -1,5 +1,9 @@
-use Rattle.qs_conn.proofs.Words.{IsClearTo}
+use Rattle.std.proofs.Common.{◌-◌, length}
+use Rattle.qs_conn.proofs.Summed.{IsClearTo}
 use Rattle.qs_conn.proofs.marks.Marks.next.Given as goal
 
-abbrev pub invariant-loop-place : goal.invariant-loop-place
-invariant-loop-place l = IsClearTo l.self-inside.words.items l.fn.from l.place l.bit
+abbrev pub invariant-loop-next : goal.invariant-loop-next
+invariant-loop-next l = IsClearTo l.self-inside.marks l.fn.from l.next
+
+abbrev pub decreases-loop-next : goal.decreases-loop-next
+decreases-loop-next l = length l.self-inside.words - l.next

@@ -1,11 +1,8 @@
 use Rattle.std.proofs.Common.{arith}
-use Rattle.qs_conn.proofs.Words.{none_opened, flags_opened}
+use Rattle.qs_conn.proofs.Summed.{summed_open}
 use Rattle.qs_conn.proofs.marks.Marks.open_to.Goals as goal
 
-pub returns-then-count-self-clause-ok : goal.returns-then-count-self-clause-ok
-returns-then-count-self-clause-ok c = none_opened c.self.inside.words.items c.self.inside.count c.args.count c.args.self.now c.self.view_is c.if-count-self.true
-
-pub returns-in-Ok-clause-ok : goal.returns-in-Ok-clause-ok
-returns-in-Ok-clause-ok c =
-    rw (← c.self.view_is)
-    (flags_opened c.self.inside.words.items c.resize.new.self.items c.self.inside.count c.args.count c.div_ceil.result c.self.inside.words.len c.self.invariant (omega arith) (omega arith) (omega arith) c.in-Ok.ensures.items)
+pub invariant_of-self-2 : goal.invariant_of-self-2
+invariant_of-self-2 c =
+    summed_open c.open_to-2.result c.self.inside.marks c.self.inside.words c.open_to-2.new.self c.open_to.new.self c.args.count c.div_ceil.result c.self.invariant (omega arith) (omega arith) (omega (arith, c.ranges.count.fits)) c.in_ok-open_to.ensures.ok
+    c.open_to-2.ensures.ok c.open_to-2.ensures.err

@@ -1,13 +1,14 @@
-use Rattle.qs_send.specs.Lane.{after_allow}
-use Rattle.qs_conn.specs.Marks.{IsQuiet}
+use Rattle.qs_conn.specs.Tasks.{IsQuiet, marks_of}
 use Rattle.qs_conn.proofs.LaneEdits.{changed_at}
-use Rattle.qs_conn.proofs.Marked.{stays_quiet}
+use Rattle.qs_conn.proofs.Marked.{mark_there}
+use Rattle.qs_conn.proofs.Tasks.{all_looked}
 use Rattle.qs_conn.proofs.send_lanes.SendLanes.allow.Goals as goal
 
+pub look-requires : goal.look-requires
+look-requires c = λ t. mark_there (IsQuiet t) c.self.inside.halves.items (marks_of c.self.inside.marks t) c.args.index (c.self.invariant.1 t) (rw c.self.view_is c.requires.there)
+
 pub invariant_of-self : goal.invariant_of-self
-invariant_of-self c =
-    stays_quiet IsQuiet c.self.inside.halves.items c.self.inside.marks c.args.index c.index_mut-half.result.now c.allow.new.self (λ s. after_allow s c.args.limit) c.index_mut-half.ensures.value c.allow.ensures
-    (λ s q. record { no_offset = q.no_offset; no_end = q.no_end; sent = q.sent; told = q.told }) c.self.invariant
+invariant_of-self c = all_looked _ _ _ c.args.index c.allow.new.self c.look.ensures c.self.invariant
 
 pub returns : goal.returns
 returns c =

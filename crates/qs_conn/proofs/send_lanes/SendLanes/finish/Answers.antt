@@ -1,13 +1,14 @@
-use Rattle.qs_conn.specs.Marks.{IsQuiet}
+use Rattle.qs_conn.specs.Tasks.{IsQuiet, marks_of}
 use Rattle.qs_conn.proofs.LaneEdits.{changed_at}
-use Rattle.qs_conn.proofs.Marked.{mark_there, looked_at}
+use Rattle.qs_conn.proofs.Marked.{mark_there}
+use Rattle.qs_conn.proofs.Tasks.{all_looked}
 use Rattle.qs_conn.proofs.send_lanes.SendLanes.finish.Goals as goal
 
-pub set-requires : goal.set-requires
-set-requires c = mark_there IsQuiet c.self.inside.halves.items c.self.inside.marks c.args.index c.self.invariant.1 (rw c.self.view_is c.requires)
+pub look-requires : goal.look-requires
+look-requires c = λ t. mark_there (IsQuiet t) c.self.inside.halves.items (marks_of c.self.inside.marks t) c.args.index (c.self.invariant.1 t) (rw c.self.view_is c.requires)
 
 pub invariant_of-self : goal.invariant_of-self
-invariant_of-self c = looked_at IsQuiet _ _ _ c.args.index c.finish-answer.new.self c.is_busy.result c.is_busy.ensures c.set.ensures c.self.invariant
+invariant_of-self c = all_looked _ _ _ c.args.index c.finish-answer.new.self c.look.ensures c.self.invariant
 
 pub returns-clause-after : goal.returns-clause-after
 returns-clause-after c =

@@ -1,9 +1,9 @@
 use Rattle.std.proofs.Common.{ℕ, Some, rules, ap, ◌∙◌, arith, ◌≡◌, ◌+◌, ◌-◌, ◌*◌, ◌++◌, List, Bool, false, length, take, replicate}
 use Rattle.qs_send.specs.Lane.{new_sending}
-use Rattle.qs_conn.specs.Marks.{IsQuiet}
 use Rattle.qs_conn.proofs.LaneEdits.{opened_more, opened_all, opened_back}
-use Rattle.qs_conn.proofs.Marked.{undone, more_opened}
-use Rattle.qs_conn.proofs.SendEdits.{id_is, begins_quiet}
+use Rattle.qs_conn.specs.Tasks.{marks_of}
+use Rattle.qs_conn.proofs.Tasks.{all_undone, all_opened}
+use Rattle.qs_conn.proofs.SendEdits.{id_is}
 use Rattle.qs_conn.proofs.send_lanes.SendLanes.open_to.Goals as goal
 
 pub loop-opened-preserved : goal.loop-opened-preserved
@@ -22,16 +22,16 @@ returns-clause-ok c =
 pub invariant_of-self : goal.invariant_of-self
 invariant_of-self c =
     let len : c.len-before.result ≡ length c.self.inside.halves.items = omega (arith, c.len-before.ensures) in
-    undone IsQuiet c.self.inside.halves.items _ c.self.inside.marks _ (c.truncate.ensures.items ∙ ap (take c.len-before.result) c.in-Err.ensures.items ∙ opened_back c.self.inside.halves.items _ _ c.len-before.result c.loop-opened.invariant.items len) c.loop-opened.invariant.marks c.self.invariant
+    all_undone c.self.inside.halves.items _ c.self.inside.marks _ (c.truncate.ensures.items ∙ ap (take c.len-before.result) c.in-Err.ensures.items ∙ opened_back c.self.inside.halves.items _ _ c.len-before.result c.loop-opened.invariant.items len) (λ t. ap (λ ms. marks_of ms t) c.loop-opened.invariant.marks) c.self.invariant
 
 pub invariant_of-self-in-Err-open_to : goal.invariant_of-self-in-Err-open_to
 invariant_of-self-in-Err-open_to c =
     let len : c.len-before.result ≡ length c.self.inside.halves.items = omega (arith, c.len-before.ensures) in
-    undone IsQuiet c.self.inside.halves.items _ c.self.inside.marks _ (c.truncate-in-Err-open_to.ensures.items ∙ opened_back c.self.inside.halves.items _ _ c.len-before.result c.loop-opened.invariant.items len) (c.in-Err-open_to.ensures.err ∙ c.loop-opened.invariant.marks) c.self.invariant
+    all_undone c.self.inside.halves.items _ c.self.inside.marks _ (c.truncate-in-Err-open_to.ensures.items ∙ opened_back c.self.inside.halves.items _ _ c.len-before.result c.loop-opened.invariant.items len) (λ t. c.in-Err-open_to.ensures.err t ∙ ap (λ ms. marks_of ms t) c.loop-opened.invariant.marks) c.self.invariant
 
 pub invariant_of-self-in_default-open_to : goal.invariant_of-self-in_default-open_to
 invariant_of-self-in_default-open_to c =
     let len : c.len-before.result ≡ length c.self.inside.halves.items = omega (arith, c.len-before.ensures) in
-    more_opened IsQuiet (λ (i : ℕ). new_sending (i * 4 + c.args.kind) c.args.limit c.args.buffer) (λ i. begins_quiet (i * 4 + c.args.kind) c.args.limit c.args.buffer)
-    c.self.inside.halves.items c.loop-opened.self-inside.halves.items c.self.inside.marks c.open_to.new.self c.args.count c.loop-opened.opened c.saturating_sub-missing.result c.requires.count c.loop-opened.invariant.items
-    c.loop-opened.auto.opened-end c.loop-opened-test.false (c.saturating_sub-missing.ensures ∙ ap (λ k. c.args.count - k) len) (c.in_default-open_to.ensures.ok ∙ ap (λ (ms : List Bool). ms ++ replicate (c.args.count - length ms) false) c.loop-opened.invariant.marks) c.self.invariant
+    all_opened c.args.kind c.args.limit c.args.buffer c.self.inside.halves.items c.loop-opened.self-inside.halves.items c.self.inside.marks c.open_to.new.self c.args.count c.loop-opened.opened c.saturating_sub-missing.result c.requires.count c.loop-opened.invariant.items
+    c.loop-opened.auto.opened-end c.loop-opened-test.false (c.saturating_sub-missing.ensures ∙ ap (λ k. c.args.count - k) len)
+    (λ t. c.in_default-open_to.ensures.ok t ∙ ap (λ ms. marks_of ms t ++ replicate (c.args.count - length (marks_of ms t)) false) c.loop-opened.invariant.marks) c.self.invariant

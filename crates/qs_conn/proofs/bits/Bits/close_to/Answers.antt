@@ -1,5 +1,5 @@
 use Rattle.qs_conn.proofs.Words.{none_closed, flags_closed}
-use Rattle.qs_conn.proofs.marks.Marks.close_to.Goals as goal
+use Rattle.qs_conn.proofs.bits.Bits.close_to.Goals as goal
 
 pub returns-then-self-count : goal.returns-then-self-count
 returns-then-self-count c = none_closed c.self.inside.words.items c.self.inside.count c.args.count c.args.self.now c.self.view_is c.if-self-count.true

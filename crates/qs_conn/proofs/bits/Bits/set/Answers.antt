@@ -1,6 +1,6 @@
 use Rattle.std.proofs.Common.{arith}
 use Rattle.qs_conn.proofs.Words.{index_below, flags_set, stay_flags}
-use Rattle.qs_conn.proofs.marks.Marks.set.Goals as goal
+use Rattle.qs_conn.proofs.bits.Bits.set.Goals as goal
 
 pub index-requires : goal.index-requires
 index-requires c = omega (arith, c.self.invariant.room, index_below c.self.inside.words.items c.self.inside.count c.args.index c.args.self.now c.self.view_is c.requires)

@@ -1,0 +1,41 @@
+-- Which sending halves have something for a packet, by what it is, and those that have not.
+use Rattle.std.specs.Prelude.{◌≡◌, ℕ, ◌≤◌, ◌<◌, Bool, true, false, List, slice_set, None, Some, is_some}
+use Rattle.std.specs.FinSet as set
+use Rattle.qs_send.specs.Lane.{SendLane, Sending}
+use Rattle.qs_machine.specs.Tables.{lookup}
+use Rattle.qs_machine.specs.Outgoing.{Outgoing, IsTied, IsBlockedAt}
+use Rattle.qs_conn.specs.declared.send_marks.Task.{Task}
+use Rattle.qs_conn.specs.declared.send_marks.Task.TheVariants as tasks
+use Rattle.qs_conn.specs.declared.send_marks.SendMarks.{SendMarks}
+use Rattle.qs_conn.specs.Marks.{AreMarked}
+
+-- A half of which no byte and no end may go: none that is due is below its limit, and no end is due with every byte sent (RFC 9000,
+-- sections 3.1, 4.1 and 13.3).
+pub record HasNothing (s : Sending) : Type 0 where
+  pub no_offset : (q : ℕ) → q < s.lane.limit → set.contains s.due.offsets q ≡ false
+  pub no_end : s.lane.sent_end ≡ s.lane.written → s.due.fin ≡ false
+  pub sent : s.lane.was_reset ≡ None → s.lane.sent_end < s.lane.limit → s.lane.written ≤ s.lane.sent_end
+
+-- A half that has nothing of a kind for a packet: no bytes and no end; no reset that isn't acknowledged; no limit that it is blocked at.
+abbrev pub IsQuiet : Task → Sending → Type 0
+IsQuiet tasks.Bytes s = HasNothing s
+IsQuiet tasks.Reset s = is_some s.lane.was_reset ≡ true → s.lane.reset_acked ≡ true
+IsQuiet tasks.Blocked s = (m : ℕ) → IsBlockedAt (Some s.lane) m → ⊥
+
+-- the marks for a task
+abbrev pub marks_of : SendMarks → Task → List Bool
+marks_of marks tasks.Bytes = marks.bytes
+marks_of marks tasks.Reset = marks.resets
+marks_of marks tasks.Blocked = marks.blocks
+
+-- a half was looked at, and has no mark only where it is quiet
+abbrev pub IsLooked : Task → ℕ → Sending → List Bool → List Bool → Type 0
+IsLooked t index s before after = (m : Bool) × (m ≡ false → IsQuiet t s) × (after ≡ slice_set before index m)
+
+-- each half without a mark for a task is quiet
+abbrev pub AreAllMarked : List Sending → SendMarks → Type 0
+AreAllMarked halves marks = (t : Task) → AreMarked (IsQuiet t) halves (marks_of marks t)
+
+-- the stream's half, where it has one, has nothing of the kind
+abbrev pub IsQuietAt : Task → Outgoing → ℕ → Type 0
+IsQuietAt t o n = (l : SendLane) → lookup o.sends n ≡ Some l → (s : Sending) × (s.lane ≡ l) × IsTied o.outstanding n s × IsQuiet t s

@@ -1,0 +1,164 @@
+//! Flags of indexes, as bits of words.
+ghost use Rattle.std.specs.Prelude.{◌≡◌, ◌++◌, ◌-◌, ◌<◌, ◌^◌, [], false, length, take, slice_set, replicate, OnOk, OnErr};
+ghost use Rattle.qs_conn.specs.Marks.{IsNextMark, IsNextInWord};
+ghost use Rattle.qs_conn.specs.Words.{HasBit, IsCutAt, IsLowestBit};
+
+use qs_ranges::NoMemory;
+use std::alloc::Global;
+use std::marker::Model;
+
+/// How many flags a word has.
+pub(crate) const FLAGS_PER_WORD: usize = 64;
+
+/// A flag for each index. A search looks at a word of them at a time.
+#[derive(Drop)]
+pub(crate) struct Bits {
+    words: Vec<u64>,
+    count: usize,
+}
+
+impl Model for Bits {
+    ghost use Rattle.std.specs.Prelude.{List, Bool};
+    ghost use Rattle.std.specs.Coded.{coded_list, coded_bool};
+    ghost use Rattle.qs_conn.specs.Words.{flags, AreFlags};
+
+    ghost Value = { List Bool };
+
+    ghost coded = { coded_list coded_bool };
+
+    ghost view = { λ m. flags m.words.items m.count };
+
+    ghost invariant = { λ m. AreFlags m.words.items m.count };
+}
+
+impl Bits {
+    /// No index has a flag.
+    pub(crate) fn new(alloc: Global) -> Self
+        ensures { result ≡ [] }
+    {
+        Bits {
+            words: Vec::new(alloc),
+            count: 0,
+        }
+    }
+
+    /// Takes the memory for the indexes below a count.
+    pub(crate) fn reserve(&mut self, count: usize) -> Result<(), NoMemory>
+        ensures { self.new ≡ self.old }
+    {
+        let missing = count
+            .div_ceil(FLAGS_PER_WORD)
+            .saturating_sub(self.words.len());
+        match self.words.reserve(missing) {
+            Ok(()) => Ok(()),
+            Err(_refused) => Err(NoMemory),
+        }
+    }
+
+    /// How many indexes there are.
+    pub(crate) fn len(&self) -> usize
+        ensures value { result ≡ length self.now }
+        ensures small { result < 2 ^ 64 }
+    {
+        self.count
+    }
+
+    /// Makes room for all indexes below a count: the new ones aren't marked.
+    pub(crate) fn open_to(&mut self, count: usize) -> Result<(), NoMemory>
+        ensures ok { OnOk result (self.new ≡ self.old ++ replicate (count - length self.old) false) }
+        ensures err { OnErr result (self.new ≡ self.old) }
+    {
+        if count <= self.count {
+            return Ok(());
+        }
+        match self.words.resize(count.div_ceil(FLAGS_PER_WORD), 0) {
+            Ok(()) => {
+                self.count = count;
+                Ok(())
+            }
+            Err(_refused) => Err(NoMemory),
+        }
+    }
+
+    /// Takes the indexes from a count on away.
+    pub(crate) fn close_to(&mut self, count: usize)
+        ensures { self.new ≡ take count self.old }
+    {
+        if self.count <= count {
+            return;
+        }
+        let last = count / FLAGS_PER_WORD;
+        self.words.truncate(last + 1);
+        self.words[last] = cut_at(self.words[last], count % FLAGS_PER_WORD);
+        self.count = count;
+    }
+
+    /// Marks an index, or takes its mark away.
+    pub(crate) fn set(&mut self, index: usize, is_marked: bool)
+        requires { index < length self.old }
+        ensures { self.new ≡ slice_set self.old index is_marked }
+    {
+        let place = index / FLAGS_PER_WORD;
+        self.words[place] = with_bit(self.words[place], index % FLAGS_PER_WORD, is_marked);
+    }
+
+    /// The least marked index from an index on, in the word of that index.
+    pub(crate) fn next_in_word(&self, from: usize) -> Option<usize>
+        ensures { IsNextInWord self.now from result }
+    {
+        let place = from / FLAGS_PER_WORD;
+        if place >= self.words.len() {
+            return None;
+        }
+        match lowest_bit(self.words[place], from % FLAGS_PER_WORD) {
+            Some(marked) => Some(place * FLAGS_PER_WORD + marked),
+            None => None,
+        }
+    }
+
+    /// The least marked index from an index on.
+    pub(crate) fn next(&self, from: usize) -> Option<usize>
+        ensures { IsNextMark self.now from result }
+    {
+        let mut bit = from % FLAGS_PER_WORD;
+        for place in from / FLAGS_PER_WORD..self.words.len() {
+            if let Some(marked) = lowest_bit(self.words[place], bit) {
+                return Some(place * FLAGS_PER_WORD + marked);
+            }
+            bit = 0;
+        }
+        None
+    }
+}
+
+/// A word with one of its bits set or cleared.
+fn with_bit(word: u64, bit: usize, is_set: bool) -> u64
+    requires { bit < 64 }
+    ensures { HasBit word bit is_set result }
+{
+    if is_set {
+        word | (1 << bit)
+    } else {
+        word & !(1 << bit)
+    }
+}
+
+/// A word with its bits from one on cleared.
+fn cut_at(word: u64, bit: usize) -> u64
+    requires { bit < 64 }
+    ensures { IsCutAt word bit result }
+{
+    word & ((1 << bit) - 1)
+}
+
+/// The least bit that is set, from one on.
+fn lowest_bit(word: u64, from: usize) -> Option<usize>
+    requires { from < 64 }
+    ensures { IsLowestBit word from result }
+{
+    let rest = word >> from;
+    if rest == 0 {
+        return None;
+    }
+    Some(from + rest.trailing_zeros() as usize)
+}
