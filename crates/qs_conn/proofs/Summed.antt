@@ -1,11 +1,11 @@
 -- Marks and the flags that sum them up by words.
-use Rattle.std.proofs.Common.{◌≡◌, ◌≢◌, ℕ, ◌+◌, ◌-◌, ◌*◌, ◌/◌, ◌^◌, ◌<◌, ◌≤◌, Bool, true, false, List, [], ◌++◌, length, get_or, set, take, replicate, Result, Ok, Err, Option, None, Some, sym, ap, ◌∙◌, subst, refl, inl, inr, arith}
+use Rattle.std.proofs.Common.{◌≡◌, ◌≢◌, ℕ, ◌+◌, ◌-◌, ◌*◌, ◌/◌, ◌^◌, ◌<◌, ◌≤◌, Bool, true, false, List, [], ◌++◌, length, set, take, replicate, Result, Ok, Err, None, Some, sym, ap, ◌∙◌, subst, refl, inl, inr, arith}
 use Rattle.std.specs.Result.{OnOk, OnErr}
 use Rattle.std.proofs.lemmas.Bool.{cases_lt, cases_eq, both_ways}
 use Rattle.std.proofs.lemmas.List.{length-append, length-replicate, length-set, length-take, get_or-set_same, get_or-set_other, get_or-take, get_or_past}
 use Rattle.std.proofs.lemmas.Option.{none-some, same_Some}
 use Rattle.qs_conn.proofs.Words.{padded}
-use Rattle.qs_conn.specs.Marks.{is_marked, IsBefore, IsNextMark, IsNextInWord, HasNoMark, AreSummed}
+use Rattle.qs_conn.specs.Marks.{is_marked, IsNextMark, IsNextInWord, HasNoMark, AreSummed}
 
 -- a flag that is set stands within the flags
 pub marked_below : (marks : List Bool) (i : ℕ) → is_marked marks i ≡ true → i < length marks

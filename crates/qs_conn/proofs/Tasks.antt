@@ -1,11 +1,11 @@
 -- Marks of sending halves, for each task.
-use Rattle.std.proofs.Common.{◌≡◌, ℕ, ◌+◌, ◌-◌, ◌*◌, ◌<◌, ◌≤◌, ◌^◌, Bool, true, false, List, [], ◌++◌, length, map, min, take, replicate, Option, None, Some, is_some, refl, sym, ap, ◌∙◌, arith}
+use Rattle.std.proofs.Common.{◌≡◌, ℕ, ◌+◌, ◌-◌, ◌*◌, ◌≤◌, ◌^◌, Bool, false, List, ◌++◌, length, map, take, replicate}
 use Rattle.std.specs.List.{range_with_len}
 use Rattle.std.specs.Prelude.{slice_set}
 use Rattle.std.proofs.Math.ListN.{set, length-set}
 use Rattle.qs_send.specs.Lane.{Sending, new_sending}
 use Rattle.qs_conn.specs.Marks.{AreMarked}
-use Rattle.qs_conn.specs.Tasks.{IsQuiet, HasNothing, IsLooked, AreAllMarked, marks_of}
+use Rattle.qs_conn.specs.Tasks.{IsQuiet, IsLooked, AreAllMarked, marks_of}
 use Rattle.qs_conn.specs.declared.send_marks.Task.{Task}
 use Rattle.qs_conn.specs.declared.send_marks.Task.TheVariants as tasks
 use Rattle.qs_conn.specs.declared.send_marks.SendMarks.{SendMarks}

@@ -1,4 +1,4 @@
-use Rattle.std.proofs.Common.{◌*◌, Some, refl, arith}
+use Rattle.std.proofs.Common.{refl, arith}
 use Rattle.qs_conn.proofs.Summed.{found_here, clear_here, clear_past, found_in, none_left, word_below}
 use Rattle.qs_conn.proofs.marks.Marks.next.Goals as goal
 

@@ -1,4 +1,4 @@
-use Rattle.std.proofs.Common.{ℕ, Some, rules, ap, ◌∙◌, arith, ◌≡◌, ◌+◌, ◌-◌, ◌*◌, ◌++◌, List, Bool, false, length, take, replicate}
+use Rattle.std.proofs.Common.{ℕ, Some, rules, ap, ◌∙◌, arith, ◌≡◌, ◌+◌, ◌-◌, ◌*◌, ◌++◌, false, length, take, replicate}
 use Rattle.qs_send.specs.Lane.{new_sending}
 use Rattle.qs_conn.proofs.LaneEdits.{opened_more, opened_all, opened_back}
 use Rattle.qs_conn.specs.Tasks.{marks_of}
