@@ -30,3 +30,8 @@ pub mod PayloadsAgain
 pub mod CallsCounts
 pub mod ProcessedAgain
 pub mod RunLaws
+pub mod SmallEndsLaws
+pub mod ExclusionsDue
+pub mod ExclusionsMaking
+pub mod ExclusionsReceiving
+pub mod ExclusionsOwner

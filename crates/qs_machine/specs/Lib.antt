@@ -21,3 +21,9 @@ pub mod Outgoing
 pub mod Repeats
 pub mod Sums
 pub mod Told
+pub mod SmallEnds
+pub mod ExclusionsDue
+pub mod ExclusionsMaking
+pub mod ExclusionsReceiving
+pub mod ExclusionsOwner
+pub mod Exclusions

@@ -2,6 +2,7 @@
 
 ghost use Rattle.qs_machine.specs.Laws.{NewEndsAreSound, CallsKeepEndsSound, StoredBytesWereGranted, EndedIsLastState, NewEndsSettleCounts, CallsSettleCounts, CountsNeverFall, LimitsNeverFall, ClosedEndsStay, PayloadsAreTakenInOrder, EffectsRepeat, PayloadsRepeat, ProcessedPayloadsRepeat, NewEndsSentNothing, CallsSendWhatWasWritten};
 ghost use Rattle.qs_machine.specs.Examples.{Examples};
+ghost use Rattle.qs_machine.specs.Exclusions.{Exclusions};
 
 /// A new end is sound.
 pub fn new_ends_are_sound()
@@ -74,4 +75,9 @@ pub fn processed_payloads_repeat()
 /// Decisive steps of small connections, computed by the definitions.
 pub fn examples()
     ensures { Examples }
+{}
+
+/// Steps of small connections that the definitions exclude, clause by clause.
+pub fn exclusions()
+    ensures { Exclusions }
 {}

@@ -1,0 +1,306 @@
+-- What no packet holds, which packets aren't made, and what a loss doesn't leave.
+use Rattle.std.proofs.Common.{◌≡◌, ℕ, zero, suc, ◌+◌, ◌-◌, ◌<◌, ◌≤◌, ◌⊎◌, List, [], ◌∷◌, ◌++◌, take, drop, length, slice_index_or, Bool, true, false, cond, Option, Some, None, is_some, is_none, refl, sym, ap, ◌∙◌, subst, arith, inl, inr}
+use Rattle.std.specs.Prelude.{Result, Ok, Err}
+use Rattle.std.specs.FinMap as fmap
+use Rattle.std.specs.FinSet as set
+use Rattle.std.specs.Ordering.{nat_cmp, eq_by_cmp}
+use Rattle.std.specs.Cmp.{nat_cmp_total}
+use Rattle.std.proofs.lemmas.Option.{same_Some, none-some}
+use Rattle.std.proofs.lemmas.Bool.{false≢true, true≢false, both_ways}
+use Rattle.qs_ranges.specs.Numbers.{contains-numbers}
+use Rattle.qs_ranges.proofs.Sets.{end_of-empty, missing_from-past}
+use Rattle.qs_wire.specs.Grammar.{canonical}
+use Rattle.qs_wire.specs.Varint.{short}
+use Rattle.qs_send.specs.Lane.{SendLane, unacked_from}
+use Rattle.qs_send.specs.Records.{Among, IsCarried, PacketPieces, without_first}
+use Rattle.qs_send.specs.LostRecords.{with_piece, with_number, without_oldest}
+use Rattle.qs_send.specs.declared.piece.Item.TheVariants.{MaxData}
+use Rattle.qs_send.specs.declared.piece.Piece.{Piece}
+use Rattle.qs_send.specs.declared.piece.Piece.TheVariants.{Data, Told}
+use Rattle.qs_calls.specs.declared.making.LostFault.{LostFault}
+use Rattle.qs_calls.specs.declared.making.LostFault.TheVariants as losing
+use Rattle.qs_machine.specs.Tables.{lookup, update, total}
+use Rattle.qs_machine.specs.Ends.{End}
+use Rattle.qs_machine.specs.Credit.{all_sent}
+use Rattle.qs_machine.specs.Seen.{Seen, Ack, Stream, Control}
+use Rattle.qs_machine.specs.FrameStep.{is_named}
+use Rattle.qs_machine.specs.Due.{IsDue}
+use Rattle.qs_machine.specs.Lawful.{Lawful, frame_put}
+use Rattle.qs_machine.specs.Owner.{Certain, first_refusal, refuse_if}
+use Rattle.qs_machine.specs.Making.{LoseStep, losses, lose_refusal}
+use Rattle.qs_machine.specs.SmallEnds.{chunk, abc, wrote, owing}
+use Rattle.qs_machine.specs.ExclusionsMaking.{NoSuchStreamFrame, NoSuchAck, NoSuchFrame, NoSuchPacket, NothingIsLeftOut, NoSuchText, NoSuchAnswer, NoSuchLoss, NotMade, writer, two_due, one_flying, two_flying}
+use Rattle.qs_machine.proofs.SmallEndsLaws.{none_in, none_carried, only_carried}
+
+-- the first byte that was written is due
+first_due : (l : SendLane) → wrote ≡ l → IsDue writer 0 l 0
+first_due l is = subst (λ k. IsDue writer 0 k 0) is (record {
+  no_reset = refl;
+  written = omega arith;
+  not_acked = set.contains-empty nat_cmp 0;
+  not_sent = λ (c, carried, low, high). none_carried _ carried;
+})
+
+-- Pieces of the packet in the making
+
+last_among : {X : Type 0} (xs : List X) (x : X) → Among x (xs ++ x ∷ [])
+last_among [] x = inl refl
+last_among (y ∷ xs) x = inr (last_among xs x)
+
+found_there : (o : Option (List Piece)) (ps : List Piece) (p : Piece) → o ≡ Some ps → Among p ps → Among p (elim o [ None ↦ [] | Some qs ↦ qs ])
+found_there None ps p is a = absurd (none-some ps is)
+found_there (Some qs) ps p is a = subst (Among p) (sym (same_Some qs ps is)) a
+
+first_noted : (o : Option (List Piece)) (p : Piece) → o ≡ None → (elim o as (λ _. List Piece) [ None ↦ [] | Some qs ↦ qs ]) ++ p ∷ [] ≡ p ∷ []
+first_noted None p is = refl
+first_noted (Some qs) p is = absurd (none-some qs (sym is))
+
+-- nothing was outstanding, so the first piece stands alone in its packet
+alone : (p : Piece) → fmap.insert fmap.empty 0 ((elim (fmap.get {X = List Piece} {R = nat_cmp} fmap.empty 0) as (λ _. List Piece) [ None ↦ [] | Some qs ↦ qs ]) ++ p ∷ []) ≡ fmap.insert {R = nat_cmp} fmap.empty 0 (p ∷ [])
+alone p = ap (λ ps. fmap.insert fmap.empty 0 ps) (first_noted (fmap.get {R = nat_cmp} fmap.empty 0) p (fmap.get-empty nat_cmp 0))
+
+got : (ps : List Piece) → fmap.get (fmap.insert {R = nat_cmp} fmap.empty 0 ps) 0 ≡ Some ps
+got ps = fmap.get-insert nat_cmp_total fmap.empty 0 ps 0
+
+-- nothing was acknowledged
+from_first : unacked_from wrote ≡ 0
+from_first = missing_from-past set.empty 0 (omega (arith, end_of-empty))
+
+stream : NoSuchStreamFrame
+unfolding lookup update frame_put
+stream =
+    record {
+      unopened = λ (l, may). none-some l may.lane;
+      nothing = λ (l, may). elim may.something [ inl some ↦ omega arith | inr end ↦ false≢true end ];
+      undue = λ (l, may). both_ways _ (may.due 1 (omega arith) (omega arith)).not_acked (ap (λ (k : SendLane). set.contains k.acked 1) (sym (same_Some _ l may.lane)) ∙ contains-numbers 1 2 1);
+      not_lowest = λ (l, may). (let le : 1 ≤ 0 = may.lowest 0 (first_due l (same_Some _ l may.lane)) in omega arith);
+      in_two = λ (l, may). may.whole_run (chunk 0 1 false) (found_there _ _ (Data 0 (chunk 0 1 false)) (got _) (last_among _ (Data 0 (chunk 0 1 false)))) refl;
+      other_bytes = λ (l, may). (let e : 100 ≡ 99 = ap (λ bs. slice_index_or bs 2 0) (other_told l (same_Some _ l may.lane) may.told) in omega arith);
+      past_limit = λ (l, may). (let le : 3 ≤ 2 = subst (λ (k : SendLane). 3 ≤ k.limit) (sym (same_Some _ l may.lane)) may.within in omega arith);
+      unasked_end = λ (l, may). false≢true (ap (λ (k : SendLane). k.finished) (same_Some _ l may.lane) ∙ (may.end refl).0.finished);
+      early_end = λ (l, may). (let e : 1 ≡ 3 = subst (λ (k : SendLane). 1 ≡ k.written) (sym (same_Some _ l may.lane)) (may.end refl).1 in omega arith);
+    }
+  where
+    other_told : (l : SendLane) → wrote ≡ l → 97 ∷ 98 ∷ 100 ∷ [] ≡ take 3 (drop (0 - unacked_from l) l.kept) → 97 ∷ 98 ∷ 100 ∷ [] ≡ abc
+    other_told l is told = told ∙ ap (λ (k : SendLane). take 3 (drop (0 - unacked_from k) k.kept)) (sym is) ∙ ap (λ n. take 3 (drop (0 - n) abc)) from_first
+
+not_kept_0 : set.contains owing.done 0 ≡ false
+not_kept_0 = set.contains-insert nat_cmp_total (set.insert set.empty 1) 3 0 ∙ set.contains-insert nat_cmp_total set.empty 1 0 ∙ set.contains-empty nat_cmp 0
+
+kept_1 : set.contains owing.done 1 ≡ true
+kept_1 = set.contains-insert nat_cmp_total (set.insert set.empty 1) 3 1 ∙ set.contains-insert nat_cmp_total set.empty 1 1
+
+kept_3 : set.contains owing.done 3 ≡ true
+kept_3 = set.contains-insert nat_cmp_total (set.insert set.empty 1) 3 3
+
+acks : NoSuchAck
+unfolding frame_put
+acks =
+    record {
+      undue = λ may. false≢true may.due;
+      unkept = λ may. both_ways _ not_kept_0 (may.kept 0 refl);
+      without_largest = λ may. false≢true may.names_largest;
+      largest_left_out = λ may. (let le : 3 ≤ 1 = may.largest_kept 3 kept_3 in omega arith);
+      twice = λ may. false≢true may.due;
+    }
+
+others : NoSuchFrame
+unfolding lookup update total frame_put
+others =
+    record {
+      undue = λ may. (let lt : 4096 < 4096 = may.0.0.1 in omega arith);
+      twice = λ may. may.1.1 (inl (0, _, got _, last_among _ (Told (MaxData 5000))));
+      since = λ may. (let e : 0 ≡ 2 = may.0.0.1 in omega arith);
+      close = λ may. may;
+      plain = λ may. may;
+    }
+
+left_is : (f : Seen) (old left : End) → Lawful old (f ∷ []) left → left ≡ record (frame_put f old) { next = old.next + 1 }
+left_is f old left h = (let (mid, fills, after) = h.filled in after ∙ ap (λ (m : End). record m { next = old.next + 1 }) fills.1)
+
+packets : NoSuchPacket
+unfolding lookup update total frame_put
+packets =
+    record {
+      empty = λ left h. h.some refl;
+      past_limit = λ left h. (let le : 3 ≤ 2 = subst (λ (e : End). all_sent e ≤ e.known_data) (left_is _ _ left h) h.within in omega arith);
+      same_number = λ left h zero. (let e : 1 ≡ 0 = ap (λ (e : End). e.next) (sym (left_is _ _ left h)) ∙ zero in omega arith);
+      forgotten = λ left h no. no (subst (λ (e : End). IsCarried e.outstanding (Data 0 (chunk 0 3 false))) (sym (left_is _ _ left h)) (0, _, got _, last_among _ (Data 0 (chunk 0 3 false))));
+      ack_still_due = λ left h due. false≢true (ap (λ (e : End). e.ack_due) (sym (left_is _ _ left h)) ∙ due);
+    }
+
+abbrev is_data : Piece → Bool
+is_data (Data n c) = true
+is_data (Told i) = false
+
+abbrev is_stream : Seen → Bool
+is_stream (Stream n offset bytes fin) = true
+is_stream f = false
+
+abbrev ranges_of : Seen → List (ℕ × ℕ)
+ranges_of (Ack largest ranges) = ranges
+ranges_of f = []
+
+still_due : IsDue (frame_put (Control (MaxData 5000)) two_due) 0 wrote 0
+unfolding lookup update frame_put
+still_due =
+    record {
+      no_reset = refl;
+      written = omega arith;
+      not_acked = set.contains-empty nat_cmp 0;
+      not_sent = λ (c, is, low, high). true≢false (ap is_data (only_carried 0 (Told (MaxData 5000)) (Data 0 c) (subst (λ m. IsCarried m (Data 0 c)) (alone (Told (MaxData 5000))) is)));
+    }
+
+no_control : Among (Control (MaxData 5000)) (Stream 0 0 abc false ∷ []) → ⊥
+no_control a = elim a [ inl is ↦ false≢true (ap is_stream is) | inr none ↦ none ]
+
+no_ack_in : (largest : ℕ) (ranges : List (ℕ × ℕ)) → Among (Ack largest ranges) (Stream 0 0 abc false ∷ []) → ⊥
+no_ack_in largest ranges a = elim a [ inl is ↦ false≢true (ap is_stream is) | inr none ↦ none ]
+
+too_few : (largest : ℕ) (ranges : List (ℕ × ℕ)) → Among (Ack largest ranges) (Ack 3 ((3, 3) ∷ []) ∷ Stream 0 0 abc false ∷ []) → is_named ranges 1 ≡ true → ⊥
+too_few largest ranges a named =
+    elim a [
+      | inl is ↦ false≢true (ap (λ f. is_named (ranges_of f) 1) (sym is) ∙ named)
+      | inr later ↦ no_ack_in largest ranges later
+    ]
+
+left_out : NothingIsLeftOut
+unfolding lookup update total frame_put
+left_out =
+    record {
+      bytes = λ whole. (whole (omega arith)).no_stream 0 (_, refl, inl (0, still_due, omega arith, inr (refl, omega arith)));
+      item = λ left whole. no_control ((whole (omega arith)).items (MaxData 5000) ((refl, omega arith), λ covered. elim covered [ inl flies ↦ none_carried _ flies | inr acked ↦ none-some 5000 acked ]));
+      no_ack = λ left whole. (let (largest, ranges, among, names) = (whole (omega arith)).ack refl in no_ack_in largest ranges among);
+      number = λ left whole. (let (largest, ranges, among, names) = (whole (omega arith)).ack refl in too_few largest ranges among (names 1 kept_1));
+      ack_after = λ whole. true≢false (whole (omega arith)).no_ack;
+    }
+
+texts : NoSuchText
+unfolding canonical short
+texts =
+    record {
+      others = λ h. (let e : 2 ≡ 1 = ap (λ bs. slice_index_or bs 0 0) h.canonical in omega arith);
+      delayed = λ text h. (let e : 5 ≡ 0 = h.plain.0.0 in omega arith);
+      counted = λ text h. none-some _ (sym h.plain.0.1);
+    }
+
+abbrev is_ok : {A F : Type 0} → Result A F → Bool
+is_ok (Ok a) = true
+is_ok (Err f) = false
+
+pub ok_is_no_err : {A F : Type 0} (a : A) (f : F) → ◌≡◌ {A = Result A F} (Ok a) (Err f) → ⊥
+ok_is_no_err a f is = true≢false (ap is_ok is)
+
+answers : NoSuchAnswer
+answers =
+    record {
+      number = λ text new made. (let e : 1 ≡ 0 = made.number in omega arith);
+      len = λ new made. (let e : 2 ≡ 1 = made.len in omega arith);
+      no_room = λ made new is. (let le : 1 ≤ 0 = is.fits in omega arith);
+      closed = λ made text new step. ok_is_no_err _ _ step.0;
+      exhausted = λ made text new step. ok_is_no_err _ _ step.0;
+      last_number = λ new step. step;
+      not_closed = λ new step. step;
+      nothing_used = λ step. (let e : 1 ≡ 0 = ap (λ (e : End). e.next) step.2 in omega arith);
+      memory_used = λ step. (let e : 1 ≡ 0 = ap (λ (e : End). e.next) step.1 in omega arith);
+    }
+
+-- Losses
+
+abbrev told_then_data : List Piece
+told_then_data = Told (MaxData 5000) ∷ Data 0 (chunk 0 3 false) ∷ []
+
+abbrev data_left : List Piece
+data_left = Data 0 (chunk 0 3 false) ∷ []
+
+-- what a loss leaves of packet 0
+abbrev Loses : List Piece → End → Result (Unit {0}) LostFault → End → Type 0
+Loses ps old answer new =
+    ((answer ≡ Ok tt) × (new ≡ losses 0 ps old))
+    ⊎ ((moved : ℕ) × (moved < length ps) × (answer ≡ Err losing.NoMemory) × (new ≡ losses 0 (take moved ps) old))
+
+-- a packet that is outstanding is lost, at an end that is open
+lost_of : (old : End) (ps : List Piece) (answer : Result (Unit {0}) LostFault) (new : End) → old.closed ≡ None → fmap.get old.outstanding 0 ≡ Some ps → LoseStep old 0 answer new → Loses ps old answer new
+lost_of old ps answer new fine is step =
+    let (qs, at, loses) = subst (λ o. Certain o old answer new ((qs : List Piece) × (fmap.get old.outstanding 0 ≡ Some qs) × Loses qs old answer new)) refusal step in
+    subst (λ qs. Loses qs old answer new) (same_Some qs ps (sym at ∙ is)) loses
+  where
+    refusal : lose_refusal old 0 ≡ None
+    refusal = ap (λ o. first_refusal (refuse_if (is_some o) losing.Closed) (refuse_if (is_none (fmap.get old.outstanding 0)) losing.NotOutstanding)) fine ∙ ap (λ (o : Option (List Piece)). refuse_if (is_none o) losing.NotOutstanding) is
+
+none_left : (ps qs : List Piece) (k : ℕ) → fmap.get (fmap.remove (fmap.insert (fmap.insert {R = nat_cmp} fmap.empty 0 ps) 0 qs) 0) k ≡ None
+none_left ps qs k = fmap.get-remove nat_cmp_total _ 0 k ∙ by_test (eq_by_cmp nat_cmp k 0) refl
+  where
+    by_test : (b : Bool) → eq_by_cmp nat_cmp k 0 ≡ b → cond b None (fmap.get (fmap.insert (fmap.insert {R = nat_cmp} fmap.empty 0 ps) 0 qs) k) ≡ None
+    by_test true is = refl
+    by_test false is =
+        fmap.get-insert nat_cmp_total _ 0 qs k ∙ ap (λ b. cond b (Some qs) (fmap.get (fmap.insert {R = nat_cmp} fmap.empty 0 ps) k)) is
+        ∙ fmap.get-insert nat_cmp_total fmap.empty 0 ps k ∙ ap (λ b. cond b (Some ps) (fmap.get {R = nat_cmp} fmap.empty k)) is
+        ∙ fmap.get-empty nat_cmp k
+
+abbrev flying : PacketPieces
+flying = fmap.insert fmap.empty 0 told_then_data
+
+once_shorter : without_first flying 0 (fmap.get flying 0) ≡ fmap.insert flying 0 data_left
+once_shorter = ap (without_first flying 0) (got told_then_data)
+
+once_got : fmap.get (fmap.insert flying 0 data_left) 0 ≡ Some data_left
+once_got = fmap.get-insert nat_cmp_total flying 0 data_left 0
+
+twice_shorter : without_first (without_first flying 0 (fmap.get flying 0)) 0 (fmap.get (without_first flying 0 (fmap.get flying 0)) 0) ≡ fmap.remove (fmap.insert flying 0 data_left) 0
+twice_shorter = ap (λ m. without_first m 0 (fmap.get m 0)) once_shorter ∙ ap (without_first (fmap.insert flying 0 data_left) 0) once_got
+
+both_lost : (losses 0 told_then_data two_flying).outstanding ≡ fmap.remove (fmap.insert flying 0 data_left) 0
+unfolding losses
+both_lost = twice_shorter
+
+first_is_lost : (losses 0 (take 1 told_then_data) two_flying).outstanding ≡ fmap.insert flying 0 data_left
+unfolding losses
+first_is_lost = once_shorter
+
+piece_kept : (losses 0 data_left one_flying).lost.pieces ≡ fmap.insert fmap.empty 0 data_left
+unfolding losses
+piece_kept = ap (λ (o : Option (List Piece)). without_oldest (with_piece fmap.empty 0 (Data 0 (chunk 0 3 false)) o) (with_number [] 0 (is_some o))) (fmap.get-empty nat_cmp 0)
+
+some_stays : (moved : ℕ) → moved < 2 → fmap.get (losses 0 (take moved told_then_data) two_flying).outstanding 0 ≡ None → ⊥
+unfolding losses
+some_stays zero lt none = none-some _ (sym none ∙ got told_then_data)
+some_stays (suc zero) lt none = none-some _ (sym none ∙ ap (λ m. fmap.get m 0) first_is_lost ∙ once_got)
+some_stays (suc (suc moved)) lt none = omega arith
+
+no_effect : (new : End) → LoseStep writer 0 (Ok tt) new → ⊥
+no_effect new step = by_refusal (lose_refusal writer 0) step
+  where
+    by_refusal : (o : Option LostFault) → Certain o writer (Ok (tt {0})) new ((ps : List Piece) × (fmap.get writer.outstanding 0 ≡ Some ps) × Loses ps writer (Ok (tt {0})) new) → ⊥
+    by_refusal (Some fault) h = ok_is_no_err _ _ h.0
+    by_refusal None h = none_in 0 h.0 h.1
+
+abbrev is_memory : Result (Unit {0}) LostFault → Bool
+is_memory (Err losing.NoMemory) = true
+is_memory answer = false
+
+lost : NoSuchLoss
+lost =
+    record {
+      unknown = no_effect;
+      closed = λ new step. ok_is_no_err _ _ step.0;
+      known = λ new step. elim (lost_of two_flying told_then_data _ new refl (got told_then_data) step) [
+        | inl done ↦ ok_is_no_err _ _ (sym done.0)
+        | inr part ↦ (let (moved, few, none, after) = part in false≢true (ap is_memory none))
+      ];
+      in_part = λ new step carried. elim (lost_of two_flying told_then_data _ new refl (got told_then_data) step) [
+        | inl done ↦ (let (k, ps, is, a) = carried in none-some ps (sym (none_left told_then_data data_left k) ∙ ap (λ m. fmap.get m k) (sym both_lost) ∙ ap (λ (e : End). fmap.get e.outstanding k) (sym done.1) ∙ is))
+        | inr part ↦ (let (moved, few, none, after) = part in ok_is_no_err _ _ none)
+      ];
+      not_kept = λ new step none. elim (lost_of one_flying data_left _ new refl (got data_left) step) [
+        | inl done ↦ none-some data_left (sym none ∙ ap (λ (e : End). fmap.get e.lost.pieces 0) done.1 ∙ ap (λ m. fmap.get m 0) piece_kept ∙ got data_left)
+        | inr part ↦ (let (moved, few, oom, after) = part in ok_is_no_err _ _ oom)
+      ];
+      whole = λ new step none. elim (lost_of two_flying told_then_data _ new refl (got told_then_data) step) [
+        | inl done ↦ ok_is_no_err _ _ (sym done.0)
+        | inr part ↦ (let (moved, few, oom, after) = part in some_stays moved few (ap (λ (e : End). fmap.get e.outstanding 0) (sym after) ∙ none))
+      ];
+    }
+
+pub not_made : NotMade
+not_made = record { stream = stream; acks = acks; others = others; packets = packets; left_out = left_out; texts = texts; answers = answers; losses = lost }

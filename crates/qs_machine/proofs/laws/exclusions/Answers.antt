@@ -1,0 +1,8 @@
+use Rattle.qs_machine.proofs.ExclusionsDue.{not_due}
+use Rattle.qs_machine.proofs.ExclusionsMaking.{not_made}
+use Rattle.qs_machine.proofs.ExclusionsReceiving.{not_received}
+use Rattle.qs_machine.proofs.ExclusionsOwner.{not_owned}
+use Rattle.qs_machine.proofs.laws.exclusions.Goals as goal
+
+pub returns : goal.returns
+returns c = record { due = not_due; making = not_made; receiving = not_received; owner = not_owned }

@@ -1,0 +1,11 @@
+-- What the definitions exclude: beside each example of what a step gives, one of what it doesn't.
+use Rattle.qs_machine.specs.ExclusionsDue.{NotDue}
+use Rattle.qs_machine.specs.ExclusionsMaking.{NotMade}
+use Rattle.qs_machine.specs.ExclusionsReceiving.{NotReceived}
+use Rattle.qs_machine.specs.ExclusionsOwner.{NotOwned}
+
+pub record Exclusions : Type 0 where
+  pub due : NotDue
+  pub making : NotMade
+  pub receiving : NotReceived
+  pub owner : NotOwned

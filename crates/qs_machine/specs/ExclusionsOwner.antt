@@ -1,0 +1,129 @@
+-- Which answers an end's owner isn't given, and what its calls don't leave (RFC 9000, sections 2, 3 and 4).
+use Rattle.std.specs.Prelude.{◌≡◌, ℕ, List, [], ◌∷◌, None, Some, Ok, Err}
+use Rattle.qs_wire.specs.declared.stream_id.Dir.TheVariants.{Bidi}
+use Rattle.qs_recv.specs.Lane.{RecvLane, stop}
+use Rattle.qs_recv.specs.declared.half.Read.TheVariants as reads
+use Rattle.qs_calls.specs.declared.closing.Closed.TheVariants.{ByPeer}
+use Rattle.qs_calls.specs.declared.uses.OpenFault.TheVariants as opening
+use Rattle.qs_calls.specs.declared.uses.UseFault.TheVariants.{NoSuchStream, NoMemory}
+use Rattle.qs_machine.specs.Ends.{End, send_lane, recv_lane}
+use Rattle.qs_machine.specs.Credit.{settle}
+use Rattle.qs_machine.specs.Owner.{OpenStep, AcceptStep, WriteStep, FinishStep, ResetStep, StopStep, ReadStep}
+use Rattle.qs_machine.specs.Examples.{standard, server, client_of, told_reset}
+use Rattle.qs_machine.specs.SmallEnds.{client_with, server_with, abc, begun, wrote, finished, reset_half, fresh, three_came}
+
+-- a client that its peer allows no bidirectional stream
+abbrev pub shut_out : End
+shut_out = client_of (record standard { grant_bidi = 0 })
+
+-- an end that saw its peer close
+abbrev pub over : End → End
+over e = record e { closed = Some (ByPeer 0) }
+
+-- `open` doesn't answer so (sections 2.1 and 4.6)
+pub record NoSuchOpening : Type 0 where
+  -- with a stream past the peer's count
+  pub past_count : (n : ℕ) (new : End) → OpenStep shut_out Bidi (Ok n) new → ⊥
+  -- as blocked, within it
+  pub within_count : (new : End) → OpenStep (client_of standard) Bidi (Err (opening.Blocked 8)) new → ⊥
+  -- as blocked at another count
+  pub other_count : (new : End) → OpenStep shut_out Bidi (Err (opening.Blocked 1)) new → ⊥
+  -- with another stream than the next
+  pub other_stream : (new : End) → OpenStep (client_of standard) Bidi (Ok 4) new → ⊥
+  -- with a stream of its peer's
+  pub peers_stream : (new : End) → OpenStep (client_of standard) Bidi (Ok 1) new → ⊥
+  -- with a stream, once the end closed
+  pub closed : (n : ℕ) (new : End) → OpenStep (over (client_of standard)) Bidi (Ok n) new → ⊥
+  -- where it doesn't note that one was wanted (section 19.14)
+  pub not_noted : (new : End) → OpenStep shut_out Bidi (Err (opening.Blocked 0)) new → new.wanted_bidi ≡ None → ⊥
+  -- for want of memory, with the stream open
+  pub opened : (new : End) → OpenStep (client_of standard) Bidi (Err opening.NoMemory) new → new.sends.client_bidi ≡ begun ∷ [] → ⊥
+
+-- `accept` doesn't answer so (section 2.1)
+pub record NoSuchAccepting : Type 0 where
+  -- with a stream that isn't open
+  pub unopened : (n : ℕ) (new : End) → AcceptStep (server standard) (Some n) new → ⊥
+  -- with none, where one is
+  pub opened : (new : End) → AcceptStep (server_with fresh) None new → ⊥
+  -- with a stream that was given out
+  pub twice : (n : ℕ) (new : End) → AcceptStep (record (server_with fresh) { accepted_bidi = 1 }) (Some n) new → ⊥
+  -- with a stream, once the end closed
+  pub closed : (n : ℕ) (new : End) → AcceptStep (over (server_with fresh)) (Some n) new → ⊥
+  -- where the stream is given out again
+  pub not_noted : (new : End) → AcceptStep (server_with fresh) (Some 0) new → new.accepted_bidi ≡ 0 → ⊥
+
+-- `write`, `finish` and `reset` don't answer so (sections 2.2, 2.4 and 3.1)
+pub record NoSuchSending : Type 0 where
+  -- with fewer bytes than there is room for
+  pub fewer : (new : End) → WriteStep (client_with begun) 0 abc (Ok 2) new → ⊥
+  -- with more
+  pub more : (new : End) → WriteStep (client_with (record begun { buffer = 2 })) 0 abc (Ok 3) new → ⊥
+  -- on a stream that isn't open
+  pub unopened : (n : ℕ) (new : End) → WriteStep (client_with begun) 4 abc (Ok n) new → ⊥
+  -- on the peer's unidirectional stream
+  pub not_its : (new : End) → WriteStep (record (server standard) { recvs = record { client_bidi = []; server_bidi = []; client_uni = fresh ∷ []; server_uni = [] } }) 2 abc (Err NoSuchStream) new → ⊥
+  -- once the stream was finished
+  pub after_finish : (n : ℕ) (new : End) → WriteStep (client_with finished) 0 abc (Ok n) new → ⊥
+  -- once it was reset
+  pub after_reset : (n : ℕ) (new : End) → WriteStep (client_with reset_half) 0 abc (Ok n) new → ⊥
+  -- once the end closed
+  pub closed : (n : ℕ) (new : End) → WriteStep (over (client_with begun)) 0 abc (Ok n) new → ⊥
+  -- for want of memory, with bytes accepted
+  pub accepted : WriteStep (client_with begun) 0 abc (Err NoMemory) (client_with wrote) → ⊥
+  -- with other bytes
+  pub other_bytes : (new : End) → WriteStep (client_with begun) 0 abc (Ok 3) new → send_lane new 0 ≡ Some begun → ⊥
+  -- finished twice
+  pub finish_twice : (new : End) → FinishStep (client_with finished) 0 (Ok tt) new → ⊥
+  -- finished, and not finished
+  pub unfinished : (new : End) → FinishStep (client_with begun) 0 (Ok tt) new → send_lane new 0 ≡ Some begun → ⊥
+  -- reset twice
+  pub reset_twice : (new : End) → ResetStep (client_with reset_half) 0 8 (Ok tt) new → ⊥
+  -- reset with another final size than what was sent (section 4.5)
+  pub other_size : (new : End) → ResetStep (client_with wrote) 0 7 (Ok tt) new → send_lane new 0 ≡ Some (record wrote { was_reset = Some (record { code = 7; size = 3 }) }) → ⊥
+
+-- `read` and `stop` don't answer so (sections 2.2, 3.2 and 3.5)
+pub record NoSuchReading : Type 0 where
+  -- with bytes that didn't come
+  pub none_came : (n : ℕ) (bytes : List ℕ) (new : End) → ReadStep (server_with fresh) 0 10 (Ok (reads.Bytes n)) bytes new → ⊥
+  -- with the end, before it came
+  pub no_end : (bytes : List ℕ) (new : End) → ReadStep (server_with fresh) 0 10 (Ok reads.End) bytes new → ⊥
+  -- on a stream that isn't open
+  pub unopened : (bytes : List ℕ) (new : End) → ReadStep (server_with fresh) 4 10 (Ok reads.Wait) bytes new → ⊥
+  -- once the end closed
+  pub closed : (bytes : List ℕ) (new : End) → ReadStep (over (server_with fresh)) 0 10 (Ok reads.Wait) bytes new → ⊥
+  -- as waiting, once the peer's reset came
+  pub after_reset : (bytes : List ℕ) (new : End) → ReadStep (server_with (record fresh { final_size = Some 0; reset_code = Some 7 })) 0 10 (Ok reads.Wait) bytes new → ⊥
+  -- with bytes, once it stopped
+  pub after_stop : (n : ℕ) (bytes : List ℕ) (new : End) → ReadStep (server_with (stop three_came 7)) 0 10 (Ok (reads.Bytes n)) bytes new → ⊥
+  -- stopped with another code than the first
+  pub second_stop : (new : End) → StopStep (server_with (stop fresh 7)) 0 8 (Ok tt) new → (l : RecvLane) → recv_lane new 0 ≡ Some l → l.stop_code ≡ Some 8 → ⊥
+  -- stopped, once the end closed
+  pub stop_closed : (new : End) → StopStep (over (server_with fresh)) 0 7 (Ok tt) new → ⊥
+
+-- a server that grants one stream of each type at first and four in all, once the first unidirectional one ended, as the call ends
+abbrev pub one_ended : End
+one_ended = settle (told_reset 2 (server (record standard { grant_bidi = 1; lifetime_bidi = 4; grant_uni = 1; lifetime_uni = 4 })))
+
+-- a half of which six of ten bytes of window were read
+abbrev pub six_read : RecvLane
+six_read = record fresh { arrived = record fresh.arrived { read_count = 6; window = 10 }; limit = 10 }
+
+-- As a call ends (sections 4.1, 4.2 and 4.6)
+pub record LimitsSettle : Type 0 where
+  -- a count of streams grows by one for each that ended, and no more
+  pub by_one : one_ended.granted_uni ≡ 2
+  -- and of that direction alone
+  pub of_direction : one_ended.granted_bidi ≡ 1
+  -- the limit of a stream is raised by what was read of it
+  pub stream : (settle (server_with six_read)).recvs.client_bidi ≡ record six_read { limit = 16 } ∷ []
+  -- and not once its final size is known
+  pub ended : (settle (server_with (record six_read { final_size = Some 8 }))).recvs.client_bidi ≡ record six_read { final_size = Some 8 } ∷ []
+  -- the connection's limit by what was read in all
+  pub connection : (settle (record (server_with six_read) { granted = 10; settings = record standard { conn_window = 10 } })).granted ≡ 16
+
+pub record NotOwned : Type 0 where
+  pub opening : NoSuchOpening
+  pub accepting : NoSuchAccepting
+  pub sending : NoSuchSending
+  pub reading : NoSuchReading
+  pub settling : LimitsSettle
