@@ -78,7 +78,7 @@ no_table (suc zero) = refl
 no_table (suc (suc zero)) = refl
 no_table (suc (suc (suc k))) = refl
 
-no_lane : (n : ℕ) → lookup (no_streams {X = RecvLane}) n ≡ None
+pub no_lane : (n : ℕ) → lookup (no_streams {X = RecvLane}) n ≡ None
 unfolding lookup
 no_lane n = ap (λ xs. slice_get xs (n / 4)) (no_table (n % 4))
 
@@ -116,7 +116,7 @@ in_range : (a b c : Bool) → cond (not (a && b)) (Some OutOfRange) (cond (not c
 in_range true b c e = refl
 in_range false b c e = absurd (none-some OutOfRange (sym e))
 
-made_end : (o : Option SetupFault) (x e : End) → end_unless o x ≡ Ok e → (o ≡ None) × (x ≡ e)
+pub made_end : (o : Option SetupFault) (x e : End) → end_unless o x ≡ Ok e → (o ≡ None) × (x ≡ e)
 made_end None x e made = (refl, cc)
 made_end (Some fault) x e made = absurd (fault_is_no_end fault e made)
   where

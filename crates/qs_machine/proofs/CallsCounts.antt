@@ -111,7 +111,7 @@ module _ (P : End → Type 0) (old : End) (kept : P old) (settles : (mid : End) 
           | inr part ↦ (let (moved, few, none, after) = part in lost k (take moved ps) new after)
         ])
 
-    ends_by : (call : Call) (answer : Answer call) (new : End) → EndStep old call answer new → P new
+    pub ends_by : (call : Call) (answer : Answer call) (new : End) → EndStep old call answer new → P new
     ends_by (Open d) answer new step = open_by d answer new step
     ends_by Accept answer new step = accept_by answer new step
     ends_by (Write n bytes) answer new step =

@@ -35,3 +35,4 @@ pub mod ExclusionsDue
 pub mod ExclusionsMaking
 pub mod ExclusionsReceiving
 pub mod ExclusionsOwner
+pub mod SettledLimits

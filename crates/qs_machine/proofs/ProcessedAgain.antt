@@ -36,7 +36,7 @@ use Rattle.qs_machine.proofs.PayloadsAgain.{payloads_repeat}
 
 -- Limits that moved don't move again
 
-next_twice : (l t w : ℕ) → next_limit (next_limit l t w) t w ≡ next_limit l t w
+pub next_twice : (l t w : ℕ) → next_limit (next_limit l t w) t w ≡ next_limit l t w
 next_twice l t w = go (moves l) refl
   where
     m : ℕ
@@ -57,7 +57,7 @@ next_twice l t w = go (moves l) refl
     go true is = ap (λ c. cond c m m) no_more
     go false is = ap (λ c. cond c m l) is
 
-raise_twice : (l : RecvLane) → raise (raise l) ≡ raise l
+pub raise_twice : (l : RecvLane) → raise (raise l) ≡ raise l
 raise_twice l = ap (λ k. record l { limit = k }) (go (is_some l.final_size))
   where
     go : (b : Bool) → cond b (cond b l.limit (next_limit l.limit (taken l) l.arrived.window)) (next_limit (cond b l.limit (next_limit l.limit (taken l) l.arrived.window)) (taken l) l.arrived.window)

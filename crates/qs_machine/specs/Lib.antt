@@ -27,3 +27,4 @@ pub mod ExclusionsMaking
 pub mod ExclusionsReceiving
 pub mod ExclusionsOwner
 pub mod Exclusions
+pub mod SettledLimits

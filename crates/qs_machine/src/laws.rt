@@ -1,6 +1,7 @@
 //! Laws on ends and their calls, each the contract of a function.
 
 ghost use Rattle.qs_machine.specs.Laws.{NewEndsAreSound, CallsKeepEndsSound, StoredBytesWereGranted, EndedIsLastState, NewEndsSettleCounts, CallsSettleCounts, CountsNeverFall, LimitsNeverFall, ClosedEndsStay, PayloadsAreTakenInOrder, EffectsRepeat, PayloadsRepeat, ProcessedPayloadsRepeat, NewEndsSentNothing, CallsSendWhatWasWritten};
+ghost use Rattle.qs_machine.specs.SettledLimits.{NewEndsSettleLimits, CallsSettleLimits};
 ghost use Rattle.qs_machine.specs.Examples.{Examples};
 ghost use Rattle.qs_machine.specs.Exclusions.{Exclusions};
 
@@ -29,6 +30,13 @@ pub fn ended_is_last_state()
 pub fn counts_are_settled()
     ensures new { NewEndsSettleCounts }
     ensures calls { CallsSettleCounts }
+{}
+
+/// Of a new end, and after every call, whatever it answers, each limit is its own next one: the connection's, and that of each receiving
+/// half whose final size isn't known.
+pub fn limits_are_settled()
+    ensures new { NewEndsSettleLimits }
+    ensures calls { CallsSettleLimits }
 {}
 
 /// No call lowers a granted count of streams: a stream that ended stays so.

@@ -1,0 +1,67 @@
+-- As each call ends every limit is its own next one.
+use Rattle.std.proofs.Common.{◌≡◌, ℕ, cond, List, [], ◌∷◌, Option, Some, None, is_some, refl, sym, ap, ◌∙◌, subst, arith}
+use Rattle.std.specs.Prelude.{Ok, option_map}
+use Rattle.std.proofs.lemmas.Bool.Decides.{nat_tests}
+use Rattle.std.proofs.lemmas.Option.{same_Some, none-some}
+use Rattle.qs_wire.specs.declared.stream_id.Role.{Role}
+use Rattle.qs_recv.specs.Lane.{RecvLane, taken, raise, next_limit}
+use Rattle.qs_send.specs.declared.piece.Piece.{Piece}
+use Rattle.qs_calls.specs.declared.settings.Settings.{Settings}
+use Rattle.qs_calls.specs.declared.settings.PeerLimits.{PeerLimits}
+use Rattle.qs_calls.specs.Settings.{setup_fault}
+use Rattle.qs_machine.specs.Tables.{lookup, total}
+use Rattle.qs_machine.specs.Ends.{End, new_end, end_made}
+use Rattle.qs_machine.specs.Credit.{settle, all_taken}
+use Rattle.qs_machine.specs.Making.{losses, first_lost}
+use Rattle.qs_machine.specs.EndStep.{Call, Answer, EndStep}
+use Rattle.qs_machine.specs.SettledLimits.{LimitsAreSettled}
+use Rattle.qs_machine.proofs.Bounds.{made_end, no_lane}
+use Rattle.qs_machine.proofs.CallsCounts.{ends_by}
+use Rattle.qs_machine.proofs.ProcessedAgain.{next_twice, raise_twice}
+use Rattle.qs_machine.proofs.TableLaws.{lookup_each, total_each}
+
+-- Where nothing was taken of a window, the limit stays.
+next_first : (w : ℕ) → next_limit w 0 w ≡ w
+next_first w = grind (arith, nat_tests)
+
+none_taken : (role : Role) (s : Settings) (p : PeerLimits) → all_taken (new_end role s p) ≡ 0
+unfolding total
+none_taken role s p = refl
+
+new_settled : (role : Role) (s : Settings) (p : PeerLimits) → LimitsAreSettled (new_end role s p)
+new_settled role s p =
+    record {
+      connection = ap (λ t. next_limit s.conn_window t s.conn_window) (none_taken role s p) ∙ next_first s.conn_window;
+      streams = λ n l is. absurd (none-some l (sym (no_lane n) ∙ is));
+    }
+
+pub new_ends_settled : (role : Role) (s : Settings) (p : PeerLimits) (e : End) → end_made role s p ≡ Ok e → LimitsAreSettled e
+new_ends_settled role s p e made = subst LimitsAreSettled (made_end (setup_fault s p) (new_end role s p) e made).1 (new_settled role s p)
+
+-- a limit that was raised isn't raised again
+raised_stays : (k l : RecvLane) → raise k ≡ l → l.final_size ≡ None → next_limit l.limit (taken l) l.arrived.window ≡ l.limit
+raised_stays k l is none =
+    ap (λ o. cond (is_some o) l.limit (next_limit l.limit (taken l) l.arrived.window)) (sym none)
+    ∙ ap (λ (m : RecvLane). m.limit) (ap raise (sym is) ∙ raise_twice k ∙ is)
+
+found : (o : Option RecvLane) (l : RecvLane) → option_map raise o ≡ Some l → (k : RecvLane) × (raise k ≡ l)
+found None l is = absurd (none-some l is)
+found (Some k) l is = (k, same_Some (raise k) l is)
+
+settles : (e : End) → LimitsAreSettled (settle e)
+settles e =
+    record {
+      connection =
+          ap (λ t. next_limit (next_limit e.granted (all_taken e) e.settings.conn_window) t e.settings.conn_window) (total_each taken raise e.recvs (λ l. refl))
+          ∙ next_twice e.granted (all_taken e) e.settings.conn_window;
+      streams = λ n l is none. (let (k, raised) = found (lookup e.recvs n) l (sym (lookup_each raise e.recvs n) ∙ is) in raised_stays k l raised none);
+    }
+
+-- a loss moves no limit
+losses_settled : (k : ℕ) (ps : List Piece) (e : End) → LimitsAreSettled e → LimitsAreSettled (losses k ps e)
+unfolding losses
+losses_settled k [] e h = h
+losses_settled k (p ∷ ps) e h = losses_settled k ps (first_lost k p e) (record { connection = h.connection; streams = h.streams })
+
+pub calls_settle : (old : End) (call : Call) (answer : Answer call) (new : End) → LimitsAreSettled old → EndStep old call answer new → LimitsAreSettled new
+calls_settle old call answer new h step = ends_by LimitsAreSettled old h settles (λ k ps. losses_settled k ps old h) call answer new step
