@@ -32,3 +32,5 @@ pub mod Clauses
 pub mod Statements
 pub mod Lasting
 pub mod Stays
+pub mod Examples
+pub mod Exclusions

@@ -106,13 +106,26 @@ lane_stays e n l is false = by _
 module _ (e : End) where
   stream_spends : (n offset : ℕ) (bytes : List ℕ) (fin : Bool) → IsOld e (Stream n offset bytes fin) → verdict e (Stream n offset bytes fin) ≡ None → spent (frame_taken (Stream n offset bytes fin) e) ≡ spent e
   unfolding verdict frame_taken
-  stream_spends n offset bytes fin (l, is, all, known) fine =
-      let there : lookup (opened_by_peer n e).recvs n ≡ Some l = lane_stays e n l is (is_own e n) in
-      let this : lane_of e n ≡ l = lane_opened e n l (is_own e n) refl there in
-      let fits = fin_fits e l offset (length bytes) fin (subst (λ x. credit_fault e (check_stream x offset (length bytes) fin) ≡ None) this (stream_passed e n offset bytes fin fine).1) in
-      spent_kept (opened_by_peer n e) n (λ x. take_stream x offset bytes fin) (lookup (opened_by_peer n e).recvs n) refl
-      (λ m at. (let same : l ≡ m = same_Some l m (sym there ∙ at) in subst (λ x. highest (take_stream x offset bytes fin) ≡ highest x) same (stream_highest l offset bytes fin all known fits)))
-      ∙ spent_opened e n (is_own e n)
+  stream_spends n offset bytes fin (all, known) fine = go (lookup e.recvs n) refl
+    where
+      go : (o : Option RecvLane) → lookup e.recvs n ≡ o → spent (frame_taken (Stream n offset bytes fin) e) ≡ spent e
+      go (Some l) is =
+          let there : lookup (opened_by_peer n e).recvs n ≡ Some l = lane_stays e n l is (is_own e n) in
+          let this : lane_of e n ≡ l = lane_opened e n l (is_own e n) refl there in
+          let fits = fin_fits e l offset (length bytes) fin (subst (λ x. credit_fault e (check_stream x offset (length bytes) fin) ≡ None) this (stream_passed e n offset bytes fin fine).1) in
+          let came : (q : ℕ) → offset ≤ q → q < offset + length bytes → set.contains l.arrived.received q ≡ true =
+          λ q low high. (let (m, at, there) = all q low high in subst (λ (x : RecvLane). set.contains x.arrived.received q ≡ true) (same_Some m l (sym at ∙ is)) there) in
+          let sized : fin ≡ true → l.final_size ≢ None =
+          λ set. (let (m, at, some) = known set in subst (λ (x : RecvLane). x.final_size ≢ None) (same_Some m l (sym at ∙ is)) some) in
+          spent_kept (opened_by_peer n e) n (λ x. take_stream x offset bytes fin) (lookup (opened_by_peer n e).recvs n) refl
+          (λ m at. (let same : l ≡ m = same_Some l m (sym there ∙ at) in subst (λ x. highest (take_stream x offset bytes fin) ≡ highest x) same (stream_highest l offset bytes fin came sized fits)))
+          ∙ spent_opened e n (is_own e n)
+      -- the stream isn't open, so the frame has neither a byte nor the end
+      go None is =
+          let unsized : fin ≡ true → ⊥ = λ set. (let (m, at, some) = known set in none-some m (sym is ∙ at)) in
+          spent_kept (opened_by_peer n e) n (λ x. take_stream x offset bytes fin) (lookup (opened_by_peer n e).recvs n) refl
+          (λ m at. stream_highest m offset bytes fin (λ q low high. (let (k, open_at, there) = all q low high in absurd (none-some k (sym is ∙ open_at)))) (λ set. absurd (unsized set)) (λ size sized set. absurd (unsized set)))
+          ∙ spent_opened e n (is_own e n)
 
   reset_spends : (n code size : ℕ) → IsOld e (Control (ResetStream n code size)) → item_verdict e (ResetStream n code size) ≡ None → spent (item_taken (ResetStream n code size) e) ≡ spent e
   reset_spends n code size (l, is, known) fine =
@@ -148,9 +161,10 @@ known_stays l m g known none = go l.final_size refl
     go (Some size) is = none-some size (sym none ∙ g.final size is)
 
 old_stays : (a b : End) → AllGrow a.recvs b.recvs → (f : Seen) → IsOld a f → IsOld b f
-old_stays a b grow (Stream n offset bytes fin) (l, is, all, known) =
-    let (m, there, g) = grow n l is in
-    (m, there, λ q low high. g.received q (all q low high), λ set. known_stays l m g (known set))
+old_stays a b grow (Stream n offset bytes fin) (all, known) = (
+  λ q low high. (let (l, is, came) = all q low high in let (m, there, g) = grow n l is in (m, there, g.received q came)),
+  λ set. (let (l, is, sized) = known set in let (m, there, g) = grow n l is in (m, there, known_stays l m g sized)),
+)
 old_stays a b grow (Control (ResetStream n code size)) (l, is, known) = (let (m, there, g) = grow n l is in (m, there, known_stays l m g known))
 old_stays a b grow (Control (MaxData m)) old = tt
 old_stays a b grow (Control (MaxStreamData n m)) old = tt

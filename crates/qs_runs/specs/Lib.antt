@@ -5,3 +5,5 @@ pub mod Pasts
 pub mod Invariant
 pub mod Clauses
 pub mod Laws
+pub mod Examples
+pub mod Exclusions

@@ -2,6 +2,8 @@
 //! it; each of its clauses is a law, and so is each part of what agrees. The last law joins them over whole runs.
 
 ghost use Rattle.qs_runs.specs.Agree.{EveryRunAgrees};
+ghost use Rattle.qs_runs.specs.Examples.{Examples};
+ghost use Rattle.qs_runs.specs.Exclusions.{Exclusions};
 ghost use Rattle.qs_runs.specs.Laws.{NewEndsMeetInvariant, StepsKeepInvariant, PiecesAreAlwaysWritten, ReceivedIsAlwaysBelowSent, StoredIsAlwaysWritten, ReadIsAlwaysWritten, ProcessedWasAlwaysTaken, AckedWasAlwaysProcessed, FinalSizeIsAlwaysDeclared, WhatIsKnownStays, ResetCodeIsAlwaysTheSenders, SentIsAlwaysWithinKnown, KnownIsAlwaysWithinGranted, StreamsAreOpenAtInitiator, OpenedIsAlwaysBelowKnown, ReadIsAPrefix, SpentIsBelowSent, RepeatsSpendNothing, ReceivedIsWhole, FinalSizesAlwaysAgree, NoEndCloses};
 
 /// Two new ends, each told the other's limits, meet the invariant.
@@ -112,4 +114,14 @@ pub fn no_end_closes()
 /// Whatever two ends are asked to do, in whatever order and number their packets come, each run of them agrees.
 pub fn every_run_agrees()
     ensures { EveryRunAgrees }
+{}
+
+/// What was written, read, made and processed, read off small logs.
+pub fn examples()
+    ensures { Examples }
+{}
+
+/// Small histories and worlds that don't agree, clause by clause.
+pub fn exclusions()
+    ensures { Exclusions }
 {}

@@ -1,0 +1,42 @@
+-- The readers of a log compute.
+use Rattle.std.proofs.Common.{◌≡◌, ℕ, ◌∷◌, ◌++◌, [], take, refl, ap, ◌∙◌}
+use Rattle.std.specs.Global.{Vec}
+use Rattle.qs_machine.specs.SmallEnds.{abc}
+use Rattle.qs_runs.specs.Logs.{own_calls, processed}
+use Rattle.qs_runs.specs.Examples.{StoryIsRead, LogsAreRead, Examples}
+
+story : (bytes text none : Vec ℕ) → bytes.items ≡ abc → StoryIsRead bytes text none
+unfolding own_calls processed
+story bytes text none is =
+    record {
+      written_there = ap (λ bs. take 3 bs ++ []) is;
+      not_here = refl;
+      not_on_another = refl;
+      read_here = ap (λ bs. bs ++ []) is;
+      not_there = refl;
+      made_there = refl;
+      by_number = refl;
+      no_other = refl;
+      processed_here = refl;
+      processed_once = refl;
+      processed_not_there = refl;
+      whole = refl;
+      not_whole_there = refl;
+      not_another_whole = refl;
+    }
+
+others : (bytes none : Vec ℕ) → bytes.items ≡ abc → LogsAreRead bytes none
+unfolding own_calls processed
+others bytes none is =
+    record {
+      in_part = ap (take 2) is;
+      in_order = ap (λ bs. take 3 bs ++ take 1 bs) is;
+      read_in_order = ap (λ bs. bs ++ [] ++ bs) is;
+      twice = refl;
+      no_end = refl;
+      stopped_before = refl;
+      stopped_after = refl;
+    }
+
+pub examples_hold : Examples
+examples_hold = record { story = story; others = others }
