@@ -36,3 +36,4 @@ pub mod ExclusionsMaking
 pub mod ExclusionsReceiving
 pub mod ExclusionsOwner
 pub mod SettledLimits
+pub mod OffsetParts

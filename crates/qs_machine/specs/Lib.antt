@@ -28,3 +28,4 @@ pub mod ExclusionsReceiving
 pub mod ExclusionsOwner
 pub mod Exclusions
 pub mod SettledLimits
+pub mod OffsetParts

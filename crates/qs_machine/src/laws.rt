@@ -2,6 +2,7 @@
 
 ghost use Rattle.qs_machine.specs.Laws.{NewEndsAreSound, CallsKeepEndsSound, StoredBytesWereGranted, EndedIsLastState, NewEndsSettleCounts, CallsSettleCounts, CountsNeverFall, LimitsNeverFall, ClosedEndsStay, PayloadsAreTakenInOrder, EffectsRepeat, PayloadsRepeat, ProcessedPayloadsRepeat, NewEndsSentNothing, CallsSendWhatWasWritten};
 ghost use Rattle.qs_machine.specs.SettledLimits.{NewEndsSettleLimits, CallsSettleLimits};
+ghost use Rattle.qs_machine.specs.OffsetParts.{OffsetsAreInOnePart};
 ghost use Rattle.qs_machine.specs.Examples.{Examples};
 ghost use Rattle.qs_machine.specs.Exclusions.{Exclusions};
 
@@ -63,6 +64,12 @@ pub fn payloads_are_taken_in_order()
 pub fn outstanding_was_written()
     ensures new { NewEndsSentNothing }
     ensures calls { CallsSendWhatWasWritten }
+{}
+
+/// Each written offset of a half that wasn't reset is acknowledged, or in flight, which is what an outstanding piece has and isn't
+/// acknowledged, or due.
+pub fn offsets_are_in_one_part()
+    ensures { OffsetsAreInOnePart }
 {}
 
 /// Frames that took effect and come again have no fault and change nothing: nothing is spent, opened or reset twice.
