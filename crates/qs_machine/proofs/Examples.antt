@@ -42,7 +42,7 @@ came_to n some = end_of-with_range set.empty 0 n some ∙ ap (λ k. max k n) end
 abbrev nothing : fmap.FinMap nat_cmp ℕ
 nothing = fmap.empty
 
-none_differs : (at : ℕ) (bytes : List ℕ) → same nothing at bytes ≡ true
+pub none_differs : (at : ℕ) (bytes : List ℕ) → same nothing at bytes ≡ true
 none_differs at bytes = same_none nothing at bytes (λ q low high. fmap.get-empty nat_cmp q)
 
 came_first : (first : List ℕ) (q byte : ℕ) → fmap.get (store set.empty nothing 0 first) q ≡ Some byte → byte_at 0 first q ≡ Some byte

@@ -14,12 +14,12 @@ use Rattle.qs_calls.specs.declared.closing.Received.TheVariants.{Done, Duplicate
 use Rattle.qs_machine.specs.Ends.{End, closes}
 use Rattle.qs_machine.specs.Seen.{Ack, Stream, Close, Plain, any_asks}
 use Rattle.qs_machine.specs.Verdicts.{verdict}
-use Rattle.qs_machine.specs.FrameStep.{frame_taken, acks, acked_at}
+use Rattle.qs_machine.specs.FrameStep.{frame_taken, acks, acked_at, frames_taken, NoFault}
 use Rattle.qs_machine.specs.Recording.{recorded}
 use Rattle.qs_machine.specs.Receiving.{AtEnd, RunsOut, Stops, GoesOn, ReceiveStep}
 use Rattle.qs_machine.specs.Reports.{lane_report}
 use Rattle.qs_machine.specs.Examples.{standard, server, letters, told_end}
-use Rattle.qs_machine.specs.SmallEnds.{client_with, carrying, chunk, sent, three_came, all_came, four_made}
+use Rattle.qs_machine.specs.SmallEnds.{server_with, client_with, carrying, chunk, sent, three_came, all_came, four_made, fresh}
 
 -- Each closing has its number (section 20.1)
 pub record CodesAreThese : Type 0 where
@@ -150,6 +150,15 @@ ReportIsOfHighest =
       recv = Some (record { state = DataRecvd; read_count = 0; highest = 5; limit = 1024; final_size = Some 5 });
     })
 
+-- an end that knows of a reset of stream 0 and of no final size, as no sound end does, with a connection limit of 5
+abbrev pub unsound : End
+unsound = record (server_with (record fresh { reset_code = Some 7 })) { granted = 5 }
+
+-- At such an end a frame may have no fault, and have one when it comes again: that repeats have none needs a sound end (section 4.1).
+pub record RepeatsNeedSoundness : Type 0 where
+  pub once : NoFault unsound (Stream 0 0 (letters 5) false ∷ Stream 4 0 (letters 5) false ∷ [])
+  pub again : verdict (frames_taken (Stream 0 0 (letters 5) false ∷ Stream 4 0 (letters 5) false ∷ []) unsound) (Stream 0 0 (letters 5) false) ≡ Some 0x03
+
 pub record NotReceived : Type 0 where
   pub codes : CodesAreThese
   pub stops : NoSuchStop
@@ -160,3 +169,4 @@ pub record NotReceived : Type 0 where
   pub runs : RunsAreFew
   pub aborts : AbortsCount
   pub report : ReportIsOfHighest
+  pub repeats : RepeatsNeedSoundness
