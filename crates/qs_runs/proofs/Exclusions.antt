@@ -1,12 +1,12 @@
 -- Each clause of what agrees excludes something.
-use Rattle.std.proofs.Common.{◌≡◌, ℕ, ◌<◌, ◌≤◌, List, [], ◌∷◌, ◌++◌, length, take, true, cond, ◌&&◌, ◌==◌, Some, slice_index_or, refl, sym, ap, ◌∙◌, arith}
+use Rattle.std.proofs.Common.{◌≡◌, ℕ, ◌<◌, ◌≤◌, List, [], ◌∷◌, ◌++◌, length, take, true, cond, ◌&&◌, ◌==◌, Some, slice_index_or, refl, sym, ap, ◌∙◌, arith, subst}
 use Rattle.std.specs.Global.{Vec}
 use Rattle.std.specs.FinSet as set
 use Rattle.std.proofs.lemmas.Option.{same_Some, none-some}
 use Rattle.std.proofs.lemmas.Bool.{both_ways, false≢true}
 use Rattle.std.proofs.lemmas.Bool.Decides.{nat_tests}
 use Rattle.qs_ranges.specs.Numbers.{contains-numbers, numbers, is_within}
-use Rattle.qs_ranges.proofs.Sets.{missing_from-of}
+use Rattle.qs_ranges.proofs.Sets.{end_of-empty, missing_from-of}
 use Rattle.qs_recv.specs.Lane.{RecvLane}
 use Rattle.qs_send.specs.Lane.{SendLane, state, unacked_from, declared_size}
 use Rattle.qs_send.specs.declared.parts.Reset.{Reset}
@@ -14,7 +14,11 @@ use Rattle.qs_send.specs.declared.parts.SendState.TheVariants.{DataRecvd, DataSe
 use Rattle.qs_calls.specs.declared.event.Side.TheVariants.{A, B}
 use Rattle.qs_machine.specs.Tables.{lookup, total}
 use Rattle.qs_machine.specs.Ends.{End}
-use Rattle.qs_machine.specs.SmallEnds.{abc, sent, fresh, all_came}
+use Rattle.qs_machine.specs.Credit.{spent}
+use Rattle.qs_machine.specs.SmallEnds.{server_with, abc, sent, fresh, all_came}
+use Rattle.qs_wire.specs.Reading.{reading_from}
+use Rattle.qs_runs.specs.Agree.{IsOld, frames_in}
+use Rattle.std.specs.List.{AllByRecursion}
 use Rattle.qs_runs.specs.Logs.{own_calls, processed}
 use Rattle.qs_runs.specs.Exclusions.{ReadIsNoPrefix, WholeIsMissing, SizesDiffer, WorldsDiffer, NewsIsNotOld, RepeatsSpend, NothingHappens, Exclusions, acknowledged, first_of_three}
 
@@ -98,9 +102,17 @@ news =
     first : (q : ℕ) → q < 1 → is_within 0 1 q ≡ true
     first q lt = grind (arith, nat_tests)
 
+nothing_spent : spent (server_with fresh) ≡ 0
+unfolding total
+nothing_spent = rw end_of-empty refl
+
 repeats : (bytes text none : Vec ℕ) → RepeatsSpend bytes text none
-unfolding own_calls processed
-repeats bytes text none = record { again = λ agrees. (let e : 1 ≡ 0 = ap (λ (e : End). length e.recvs.client_bidi) (agrees.again refl) in omega arith) }
+unfolding own_calls processed reading_from total
+repeats bytes text none =
+    record {
+      again = λ agrees. (let e : 1 ≡ 0 = ap (λ (e : End). length e.recvs.client_bidi) (agrees.again refl) in omega arith);
+      old_news = λ is agrees. (let e : 3 ≡ spent (server_with fresh) = agrees.old_news text.items refl (subst (λ bs. AllByRecursion (IsOld (server_with fresh)) (frames_in bs)) (sym is) tt) in let f : 3 ≡ 0 = e ∙ nothing_spent in omega arith);
+    }
 
 steps : (bytes text none : Vec ℕ) → NothingHappens bytes text none
 unfolding own_calls

@@ -28,13 +28,17 @@ got side bytes = (at side (ReadUpTo 0 10), answers.ReadUpTo (Ok (Bytes 3)) bytes
 abbrev pub told_end : Side → Vec ℕ → Event × Answer
 told_end side none = (at side (ReadUpTo 0 10), answers.ReadUpTo (Ok End) none)
 
+-- `make_packet` made packet 0 of this text
+abbrev pub packet : Side → Vec ℕ → Event × Answer
+packet side text = (at side (Make 1200), answers.Make (Ok (Some (record { number = 0; len = 8 }))) text)
+
 -- A writes bytes, makes packet 0 of them, which comes to B, and B reads them and then the end; the newest first
 abbrev pub story : Vec ℕ → Vec ℕ → Vec ℕ → History
 story bytes text none =
     told_end B none
     ∷ got B bytes
     ∷ (at A (Deliver 0), answers.Deliver (Ok Done))
-    ∷ (at A (Make 1200), answers.Make (Ok (Some (record { number = 0; len = 8 }))) text)
+    ∷ packet A text
     ∷ wrote A bytes 3
     ∷ []
 

@@ -17,7 +17,7 @@ use Rattle.qs_machine.specs.SmallEnds.{client_with, server_with, abc, wrote as w
 use Rattle.qs_runs.specs.Logs.{History}
 use Rattle.qs_runs.specs.Worlds.{World, WorldStep}
 use Rattle.qs_runs.specs.Agree.{PrefixAgrees, WholeAgrees, FinalSizesAgree, Agree, IsOld, StepAgrees}
-use Rattle.qs_runs.specs.Examples.{at, wrote, got, told_end, story}
+use Rattle.qs_runs.specs.Examples.{at, wrote, got, told_end, story, packet}
 
 -- It doesn't agree (section 2.2) that what was read
 pub record ReadIsNoPrefix (bytes other none : Vec ℕ) : Type 0 where
@@ -89,6 +89,8 @@ pub record NewsIsNotOld : Type 0 where
 pub record RepeatsSpend (bytes text none : Vec ℕ) : Type 0 where
   -- where a packet that was processed changes the end
   pub again : StepAgrees (story bytes text none) (both (client_of standard) (server standard)) (at A (Deliver 0)) (both (client_of standard) (server_with fresh)) → ⊥
+  -- where a packet that tells nothing spends credit
+  pub old_news : text.items ≡ [] → StepAgrees (packet A text ∷ []) (both (client_of standard) (server_with fresh)) (at A (Deliver 0)) (both (client_of standard) (server_with all_came)) → ⊥
 
 -- Nothing of this happens in a world
 pub record NothingHappens (bytes text none : Vec ℕ) : Type 0 where
