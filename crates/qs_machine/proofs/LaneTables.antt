@@ -3,7 +3,7 @@ use Rattle.std.proofs.Common.{◌≡◌, ℕ, zero, suc, ◌+◌, ◌-◌, ◌*�
 use Rattle.std.specs.List.{slice_get, slice_set, range_with_len, sum_by}
 use Rattle.std.proofs.lemmas.List.Sums.{sum_by-cons}
 use Rattle.qs_send.specs.Lane.{SendLane, Sending}
-use Rattle.qs_machine.specs.Tables.{Tables, table, with_table, lookup, update, updated, open_to, widened, total}
+use Rattle.qs_machine.specs.Tables.{Tables, table, with_table, lookup, update, updated, open_to, widened}
 use Rattle.qs_machine.specs.Outgoing.{lanes_of}
 
 abbrev lane : Sending → SendLane
@@ -92,10 +92,3 @@ lanes_opened t n begin =
 
 pub lanes_closed : (t : Tables Sending) (k count : ℕ) → lanes_of (with_table t k (take count (table t k))) ≡ with_table (lanes_of t) k (take count (table (lanes_of t) k))
 lanes_closed t k count = with_lanes t k _ ∙ ap (with_table (lanes_of t) k) (take_lanes count (table t k) ∙ ap (take count) (sym (table_lanes t k)))
-
-pub count_lanes : (t : Tables Sending) (k : ℕ) → length (table (lanes_of t) k) ≡ length (table t k)
-count_lanes t k = ap length (table_lanes t k) ∙ len_lanes (table t k)
-
-pub total_lanes : (f : SendLane → ℕ) (t : Tables Sending) → total f (lanes_of t) ≡ total (λ s. f s.lane) t
-unfolding total
-total_lanes f t = rw (sum_lanes f t.client_bidi, sum_lanes f t.server_bidi, sum_lanes f t.client_uni, sum_lanes f t.server_uni) refl

@@ -108,11 +108,6 @@ module _ {X : Type 0} where
       with_is ls n k ys len kind
       ∙ ap (with_table (tables_of ls) (n % 4)) (is ∙ ap (λ j. widened xs (j + 1) (λ j. begin (j * 4 + n % 4))) index ∙ ap (λ l. widened l (n / 4 + 1) (λ j. begin (j * 4 + n % 4))) (sym (table_is_at ls n k xs len kind at)))
 
-  closed_is_at : (ls : List (List X)) (n k m : ℕ) (xs ys : List X) → length ls ≡ 4 → k ≡ n % 4 → xs ≡ get_or ls k xs → ys ≡ take m xs
-      → tables_of (set ls k ys) ≡ with_table (tables_of ls) (n % 4) (take m (table (tables_of ls) (n % 4)))
-  closed_is_at ls n k m xs ys len kind at is =
-      with_is ls n k ys len kind ∙ ap (with_table (tables_of ls) (n % 4)) (is ∙ ap (take m) (sym (table_is_at ls n k xs len kind at)))
-
   -- each list was mapped, one after the other
   pub each_is : (f : X → X) (ls : List (List X)) (a b c d k l m n : List X) → length ls ≡ 4 → a ≡ map f (get_or ls 0 k) → b ≡ map f (get_or (set ls 0 a) 1 l)
       → c ≡ map f (get_or (set (set ls 0 a) 1 b) 2 m) → d ≡ map f (get_or (set (set (set ls 0 a) 1 b) 2 c) 3 n) → tables_of (set (set (set (set ls 0 a) 1 b) 2 c) 3 d) ≡ each f (tables_of ls)
@@ -202,10 +197,6 @@ module _ {X : Type 0} where
   pub opened_is : (ls : List (List X)) (n k i : ℕ) (d ys : List X) (begin : ℕ → X) → length ls ≡ 4 → k ≡ n % 4 → i ≡ n / 4
       → ys ≡ widened (get_or ls k d) (i + 1) (λ j. begin (j * 4 + n % 4)) → tables_of (set ls k ys) ≡ open_to (tables_of ls) n begin
   opened_is ls n k i d ys begin len kind index is = opened_is_at ls n k i (get_or ls k d) ys begin len kind index (listed ls n k d len kind) is
-
-  pub closed_is : (ls : List (List X)) (n k m : ℕ) (d ys : List X) → length ls ≡ 4 → k ≡ n % 4 → ys ≡ take m (get_or ls k d)
-      → tables_of (set ls k ys) ≡ with_table (tables_of ls) (n % 4) (take m (table (tables_of ls) (n % 4)))
-  closed_is ls n k m d ys len kind is = closed_is_at ls n k m (get_or ls k d) ys len kind (listed ls n k d len kind) is
 
   pub sum_le : (f : X → ℕ) (ls : List (List X)) (n k : ℕ) (d : List X) → length ls ≡ 4 → k ≡ n % 4 → sum_by f (get_or ls k d) ≤ total f (tables_of ls)
   sum_le f ls n k d len kind = sum_le_at f ls n k (get_or ls k d) len kind (listed ls n k d len kind)

@@ -11,7 +11,7 @@ use Rattle.qs_recv.specs.Lawful.{IsLawful}
 use Rattle.qs_recv.proofs.LaneLaws.{len_within}
 use Rattle.qs_recv.proofs.LawfulLaws.{lawful_new, lawful_raise, read_within}
 use Rattle.qs_machine.specs.declared.tally.Tally.{Tally}
-use Rattle.qs_machine.specs.Sums.{stored_on, tally_of, tally_on, moved, IsPart, IsPaid, EachLawful}
+use Rattle.qs_machine.specs.Sums.{stored_on, tally_of, tally_on, moved, IsPaid, EachLawful}
 
 -- what is stored and what was taken is at most the highest offset
 pub lane_paid : (lane : RecvLane) → IsLawful lane → fmap.len lane.arrived.stored + taken lane ≤ highest lane
@@ -46,10 +46,6 @@ sum_set f xs i x y there is =
     let e : f (get_or xs i x) ≡ f x = ap f (sym is) in
     omega (arith, le, e, whole)
 
-pub tally_part : (xs : List RecvLane) (i : ℕ) (x : RecvLane) → i < length xs → x ≡ get_or xs i x → IsPart (tally_of x) (tally_on xs)
-tally_part xs i x there is =
-    record { spent = sum_part highest xs i x there is; taken = sum_part taken xs i x there is; stored = sum_part stored_on xs i x there is }
-
 abbrev sums : ℕ → ℕ → ℕ → Tally
 sums spent taken stored = record { spent = spent; taken = taken; stored = stored }
 
@@ -58,12 +54,6 @@ same_tally a b p q r = ap (λ k. sums k a.taken a.stored) p ∙ ap (λ k. sums b
 
 pub tally_set : (xs : List RecvLane) (i : ℕ) (x y : RecvLane) → i < length xs → x ≡ get_or xs i x → tally_on (set xs i y) ≡ moved (tally_on xs) (tally_of x) (tally_of y)
 tally_set xs i x y there is = same_tally _ _ (sum_set highest xs i x y there is) (sum_set taken xs i x y there is) (sum_set stored_on xs i x y there is)
-
-pub spent_set : (xs : List RecvLane) (i : ℕ) (x y d : RecvLane) → i < length xs → x ≡ get_or xs i x → sum_by highest (set xs i y) + highest x ≡ sum_by highest xs + highest y
-spent_set xs i x y d there is =
-    let whole = sum_by-set highest xs i y x there in
-    let e : highest (get_or xs i x) ≡ highest x = ap highest (sym is) in
-    omega (arith, e, whole)
 
 pub each_paid : (xs : List RecvLane) → EachLawful xs → IsPaid (tally_on xs)
 each_paid [] each = omega arith

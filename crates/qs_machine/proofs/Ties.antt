@@ -14,10 +14,10 @@ use Rattle.qs_machine.specs.Tables.{Tables, table, with_table, lookup, update, o
 use Rattle.qs_machine.specs.Ends.{Records}
 use Rattle.qs_machine.specs.Outgoing.{IsCarried, IsTied, AreTied, AreApartIn, AreOfOpen, IsOfOpen, IsOfReset, lanes_of}
 use Rattle.qs_machine.proofs.TableLaws.{lookup_same, lookup_other, lookup_open, with_other, with_same, lookup_in}
-use Rattle.qs_machine.proofs.Carried.{none_some, some_is, IsShorter, with_piece, carried_before, carried_is, first_carried}
+use Rattle.qs_machine.proofs.Carried.{none_some, some_is, IsShorter, with_piece, carried_before, carried_is}
 use Rattle.qs_machine.proofs.Tied.{CarriesSame, tied_same, tied_new, tied_sent, tied_acked, tied_lost, other_put, other_gone, same_stream, not_told}
 use Rattle.qs_machine.proofs.Apart.{apart_none, apart_shorter, apart_put, gone_apart, due_apart, told_apart}
-use Rattle.qs_machine.proofs.LaneTables.{lookup_lanes, lane_there, half_of, update_lanes, lanes_opened, lanes_closed}
+use Rattle.qs_machine.proofs.LaneTables.{lookup_lanes, lane_there, update_lanes, lanes_opened, lanes_closed}
 
 nothing_carried : (p : Piece) → IsCarried fmap.empty p → ⊥
 nothing_carried p (k, ps, there, a) = none_some ps (sym (fmap.get-empty nat_cmp k) ∙ there)
@@ -197,7 +197,3 @@ ties_item_gone t m m' k i h short =
       apart = apart_shorter m m' k (Told i) short h.apart;
       of_open = λ p out. h.of_open p (carried_before m m' k (Told i) short p out);
     }
-
--- a chunk that goes is of an open stream, and was sent
-pub chunk_of_open : (t : Tables Sending) (m m' : Records) (k n : ℕ) (c : Chunk) → AreTied t m → IsShorter m k (Data n c) m' → (s : Sending) × (lookup t n ≡ Some s)
-chunk_of_open t m m' k n c h short = half_of t n (h.of_open (Data n c) (first_carried m m' k (Data n c) short))

@@ -101,14 +101,6 @@ module _ (p : Past) (e : End) (n : ℕ) (ok : EndOk p e) where
         streams = subst (λ s. OpenOk p e.role e.peer.streams_bidi e.peer.streams_uni e.known_bidi e.known_uni s (is_open e.recvs)) (sym (open_update e.sends n l m is)) ok.streams;
       }
 
-  -- a change that keeps each half that meets the invariant
-  pub recv_kept : (f : RecvLane → RecvLane) → ((l : RecvLane) → lookup e.recvs n ≡ Some l → RecvOk p n (window e n) l → RecvOk p n (window e n) (f l) × Grows l (f l)) → EndOk p (on_recv n f e)
-  recv_kept f keeps = go (lookup e.recvs n) refl (ok.recvs n)
-    where
-      go : (o : Option RecvLane) → lookup e.recvs n ≡ o → RecvSlot p n (window e n) o → EndOk p (record e { recvs = updated e.recvs n f o })
-      go None is h = ok
-      go (Some l) is h = recv_changed l (f l) is (keeps l is h).0 (keeps l is h).1
-
   pub send_kept : (f : SendLane → SendLane) → ((l : SendLane) → lookup e.sends n ≡ Some l → SendOk p n (first_send_limit e n) l → SendOk p n (first_send_limit e n) (f l) × ((f l).sent_end ≡ l.sent_end)) → EndOk p (on_send n f e)
   send_kept f keeps = go (lookup e.sends n) refl (ok.sends n)
     where
