@@ -14,6 +14,7 @@ pub mod Parting
 pub mod PieceEquality
 pub mod Outstanding
 pub mod Carrying
+pub mod Turns
 pub mod Passing
 pub mod LostLists
 pub mod LostOrders

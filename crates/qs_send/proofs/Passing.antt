@@ -1,10 +1,11 @@
 -- The pass over an ACK: what it passes without an answer, and what its answers say.
-use Rattle.std.proofs.Common.{◌≡◌, ◌∙◌, ℕ, ◌+◌, ◌-◌, ◌<◌, ◌≤◌, true, false, Some, List, [], ◌∷◌, length, min, sym, ap, subst, arith, inl, inr, ◌⊎◌}
+use Rattle.std.proofs.Common.{◌≡◌, ◌∙◌, ℕ, ◌+◌, ◌-◌, ◌<◌, ◌≤◌, true, false, Some, List, [], ◌∷◌, length, min, refl, sym, ap, subst, arith, inl, inr, ◌⊎◌}
 use Rattle.std.specs.FinMap as fmap
 use Rattle.std.proofs.lemmas.Bool.{both_ways, cases_lt}
 use Rattle.qs_wire.specs.Acks.{FallBelow}
 use Rattle.qs_send.specs.Records.{PacketPieces, Recorded, Among}
-use Rattle.qs_send.specs.AckPass.{PAST_NUMBERS, IsNext, MayEmpty, PassGives, AreFalling, PassGivesAllNamed, pass_over, Passing, IsNamed, IsAhead, Falls, HasRead, HasPassed, turns_ahead}
+use Rattle.qs_send.specs.AckPass.{PAST_NUMBERS, GivesNumber, IsNext, MayEmpty, PassGives, AreFalling, PassGivesAllNamed, pass_over, Passing, IsNamed, IsAhead, Falls, HasRead, HasPassed, turns_ahead, turns_left, slots_within, slots_named}
+use Rattle.qs_send.proofs.Turns.{HasTaken, taken_then}
 
 -- each number that falling ranges name lies below
 pub named_below : (high : ℕ) (rs : List (ℕ × ℕ)) (j : ℕ) → FallBelow high rs → IsNamed rs j → j + 1 < high
@@ -59,6 +60,36 @@ module _ (m : PacketPieces) (p q cut : Passing) (low : cut.low ≡ q.low) (unrea
       passed = λ j ahead. elim (so_far.passed j ahead) [ inl ahead_still ↦ gone so_far.falls j ahead_still | inr went ↦ inr (went.0, (λ i a. went.1 i (was i a))) ];
     }
 
+-- A number is given
+
+falls_on : (q cut : Passing) → cut.low ≡ q.low → cut.unread ≡ q.unread → Falls q → Falls cut
+falls_on q cut low unread falls = subst (λ x. FallBelow x cut.unread) (sym low) (subst (FallBelow q.low) (sym unread) falls)
+
+pub passed_falls : (m : PacketPieces) (p q cut : Passing) → cut.low ≡ q.low → cut.unread ≡ q.unread → (Falls p → HasPassed m p q) → Falls p → Falls cut
+passed_falls m p q cut low unread so_far falls = falls_on q cut low unread (so_far falls).falls
+
+pub given_number : (m : PacketPieces) (p q cut : Passing) (k : ℕ) → HasPassed m p q → cut.low ≡ q.low → cut.unread ≡ q.unread → (cut.below ≡ k) × (k < q.below) × (q.low ≤ k) × (fmap.contains_key m k ≡ true)
+    → ((j : ℕ) → k < j → j < q.below → fmap.contains_key m j ≡ false) → GivesNumber m p k cut
+given_number m p q cut k so_far low unread at above =
+    let is = at.0 in
+    let lt = at.1 in
+    let from = at.2 in
+    let there : IsAhead q k = (lt, inl from) in
+    let to : (j : ℕ) → IsAhead cut j → IsAhead q j = λ j ahead. let small = ahead.0 in (omega (arith, small, is, lt), elim ahead.1 [ inl here ↦ inl (omega (arith, here, low)) | inr named ↦ inr (subst (λ rs. IsNamed rs j) unread named) ]) in
+    let back : (j : ℕ) → j < k → IsAhead q j → IsAhead cut j = λ j small ahead. (omega (arith, small, is), elim ahead.1 [ inl here ↦ inl (omega (arith, here, low)) | inr named ↦ inr (subst (λ rs. IsNamed rs j) (sym unread) named) ]) in
+    record {
+      named = so_far.ahead k there;
+      held = at.3;
+      greatest = λ j ahead held. elim (so_far.passed j ahead) [
+        | inl still ↦ elim (cases_lt k j) [ inl more ↦ absurd (both_ways _ (above j more still.0) held) | inr le ↦ le ]
+        | inr went ↦ absurd (both_ways _ went.0 held)
+      ];
+      left = λ j. (
+        (λ ahead. let small = ahead.0 in (omega (arith, small, is), so_far.ahead j (to j ahead))),
+        (λ both. elim (so_far.passed j both.1) [ inl still ↦ back j both.0 still | inr went ↦ let more = went.1 k there in let small = both.0 in absurd (omega (arith, more, small)) ]),
+      );
+    }
+
 -- Turns
 
 min_less : (a b base slots : ℕ) → a ≤ b → min (a - base) slots ≤ min (b - base) slots
@@ -82,9 +113,16 @@ record FromHere (r : Recorded) (p : Passing) (ks : List ℕ) (q : Passing) : Typ
   given : (j : ℕ) → Among j ks → IsAhead p j × (fmap.contains_key r.pieces j ≡ true)
   all : (j : ℕ) → IsAhead p j → fmap.contains_key r.pieces j ≡ true → Among j ks
   turns : q.turns + turns_ahead q r ≤ p.turns + turns_ahead p r
+  each : HasTaken r p q × (turns_left q r ≡ 0)
 
 same_turns : (p : Passing) (r s : Recorded) → s.base ≡ r.base → s.slots ≡ r.slots → turns_ahead p s ≡ turns_ahead p r
 same_turns p r s base slots = ap (λ x. min (p.below - x) s.slots + length p.unread) base ∙ ap (λ x. min (p.below - r.base) x + length p.unread) slots
+
+same_taken : (r s : Recorded) (p q : Passing) → s.base ≡ r.base → s.slots ≡ r.slots → HasTaken s p q × (turns_left q s ≡ 0) → HasTaken r p q × (turns_left q r ≡ 0)
+same_taken r s p q base slots taken = taken_of s.base s.slots base slots taken
+  where
+    taken_of : (b n : ℕ) → b ≡ r.base → n ≡ r.slots → HasTaken (record r { base = b; slots = n }) p q × (turns_left q (record r { base = b; slots = n }) ≡ 0) → HasTaken r p q × (turns_left q r ≡ 0)
+    taken_of b n eb en h = subst (λ x. HasTaken (record r { slots = x }) p q × (turns_left q (record r { slots = x }) ≡ 0)) en (subst (λ x. HasTaken (record r { base = x; slots = n }) p q × (turns_left q (record r { base = x; slots = n }) ≡ 0)) eb h)
 
 one_given : (r s : Recorded) (p next q : Passing) (k : ℕ) (ks : List ℕ) → Falls p → IsNext r p (Some k) next → MayEmpty r k s → FromHere s next ks q → FromHere r p (k ∷ ks) q
 one_given r s p next q k ks falls is gone later =
@@ -108,6 +146,7 @@ one_given r s p next q k ks falls is gone later =
           let same = same_turns next r s gone.base gone.slots in
           let end = same_turns q r s gone.base gone.slots in
           omega (arith, now, rest, same, end);
+      each = let later_on = same_taken r s next q gone.base gone.slots later.each in (taken_then r p next q (is.each falls) later_on.0, later_on.1);
     }
 
 from_here : (r : Recorded) (p : Passing) (ks : List ℕ) (q : Passing) → Falls p → PassGives r p ks q → FromHere r p ks q
@@ -116,6 +155,7 @@ from_here r p [] q falls is = record {
   given = λ j among. absurd among;
   all = λ j ahead held. absurd (both_ways _ (is.answer falls j ahead) held);
   turns = is.turns;
+  each = (is.each falls, is.ended refl);
 }
 from_here r p (k ∷ ks) q falls is =
     one_given r is.0 p is.1 q k ks falls is.2 is.3 (from_here is.0 is.1 ks q (is.2.falls falls) is.4)
@@ -130,4 +170,12 @@ pass_gives_all_named r ranges ks q falls is =
         (λ both. let lt = named_below PAST_NUMBERS ranges k falls both.0 in all.all k (omega (arith, lt), inr both.0) both.1),
       );
       turns = let t = all.turns in omega (arith, t);
+      each =
+          let taken = all.each.0.1 in
+          let none = all.each.1 in
+          let begins : turns_left (pass_over ranges) r ≡ slots_named r PAST_NUMBERS ranges + length ranges = none_before (slots_named r PAST_NUMBERS ranges) (length ranges) in
+          omega (arith, taken, none, begins);
     }
+  where
+    none_before : (n l : ℕ) → (slots_within r PAST_NUMBERS PAST_NUMBERS + n) + l ≡ n + l
+    none_before n l = omega arith

@@ -1,14 +1,14 @@
 //! Which outstanding packets an ACK names.
 ghost use Rattle.std.specs.Prelude.{◌≡◌, ℕ, ◌+◌, ◌-◌, ◌<◌, ◌≤◌, ◌↔◌, [], min, IsTrue, IfSome, IfNone, MatchOption, true, false};
 ghost use Rattle.std.specs.FinMap as fmap;
-ghost use Rattle.qs_send.specs.AckPass.{HasRead, IsNext, pass_over};
+ghost use Rattle.qs_send.specs.AckPass.{HasRead, IsNext, more_turns, pass_over, slots_within};
 
 use crate::records::Records;
 use qs_wire::AckRanges;
 use std::marker::Model;
 
 /// One pass over the records from the highest number that an ACK's ranges name down to the lowest (RFC 9000, section 13.3). Each
-/// slot and each range takes at most one turn.
+/// slot that it looks at and each range that it reads takes one turn.
 #[derive(Drop)]
 pub struct AckPass<'a> {
     // Of the range that was read last, the numbers from `low` on and below `below` are left.
@@ -19,13 +19,16 @@ pub struct AckPass<'a> {
 }
 
 impl<'a> Model for AckPass<'a> {
-    ghost use Rattle.qs_send.specs.AckPass.{Passing, passing_code};
+    ghost use Rattle.std.specs.Prelude.{◌≤◌};
+    ghost use Rattle.qs_send.specs.AckPass.{Passing, passing_code, PAST_NUMBERS};
 
     ghost Value = { Passing };
 
     ghost coded = { passing_code };
 
     ghost view = { λ p. record { low = p.low; below = p.below; unread = p.ranges; turns = p.turns } };
+
+    ghost invariant = { λ p. p.turns ≤ PAST_NUMBERS };
 }
 
 impl<'a> AckPass<'a> {
@@ -45,6 +48,7 @@ impl<'a> AckPass<'a> {
     pub fn next(&mut self, records: &Records) -> Option<u64>
         ensures { IsNext records.now self.old result self.new }
     {
+        let _turns = self.turns;
         loop {
             if let Some(number) = self.in_range(records) {
                 return Some(number);
@@ -87,6 +91,10 @@ impl<'a> AckPass<'a> {
         ensures past { IfNone result ((j : ℕ) → self.new.below ≤ j → j < self.old.below → fmap.contains_key records.now.pieces j ≡ false) }
         ensures turns { self.new.turns + min (self.new.below - records.now.base) records.now.slots ≤ self.old.turns + min (self.old.below - records.now.base) records.now.slots }
         ensures counted { self.old.turns ≤ self.new.turns }
+        ensures floor { min (min self.old.below (records.now.base + records.now.slots)) self.old.low ≤ self.new.below }
+        ensures fewer { slots_within records.now self.old.low self.new.below ≤ slots_within records.now self.old.low self.old.below }
+        ensures each { self.new.turns ≡ more_turns self.old.turns (slots_within records.now self.old.low self.old.below - slots_within records.now self.old.low self.new.below) }
+        ensures done { IfNone result (slots_within records.now self.old.low self.new.below ≡ 0) }
     {
         self.below = records.cut(self.below);
         while self.has_slot(records.base()) {
@@ -110,7 +118,7 @@ impl<'a> AckPass<'a> {
         ensures held { result ≡ fmap.contains_key records.now.pieces self.new.below }
         ensures same { (self.new.low ≡ self.old.low) × (self.new.unread ≡ self.old.unread) }
         ensures below { self.new.below + 1 ≡ self.old.below }
-        ensures turns { self.new.turns ≤ self.old.turns + 1 }
+        ensures turns { self.new.turns ≡ more_turns self.old.turns 1 }
         ensures counted { self.old.turns ≤ self.new.turns }
     {
         self.turns = one_more(self.turns);
@@ -121,8 +129,8 @@ impl<'a> AckPass<'a> {
 
 /// One turn more. The count stays at its greatest value.
 pub(crate) fn one_more(turns: u64) -> u64
+    ensures exact { result ≡ more_turns turns 1 }
     ensures least { turns ≤ result }
-    ensures most { result ≤ turns + 1 }
 {
     turns.saturating_add(1)
 }

@@ -1,16 +1,17 @@
 //! Which lost packets a late ACK names.
-ghost use Rattle.std.specs.Prelude.{◌≡◌, ℕ, ◌+◌, ◌<◌, ◌≤◌, [], min, IfSome, IfNone, true, false};
+ghost use Rattle.std.specs.Prelude.{◌≡◌, ℕ, ◌+◌, ◌<◌, ◌≤◌, [], nat_lt, if◌then◌else◌, IfSome, IfNone, Some, true, false};
 ghost use Rattle.std.specs.FinMap as fmap;
-ghost use Rattle.qs_send.specs.AckPass.{HasRead, pass_over};
-ghost use Rattle.qs_send.specs.LostPass.{IsNextLost, count_below};
+ghost use Rattle.qs_send.specs.AckPass.{HasRead, more_turns, pass_over};
+ghost use Rattle.qs_send.specs.LostPass.{IsNextLost, IsSeen, count_below, seen_below};
+ghost use Rattle.qs_send.specs.Records.{IsGreatestBelow};
 
 use crate::ack_pass::one_more;
 use crate::lost_records::LostRecords;
 use qs_wire::AckRanges;
 use std::marker::Model;
 
-/// One pass over the lost records from the highest number that an ACK's ranges name down to the lowest (RFC 9000, section 13.2.1). In
-/// each turn it looks at one record, and gives it or reads the next range.
+/// One pass over the lost records from the highest number that an ACK's ranges name down to the lowest (RFC 9000, section 13.2.1). Each
+/// record that it looks at, also one below the range, and each range that it reads takes one turn. It looks at none twice.
 #[derive(Drop)]
 pub struct LostPass<'a> {
     // Of the range that was read last, the numbers from `low` on and below `below` are left.
@@ -21,13 +22,16 @@ pub struct LostPass<'a> {
 }
 
 impl<'a> Model for LostPass<'a> {
-    ghost use Rattle.qs_send.specs.AckPass.{Passing, passing_code};
+    ghost use Rattle.std.specs.Prelude.{◌≤◌};
+    ghost use Rattle.qs_send.specs.AckPass.{Passing, passing_code, PAST_NUMBERS};
 
     ghost Value = { Passing };
 
     ghost coded = { passing_code };
 
     ghost view = { λ p. record { low = p.low; below = p.below; unread = p.ranges; turns = p.turns } };
+
+    ghost invariant = { λ p. p.turns ≤ PAST_NUMBERS };
 }
 
 impl<'a> LostPass<'a> {
@@ -47,17 +51,21 @@ impl<'a> LostPass<'a> {
     pub fn next(&mut self, records: &LostRecords) -> Option<u64>
         ensures { IsNextLost records.now self.old result self.new }
     {
+        // The number of the record that was looked at last; before the first look the bound itself.
+        let mut seen = self.below;
+        records.is_in_order();
         loop {
-            if let Some(number) = self.in_range(records) {
+            if let Some(number) = self.in_range(records, &mut seen) {
                 return Some(number);
             }
             if !self.read_range() {
+                self.below = 0;
                 return None;
             }
         }
     }
 
-    /// How many turns it took: records that it gave, and ranges that it read.
+    /// How many turns it took: records that it looked at, and ranges that it read.
     pub fn turns(&self) -> u64
         ensures { result ≡ self.now.turns }
     {
@@ -79,24 +87,53 @@ impl<'a> LostPass<'a> {
         true
     }
 
-    // The greatest lost number of the range that was read last, below the one given last.
-    fn in_range(&mut self, records: &LostRecords) -> Option<u64>
+    // The greatest lost number of the range that was read last, below the one given last. Another record is looked at in one turn.
+    fn in_range(&mut self, records: &LostRecords, seen: &mut u64) -> Option<u64>
+        requires { IsSeen records.now.pieces self.old.below seen.old }
         ensures same { (self.new.low ≡ self.old.low) × (self.new.unread ≡ self.old.unread) }
         ensures below { self.new.below ≤ self.old.below }
         ensures found { IfSome result (λ k. (self.new.below ≡ k) × (k < self.old.below) × (self.old.low ≤ k) × (fmap.contains_key records.now.pieces k ≡ true)) }
         ensures above { IfSome result (λ k. (j : ℕ) → k < j → j < self.old.below → fmap.contains_key records.now.pieces j ≡ false) }
         ensures none { IfNone result ((j : ℕ) → self.old.low ≤ j → j < self.old.below → fmap.contains_key records.now.pieces j ≡ false) }
         ensures past { IfNone result ((j : ℕ) → self.new.below ≤ j → j < self.old.below → fmap.contains_key records.now.pieces j ≡ false) }
-        ensures turns { self.new.turns + count_below records.now.order self.new.below ≤ self.old.turns + count_below records.now.order self.old.below }
+        ensures seen { IsSeen records.now.pieces self.new.below seen.new }
+        ensures given { IfSome result (λ k. seen.new ≡ k) }
+        ensures looks { seen.new ≤ seen.old }
+        ensures each { self.new.turns ≡ (if nat_lt seen.new seen.old then more_turns self.old.turns 1 else self.old.turns) }
+        ensures turns { (self.new.turns + count_below records.now.order self.new.below) + seen_below seen.old self.old.below
+            ≤ (self.old.turns + count_below records.now.order self.old.below) + seen_below seen.new self.new.below }
         ensures counted { self.old.turns ≤ self.new.turns }
     {
         records.is_in_order();
-        let number = records.below(self.below)?;
+        if self.below <= self.low {
+            return None;
+        }
+        let number = self.look(records, *seen)?;
+        *seen = number;
         if number < self.low {
             return None;
         }
-        self.turns = one_more(self.turns);
         self.below = number;
+        Some(number)
+    }
+
+    // The greatest lost number below the one given last: the one that was looked at last, where it lies below, else another one, in one
+    // turn.
+    fn look(&mut self, records: &LostRecords, seen: u64) -> Option<u64>
+        requires { IsSeen records.now.pieces self.old.below seen }
+        ensures same { (self.new.low ≡ self.old.low) × (self.new.below ≡ self.old.below) × (self.new.unread ≡ self.old.unread) }
+        ensures found { IfSome result (IsGreatestBelow records.now.pieces self.old.below) }
+        ensures none { IfNone result ((k : ℕ) → k < self.old.below → fmap.contains_key records.now.pieces k ≡ false) }
+        ensures old { seen < self.old.below → (result ≡ Some seen) × (self.new.turns ≡ self.old.turns) }
+        ensures new { self.old.below ≤ seen → IfSome result (λ _. self.new.turns ≡ more_turns self.old.turns 1) }
+        ensures no_look { IfNone result (self.new.turns ≡ self.old.turns) }
+        ensures counted { self.old.turns ≤ self.new.turns }
+    {
+        if seen < self.below {
+            return Some(seen);
+        }
+        let number = records.below(self.below)?;
+        self.turns = one_more(self.turns);
         Some(number)
     }
 }

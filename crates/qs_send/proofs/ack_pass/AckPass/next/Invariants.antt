@@ -1,5 +1,6 @@
 use Rattle.std.proofs.Common.{◌≤◌, ◌+◌, length}
 use Rattle.qs_send.specs.AckPass.{Falls, HasPassed, turns_ahead}
+use Rattle.qs_send.proofs.Turns.{HasTaken}
 use Rattle.qs_send.proofs.ack_pass.AckPass.next.Given as goal
 
 abbrev pub invariant-loop-number : goal.invariant-loop-number
@@ -8,6 +9,7 @@ invariant-loop-number l = record {
   below : l.self.below ≤ l.fn.self.below;
   turns : l.self.turns + turns_ahead l.self l.records ≤ l.fn.self.turns + turns_ahead l.fn.self l.records;
   counted : l.fn.self.turns ≤ l.self.turns;
+  each : Falls l.fn.self → HasTaken l.records l.fn.self l.self;
 }
 
 abbrev pub decreases-loop-number : goal.decreases-loop-number

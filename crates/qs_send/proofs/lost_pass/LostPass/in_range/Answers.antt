@@ -1,11 +1,21 @@
-use Rattle.std.proofs.Common.{arith}
-use Rattle.qs_send.proofs.LostPassing.{count_given}
+use Rattle.std.proofs.Common.{◌≡◌, ap, arith}
+use Rattle.qs_send.specs.AckPass.{Passing}
+use Rattle.qs_send.proofs.LostPassing.{count_given, greatest_is_seen, not_below_itself, look_turns}
 use Rattle.qs_send.proofs.lost_pass.LostPass.in_range.Goals as goal
+
+pub returns-then-number-self-clause-seen : goal.returns-then-number-self-clause-seen
+returns-then-number-self-clause-seen c = rw c.look.ensures.same.1 (greatest_is_seen _ _ _ c.in_ok-number.ensures.found)
+
+pub returns-clause-seen : goal.returns-clause-seen
+returns-clause-seen c = not_below_itself _ _
 
 pub returns-clause-turns : goal.returns-clause-turns
 returns-clause-turns c =
     let number = c.in_ok-number.number in
+    let order = c.args.records.now.order in
     let at = c.in_ok-number.ensures.found in
-    let more = c.one_more-self-inside.ensures.most in
-    let given = count_given c.args.records.now.order number c.self.inside.below ((c.is_in_order.ensures.same number).1 at.held) at.below in
-    rw (← c.self.view_is) (omega (arith, more, given))
+    let below = c.args.self.now.below in
+    let given = count_given order number below ((c.is_in_order.ensures.same number).1 at.held) at.below in
+    let turns = look_turns order c.args.seen.now number below c.args.self.now.turns c.look.new.self.turns given (λ lt. (c.look.ensures.old lt).1) (λ ge. c.in_ok-number.ensures.new ge) in
+    let same : c.self-2.inside.turns ≡ c.look.new.self.turns = ap (λ (p : Passing). p.turns) c.self-2.view_is in
+    omega (arith, same, turns)
