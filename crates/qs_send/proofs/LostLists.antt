@@ -3,7 +3,7 @@ use Rattle.std.proofs.Common.{◌≡◌, ◌∙◌, ℕ, zero, suc, ◌+◌, ◌
 use Rattle.std.specs.List.{insert, remove}
 use Rattle.std.specs.List.Sorted.{IsSearchInRange, IsBinarySearchResult}
 use Rattle.std.specs.Option.{is_some}
-use Rattle.std.specs.Result.{is_ok, OnOk}
+use Rattle.std.specs.Result.{is_ok, OnOk, OnErr}
 use Rattle.std.specs.Ordering.{nat_cmp, ordering_index, MatchOrdering}
 use Rattle.std.specs.Cmp.{ranks, nat_cmp_total}
 use Rattle.std.specs.FinMap as fmap
@@ -354,6 +354,19 @@ room_at l n x item room = subst (λ o. 0 < spare_in l.spare o) item.found room
 
 pub room_new : (l : Listed) (n : ℕ) → lookup n l.records ≡ None → 0 < room_for l n → 0 < l.spare
 room_new l n none room = subst (λ o. 0 < spare_in l.spare o) none room
+
+-- room that stood stays while more is made, at a record that is held
+pub room_set : (n spare : ℕ) (rs : List Numbered) (k : ℕ) (x y : Numbered) → IsAt n rs k → y.number ≡ n → IsItem n rs x → x.spare ≤ y.spare → (q : ℕ) → spare_in spare (lookup q rs) ≤ spare_in spare (lookup q (slice_set rs k y))
+room_set n spare rs k x y at is item le q = subst (λ o. spare_in spare (lookup q rs) ≤ spare_in spare o) (sym (lookup-set q n rs k y at is)) (go (nat_eq q n) refl)
+  where
+    go : (b : Bool) → nat_eq q n ≡ b → spare_in spare (lookup q rs) ≤ spare_in spare (cond b (Some y) (lookup q rs))
+    go true same =
+        let e : q ≡ n = grind (arith, nat_tests, same) in
+        subst (λ o. spare_in spare o ≤ y.spare) (sym (ap (λ m. lookup m rs) e ∙ item.found)) le
+    go false apart = omega arith
+
+pub room_gone : {E : Type 0} (res : Result (Unit {0}) E) (n spare : ℕ) (rs : List Numbered) (x : Numbered) → IsItem n rs x → OnErr res (x.spare ≡ 0) → OnErr res (spare_in spare (lookup n rs) ≡ 0)
+room_gone res n spare rs x item err = subst (λ o. OnErr res (spare_in spare o ≡ 0)) (sym item.found) err
 
 -- What a search or an edit didn't answer
 

@@ -1,5 +1,5 @@
 //! Records of lost packets by number.
-ghost use Rattle.std.specs.Prelude.{◌≡◌, ℕ, ◌<◌, ◌≤◌, length, IfOk, IfErr, IfSome, IfNone, OnOk, None, false, is_ok};
+ghost use Rattle.std.specs.Prelude.{◌≡◌, ℕ, ◌<◌, ◌≤◌, length, IfOk, IfErr, IfSome, IfNone, OnOk, OnErr, None, false, is_ok};
 ghost use Rattle.std.specs.FinMap as fmap;
 ghost use Rattle.qs_send.specs.ByNumber.{IsAt, IsCut, IsGapAt, lookup, map_of, room_for};
 ghost use Rattle.qs_send.specs.LostRecords.{with_piece};
@@ -49,6 +49,8 @@ impl ByNumber {
     pub(crate) fn reserve(&mut self, number: u64) -> Result<(), NoMemory>
         ensures same { map_of self.new.records ≡ map_of self.old.records }
         ensures ok { OnOk result (0 < room_for self.new number) }
+        ensures more { (n : ℕ) → room_for self.old n ≤ room_for self.new n }
+        ensures stands { OnErr result (room_for self.old number ≡ 0) }
     {
         match self.place_of(number) {
             Ok(place) => self.records[place].reserve(),
@@ -147,6 +149,8 @@ impl ByNumber {
     fn reserve_record(&mut self) -> Result<(), NoMemory>
         ensures same { self.new.records ≡ self.old.records }
         ensures ok { OnOk result (0 < self.new.spare) }
+        ensures more { self.old.spare ≤ self.new.spare }
+        ensures stands { OnErr result (self.old.spare ≡ 0) }
     {
         self.records.reserve(1)?;
         self.spare.reserve(1)?;

@@ -1,5 +1,5 @@
 //! What one packet carried that was declared lost.
-ghost use Rattle.std.specs.Prelude.{◌≡◌, ◌+◌, ◌<◌, ◌≤◌, ◌∷◌, ◌++◌, [], length, drop, Some, true, false, OnOk, vec_len, vec_capacity};
+ghost use Rattle.std.specs.Prelude.{◌≡◌, ◌+◌, ◌<◌, ◌≤◌, ◌∷◌, ◌++◌, [], length, drop, Some, true, false, OnOk, OnErr, vec_len, vec_capacity};
 ghost use Rattle.qs_send.specs.Records.{first_piece};
 
 use crate::piece::Piece;
@@ -67,6 +67,8 @@ impl LostRecord {
         ensures number { self.new.number ≡ self.old.number }
         ensures pieces { self.new.pieces ≡ self.old.pieces }
         ensures ok { OnOk result (0 < self.new.spare) }
+        ensures more { self.old.spare ≤ self.new.spare }
+        ensures stands { OnErr result (self.old.spare ≡ 0) }
     {
         self.pieces.reserve(1)?;
         Ok(())

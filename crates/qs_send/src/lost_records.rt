@@ -56,14 +56,16 @@ impl LostRecords {
         }
     }
 
-    /// Makes room for one piece more of a packet, in the place of the room that was made before.
+    /// Makes room for one piece more of a packet, in the place of the room that was made before. Unchanged where memory was refused.
     pub fn make_room(&mut self, number: u64) -> Result<(), NoMemory>
         ensures pieces { self.new.pieces ≡ self.old.pieces }
         ensures order { self.new.order ≡ self.old.order }
         ensures ok { OnOk result (self.new.room ≡ Some number) }
-        ensures err { OnErr result (self.new.room ≡ None) }
+        ensures err { OnErr result (self.new.room ≡ self.old.room) }
+
+        // Memory is taken only where there is no room for the packet.
+        ensures stands { OnErr result (self.old.room ≡ Some number → ⊥) }
     {
-        self.ready = None;
         self.order.reserve(1)?;
         self.list.reserve(number)?;
         self.ready = Some(number);

@@ -58,6 +58,9 @@ impl Records {
         ensures slots { self.new.slots ≡ self.old.slots }
         ensures ok { OnOk result (number < self.new.room) }
         ensures err { OnErr result ((self.new.base ≡ self.old.base) × (self.old.room ≤ self.new.room)) }
+
+        // Memory is taken only for a number beyond the room.
+        ensures beyond { OnErr result (self.old.room ≤ number) }
     {
         if self.slots.is_empty() {
             self.slots.reserve(1)?;
@@ -65,7 +68,10 @@ impl Records {
             return Ok(());
         }
         let place = number.saturating_sub(self.base) as usize;
-        let more = place.saturating_sub(self.slots.len()).saturating_add(1);
+        if place < self.slots.len() {
+            return Ok(());
+        }
+        let more = place - self.slots.len() + 1;
         self.slots.reserve(more)?;
         Ok(())
     }
