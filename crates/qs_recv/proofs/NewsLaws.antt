@@ -70,6 +70,10 @@ pub on_err : {T E P : Type 0} (res : Result T E) → P → OnErr res P
 on_err (Ok x) p = tt
 on_err (Err e) p = p
 
+pub err_then : {T E : Type 0} (res : Result T E) (P Q : Type 0) → (P → Q) → OnErr res P → OnErr res Q
+err_then (Ok x) P Q f p = tt
+err_then (Err e) P Q f p = f p
+
 -- no offsets
 pub with_none : (s : NumberSet) (lo hi : ℕ) → lo ≡ hi → set.union s (numbers lo hi) ≡ s
 with_none s lo hi same = same_numbers _ _ (λ q. grind (arith, nat_tests, same, contains-with_range s lo hi q))

@@ -481,3 +481,8 @@ ring_noted (Ok x) ring old new w from stored offset n ok err h =
       counted = h.counted;
     }
 ring_noted (Err e) ring old new w from stored offset n ok err h = rw err h
+
+-- the ring is there once an offset came that wasn't read
+pub ring_there : {P : Type 0} (ring : List ℕ) (received : NumberSet) (window read_count stored : ℕ) (discarding : Bool) → discarding ≡ false → IsRing ring received window read_count stored discarding → length ring < window
+    → (q : ℕ) → read_count ≤ q → set.contains received q ≡ true → P
+ring_there ring received window read_count stored discarding keeps h less q ge came = let is = h.held keeps q ge came in absurd (omega (arith, less, is))

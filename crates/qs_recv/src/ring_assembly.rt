@@ -1,7 +1,8 @@
 //! An assembly that keeps what came in one ring: the byte of an offset stands at the offset modulo the window.
 ghost use Rattle.std.specs.Prelude.{◌≡◌, if◌then◌else◌, ℕ, ◌+◌, ◌-◌, ◌%◌, ◌<◌, ◌≤◌, ◌^◌, length, slice_index, true, false, IsTrue, ◌↔◌, OnOk, OnErr};
 ghost use Rattle.std.specs.FinSet as set;
-ghost use Rattle.qs_ranges.specs.Numbers.{MAX_VARINT, is_within};
+ghost use Rattle.qs_ranges.specs.Numbers.{MAX_VARINT, MissesRange, covers, is_within};
+ghost use Rattle.qs_recv.specs.Assembled.{put};
 ghost use Rattle.qs_recv.specs.Ring.{AreAt, IsFilled, IsInRing, IsNextRun, IsWritten, missing_count};
 
 use crate::assembly::Assembly;
@@ -53,7 +54,22 @@ impl Assembly for RingAssembly {
         }
     }
 
-    fn put(&mut self, offset: u64, bytes: &[u8]) -> Result<(), NoMemory> {
+    fn put(&mut self, offset: u64, bytes: &[u8]) -> Result<(), NoMemory>
+        requires in_range { offset + length bytes.now ≤ MAX_VARINT }
+        requires in_window { self.old.discarding ≡ false → offset + length bytes.now ≤ self.old.read_count + self.old.window }
+        ensures ok { OnOk result (self.new ≡ put self.old offset bytes.now) }
+        ensures err { OnErr result (self.new ≡ self.old) }
+
+        // Memory is taken only for bytes of which one is new, and while bytes are thrown away only where no offset came
+        // or beside it.
+        ensures news { OnErr result (covers self.old.received offset (offset + length bytes.now) ≡ false) }
+        ensures apart { OnErr result (self.old.discarding ≡ true
+            → MissesRange self.old.received (offset - 1) (offset + length bytes.now + 1)) }
+
+        // The ring is there once an offset came that wasn't read.
+        ensures ring { OnErr result ((q : ℕ) → self.old.read_count ≤ q → set.contains self.old.received q ≡ true
+            → MissesRange self.old.received (offset - 1) (offset + length bytes.now + 1)) }
+    {
         let end = offset + bytes.len() as u64;
         if offset == end {
             return Ok(());
@@ -114,6 +130,8 @@ fn make_ring(ring: &mut Vec<u8>, window: u64) -> Result<(), NoMemory>
     ensures len { OnOk result (length ring.new.items ≡ window) }
     ensures kept { length ring.old.items ≡ window → ring.new.items ≡ ring.old.items }
     ensures err { OnErr result (ring.new.items ≡ ring.old.items) }
+    // Memory is taken only where the ring isn't there.
+    ensures full { OnErr result (length ring.old.items < window) }
 {
     ring.resize(window as usize, 0)?;
     Ok(())

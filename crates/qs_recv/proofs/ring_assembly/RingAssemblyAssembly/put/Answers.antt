@@ -2,9 +2,9 @@ use Rattle.std.proofs.Common.{◌∙◌, ◌+◌, ◌≤◌, sym, ap, subst, ari
 use Rattle.qs_recv.specs.Assembled.{Assembled}
 use Rattle.qs_recv.specs.Ring.{ring_bytes}
 use Rattle.qs_recv.proofs.AssembledLaws.{with_run}
-use Rattle.qs_recv.proofs.NewsLaws.{on_err, refused_news}
+use Rattle.qs_recv.proofs.NewsLaws.{on_err, err_then, refused_news}
 use Rattle.qs_recv.proofs.PutLaws.{put_is}
-use Rattle.qs_recv.proofs.RingLaws.{all_known, gap_news, is_put, put_known, put_stored, put_unseen, ring_noted, ring_put, ring_unseen, stored_within, vec_written}
+use Rattle.qs_recv.proofs.RingLaws.{all_known, gap_news, ring_there, is_put, put_known, put_stored, put_unseen, ring_noted, ring_put, ring_unseen, stored_within, vec_written}
 use Rattle.qs_recv.proofs.ring_assembly.RingAssemblyAssembly.put.Goals as goal
 
 pub returns-then-offset-end-clause-ok : goal.returns-then-offset-end-clause-ok
@@ -99,3 +99,16 @@ returns-clause-ok c =
     let before : Assembled = record { stored = ring_bytes s.received s.ring.items s.window s.read_count s.window; received = s.received; read_count = s.read_count; window = s.window; discarding = false } in
     rw (← c.self.view_is, ring_is, c.in_ok-insert.ensures.ok, c.if-self.false)
     (put_is before c.args.offset c.args.bytes.now _ _ refl (put_stored s.received s.window s.read_count s.stored c.args.offset c.first_missing-first.result c.args.bytes.now s.ring.items c.deref_mut.result.now new p) refl)
+
+pub returns-then-self-clause-ring : goal.returns-then-self-clause-ring
+returns-then-self-clause-ring c = rw (← c.self.view_is) (err_then c.insert.result _ _ (λ misses q ge came. misses) c.insert.ensures.touches_none)
+
+pub returns-in_err-make_ring-clause-ring : goal.returns-in_err-make_ring-clause-ring
+returns-in_err-make_ring-clause-ring c =
+    let s = c.self.inside in
+    rw (← c.self.view_is) (on_err c.from_residual.result (ring_there s.ring.items s.received s.window s.read_count s.stored s.discarding c.if-self.false c.self.invariant c.in_err-make_ring.ensures.full))
+
+pub returns-in_err-insert-clause-ring : goal.returns-in_err-insert-clause-ring
+returns-in_err-insert-clause-ring c =
+    let misses = c.in_err-insert.ensures.touches_none in
+    rw (← c.self.view_is) (on_err c.from_residual-in_err-insert.result (λ q ge came. misses))
