@@ -1,6 +1,6 @@
 -- Packets are acknowledged: the pieces of one, and those of all that a pass over an ACK has ahead.
 use Rattle.std.proofs.Common.{◌≡◌, ◌≢◌, ℕ, zero, suc, ◌+◌, ◌^◌, ◌<◌, ◌≤◌, Bool, true, false, nat_lt, nat_le, ◌&&◌, ◌||◌, List, [], ◌∷◌, ◌++◌, map, length, take, Option, None, Some, is_some, Result, Ok, Err, refl, sym, ap, ◌∙◌, subst, inl, inr, ◌⊎◌, arith}
-use Rattle.std.specs.Prelude.{reverse, flat_map}
+use Rattle.std.specs.Prelude.{reverse, flat_map, slice_get}
 use Rattle.std.specs.List.{filter}
 use Rattle.std.specs.FinMap as fmap
 use Rattle.std.proofs.lemmas.Bool.{both_ways, or_cases}
@@ -19,7 +19,10 @@ use Rattle.qs_wire.proofs.PairLaws.{ranges_fall}
 use Rattle.qs_wire.specs.declared.stream_id.Dir.TheVariants.{Bidi, Uni}
 use Rattle.qs_send.specs.declared.piece.Item.TheVariants.{MaxData, MaxStreamData, MaxStreams, ResetStream, StopSending, DataBlocked, StreamDataBlocked, StreamsBlocked}
 use Rattle.std.specs.Result.{OnOk, OnErr}
-use Rattle.qs_machine.specs.Ends.{End, Records, LostPackets}
+use Rattle.qs_send.specs.Lane.{SendLane}
+use Rattle.qs_machine.specs.Tables.{Tables}
+use Rattle.qs_machine.specs.Memory.{PieceMayRunOut, StopsAt}
+use Rattle.qs_machine.specs.Ends.{End, Records, LostPackets, AckedItems}
 use Rattle.qs_machine.specs.FrameStep.{AckedPiece, is_named, acked_at, pieces_of, acked_numbers, piece_acked, first_acked, named_in, named, acks}
 use Rattle.qs_machine.specs.Outgoing.{Outgoing, with_outgoing, piece_acked_out, without_piece_out, first_acked_out, pieces_in}
 use Rattle.qs_conn.specs.Runs.{held_out, pieces_left, acks_out, AcksBy, AcksPacket, AreSameBelow, named_out, AcksNamed, AcksRanges, is_ahead, ahead_pieces, AcksAhead}
@@ -32,20 +35,22 @@ use Rattle.qs_machine.proofs.Named.{filter_first, filter_nothing, filter_alike}
 pub acks_cons : (a : AckedPiece) (ps : List AckedPiece) (o new : Outgoing) (result : Result (Unit {0}) NoMemory) → AcksBy ps (first_acked_out a o) result new → AcksBy (a ∷ ps) o result new
 unfolding acks_out
 acks_cons a ps o new (Ok done) h = h
-acks_cons a ps o new (Err e) h = (suc h.0, h.1)
+acks_cons a ps o new (Err e) (m, is, asks) = (suc m, is, asks)
 
 acks_append : (ps qs : List AckedPiece) (o new : Outgoing) (result : Result (Unit {0}) NoMemory) → AcksBy qs (acks_out ps o) result new → AcksBy (ps ++ qs) o result new
 unfolding acks_out
 acks_append [] qs o new result h = h
 acks_append (a ∷ ps) qs o new result h = acks_cons a (ps ++ qs) o new result (acks_append ps qs (first_acked_out a o) new result h)
 
-prefix : (m : ℕ) (ps qs : List AckedPiece) → (n : ℕ) × (take n (ps ++ qs) ≡ take m ps)
-prefix zero ps qs = (0, refl)
-prefix (suc m) [] qs = (0, refl)
-prefix (suc m) (a ∷ ps) qs = let r = prefix m ps qs in (suc r.0, ap (λ xs. a ∷ xs) r.1)
+prefix : (m : ℕ) (ps qs : List AckedPiece) (t : Tables SendLane) (a : AckedItems) → StopsAt t a (slice_get ps m) → (take m (ps ++ qs) ≡ take m ps) × (slice_get (ps ++ qs) m ≡ slice_get ps m)
+prefix m [] qs t a stops = absurd stops
+prefix zero (p ∷ ps) qs t a stops = (refl, refl)
+prefix (suc m) (p ∷ ps) qs t a stops = let r = prefix m ps qs t a stops in (ap (λ xs. p ∷ xs) r.0, r.1)
 
 acks_some : (ps qs : List AckedPiece) (o new : Outgoing) (e : NoMemory) → AcksBy ps o (Err e) new → AcksBy (ps ++ qs) o (Err e) new
-acks_some ps qs o new e h = let n = prefix h.0 ps qs in (n.0, h.1 ∙ ap (λ xs. acks_out xs o) (sym n.1))
+acks_some ps qs o new e (m, is, stops) =
+    let r = prefix m ps qs new.sends new.acked stops in
+    (m, is ∙ ap (λ xs. acks_out xs o) (sym r.0), subst (λ x. StopsAt new.sends new.acked x) (sym r.1) stops)
 
 -- One packet
 
@@ -72,9 +77,15 @@ ends_by late k o first = go (fmap.get (held_out late o) k) first
     go (Some []) e = refl
     go (Some (p ∷ ps)) e = absurd (none_some p (sym e))
 
-stops_by : (late : Bool) (k : ℕ) (o new : Outgoing) (e : NoMemory) → new ≡ o → AcksPacket late k o (Err e) new
+stops_by : (late : Bool) (k : ℕ) (o new : Outgoing) (p : Piece) (e : NoMemory) → first_piece (fmap.get (held_out late o) k) ≡ Some p → new ≡ o → PieceMayRunOut o.sends o.acked p → AcksPacket late k o (Err e) new
 unfolding AcksPacket acks_out
-stops_by late k o new e same = (0, same)
+stops_by late k o new p e first same may =
+    (0, same, subst (λ (x : Outgoing). StopsAt x.sends x.acked (slice_get (pieces_of late (held_out late o) k) 0)) (sym same) (go (fmap.get (held_out late o) k) first))
+  where
+    go : (x : Option (List Piece)) → first_piece x ≡ Some p → StopsAt o.sends o.acked (slice_get (listed late k x) 0)
+    go None f = absurd (none_some p f)
+    go (Some []) f = absurd (none_some p f)
+    go (Some (q ∷ ps)) f = subst (λ (x : Piece). PieceMayRunOut o.sends o.acked x) (sym (some_is (Some q) q p refl f)) may
 
 pieces_next : (late : Bool) (m : Records) (k : ℕ) (p : Piece) → first_piece (fmap.get m k) ≡ Some p → pieces_of late m k ≡ acked_at late k p ∷ pieces_of late (without_first m k (fmap.get m k)) k
 pieces_next late m k p first = go (fmap.get m k) first
@@ -102,8 +113,8 @@ less_by late k o next p first is =
 pub packet_end : (k : ℕ) (o : Outgoing) → first_piece (fmap.get o.outstanding k) ≡ None → AcksPacket false k o (Ok tt) o
 packet_end k o first = ends_by false k o first
 
-pub packet_stop : (k : ℕ) (o new : Outgoing) (e : NoMemory) → new ≡ o → AcksPacket false k o (Err e) new
-packet_stop k o new e same = stops_by false k o new e same
+pub packet_stop : (k : ℕ) (o new : Outgoing) (p : Piece) (e : NoMemory) → first_piece (fmap.get o.outstanding k) ≡ Some p → new ≡ o → PieceMayRunOut o.sends o.acked p → AcksPacket false k o (Err e) new
+packet_stop k o new p e first same may = stops_by false k o new p e first same may
 
 pub packet_more : (k : ℕ) (o next new : Outgoing) (p : Piece) (result : Result (Unit {0}) NoMemory) → first_piece (fmap.get o.outstanding k) ≡ Some p → next ≡ first_acked_out (acked_at false k p) o → AcksPacket false k next result new → AcksPacket false k o result new
 packet_more k o next new p result first is h = more_by false k o next new p result first is h
@@ -114,8 +125,8 @@ packet_less k o next p first is = less_by false k o next p first is
 pub late_end : (k : ℕ) (o : Outgoing) → first_piece (fmap.get o.lost.pieces k) ≡ None → AcksPacket true k o (Ok tt) o
 late_end k o first = ends_by true k o first
 
-pub late_stop : (k : ℕ) (o new : Outgoing) (e : NoMemory) → new ≡ o → AcksPacket true k o (Err e) new
-late_stop k o new e same = stops_by true k o new e same
+pub late_stop : (k : ℕ) (o new : Outgoing) (p : Piece) (e : NoMemory) → first_piece (fmap.get o.lost.pieces k) ≡ Some p → new ≡ o → PieceMayRunOut o.sends o.acked p → AcksPacket true k o (Err e) new
+late_stop k o new p e first same may = stops_by true k o new p e first same may
 
 pub late_more : (k : ℕ) (o next new : Outgoing) (p : Piece) (result : Result (Unit {0}) NoMemory) → first_piece (fmap.get o.lost.pieces k) ≡ Some p → next ≡ first_acked_out (acked_at true k p) o → AcksPacket true k next result new → AcksPacket true k o result new
 late_more k o next new p result first is h = more_by true k o next new p result first is h
@@ -336,7 +347,7 @@ ack_ok largest numbers ranges o new e (Ok done) same small above is h =
 ack_ok largest numbers ranges o new e (Err refused) same small above is h = tt
 
 pub ack_err : (largest : ℕ) (numbers : List ℕ) (ranges : List (ℕ × ℕ)) (o new : Outgoing) (e : End) (result : Result (Unit {0}) NoMemory) → e ≡ with_outgoing o e → largest < 2 ^ 62 → taken numbers ≤ largest + 1 → ranges ≡ ack_ranges_of largest numbers
-    → AcksRanges ranges o result new → OnErr result ((m : ℕ) × (with_outgoing new e ≡ acks (take m (named e (ack_ranges_of largest numbers))) e))
+    → AcksRanges ranges o result new → OnErr result ((m : ℕ) × (with_outgoing new e ≡ acks (take m (named e (ack_ranges_of largest numbers))) e) × StopsAt new.sends new.acked (slice_get (named e (ack_ranges_of largest numbers)) m))
 ack_err largest numbers ranges o new e (Ok done) same small above is h = tt
 ack_err largest numbers ranges o new e (Err refused) same small above is h =
     let some = all_ranges largest numbers o new (Err refused) small above (subst (λ rs. AcksRanges rs o (Err refused) new) is h) in (
@@ -344,4 +355,5 @@ ack_err largest numbers ranges o new e (Err refused) same small above is h =
       ap (λ (x : Outgoing). with_outgoing x e) some.1
           ∙ acks_view (take some.0 (named_out o (ack_ranges_of largest numbers))) o e
           ∙ ap (λ (x : End). acks (take some.0 (named x (ack_ranges_of largest numbers))) x) (sym same),
+      subst (λ (x : End). StopsAt new.sends new.acked (slice_get (named x (ack_ranges_of largest numbers)) some.0)) (sym same) some.2,
     )

@@ -17,6 +17,7 @@ pub mod Over
 pub mod OutboxMaking
 pub mod Outboxes
 pub mod OwnerSteps
+pub mod Openings
 pub mod Payloads
 pub mod Pieces
 pub mod Putting

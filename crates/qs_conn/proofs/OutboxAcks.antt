@@ -1,7 +1,11 @@
 -- A piece of an outbox is acknowledged or lost.
-use Rattle.std.proofs.Common.{◌≡◌, ℕ, Bool, true, false, List, [], ◌∷◌, Option, Some, None, is_some, cond, refl, sym, ap, ◌∙◌, subst, inl, inr, arith}
+use Rattle.std.proofs.Common.{◌≡◌, ℕ, Bool, true, false, List, [], ◌∷◌, Option, Some, None, is_some, Result, Ok, Err, cond, refl, sym, ap, ◌∙◌, subst, inl, inr, arith}
 use Rattle.std.proofs.lemmas.Bool.{cases_eq}
 use Rattle.std.specs.FinMap as fmap
+use Rattle.std.specs.Result.{OnErr}
+use Rattle.qs_ranges.specs.declared.NoMemory.{NoMemory}
+use Rattle.qs_machine.specs.Memory.{ChunkMayRunOut, PieceMayRunOut}
+use Rattle.qs_machine.specs.Sums.{or_no_sending}
 use Rattle.qs_send.specs.declared.parts.Chunk.{Chunk}
 use Rattle.qs_send.specs.declared.piece.Item.TheVariants.{MaxData, MaxStreamData, MaxStreams, ResetStream, StopSending, DataBlocked, StreamDataBlocked, StreamsBlocked}
 use Rattle.qs_send.specs.declared.piece.Piece.{Piece}
@@ -268,3 +272,14 @@ box_lost t t' m m' r r' ps next sent spare free k p h none first halves gone rea
     let tied = tied_at t m r ps next sent spare free h none in
     let short = short_at m m' k p first gone in
     box_gone t t' m m' r r' ps next sent spare free k p h none short (subst (λ (x : Tables Sending). Follow t x m') (sym halves) (lost_follow t m m' k p tied short (sent_piece t m k p tied first))) ready
+
+-- a chunk that was sent is of an open half, which may have asked for memory
+pub chunk_asks : (r : Result (Unit {0}) NoMemory) (t : Tables Sending) (a : AckedItems) (n : ℕ) (c : Chunk) → IsSentPiece t (Data n c) → OnErr r (ChunkMayRunOut (or_no_sending (lookup t n)).lane c)
+    → OnErr r (PieceMayRunOut (lanes_of t) a (Data n c))
+chunk_asks (Ok done) t a n c sent may = tt
+chunk_asks (Err e) t a n c (s, at, was) may = (s.lane, lane_there t n s at, subst (λ (o : Option Sending). ChunkMayRunOut (or_no_sending o).lane c) at may)
+
+-- of an outbox, by its parts
+pub stop_asks : (r : Result (Unit {0}) NoMemory) (e now : Outgoing) (p : Piece) → e ≡ now → PieceMayRunOut e.sends e.acked p → OnErr r (PieceMayRunOut now.sends now.acked p)
+stop_asks (Ok done) e now p is may = tt
+stop_asks (Err refused) e now p is may = subst (λ (x : Outgoing). PieceMayRunOut x.sends x.acked p) is may

@@ -1,5 +1,5 @@
 -- An outbox: what each call is to its value, and that it keeps what holds of it.
-use Rattle.std.proofs.Common.{◌≡◌, ℕ, zero, suc, ◌/◌, ◌%◌, Bool, true, false, List, [], ◌∷◌, length, take, slice_get, slice_set, Option, Some, None, is_some, Result, Ok, Err, cond, unwrap_or, option_map, refl, sym, ap, ◌∙◌, subst, arith, nat_cmp}
+use Rattle.std.proofs.Common.{◌≡◌, ℕ, zero, suc, ◌<◌, ◌/◌, ◌%◌, Bool, true, false, List, [], ◌∷◌, length, take, slice_get, slice_set, Option, Some, None, is_some, Result, Ok, Err, cond, unwrap_or, option_map, refl, sym, ap, ◌∙◌, subst, arith, nat_cmp}
 use Rattle.std.proofs.lemmas.Bool.{both_ways}
 use Rattle.std.specs.FinMap as fmap
 use Rattle.std.specs.FinSet as set
@@ -228,6 +228,10 @@ write_err e now t t' n (Err f) is sends h = (
   same_step e now (lanes_of t') is (ap lanes_of h.0 ∙ sym sends),
   h.1 ∙ ap (λ l. unwrap_or (refusal l) NoMemory) (sym (lane_now e now t n is sends)),
 )
+
+pub write_asks : (e now : Outgoing) (t : Tables Sending) (n : ℕ) (bytes : List ℕ) (r : Result ℕ SendFault) → e ≡ now → e.sends ≡ lanes_of t
+    → (r ≡ Err NoMemory → 0 < accepted (or_no_sending (lookup t n)).lane (length bytes)) → r ≡ Err NoMemory → 0 < accepted (or_none (lookup now.sends n)) (length bytes)
+write_asks e now t n bytes r is sends h none = subst (λ (l : SendLane). 0 < accepted l (length bytes)) (sym (lane_now e now t n is sends)) (h none)
 
 pub box_open : (t t' : Tables Sending) (m : Records) (r : Bool) (ps : List Piece) (k sent spare free : ℕ) → IsOutbox t m r ps k sent spare free → {E : Type 0} (n limit buffer : ℕ) (res : Result (Unit {0}) E)
     → OnOk res (t' ≡ open_to t n (λ j. new_sending j limit buffer)) → OnErr res (t' ≡ t) → IsOutbox t' m r ps k sent spare free

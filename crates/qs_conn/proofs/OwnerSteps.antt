@@ -1,5 +1,5 @@
 -- The calls of an owner, by the parts that they change.
-use Rattle.std.proofs.Common.{◌≡◌, ℕ, Bool, true, false, List, [], length, take, Option, Some, None, is_some, Result, Ok, Err, refl, ap, ◌∙◌, inl, inr, subst, unwrap_or, rules}
+use Rattle.std.proofs.Common.{◌≡◌, ℕ, ◌<◌, Bool, true, false, List, [], length, take, Option, Some, None, is_some, Result, Ok, Err, refl, ap, ◌∙◌, inl, inr, subst, unwrap_or, rules}
 use Rattle.std.specs.Prelude.{is_none}
 use Rattle.qs_recv.specs.Lane.{RecvLane, read_answer, bytes_read, after_read, stop}
 use Rattle.qs_recv.specs.declared.half.Read.{Read}
@@ -12,7 +12,7 @@ use Rattle.qs_machine.specs.Tables.{Tables, updated}
 use Rattle.qs_machine.specs.Ends.{End, send_lane, recv_lane, on_send}
 use Rattle.qs_machine.specs.Credit.{settle}
 use Rattle.qs_machine.specs.Verdicts.{or_new}
-use Rattle.qs_machine.specs.Owner.{Certain, Uncertain, first_refusal, refuse_if, no_half, half_refusal, use_fault, send_refusal, recv_refusal, WriteStep, FinishStep, ResetStep, StopStep, ReadStep}
+use Rattle.qs_machine.specs.Owner.{Certain, Uncertain, first_refusal, refuse_if, no_half, half_refusal, use_fault, send_refusal, recv_refusal, AsksToKeep, WriteStep, FinishStep, ResetStep, StopStep, ReadStep}
 use Rattle.qs_machine.specs.Sums.{or_none}
 use Rattle.qs_conn.specs.Layers.{no_sender, no_receiver}
 
@@ -71,14 +71,15 @@ write_done e n bytes count sends new is free much after settled =
       (ap Ok much, settled ∙ ap (λ t. settle (record e { sends = t })) after ∙ ap (λ k. settle (on_send n (λ m. write_lane m (take k bytes)) e)) much),
     ))
 
-by_fault : (e : End) (n : ℕ) (bytes : List ℕ) (fault : SendFault) (o : Option SendFault) (Effect : Type 0) → fault ≡ unwrap_or o sends.NoMemory
-    → Uncertain {A = ℕ} (half_refusal o) NoMemory e (Err (use_fault fault)) e Effect
-by_fault e n bytes fault None Effect is = inl (ap (λ f. Err (use_fault f)) is, refl)
-by_fault e n bytes fault (Some f) Effect is = (ap (λ f. Err (use_fault f)) is, refl)
+by_fault : (e : End) (fault : SendFault) (o : Option SendFault) (Asks Effect : Type 0) → fault ≡ unwrap_or o sends.NoMemory → (fault ≡ sends.NoMemory → Asks)
+    → Uncertain {A = ℕ} (half_refusal o) NoMemory Asks e (Err (use_fault fault)) e Effect
+by_fault e fault None Asks Effect is asks = inl (ap (λ f. Err (use_fault f)) is, refl, asks is)
+by_fault e fault (Some f) Asks Effect is asks = (ap (λ f. Err (use_fault f)) is, refl)
 
 pub write_refused : (e : End) (n : ℕ) (bytes : List ℕ) (fault : SendFault) → no_sender e n ≡ None → fault ≡ unwrap_or (refusal (or_none (send_lane e n))) sends.NoMemory
-    → WriteStep e n bytes (Err (use_fault fault)) e
-write_refused e n bytes fault is told = rw (refusal_half e n refusal is) (by_fault e n bytes fault (refusal (or_none (send_lane e n))) _ told)
+    → (◌≡◌ {A = Result ℕ SendFault} (Err fault) (Err sends.NoMemory) → 0 < accepted (or_none (send_lane e n)) (length bytes)) → WriteStep e n bytes (Err (use_fault fault)) e
+write_refused e n bytes fault is told asks =
+    rw (refusal_half e n refusal is) (by_fault e fault (refusal (or_none (send_lane e n))) (AsksToKeep e n bytes) _ told (λ none. (or_none (send_lane e n), sender_there e n is, asks (ap (λ f. Err f) none))))
 
 -- an answer without a value
 
@@ -150,6 +151,11 @@ pub write_ok : (e now : End) (n : ℕ) (bytes : List ℕ) (count : ℕ) (sends :
     → new ≡ settle (record e { sends = sends }) → WriteStep now n bytes (Ok count) new
 write_ok e now n bytes count sends new is none free much after settled =
     subst (λ (k : End). WriteStep k n bytes (Ok count) new) is (write_done e n bytes count sends new (ap (λ k. no_sender k n) is ∙ none) free much after settled)
+
+pub write_err : (e now : End) (n : ℕ) (bytes : List ℕ) (fault : SendFault) → e ≡ now → no_sender now n ≡ None → fault ≡ unwrap_or (refusal (or_none (send_lane e n))) sends.NoMemory
+    → (◌≡◌ {A = Result ℕ SendFault} (Err fault) (Err sends.NoMemory) → 0 < accepted (or_none (send_lane e n)) (length bytes)) → WriteStep now n bytes (Err (use_fault fault)) e
+write_err e now n bytes fault is none told asks =
+    subst (λ (k : End). WriteStep k n bytes (Err (use_fault fault)) e) is (write_refused e n bytes fault (ap (λ k. no_sender k n) is ∙ none) told asks)
 
 pub read_ok : (e now : End) (n size : ℕ) (answer : Read) (recvs : Tables RecvLane) (new : End) → e ≡ now → no_receiver now n ≡ None → answer ≡ read_answer (or_new (recv_lane e n) 0) size
     → recvs ≡ updated e.recvs n (λ l. after_read l size) (recv_lane e n) → new ≡ settle (record e { recvs = recvs })

@@ -1,8 +1,11 @@
 -- Sending halves are opened and edited.
-use Rattle.std.proofs.Common.{◌≡◌, ℕ, ◌<◌, ◌^◌, List, length, take, get_or, Option, Some, None, slice_get, Result, Ok, Err, refl, sym, ap, ◌∙◌, arith}
+use Rattle.std.proofs.Common.{◌≡◌, ℕ, ◌+◌, ◌-◌, subst, ◌<◌, ◌^◌, List, length, take, get_or, Option, Some, None, slice_get, Result, Ok, Err, refl, sym, ap, ◌∙◌, arith}
 use Rattle.std.specs.Option.{IfSome}
 use Rattle.std.specs.Ordering.{nat_cmp}
-use Rattle.std.specs.Result.{OnOk, IfOk}
+use Rattle.std.specs.Result.{OnOk, OnErr, IfOk}
+use Rattle.qs_ranges.specs.Numbers.{MissesRange}
+use Rattle.qs_send.specs.declared.parts.Chunk.{Chunk}
+use Rattle.qs_machine.specs.Memory.{ChunkMayRunOut}
 use Rattle.std.proofs.Math.ListN.{set as set_list}
 use Rattle.std.specs.FinSet as set
 use Rattle.std.proofs.lemmas.Bool.{true≢false}
@@ -23,6 +26,12 @@ id_is r id number is h = (rw is at h).0
 pub ok_at : {A E : Type 0} (r : Result A E) (xs : List Sending) (i : ℕ) (x y : Sending) (f : Sending → Sending) → i < length xs → x ≡ get_or xs i x → OnOk r (y ≡ f x) → OnOk r (set_list xs i y ≡ changed xs i f (slice_get xs i))
 ok_at (Ok a) xs i x y f there at is = changed_at xs i x y f there at is
 ok_at (Err e) xs i x y f there at is = tt
+
+-- a half knows that a chunk was acknowledged, or asked for memory and was refused it
+pub asked_at : {A E : Type 0} (r : Result A E) (xs : List Sending) (i : ℕ) (x : Sending) (c : Chunk) → i < length xs → x ≡ get_or xs i x
+    → OnErr r (0 < c.len) → OnErr r (MissesRange x.lane.acked (c.offset - 1) (c.offset + c.len + 1)) → OnErr r (ChunkMayRunOut (get_or xs i no_sending).lane c)
+asked_at (Ok a) xs i x c there at some apart = tt
+asked_at (Err e) xs i x c there at some apart = subst (λ (s : Sending). ChunkMayRunOut s.lane c) (at ∙ get_or_default xs i x no_sending there) (some, apart)
 
 -- a half took bytes, or refused them
 pub wrote_at : (r : Result ℕ SendFault) (xs : List Sending) (i : ℕ) (x y : Sending) (bytes : List ℕ) → i < length xs → x ≡ get_or xs i x → IfOk r (λ n. (refusal x.lane ≡ None) × (n ≡ accepted x.lane (length bytes)) × (y ≡ after_write x (take n bytes)))

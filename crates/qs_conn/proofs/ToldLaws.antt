@@ -28,6 +28,10 @@ find-lookup (e ∷ es) q = ap (cond (is_at (nat_cmp q) e.0) (Some e.1)) (find-lo
 pub value_at : (m : BTreeMap ℕ ℕ) (q : ℕ) → fmap.get (fmap.from_entries {R = nat_cmp} m.entries) q ≡ tree.get nat_cmp m q
 value_at m q = fmap.get-from_entries nat_cmp_total m.entries q ∙ find-lookup m.entries q
 
+-- a number that the std map lacks
+pub value_absent : (m : BTreeMap ℕ ℕ) (k q : ℕ) → k ≡ q → tree.get nat_cmp m k ≡ None → fmap.get (fmap.from_entries {R = nat_cmp} m.entries) q ≡ None
+value_absent m k q same none = value_at m q ∙ ap (tree.get nat_cmp m) (sym same) ∙ none
+
 either_way : (k q : ℕ) → nat_eq k q ≡ nat_eq q k
 either_way k q = grind (arith, nat_tests)
 

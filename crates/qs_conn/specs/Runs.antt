@@ -1,5 +1,5 @@
 -- What the private loops over an end's packets do: pieces are due again, or acknowledged, one after the other, as far as there is memory.
-use Rattle.std.specs.Prelude.{◌≡◌, ℕ, ◌<◌, Bool, ◌&&◌, ◌||◌, nat_le, nat_lt, true, false, if◌then◌else◌, List, [], ◌∷◌, ◌++◌, length, take, reverse, flat_map, Result, Ok, Err}
+use Rattle.std.specs.Prelude.{◌≡◌, ℕ, ◌<◌, Bool, ◌&&◌, ◌||◌, nat_le, nat_lt, true, false, if◌then◌else◌, List, [], ◌∷◌, ◌++◌, length, take, slice_get, reverse, flat_map, Result, Ok, Err}
 use Rattle.std.specs.List.{filter}
 use Rattle.std.specs.FinMap as fmap
 use Rattle.qs_ranges.specs.declared.NoMemory.{NoMemory}
@@ -8,6 +8,7 @@ use Rattle.qs_wire.specs.Acks.{FallBelow}
 use Rattle.qs_send.specs.AckPass.{Passing, PAST_NUMBERS, Falls}
 use Rattle.qs_machine.specs.Ends.{Records}
 use Rattle.qs_machine.specs.FrameStep.{AckedPiece, is_named, pieces_of, named_in}
+use Rattle.qs_machine.specs.Memory.{StopsAt}
 use Rattle.qs_machine.specs.Outgoing.{Outgoing, pieces_in, first_acked_out, first_lost_out}
 
 -- the outstanding records, or the lost ones
@@ -39,10 +40,10 @@ unfoldable pub acks_out : List AckedPiece → Outgoing → Outgoing
 acks_out [] o = o
 acks_out (a ∷ ps) o = acks_out ps (first_acked_out a o)
 
--- all of these pieces are acknowledged, or some first ones, where memory was refused
+-- all of these pieces are acknowledged, or some first ones, up to one that asked for memory and was refused it
 abbrev pub AcksBy : List AckedPiece → Outgoing → Result (Unit {0}) NoMemory → Outgoing → Type 0
 AcksBy ps o (Ok done) new = new ≡ acks_out ps o
-AcksBy ps o (Err refused) new = (m : ℕ) × (new ≡ acks_out (take m ps) o)
+AcksBy ps o (Err refused) new = (m : ℕ) × (new ≡ acks_out (take m ps) o) × StopsAt new.sends new.acked (slice_get ps m)
 
 -- the pieces of packet k are acknowledged, the outstanding ones or the lost ones
 unfoldable pub AcksPacket : Bool → ℕ → Outgoing → Result (Unit {0}) NoMemory → Outgoing → Type 0

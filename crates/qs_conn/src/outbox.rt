@@ -210,6 +210,7 @@ impl Outbox {
             IfOk result (λ n. (refusal lane ≡ None) × (n ≡ accepted lane (length bytes.now)) × (self.new ≡ on_lane stream (λ l. write_lane l (take n bytes.now)) self.old)) }
         ensures refused { let lane = or_none (lookup self.old.sends stream) in
             IfErr result (λ fault. (self.new ≡ self.old) × (fault ≡ unwrap_or (refusal lane) SendFault.NoMemory)) }
+        ensures grows { result ≡ Err SendFault.NoMemory → 0 < accepted (or_none (lookup self.old.sends stream)) (length bytes.now) }
     {
         self.sends.get(stream).is_lawful();
         self.sends.write(stream, bytes)

@@ -5,6 +5,7 @@ ghost use Rattle.qs_ranges.specs.Numbers.{MAX_VARINT};
 ghost use Rattle.qs_recv.specs.Lane.{RecvLane, new_lane, check_stream, check_reset, check_bytes, highest, highest_after, take_stream, take_reset, read_answer, bytes_read, after_read, raise, stop};
 ghost use Rattle.qs_recv.specs.Lawful.{IsLawful};
 ghost use Rattle.qs_machine.specs.Tables.{widened};
+ghost use Rattle.qs_machine.specs.Memory.{HasNews};
 ghost use Rattle.qs_machine.specs.Reports.{recv_report};
 ghost use Rattle.qs_machine.specs.Verdicts.{or_new};
 ghost use Rattle.qs_machine.specs.Sums.{changed, tally_of, tally_on, moved, IsPart, IsPaid, EachLawful};
@@ -221,6 +222,7 @@ impl RecvLanes {
         ensures grown { let lane = slice_index_or self.old index (new_lane 0) in
             OnOk result (sum_by highest self.new + highest lane ≡ sum_by highest self.old + highest_after lane offset (length bytes.now) fin) }
         ensures err { OnErr result (self.new ≡ self.old) }
+        ensures news { OnErr result (HasNews (slice_index_or self.old index (new_lane 0)) offset (length bytes.now)) }
     {
         let half = &mut self.halves[index];
         let was = measure(half);

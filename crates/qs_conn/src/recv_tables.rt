@@ -3,6 +3,7 @@ ghost use Rattle.std.specs.Prelude.{◌≡◌, ◌+◌, ◌≤◌, ◌<◌, ◌^
 ghost use Rattle.qs_ranges.specs.Numbers.{MAX_VARINT};
 ghost use Rattle.qs_recv.specs.Lane.{new_lane, check_stream, check_reset, check_bytes, highest, taken, take_stream, take_reset, read_answer, bytes_read, after_read, raise, stop};
 ghost use Rattle.qs_machine.specs.Tables.{no_streams, table, with_table, lookup, updated, open_to, each, total, kind_of};
+ghost use Rattle.qs_machine.specs.Memory.{HasNews};
 ghost use Rattle.qs_machine.specs.Reports.{recv_report};
 ghost use Rattle.qs_machine.specs.Verdicts.{or_new};
 ghost use Rattle.qs_machine.specs.Sums.{stored_on, tally_on, IsPaid};
@@ -178,6 +179,7 @@ impl RecvTables {
         requires room { total highest self.old < 2 ^ 62 }
         ensures ok { OnOk result (self.new ≡ updated self.old stream (λ l. take_stream l offset bytes.now fin) (lookup self.old stream)) }
         ensures err { OnErr result (self.new ≡ self.old) }
+        ensures news { OnErr result (HasNews (or_new (lookup self.old stream) 0) offset (length bytes.now)) }
     {
         let lanes = &mut self.types[kind_of(stream)];
         lanes.take_stream(index_of(stream), offset, bytes, fin)

@@ -4,6 +4,7 @@ ghost use Rattle.qs_ranges.specs.Numbers.{MAX_VARINT};
 ghost use Rattle.qs_send.specs.Lane.{Sending, new_sending, accepted, refusal, reset_refusal, answer_of, state, after_write, after_finish, after_reset, after_reset_acked, after_blocked, after_allow, after_sent, after_acked, after_lost};
 ghost use Rattle.qs_send.specs.Chunks.{IsDueChunk, WasSent};
 ghost use Rattle.qs_machine.specs.Tables.{widened};
+ghost use Rattle.qs_machine.specs.Memory.{ChunkMayRunOut};
 ghost use Rattle.qs_machine.specs.Sums.{changed, no_sending};
 ghost use Rattle.qs_conn.specs.Marks.{IsBefore};
 ghost use Rattle.qs_conn.specs.Tasks.{IsQuiet};
@@ -125,6 +126,7 @@ impl SendLanes {
             IfOk result (λ n. (refusal half.lane ≡ None) × (n ≡ accepted half.lane (length bytes.now)) × (self.new ≡ changed self.old index (λ s. after_write s (take n bytes.now)) (slice_get self.old index))) }
         ensures refused { let half = slice_index_or self.old index no_sending in
             IfErr result (λ fault. (self.new ≡ self.old) × (fault ≡ unwrap_or (refusal half.lane) SendFault.NoMemory)) }
+        ensures grows { result ≡ Err SendFault.NoMemory → 0 < accepted (slice_index_or self.old index no_sending).lane (length bytes.now) }
     {
         let half = &mut self.halves[index];
         let answer = half.write(bytes);
@@ -206,6 +208,7 @@ impl SendLanes {
         requires sent { WasSent (slice_index_or self.old index no_sending).lane chunk }
         ensures ok { OnOk result (self.new ≡ changed self.old index (λ s. after_acked s chunk) (slice_get self.old index)) }
         ensures err { OnErr result (self.new ≡ self.old) }
+        ensures asks { OnErr result (ChunkMayRunOut (slice_index_or self.old index no_sending).lane chunk) }
     {
         let half = &mut self.halves[index];
         let answer = half.acked(chunk);

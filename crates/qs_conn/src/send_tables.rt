@@ -4,6 +4,7 @@ ghost use Rattle.qs_ranges.specs.Numbers.{MAX_VARINT};
 ghost use Rattle.qs_send.specs.Lane.{Sending, new_sending, accepted, refusal, reset_refusal, answer_of, state, after_write, after_finish, after_reset, after_reset_acked, after_blocked, after_allow, after_sent, after_acked, after_lost};
 ghost use Rattle.qs_send.specs.Chunks.{IsDueChunk, WasSent};
 ghost use Rattle.qs_machine.specs.Tables.{no_streams, table, with_table, lookup, updated, open_to, kind_of};
+ghost use Rattle.qs_machine.specs.Memory.{ChunkMayRunOut};
 ghost use Rattle.qs_machine.specs.Sums.{or_no_sending};
 ghost use Rattle.qs_conn.specs.Marks.{IsBefore, HaveTo};
 ghost use Rattle.qs_conn.specs.Tasks.{IsQuiet};
@@ -127,6 +128,7 @@ impl SendTables {
             IfOk result (λ n. (refusal half.lane ≡ None) × (n ≡ accepted half.lane (length bytes.now)) × (self.new ≡ updated self.old stream (λ s. after_write s (take n bytes.now)) (lookup self.old stream))) }
         ensures refused { let half = or_no_sending (lookup self.old stream) in
             IfErr result (λ fault. (self.new ≡ self.old) × (fault ≡ unwrap_or (refusal half.lane) SendFault.NoMemory)) }
+        ensures grows { result ≡ Err SendFault.NoMemory → 0 < accepted (or_no_sending (lookup self.old stream)).lane (length bytes.now) }
     {
         let lanes = &mut self.types[kind_of(stream)];
         lanes.write(index_of(stream), bytes)
@@ -198,6 +200,7 @@ impl SendTables {
         requires sent { WasSent (or_no_sending (lookup self.old stream)).lane chunk }
         ensures ok { OnOk result (self.new ≡ updated self.old stream (λ s. after_acked s chunk) (lookup self.old stream)) }
         ensures err { OnErr result (self.new ≡ self.old) }
+        ensures asks { OnErr result (ChunkMayRunOut (or_no_sending (lookup self.old stream)).lane chunk) }
     {
         let lanes = &mut self.types[kind_of(stream)];
         lanes.acked(index_of(stream), chunk)

@@ -38,9 +38,11 @@ impl StreamValues {
     }
 
     /// Keeps the value, where it is greater than the one known.
+    #[tactic(auto, using(crate::proofs::ToldLaws::value_absent))]
     pub(crate) fn raise(&mut self, stream: StreamId, value: u64) -> Result<(), NoMemory>
         ensures ok { OnOk result (self.new ≡ greatest_of self.old stream value) }
         ensures err { OnErr result (self.new ≡ self.old) }
+        ensures absent { OnErr result (fmap.get self.old stream ≡ None) }
     {
         let number = stream.value();
         let known = self.values.get(&number).copied().unwrap_or(0);

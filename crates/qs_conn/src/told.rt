@@ -1,8 +1,10 @@
 //! What was acknowledged of control items.
-ghost use Rattle.std.specs.Prelude.{◌≡◌, ◌↔◌, ◌<◌, IsTrue, OnOk, OnErr, Some};
+ghost use Rattle.std.specs.Prelude.{◌≡◌, ◌+◌, ◌-◌, ◌↔◌, ◌<◌, IsTrue, OnOk, OnErr, Some};
 ghost use Rattle.std.specs.FinSet as set;
+ghost use Rattle.qs_ranges.specs.Numbers.{MissesRange};
 ghost use Rattle.qs_machine.specs.Ends.{no_items};
 ghost use Rattle.qs_machine.specs.FrameStep.{greatest};
+ghost use Rattle.qs_machine.specs.Memory.{NoteMayRunOut};
 ghost use Rattle.qs_machine.specs.Told.{item_noted, IsNoted};
 
 use crate::stream_values::StreamValues;
@@ -69,6 +71,7 @@ impl ToldItems {
     pub(crate) fn note(&mut self, item: Item) -> Result<(), NoMemory>
         ensures ok { OnOk result (self.new ≡ item_noted item self.old) }
         ensures err { OnErr result (self.new ≡ self.old) }
+        ensures asks { OnErr result (NoteMayRunOut self.old item) }
     {
         match item {
             Item::MaxData { maximum } => {
@@ -145,6 +148,7 @@ fn raise(known: &mut Option<u64>, value: u64)
 fn add(streams: &mut RangeSet, stream: StreamId) -> Result<(), NoMemory>
     ensures ok { OnOk result (streams.new ≡ set.insert streams.old stream) }
     ensures err { OnErr result (streams.new ≡ streams.old) }
+    ensures touches_none { OnErr result (MissesRange streams.old (stream - 1) (stream + 2)) }
 {
     let number = stream.value();
     streams.insert(number, number + 1)

@@ -40,7 +40,7 @@ pub record IsOpenAt (e : End) (n : ℕ) : Type 0 where
   pub sends : (is_uni n && not (is_own e n)) ≡ false → is_some (lookup e.sends n) ≡ true
 
 -- a frame that named the stream opened it, where it is one of the peer
-abbrev WasOpened : End → ℕ → Type 0
+abbrev pub WasOpened : End → ℕ → Type 0
 WasOpened e n = is_own e n ≡ false → IsOpenAt e n
 
 opens_it : (n : ℕ) (e : End) → IsOpenAt (opens n e) n
@@ -67,7 +67,7 @@ opened_stays n a b x h other =
     }
 
 -- a stream that was opened isn't opened again
-opened_back : (n : ℕ) (e : End) → WasOpened e n → opened_by_peer n e ≡ e
+pub opened_back : (n : ℕ) (e : End) → WasOpened e n → opened_by_peer n e ≡ e
 opened_back n e h = cond_both (is_own e n) e (opens n e) (λ x. x ≡ e) (λ _. refl) (λ other. back (h other))
   where
     back : IsOpenAt e n → opens n e ≡ e

@@ -115,7 +115,7 @@ module _ (P : End → Type 0) (old : End) (kept : P old) (settles : (mid : End) 
     ends_by (Open d) answer new step = open_by d answer new step
     ends_by Accept answer new step = accept_by answer new step
     ends_by (Write n bytes) answer new step =
-        by_memory (P new) (send_refusal old n refusal) uses.NoMemory old answer new _ step (becomes new) (λ (l, is, done).
+        by_memory (P new) (send_refusal old n refusal) uses.NoMemory _ old answer new _ step (becomes new) (λ (l, is, done).
         settled (on_send n (λ m. write_lane m (take (accepted l (length bytes)) bytes)) old) new done.1)
     ends_by (Finish n) answer new step =
         by_refusal (P new) (send_refusal old n refusal) old answer new _ step (becomes new) (λ done. settled (on_send n finish_lane old) new done.1)

@@ -118,7 +118,7 @@ sound_read_by None old n size answer bytes new h (l, is, told, given, after) = s
 
 sound_end : (number : ℕ) (asks : Bool) (fault : Option WireFault) (e : End) (result : Result Received Closing) (new : End) → IsInCredit e → AtEnd number asks fault e result new → IsInCredit new
 sound_end number asks None e (Ok received.Done) new h step = becomes _ new step h
-sound_end number asks None e (Ok received.NoMemory) new h step = becomes e new step h
+sound_end number asks None e (Ok received.NoMemory) new h step = becomes e new step.0 h
 sound_end number asks None e (Ok received.Duplicate) new h step = absurd step
 sound_end number asks None e (Ok received.BelowFloor) new h step = absurd step
 sound_end number asks None e (Ok (received.PeerClosed code)) new h step = absurd step
@@ -127,11 +127,11 @@ sound_end number asks (Some fault) e (Ok r) new h step = absurd step
 sound_end number asks (Some fault) e (Err closing) new h step = becomes _ new step.1 h
 
 sound_runs_out : (e : End) (f : Seen) (new : End) → IsInCredit e → RunsOut e f new → IsInCredit new
-sound_runs_out e (Ack largest ranges) new h (m, after) = becomes _ new after (sound_acks (take m (named e ranges)) e h)
-sound_runs_out e (Stream n offset bytes fin) new h after = becomes e new after h
-sound_runs_out e (Control i) new h after = becomes e new after h
-sound_runs_out e (Close code) new h after = becomes e new after h
-sound_runs_out e (Plain asks) new h after = becomes e new after h
+sound_runs_out e (Ack largest ranges) new h (m, after, asks) = becomes _ new after (sound_acks (take m (named e ranges)) e h)
+sound_runs_out e (Stream n offset bytes fin) new h after = becomes e new after.0 h
+sound_runs_out e (Control i) new h after = becomes e new after.0 h
+sound_runs_out e (Close code) new h after = becomes e new after.0 h
+sound_runs_out e (Plain asks) new h after = becomes e new after.0 h
 
 sound_stops : (p : PlacedValue) (f : Seen) (e : End) (result : Result Received Closing) (new : End) → IsInCredit e → Stops p f e result new → IsInCredit new
 sound_stops p (Close code) e (Ok (received.PeerClosed told)) new h stops = becomes _ new stops.1 h
@@ -255,7 +255,7 @@ pub sound_call : (old : End) (call : Call) (answer : Answer call) (new : End) �
 sound_call old (Open d) answer new h step = sound_open old d answer new h step
 sound_call old Accept answer new h step = sound_accept old answer new h step
 sound_call old (Write n bytes) answer new h step =
-    by_memory (IsInCredit new) (send_refusal old n refusal) uses.NoMemory old answer new _ step (λ same. becomes old new same h) (λ (l, is, done).
+    by_memory (IsInCredit new) (send_refusal old n refusal) uses.NoMemory _ old answer new _ step (λ same. becomes old new same h) (λ (l, is, done).
     settled (on_send n (λ m. write_lane m (take (accepted l (length bytes)) bytes)) old) new done.1 h)
 sound_call old (Finish n) answer new h step = by_refusal (IsInCredit new) (send_refusal old n refusal) old answer new _ step (λ same. becomes old new same h) (λ done.
     settled (on_send n finish_lane old) new done.1 h)

@@ -16,8 +16,8 @@ pub if_allowed : {A F : Type 0} (P : Type 0) (r : Option F) (old : End) (answer 
 if_allowed P (Some fault) old answer new Effect h same effect = same h.1
 if_allowed P None old answer new Effect h same effect = effect refl h
 
-pub by_memory : {A F : Type 0} (P : Type 0) (r : Option F) (f : F) (old : End) (answer : Result A F) (new : End) (Effect : Type 0) → Uncertain r f old answer new Effect → (new ≡ old → P) → (Effect → P) → P
-by_memory P r f old answer new Effect h same effect =
+pub by_memory : {A F : Type 0} (P : Type 0) (r : Option F) (f : F) (Asks : Type 0) (old : End) (answer : Result A F) (new : End) (Effect : Type 0) → Uncertain r f Asks old answer new Effect → (new ≡ old → P) → (Effect → P) → P
+by_memory P r f Asks old answer new Effect h same effect =
     by_refusal P r old answer new _ h same (λ e. elim e [ inl none ↦ same none.1 | inr done ↦ effect done ])
 
 pub by_test : (P : Type 0) (b : Bool) (Yes No : Type 0) → MatchBool b Yes No → (Yes → P) → (No → P) → P

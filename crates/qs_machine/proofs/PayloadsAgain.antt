@@ -43,7 +43,7 @@ left_closes c e sound sent = left_by e (closes c e) sound sent (after_closes c e
 
 left_end : (number : ℕ) (asks : Bool) (fault : Option WireFault) (e : End) (result : Result Received Closing) (new : End) → IsSound e → SentWasWritten e → AtEnd number asks fault e result new → IsLeft e new
 left_end number asks None e (Ok received.Done) new sound sent step = becomes e _ new step (left_by e (recorded number asks e) sound sent (after_recorded number asks e) sound.0)
-left_end number asks None e (Ok received.NoMemory) new sound sent step = becomes e e new step (left_same e sound sent)
+left_end number asks None e (Ok received.NoMemory) new sound sent step = becomes e e new step.0 (left_same e sound sent)
 left_end number asks None e (Ok received.Duplicate) new sound sent step = absurd step
 left_end number asks None e (Ok received.BelowFloor) new sound sent step = absurd step
 left_end number asks None e (Ok (received.PeerClosed code)) new sound sent step = absurd step
@@ -52,15 +52,15 @@ left_end number asks (Some fault) e (Ok r) new sound sent step = absurd step
 left_end number asks (Some fault) e (Err closing) new sound sent step = becomes e _ new step.1 (left_closes _ e sound sent)
 
 left_runs_out : (e : End) (f : Seen) (new : End) → IsSound e → SentWasWritten e → RunsOut e f new → IsLeft e new
-left_runs_out e (Ack largest ranges) new sound sent (m, after) =
+left_runs_out e (Ack largest ranges) new sound sent (m, after, asks) =
     becomes e _ new after
     (left_by e (acks (take m (named e ranges)) e) sound sent
     (after_acks (take m (named e ranges)) e (all_take e.sends m (named e ranges) (named_written e ranges sent)))
     (sound_acks (take m (named e ranges)) e sound.0))
-left_runs_out e (Stream n offset bytes fin) new sound sent after = becomes e e new after (left_same e sound sent)
-left_runs_out e (Control i) new sound sent after = becomes e e new after (left_same e sound sent)
-left_runs_out e (Close code) new sound sent after = becomes e e new after (left_same e sound sent)
-left_runs_out e (Plain asks) new sound sent after = becomes e e new after (left_same e sound sent)
+left_runs_out e (Stream n offset bytes fin) new sound sent after = becomes e e new after.0 (left_same e sound sent)
+left_runs_out e (Control i) new sound sent after = becomes e e new after.0 (left_same e sound sent)
+left_runs_out e (Close code) new sound sent after = becomes e e new after.0 (left_same e sound sent)
+left_runs_out e (Plain asks) new sound sent after = becomes e e new after.0 (left_same e sound sent)
 
 -- a frame ends the processing: there is no memory, or the end closes
 stops_by : (P : Type 0) (p : PlacedValue) (f : Seen) (e : End) (result : Result Received Closing) (new : End) → Stops p f e result new
@@ -113,11 +113,11 @@ acks_none (suc m) e = refl
 
 -- where a frame that took effect finds no memory, nothing changes
 out_again : (f : Seen) (e new : End) → IsDone f e → RunsOut e f new → new ≡ e
-out_again (Ack largest ranges) e new done (m, after) = after ∙ ap (λ ps. acks (take m ps) e) (named_nothing e ranges done.1) ∙ acks_none m e
-out_again (Stream n offset bytes fin) e new done after = after
-out_again (Control i) e new done after = after
-out_again (Close code) e new done after = after
-out_again (Plain asks) e new done after = after
+out_again (Ack largest ranges) e new done (m, after, asks) = after ∙ ap (λ ps. acks (take m ps) e) (named_nothing e ranges done.1) ∙ acks_none m e
+out_again (Stream n offset bytes fin) e new done after = after.0
+out_again (Control i) e new done after = after.0
+out_again (Close code) e new done after = after.0
+out_again (Plain asks) e new done after = after.0
 
 abbrev seen_in : List PlacedValue → List Seen
 seen_in ps = seen_all (frames_of ps)

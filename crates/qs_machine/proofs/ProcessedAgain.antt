@@ -173,7 +173,7 @@ was_open None number payload old new step =
 ends_again : (again : ℕ) (asks : Bool) (answer : Result Received Closing) (e mid later : End) → settle e ≡ e → Resumes again None asks e [] answer mid → later ≡ settle mid → OnlyRecords again asks answer e later
 ends_again again asks answer e mid later same (inl out) is = subst (λ a. OnlyRecords again asks a e later) (sym out.0) (is ∙ ap settle out.1 ∙ same)
 ends_again again asks (Ok received.Done) e mid later same (inr end) is = is ∙ ap settle end ∙ ap (recorded again asks) same
-ends_again again asks (Ok received.NoMemory) e mid later same (inr end) is = is ∙ ap settle end ∙ same
+ends_again again asks (Ok received.NoMemory) e mid later same (inr end) is = is ∙ ap settle end.0 ∙ same
 ends_again again asks (Ok received.Duplicate) e mid later same (inr end) is = absurd end
 ends_again again asks (Ok received.BelowFloor) e mid later same (inr end) is = absurd end
 ends_again again asks (Ok (received.PeerClosed code)) e mid later same (inr end) is = absurd end

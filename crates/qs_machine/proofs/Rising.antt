@@ -205,7 +205,7 @@ rises_frame (Plain asks) e = rises_same e
 
 rises_end : (number : ℕ) (asks : Bool) (fault : Option WireFault) (e : End) (result : Result Received Closing) (new : End) → AtEnd number asks fault e result new → LimitsRise e new
 rises_end number asks None e (Ok received.Done) new step = becomes e _ new step (rises_same e)
-rises_end number asks None e (Ok received.NoMemory) new step = becomes e e new step (rises_same e)
+rises_end number asks None e (Ok received.NoMemory) new step = becomes e e new step.0 (rises_same e)
 rises_end number asks None e (Ok received.Duplicate) new step = absurd step
 rises_end number asks None e (Ok received.BelowFloor) new step = absurd step
 rises_end number asks None e (Ok (received.PeerClosed code)) new step = absurd step
@@ -214,11 +214,11 @@ rises_end number asks (Some fault) e (Ok r) new step = absurd step
 rises_end number asks (Some fault) e (Err closing) new step = becomes e _ new step.1 (rises_same e)
 
 rises_runs_out : (e : End) (f : Seen) (new : End) → RunsOut e f new → LimitsRise e new
-rises_runs_out e (Ack largest ranges) new (m, after) = becomes e _ new after (rises_acks (take m (named e ranges)) e)
-rises_runs_out e (Stream n offset bytes fin) new after = becomes e e new after (rises_same e)
-rises_runs_out e (Control i) new after = becomes e e new after (rises_same e)
-rises_runs_out e (Close code) new after = becomes e e new after (rises_same e)
-rises_runs_out e (Plain asks) new after = becomes e e new after (rises_same e)
+rises_runs_out e (Ack largest ranges) new (m, after, asks) = becomes e _ new after (rises_acks (take m (named e ranges)) e)
+rises_runs_out e (Stream n offset bytes fin) new after = becomes e e new after.0 (rises_same e)
+rises_runs_out e (Control i) new after = becomes e e new after.0 (rises_same e)
+rises_runs_out e (Close code) new after = becomes e e new after.0 (rises_same e)
+rises_runs_out e (Plain asks) new after = becomes e e new after.0 (rises_same e)
 
 rises_stops : (p : PlacedValue) (f : Seen) (e : End) (result : Result Received Closing) (new : End) → Stops p f e result new → LimitsRise e new
 rises_stops p (Close code) e (Ok (received.PeerClosed told)) new stops = becomes e _ new stops.1 (rises_same e)
@@ -370,7 +370,7 @@ pub rises_call : (old : End) (call : Call) (answer : Answer call) (new : End) �
 rises_call old (Open d) answer new step = rises_open old d answer new step
 rises_call old Accept answer new step = rises_accept old answer new step
 rises_call old (Write n bytes) answer new step =
-    by_memory (LimitsRise old new) (send_refusal old n refusal) uses.NoMemory old answer new _ step (λ same. becomes old old new same (rises_same old)) (λ (l, is, done).
+    by_memory (LimitsRise old new) (send_refusal old n refusal) uses.NoMemory _ old answer new _ step (λ same. becomes old old new same (rises_same old)) (λ (l, is, done).
     settled old (on_send n (λ m. write_lane m (take (accepted l (length bytes)) bytes)) old) new done.1 (rises_send n (λ m. write_lane m (take (accepted l (length bytes)) bytes)) old (λ m. le_same m.limit)))
 rises_call old (Finish n) answer new step =
     by_refusal (LimitsRise old new) (send_refusal old n refusal) old answer new _ step (λ same. becomes old old new same (rises_same old)) (λ done.

@@ -160,7 +160,7 @@ keeps_frame (Plain asks) e = keeps_same e
 
 keeps_end : (number : ℕ) (asks : Bool) (fault : Option WireFault) (e : End) (result : Result Received Closing) (new : End) → AtEnd number asks fault e result new → Keeps e new
 keeps_end number asks None e (Ok received.Done) new step = becomes e _ new step (keeps_same e)
-keeps_end number asks None e (Ok received.NoMemory) new step = becomes e e new step (keeps_same e)
+keeps_end number asks None e (Ok received.NoMemory) new step = becomes e e new step.0 (keeps_same e)
 keeps_end number asks None e (Ok received.Duplicate) new step = absurd step
 keeps_end number asks None e (Ok received.BelowFloor) new step = absurd step
 keeps_end number asks None e (Ok (received.PeerClosed code)) new step = absurd step
@@ -169,11 +169,11 @@ keeps_end number asks (Some fault) e (Ok r) new step = absurd step
 keeps_end number asks (Some fault) e (Err closing) new step = becomes e _ new step.1 (keeps_same e)
 
 keeps_runs_out : (e : End) (f : Seen) (new : End) → RunsOut e f new → Keeps e new
-keeps_runs_out e (Ack largest ranges) new (m, after) = becomes e _ new after (keeps_acks (take m (named e ranges)) e)
-keeps_runs_out e (Stream n offset bytes fin) new after = becomes e e new after (keeps_same e)
-keeps_runs_out e (Control i) new after = becomes e e new after (keeps_same e)
-keeps_runs_out e (Close code) new after = becomes e e new after (keeps_same e)
-keeps_runs_out e (Plain asks) new after = becomes e e new after (keeps_same e)
+keeps_runs_out e (Ack largest ranges) new (m, after, asks) = becomes e _ new after (keeps_acks (take m (named e ranges)) e)
+keeps_runs_out e (Stream n offset bytes fin) new after = becomes e e new after.0 (keeps_same e)
+keeps_runs_out e (Control i) new after = becomes e e new after.0 (keeps_same e)
+keeps_runs_out e (Close code) new after = becomes e e new after.0 (keeps_same e)
+keeps_runs_out e (Plain asks) new after = becomes e e new after.0 (keeps_same e)
 
 keeps_stops : (p : PlacedValue) (f : Seen) (e : End) (result : Result Received Closing) (new : End) → Stops p f e result new → Keeps e new
 keeps_stops p (Close code) e (Ok (received.PeerClosed told)) new stops = becomes e _ new stops.1 (keeps_same e)
@@ -350,7 +350,7 @@ pub keeps_call : (old : End) (call : Call) (answer : Answer call) (new : End) �
 keeps_call old (Open d) answer new step = keeps_open old d answer new step
 keeps_call old Accept answer new step = keeps_accept old answer new step
 keeps_call old (Write n bytes) answer new step =
-    by_memory (Keeps old new) (send_refusal old n refusal) uses.NoMemory old answer new _ step (λ same. becomes old old new same (keeps_same old)) (λ (l, is, done).
+    by_memory (Keeps old new) (send_refusal old n refusal) uses.NoMemory _ old answer new _ step (λ same. becomes old old new same (keeps_same old)) (λ (l, is, done).
     settled old (on_send n (λ m. write_lane m (take (accepted l (length bytes)) bytes)) old) new done.1 (keeps_send n (λ m. write_lane m (take (accepted l (length bytes)) bytes)) old (λ m. omega arith)))
 keeps_call old (Finish n) answer new step =
     by_refusal (Keeps old new) (send_refusal old n refusal) old answer new _ step (λ same. becomes old old new same (keeps_same old)) (λ done.

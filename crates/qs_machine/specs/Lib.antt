@@ -5,6 +5,7 @@ pub mod Credit
 pub mod Seen
 pub mod Verdicts
 pub mod FrameStep
+pub mod Memory
 pub mod Recording
 pub mod Due
 pub mod Lawful

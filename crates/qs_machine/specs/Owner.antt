@@ -1,5 +1,5 @@
 -- The calls of an end's owner on streams: what each answers and leaves (RFC 9000, sections 2.4 and 3). As each ends, the limits move.
-use Rattle.std.specs.Prelude.{◌≡◌, ℕ, ◌+◌, ◌*◌, Bool, List, [], ◌⊎◌, length, take, max, Option, None, Some, is_some, Result, Ok, Err, nat_le, nat_lt, MatchBool, if◌then◌else◌}
+use Rattle.std.specs.Prelude.{◌≡◌, ℕ, ◌+◌, ◌*◌, ◌<◌, Bool, List, [], ◌⊎◌, length, take, max, Option, None, Some, is_some, Result, Ok, Err, nat_le, nat_lt, MatchBool, if◌then◌else◌}
 use Rattle.qs_wire.specs.declared.stream_id.Dir.{Dir}
 use Rattle.qs_wire.specs.declared.stream_id.Dir.TheVariants.{Bidi, Uni}
 use Rattle.qs_recv.specs.Lane.{RecvLane, read_answer, bytes_read, after_read, stop}
@@ -22,10 +22,10 @@ abbrev pub Certain : {A F : Type 0} → Option F → End → Result A F → End 
 Certain (Some fault) old answer new Effect = (answer ≡ Err fault) × (new ≡ old)
 Certain None old answer new Effect = Effect
 
--- The same of a call that takes memory: there may be none, and then nothing changes.
-abbrev pub Uncertain : {A F : Type 0} → Option F → F → End → Result A F → End → Type 0 → Type 0
-Uncertain refusal no_memory old answer new Effect =
-    Certain refusal old answer new (((answer ≡ Err no_memory) × (new ≡ old)) ⊎ Effect)
+-- The same of a call that may ask for memory: where it asks there may be none, and then nothing changes.
+abbrev pub Uncertain : {A F : Type 0} → Option F → F → Type 0 → End → Result A F → End → Type 0 → Type 0
+Uncertain refusal no_memory Asks old answer new Effect =
+    Certain refusal old answer new (((answer ≡ Err no_memory) × (new ≡ old) × Asks) ⊎ Effect)
 
 abbrev pub first_refusal : {F : Type 0} → Option F → Option F → Option F
 first_refusal (Some fault) next = Some fault
@@ -105,10 +105,14 @@ send_refusal e n says =
     first_refusal (refuse_if (is_some e.closed) Closed)
     (elim (send_lane e n) [ None ↦ Some (no_half (is_some (recv_lane e n))) | Some l ↦ half_refusal (says l) ])
 
+-- bytes ask for memory where some of them are accepted
+abbrev pub AsksToKeep : End → ℕ → List ℕ → Type 0
+AsksToKeep e n bytes = (l : SendLane) × (send_lane e n ≡ Some l) × (0 < accepted l (length bytes))
+
 -- as many bytes as there is room for are accepted
 abbrev pub WriteStep : End → ℕ → List ℕ → Result ℕ UseFault → End → Type 0
 WriteStep old n bytes answer new =
-    Uncertain (send_refusal old n refusal) NoMemory old answer new
+    Uncertain (send_refusal old n refusal) NoMemory (AsksToKeep old n bytes) old answer new
     ((l : SendLane) × (send_lane old n ≡ Some l) × (
     let count = accepted l (length bytes) in
     (answer ≡ Ok count) × (new ≡ settle (on_send n (λ m. write_lane m (take count bytes)) old))))

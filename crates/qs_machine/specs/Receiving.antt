@@ -1,6 +1,7 @@
 -- What comes of a payload that arrives under a packet number (RFC 9000, sections 10.2, 11.1, 12.3, 12.4 and 13.1).
-use Rattle.std.specs.Prelude.{◌≡◌, ℕ, Bool, false, ◌||◌, List, [], ◌∷◌, take, ◌⊎◌, Option, None, Some, Result, Ok, Err, nat_lt, MatchBool}
+use Rattle.std.specs.Prelude.{◌≡◌, ℕ, ◌+◌, ◌-◌, Bool, false, ◌||◌, List, [], ◌∷◌, take, slice_get, ◌⊎◌, Option, None, Some, Result, Ok, Err, nat_lt, MatchBool}
 use Rattle.std.specs.FinSet as set
+use Rattle.qs_ranges.specs.Numbers.{MissesRange}
 use Rattle.qs_wire.specs.Layout.{PlacedValue}
 use Rattle.qs_wire.specs.Reading.{reading_of}
 use Rattle.qs_wire.specs.declared.fault.WireFault.{WireFault}
@@ -14,6 +15,7 @@ use Rattle.qs_machine.specs.Credit.{settle}
 use Rattle.qs_machine.specs.Seen.{Seen, Ack, Close, seen, asks_ack}
 use Rattle.qs_machine.specs.Verdicts.{verdict}
 use Rattle.qs_machine.specs.FrameStep.{frame_taken, named, acks}
+use Rattle.qs_machine.specs.Memory.{MayRunOut, StopsAt}
 use Rattle.qs_machine.specs.Recording.{recorded}
 
 -- the closing for a frame that has a fault, and for bytes that are no frame
@@ -23,17 +25,20 @@ closing_at p code = record { code = code; frame_type = p.frame_type; place = p.p
 abbrev pub closing_of : WireFault → Closing
 closing_of fault = record { code = fault.code; frame_type = fault.frame_type; place = fault.place }
 
--- What stands where no frame is left: the number is recorded, or there is no memory for it; or the bytes that follow are no frame.
+-- What stands where no frame is left: the number is recorded, or there is no memory for it, where it touches none that is kept; or the
+-- bytes that follow are no frame.
 abbrev pub AtEnd : ℕ → Bool → Option WireFault → End → Result Received Closing → End → Type 0
 AtEnd number asks None e (Ok Done) new = new ≡ recorded number asks e
-AtEnd number asks None e (Ok NoMemory) new = new ≡ e
+AtEnd number asks None e (Ok NoMemory) new = (new ≡ e) × MissesRange e.done (number - 1) (number + 2)
 AtEnd number asks (Some fault) e (Err closing) new = (closing ≡ closing_of fault) × (new ≡ closes (ByUs closing) e)
 AtEnd number asks fault e result new = ⊥
 
--- A frame without a fault finds no memory: nothing of it takes effect; of an ACK some of the pieces are acknowledged, in order.
+-- A frame without a fault asks for memory and finds none: nothing of it takes effect; of an ACK some of the pieces are acknowledged, in
+-- order, up to one that asks.
 abbrev pub RunsOut : End → Seen → End → Type 0
-RunsOut e (Ack largest ranges) new = (m : ℕ) × (new ≡ acks (take m (named e ranges)) e)
-RunsOut e f new = new ≡ e
+RunsOut e (Ack largest ranges) new =
+    (m : ℕ) × (new ≡ acks (take m (named e ranges)) e) × StopsAt new.sends new.acked (slice_get (named e ranges) m)
+RunsOut e f new = (new ≡ e) × MayRunOut e f
 
 -- A frame ends the processing: it has a fault, or finds no memory, or is a CONNECTION_CLOSE.
 abbrev pub Stops : PlacedValue → Seen → End → Result Received Closing → End → Type 0

@@ -68,10 +68,10 @@ module _ (p q : Past) (e f : End) (their : EndOk q f) (from : p.theirs ≡ q.min
 
   stops_stand : (v : PlacedValue) (g : Seen) (mid : End) (result : Result Received Closing) (new : End) → EndOk p mid → IsThere mid → Tells p.theirs g → Stops v g mid result new → standing new ≡ standing e
   stops_stand v (Close code) mid (Ok (PeerClosed told)) new ok same t h = absurd (their.packets.kinds (Close code) (subst (λ x. Tells x (Close code)) from t))
-  stops_stand v (Ack largest ranges) mid (Ok NoMemory) new ok same t (fine, (m, h)) = ap standing h ∙ ap (λ x. x.0) (acks_stand (take m (named mid ranges)) mid) ∙ same.0
-  stops_stand v (Stream n offset bytes fin) mid (Ok NoMemory) new ok same t h = ap standing h.1 ∙ same.0
-  stops_stand v (Control i) mid (Ok NoMemory) new ok same t h = ap standing h.1 ∙ same.0
-  stops_stand v (Plain asks) mid (Ok NoMemory) new ok same t h = ap standing h.1 ∙ same.0
+  stops_stand v (Ack largest ranges) mid (Ok NoMemory) new ok same t (fine, (m, h, asks)) = ap standing h ∙ ap (λ x. x.0) (acks_stand (take m (named mid ranges)) mid) ∙ same.0
+  stops_stand v (Stream n offset bytes fin) mid (Ok NoMemory) new ok same t h = ap standing h.1.0 ∙ same.0
+  stops_stand v (Control i) mid (Ok NoMemory) new ok same t h = ap standing h.1.0 ∙ same.0
+  stops_stand v (Plain asks) mid (Ok NoMemory) new ok same t h = ap standing h.1.0 ∙ same.0
   stops_stand v (Ack largest ranges) mid (Err closing) new ok same t h = absurd (none-some closing.code (sym (fine_now mid ok same (Ack largest ranges) t) ∙ h.0))
   stops_stand v (Stream n offset bytes fin) mid (Err closing) new ok same t h = absurd (none-some closing.code (sym (fine_now mid ok same (Stream n offset bytes fin) t) ∙ h.0))
   stops_stand v (Control i) mid (Err closing) new ok same t h = absurd (none-some closing.code (sym (fine_now mid ok same (Control i) t) ∙ h.0))
@@ -80,7 +80,7 @@ module _ (p q : Past) (e f : End) (their : EndOk q f) (from : p.theirs ≡ q.min
 
   at_end_stands : (k : ℕ) (asks : Bool) (fault : Option WireFault) (mid : End) (result : Result Received Closing) (new : End) → fault ≡ None → standing mid ≡ standing e → AtEnd k asks fault mid result new → standing new ≡ standing e
   at_end_stands k asks None mid (Ok Done) new none same h = ap standing h ∙ same
-  at_end_stands k asks None mid (Ok NoMemory) new none same h = ap standing h ∙ same
+  at_end_stands k asks None mid (Ok NoMemory) new none same h = ap standing h.0 ∙ same
   at_end_stands k asks (Some fault) mid (Err closing) new none same h = absurd (none-some fault (sym none))
   at_end_stands k asks fault mid result new none same h = absurd h
 

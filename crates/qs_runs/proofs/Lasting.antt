@@ -133,7 +133,7 @@ module _ (p : Past) (e new : End) (ok : EndOk p e) where
 
   write_grows : (n : ℕ) (bytes : List ℕ) (answer : Result ℕ UseFault) → WriteStep e n bytes answer new → AllGrow e.recvs new.recvs
   write_grows n bytes answer step =
-      elim (uncertain_cases (send_refusal e n refusal) uses.NoMemory e answer new _ step) [
+      elim (uncertain_cases (send_refusal e n refusal) uses.NoMemory _ e answer new _ step) [
         | inl (fault, is, same) ↦ same_end e new same
         | inr (allowed, (l, there, (is, same))) ↦ settled e.recvs (on_send n (λ m. write_lane m (take (accepted l (length bytes)) bytes)) e) new (all_grow_refl e.recvs) same
       ]
@@ -204,10 +204,10 @@ own_grows p e new ok act answer step = absurd step
 
 stops_grow : (v : PlacedValue) (f : Seen) (e : End) (result : Result Received Closing) (new : End) → Stops v f e result new → new.recvs ≡ e.recvs
 stops_grow v (Close code) e (Ok (PeerClosed told)) new h = ap (λ x. x.recvs) h.1
-stops_grow v (Ack largest ranges) e (Ok NoMemory) new (fine, (m, h)) = ap (λ x. x.recvs) h ∙ acks_recvs (take m (named e ranges)) e
-stops_grow v (Stream n offset bytes fin) e (Ok NoMemory) new h = ap (λ x. x.recvs) h.1
-stops_grow v (Control i) e (Ok NoMemory) new h = ap (λ x. x.recvs) h.1
-stops_grow v (Plain asks) e (Ok NoMemory) new h = ap (λ x. x.recvs) h.1
+stops_grow v (Ack largest ranges) e (Ok NoMemory) new (fine, (m, h, asks)) = ap (λ x. x.recvs) h ∙ acks_recvs (take m (named e ranges)) e
+stops_grow v (Stream n offset bytes fin) e (Ok NoMemory) new h = ap (λ x. x.recvs) h.1.0
+stops_grow v (Control i) e (Ok NoMemory) new h = ap (λ x. x.recvs) h.1.0
+stops_grow v (Plain asks) e (Ok NoMemory) new h = ap (λ x. x.recvs) h.1.0
 stops_grow v (Ack largest ranges) e (Err closing) new h = ap (λ x. x.recvs) h.2
 stops_grow v (Stream n offset bytes fin) e (Err closing) new h = ap (λ x. x.recvs) h.2
 stops_grow v (Control i) e (Err closing) new h = ap (λ x. x.recvs) h.2
@@ -216,7 +216,7 @@ stops_grow v f e result new h = absurd h
 
 at_end_grows : (k : ℕ) (asks : Bool) (fault : Option WireFault) (e : End) (result : Result Received Closing) (new : End) → AtEnd k asks fault e result new → new.recvs ≡ e.recvs
 at_end_grows k asks None e (Ok Done) new h = ap (λ x. x.recvs) h
-at_end_grows k asks None e (Ok NoMemory) new h = ap (λ x. x.recvs) h
+at_end_grows k asks None e (Ok NoMemory) new h = ap (λ x. x.recvs) h.0
 at_end_grows k asks (Some fault) e (Err closing) new h = ap (λ x. x.recvs) h.1
 at_end_grows k asks fault e result new h = absurd h
 

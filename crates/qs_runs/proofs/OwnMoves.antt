@@ -145,7 +145,7 @@ module _ (p : Past) (e new : End) (ok : EndOk p e) where
 
   write_moves : (n : ℕ) (bytes : Vec ℕ) (answer : Result ℕ UseFault) → WriteStep e n bytes.items answer new → EndOk (with_call p (acts.Write n bytes) (answers.Write answer)) new
   write_moves n bytes answer step =
-      elim (uncertain_cases (send_refusal e n refusal) NoMemory e answer new _ step) [
+      elim (uncertain_cases (send_refusal e n refusal) NoMemory _ e answer new _ step) [
         | inl (fault, is, same) ↦ subst (λ a. EndOk (with_call p (acts.Write n bytes) (answers.Write a)) new) (sym is)
             (quiet_moves (acts.Write n bytes) (answers.Write (Err fault)) (quiet p (acts.Write n bytes) (answers.Write (Err fault)) refl (λ m. refl) (λ m. refl) (λ m. refl) (λ m. refl)) (ended_by p e new same ok))
         | inr (allowed, (l, there, (is, same))) ↦ (

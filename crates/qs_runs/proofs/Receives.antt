@@ -157,17 +157,17 @@ goes_on e (Plain asks) h = h
 module _ (p : Past) (k : ℕ) (all : List Seen) (is : slice_get p.theirs k ≡ Some all) where
   at_end_ok : (asks : Bool) (fault : Option WireFault) (e : End) (result : Result Received Closing) (new : End) → EndOk p e → e.floor ≤ k → AllByRecursion (FrameTaken e.recvs) all → AtEnd k asks fault e result new → EndOk (with_received p k result) new
   at_end_ok asks None e (Ok Done) new ok low taken h = moved_to _ _ _ h (recorded_ok k p asks e all low ok is taken)
-  at_end_ok asks None e (Ok NoMemory) new ok low taken h = unchanged p k new _ refl (moved_to p _ _ h ok)
+  at_end_ok asks None e (Ok NoMemory) new ok low taken h = unchanged p k new _ refl (moved_to p _ _ h.0 ok)
   at_end_ok asks (Some fault) e (Err closing) new ok low taken h = unchanged p k new _ refl (moved_to p _ _ h.1 (closed_ok p e _ ok))
   at_end_ok asks fault e result new ok low taken h = absurd h
 
   stops_ok : (v : PlacedValue) (f : Seen) (e : End) (result : Result Received Closing) (new : End) → EndOk p e → Tells p.theirs f → Stops v f e result new → EndOk (with_received p k result) new
   stops_ok v (Close code) e (Ok (PeerClosed told)) new ok t h = unchanged p k new _ refl (moved_to p _ _ h.1 (closed_ok p e _ ok))
-  stops_ok v (Ack largest ranges) e (Ok NoMemory) new ok t (fine, (m, h)) =
+  stops_ok v (Ack largest ranges) e (Ok NoMemory) new ok t (fine, (m, h, asks)) =
       unchanged p k new _ refl (moved_to p _ _ h (acks_ok p (take m (named e ranges)) e (All_take _ m _ (named_pieces_ok p e ok ranges (λ j a. (largest, ranges, t, a)))) ok))
-  stops_ok v (Stream n offset bytes fin) e (Ok NoMemory) new ok t h = unchanged p k new _ refl (moved_to p _ _ h.1 ok)
-  stops_ok v (Control i) e (Ok NoMemory) new ok t h = unchanged p k new _ refl (moved_to p _ _ h.1 ok)
-  stops_ok v (Plain asks) e (Ok NoMemory) new ok t h = unchanged p k new _ refl (moved_to p _ _ h.1 ok)
+  stops_ok v (Stream n offset bytes fin) e (Ok NoMemory) new ok t h = unchanged p k new _ refl (moved_to p _ _ h.1.0 ok)
+  stops_ok v (Control i) e (Ok NoMemory) new ok t h = unchanged p k new _ refl (moved_to p _ _ h.1.0 ok)
+  stops_ok v (Plain asks) e (Ok NoMemory) new ok t h = unchanged p k new _ refl (moved_to p _ _ h.1.0 ok)
   stops_ok v (Ack largest ranges) e (Err closing) new ok t h = unchanged p k new _ refl (moved_to p _ _ h.2 (closed_ok p e _ ok))
   stops_ok v (Stream n offset bytes fin) e (Err closing) new ok t h = unchanged p k new _ refl (moved_to p _ _ h.2 (closed_ok p e _ ok))
   stops_ok v (Control i) e (Err closing) new ok t h = unchanged p k new _ refl (moved_to p _ _ h.2 (closed_ok p e _ ok))

@@ -188,10 +188,10 @@ settle_spends e = total_each highest raise e.recvs (λ l. refl)
 
 stops_spend : (v : PlacedValue) (f : Seen) (e : End) (result : Result Received Closing) (new : End) → Stops v f e result new → spent new ≡ spent e
 stops_spend v (Close code) e (Ok (PeerClosed told)) new h = ap spent h.1
-stops_spend v (Ack largest ranges) e (Ok NoMemory) new (fine, (m, h)) = ap spent h ∙ ap (total highest) (acks_recvs (take m (named e ranges)) e)
-stops_spend v (Stream n offset bytes fin) e (Ok NoMemory) new h = ap spent h.1
-stops_spend v (Control i) e (Ok NoMemory) new h = ap spent h.1
-stops_spend v (Plain asks) e (Ok NoMemory) new h = ap spent h.1
+stops_spend v (Ack largest ranges) e (Ok NoMemory) new (fine, (m, h, asks)) = ap spent h ∙ ap (total highest) (acks_recvs (take m (named e ranges)) e)
+stops_spend v (Stream n offset bytes fin) e (Ok NoMemory) new h = ap spent h.1.0
+stops_spend v (Control i) e (Ok NoMemory) new h = ap spent h.1.0
+stops_spend v (Plain asks) e (Ok NoMemory) new h = ap spent h.1.0
 stops_spend v (Ack largest ranges) e (Err closing) new h = ap spent h.2
 stops_spend v (Stream n offset bytes fin) e (Err closing) new h = ap spent h.2
 stops_spend v (Control i) e (Err closing) new h = ap spent h.2
@@ -200,7 +200,7 @@ stops_spend v f e result new h = absurd h
 
 at_end_spends : (k : ℕ) (asks : Bool) (fault : Option WireFault) (e : End) (result : Result Received Closing) (new : End) → AtEnd k asks fault e result new → spent new ≡ spent e
 at_end_spends k asks None e (Ok Done) new h = ap spent h
-at_end_spends k asks None e (Ok NoMemory) new h = ap spent h
+at_end_spends k asks None e (Ok NoMemory) new h = ap spent h.0
 at_end_spends k asks (Some fault) e (Err closing) new h = ap spent h.1
 at_end_spends k asks fault e result new h = absurd h
 

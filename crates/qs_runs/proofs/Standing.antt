@@ -110,10 +110,10 @@ pub certain_cases : {A F : Type 0} (o : Option F) (old : End) (answer : Result A
 certain_cases (Some fault) old answer new E h = inl (fault, h.0, h.1)
 certain_cases None old answer new E h = inr (refl, h)
 
-pub uncertain_cases : {A F : Type 0} (o : Option F) (no_memory : F) (old : End) (answer : Result A F) (new : End) (E : Type 0) → Uncertain o no_memory old answer new E → IsRefused old answer new ⊎ ((o ≡ None) × E)
-uncertain_cases (Some fault) no_memory old answer new E h = inl (fault, h.0, h.1)
-uncertain_cases None no_memory old answer new E (inl h) = inl (no_memory, h.0, h.1)
-uncertain_cases None no_memory old answer new E (inr h) = inr (refl, h)
+pub uncertain_cases : {A F : Type 0} (o : Option F) (no_memory : F) (Asks : Type 0) (old : End) (answer : Result A F) (new : End) (E : Type 0) → Uncertain o no_memory Asks old answer new E → IsRefused old answer new ⊎ ((o ≡ None) × E)
+uncertain_cases (Some fault) no_memory Asks old answer new E h = inl (fault, h.0, h.1)
+uncertain_cases None no_memory Asks old answer new E (inl h) = inl (no_memory, h.0, h.1)
+uncertain_cases None no_memory Asks old answer new E (inr h) = inr (refl, h)
 
 wanted_stands : (d : Dir) (count : ℕ) (e : End) → standing (settle (with_wanted d count e)) ≡ standing e
 wanted_stands Bidi count e = refl
@@ -154,7 +154,7 @@ module _ (e new : End) where
 
   pub write_stands : (n : ℕ) (bytes : List ℕ) (answer : Result ℕ UseFault) → WriteStep e n bytes answer new → standing new ≡ standing e
   write_stands n bytes answer step =
-      elim (uncertain_cases (send_refusal e n refusal) NoMemory e answer new _ step) [
+      elim (uncertain_cases (send_refusal e n refusal) NoMemory _ e answer new _ step) [
         | inl (fault, is, same) ↦ ap standing same
         | inr (allowed, (l, there, (is, same))) ↦ ap standing same
       ]

@@ -3,6 +3,7 @@ ghost use Rattle.std.specs.Prelude.{◌≡◌, ◌<◌, ◌^◌, true, false, So
 ghost use Rattle.std.specs.FinMap as fmap;
 ghost use Rattle.qs_wire.specs.Varint.{numbers_of};
 ghost use Rattle.qs_wire.specs.Layout.{ack_ranges_of};
+ghost use Rattle.qs_machine.specs.Memory.{PieceMayRunOut};
 ghost use Rattle.qs_machine.specs.Outgoing.{IsIdle, first_piece, first_acked_out, acked_at};
 ghost use Rattle.qs_conn.specs.Ended.{AreAllCounted, half_of};
 ghost use Rattle.qs_conn.specs.Runs.{AcksAhead, AcksNamed, AcksPacket, AcksRanges};
@@ -171,6 +172,7 @@ fn ack_piece(
     requires counted { AreAllCounted role recvs.now outbox.old.sends ended.old }
     ensures ok { OnOk result (outbox.new ≡ first_acked_out (acked_at false number piece) outbox.old) }
     ensures err { OnErr result (outbox.new ≡ outbox.old) }
+    ensures asks { OnErr result (PieceMayRunOut outbox.old.sends outbox.old.acked piece) }
     ensures idle { IsIdle outbox.new }
     ensures counted { AreAllCounted role recvs.now outbox.new.sends ended.new }
 {
@@ -197,6 +199,7 @@ fn ack_lost_piece(
     requires counted { AreAllCounted role recvs.now outbox.old.sends ended.old }
     ensures ok { OnOk result (outbox.new ≡ first_acked_out (acked_at true number piece) outbox.old) }
     ensures err { OnErr result (outbox.new ≡ outbox.old) }
+    ensures asks { OnErr result (PieceMayRunOut outbox.old.sends outbox.old.acked piece) }
     ensures idle { IsIdle outbox.new }
     ensures counted { AreAllCounted role recvs.now outbox.new.sends ended.new }
 {

@@ -1,5 +1,5 @@
 //! Streams are opened, and given out.
-ghost use Rattle.std.specs.Prelude.{◌≡◌, ◌≤◌, ◌<◌, ◌^◌, length, max, not, ◌&&◌, if◌then◌else◌, OnOk, OnErr};
+ghost use Rattle.std.specs.Prelude.{◌≡◌, ◌≤◌, ◌<◌, ◌^◌, length, max, not, ◌&&◌, if◌then◌else◌, true, false, OnOk, OnErr};
 ghost use Rattle.qs_ranges.specs.Numbers.{MAX_VARINT};
 ghost use Rattle.qs_recv.specs.Lane.{new_lane as new_recv_lane};
 ghost use Rattle.qs_send.specs.Lane.{new_lane as new_send_lane};
@@ -7,6 +7,7 @@ ghost use Rattle.qs_machine.specs.Tables.{open_to};
 ghost use Rattle.qs_machine.specs.Ends.{opens, opened_by_peer};
 ghost use Rattle.qs_machine.specs.Credit.{settle};
 ghost use Rattle.qs_machine.specs.Due.{known_count};
+ghost use Rattle.qs_machine.specs.Memory.{IsYetToOpen};
 ghost use Rattle.qs_machine.specs.Outgoing.{with_sends};
 ghost use Rattle.qs_machine.specs.Owner.{OpenStep, AcceptStep, own_kind, peer_kind, opened_count, with_wanted};
 
@@ -68,15 +69,31 @@ impl Endpoint {
         None
     }
 
-    // A frame that names a stream of the peer opens it (RFC 9000, section 3.2).
+    // A frame that names a stream of the peer opens it (RFC 9000, section 3.2). Memory is asked for only where it isn't open yet.
     pub(super) fn open_by_peer(&mut self, stream: StreamId) -> Result<(), NoMemory>
         ensures ok { OnOk result (self.new ≡ opened_by_peer stream self.old) }
         ensures err { OnErr result (self.new ≡ self.old) }
+        ensures yet { OnErr result (IsYetToOpen self.old stream) }
     {
-        if self.is_own(stream) {
+        if self.is_open_here(stream) {
             return Ok(());
         }
         self.open_stream(stream)
+    }
+
+    // Whether no frame opens the stream: it is this end's own, or open with the halves that it has here.
+    #[tactic(auto, using(crate::proofs::Openings::own_stays, crate::proofs::Openings::open_stays, crate::proofs::Openings::none_in, crate::proofs::Openings::none_out))]
+    fn is_open_here(&self, stream: StreamId) -> bool
+        ensures yes { result ≡ true → opened_by_peer stream self.now ≡ self.now }
+        ensures no { result ≡ false → IsYetToOpen self.now stream }
+    {
+        if self.is_own(stream) {
+            return true;
+        }
+        if !self.recvs.is_open(stream) {
+            return false;
+        }
+        is_uni(stream) || self.outbox.is_open(stream)
     }
 
     // Opens a stream and all lower ones of its type, or changes nothing. Memory is taken first.

@@ -1,7 +1,7 @@
 //! Which packet numbers were processed.
-ghost use Rattle.std.specs.Prelude.{◌≡◌, ◌<◌, ◌^◌, ◌||◌, if◌then◌else◌, OnOk, OnErr};
+ghost use Rattle.std.specs.Prelude.{◌≡◌, ◌+◌, ◌-◌, ◌<◌, ◌^◌, ◌||◌, if◌then◌else◌, OnOk, OnErr};
 ghost use Rattle.std.specs.FinSet as set;
-ghost use Rattle.qs_ranges.specs.Numbers.{numbers};
+ghost use Rattle.qs_ranges.specs.Numbers.{numbers, MissesRange};
 ghost use Rattle.qs_machine.specs.Recording.{has_too_many, least_in, lowest_end, recorded};
 
 use super::Endpoint;
@@ -16,6 +16,7 @@ impl Endpoint {
         requires { number < 2 ^ 62 }
         ensures ok { OnOk result (self.new ≡ recorded number asks self.old) }
         ensures err { OnErr result (self.new ≡ self.old) }
+        ensures touches_none { OnErr result (MissesRange self.old.done (number - 1) (number + 2)) }
     {
         self.done.insert(number, number + 1)?;
         self.floor = trim(&mut self.done, self.floor);

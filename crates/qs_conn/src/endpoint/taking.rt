@@ -8,6 +8,7 @@ ghost use Rattle.qs_send.specs.declared.piece.Item.TheVariants as items;
 ghost use Rattle.qs_machine.specs.Seen.{seen, Ack, Stream, Control};
 ghost use Rattle.qs_machine.specs.Verdicts.{state_fault_out, verdict};
 ghost use Rattle.qs_machine.specs.FrameStep.{named, acks, item_taken, frame_taken};
+ghost use Rattle.qs_machine.specs.Memory.{IsYetToOpen, MayRunOut};
 ghost use Rattle.qs_machine.specs.Receiving.{RunsOut};
 
 use super::Endpoint;
@@ -104,6 +105,7 @@ impl Endpoint {
         requires passed { state_fault_out self.old stream ≡ None }
         ensures ok { OnOk result (self.new ≡ item_taken (items.MaxStreamData stream maximum) self.old) }
         ensures err { OnErr result (self.new ≡ self.old) }
+        ensures yet { OnErr result (IsYetToOpen self.old stream) }
     {
         self.open_by_peer(stream)?;
         self.outbox.allow(stream, maximum);
@@ -117,6 +119,7 @@ impl Endpoint {
         requires passed { state_fault_out self.old stream ≡ None }
         ensures ok { OnOk result (self.new ≡ item_taken (items.StopSending stream code) self.old) }
         ensures err { OnErr result (self.new ≡ self.old) }
+        ensures yet { OnErr result (IsYetToOpen self.old stream) }
     {
         self.open_by_peer(stream)?;
         let _ = self.outbox.reset(stream, code);
@@ -129,6 +132,7 @@ impl Endpoint {
         requires passed { verdict self.old (Control (items.ResetStream stream code size)) ≡ None }
         ensures ok { OnOk result (self.new ≡ item_taken (items.ResetStream stream code size) self.old) }
         ensures err { OnErr result (self.new ≡ self.old) }
+        ensures yet { OnErr result (IsYetToOpen self.old stream) }
     {
         let _granted = self.granted;
         self.open_by_peer(stream)?;
@@ -149,6 +153,7 @@ impl Endpoint {
         requires passed { verdict self.old (Stream stream offset bytes.now fin) ≡ None }
         ensures ok { OnOk result (self.new ≡ frame_taken (Stream stream offset bytes.now fin) self.old) }
         ensures err { OnErr result (self.new ≡ self.old) }
+        ensures asks { OnErr result (MayRunOut self.old (Stream stream offset bytes.now fin)) }
     {
         self.outbox.are_of_open();
         let sends = self.outbox.count(stream);

@@ -7,7 +7,8 @@ ghost use Rattle.qs_send.specs.Records.{Among};
 ghost use Rattle.qs_send.specs.AckPass.{Falls, IsNextNamed};
 ghost use Rattle.qs_send.specs.Lane.{Sending, after_reset_acked};
 ghost use Rattle.qs_machine.specs.Tables.{lookup, updated};
-ghost use Rattle.qs_machine.specs.Outgoing.{first_piece, first_acked_out, first_lost_out, acked_at, IsIdle, IsSentPiece, NoneEmpty, item_noted, halves_acked, items_acked, halves_lost};
+ghost use Rattle.qs_machine.specs.Memory.{NoteMayRunOut, PieceMayRunOut};
+ghost use Rattle.qs_machine.specs.Outgoing.{lanes_of, first_piece, first_acked_out, first_lost_out, acked_at, IsIdle, IsSentPiece, NoneEmpty, item_noted, halves_acked, items_acked, halves_lost};
 
 use super::Outbox;
 use crate::send_tables::SendTables;
@@ -60,6 +61,7 @@ impl Outbox {
         requires first { first_piece (fmap.get self.old.outstanding number) ≡ Some piece }
         ensures ok { OnOk result (self.new ≡ first_acked_out (acked_at false number piece) self.old) }
         ensures err { OnErr result (self.new ≡ self.old) }
+        ensures asks { OnErr result (PieceMayRunOut self.old.sends self.old.acked piece) }
         ensures idle { IsIdle self.new }
     {
         let _next = self.next;
@@ -93,6 +95,7 @@ impl Outbox {
         requires first { first_piece (fmap.get self.old.lost.pieces number) ≡ Some piece }
         ensures ok { OnOk result (self.new ≡ first_acked_out (acked_at true number piece) self.old) }
         ensures err { OnErr result (self.new ≡ self.old) }
+        ensures asks { OnErr result (PieceMayRunOut self.old.sends self.old.acked piece) }
         ensures idle { IsIdle self.new }
     {
         let _next = self.next;
@@ -127,6 +130,7 @@ fn piece_acked(sends: &mut SendTables, told: &mut ToldItems, piece: &Piece) -> R
     ensures items { OnOk result (told.new ≡ items_acked piece.now told.old) }
     ensures err { OnErr result (sends.new ≡ sends.old) }
     ensures same { OnErr result (told.new ≡ told.old) }
+    ensures asks { OnErr result (PieceMayRunOut (lanes_of sends.old) told.old piece.now) }
 {
     match *piece {
         Piece::Data { stream, chunk } => sends.acked(stream, chunk),
@@ -141,6 +145,7 @@ fn item_acked(sends: &mut SendTables, told: &mut ToldItems, item: Item) -> Resul
     ensures items { OnOk result (told.new ≡ item_noted item told.old) }
     ensures err { OnErr result (sends.new ≡ sends.old) }
     ensures same { OnErr result (told.new ≡ told.old) }
+    ensures asks { OnErr result (NoteMayRunOut told.old item) }
 {
     if let Item::ResetStream { stream, .. } = item {
         reset_acked(sends, stream);

@@ -1,7 +1,9 @@
-use Rattle.std.proofs.Common.{◌≡◌, ℕ, is_some, length, sym, ap, ◌∙◌, subst, take, ◌%◌}
+use Rattle.std.proofs.Common.{◌≡◌, ℕ, Option, inr, is_some, length, sym, ap, ◌∙◌, subst, take, ◌%◌}
 use Rattle.qs_recv.specs.Lane.{RecvLane}
 use Rattle.qs_machine.specs.Tables.{Tables, table, with_table, lookup}
 use Rattle.qs_machine.specs.Ends.{End}
+use Rattle.qs_machine.specs.Verdicts.{or_new}
+use Rattle.qs_machine.specs.Memory.{HasNews}
 use Rattle.qs_machine.specs.Standing.{IsInCredit}
 use Rattle.qs_machine.specs.Sums.{tally_on}
 use Rattle.qs_machine.specs.Outgoing.{Outgoing, AreOfOpen, sent_sum}
@@ -73,3 +75,8 @@ invariant_of-self-in_default c =
       fit_streamed _ _ _ _ _ _ _ c.self-2.invariant.3 _ c.self-2.invariant.0.sound _ c.args.stream _ _ _
           (stream_checked c.args.self.now _ c.args.stream c.args.offset c.args.bytes.now c.args.fin c.requires.passed (c.self-2.view_is ∙ c.in_ok-open_by_peer.ensures.ok)) c.in_default.ensures.ok,
     )
+
+pub returns-in-Err-clause-asks : goal.returns-in-Err-clause-asks
+returns-in-Err-clause-asks c =
+    inr (subst (λ (o : Option RecvLane). HasNews (or_new o 0) c.args.offset (length c.args.bytes.now))
+    (in_there c.args.self.now _ c.args.stream (stream_in c.args.self.now c.args.stream c.args.offset c.args.bytes.now c.args.fin c.requires.passed) (c.self-2.view_is ∙ c.in_ok-open_by_peer.ensures.ok)) c.in-Err.ensures.news)

@@ -1,6 +1,7 @@
-use Rattle.std.proofs.Common.{ap}
+use Rattle.std.proofs.Common.{sym, ap, ◌∙◌}
 use Rattle.qs_machine.specs.Outgoing.{Outgoing}
 use Rattle.qs_conn.proofs.Counted.{fit_written}
+use Rattle.qs_conn.proofs.OwnerSteps.{write_err}
 use Rattle.qs_conn.proofs.Runs.{idle_with}
 use Rattle.qs_conn.proofs.Funded.{funded_written}
 use Rattle.qs_conn.proofs.endpoint.Endpoint.write.Goals as goal
@@ -12,3 +13,8 @@ invariant_of-self c = (
   funded_written c.self.inside.outbox _ _ _ _ _ _ c.in-Ok.ensures.accepted.2 c.self.invariant.2,
   fit_written _ _ _ _ _ _ _ c.self.invariant.3 _ c.args.stream _ c.in-Ok.ensures.accepted.0 (ap (λ (o : Outgoing). o.sends) c.in-Ok.ensures.accepted.2),
 )
+
+pub returns-in-Err : goal.returns-in-Err
+returns-in-Err c =
+    rw (c.in-Err.ensures.refused.0, c.use_fault.ensures)
+    (write_err _ c.args.self.now c.args.stream c.args.bytes.now c.in-Err.fault c.self.view_is (sym c.no_sender.ensures ∙ c.in_default.is) c.in-Err.ensures.refused.1 c.in-Err.ensures.grows)

@@ -1,6 +1,6 @@
 use Rattle.std.proofs.Common.{◌≡◌, ◌≤◌, ℕ, refl, arith}
 use Rattle.qs_conn.proofs.OutboxMaking.{room_stays}
-use Rattle.qs_conn.proofs.OutboxAcks.{idle_none, first_at, tied_at, sent_piece, box_acked, acked_value, idle_after}
+use Rattle.qs_conn.proofs.OutboxAcks.{idle_none, first_at, tied_at, sent_piece, box_acked, acked_value, idle_after, stop_asks}
 use Rattle.qs_conn.proofs.Indexed.{indexed_first_gone}
 use Rattle.qs_machine.proofs.LostSent.{sent_acked}
 use Rattle.qs_conn.proofs.outbox.Outbox.ack_first.Goals as goal
@@ -41,3 +41,6 @@ returns-clause-idle c =
     (first_at _ c.args.self.now c.self.inside.records.pieces c.self.inside.pending.items c.args.number c.args.piece c.self.view_is refl c.requires.idle c.requires.first)
     c.in_ok-piece_acked.ensures.halves c.drop_first.ensures.pieces (room_stays c.self.inside.next c.self.inside.records.room c.drop_first.new.self.room (kept c.drop_first.ensures.room)) in
     idle_after _ _ _ held.below (idle_none _ c.args.self.now c.self.inside.records.pieces c.self.inside.pending.items c.self.view_is refl c.requires.idle)
+
+pub returns-in_err-piece_acked-clause-asks : goal.returns-in_err-piece_acked-clause-asks
+returns-in_err-piece_acked-clause-asks c = stop_asks c.from_residual.result _ c.args.self.now c.args.piece c.self.view_is c.in_err-piece_acked.ensures.asks

@@ -1,5 +1,5 @@
 use Rattle.std.proofs.Common.{refl}
-use Rattle.qs_conn.proofs.OutboxAcks.{first_in, box_late, lost_left, late_value}
+use Rattle.qs_conn.proofs.OutboxAcks.{first_in, box_late, lost_left, late_value, stop_asks}
 use Rattle.qs_machine.proofs.LostSent.{sent_acked, sent_less}
 use Rattle.qs_conn.proofs.outbox.Outbox.ack_lost_first.Goals as goal
 
@@ -22,3 +22,6 @@ returns-clause-ok c =
 
 pub returns-clause-idle : goal.returns-clause-idle
 returns-clause-idle c = rw (← c.self.view_is) at c.requires.idle
+
+pub returns-in_err-piece_acked-clause-asks : goal.returns-in_err-piece_acked-clause-asks
+returns-in_err-piece_acked-clause-asks c = stop_asks c.from_residual.result _ c.args.self.now c.args.piece c.self.view_is c.in_err-piece_acked.ensures.asks

@@ -1,5 +1,5 @@
 use Rattle.std.proofs.Common.{refl}
-use Rattle.qs_conn.proofs.Outboxes.{half_there, box_written, write_ok, write_err}
+use Rattle.qs_conn.proofs.Outboxes.{half_there, box_written, write_ok, write_err, write_asks}
 use Rattle.qs_machine.proofs.LostSent.{sent_write}
 use Rattle.qs_conn.proofs.outbox.Outbox.write.Goals as goal
 
@@ -17,3 +17,6 @@ returns-clause-accepted c = write_ok _ c.args.self.now c.self.inside.sends c.wri
 
 pub returns-clause-refused : goal.returns-clause-refused
 returns-clause-refused c = write_err _ c.args.self.now c.self.inside.sends c.write.new.self c.args.stream c.write.result c.self.view_is refl c.write.ensures.refused
+
+pub returns-clause-grows : goal.returns-clause-grows
+returns-clause-grows c = write_asks _ c.args.self.now c.self.inside.sends c.args.stream c.args.bytes.now c.write.result c.self.view_is refl c.write.ensures.grows

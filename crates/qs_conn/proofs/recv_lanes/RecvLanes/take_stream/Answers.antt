@@ -1,4 +1,7 @@
-use Rattle.std.proofs.Common.{is_some, ap, ◌∙◌, sym, ◌<◌, length}
+use Rattle.std.proofs.Common.{is_some, ap, ◌∙◌, sym, subst, ◌<◌, length}
+use Rattle.std.proofs.lemmas.List.{get_or_default}
+use Rattle.qs_recv.specs.Lane.{RecvLane, new_lane}
+use Rattle.qs_machine.specs.Memory.{HasNews}
 use Rattle.qs_conn.specs.Marks.{IsQuietLane}
 use Rattle.qs_conn.proofs.Marked.{mark_there, look_again}
 use Rattle.qs_conn.proofs.LaneEdits.{paid_of, edited, changed_at}
@@ -38,3 +41,10 @@ pub returns-else-stopped-clause-ok : goal.returns-else-stopped-clause-ok
 returns-else-stopped-clause-ok c =
     rw (← c.self.view_is)
     (changed_at c.self.inside.halves.items c.args.index _ _ _ (rw c.self.view_is c.requires.there) c.index_mut-half.ensures.value c.in_default.ensures.taken)
+
+pub returns-in-Err-clause-news : goal.returns-in-Err-clause-news
+returns-in-Err-clause-news c =
+    rw (← c.self.view_is)
+    (subst (λ (l : RecvLane). HasNews l c.args.offset (length c.args.bytes.now))
+    (c.index_mut-half.ensures.value ∙ get_or_default c.self.inside.halves.items c.args.index _ (new_lane 0) (rw c.self.view_is c.requires.there))
+    (record { no_reset = c.in-Err.ensures.open; some = c.in-Err.ensures.news; apart = c.in-Err.ensures.apart }))

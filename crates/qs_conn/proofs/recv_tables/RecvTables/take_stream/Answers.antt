@@ -1,5 +1,7 @@
-use Rattle.std.proofs.Common.{arith}
-use Rattle.qs_recv.specs.Lane.{highest, take_stream}
+use Rattle.std.proofs.Common.{length, sym, subst, arith}
+use Rattle.std.specs.Result.{OnErr}
+use Rattle.qs_recv.specs.Lane.{RecvLane, highest, take_stream}
+use Rattle.qs_machine.specs.Memory.{HasNews}
 use Rattle.qs_machine.proofs.TableEdits.{open_there, updated_is, sum_le, on_ok, lane_is}
 use Rattle.qs_conn.proofs.recv_tables.RecvTables.take_stream.Goals as goal
 
@@ -26,3 +28,9 @@ take_stream-requires-clause-unchanged c =
 pub returns-clause-ok : goal.returns-clause-ok
 returns-clause-ok c =
     rw (← c.self.view_is) (on_ok c.take_stream.result _ _ (λ is. updated_is c.self.inside.types c.args.stream c.kind_of.result c.index_of.result c.index-self-kind_of.result c.take_stream.new.self (λ l. take_stream l c.args.offset c.args.bytes.now c.args.fin) c.self.invariant c.kind_of.ensures.value c.index_of.ensures.value is) c.take_stream.ensures.ok)
+
+pub returns-clause-news : goal.returns-clause-news
+returns-clause-news c =
+    rw (← c.self.view_is)
+    (subst (λ (l : RecvLane). OnErr c.take_stream.result (HasNews l c.args.offset (length c.args.bytes.now)))
+    (sym (lane_is c.self.inside.types c.args.stream c.kind_of.result c.index_of.result c.index-self-kind_of.result 0 c.self.invariant c.kind_of.ensures.value c.index_of.ensures.value)) c.take_stream.ensures.news)

@@ -1,3 +1,7 @@
+use Rattle.std.proofs.Common.{◌<◌, length, ◌∙◌, subst}
+use Rattle.std.proofs.lemmas.List.{get_or_default}
+use Rattle.qs_send.specs.Lane.{Sending, accepted}
+use Rattle.qs_machine.specs.Sums.{no_sending}
 use Rattle.qs_conn.specs.Tasks.{IsQuiet, marks_of}
 use Rattle.qs_conn.proofs.SendEdits.{wrote_at}
 use Rattle.qs_conn.proofs.Marked.{mark_there}
@@ -14,3 +18,9 @@ pub returns-clause-accepted : goal.returns-clause-accepted
 returns-clause-accepted c =
     rw (← c.self.view_is)
     (wrote_at c.write-answer.result c.self.inside.halves.items c.args.index c.index_mut-half.result.now c.write-answer.new.self c.args.bytes.now (rw c.self.view_is c.requires) c.index_mut-half.ensures.value c.write-answer.ensures.accepted)
+
+pub returns-clause-grows : goal.returns-clause-grows
+returns-clause-grows c =
+    rw (← c.self.view_is)
+    (λ none. subst (λ (s : Sending). 0 < accepted s.lane (length c.args.bytes.now))
+    (c.index_mut-half.ensures.value ∙ get_or_default c.self.inside.halves.items c.args.index _ no_sending (rw c.self.view_is c.requires)) (c.write-answer.ensures.grows none))
