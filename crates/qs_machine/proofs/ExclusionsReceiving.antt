@@ -97,8 +97,8 @@ out_of_memory : NothingTookEffect
 unfolding frame_taken lookup update open_to acks
 out_of_memory =
     record {
-      no_byte = λ same. (let e : 1 ≡ 0 = ap (λ (e : End). length e.recvs.client_bidi) same in omega arith);
-      unnamed = λ (m, after). none-some three_bytes (sym gone ∙ ap (λ (e : End). fmap.get e.outstanding 0) (after ∙ ap (λ ps. acks (take m ps) flying) none_named ∙ ap (λ ps. acks ps flying) (take_nothing m)) ∙ fmap.get-insert nat_cmp_total fmap.empty 0 three_bytes 0);
+      no_byte = λ same. (let e : 1 ≡ 0 = ap (λ (e : End). length e.recvs.client_bidi) same.0 in omega arith);
+      unnamed = λ (m, after, left). none-some three_bytes (sym gone ∙ ap (λ (e : End). fmap.get e.outstanding 0) (after ∙ ap (λ ps. acks (take m ps) flying) none_named ∙ ap (λ ps. acks ps flying) (take_nothing m)) ∙ fmap.get-insert nat_cmp_total fmap.empty 0 three_bytes 0);
     }
 
 -- The processing of frames never ends so
@@ -262,7 +262,7 @@ ends =
       no_memory = λ fault new h. h;
       all_read = λ code new h. h;
       kept = λ new h none. both_ways _ none (ap (λ (e : End). set.contains e.done 0) h ∙ ap (λ b. set.contains (left 1 b) 0) (too_many 1) ∙ evens_at 1 0 (omega arith));
-      unkept = λ new h is. no_member 0 (ap (λ (e : End). set.contains e.done 0) (sym h) ∙ is);
+      unkept = λ new h is. no_member 0 (ap (λ (e : End). set.contains e.done 0) (sym h.0) ∙ is);
     }
 
 aborts : AbortsCount
