@@ -3,6 +3,7 @@
 
 use crate::proved::qs_conn::outbox::Outbox;
 use crate::proved::qs_conn::recv_tables::RecvTables;
+use crate::proved::qs_conn::send_marks::Task;
 use crate::proved::qs_conn::slot::{Kind, Slot};
 use crate::proved::qs_conn::terms::Terms;
 use crate::proved::qs_ranges::RangeSet;
@@ -104,7 +105,8 @@ fn next_of_kind(
     from: u64,
 ) -> Option<StreamId> {
     match kind {
-        Kind::ResetStream | Kind::StreamDataBlocked => outbox.next_marked(from),
+        Kind::ResetStream => outbox.next_marked(Task::Reset, from),
+        Kind::StreamDataBlocked => outbox.next_marked(Task::Blocked, from),
         Kind::StopSending | Kind::MaxStreamData => terms.next_receiving(recvs, from),
     }
 }
@@ -224,7 +226,7 @@ pub(crate) fn put_streams(
 ) -> Packet {
     let mut packet = packet;
     let mut from = 0;
-    while let Some(stream) = outbox.next_marked(from) {
+    while let Some(stream) = outbox.next_marked(Task::Bytes, from) {
         packet = put_stream(terms, outbox, stream, out, packet);
         if packet.is_full {
             return packet;

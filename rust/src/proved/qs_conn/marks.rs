@@ -1,104 +1,79 @@
 // Made from crates/qs_conn/src/marks.rt by rust/erase; not edited by hand.
 //! Which streams of one type may have something to send or to tell.
-use crate::shim::Vec;
 
+use crate::proved::qs_conn::bits::{Bits, FLAGS_PER_WORD};
 use crate::proved::qs_ranges::NoMemory;
 use crate::shim::alloc::Global;
 
-/// How many marks a word has.
-const MARKS_PER_WORD: usize = 64;
-
-/// A mark for each index of the streams of one type. A search jumps over indexes that aren't marked, a word of them at a time.
+/// A mark for each index of the streams of one type, and a flag for each word of marks that has one: so a search looks at one word of
+/// flags for 4,096 indexes without a mark.
 pub(crate) struct Marks {
-    words: Vec<u64>,
-    count: usize,
+    marks: Bits,
+    // A word without a flag has no mark.
+    words: Bits,
 }
 
 impl Marks {
     /// No index has a mark.
     pub(crate) fn new(alloc: Global) -> Self {
         Marks {
-            words: Vec::new(alloc),
-            count: 0,
+            marks: Bits::new(alloc),
+            words: Bits::new(alloc),
         }
+    }
+
+    /// How many indexes there are.
+    pub(crate) fn len(&self) -> usize {
+        self.marks.len()
     }
 
     /// Takes the memory for the indexes below a count.
     pub(crate) fn reserve(&mut self, count: usize) -> Result<(), NoMemory> {
-        let missing = count
-            .div_ceil(MARKS_PER_WORD)
-            .saturating_sub(self.words.len());
-        match self.words.reserve(missing) {
-            Ok(()) => Ok(()),
-            Err(_refused) => Err(NoMemory),
-        }
+        self.marks.reserve(count)?;
+        self.words.reserve(count.div_ceil(FLAGS_PER_WORD))
     }
 
     /// Makes room for all indexes below a count: the new ones aren't marked.
     pub(crate) fn open_to(&mut self, count: usize) -> Result<(), NoMemory> {
-        if count <= self.count {
+        if count <= self.marks.len() {
             return Ok(());
         }
-        match self.words.resize(count.div_ceil(MARKS_PER_WORD), 0) {
-            Ok(()) => {
-                self.count = count;
-                Ok(())
-            }
-            Err(_refused) => Err(NoMemory),
-        }
+        // More words than there are marks for sum up the same marks.
+        self.words.open_to(count.div_ceil(FLAGS_PER_WORD))?;
+        self.marks.open_to(count)
     }
 
     /// Takes the indexes from a count on away.
     pub(crate) fn close_to(&mut self, count: usize) {
-        if self.count <= count {
-            return;
-        }
-        let last = count / MARKS_PER_WORD;
-        self.words.truncate(last + 1);
-        self.words[last] = cut_at(self.words[last], count % MARKS_PER_WORD);
-        self.count = count;
+        self.marks.close_to(count);
     }
 
     /// Marks an index, or takes its mark away.
     pub(crate) fn set(&mut self, index: usize, is_marked: bool) {
-        let place = index / MARKS_PER_WORD;
-        self.words[place] = with_bit(self.words[place], index % MARKS_PER_WORD, is_marked);
+        self.marks.set(index, is_marked);
+        let word = index / FLAGS_PER_WORD;
+        self.words.set(word, has_mark(&self.marks, word));
     }
 
     /// The least marked index from an index on.
     pub(crate) fn next(&self, from: usize) -> Option<usize> {
-        let mut bit = from % MARKS_PER_WORD;
-        for place in from / MARKS_PER_WORD..self.words.len() {
-            if let Some(marked) = lowest_bit(self.words[place], bit) {
-                return Some(place * MARKS_PER_WORD + marked);
+        if let Some(index) = self.marks.next_in_word(from) {
+            return Some(index);
+        }
+        let mut next = from / FLAGS_PER_WORD + 1;
+        while let Some(word) = self.words.next(next) {
+            if let Some(index) = self.marks.next_in_word(word * FLAGS_PER_WORD) {
+                return Some(index);
             }
-            bit = 0;
+            next = word + 1;
         }
         None
     }
 }
 
-/// A word with one of its bits set or cleared.
-fn with_bit(word: u64, bit: usize, is_set: bool) -> u64 {
-    if is_set {
-        word | (1 << bit)
-    } else {
-        word & !(1 << bit)
-    }
-}
-
-/// A word with its bits from one on cleared.
-fn cut_at(word: u64, bit: usize) -> u64 {
-    word & ((1 << bit) - 1)
-}
-
-/// The least bit that is set, from one on.
-fn lowest_bit(word: u64, from: usize) -> Option<usize> {
-    let rest = word >> from;
-    if rest == 0 {
-        return None;
-    }
-    Some(from + rest.trailing_zeros() as usize)
+// Whether a word of marks has one.
+fn has_mark(marks: &Bits, word: usize) -> bool {
+    marks.next_in_word(word * FLAGS_PER_WORD).is_some()
 }
 
 /// The lesser of two numbers, where there are some.

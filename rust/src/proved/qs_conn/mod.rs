@@ -1,6 +1,7 @@
 // Made from crates/qs_conn/src/lib.rt by rust/erase; not edited by hand.
 //! One end of a connection: its streams, its credit, and what its packets carry.
 
+mod bits;
 mod ended;
 mod endpoint;
 mod filling;
@@ -10,6 +11,7 @@ mod places;
 mod recv_lanes;
 mod recv_tables;
 mod send_lanes;
+mod send_marks;
 mod send_tables;
 mod setup;
 mod slot;

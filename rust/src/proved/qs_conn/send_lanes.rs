@@ -2,7 +2,7 @@
 //! The sending halves of the streams of one type.
 use crate::shim::Vec;
 
-use crate::proved::qs_conn::marks::Marks;
+use crate::proved::qs_conn::send_marks::{SendMarks, Task};
 use crate::proved::qs_ranges::NoMemory;
 use crate::proved::qs_send::{Chunk, SendFault, SendHalf, SendState};
 use crate::proved::qs_wire::StreamId;
@@ -12,8 +12,8 @@ use crate::shim::alloc::Global;
 pub(crate) struct SendLanes {
     alloc: Global,
     halves: Vec<SendHalf>,
-    // A half without a mark is quiet.
-    marks: Marks,
+    // A half without a mark for a task is quiet of it.
+    marks: SendMarks,
 }
 
 impl SendLanes {
@@ -21,7 +21,7 @@ impl SendLanes {
         SendLanes {
             alloc,
             halves: Vec::new(alloc),
-            marks: Marks::new(alloc),
+            marks: SendMarks::new(alloc),
         }
     }
 
@@ -80,7 +80,7 @@ impl SendLanes {
     pub(crate) fn write(&mut self, index: usize, bytes: &[u8]) -> Result<usize, SendFault> {
         let half = &mut self.halves[index];
         let answer = half.write(bytes);
-        self.marks.set(index, is_busy(half));
+        self.marks.look(index, half);
         answer
     }
 
@@ -88,7 +88,7 @@ impl SendLanes {
     pub(crate) fn finish(&mut self, index: usize) -> Result<(), SendFault> {
         let half = &mut self.halves[index];
         let answer = half.finish();
-        self.marks.set(index, is_busy(half));
+        self.marks.look(index, half);
         answer
     }
 
@@ -96,7 +96,7 @@ impl SendLanes {
     pub(crate) fn reset(&mut self, index: usize, code: u64) -> Result<(), SendFault> {
         let half = &mut self.halves[index];
         let answer = half.reset(code);
-        self.marks.set(index, is_busy(half));
+        self.marks.look(index, half);
         answer
     }
 
@@ -104,33 +104,35 @@ impl SendLanes {
     pub(crate) fn allow(&mut self, index: usize, limit: u64) {
         let half = &mut self.halves[index];
         half.allow(limit);
+        self.marks.look(index, half);
     }
 
     /// Takes in that a STREAM_DATA_BLOCKED was sent.
     pub(crate) fn note_blocked(&mut self, index: usize) {
         let half = &mut self.halves[index];
         half.note_blocked();
+        self.marks.look(index, half);
     }
 
     /// Takes in that the RESET_STREAM is acknowledged.
     pub(crate) fn reset_acked(&mut self, index: usize) {
         let half = &mut self.halves[index];
         half.reset_acked();
-        self.marks.set(index, is_busy(half));
+        self.marks.look(index, half);
     }
 
     /// Takes in that a chunk was sent.
     pub(crate) fn sent(&mut self, index: usize, chunk: Chunk) {
         let half = &mut self.halves[index];
         half.sent(chunk);
-        self.marks.set(index, is_busy(half));
+        self.marks.look(index, half);
     }
 
     /// Takes in that a chunk is acknowledged, or changes nothing.
     pub(crate) fn acked(&mut self, index: usize, chunk: Chunk) -> Result<(), NoMemory> {
         let half = &mut self.halves[index];
         let answer = half.acked(chunk);
-        self.marks.set(index, is_busy(half));
+        self.marks.look(index, half);
         answer
     }
 
@@ -138,26 +140,12 @@ impl SendLanes {
     pub(crate) fn lost(&mut self, index: usize, chunk: Chunk) -> Result<(), NoMemory> {
         let half = &mut self.halves[index];
         let answer = half.lost(chunk);
-        self.marks.set(index, is_busy(half));
+        self.marks.look(index, half);
         answer
     }
 
-    /// The least index from one on whose half may have something to send. The halves between are quiet.
-    pub(crate) fn next_marked(&self, from: usize) -> Option<usize> {
-        self.marks.next(from)
+    /// The least index from one on whose half may have a task. The halves between are quiet of it.
+    pub(crate) fn next_marked(&self, task: Task, from: usize) -> Option<usize> {
+        self.marks.next(task, from)
     }
-}
-
-// Whether a half has something to send or to tell: unacknowledged bytes or an end that is due, or a reset that isn't acknowledged.
-fn is_busy(half: &SendHalf) -> bool {
-    if half.end_due() {
-        return true;
-    }
-    if let Some(_offset) = half.lowest_due() {
-        return true;
-    }
-    if let Some(_code) = half.reset_code() {
-        return !matches!(half.state(), SendState::ResetRecvd);
-    }
-    half.sent_end() < half.written()
 }

@@ -4,6 +4,7 @@
 use crate::proved::qs_conn::marks::least;
 use crate::proved::qs_conn::places::{index_of, kind_of};
 use crate::proved::qs_conn::send_lanes::SendLanes;
+use crate::proved::qs_conn::send_marks::Task;
 use crate::proved::qs_ranges::NoMemory;
 use crate::proved::qs_send::{Chunk, SendFault, SendHalf, SendState};
 use crate::proved::qs_wire::StreamId;
@@ -127,18 +128,18 @@ impl SendTables {
         lanes.lost(index_of(stream), chunk)
     }
 
-    /// The least number from one on of a stream that may have something to send. The halves of the streams between are quiet.
-    pub(crate) fn next_marked(&self, from: u64) -> Option<StreamId> {
-        let bidi = least(self.next_of(0, from), self.next_of(1, from));
-        let uni = least(self.next_of(2, from), self.next_of(3, from));
+    /// The least number from one on of a stream that may have a task. The halves of the streams between are quiet of it.
+    pub(crate) fn next_marked(&self, task: Task, from: u64) -> Option<StreamId> {
+        let bidi = least(self.next_of(task, 0, from), self.next_of(task, 1, from));
+        let uni = least(self.next_of(task, 2, from), self.next_of(task, 3, from));
         StreamId::new(least(bidi, uni)?)
     }
 
     // The least such number among the streams of a type.
-    fn next_of(&self, kind: usize, from: u64) -> Option<u64> {
+    fn next_of(&self, task: Task, kind: usize, from: u64) -> Option<u64> {
         let lanes = &self.types[kind];
         let first = (from + 3 - kind as u64) / 4;
-        let index = lanes.next_marked(first as usize)?;
+        let index = lanes.next_marked(task, first as usize)?;
         Some((index * 4 + kind) as u64)
     }
 }

@@ -6,6 +6,7 @@ use crate::proved::qs_conn::marks::least;
 use crate::proved::qs_conn::outbox::Outbox;
 use crate::proved::qs_conn::places::kind_of;
 use crate::proved::qs_conn::recv_tables::RecvTables;
+use crate::proved::qs_conn::send_marks::Task;
 use crate::proved::qs_conn::slot::Slot;
 use crate::proved::qs_calls::Settings;
 use crate::proved::qs_send::Item;
@@ -143,7 +144,7 @@ fn stream_data_blocked(outbox: &Outbox, stream: StreamId) -> Option<Item> {
 // Whether the connection's credit alone holds bytes of some stream back.
 fn any_wants_more(outbox: &Outbox) -> bool {
     let mut from = 0;
-    while let Some(stream) = outbox.next_marked(from) {
+    while let Some(stream) = outbox.next_marked(Task::Bytes, from) {
         if outbox.wants_more(stream) {
             return true;
         }

@@ -5,7 +5,7 @@ use crate::proved::qs_send::records::Records;
 use crate::proved::qs_wire::AckRanges;
 
 /// One pass over the records from the highest number that an ACK's ranges name down to the lowest (RFC 9000, section 13.3). Each
-/// slot and each range takes at most one turn.
+/// slot that it looks at and each range that it reads takes one turn.
 pub struct AckPass<'a> {
     // Of the range that was read last, the numbers from `low` on and below `below` are left.
     low: u64,
@@ -27,6 +27,7 @@ impl<'a> AckPass<'a> {
 
     /// The greatest outstanding number that the ranges name below the one given last, `None` where there is none.
     pub fn next(&mut self, records: &Records) -> Option<u64> {
+        let _turns = self.turns;
         loop {
             if let Some(number) = self.in_range(records) {
                 return Some(number);

@@ -5,8 +5,8 @@ use crate::proved::qs_send::ack_pass::one_more;
 use crate::proved::qs_send::lost_records::LostRecords;
 use crate::proved::qs_wire::AckRanges;
 
-/// One pass over the lost records from the highest number that an ACK's ranges name down to the lowest (RFC 9000, section 13.2.1). In
-/// each turn it looks at one record, and gives it or reads the next range.
+/// One pass over the lost records from the highest number that an ACK's ranges name down to the lowest (RFC 9000, section 13.2.1). Each
+/// record that it looks at, also one below the range, and each range that it reads takes one turn. It looks at none twice.
 pub struct LostPass<'a> {
     // Of the range that was read last, the numbers from `low` on and below `below` are left.
     low: u64,
@@ -28,17 +28,21 @@ impl<'a> LostPass<'a> {
 
     /// The greatest lost number that the ranges name below the one given last, `None` where there is none.
     pub fn next(&mut self, records: &LostRecords) -> Option<u64> {
+        // The number of the record that was looked at last; before the first look the bound itself.
+        let mut seen = self.below;
+        records.is_in_order();
         loop {
-            if let Some(number) = self.in_range(records) {
+            if let Some(number) = self.in_range(records, &mut seen) {
                 return Some(number);
             }
             if !self.read_range() {
+                self.below = 0;
                 return None;
             }
         }
     }
 
-    /// How many turns it took: records that it gave, and ranges that it read.
+    /// How many turns it took: records that it looked at, and ranges that it read.
     pub fn turns(&self) -> u64 {
         self.turns
     }
@@ -54,15 +58,29 @@ impl<'a> LostPass<'a> {
         true
     }
 
-    // The greatest lost number of the range that was read last, below the one given last.
-    fn in_range(&mut self, records: &LostRecords) -> Option<u64> {
+    // The greatest lost number of the range that was read last, below the one given last. Another record is looked at in one turn.
+    fn in_range(&mut self, records: &LostRecords, seen: &mut u64) -> Option<u64> {
         records.is_in_order();
-        let number = records.below(self.below)?;
+        if self.below <= self.low {
+            return None;
+        }
+        let number = self.look(records, *seen)?;
+        *seen = number;
         if number < self.low {
             return None;
         }
-        self.turns = one_more(self.turns);
         self.below = number;
+        Some(number)
+    }
+
+    // The greatest lost number below the one given last: the one that was looked at last, where it lies below, else another one, in one
+    // turn.
+    fn look(&mut self, records: &LostRecords, seen: u64) -> Option<u64> {
+        if seen < self.below {
+            return Some(seen);
+        }
+        let number = records.below(self.below)?;
+        self.turns = one_more(self.turns);
         Some(number)
     }
 }

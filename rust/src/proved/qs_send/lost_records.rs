@@ -30,9 +30,8 @@ impl LostRecords {
         }
     }
 
-    /// Makes room for one piece more of a packet, in the place of the room that was made before.
+    /// Makes room for one piece more of a packet, in the place of the room that was made before. Unchanged where memory was refused.
     pub fn make_room(&mut self, number: u64) -> Result<(), NoMemory> {
-        self.ready = None;
         self.order.reserve(1)?;
         self.list.reserve(number)?;
         self.ready = Some(number);

@@ -35,7 +35,10 @@ impl Records {
             return Ok(());
         }
         let place = number.saturating_sub(self.base) as usize;
-        let more = place.saturating_sub(self.slots.len()).saturating_add(1);
+        if place < self.slots.len() {
+            return Ok(());
+        }
+        let more = place - self.slots.len() + 1;
         self.slots.reserve(more)?;
         Ok(())
     }

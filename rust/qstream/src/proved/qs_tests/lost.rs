@@ -126,7 +126,7 @@ fn next_three(pass: &mut LostPass<'_>, records: &LostRecords) -> [Option<u64>; 3
     [pass.next(records), pass.next(records), pass.next(records)]
 }
 
-// The ranges 8 to 9 and 2 to 4, of which 3 and 9 were lost, and 0 and 6 beside.
+// The ranges 8 to 9 and 2 to 4, of which 3 and 9 were lost, and 0 and 6 beside: each record is looked at once, and each range read.
 #[test]
 fn a_late_pass_gives_what_the_ranges_name() -> Result<(), Fail> {
     let rt = HostRuntime::new();
@@ -141,6 +141,6 @@ fn a_late_pass_gives_what_the_ranges_name() -> Result<(), Fail> {
     let ranges = [1, 2, 2];
     let mut pass = LostPass::new(AckRanges::new(9, &ranges));
     assert!(rt; next_three(&mut pass, &records) == [Some(9), Some(3), None]);
-    assert!(rt; pass.turns() <= 4);
+    assert!(rt; pass.turns() == 6);
     Ok(())
 }

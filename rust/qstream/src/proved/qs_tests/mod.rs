@@ -15,6 +15,8 @@ mod replay;
 #[cfg(test)]
 mod send;
 #[cfg(test)]
+mod texts;
+#[cfg(test)]
 mod wire;
 #[cfg(test)]
 mod world;

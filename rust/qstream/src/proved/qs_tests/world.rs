@@ -8,6 +8,7 @@ mod ends;
 mod every_payload;
 mod fragments;
 mod many_packets;
+mod memory;
 mod owners;
 mod packets;
 mod payloads;

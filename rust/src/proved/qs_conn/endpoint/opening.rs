@@ -55,12 +55,23 @@ impl Endpoint {
         None
     }
 
-    // A frame that names a stream of the peer opens it (RFC 9000, section 3.2).
+    // A frame that names a stream of the peer opens it (RFC 9000, section 3.2). Memory is asked for only where it isn't open yet.
     pub(super) fn open_by_peer(&mut self, stream: StreamId) -> Result<(), NoMemory> {
-        if self.is_own(stream) {
+        if self.is_open_here(stream) {
             return Ok(());
         }
         self.open_stream(stream)
+    }
+
+    // Whether no frame opens the stream: it is this end's own, or open with the halves that it has here.
+    fn is_open_here(&self, stream: StreamId) -> bool {
+        if self.is_own(stream) {
+            return true;
+        }
+        if !self.recvs.is_open(stream) {
+            return false;
+        }
+        is_uni(stream) || self.outbox.is_open(stream)
     }
 
     // Opens a stream and all lower ones of its type, or changes nothing. Memory is taken first.

@@ -1,12 +1,13 @@
 // Made from crates/qs_conn/src/outbox/making.rt by rust/erase; not edited by hand.
 //! Packets are made.
-use crate::shim::Vec;
+use crate::shim::{SliceCalls, Vec};
 
 use super::Outbox;
 use crate::proved::qs_conn::send_tables::SendTables;
 use crate::proved::qs_ranges::NoMemory;
 use crate::proved::qs_send::{Chunk, Item, Piece, Records};
 use crate::proved::qs_wire::StreamId;
+use crate::shim::alloc::Global;
 use crate::shim::mem;
 
 impl Outbox {
@@ -63,7 +64,7 @@ impl Outbox {
 
     /// The packet is made, and the next one has the next number.
     pub(crate) fn commit(&mut self) {
-        let pieces = mem::replace(&mut self.pending, Vec::new(self.alloc));
+        let pieces = hand_over(self.alloc, &mut self.pending);
         put_pieces(&mut self.records, self.next, pieces);
         self.next += 1;
         self.spare = 0;
@@ -83,10 +84,21 @@ fn note_blocked(sends: &mut SendTables, stream: StreamId) {
     }
 }
 
-// The pieces of a packet are kept, where it has some, and no more memory than they need.
-fn put_pieces(records: &mut Records, number: u64, mut pieces: Vec<Piece>) {
+// The pieces of the packet in the making, in no more memory than they need: the buffer stays for the next packet, so that a steady flow
+// doesn't take it anew. Where that memory is refused, the buffer itself goes.
+fn hand_over(alloc: Global, pending: &mut Vec<Piece>) -> Vec<Piece> {
+    match pending.copied_in(alloc) {
+        Ok(pieces) => {
+            pending.clear();
+            pieces
+        }
+        Err(_refused) => mem::replace(pending, Vec::new(alloc)),
+    }
+}
+
+// The pieces of a packet are kept, where it has some.
+fn put_pieces(records: &mut Records, number: u64, pieces: Vec<Piece>) {
     if pieces.len() > 0 {
-        pieces.shrink_to_fit();
         records.put(number, pieces);
     }
 }

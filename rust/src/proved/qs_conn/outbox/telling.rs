@@ -2,6 +2,7 @@
 //! What an end has to tell of its sending side.
 
 use super::Outbox;
+use crate::proved::qs_conn::send_marks::Task;
 use crate::proved::qs_send::{Item, Reset, SendState};
 use crate::proved::qs_wire::StreamId;
 
@@ -67,10 +68,10 @@ impl Outbox {
         half.sent_end() < half.written().min(half.limit())
     }
 
-    /// The least number from one on of a stream that may have something to send. The streams between have nothing.
-    pub(crate) fn next_marked(&self, from: u64) -> Option<StreamId> {
+    /// The least number from one on of a stream that may have a task. The streams between have none of it.
+    pub(crate) fn next_marked(&self, task: Task, from: u64) -> Option<StreamId> {
         let _next = self.next;
-        self.sends.next_marked(from)
+        self.sends.next_marked(task, from)
     }
 }
 

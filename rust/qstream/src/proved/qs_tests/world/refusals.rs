@@ -107,7 +107,7 @@ fn bytes_survive_refused_memory() -> Result<(), Fail> {
 }
 
 /// The packet that was declared lost arrives, and its acknowledgement counts; the one that repeated it never does.
-const ACKNOWLEDGED_LATE: &[u8] = b"\
+pub(super) const ACKNOWLEDGED_LATE: &[u8] = b"\
 open A bidi
 write A 0 68656c6c6f
 finish A 0
@@ -132,7 +132,7 @@ fn a_late_ack_survives_refused_memory() -> Result<(), Fail> {
 }
 
 /// The reset overtakes the bytes that were sent before it.
-const OVERTAKING: &[u8] = b"\
+pub(super) const OVERTAKING: &[u8] = b"\
 open A bidi
 write A 0 616263
 make A 1200

@@ -1,0 +1,119 @@
+// Made from crates/qs_conn/src/bits.rt by rust/erase; not edited by hand.
+//! Flags of indexes, as bits of words.
+use crate::shim::Vec;
+
+use crate::proved::qs_ranges::NoMemory;
+use crate::shim::alloc::Global;
+
+/// How many flags a word has.
+pub(crate) const FLAGS_PER_WORD: usize = 64;
+
+/// A flag for each index. A search looks at a word of them at a time.
+pub(crate) struct Bits {
+    words: Vec<u64>,
+    count: usize,
+}
+
+impl Bits {
+    /// No index has a flag.
+    pub(crate) fn new(alloc: Global) -> Self {
+        Bits {
+            words: Vec::new(alloc),
+            count: 0,
+        }
+    }
+
+    /// Takes the memory for the indexes below a count.
+    pub(crate) fn reserve(&mut self, count: usize) -> Result<(), NoMemory> {
+        let missing = count
+            .div_ceil(FLAGS_PER_WORD)
+            .saturating_sub(self.words.len());
+        match self.words.reserve(missing) {
+            Ok(()) => Ok(()),
+            Err(_refused) => Err(NoMemory),
+        }
+    }
+
+    /// How many indexes there are.
+    pub(crate) fn len(&self) -> usize {
+        self.count
+    }
+
+    /// Makes room for all indexes below a count: the new ones aren't marked.
+    pub(crate) fn open_to(&mut self, count: usize) -> Result<(), NoMemory> {
+        if count <= self.count {
+            return Ok(());
+        }
+        match self.words.resize(count.div_ceil(FLAGS_PER_WORD), 0) {
+            Ok(()) => {
+                self.count = count;
+                Ok(())
+            }
+            Err(_refused) => Err(NoMemory),
+        }
+    }
+
+    /// Takes the indexes from a count on away.
+    pub(crate) fn close_to(&mut self, count: usize) {
+        if self.count <= count {
+            return;
+        }
+        let last = count / FLAGS_PER_WORD;
+        self.words.truncate(last + 1);
+        self.words[last] = cut_at(self.words[last], count % FLAGS_PER_WORD);
+        self.count = count;
+    }
+
+    /// Marks an index, or takes its mark away.
+    pub(crate) fn set(&mut self, index: usize, is_marked: bool) {
+        let place = index / FLAGS_PER_WORD;
+        self.words[place] = with_bit(self.words[place], index % FLAGS_PER_WORD, is_marked);
+    }
+
+    /// The least marked index from an index on, in the word of that index.
+    pub(crate) fn next_in_word(&self, from: usize) -> Option<usize> {
+        let place = from / FLAGS_PER_WORD;
+        if place >= self.words.len() {
+            return None;
+        }
+        match lowest_bit(self.words[place], from % FLAGS_PER_WORD) {
+            Some(marked) => Some(place * FLAGS_PER_WORD + marked),
+            None => None,
+        }
+    }
+
+    /// The least marked index from an index on.
+    pub(crate) fn next(&self, from: usize) -> Option<usize> {
+        let mut bit = from % FLAGS_PER_WORD;
+        for place in from / FLAGS_PER_WORD..self.words.len() {
+            if let Some(marked) = lowest_bit(self.words[place], bit) {
+                return Some(place * FLAGS_PER_WORD + marked);
+            }
+            bit = 0;
+        }
+        None
+    }
+}
+
+/// A word with one of its bits set or cleared.
+fn with_bit(word: u64, bit: usize, is_set: bool) -> u64 {
+    if is_set {
+        word | (1 << bit)
+    } else {
+        word & !(1 << bit)
+    }
+}
+
+/// A word with its bits from one on cleared.
+fn cut_at(word: u64, bit: usize) -> u64 {
+    word & ((1 << bit) - 1)
+}
+
+/// The least bit that is set, from one on.
+fn lowest_bit(word: u64, from: usize) -> Option<usize> {
+    let rest = word >> from;
+    if rest == 0 {
+        return None;
+    }
+    Some(from + rest.trailing_zeros() as usize)
+}

@@ -1,0 +1,105 @@
+// Made from crates/qs_conn/src/send_marks.rt by rust/erase; not edited by hand.
+//! Which sending halves of one type have something for a packet, by what it is.
+
+use crate::proved::qs_conn::marks::Marks;
+use crate::proved::qs_ranges::NoMemory;
+use crate::proved::qs_send::{SendHalf, SendState};
+use crate::shim::alloc::Global;
+
+/// What a sending half may have for a packet.
+#[derive(Clone, Copy)]
+pub(crate) enum Task {
+    /// Bytes or the end, as far as the stream's limit lets them go.
+    Bytes,
+    /// A reset that isn't acknowledged.
+    Reset,
+    /// That the stream's limit is reached, and more was written.
+    Blocked,
+}
+
+/// The halves of one type that have a task, for each task. A half without a mark has none.
+pub(crate) struct SendMarks {
+    bytes: Marks,
+    resets: Marks,
+    blocks: Marks,
+}
+
+impl SendMarks {
+    pub(crate) fn new(alloc: Global) -> Self {
+        SendMarks {
+            bytes: Marks::new(alloc),
+            resets: Marks::new(alloc),
+            blocks: Marks::new(alloc),
+        }
+    }
+
+    /// Takes the memory for the indexes below a count.
+    pub(crate) fn reserve(&mut self, count: usize) -> Result<(), NoMemory> {
+        self.bytes.reserve(count)?;
+        self.resets.reserve(count)?;
+        self.blocks.reserve(count)
+    }
+
+    /// Makes room for all indexes below a count: the new ones have no mark.
+    pub(crate) fn open_to(&mut self, count: usize) -> Result<(), NoMemory> {
+        let (bytes, resets) = (self.bytes.len(), self.resets.len());
+        self.bytes.open_to(count)?;
+        if let Err(refused) = self.resets.open_to(count) {
+            self.bytes.close_to(bytes);
+            return Err(refused);
+        }
+        if let Err(refused) = self.blocks.open_to(count) {
+            self.bytes.close_to(bytes);
+            self.resets.close_to(resets);
+            return Err(refused);
+        }
+        Ok(())
+    }
+
+    /// Takes the indexes from a count on away.
+    pub(crate) fn close_to(&mut self, count: usize) {
+        self.bytes.close_to(count);
+        self.resets.close_to(count);
+        self.blocks.close_to(count);
+    }
+
+    /// Looks again at a half that changed.
+    pub(crate) fn look(&mut self, index: usize, half: &SendHalf) {
+        self.bytes.set(index, may_send(half));
+        self.resets.set(index, may_reset(half));
+        self.blocks.set(index, may_be_blocked(half));
+    }
+
+    /// The least marked index from one on.
+    pub(crate) fn next(&self, task: Task, from: usize) -> Option<usize> {
+        match task {
+            Task::Bytes => self.bytes.next(from),
+            Task::Reset => self.resets.next(from),
+            Task::Blocked => self.blocks.next(from),
+        }
+    }
+}
+
+// Whether bytes or the end may go: a byte below the limit is due, or the end is and every byte was sent.
+fn may_send(half: &SendHalf) -> bool {
+    if half.end_due() && half.sent_end() == half.written() {
+        return true;
+    }
+    if matches!(half.lowest_due(), Some(offset) if offset < half.limit()) {
+        return true;
+    }
+    half.reset_code().is_none() && half.sent_end() < half.written().min(half.limit())
+}
+
+// Whether a reset is to be told, or is under way.
+fn may_reset(half: &SendHalf) -> bool {
+    if let Some(_code) = half.reset_code() {
+        return !matches!(half.state(), SendState::ResetRecvd);
+    }
+    false
+}
+
+// Whether the stream's limit is reached and more was written.
+fn may_be_blocked(half: &SendHalf) -> bool {
+    half.reset_code().is_none() && half.limit() < half.written() && half.sent_end() == half.limit()
+}
