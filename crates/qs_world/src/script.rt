@@ -1,9 +1,9 @@
 //! Scripts: lines of words, of which each line is an event.
 
-ghost use Rattle.std.specs.Prelude.{◌≡◌, ◌≤◌, ◌<◌, ◌∷◌, length, IfOk, IfErr, OnOk, true, position, ◌==◌};
+ghost use Rattle.std.specs.Prelude.{◌≡◌, ◌≤◌, ◌<◌, ◌∷◌, ◌++◌, [], length, map, drop, take, IfOk, IfErr, OnOk, true, Ok, None, MatchOption, position, ◌==◌, option_to_list, option_map};
 ghost use Rattle.std.specs.List.{list_all};
 ghost use Rattle.qs_calls.specs.Events.{fits};
-ghost use Rattle.qs_world.specs.Scripts.{lines_of, reason_number};
+ghost use Rattle.qs_world.specs.Scripts.{lines_of, line_says, bare, script_of, said, Pushes, IsFaultOf, reason_number};
 
 mod line;
 mod words;
@@ -68,6 +68,8 @@ pub struct ScriptFault {
 /// The events of a script, in order. The time is linear in the bytes.
 pub fn parse_script(alloc: Global, script: &[u8]) -> Result<Vec<Event>, ScriptFault>
     ensures fit { IfOk result (λ events. list_all fits events.items ≡ true) }
+    ensures events { IfOk result (λ events. script_of script.now ≡ Ok (map said events.items)) }
+    ensures fault { IfErr result (λ fault. IsFaultOf script.now fault) }
     ensures counted { IfErr result (λ fault. (1 ≤ fault.line) × (fault.line ≤ length (lines_of script.now))) }
 {
     let mut events = Vec::new(alloc);
@@ -84,14 +86,18 @@ pub fn parse_script(alloc: Global, script: &[u8]) -> Result<Vec<Event>, ScriptFa
     Ok(events)
 }
 
-/// The first line of a text that isn't empty, with the line feed that ends it, and what follows.
+/// The first line of a text that isn't empty, without its end, and what follows it.
 fn split_line(text: &[u8]) -> (&[u8], &[u8])
     requires { 0 < length text.now }
     ensures lines { lines_of text.now ≡ result.0.now ∷ lines_of result.1.now }
     ensures shorter { length result.1.now < length text.now }
 {
     match line_feed(text) {
-        Some(place) => text.split_at(place + 1),
+        Some(place) => {
+            let (line, rest) = text.split_at(place);
+            let (_, after) = rest.split_at(1);
+            (without_return(line), after)
+        }
         None => (text, &[]),
     }
 }
@@ -103,10 +109,27 @@ fn line_feed(text: &[u8]) -> Option<usize>
     text.iter().position(|byte| *byte == b'\n')
 }
 
+/// A line without the carriage return at its end.
+#[tactic(auto, using(crate::proofs::ScriptLines::bare_cut, crate::proofs::ScriptLines::bare_whole))]
+fn without_return(line: &[u8]) -> &[u8]
+    ensures { result.now ≡ bare line.now }
+{
+    if line.is_empty() {
+        return line;
+    }
+    let last = line.len() - 1;
+    if line[last] != b'\r' {
+        return line;
+    }
+    let (text, _) = line.split_at(last);
+    text
+}
+
 /// Appends the event of a line, where it is one.
 fn push_event(alloc: Global, events: &mut Vec<Event>, line: &[u8]) -> Result<(), Reason>
     requires { list_all fits events.old.items ≡ true }
-    ensures { OnOk result (list_all fits events.new.items ≡ true) }
+    ensures fit { OnOk result (list_all fits events.new.items ≡ true) }
+    ensures said { Pushes (map said events.old.items) (line_says line.now) result (map said events.new.items) }
 {
     let Some(event) = parse_line(alloc, line)? else {
         return Ok(());
