@@ -94,10 +94,14 @@ pub fn parse_script(alloc: Global, script: &[u8]) -> Result<Vec<Event>, ScriptFa
     Ok(events)
 }
 
-/// The first line of a text that isn't empty, with the line feed that ends it, and what follows.
+/// The first line of a text that isn't empty, without its end, and what follows it.
 fn split_line(text: &[u8]) -> (&[u8], &[u8]) {
     match line_feed(text) {
-        Some(place) => text.split_at(place + 1),
+        Some(place) => {
+            let (line, rest) = text.split_at(place);
+            let (_, after) = rest.split_at(1);
+            (without_return(line), after)
+        }
         None => (text, &[]),
     }
 }
@@ -105,6 +109,19 @@ fn split_line(text: &[u8]) -> (&[u8], &[u8]) {
 /// Where the first line feed stands.
 fn line_feed(text: &[u8]) -> Option<usize> {
     text.iter().position(|byte| *byte == b'\n')
+}
+
+/// A line without the carriage return at its end.
+fn without_return(line: &[u8]) -> &[u8] {
+    if line.is_empty() {
+        return line;
+    }
+    let last = line.len() - 1;
+    if line[last] != b'\r' {
+        return line;
+    }
+    let (text, _) = line.split_at(last);
+    text
 }
 
 /// Appends the event of a line, where it is one.

@@ -3,9 +3,10 @@
 
 use crate::proved::qs_world::script::Reason;
 use crate::proved::qs_world::script::words::{
-    first_words, parse_bytes, parse_dir, parse_number, parse_side, parse_size, parse_stream,
+    count_words, next_word, parse_bytes, parse_dir, parse_number, parse_side, parse_size,
+    parse_stream,
 };
-use crate::proved::qs_calls::{Act, Event, MAX_BYTES, MAX_ROOM, MIN_ROOM};
+use crate::proved::qs_calls::{Act, Event, MAX_BYTES, MAX_ROOM, MAX_VARINT, MIN_ROOM};
 use crate::shim::alloc::Global;
 
 /// The first word of a line.
@@ -24,63 +25,92 @@ enum Verb {
 }
 
 impl Verb {
+    const ALL: [Verb; 10] = [
+        Verb::Open,
+        Verb::Accept,
+        Verb::Write,
+        Verb::Finish,
+        Verb::Reset,
+        Verb::Stop,
+        Verb::Read,
+        Verb::Make,
+        Verb::Lose,
+        Verb::Deliver,
+    ];
+
     fn parse(word: &[u8]) -> Result<Verb, Reason> {
-        match word {
-            b"open" => Ok(Verb::Open),
-            b"accept" => Ok(Verb::Accept),
-            b"write" => Ok(Verb::Write),
-            b"finish" => Ok(Verb::Finish),
-            b"reset" => Ok(Verb::Reset),
-            b"stop" => Ok(Verb::Stop),
-            b"read" => Ok(Verb::Read),
-            b"make" => Ok(Verb::Make),
-            b"lose" => Ok(Verb::Lose),
-            b"deliver" => Ok(Verb::Deliver),
-            _ => Err(Reason::UnknownWord),
+        for verb in &Verb::ALL {
+            if word == verb.name() {
+                return Ok(*verb);
+            }
+        }
+        Err(Reason::UnknownWord)
+    }
+
+    fn name(self) -> &'static [u8] {
+        match self {
+            Verb::Open => b"open",
+            Verb::Accept => b"accept",
+            Verb::Write => b"write",
+            Verb::Finish => b"finish",
+            Verb::Reset => b"reset",
+            Verb::Stop => b"stop",
+            Verb::Read => b"read",
+            Verb::Make => b"make",
+            Verb::Lose => b"lose",
+            Verb::Deliver => b"deliver",
         }
     }
 
-    /// How many words its line has.
-    fn word_count(self) -> usize {
+    /// How many words follow it.
+    fn more_words(self) -> usize {
         match self {
-            Verb::Accept => 2,
-            Verb::Open | Verb::Finish | Verb::Make | Verb::Lose | Verb::Deliver => 3,
-            Verb::Write | Verb::Reset | Verb::Stop | Verb::Read => 4,
+            Verb::Accept => 1,
+            Verb::Open | Verb::Finish | Verb::Make | Verb::Lose | Verb::Deliver => 2,
+            Verb::Write | Verb::Reset | Verb::Stop | Verb::Read => 3,
         }
     }
 }
 
 /// The event of a line, or `None` where it has no word or is a comment.
 pub fn parse_line(alloc: Global, line: &[u8]) -> Result<Option<Event>, Reason> {
-    let line = without_end(line);
-    if let Some(b'#') = line.first() {
+    if is_comment(line) {
         return Ok(None);
     }
-    let words = first_words(line);
-    let count = words.iter().take_while(|word| !word.is_empty()).count();
-    if count == 0 {
+    let (first, rest) = next_word(line);
+    if first.is_empty() {
         return Ok(None);
     }
-    let verb = Verb::parse(words[0])?;
-    if count != verb.word_count() {
+    match parse_event(alloc, first, rest) {
+        Ok(event) => Ok(Some(event)),
+        Err(reason) => Err(reason),
+    }
+}
+
+fn is_comment(line: &[u8]) -> bool {
+    matches!(line.first(), Some(b'#'))
+}
+
+/// The event of a line's first word and the words that follow it.
+fn parse_event(alloc: Global, first: &[u8], rest: &[u8]) -> Result<Event, Reason> {
+    let verb = Verb::parse(first)?;
+    if count_words(rest) != verb.more_words() {
         return Err(Reason::WordCount);
     }
-    let end = parse_side(words[1])?;
-    let act = parse_act(alloc, verb, words[2], words[3])?;
-    Ok(Some(Event { end, act }))
+    let (end, rest) = next_word(rest);
+    let end = parse_side(end)?;
+    let act = parse_act(alloc, verb, rest)?;
+    Ok(Event { end, act })
 }
 
-/// A line without its line feed and the carriage return before it.
-fn without_end(line: &[u8]) -> &[u8] {
-    match line {
-        [text @ .., b'\r', b'\n'] => text,
-        [text @ .., b'\n'] => text,
-        _ => line,
-    }
+/// What happens, by the words that follow the end.
+fn parse_act(alloc: Global, verb: Verb, words: &[u8]) -> Result<Act, Reason> {
+    let (third, rest) = next_word(words);
+    let (fourth, _) = next_word(rest);
+    parse_words(alloc, verb, third, fourth)
 }
 
-/// What happens, by the line's third and fourth word. A word that the line doesn't have is empty.
-fn parse_act(alloc: Global, verb: Verb, third: &[u8], fourth: &[u8]) -> Result<Act, Reason> {
+fn parse_words(alloc: Global, verb: Verb, third: &[u8], fourth: &[u8]) -> Result<Act, Reason> {
     match verb {
         Verb::Open => Ok(Act::OpenStream(parse_dir(third)?)),
         Verb::Accept => Ok(Act::Accept),
@@ -91,18 +121,18 @@ fn parse_act(alloc: Global, verb: Verb, third: &[u8], fourth: &[u8]) -> Result<A
         Verb::Finish => Ok(Act::Finish(parse_stream(third)?)),
         Verb::Reset => {
             let id = parse_stream(third)?;
-            Ok(Act::Reset(id, parse_number(fourth)?))
+            Ok(Act::Reset(id, parse_number(fourth, 0, MAX_VARINT)?))
         }
         Verb::Stop => {
             let id = parse_stream(third)?;
-            Ok(Act::Stop(id, parse_number(fourth)?))
+            Ok(Act::Stop(id, parse_number(fourth, 0, MAX_VARINT)?))
         }
         Verb::Read => {
             let id = parse_stream(third)?;
             Ok(Act::ReadUpTo(id, parse_size(fourth, 0, MAX_BYTES)?))
         }
         Verb::Make => Ok(Act::Make(parse_size(third, MIN_ROOM, MAX_ROOM)?)),
-        Verb::Lose => Ok(Act::Lose(parse_number(third)?)),
-        Verb::Deliver => Ok(Act::Deliver(parse_number(third)?)),
+        Verb::Lose => Ok(Act::Lose(parse_number(third, 0, MAX_VARINT)?)),
+        Verb::Deliver => Ok(Act::Deliver(parse_number(third, 0, MAX_VARINT)?)),
     }
 }

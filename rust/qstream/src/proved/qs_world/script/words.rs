@@ -7,78 +7,109 @@ use crate::proved::qs_world::script::Reason;
 use crate::proved::qs_calls::{MAX_BYTES, MAX_VARINT, Side};
 use crate::proved::qs_wire::{Dir, StreamId};
 use crate::shim::alloc::Global;
-use crate::shim::str;
 
 /// A number has at most so many digits.
 const MAX_DIGITS: usize = 19;
 
-/// The first words of a line, and empty ones where it has no more. No event has as many.
-pub fn first_words(line: &[u8]) -> [&[u8]; 5] {
-    let (first, rest) = next_word(line);
-    let (second, rest) = next_word(rest);
-    let (third, rest) = next_word(rest);
-    let (fourth, rest) = next_word(rest);
-    let (fifth, _) = next_word(rest);
-    [first, second, third, fourth, fifth]
+/// The next word of a line, empty where there is none, and what follows it.
+pub fn next_word(line: &[u8]) -> (&[u8], &[u8]) {
+    let (_, text) = line.split_at(spaces(line));
+    text.split_at(word_len(text))
 }
 
-/// The next word, empty where there is none, and what follows it.
-fn next_word(line: &[u8]) -> (&[u8], &[u8]) {
-    let start = line.iter().position(|byte| *byte != b' ');
-    let (_, text) = line.split_at(start.unwrap_or(line.len()));
-    let end = text.iter().position(|byte| *byte == b' ');
-    text.split_at(end.unwrap_or(text.len()))
+/// How many words a line has.
+pub fn count_words(line: &[u8]) -> usize {
+    let mut count = 0;
+    let mut rest = line;
+    loop {
+        let (word, after) = next_word(rest);
+        if word.is_empty() {
+            return count;
+        }
+        count += 1;
+        rest = after;
+    }
+}
+
+/// How many spaces a line begins with.
+fn spaces(line: &[u8]) -> usize {
+    first_other(line).unwrap_or(line.len())
+}
+
+fn first_other(line: &[u8]) -> Option<usize> {
+    line.iter().position(|byte| *byte != b' ')
+}
+
+/// How many bytes stand before the first space.
+fn word_len(text: &[u8]) -> usize {
+    first_space(text).unwrap_or(text.len())
+}
+
+fn first_space(text: &[u8]) -> Option<usize> {
+    text.iter().position(|byte| *byte == b' ')
 }
 
 pub fn parse_side(word: &[u8]) -> Result<Side, Reason> {
-    match word {
-        b"A" => Ok(Side::A),
-        b"B" => Ok(Side::B),
-        _ => Err(Reason::BadEnd),
+    if word == b"A".as_slice() {
+        Ok(Side::A)
+    } else if word == b"B".as_slice() {
+        Ok(Side::B)
+    } else {
+        Err(Reason::BadEnd)
     }
 }
 
 pub fn parse_dir(word: &[u8]) -> Result<Dir, Reason> {
-    match word {
-        b"bidi" => Ok(Dir::Bidi),
-        b"uni" => Ok(Dir::Uni),
-        _ => Err(Reason::BadDir),
+    if word == b"bidi".as_slice() {
+        Ok(Dir::Bidi)
+    } else if word == b"uni".as_slice() {
+        Ok(Dir::Uni)
+    } else {
+        Err(Reason::BadDir)
     }
 }
 
-/// A number of at most 2^62-1.
-pub fn parse_number(word: &[u8]) -> Result<u64, Reason> {
-    if word.len() > MAX_DIGITS || !word.iter().all(|byte| byte.is_ascii_digit()) {
+/// A number from `least` to `most`.
+pub fn parse_number(word: &[u8], least: u64, most: u64) -> Result<u64, Reason> {
+    if word.is_empty() || word.len() > MAX_DIGITS || !are_digits(word) {
         return Err(Reason::NoNumber);
     }
-    let Ok(text) = str::from_utf8(word) else {
-        return Err(Reason::NoNumber);
-    };
-    match text.parse::<u64>() {
-        Ok(number) if number <= MAX_VARINT => Ok(number),
-        Ok(_) => Err(Reason::OutOfRange),
-        Err(_) => Err(Reason::NoNumber),
+    let number = decimal(word);
+    if least <= number && number <= most {
+        Ok(number)
+    } else {
+        Err(Reason::OutOfRange)
     }
+}
+
+fn are_digits(word: &[u8]) -> bool {
+    word.iter().all(|byte| byte.is_ascii_digit())
+}
+
+/// The number that digits write.
+fn decimal(digits: &[u8]) -> u64 {
+    let mut number = 0;
+    for digit in digits {
+        number = number * 10 + u64::from(*digit - b'0');
+    }
+    number
 }
 
 pub fn parse_stream(word: &[u8]) -> Result<StreamId, Reason> {
-    StreamId::new(parse_number(word)?).ok_or(Reason::OutOfRange)
+    StreamId::new(parse_number(word, 0, MAX_VARINT)?).ok_or(Reason::OutOfRange)
 }
 
-/// A number within bounds.
+/// A number from `least` to `most`.
 pub fn parse_size(word: &[u8], least: usize, most: usize) -> Result<usize, Reason> {
-    match usize::try_from(parse_number(word)?) {
-        Ok(size) if least <= size && size <= most => Ok(size),
-        _ => Err(Reason::OutOfRange),
-    }
+    Ok(parse_number(word, least as u64, most as u64)? as usize)
 }
 
 /// The bytes that a word spells in hex, a dash being none. At most 65,535.
 pub fn parse_bytes(alloc: Global, word: &[u8]) -> Result<Vec<u8>, Reason> {
-    if let b"-" = word {
+    if word == b"-".as_slice() {
         return Ok(Vec::new(alloc));
     }
-    if word.len() % 2 != 0 || !word.iter().all(|byte| byte.is_ascii_hexdigit()) {
+    if !is_hex(word) {
         return Err(Reason::BadHex);
     }
     if word.len() / 2 > MAX_BYTES {
@@ -91,4 +122,13 @@ pub fn parse_bytes(alloc: Global, word: &[u8]) -> Result<Vec<u8>, Reason> {
         Ok(()) => Ok(bytes),
         Err(_) => Err(Reason::BadHex),
     }
+}
+
+/// Whether a word spells bytes in hex.
+fn is_hex(word: &[u8]) -> bool {
+    word.len() % 2 == 0 && are_hex(word)
+}
+
+fn are_hex(word: &[u8]) -> bool {
+    word.iter().all(|byte| byte.is_ascii_hexdigit())
 }
