@@ -14,15 +14,15 @@ use Rattle.qs_machine.specs.Ends.{End, is_uni, peer_kind}
 abbrev pub spent : End → ℕ
 spent e = total highest e.recvs
 
--- the sum of what was taken, by which the connection's credit grows
+-- the sum of what was taken, by which the connection's credit grows (RFC 9000, section 4.2)
 abbrev pub all_taken : End → ℕ
 all_taken e = total taken e.recvs
 
--- how many bytes are stored
+-- how many bytes are stored (RFC 9000, section 4.1)
 abbrev pub all_stored : End → ℕ
 all_stored e = total (λ l. fmap.len l.arrived.stored) e.recvs
 
--- the sum of all sent ends: what the peer's connection limit bounds
+-- the sum of all sent ends: what the peer's connection limit bounds (RFC 9000, section 4.1)
 abbrev pub all_sent : End → ℕ
 all_sent e = total (λ l. l.sent_end) e.sends
 
@@ -31,15 +31,16 @@ abbrev pub granted_streams : End → Dir → ℕ
 granted_streams e Bidi = e.granted_bidi
 granted_streams e Uni = e.granted_uni
 
--- how many streams of its type the peer may open
+-- how many streams of its type the peer may open (RFC 9000, section 4.6)
 abbrev pub grant : End → ℕ → ℕ
 grant e n = if is_uni n then e.granted_uni else e.granted_bidi
 
--- how many it may open at first, and in all
+-- how many it may open at first, and in all (RFC 9000, section 4.6)
 abbrev pub first_grant : Settings → Dir → ℕ
 first_grant s Bidi = s.grant_bidi
 first_grant s Uni = s.grant_uni
 
+-- the count up to which a grant grows (ours, beside RFC 9000, section 4.6)
 abbrev pub lifetime : Settings → Dir → ℕ
 lifetime s Bidi = s.lifetime_bidi
 lifetime s Uni = s.lifetime_uni
@@ -52,6 +53,7 @@ recv_ended l = l.told && (is_some l.reset_code || recv_whole l)
 abbrev pub send_ended : SendLane → Bool
 send_ended l = l.reset_acked || (is_none l.was_reset && l.finished && send_whole l)
 
+-- a bidirectional stream has ended where both its halves have (RFC 9000, section 3.4)
 abbrev pub both_ended : RecvLane × SendLane → Bool
 both_ended halves = recv_ended halves.0 && send_ended halves.1
 
@@ -60,7 +62,7 @@ abbrev pub ended : End → Dir → ℕ
 ended e Bidi = length (filter both_ended (zip (table e.recvs (peer_kind e Bidi)) (table e.sends (peer_kind e Bidi))))
 ended e Uni = length (filter recv_ended (table e.recvs (peer_kind e Uni)))
 
--- the count to which a direction's grant is brought: a stream more for each one that ended, up to the lifetime's
+-- the count to which a direction's grant is brought: a stream more for each one that ended, up to the lifetime's (RFC 9000, section 4.6)
 abbrev pub next_count : End → Dir → ℕ
 next_count e d = min (lifetime e.settings d) (first_grant e.settings d + ended e d)
 

@@ -16,11 +16,11 @@ use Rattle.qs_send.specs.Records.{IsCarried}
 use Rattle.qs_machine.specs.Ends.{End, send_lane, recv_lane, window}
 use Rattle.qs_machine.specs.Credit.{all_sent, granted_streams, first_grant}
 
--- some outstanding packet carried the piece
+-- some outstanding packet carried the piece (RFC 9000, section 13.3)
 abbrev pub IsOutstanding : End → Piece → Type 0
 IsOutstanding e p = IsCarried e.outstanding p
 
--- the offset of a stream is in an outstanding packet
+-- the offset of a stream is in an outstanding packet (RFC 9000, section 13.3)
 abbrev pub IsInFlight : End → ℕ → ℕ → Type 0
 IsInFlight e n q = (c : Chunk) × IsOutstanding e (Data n c) × (c.offset ≤ q) × (q < c.offset + c.len)
 
@@ -32,13 +32,14 @@ pub record IsDue (e : End) (n : ℕ) (l : SendLane) (q : ℕ) : Type 0 where
   pub not_sent : IsInFlight e n q → ⊥
 
 -- the end of a stream is due: it was asked for, isn't acknowledged and is in no outstanding packet; after a reset it isn't
+-- (RFC 9000, section 13.3)
 pub record IsEndDue (e : End) (n : ℕ) (l : SendLane) : Type 0 where
   pub no_reset : l.was_reset ≡ None
   pub finished : l.finished ≡ true
   pub not_acked : l.fin_acked ≡ false
   pub not_sent : ((offset len : ℕ) → IsOutstanding e (Data n (record { offset = offset; len = len; fin = true })) → ⊥)
 
--- Control items
+-- Control items (RFC 9000, sections 4.1, 4.6 and 13.3)
 
 -- a stream has bytes that only the connection's credit holds back: its sent end is below its own limit
 pub record WantsCredit (e : End) (n : ℕ) (l : SendLane) : Type 0 where
@@ -87,7 +88,7 @@ IsCovered e i = IsOutstanding e (Told i) ⊎ IsAcked e i
 abbrev pub IsDueItem : End → Item → Type 0
 IsDueItem e i = IsCurrent e i × (IsCovered e i → ⊥)
 
--- What may go out
+-- What may go out (RFC 9000, sections 3.1, 3.3 and 4.1)
 
 -- a due byte below the stream's limit was sent before, or the connection has credit for it
 abbrev pub ByteGoes : End → ℕ → SendLane → Type 0

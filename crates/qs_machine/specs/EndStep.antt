@@ -1,4 +1,5 @@
--- The calls of an end, and what each may answer and leave.
+-- The calls of an end, and what each may answer and leave. Of RFC 9000, for the whole file: section 2.4, on what is done with streams,
+-- and section 13, on packets that come, are made and are lost.
 use Rattle.std.specs.Prelude.{◌≡◌, ℕ, List, Option, Result}
 use Rattle.qs_wire.specs.declared.stream_id.Dir.{Dir}
 use Rattle.qs_recv.specs.declared.half.Read.{Read}

@@ -19,11 +19,11 @@ use Rattle.qs_calls.specs.Settings.{setup_fault}
 use Rattle.qs_machine.specs.Tables.{Tables, no_streams, kind_of, lookup, updated, open_to}
 pub use Rattle.qs_machine.specs.LostPackets.{LostPackets, no_lost, lost_with, lost_less}
 
--- the pieces of packets, by packet number
+-- the pieces of packets, by packet number (RFC 9000, section 13.3)
 abbrev pub Records : Type 0
 Records = PacketPieces
 
--- the greatest value acknowledged of each control item that was; of a RESET_STREAM the sending lane tells it
+-- the greatest value acknowledged of each control item that was; of a RESET_STREAM the sending lane tells it (RFC 9000, section 13.3)
 pub record AckedItems : Type 0 where
   pub max_data : Option ℕ
   -- by stream
@@ -38,6 +38,7 @@ pub record AckedItems : Type 0 where
   pub bidi_streams : Option ℕ
   pub uni_streams : Option ℕ
 
+-- what an end keeps of its streams, its credit and its packets (RFC 9000, sections 2 to 4 and 13)
 pub record End : Type 0 where
   pub role : Role
   pub settings : Settings
@@ -77,10 +78,11 @@ abbrev pub role_bit : Role → ℕ
 role_bit Client = 0
 role_bit Server = 1
 
+-- whether an end of that role opens the stream (RFC 9000, section 2.1)
 abbrev pub is_own_by : Role → ℕ → Bool
 is_own_by role n = kind_of n % 2 == role_bit role
 
--- whether this end opens the stream
+-- whether this end opens the stream (RFC 9000, section 2.1)
 abbrev pub is_own : End → ℕ → Bool
 is_own e n = is_own_by e.role n
 
@@ -89,6 +91,7 @@ abbrev pub own_kind : End → Dir → ℕ
 own_kind e Bidi = role_bit e.role
 own_kind e Uni = 2 + role_bit e.role
 
+-- those that the peer opens (RFC 9000, section 2.1)
 abbrev pub peer_kind : End → Dir → ℕ
 peer_kind e Bidi = 1 - role_bit e.role
 peer_kind e Uni = 3 - role_bit e.role
@@ -97,17 +100,19 @@ peer_kind e Uni = 3 - role_bit e.role
 abbrev pub is_uni : ℕ → Bool
 is_uni n = nat_le 2 (kind_of n)
 
--- the halves of a stream at this end, None where there is none
+-- the halves of a stream at this end, None where there is none (RFC 9000, section 3)
 abbrev pub send_lane : End → ℕ → Option SendLane
 send_lane e n = lookup e.sends n
 
+-- the half that receives (RFC 9000, section 3.2)
 abbrev pub recv_lane : End → ℕ → Option RecvLane
 recv_lane e n = lookup e.recvs n
 
--- the sending half changed by f, where there is one
+-- the sending half changed by f, where there is one (RFC 9000, section 3.1)
 abbrev pub on_send : ℕ → (SendLane → SendLane) → End → End
 on_send n f e = record e { sends = updated e.sends n f (send_lane e n) }
 
+-- the receiving half changed by f, where there is one (RFC 9000, section 3.2)
 abbrev pub on_recv : ℕ → (RecvLane → RecvLane) → End → End
 on_recv n f e = record e { recvs = updated e.recvs n f (recv_lane e n) }
 
@@ -115,14 +120,16 @@ on_recv n f e = record e { recvs = updated e.recvs n f (recv_lane e n) }
 abbrev pub first_send_limit : End → ℕ → ℕ
 first_send_limit e n = if is_uni n then e.peer.uni else (if is_own e n then e.peer.bidi_remote else e.peer.bidi_local)
 
+-- the window that an end of that role has set for a stream (RFC 9000, section 18.2)
 abbrev pub window_by : Role → Settings → ℕ → ℕ
 window_by role s n = if is_uni n then s.uni else (if is_own_by role n then s.bidi_local else s.bidi_remote)
 
--- the window of a receiving half, which is its first limit too
+-- the window of a receiving half, which is its first limit too (RFC 9000, section 4.1)
 abbrev pub window : End → ℕ → ℕ
 window e n = window_by e.role e.settings n
 
--- The end with the stream, and all lower ones of its type, open. On a unidirectional stream only its initiator sends.
+-- The end with the stream, and all lower ones of its type, open. On a unidirectional stream only its initiator sends
+-- (RFC 9000, sections 2.1 and 3.2).
 abbrev pub opens : ℕ → End → End
 opens n e =
     record e {
@@ -134,14 +141,16 @@ opens n e =
 abbrev pub opened_by_peer : ℕ → End → End
 opened_by_peer n e = if is_own e n then e else opens n e
 
+-- an end that closed, or saw its peer close (RFC 9000, section 10.2)
 abbrev pub closes : Closed → End → End
 closes c e = record e { closed = Some c }
 
+-- no item was acknowledged (RFC 9000, section 13.3)
 abbrev pub no_items : AckedItems
 no_items =
     record { max_data = None; max_stream_data = fmap.empty; stop_sending = set.empty; data_blocked = None; stream_data_blocked = fmap.empty; bidi_blocked = None; uni_blocked = None; bidi_streams = None; uni_streams = None }
 
--- a new end
+-- a new end (RFC 9000, sections 4.1, 4.6 and 18.2)
 abbrev pub new_end : Role → Settings → PeerLimits → End
 new_end role settings peer =
     record {
@@ -170,10 +179,11 @@ new_end role settings peer =
       closed = None;
     }
 
+-- a refusal of the settings, or the end (RFC 9000, sections 4.6 and 7.4)
 abbrev pub end_unless : Option SetupFault → End → Result End SetupFault
 end_unless (Some fault) e = Err fault
 end_unless None e = Ok e
 
--- what comes of making an end
+-- what comes of making an end (RFC 9000, sections 4.6 and 7.4)
 abbrev pub end_made : Role → Settings → PeerLimits → Result End SetupFault
 end_made role settings peer = end_unless (setup_fault settings peer) (new_end role settings peer)

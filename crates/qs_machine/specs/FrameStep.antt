@@ -16,7 +16,7 @@ use Rattle.qs_machine.specs.Ends.{End, Records, AckedItems, lost_less, on_send, 
 use Rattle.qs_machine.specs.Seen.{Seen, Ack, Stream, Control, Close, Plain}
 use Rattle.qs_machine.specs.Verdicts.{verdict}
 
--- Acknowledgements
+-- Acknowledgements (RFC 9000, sections 13.2.1 and 13.3)
 
 abbrev pub greatest : Option ℕ → ℕ → Option ℕ
 greatest None value = Some value
@@ -79,7 +79,7 @@ first_acked a e = piece_acked a.piece (without_piece a.late a.number e)
 abbrev pub pieces_of : Bool → Records → ℕ → List AckedPiece
 pieces_of late m k = elim (fmap.get m k) [ None ↦ [] | Some ps ↦ map (acked_at late k) ps ]
 
--- whether a number lies in one of an ACK's ranges
+-- whether a number lies in one of an ACK's ranges (RFC 9000, section 19.3.1)
 abbrev pub is_named : List (ℕ × ℕ) → ℕ → Bool
 is_named ranges k = list_any (λ r. nat_le r.0 k && nat_le k r.1) ranges
 
@@ -100,7 +100,7 @@ unfoldable pub acks : List AckedPiece → End → End
 acks [] e = e
 acks (a ∷ ps) e = acks ps (first_acked a e)
 
--- Frames
+-- Frames (RFC 9000, sections 3 and 19)
 
 -- limits and counts never fall (RFC 9000, section 4.1); a STOP_SENDING resets the half that it names (section 3.5)
 abbrev pub item_taken : Item → End → End

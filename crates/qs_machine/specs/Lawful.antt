@@ -15,16 +15,17 @@ use Rattle.qs_machine.specs.FrameStep.{is_named}
 use Rattle.qs_send.specs.Records.{Among}
 use Rattle.qs_machine.specs.Due.{IsDue, IsEndDue, IsDueItem, StreamGoes}
 
--- the pieces of a packet so far
+-- the pieces of a packet so far (RFC 9000, section 13.3)
 abbrev pub pieces_so_far : End → ℕ → List Piece
 pieces_so_far e k = elim (fmap.get e.outstanding k) [ None ↦ [] | Some ps ↦ ps ]
 
+-- the offsets of a STREAM frame, and its FIN (RFC 9000, section 19.8)
 abbrev pub chunk_of : ℕ → List ℕ → Bool → Chunk
 chunk_of offset bytes fin = record { offset = offset; len = length bytes; fin = fin }
 
 -- A STREAM frame may be the next one in the packet that is being made. It holds a run of due offsets from the lowest one on, with the
 -- written bytes, below the stream's limit; each run stands in one frame. It has FIN only where the end is due and every byte is sent by
--- then; and it has a byte or FIN.
+-- then; and it has a byte or FIN (RFC 9000, sections 2.2, 4.1, 13.3 and 19.8).
 pub record MayCarry (e : End) (n offset : ℕ) (bytes : List ℕ) (fin : Bool) (l : SendLane) : Type 0 where
   pub lane : send_lane e n ≡ Some l
   pub no_reset : l.was_reset ≡ None
@@ -45,7 +46,7 @@ pub record MayAck (old e : End) (largest : ℕ) (ranges : List (ℕ × ℕ)) : T
   pub largest_kept : (k : ℕ) → set.contains old.done k ≡ true → k ≤ largest
 
 -- The frame may be the next one in a packet that began at old and has led to e so far. Control items are those due as the packet
--- began, each once.
+-- began, each once (RFC 9000, sections 12.4, 13.2 and 13.3).
 abbrev pub MayPut : End → End → Seen → Type 0
 MayPut old e (Ack largest ranges) = MayAck old e largest ranges
 MayPut old e (Stream n offset bytes fin) = (l : SendLane) × MayCarry e n offset bytes fin l
@@ -53,7 +54,7 @@ MayPut old e (Control i) = IsDueItem old i × IsDueItem e i
 MayPut old e (Close code) = ⊥
 MayPut old e (Plain asks) = ⊥
 
--- the piece stands in the record of the packet that is being made
+-- the piece stands in the record of the packet that is being made (RFC 9000, section 13.3)
 abbrev pub noted : Piece → End → End
 noted p e = record e { outstanding = fmap.insert e.outstanding e.next (pieces_so_far e e.next ++ p ∷ []) }
 
@@ -68,7 +69,7 @@ item_put (DataBlocked m) e = e
 item_put (StreamDataBlocked n m) e = on_send n blocked_lane e
 item_put (StreamsBlocked d m) e = e
 
--- the end after the frame was put in the packet; an ACK leaves no record
+-- the end after the frame was put in the packet; an ACK leaves no record (RFC 9000, sections 13.2 and 13.3)
 unfoldable pub frame_put : Seen → End → End
 frame_put (Ack largest ranges) e = record e { ack_due = false }
 frame_put (Stream n offset bytes fin) e = noted (Data n (chunk_of offset bytes fin)) (on_send n (λ l. sent_lane l (chunk_of offset bytes fin)) e)
@@ -76,7 +77,7 @@ frame_put (Control i) e = noted (Told i) (item_put i e)
 frame_put (Close code) e = e
 frame_put (Plain asks) e = e
 
--- The frames may be put in one packet, one after the other, and lead from e to new.
+-- The frames may be put in one packet, one after the other, and lead from e to new (RFC 9000, section 12.4).
 abbrev pub Fills : End → End → List Seen → End → Type 0
 Fills old e [] new = new ≡ e
 Fills old e (f ∷ fs) new = MayPut old e f × Fills old (frame_put f e) fs new
@@ -87,7 +88,7 @@ pub record Lawful (old : End) (frames : List Seen) (new : End) : Type 0 where
   pub filled : (mid : End) × Fills old old frames mid × (new ≡ record mid { next = old.next + 1 })
   pub within : all_sent new ≤ new.known_data
 
--- Completeness
+-- Completeness: ours, for RFC 9000, section 13, leaves open how far a packet is filled
 
 -- an ACK among the frames names every kept number
 abbrev pub AcksAll : End → List Seen → Type 0

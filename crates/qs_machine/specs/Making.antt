@@ -26,14 +26,14 @@ abbrev pub IsPlainAck : FrameValue → Type 0
 IsPlainAck (ack largest delay ranges ecn) = (delay ≡ 0) × (ecn ≡ None)
 IsPlainAck frame = Unit {0}
 
--- the bytes are the canonical text of these frames
+-- the bytes are the canonical text of these frames (RFC 9000, section 12.4)
 pub record IsText (frames : List FrameValue) (text : List ℕ) : Type 0 where
   pub fits : AllByRecursion Fits frames
   pub plain : AllByRecursion IsPlainAck frames
   pub canonical : text ≡ canonical_all frames
 
 -- A packet of the next number was made: the canonical text of a lawful packet that fits the room and leaves nothing out that it had room
--- for.
+-- for (RFC 9000, section 12.3).
 pub record IsMade (old : End) (room : ℕ) (made : Made) (text : List ℕ) (new : End) : Type 0 where
   pub number : made.number ≡ old.next
   pub len : made.len ≡ length text
@@ -45,25 +45,27 @@ pub record IsMade (old : End) (room : ℕ) (made : Made) (text : List ℕ) (new 
   pub whole : HasAll room (length text) old (seen_all frames) mid
   pub after : new ≡ settle mid
 
+-- a packet was made, or there was nothing that may go, or no memory (RFC 9000, section 12.3)
 abbrev pub MakeBy : End → ℕ → Result (Option Made) MakeFault → List ℕ → End → Type 0
 MakeBy old room (Ok (Some made)) text new = IsMade old room made text new
 MakeBy old room (Ok None) text new = (Sendable old → ⊥) × (text ≡ []) × (new ≡ old)
 MakeBy old room (Err making.NoMemory) text new = (text ≡ []) × (new ≡ old)
 MakeBy old room (Err fault) text new = ⊥
 
--- an end that closed makes no packet, and one that used the last number none either
+-- an end that closed makes no packet, and one that used the last number none either (RFC 9000, sections 10.2 and 12.3)
 abbrev pub make_refusal : End → Option MakeFault
 make_refusal e = first_refusal (refuse_if (is_some e.closed) making.Closed) (refuse_if (nat_le (MAX_VARINT + 1) e.next) making.Exhausted)
 
+-- the refusal, or what else comes of it (RFC 9000, sections 10.2 and 12.3)
 abbrev pub MakeAt : Option MakeFault → End → ℕ → Result (Option Made) MakeFault → List ℕ → End → Type 0
 MakeAt (Some fault) old room answer text new = (answer ≡ Err fault) × (text ≡ []) × (new ≡ old)
 MakeAt None old room answer text new = MakeBy old room answer text new
 
--- `make_packet` into a slice of that size, with the payload that it writes
+-- `make_packet` into a slice of that size, with the payload that it writes (RFC 9000, section 12.3)
 abbrev pub MakeStep : End → ℕ → Result (Option Made) MakeFault → List ℕ → End → Type 0
 MakeStep old room answer text new = MakeAt (make_refusal old) old room answer text new
 
--- Losses
+-- Losses (RFC 9000, section 13.3)
 
 -- The first piece of packet k is lost. It leaves the outstanding record, and so is due again if it is of use, and stands in the lost
 -- record of that number, which a late ACK may name (RFC 9000, sections 13.2.1 and 13.3).
@@ -86,7 +88,7 @@ LoseStep old k answer new =
     ((answer ≡ Ok tt) × (new ≡ losses k ps old))
     ⊎ ((moved : ℕ) × (moved < length ps) × (answer ≡ Err losing.NoMemory) × (new ≡ losses k (take moved ps) old))))
 
--- The payload of a closing
+-- The payload of a closing (RFC 9000, sections 10.2.3 and 19.19)
 
 abbrev pub close_text_of : Option Closed → Option (List ℕ)
 close_text_of None = None

@@ -1,4 +1,5 @@
--- The calls of an end's owner on streams: what each answers and leaves (RFC 9000, sections 2.4 and 3). As each ends, the limits move.
+-- The calls of an end's owner on streams: what each answers and leaves (RFC 9000, sections 2.4 and 3, for the whole
+-- file). As each ends, the limits move.
 use Rattle.std.specs.Prelude.{◌≡◌, ℕ, ◌+◌, ◌*◌, ◌<◌, Bool, List, [], ◌⊎◌, length, take, max, Option, None, Some, is_some, Result, Ok, Err, nat_le, nat_lt, MatchBool, if◌then◌else◌}
 use Rattle.qs_wire.specs.declared.stream_id.Dir.{Dir}
 use Rattle.qs_wire.specs.declared.stream_id.Dir.TheVariants.{Bidi, Uni}
@@ -34,7 +35,7 @@ first_refusal None next = next
 abbrev pub refuse_if : {F : Type 0} → Bool → F → Option F
 refuse_if b fault = if b then Some fault else None
 
--- Opening
+-- Opening (RFC 9000, sections 2.1, 3.2 and 4.6)
 
 -- how many streams of a type are open
 abbrev pub opened_count : End → ℕ → ℕ
@@ -84,7 +85,7 @@ AcceptOpen old answer new =
 abbrev pub AcceptStep : End → Option ℕ → End → Type 0
 AcceptStep old answer new = MatchBool (is_some old.closed) (GivesNone old answer new) (AcceptOpen old answer new)
 
--- Sending
+-- Sending (RFC 9000, sections 2.4 and 3.1)
 
 -- the stream has no such half: it isn't open, or it goes the other way
 abbrev pub no_half : Bool → UseFault
@@ -128,7 +129,7 @@ ResetStep old n code answer new =
     Certain (send_refusal old n reset_refusal) old answer new
     ((answer ≡ Ok tt) × (new ≡ settle (on_send n (λ m. reset_lane m code) old)))
 
--- Receiving
+-- Receiving (RFC 9000, sections 2.4 and 3.2)
 
 abbrev pub recv_refusal : End → ℕ → Option UseFault
 recv_refusal e n =

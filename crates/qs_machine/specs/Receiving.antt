@@ -18,15 +18,16 @@ use Rattle.qs_machine.specs.FrameStep.{frame_taken, named, acks}
 use Rattle.qs_machine.specs.Memory.{MayRunOut, StopsAt}
 use Rattle.qs_machine.specs.Recording.{recorded}
 
--- the closing for a frame that has a fault, and for bytes that are no frame
+-- the closing for a frame that has a fault, and for bytes that are no frame (RFC 9000, sections 11.1 and 19.19)
 abbrev pub closing_at : PlacedValue → ℕ → Closing
 closing_at p code = record { code = code; frame_type = p.frame_type; place = p.place }
 
+-- the closing for bytes that are no frame (RFC 9000, sections 12.4 and 19.19)
 abbrev pub closing_of : WireFault → Closing
 closing_of fault = record { code = fault.code; frame_type = fault.frame_type; place = fault.place }
 
 -- What stands where no frame is left: the number is recorded, or there is no memory for it, where it touches none that is kept; or the
--- bytes that follow are no frame.
+-- bytes that follow are no frame (RFC 9000, sections 12.4 and 13.1).
 abbrev pub AtEnd : ℕ → Bool → Option WireFault → End → Result Received Closing → End → Type 0
 AtEnd number asks None e (Ok Done) new = new ≡ recorded number asks e
 AtEnd number asks None e (Ok NoMemory) new = (new ≡ e) × MissesRange e.done (number - 1) (number + 2)
@@ -34,13 +35,13 @@ AtEnd number asks (Some fault) e (Err closing) new = (closing ≡ closing_of fau
 AtEnd number asks fault e result new = ⊥
 
 -- A frame without a fault asks for memory and finds none: nothing of it takes effect; of an ACK some of the pieces are acknowledged, in
--- order, up to one that asks.
+-- order, up to one that asks (ours: RFC 9000 has no want of memory).
 abbrev pub RunsOut : End → Seen → End → Type 0
 RunsOut e (Ack largest ranges) new =
     (m : ℕ) × (new ≡ acks (take m (named e ranges)) e) × StopsAt new.sends new.acked (slice_get (named e ranges) m)
 RunsOut e f new = (new ≡ e) × MayRunOut e f
 
--- A frame ends the processing: it has a fault, or finds no memory, or is a CONNECTION_CLOSE.
+-- A frame ends the processing: it has a fault, or finds no memory, or is a CONNECTION_CLOSE (RFC 9000, sections 10.2 and 11.1).
 abbrev pub Stops : PlacedValue → Seen → End → Result Received Closing → End → Type 0
 Stops p (Close code) e (Ok (PeerClosed told)) new = (told ≡ code) × (new ≡ closes (ByPeer code) e)
 Stops p (Close code) e result new = ⊥
@@ -53,24 +54,25 @@ abbrev pub EndsBy : ℕ → Option WireFault → Bool → List PlacedValue → E
 EndsBy number fault asks [] e result new = AtEnd number asks fault e result new
 EndsBy number fault asks (p ∷ ps) e result new = Stops p (seen p.frame) e result new
 
--- a frame takes effect and the processing goes on
+-- a frame takes effect and the processing goes on (RFC 9000, section 13.1)
 abbrev pub GoesOn : End → Seen → Type 0
 GoesOn e (Close code) = ⊥
 GoesOn e f = verdict e f ≡ None
 
 -- From here on some of the frames took effect, one after the other, from the first one on, and then the processing ended so. `asks` tells
--- whether a frame before them asked for an ACK.
+-- whether a frame before them asked for an ACK (RFC 9000, section 13.1).
 abbrev pub Takes : ℕ → Option WireFault → Bool → End → List PlacedValue → Result Received Closing → End → Type 0
 Takes number fault asks e [] result new = AtEnd number asks fault e result new
 Takes number fault asks e (p ∷ ps) result new =
     Stops p (seen p.frame) e result new
     ⊎ (GoesOn e (seen p.frame) × Takes number fault (asks || asks_ack (seen p.frame)) (frame_taken (seen p.frame) e) ps result new)
 
--- the frames are those of the payload's bytes, and so is the fault
+-- the frames are those of the payload's bytes, and so is the fault (RFC 9000, section 12.4)
 abbrev pub TakesPayload : ℕ → List ℕ → End → Result Received Closing → End → Type 0
 TakesPayload number payload old result new =
     let reading = reading_of payload in Takes number reading.fault false old reading.left result new
 
+-- a number below the floor and one that was processed change nothing; else the payload is taken (RFC 9000, section 12.3)
 abbrev pub OpenReceive : ℕ → List ℕ → End → Result Received Closing → End → Type 0
 OpenReceive number payload old result new =
     MatchBool (nat_lt number old.floor)
@@ -79,15 +81,16 @@ OpenReceive number payload old result new =
     ((result ≡ Ok Duplicate) × (new ≡ old))
     ((mid : End) × TakesPayload number payload old result mid × (new ≡ settle mid)))
 
--- an end that is closed says so again
+-- an end that is closed says so again (RFC 9000, section 10.2)
 abbrev pub ClosedReceive : Closed → End → Result Received Closing → End → Type 0
 ClosedReceive (ByUs closing) old result new = (result ≡ Err closing) × (new ≡ old)
 ClosedReceive (ByPeer code) old result new = (result ≡ Ok (PeerClosed code)) × (new ≡ old)
 
+-- of a closed end, or of an open one (RFC 9000, section 10.2)
 abbrev pub ReceiveBy : Option Closed → ℕ → List ℕ → End → Result Received Closing → End → Type 0
 ReceiveBy (Some closed) number payload old result new = ClosedReceive closed old result new
 ReceiveBy None number payload old result new = OpenReceive number payload old result new
 
--- `receive` of a payload
+-- `receive` of a payload (RFC 9000, sections 12.3 and 13.1)
 abbrev pub ReceiveStep : End → ℕ → List ℕ → Result Received Closing → End → Type 0
 ReceiveStep old number payload result new = ReceiveBy old.closed number payload old result new

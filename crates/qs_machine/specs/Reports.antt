@@ -1,4 +1,4 @@
--- What an end tells of itself (RFC 9000, sections 3.1 and 3.2).
+-- What an end tells of itself (RFC 9000, sections 3.1 and 3.2, for the whole file).
 use Rattle.std.specs.Prelude.{ℕ, Option, None, Some}
 use Rattle.qs_recv.specs.Lane.{RecvLane, highest, state as recv_state}
 use Rattle.qs_send.specs.Lane.{SendLane, declared_size, state as send_state}

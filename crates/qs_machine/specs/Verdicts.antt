@@ -13,6 +13,8 @@ use Rattle.qs_machine.specs.Ends.{End, is_own, is_uni, send_lane, recv_lane, win
 use Rattle.qs_machine.specs.Credit.{spent, grant}
 use Rattle.qs_machine.specs.Seen.{Seen, Ack, Stream, Control, Close, Plain}
 
+-- Codes (RFC 9000, section 20.1)
+
 abbrev pub FLOW_CONTROL_ERROR : ℕ
 FLOW_CONTROL_ERROR = 0x03
 
@@ -27,6 +29,8 @@ FINAL_SIZE_ERROR = 0x06
 
 abbrev pub PROTOCOL_VIOLATION : ℕ
 PROTOCOL_VIOLATION = 0x0a
+
+-- Checks (RFC 9000, sections 2.2, 4, 11.1 and 19)
 
 -- the first of two checks that fails
 abbrev pub or_else : Option ℕ → Option ℕ → Option ℕ

@@ -1,4 +1,5 @@
--- Sets of numbers, as contracts see them.
+-- Sets of numbers, as contracts see them. The whole file is ours: the numbers are offsets of streams and packet numbers (RFC 9000,
+-- sections 2.2 and 12.3).
 use Rattle.std.specs.Prelude.{◌≡◌, ℕ, suc, zero, ◌+◌, ◌-◌, ◌<◌, ◌≤◌, Bool, false, IsTrue, not, ◌&&◌, ◌||◌, ◌==◌, nat_le, nat_lt, if◌then◌else◌, max, List, [], ◌∷◌}
 use Rattle.std.specs.Ordering.{nat_cmp}
 use Rattle.std.specs.List.{range_with_len, list_any}

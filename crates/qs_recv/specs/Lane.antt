@@ -44,7 +44,7 @@ highest lane = unwrap_or lane.final_size (end_of lane.arrived.received)
 abbrev pub taken : RecvLane → ℕ
 taken lane = if is_some lane.reset_code || is_some lane.stop_code then highest lane else lane.arrived.read_count
 
--- whether each offset below a known final size came
+-- whether each offset below a known final size came (RFC 9000, section 3.2)
 abbrev pub whole_to : NumberSet → Option ℕ → Bool
 whole_to received None = false
 whole_to received (Some size) = covers received 0 size
@@ -114,7 +114,7 @@ take_reset lane code size =
 
 -- Reading
 
--- whether so many bytes are all of the stream
+-- whether so many bytes are all of the stream (RFC 9000, section 4.5)
 abbrev pub at_final_size : ℕ → Option ℕ → Bool
 at_final_size count None = false
 at_final_size count (Some size) = count == size
@@ -127,7 +127,7 @@ answer_by None lane room =
     else (if at_final_size lane.arrived.read_count lane.final_size then End
     else (if set.contains lane.arrived.received lane.arrived.read_count then Bytes (length (front_of lane.arrived room)) else Wait))
 
--- what a reader with so much room is told
+-- what a reader with so much room is told (RFC 9000, sections 2.2 and 3.2)
 abbrev pub read_answer : RecvLane → ℕ → Read
 read_answer lane room = answer_by lane.reset_code lane room
 
@@ -138,7 +138,7 @@ bytes_of (End) lane room = []
 bytes_of (Reset code) lane room = []
 bytes_of (Wait) lane room = []
 
--- the bytes that are handed out with an answer
+-- the bytes that are handed out with an answer (RFC 9000, section 2.2)
 abbrev pub bytes_read : RecvLane → ℕ → List ℕ
 bytes_read lane room = bytes_of (read_answer lane room) lane room
 
@@ -149,7 +149,7 @@ after_answer (End) lane room = record lane { told = true }
 after_answer (Reset code) lane room = record lane { told = true }
 after_answer (Wait) lane room = lane
 
--- the lane after a read
+-- the lane after a read (RFC 9000, sections 2.2 and 3.2)
 abbrev pub after_read : RecvLane → ℕ → RecvLane
 after_read lane room = after_answer (read_answer lane room) lane room
 
@@ -174,7 +174,7 @@ abbrev pub raised_limit : RecvLane → ℕ
 raised_limit lane =
     if is_some lane.final_size then lane.limit else next_limit lane.limit (taken lane) lane.arrived.window
 
--- the lane with its limit raised
+-- the lane with its limit raised (RFC 9000, section 4.2)
 abbrev pub raise : RecvLane → RecvLane
 raise lane = record lane { limit = raised_limit lane }
 

@@ -20,6 +20,7 @@ use Rattle.qs_calls.specs.declared.answer.Answer.{Answer}
 use Rattle.qs_runs.specs.Logs.{History, other, written, read, payload, processed, read_whole}
 use Rattle.qs_runs.specs.Worlds.{World, end_of, WorldStep, Run}
 
+-- xs is how ys begins (RFC 9000, section 2.2)
 abbrev pub IsPrefixOf : {X : Type 0} → List X → List X → Type 0
 IsPrefixOf {X} xs ys = (rest : List X) × (xs ++ rest ≡ ys)
 
@@ -48,11 +49,11 @@ pub record FinalSizesAgree (w : World) (s : Side) (n : ℕ) : Type 0 where
 abbrev pub CreditAgrees : World → Side → Type 0
 CreditAgrees w s = spent (end_of w s) ≤ all_sent (end_of w (other s))
 
--- an end has neither closed nor seen its peer close
+-- an end has neither closed nor seen its peer close (RFC 9000, section 10.2)
 abbrev pub StaysOpen : World → Side → Type 0
 StaysOpen w s = (end_of w s).closed ≡ None
 
--- what agrees in a world with this history
+-- what agrees in a world with this history (RFC 9000, sections 2.2, 3, 4 and 10.2)
 pub record Agree (h : History) (w : World) : Type 0 where
   pub prefix : (s : Side) (n : ℕ) → PrefixAgrees h s n
   pub credit : (s : Side) → CreditAgrees w s
@@ -60,7 +61,7 @@ pub record Agree (h : History) (w : World) : Type 0 where
   pub final_sizes : (s : Side) (n : ℕ) → FinalSizesAgree w s n
   pub stays_open : (s : Side) → StaysOpen w s
 
--- Repeats
+-- Repeats (RFC 9000, sections 2.2, 4.1 and 12.3)
 
 -- the offset of the stream was received
 abbrev pub HasCome : End → ℕ → ℕ → Type 0
@@ -88,6 +89,7 @@ pub record RepeatAgrees (h : History) (old new : World) (s : Side) (k : ℕ) : T
   -- one that tells nothing new spends nothing
   pub old_news : (text : List ℕ) → payload (other s) k h ≡ Some text → AllByRecursion (IsOld (end_of old s)) (frames_in text) → spent (end_of new s) ≡ spent (end_of old s)
 
+-- a delivery spends no credit again; of other steps nothing is said (RFC 9000, sections 4.1 and 12.3)
 abbrev pub StepAgreesBy : History → World → Side → Act → World → Type 0
 StepAgreesBy h old s (acts.Deliver k) new = RepeatAgrees h old new (other s) k
 StepAgreesBy h old s act new = ⊤

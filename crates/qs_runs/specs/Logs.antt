@@ -1,4 +1,5 @@
--- What can be read off a log: what was written, read, made and processed.
+-- What can be read off a log: what was written, read, made and processed. The whole file is ours:
+-- RFC 9000 has no log.
 use Rattle.std.specs.Prelude.{ℕ, Bool, true, false, not, ◌&&◌, ◌==◌, List, [], ◌∷◌, ◌++◌, take, Option, Some, Ok, slice_get, if◌then◌else◌}
 use Rattle.qs_calls.specs.declared.closing.Received.TheVariants.{Done}
 use Rattle.qs_recv.specs.declared.half.Read.TheVariants.{Bytes, End}

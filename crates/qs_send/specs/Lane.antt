@@ -56,11 +56,11 @@ due_code = code_by (NumberSet × Bool) (coded× (set.code coded_ℕ) coded_bool)
 abbrev pub sending_code : Coded Sending
 sending_code = code_by (SendLane × Due) (coded× lane_code due_code) (λ s. (s.lane, s.due)) (λ p. record { lane = p.0; due = p.1 }) (λ _. refl)
 
--- the lowest offset that isn't acknowledged
+-- the lowest offset that isn't acknowledged (RFC 9000, section 13.3)
 abbrev pub unacked_from : SendLane → ℕ
 unacked_from lane = missing_from lane.acked 0
 
--- a lane as it begins: nothing was written
+-- a lane as it begins: nothing was written (RFC 9000, section 3.1)
 abbrev pub new_lane : ℕ → ℕ → ℕ → SendLane
 new_lane id limit buffer =
     record { id = id; written = 0; kept = []; acked = set.empty; sent_end = 0; finished = false; fin_sent = false; fin_acked = false; blocked_sent = false; was_reset = None; reset_acked = false; limit = limit; buffer = buffer }
@@ -83,7 +83,7 @@ state lane =
     else (if lane.fin_sent then DataSent
     else (if nat_lt 0 lane.sent_end || lane.blocked_sent then Send else Ready))))
 
--- the reset's final size, else another
+-- the reset's final size, else another (RFC 9000, section 4.5)
 abbrev pub size_of : Option Reset → Option ℕ → Option ℕ
 size_of None otherwise = otherwise
 size_of (Some r) otherwise = Some r.size
@@ -94,7 +94,7 @@ declared_size lane = size_of lane.was_reset (if lane.fin_sent then Some lane.wri
 
 -- Writing
 
--- how many bytes the buffer can take
+-- how many bytes the buffer can take (ours: RFC 9000 leaves the buffer open)
 abbrev pub free_room : SendLane → ℕ
 free_room lane = lane.buffer - length lane.kept
 
@@ -102,7 +102,7 @@ free_room lane = lane.buffer - length lane.kept
 abbrev pub accepted : SendLane → ℕ → ℕ
 accepted lane n = min n (min (free_room lane) (MAX_VARINT - lane.written))
 
--- why a write or a finish is refused
+-- why a write or a finish is refused (RFC 9000, sections 2.4 and 3.1)
 abbrev pub refusal : SendLane → Option SendFault
 refusal lane = if is_some lane.was_reset then Some WasReset else (if lane.finished then Some Finished else None)
 
@@ -111,7 +111,7 @@ abbrev pub answer_of : Option SendFault → Result (Unit {0}) SendFault
 answer_of None = Ok tt
 answer_of (Some fault) = Err fault
 
--- the accepted bytes follow those written before
+-- the accepted bytes follow those written before (RFC 9000, section 2.2)
 abbrev pub write_lane : SendLane → List ℕ → SendLane
 write_lane lane bytes = record lane { written = lane.written + length bytes; kept = lane.kept ++ bytes }
 
@@ -123,7 +123,7 @@ after_write s bytes =
       due = record { offsets = set.union s.due.offsets (numbers s.lane.written (s.lane.written + length bytes)); fin = s.due.fin };
     }
 
--- the end is asked for
+-- the end is asked for (RFC 9000, section 2.4)
 abbrev pub finish_lane : SendLane → SendLane
 finish_lane lane = record lane { finished = true }
 
@@ -179,11 +179,11 @@ after_allow s limit = record s { lane = allow_lane s.lane limit }
 abbrev pub chunk_end : Chunk → ℕ
 chunk_end c = c.offset + c.len
 
--- the offsets of a chunk
+-- the offsets of a chunk (RFC 9000, section 19.8)
 abbrev pub chunk_offsets : Chunk → NumberSet
 chunk_offsets c = numbers c.offset (c.offset + c.len)
 
--- a byte sent again doesn't move the sent end
+-- a byte sent again doesn't move the sent end (RFC 9000, section 4.1)
 abbrev pub sent_lane : SendLane → Chunk → SendLane
 sent_lane lane c = record lane { sent_end = max lane.sent_end (c.offset + c.len); fin_sent = lane.fin_sent || c.fin }
 
@@ -195,7 +195,7 @@ after_sent s c =
       due = record { offsets = set.difference s.due.offsets (chunk_offsets c); fin = s.due.fin && not c.fin };
     }
 
--- the offsets are acknowledged; the bytes below the lowest offset not acknowledged are let go
+-- the offsets are acknowledged; the bytes below the lowest offset not acknowledged are let go (RFC 9000, section 13.3)
 abbrev pub acked_lane : SendLane → Chunk → SendLane
 acked_lane lane c =
     record lane {
@@ -224,6 +224,6 @@ lost_due lane due c =
 abbrev pub after_lost : Sending → Chunk → Sending
 after_lost s c = if is_some s.lane.was_reset then s else record s { due = lost_due s.lane s.due c }
 
--- the written bytes of a chunk
+-- the written bytes of a chunk (RFC 9000, section 2.2)
 abbrev pub bytes_of : SendLane → Chunk → List ℕ
 bytes_of lane c = take c.len (drop (c.offset - unacked_from lane) lane.kept)

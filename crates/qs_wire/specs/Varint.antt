@@ -1,4 +1,5 @@
--- Numbers of variable length: the two top bits of the first byte tell how many bytes there are.
+-- Numbers of variable length: the two top bits of the first byte tell how many bytes there are
+-- (RFC 9000, section 16, for the whole file).
 use Rattle.std.specs.Prelude.{◌≡◌, ℕ, zero, suc, ◌+◌, ◌*◌, ◌^◌, ◌<◌, ◌%◌, List, [], ◌∷◌, length, drop, Option, Some, None, nat_lt, if◌then◌else◌}
 use Rattle.byteorder.specs.Endian.{big_bytes, big_number}
 

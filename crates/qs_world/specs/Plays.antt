@@ -1,4 +1,5 @@
--- Events are played: what two ends have come to, and what happened to them.
+-- Events are played: what two ends have come to, and what happened to them. The whole file is ours:
+-- RFC 9000 has no runs.
 use Rattle.std.specs.Prelude.{◌≡◌, ℕ, suc, List, [], ◌∷◌, ◌++◌, length, reverse, take, None, Result, Ok, Err, ⊤, refl}
 use Rattle.std.specs.Coded.{Coded, code_by, coded×, coded_list}
 use Rattle.qs_machine.specs.EndCodes.{end_code}
