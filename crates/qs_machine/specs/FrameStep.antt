@@ -16,7 +16,7 @@ use Rattle.qs_machine.specs.Ends.{End, Records, AckedItems, lost_less, on_send, 
 use Rattle.qs_machine.specs.Seen.{Seen, Ack, Stream, Control, Close, Plain}
 use Rattle.qs_machine.specs.Verdicts.{verdict}
 
--- Acknowledgements (RFC 9000, sections 13.2.1 and 13.3)
+-- Acknowledgements (RFC 9000, section 13.3)
 
 abbrev pub greatest : Option ℕ → ℕ → Option ℕ
 greatest None value = Some value
@@ -71,7 +71,7 @@ without_piece late k e =
       lost = if late then lost_less k e.lost else e.lost;
     }
 
--- The first piece of a packet is acknowledged and leaves the record (RFC 9000, sections 13.2.1 and 13.3).
+-- The first piece of a packet is acknowledged and leaves the record (RFC 9000, section 13.3).
 abbrev pub first_acked : AckedPiece → End → End
 first_acked a e = piece_acked a.piece (without_piece a.late a.number e)
 

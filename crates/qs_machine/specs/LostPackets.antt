@@ -1,4 +1,4 @@
--- What is kept of the packets that were declared lost: a late ACK may still name them (RFC 9000, sections 13.2.1 and 13.3, for the whole file).
+-- What is kept of the packets that were declared lost: a late ACK may still name them (RFC 9000, section 13.3, for the whole file).
 --     LostPackets        the pieces of the packets by number, and the order of their declaring
 --     lost_with k p l    packet k is lost with one piece more
 --     lost_less k l      the lost packet k lost its first piece

@@ -68,7 +68,7 @@ MakeStep old room answer text new = MakeAt (make_refusal old) old room answer te
 -- Losses (RFC 9000, section 13.3)
 
 -- The first piece of packet k is lost. It leaves the outstanding record, and so is due again if it is of use, and stands in the lost
--- record of that number, which a late ACK may name (RFC 9000, sections 13.2.1 and 13.3).
+-- record of that number, which a late ACK may name (RFC 9000, section 13.3).
 abbrev pub first_lost : ℕ → Piece → End → End
 first_lost k p e = record e { outstanding = without_first e.outstanding k (fmap.get e.outstanding k); lost = lost_with k p e.lost }
 

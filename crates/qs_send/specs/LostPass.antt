@@ -1,4 +1,4 @@
--- A late ACK is taken in by one pass over the lost records, from the highest number down (RFC 9000, sections 13.2.1 and 13.3).
+-- A late ACK is taken in by one pass over the lost records, from the highest number down (RFC 9000, section 13.3).
 --     count_below order n      how many numbers of the order are below n
 --     lost_ahead p l           how many turns the pass may still take
 --     IsNextLost l p answer q      the answer is the greatest lost number ahead, and no turn is lost
