@@ -35,7 +35,7 @@ pub enum Frame<'a> {
         offset: u64,
         bytes: &'a [u8],
     },
-    /// Section 19.7.
+    /// Section 19.7. An empty token is read, and a server reads it too: to refuse them is for the layer beneath.
     NewToken {
         bytes: &'a [u8],
     },
@@ -74,7 +74,7 @@ pub enum Frame<'a> {
         dir: Dir,
         count: u64,
     },
-    /// Section 19.15.
+    /// Section 19.15. That `retire` is at most `sequence` is for the layer beneath to check.
     NewConnectionId {
         sequence: u64,
         retire: u64,
@@ -107,7 +107,7 @@ pub enum Frame<'a> {
         code: u64,
         reason: &'a [u8],
     },
-    /// Section 19.20.
+    /// Section 19.20. A server reads it too: to refuse it is for the layer beneath.
     HandshakeDone,
 }
 
