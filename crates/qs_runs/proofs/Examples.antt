@@ -1,5 +1,5 @@
 -- The readers of a log compute.
-use Rattle.std.proofs.Common.{◌≡◌, ℕ, ◌∷◌, ◌++◌, [], take, refl, ap, ◌∙◌}
+use Rattle.std.proofs.Common.{◌≡◌, ℕ, ◌++◌, [], take, refl, ap}
 use Rattle.std.specs.Global.{Vec}
 use Rattle.qs_machine.specs.SmallEnds.{abc}
 use Rattle.qs_runs.specs.Logs.{own_calls, processed}
