@@ -15,6 +15,7 @@ import rust_lexer
 from align import Difference, align
 from kinds import Kind, read_kinds
 from messages import Unknown, with_messages
+from requires import with_tests
 
 AUDIT = Path(__file__).resolve().parent
 ROOT = AUDIT.parent.parent
@@ -67,7 +68,7 @@ def audit_text(source_text, made_text, listed, crate, names):
     """The differences between two texts, each as a kind with both its places, and both lists of tokens."""
     source_name, made_name = names
     try:
-        old = with_messages(rattle_lexer.tokens(source_text))
+        old = with_tests(with_messages(rattle_lexer.tokens(source_text)))
     except (rattle_lexer.LexError, Unknown) as error:
         raise Refused(f"{source_name}: {error}") from error
     try:
@@ -167,6 +168,7 @@ class Tally:
         self.counts = Counter()
         self.files = 0
         self.same = 0
+        self.tests = 0
         self.faults = []
 
     def add(self, used, old, new, name):
@@ -177,6 +179,7 @@ class Tally:
                 lines = [str(tokens[at][1]) if at < len(tokens) else "end" for tokens, at in ((old, old_at), (new, new_at))]
                 print(f"{name}: {kind.name}, line {lines[0]} there and {lines[1]} here")
         self.same += len(new)
+        self.tests += _words(new).count("debug_assert")
 
 
 def main(arguments):
@@ -199,6 +202,7 @@ def main(arguments):
             tally.faults.append(f"kinds.txt:{kind.line}: nothing is of the kind {kind.name}")
     for name, count in sorted(tally.counts.items(), key=lambda entry: (-entry[1], entry[0])):
         print(f"{count:6} {name}")
+    print(f"{tally.tests:6} tests of what contracts ask of numbers")
     for fault in tally.faults:
         print(fault)
     print(f"{tally.files} files, {tally.same} tokens of Rust, {sum(tally.counts.values())} differences of {len(tally.counts)} kinds")

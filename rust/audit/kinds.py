@@ -22,6 +22,11 @@ _RESERVED = {"ghost", "requires", "ensures"}
 _CRATE = re.compile(r"qs_[a-z]+\Z")
 
 
+def is_word(token):
+    """Whether a token is a name or a word of the language."""
+    return bool(_WORD.match(token))
+
+
 class Kind:
     """One line of the list."""
 
@@ -86,7 +91,8 @@ def end_of_group(tokens, at, opening):
     return None
 
 
-def _end_of_angles(tokens, at):
+def end_of_angles(tokens, at):
+    """The place behind the partner of the `<` that stands at a place, or None."""
     if at >= len(tokens) or tokens[at][0] != "<":
         return None
     depth = 0
@@ -157,7 +163,7 @@ def _end_of_element(element, tokens, at):
     if element == "**;":
         return _end_of_statement(tokens, at)
     if element == "<*>":
-        return _end_of_angles(tokens, at)
+        return end_of_angles(tokens, at)
     if len(element) == 3 and element[1] == "*" and element[0] in _PAIRS:
         return end_of_group(tokens, at, element[0])
     if at < len(tokens) and tokens[at][0] == element:

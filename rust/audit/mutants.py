@@ -3,6 +3,7 @@
 
     mutants.py [--seed S] [--count N]      the audit reads each changed text; no file is touched
     mutants.py .. --library                of the library's files alone
+    mutants.py .. --tests                  of the tests of what contracts ask of numbers alone
     mutants.py .. --run 'COMMAND'          each change is written into its file, the command is run in `rust/`, and the
                                            file is put back; told is how many changes the command failed on.
                                            For a copy of the repository.
@@ -72,12 +73,25 @@ def _statement(tokens, at):
     return None
 
 
+# The places of the tokens that may change: all of them, or those of the tests `debug_assert!(..);`.
+def _places(text, spans, only_tests):
+    if not only_tests:
+        return range(len(spans))
+    places, is_test = [], False
+    for at, (start, end, _line) in enumerate(spans):
+        is_test = is_test or text[start:end] == "debug_assert"
+        if is_test:
+            places.append(at)
+        is_test = is_test and text[start:end] != ";"
+    return places
+
+
 def mutant(files, draw):
     """A file, the text that a change makes of it, and the change in words. Each kind is as likely as any other."""
     kind = draw.choice([*_CHANGES, "statement"])
     while True:
-        made, folder, text, spans = draw.choice(files)
-        at = draw.randrange(len(spans))
+        made, folder, text, spans, places = draw.choice(files)
+        at = draw.choice(places)
         tokens = [text[start:end] for start, end, _line in spans]
         start, end, line = spans[at]
         if kind == "statement":
@@ -121,6 +135,7 @@ def main():
     parser.add_argument("--seed", type=int, default=1)
     parser.add_argument("--count", type=int, default=12)
     parser.add_argument("--library", action="store_true")
+    parser.add_argument("--tests", action="store_true")
     parser.add_argument("--run")
     options = parser.parse_args()
     draw = random.Random(options.seed)
@@ -132,7 +147,8 @@ def main():
         if options.library and folder != ROOT / FOLDERS[0]:
             continue
         spans = rust_lexer.spans(text)
-        files += [(made, folder, text, spans)] * ((len(spans) + 499) // 500)
+        places = _places(text, spans, options.tests)
+        files += [(made, folder, text, spans, places)] * ((len(places) + 499) // 500)
     refused, kinds = 0, Counter()
     for _ in range(options.count):
         made, folder, changed, kind, told = mutant(files, draw)

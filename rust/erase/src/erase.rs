@@ -2,6 +2,7 @@
 
 use crate::display;
 use crate::lex::{Kind, Token, tokens};
+use crate::require;
 
 /// Where a file stands: its crate, and what its paths mean.
 pub struct Place<'a> {
@@ -218,11 +219,43 @@ impl<'a> Eraser<'a> {
         }
         if body > end {
             let gap = if self.word(body) == "{" { " " } else { "" };
+            self.tests(at, end, body)?;
             let (start, end) = (self.tokens[end - 1].end, self.tokens[body].start);
             self.edits.push(edit(start, end, gap.to_owned()));
         }
         self.signature(at + 1, end)?;
         Ok(body)
+    }
+
+    /// What a contract asks of numbers stands as tests before the body.
+    fn tests(&mut self, at: usize, end: usize, body: usize) -> Erased<()> {
+        if self.word(body) != "{" {
+            return Ok(());
+        }
+        let mut first = at + 2;
+        while first < end && self.word(first) != "(" {
+            first += 1;
+        }
+        let params = require::params(self, first, self.close(first)?);
+        let line = self.line_start(self.tokens[at].start);
+        let text = &self.text[line..];
+        let indent = " ".repeat(text.len() - text.trim_start().len() + 4);
+        let mut clause = end;
+        let mut tests = String::new();
+        while clause < body {
+            let open = clause + 1 + usize::from(self.is_name(clause + 1));
+            let close = self.close(open)?;
+            if self.word(clause) == "requires" {
+                let words = self.words(open + 1, close);
+                for test in require::tests(&params, &words).unwrap_or_default() {
+                    tests += &format!("\n{indent}{test}");
+                }
+            }
+            clause = close + 1;
+        }
+        let after = self.tokens[body].end;
+        self.edits.push(edit(after, after, tests));
+        Ok(())
     }
 
     fn signature(&mut self, from: usize, to: usize) -> Erased<()> {

@@ -6,6 +6,7 @@
 mod display;
 mod erase;
 mod lex;
+mod require;
 #[cfg(test)]
 mod tests;
 

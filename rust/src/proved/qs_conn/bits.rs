@@ -97,6 +97,7 @@ impl Bits {
 
 /// A word with one of its bits set or cleared.
 fn with_bit(word: u64, bit: usize, is_set: bool) -> u64 {
+    debug_assert!(bit < 64);
     if is_set {
         word | (1 << bit)
     } else {
@@ -106,11 +107,13 @@ fn with_bit(word: u64, bit: usize, is_set: bool) -> u64 {
 
 /// A word with its bits from one on cleared.
 fn cut_at(word: u64, bit: usize) -> u64 {
+    debug_assert!(bit < 64);
     word & ((1 << bit) - 1)
 }
 
 /// The least bit that is set, from one on.
 fn lowest_bit(word: u64, from: usize) -> Option<usize> {
+    debug_assert!(from < 64);
     let rest = word >> from;
     if rest == 0 {
         return None;

@@ -177,6 +177,9 @@ pub(crate) fn is_uni(stream: StreamId) -> bool {
 
 // The limit that follows, where so much was taken of a window (RFC 9000, section 4.2).
 fn next_limit(limit: u64, taken: u64, window: u64) -> u64 {
+    debug_assert!(limit <= 0x3fff_ffff_ffff_ffff);
+    debug_assert!(taken <= 0x3fff_ffff_ffff_ffff);
+    debug_assert!(window <= 1 << 24);
     let next = (taken + window).min((1 << 62) - 1);
     let step = (window / 2).max(1);
     if limit + step <= next || (next == (1 << 62) - 1 && limit < next) {
@@ -188,6 +191,7 @@ fn next_limit(limit: u64, taken: u64, window: u64) -> u64 {
 
 // How many streams may be opened, where so many came to their end (RFC 9000, section 4.6).
 fn next_count(grant: u64, lifetime: u64, ended: u64) -> u64 {
+    debug_assert!(grant <= lifetime);
     grant + ended.min(lifetime - grant)
 }
 

@@ -22,6 +22,7 @@ pub(crate) struct Packet {
 /// Writes a frame behind the bytes that are there, and answers how many there are then. `None` where it doesn't fit; then nothing is
 /// written.
 fn put_frame(frame: &Frame<'_>, out: &mut [u8], len: usize) -> Option<usize> {
+    debug_assert!(len <= out.len());
     match put(frame, &mut out[len..]) {
         Ok(more) => Some(len + more),
         Err(_full) => None,
@@ -104,6 +105,7 @@ fn next_of_kind(
     kind: Kind,
     from: u64,
 ) -> Option<StreamId> {
+    debug_assert!(from <= 1 << 62);
     match kind {
         Kind::ResetStream => outbox.next_marked(Task::Reset, from),
         Kind::StreamDataBlocked => outbox.next_marked(Task::Blocked, from),
@@ -167,6 +169,7 @@ pub(crate) fn put_chunk(
     out: &mut [u8],
     len: usize,
 ) -> usize {
+    debug_assert!(len <= out.len());
     let frame = Frame::Stream {
         stream,
         offset: chunk.offset,
@@ -238,6 +241,7 @@ pub(crate) fn put_streams(
 
 /// Writes an ACK of the kept numbers at the slice's front, the highest ranges first and as many as fit, and answers its length.
 pub(crate) fn put_kept(done: &RangeSet, out: &mut [u8]) -> usize {
+    debug_assert!(25 <= out.len());
     let runs = done.pairs();
     let mut pairs = [(0, 0); 32];
     let highest = &mut pairs[..runs.len()];
@@ -251,6 +255,7 @@ pub(crate) fn put_kept(done: &RangeSet, out: &mut [u8]) -> usize {
 
 // Begins a packet with an ACK, if one is due.
 fn put_ack_if(done: &RangeSet, ack_due: bool, out: &mut [u8]) -> usize {
+    debug_assert!(25 <= out.len());
     if ack_due {
         return put_kept(done, out);
     }
@@ -267,6 +272,7 @@ pub(crate) fn fill(
     outbox: &mut Outbox,
     out: &mut [u8],
 ) -> usize {
+    debug_assert!(25 <= out.len());
     let len = put_ack_if(done, ack_due, out);
     let start = Packet {
         len,

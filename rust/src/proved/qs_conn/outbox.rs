@@ -73,6 +73,7 @@ impl Outbox {
 
     /// How many streams of a type are open.
     pub(crate) fn count_of(&self, kind: usize) -> usize {
+        debug_assert!(kind < 4);
         self.sends.count_of(kind)
     }
 
@@ -121,6 +122,7 @@ impl Outbox {
         buffer: usize,
         stream: StreamId,
     ) -> Result<(), NoMemory> {
+        debug_assert!(limit <= 0x3fff_ffff_ffff_ffff);
         self.sends.open_to(limit, buffer, stream)
     }
 
@@ -149,11 +151,13 @@ impl Outbox {
 
     /// Breaks an open stream off.
     pub(crate) fn reset(&mut self, stream: StreamId, code: u64) -> Result<(), SendFault> {
+        debug_assert!(code <= 0x3fff_ffff_ffff_ffff);
         self.sends.reset(stream, code)
     }
 
     /// Takes in that the peer allows the offsets of an open stream below a limit.
     pub(crate) fn allow(&mut self, stream: StreamId, limit: u64) {
+        debug_assert!(limit <= 0x3fff_ffff_ffff_ffff);
         self.sends.allow(stream, limit);
     }
 }

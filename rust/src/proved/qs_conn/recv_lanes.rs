@@ -66,6 +66,8 @@ impl RecvLanes {
         len: u64,
         fin: bool,
     ) -> Result<Highest, RecvFault> {
+        debug_assert!(1 <= window);
+        debug_assert!(window <= 1 << 20);
         if let Some(half) = self.halves.get(index) {
             half.check_stream(offset, len, fin)
         } else {
@@ -82,6 +84,8 @@ impl RecvLanes {
         offset: u64,
         bytes: &[u8],
     ) -> Result<(), RecvFault> {
+        debug_assert!(1 <= window);
+        debug_assert!(window <= 1 << 20);
         if let Some(half) = self.halves.get(index) {
             half.check_bytes(offset, bytes)
         } else {
@@ -97,6 +101,9 @@ impl RecvLanes {
         index: usize,
         size: u64,
     ) -> Result<Highest, RecvFault> {
+        debug_assert!(size <= 0x3fff_ffff_ffff_ffff);
+        debug_assert!(1 <= window);
+        debug_assert!(window <= 1 << 20);
         if let Some(half) = self.halves.get(index) {
             half.check_reset(size)
         } else {
@@ -107,6 +114,9 @@ impl RecvLanes {
 
     /// Opens the lanes of all indexes below a count.
     pub(crate) fn open_to(&mut self, window: u64, count: usize) -> Result<(), NoMemory> {
+        debug_assert!(1 <= window);
+        debug_assert!(window <= 1 << 20);
+        debug_assert!(count <= 1 << 60);
         let before = self.halves.len();
         let missing = count.saturating_sub(before);
         for _opened in 0..missing {
@@ -164,6 +174,7 @@ impl RecvLanes {
 
     /// Takes a reset that passed the check, at an open lane.
     pub(crate) fn take_reset(&mut self, index: usize, code: u64, size: u64) {
+        debug_assert!(size <= 0x3fff_ffff_ffff_ffff);
         let half = &mut self.halves[index];
         let was = measure(half);
         half.take_reset(code, size);
@@ -186,6 +197,7 @@ impl RecvLanes {
 
     /// Stops an open lane.
     pub(crate) fn stop(&mut self, index: usize, code: u64) {
+        debug_assert!(code <= 0x3fff_ffff_ffff_ffff);
         let half = &mut self.halves[index];
         let was = measure(half);
         half.stop(code);

@@ -43,6 +43,8 @@ impl RecvTables {
         len: u64,
         fin: bool,
     ) -> Result<Highest, RecvFault> {
+        debug_assert!(1 <= window);
+        debug_assert!(window <= 1 << 20);
         let lanes = &self.types[kind_of(stream)];
         lanes.check_stream(window, index_of(stream), offset, len, fin)
     }
@@ -55,6 +57,8 @@ impl RecvTables {
         offset: u64,
         bytes: &[u8],
     ) -> Result<(), RecvFault> {
+        debug_assert!(1 <= window);
+        debug_assert!(window <= 1 << 20);
         let lanes = &self.types[kind_of(stream)];
         lanes.check_bytes(window, index_of(stream), offset, bytes)
     }
@@ -66,6 +70,9 @@ impl RecvTables {
         stream: StreamId,
         size: u64,
     ) -> Result<Highest, RecvFault> {
+        debug_assert!(size <= 0x3fff_ffff_ffff_ffff);
+        debug_assert!(1 <= window);
+        debug_assert!(window <= 1 << 20);
         let lanes = &self.types[kind_of(stream)];
         lanes.check_reset(window, index_of(stream), size)
     }
@@ -77,6 +84,7 @@ impl RecvTables {
 
     /// How many streams of a type are open.
     pub(crate) fn count_of(&self, kind: usize) -> usize {
+        debug_assert!(kind < 4);
         let lanes = &self.types[kind];
         lanes.len()
     }
@@ -95,6 +103,8 @@ impl RecvTables {
 
     /// Opens a stream and all lower ones of its type.
     pub(crate) fn open_to(&mut self, window: u64, stream: StreamId) -> Result<(), NoMemory> {
+        debug_assert!(1 <= window);
+        debug_assert!(window <= 1 << 20);
         let lanes = &mut self.types[kind_of(stream)];
         lanes.open_to(window, index_of(stream) + 1)
     }
@@ -113,6 +123,7 @@ impl RecvTables {
 
     /// Takes a reset that passed the check, at an open stream.
     pub(crate) fn take_reset(&mut self, stream: StreamId, code: u64, size: u64) {
+        debug_assert!(size <= 0x3fff_ffff_ffff_ffff);
         let lanes = &mut self.types[kind_of(stream)];
         lanes.take_reset(index_of(stream), code, size);
     }
@@ -125,6 +136,7 @@ impl RecvTables {
 
     /// Stops an open stream.
     pub(crate) fn stop(&mut self, stream: StreamId, code: u64) {
+        debug_assert!(code <= 0x3fff_ffff_ffff_ffff);
         let lanes = &mut self.types[kind_of(stream)];
         lanes.stop(index_of(stream), code);
     }
@@ -163,6 +175,8 @@ impl RecvTables {
 
     /// The least number from one on of a stream of a type that may have a stop or a limit above `window` to tell.
     pub(crate) fn next_of(&self, kind: usize, window: u64, from: u64) -> Option<u64> {
+        debug_assert!(kind < 4);
+        debug_assert!(from <= 1 << 62);
         let lanes = &self.types[kind];
         let first = (from + 3 - kind as u64) / 4;
         let index = lanes.next_marked(first as usize, window)?;

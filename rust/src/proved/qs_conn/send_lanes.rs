@@ -43,6 +43,9 @@ impl SendLanes {
         buffer: usize,
         count: usize,
     ) -> Result<(), NoMemory> {
+        debug_assert!(kind < 4);
+        debug_assert!(limit <= 0x3fff_ffff_ffff_ffff);
+        debug_assert!(count <= 1 << 60);
         let before = self.halves.len();
         let missing = count.saturating_sub(before);
         for opened in 0..missing {
@@ -94,6 +97,7 @@ impl SendLanes {
 
     /// Breaks an open half off.
     pub(crate) fn reset(&mut self, index: usize, code: u64) -> Result<(), SendFault> {
+        debug_assert!(code <= 0x3fff_ffff_ffff_ffff);
         let half = &mut self.halves[index];
         let answer = half.reset(code);
         self.marks.look(index, half);
@@ -102,6 +106,7 @@ impl SendLanes {
 
     /// Takes in that the peer allows the offsets of an open half below a limit.
     pub(crate) fn allow(&mut self, index: usize, limit: u64) {
+        debug_assert!(limit <= 0x3fff_ffff_ffff_ffff);
         let half = &mut self.halves[index];
         half.allow(limit);
         self.marks.look(index, half);

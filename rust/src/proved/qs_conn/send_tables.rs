@@ -47,6 +47,7 @@ impl SendTables {
 
     /// How many streams of a type are open.
     pub(crate) fn count_of(&self, kind: usize) -> usize {
+        debug_assert!(kind < 4);
         let lanes = &self.types[kind];
         lanes.len()
     }
@@ -58,6 +59,7 @@ impl SendTables {
         buffer: usize,
         stream: StreamId,
     ) -> Result<(), NoMemory> {
+        debug_assert!(limit <= 0x3fff_ffff_ffff_ffff);
         let lanes = &mut self.types[kind_of(stream)];
         lanes.open_to(kind_of(stream) as u64, limit, buffer, index_of(stream) + 1)
     }
@@ -88,12 +90,14 @@ impl SendTables {
 
     /// Breaks an open stream off.
     pub(crate) fn reset(&mut self, stream: StreamId, code: u64) -> Result<(), SendFault> {
+        debug_assert!(code <= 0x3fff_ffff_ffff_ffff);
         let lanes = &mut self.types[kind_of(stream)];
         lanes.reset(index_of(stream), code)
     }
 
     /// Takes in that the peer allows the offsets of an open stream below a limit.
     pub(crate) fn allow(&mut self, stream: StreamId, limit: u64) {
+        debug_assert!(limit <= 0x3fff_ffff_ffff_ffff);
         let lanes = &mut self.types[kind_of(stream)];
         lanes.allow(index_of(stream), limit);
     }
@@ -130,6 +134,7 @@ impl SendTables {
 
     /// The least number from one on of a stream that may have a task. The halves of the streams between are quiet of it.
     pub(crate) fn next_marked(&self, task: Task, from: u64) -> Option<StreamId> {
+        debug_assert!(from <= 1 << 62);
         let bidi = least(self.next_of(task, 0, from), self.next_of(task, 1, from));
         let uni = least(self.next_of(task, 2, from), self.next_of(task, 3, from));
         StreamId::new(least(bidi, uni)?)
@@ -137,6 +142,8 @@ impl SendTables {
 
     // The least such number among the streams of a type.
     fn next_of(&self, task: Task, kind: usize, from: u64) -> Option<u64> {
+        debug_assert!(kind < 4);
+        debug_assert!(from <= 1 << 62);
         let lanes = &self.types[kind];
         let first = (from + 3 - kind as u64) / 4;
         let index = lanes.next_marked(task, first as usize)?;

@@ -87,6 +87,7 @@ impl Terms {
 
     /// The least number from one on of a stream that may have a stop or a raised limit to tell.
     pub(crate) fn next_receiving(&self, recvs: &RecvTables, from: u64) -> Option<StreamId> {
+        debug_assert!(from <= 1 << 62);
         let bidi = least(self.next_of(recvs, 0, from), self.next_of(recvs, 1, from));
         let uni = least(self.next_of(recvs, 2, from), self.next_of(recvs, 3, from));
         StreamId::new(least(bidi, uni)?)
@@ -94,6 +95,8 @@ impl Terms {
 
     // The least such number among the streams of a type.
     fn next_of(&self, recvs: &RecvTables, kind: usize, from: u64) -> Option<u64> {
+        debug_assert!(kind < 4);
+        debug_assert!(from <= 1 << 62);
         let any_of_the_type = StreamId::new(kind as u64).unwrap();
         recvs.next_of(kind, self.window(any_of_the_type), from)
     }

@@ -40,6 +40,8 @@ impl RangeSet {
     ///
     /// It takes constant time at or past the end of the set, and elsewhere a search and one move of the runs behind.
     pub fn insert(&mut self, lo: u64, hi: u64) -> Result<(), NoMemory> {
+        debug_assert!(lo <= hi);
+        debug_assert!(hi <= 1 << 62);
         if lo == hi {
             return Ok(());
         }
@@ -56,6 +58,8 @@ impl RangeSet {
 
     /// Takes out the numbers from `lo` on and below `hi`; an empty range changes nothing. `NoMemory` leaves the set as it was.
     pub fn remove(&mut self, lo: u64, hi: u64) -> Result<(), NoMemory> {
+        debug_assert!(lo <= hi);
+        debug_assert!(hi <= 1 << 62);
         if lo == hi {
             return Ok(());
         }
@@ -150,6 +154,7 @@ impl RangeSet {
 
 // The places of the runs that end at `low` or later and start below `high`: with no search where the last run or the first decides.
 fn span_of(runs: &[(u64, u64)], low: u64, high: u64) -> (usize, usize) {
+    debug_assert!(low <= high);
     if let Some(&(start, end)) = runs.last() {
         if end < low {
             return (runs.len(), runs.len());
@@ -170,6 +175,7 @@ fn span_of(runs: &[(u64, u64)], low: u64, high: u64) -> (usize, usize) {
 }
 
 fn search_span(runs: &[(u64, u64)], low: u64, high: u64) -> (usize, usize) {
+    debug_assert!(low <= high);
     let from = runs.partition_point(|run| run.1 < low);
     let to = runs.partition_point(|run| run.0 < high);
     (from, to)
@@ -177,12 +183,14 @@ fn search_span(runs: &[(u64, u64)], low: u64, high: u64) -> (usize, usize) {
 
 // Puts `run` in the place of the runs from `from` on and before `to`.
 fn replace(runs: &mut Vec<(u64, u64)>, from: usize, to: usize, run: (u64, u64)) {
+    debug_assert!(from < to);
     runs[from] = run;
     take_out(runs, from + 1, to);
 }
 
 // Takes out the runs from `from` on and before `to`, by one move of those behind.
 fn take_out(runs: &mut Vec<(u64, u64)>, from: usize, to: usize) {
+    debug_assert!(from <= to);
     if from < to {
         let kept = runs.len() - (to - from);
         runs.copy_within(to.., from);
@@ -198,6 +206,7 @@ fn split(
     left: (u64, u64),
     right: (u64, u64),
 ) -> Result<(), NoMemory> {
+    debug_assert!(from < to);
     if from + 1 == to {
         runs.insert(to, right)?;
         runs[from] = left;

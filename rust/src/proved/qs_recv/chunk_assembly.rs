@@ -19,6 +19,7 @@ pub struct ChunkAssembly {
 impl ChunkAssembly {
     // Takes bytes out of the first chunk, where it is next.
     fn take_first(&mut self, into: &mut [u8]) -> usize {
+        debug_assert!(0 < into.len());
         if !self.chunks.begins_at(self.read_count) {
             return 0;
         }
@@ -91,6 +92,8 @@ impl Assembly for ChunkAssembly {
 // Notes the offsets from `lo` on and below `hi`. Memory is taken only where there are some, and none of them or beside
 // them came before.
 fn note(received: &mut RangeSet, lo: u64, hi: u64) -> Result<(), NoMemory> {
+    debug_assert!(lo <= hi);
+    debug_assert!(hi <= 0x3fff_ffff_ffff_ffff);
     if lo == hi {
         return Ok(());
     }
@@ -106,6 +109,8 @@ fn place(
     spot: Spot,
     bytes: &[u8],
 ) -> Result<(), NoMemory> {
+    debug_assert!(offset <= end);
+    debug_assert!(end <= 0x3fff_ffff_ffff_ffff);
     if spot.first == spot.after {
         return add(chunks, received, offset, end, spot, bytes);
     }
@@ -122,6 +127,8 @@ fn add(
     spot: Spot,
     bytes: &[u8],
 ) -> Result<(), NoMemory> {
+    debug_assert!(offset <= end);
+    debug_assert!(end <= 0x3fff_ffff_ffff_ffff);
     if spot.joins {
         chunks.extend(spot, bytes)?;
         if let Err(error) = received.insert(offset, end) {

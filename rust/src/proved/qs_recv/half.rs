@@ -65,6 +65,8 @@ pub struct RecvHalf<A: Assembly> {
 impl<A: Assembly> RecvHalf<A> {
     /// A half that grants `window` bytes beyond what was taken. It takes no memory.
     pub fn new(alloc: Global, window: u64) -> Self {
+        debug_assert!(1 <= window);
+        debug_assert!(window <= 1 << 20);
         RecvHalf {
             assembly: A::new(alloc, window),
             window,
@@ -127,6 +129,7 @@ impl<A: Assembly> RecvHalf<A> {
 
     /// Whether a RESET_STREAM frame that names this final size may be taken.
     pub fn check_reset(&self, size: u64) -> Result<Highest, RecvFault> {
+        debug_assert!(size <= 0x3fff_ffff_ffff_ffff);
         if self.breaks_final_size(size, 0, true) {
             return Err(RecvFault::FinalSize);
         }
@@ -142,6 +145,7 @@ impl<A: Assembly> RecvHalf<A> {
     /// Takes a RESET_STREAM frame that passed the check: what is stored is thrown away. Once all data came, or after
     /// another reset, nothing changes.
     pub fn take_reset(&mut self, code: u64, size: u64) {
+        debug_assert!(size <= 0x3fff_ffff_ffff_ffff);
         if self.reset_code.is_some() || self.is_whole() {
             return;
         }
@@ -178,6 +182,7 @@ impl<A: Assembly> RecvHalf<A> {
     /// Throws the stored bytes away, and those that come from now on (section 3.5). The first code stays;
     /// a code is at most 2^62 - 1, so that a frame can tell it.
     pub fn stop(&mut self, code: u64) {
+        debug_assert!(code <= 0x3fff_ffff_ffff_ffff);
         if self.stop_code.is_none() {
             self.assembly.discard();
             self.stop_code = Some(code);

@@ -40,6 +40,8 @@ pub fn replay<A: Assembly>(
     window: u64,
     steps: &[Step],
 ) -> Result<(A, Vec<Shown>), NoMemory> {
+    debug_assert!(1 <= window);
+    debug_assert!(window <= 1 << 20);
     let mut player: Player<A> = Player::new(alloc, window);
     let mut shown = Vec::with_capacity(alloc, steps.len())?;
     for step in steps {
@@ -62,6 +64,8 @@ struct Player<A: Assembly> {
 impl<A: Assembly> Player<A> {
     // An assembly to which nothing came.
     fn new(alloc: Global, window: u64) -> Self {
+        debug_assert!(1 <= window);
+        debug_assert!(window <= 1 << 20);
         Player {
             alloc,
             assembly: A::new(alloc, window),

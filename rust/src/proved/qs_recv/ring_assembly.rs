@@ -91,6 +91,7 @@ impl Assembly for RingAssembly {
 
 // Takes the memory of the ring, where it isn't there.
 fn make_ring(ring: &mut Vec<u8>, window: u64) -> Result<(), NoMemory> {
+    debug_assert!(window <= 1 << 20);
     ring.resize(window as usize, 0)?;
     Ok(())
 }
@@ -98,6 +99,7 @@ fn make_ring(ring: &mut Vec<u8>, window: u64) -> Result<(), NoMemory> {
 // Writes the bytes at offsets that didn't come before to their places, and answers how many these are. `first` is the
 // first such offset.
 fn fill_gaps(ring: &mut [u8], received: &RangeSet, first: u64, offset: u64, bytes: &[u8]) -> u64 {
+    debug_assert!(offset <= first);
     let end = offset + bytes.len() as u64;
     let mut at = first;
     let mut count = 0;
@@ -116,6 +118,7 @@ fn fill_gaps(ring: &mut [u8], received: &RangeSet, first: u64, offset: u64, byte
 
 // Where the next offsets from `at` on that came begin, and where the gap behind them does: both at most at the end.
 fn next_run(received: &RangeSet, at: u64, end: u64) -> (u64, u64) {
+    debug_assert!(at < end);
     match received.run_from(at) {
         Some((start, after)) if start < end => (start, after.min(end)),
         _ => (end, end),
@@ -124,6 +127,8 @@ fn next_run(received: &RangeSet, at: u64, end: u64) -> (u64, u64) {
 
 // Writes bytes to the places of the offsets from `at` on, in two pieces where these wrap.
 fn copy_in(ring: &mut [u8], at: u64, bytes: &[u8]) {
+    debug_assert!(0 < ring.len());
+    debug_assert!(bytes.len() <= ring.len());
     let place = (at % ring.len() as u64) as usize;
     let room = ring.len() - place;
     if bytes.len() <= room {
@@ -142,6 +147,7 @@ fn write_at(into: &mut [u8], place: usize, bytes: &[u8]) {
 
 // Copies the bytes of the offsets from `at` on out, in two pieces where their places wrap.
 fn copy_out(ring: &[u8], at: u64, into: &mut [u8]) {
+    debug_assert!(into.len() <= ring.len());
     let len = into.len();
     if len == 0 {
         return;
@@ -158,6 +164,7 @@ fn copy_out(ring: &[u8], at: u64, into: &mut [u8]) {
 
 // Whether the bytes at those offsets from `start` on that came are the ones at their places.
 fn is_in_ring(ring: &[u8], received: &RangeSet, start: u64, offset: u64, bytes: &[u8]) -> bool {
+    debug_assert!(offset <= start);
     let end = offset + bytes.len() as u64;
     let mut at = start;
     while at < end {
@@ -173,6 +180,7 @@ fn is_in_ring(ring: &[u8], received: &RangeSet, start: u64, offset: u64, bytes: 
 
 // Whether bytes are the ones at the places of the offsets from `at` on, in two pieces where these wrap.
 fn are_at(ring: &[u8], at: u64, bytes: &[u8]) -> bool {
+    debug_assert!(bytes.len() <= ring.len());
     let len = bytes.len();
     if len == 0 {
         return true;

@@ -4,6 +4,7 @@
 /// The greatest count of bytes, at most `most`, that fits into the room together with the count's own
 /// shortest spelling. 0 where none does.
 pub fn longest_fit(room: usize, most: u64) -> u64 {
+    debug_assert!(most < 1 << 62);
     let room = room as u64;
     let one = room.saturating_sub(1).min(0x3f);
     let two = room.saturating_sub(2).min(0x3fff);

@@ -41,6 +41,7 @@ impl SendHalf {
     /// A half in the state Ready, which may send the offsets below `limit` and keeps at most `buffer`
     /// bytes. It takes no memory yet.
     pub fn new(alloc: Global, id: StreamId, limit: u64, buffer: usize) -> Self {
+        debug_assert!(limit <= 0x3fff_ffff_ffff_ffff);
         let _number = id.value();
         Self {
             id,
@@ -117,6 +118,7 @@ impl SendHalf {
     ///
     /// Refused, and then unchanged: `WasReset` after another reset, else `Finished` in Data Recvd.
     pub fn reset(&mut self, code: u64) -> Result<(), SendFault> {
+        debug_assert!(code <= 0x3fff_ffff_ffff_ffff);
         if self.was_reset.is_some() {
             return Err(SendFault::WasReset);
         }
@@ -133,12 +135,14 @@ impl SendHalf {
     /// Takes in a STOP_SENDING: a reset with its code, where one can still be made (RFC 9000, section
     /// 3.5).
     pub fn stopped(&mut self, code: u64) {
+        debug_assert!(code <= 0x3fff_ffff_ffff_ffff);
         let _ = self.reset(code);
     }
 
     /// Takes in that the peer allows the offsets below `limit`. A limit that is no higher changes nothing
     /// (RFC 9000, section 4.1).
     pub fn allow(&mut self, limit: u64) {
+        debug_assert!(limit <= 0x3fff_ffff_ffff_ffff);
         self.limit = self.limit.max(limit);
     }
 

@@ -15,6 +15,7 @@ pub struct AckRanges<'a> {
 impl<'a> AckRanges<'a> {
     /// The ranges below a frame's largest number.
     pub fn new(largest: u64, ranges: &'a [u8]) -> AckRanges<'a> {
+        debug_assert!(largest < 1 << 62);
         AckRanges {
             largest,
             rest: ranges,
@@ -42,12 +43,14 @@ impl<'a> AckRanges<'a> {
 
 /// The two numbers that spell a range below the range that begins at a number.
 fn gap_and_length(above: u64, pair: (u64, u64)) -> (u64, u64) {
+    debug_assert!(above <= 1 << 62);
     let (start, end) = pair;
     (above - end - 1, end - 1 - start)
 }
 
 /// How many of the ranges below a number fit the room, and how many bytes they take.
 fn ranges_within(smallest: u64, pairs: &[(u64, u64)], room: usize) -> (usize, usize) {
+    debug_assert!(smallest <= 1 << 62);
     let mut above = smallest;
     let mut count = 0;
     let mut len = 0;
@@ -66,6 +69,7 @@ fn ranges_within(smallest: u64, pairs: &[(u64, u64)], room: usize) -> (usize, us
 
 /// Writes the ranges below a number, at a place.
 fn put_ranges(smallest: u64, pairs: &[(u64, u64)], at: usize, out: &mut [u8]) {
+    debug_assert!(smallest <= 1 << 62);
     let mut above = smallest;
     let mut next = at;
     for pair in pairs {

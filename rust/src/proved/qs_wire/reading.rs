@@ -16,6 +16,7 @@ pub(crate) struct Broken {
 
 /// Whether ranges that begin at a number fall below zero.
 fn falls_below_zero(largest: u64, numbers: &[u8]) -> bool {
+    debug_assert!(largest < 1 << 62);
     let mut left = largest + 1;
     let mut rest = numbers;
     while let Some((value, len)) = read_varint(rest) {

@@ -33,6 +33,7 @@ impl StreamId {
 
     /// The stream of a number that a payload spells.
     pub(crate) fn of_varint(value: u64) -> StreamId {
+        debug_assert!(value < 1 << 62);
         StreamId { value }
     }
 

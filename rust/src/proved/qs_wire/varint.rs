@@ -31,6 +31,7 @@ fn parse(bytes: &[u8]) -> Option<(u64, usize)> {
 
 /// How many bytes the shortest spelling takes.
 pub fn varint_len(value: u64) -> usize {
+    debug_assert!(value < 1 << 62);
     match value {
         0..=0x3f => 1,
         0x40..=0x3fff => 2,
@@ -55,6 +56,7 @@ pub fn write_varint(value: u64, out: &mut [u8]) -> Option<usize> {
 
 /// Writes the shortest spelling at the front.
 pub(crate) fn spell(value: u64, out: &mut [u8]) {
+    debug_assert!(value < 1 << 62);
     match varint_len(value) {
         1 => out[0] = value as u8,
         2 => BigEndian::write_u16(out, 0x4000 + value as u16),

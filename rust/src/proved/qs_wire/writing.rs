@@ -58,6 +58,7 @@ impl<'a> Part<'a> {
 
 /// Writes a number at a place, and answers the place after it.
 pub(crate) fn put_number(value: u64, at: usize, out: &mut [u8]) -> usize {
+    debug_assert!(value < 1 << 62);
     spell(value, &mut out[at..]);
     at + varint_len(value)
 }
@@ -71,6 +72,7 @@ fn put_bytes(bytes: &[u8], at: usize, out: &mut [u8]) -> usize {
 
 /// Writes bytes behind their count at a place, and answers the place after them.
 fn put_counted(bytes: &[u8], at: usize, out: &mut [u8]) -> usize {
+    debug_assert!(bytes.len() < 1 << 62);
     let next = put_number(bytes.len() as u64, at, out);
     put_bytes(bytes, next, out)
 }
@@ -252,6 +254,7 @@ fn parts_of<'a>(frame: &Frame<'a>) -> [Part<'a>; 5] {
 }
 
 fn number_if<'a>(there: bool, value: u64) -> Part<'a> {
+    debug_assert!(value < 1 << 62);
     if there {
         Part::Number(value)
     } else {

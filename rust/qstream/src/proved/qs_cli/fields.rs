@@ -123,6 +123,7 @@ fn ack_fields<'a>(
     ranges: &'a [u8],
     ecn: Option<EcnCounts>,
 ) -> [Field<'a>; 4] {
+    debug_assert!(largest < 1 << 62);
     let largest = Largest::new(largest);
     let counts = match ecn {
         Some(counts) => Field::Ecn("ecn", counts),

@@ -9,6 +9,7 @@ pub struct Largest {
 
 impl Largest {
     pub fn new(number: u64) -> Largest {
+        debug_assert!(number < 1 << 62);
         Largest { number }
     }
 

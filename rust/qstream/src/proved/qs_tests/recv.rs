@@ -159,6 +159,8 @@ fn played_on<A: Assembly>(mut half: RecvHalf<A>, steps: &[Step]) -> usize {
 
 // The same over each kind of assembly: the fewest of them.
 fn played(alloc: Global, window: u64, steps: &[Step]) -> usize {
+    debug_assert!(1 <= window);
+    debug_assert!(window <= 1 << 20);
     let chunks: RecvHalf<ChunkAssembly> = RecvHalf::new(alloc, window);
     let ring: RecvHalf<RingAssembly> = RecvHalf::new(alloc, window);
     played_on(chunks, steps).min(played_on(ring, steps))

@@ -41,6 +41,7 @@ impl Kind {
 
 /// The generator's next word modulo a count.
 pub(crate) fn draw(words: &mut Lcg64Xsh32, count: u64) -> u64 {
+    debug_assert!(0 < count);
     u64::from(words.next_word()) % count
 }
 

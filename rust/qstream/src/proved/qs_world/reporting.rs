@@ -87,6 +87,7 @@ fn push_index(
     b: &Endpoint,
     index: u64,
 ) -> Result<(), AllocError> {
+    debug_assert!(index < 1 << 60);
     for kind in 0..4 {
         let stream = StreamId::new(index * 4 + kind).unwrap();
         push_stream(lanes, a, b, stream)?;

@@ -96,6 +96,7 @@ pub fn parse_script(alloc: Global, script: &[u8]) -> Result<Vec<Event>, ScriptFa
 
 /// The first line of a text that isn't empty, without its end, and what follows it.
 fn split_line(text: &[u8]) -> (&[u8], &[u8]) {
+    debug_assert!(0 < text.len());
     match line_feed(text) {
         Some(place) => {
             let (line, rest) = text.split_at(place);

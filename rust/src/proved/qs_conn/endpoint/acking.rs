@@ -17,6 +17,7 @@ pub(super) fn ack_ranges(
     largest: u64,
     ranges: &[u8],
 ) -> Result<(), NoMemory> {
+    debug_assert!(largest < 1 << 62);
     ack_outstanding(outbox, role, recvs, ended, AckRanges::new(largest, ranges))?;
     ack_lost(outbox, role, recvs, ended, AckRanges::new(largest, ranges))
 }

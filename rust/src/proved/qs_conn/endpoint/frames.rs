@@ -80,6 +80,7 @@ impl Endpoint {
     }
 
     fn reset_fault(&self, stream: StreamId, size: u64) -> Option<u64> {
+        debug_assert!(size <= 0x3fff_ffff_ffff_ffff);
         if let Some(code) = self.state_fault_in(stream) {
             return Some(code);
         }

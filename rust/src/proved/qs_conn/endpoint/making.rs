@@ -15,6 +15,8 @@ impl Endpoint {
     ///
     /// Refused, and then unchanged: `Closed`; `Exhausted` where the last packet number was used; `NoMemory` where memory was refused.
     pub fn make_packet(&mut self, out: &mut [u8]) -> Result<Option<Made>, MakeFault> {
+        debug_assert!(128 <= out.len());
+        debug_assert!(out.len() <= 16383);
         if self.closed.is_some() {
             return Err(MakeFault::Closed);
         }

@@ -122,6 +122,7 @@ impl Endpoint {
 
     // How many streams of a type are open.
     fn opened_count(&self, kind: usize) -> usize {
+        debug_assert!(kind < 4);
         self.outbox.count_of(kind).max(self.recvs.count_of(kind))
     }
 
@@ -149,6 +150,7 @@ fn open_sends(
     buffer: usize,
     stream: StreamId,
 ) -> Result<(), NoMemory> {
+    debug_assert!(limit <= 0x3fff_ffff_ffff_ffff);
     if absent {
         return Ok(());
     }
@@ -161,6 +163,8 @@ fn open_recvs(
     window: u64,
     stream: StreamId,
 ) -> Result<(), NoMemory> {
+    debug_assert!(1 <= window);
+    debug_assert!(window <= 1 << 20);
     if absent {
         return Ok(());
     }

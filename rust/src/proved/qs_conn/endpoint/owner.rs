@@ -47,6 +47,7 @@ impl Endpoint {
     ///
     /// Refused, and then unchanged: as `write` is; `Finished` only once all was acknowledged.
     pub fn reset(&mut self, stream: StreamId, code: u64) -> Result<(), UseFault> {
+        debug_assert!(code < 1 << 62);
         if let Some(fault) = self.no_sender(stream) {
             return Err(fault);
         }
@@ -79,6 +80,7 @@ impl Endpoint {
     ///
     /// Refused as `read` is.
     pub fn stop(&mut self, stream: StreamId, code: u64) -> Result<(), UseFault> {
+        debug_assert!(code < 1 << 62);
         if let Some(fault) = self.no_receiver(stream) {
             return Err(fault);
         }

@@ -30,6 +30,7 @@ impl Endpoint {
     ///
     /// An end that is closed answers as it did when it closed, and nothing changes.
     pub fn receive(&mut self, number: u64, payload: &[u8]) -> Result<Received, Closing> {
+        debug_assert!(number < 1 << 62);
         match self.closed {
             Some(Closed::ByUs(closing)) => return Err(closing),
             Some(Closed::ByPeer(code)) => return Ok(Received::PeerClosed(code)),
@@ -48,6 +49,7 @@ impl Endpoint {
 
     // The frames of a payload take effect, one after the other, as far as they may.
     fn take_payload(&mut self, number: u64, payload: &[u8]) -> Result<Received, Closing> {
+        debug_assert!(number < 1 << 62);
         let mut frames = Frames::new(payload);
         let mut asks = false;
         loop {
@@ -79,6 +81,7 @@ impl Endpoint {
 
     // No frame is left.
     fn record_all(&mut self, number: u64, asks: bool) -> Received {
+        debug_assert!(number < 1 << 62);
         if let Err(_refused) = self.record(number, asks) {
             return Received::NoMemory;
         }
@@ -87,6 +90,7 @@ impl Endpoint {
 
     // This end closes for a frame that has a fault.
     fn close_at(&mut self, placed: &Placed<'_>, code: u64) -> Closing {
+        debug_assert!(code < 1 << 62);
         let closing = Closing {
             code,
             frame_type: placed.frame_type,

@@ -10,6 +10,7 @@ const MAX_RUNS: usize = 32;
 impl Endpoint {
     // A packet's number is kept once all its frames took effect (RFC 9000, section 13.2.3); or nothing changes.
     pub(super) fn record(&mut self, number: u64, asks: bool) -> Result<(), NoMemory> {
+        debug_assert!(number < 1 << 62);
         self.done.insert(number, number + 1)?;
         self.floor = trim(&mut self.done, self.floor);
         self.ack_due = either(self.ack_due, asks);

@@ -55,6 +55,7 @@ impl Endpoint {
 
     // The packets that an ACK names are acknowledged, also those that were declared lost (RFC 9000, sections 13.2.1 and 13.3).
     fn take_ack(&mut self, largest: u64, ranges: &[u8]) -> Result<(), NoMemory> {
+        debug_assert!(largest < 1 << 62);
         let (role, recvs) = (self.role, &self.recvs);
         ack_ranges(
             &mut self.outbox,
@@ -68,6 +69,7 @@ impl Endpoint {
 
     // The peer allows so many streams of a direction.
     fn allow_streams(&mut self, dir: Dir, count: u64) {
+        debug_assert!(count <= 1 << 60);
         match dir {
             Dir::Bidi => self.known_bidi = self.known_bidi.max(count),
             Dir::Uni => self.known_uni = self.known_uni.max(count),
@@ -76,6 +78,7 @@ impl Endpoint {
 
     // The peer allows the offsets of a stream below a limit.
     fn allow(&mut self, stream: StreamId, maximum: u64) -> Result<(), NoMemory> {
+        debug_assert!(maximum <= 0x3fff_ffff_ffff_ffff);
         self.open_by_peer(stream)?;
         self.outbox.allow(stream, maximum);
         Ok(())
@@ -83,6 +86,7 @@ impl Endpoint {
 
     // The peer reads a stream no more.
     fn stopped(&mut self, stream: StreamId, code: u64) -> Result<(), NoMemory> {
+        debug_assert!(code <= 0x3fff_ffff_ffff_ffff);
         self.open_by_peer(stream)?;
         let _ = self.outbox.reset(stream, code);
         Ok(())
@@ -90,6 +94,7 @@ impl Endpoint {
 
     // The peer broke a stream off.
     fn take_reset(&mut self, stream: StreamId, code: u64, size: u64) -> Result<(), NoMemory> {
+        debug_assert!(size <= 0x3fff_ffff_ffff_ffff);
         let _granted = self.granted;
         self.open_by_peer(stream)?;
         self.recvs.take_reset(stream, code, size);

@@ -70,6 +70,7 @@ impl Outbox {
 
     /// The least number from one on of a stream that may have a task. The streams between have none of it.
     pub(crate) fn next_marked(&self, task: Task, from: u64) -> Option<StreamId> {
+        debug_assert!(from <= 1 << 62);
         let _next = self.next;
         self.sends.next_marked(task, from)
     }

@@ -118,6 +118,7 @@ impl SendHalf {
 
     // The length of a frame's type, stream and offset.
     fn head_len(&self, offset: u64) -> usize {
+        debug_assert!(offset <= 0x3fff_ffff_ffff_ffff);
         let id_len = varint_len(self.id.value());
         if offset == 0 {
             1 + id_len

@@ -62,6 +62,7 @@ pub(super) fn made<T>(new: &mut Result<T, SetupFault>) -> Result<&mut T, SetupFa
 }
 
 pub(super) fn receive(end: &mut Endpoint, number: u64, payload: &[u8]) -> Result<Received, Closing> {
+    debug_assert!(number < 1 << 62);
     let first = end.receive(number, payload);
     if first == Ok(Received::NoMemory) {
         return end.receive(number, payload);

@@ -56,6 +56,7 @@ struct Limits {
 
 /// A number below the count, which isn't 0.
 fn draw(words: &mut Lcg64Xsh32, count: u64) -> u64 {
+    debug_assert!(0 < count);
     u64::from(words.next_word()) % count
 }
 

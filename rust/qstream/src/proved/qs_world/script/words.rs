@@ -88,6 +88,7 @@ fn are_digits(word: &[u8]) -> bool {
 
 /// The number that digits write.
 fn decimal(digits: &[u8]) -> u64 {
+    debug_assert!(digits.len() <= 19);
     let mut number = 0;
     for digit in digits {
         number = number * 10 + u64::from(*digit - b'0');

@@ -52,6 +52,7 @@ fn happen_at(
 
 // The payload that one end made under that number comes to the other.
 fn deliver(log: &Log, from: Side, to: &mut Endpoint, number: u64) -> Result<Received, Closing> {
+    debug_assert!(number < 1 << 62);
     let Some(text) = log.payload(from, number) else {
         unreachable!()
     };
