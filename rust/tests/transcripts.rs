@@ -1,6 +1,6 @@
 //! Random scripts of `qstream random`, played over this crate's ends, print what `qstream play` prints.
 //!
-//! The program is the proved one where it is built (`./qstream` builds it), or the one of `rust/qstream`; the variable
+//! The program is the proved one where it stands (`./qstream build` builds it), else the one of `rust/qstream`; the variable
 //! QSTREAM names another. Where there is none the test tells so and does nothing.
 
 mod support;
@@ -13,19 +13,12 @@ use support::Player;
 const SCRIPTS: u64 = 500;
 
 fn program() -> Option<PathBuf> {
-    if let Some(named) = std::env::var_os("QSTREAM") {
-        return Some(named.into());
-    }
     let here = Path::new(env!("CARGO_MANIFEST_DIR"));
-    let places = [
-        "../crates/qs_tool/out/qs_tool",
-        "target/release/qstream",
-        "target/debug/qstream",
-    ];
-    places
-        .iter()
-        .map(|place| here.join(place))
-        .find(|place| place.is_file())
+    let made = ["target/release/qstream", "target/debug/qstream"].map(|place| here.join(place));
+    let proved = support::program::proved();
+    proved
+        .ok()
+        .or(made.into_iter().find(|place| place.is_file()))
 }
 
 fn printed(program: &Path, words: &[&str]) -> String {

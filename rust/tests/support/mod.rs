@@ -1,6 +1,8 @@
 //! What the tests share: random numbers, and scripts (docs/SCRIPTS.md) that are played over two ends.
 #![allow(dead_code)]
 
+pub mod program;
+
 use gotsavena::{
     Dir, Endpoint, LostFault, Made, MakeFault, OpenFault, Read, ReceiveFault, Received, Role,
     SendState, Settings, StreamId, UseFault,
