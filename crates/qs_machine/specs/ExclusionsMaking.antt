@@ -147,7 +147,7 @@ pub record NoSuchLoss : Type 0 where
   pub known : (new : End) → LoseStep two_flying 0 (Err losing.NotOutstanding) new → ⊥
   -- as done, where a piece stays in flight
   pub in_part : (new : End) → LoseStep two_flying 0 (Ok tt) new → IsCarried new.outstanding (Data 0 (chunk 0 3 false)) → ⊥
-  -- as done, where a late ACK finds no piece (section 13.2.1)
+  -- as done, where a late ACK finds no piece (section 13.3)
   pub not_kept : (new : End) → LoseStep one_flying 0 (Ok tt) new → fmap.get new.lost.pieces 0 ≡ None → ⊥
   -- for want of memory, where all is lost
   pub whole : (new : End) → LoseStep two_flying 0 (Err losing.NoMemory) new → fmap.get new.outstanding 0 ≡ None → ⊥
