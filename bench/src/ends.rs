@@ -1,0 +1,148 @@
+//! Two ends in one process, and what the rows do with them.
+
+use gotsavena::{Dir, Endpoint, Made, Read, Role, Settings, StreamId};
+
+/// What a row of the whole loop asks for.
+#[derive(Clone, Copy)]
+pub struct Load {
+    /// How many streams carry bytes.
+    pub active: u64,
+    /// How many are open: those above the active ones carry nothing.
+    pub open: u64,
+    /// The window of each stream, in bytes.
+    pub window: u64,
+    /// How many bytes a call of `write` is given.
+    pub write: usize,
+    /// How many packets are made before the other end acknowledges.
+    pub burst: usize,
+    /// Each so manyth packet is lost; none where it is 0.
+    pub lose: u64,
+    /// How many bytes are read in all.
+    pub total: u64,
+    /// The room of a packet, in bytes.
+    pub room: usize,
+}
+
+pub const PLAIN: Load = Load {
+    active: 1,
+    open: 1,
+    window: 1 << 20,
+    write: 16 << 10,
+    burst: 10,
+    lose: 0,
+    total: 128 << 20,
+    room: 1200,
+};
+
+/// The connection's window of every row, in bytes.
+const CONN_WINDOW: u64 = 16 << 20;
+
+pub struct Pair {
+    pub sender: Endpoint,
+    pub reader: Endpoint,
+    pub streams: Vec<StreamId>,
+    load: Load,
+    source: Vec<u8>,
+    out: Vec<u8>,
+    packets: Vec<(Made, Vec<u8>)>,
+    spare: Vec<Vec<u8>>,
+    lost: Vec<u64>,
+    pub made: u64,
+}
+
+impl Pair {
+    pub fn new(load: Load) -> Pair {
+        let settings = Settings::default()
+            .conn_window(CONN_WINDOW)
+            .stream_windows(load.window)
+            .send_buffer(load.window as usize)
+            .streams(4096, 1 << 16);
+        let mut sender = Endpoint::new(Role::Client, settings, settings.limits())
+            .expect("the settings are in range");
+        let reader = Endpoint::new(Role::Server, settings, settings.limits())
+            .expect("the settings are in range");
+        // There are at most 4,096 streams of a direction: half of more than that are bidirectional.
+        let mut ids: Vec<StreamId> = Vec::new();
+        for number in 0..load.open.max(load.active) {
+            let dir = if number < 4096 { Dir::Uni } else { Dir::Bidi };
+            ids.push(sender.open(dir).expect("the peer grants as many"));
+        }
+        ids.truncate(load.active as usize);
+        Pair {
+            sender,
+            reader,
+            streams: ids,
+            load,
+            source: (0..load.write).map(|i| i as u8).collect(),
+            out: vec![0; 64 << 10],
+            packets: Vec::new(),
+            spare: Vec::new(),
+            lost: Vec::new(),
+            made: 0,
+        }
+    }
+
+    /// Fills the sending buffers of the active streams, up to 256 KiB in all.
+    pub fn write(&mut self) {
+        let times = (256 << 10) / self.source.len() / self.streams.len() + 1;
+        for &stream in &self.streams {
+            for _ in 0..times {
+                match self.sender.write(stream, &self.source) {
+                    Ok(count) if count == self.source.len() => {}
+                    _ => break,
+                }
+            }
+        }
+    }
+
+    /// Makes a burst of packets, loses some, and delivers the others.
+    pub fn carry(&mut self) {
+        for _ in 0..self.load.burst {
+            let mut payload = self.spare.pop().unwrap_or_default();
+            payload.resize(self.load.room, 0);
+            match self.sender.make_packet(&mut payload) {
+                Ok(Some(made)) => self.packets.push((made, payload)),
+                _ => break,
+            }
+        }
+        for (made, payload) in self.packets.drain(..) {
+            self.made += 1;
+            if self.load.lose > 0 && self.made % self.load.lose == 0 {
+                self.lost.push(made.number);
+            } else {
+                self.reader
+                    .receive(made.number, &payload[..made.len])
+                    .expect("an honest packet");
+            }
+            self.spare.push(payload);
+        }
+    }
+
+    /// Reads what came on each active stream, and answers how many bytes.
+    pub fn read(&mut self) -> u64 {
+        while self.reader.accept().is_some() {}
+        let mut count = 0;
+        for &stream in &self.streams {
+            while let Ok(Read::Bytes(some)) = self.reader.read(stream, &mut self.out) {
+                count += some as u64;
+            }
+        }
+        count
+    }
+
+    /// The reader's next packet comes to the sender, and then the losses are declared.
+    pub fn answer(&mut self) {
+        let mut payload = self.spare.pop().unwrap_or_default();
+        payload.resize(self.load.room, 0);
+        if let Ok(Some(made)) = self.reader.make_packet(&mut payload) {
+            self.sender
+                .receive(made.number, &payload[..made.len])
+                .expect("an honest packet");
+        }
+        self.spare.push(payload);
+        for number in self.lost.drain(..) {
+            // An ACK may have come first where the packet was made again.
+            let _ = self.sender.declare_lost(number);
+        }
+    }
+}

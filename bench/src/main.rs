@@ -1,0 +1,51 @@
+//! Times one row: `gotsavena-bench ROW` runs it once to warm up and once to time it, and prints the nanoseconds that a unit took.
+//! `gotsavena-bench` alone lists the rows, each with its unit. `bench/run` alternates it with the peers' drivers.
+
+mod clock;
+mod ends;
+mod parts;
+mod scaling;
+mod whole;
+
+// The parts are private modules of the crate: here its own text is compiled once more.
+#[path = "../../rust/src/proved/mod.rs"]
+mod proved;
+#[path = "../../rust/src/shim/mod.rs"]
+mod shim;
+
+use std::process::ExitCode;
+use std::time::Duration;
+
+/// What a run took, and of how many units it was.
+pub struct Run {
+    pub time: Duration,
+    pub units: u64,
+}
+
+/// A row of the table.
+pub struct Row {
+    pub name: &'static str,
+    pub unit: &'static str,
+    pub run: fn() -> Run,
+}
+
+fn main() -> ExitCode {
+    let rows: Vec<Row> = [parts::rows(), whole::rows(), scaling::rows()]
+        .into_iter()
+        .flatten()
+        .collect();
+    let Some(name) = std::env::args().nth(1) else {
+        for row in rows {
+            println!("{} {}", row.name, row.unit);
+        }
+        return ExitCode::SUCCESS;
+    };
+    let Some(row) = rows.iter().find(|row| row.name == name) else {
+        eprintln!("gotsavena-bench: there is no row {name}");
+        return ExitCode::from(2);
+    };
+    (row.run)();
+    let run = (row.run)();
+    println!("{:.2}", run.time.as_nanos() as f64 / run.units as f64);
+    ExitCode::SUCCESS
+}

@@ -1,0 +1,134 @@
+//! What a packet costs as there are more streams, packets under way, and streams that ended.
+
+use crate::clock::time;
+use crate::ends::{Load, PLAIN, Pair};
+use crate::whole::transfer;
+use crate::{Row, Run};
+use gotsavena::{Dir, Endpoint, Read, Role, Settings};
+use std::time::Duration;
+
+fn open(streams: u64) -> Run {
+    transfer(Load {
+        open: streams,
+        total: 32 << 20,
+        ..PLAIN
+    })
+}
+
+// Windows of 16 KiB, so that the memory of many streams isn't what is timed.
+fn active(streams: u64) -> Run {
+    transfer(Load {
+        active: streams,
+        open: streams,
+        window: 16 << 10,
+        write: 1200,
+        total: 32 << 20,
+        ..PLAIN
+    })
+}
+
+/// So many packets are under way; then an ACK of 32 ranges comes again and again, which names nothing new.
+fn same_ack(packets: u64) -> Run {
+    let mut pair = Pair::new(Load {
+        active: 16,
+        open: 16,
+        window: 1 << 20,
+        ..PLAIN
+    });
+    let mut payload = vec![0; 1200];
+    for number in 0..packets {
+        pair.write();
+        match pair.sender.make_packet(&mut payload) {
+            Ok(Some(made)) => {
+                // All but each 300th of the last ones come: the runs that are kept number 32.
+                if number + 9_600 < packets || number % 300 != 0 {
+                    let _ = pair.reader.receive(made.number, &payload[..made.len]);
+                }
+            }
+            _ => panic!("bytes are due"),
+        }
+        pair.read();
+    }
+    let ack = pair
+        .reader
+        .make_packet(&mut payload)
+        .expect("there is memory")
+        .expect("an ACK is due");
+    let ack = &payload[..ack.len];
+    pair.sender.receive(0, ack).expect("an honest packet");
+    let times = 2_000;
+    let time = time(|| {
+        for number in 1..=times {
+            pair.sender.receive(number, ack).expect("an honest packet");
+        }
+    });
+    Run { time, units: times }
+}
+
+/// Requests of one byte and answers of 1 KiB, one stream after the other: what the last thousand cost of so many.
+fn request_after(ended: u64) -> Run {
+    let settings = Settings::default()
+        .conn_window(1 << 20)
+        .stream_windows(4096)
+        .send_buffer(4096)
+        .streams(100, 1 << 16);
+    let mut client = Endpoint::new(Role::Client, settings, settings.limits())
+        .expect("the settings are in range");
+    let mut server = Endpoint::new(Role::Server, settings, settings.limits())
+        .expect("the settings are in range");
+    let mut spent = Duration::ZERO;
+    let timed = 1_000;
+    for number in 0..ended + timed {
+        let took = time(|| request(&mut client, &mut server));
+        if number >= ended {
+            spent += took;
+        }
+    }
+    Run {
+        time: spent,
+        units: timed,
+    }
+}
+
+fn request(client: &mut Endpoint, server: &mut Endpoint) {
+    let stream = client
+        .open(Dir::Bidi)
+        .expect("the count grew as streams ended");
+    client.write(stream, b"?").expect("it is open");
+    client.finish(stream).expect("it is open");
+    hand_on(client, server);
+    let mut bytes = [0; 2048];
+    let asked = server.accept().expect("the request came");
+    while let Ok(Read::Bytes(_)) = server.read(asked, &mut bytes) {}
+    server.write(asked, &bytes[..1024]).expect("it is open");
+    server.finish(asked).expect("it is open");
+    hand_on(server, client);
+    while let Ok(Read::Bytes(_)) = client.read(stream, &mut bytes) {}
+    hand_on(client, server);
+}
+
+fn hand_on(from: &mut Endpoint, to: &mut Endpoint) {
+    let mut payload = [0; 1200];
+    while let Ok(Some(made)) = from.make_packet(&mut payload) {
+        to.receive(made.number, &payload[..made.len])
+            .expect("an honest packet");
+    }
+}
+
+pub fn rows() -> Vec<Row> {
+    let row = |name, unit, run| Row { name, unit, run };
+    vec![
+        row("open-1", "packet", || open(1)),
+        row("open-64", "packet", || open(64)),
+        row("open-1000", "packet", || open(1000)),
+        row("open-4096", "packet", || open(4096)),
+        row("open-8192", "packet", || open(8192)),
+        row("active-1", "packet", || active(1)),
+        row("active-64", "packet", || active(64)),
+        row("active-1000", "packet", || active(1000)),
+        row("active-4096", "packet", || active(4096)),
+        row("same-ack-32-ranges-of-10000", "ACK", || same_ack(10_000)),
+        row("request", "request", || request_after(0)),
+        row("request-after-60000", "request", || request_after(60_000)),
+    ]
+}
