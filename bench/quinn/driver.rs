@@ -590,6 +590,29 @@ fn active(streams: u32) -> Run {
     })
 }
 
+fn carried(streams: u32) -> Run {
+    let load = Load {
+        active: streams,
+        open: streams,
+        window: 16 << 10,
+        write: 1200,
+        total: 32 << 20,
+        ..PLAIN
+    };
+    let mut pair = Pair::new(load);
+    let (mut read, mut spent) = (0, Duration::ZERO);
+    while read < load.total {
+        pair.write();
+        spent += time(|| pair.carry());
+        read += pair.read();
+        spent += time(|| pair.answer());
+    }
+    Run {
+        time: spent,
+        units: pair.made,
+    }
+}
+
 fn same_ack(packets: u64) -> Run {
     let mut pair = Pair::new(Load {
         active: 16,
@@ -718,6 +741,10 @@ fn rows() -> Vec<(&'static str, fn() -> Run)> {
         ("active-64", || active(64)),
         ("active-1000", || active(1000)),
         ("active-4096", || active(4096)),
+        ("carried-1", || carried(1)),
+        ("carried-64", || carried(64)),
+        ("carried-1000", || carried(1000)),
+        ("carried-4096", || carried(4096)),
         ("same-ack-32-ranges-of-10000", || same_ack(10_000)),
     ]
 }

@@ -27,6 +27,30 @@ fn active(streams: u64) -> Run {
     })
 }
 
+// The same, timed without the owner's calls: packets made, received and acknowledged.
+fn carried(streams: u64) -> Run {
+    let load = Load {
+        active: streams,
+        open: streams,
+        window: 16 << 10,
+        write: 1200,
+        total: 32 << 20,
+        ..PLAIN
+    };
+    let mut pair = Pair::new(load);
+    let (mut read, mut spent) = (0, Duration::ZERO);
+    while read < load.total {
+        pair.write();
+        spent += time(|| pair.carry());
+        read += pair.read();
+        spent += time(|| pair.answer());
+    }
+    Run {
+        time: spent,
+        units: pair.made,
+    }
+}
+
 /// So many packets are under way; then an ACK of 32 ranges comes again and again, which names nothing new.
 fn same_ack(packets: u64) -> Run {
     let mut pair = Pair::new(Load {
@@ -127,6 +151,10 @@ pub fn rows() -> Vec<Row> {
         row("active-64", "packet", || active(64)),
         row("active-1000", "packet", || active(1000)),
         row("active-4096", "packet", || active(4096)),
+        row("carried-1", "packet", || carried(1)),
+        row("carried-64", "packet", || carried(64)),
+        row("carried-1000", "packet", || carried(1000)),
+        row("carried-4096", "packet", || carried(4096)),
         row("same-ack-32-ranges-of-10000", "ACK", || same_ack(10_000)),
         row("request", "request", || request_after(0)),
         row("request-after-60000", "request", || request_after(60_000)),
