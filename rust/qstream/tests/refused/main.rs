@@ -4,6 +4,7 @@
 
 #[rustfmt::skip]
 mod proved;
+mod pieces;
 mod refusing;
 #[allow(dead_code, unused_imports, unused_macros)]
 #[path = "../../src/shim/mod.rs"]
