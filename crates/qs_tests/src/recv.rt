@@ -222,6 +222,35 @@ fn the_first_reset_stays(rt: HostRuntime) {
     assert_eq!(rt; played(rt.alloc(), 10, &steps), steps.len());
 }
 
+// From the first byte to what the reader is told; the size was known by an end without bytes.
+#[test]
+fn a_reset_comes_once_the_size_is_known(rt: HostRuntime) {
+    let steps = [
+        Step::Pass(0, 10, false, highest(0, 10)),
+        Step::Refuse(0, 11, false, RecvFault::StreamCredit),
+        Step::Take(0, b"0123456789", false),
+        Step::Read(4, Read::Bytes(4), b"0123"),
+        Step::Raise(None),
+        Step::Read(1, Read::Bytes(1), b"4"),
+        Step::Raise(Some(15)),
+        Step::Raise(None),
+        Step::Pass(12, 0, true, highest(10, 12)),
+        Step::Take(12, b"", true),
+        Step::State(RecvState::SizeKnown),
+        Step::Refuse(12, 8, false, RecvFault::FinalSize),
+        Step::Reset(7, 12),
+        Step::State(RecvState::ResetRecvd),
+        Step::Counts(0, 12, 12),
+        Step::Read(4, Read::Reset(7), b""),
+        Step::State(RecvState::ResetRead),
+        Step::Reset(9, 12),
+        Step::Read(4, Read::Reset(7), b""),
+        Step::State(RecvState::ResetRead),
+        Step::Known(Some(12), Some(7), None),
+    ];
+    assert_eq!(rt; played(rt.alloc(), 10, &steps), steps.len());
+}
+
 #[test]
 fn data_is_read_in_order(rt: HostRuntime) {
     let steps = [

@@ -50,14 +50,14 @@ fn limit_of(end: &Endpoint, stream: StreamId) -> Option<u64> {
     Some(half.limit)
 }
 
-/// A byte past the limit that the reading raised to 2,048 (RFC 9000, section 4.1).
+/// The byte at offset 2,048 is past the limit that the reading raised to 2,048 (RFC 9000, section 4.1).
 fn closes_past_the_limit(end: &mut Endpoint) -> bool {
     let closing = Closing {
         code: 0x03,
         frame_type: 0x0e,
         place: 0,
     };
-    receive(end, 1024, &fragment(2048)) == Err(closing)
+    receive(end, 1024, b"\x0e\x00\x48\x00\x01a") == Err(closing)
 }
 
 /// First every other byte, then those between.

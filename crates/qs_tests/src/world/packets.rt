@@ -10,9 +10,11 @@ fn a_raised_limit_is_told_until_it_is_acknowledged(rt: HostRuntime) -> Result<()
         b"server bidi_remote=10
           receive 0 0a000a30313233343536373839 -> done
           read 0 5 -> bytes 3031323334
+          receiving 0 -> recv read 5 highest 10 limit 15 final none
           make 1200 -> 0 020000000011000f
           make 1200 -> none
           read 0 5 -> bytes 3536373839
+          receiving 0 -> recv read 10 highest 10 limit 20 final none
           make 1200 -> 1 110014
           lose 0 -> ok
           make 1200 -> none
@@ -221,12 +223,8 @@ fn bytes_wait_for_the_streams_credit(rt: HostRuntime) -> Result<(), Fail> {
           make 1200 -> 0 0a000a30313233343536373839
           make 1200 -> 1 15000a
           make 1200 -> none
-          lose 1 -> ok
-          make 1200 -> 2 15000a
           receive 0 11000f -> done
-          make 1200 -> 3 02000000000e000a056162636465
-          lose 2 -> ok
-          make 1200 -> none",
+          make 1200 -> 2 02000000000e000a056162636465",
     )
 }
 
@@ -265,6 +263,8 @@ fn a_stop_is_told_while_more_may_come(rt: HostRuntime) -> Result<(), Fail> {
         b"server
           receive 0 0a0003616263 -> done
           stop 0 7 -> ok
+          stored -> 0
+          read 0 16 -> wait
           make 1200 -> 0 0200000000050007
           receive 1 0e00030164 -> done
           stored -> 0

@@ -170,6 +170,8 @@ fn the_connections_limit_bounds_all_streams(rt: HostRuntime) -> Result<(), Fail>
           stop 0 1 -> closed
           accept -> none
           open bidi -> closed
+          make 1200 -> closed
+          lose 0 -> closed
           stored -> 6
           granted -> 10
           spent -> 6
@@ -341,7 +343,7 @@ fn resets_need_a_receiver(rt: HostRuntime) -> Result<(), Fail> {
 fn a_packet_counts_once(rt: HostRuntime) -> Result<(), Fail> {
     play_rows(
         rt.alloc(),
-        b"server
+        b"client
           receive 0 01 -> done
           receive 0 01 -> duplicate
           receive 0 1f -> duplicate
@@ -436,7 +438,8 @@ fn a_new_lowest_range_is_dropped_at_once(rt: HostRuntime) -> Result<(), Fail> {
           stored -> 1
           granted -> 4096
           spent -> 1
-          receive 0 01 -> below-floor",
+          receive 0 01 -> below-floor
+          receive 1 01 -> done",
     )
 }
 
@@ -471,7 +474,16 @@ fn the_peers_closing_ends_all(rt: HostRuntime) -> Result<(), Fail> {
         b"server
           receive 0 1c030a001f -> peer-closed 3
           receive 1 01 -> peer-closed 3
+          receive 0 01 -> peer-closed 3
           open bidi -> closed
+          accept -> none
+          write 0 61 -> closed
+          finish 0 -> closed
+          reset 0 1 -> closed
+          read 0 16 -> closed
+          stop 0 1 -> closed
+          make 1200 -> closed
+          lose 0 -> closed
           close -> none",
     )
 }
@@ -550,11 +562,11 @@ fn an_empty_stream_ends_at_once(rt: HostRuntime) -> Result<(), Fail> {
 fn an_empty_stream_is_broken_off(rt: HostRuntime) -> Result<(), Fail> {
     play_rows(
         rt.alloc(),
-        b"server bidi_remote=10
+        b"server
           receive 0 04000700 -> done
-          receiving 0 -> reset-recvd read 0 highest 0 limit 10 final 0
+          receiving 0 -> reset-recvd read 0 highest 0 limit 1024 final 0
           read 0 16 -> reset 7
-          receiving 0 -> reset-read read 0 highest 0 limit 10 final 0",
+          receiving 0 -> reset-read read 0 highest 0 limit 1024 final 0",
     )
 }
 

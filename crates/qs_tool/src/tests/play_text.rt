@@ -80,6 +80,19 @@ fn packet_answer(alloc: Global, number: usize) -> (Answer, &'static str) {
     }
 }
 
+/// Answers that may come at several calls, counted from 0.
+fn any_answer(alloc: Global, number: usize) -> (Answer, &'static str) {
+    match number {
+        0 => (Answer::OpenStream(Err(OpenFault::Closed)), "closed"),
+        1 => (Answer::Write(Err(UseFault::NoMemory)), "no-memory"),
+        2 => (Answer::Finish(Err(UseFault::Closed)), "closed"),
+        3 => (Answer::Deliver(Ok(Received::Duplicate)), "duplicate"),
+        4 => (Answer::Deliver(Ok(Received::NoMemory)), "no-memory"),
+        5 => (Answer::Lose(Err(LostFault::Closed)), "closed"),
+        _ => (Answer::ReadUpTo(Ok(Read::Wait), Vec::new(alloc)), "wait"),
+    }
+}
+
 #[test]
 fn answers_of_streams(rt: HostRuntime) -> Result<(), Fail> {
     for number in 0..7 {
@@ -93,6 +106,15 @@ fn answers_of_streams(rt: HostRuntime) -> Result<(), Fail> {
 fn answers_of_packets(rt: HostRuntime) -> Result<(), Fail> {
     for number in 0..6 {
         let (answer, text) = packet_answer(rt.alloc(), number);
+        shows(&rt, rt.alloc(), answer, text)?;
+    }
+    Ok(())
+}
+
+#[test]
+fn answers_of_any_call(rt: HostRuntime) -> Result<(), Fail> {
+    for number in 0..7 {
+        let (answer, text) = any_answer(rt.alloc(), number);
         shows(&rt, rt.alloc(), answer, text)?;
     }
     Ok(())
