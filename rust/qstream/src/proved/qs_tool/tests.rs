@@ -11,6 +11,7 @@ mod play_text;
 mod requests;
 mod scripts;
 mod wires;
+mod writers;
 
 /// The run on the word ends so and writes the text.
 fn shows(rt: &impl Abort, alloc: Global, word: &str, status: Status, text: &str) {
