@@ -1,0 +1,152 @@
+-- What each call of an end does before its limits move: one of a few edits.
+use Rattle.std.proofs.Common.{◌≡◌, ℕ, ◌+◌, ◌*◌, List, length, take, Option, Some, None, is_some, subst, sym, inl, inr, refl, true, false, Bool}
+use Rattle.std.specs.Prelude.{nat_lt, Result, Ok, Err, MatchBool}
+use Rattle.std.specs.FinSet as set
+use Rattle.std.proofs.lemmas.Option.{none-some}
+use Rattle.qs_wire.specs.declared.stream_id.Dir.{Dir}
+use Rattle.qs_wire.specs.declared.stream_id.Dir.TheVariants.{Bidi, Uni}
+use Rattle.qs_recv.specs.Lane.{RecvLane, after_read, stop}
+use Rattle.qs_recv.specs.declared.half.Read.{Read}
+use Rattle.qs_send.specs.Lane.{SendLane, refusal, reset_refusal, accepted, write_lane, finish_lane, reset_lane}
+use Rattle.qs_send.specs.declared.parts.SendFault.{SendFault}
+use Rattle.qs_send.specs.declared.piece.Piece.{Piece}
+use Rattle.qs_calls.specs.declared.closing.Closing.{Closing}
+use Rattle.qs_calls.specs.declared.closing.Closed.{Closed}
+use Rattle.qs_calls.specs.declared.closing.Closed.TheVariants.{ByUs, ByPeer}
+use Rattle.qs_calls.specs.declared.closing.Received.{Received}
+use Rattle.qs_calls.specs.declared.closing.Received.TheVariants as received
+use Rattle.qs_calls.specs.declared.making.MakeFault.{MakeFault}
+use Rattle.qs_calls.specs.declared.making.MakeFault.TheVariants as making
+use Rattle.qs_calls.specs.declared.making.Made.{Made}
+use Rattle.qs_calls.specs.declared.uses.OpenFault.TheVariants as opening
+use Rattle.qs_calls.specs.declared.uses.UseFault.{UseFault}
+use Rattle.qs_calls.specs.declared.uses.UseFault.TheVariants as uses
+use Rattle.qs_machine.specs.Ends.{End, send_lane, recv_lane, on_send, on_recv, opens}
+use Rattle.qs_machine.specs.Credit.{settle}
+use Rattle.qs_machine.specs.Due.{known_count}
+use Rattle.qs_machine.specs.Seen.{Seen, seen_all}
+use Rattle.qs_machine.specs.Lawful.{Fills}
+use Rattle.qs_machine.specs.Owner.{OpenStep, AcceptStep, ReadBy, recv_refusal, with_wanted, first_refusal, refuse_if, no_half, half_refusal, IsBlocked, IsOpened, GivesNone, GivesBidi, GivesUni, AcceptOpen, peer_kind, next_stream, send_refusal}
+use Rattle.qs_machine.specs.Receiving.{ReceiveBy, TakesPayload, OpenReceive}
+use Rattle.qs_machine.specs.Making.{MakeAt, make_refusal, LoseStep, losses, lose_refusal}
+use Rattle.qs_machine.specs.EndStep.{Call, Answer, EndStep, Open, Accept, Write, Finish, Reset, Stop, ReadUpTo, Receive, Make, Lose, ClosingPayload, Stored, Granted, Spent, GrantedStreams, Report}
+use Rattle.qs_machine.proofs.Choices.{by_refusal, by_memory, by_test, if_allowed}
+
+-- P holds of the end, and stays with each edit by a call; what a payload leaves is told apart
+pub record Edits (P : End → Type 0) (old : End) : Type 0 where
+  pub same : P old
+  pub settles : (mid : End) → P mid → P (settle mid)
+  pub wants : (d : Dir) (count : ℕ) → P (with_wanted d count old)
+  pub opened : (n : ℕ) → P (opens n old)
+  pub accepts : (bidi uni : ℕ) → P (record old { accepted_bidi = bidi; accepted_uni = uni })
+  pub writes : (n : ℕ) (bytes : List ℕ) (l : SendLane) → send_lane old n ≡ Some l → refusal l ≡ None → P (on_send n (λ m. write_lane m (take (accepted l (length bytes)) bytes)) old)
+  pub finishes : (n : ℕ) → P (on_send n finish_lane old)
+  pub resets : (n code : ℕ) → P (on_send n (λ m. reset_lane m code) old)
+  pub stops : (n code : ℕ) → P (on_recv n (λ m. stop m code) old)
+  pub reads : (n size : ℕ) → P (on_recv n (λ m. after_read m size) old)
+  pub fills : (frames : List Seen) (mid : End) → Fills old old frames mid → P (record mid { next = old.next + 1 })
+  pub loses : (k : ℕ) (ps : List Piece) → P (losses k ps old)
+
+-- a half that takes bytes refuses none
+half_allowed : (closed other : Bool) (o : Option SendLane) → first_refusal (refuse_if closed uses.Closed) (elim o [ None ↦ Some (no_half other) | Some l ↦ half_refusal (refusal l) ]) ≡ None → (l : SendLane) → o ≡ Some l → refusal l ≡ None
+half_allowed true other o h l is = absurd (none-some uses.Closed (sym h))
+half_allowed false other None h l is = absurd (none-some l is)
+half_allowed false other (Some k) h l is = subst (λ o. elim o as (λ _. Type 0) [ None ↦ Unit {0} | Some m ↦ refusal m ≡ None ]) is (no_refusal (refusal k) h)
+  where
+    no_refusal : (r : Option SendFault) → half_refusal r ≡ None → r ≡ None
+    no_refusal None e = refl
+    no_refusal (Some fault) e = absurd (none-some _ (sym e))
+
+module _ (P : End → Type 0) (old : End) (edits : Edits P old) where
+  becomes : (new : End) → new ≡ old → P new
+  becomes new same = subst P (sym same) edits.same
+
+  settled : (mid new : End) → P mid → new ≡ settle mid → P new
+  settled mid new h same = subst P (sym same) (edits.settles mid h)
+
+  open_by : (d : Dir) (answer : Answer (Open d)) (new : End) → OpenStep old d answer new → P new
+  open_by d answer new step =
+      by_refusal (P new) (refuse_if (is_some old.closed) opening.Closed) old answer new _ step (becomes new) (λ opened.
+      by_test (P new) _ (IsBlocked old d answer new) (IsOpened old d answer new) opened
+      (λ blocked. settled (with_wanted d (known_count old d) old) new (edits.wants d (known_count old d)) blocked.1)
+      (λ done. elim done [ inl none ↦ becomes new none.1 | inr is ↦ settled (opens (next_stream old d) old) new (edits.opened (next_stream old d)) is.1 ]))
+
+  accept_by : (answer : Answer Accept) (new : End) → AcceptStep old answer new → P new
+  accept_by answer new step =
+      let none : GivesNone old answer new → P new = λ g. becomes new g.1 in
+      let uni : GivesUni old answer new → P new =
+      λ g. by_test (P new) _ ((answer ≡ Some (old.accepted_uni * 4 + peer_kind old Uni)) × (new ≡ settle (record old { accepted_uni = old.accepted_uni + 1 }))) (GivesNone old answer new) g
+      (λ u. settled (record old { accepted_uni = old.accepted_uni + 1 }) new (edits.accepts old.accepted_bidi (old.accepted_uni + 1)) u.1) none in
+      let bidi : GivesBidi old answer new → P new = λ g. settled (record old { accepted_bidi = old.accepted_bidi + 1 }) new (edits.accepts (old.accepted_bidi + 1) old.accepted_uni) g.1 in
+      by_test (P new) _ (GivesNone old answer new) (AcceptOpen old answer new) step none
+      (λ goes. by_test (P new) _ (GivesBidi old answer new) (GivesUni old answer new) goes bidi uni)
+
+  read_by : (r : Option UseFault) (n size : ℕ) (answer : Result Read UseFault) (bytes : List ℕ) (new : End) → ReadBy r old n size answer bytes new → P new
+  read_by (Some fault) n size answer bytes new step = becomes new step.2
+  read_by None n size answer bytes new (l, is, told, given, after) = settled (on_recv n (λ m. after_read m size) old) new (edits.reads n size) after
+
+  make_by : (r : Option MakeFault) (room : ℕ) (answer : Result (Option Made) MakeFault) (text : List ℕ) (new : End) → MakeAt r old room answer text new → P new
+  make_by (Some fault) room answer text new step = becomes new step.2
+  make_by None room (Ok (Some made)) text new step =
+      let (mid, fills, after) = step.lawful.filled in
+      settled step.mid new (subst P (sym after) (edits.fills (seen_all step.frames) mid fills)) step.after
+  make_by None room (Ok None) text new step = becomes new step.2
+  make_by None room (Err making.NoMemory) text new step = becomes new step.1
+  make_by None room (Err making.Closed) text new step = absurd step
+  make_by None room (Err making.Exhausted) text new step = absurd step
+
+  lost : (k : ℕ) (ps : List Piece) (new : End) → new ≡ losses k ps old → P new
+  lost k ps new same = subst P (sym same) (edits.loses k ps)
+
+  lose_by : (k : ℕ) (answer : Answer (Lose k)) (new : End) → LoseStep old k answer new → P new
+  lose_by k answer new step =
+      by_refusal (P new) (lose_refusal old k) old answer new _ step (becomes new) (λ (ps, is, gone).
+      elim gone [
+        | inl done ↦ lost k ps new done.1
+        | inr part ↦ (let (moved, few, none, after) = part in lost k (take moved ps) new after)
+      ])
+
+  write_by : (n : ℕ) (bytes : List ℕ) (answer : Answer (Write n bytes)) (new : End) → EndStep old (Write n bytes) answer new → P new
+  write_by n bytes answer new step =
+      if_allowed (P new) (send_refusal old n refusal) old answer new _ step (becomes new) (λ allowed some.
+      elim some [
+        | inl none ↦ becomes new none.1
+        | inr (l, is, done) ↦
+            settled (on_send n (λ m. write_lane m (take (accepted l (length bytes)) bytes)) old) new
+            (edits.writes n bytes l is (half_allowed (is_some old.closed) (is_some (recv_lane old n)) (send_lane old n) allowed l is)) done.1
+      ])
+
+  module _ (takes : (number : ℕ) (payload : List ℕ) (result : Result Received Closing) (mid : End) → TakesPayload number payload old result mid → P mid) where
+    receive_open : (number : ℕ) (payload : List ℕ) (result : Result Received Closing) (new : End) → OpenReceive number payload old result new → P new
+    receive_open number payload result new step =
+        let below : Type 0 = (result ≡ Ok received.BelowFloor) × (new ≡ old) in
+        let duplicate : Type 0 = (result ≡ Ok received.Duplicate) × (new ≡ old) in
+        let taken_in : Type 0 = (mid : End) × TakesPayload number payload old result mid × (new ≡ settle mid) in
+        by_test (P new) (nat_lt number old.floor) below (MatchBool (set.contains old.done number) duplicate taken_in) step (λ b. becomes new b.1) (λ more.
+        by_test (P new) (set.contains old.done number) duplicate taken_in more (λ d. becomes new d.1) (λ (mid, taken, after). settled mid new (takes number payload result mid taken) after))
+
+    receive_by : (c : Option Closed) (number : ℕ) (payload : List ℕ) (result : Result Received Closing) (new : End) → ReceiveBy c number payload old result new → P new
+    receive_by None number payload result new step = receive_open number payload result new step
+    receive_by (Some (ByUs closing)) number payload result new step = becomes new step.1
+    receive_by (Some (ByPeer code)) number payload result new step = becomes new step.1
+
+    pub each_call : (call : Call) (answer : Answer call) (new : End) → EndStep old call answer new → P new
+    each_call (Open d) answer new step = open_by d answer new step
+    each_call Accept answer new step = accept_by answer new step
+    each_call (Write n bytes) answer new step = write_by n bytes answer new step
+    each_call (Finish n) answer new step =
+        by_refusal (P new) (send_refusal old n refusal) old answer new _ step (becomes new) (λ done. settled (on_send n finish_lane old) new (edits.finishes n) done.1)
+    each_call (Reset n code) answer new step =
+        by_refusal (P new) (send_refusal old n reset_refusal) old answer new _ step (becomes new) (λ done. settled (on_send n (λ m. reset_lane m code) old) new (edits.resets n code) done.1)
+    each_call (Stop n code) answer new step =
+        by_refusal (P new) (recv_refusal old n) old answer new _ step (becomes new) (λ done. settled (on_recv n (λ m. stop m code) old) new (edits.stops n code) done.1)
+    each_call (ReadUpTo n size) answer new step = read_by (recv_refusal old n) n size answer.0 answer.1 new step
+    each_call (Receive k payload) answer new step = receive_by old.closed k payload answer new step
+    each_call (Make room) answer new step = make_by (make_refusal old) room answer.0 answer.1 new step
+    each_call (Lose k) answer new step = lose_by k answer new step
+    each_call (ClosingPayload slice) answer new step = becomes new step.1
+    each_call Stored answer new step = becomes new step.1
+    each_call Granted answer new step = becomes new step.1
+    each_call Spent answer new step = becomes new step.1
+    each_call (GrantedStreams d) answer new step = becomes new step.1
+    each_call (Report n) answer new step = becomes new step.1

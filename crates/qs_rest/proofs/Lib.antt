@@ -1,0 +1,4 @@
+pub mod ItemParts
+pub mod EachCall
+pub mod Untouched
+pub mod Stops

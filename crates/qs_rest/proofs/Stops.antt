@@ -1,0 +1,149 @@
+-- A half whose reader stopped stays so, and has taken all that came.
+use Rattle.std.proofs.Common.{◌≡◌, ℕ, ◌+◌, Bool, true, false, not, ◌&&◌, ◌||◌, List, [], ◌∷◌, take, Option, Some, None, is_some, refl, sym, ap, ◌∙◌, subst, inl, inr}
+use Rattle.std.specs.Prelude.{cond, Result, Ok, Err}
+use Rattle.std.proofs.lemmas.Bool.{cond_both}
+use Rattle.qs_wire.specs.Layout.{PlacedValue}
+use Rattle.qs_wire.specs.Reading.{reading_of}
+use Rattle.qs_wire.specs.declared.fault.WireFault.{WireFault}
+use Rattle.qs_wire.specs.declared.stream_id.Dir.{Dir}
+use Rattle.qs_wire.specs.declared.stream_id.Dir.TheVariants.{Bidi, Uni}
+use Rattle.qs_recv.specs.Assembled.{discard}
+use Rattle.qs_recv.specs.Lane.{RecvLane, new_lane as new_recv_lane, highest, taken, take_stream, take_reset, after_read, after_answer, read_answer, stop, raise, is_whole}
+use Rattle.qs_recv.specs.declared.half.Read.{Read}
+use Rattle.qs_recv.specs.declared.half.Read.TheVariants as reads
+use Rattle.qs_send.specs.declared.piece.Item.{Item}
+use Rattle.qs_send.specs.declared.piece.Item.TheVariants.{MaxData, MaxStreamData, MaxStreams, ResetStream, StopSending, DataBlocked, StreamDataBlocked, StreamsBlocked}
+use Rattle.qs_send.specs.declared.piece.Piece.{Piece}
+use Rattle.qs_calls.specs.declared.closing.Closing.{Closing}
+use Rattle.qs_calls.specs.declared.closing.Received.{Received}
+use Rattle.qs_calls.specs.declared.closing.Received.TheVariants as received
+use Rattle.qs_machine.specs.Tables.{Tables, lookup}
+use Rattle.qs_machine.specs.Ends.{End, on_recv, is_own, is_uni, opens, opened_by_peer, window, recv_lane}
+use Rattle.qs_machine.specs.Credit.{settle}
+use Rattle.qs_machine.specs.Seen.{Seen, Ack, Stream, Control, Close, Plain, seen, asks_ack}
+use Rattle.qs_machine.specs.FrameStep.{frame_taken, item_taken, named}
+use Rattle.qs_machine.specs.Lawful.{Fills, frame_put}
+use Rattle.qs_machine.specs.Owner.{with_wanted}
+use Rattle.qs_machine.specs.Receiving.{AtEnd, Stops, Takes, TakesPayload}
+use Rattle.qs_machine.specs.Making.{losses}
+use Rattle.qs_machine.specs.EndStep.{Call, Answer, EndStep}
+use Rattle.qs_machine.proofs.TablesAfter.{KeptIn, kept_same, kept_twice, kept_updated, kept_open, kept_each}
+use Rattle.qs_runs.proofs.Frames.{acks_recvs}
+use Rattle.qs_rest.specs.Laws.{GivesBack, StopsGiveBack}
+use Rattle.qs_rest.proofs.Untouched.{fills_recvs, wanted_recvs, losses_recvs, ends_recvs, at_end_recvs}
+use Rattle.qs_rest.proofs.EachCall.{Edits, each_call}
+
+-- the code of a stop stays
+abbrev StopStays : RecvLane → RecvLane → Type 0
+StopStays l m = (code : ℕ) → l.stop_code ≡ Some code → m.stop_code ≡ Some code
+
+stays_same : (l : RecvLane) → StopStays l l
+stays_same l code is = is
+
+abbrev Stay : Tables RecvLane → Tables RecvLane → Type 0
+Stay t u = KeptIn StopStays t u
+
+stay_same : (t : Tables RecvLane) → Stay t t
+stay_same t = kept_same StopStays stays_same t
+
+stay_twice : (t u v : Tables RecvLane) → Stay t u → Stay u v → Stay t v
+stay_twice t u v a b = kept_twice StopStays stays_same (λ l m k r s code is. s code (r code is)) t u v a b
+
+stay_equal : (t u : Tables RecvLane) → u ≡ t → Stay t u
+stay_equal t u same = subst (Stay t) (sym same) (stay_same t)
+
+-- One half
+
+stop_stays : (code : ℕ) (l : RecvLane) → StopStays l (stop l code)
+stop_stays code l = go (is_some l.stop_code) refl
+  where
+    go : (b : Bool) → is_some l.stop_code ≡ b → StopStays l (cond b l (record l { arrived = discard l.arrived; stop_code = Some code }))
+    go true is = stays_same l
+    go false is = λ c there. absurd (cc (is, there))
+
+reset_stays : (code size : ℕ) (l : RecvLane) → StopStays l (take_reset l code size)
+reset_stays code size l =
+    cond_both (is_some l.reset_code || is_whole l) l (record l { arrived = discard l.arrived; final_size = Some size; reset_code = Some code }) (StopStays l) (λ _. stays_same l) (λ _ c is. is)
+
+answer_stays : (answer : Read) (size : ℕ) (l : RecvLane) → StopStays l (after_answer answer l size)
+answer_stays (reads.Bytes n) size l = λ c is. is
+answer_stays reads.End size l = λ c is. is
+answer_stays (reads.Reset code) size l = λ c is. is
+answer_stays reads.Wait size l = λ c is. is
+
+-- An end
+
+stay_recv : (n : ℕ) (f : RecvLane → RecvLane) (e : End) → ((l : RecvLane) → StopStays l (f l)) → Stay e.recvs (on_recv n f e).recvs
+stay_recv n f e kept = kept_updated StopStays stays_same e.recvs n f (λ l is. kept l)
+
+stay_opens : (n : ℕ) (e : End) → Stay e.recvs (opens n e).recvs
+stay_opens n e = cond_both (is_uni n && is_own e n) e.recvs _ (Stay e.recvs) (λ _. stay_same e.recvs) (λ _. kept_open StopStays stays_same e.recvs n (λ m. new_recv_lane (window e n)))
+
+stay_opened : (n : ℕ) (e : End) → Stay e.recvs (opened_by_peer n e).recvs
+stay_opened n e = cond_both (is_own e n) e (opens n e) (λ x. Stay e.recvs x.recvs) (λ _. stay_same e.recvs) (λ _. stay_opens n e)
+
+stay_changed : (n : ℕ) (f : RecvLane → RecvLane) (e : End) → ((l : RecvLane) → StopStays l (f l)) → Stay e.recvs (on_recv n f (opened_by_peer n e)).recvs
+stay_changed n f e kept = stay_twice e.recvs (opened_by_peer n e).recvs _ (stay_opened n e) (stay_recv n f (opened_by_peer n e) kept)
+
+stay_item : (i : Item) (e : End) → Stay e.recvs (item_taken i e).recvs
+stay_item (MaxData m) e = stay_same e.recvs
+stay_item (MaxStreamData n m) e = stay_opened n e
+stay_item (MaxStreams Bidi m) e = stay_same e.recvs
+stay_item (MaxStreams Uni m) e = stay_same e.recvs
+stay_item (ResetStream n code size) e = stay_changed n (λ l. take_reset l code size) e (reset_stays code size)
+stay_item (StopSending n code) e = stay_opened n e
+stay_item (DataBlocked m) e = stay_same e.recvs
+stay_item (StreamDataBlocked n m) e = stay_opened n e
+stay_item (StreamsBlocked d m) e = stay_same e.recvs
+
+stay_frame : (f : Seen) (e : End) → Stay e.recvs (frame_taken f e).recvs
+unfolding frame_taken
+stay_frame (Ack largest ranges) e = stay_equal e.recvs _ (acks_recvs (named e ranges) e)
+stay_frame (Stream n offset bytes fin) e = stay_changed n (λ l. take_stream l offset bytes fin) e (λ l c is. is)
+stay_frame (Control i) e = stay_item i e
+stay_frame (Close code) e = stay_same e.recvs
+stay_frame (Plain asks) e = stay_same e.recvs
+
+stay_takes : (number : ℕ) (fault : Option WireFault) (asks : Bool) (e : End) (ps : List PlacedValue) (result : Result Received Closing) (new : End) → Takes number fault asks e ps result new → Stay e.recvs new.recvs
+stay_takes number fault asks e [] result new takes = stay_equal e.recvs new.recvs (at_end_recvs number asks fault e result new takes)
+stay_takes number fault asks e (p ∷ ps) result new (inl ends) = stay_equal e.recvs new.recvs (ends_recvs p (seen p.frame) e result new ends)
+stay_takes number fault asks e (p ∷ ps) result new (inr (goes, rest)) =
+    stay_twice e.recvs (frame_taken (seen p.frame) e).recvs new.recvs (stay_frame (seen p.frame) e) (stay_takes number fault (asks || asks_ack (seen p.frame)) (frame_taken (seen p.frame) e) ps result new rest)
+
+stay_edits : (old : End) → Edits (λ new. Stay old.recvs new.recvs) old
+stay_edits old =
+    record {
+      same = stay_same old.recvs;
+      settles = λ mid h. stay_twice old.recvs mid.recvs (settle mid).recvs h (kept_each StopStays stays_same mid.recvs raise (λ l c is. is));
+      wants = λ d count. stay_equal old.recvs _ (wanted_recvs d count old);
+      opened = λ n. stay_opens n old;
+      accepts = λ bidi uni. stay_same old.recvs;
+      writes = λ n bytes l is fine. stay_same old.recvs;
+      finishes = λ n. stay_same old.recvs;
+      resets = λ n code. stay_same old.recvs;
+      stops = λ n code. stay_recv n (λ m. stop m code) old (stop_stays code);
+      reads = λ n size. stay_recv n (λ m. after_read m size) old (λ l. answer_stays (read_answer l size) size l);
+      fills = λ frames mid fills. stay_equal old.recvs mid.recvs (fills_recvs old frames old mid fills);
+      loses = λ k ps. stay_equal old.recvs _ (losses_recvs k ps old);
+    }
+
+pub stops_stay : (old : End) (call : Call) (answer : Answer call) (new : End) → EndStep old call answer new → Stay old.recvs new.recvs
+stops_stay old call answer new step =
+    each_call (λ mid. Stay old.recvs mid.recvs) old (stay_edits old)
+    (λ number payload result mid taken. stay_takes number (reading_of payload).fault false old (reading_of payload).left result mid taken) call answer new step
+
+-- what a stopped half has taken
+pub stopped_taken : (l : RecvLane) (code : ℕ) → l.stop_code ≡ Some code → taken l ≡ highest l
+stopped_taken l code is = go (is_some l.reset_code)
+  where
+    stopped : is_some l.stop_code ≡ true
+    stopped = ap is_some is
+
+    go : (b : Bool) → cond (b || is_some l.stop_code) (highest l) l.arrived.read_count ≡ highest l
+    go true = refl
+    go false = rw stopped refl
+
+pub give_back : StopsGiveBack
+give_back old call answer new n code l step is stopped =
+    let (m, there, stays) = stops_stay old call answer new step n l is in
+    (m, there, stays code stopped, stopped_taken m code (stays code stopped))

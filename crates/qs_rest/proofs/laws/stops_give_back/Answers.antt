@@ -1,0 +1,5 @@
+use Rattle.qs_rest.proofs.Stops.{give_back}
+use Rattle.qs_rest.proofs.laws.stops_give_back.Goals as goal
+
+pub returns : goal.returns
+returns c = give_back

@@ -1,0 +1,23 @@
+-- Laws of one end: what was wanted is told until the peer knows it, and a stop gives back credit.
+use Rattle.std.specs.Prelude.{◌≡◌, ℕ, true, ◌⊎◌, Some, is_some}
+use Rattle.qs_recv.specs.Lane.{RecvLane, highest, taken}
+use Rattle.qs_send.specs.declared.piece.Item.{Item}
+use Rattle.qs_send.specs.declared.piece.Piece.TheVariants.{Told}
+use Rattle.qs_machine.specs.Ends.{End, recv_lane}
+use Rattle.qs_machine.specs.Due.{IsOutstanding, IsCurrent, IsAcked, IsDueItem}
+use Rattle.qs_machine.specs.EndStep.{Call, Answer, EndStep}
+
+-- a limit that was raised, a reset, a stop, and each other item that is to be told: its value is in an outstanding packet, or
+-- acknowledged, or due (RFC 9000, section 13.3)
+abbrev pub ItemsAreInOnePart : Type 0
+ItemsAreInOnePart = (e : End) (i : Item) → IsCurrent e i → IsOutstanding e (Told i) ⊎ IsAcked e i ⊎ IsDueItem e i
+
+-- a half whose reader stopped keeps that, and has taken up to its highest offset: all its credit is given back (RFC 9000, section 3.5)
+abbrev pub GivesBack : End → ℕ → ℕ → Type 0
+GivesBack e n code = (l : RecvLane) × (recv_lane e n ≡ Some l) × (l.stop_code ≡ Some code) × (taken l ≡ highest l)
+
+-- whatever comes later
+abbrev pub StopsGiveBack : Type 0
+StopsGiveBack =
+    (old : End) (call : Call) (answer : Answer call) (new : End) (n code : ℕ) (l : RecvLane) → EndStep old call answer new →
+    recv_lane old n ≡ Some l → l.stop_code ≡ Some code → GivesBack new n code
