@@ -30,6 +30,11 @@ use Rattle.qs_machine.specs.Owner.{OpenStep, AcceptStep, ReadBy, recv_refusal, w
 use Rattle.qs_machine.specs.Receiving.{ReceiveBy, TakesPayload, OpenReceive}
 use Rattle.qs_machine.specs.Making.{MakeAt, make_refusal, LoseStep, losses, lose_refusal}
 use Rattle.qs_machine.specs.EndStep.{Call, Answer, EndStep, Open, Accept, Write, Finish, Reset, Stop, ReadUpTo, Receive, Make, Lose, ClosingPayload, Stored, Granted, Spent, GrantedStreams, Report}
+use Rattle.qs_calls.specs.declared.event.Act.{Act}
+use Rattle.qs_calls.specs.declared.event.Act.TheVariants as acts
+use Rattle.qs_calls.specs.declared.answer.Answer.{Answer as Answered}
+use Rattle.qs_calls.specs.declared.answer.Answer.TheVariants as answers
+use Rattle.qs_runs.specs.Worlds.{OwnStep}
 use Rattle.qs_machine.proofs.Choices.{by_refusal, by_memory, by_test, if_allowed}
 
 -- P holds of the end, and stays with each edit by a call; what a payload leaves is told apart
@@ -150,3 +155,19 @@ module _ (P : End → Type 0) (old : End) (edits : Edits P old) where
     each_call Spent answer new step = becomes new step.1
     each_call (GrantedStreams d) answer new step = becomes new step.1
     each_call (Report n) answer new step = becomes new step.1
+
+  -- what an owner does
+  pub each_own : (act : Act) (answer : Answered) (new : End) → OwnStep old act answer new → P new
+  each_own (acts.OpenStream dir) (answers.OpenStream r) new step = open_by dir r new step
+  each_own acts.Accept (answers.Accept r) new step = accept_by r new step
+  each_own (acts.Write n bytes) (answers.Write r) new step = write_by n bytes.items r new step
+  each_own (acts.Finish n) (answers.Finish r) new step =
+      by_refusal (P new) (send_refusal old n refusal) old r new _ step (becomes new) (λ done. settled (on_send n finish_lane old) new (edits.finishes n) done.1)
+  each_own (acts.Reset n code) (answers.Reset r) new step =
+      by_refusal (P new) (send_refusal old n reset_refusal) old r new _ step (becomes new) (λ done. settled (on_send n (λ m. reset_lane m code) old) new (edits.resets n code) done.1)
+  each_own (acts.Stop n code) (answers.Stop r) new step =
+      by_refusal (P new) (recv_refusal old n) old r new _ step (becomes new) (λ done. settled (on_recv n (λ m. stop m code) old) new (edits.stops n code) done.1)
+  each_own (acts.ReadUpTo n size) (answers.ReadUpTo r bytes) new step = read_by (recv_refusal old n) n size r bytes.items new step
+  each_own (acts.Make room) (answers.Make r text) new step = make_by (make_refusal old) room r text.items new step
+  each_own (acts.Lose k) (answers.Lose r) new step = lose_by k r new step
+  each_own act answer new step = absurd step

@@ -2,3 +2,9 @@ pub mod ItemParts
 pub mod EachCall
 pub mod Untouched
 pub mod Stops
+pub mod Halves
+pub mod Moves
+pub mod Effects
+pub mod Payloads
+pub mod Runs
+pub mod EveryRun

@@ -1,0 +1,297 @@
+-- What each call of an end, and each frame, leaves of what holds of its sending side.
+use Rattle.std.proofs.Common.{◌≡◌, ℕ, ◌+◌, ◌%◌, ◌≤◌, max, Bool, true, false, not, ◌&&◌, List, [], ◌∷◌, length, take, Option, Some, None, is_some, refl, sym, ap, ◌∙◌, subst, arith, inl, inr}
+use Rattle.std.specs.Prelude.{cond}
+use Rattle.std.proofs.lemmas.Option.{none-some, same_Some}
+use Rattle.std.proofs.lemmas.Bool.{cond_both, cases_lt, cases_eq}
+use Rattle.std.specs.List.{AllByRecursion}
+use Rattle.std.specs.FinMap as fmap
+use Rattle.std.specs.FinSet as set
+use Rattle.qs_ranges.specs.Numbers.{MAX_VARINT}
+use Rattle.qs_wire.specs.declared.stream_id.Dir.{Dir}
+use Rattle.qs_wire.specs.declared.stream_id.Dir.TheVariants.{Bidi, Uni}
+use Rattle.qs_send.specs.Lane.{SendLane, new_lane as new_send_lane, accepted, refusal, write_lane, finish_lane, reset_lane, sent_lane, blocked_lane, allow_lane, acked_lane, reset_acked_lane}
+use Rattle.qs_send.specs.declared.parts.Chunk.{Chunk}
+use Rattle.qs_send.specs.declared.piece.Item.{Item}
+use Rattle.qs_send.specs.declared.piece.Item.TheVariants.{MaxData, MaxStreamData, MaxStreams, ResetStream, StopSending, DataBlocked, StreamDataBlocked, StreamsBlocked}
+use Rattle.qs_send.specs.declared.piece.Piece.{Piece}
+use Rattle.qs_send.specs.declared.piece.Piece.TheVariants.{Data, Told}
+use Rattle.qs_machine.specs.Tables.{Tables, lookup, update, updated, open_to}
+use Rattle.qs_machine.specs.Ends.{End, AckedItems, on_send, is_own, is_uni, opens, opened_by_peer, first_send_limit}
+use Rattle.qs_machine.specs.Credit.{settle}
+use Rattle.qs_machine.specs.Seen.{Seen, Ack, Stream, Control, Close, Plain}
+use Rattle.qs_machine.specs.FrameStep.{AckedPiece, frame_taken, item_taken, piece_acked, item_acked, acks, without_piece, first_acked, named, greatest, greatest_of, or_zero}
+use Rattle.qs_machine.specs.Lawful.{Fills, frame_put, item_put, chunk_of}
+use Rattle.qs_machine.specs.Owner.{with_wanted}
+use Rattle.qs_machine.specs.Making.{losses, first_lost}
+use Rattle.qs_machine.proofs.TableLaws.{slots_updated, slots_opened}
+use Rattle.qs_machine.proofs.TablesAfter.{KeptIn, kept_same, kept_twice, kept_updated, kept_open}
+use Rattle.qs_runs.specs.Pasts.{Past}
+use Rattle.qs_runs.proofs.Members.{insert-cases, get-inserted}
+use Rattle.qs_runs.proofs.Acking.{WasAcked}
+use Rattle.qs_rest.specs.Invariant.{WasTold, ResetTold, AckedTrue, HalfTrue, IsAllAcked}
+use Rattle.qs_rest.proofs.Halves.{Lasts, lasts_same, lasts_twice, write_lasts, finish_lasts, reset_lasts, sent_lasts, blocked_lasts, allow_lasts, acked_lasts, reset_acked_lasts, write_true, finish_true, reset_true, sent_true, blocked_true, allow_true, acked_true, reset_acked_true}
+use Rattle.qs_rest.proofs.EachCall.{Edits}
+
+-- what holds of a sending half that is open
+abbrev pub SlotTrue : Past → ℕ → ℕ → Option SendLane → Type 0
+SlotTrue p n first None = Unit {0}
+SlotTrue p n first (Some l) = HalfTrue p n first l
+
+-- what holds of the sending halves of an end
+abbrev pub AllTrue : Past → End → Type 0
+AllTrue p e = (n : ℕ) → SlotTrue p n (first_send_limit e n) (lookup e.sends n)
+
+-- What an end keeps, and what holds of it then.
+pub record Moved (p : Past) (old new : End) : Type 0 where
+  pub role : new.role ≡ old.role
+  pub peer : new.peer ≡ old.peer
+  pub conn : old.known_data ≤ new.known_data
+  pub bidi : old.known_bidi ≤ new.known_bidi
+  pub uni : old.known_uni ≤ new.known_uni
+  pub sends : KeptIn Lasts old.sends new.sends
+  pub halves : AllTrue p new
+  pub acked : AckedTrue p new.acked
+
+module _ (p : Past) where
+  pub moved_twice : (a b c : End) → Moved p a b → Moved p b c → Moved p a c
+  moved_twice a b c x y =
+      record {
+        role = y.role ∙ x.role;
+        peer = y.peer ∙ x.peer;
+        conn = omega (arith, x.conn, y.conn);
+        bidi = omega (arith, x.bidi, y.bidi);
+        uni = omega (arith, x.uni, y.uni);
+        sends = kept_twice Lasts lasts_same lasts_twice a.sends b.sends c.sends x.sends y.sends;
+        halves = y.halves;
+        acked = y.acked;
+      }
+
+  -- One half changes
+
+  kept_all : (t : Tables SendLane) → KeptIn Lasts t t
+  kept_all t = kept_same Lasts lasts_same t
+
+  slots_changed : (e : End) (n : ℕ) (f : SendLane → SendLane) → AllTrue p e → ((l : SendLane) → lookup e.sends n ≡ Some l → HalfTrue p n (first_send_limit e n) l → HalfTrue p n (first_send_limit e n) (f l)) → AllTrue p (on_send n f e)
+  slots_changed e n f all change = go (lookup e.sends n) refl
+    where
+      go : (o : Option SendLane) → lookup e.sends n ≡ o → (m : ℕ) → SlotTrue p m (first_send_limit e m) (lookup (updated e.sends n f o) m)
+      go None is = all
+      go (Some l) is =
+          slots_updated (λ m o. SlotTrue p m (first_send_limit e m) o) e.sends n l (f l) is (λ m other. all m)
+          (change l is (subst (SlotTrue p n (first_send_limit e n)) is (all n)))
+
+  pub half_moved : (e : End) (n : ℕ) (f : SendLane → SendLane) → AllTrue p e → AckedTrue p e.acked → ((l : SendLane) → lookup e.sends n ≡ Some l → Lasts l (f l))
+      → ((l : SendLane) → lookup e.sends n ≡ Some l → HalfTrue p n (first_send_limit e n) l → HalfTrue p n (first_send_limit e n) (f l)) → Moved p e (on_send n f e)
+  half_moved e n f all acked lasts change =
+      record {
+        role = refl;
+        peer = refl;
+        conn = omega arith;
+        bidi = omega arith;
+        uni = omega arith;
+        sends = kept_updated Lasts lasts_same e.sends n f lasts;
+        halves = slots_changed e n f all change;
+        acked = acked;
+      }
+
+  -- nothing of it changes
+  pub moved_same : (e : End) → AllTrue p e → AckedTrue p e.acked → Moved p e e
+  moved_same e all acked =
+      record { role = refl; peer = refl; conn = omega arith; bidi = omega arith; uni = omega arith; sends = kept_all e.sends; halves = all; acked = acked }
+
+  -- Streams open
+
+  begun : (m first buffer : ℕ) → HalfTrue p m first (new_send_lane m first buffer)
+  begun m first buffer = record { first_limit = omega arith; small = omega arith; reset_told = λ is. absurd (cc is) }
+
+  same_limit : (e : End) (n m : ℕ) → m % 4 ≡ n % 4 → first_send_limit e m ≡ first_send_limit e n
+  same_limit e n m kind = rw kind refl
+
+  opened_slots : (e : End) (n : ℕ) → AllTrue p e → (b : Bool) → (m : ℕ) → SlotTrue p m (first_send_limit e m) (lookup (cond b e.sends (open_to e.sends n (λ k. new_send_lane k (first_send_limit e n) e.settings.send_buffer))) m)
+  opened_slots e n all true = all
+  opened_slots e n all false =
+      slots_opened (λ m o. SlotTrue p m (first_send_limit e m) o) e.sends n (λ k. new_send_lane k (first_send_limit e n) e.settings.send_buffer) all
+      (λ m none kind. subst (λ first. HalfTrue p m (first_send_limit e m) (new_send_lane m first e.settings.send_buffer)) (same_limit e n m kind) (begun m (first_send_limit e m) e.settings.send_buffer))
+
+  pub opens_moved : (n : ℕ) (e : End) → AllTrue p e → AckedTrue p e.acked → Moved p e (opens n e)
+  opens_moved n e all acked =
+      record {
+        role = refl;
+        peer = refl;
+        conn = omega arith;
+        bidi = omega arith;
+        uni = omega arith;
+        sends = cond_both (is_uni n && not (is_own e n)) e.sends _ (KeptIn Lasts e.sends) (λ _. kept_all e.sends) (λ _. kept_open Lasts lasts_same e.sends n (λ m. new_send_lane m (first_send_limit e n) e.settings.send_buffer));
+        halves = opened_slots e n all (is_uni n && not (is_own e n));
+        acked = acked;
+      }
+
+  pub opened_moved : (n : ℕ) (e : End) → AllTrue p e → AckedTrue p e.acked → Moved p e (opened_by_peer n e)
+  opened_moved n e all acked = cond_both (is_own e n) e (opens n e) (Moved p e) (λ _. moved_same e all acked) (λ _. opens_moved n e all acked)
+
+  -- A packet
+
+  item_put_moved : (i : Item) (e : End) → AllTrue p e → AckedTrue p e.acked → Moved p e (item_put i e)
+  item_put_moved (MaxData m) e all acked = moved_same e all acked
+  item_put_moved (MaxStreamData n m) e all acked = moved_same e all acked
+  item_put_moved (MaxStreams d m) e all acked = moved_same e all acked
+  item_put_moved (ResetStream n code size) e all acked = moved_same e all acked
+  item_put_moved (StopSending n code) e all acked = moved_same e all acked
+  item_put_moved (DataBlocked m) e all acked = moved_same e all acked
+  item_put_moved (StreamDataBlocked n m) e all acked = half_moved e n blocked_lane all acked (λ l is. blocked_lasts l) (λ l is h. blocked_true p n _ l h)
+  item_put_moved (StreamsBlocked d m) e all acked = moved_same e all acked
+
+  put_moved : (f : Seen) (e : End) → AllTrue p e → AckedTrue p e.acked → Moved p e (frame_put f e)
+  unfolding frame_put
+  put_moved (Ack largest ranges) e all acked = record { role = refl; peer = refl; conn = omega arith; bidi = omega arith; uni = omega arith; sends = kept_all e.sends; halves = all; acked = acked }
+  put_moved (Stream n offset bytes fin) e all acked =
+      let h = half_moved e n (λ l. sent_lane l (chunk_of offset bytes fin)) all acked (λ l is. sent_lasts l (chunk_of offset bytes fin)) (λ l is t. sent_true p n _ l t (chunk_of offset bytes fin)) in
+      record { role = refl; peer = refl; conn = h.conn; bidi = h.bidi; uni = h.uni; sends = h.sends; halves = h.halves; acked = h.acked }
+  put_moved (Control i) e all acked =
+      let h = item_put_moved i e all acked in
+      record { role = h.role; peer = h.peer; conn = h.conn; bidi = h.bidi; uni = h.uni; sends = h.sends; halves = h.halves; acked = h.acked }
+  put_moved (Close code) e all acked = moved_same e all acked
+  put_moved (Plain asks) e all acked = moved_same e all acked
+
+  fills_moved : (old e : End) (frames : List Seen) (mid : End) → AllTrue p e → AckedTrue p e.acked → Fills old e frames mid → Moved p e mid
+  fills_moved old e [] mid all acked is = subst (Moved p e) (sym is) (moved_same e all acked)
+  fills_moved old e (f ∷ fs) mid all acked fills =
+      let one = put_moved f e all acked in
+      moved_twice e (frame_put f e) mid one (fills_moved old (frame_put f e) fs mid one.halves one.acked fills.1)
+
+  losses_moved : (k : ℕ) (ps : List Piece) (e : End) → AllTrue p e → AckedTrue p e.acked → Moved p e (losses k ps e)
+  unfolding losses
+  losses_moved k [] e all acked = moved_same e all acked
+  losses_moved k (x ∷ ps) e all acked =
+      let h = losses_moved k ps (first_lost k x e) all acked in
+      record { role = h.role; peer = h.peer; conn = h.conn; bidi = h.bidi; uni = h.uni; sends = h.sends; halves = h.halves; acked = h.acked }
+
+  wanted_moved : (d : Dir) (count : ℕ) (e : End) → AllTrue p e → AckedTrue p e.acked → Moved p e (with_wanted d count e)
+  wanted_moved Bidi count e all acked = record { role = refl; peer = refl; conn = omega arith; bidi = omega arith; uni = omega arith; sends = kept_all e.sends; halves = all; acked = acked }
+  wanted_moved Uni count e all acked = record { role = refl; peer = refl; conn = omega arith; bidi = omega arith; uni = omega arith; sends = kept_all e.sends; halves = all; acked = acked }
+
+  -- each call of an owner
+  pub moved_edits : (old : End) → AllTrue p old → AckedTrue p old.acked → Edits (Moved p old) old
+  moved_edits old all acked =
+      record {
+        same = moved_same old all acked;
+        settles = λ mid h. record { role = h.role; peer = h.peer; conn = h.conn; bidi = h.bidi; uni = h.uni; sends = h.sends; halves = h.halves; acked = h.acked };
+        wants = λ d count. wanted_moved d count old all acked;
+        opened = λ n. opens_moved n old all acked;
+        accepts = λ bidi uni. record { role = refl; peer = refl; conn = omega arith; bidi = omega arith; uni = omega arith; sends = kept_all old.sends; halves = all; acked = acked };
+        writes = λ n bytes l is fine. half_moved old n (λ m. write_lane m (take (accepted l (length bytes)) bytes)) all acked
+            (λ m there. write_lasts m (take (accepted l (length bytes)) bytes) (subst (λ x. refusal x ≡ None) (same_Some l m (sym is ∙ there)) fine))
+            (λ m there h. write_true p n _ m h l bytes (same_Some l m (sym is ∙ there)));
+        finishes = λ n. half_moved old n finish_lane all acked (λ l is. finish_lasts l) (λ l is h. finish_true p n _ l h);
+        resets = λ n code. half_moved old n (λ m. reset_lane m code) all acked (λ l is. reset_lasts code l) (λ l is h. reset_true p n _ l h code);
+        stops = λ n code. record { role = refl; peer = refl; conn = omega arith; bidi = omega arith; uni = omega arith; sends = kept_all old.sends; halves = all; acked = acked };
+        reads = λ n size. record { role = refl; peer = refl; conn = omega arith; bidi = omega arith; uni = omega arith; sends = kept_all old.sends; halves = all; acked = acked };
+        fills = λ frames mid fills.
+            let h = fills_moved old old frames mid all acked fills in
+            record { role = h.role; peer = h.peer; conn = h.conn; bidi = h.bidi; uni = h.uni; sends = h.sends; halves = h.halves; acked = h.acked };
+        loses = λ k ps. losses_moved k ps old all acked;
+      }
+
+  -- Acknowledgements
+
+  greatest_told : (o : Option ℕ) (value m : ℕ) (T : ℕ → Type 0) → ((k : ℕ) → o ≡ Some k → T k) → T value → greatest o value ≡ Some m → T m
+  greatest_told None value m T old new is = subst T (same_Some value m is) new
+  greatest_told (Some k) value m T old new is =
+      elim (cases_lt k value) [
+        | inl lt ↦ (let e : max k value ≡ value = omega (arith, lt) in subst T (sym e ∙ same_Some (max k value) m is) new)
+        | inr ge ↦ (let e : max k value ≡ k = omega (arith, ge) in subst T (sym e ∙ same_Some (max k value) m is) (old k refl))
+      ]
+
+  stream_told : (o : Option ℕ) (value : ℕ) (T : ℕ → Type 0) → ((k : ℕ) → o ≡ Some k → T k) → T value → T (max (or_zero o) value)
+  stream_told None value T old new = (let e : max 0 value ≡ value = omega arith in subst T (sym e) new)
+  stream_told (Some k) value T old new =
+      elim (cases_lt k value) [
+        | inl lt ↦ (let e : max k value ≡ value = omega (arith, lt) in subst T (sym e) new)
+        | inr ge ↦ (let e : max k value ≡ k = omega (arith, ge) in subst T (sym e) (old k refl))
+      ]
+
+  with_items : (e : End) (a : AckedItems) → AllTrue p e → AckedTrue p a → Moved p e (record e { acked = a })
+  with_items e a all h = record { role = refl; peer = refl; conn = omega arith; bidi = omega arith; uni = omega arith; sends = kept_all e.sends; halves = all; acked = h }
+
+  item_acked_moved : (i : Item) (e : End) → WasTold p i → AllTrue p e → AckedTrue p e.acked → Moved p e (item_acked i e)
+  item_acked_moved (MaxData m) e told all h =
+      with_items e _ all (record { conn = λ k is. greatest_told e.acked.max_data m k (λ x. WasTold p (MaxData x)) h.conn told is; streams = h.streams; bidi = h.bidi; uni = h.uni; stops = h.stops })
+  item_acked_moved (MaxStreamData n m) e told all h =
+      with_items e _ all (record {
+        conn = h.conn;
+        streams = λ j k is. elim (get-inserted e.acked.max_stream_data n (max (or_zero (fmap.get e.acked.max_stream_data n)) m) j k is) [
+          | inl old ↦ h.streams j k old
+          | inr new ↦ subst (λ x. WasTold p (MaxStreamData x k)) (sym new.0) (subst (λ x. WasTold p (MaxStreamData n x)) new.1 (stream_told (fmap.get e.acked.max_stream_data n) m (λ x. WasTold p (MaxStreamData n x)) (λ x at. h.streams n x at) told))
+        ];
+        bidi = h.bidi;
+        uni = h.uni;
+        stops = h.stops;
+      })
+  item_acked_moved (MaxStreams Bidi m) e told all h =
+      with_items e _ all (record { conn = h.conn; streams = h.streams; bidi = λ k is. greatest_told e.acked.bidi_streams m k (λ x. WasTold p (MaxStreams Bidi x)) h.bidi told is; uni = h.uni; stops = h.stops })
+  item_acked_moved (MaxStreams Uni m) e told all h =
+      with_items e _ all (record { conn = h.conn; streams = h.streams; bidi = h.bidi; uni = λ k is. greatest_told e.acked.uni_streams m k (λ x. WasTold p (MaxStreams Uni x)) h.uni told is; stops = h.stops })
+  item_acked_moved (ResetStream n code size) e told all h =
+      half_moved e n reset_acked_lane all h (λ l is. reset_acked_lasts l) (λ l is t. reset_acked_true p n _ l t (code, size, told))
+  item_acked_moved (StopSending n code) e told all h =
+      with_items e _ all (record {
+        conn = h.conn;
+        streams = h.streams;
+        bidi = h.bidi;
+        uni = h.uni;
+        stops = λ j is. elim (insert-cases e.acked.stop_sending n j is) [
+          | inl same ↦ (code, subst (λ x. WasTold p (StopSending x code)) (sym same) told)
+          | inr old ↦ h.stops j old
+        ];
+      })
+  item_acked_moved (DataBlocked m) e told all h = with_items e _ all (record { conn = h.conn; streams = h.streams; bidi = h.bidi; uni = h.uni; stops = h.stops })
+  item_acked_moved (StreamDataBlocked n m) e told all h = with_items e _ all (record { conn = h.conn; streams = h.streams; bidi = h.bidi; uni = h.uni; stops = h.stops })
+  item_acked_moved (StreamsBlocked Bidi m) e told all h = with_items e _ all (record { conn = h.conn; streams = h.streams; bidi = h.bidi; uni = h.uni; stops = h.stops })
+  item_acked_moved (StreamsBlocked Uni m) e told all h = with_items e _ all (record { conn = h.conn; streams = h.streams; bidi = h.bidi; uni = h.uni; stops = h.stops })
+
+  piece_moved : (a : AckedPiece) (e : End) → WasAcked p a → AllTrue p e → AckedTrue p e.acked → Moved p e (piece_acked a.piece e)
+  piece_moved a e was all acked = go a.piece refl
+    where
+      go : (x : Piece) → a.piece ≡ x → Moved p e (piece_acked x e)
+      go (Data n c) is = half_moved e n (λ l. acked_lane l c) all acked (λ l at. acked_lasts l c) (λ l at h. acked_true p n _ l h c)
+      go (Told i) is = item_acked_moved i e (a.number, rw is at was.0, was.1) all acked
+
+  pub acks_moved : (pieces : List AckedPiece) (e : End) → AllByRecursion (WasAcked p) pieces → AllTrue p e → AckedTrue p e.acked → Moved p e (acks pieces e)
+  unfolding acks
+  acks_moved [] e was all acked = moved_same e all acked
+  acks_moved (a ∷ pieces) e was all acked =
+      let short = without_piece a.late a.number e in
+      let one = piece_moved a short was.0 all acked in
+      let first : Moved p e (first_acked a e) = record { role = one.role; peer = one.peer; conn = one.conn; bidi = one.bidi; uni = one.uni; sends = one.sends; halves = one.halves; acked = one.acked } in
+      moved_twice e (first_acked a e) _ first (acks_moved pieces (first_acked a e) was.1 first.halves first.acked)
+
+  -- A frame that takes effect
+
+  changed_moved : (n : ℕ) (f : SendLane → SendLane) (e : End) → AllTrue p e → AckedTrue p e.acked → ((l : SendLane) → Lasts l (f l))
+      → ((l : SendLane) → HalfTrue p n (first_send_limit (opened_by_peer n e) n) l → HalfTrue p n (first_send_limit (opened_by_peer n e) n) (f l)) → Moved p e (on_send n f (opened_by_peer n e))
+  changed_moved n f e all acked lasts change =
+      let one = opened_moved n e all acked in
+      moved_twice e (opened_by_peer n e) _ one (half_moved (opened_by_peer n e) n f one.halves one.acked (λ l is. lasts l) (λ l is. change l))
+
+  pub item_moved : (i : Item) (e : End) → AllTrue p e → AckedTrue p e.acked → Moved p e (item_taken i e)
+  item_moved (MaxData m) e all acked = record { role = refl; peer = refl; conn = omega arith; bidi = omega arith; uni = omega arith; sends = kept_all e.sends; halves = all; acked = acked }
+  item_moved (MaxStreamData n m) e all acked = changed_moved n (λ l. allow_lane l m) e all acked (λ l. allow_lasts l m) (λ l h. allow_true p n _ l h m)
+  item_moved (MaxStreams Bidi m) e all acked = record { role = refl; peer = refl; conn = omega arith; bidi = omega arith; uni = omega arith; sends = kept_all e.sends; halves = all; acked = acked }
+  item_moved (MaxStreams Uni m) e all acked = record { role = refl; peer = refl; conn = omega arith; bidi = omega arith; uni = omega arith; sends = kept_all e.sends; halves = all; acked = acked }
+  item_moved (ResetStream n code size) e all acked =
+      let h = opened_moved n e all acked in
+      record { role = h.role; peer = h.peer; conn = h.conn; bidi = h.bidi; uni = h.uni; sends = h.sends; halves = h.halves; acked = h.acked }
+  item_moved (StopSending n code) e all acked = changed_moved n (λ l. reset_lane l code) e all acked (reset_lasts code) (λ l h. reset_true p n _ l h code)
+  item_moved (DataBlocked m) e all acked = moved_same e all acked
+  item_moved (StreamDataBlocked n m) e all acked = opened_moved n e all acked
+  item_moved (StreamsBlocked d m) e all acked = moved_same e all acked
+
+  pub frame_moved : (f : Seen) (e : End) → ((largest : ℕ) (ranges : List (ℕ × ℕ)) → f ≡ Ack largest ranges → AllByRecursion (WasAcked p) (named e ranges)) → AllTrue p e → AckedTrue p e.acked → Moved p e (frame_taken f e)
+  unfolding frame_taken
+  frame_moved (Ack largest ranges) e was all acked = acks_moved (named e ranges) e (was largest ranges refl) all acked
+  frame_moved (Stream n offset bytes fin) e was all acked =
+      let h = opened_moved n e all acked in
+      record { role = h.role; peer = h.peer; conn = h.conn; bidi = h.bidi; uni = h.uni; sends = h.sends; halves = h.halves; acked = h.acked }
+  frame_moved (Control i) e was all acked = item_moved i e all acked
+  frame_moved (Close code) e was all acked = moved_same e all acked
+  frame_moved (Plain asks) e was all acked = moved_same e all acked

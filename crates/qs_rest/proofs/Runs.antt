@@ -1,0 +1,179 @@
+-- In every run each end keeps what holds of it beside the invariant of qs_runs.
+use Rattle.std.proofs.Common.{◌≡◌, ℕ, ◌≤◌, Bool, true, false, ◌==◌, ◌&&◌, ◌++◌, List, [], ◌∷◌, ◌⊎◌, Option, Some, None, Result, Ok, Err, slice_get, refl, sym, ap, ◌∙◌, subst, arith, inl, inr, nat_lt, MatchBool}
+use Rattle.std.specs.Prelude.{cond}
+use Rattle.std.proofs.lemmas.Bool.{false≢true, eqb-true}
+use Rattle.std.specs.List.{AllByRecursion}
+use Rattle.std.specs.FinSet as set
+use Rattle.qs_wire.specs.Reading.{reading_of}
+use Rattle.qs_recv.specs.Lane.{raise}
+use Rattle.qs_send.specs.Lane.{SendLane}
+use Rattle.qs_send.specs.declared.piece.Item.{Item}
+use Rattle.qs_calls.specs.declared.closing.Closing.{Closing}
+use Rattle.qs_calls.specs.declared.closing.Closed.{Closed}
+use Rattle.qs_calls.specs.declared.closing.Closed.TheVariants.{ByUs, ByPeer}
+use Rattle.qs_calls.specs.declared.closing.Received.{Received}
+use Rattle.qs_calls.specs.declared.closing.Received.TheVariants.{Done, Duplicate, BelowFloor, PeerClosed, NoMemory}
+use Rattle.qs_calls.specs.declared.event.Act.{Act}
+use Rattle.qs_calls.specs.declared.answer.Answer.{Answer}
+use Rattle.qs_calls.specs.declared.answer.Answer.TheVariants as answers
+use Rattle.qs_machine.specs.Tables.{lookup}
+use Rattle.qs_machine.specs.Ends.{End, AckedItems, first_send_limit}
+use Rattle.qs_machine.specs.Credit.{settle}
+use Rattle.qs_machine.specs.Receiving.{ReceiveStep, ReceiveBy, ClosedReceive, TakesPayload}
+use Rattle.qs_machine.specs.EndStep.{Call, Receive}
+use Rattle.qs_machine.proofs.SettledLimits.{calls_settle}
+use Rattle.qs_machine.proofs.CallsCounts.{settled_call}
+use Rattle.qs_runs.specs.Logs.{is_done}
+use Rattle.qs_runs.specs.Agree.{frames_in}
+use Rattle.qs_runs.specs.Worlds.{OwnStep}
+use Rattle.qs_runs.specs.Pasts.{Packets, Past, Holds, seen_by}
+use Rattle.qs_runs.specs.Invariant.{EndOk}
+use Rattle.qs_runs.proofs.Lists.{slice_get-append}
+use Rattle.qs_runs.proofs.Past.{Holds-more, TellsAck-more}
+use Rattle.qs_runs.proofs.Changes.{AllGrow, all_grow_refl}
+use Rattle.qs_runs.proofs.Settling.{each_grows, raise_grows}
+use Rattle.qs_runs.proofs.Granting.{own_call}
+use Rattle.qs_runs.proofs.Lasting.{own_grows}
+use Rattle.qs_runs.proofs.OwnMoves.{with_call}
+use Rattle.qs_runs.proofs.PeerMoves.{with_theirs}
+use Rattle.qs_runs.proofs.Receives.{with_received}
+use Rattle.qs_rest.specs.Invariant.{WasTold, AckedTrue, HalfTrue, ItemTaken, RestOk}
+use Rattle.qs_rest.proofs.EachCall.{each_own}
+use Rattle.qs_rest.proofs.Moves.{AllTrue, SlotTrue, Moved, moved_same, moved_edits}
+use Rattle.qs_rest.proofs.Effects.{items_stay}
+use Rattle.qs_rest.proofs.Payloads.{After, takes, settled, not_done}
+
+-- The past goes on
+
+module _ (p q : Past) (more : (i : Item) → WasTold p i → WasTold q i) where
+  acked_more : (a : AckedItems) → AckedTrue p a → AckedTrue q a
+  acked_more a h =
+      record {
+        conn = λ m is. more _ (h.conn m is);
+        streams = λ n m is. more _ (h.streams n m is);
+        bidi = λ m is. more _ (h.bidi m is);
+        uni = λ m is. more _ (h.uni m is);
+        stops = λ n is. (let (code, told) = h.stops n is in (code, more _ told));
+      }
+
+  half_more : (n first : ℕ) (l : SendLane) → HalfTrue p n first l → HalfTrue q n first l
+  half_more n first l h =
+      record { first_limit = h.first_limit; small = h.small; reset_told = λ is. (let (code, size, told) = h.reset_told is in (code, size, more _ told)) }
+
+told_call : (p : Past) (act : Act) (answer : Answer) (i : Item) → WasTold p i → WasTold (with_call p act answer) i
+told_call p act answer i (k, holds, ack) = (k, Holds-more p.mine (seen_by act answer) k _ holds, ack)
+
+told_theirs : (p : Past) (packets : Packets) (i : Item) → WasTold p i → WasTold (with_theirs p packets) i
+told_theirs p packets i (k, holds, ack) = (k, holds, TellsAck-more p.theirs packets k ack)
+
+-- the slots of an end
+slots : (p : Past) (e : End) → RestOk p e → AllTrue p e
+slots p e ok n = go (lookup e.sends n) refl
+  where
+    go : (o : Option SendLane) → lookup e.sends n ≡ o → SlotTrue p n (first_send_limit e n) o
+    go None is = tt
+    go (Some l) is = ok.sends n l is
+
+slot_at : (p : Past) (e : End) → AllTrue p e → (n : ℕ) (l : SendLane) → lookup e.sends n ≡ Some l → HalfTrue p n (first_send_limit e n) l
+slot_at p e all n l is = subst (SlotTrue p n (first_send_limit e n)) is (all n)
+
+-- The peer makes packets
+
+pub peer_rests : (p : Past) (packets : Packets) (e : End) → RestOk p e → RestOk (with_theirs p packets) e
+peer_rests p packets e ok =
+    record {
+      conn = ok.conn;
+      bidi = ok.bidi;
+      uni = ok.uni;
+      sends = λ n l is. half_more p (with_theirs p packets) (told_theirs p packets) n _ l (ok.sends n l is);
+      acked = acked_more p (with_theirs p packets) (told_theirs p packets) e.acked ok.acked;
+      taken = λ k is. (let (fs, there, all) = ok.taken k is in (fs, slice_get-append p.theirs packets k fs there, all));
+      limits = ok.limits;
+      counts = ok.counts;
+    }
+
+-- An owner's call
+
+module _ (p : Past) (e new : End) (ok : RestOk p e) (m : Moved p e new) where
+  known_conn : new.peer.max_data ≤ new.known_data
+  known_conn = (let same = ap (λ x. x.max_data) m.peer in omega (arith, ok.conn, m.conn, same))
+
+  known_bidi : new.peer.streams_bidi ≤ new.known_bidi
+  known_bidi = (let same = ap (λ x. x.streams_bidi) m.peer in omega (arith, ok.bidi, m.bidi, same))
+
+  known_uni : new.peer.streams_uni ≤ new.known_uni
+  known_uni = (let same = ap (λ x. x.streams_uni) m.peer in omega (arith, ok.uni, m.uni, same))
+
+pub own_rests : (p : Past) (e new : End) → EndOk p e → RestOk p e → (act : Act) (answer : Answer) → OwnStep e act answer new → RestOk (with_call p act answer) new
+own_rests p e new good ok act answer step =
+    let (call, given, is) = own_call e new act answer step in
+    let m : Moved p e new = each_own (Moved p e) e (moved_edits p e (slots p e ok) ok.acked) act answer new step in
+    let grow = own_grows p e new good act answer step in
+    let q : Past = with_call p act answer in
+    record {
+      conn = known_conn p e new ok m;
+      bidi = known_bidi p e new ok m;
+      uni = known_uni p e new ok m;
+      sends = λ n l at. half_more p q (told_call p act answer) n _ l (slot_at p new m.halves n l at);
+      acked = acked_more p q (told_call p act answer) new.acked m.acked;
+      taken = λ k done. (let (fs, there, all) = ok.taken k done in (fs, there, items_stay e new m.conn m.bidi m.uni m.sends grow fs all));
+      limits = calls_settle e call given new ok.limits is;
+      counts = settled_call e call given new ok.counts is;
+    }
+
+-- A payload of the peer
+
+processed_or : (k j : ℕ) (b d : Bool) → cond (j == k && b) true d ≡ true → ((j ≡ k) × (b ≡ true)) ⊎ (d ≡ true)
+processed_or k j b d h = go (j == k) b refl refl h
+  where
+    go : (x y : Bool) → (j == k) ≡ x → b ≡ y → cond (x && y) true d ≡ true → ((j ≡ k) × (b ≡ true)) ⊎ (d ≡ true)
+    go true true ex ey h = inl (eqb-true j k ex, ey)
+    go true false ex ey h = inr h
+    go false y ex ey h = inr h
+
+pub after_payload : (p : Past) (e new : End) (k : ℕ) (text : List ℕ) (result : Result Received Closing) → EndOk p e → RestOk p e → slice_get p.theirs k ≡ Some (frames_in text) → ReceiveStep e k text result new → After p (frames_in text) e result new
+after_payload p e new k text result good ok is step = by_closed e.closed step
+  where
+    same : Moved p e e
+    same = moved_same p e (slots p e ok) ok.acked
+
+    stays : is_done (answers.Deliver result) ≡ false → new ≡ e → After p (frames_in text) e result new
+    stays undone at = not_done p k (frames_in text) is e result e new undone at same (subst (λ x. AllGrow e.recvs x.recvs) (sym at) (all_grow_refl e.recvs))
+
+    by_kept : (b : Bool) → MatchBool b ((result ≡ Ok Duplicate) × (new ≡ e)) ((mid : End) × TakesPayload k text e result mid × (new ≡ settle mid)) → After p (frames_in text) e result new
+    by_kept true h = stays (ap (λ r. is_done (answers.Deliver r)) h.0) h.1
+    by_kept false (mid, taken, at) =
+        settled p k (frames_in text) is e result mid new (each_grows raise mid.recvs raise_grows) at
+        (takes p k (frames_in text) is e (reading_of text).left [] false (reading_of text).fault e result mid refl good same (all_grow_refl e.recvs) tt taken)
+
+    by_floor : (b : Bool) → MatchBool b ((result ≡ Ok BelowFloor) × (new ≡ e)) (MatchBool (set.contains e.done k) ((result ≡ Ok Duplicate) × (new ≡ e)) ((mid : End) × TakesPayload k text e result mid × (new ≡ settle mid))) → After p (frames_in text) e result new
+    by_floor true h = stays (ap (λ r. is_done (answers.Deliver r)) h.0) h.1
+    by_floor false h = by_kept _ h
+
+    by_reason : (c : Closed) → ClosedReceive c e result new → After p (frames_in text) e result new
+    by_reason (ByUs closing) h = stays (ap (λ r. is_done (answers.Deliver r)) h.0) h.1
+    by_reason (ByPeer code) h = stays (ap (λ r. is_done (answers.Deliver r)) h.0) h.1
+
+    by_closed : (o : Option Closed) → ReceiveBy o k text e result new → After p (frames_in text) e result new
+    by_closed (Some c) h = by_reason c h
+    by_closed None h = by_floor _ h
+
+pub receive_rests : (p : Past) (e new : End) (k : ℕ) (text : List ℕ) (result : Result Received Closing) → EndOk p e → RestOk p e → slice_get p.theirs k ≡ Some (frames_in text) → ReceiveStep e k text result new → RestOk (with_received p k result) new
+receive_rests p e new k text result good ok is step =
+    let a = after_payload p e new k text result good ok is step in
+    let m : Moved p e new = a.moved in
+    let q : Past = with_received p k result in
+    record {
+      conn = known_conn p e new ok m;
+      bidi = known_bidi p e new ok m;
+      uni = known_uni p e new ok m;
+      sends = λ n l at. half_more p q (λ i told. told) n _ l (slot_at p new m.halves n l at);
+      acked = acked_more p q (λ i told. told) new.acked m.acked;
+      taken = λ j done.
+          elim (processed_or k j (is_done (answers.Deliver result)) (p.processed j) done) [
+            | inl now ↦ (frames_in text, ap (slice_get p.theirs) now.0 ∙ is, a.done now.1)
+            | inr before ↦ (let (fs, there, all) = ok.taken j before in (fs, there, items_stay e new m.conn m.bidi m.uni m.sends a.grow fs all))
+          ];
+      limits = calls_settle e (Receive k text) result new ok.limits step;
+      counts = settled_call e (Receive k text) result new ok.counts step;
+    }

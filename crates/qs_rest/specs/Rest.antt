@@ -1,0 +1,32 @@
+-- Two ends at rest (the whole file is ours, but that each clause names its section of RFC 9000).
+use Rattle.std.specs.Prelude.{◌≡◌, ℕ, true, ⊤, Some}
+use Rattle.qs_recv.specs.Lane.{RecvLane, read_answer}
+use Rattle.qs_recv.specs.declared.half.Read.{Read}
+use Rattle.qs_recv.specs.declared.half.Read.TheVariants as reads
+use Rattle.qs_send.specs.declared.piece.Piece.{Piece}
+use Rattle.qs_calls.specs.declared.settings.Settings.{Settings}
+use Rattle.qs_calls.specs.declared.event.Side.{Side}
+use Rattle.qs_machine.specs.Ends.{End, recv_lane}
+use Rattle.qs_machine.specs.Due.{IsOutstanding, Sendable}
+use Rattle.qs_runs.specs.Logs.{History}
+use Rattle.qs_runs.specs.Worlds.{World, end_of, Run}
+use Rattle.qs_runs.specs.Pasts.{past}
+use Rattle.qs_rest.specs.Invariant.{RestOk}
+
+-- a read has no byte to hand out, and no end or reset that wasn't told (RFC 9000, section 3.2)
+abbrev pub TellsNoNews : Read → RecvLane → Type 0
+TellsNoNews (reads.Bytes n) l = ⊥
+TellsNoNews reads.End l = l.told ≡ true
+TellsNoNews (reads.Reset code) l = l.told ≡ true
+TellsNoNews reads.Wait l = ⊤
+
+-- An end is at rest: nothing may go out, no packet of its own is outstanding, and its readers know all that came (RFC 9000, sections
+-- 3.2 and 13.3).
+pub record AtRest (e : End) : Type 0 where
+  pub quiet : Sendable e → ⊥
+  pub landed : (p : Piece) → IsOutstanding e p → ⊥
+  pub told : (n : ℕ) (l : RecvLane) → recv_lane e n ≡ Some l → TellsNoNews (read_answer l 1) l
+
+-- in every run each end keeps what a rest needs
+abbrev pub EveryRunKeeps : Type 0
+EveryRunKeeps = (a b : Settings) (h : History) (w : World) → Run a b h w → (s : Side) → RestOk (past s h) (end_of w s)
