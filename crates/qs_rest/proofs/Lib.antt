@@ -8,3 +8,4 @@ pub mod Effects
 pub mod Payloads
 pub mod Runs
 pub mod EveryRun
+pub mod Resting

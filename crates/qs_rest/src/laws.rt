@@ -2,6 +2,7 @@
 
 ghost use Rattle.qs_rest.specs.Laws.{ItemsAreInOnePart, StopsGiveBack};
 ghost use Rattle.qs_rest.specs.Rest.{EveryRunKeeps};
+ghost use Rattle.qs_rest.specs.Resting.{ItemsAreAcked, ToldIsTaken, AtEachRest, KnowsItsLimits};
 
 /// Each item that is to be told is in an outstanding packet, or was acknowledged, or is due.
 pub fn items_are_in_one_part()
@@ -16,4 +17,19 @@ pub fn stops_give_back()
 /// In every run, of both ends: what counts as acknowledged was told, what was told took effect, and limits and counts are settled.
 pub fn every_run_keeps()
     ensures { EveryRunKeeps }
+{}
+
+/// At rest the peer acknowledged each item that is to be told.
+pub fn items_are_acked()
+    ensures { ItemsAreAcked }
+{}
+
+/// What an acknowledged packet told took effect at the peer.
+pub fn told_is_taken()
+    ensures { ToldIsTaken }
+{}
+
+/// At rest each limit that is granted is known, and each count of streams, and that is the next one.
+pub fn limits_are_known()
+    ensures { AtEachRest KnowsItsLimits }
 {}

@@ -1,0 +1,121 @@
+-- At rest all that is to be told is known at the peer, and so is each limit.
+use Rattle.std.proofs.Common.{◌≡◌, ℕ, ◌≤◌, ◌<◌, Bool, true, Some, None, List, slice_get, refl, sym, ap, ◌∙◌, subst, arith, inl, inr, le_antisymm, if◌then◌else◌}
+use Rattle.std.proofs.lemmas.Option.{none-some, same_Some}
+use Rattle.std.proofs.lemmas.Bool.{cases_lt}
+use Rattle.std.specs.List.{AllByRecursion}
+use Rattle.qs_wire.specs.declared.stream_id.Dir.{Dir}
+use Rattle.qs_wire.specs.declared.stream_id.Dir.TheVariants.{Bidi, Uni}
+use Rattle.qs_recv.specs.Lane.{RecvLane}
+use Rattle.qs_send.specs.Lane.{SendLane}
+use Rattle.qs_send.specs.Records.{Among}
+use Rattle.qs_send.specs.declared.piece.Item.{Item}
+use Rattle.qs_send.specs.declared.piece.Item.TheVariants.{MaxData, MaxStreamData, MaxStreams}
+use Rattle.qs_send.specs.declared.piece.Piece.TheVariants.{Told}
+use Rattle.qs_calls.specs.declared.settings.Settings.{Settings}
+use Rattle.qs_calls.specs.declared.event.Side.{Side}
+use Rattle.qs_calls.specs.declared.event.Side.TheVariants.{A, B}
+use Rattle.qs_machine.specs.Ends.{End, first_send_limit, window}
+use Rattle.qs_machine.specs.Credit.{granted_streams, next_count, first_grant}
+use Rattle.qs_machine.specs.Due.{IsCurrent, IsAcked, known_count}
+use Rattle.qs_machine.specs.Seen.{Seen, Control}
+use Rattle.qs_runs.specs.Logs.{History, other, processed}
+use Rattle.qs_runs.specs.Worlds.{World, end_of, Run}
+use Rattle.qs_runs.specs.Pasts.{past, Holds, TellsAck}
+use Rattle.qs_runs.specs.Clauses.{sending, receiving}
+use Rattle.qs_runs.specs.Invariant.{WorldOk}
+use Rattle.qs_runs.proofs.Lists.{All_at}
+use Rattle.qs_runs.proofs.Unharmed.{Facing}
+use Rattle.qs_runs.proofs.Histories.{theirs_mine}
+use Rattle.qs_runs.proofs.Runs.{run_keeps, ends_face, told_limits, known_counts}
+use Rattle.qs_runs.proofs.Clauses.{known_is_within_granted}
+use Rattle.qs_rest.specs.Invariant.{WasTold, ItemTaken, RestOk}
+use Rattle.qs_rest.specs.Rest.{AtRest}
+use Rattle.qs_rest.specs.Resting.{ItemsAreAcked, ToldIsTaken, AtEachRest, KnowsItsLimits}
+use Rattle.qs_rest.proofs.ItemParts.{item_part}
+use Rattle.qs_rest.proofs.EveryRun.{every_run_keeps}
+
+pub items_acked : ItemsAreAcked
+items_acked e i rest current =
+    elim (item_part e i current) [
+      | inl flies ↦ absurd (rest.landed (Told i) flies)
+      | inr down ↦ elim down [ inl acked ↦ acked | inr due ↦ absurd (rest.quiet (inr (inl (i, due)))) ]
+    ]
+
+module _ (a b : Settings) (h : History) (w : World) (ok : WorldOk a b h w) (keeps : (s : Side) → RestOk (past s h) (end_of w s)) where
+  -- a packet that the peer acknowledged was processed there
+  pub was_processed : (s : Side) (k : ℕ) → TellsAck (past s h).theirs k → processed (other s) k h ≡ true
+  was_processed s k (largest, ranges, t, named) = ((ok.ends (other s)).packets.acks_told largest ranges t).names_processed k named
+
+  -- so what holds there of each frame of it holds of this one
+  pub holds_there : (s : Side) (P : Seen → Type 0) (k : ℕ) (f : Seen) → Holds (past s h).mine k f → (fs : List Seen) × (slice_get (past (other s) h).theirs k ≡ Some fs) × AllByRecursion P fs → P f
+  holds_there s P k f (fs, is, a) (gs, there, all) =
+      let same : gs ≡ fs = same_Some gs fs (sym there ∙ ap (λ x. slice_get x k) (theirs_mine s h) ∙ is) in
+      All_at P fs f (rw same at all) a
+
+  pub taken : (s : Side) (i : Item) → WasTold (past s h) i → ItemTaken (end_of w (other s)) (Control i)
+  taken s i (k, holds, ack) = holds_there s (ItemTaken (end_of w (other s))) k (Control i) holds ((keeps (other s)).taken k (was_processed s k ack))
+
+  -- and what the other side told
+  pub taken_here : (s : Side) (i : Item) → WasTold (past (other s) h) i → ItemTaken (end_of w s) (Control i)
+  taken_here A i told = taken B i told
+  taken_here B i told = taken A i told
+
+  module _ (rest : (s : Side) → AtRest (end_of w s)) (s : Side) where
+    abbrev here : End
+    here = end_of w s
+
+    abbrev there : End
+    there = end_of w (other s)
+
+    face : Facing there here
+    face = ends_face a b h w ok s
+
+    data_known : there.granted ≤ here.known_data
+    data_known =
+        elim (cases_lt there.settings.conn_window there.granted) [
+          | inl more ↦ taken_here s (MaxData there.granted) ((keeps (other s)).acked.conn there.granted (items_acked there (MaxData there.granted) (rest (other s)) (refl, more)))
+          | inr first ↦ omega (arith, first, face.first_data, (keeps s).conn)
+        ]
+
+    stream_known : (n : ℕ) (l : SendLane) (r : RecvLane) → sending w s n ≡ Some l → receiving w s n ≡ Some r → r.final_size ≡ None → r.limit ≤ l.limit
+    stream_known n l r at is open_end =
+        elim (cases_lt (window there n) r.limit) [
+          | inl more ↦ (
+              let acked = items_acked there (MaxStreamData n r.limit) (rest (other s)) (r, is, refl, more, open_end) in
+              let (m, found, le) = taken_here s (MaxStreamData n r.limit) ((keeps (other s)).acked.streams n r.limit acked) in
+              let same : m ≡ l = same_Some m l (sym found ∙ at) in
+              rw same at le)
+          | inr first ↦ omega (arith, first, face.first_limit n, ((keeps s).sends n l at).first_limit)
+        ]
+
+    bidi_known : there.granted_bidi ≤ here.known_bidi
+    bidi_known =
+        elim (cases_lt there.settings.grant_bidi there.granted_bidi) [
+          | inl more ↦ taken_here s (MaxStreams Bidi there.granted_bidi) ((keeps (other s)).acked.bidi there.granted_bidi (items_acked there (MaxStreams Bidi there.granted_bidi) (rest (other s)) (refl, more)))
+          | inr first ↦ (let told = ap (λ x. x.streams_bidi) (told_limits a b h w ok s) in omega (arith, first, told, (keeps s).bidi))
+        ]
+
+    uni_known : there.granted_uni ≤ here.known_uni
+    uni_known =
+        elim (cases_lt there.settings.grant_uni there.granted_uni) [
+          | inl more ↦ taken_here s (MaxStreams Uni there.granted_uni) ((keeps (other s)).acked.uni there.granted_uni (items_acked there (MaxStreams Uni there.granted_uni) (rest (other s)) (refl, more)))
+          | inr first ↦ (let told = ap (λ x. x.streams_uni) (told_limits a b h w ok s) in omega (arith, first, told, (keeps s).uni))
+        ]
+
+    counts_known : (d : Dir) → known_count here d ≡ next_count there d
+    counts_known Bidi = (let same : here.known_bidi ≡ there.granted_bidi = omega (arith, bidi_known, (known_counts a b h w ok s).0) in same ∙ (keeps (other s)).counts Bidi)
+    counts_known Uni = (let same : here.known_uni ≡ there.granted_uni = omega (arith, uni_known, (known_counts a b h w ok s).1) in same ∙ (keeps (other s)).counts Uni)
+
+    pub limits_known : KnowsItsLimits h w s
+    limits_known =
+        record {
+          connection = omega (arith, data_known, (known_is_within_granted a b h w ok s).connection);
+          streams = λ n l r at is open_end. omega (arith, stream_known n l r at is open_end, (known_is_within_granted a b h w ok s).streams n l r at is);
+          counts = counts_known;
+        }
+
+pub told_taken : ToldIsTaken
+told_taken a b h w run s i told = taken a b h w (run_keeps a b h w run) (every_run_keeps a b h w run) s i told
+
+pub each_limit_known : AtEachRest KnowsItsLimits
+each_limit_known a b h w run rest s = limits_known a b h w (run_keeps a b h w run) (every_run_keeps a b h w run) rest s
