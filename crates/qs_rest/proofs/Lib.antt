@@ -8,4 +8,7 @@ pub mod Effects
 pub mod Payloads
 pub mod Runs
 pub mod EveryRun
+pub mod Lanes
 pub mod Resting
+pub mod Streams
+pub mod Delivered

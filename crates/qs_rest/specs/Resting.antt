@@ -1,16 +1,20 @@
 -- What holds of two ends at rest, in every run.
-use Rattle.std.specs.Prelude.{◌≡◌, ℕ, None, Some}
+use Rattle.std.specs.Prelude.{◌≡◌, ℕ, ◌<◌, true, false, ◌⊎◌, None, Some, is_some}
+use Rattle.std.specs.FinMap as fmap
+use Rattle.qs_ranges.specs.Numbers.{MAX_VARINT}
 use Rattle.qs_wire.specs.declared.stream_id.Dir.{Dir}
-use Rattle.qs_recv.specs.Lane.{RecvLane}
-use Rattle.qs_send.specs.Lane.{SendLane}
+use Rattle.qs_recv.specs.Lane.{RecvLane, highest, taken, state as recv_state}
+use Rattle.qs_recv.specs.declared.half.RecvState.TheVariants.{DataRead, ResetRead}
+use Rattle.qs_send.specs.Lane.{SendLane, state as send_state}
+use Rattle.qs_send.specs.declared.parts.SendState.TheVariants.{DataRecvd, ResetRecvd}
 use Rattle.qs_send.specs.declared.piece.Item.{Item}
 use Rattle.qs_calls.specs.declared.settings.Settings.{Settings}
 use Rattle.qs_calls.specs.declared.event.Side.{Side}
 use Rattle.qs_machine.specs.Ends.{End}
-use Rattle.qs_machine.specs.Credit.{next_count}
+use Rattle.qs_machine.specs.Credit.{spent, all_taken, all_stored, all_sent, next_count}
 use Rattle.qs_machine.specs.Due.{IsCurrent, IsAcked, known_count}
 use Rattle.qs_machine.specs.Seen.{Control}
-use Rattle.qs_runs.specs.Logs.{History, other}
+use Rattle.qs_runs.specs.Logs.{History, other, written, read}
 use Rattle.qs_runs.specs.Worlds.{World, end_of, Run}
 use Rattle.qs_runs.specs.Pasts.{past}
 use Rattle.qs_runs.specs.Clauses.{sending, receiving}
@@ -35,3 +39,39 @@ pub record KnowsItsLimits (h : History) (w : World) (s : Side) : Type 0 where
   pub connection : (end_of w s).known_data ≡ (end_of w (other s)).granted
   pub streams : (n : ℕ) (l : SendLane) (r : RecvLane) → sending w s n ≡ Some l → receiving w s n ≡ Some r → r.final_size ≡ None → l.limit ≡ r.limit
   pub counts : (d : Dir) → known_count (end_of w s) d ≡ next_count (end_of w (other s)) d
+
+-- All credit is paid back: what the sender sent is what counts as received, all of that was taken, and nothing is stored; of the
+-- connection, and of each stream (RFC 9000, sections 4.1 and 4.2).
+pub record CreditIsWhole (h : History) (w : World) (s : Side) : Type 0 where
+  pub is_spent : spent (end_of w (other s)) ≡ all_sent (end_of w s)
+  pub is_taken : all_taken (end_of w (other s)) ≡ all_sent (end_of w s)
+  pub none_stored : all_stored (end_of w (other s)) ≡ 0
+  pub streams : (n : ℕ) (l : SendLane) (r : RecvLane) → sending w s n ≡ Some l → receiving w s n ≡ Some r →
+      (highest r ≡ l.sent_end) × (taken r ≡ l.sent_end) × (fmap.len r.arrived.stored ≡ 0)
+
+-- the stream is reset: Reset Recvd, and Reset Read, or Data Read where all data had come before (RFC 9000, sections 3.1 and 3.2)
+abbrev pub IsResetAtBoth : World → Side → ℕ → Type 0
+IsResetAtBoth w s n =
+    (l : SendLane) × (r : RecvLane) × (sending w s n ≡ Some l) × (receiving w s n ≡ Some r)
+    × (send_state l ≡ ResetRecvd) × ((recv_state r ≡ ResetRead) ⊎ (recv_state r ≡ DataRead))
+
+-- the stream is delivered: Data Recvd, and Data Read (RFC 9000, sections 3.1 and 3.2)
+abbrev pub IsReadAtBoth : World → Side → ℕ → Type 0
+IsReadAtBoth w s n =
+    (l : SendLane) × (r : RecvLane) × (sending w s n ≡ Some l) × (receiving w s n ≡ Some r) × (send_state l ≡ DataRecvd) × (recv_state r ≡ DataRead)
+
+-- A stream that was reset, or whose reader stopped, has come to its end at both ends (RFC 9000, sections 3.1, 3.2 and 3.5).
+pub record ResetsAreFinal (h : History) (w : World) (s : Side) : Type 0 where
+  pub resets : (n : ℕ) (l : SendLane) → sending w s n ≡ Some l → is_some l.was_reset ≡ true → IsResetAtBoth w s n
+  pub stops : (n : ℕ) (r : RecvLane) → receiving w s n ≡ Some r → is_some r.stop_code ≡ true → IsResetAtBoth w s n ⊎ IsReadAtBoth w s n
+
+-- The sender has sent fewer bytes than a limit on the connection can ever allow, 2^62-1 (RFC 9000, sections 4.1 and 16).
+abbrev pub HasRoom : World → Side → Type 0
+HasRoom w s = all_sent (end_of w s) < MAX_VARINT
+
+-- No limit holds a stream back that wasn't reset: each byte that was written was sent, and read unless the reader stopped; and once the
+-- owner finished, the stream is delivered (RFC 9000, sections 2.2, 3.1, 3.2 and 4.1).
+pub record AllIsDelivered (h : History) (w : World) (s : Side) : Type 0 where
+  pub unblocked : (n : ℕ) (l : SendLane) → HasRoom w s → sending w s n ≡ Some l → l.was_reset ≡ None → l.sent_end ≡ l.written
+  pub delivered : (n : ℕ) (l : SendLane) → HasRoom w s → sending w s n ≡ Some l → l.was_reset ≡ None → (past (other s) h).stopped n ≡ false → read (other s) n h ≡ written s n h
+  pub ended : (n : ℕ) (l : SendLane) → HasRoom w s → sending w s n ≡ Some l → l.was_reset ≡ None → l.finished ≡ true → IsReadAtBoth w s n

@@ -2,7 +2,7 @@
 
 ghost use Rattle.qs_rest.specs.Laws.{ItemsAreInOnePart, StopsGiveBack};
 ghost use Rattle.qs_rest.specs.Rest.{EveryRunKeeps};
-ghost use Rattle.qs_rest.specs.Resting.{ItemsAreAcked, ToldIsTaken, AtEachRest, KnowsItsLimits};
+ghost use Rattle.qs_rest.specs.Resting.{ItemsAreAcked, ToldIsTaken, AtEachRest, KnowsItsLimits, CreditIsWhole, ResetsAreFinal, AllIsDelivered};
 
 /// Each item that is to be told is in an outstanding packet, or was acknowledged, or is due.
 pub fn items_are_in_one_part()
@@ -32,4 +32,19 @@ pub fn told_is_taken()
 /// At rest each limit that is granted is known, and each count of streams, and that is the next one.
 pub fn limits_are_known()
     ensures { AtEachRest KnowsItsLimits }
+{}
+
+/// At rest all credit is paid back, of the connection and of each stream.
+pub fn credit_is_whole()
+    ensures { AtEachRest CreditIsWhole }
+{}
+
+/// At rest each stream that was reset, or whose reader stopped, has come to its end at both ends.
+pub fn resets_are_final()
+    ensures { AtEachRest ResetsAreFinal }
+{}
+
+/// At rest no limit holds a stream back that wasn't reset: what was written was read, and a stream that was finished is delivered.
+pub fn all_is_delivered()
+    ensures { AtEachRest AllIsDelivered }
 {}

@@ -1,0 +1,137 @@
+-- At rest no limit holds a stream back, and what was written was read.
+use Rattle.std.proofs.Common.{◌≡◌, ℕ, ◌+◌, ◌<◌, ◌≤◌, true, false, length, Option, Some, None, refl, sym, ap, ◌∙◌, subst, arith, inl, inr}
+use Rattle.std.proofs.lemmas.Bool.{cases_lt, cond_both}
+use Rattle.std.proofs.lemmas.Bool.Decides.{nat_tests}
+use Rattle.qs_ranges.specs.Numbers.{MAX_VARINT}
+use Rattle.qs_wire.specs.declared.stream_id.Role.{Role}
+use Rattle.qs_recv.specs.Lane.{RecvLane, taken, next_limit}
+use Rattle.qs_send.specs.Lane.{SendLane}
+use Rattle.qs_calls.specs.declared.settings.Settings.{Settings}
+use Rattle.qs_calls.specs.Settings.{are_in_range}
+use Rattle.qs_calls.specs.declared.event.Side.{Side}
+use Rattle.qs_machine.specs.Ends.{End, is_uni, is_own_by, window_by, window, first_send_limit}
+use Rattle.qs_machine.specs.Credit.{all_sent, all_taken}
+use Rattle.qs_machine.proofs.Sound.{WindowsFit, windows_fit}
+use Rattle.qs_runs.specs.Logs.{History, other, read, written}
+use Rattle.qs_runs.specs.Worlds.{World, end_of, Run}
+use Rattle.qs_runs.specs.Pasts.{past}
+use Rattle.qs_runs.specs.Clauses.{sending, receiving}
+use Rattle.qs_runs.specs.Invariant.{WorldOk, RecvSlot}
+use Rattle.qs_runs.proofs.Lists.{same_length_prefix}
+use Rattle.qs_runs.proofs.Runs.{run_keeps, ends_face}
+use Rattle.qs_runs.proofs.Agrees.{prefix}
+use Rattle.qs_rest.specs.Invariant.{RestOk}
+use Rattle.qs_rest.specs.Rest.{AtRest}
+use Rattle.qs_rest.specs.Resting.{AtEachRest, HasRoom, IsReadAtBoth, AllIsDelivered}
+use Rattle.qs_rest.proofs.EveryRun.{every_run_keeps}
+use Rattle.qs_rest.proofs.Lanes.{full, all_or_limit, end_acked}
+use Rattle.qs_rest.proofs.Resting.{limits_known}
+use Rattle.qs_rest.proofs.Streams.{lawful, sender_ok, reader_ok, no_reset_known, acked_sent, end_sent, sent_alone, taken_sent, all_was_taken, is_read}
+
+-- each window is at least one byte
+some_window : (role : Role) (s : Settings) (n : ℕ) → WindowsFit s → 1 ≤ window_by role s n
+some_window role s n h =
+    cond_both (is_uni n) s.uni _ (λ x. 1 ≤ x) (λ _. h.uni.0) (λ _.
+    cond_both (is_own_by role n) s.bidi_local s.bidi_remote (λ x. 1 ≤ x) (λ _. h.local.0) (λ _. h.remote.0))
+
+some_conn_window : (s : Settings) → are_in_range s ≡ true → 1 ≤ s.conn_window
+some_conn_window s h = grind (arith, nat_tests, h)
+
+module _ (a b : Settings) (h : History) (w : World) (ok : WorldOk a b h w) (keeps : (s : Side) → RestOk (past s h) (end_of w s)) (rest : (s : Side) → AtRest (end_of w s)) (s : Side) where
+  -- the connection's limit isn't used up
+  has_credit : HasRoom w s → all_sent (end_of w s) < (end_of w s).known_data
+  has_credit room =
+      elim (cases_lt (all_sent (end_of w s)) (end_of w s).known_data) [
+        | inl lt ↦ lt
+        | inr le ↦ (
+            let grants : (end_of w s).known_data ≡ (end_of w (other s)).granted = (limits_known a b h w ok keeps rest s).connection in
+            let within : all_sent (end_of w s) ≤ (end_of w s).known_data = (ok.ends s).credit.sent_known in
+            let paid : all_taken (end_of w (other s)) ≡ all_sent (end_of w s) = all_was_taken a b h w ok keeps rest s in
+            let same : all_taken (end_of w (other s)) ≡ (end_of w (other s)).granted = omega (arith, le, grants, within, paid) in
+            let settled : next_limit (end_of w (other s)).granted (end_of w (other s)).granted (end_of w (other s)).settings.conn_window ≡ (end_of w (other s)).granted =
+            subst (λ t. next_limit (end_of w (other s)).granted t (end_of w (other s)).settings.conn_window ≡ (end_of w (other s)).granted) same (keeps (other s)).limits.connection in
+            let top : MAX_VARINT ≤ (end_of w (other s)).granted = full (end_of w (other s)).granted (end_of w (other s)).settings.conn_window (some_conn_window (end_of w (other s)).settings (ok.sound (other s)).0.settings) settled in
+            absurd (omega (arith, room, le, grants, within, top)))
+      ]
+
+  module _ (n : ℕ) (l : SendLane) (at : sending w s n ≡ Some l) (none : l.was_reset ≡ None) where
+    some_limit : 1 ≤ l.limit
+    some_limit =
+        omega (
+          arith,
+          some_window (end_of w (other s)).role (end_of w (other s)).settings n (windows_fit (end_of w (other s)).settings (ok.sound (other s)).0.settings),
+          (ends_face a b h w ok s).first_limit n,
+          ((keeps s).sends n l at).first_limit,
+        )
+
+    -- nor is its own limit
+    below_limit : l.sent_end < l.written → l.limit ≤ l.sent_end → ⊥
+    below_limit more blocked = by (receiving w s n) refl
+      where
+        at_limit : l.sent_end ≤ l.limit
+        at_limit = (sender_ok a b h w ok keeps rest s n l at).sent_limit
+
+        raised : (r : RecvLane) → receiving w s n ≡ Some r → r.final_size ≡ None → ⊥
+        raised r is e =
+            let known : l.limit ≡ r.limit = (limits_known a b h w ok keeps rest s).streams n l r at is e in
+            let paid : taken r ≡ l.sent_end = taken_sent a b h w ok keeps rest s n l r at is in
+            let same : taken r ≡ r.limit = omega (arith, known, paid, blocked, at_limit) in
+            let settled : next_limit r.limit r.limit r.arrived.window ≡ r.limit = subst (λ t. next_limit r.limit t r.arrived.window ≡ r.limit) same ((keeps (other s)).limits.streams n r is e) in
+            let top : MAX_VARINT ≤ r.limit = full r.limit r.arrived.window (lawful a b h w ok keeps rest s n r is).some_window settled in
+            let small : l.written ≤ MAX_VARINT = ((keeps s).sends n l at).small in
+            omega (arith, top, small, more, known, blocked)
+
+        sized : (r : RecvLane) → receiving w s n ≡ Some r → (o : Option ℕ) → r.final_size ≡ o → ⊥
+        sized r is None e = raised r is e
+        sized r is (Some size) e =
+            let whole = (end_sent a b h w ok keeps rest s n l r size at is e (no_reset_known a b h w ok keeps rest s n l r at is none)).1 in
+            omega (arith, whole, more)
+
+        by : (y : Option RecvLane) → receiving w s n ≡ y → ⊥
+        by None e = omega (arith, sent_alone a b h w ok keeps rest s n l at e, blocked, some_limit)
+        by (Some r) e = sized r e r.final_size refl
+
+    pub all_is_sent : HasRoom w s → l.sent_end ≡ l.written
+    all_is_sent room =
+        elim (all_or_limit (end_of w s) (rest s) n l at none (λ q acked. acked_sent a b h w ok keeps rest s n l q at acked)) [
+          | inl whole ↦ omega (arith, whole, (sender_ok a b h w ok keeps rest s n l at).sent_written)
+          | inr held ↦ elim held [
+            | inl own ↦ absurd (below_limit own.0 own.1)
+            | inr conn ↦ absurd (omega (arith, conn, has_credit room))
+          ]
+        ]
+
+    pub all_is_read : HasRoom w s → (past (other s) h).stopped n ≡ false → read (other s) n h ≡ written s n h
+    all_is_read room going = same_length_prefix _ _ (prefix a b h w ok s n).prefix (by (receiving w s n) refl ∙ sym count)
+      where
+        count : length (written s n h) ≡ l.written
+        count = (sender_ok a b h w ok keeps rest s n l at).count
+
+        by : (y : Option RecvLane) → receiving w s n ≡ y → length (read (other s) n h) ≡ l.written
+        by None e =
+            let slot = subst (RecvSlot (past (other s) h) n (window (end_of w (other s)) n)) e ((ok.ends (other s)).recvs n) in
+            let nothing : length (read (other s) n h) ≡ 0 = ap length slot.no_bytes in
+            omega (arith, nothing, sent_alone a b h w ok keeps rest s n l at e, all_is_sent room)
+        by (Some r) e =
+            let half = reader_ok a b h w ok keeps rest s n r e in
+            let given : length (read (other s) n h) ≡ r.arrived.read_count = half.count in
+            let no_stop : r.stop_code ≡ None = half.not_stopped going in
+            let no_reset : r.reset_code ≡ None = no_reset_known a b h w ok keeps rest s n l r at e none in
+            let took : taken r ≡ r.arrived.read_count = rw (no_reset, no_stop) refl in
+            omega (arith, given, took, taken_sent a b h w ok keeps rest s n l r at e, all_is_sent room)
+
+    pub all_has_ended : HasRoom w s → l.finished ≡ true → IsReadAtBoth w s n
+    all_has_ended room finished =
+        let whole = all_is_sent room in
+        is_read a b h w ok keeps rest s n l at none (end_acked (end_of w s) (rest s) n l at none finished whole) whole
+
+  pub all_is_delivered : AllIsDelivered h w s
+  all_is_delivered =
+      record {
+        unblocked = λ n l room at none. all_is_sent n l at none room;
+        delivered = λ n l room at none going. all_is_read n l at none room going;
+        ended = λ n l room at none finished. all_has_ended n l at none room finished;
+      }
+
+pub each_delivered : AtEachRest AllIsDelivered
+each_delivered a b h w run rest s = all_is_delivered a b h w (run_keeps a b h w run) (every_run_keeps a b h w run) rest s

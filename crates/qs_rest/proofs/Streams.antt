@@ -1,0 +1,356 @@
+-- Streams of two ends at rest: all credit is paid back, and each reset and each stop came to its end.
+use Rattle.std.proofs.Common.{◌≡◌, ℕ, zero, suc, ◌+◌, ◌-◌, ◌<◌, ◌≤◌, ◌==◌, ◌&&◌, Bool, true, false, ◌⊎◌, List, length, Option, Some, None, is_some, unwrap_or, refl, sym, ap, ◌∙◌, subst, arith, inl, inr, if◌then◌else◌}
+use Rattle.std.proofs.lemmas.Option.{none-some, same_Some}
+use Rattle.std.proofs.lemmas.Bool.{cases_lt, and_from, eq-eqb, true≢false, false≢true}
+use Rattle.std.specs.FinMap as fmap
+use Rattle.std.specs.FinSet as set
+use Rattle.qs_ranges.specs.Numbers.{NumberSet, missing_from, end_of as set_end}
+use Rattle.qs_ranges.proofs.Sets.{covers-is, covers-of, missing_from-of}
+use Rattle.qs_recv.specs.Lane.{RecvLane, highest, taken, is_whole, whole_to, read_answer, state as recv_state}
+use Rattle.qs_recv.specs.Lawful.{IsLawful}
+use Rattle.qs_recv.specs.declared.half.RecvState.TheVariants.{DataRead, ResetRead}
+use Rattle.qs_recv.proofs.LawfulLaws.{taken_within}
+use Rattle.qs_send.specs.Lane.{SendLane, unacked_from, declared_size, is_whole as send_whole, state as send_state}
+use Rattle.qs_send.specs.declared.parts.Reset.{Reset}
+use Rattle.qs_send.specs.declared.parts.SendState.TheVariants.{DataRecvd, ResetRecvd}
+use Rattle.qs_send.specs.declared.piece.Item.TheVariants.{ResetStream, StopSending}
+use Rattle.qs_calls.specs.declared.settings.Settings.{Settings}
+use Rattle.qs_calls.specs.declared.event.Side.{Side}
+use Rattle.qs_machine.specs.Tables.{total}
+use Rattle.qs_machine.specs.Ends.{End, send_lane, recv_lane, first_send_limit, window}
+use Rattle.qs_machine.specs.Credit.{spent, all_taken, all_stored, all_sent}
+use Rattle.qs_machine.specs.Standing.{HasLawfulLane}
+use Rattle.qs_machine.specs.Seen.{Seen, Stream, Control}
+use Rattle.qs_machine.proofs.Bounds.{stored_and_taken}
+use Rattle.qs_machine.proofs.TableLaws.{value, total_le, total_both}
+use Rattle.qs_runs.specs.Logs.{History, other, processed}
+use Rattle.qs_runs.specs.Worlds.{World, end_of, Run}
+use Rattle.qs_runs.specs.Pasts.{past, Tells}
+use Rattle.qs_runs.specs.Clauses.{Carries, sending, receiving}
+use Rattle.qs_runs.specs.Invariant.{WorldOk, SendOk, SendSlot, RecvOk, RecvSlot, FrameTaken}
+use Rattle.qs_runs.proofs.Members.{end-le, below-end}
+use Rattle.qs_runs.proofs.Histories.{theirs_mine}
+use Rattle.qs_runs.proofs.Runs.{run_keeps}
+use Rattle.qs_runs.proofs.Clauses.{received_is_below_sent, processed_was_taken, acked_was_processed, final_size_is_declared, reset_code_is_the_senders}
+use Rattle.qs_rest.specs.Invariant.{IsAllAcked, ResetTold, ItemTaken, RestOk}
+use Rattle.qs_rest.specs.Rest.{TellsNoNews, AtRest}
+use Rattle.qs_rest.specs.Resting.{AtEachRest, CreditIsWhole, IsResetAtBoth, IsReadAtBoth, ResetsAreFinal}
+use Rattle.qs_rest.proofs.EveryRun.{every_run_keeps}
+use Rattle.qs_rest.proofs.Lanes.{caught_up, end_told, reset_told, sent_acked, end_acked}
+use Rattle.qs_rest.proofs.Resting.{items_acked, was_processed, holds_there, taken as item_taken, taken_here}
+
+missing_is : (t : NumberSet) (k : ℕ) → ((q : ℕ) → q < k → set.contains t q ≡ true) → ((q : ℕ) → set.contains t q ≡ true → q < k) → missing_from t 0 ≡ k
+missing_is t k all below = sym (missing_from-of t 0 k (record { from = omega arith; missing = go (set.contains t k) refl; all_before = λ q from lt. all q lt }))
+  where
+    go : (b : Bool) → set.contains t k ≡ b → set.contains t k ≡ false
+    go true is = (let lt : k < k = below k is in absurd (omega arith))
+    go false is = is
+
+some_of : {X : Type 0} (o : Option X) → is_some o ≡ true → (x : X) × (o ≡ Some x)
+some_of None is = absurd (false≢true is)
+some_of (Some x) is = (x, refl)
+
+module _ (a b : Settings) (h : History) (w : World) (ok : WorldOk a b h w) (keeps : (s : Side) → RestOk (past s h) (end_of w s)) (rest : (s : Side) → AtRest (end_of w s)) (s : Side) (n : ℕ) where
+  pub lawful : (r : RecvLane) → receiving w s n ≡ Some r → IsLawful r
+  lawful r is = (subst (HasLawfulLane (end_of w (other s)).role (end_of w (other s)).settings n) is ((ok.sound (other s)).0.lanes n)).0
+
+  pub no_news : (r : RecvLane) → receiving w s n ≡ Some r → TellsNoNews (read_answer r 1) r
+  no_news r is = (rest (other s)).told n r is
+
+  pub sender_ok : (l : SendLane) → sending w s n ≡ Some l → SendOk (past s h) n (first_send_limit (end_of w s) n) l
+  sender_ok l at = subst (SendSlot (past s h) n (first_send_limit (end_of w s) n)) at ((ok.ends s).sends n)
+
+  pub reader_ok : (r : RecvLane) → receiving w s n ≡ Some r → RecvOk (past (other s) h) n (window (end_of w (other s)) n) r
+  reader_ok r is = subst (RecvSlot (past (other s) h) n (window (end_of w (other s)) n)) is ((ok.ends (other s)).recvs n)
+
+  -- what is acknowledged was sent
+  pub acked_sent : (l : SendLane) (q : ℕ) → sending w s n ≡ Some l → set.contains l.acked q ≡ true → q < l.sent_end
+  acked_sent l q at acked =
+      let (k, offset, bytes, fin, holds, low, high, ack) = (sender_ok l at).acked q acked in
+      omega (arith, high, ((sender_ok l at).told offset bytes fin (k, holds)).below)
+
+  -- where a final size is known without a reset, the owner finished, and all was sent
+  pub end_sent : (l : SendLane) (r : RecvLane) (size : ℕ) → sending w s n ≡ Some l → receiving w s n ≡ Some r → r.final_size ≡ Some size → r.reset_code ≡ None → (l.finished ≡ true) × (l.sent_end ≡ l.written)
+  end_sent l r size at is final none =
+      elim ((reader_ok r is).final size final) [
+        | inl (offset, bytes, t, same) ↦ (let tells = subst (λ x. Tells x (Stream n offset bytes true)) (theirs_mine s h) t in (sender_ok l at).end (((sender_ok l at).told offset bytes true tells).end refl).0)
+        | inr (code, known, t) ↦ absurd (none-some code (sym none ∙ known))
+      ]
+
+  -- all that was written was sent, where all of it is acknowledged
+  whole_sent : (l : SendLane) → sending w s n ≡ Some l → IsAllAcked l → l.sent_end ≡ l.written
+  whole_sent l at all = go l.written refl
+    where
+      go : (k : ℕ) → l.written ≡ k → l.sent_end ≡ l.written
+      go zero e = omega (arith, e, (sender_ok l at).sent_written)
+      go (suc k) e = omega (arith, e, (sender_ok l at).sent_written, acked_sent l k at (all.offsets k (omega (arith, e))))
+
+  -- where the sender didn't reset, the receiver knows no reset
+  pub no_reset_known : (l : SendLane) (r : RecvLane) → sending w s n ≡ Some l → receiving w s n ≡ Some r → l.was_reset ≡ None → r.reset_code ≡ None
+  no_reset_known l r at is none = go r.reset_code refl
+    where
+      go : (o : Option ℕ) → r.reset_code ≡ o → r.reset_code ≡ None
+      go None e = e
+      go (Some code) e =
+          let (m, size, there, reset) = reset_code_is_the_senders a b h w ok s n r code is e in
+          let same : m ≡ l = same_Some m l (sym there ∙ at) in
+          absurd (none-some _ (sym none ∙ ap (λ (x : SendLane). x.was_reset) (sym same) ∙ reset))
+
+  -- an offset that is acknowledged came
+  pub acked_came : (l : SendLane) (q : ℕ) → sending w s n ≡ Some l → l.was_reset ≡ None → set.contains l.acked q ≡ true → (r : RecvLane) × (receiving w s n ≡ Some r) × (set.contains r.arrived.received q ≡ true)
+  acked_came l q at none acked =
+      let (k, offset, bytes, fin, carries, low, high, done) = (acked_was_processed a b h w ok s n).offsets l q at acked in
+      let (r, is, took, fins) = processed_was_taken a b h w ok s n k offset bytes fin done carries in
+      elim took [
+        | inl all ↦ (r, is, all q low high)
+        | inr reset ↦ absurd (true≢false (sym reset ∙ ap is_some (no_reset_known l r at is none)))
+      ]
+
+  -- each offset that was sent came
+  pub sent_came : (l : SendLane) → sending w s n ≡ Some l → l.was_reset ≡ None → (q : ℕ) → q < l.sent_end → (r : RecvLane) × (receiving w s n ≡ Some r) × (set.contains r.arrived.received q ≡ true)
+  sent_came l at none q lt =
+      acked_came l q at none (sent_acked (end_of w s) (rest s) n l at none (sender_ok l at).sent_written (sender_ok l at).sent_limit q lt)
+
+  pub came_at : (l : SendLane) (r : RecvLane) → sending w s n ≡ Some l → receiving w s n ≡ Some r → l.was_reset ≡ None → (q : ℕ) → q < l.sent_end → set.contains r.arrived.received q ≡ true
+  came_at l r at is none q lt =
+      let (m, there, has_it) = sent_came l at none q lt in
+      let same : m ≡ r = same_Some m r (sym there ∙ is) in
+      rw same at has_it
+
+  -- a reset came, or all data had come before
+  pub reset_came : (l : SendLane) (reset : Reset) → sending w s n ≡ Some l → l.was_reset ≡ Some reset →
+      (l.reset_acked ≡ true) × ((r : RecvLane) × (receiving w s n ≡ Some r) × (is_some r.final_size ≡ true) × ((is_some r.reset_code ≡ true) ⊎ (is_whole r ≡ true)))
+  reset_came l reset at is =
+      let (m, there, acked) = items_acked (end_of w s) (ResetStream n reset.code reset.size) (rest s) (l, at, is) in
+      let same : m ≡ l = same_Some m l (sym there ∙ at) in
+      let known : l.reset_acked ≡ true = rw same at acked in
+      let (code, size, told) = ((keeps s).sends n l at).reset_told known in
+      let (r, found, ended) = item_taken a b h w ok keeps s (ResetStream n code size) told in
+      let (k, holds, ack) = told in
+      let (t, found_too, final) = holds_there a b h w ok keeps s (FrameTaken (end_of w (other s)).recvs) k (Control (ResetStream n code size)) holds ((ok.ends (other s)).taken k (was_processed a b h w ok keeps s k ack)) in
+      let same_half : t ≡ r = same_Some t r (sym found_too ∙ found) in
+      (known, (r, found, ap is_some (ap (λ (x : RecvLane). x.final_size) (sym same_half) ∙ final), ended))
+
+  -- the highest offset is the sent end
+  pub highest_sent : (l : SendLane) (r : RecvLane) → sending w s n ≡ Some l → receiving w s n ≡ Some r → highest r ≡ l.sent_end
+  highest_sent l r at is = by r.final_size refl l.was_reset refl
+    where
+      low : l.was_reset ≡ None → (k : ℕ) → l.sent_end ≡ k → k ≤ set_end r.arrived.received
+      low none zero e = omega arith
+      low none (suc k) e = below-end r.arrived.received k (came_at l r at is none k (omega (arith, e)))
+
+      high : (q : ℕ) → set.contains r.arrived.received q ≡ true → q < l.sent_end
+      high q has_it =
+          let (m, there, lt) = received_is_below_sent a b h w ok s n r q is has_it in
+          let same : m ≡ l = same_Some m l (sym there ∙ at) in
+          rw same at lt
+
+      by : (o : Option ℕ) → r.final_size ≡ o → (x : Option Reset) → l.was_reset ≡ x → highest r ≡ l.sent_end
+      by (Some size) e x ex =
+          let (m, there, declared, sent, count) = final_size_is_declared a b h w ok s n r size is e in
+          let same : m ≡ l = same_Some m l (sym there ∙ at) in
+          ap (λ o. unwrap_or o (set_end r.arrived.received)) e ∙ sym sent ∙ ap (λ (y : SendLane). y.sent_end) same
+      by None e None ex =
+          let top : highest r ≡ set_end r.arrived.received = rw e refl in
+          let over : set_end r.arrived.received ≤ l.sent_end = end-le r.arrived.received l.sent_end high in
+          omega (arith, low ex l.sent_end refl)
+      by None e (Some reset) ex =
+          let (known, (t, found, sized, ended)) = reset_came l reset at ex in
+          let same : t ≡ r = same_Some t r (sym found ∙ is) in
+          absurd (true≢false (sym sized ∙ ap (λ (y : RecvLane). is_some y.final_size) same ∙ ap is_some e))
+
+  -- whole data came below the highest offset
+  whole_came : (r : RecvLane) → is_whole r ≡ true → (q : ℕ) → q < highest r → set.contains r.arrived.received q ≡ true
+  whole_came r = go r.final_size
+    where
+      go : (o : Option ℕ) → whole_to r.arrived.received o ≡ true → (q : ℕ) → q < unwrap_or o (set_end r.arrived.received) → set.contains r.arrived.received q ≡ true
+      go None e q lt = absurd (false≢true e)
+      go (Some size) e q lt = covers-is r.arrived.received 0 size e q (omega arith) lt
+
+  -- all of it was taken
+  pub taken_sent : (l : SendLane) (r : RecvLane) → sending w s n ≡ Some l → receiving w s n ≡ Some r → taken r ≡ l.sent_end
+  taken_sent l r at is = caught_up r (lawful r is) (no_news r is) (came l.was_reset refl) ∙ top
+    where
+      top : highest r ≡ l.sent_end
+      top = highest_sent l r at is
+
+      came : (x : Option Reset) → l.was_reset ≡ x → ((q : ℕ) → q < highest r → set.contains r.arrived.received q ≡ true) ⊎ (is_some r.reset_code ≡ true)
+      came None e = inl (λ q lt. came_at l r at is e q (omega (arith, top)))
+      came (Some reset) e =
+          let (known, (t, found, sized, ended)) = reset_came l reset at e in
+          let same : t ≡ r = same_Some t r (sym found ∙ is) in
+          elim ended [
+            | inl reset_known ↦ inr (rw same at reset_known)
+            | inr whole ↦ inl (whole_came r (rw same at whole))
+          ]
+
+  -- a half alone: nothing was sent, and nothing came
+  pub sent_alone : (l : SendLane) → sending w s n ≡ Some l → receiving w s n ≡ None → l.sent_end ≡ 0
+  sent_alone l at none = by l.was_reset refl l.sent_end refl
+    where
+      by : (x : Option Reset) → l.was_reset ≡ x → (k : ℕ) → l.sent_end ≡ k → l.sent_end ≡ 0
+      by (Some reset) e k ek = (let (known, (t, found, sized, ended)) = reset_came l reset at e in absurd (none-some t (sym none ∙ found)))
+      by None e zero ek = ek
+      by None e (suc k) ek = (let (t, found, has_it) = sent_came l at e k (omega (arith, ek)) in absurd (none-some t (sym none ∙ found)))
+
+  came_alone : (r : RecvLane) → sending w s n ≡ None → receiving w s n ≡ Some r → highest r ≡ 0
+  came_alone r none is = by r.final_size refl
+    where
+      by : (o : Option ℕ) → r.final_size ≡ o → highest r ≡ 0
+      by (Some size) e = (let (l, at, declared, sent, count) = final_size_is_declared a b h w ok s n r size is e in absurd (none-some l (sym none ∙ at)))
+      by None e =
+          let top : highest r ≡ set_end r.arrived.received = rw e refl in
+          let over : set_end r.arrived.received ≤ 0 = end-le r.arrived.received 0 (λ q has_it. (let (l, at, lt) = received_is_below_sent a b h w ok s n r q is has_it in absurd (none-some l (sym none ∙ at)))) in
+          omega arith
+
+  pub slots : (x : Option SendLane) (y : Option RecvLane) → sending w s n ≡ x → receiving w s n ≡ y →
+      (value highest y ≡ value (λ l. l.sent_end) x) × (value taken y ≡ value (λ l. l.sent_end) x)
+  slots None None ex ey = (refl, refl)
+  slots (Some l) None ex ey = (let nothing = sent_alone l ex ey in (sym nothing, sym nothing))
+  slots None (Some r) ex ey = (let nothing = came_alone r ex ey in (nothing, omega (arith, nothing, taken_within r (lawful r ey))))
+  slots (Some l) (Some r) ex ey = (highest_sent l r ex ey, taken_sent l r ex ey)
+
+  pub reader_paid : (y : Option RecvLane) → receiving w s n ≡ y → value (λ r. fmap.len r.arrived.stored + taken r) y ≤ value highest y
+  reader_paid None e = omega arith
+  reader_paid (Some r) e = stored_and_taken r (lawful r e)
+
+  -- States
+
+  pub is_reset : (l : SendLane) (reset : Reset) → sending w s n ≡ Some l → l.was_reset ≡ Some reset → IsResetAtBoth w s n
+  is_reset l reset at e =
+      let (known, (r, is, sized, ended)) = reset_came l reset at e in
+      (l, r, at, is, rw known refl, by r is ended r.reset_code refl)
+    where
+      by : (r : RecvLane) → receiving w s n ≡ Some r → (is_some r.reset_code ≡ true) ⊎ (is_whole r ≡ true) → (x : Option ℕ) → r.reset_code ≡ x → (recv_state r ≡ ResetRead) ⊎ (recv_state r ≡ DataRead)
+      by r is ended (Some code) ex = (let told = reset_told r (lawful r is) (no_news r is) code ex in inl (rw (ex, told) refl))
+      by r is (inl reset_known) None ex = absurd (true≢false (sym reset_known ∙ ap is_some ex))
+      by r is (inr whole) None ex = (let told = end_told r (lawful r is) (no_news r is) ex whole in inr (rw (ex, whole, told) refl))
+
+  -- once the owner finished, and all was sent, the stream is delivered
+  pub is_read : (l : SendLane) → sending w s n ≡ Some l → l.was_reset ≡ None → l.fin_acked ≡ true → l.sent_end ≡ l.written → IsReadAtBoth w s n
+  is_read l at none end all = by ((acked_was_processed a b h w ok s n).end l at end)
+    where
+      acked : (q : ℕ) → q < l.written → set.contains l.acked q ≡ true
+      acked q lt = sent_acked (end_of w s) (rest s) n l at none (sender_ok l at).sent_written (sender_ok l at).sent_limit q (omega (arith, all))
+
+      below : (q : ℕ) → set.contains l.acked q ≡ true → q < l.written
+      below q has_it = omega (arith, all, acked_sent l q at has_it)
+
+      first : unacked_from l ≡ l.written
+      first = missing_is l.acked l.written acked below
+
+      not_reset : (c : Bool) → l.reset_acked ≡ c → l.reset_acked ≡ false
+      not_reset false e = e
+      not_reset true e =
+          let (code, size, (k, holds, ack)) = ((keeps s).sends n l at).reset_told e in
+          absurd (none-some _ (sym none ∙ (sender_ok l at).told_reset code size (k, holds)))
+
+      sent : send_state l ≡ DataRecvd
+      sent =
+          let whole : send_whole l ≡ true = and_from _ _ (eq-eqb (unacked_from l) l.written first) end in
+          rw (not_reset l.reset_acked refl, none, whole) refl
+
+      by : (k offset : ℕ) × (bytes : List ℕ) × Carries h s k (Stream n offset bytes true) × (processed (other s) k h ≡ true) → IsReadAtBoth w s n
+      by (k, offset, bytes, carries, done) =
+          let (r, is, took, fins) = processed_was_taken a b h w ok s n k offset bytes true done carries in
+          let final = fins refl in
+          let (m, there, declared, size, count) = final_size_is_declared a b h w ok s n r (offset + length bytes) is final in
+          let same : m ≡ l = same_Some m l (sym there ∙ at) in
+          let end_is : l.sent_end ≡ offset + length bytes = rw same at size in
+          let no_reset = no_reset_known l r at is none in
+          let whole : is_whole r ≡ true = ap (whole_to r.arrived.received) final ∙ covers-of r.arrived.received 0 (offset + length bytes) (λ q low lt. came_at l r at is none q (omega (arith, end_is))) in
+          let told = end_told r (lawful r is) (no_news r is) no_reset whole in
+          (l, r, at, is, sent, rw (no_reset, whole, told) refl)
+
+  -- a reader that stopped
+  pub is_stopped : (r : RecvLane) (code : ℕ) → receiving w s n ≡ Some r → r.stop_code ≡ Some code → IsResetAtBoth w s n ⊎ IsReadAtBoth w s n
+  is_stopped r code is stop = by_reset r.reset_code refl (is_whole r) refl
+    where
+      sized : (size : ℕ) → r.final_size ≡ Some size → r.reset_code ≡ None → IsResetAtBoth w s n ⊎ IsReadAtBoth w s n
+      sized size final none = by_sender (final_size_is_declared a b h w ok s n r size is final).0 (final_size_is_declared a b h w ok s n r size is final).1
+        where
+          by_sender : (l : SendLane) → sending w s n ≡ Some l → IsResetAtBoth w s n ⊎ IsReadAtBoth w s n
+          by_sender l at = go l.was_reset refl
+            where
+              go : (x : Option Reset) → l.was_reset ≡ x → IsResetAtBoth w s n ⊎ IsReadAtBoth w s n
+              go (Some reset) e = inl (is_reset l reset at e)
+              go None e =
+                  let ended = end_sent l r size at is final none in
+                  inr (is_read l at e (end_acked (end_of w s) (rest s) n l at e ended.0 ended.1) ended.1)
+
+      by_whole : (o : Option ℕ) → r.final_size ≡ o → whole_to r.arrived.received o ≡ true → r.reset_code ≡ None → IsResetAtBoth w s n ⊎ IsReadAtBoth w s n
+      by_whole None e whole none = absurd (false≢true whole)
+      by_whole (Some size) e whole none = sized size e none
+
+      by_reset : (x : Option ℕ) → r.reset_code ≡ x → (c : Bool) → is_whole r ≡ c → IsResetAtBoth w s n ⊎ IsReadAtBoth w s n
+      by_reset (Some known) e c ec =
+          let (l, size, at, reset) = reset_code_is_the_senders a b h w ok s n r known is e in
+          inl (is_reset l _ at reset)
+      by_reset None e true ec = by_whole r.final_size refl ec e
+      by_reset None e false ec =
+          let acked = items_acked (end_of w (other s)) (StopSending n code) (rest (other s)) (r, is, stop, e, ec) in
+          let (other_code, told) = ((keeps (other s)).acked.stops n acked) in
+          let (l, at, came) = taken_here a b h w ok keeps s (StopSending n other_code) told in
+          elim came [
+            | inl reset ↦ (let (x, ex) = some_of l.was_reset reset in inl (is_reset l x at ex))
+            | inr all ↦ by_all l at all l.was_reset refl
+          ]
+        where
+          by_all : (l : SendLane) → sending w s n ≡ Some l → IsAllAcked l → (x : Option Reset) → l.was_reset ≡ x → IsResetAtBoth w s n ⊎ IsReadAtBoth w s n
+          by_all l at all (Some reset) ex = inl (is_reset l reset at ex)
+          by_all l at all None ex = inr (is_read l at ex all.end (whole_sent l at all))
+
+module _ (a b : Settings) (h : History) (w : World) (ok : WorldOk a b h w) (keeps : (s : Side) → RestOk (past s h) (end_of w s)) (rest : (s : Side) → AtRest (end_of w s)) (s : Side) where
+  slot : (n : ℕ) → (value highest (receiving w s n) ≡ value (λ l. l.sent_end) (sending w s n)) × (value taken (receiving w s n) ≡ value (λ l. l.sent_end) (sending w s n))
+  slot n = slots a b h w ok keeps rest s n (sending w s n) (receiving w s n) refl refl
+
+  pub all_spent : spent (end_of w (other s)) ≡ all_sent (end_of w s)
+  all_spent =
+      omega (
+        arith,
+        total_le highest (λ l. l.sent_end) (end_of w (other s)).recvs (end_of w s).sends (λ n. omega (arith, (slot n).0)),
+        total_le (λ l. l.sent_end) highest (end_of w s).sends (end_of w (other s)).recvs (λ n. omega (arith, (slot n).0)),
+      )
+
+  pub all_was_taken : all_taken (end_of w (other s)) ≡ all_sent (end_of w s)
+  all_was_taken =
+      omega (
+        arith,
+        total_le taken (λ l. l.sent_end) (end_of w (other s)).recvs (end_of w s).sends (λ n. omega (arith, (slot n).1)),
+        total_le (λ l. l.sent_end) taken (end_of w s).sends (end_of w (other s)).recvs (λ n. omega (arith, (slot n).1)),
+      )
+
+  none_stored : all_stored (end_of w (other s)) ≡ 0
+  none_stored =
+      omega (
+        arith,
+        all_spent,
+        all_was_taken,
+        total_both (λ l. fmap.len l.arrived.stored) taken (end_of w (other s)).recvs,
+        total_le (λ l. fmap.len l.arrived.stored + taken l) highest (end_of w (other s)).recvs (end_of w (other s)).recvs (λ n. reader_paid a b h w ok keeps rest s n (receiving w s n) refl),
+      )
+
+  pub credit_is_whole : CreditIsWhole h w s
+  credit_is_whole =
+      record {
+        is_spent = all_spent;
+        is_taken = all_was_taken;
+        none_stored = none_stored;
+        streams = λ n l r at is.
+            let high : highest r ≡ l.sent_end = highest_sent a b h w ok keeps rest s n l r at is in
+            let paid : taken r ≡ l.sent_end = taken_sent a b h w ok keeps rest s n l r at is in
+            (high, paid, omega (arith, high, paid, stored_and_taken r (lawful a b h w ok keeps rest s n r is)));
+      }
+
+  pub resets_are_final : ResetsAreFinal h w s
+  resets_are_final =
+      record {
+        resets = λ n l at is. (let (reset, e) = some_of l.was_reset is in is_reset a b h w ok keeps rest s n l reset at e);
+        stops = λ n r at is. (let (code, e) = some_of r.stop_code is in is_stopped a b h w ok keeps rest s n r code at e);
+      }
+
+pub each_credit_whole : AtEachRest CreditIsWhole
+each_credit_whole a b h w run rest s = credit_is_whole a b h w (run_keeps a b h w run) (every_run_keeps a b h w run) rest s
+
+pub each_reset_final : AtEachRest ResetsAreFinal
+each_reset_final a b h w run rest s = resets_are_final a b h w (run_keeps a b h w run) (every_run_keeps a b h w run) rest s
