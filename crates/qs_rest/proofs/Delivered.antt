@@ -1,5 +1,5 @@
 -- At rest no limit holds a stream back, and what was written was read.
-use Rattle.std.proofs.Common.{◌≡◌, ℕ, ◌+◌, ◌<◌, ◌≤◌, true, false, length, Option, Some, None, refl, sym, ap, ◌∙◌, subst, arith, inl, inr}
+use Rattle.std.proofs.Common.{◌≡◌, ℕ, ◌<◌, ◌≤◌, true, false, length, Option, Some, None, refl, sym, ap, ◌∙◌, subst, arith, inl, inr}
 use Rattle.std.proofs.lemmas.Bool.{cases_lt, cond_both}
 use Rattle.std.proofs.lemmas.Bool.Decides.{nat_tests}
 use Rattle.qs_ranges.specs.Numbers.{MAX_VARINT}
@@ -9,11 +9,11 @@ use Rattle.qs_send.specs.Lane.{SendLane}
 use Rattle.qs_calls.specs.declared.settings.Settings.{Settings}
 use Rattle.qs_calls.specs.Settings.{are_in_range}
 use Rattle.qs_calls.specs.declared.event.Side.{Side}
-use Rattle.qs_machine.specs.Ends.{End, is_uni, is_own_by, window_by, window, first_send_limit}
+use Rattle.qs_machine.specs.Ends.{is_uni, is_own_by, window_by, window}
 use Rattle.qs_machine.specs.Credit.{all_sent, all_taken}
 use Rattle.qs_machine.proofs.Sound.{WindowsFit, windows_fit}
 use Rattle.qs_runs.specs.Logs.{History, other, read, written}
-use Rattle.qs_runs.specs.Worlds.{World, end_of, Run}
+use Rattle.qs_runs.specs.Worlds.{World, end_of}
 use Rattle.qs_runs.specs.Pasts.{past}
 use Rattle.qs_runs.specs.Clauses.{sending, receiving}
 use Rattle.qs_runs.specs.Invariant.{WorldOk, RecvSlot}
@@ -126,11 +126,11 @@ module _ (a b : Settings) (h : History) (w : World) (ok : WorldOk a b h w) (keep
         is_read a b h w ok keeps rest s n l at none (end_acked (end_of w s) (rest s) n l at none finished whole) whole
 
   pub all_is_delivered : AllIsDelivered h w s
-  all_is_delivered =
+  all_is_delivered room n l at none =
       record {
-        unblocked = λ n l room at none. all_is_sent n l at none room;
-        delivered = λ n l room at none going. all_is_read n l at none room going;
-        ended = λ n l room at none finished. all_has_ended n l at none room finished;
+        is_sent = all_is_sent n l at none room;
+        is_read = λ going. all_is_read n l at none room going;
+        is_ended = λ finished. all_has_ended n l at none room finished;
       }
 
 pub each_delivered : AtEachRest AllIsDelivered

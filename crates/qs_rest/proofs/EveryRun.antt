@@ -1,5 +1,5 @@
 -- Every run keeps what a rest needs, of both ends.
-use Rattle.std.proofs.Common.{◌≡◌, ℕ, ◌/◌, ◌%◌, zero, suc, [], ◌∷◌, None, Some, Ok, false, slice_get, refl, sym, ap, ◌∙◌, subst, arith, nat_cmp}
+use Rattle.std.proofs.Common.{◌≡◌, ℕ, ◌/◌, ◌%◌, zero, suc, [], ◌∷◌, None, Ok, false, slice_get, refl, sym, ap, ◌∙◌, subst, arith, nat_cmp}
 use Rattle.std.proofs.lemmas.Option.{none-some}
 use Rattle.std.proofs.lemmas.Bool.{false≢true}
 use Rattle.std.specs.FinSet as set
@@ -13,18 +13,17 @@ use Rattle.qs_calls.specs.declared.event.Side.{Side}
 use Rattle.qs_calls.specs.declared.event.Side.TheVariants.{A, B}
 use Rattle.qs_calls.specs.declared.event.Act.{Act}
 use Rattle.qs_calls.specs.declared.event.Act.TheVariants as acts
-use Rattle.qs_calls.specs.declared.event.Event.{Event}
 use Rattle.qs_calls.specs.declared.answer.Answer.{Answer}
 use Rattle.qs_calls.specs.declared.answer.Answer.TheVariants as answers
 use Rattle.qs_send.specs.Lane.{SendLane}
-use Rattle.qs_machine.specs.Tables.{Tables, table, lookup, no_streams}
-use Rattle.qs_machine.specs.Ends.{End, new_end, end_made}
+use Rattle.qs_machine.specs.Tables.{table, lookup, no_streams}
+use Rattle.qs_machine.specs.Ends.{new_end, end_made}
 use Rattle.qs_machine.proofs.SettledLimits.{new_ends_settled}
 use Rattle.qs_machine.proofs.Bounds.{new_ends_settled as new_counts_settled}
 use Rattle.qs_runs.specs.Logs.{History, other, is_delivery, processed, own_calls}
-use Rattle.qs_runs.specs.Worlds.{World, world_made, end_of, OwnStep, DeliverStep, StepBy, Run}
+use Rattle.qs_runs.specs.Worlds.{World, world_made, end_of, OwnStep, DeliverStep, StepBy}
 use Rattle.qs_runs.specs.Pasts.{Past, past, seen_by}
-use Rattle.qs_runs.specs.Invariant.{EndOk, WorldOk}
+use Rattle.qs_runs.specs.Invariant.{WorldOk}
 use Rattle.qs_runs.proofs.Histories.{past_own, past_peer, past_sender, past_receiver, does, theirs_mine, payload_seen}
 use Rattle.qs_runs.proofs.NewEnds.{first_world, made_first, ends_made}
 use Rattle.qs_runs.proofs.Runs.{two_sides, run_keeps}
@@ -38,7 +37,7 @@ no_table (suc zero) = refl
 no_table (suc (suc zero)) = refl
 no_table (suc (suc (suc k))) = refl
 
-no_half : (n : ℕ) → lookup (no_streams {X = SendLane}) n ≡ None
+pub no_half : (n : ℕ) → lookup (no_streams {X = SendLane}) n ≡ None
 unfolding lookup
 no_half n = ap (λ xs. slice_get xs (n / 4)) (no_table (n % 4))
 

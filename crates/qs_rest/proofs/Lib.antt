@@ -12,3 +12,4 @@ pub mod Lanes
 pub mod Resting
 pub mod Streams
 pub mod Delivered
+pub mod Exclusions

@@ -1,25 +1,24 @@
 -- At rest all that is to be told is known at the peer, and so is each limit.
-use Rattle.std.proofs.Common.{◌≡◌, ℕ, ◌≤◌, ◌<◌, Bool, true, Some, None, List, slice_get, refl, sym, ap, ◌∙◌, subst, arith, inl, inr, le_antisymm, if◌then◌else◌}
-use Rattle.std.proofs.lemmas.Option.{none-some, same_Some}
+use Rattle.std.proofs.Common.{◌≡◌, ℕ, ◌≤◌, true, Some, None, List, slice_get, refl, sym, ap, ◌∙◌, arith, inl, inr}
+use Rattle.std.proofs.lemmas.Option.{same_Some}
 use Rattle.std.proofs.lemmas.Bool.{cases_lt}
 use Rattle.std.specs.List.{AllByRecursion}
 use Rattle.qs_wire.specs.declared.stream_id.Dir.{Dir}
 use Rattle.qs_wire.specs.declared.stream_id.Dir.TheVariants.{Bidi, Uni}
 use Rattle.qs_recv.specs.Lane.{RecvLane}
 use Rattle.qs_send.specs.Lane.{SendLane}
-use Rattle.qs_send.specs.Records.{Among}
 use Rattle.qs_send.specs.declared.piece.Item.{Item}
 use Rattle.qs_send.specs.declared.piece.Item.TheVariants.{MaxData, MaxStreamData, MaxStreams}
 use Rattle.qs_send.specs.declared.piece.Piece.TheVariants.{Told}
 use Rattle.qs_calls.specs.declared.settings.Settings.{Settings}
 use Rattle.qs_calls.specs.declared.event.Side.{Side}
 use Rattle.qs_calls.specs.declared.event.Side.TheVariants.{A, B}
-use Rattle.qs_machine.specs.Ends.{End, first_send_limit, window}
-use Rattle.qs_machine.specs.Credit.{granted_streams, next_count, first_grant}
-use Rattle.qs_machine.specs.Due.{IsCurrent, IsAcked, known_count}
+use Rattle.qs_machine.specs.Ends.{End, window}
+use Rattle.qs_machine.specs.Credit.{next_count}
+use Rattle.qs_machine.specs.Due.{known_count}
 use Rattle.qs_machine.specs.Seen.{Seen, Control}
 use Rattle.qs_runs.specs.Logs.{History, other, processed}
-use Rattle.qs_runs.specs.Worlds.{World, end_of, Run}
+use Rattle.qs_runs.specs.Worlds.{World, end_of}
 use Rattle.qs_runs.specs.Pasts.{past, Holds, TellsAck}
 use Rattle.qs_runs.specs.Clauses.{sending, receiving}
 use Rattle.qs_runs.specs.Invariant.{WorldOk}

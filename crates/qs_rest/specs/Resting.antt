@@ -33,19 +33,24 @@ ToldIsTaken = (a b : Settings) (h : History) (w : World) → Run a b h w → (s 
 abbrev pub AtEachRest : (History → World → Side → Type 0) → Type 0
 AtEachRest P = (a b : Settings) (h : History) (w : World) → Run a b h w → ((s : Side) → AtRest (end_of w s)) → (s : Side) → P h w s
 
--- A sender knows each limit that its peer grants, but of a stream whose final size came, and each count of streams, which is the next one
--- (RFC 9000, sections 4.1, 4.5 and 4.6).
+-- A sender knows what its peer grants (RFC 9000, sections 4.1 and 4.6).
 pub record KnowsItsLimits (h : History) (w : World) (s : Side) : Type 0 where
+  -- the limit on the connection (section 4.1)
   pub connection : (end_of w s).known_data ≡ (end_of w (other s)).granted
+  -- the limit of each stream of which no final size came (sections 4.1 and 4.5)
   pub streams : (n : ℕ) (l : SendLane) (r : RecvLane) → sending w s n ≡ Some l → receiving w s n ≡ Some r → r.final_size ≡ None → l.limit ≡ r.limit
+  -- the counts of streams: the first, and one more for each stream that ended, up to the lifetime's (section 4.6)
   pub counts : (d : Dir) → known_count (end_of w s) d ≡ next_count (end_of w (other s)) d
 
--- All credit is paid back: what the sender sent is what counts as received, all of that was taken, and nothing is stored; of the
--- connection, and of each stream (RFC 9000, sections 4.1 and 4.2).
+-- All credit is paid back (RFC 9000, sections 4.1 and 4.2).
 pub record CreditIsWhole (h : History) (w : World) (s : Side) : Type 0 where
+  -- what was sent is what counts against the connection's limit (section 4.1)
   pub is_spent : spent (end_of w (other s)) ≡ all_sent (end_of w s)
+  -- all of it was taken, and so is granted anew (section 4.2)
   pub is_taken : all_taken (end_of w (other s)) ≡ all_sent (end_of w s)
+  -- none of it is stored (section 4.1)
   pub none_stored : all_stored (end_of w (other s)) ≡ 0
+  -- and so of each stream (sections 4.1 and 4.2)
   pub streams : (n : ℕ) (l : SendLane) (r : RecvLane) → sending w s n ≡ Some l → receiving w s n ≡ Some r →
       (highest r ≡ l.sent_end) × (taken r ≡ l.sent_end) × (fmap.len r.arrived.stored ≡ 0)
 
@@ -60,18 +65,26 @@ abbrev pub IsReadAtBoth : World → Side → ℕ → Type 0
 IsReadAtBoth w s n =
     (l : SendLane) × (r : RecvLane) × (sending w s n ≡ Some l) × (receiving w s n ≡ Some r) × (send_state l ≡ DataRecvd) × (recv_state r ≡ DataRead)
 
--- A stream that was reset, or whose reader stopped, has come to its end at both ends (RFC 9000, sections 3.1, 3.2 and 3.5).
+-- Resets and stops come to their end at both ends (RFC 9000, sections 3.1, 3.2 and 3.5).
 pub record ResetsAreFinal (h : History) (w : World) (s : Side) : Type 0 where
+  -- a stream that was reset (sections 3.1 and 3.2)
   pub resets : (n : ℕ) (l : SendLane) → sending w s n ≡ Some l → is_some l.was_reset ≡ true → IsResetAtBoth w s n
+  -- a stream whose reader stopped: it is reset, or all of it had come before (section 3.5)
   pub stops : (n : ℕ) (r : RecvLane) → receiving w s n ≡ Some r → is_some r.stop_code ≡ true → IsResetAtBoth w s n ⊎ IsReadAtBoth w s n
 
--- The sender has sent fewer bytes than a limit on the connection can ever allow, 2^62-1 (RFC 9000, sections 4.1 and 16).
+-- fewer bytes were sent than a limit on the connection can ever allow, 2^62-1 (RFC 9000, sections 4.1 and 16)
 abbrev pub HasRoom : World → Side → Type 0
 HasRoom w s = all_sent (end_of w s) < MAX_VARINT
 
--- No limit holds a stream back that wasn't reset: each byte that was written was sent, and read unless the reader stopped; and once the
--- owner finished, the stream is delivered (RFC 9000, sections 2.2, 3.1, 3.2 and 4.1).
-pub record AllIsDelivered (h : History) (w : World) (s : Side) : Type 0 where
-  pub unblocked : (n : ℕ) (l : SendLane) → HasRoom w s → sending w s n ≡ Some l → l.was_reset ≡ None → l.sent_end ≡ l.written
-  pub delivered : (n : ℕ) (l : SendLane) → HasRoom w s → sending w s n ≡ Some l → l.was_reset ≡ None → (past (other s) h).stopped n ≡ false → read (other s) n h ≡ written s n h
-  pub ended : (n : ℕ) (l : SendLane) → HasRoom w s → sending w s n ≡ Some l → l.was_reset ≡ None → l.finished ≡ true → IsReadAtBoth w s n
+-- A stream that wasn't reset (RFC 9000, sections 2.2, 3 and 4.1).
+pub record IsDelivered (h : History) (w : World) (s : Side) (n : ℕ) (l : SendLane) : Type 0 where
+  -- no limit holds it back: all that was written was sent (section 4.1)
+  pub is_sent : l.sent_end ≡ l.written
+  -- and read, unless the reader stopped (section 2.2)
+  pub is_read : (past (other s) h).stopped n ≡ false → read (other s) n h ≡ written s n h
+  -- and once its owner finished, the end too was acknowledged, and told to the reader (sections 3.1 and 3.2)
+  pub is_ended : l.finished ≡ true → IsReadAtBoth w s n
+
+-- each stream that wasn't reset, unless the connection's credit is used up for good (RFC 9000, section 4.1)
+abbrev pub AllIsDelivered : History → World → Side → Type 0
+AllIsDelivered h w s = HasRoom w s → (n : ℕ) (l : SendLane) → sending w s n ≡ Some l → l.was_reset ≡ None → IsDelivered h w s n l

@@ -2,6 +2,7 @@
 
 ghost use Rattle.qs_rest.specs.Laws.{ItemsAreInOnePart, StopsGiveBack};
 ghost use Rattle.qs_rest.specs.Rest.{EveryRunKeeps};
+ghost use Rattle.qs_rest.specs.Exclusions.{Exclusions};
 ghost use Rattle.qs_rest.specs.Resting.{ItemsAreAcked, ToldIsTaken, AtEachRest, KnowsItsLimits, CreditIsWhole, ResetsAreFinal, AllIsDelivered};
 
 /// Each item that is to be told is in an outstanding packet, or was acknowledged, or is due.
@@ -47,4 +48,9 @@ pub fn resets_are_final()
 /// At rest no limit holds a stream back that wasn't reset: what was written was read, and a stream that was finished is delivered.
 pub fn all_is_delivered()
     ensures { AtEachRest AllIsDelivered }
+{}
+
+/// Small ends that are at rest, and one that isn't for each clause.
+pub fn exclusions()
+    ensures { Exclusions }
 {}
