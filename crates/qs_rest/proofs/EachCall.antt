@@ -4,8 +4,8 @@ use Rattle.std.specs.Prelude.{nat_lt, Result, Ok, Err, MatchBool}
 use Rattle.std.specs.FinSet as set
 use Rattle.std.proofs.lemmas.Option.{none-some}
 use Rattle.qs_wire.specs.declared.stream_id.Dir.{Dir}
-use Rattle.qs_wire.specs.declared.stream_id.Dir.TheVariants.{Bidi, Uni}
-use Rattle.qs_recv.specs.Lane.{RecvLane, after_read, stop}
+use Rattle.qs_wire.specs.declared.stream_id.Dir.TheVariants.{Uni}
+use Rattle.qs_recv.specs.Lane.{after_read, stop}
 use Rattle.qs_recv.specs.declared.half.Read.{Read}
 use Rattle.qs_send.specs.Lane.{SendLane, refusal, reset_refusal, accepted, write_lane, finish_lane, reset_lane}
 use Rattle.qs_send.specs.declared.parts.SendFault.{SendFault}
@@ -35,7 +35,7 @@ use Rattle.qs_calls.specs.declared.event.Act.TheVariants as acts
 use Rattle.qs_calls.specs.declared.answer.Answer.{Answer as Answered}
 use Rattle.qs_calls.specs.declared.answer.Answer.TheVariants as answers
 use Rattle.qs_runs.specs.Worlds.{OwnStep}
-use Rattle.qs_machine.proofs.Choices.{by_refusal, by_memory, by_test, if_allowed}
+use Rattle.qs_machine.proofs.Choices.{by_refusal, by_test, if_allowed}
 
 -- P holds of the end, and stays with each edit by a call; what a payload leaves is told apart
 pub record Edits (P : End → Type 0) (old : End) : Type 0 where

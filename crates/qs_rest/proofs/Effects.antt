@@ -1,23 +1,21 @@
 -- A control item of a packet that was processed took effect, for good.
-use Rattle.std.proofs.Common.{◌≡◌, ℕ, ◌≤◌, ◌<◌, max, Bool, true, false, not, ◌&&◌, ◌||◌, ◌==◌, ◌⊎◌, List, [], ◌∷◌, Option, Some, None, is_some, is_none, refl, sym, ap, ◌∙◌, subst, arith, inl, inr}
+use Rattle.std.proofs.Common.{◌≡◌, ℕ, ◌≤◌, Bool, true, false, not, ◌&&◌, ◌||◌, ◌==◌, ◌⊎◌, List, [], ◌∷◌, Option, Some, None, is_some, is_none, refl, sym, ap, ◌∙◌, subst, arith, inl, inr}
 use Rattle.std.specs.Prelude.{cond}
-use Rattle.std.proofs.lemmas.Option.{none-some, same_Some}
+use Rattle.std.proofs.lemmas.Option.{none-some}
 use Rattle.std.proofs.lemmas.Bool.{and_parts, or_cases, eqb-true, true≢false, false≢true}
 use Rattle.std.specs.List.{AllByRecursion}
-use Rattle.std.specs.FinSet as set
-use Rattle.qs_ranges.specs.Numbers.{NumberSet, covers}
 use Rattle.qs_ranges.proofs.Sets.{covers-is, covers-of}
 use Rattle.qs_wire.specs.declared.stream_id.Dir.TheVariants.{Bidi, Uni}
 use Rattle.qs_recv.specs.Assembled.{discard}
 use Rattle.qs_recv.specs.Lane.{RecvLane, take_reset, is_whole, whole_to}
-use Rattle.qs_send.specs.Lane.{SendLane, allow_lane, reset_lane, reset_refusal, unacked_from, is_whole as send_whole}
+use Rattle.qs_send.specs.Lane.{SendLane, allow_lane, reset_lane, unacked_from, is_whole as send_whole}
 use Rattle.qs_send.specs.declared.parts.SendFault.TheVariants.{Finished, WasReset}
 use Rattle.qs_send.specs.declared.piece.Item.{Item}
 use Rattle.qs_send.specs.declared.piece.Item.TheVariants.{MaxData, MaxStreamData, MaxStreams, ResetStream, StopSending, DataBlocked, StreamDataBlocked, StreamsBlocked}
 use Rattle.qs_machine.specs.Tables.{Tables, lookup, updated, open_to}
-use Rattle.qs_machine.specs.Ends.{End, is_own, is_uni, opens, opened_by_peer, first_send_limit, send_lane}
+use Rattle.qs_machine.specs.Ends.{End, is_own, is_uni, opens, opened_by_peer, first_send_limit}
 use Rattle.qs_machine.specs.Seen.{Seen, Ack, Stream, Control, Close, Plain}
-use Rattle.qs_machine.specs.Verdicts.{verdict, item_verdict, state_fault_out, fault_if}
+use Rattle.qs_machine.specs.Verdicts.{verdict, item_verdict, state_fault_out}
 use Rattle.qs_machine.specs.FrameStep.{frame_taken, item_taken}
 use Rattle.qs_machine.proofs.TableLaws.{lookup_same, open_at}
 use Rattle.qs_machine.proofs.TablesAfter.{KeptIn}

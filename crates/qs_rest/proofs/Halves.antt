@@ -1,16 +1,12 @@
 -- A sending half keeps what holds of it.
-use Rattle.std.proofs.Common.{◌≡◌, ℕ, zero, suc, ◌+◌, ◌-◌, ◌<◌, ◌≤◌, min, max, Bool, true, false, ◌||◌, List, [], ◌∷◌, length, take, Option, Some, None, is_some, refl, sym, ap, ◌∙◌, subst, arith, inl, inr}
+use Rattle.std.proofs.Common.{◌≡◌, ℕ, ◌+◌, ◌-◌, ◌≤◌, max, Bool, true, false, List, length, take, Some, None, is_some, refl, sym, ◌∙◌, subst, arith}
 use Rattle.std.specs.Prelude.{cond}
-use Rattle.std.specs.FinSet as set
 use Rattle.std.proofs.lemmas.List.{length-take}
 use Rattle.std.proofs.lemmas.Option.{none-some}
 use Rattle.std.proofs.lemmas.Bool.{cond_both, or_left, false≢true}
-use Rattle.std.proofs.lemmas.Bool.Decides.{nat_tests}
 use Rattle.qs_ranges.specs.Numbers.{MAX_VARINT}
-use Rattle.qs_send.specs.Lane.{SendLane, accepted, free_room, refusal, reset_refusal, write_lane, finish_lane, reset_lane, sent_lane, blocked_lane, allow_lane, acked_lane, reset_acked_lane}
+use Rattle.qs_send.specs.Lane.{SendLane, accepted, refusal, reset_refusal, write_lane, finish_lane, reset_lane, sent_lane, blocked_lane, allow_lane, acked_lane, reset_acked_lane}
 use Rattle.qs_send.specs.declared.parts.Chunk.{Chunk}
-use Rattle.qs_send.specs.declared.parts.Reset.{Reset}
-use Rattle.qs_send.specs.declared.parts.SendFault.{SendFault}
 use Rattle.qs_send.specs.declared.parts.SendFault.TheVariants.{Finished, WasReset}
 use Rattle.qs_runs.specs.Pasts.{Past}
 use Rattle.qs_runs.proofs.Members.{run-old}

@@ -13,11 +13,11 @@ use Rattle.qs_send.specs.Records.{Among, IsCarried, PacketPieces}
 use Rattle.qs_send.specs.declared.piece.Item.{Item}
 use Rattle.qs_send.specs.declared.piece.Item.TheVariants.{MaxData, MaxStreamData, MaxStreams, ResetStream, StopSending, DataBlocked, StreamDataBlocked, StreamsBlocked}
 use Rattle.qs_send.specs.declared.piece.Piece.{Piece}
-use Rattle.qs_send.specs.declared.piece.Piece.TheVariants.{Data, Told}
+use Rattle.qs_send.specs.declared.piece.Piece.TheVariants.{Told}
 use Rattle.qs_send.specs.contracts.piece.PiecePartialEq.TheImpl as piece
 use Rattle.qs_send.proofs.PieceEquality.{among_of_any, any_of_among}
 use Rattle.qs_machine.specs.Ends.{End, send_lane}
-use Rattle.qs_machine.specs.Due.{IsOutstanding, IsCurrent, IsAcked, IsDueItem}
+use Rattle.qs_machine.specs.Due.{IsAcked}
 use Rattle.qs_rest.specs.Laws.{ItemsAreInOnePart}
 
 -- it holds, or it doesn't

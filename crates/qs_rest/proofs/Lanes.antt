@@ -1,17 +1,15 @@
 -- Halves of a stream of ends at rest, each by itself.
-use Rattle.std.proofs.Common.{◌≡◌, ℕ, ◌+◌, ◌/◌, ◌<◌, ◌≤◌, ◌==◌, ◌&&◌, ◌||◌, min, max, nat_le, nat_lt, Bool, true, false, ◌⊎◌, Option, Some, None, is_some, unwrap_or, refl, sym, ap, ◌∙◌, subst, arith, inl, inr, if◌then◌else◌}
+use Rattle.std.proofs.Common.{◌≡◌, ℕ, ◌+◌, ◌/◌, ◌<◌, ◌≤◌, ◌==◌, ◌&&◌, ◌||◌, min, max, nat_le, nat_lt, Bool, true, false, ◌⊎◌, Option, Some, None, is_some, unwrap_or, refl, sym, ap, ◌∙◌, arith, inl, inr}
 use Rattle.std.specs.Prelude.{cond}
-use Rattle.std.proofs.lemmas.Option.{none-some, same_Some}
-use Rattle.std.proofs.lemmas.Bool.{cases_lt, or_parts, eqb-true, true≢false, false≢true, both_ways}
+use Rattle.std.proofs.lemmas.Bool.{cases_lt, eqb-true, true≢false, false≢true}
 use Rattle.std.proofs.lemmas.Bool.Decides.{nat_tests}
 use Rattle.std.specs.FinSet as set
-use Rattle.qs_ranges.specs.Numbers.{NumberSet, MAX_VARINT, end_of}
+use Rattle.qs_ranges.specs.Numbers.{MAX_VARINT, end_of}
 use Rattle.qs_ranges.proofs.Sets.{covers-is}
-use Rattle.qs_recv.specs.Lane.{RecvLane, highest, taken, next_limit, is_whole, whole_to, read_answer, answer_by, at_final_size}
+use Rattle.qs_recv.specs.Lane.{RecvLane, highest, taken, next_limit, is_whole, whole_to, read_answer, at_final_size}
 use Rattle.qs_recv.specs.Lawful.{IsLawful}
 use Rattle.qs_recv.proofs.LawfulLaws.{taken_within}
 use Rattle.qs_send.specs.Lane.{SendLane}
-use Rattle.qs_send.specs.declared.parts.Chunk.{Chunk}
 use Rattle.qs_send.specs.declared.piece.Piece.TheVariants.{Data}
 use Rattle.qs_machine.specs.Ends.{End, send_lane}
 use Rattle.qs_machine.specs.Credit.{all_sent}

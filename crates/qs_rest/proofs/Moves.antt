@@ -1,25 +1,21 @@
 -- What each call of an end, and each frame, leaves of what holds of its sending side.
-use Rattle.std.proofs.Common.{◌≡◌, ℕ, ◌+◌, ◌%◌, ◌≤◌, max, Bool, true, false, not, ◌&&◌, List, [], ◌∷◌, length, take, Option, Some, None, is_some, refl, sym, ap, ◌∙◌, subst, arith, inl, inr}
+use Rattle.std.proofs.Common.{◌≡◌, ℕ, ◌%◌, ◌≤◌, max, Bool, true, false, not, ◌&&◌, List, [], ◌∷◌, length, take, Option, Some, None, refl, sym, ◌∙◌, subst, arith, inl, inr}
 use Rattle.std.specs.Prelude.{cond}
-use Rattle.std.proofs.lemmas.Option.{none-some, same_Some}
-use Rattle.std.proofs.lemmas.Bool.{cond_both, cases_lt, cases_eq}
+use Rattle.std.proofs.lemmas.Option.{same_Some}
+use Rattle.std.proofs.lemmas.Bool.{cond_both, cases_lt}
 use Rattle.std.specs.List.{AllByRecursion}
 use Rattle.std.specs.FinMap as fmap
-use Rattle.std.specs.FinSet as set
-use Rattle.qs_ranges.specs.Numbers.{MAX_VARINT}
 use Rattle.qs_wire.specs.declared.stream_id.Dir.{Dir}
 use Rattle.qs_wire.specs.declared.stream_id.Dir.TheVariants.{Bidi, Uni}
 use Rattle.qs_send.specs.Lane.{SendLane, new_lane as new_send_lane, accepted, refusal, write_lane, finish_lane, reset_lane, sent_lane, blocked_lane, allow_lane, acked_lane, reset_acked_lane}
-use Rattle.qs_send.specs.declared.parts.Chunk.{Chunk}
 use Rattle.qs_send.specs.declared.piece.Item.{Item}
 use Rattle.qs_send.specs.declared.piece.Item.TheVariants.{MaxData, MaxStreamData, MaxStreams, ResetStream, StopSending, DataBlocked, StreamDataBlocked, StreamsBlocked}
 use Rattle.qs_send.specs.declared.piece.Piece.{Piece}
 use Rattle.qs_send.specs.declared.piece.Piece.TheVariants.{Data, Told}
-use Rattle.qs_machine.specs.Tables.{Tables, lookup, update, updated, open_to}
+use Rattle.qs_machine.specs.Tables.{Tables, lookup, updated, open_to}
 use Rattle.qs_machine.specs.Ends.{End, AckedItems, on_send, is_own, is_uni, opens, opened_by_peer, first_send_limit}
-use Rattle.qs_machine.specs.Credit.{settle}
 use Rattle.qs_machine.specs.Seen.{Seen, Ack, Stream, Control, Close, Plain}
-use Rattle.qs_machine.specs.FrameStep.{AckedPiece, frame_taken, item_taken, piece_acked, item_acked, acks, without_piece, first_acked, named, greatest, greatest_of, or_zero}
+use Rattle.qs_machine.specs.FrameStep.{AckedPiece, frame_taken, item_taken, piece_acked, item_acked, acks, without_piece, first_acked, named, greatest, or_zero}
 use Rattle.qs_machine.specs.Lawful.{Fills, frame_put, item_put, chunk_of}
 use Rattle.qs_machine.specs.Owner.{with_wanted}
 use Rattle.qs_machine.specs.Making.{losses, first_lost}
@@ -28,7 +24,7 @@ use Rattle.qs_machine.proofs.TablesAfter.{KeptIn, kept_same, kept_twice, kept_up
 use Rattle.qs_runs.specs.Pasts.{Past}
 use Rattle.qs_runs.proofs.Members.{insert-cases, get-inserted}
 use Rattle.qs_runs.proofs.Acking.{WasAcked}
-use Rattle.qs_rest.specs.Invariant.{WasTold, ResetTold, AckedTrue, HalfTrue, IsAllAcked}
+use Rattle.qs_rest.specs.Invariant.{WasTold, AckedTrue, HalfTrue}
 use Rattle.qs_rest.proofs.Halves.{Lasts, lasts_same, lasts_twice, write_lasts, finish_lasts, reset_lasts, sent_lasts, blocked_lasts, allow_lasts, acked_lasts, reset_acked_lasts, write_true, finish_true, reset_true, sent_true, blocked_true, allow_true, acked_true, reset_acked_true}
 use Rattle.qs_rest.proofs.EachCall.{Edits}
 

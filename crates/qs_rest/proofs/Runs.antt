@@ -1,8 +1,7 @@
 -- In every run each end keeps what holds of it beside the invariant of qs_runs.
-use Rattle.std.proofs.Common.{◌≡◌, ℕ, ◌≤◌, Bool, true, false, ◌==◌, ◌&&◌, ◌++◌, List, [], ◌∷◌, ◌⊎◌, Option, Some, None, Result, Ok, Err, slice_get, refl, sym, ap, ◌∙◌, subst, arith, inl, inr, nat_lt, MatchBool}
+use Rattle.std.proofs.Common.{◌≡◌, ℕ, ◌≤◌, Bool, true, false, ◌==◌, ◌&&◌, List, [], ◌⊎◌, Option, Some, None, Result, Ok, slice_get, refl, sym, ap, ◌∙◌, subst, arith, inl, inr, MatchBool}
 use Rattle.std.specs.Prelude.{cond}
-use Rattle.std.proofs.lemmas.Bool.{false≢true, eqb-true}
-use Rattle.std.specs.List.{AllByRecursion}
+use Rattle.std.proofs.lemmas.Bool.{eqb-true}
 use Rattle.std.specs.FinSet as set
 use Rattle.qs_wire.specs.Reading.{reading_of}
 use Rattle.qs_recv.specs.Lane.{raise}
@@ -12,7 +11,7 @@ use Rattle.qs_calls.specs.declared.closing.Closing.{Closing}
 use Rattle.qs_calls.specs.declared.closing.Closed.{Closed}
 use Rattle.qs_calls.specs.declared.closing.Closed.TheVariants.{ByUs, ByPeer}
 use Rattle.qs_calls.specs.declared.closing.Received.{Received}
-use Rattle.qs_calls.specs.declared.closing.Received.TheVariants.{Done, Duplicate, BelowFloor, PeerClosed, NoMemory}
+use Rattle.qs_calls.specs.declared.closing.Received.TheVariants.{Duplicate, BelowFloor}
 use Rattle.qs_calls.specs.declared.event.Act.{Act}
 use Rattle.qs_calls.specs.declared.answer.Answer.{Answer}
 use Rattle.qs_calls.specs.declared.answer.Answer.TheVariants as answers
@@ -20,13 +19,13 @@ use Rattle.qs_machine.specs.Tables.{lookup}
 use Rattle.qs_machine.specs.Ends.{End, AckedItems, first_send_limit}
 use Rattle.qs_machine.specs.Credit.{settle}
 use Rattle.qs_machine.specs.Receiving.{ReceiveStep, ReceiveBy, ClosedReceive, TakesPayload}
-use Rattle.qs_machine.specs.EndStep.{Call, Receive}
+use Rattle.qs_machine.specs.EndStep.{Receive}
 use Rattle.qs_machine.proofs.SettledLimits.{calls_settle}
 use Rattle.qs_machine.proofs.CallsCounts.{settled_call}
 use Rattle.qs_runs.specs.Logs.{is_done}
 use Rattle.qs_runs.specs.Agree.{frames_in}
 use Rattle.qs_runs.specs.Worlds.{OwnStep}
-use Rattle.qs_runs.specs.Pasts.{Packets, Past, Holds, seen_by}
+use Rattle.qs_runs.specs.Pasts.{Packets, Past, seen_by}
 use Rattle.qs_runs.specs.Invariant.{EndOk}
 use Rattle.qs_runs.proofs.Lists.{slice_get-append}
 use Rattle.qs_runs.proofs.Past.{Holds-more, TellsAck-more}
@@ -37,7 +36,7 @@ use Rattle.qs_runs.proofs.Lasting.{own_grows}
 use Rattle.qs_runs.proofs.OwnMoves.{with_call}
 use Rattle.qs_runs.proofs.PeerMoves.{with_theirs}
 use Rattle.qs_runs.proofs.Receives.{with_received}
-use Rattle.qs_rest.specs.Invariant.{WasTold, AckedTrue, HalfTrue, ItemTaken, RestOk}
+use Rattle.qs_rest.specs.Invariant.{WasTold, AckedTrue, HalfTrue, RestOk}
 use Rattle.qs_rest.proofs.EachCall.{each_own}
 use Rattle.qs_rest.proofs.Moves.{AllTrue, SlotTrue, Moved, moved_same, moved_edits}
 use Rattle.qs_rest.proofs.Effects.{items_stay}

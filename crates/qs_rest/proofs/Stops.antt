@@ -1,11 +1,10 @@
 -- A half whose reader stopped stays so, and has taken all that came.
-use Rattle.std.proofs.Common.{◌≡◌, ℕ, ◌+◌, Bool, true, false, not, ◌&&◌, ◌||◌, List, [], ◌∷◌, take, Option, Some, None, is_some, refl, sym, ap, ◌∙◌, subst, inl, inr}
-use Rattle.std.specs.Prelude.{cond, Result, Ok, Err}
+use Rattle.std.proofs.Common.{◌≡◌, ℕ, Bool, true, false, ◌&&◌, ◌||◌, List, [], ◌∷◌, Option, Some, is_some, refl, sym, ap, subst, inl, inr}
+use Rattle.std.specs.Prelude.{cond, Result}
 use Rattle.std.proofs.lemmas.Bool.{cond_both}
 use Rattle.qs_wire.specs.Layout.{PlacedValue}
 use Rattle.qs_wire.specs.Reading.{reading_of}
 use Rattle.qs_wire.specs.declared.fault.WireFault.{WireFault}
-use Rattle.qs_wire.specs.declared.stream_id.Dir.{Dir}
 use Rattle.qs_wire.specs.declared.stream_id.Dir.TheVariants.{Bidi, Uni}
 use Rattle.qs_recv.specs.Assembled.{discard}
 use Rattle.qs_recv.specs.Lane.{RecvLane, new_lane as new_recv_lane, highest, taken, take_stream, take_reset, after_read, after_answer, read_answer, stop, raise, is_whole}
@@ -13,23 +12,18 @@ use Rattle.qs_recv.specs.declared.half.Read.{Read}
 use Rattle.qs_recv.specs.declared.half.Read.TheVariants as reads
 use Rattle.qs_send.specs.declared.piece.Item.{Item}
 use Rattle.qs_send.specs.declared.piece.Item.TheVariants.{MaxData, MaxStreamData, MaxStreams, ResetStream, StopSending, DataBlocked, StreamDataBlocked, StreamsBlocked}
-use Rattle.qs_send.specs.declared.piece.Piece.{Piece}
 use Rattle.qs_calls.specs.declared.closing.Closing.{Closing}
 use Rattle.qs_calls.specs.declared.closing.Received.{Received}
-use Rattle.qs_calls.specs.declared.closing.Received.TheVariants as received
-use Rattle.qs_machine.specs.Tables.{Tables, lookup}
-use Rattle.qs_machine.specs.Ends.{End, on_recv, is_own, is_uni, opens, opened_by_peer, window, recv_lane}
+use Rattle.qs_machine.specs.Tables.{Tables}
+use Rattle.qs_machine.specs.Ends.{End, on_recv, is_own, is_uni, opens, opened_by_peer, window}
 use Rattle.qs_machine.specs.Credit.{settle}
 use Rattle.qs_machine.specs.Seen.{Seen, Ack, Stream, Control, Close, Plain, seen, asks_ack}
 use Rattle.qs_machine.specs.FrameStep.{frame_taken, item_taken, named}
-use Rattle.qs_machine.specs.Lawful.{Fills, frame_put}
-use Rattle.qs_machine.specs.Owner.{with_wanted}
-use Rattle.qs_machine.specs.Receiving.{AtEnd, Stops, Takes, TakesPayload}
-use Rattle.qs_machine.specs.Making.{losses}
+use Rattle.qs_machine.specs.Receiving.{Takes}
 use Rattle.qs_machine.specs.EndStep.{Call, Answer, EndStep}
 use Rattle.qs_machine.proofs.TablesAfter.{KeptIn, kept_same, kept_twice, kept_updated, kept_open, kept_each}
 use Rattle.qs_runs.proofs.Frames.{acks_recvs}
-use Rattle.qs_rest.specs.Laws.{GivesBack, StopsGiveBack}
+use Rattle.qs_rest.specs.Laws.{StopsGiveBack}
 use Rattle.qs_rest.proofs.Untouched.{fills_recvs, wanted_recvs, losses_recvs, ends_recvs, at_end_recvs}
 use Rattle.qs_rest.proofs.EachCall.{Edits, each_call}
 

@@ -1,7 +1,7 @@
 -- Streams of two ends at rest: all credit is paid back, and each reset and each stop came to its end.
-use Rattle.std.proofs.Common.{◌≡◌, ℕ, zero, suc, ◌+◌, ◌-◌, ◌<◌, ◌≤◌, ◌==◌, ◌&&◌, Bool, true, false, ◌⊎◌, List, length, Option, Some, None, is_some, unwrap_or, refl, sym, ap, ◌∙◌, subst, arith, inl, inr, if◌then◌else◌}
+use Rattle.std.proofs.Common.{◌≡◌, ℕ, zero, suc, ◌+◌, ◌<◌, ◌≤◌, Bool, true, false, ◌⊎◌, List, length, Option, Some, None, is_some, unwrap_or, refl, sym, ap, ◌∙◌, subst, arith, inl, inr}
 use Rattle.std.proofs.lemmas.Option.{none-some, same_Some}
-use Rattle.std.proofs.lemmas.Bool.{cases_lt, and_from, eq-eqb, true≢false, false≢true}
+use Rattle.std.proofs.lemmas.Bool.{and_from, eq-eqb, true≢false, false≢true}
 use Rattle.std.specs.FinMap as fmap
 use Rattle.std.specs.FinSet as set
 use Rattle.qs_ranges.specs.Numbers.{NumberSet, missing_from, end_of as set_end}
@@ -10,21 +10,20 @@ use Rattle.qs_recv.specs.Lane.{RecvLane, highest, taken, is_whole, whole_to, rea
 use Rattle.qs_recv.specs.Lawful.{IsLawful}
 use Rattle.qs_recv.specs.declared.half.RecvState.TheVariants.{DataRead, ResetRead}
 use Rattle.qs_recv.proofs.LawfulLaws.{taken_within}
-use Rattle.qs_send.specs.Lane.{SendLane, unacked_from, declared_size, is_whole as send_whole, state as send_state}
+use Rattle.qs_send.specs.Lane.{SendLane, unacked_from, is_whole as send_whole, state as send_state}
 use Rattle.qs_send.specs.declared.parts.Reset.{Reset}
-use Rattle.qs_send.specs.declared.parts.SendState.TheVariants.{DataRecvd, ResetRecvd}
+use Rattle.qs_send.specs.declared.parts.SendState.TheVariants.{DataRecvd}
 use Rattle.qs_send.specs.declared.piece.Item.TheVariants.{ResetStream, StopSending}
 use Rattle.qs_calls.specs.declared.settings.Settings.{Settings}
 use Rattle.qs_calls.specs.declared.event.Side.{Side}
-use Rattle.qs_machine.specs.Tables.{total}
-use Rattle.qs_machine.specs.Ends.{End, send_lane, recv_lane, first_send_limit, window}
+use Rattle.qs_machine.specs.Ends.{first_send_limit, window}
 use Rattle.qs_machine.specs.Credit.{spent, all_taken, all_stored, all_sent}
 use Rattle.qs_machine.specs.Standing.{HasLawfulLane}
-use Rattle.qs_machine.specs.Seen.{Seen, Stream, Control}
+use Rattle.qs_machine.specs.Seen.{Stream, Control}
 use Rattle.qs_machine.proofs.Bounds.{stored_and_taken}
 use Rattle.qs_machine.proofs.TableLaws.{value, total_le, total_both}
 use Rattle.qs_runs.specs.Logs.{History, other, processed}
-use Rattle.qs_runs.specs.Worlds.{World, end_of, Run}
+use Rattle.qs_runs.specs.Worlds.{World, end_of}
 use Rattle.qs_runs.specs.Pasts.{past, Tells}
 use Rattle.qs_runs.specs.Clauses.{Carries, sending, receiving}
 use Rattle.qs_runs.specs.Invariant.{WorldOk, SendOk, SendSlot, RecvOk, RecvSlot, FrameTaken}
@@ -32,7 +31,7 @@ use Rattle.qs_runs.proofs.Members.{end-le, below-end}
 use Rattle.qs_runs.proofs.Histories.{theirs_mine}
 use Rattle.qs_runs.proofs.Runs.{run_keeps}
 use Rattle.qs_runs.proofs.Clauses.{received_is_below_sent, processed_was_taken, acked_was_processed, final_size_is_declared, reset_code_is_the_senders}
-use Rattle.qs_rest.specs.Invariant.{IsAllAcked, ResetTold, ItemTaken, RestOk}
+use Rattle.qs_rest.specs.Invariant.{IsAllAcked, RestOk}
 use Rattle.qs_rest.specs.Rest.{TellsNoNews, AtRest}
 use Rattle.qs_rest.specs.Resting.{AtEachRest, CreditIsWhole, IsResetAtBoth, IsReadAtBoth, ResetsAreFinal}
 use Rattle.qs_rest.proofs.EveryRun.{every_run_keeps}

@@ -1,5 +1,5 @@
 -- Laws of one end: what was wanted is told until the peer knows it, and a stop gives back credit.
-use Rattle.std.specs.Prelude.{◌≡◌, ℕ, true, ◌⊎◌, Some, is_some}
+use Rattle.std.specs.Prelude.{◌≡◌, ℕ, ◌⊎◌, Some}
 use Rattle.qs_recv.specs.Lane.{RecvLane, highest, taken}
 use Rattle.qs_send.specs.declared.piece.Item.{Item}
 use Rattle.qs_send.specs.declared.piece.Piece.TheVariants.{Told}
