@@ -5,6 +5,8 @@ use Rattle.std.proofs.lemmas.Bool.{false≢true}
 use Rattle.std.proofs.lemmas.Bool.Decides.{nat_tests}
 use Rattle.std.specs.FinSet as set
 use Rattle.qs_ranges.specs.Numbers.{is_within, contains-with_range}
+use Rattle.qs_wire.specs.declared.stream_id.Role.{Role}
+use Rattle.qs_wire.specs.declared.stream_id.Role.TheVariants.{Client}
 use Rattle.qs_wire.specs.declared.stream_id.Dir.TheVariants.{Bidi, Uni}
 use Rattle.qs_recv.specs.Assembled.{front_of}
 use Rattle.qs_recv.specs.Lane.{RecvLane, read_answer, take_stream}
@@ -13,8 +15,9 @@ use Rattle.qs_send.specs.Lane.{SendLane}
 use Rattle.qs_send.specs.declared.piece.Item.{Item}
 use Rattle.qs_send.specs.declared.piece.Item.TheVariants.{MaxData, MaxStreamData, MaxStreams, ResetStream, StopSending, DataBlocked, StreamDataBlocked, StreamsBlocked}
 use Rattle.qs_send.specs.declared.piece.Piece.TheVariants.{Told}
+use Rattle.qs_calls.specs.Settings.{limits_of}
 use Rattle.qs_machine.specs.Tables.{lookup, total}
-use Rattle.qs_machine.specs.Ends.{End, recv_lane, window, is_uni, is_own}
+use Rattle.qs_machine.specs.Ends.{End, recv_lane, window, is_uni, is_own, new_end}
 use Rattle.qs_machine.specs.Due.{IsDue, IsEndDue, IsCurrent, Sendable}
 use Rattle.qs_machine.specs.Examples.{standard, client_of}
 use Rattle.qs_machine.specs.SmallEnds.{client_with, wrote, finished, fresh, three_came}
@@ -24,7 +27,7 @@ use Rattle.qs_rest.specs.Rest.{TellsNoNews, AtRest}
 use Rattle.qs_rest.specs.Exclusions.{reads_by, IsAtRest, IsNotAtRest, Exclusions}
 use Rattle.qs_rest.proofs.EveryRun.{no_half}
 
--- A client without a sending half, of which nothing is to be told, and whose readers neither stopped nor had a limit raised.
+-- An end without a sending half, of which nothing is to be told, and whose readers neither stopped nor had a limit raised.
 pub record IsSilent (e : End) : Type 0 where
   pub ack : e.ack_due ≡ false
   pub sends : (n : ℕ) (l : SendLane) → lookup e.sends n ≡ Some l → ⊥
@@ -52,8 +55,8 @@ silent e h (inl ack) = false≢true (sym h.ack ∙ ack)
 silent e h (inr (inl (i, due))) = no_item e h i due.0
 silent e h (inr (inr (n, (l, at, goes)))) = h.sends n l at
 
-new_silent : IsSilent (client_of standard)
-new_silent =
+new_silent : (role : Role) → IsSilent (new_end role standard (limits_of standard))
+new_silent role =
     record {
       ack = refl;
       sends = λ n l at. none-some l (sym (no_half n) ∙ at);
@@ -112,7 +115,7 @@ first_came = contains-with_range set.empty 0 3 0 ∙ go
 rests : IsAtRest
 rests =
     record {
-      new = record { quiet = silent (client_of standard) new_silent; landed = λ p flies. none_carried p flies; told = λ n l at. absurd (none-some l (sym (no_lane n) ∙ at)) };
+      new = λ role. record { quiet = silent (new_end role standard (limits_of standard)) (new_silent role); landed = λ p flies. none_carried p flies; told = λ n l at. absurd (none-some l (sym (no_lane n) ∙ at)) };
       waits = reads_at_rest fresh refl refl waiting;
       told_end = reads_at_rest _ refl refl refl;
       told_reset = reads_at_rest _ refl refl refl;
@@ -141,7 +144,7 @@ others =
       byte = byte_due;
       end = end_due;
       in_flight = (
-        silent _ (record { ack = refl; sends = new_silent.sends; granted = omega arith; bidi = omega arith; uni = omega arith; recvs = new_silent.recvs; wants_bidi = refl; wants_uni = refl }),
+        silent _ (record { ack = refl; sends = (new_silent Client).sends; granted = omega arith; bidi = omega arith; uni = omega arith; recvs = (new_silent Client).recvs; wants_bidi = refl; wants_uni = refl }),
         λ rest. rest.landed (Told (MaxData 4096)) (one_carried 0 (Told (MaxData 4096))),
       );
       unread = (silent _ (reads_silent three_came refl refl), unread);

@@ -93,7 +93,8 @@ module _ (a b : Settings) (h : History) (w : World) (ok : WorldOk a b h w) (keep
       go (Some code) e =
           let (m, size, there, reset) = reset_code_is_the_senders a b h w ok s n r code is e in
           let same : m ≡ l = same_Some m l (sym there ∙ at) in
-          absurd (none-some _ (sym none ∙ ap (λ (x : SendLane). x.was_reset) (sym same) ∙ reset))
+          let here : l.was_reset ≡ Some (record { code = code; size = size }) = rw same at reset in
+          absurd (none-some _ (sym none ∙ here))
 
   -- an offset that is acknowledged came
   pub acked_came : (l : SendLane) (q : ℕ) → sending w s n ≡ Some l → l.was_reset ≡ None → set.contains l.acked q ≡ true → (r : RecvLane) × (receiving w s n ≡ Some r) × (set.contains r.arrived.received q ≡ true)
@@ -128,7 +129,8 @@ module _ (a b : Settings) (h : History) (w : World) (ok : WorldOk a b h w) (keep
       let (k, holds, ack) = told in
       let (t, found_too, final) = holds_there a b h w ok keeps s (FrameTaken (end_of w (other s)).recvs) k (Control (ResetStream n code size)) holds ((ok.ends (other s)).taken k (was_processed a b h w ok keeps s k ack)) in
       let same_half : t ≡ r = same_Some t r (sym found_too ∙ found) in
-      (known, (r, found, ap is_some (ap (λ (x : RecvLane). x.final_size) (sym same_half) ∙ final), ended))
+      let sized : r.final_size ≡ Some size = rw same_half at final in
+      (known, (r, found, ap is_some sized, ended))
 
   -- the highest offset is the sent end
   pub highest_sent : (l : SendLane) (r : RecvLane) → sending w s n ≡ Some l → receiving w s n ≡ Some r → highest r ≡ l.sent_end
@@ -148,7 +150,9 @@ module _ (a b : Settings) (h : History) (w : World) (ok : WorldOk a b h w) (keep
       by (Some size) e x ex =
           let (m, there, declared, sent, count) = final_size_is_declared a b h w ok s n r size is e in
           let same : m ≡ l = same_Some m l (sym there ∙ at) in
-          ap (λ o. unwrap_or o (set_end r.arrived.received)) e ∙ sym sent ∙ ap (λ (y : SendLane). y.sent_end) same
+          let sent_is : l.sent_end ≡ size = rw same at sent in
+          let top : highest r ≡ size = rw e refl in
+          top ∙ sym sent_is
       by None e None ex =
           let top : highest r ≡ set_end r.arrived.received = rw e refl in
           let over : set_end r.arrived.received ≤ l.sent_end = end-le r.arrived.received l.sent_end high in
@@ -156,7 +160,8 @@ module _ (a b : Settings) (h : History) (w : World) (ok : WorldOk a b h w) (keep
       by None e (Some reset) ex =
           let (known, (t, found, sized, ended)) = reset_came l reset at ex in
           let same : t ≡ r = same_Some t r (sym found ∙ is) in
-          absurd (true≢false (sym sized ∙ ap (λ (y : RecvLane). is_some y.final_size) same ∙ ap is_some e))
+          let here : is_some r.final_size ≡ true = rw same at sized in
+          absurd (true≢false (sym here ∙ ap is_some e))
 
   -- whole data came below the highest offset
   whole_came : (r : RecvLane) → is_whole r ≡ true → (q : ℕ) → q < highest r → set.contains r.arrived.received q ≡ true

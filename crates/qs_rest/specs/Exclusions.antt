@@ -1,9 +1,11 @@
 -- What a rest excludes: beside ends that are at rest, one that isn't for each reason.
 use Rattle.std.specs.Prelude.{true, [], Some}
+use Rattle.qs_wire.specs.declared.stream_id.Role.{Role}
 use Rattle.qs_recv.specs.Lane.{RecvLane, take_stream}
 use Rattle.qs_send.specs.declared.piece.Item.TheVariants.{MaxData}
 use Rattle.qs_send.specs.declared.piece.Piece.TheVariants.{Told}
-use Rattle.qs_machine.specs.Ends.{End}
+use Rattle.qs_calls.specs.Settings.{limits_of}
+use Rattle.qs_machine.specs.Ends.{End, new_end}
 use Rattle.qs_machine.specs.Due.{Sendable}
 use Rattle.qs_machine.specs.Examples.{standard, client_of}
 use Rattle.qs_machine.specs.SmallEnds.{only, client_with, carrying, wrote, finished, fresh, three_came, raised}
@@ -15,8 +17,8 @@ reads_by l = record (client_of standard) { recvs = only l }
 
 -- An end is at rest
 pub record IsAtRest : Type 0 where
-  -- that is new (section 3)
-  pub new : AtRest (client_of standard)
+  -- that is new, the client's and the server's (section 3)
+  pub new : (role : Role) → AtRest (new_end role standard (limits_of standard))
   -- whose reader waits (section 2.2)
   pub waits : AtRest (reads_by fresh)
   -- whose reader was told the end (section 3.2)
