@@ -1,19 +1,19 @@
 -- The ACK of the kept numbers begins a packet.
-use Rattle.std.proofs.Common.{◌≡◌, ℕ, zero, suc, ◌+◌, ◌-◌, ◌<◌, ◌≤◌, ◌^◌, true, false, ◌&&◌, List, [], ◌∷◌, ◌++◌, length, map, take, drop, refl, sym, ap, ◌∙◌, subst, arith, inl, inr, nat_le}
+use Rattle.std.proofs.Common.{◌≡◌, ℕ, zero, suc, ◌+◌, ◌-◌, ◌<◌, ◌≤◌, ◌^◌, true, false, ◌&&◌, List, [], ◌∷◌, ◌++◌, length, map, take, drop, refl, sym, ap, ◌∙◌, subst, arith, inl, inr, nat_le, get_or, None}
 use Rattle.std.specs.Prelude.{All, reverse}
 use Rattle.std.proofs.lemmas.List.Elements.{All-head, All-tail}
 use Rattle.std.proofs.lemmas.Grind.{reverse_onto}
-use Rattle.std.proofs.lemmas.Bool.{cases_lt, or_left, or_cases}
+use Rattle.std.proofs.lemmas.Bool.{true≢false, cases_lt, or_left, or_cases}
 use Rattle.std.proofs.lemmas.Bool.Decides.{nat_tests}
-use Rattle.std.proofs.lemmas.List.{length-reverse, length-take-le, take-append-drop, take_all}
+use Rattle.std.proofs.lemmas.List.{length-reverse, length-take-le, take-append-drop, take_all, take_more}
 use Rattle.std.specs.FinSet as set
 use Rattle.qs_ranges.specs.Numbers.{NumberSet, is_within, run_starts}
 use Rattle.qs_ranges.specs.Runs.{Runs, AreApartFrom, AreRunsOf, has_number}
 use Rattle.qs_ranges.proofs.Members.{has_number-append, set_of-is}
 use Rattle.qs_ranges.proofs.Count.{len-run_starts}
-use Rattle.qs_wire.specs.Layout.{FrameValue}
-use Rattle.qs_wire.specs.Grammar.{canonical}
-use Rattle.qs_wire.specs.Acks.{AreAckPairs, AreApartBelow, ack_of, inclusive}
+use Rattle.qs_wire.specs.Layout.{FrameValue, ack, ack_ranges_of}
+use Rattle.qs_wire.specs.Grammar.{Fits, canonical}
+use Rattle.qs_wire.specs.Acks.{AreAckPairs, AreApartBelow, gaps_below, ack_of, inclusive}
 use Rattle.qs_wire.proofs.PairLaws.{last_below, apart_take, ranges_of_pairs, ack_fits}
 use Rattle.qs_send.specs.declared.piece.Piece.{Piece}
 use Rattle.qs_send.specs.declared.piece.Piece.TheVariants.{Data}
@@ -22,7 +22,7 @@ use Rattle.qs_machine.specs.Credit.{all_sent}
 use Rattle.qs_machine.specs.Seen.{Ack, seen}
 use Rattle.qs_machine.specs.FrameStep.{is_named}
 use Rattle.qs_machine.specs.Lawful.{MayAck, Fills, frame_put}
-use Rattle.qs_machine.specs.Making.{IsText, IsPlainAck}
+use Rattle.qs_machine.specs.Making.{IsText, IsPlainAck, NamesMost}
 use Rattle.qs_conn.specs.Filling.{InPacket, Begun, IsPassed, no_slot}
 use Rattle.qs_conn.proofs.Texts.{no_text, text_push, ack_left}
 
@@ -80,6 +80,26 @@ has_taken n ps k there = ap (λ xs. has_number xs k) (sym (take-append-drop n ps
 abbrev high : ℕ
 high = 2 ^ 62 + 1
 
+-- among the first ranges is each that lies above one of them
+has_higher : (top : ℕ) (ps : Runs) (n j k : ℕ) → AreApartBelow top ps → has_number (take n ps) j ≡ true → j ≤ k → has_number ps k ≡ true → has_number (take n ps) k ≡ true
+has_higher top [] n j k a there le is = absurd (true≢false (sym is))
+has_higher top (p ∷ ps) zero j k a there le is = absurd (true≢false (sym there))
+has_higher top (p ∷ ps) (suc n) j k a there le is =
+    elim (or_cases (is_within p.0 p.1 k) (has_number ps k) is) [
+      | inl here ↦ or_left (is_within p.0 p.1 k) (has_number (take n ps) k) here
+      | inr later ↦ (
+          let below = has_below p.0 ps k a.2 later in
+          elim (or_cases (is_within p.0 p.1 j) (has_number (take n ps) j) there) [
+            | inl first ↦ (let ge : p.0 ≤ j = grind (arith, nat_tests, first) in absurd (omega (arith, ge, le, below)))
+            | inr rest ↦ (let on = has_higher p.0 ps n j k a.2 rest le later in grind (arith, on))
+          ])
+    ]
+
+-- the largest number of the first range
+abbrev top_of : Runs → ℕ
+top_of [] = 0
+top_of (p ∷ ps) = p.1 - 1
+
 -- an ACK of some ranges
 module _ (old : End) (runs pairs : Runs) (is : AreRunsOf old.done runs) (highest : pairs ≡ reverse runs) (ok : AreAckPairs pairs) (due : old.ack_due ≡ true) (n : ℕ) (some : 0 < n) (within : n ≤ length pairs) where
   kept_is : (k : ℕ) → has_number pairs k ≡ set.contains old.done k
@@ -96,10 +116,6 @@ module _ (old : End) (runs pairs : Runs) (is : AreRunsOf old.done runs) (highest
 
   named : (k : ℕ) → is_named ranges k ≡ has_number (take n pairs) k
   named k = named_is high (take n pairs) k taken_ok.apart
-
-  abbrev top_of : Runs → ℕ
-  top_of [] = 0
-  top_of (p ∷ ps) = p.1 - 1
 
   seen_by : (ps : Runs) → AreAckPairs ps → seen (ack_of ps) ≡ Ack (top_of ps) (map inclusive ps)
   seen_by [] ok = absurd (omega (arith, ok.some))
@@ -128,29 +144,78 @@ module _ (old : End) (runs pairs : Runs) (is : AreRunsOf old.done runs) (highest
         kept = λ k there. sym (kept_is k) ∙ has_taken n pairs k (sym (named k) ∙ there);
         names_largest = named (top_of (take n pairs)) ∙ top_named (take n pairs) taken_ok;
         largest_kept = λ k there. top_most pairs n k some ok (kept_is k ∙ there);
+        highest = λ j k there le also. named k ∙ has_higher high pairs n j k ok.apart (sym (named j) ∙ there) le (kept_is k ∙ also);
       }
 
   all_named : length pairs ≤ n → (k : ℕ) → set.contains old.done k ≡ true → is_named ranges k ≡ true
   all_named le k there = named k ∙ ap (λ ps. has_number ps k) (take_all n pairs le) ∙ kept_is k ∙ there
 
-  plain : (ps : Runs) → AreAckPairs ps → IsPlainAck (ack_of ps)
-  plain [] ok = absurd (omega (arith, ok.some))
-  plain (p ∷ ps) ok = (refl, refl)
+-- without delay and counts
+plain : (ps : Runs) → AreAckPairs ps → IsPlainAck (ack_of ps)
+plain [] ok = absurd (omega (arith, ok.some))
+plain (p ∷ ps) ok = (refl, refl)
 
-  -- a packet begins with it
-  pub begun_ack : (room : ℕ) (text : List ℕ) → text ≡ canonical frame → ((m : ℕ) → n < m → m ≤ length pairs → room < length (canonical (ack_of (take m pairs)))) → all_sent old ≤ old.known_data → ((x : Piece) → InPacket old x → ⊥) →
+-- One range more
+
+gaps_push : (smallest : ℕ) (ps : Runs) (q : ℕ × ℕ) → gaps_below smallest (ps ++ q ∷ []) ≡ gaps_below smallest ps ++ ((last_below smallest ps - q.1) - 1) ∷ ((q.1 - 1) - q.0) ∷ []
+gaps_push smallest [] q = refl
+gaps_push smallest (p ∷ ps) q = ap (λ (vs : List ℕ). ((smallest - p.1) - 1) ∷ ((p.1 - 1) - p.0) ∷ vs) (gaps_push p.0 ps q)
+
+-- an ACK of some ranges, where one range more doesn't fit
+names_most : (old : End) (room : ℕ) (pairs : Runs) (n : ℕ) → AreAckPairs (take (suc n) pairs) → 0 < n → n < length pairs → MayAck old old (top_of (take (suc n) pairs)) (map inclusive (take (suc n) pairs)) → room < length (canonical (ack_of (take (suc n) pairs))) → NamesMost old room (ack_of (take n pairs))
+names_most old room [] n ok some lt may long = absurd (omega (arith, lt))
+names_most old room (p ∷ ps) zero ok some lt may long = absurd (omega (arith, some))
+names_most old room (p ∷ ps) (suc i) ok some lt may long =
+    let q = get_or ps i (0, 0) in
+    let rest = take (suc i) ps in
+    let up : suc i ≡ i + 1 = omega arith in
+    let more : gaps_below p.0 rest ≡ gaps_below p.0 (take i ps) ++ ((last_below p.0 (take i ps) - q.1) - 1) ∷ ((q.1 - 1) - q.0) ∷ [] =
+    ap (λ k. gaps_below p.0 (take k ps)) up ∙ ap (gaps_below p.0) (take_more ps i (0, 0) (omega (arith, lt))) ∙ gaps_push p.0 (take i ps) q in
+    inr (record {
+      gap = (last_below p.0 (take i ps) - q.1) - 1;
+      len = (q.1 - 1) - q.0;
+      fits = subst (λ gs. Fits (ack (p.1 - 1) 0 (((p.1 - 1) - p.0) ∷ gs) None)) more (ack_fits (p ∷ rest) ok);
+      may = subst (λ gs. MayAck old old (p.1 - 1) (ack_ranges_of (p.1 - 1) (((p.1 - 1) - p.0) ∷ gs))) more (subst (MayAck old old (p.1 - 1)) (sym (ranges_of_pairs (p ∷ rest) ok)) may);
+      too_long = subst (λ gs. room < length (canonical (ack (p.1 - 1) 0 (((p.1 - 1) - p.0) ∷ gs) None))) more long;
+    })
+
+-- an ACK of all kept numbers
+names_all : (old : End) (room : ℕ) (ps : Runs) → AreAckPairs ps → ((k : ℕ) → set.contains old.done k ≡ true → is_named (map inclusive ps) k ≡ true) → NamesMost old room (ack_of ps)
+names_all old room [] ok all = absurd (omega (arith, ok.some))
+names_all old room (p ∷ ps) ok all = inl (λ k there. ap (λ rs. is_named rs k) (ranges_of_pairs (p ∷ ps) ok) ∙ all k there)
+
+-- a packet begins with the ACK of as many ranges as fit
+module _ (old : End) (runs pairs : Runs) (is : AreRunsOf old.done runs) (highest : pairs ≡ reverse runs) (ok : AreAckPairs pairs) (due : old.ack_due ≡ true) (n : ℕ) (some : 0 < n) (within : n ≤ length pairs) where
+  abbrev first : FrameValue
+  first = ack_of (take n pairs)
+
+  first_ok : AreAckPairs (take n pairs)
+  first_ok = taken_ok old runs pairs is highest ok due n some within
+
+  more_than : (room : ℕ) → ((m : ℕ) → n < m → m ≤ length pairs → room < length (canonical (ack_of (take m pairs)))) → NamesMost old room (ack_of (take n pairs))
+  more_than room most =
+      elim (cases_lt n (length pairs)) [
+        | inl fewer ↦ (
+            let up : 0 < suc n = omega arith in
+            let le : suc n ≤ length pairs = omega (arith, fewer) in
+            names_most old room pairs n (taken_ok old runs pairs is highest ok due (suc n) up le) some fewer (may_ack old runs pairs is highest ok due (suc n) up le) (most (suc n) (omega arith) le))
+        | inr all ↦ names_all old room (take n pairs) first_ok (all_named old runs pairs is highest ok due n some within all)
+      ]
+
+  pub begun_ack : (room : ℕ) (text : List ℕ) → text ≡ canonical first → ((m : ℕ) → n < m → m ≤ length pairs → room < length (canonical (ack_of (take m pairs)))) → all_sent old ≤ old.known_data → ((x : Piece) → InPacket old x → ⊥) →
       Begun room old text (record old { ack_due = false }) (IsPassed no_slot)
   unfolding frame_put
   begun_ack room text written most sent fresh =
       record {
-        frames = frame ∷ [];
-        fills = subst (λ f. Fills old old (f ∷ []) (record old { ack_due = false })) (sym seen_is) (may_ack, refl);
-        spells = subst (IsText (frame ∷ [])) (sym written) (text_push [] [] frame no_text (ack_fits (take n pairs) taken_ok) (plain (take n pairs) taken_ok));
+        frames = first ∷ [];
+        fills = subst (λ f. Fills old old (f ∷ []) (record old { ack_due = false })) (sym (seen_is old runs pairs is highest ok due n some within)) (may_ack old runs pairs is highest ok due n some within, refl);
+        spells = subst (IsText (first ∷ [])) (sym written) (text_push [] [] first no_text (ack_fits (take n pairs) first_ok) (plain (take n pairs) first_ok));
+        acks = (more_than room most, tt);
         steady = refl;
         within = sent;
         ack = λ x. elim (cases_lt n (length pairs)) [
           | inl fewer ↦ inl (omega (arith, ap length written, ack_left pairs n room ok some fewer (most (n + 1) (omega arith) (omega (arith, fewer)))))
-          | inr all ↦ inr (top_of (take n pairs), ranges, inl (sym seen_is), all_named all)
+          | inr all ↦ inr (top_of (take n pairs), map inclusive (take n pairs), inl (sym (seen_is old runs pairs is highest ok due n some within)), all_named old runs pairs is highest ok due n some within all)
         ];
         items = λ i p x. absurd p;
         no_chunk = λ m c there. fresh (Data m c) there;

@@ -3,6 +3,7 @@ use Rattle.std.proofs.Common.{◌≡◌, ℕ, ◌+◌, ◌-◌, ◌<◌, ◌≤�
 use Rattle.std.proofs.lemmas.Bool.{true≢false, cases_lt, cases_eq}
 use Rattle.std.proofs.lemmas.List.{length-append, length-take-le}
 use Rattle.std.proofs.lemmas.Option.{same_Some, none-some}
+use Rattle.std.specs.List.{AllByRecursion}
 use Rattle.std.specs.FinSet as set
 use Rattle.qs_wire.specs.Layout.{FrameValue, stream}
 use Rattle.qs_wire.specs.Varint.{short}
@@ -30,11 +31,11 @@ use Rattle.qs_machine.specs.Credit.{all_sent}
 use Rattle.qs_machine.specs.Seen.{Seen, Ack, Stream, Control, seen_all}
 use Rattle.qs_machine.specs.Due.{Among, IsDueItem, IsDue, IsEndDue, StreamGoes}
 use Rattle.qs_machine.specs.Lawful.{Fills, AcksAll, frame_put}
-use Rattle.qs_machine.specs.Making.{IsText}
+use Rattle.qs_machine.specs.Making.{IsText, NamesMost}
 use Rattle.qs_conn.specs.Filling.{end_by, MayGo, stream_frame, InPacket, slot_of, IsPassed, all_items, Flowing, Flow, Packed, Stage}
 use Rattle.qs_conn.proofs.Pieces.{among_more}
 use Rattle.qs_conn.proofs.Items.{fills_push, sum_by_base, known_by_base}
-use Rattle.qs_conn.proofs.Texts.{text_push, seen_push}
+use Rattle.qs_conn.proofs.Texts.{all_push, text_push, seen_push}
 use Rattle.qs_conn.proofs.Stages.{no_ack}
 use Rattle.qs_conn.proofs.Chunks.{Ties, ties_of, same_truth, IsClear, may_carry, chunk_lane, chunk_sum, chunk_known, clear_old, clear_new, cut_last, goes_other, chunk_only, none_goes}
 
@@ -43,6 +44,7 @@ pub record Chunking (room : ℕ) (old : End) (text : List ℕ) (e : End) (n : �
   pub frames : List FrameValue
   pub fills : Fills old old (seen_all frames) e
   pub spells : IsText frames text
+  pub acks : AllByRecursion (NamesMost old room) frames
   pub within : all_sent e ≤ e.known_data
   pub ack : old.ack_due ≡ true → (room < length text + 25) ⊎ AcksAll old (seen_all frames)
   pub items : (i : Item) → IsDueItem old i → Among (Control i) (seen_all frames)
@@ -59,6 +61,7 @@ flow_first room old text e false s =
       frames = s.frames;
       fills = s.fills;
       spells = s.spells;
+      acks = s.acks;
       within = (let same = sum_by_base e old s.steady in let known = known_by_base e old s.steady in omega (arith, same, known, s.within));
       ack = s.ack;
       items = λ i due. s.items i (passed i due) due;
@@ -85,6 +88,7 @@ chunking_begins room old text e n f =
       frames = f.frames;
       fills = f.fills;
       spells = f.spells;
+      acks = f.acks;
       within = f.within;
       ack = f.ack;
       items = f.items;
@@ -101,6 +105,7 @@ module _ (room : ℕ) (old : End) (text : List ℕ) (e : End) (n : ℕ) (k : Chu
         frames = k.frames;
         fills = k.fills;
         spells = k.spells;
+        acks = k.acks;
         within = k.within;
         ack = k.ack;
         items = k.items;
@@ -118,7 +123,7 @@ module _ (room : ℕ) (old : End) (text : List ℕ) (e : End) (n : ℕ) (k : Chu
   pub chunking_full : HasNoChunk s (room - length text) (e.known_data - all_sent e) → IsHeldByRoom s (room - length text) (e.known_data - all_sent e) → Packed room old text e
   chunking_full none held =
       let few : room - length text < 19 = (held_by_room_or_limits s (room - length text) (e.known_data - all_sent e) t.lawful none).0 held in
-      record { frames = k.frames; fills = k.fills; spells = k.spells; within = k.within; whole = λ left. absurd (omega (arith, few, left, fits)) }
+      record { frames = k.frames; fills = k.fills; spells = k.spells; acks = k.acks; within = k.within; whole = λ left. absurd (omega (arith, few, left, fits)) }
 
   module _ (c : Chunk) (next : IsNextChunk s (room - length text) (e.known_data - all_sent e) c) (has : HasBytes s.lane c) (bytes : List ℕ) (is : bytes ≡ bytes_of s.lane c) (count : length bytes ≡ c.len) where
     abbrev frame : FrameValue
@@ -171,6 +176,7 @@ module _ (room : ℕ) (old : End) (text : List ℕ) (e : End) (n : ℕ) (k : Chu
           frames = k.frames ++ frame ∷ [];
           fills = subst (λ fs. Fills old old fs after) (sym (seen_push k.frames frame)) (fills_push old old e (seen_all k.frames) (Stream n c.offset bytes c.fin) k.fills (s.lane, may_carry e n s t c next.allowed.chunk bytes is count has clear_before));
           spells = text_push k.frames text frame k.spells chunk_fits tt;
+          acks = all_push (NamesMost old room) k.frames frame k.acks tt;
           within = omega (arith, chunk_known e n s t c next.allowed.chunk bytes count, chunk_sum e n s t c next.allowed.chunk bytes count, k.within, next.allowed.within_credit);
           ack = λ due. elim (k.ack due) [ inl full ↦ inl (omega (arith, len', full)) | inr (largest, ranges, there, all) ↦ inr (largest, ranges, more (Ack largest ranges) there, all) ];
           items = λ i due. more (Control i) (k.items i due);
@@ -189,6 +195,7 @@ flow_absent room old text e n none f =
       frames = f.frames;
       fills = f.fills;
       spells = f.spells;
+      acks = f.acks;
       within = f.within;
       ack = f.ack;
       items = f.items;
@@ -204,6 +211,7 @@ flow_idle room old text e false done next le idle f =
       frames = f.frames;
       fills = f.fills;
       spells = f.spells;
+      acks = f.acks;
       within = f.within;
       ack = f.ack;
       items = f.items;
@@ -219,6 +227,7 @@ flow_packed room old text e false done past f =
       frames = f.frames;
       fills = f.fills;
       spells = f.spells;
+      acks = f.acks;
       within = f.within;
       whole = λ left. record {
         ack = acked left;

@@ -15,11 +15,11 @@ use Rattle.qs_machine.specs.Credit.{all_sent, settle}
 use Rattle.qs_machine.specs.Seen.{Seen, Ack, Stream, Control, Close, Plain, seen, seen_all}
 use Rattle.qs_machine.specs.Due.{Among, IsCurrent, IsCovered, IsDueItem, StreamGoes, Sendable}
 use Rattle.qs_machine.specs.Lawful.{Fills, AcksAll, IsWhole, frame_put}
-use Rattle.qs_machine.specs.Making.{IsMade}
+use Rattle.qs_machine.specs.Making.{IsMade, NamesMost}
 use Rattle.qs_conn.specs.Filling.{InPacket, slot_of, frame_of_item, no_slot, IsPassed, Begun, Packed}
 use Rattle.qs_conn.proofs.Pieces.{put_packet, among_more, among_last, due_more, end_due_more, item_ack_due}
 use Rattle.qs_conn.proofs.Items.{current_by_base, acked_by_base, sum_by_base, known_by_base, base_item, fills_push, out_old, out_is}
-use Rattle.qs_conn.proofs.Texts.{no_text, no_frames, text_push, seen_push, seen_item, plain_item, control_item}
+use Rattle.qs_conn.proofs.Texts.{all_push, no_text, no_frames, text_push, seen_push, seen_item, item_most, plain_item, control_item}
 
 -- the frames with one more
 pushed : (frames : List FrameValue) (f : FrameValue) (s : Seen) → seen f ≡ s → (P : List Seen → Type 0) → P (seen_all frames ++ s ∷ []) → P (seen_all (frames ++ f ∷ []))
@@ -37,6 +37,7 @@ begun_first room old within none fresh =
       frames = [];
       fills = refl;
       spells = no_text;
+      acks = tt;
       steady = refl;
       within = within;
       ack = λ due. absurd (true≢false (sym due ∙ none));
@@ -68,7 +69,7 @@ module _ (room : ℕ) (old : End) (text : List ℕ) (e : End) (P : Slot → Type
 
   -- fewer slots
   pub begun_fewer : (Q : Slot → Type 0) → ((s : Slot) → Q s → P s) → Begun room old text e Q
-  begun_fewer Q fewer = record { frames = b.frames; fills = b.fills; spells = b.spells; steady = b.steady; within = b.within; ack = b.ack; items = λ i q due. b.items i (fewer (slot_of i) q) due; no_chunk = b.no_chunk }
+  begun_fewer Q fewer = record { frames = b.frames; fills = b.fills; spells = b.spells; acks = b.acks; steady = b.steady; within = b.within; ack = b.ack; items = λ i q due. b.items i (fewer (slot_of i) q) due; no_chunk = b.no_chunk }
 
   -- a slot of which nothing is current
   pub begun_absent : (s : Slot) → ((j : Item) → slot_of j ≡ s → IsCurrent e j → ⊥) → Begun room old text e (λ t. P t ⊎ (t ≡ s))
@@ -77,6 +78,7 @@ module _ (room : ℕ) (old : End) (text : List ℕ) (e : End) (P : Slot → Type
         frames = b.frames;
         fills = b.fills;
         spells = b.spells;
+        acks = b.acks;
         steady = b.steady;
         within = b.within;
         ack = b.ack;
@@ -91,6 +93,7 @@ module _ (room : ℕ) (old : End) (text : List ℕ) (e : End) (P : Slot → Type
         frames = b.frames;
         fills = b.fills;
         spells = b.spells;
+        acks = b.acks;
         steady = b.steady;
         within = b.within;
         ack = b.ack;
@@ -106,6 +109,7 @@ module _ (room : ℕ) (old : End) (text : List ℕ) (e : End) (P : Slot → Type
           frames = b.frames;
           fills = b.fills;
           spells = b.spells;
+          acks = b.acks;
           steady = b.steady;
           within = b.within;
           ack = b.ack;
@@ -124,6 +128,7 @@ module _ (room : ℕ) (old : End) (text : List ℕ) (e : End) (P : Slot → Type
           frames = b.frames ++ frame_of_item i ∷ [];
           fills = pushed b.frames (frame_of_item i) (Control i) (seen_item i) (λ fs. Fills old old fs (frame_put (Control i) e)) (fills_push old old e (seen_all b.frames) (Control i) b.fills (due_first i due, due));
           spells = text_push b.frames text (frame_of_item i) b.spells fits (plain_item i);
+          acks = all_push (NamesMost old room) b.frames (frame_of_item i) b.acks (item_most old room i);
           steady = base_item i e ∙ b.steady;
           within = b.within;
           ack = λ is. elim (b.ack is) [
@@ -147,6 +152,7 @@ module _ (room : ℕ) (old : End) (text : List ℕ) (e : End) (P : Slot → Type
         frames = b.frames;
         fills = b.fills;
         spells = b.spells;
+        acks = b.acks;
         within = (let same = sum_by_base e old b.steady in let known = known_by_base e old b.steady in omega (arith, same, known, b.within));
         whole = λ left. absurd (omega (arith, full, left));
       }
@@ -216,6 +222,7 @@ module _ (room : ℕ) (old : End) (text : List ℕ) (e : End) (p : Packed room o
         fits = omega (arith, count, fits);
         frames = p.frames;
         spells = p.spells;
+        acks = p.acks;
         mid = record e { next = old.next + 1 };
         lawful = record { some = not_empty p.frames refl; filled = (e, p.fills, refl); within = p.within };
         whole = λ left. (

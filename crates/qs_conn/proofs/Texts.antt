@@ -13,11 +13,12 @@ use Rattle.qs_wire.proofs.Numbers.{short_most, short_positive}
 use Rattle.qs_wire.proofs.PairLaws.{last_below, text_more_len, length-ack_take, lies_below, last_le}
 use Rattle.qs_send.specs.declared.piece.Item.{Item}
 use Rattle.qs_send.specs.declared.piece.Item.TheVariants.{MaxData, MaxStreamData, MaxStreams, ResetStream, StopSending, DataBlocked, StreamDataBlocked, StreamsBlocked}
+use Rattle.qs_machine.specs.Ends.{End}
 use Rattle.qs_machine.specs.Seen.{Control, seen, seen_all}
-use Rattle.qs_machine.specs.Making.{IsText, IsPlainAck}
+use Rattle.qs_machine.specs.Making.{IsText, IsPlainAck, NamesMost}
 use Rattle.qs_conn.specs.Filling.{frame_of_item}
 
-all_push : {X : Type 0} (P : X → Type 0) (xs : List X) (x : X) → AllByRecursion P xs → P x → AllByRecursion P (xs ++ x ∷ [])
+pub all_push : {X : Type 0} (P : X → Type 0) (xs : List X) (x : X) → AllByRecursion P xs → P x → AllByRecursion P (xs ++ x ∷ [])
 all_push P [] x all p = (p, all)
 all_push P (y ∷ xs) x all p = (all.0, all_push P xs x all.1 p)
 
@@ -57,6 +58,17 @@ plain_item (StopSending n code) = tt
 plain_item (DataBlocked m) = tt
 plain_item (StreamDataBlocked n m) = tt
 plain_item (StreamsBlocked d m) = tt
+
+-- no item is an ACK
+pub item_most : (old : End) (room : ℕ) (i : Item) → NamesMost old room (frame_of_item i)
+item_most old room (MaxData m) = tt
+item_most old room (MaxStreamData n m) = tt
+item_most old room (MaxStreams d m) = tt
+item_most old room (ResetStream n code size) = tt
+item_most old room (StopSending n code) = tt
+item_most old room (DataBlocked m) = tt
+item_most old room (StreamDataBlocked n m) = tt
+item_most old room (StreamsBlocked d m) = tt
 
 pub control_item : (i : Item) → IsControl (frame_of_item i)
 control_item (MaxData m) = tt

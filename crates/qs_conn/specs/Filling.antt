@@ -1,5 +1,6 @@
 -- A packet in the making: what holds of it so far.
 use Rattle.std.specs.Prelude.{◌≡◌, ℕ, ◌+◌, ◌-◌, ◌*◌, ◌<◌, ◌≤◌, ◌^◌, Bool, true, false, List, [], ◌++◌, ◌⊎◌, length, take, Option, None, Some, Result, Ok, Err}
+use Rattle.std.specs.List.{AllByRecursion}
 use Rattle.std.specs.FinMap as fmap
 use Rattle.std.specs.FinSet as set
 use Rattle.qs_calls.specs.declared.making.Made.{Made}
@@ -29,7 +30,7 @@ use Rattle.qs_machine.specs.Due.{Among, IsCurrent, IsDueItem, StreamGoes}
 use Rattle.qs_machine.specs.Outgoing.{Outgoing, sent_sum, HasSending, WantsMore, item_put_out}
 use Rattle.qs_machine.specs.Sums.{or_none}
 use Rattle.qs_machine.specs.Lawful.{Fills, AcksAll, HasAll, pieces_so_far}
-use Rattle.qs_machine.specs.Making.{IsText}
+use Rattle.qs_machine.specs.Making.{IsText, NamesMost}
 
 -- what an item speaks of
 abbrev pub slot_of : Item → Slot
@@ -156,6 +157,7 @@ pub record Begun (room : ℕ) (old : End) (text : List ℕ) (e : End) (P : Slot 
   pub frames : List FrameValue
   pub fills : Fills old old (seen_all frames) e
   pub spells : IsText frames text
+  pub acks : AllByRecursion (NamesMost old room) frames
   pub steady : base e ≡ base old
   pub within : all_sent old ≤ old.known_data
   pub ack : old.ack_due ≡ true → (room < length text + 25) ⊎ AcksAll old (seen_all frames)
@@ -168,6 +170,7 @@ pub record Flowing (room : ℕ) (old : End) (text : List ℕ) (e : End) (done : 
   pub frames : List FrameValue
   pub fills : Fills old old (seen_all frames) e
   pub spells : IsText frames text
+  pub acks : AllByRecursion (NamesMost old room) frames
   pub within : all_sent e ≤ e.known_data
   pub ack : old.ack_due ≡ true → (room < length text + 25) ⊎ AcksAll old (seen_all frames)
   pub items : (i : Item) → IsDueItem old i → Among (Control i) (seen_all frames)
@@ -179,6 +182,7 @@ pub record Packed (room : ℕ) (old : End) (text : List ℕ) (e : End) : Type 0 
   pub frames : List FrameValue
   pub fills : Fills old old (seen_all frames) e
   pub spells : IsText frames text
+  pub acks : AllByRecursion (NamesMost old room) frames
   pub within : all_sent e ≤ e.known_data
   pub whole : HasAll room (length text) old (seen_all frames) e
 

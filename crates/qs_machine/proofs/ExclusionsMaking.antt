@@ -1,6 +1,8 @@
 -- What no packet holds, which packets aren't made, and what a loss doesn't leave.
 use Rattle.std.proofs.Common.{◌≡◌, ℕ, zero, suc, ◌+◌, ◌-◌, ◌<◌, ◌≤◌, ◌⊎◌, List, [], ◌∷◌, ◌++◌, take, drop, length, slice_index_or, Bool, true, false, cond, Option, Some, None, is_some, is_none, refl, sym, ap, ◌∙◌, subst, arith, inl, inr}
 use Rattle.std.specs.Prelude.{Result, Ok, Err}
+use Rattle.std.specs.List.{AllByRecursion}
+use Rattle.std.proofs.lemmas.List.{length-append}
 use Rattle.std.specs.FinMap as fmap
 use Rattle.std.specs.FinSet as set
 use Rattle.std.specs.Ordering.{nat_cmp, eq_by_cmp}
@@ -9,7 +11,9 @@ use Rattle.std.proofs.lemmas.Option.{same_Some, none-some}
 use Rattle.std.proofs.lemmas.Bool.{false≢true, true≢false, both_ways}
 use Rattle.qs_ranges.specs.Numbers.{contains-numbers}
 use Rattle.qs_ranges.proofs.Sets.{end_of-empty, missing_from-past}
-use Rattle.qs_wire.specs.Grammar.{canonical}
+use Rattle.qs_wire.specs.Layout.{ack}
+use Rattle.qs_wire.specs.Grammar.{Fits, canonical}
+use Rattle.qs_wire.proofs.Numbers.{short_byte, short_most}
 use Rattle.qs_wire.specs.Varint.{short}
 use Rattle.qs_send.specs.Lane.{SendLane, unacked_from}
 use Rattle.qs_send.specs.Records.{Among, IsCarried, PacketPieces, without_first}
@@ -27,7 +31,7 @@ use Rattle.qs_machine.specs.FrameStep.{is_named}
 use Rattle.qs_machine.specs.Due.{IsDue}
 use Rattle.qs_machine.specs.Lawful.{Lawful, frame_put}
 use Rattle.qs_machine.specs.Owner.{Certain, first_refusal, refuse_if}
-use Rattle.qs_machine.specs.Making.{LoseStep, losses, lose_refusal}
+use Rattle.qs_machine.specs.Making.{NamesMost, LoseStep, losses, lose_refusal}
 use Rattle.qs_machine.specs.SmallEnds.{chunk, abc, wrote, owing}
 use Rattle.qs_machine.specs.ExclusionsMaking.{NoSuchStreamFrame, NoSuchAck, NoSuchFrame, NoSuchPacket, NothingIsLeftOut, NoSuchText, NoSuchAnswer, NoSuchLoss, NotMade, writer, two_due, one_flying, two_flying}
 use Rattle.qs_machine.proofs.SmallEndsLaws.{none_in, none_carried, only_carried}
@@ -101,6 +105,7 @@ acks =
       unkept = λ may. both_ways _ not_kept_0 (may.kept 0 refl);
       without_largest = λ may. false≢true may.names_largest;
       largest_left_out = λ may. (let le : 3 ≤ 1 = may.largest_kept 3 kept_3 in omega arith);
+      higher_left_out = λ may. false≢true (may.highest 1 3 refl (omega arith) (set.contains-insert nat_cmp_total owing.done 5 3 ∙ kept_3));
       twice = λ may. false≢true may.due;
     }
 
@@ -191,12 +196,41 @@ is_ok (Err f) = false
 pub ok_is_no_err : {A F : Type 0} (a : A) (f : F) → ◌≡◌ {A = Result A F} (Ok a) (Err f) → ⊥
 ok_is_no_err a f is = true≢false (ap is_ok is)
 
+-- one run more takes 16 bytes at most
+next_fits : (gap len : ℕ) → Fits (ack 3 0 (0 ∷ gap ∷ len ∷ []) None) → length (canonical (ack 3 0 (0 ∷ gap ∷ len ∷ []) None)) ≤ 21
+unfolding canonical
+next_fits gap len fits =
+    let vs = short gap ++ (short len ++ []) in
+    let below = fits.2.below in
+    omega (
+      arith,
+      ap length (short_byte 2 (omega arith)),
+      ap length (short_byte 3 (omega arith)),
+      ap length (short_byte 0 (omega arith)),
+      ap length (short_byte 1 (omega arith)),
+      short_most gap below.1.0,
+      short_most len below.1.1.0,
+      length-append (short gap) (short len ++ []),
+      length-append (short len) [],
+      length-append (short 0) vs,
+      length-append (short 1) (short 0 ++ vs),
+      length-append (short 1 ++ (short 0 ++ vs)) [],
+      length-append (short 0) ((short 1 ++ (short 0 ++ vs)) ++ []),
+      length-append (short 3) (short 0 ++ ((short 1 ++ (short 0 ++ vs)) ++ [])),
+      length-append (short 2) (short 3 ++ (short 0 ++ ((short 1 ++ (short 0 ++ vs)) ++ []))),
+    )
+
+largest_alone : NamesMost owing 29 (ack 3 0 (0 ∷ []) None) → ⊥
+largest_alone (inl all) = false≢true (all 1 kept_1)
+largest_alone (inr next) = (let most = next_fits next.gap next.len next.fits in omega (arith, most, next.too_long))
+
 answers : NoSuchAnswer
 answers =
     record {
       number = λ text new made. (let e : 1 ≡ 0 = made.number in omega arith);
       len = λ new made. (let e : 2 ≡ 1 = made.len in omega arith);
       no_room = λ made new is. (let le : 1 ≤ 0 = is.fits in omega arith);
+      largest_alone = λ made text new is frames. largest_alone (subst (λ fs. AllByRecursion (NamesMost owing 29) fs) frames is.acks).0;
       closed = λ made text new step. ok_is_no_err _ _ step.0;
       exhausted = λ made text new step. ok_is_no_err _ _ step.0;
       last_number = λ new step. step;

@@ -1,6 +1,7 @@
 -- What no packet holds, which packets aren't made, and what a loss doesn't leave (RFC 9000, sections 2.2, 4, 12.3, 13.2 and 13.3).
 use Rattle.std.specs.Prelude.{◌≡◌, ℕ, ◌+◌, true, false, List, [], ◌∷◌, None, Some, Ok, Err}
 use Rattle.std.specs.FinMap as fmap
+use Rattle.std.specs.FinSet as set
 use Rattle.qs_ranges.specs.Numbers.{MAX_VARINT}
 use Rattle.qs_wire.specs.Layout.{ping, ack}
 use Rattle.qs_send.specs.Records.{IsCarried}
@@ -13,7 +14,7 @@ use Rattle.qs_calls.specs.declared.making.LostFault.TheVariants as losing
 use Rattle.qs_machine.specs.Ends.{End}
 use Rattle.qs_machine.specs.Seen.{Ack, Stream, Control, Close, Plain}
 use Rattle.qs_machine.specs.Lawful.{MayPut, Lawful, HasAll, frame_put}
-use Rattle.qs_machine.specs.Making.{IsText, MakeStep, LoseStep}
+use Rattle.qs_machine.specs.Making.{IsText, IsMade, MakeStep, LoseStep}
 use Rattle.qs_machine.specs.Examples.{standard, server}
 use Rattle.qs_machine.specs.SmallEnds.{client_with, carrying, chunk, abc, begun, wrote, sent, second_acked, raised, owing}
 use Rattle.qs_machine.specs.ExclusionsDue.{held_back}
@@ -43,6 +44,10 @@ pub record NoSuchStreamFrame : Type 0 where
   -- with FIN before the last byte that was written
   pub early_end : MayPut (client_with (record wrote { finished = true })) (client_with (record wrote { finished = true })) (Stream 0 0 (97 ∷ []) true) → ⊥
 
+-- a client that owes an ACK of three runs: 1, 3 and 5
+abbrev pub owing_three : End
+owing_three = record owing { done = set.insert owing.done 5 }
+
 -- An ACK may not go (sections 13.2 and 19.3)
 pub record NoSuchAck : Type 0 where
   -- where none is due
@@ -53,6 +58,8 @@ pub record NoSuchAck : Type 0 where
   pub without_largest : MayPut owing owing (Ack 3 ((1, 1) ∷ [])) → ⊥
   -- without the largest number that is kept
   pub largest_left_out : MayPut owing owing (Ack 1 ((1, 1) ∷ [])) → ⊥
+  -- without a kept number that is higher than one that it names
+  pub higher_left_out : MayPut owing_three owing_three (Ack 5 ((5, 5) ∷ (1, 1) ∷ [])) → ⊥
   -- twice in a packet
   pub twice : MayPut owing (frame_put (Ack 3 ((3, 3) ∷ (1, 1) ∷ [])) owing) (Ack 3 ((3, 3) ∷ (1, 1) ∷ [])) → ⊥
 
@@ -116,6 +123,8 @@ pub record NoSuchAnswer : Type 0 where
   pub len : (new : End) → MakeStep writer 1200 (Ok (Some (record { number = 0; len = 2 }))) (1 ∷ []) new → ⊥
   -- with a text that doesn't fit
   pub no_room : (made : Made) (new : End) → MakeStep writer 0 (Ok (Some made)) (1 ∷ []) new → ⊥
+  -- with an ACK of the largest number alone, in a room for more
+  pub largest_alone : (made : Made) (text : List ℕ) (new : End) (is : IsMade owing 29 made text new) → is.frames ≡ ack 3 0 (0 ∷ []) None ∷ [] → ⊥
   -- with a packet once the end closed
   pub closed : (made : Made) (text : List ℕ) (new : End) → MakeStep (record writer { closed = Some (ByPeer 0) }) 1200 (Ok (Some made)) text new → ⊥
   -- nor once the last number was used

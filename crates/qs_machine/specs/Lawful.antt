@@ -38,12 +38,13 @@ pub record MayCarry (e : End) (n offset : ℕ) (bytes : List ℕ) (fin : Bool) (
   pub within : offset + length bytes ≤ l.limit
   pub end : fin ≡ true → IsEndDue e n l × (offset + length bytes ≡ l.written) × (offset ≤ l.sent_end)
 
--- An ACK names kept numbers alone, the largest of them first (RFC 9000, section 19.3).
+-- An ACK names kept numbers alone, the highest of them, and the largest first (RFC 9000, sections 13.2.3 and 19.3).
 pub record MayAck (old e : End) (largest : ℕ) (ranges : List (ℕ × ℕ)) : Type 0 where
   pub due : e.ack_due ≡ true
   pub kept : (k : ℕ) → is_named ranges k ≡ true → set.contains old.done k ≡ true
   pub names_largest : is_named ranges largest ≡ true
   pub largest_kept : (k : ℕ) → set.contains old.done k ≡ true → k ≤ largest
+  pub highest : (j k : ℕ) → is_named ranges j ≡ true → j ≤ k → set.contains old.done k ≡ true → is_named ranges k ≡ true
 
 -- The frame may be the next one in a packet that began at old and has led to e so far. Control items are those due as the packet
 -- began, each once (RFC 9000, sections 12.4, 13.2 and 13.3).
@@ -90,10 +91,13 @@ pub record Lawful (old : End) (frames : List Seen) (new : End) : Type 0 where
 
 -- Completeness: ours, for RFC 9000, section 13, leaves open how far a packet is filled
 
--- an ACK among the frames names every kept number
+-- the ranges of an ACK name every kept number
+abbrev pub NamesAll : End → List (ℕ × ℕ) → Type 0
+NamesAll old ranges = (k : ℕ) → set.contains old.done k ≡ true → is_named ranges k ≡ true
+
+-- such an ACK is among the frames
 abbrev pub AcksAll : End → List Seen → Type 0
-AcksAll old frames =
-    (largest : ℕ) × (ranges : List (ℕ × ℕ)) × Among (Ack largest ranges) frames × ((k : ℕ) → set.contains old.done k ≡ true → is_named ranges k ≡ true)
+AcksAll old frames = (largest : ℕ) × (ranges : List (ℕ × ℕ)) × Among (Ack largest ranges) frames × NamesAll old ranges
 
 -- all that was due as the packet began is in it, and the end after it can send control items at most
 pub record IsWhole (old : End) (frames : List Seen) (new : End) : Type 0 where

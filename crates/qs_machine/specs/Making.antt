@@ -3,7 +3,7 @@ use Rattle.std.specs.Prelude.{◌≡◌, ℕ, ◌+◌, ◌<◌, ◌≤◌, List,
 use Rattle.std.specs.List.{AllByRecursion}
 use Rattle.std.specs.FinMap as fmap
 use Rattle.qs_ranges.specs.Numbers.{MAX_VARINT}
-use Rattle.qs_wire.specs.Layout.{FrameValue, ack, connection_close}
+use Rattle.qs_wire.specs.Layout.{FrameValue, ack, ack_ranges_of, connection_close}
 use Rattle.qs_wire.specs.Grammar.{Fits, canonical, canonical_all}
 use Rattle.qs_send.specs.declared.piece.Piece.{Piece}
 use Rattle.qs_send.specs.Records.{without_first}
@@ -18,7 +18,7 @@ use Rattle.qs_machine.specs.Ends.{End, lost_with}
 use Rattle.qs_machine.specs.Credit.{settle}
 use Rattle.qs_machine.specs.Seen.{seen_all}
 use Rattle.qs_machine.specs.Due.{Sendable}
-use Rattle.qs_machine.specs.Lawful.{Lawful, HasAll}
+use Rattle.qs_machine.specs.Lawful.{MayAck, Lawful, NamesAll, HasAll}
 use Rattle.qs_machine.specs.Owner.{Certain, first_refusal, refuse_if}
 
 -- an ACK is written with a delay of 0 and without ECN counts (RFC 9000, section 19.3)
@@ -32,6 +32,19 @@ pub record IsText (frames : List FrameValue) (text : List ℕ) : Type 0 where
   pub plain : AllByRecursion IsPlainAck frames
   pub canonical : text ≡ canonical_all frames
 
+-- An ACK that names the next run too, by one Gap and one ACK Range Length more, is longer than the room (RFC 9000, section 19.3.1).
+pub record NextIsTooLong (old : End) (room largest : ℕ) (ranges : List ℕ) : Type 0 where
+  pub gap : ℕ
+  pub len : ℕ
+  pub fits : Fits (ack largest 0 (ranges ++ gap ∷ len ∷ []) None)
+  pub may : MayAck old old largest (ack_ranges_of largest (ranges ++ gap ∷ len ∷ []))
+  pub too_long : room < length (canonical (ack largest 0 (ranges ++ gap ∷ len ∷ []) None))
+
+-- an ACK names all kept numbers, or no run more fits the room (RFC 9000, section 13.2.3)
+abbrev pub NamesMost : End → ℕ → FrameValue → Type 0
+NamesMost old room (ack largest delay ranges ecn) = NamesAll old (ack_ranges_of largest ranges) ⊎ NextIsTooLong old room largest ranges
+NamesMost old room frame = Unit {0}
+
 -- A packet of the next number was made: the canonical text of a lawful packet that fits the room and leaves nothing out that it had room
 -- for (RFC 9000, section 12.3).
 pub record IsMade (old : End) (room : ℕ) (made : Made) (text : List ℕ) (new : End) : Type 0 where
@@ -42,6 +55,7 @@ pub record IsMade (old : End) (room : ℕ) (made : Made) (text : List ℕ) (new 
   pub spells : IsText frames text
   pub mid : End
   pub lawful : Lawful old (seen_all frames) mid
+  pub acks : AllByRecursion (NamesMost old room) frames
   pub whole : HasAll room (length text) old (seen_all frames) mid
   pub after : new ≡ settle mid
 
