@@ -316,3 +316,34 @@ none_goes e n s room t enough credit none (l, there, some) = go (same_Some l s.l
     go : l ≡ s.lane → ByteGoes e n l ⊎ EndGoes e n l → ⊥
     go same (inl b) = byte (subst (ByteGoes e n) same b)
     go same (inr b) = (let (due, sent) = subst (EndGoes e n) same b in sendable_end_has_chunk s room (e.known_data - all_sent e) t.lawful (omega (arith, enough)) (t.end_all due) sent none)
+
+-- A half with a chunk within the credit has something that goes.
+pub chunk_goes : (e : End) (n : ℕ) (s : Sending) (t : Ties e n s) (c : Chunk) → IsDueChunk s c → c.offset + c.len ≤ s.lane.sent_end + (e.known_data - all_sent e) → StreamGoes e n
+chunk_goes e n s t c chunk credit = (s.lane, t.lane, elim (cases_lt 0 c.len) [ inl some ↦ inl (byte some) | inr none ↦ inr (ended none (some_of e n s t c chunk)) ])
+  where
+    due : 0 < c.len → IsDue e n s.lane c.offset
+    due some = first_due e n s t c chunk some
+
+    byte : 0 < c.len → ByteGoes e n s.lane
+    byte some = (
+      c.offset,
+      due some,
+      omega (arith, some, chunk.within_limit),
+      elim (cases_lt c.offset s.lane.sent_end) [
+        | inl old ↦ inl old
+        | inr ge ↦ (let le : c.offset ≤ s.lane.sent_end = first_sent some in inr (omega (arith, ge, le), omega (arith, some, credit, ge)))
+      ],
+    )
+      where
+        first_sent : 0 < c.len → c.offset ≤ s.lane.sent_end
+        first_sent some = elim (cases_lt s.lane.sent_end c.offset) [
+          | inl lt ↦ lowest_of e n s t c chunk s.lane.sent_end (t.lawful.parts.unsent_due (ap is_some (due some).no_reset) s.lane.sent_end (omega arith) (omega (arith, lt, (due some).written)))
+          | inr ge ↦ ge
+        ]
+
+    ended : c.len ≤ 0 → (0 < c.len) ⊎ (c.fin ≡ true) → EndGoes e n s.lane
+    ended none (inl some) = absurd (omega (arith, none, some))
+    ended none (inr fin) =
+        let (asked, at) = fin_means e n s t c chunk fin in
+        let sent : c.offset ≤ s.lane.sent_end = not_past_sent e n s t c chunk fin in
+        (t.end asked, omega (arith, none, at, sent, t.lawful.order.sent_written))

@@ -27,6 +27,7 @@ pub mod AckRuns
 pub mod SendEdits
 pub mod Settling
 pub mod Slots
+pub mod Sendables
 pub mod Stages
 pub mod Stops
 pub mod Telling

@@ -6,3 +6,4 @@ pub mod Runs
 pub mod Marks
 pub mod Tasks
 pub mod Words
+pub mod Sending

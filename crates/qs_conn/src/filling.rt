@@ -109,9 +109,9 @@ fn put_item(outbox: &mut Outbox, item: &Item, out: &mut [u8], packet: Packet) ->
     }
 }
 
-// Whether an outstanding or acknowledged packet told the item with this value.
+/// Whether an outstanding or acknowledged packet told the item with this value.
 #[tactic(auto, using(crate::proofs::Slots::acked_out, crate::proofs::Slots::acked_in))]
-fn is_covered(outbox: &Outbox, item: &Item) -> bool
+pub(crate) fn is_covered(outbox: &Outbox, item: &Item) -> bool
     ensures yes { (t : Terms) (recvs : Tables RecvLane) (e : End) → result ≡ true → IsCovered (end_by t recvs outbox.now e) item.now }
     ensures no { (t : Terms) (recvs : Tables RecvLane) (e : End) → result ≡ false → IsCovered (end_by t recvs outbox.now e) item.now → ⊥ }
 {
@@ -153,8 +153,8 @@ pub(crate) fn put_slot(
     put_item(outbox, &item, out, packet)
 }
 
-// The least number from one on of a stream that may have an item of a kind. Of the streams between none is due.
-fn next_of_kind(
+/// The least number from one on of a stream that may have an item of a kind. Of the streams between none is due.
+pub(crate) fn next_of_kind(
     terms: &Terms,
     recvs: &RecvTables,
     outbox: &Outbox,

@@ -13,6 +13,7 @@ mod recv_tables;
 mod send_lanes;
 mod send_marks;
 mod send_tables;
+mod sendable;
 mod setup;
 mod slot;
 mod stream_values;

@@ -95,7 +95,7 @@ module _ (P : End → Type 0) (old : End) (kept : P old) (settles : (mid : End) 
   make_by (Some fault) room answer text new step = becomes new step.2
   make_by None room (Ok (Some made)) text new step = settled step.mid new step.after
   make_by None room (Ok None) text new step = becomes new step.2
-  make_by None room (Err making.NoMemory) text new step = becomes new step.1
+  make_by None room (Err making.NoMemory) text new step = becomes new step.2
   make_by None room (Err making.Closed) text new step = absurd step
   make_by None room (Err making.Exhausted) text new step = absurd step
 
@@ -288,7 +288,7 @@ module _ (old : End) (sound : IsSound old) (sent : SentWasWritten old) where
       let (mid, fills, after) = m.lawful.filled in
       rises_settled m.mid new m.after (subst (Moves old) (sym after) (moves_fills old old (seen_all m.frames) mid fills))
   rises_make None room (Ok None) text new step = rises_same new step.2
-  rises_make None room (Err making.NoMemory) text new step = rises_same new step.1
+  rises_make None room (Err making.NoMemory) text new step = rises_same new step.2
   rises_make None room (Err making.Closed) text new step = absurd step
   rises_make None room (Err making.Exhausted) text new step = absurd step
 

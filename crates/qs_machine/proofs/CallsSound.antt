@@ -232,7 +232,7 @@ sound_make : (r : Option MakeFault) (old : End) (room : ℕ) (answer : Result (O
 sound_make (Some fault) old room answer text new h step = becomes old new step.2 h
 sound_make None old room (Ok (Some made)) text new h step = sound_made old room made text new h step
 sound_make None old room (Ok None) text new h step = becomes old new step.2 h
-sound_make None old room (Err making.NoMemory) text new h step = becomes old new step.1 h
+sound_make None old room (Err making.NoMemory) text new h step = becomes old new step.2 h
 sound_make None old room (Err making.Closed) text new h step = absurd step
 sound_make None old room (Err making.Exhausted) text new h step = absurd step
 

@@ -18,7 +18,9 @@ use Rattle.qs_wire.specs.Varint.{short}
 use Rattle.qs_send.specs.Lane.{SendLane, unacked_from}
 use Rattle.qs_send.specs.Records.{Among, IsCarried, PacketPieces, without_first}
 use Rattle.qs_send.specs.LostRecords.{with_piece, with_number, without_oldest}
-use Rattle.qs_send.specs.declared.piece.Item.TheVariants.{MaxData}
+use Rattle.qs_wire.specs.declared.stream_id.Dir.TheVariants.{Bidi, Uni}
+use Rattle.qs_send.specs.declared.piece.Item.{Item}
+use Rattle.qs_send.specs.declared.piece.Item.TheVariants.{MaxData, MaxStreamData, MaxStreams, ResetStream, StopSending, DataBlocked, StreamDataBlocked, StreamsBlocked}
 use Rattle.qs_send.specs.declared.piece.Piece.{Piece}
 use Rattle.qs_send.specs.declared.piece.Piece.TheVariants.{Data, Told}
 use Rattle.qs_calls.specs.declared.making.LostFault.{LostFault}
@@ -28,12 +30,14 @@ use Rattle.qs_machine.specs.Ends.{End}
 use Rattle.qs_machine.specs.Credit.{all_sent}
 use Rattle.qs_machine.specs.Seen.{Seen, Ack, Stream, Control}
 use Rattle.qs_machine.specs.FrameStep.{is_named}
-use Rattle.qs_machine.specs.Due.{IsDue}
+use Rattle.qs_machine.specs.Due.{IsDue, IsCurrent, Sendable}
 use Rattle.qs_machine.specs.Lawful.{Lawful, frame_put}
 use Rattle.qs_machine.specs.Owner.{Certain, first_refusal, refuse_if}
 use Rattle.qs_machine.specs.Making.{NamesMost, LoseStep, losses, lose_refusal}
+use Rattle.qs_machine.specs.Examples.{standard, server}
 use Rattle.qs_machine.specs.SmallEnds.{chunk, abc, wrote, owing}
 use Rattle.qs_machine.specs.ExclusionsMaking.{NoSuchStreamFrame, NoSuchAck, NoSuchFrame, NoSuchPacket, NothingIsLeftOut, NoSuchText, NoSuchAnswer, NoSuchLoss, NotMade, writer, two_due, one_flying, two_flying}
+use Rattle.qs_machine.proofs.Ties.{nowhere}
 use Rattle.qs_machine.proofs.SmallEndsLaws.{none_in, none_carried, only_carried}
 
 -- the first byte that was written is due
@@ -224,6 +228,25 @@ largest_alone : NamesMost owing 29 (ack 3 0 (0 ∷ []) None) → ⊥
 largest_alone (inl all) = false≢true (all 1 kept_1)
 largest_alone (inr next) = (let most = next_fits next.gap next.len next.fits in omega (arith, most, next.too_long))
 
+-- a server without a stream has nothing to tell
+no_item : (i : Item) → IsCurrent (server standard) i → ⊥
+unfolding total
+no_item (MaxData m) c = omega (arith, c.0, c.1)
+no_item (MaxStreamData n m) (l, there, at, low, size) = none-some l (sym (nowhere n) ∙ there)
+no_item (MaxStreams Bidi m) c = omega (arith, c.0, c.1)
+no_item (MaxStreams Uni m) c = omega (arith, c.0, c.1)
+no_item (ResetStream n code size) (l, there, is) = none-some l (sym (nowhere n) ∙ there)
+no_item (StopSending n code) (l, there, at, reset, whole) = none-some l (sym (nowhere n) ∙ there)
+no_item (DataBlocked m) (is, all, some) = omega (arith, is, all)
+no_item (StreamDataBlocked n m) (l, there, reset, at, more, end) = none-some l (sym (nowhere n) ∙ there)
+no_item (StreamsBlocked Bidi m) c = none-some m c.0
+no_item (StreamsBlocked Uni m) c = none-some m c.0
+
+none_due : Sendable (server standard) → ⊥
+none_due (inl due) = false≢true due
+none_due (inr (inl (i, due))) = no_item i due.0
+none_due (inr (inr (n, (l, there, goes)))) = none-some l (sym (nowhere n) ∙ there)
+
 answers : NoSuchAnswer
 answers =
     record {
@@ -236,7 +259,8 @@ answers =
       last_number = λ new step. step;
       not_closed = λ new step. step;
       nothing_used = λ step. (let e : 1 ≡ 0 = ap (λ (e : End). e.next) step.2 in omega arith);
-      memory_used = λ step. (let e : 1 ≡ 0 = ap (λ (e : End). e.next) step.1 in omega arith);
+      memory_used = λ step. (let e : 1 ≡ 0 = ap (λ (e : End). e.next) step.2 in omega arith);
+      nothing_due = λ text new step. none_due step.0;
     }
 
 -- Losses

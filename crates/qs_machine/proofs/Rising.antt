@@ -310,7 +310,7 @@ rises_make : (r : Option MakeFault) (old : End) (room : ℕ) (answer : Result (O
 rises_make (Some fault) old room answer text new step = becomes old old new step.2 (rises_same old)
 rises_make None old room (Ok (Some made)) text new step = rises_made old room made text new step
 rises_make None old room (Ok None) text new step = becomes old old new step.2 (rises_same old)
-rises_make None old room (Err making.NoMemory) text new step = becomes old old new step.1 (rises_same old)
+rises_make None old room (Err making.NoMemory) text new step = becomes old old new step.2 (rises_same old)
 rises_make None old room (Err making.Closed) text new step = absurd step
 rises_make None old room (Err making.Exhausted) text new step = absurd step
 

@@ -284,7 +284,7 @@ keeps_make : (r : Option MakeFault) (old : End) (room : ℕ) (answer : Result (O
 keeps_make (Some fault) old room answer text new step = becomes old old new step.2 (keeps_same old)
 keeps_make None old room (Ok (Some made)) text new step = keeps_made old room made text new step
 keeps_make None old room (Ok None) text new step = becomes old old new step.2 (keeps_same old)
-keeps_make None old room (Err making.NoMemory) text new step = becomes old old new step.1 (keeps_same old)
+keeps_make None old room (Err making.NoMemory) text new step = becomes old old new step.2 (keeps_same old)
 keeps_make None old room (Err making.Closed) text new step = absurd step
 keeps_make None old room (Err making.Exhausted) text new step = absurd step
 

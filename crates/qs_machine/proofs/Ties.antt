@@ -22,7 +22,7 @@ use Rattle.qs_machine.proofs.LaneTables.{lookup_lanes, lane_there, update_lanes,
 nothing_carried : (p : Piece) → IsCarried fmap.empty p → ⊥
 nothing_carried p (k, ps, there, a) = none_some ps (sym (fmap.get-empty nat_cmp k) ∙ there)
 
-nowhere : {X : Type 0} (n : ℕ) → lookup (no_streams {X = X}) n ≡ None
+pub nowhere : {X : Type 0} (n : ℕ) → lookup (no_streams {X = X}) n ≡ None
 unfolding lookup
 nowhere n = go (n % 4)
   where

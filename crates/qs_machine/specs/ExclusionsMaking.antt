@@ -137,6 +137,8 @@ pub record NoSuchAnswer : Type 0 where
   pub nothing_used : MakeStep (client_with begun) 1200 (Ok None) [] (record (client_with begun) { next = 1 }) → ⊥
   -- nor where there was no memory
   pub memory_used : MakeStep writer 1200 (Err making.NoMemory) [] (record writer { next = 1 }) → ⊥
+  -- and not for want of memory where nothing is due
+  pub nothing_due : (text : List ℕ) (new : End) → MakeStep (server standard) 1200 (Err making.NoMemory) text new → ⊥
 
 -- a client that sent three bytes in packet 0
 abbrev pub one_flying : End

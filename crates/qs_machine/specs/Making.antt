@@ -59,11 +59,11 @@ pub record IsMade (old : End) (room : ℕ) (made : Made) (text : List ℕ) (new 
   pub whole : HasAll room (length text) old (seen_all frames) mid
   pub after : new ≡ settle mid
 
--- a packet was made, or there was nothing that may go, or no memory (RFC 9000, section 12.3)
+-- a packet was made, or there was nothing that may go, or there was and memory was refused (RFC 9000, section 12.3)
 abbrev pub MakeBy : End → ℕ → Result (Option Made) MakeFault → List ℕ → End → Type 0
 MakeBy old room (Ok (Some made)) text new = IsMade old room made text new
 MakeBy old room (Ok None) text new = (Sendable old → ⊥) × (text ≡ []) × (new ≡ old)
-MakeBy old room (Err making.NoMemory) text new = (text ≡ []) × (new ≡ old)
+MakeBy old room (Err making.NoMemory) text new = Sendable old × (text ≡ []) × (new ≡ old)
 MakeBy old room (Err fault) text new = ⊥
 
 -- an end that closed makes no packet, and one that used the last number none either (RFC 9000, sections 10.2 and 12.3)

@@ -96,7 +96,7 @@ module _ (P : End → Type 0) (old : End) (edits : Edits P old) where
       let (mid, fills, after) = step.lawful.filled in
       settled step.mid new (subst P (sym after) (edits.fills (seen_all step.frames) mid fills)) step.after
   make_by None room (Ok None) text new step = becomes new step.2
-  make_by None room (Err making.NoMemory) text new step = becomes new step.1
+  make_by None room (Err making.NoMemory) text new step = becomes new step.2
   make_by None room (Err making.Closed) text new step = absurd step
   make_by None room (Err making.Exhausted) text new step = absurd step
 

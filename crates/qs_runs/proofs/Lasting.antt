@@ -176,7 +176,7 @@ module _ (p : Past) (e new : End) (ok : EndOk p e) where
           let (last, fills, is) = h.lawful.filled in
           settled e.recvs h.mid new (same_recvs e.recvs h.mid.recvs (ap (λ x. x.recvs) is ∙ fills_recvs e _ e last fills)) h.after
       by None (Ok None) h = same_end e new h.2
-      by None (Err making.NoMemory) h = same_end e new h.1
+      by None (Err making.NoMemory) h = same_end e new h.2
       by None (Err making.Closed) h = absurd h
       by None (Err making.Exhausted) h = absurd h
 

@@ -265,7 +265,7 @@ module _ (p : Past) (e new : End) (ok : EndOk p e) where
       by (Some fault) answer h = subst (λ a. EndOk (with_call p (acts.Make room) (answers.Make a text)) new) (sym h.0) (silent (Err fault) refl h.2)
       by None (Ok (Some made)) h = made_moves room made text h
       by None (Ok None) h = silent (Ok None) refl h.2
-      by None (Err making.NoMemory) h = silent (Err making.NoMemory) refl h.1
+      by None (Err making.NoMemory) h = silent (Err making.NoMemory) refl h.2
       by None (Err making.Closed) h = absurd h
       by None (Err making.Exhausted) h = absurd h
 

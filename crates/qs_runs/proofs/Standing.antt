@@ -196,7 +196,7 @@ module _ (e new : End) where
           let (last, fills, is) = h.lawful.filled in
           ap standing h.after ∙ ap standing is ∙ fills_stand e _ e last fills
       by None (Ok None) h = ap standing h.2
-      by None (Err making.NoMemory) h = ap standing h.1
+      by None (Err making.NoMemory) h = ap standing h.2
       by None (Err making.Closed) h = absurd h
       by None (Err making.Exhausted) h = absurd h
 

@@ -1,10 +1,12 @@
 //! Packets are made.
-ghost use Rattle.std.specs.Prelude.{◌≡◌, ◌≤◌, length};
-ghost use Rattle.qs_machine.specs.Making.{MakeStep};
-ghost use Rattle.qs_conn.specs.Filling.{end_by, made_text};
+ghost use Rattle.std.specs.Prelude.{◌≡◌, ◌≤◌, ◌↔◌, ℕ, IsTrue, List, [], length};
+ghost use Rattle.qs_machine.specs.Due.{Sendable};
+ghost use Rattle.qs_machine.specs.Making.{MakeBy, MakeStep};
+ghost use Rattle.qs_conn.specs.Filling.{made_text};
 
 use super::Endpoint;
 use crate::filling::fill;
+use crate::sendable::has_frame;
 use crate::terms::Terms;
 use qs_calls::{Made, MakeFault};
 
@@ -15,7 +17,8 @@ impl Endpoint {
     /// Makes the next packet: writes its payload at the slice's front. `None` where nothing is to be sent that the limits allow. What
     /// is due goes in as far as there is room, in the order ACK, control items, bytes of streams (RFC 9000, sections 4, 13.2 and 13.3).
     ///
-    /// Refused, and then unchanged: `Closed`; `Exhausted` where the last packet number was used; `NoMemory` where memory was refused.
+    /// Refused, and then unchanged: `Closed`; `Exhausted` where the last packet number was used; `NoMemory` where something
+    /// may go and memory was refused.
     pub fn make_packet(&mut self, out: &mut [u8]) -> Result<Option<Made>, MakeFault>
         requires least { 128 ≤ length out.old }
         requires most { length out.old ≤ 16383 }
@@ -29,7 +32,7 @@ impl Endpoint {
             return Err(MakeFault::Exhausted);
         }
         if let Err(_refused) = self.outbox.begin(out.len() / 2) {
-            return Err(MakeFault::NoMemory);
+            return self.without_memory();
         }
         let terms = self.terms();
         let len = fill(
@@ -47,6 +50,28 @@ impl Endpoint {
         self.outbox.commit();
         self.settle();
         Ok(Some(Made { number, len }))
+    }
+
+    // What a call answers that found no memory for a packet: where nothing may go, it needs none.
+    fn without_memory(&self) -> Result<Option<Made>, MakeFault>
+        ensures by { (room : ℕ) → MakeBy self.now room result [] self.now }
+        ensures text { (out : List ℕ) → made_text result out ≡ [] }
+    {
+        if self.is_sendable() {
+            return Err(MakeFault::NoMemory);
+        }
+        Ok(None)
+    }
+
+    // Whether something is due that no limit holds back.
+    fn is_sendable(&self) -> bool
+        ensures { IsTrue result ↔ Sendable self.now }
+    {
+        if self.ack_due {
+            return true;
+        }
+        let terms = self.terms();
+        has_frame(&terms, &self.recvs, &self.outbox)
     }
 
     // What is to be told beside what the streams have.

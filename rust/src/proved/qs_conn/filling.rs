@@ -68,8 +68,8 @@ fn put_item(outbox: &mut Outbox, item: &Item, out: &mut [u8], packet: Packet) ->
     }
 }
 
-// Whether an outstanding or acknowledged packet told the item with this value.
-fn is_covered(outbox: &Outbox, item: &Item) -> bool {
+/// Whether an outstanding or acknowledged packet told the item with this value.
+pub(crate) fn is_covered(outbox: &Outbox, item: &Item) -> bool {
     if outbox.tells(*item) {
         return true;
     }
@@ -97,8 +97,8 @@ pub(crate) fn put_slot(
     put_item(outbox, &item, out, packet)
 }
 
-// The least number from one on of a stream that may have an item of a kind. Of the streams between none is due.
-fn next_of_kind(
+/// The least number from one on of a stream that may have an item of a kind. Of the streams between none is due.
+pub(crate) fn next_of_kind(
     terms: &Terms,
     recvs: &RecvTables,
     outbox: &Outbox,

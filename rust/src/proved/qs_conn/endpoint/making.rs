@@ -3,6 +3,7 @@
 
 use super::Endpoint;
 use crate::proved::qs_conn::filling::fill;
+use crate::proved::qs_conn::sendable::has_frame;
 use crate::proved::qs_conn::terms::Terms;
 use crate::proved::qs_calls::{Made, MakeFault};
 
@@ -13,7 +14,8 @@ impl Endpoint {
     /// Makes the next packet: writes its payload at the slice's front. `None` where nothing is to be sent that the limits allow. What
     /// is due goes in as far as there is room, in the order ACK, control items, bytes of streams (RFC 9000, sections 4, 13.2 and 13.3).
     ///
-    /// Refused, and then unchanged: `Closed`; `Exhausted` where the last packet number was used; `NoMemory` where memory was refused.
+    /// Refused, and then unchanged: `Closed`; `Exhausted` where the last packet number was used; `NoMemory` where something
+    /// may go and memory was refused.
     pub fn make_packet(&mut self, out: &mut [u8]) -> Result<Option<Made>, MakeFault> {
         debug_assert!(128 <= out.len());
         debug_assert!(out.len() <= 16383);
@@ -25,7 +27,7 @@ impl Endpoint {
             return Err(MakeFault::Exhausted);
         }
         if let Err(_refused) = self.outbox.begin(out.len() / 2) {
-            return Err(MakeFault::NoMemory);
+            return self.without_memory();
         }
         let terms = self.terms();
         let len = fill(
@@ -43,6 +45,23 @@ impl Endpoint {
         self.outbox.commit();
         self.settle();
         Ok(Some(Made { number, len }))
+    }
+
+    // What a call answers that found no memory for a packet: where nothing may go, it needs none.
+    fn without_memory(&self) -> Result<Option<Made>, MakeFault> {
+        if self.is_sendable() {
+            return Err(MakeFault::NoMemory);
+        }
+        Ok(None)
+    }
+
+    // Whether something is due that no limit holds back.
+    fn is_sendable(&self) -> bool {
+        if self.ack_due {
+            return true;
+        }
+        let terms = self.terms();
+        has_frame(&terms, &self.recvs, &self.outbox)
     }
 
     // What is to be told beside what the streams have.

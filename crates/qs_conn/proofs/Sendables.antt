@@ -1,0 +1,136 @@
+-- What a walk over control items and streams tells.
+use Rattle.std.proofs.Common.{◌≡◌, ℕ, ◌+◌, ◌-◌, ◌<◌, ◌≤◌, Bool, true, false, not, IsTrue, ◌↔◌, Option, None, Some, is_some, refl, sym, ap, ◌∙◌, subst, arith, inl, inr}
+use Rattle.std.proofs.lemmas.Bool.{true≢false, both_ways, cases_lt}
+use Rattle.qs_wire.specs.declared.stream_id.Dir.TheVariants.{Bidi, Uni}
+use Rattle.qs_recv.specs.Lane.{RecvLane}
+use Rattle.qs_send.specs.Lane.{Sending}
+use Rattle.qs_send.specs.Chunks.{HasNoChunk}
+use Rattle.qs_send.specs.declared.parts.Chunk.{Chunk}
+use Rattle.qs_send.specs.declared.piece.Item.{Item}
+use Rattle.qs_send.specs.declared.piece.Item.TheVariants.{MaxData, MaxStreamData, MaxStreams, ResetStream, StopSending, DataBlocked, StreamDataBlocked, StreamsBlocked}
+use Rattle.qs_conn.specs.declared.slot.Slot.{Slot}
+use Rattle.qs_conn.specs.declared.slot.Kind.{Kind}
+use Rattle.qs_conn.specs.declared.terms.Terms.{Terms}
+use Rattle.qs_machine.specs.Tables.{Tables, lookup}
+use Rattle.qs_machine.specs.Ends.{End}
+use Rattle.qs_machine.specs.Due.{IsCovered, StreamGoes, Sendable}
+use Rattle.qs_machine.specs.Outgoing.{Outgoing, HasSending, ChunkFound, sent_sum, with_outgoing}
+use Rattle.qs_conn.specs.Filling.{end_by, slot_of, slot_at, IsCurrentIn, Passed, and_slot, and_kind, and_below, IsPassed, all_items}
+use Rattle.qs_conn.specs.Marks.{IsIdle}
+use Rattle.qs_conn.specs.Sending.{TellsDue, TellsGoing, TellsAnyGoing, TellsFrame}
+use Rattle.qs_conn.proofs.Chunks.{ties_of, none_goes, chunk_goes}
+use Rattle.qs_conn.proofs.MadePackets.{terms_of}
+
+-- Control items
+
+pub tells_found : (e : End) (b c : Bool) (P Q : Passed) → b ≡ true → c ≡ true → TellsDue b e P → TellsDue c e Q
+tells_found e true true P Q is at found = found
+tells_found e true false P Q is at found = absurd (true≢false (sym at))
+tells_found e false c P Q is at found = absurd (true≢false (sym is))
+
+pub tells_fewer : (e : End) (b : Bool) (P Q : Passed) → ((s : Slot) → IsPassed Q s → IsPassed P s) → TellsDue b e P → TellsDue b e Q
+tells_fewer e true P Q fewer found = found
+tells_fewer e false P Q fewer none = λ i p due. none i (fewer (slot_of i) p) due
+
+-- a slot without an item
+pub tells_absent : (e : End) (b : Bool) (P : Passed) (s : Slot) → b ≡ false → IsCurrentIn e s None → TellsDue b e P → TellsDue false e (and_slot P s)
+tells_absent e true P s is none before = absurd (true≢false is)
+tells_absent e false P s is none before = λ i p due. elim p [ inl was ↦ before i was due | inr at ↦ none i at due.0 ]
+
+-- a slot with one
+pub tells_item : (e : End) (b : Bool) (P : Passed) (s : Slot) (i : Item) (covered : Bool) → b ≡ false → IsCurrentIn e s (Some i) → (covered ≡ true → IsCovered e i) → (covered ≡ false → IsCovered e i → ⊥) → TellsDue b e P → TellsDue (not covered) e (and_slot P s)
+tells_item e true P s i covered is c told free before = absurd (true≢false is)
+tells_item e false P s i true is c told free before = λ j p due. elim p [ inl was ↦ before j was due | inr at ↦ due.1 (subst (IsCovered e) (sym (c.2 j at due.0)) (told refl)) ]
+tells_item e false P s i false is c told free before = (i, (c.0, free refl))
+
+-- streams whose items of a kind are told already, up to a number
+pub tells_idle : (e : End) (b : Bool) (P : Passed) (kind : Kind) (from to : ℕ) → ((n : ℕ) → from ≤ n → n < to → IsIdle e (slot_at kind n)) → TellsDue b e (and_below P kind from) → TellsDue b e (and_below P kind to)
+tells_idle e true P kind from to idle found = found
+tells_idle e false P kind from to idle none = λ i p due. elim p [
+  | inl before ↦ none i (inl before) due
+  | inr (n, lt, at) ↦ elim (cases_lt n from) [ inl below ↦ none i (inr (n, below, at)) due | inr ge ↦ due.1 (idle n ge lt i at due.0) ]
+]
+
+-- and those of all further streams
+pub tells_kind : (e : End) (b : Bool) (P : Passed) (kind : Kind) (from : ℕ) → ((n : ℕ) → from ≤ n → IsIdle e (slot_at kind n)) → TellsDue b e (and_below P kind from) → TellsDue b e (and_kind P kind)
+tells_kind e true P kind from idle found = found
+tells_kind e false P kind from idle none = λ i p due. elim p [
+  | inl before ↦ none i (inl before) due
+  | inr (n, at) ↦ elim (cases_lt n from) [ inl below ↦ none i (inr (n, below, at)) due | inr ge ↦ due.1 (idle n ge i at due.0) ]
+]
+
+-- as the walk over a kind begins
+pub tells_first : (e : End) (b : Bool) (P : Passed) (kind : Kind) → TellsDue b e P → TellsDue b e (and_below P kind 0)
+tells_first e b P kind = tells_fewer e b P (and_below P kind 0) (λ s p. elim p [ inl before ↦ before | inr (n, lt, at) ↦ absurd (omega (arith, lt)) ])
+
+-- each item has a slot that is passed
+pub passed_all : (i : Item) → IsPassed all_items (slot_of i)
+passed_all (MaxData m) = inl (inl (inl (inl (inl (inl (inl (inl (inl (inr refl)))))))))
+passed_all (MaxStreams Bidi m) = inl (inl (inl (inl (inl (inl (inl (inl (inr refl))))))))
+passed_all (MaxStreams Uni m) = inl (inl (inl (inl (inl (inl (inl (inr refl)))))))
+passed_all (ResetStream n code size) = inl (inl (inl (inl (inl (inl (inr (n, refl)))))))
+passed_all (StopSending n code) = inl (inl (inl (inl (inl (inr (n, refl))))))
+passed_all (MaxStreamData n m) = inl (inl (inl (inl (inr (n, refl)))))
+passed_all (DataBlocked m) = inl (inl (inl (inr refl)))
+passed_all (StreamDataBlocked n m) = inl (inl (inr (n, refl)))
+passed_all (StreamsBlocked Bidi m) = inl (inr refl)
+passed_all (StreamsBlocked Uni m) = inr refl
+
+-- Streams
+
+pub going_absent : (e : End) (n : ℕ) (b : Bool) → b ≡ is_some (lookup e.sends n) → b ≡ false → TellsGoing false e n
+going_absent e n true is none = absurd (true≢false none)
+going_absent e n false is none = λ goes. true≢false (sym (is ∙ ap is_some goes.1))
+
+pub going_found : (t : Terms) (recvs : Tables RecvLane) (o : Outgoing) (e : End) (n : ℕ) (s : Sending) (fresh : ℕ) (found : Option Chunk) → HasSending o n s → fresh ≡ t.known_data - sent_sum o.sends → sent_sum o.sends ≤ t.known_data → ChunkFound s 25 fresh found
+    → TellsGoing (is_some found) (end_by t recvs o e) n
+going_found t recvs o e n s fresh None h is credit none = none_goes (end_by t recvs o e) n s 25 (ties_of t recvs o e n s h) (omega arith) credit (subst (HasNoChunk s 25) is none)
+going_found t recvs o e n s fresh (Some c) h is credit next = chunk_goes (end_by t recvs o e) n s (ties_of t recvs o e n s h) c next.0.allowed.chunk (omega (arith, next.0.allowed.within_credit, is, credit))
+
+-- the streams below a number have nothing that goes, and those up to the next one that is looked at
+pub going_next : (e : End) (from m : ℕ) → ((n : ℕ) → n < from → StreamGoes e n → ⊥) → ((n : ℕ) → from ≤ n → n < m → StreamGoes e n → ⊥) → (StreamGoes e m → ⊥) → (n : ℕ) → n < m + 1 → StreamGoes e n → ⊥
+going_next e from m below quiet here n lt goes =
+    elim (cases_lt n from) [
+      | inl before ↦ below n before goes
+      | inr ge ↦ elim (cases_lt n m) [ inl between ↦ quiet n ge between goes | inr past ↦ (let same : n ≡ m = omega (arith, lt, past) in here (subst (StreamGoes e) same goes)) ]
+    ]
+
+pub going_none : (e : End) (from : ℕ) → ((n : ℕ) → n < from → StreamGoes e n → ⊥) → ((n : ℕ) → from ≤ n → StreamGoes e n → ⊥) → TellsAnyGoing false e
+going_none e from below past = λ n goes. elim (cases_lt n from) [ inl before ↦ below n before goes | inr ge ↦ past n ge goes ]
+
+going_is : (e : End) (n : ℕ) (b : Bool) → b ≡ true → TellsGoing b e n → StreamGoes e n
+going_is e n true is goes = goes
+going_is e n false is none = absurd (true≢false (sym is))
+
+pub going_not : (e : End) (n : ℕ) (b : Bool) → b ≡ false → TellsGoing b e n → StreamGoes e n → ⊥
+going_not e n true is goes = absurd (true≢false is)
+going_not e n false is none = none
+
+pub going_some : (e : End) (n : ℕ) (b : Bool) → b ≡ true → TellsGoing b e n → TellsAnyGoing true e
+going_some e n b is goes = (n, going_is e n b is goes)
+
+-- Both
+
+pub frame_item : (e : End) (b : Bool) → b ≡ true → TellsDue b e all_items → TellsFrame true e
+frame_item e true is found = inl found
+frame_item e false is none = absurd (true≢false (sym is))
+
+pub frame_stream : (e : End) (b c : Bool) → b ≡ false → TellsDue b e all_items → TellsAnyGoing c e → TellsFrame c e
+frame_stream e true c is found goes = absurd (true≢false is)
+frame_stream e false true is none goes = inr goes
+frame_stream e false false is none goes = λ some. elim some [ inl (i, due) ↦ none i (passed_all i) due | inr (n, at) ↦ goes n at ]
+
+-- Something is sendable
+
+pub sendable_due : (v old : End) → v ≡ old → v.ack_due ≡ true → IsTrue true ↔ Sendable old
+sendable_due v old same due = ((λ h. inl (ap (λ (e : End). e.ack_due) (sym same) ∙ due)), (λ h. refl))
+
+pub sendable_frame : (v old : End) (t : Terms) (o : Outgoing) (b : Bool) → v ≡ old → v.ack_due ≡ false → t ≡ terms_of old → with_outgoing o v ≡ v → ((e : End) → TellsFrame b (end_by t v.recvs o e)) → IsTrue b ↔ Sendable old
+sendable_frame v old t o b same due is out tells = subst (λ e. IsTrue b ↔ Sendable e) same (go b (subst (TellsFrame b) parts (tells v)))
+  where
+    parts : end_by t v.recvs o v ≡ v
+    parts = ap (λ (x : Terms). end_by x v.recvs o v) (is ∙ ap terms_of (sym same)) ∙ out
+
+    go : (c : Bool) → TellsFrame c v → IsTrue c ↔ Sendable v
+    go true some = ((λ h. inr some), (λ h. refl))
+    go false none = ((λ h. absurd (both_ways false refl h)), (λ h. elim h [ inl ack ↦ absurd (true≢false (sym ack ∙ due)) | inr some ↦ absurd (none some) ]))

@@ -1,0 +1,26 @@
+-- Whether anything is due that may go: what a walk over control items and streams tells.
+use Rattle.std.specs.Prelude.{ℕ, Bool, true, false, ◌⊎◌}
+use Rattle.qs_send.specs.declared.piece.Item.{Item}
+use Rattle.qs_machine.specs.Ends.{End}
+use Rattle.qs_machine.specs.Due.{IsDueItem, StreamGoes}
+use Rattle.qs_conn.specs.Filling.{slot_of, Passed, IsPassed}
+
+-- some item is due; or none of the slots that were passed
+abbrev pub TellsDue : Bool → End → Passed → Type 0
+TellsDue true e passed = (i : Item) × IsDueItem e i
+TellsDue false e passed = (i : Item) → IsPassed passed (slot_of i) → IsDueItem e i → ⊥
+
+-- something of the stream goes, or nothing
+abbrev pub TellsGoing : Bool → End → ℕ → Type 0
+TellsGoing true e n = StreamGoes e n
+TellsGoing false e n = StreamGoes e n → ⊥
+
+-- something of some stream goes, or nothing of any
+abbrev pub TellsAnyGoing : Bool → End → Type 0
+TellsAnyGoing true e = (n : ℕ) × StreamGoes e n
+TellsAnyGoing false e = (n : ℕ) → StreamGoes e n → ⊥
+
+-- a control item is due or a stream goes; or neither
+abbrev pub TellsFrame : Bool → End → Type 0
+TellsFrame true e = ((i : Item) × IsDueItem e i) ⊎ ((n : ℕ) × StreamGoes e n)
+TellsFrame false e = ((i : Item) × IsDueItem e i) ⊎ ((n : ℕ) × StreamGoes e n) → ⊥
