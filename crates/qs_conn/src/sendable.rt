@@ -18,13 +18,7 @@ use crate::terms::Terms;
 use qs_wire::{Dir, StreamId};
 
 // The item of a slot is due, or one was found before.
-fn has_slot(
-    terms: &Terms,
-    recvs: &RecvTables,
-    outbox: &Outbox,
-    slot: Slot,
-    is_found: bool,
-) -> bool
+fn has_slot(terms: &Terms, recvs: &RecvTables, outbox: &Outbox, slot: Slot, is_found: bool) -> bool
     requires { TermsFit terms.now }
     ensures { (e : End) (passed : Passed) → TellsDue is_found (end_by terms.now recvs.now outbox.now e) passed → TellsDue result (end_by terms.now recvs.now outbox.now e) (and_slot passed slot) }
 {
@@ -38,13 +32,7 @@ fn has_slot(
 }
 
 // An item of a kind is due, or one was found before.
-fn has_kind(
-    terms: &Terms,
-    recvs: &RecvTables,
-    outbox: &Outbox,
-    kind: Kind,
-    is_found: bool,
-) -> bool
+fn has_kind(terms: &Terms, recvs: &RecvTables, outbox: &Outbox, kind: Kind, is_found: bool) -> bool
     requires { TermsFit terms.now }
     ensures { (e : End) (passed : Passed) → TellsDue is_found (end_by terms.now recvs.now outbox.now e) passed → TellsDue result (end_by terms.now recvs.now outbox.now e) (and_kind passed kind) }
 {
