@@ -1,7 +1,9 @@
 //! Times one row: `gotsavena-bench ROW` runs it once to warm up and once to time it, and prints the nanoseconds that a unit took.
 //! `gotsavena-bench` alone lists the rows, each with its unit. `bench/run` alternates it with the peers' drivers.
+//! `gotsavena-bench --count WORK` does a small piece of work once and prints its units, for a counter of instructions.
 
 mod clock;
+mod counted;
 mod ends;
 mod parts;
 mod scaling;
@@ -40,6 +42,9 @@ fn main() -> ExitCode {
         }
         return ExitCode::SUCCESS;
     };
+    if name == "--count" {
+        return count(std::env::args().nth(2));
+    }
     let Some(row) = rows.iter().find(|row| row.name == name) else {
         eprintln!("gotsavena-bench: there is no row {name}");
         return ExitCode::from(2);
@@ -47,5 +52,17 @@ fn main() -> ExitCode {
     (row.run)();
     let run = (row.run)();
     println!("{:.2}", run.time.as_nanos() as f64 / run.units as f64);
+    ExitCode::SUCCESS
+}
+
+// Does the work of that name, and prints its units.
+fn count(name: Option<String>) -> ExitCode {
+    let all = counted::all();
+    let Some(work) = all.iter().find(|work| Some(work.name) == name.as_deref()) else {
+        let names = all.map(|work| work.name);
+        eprintln!("gotsavena-bench: --count wants one of {}", names.join(", "));
+        return ExitCode::from(2);
+    };
+    println!("{}", (work.run)());
     ExitCode::SUCCESS
 }

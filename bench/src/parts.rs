@@ -13,7 +13,7 @@ use std::hint::black_box;
 const CHUNK: usize = 1200;
 
 // Packets of the common frames, some 1,100 bytes in all, and how many frames.
-fn mixed() -> (Vec<u8>, u64) {
+pub fn mixed() -> (Vec<u8>, u64) {
     let mut payload = vec![0; 1500];
     let (mut len, mut frames) = (0, 0);
     while len < 1100 {
@@ -72,13 +72,18 @@ fn id(value: u64) -> wire::StreamId {
     wire::StreamId::new(value).expect("it is below 2^62")
 }
 
+/// Reads the frames of the payload, one after the other.
+pub fn read_once(payload: &[u8]) {
+    let mut rest = Frames::new(black_box(payload));
+    while let Ok(Some(placed)) = rest.next() {
+        black_box(&placed);
+    }
+}
+
 fn read_frames(payload: &[u8], frames: u64, times: u64) -> Run {
     let time = time(|| {
         for _ in 0..times {
-            let mut rest = Frames::new(black_box(payload));
-            while let Ok(Some(placed)) = rest.next() {
-                black_box(&placed);
-            }
+            read_once(payload);
         }
     });
     Run {
@@ -129,16 +134,26 @@ fn read_all(half: &mut RecvHalf<RingAssembly>, out: &mut [u8]) {
     half.raise();
 }
 
-fn half_in_order() -> Run {
+/// Takes the next chunk of a stream and reads it, at each call.
+pub fn half_takes_in_order() -> impl FnMut() {
     let data = vec![9; 64 << 10];
     let mut out = vec![0; 64 << 10];
     let mut half = RecvHalf::new(Global, 1 << 20);
+    let mut next = 0;
+    move || {
+        let from = next as usize % 50 * CHUNK;
+        put(&mut half, next * CHUNK as u64, &data[from..from + CHUNK]);
+        read_all(&mut half, &mut out);
+        next += 1;
+    }
+}
+
+fn half_in_order() -> Run {
+    let mut take = half_takes_in_order();
     let units = 1_000_000;
     let time = time(|| {
-        for i in 0..units {
-            let from = i as usize % 50 * CHUNK;
-            put(&mut half, i * CHUNK as u64, &data[from..from + CHUNK]);
-            read_all(&mut half, &mut out);
+        for _ in 0..units {
+            take();
         }
     });
     Run { time, units }

@@ -1,0 +1,80 @@
+//! Work whose instructions `tests/bench/run` counts: small, and the same at each run.
+
+use crate::ends::{Load, PLAIN, Pair};
+use crate::parts::{half_takes_in_order, mixed, read_once};
+
+/// Work, by a name of its own.
+pub struct Counted {
+    pub name: &'static str,
+    /// Does it once, after a warm-up, and answers of how many units it was.
+    pub run: fn() -> u64,
+}
+
+// The instructions of what it calls are counted: callgrind finds it by this name.
+#[unsafe(no_mangle)]
+#[inline(never)]
+fn gotsavena_counted(work: &mut dyn FnMut()) {
+    work();
+}
+
+fn decode() -> u64 {
+    let (payload, frames) = mixed();
+    let times = 500;
+    gotsavena_counted(&mut || {
+        for _ in 0..times {
+            read_once(&payload);
+        }
+    });
+    times * frames
+}
+
+fn in_order() -> u64 {
+    let mut take = half_takes_in_order();
+    let units = 2_000;
+    for _ in 0..units {
+        take();
+    }
+    gotsavena_counted(&mut || {
+        for _ in 0..units {
+            take();
+        }
+    });
+    units
+}
+
+// Packets that are made, received, read from and acknowledged, beside so many active streams.
+fn whole_loop(active: u64) -> u64 {
+    let mut pair = Pair::new(Load {
+        active,
+        open: active,
+        window: 16 << 10,
+        write: 1200,
+        ..PLAIN
+    });
+    let turn = |pair: &mut Pair| {
+        pair.write();
+        pair.carry();
+        pair.read();
+        pair.answer();
+    };
+    for _ in 0..200 {
+        turn(&mut pair);
+    }
+    let before = pair.made;
+    gotsavena_counted(&mut || {
+        for _ in 0..100 {
+            turn(&mut pair);
+        }
+    });
+    pair.made - before
+}
+
+pub fn all() -> [Counted; 4] {
+    let counted = |name, run| Counted { name, run };
+    [
+        counted("decode", decode),
+        counted("in-order", in_order),
+        counted("loop-1", || whole_loop(1)),
+        counted("loop-64", || whole_loop(64)),
+    ]
+}
