@@ -6,7 +6,7 @@ use Rattle.std.specs.Ordering.{nat_cmp}
 use Rattle.std.specs.Prelude.{Err, max, cond, not, Bool, true, false, ◌&&◌, ◌||◌, ◌==◌, nat_le, is_some, slice_get, flat_map}
 use Rattle.std.proofs.lemmas.Option.{same_Some, none-some}
 use Rattle.qs_recv.specs.Assembled.{front, same, store}
-use Rattle.qs_recv.specs.Chunks.{byte_at}
+use Rattle.qs_recv.specs.Bytes.{byte_at}
 use Rattle.qs_recv.proofs.AssembledLaws.{contains-with_run, get-keep_from, get-store, is_in_run}
 use Rattle.qs_recv.proofs.SameLaws.{same_none, same_true}
 use Rattle.qs_send.specs.Lane.{SendLane, new_lane, write_lane, sent_lane, reset_lane, unacked_from, state}

@@ -13,8 +13,8 @@ use Rattle.std.proofs.lemmas.Bool.{both_ways, cases_lt, cases_order, and_parts}
 use Rattle.std.proofs.lemmas.Bool.Decides.{nat_tests}
 use Rattle.qs_ranges.specs.Numbers.{NumberSet, numbers, is_within, contains-with_range, end_of}
 use Rattle.qs_ranges.proofs.Sets.{end_of-with_range, end_of-with_none}
-use Rattle.qs_recv.specs.Chunks.{byte_at}
-use Rattle.qs_recv.specs.Assembled.{store, front, front_from, keep_from}
+use Rattle.qs_recv.specs.Assembled.{Assembled, store, put, front, front_from, keep_from}
+use Rattle.qs_recv.specs.Bytes.{byte_at}
 
 -- the n numbers from lo on
 abbrev pub is_in_run : ℕ → ℕ → ℕ → Bool
@@ -112,3 +112,10 @@ is_some-slice_get (x ∷ xs) (suc k) h = is_some-slice_get xs k (omega arith)
 
 pub front_stored : (m : map.FinMap nat_cmp ℕ) (at size k : ℕ) → k < length (front m at size) → map.contains_key m (at + k) ≡ true
 front_stored m at size k h = ap is_some (front_has m at size k h) ∙ is_some-slice_get (front m at size) k h
+
+-- what a put leaves, where bytes are stored
+pub put_is : (a : Assembled) (offset : ℕ) (bytes : List ℕ) (m : map.FinMap nat_cmp ℕ) (r : NumberSet) → a.discarding ≡ false
+    → m ≡ store a.received a.stored offset bytes → r ≡ with_run a.received offset (length bytes) → record a { stored = m; received = r } ≡ put a offset bytes
+put_is a offset bytes m r on stored received =
+    ap (λ m'. record a { stored = m'; received = r }) (stored ∙ ap (λ b. cond b a.stored (store a.received a.stored offset bytes)) (sym on))
+    ∙ ap (λ r'. record a { stored = cond a.discarding a.stored (store a.received a.stored offset bytes); received = r' }) received

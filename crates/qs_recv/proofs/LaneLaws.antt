@@ -9,7 +9,7 @@ use Rattle.std.specs.FinSet as set
 use Rattle.std.proofs.lemmas.Bool.{both_ways, cases_lt, cases_eq, ne_eqb, eq-eqb, ltb-false, or_left, or_right, and_right}
 use Rattle.qs_ranges.specs.Numbers.{NumberSet}
 use Rattle.qs_recv.specs.Assembled.{Assembled, put, take_front, store, front_of}
-use Rattle.qs_recv.specs.Chunks.{byte_at}
+use Rattle.qs_recv.specs.Bytes.{byte_at}
 use Rattle.qs_recv.proofs.AssembledLaws.{with_run, is_in_run, contains-with_run, get-store, get-keep_from, stored_by_put}
 use Rattle.qs_recv.specs.Lane.{RecvLane, check_stream, highest}
 use Rattle.qs_recv.specs.Laws.{IsSent, IsPart}

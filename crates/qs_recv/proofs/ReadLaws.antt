@@ -1,15 +1,60 @@
--- Several reads, one after the other, are one.
-use Rattle.std.specs.Prelude.{◌≡◌, ℕ, ◌+◌, ◌-◌, ◌≤◌, List, [], ◌++◌, length, take, drop, None}
-use Rattle.std.proofs.Common.{sym, ◌∙◌, ap, arith, length-append, append_assoc}
+-- What a read gives, and what it leaves.
+--     front_..      the bytes that are next, and those of two reads, one after the other
+--     take_nothing, take_done      a read of nothing, and one of all that is next
+use Rattle.std.specs.Prelude.{◌≡◌, ℕ, ◌+◌, ◌-◌, ◌<◌, ◌≤◌, zero, suc, List, [], ◌∷◌, ◌++◌, length, take, drop, slice_get, Option, None, Some, refl}
+use Rattle.std.proofs.Common.{sym, ◌∙◌, ap, arith, append_assoc, length-drop, zero-add, add-zero}
 use borrow.Rule.Slice.PartMut.{put_mid}
-use Rattle.std.proofs.lemmas.List.{take_at, drop_at, drop_all, take_all, drop-drop, length-take}
-use Rattle.std.proofs.Common.{length-drop}
+use Rattle.std.proofs.lemmas.List.{take_at, drop_at, drop_all, take_all, drop-drop}
 use Rattle.std.specs.Ordering.{nat_cmp}
 use Rattle.std.specs.FinMap as map
-use Rattle.qs_recv.specs.Assembled.{Assembled, front, front_of, keep_from, take_front}
-use Rattle.qs_recv.proofs.ChunkLaws.{append_nil, front_none}
-use Rattle.qs_recv.specs.Kept.{take_exactly}
-use Rattle.qs_recv.proofs.KeptLaws.{front-more, front-keep_from, keep_from-keep_from, front_zero}
+use Rattle.qs_recv.specs.Assembled.{Assembled, front, front_from, front_of, keep_from, take_front}
+use Rattle.qs_recv.specs.Bytes.{take_exactly}
+
+pub append_nil : (xs : List ℕ) → xs ++ [] ≡ xs
+append_nil [] = refl
+append_nil (x ∷ xs) = ap (λ ys. x ∷ ys) (append_nil xs)
+
+pub front_zero : (m : map.FinMap nat_cmp ℕ) (at : ℕ) → front m at 0 ≡ []
+unfolding front
+front_zero m at = refl
+
+pub front_none : (m : map.FinMap nat_cmp ℕ) (at size : ℕ) → map.get m at ≡ None → front m at size ≡ []
+unfolding front
+front_none m at zero h = refl
+front_none m at (suc size) h = ap (λ o. front_from o (front m (at + 1) size)) h
+
+-- the first bytes of a map that has given bytes from an offset on
+pub front_of_bytes : (m : map.FinMap nat_cmp ℕ) (n at : ℕ) (bytes : List ℕ) → n ≤ length bytes
+    → ((k : ℕ) → k < n → map.get m (at + k) ≡ slice_get bytes k) → front m at n ≡ take n bytes
+unfolding front
+front_of_bytes m zero at bytes h is = refl
+front_of_bytes m (suc n) at [] h is = absurd (omega arith)
+front_of_bytes m (suc n) at (byte ∷ bytes) h is =
+    let z : at + 0 ≡ at = omega arith in
+    let here : map.get m at ≡ Some byte = ap (map.get m) (sym z) ∙ is 0 (omega arith) in
+    let later : front m (at + 1) n ≡ take n bytes =
+    front_of_bytes m n (at + 1) bytes (omega arith) (λ k b. let e : at + 1 + k ≡ at + suc k = omega arith in ap (map.get m) e ∙ is (suc k) (omega arith)) in
+    ap (λ o. front_from o (front m (at + 1) n)) here ∙ ap (λ bs. byte ∷ bs) later
+
+front_step : (o : Option ℕ) (xs ys zs : List ℕ) (n : ℕ) → length (front_from o xs) ≡ suc n → (length xs ≡ n → zs ≡ xs ++ ys) → front_from o zs ≡ front_from o xs ++ ys
+front_step None xs ys zs n full is = absurd (omega arith)
+front_step (Some b) xs ys zs n full is = ap (λ bs. b ∷ bs) (is (omega arith))
+
+pub front-more : (m : map.FinMap nat_cmp ℕ) (a at b : ℕ) → length (front m at a) ≡ a → front m at (a + b) ≡ front m at a ++ front m (at + a) b
+unfolding front
+front-more m zero at b full = ap (λ n. front m at n) (zero-add b) ∙ ap (λ i. front m i b) (sym (add-zero at))
+front-more m (suc a) at b full =
+    let e : suc a + b ≡ suc (a + b) = omega arith in
+    let f : at + 1 + a ≡ at + suc a = omega arith in
+    ap (front m at) e
+    ∙ front_step (map.get m at) (front m (at + 1) a) (front m (at + 1 + a) b) (front m (at + 1) (a + b)) a full (λ len. front-more m a (at + 1) b len)
+    ∙ ap (λ i. front_from (map.get m at) (front m (at + 1) a) ++ front m i b) f
+
+pub take_nothing : (a : Assembled) → keep_from a.stored a.read_count ≡ a.stored → a ≡ take_exactly a 0
+take_nothing a tidy =
+    let z : a.read_count ≡ a.read_count + 0 = omega arith in
+    ap (λ m. record a { stored = m; read_count = a.read_count }) (sym tidy)
+    ∙ ap (λ n. record a { stored = keep_from a.stored n; read_count = n }) z
 
 -- what is written into the rest of a slice
 pub rest_written : (into0 into f1 f2 new : List ℕ) (d k : ℕ) → into ≡ f1 ++ drop d into0 → length f1 ≡ d → d ≤ length into
@@ -27,47 +72,7 @@ rest_written into0 into f1 f2 new d k out len h is =
     ∙ ap (λ xs. f1 ++ xs) (append_nil new ∙ written)
     ∙ sym (append_assoc f1 f2 (drop (d + k) into0))
 
--- the front where a read stopped
-pub front_later : (a b : Assembled) (d k : ℕ) → b ≡ take_exactly a d → front b.stored b.read_count k ≡ front a.stored (a.read_count + d) k
-front_later a b d k state = ap (λ x. front x.stored x.read_count k) state ∙ front-keep_from a.stored (a.read_count + d) (a.read_count + d) k (omega arith)
-
-pub front_joined : (a b : Assembled) (d k : ℕ) → length (front_of a d) ≡ d → b ≡ take_exactly a d → front_of a (d + k) ≡ front_of a d ++ front b.stored b.read_count k
-front_joined a b d k full state = front-more a.stored d a.read_count k full ∙ ap (λ xs. front_of a d ++ xs) (sym (front_later a b d k state))
-
-pub full_after : (a b : Assembled) (d k : ℕ) → length (front_of a d) ≡ d → b ≡ take_exactly a d → length (front b.stored b.read_count k) ≡ k → length (front_of a (d + k)) ≡ d + k
-full_after a b d k full state count =
-    let e : length (front_of a d ++ front b.stored b.read_count k) ≡ length (front_of a d) + length (front b.stored b.read_count k) = length-append (front_of a d) (front b.stored b.read_count k) in
-    ap length (front_joined a b d k full state) ∙ (omega arith)
-
-pub taken_after : (a b : Assembled) (d k : ℕ) → b ≡ take_exactly a d → take_exactly b k ≡ take_exactly a (d + k)
-taken_after a b d k state =
-    let e : a.read_count + d + k ≡ a.read_count + (d + k) = omega arith in
-    ap (λ x. take_exactly x k) state
-    ∙ ap (λ m. record a { stored = m; read_count = a.read_count + d + k }) (keep_from-keep_from a.stored (a.read_count + d) (a.read_count + d + k) (omega arith))
-    ∙ ap (λ n. record a { stored = keep_from a.stored n; read_count = n }) e
-
--- where nothing is next, the read is done
-pub front_done : (a b : Assembled) (d n : ℕ) → d ≤ n → length (front_of a d) ≡ d → b ≡ take_exactly a d → map.get b.stored b.read_count ≡ None → front_of a n ≡ front_of a d
-front_done a b d n h full state none =
-    let e : n ≡ d + (n - d) = omega arith in
-    ap (front_of a) e ∙ front_joined a b d (n - d) full state ∙ ap (λ xs. front_of a d ++ xs) (front_none b.stored b.read_count (n - d) none) ∙ append_nil (front_of a d)
-
 pub take_done : (a : Assembled) (d n : ℕ) → length (front_of a d) ≡ d → front_of a n ≡ front_of a d → take_exactly a d ≡ take_front a n
 take_done a d n full same =
     let e : d ≡ length (front_of a n) = sym (ap length same ∙ full) in
     ap (take_exactly a) e
-
--- nothing is written where nothing was next
-pub none_written : (xs into0 : List ℕ) (m : map.FinMap nat_cmp ℕ) (at d k : ℕ) → k ≡ 0 → xs ++ front m at k ++ drop (d + k) into0 ≡ xs ++ drop d into0
-none_written xs into0 m at d k is =
-    let e : d + 0 ≡ d = omega arith in
-    ap (λ j. xs ++ front m at j ++ drop (d + j) into0) is
-    ∙ ap (λ ys. xs ++ ys ++ drop (d + 0) into0) (front_zero m at)
-    ∙ ap (λ ys. ys ++ drop (d + 0) into0) (append_nil xs)
-    ∙ ap (λ j. xs ++ drop j into0) e
-
-pub part_len : (into : List ℕ) (d : ℕ) → d ≤ length into → length (take (length into - d) (drop d into)) ≡ length into - d
-part_len into d h = simp (length-take, length-drop) (omega arith)
-
-pub whole_len : (xs into0 : List ℕ) (n : ℕ) → length xs ≡ n → n ≤ length into0 → length (xs ++ drop n into0) ≡ length into0
-whole_len xs into0 n len h = simp (length-append, length-drop) (omega arith)

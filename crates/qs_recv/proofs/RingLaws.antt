@@ -19,12 +19,10 @@ use Rattle.qs_ranges.specs.Numbers.{NumberSet, ContainsRange, IsLeastMissingFrom
 use Rattle.qs_ranges.proofs.Algebra.{with_range-covered}
 use Rattle.qs_ranges.proofs.Sets.{covers-is}
 use Rattle.qs_recv.specs.Assembled.{Assembled, front, keep_from, put, store, take_front}
-use Rattle.qs_recv.specs.Chunks.{byte_at}
+use Rattle.qs_recv.specs.Bytes.{byte_at}
 use Rattle.qs_recv.specs.Ring.{IsFilled, IsRing, missing_count, ring_bytes}
 use Rattle.qs_recv.proofs.AssembledLaws.{is_in_run, with_run, contains-with_run, get-insert_nat, get-keep_from, get-store}
-use Rattle.qs_recv.proofs.ChunkLaws.{append_nil, front_none, front_of_bytes}
-use Rattle.qs_recv.proofs.KeptLaws.{front-more, take_nothing}
-use Rattle.qs_recv.proofs.ReadLaws.{take_done}
+use Rattle.qs_recv.proofs.ReadLaws.{append_nil, front_none, front_of_bytes, front-more, take_done, take_nothing}
 use Rattle.qs_recv.proofs.RingCount.{missing_all, missing_none, missing_parts, missing_same, missing_small}
 
 -- the map

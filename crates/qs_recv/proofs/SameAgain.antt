@@ -9,7 +9,7 @@ use Rattle.std.specs.FinMap as map
 use Rattle.std.specs.FinSet as set
 use Rattle.std.proofs.lemmas.Bool.{both_ways, and_right, cond_both}
 use Rattle.qs_recv.specs.Assembled.{Assembled, discard, front_of, put, same, store, take_front}
-use Rattle.qs_recv.specs.Chunks.{byte_at}
+use Rattle.qs_recv.specs.Bytes.{byte_at}
 use Rattle.qs_recv.specs.Lane.{RecvLane, after_answer, check_bytes, is_whole, read_answer, take_stream}
 use Rattle.qs_recv.specs.Laws.{IsPart, IsSent, IsUnchanged, LaneCall, TakeStream, TakeReset, ReadUpTo, StopWith, RaiseLimit, after_call}
 use Rattle.qs_recv.specs.declared.half.Read.{Read}

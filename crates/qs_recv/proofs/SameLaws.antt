@@ -2,18 +2,16 @@
 --     byte_in, byte_there      a byte of a run, by its place
 --     same_true, same_at      bytes are the same where each offset that has a byte in both has one
 --     same_none, same_by      so they are where nothing is stored, and alike where two maps have alike
---     one_by_slices      two runs of bytes are held against each other by the slices that both have
-use Rattle.std.specs.Prelude.{◌≡◌, ℕ, ◌+◌, ◌-◌, ◌<◌, ◌≤◌, Bool, true, cond, ◌&&◌, max, min, List, [], ◌∷◌, length, take, drop, slice_get, slice_index, Option, None, Some, is_some, refl}
+--     part      the bytes of a run from an offset on and below another
+use Rattle.std.specs.Prelude.{◌≡◌, ℕ, ◌+◌, ◌-◌, ◌<◌, ◌≤◌, true, cond, ◌&&◌, List, [], ◌∷◌, length, take, drop, slice_get, slice_index, Option, None, Some, is_some, refl}
 use Rattle.std.proofs.Common.{sym, ◌∙◌, ap, arith, inl, inr, length-drop}
 use Rattle.std.specs.Ordering.{nat_cmp}
-use Rattle.std.specs.Bool.{Decides}
 use Rattle.std.specs.FinMap as map
 use Rattle.std.proofs.lemmas.Bool.{both_ways, cases_lt, and_parts, and_from, eqb-true, eq-eqb, le-leb, lt-leb}
-use Rattle.std.proofs.lemmas.Grind.{same_number_lists}
 use Rattle.std.proofs.lemmas.List.{get_or-take, get_or-drop, length-take}
 use Rattle.std.proofs.lemmas.Option.{get_or_from_slice_get, slice_get-get_or, slice_get_within}
 use Rattle.qs_recv.specs.Assembled.{agrees, same}
-use Rattle.qs_recv.specs.Chunks.{AreOne, byte_at}
+use Rattle.qs_recv.specs.Bytes.{byte_at}
 use Rattle.qs_recv.proofs.AssembledLaws.{byte_at_front, byte_at_back}
 
 -- a byte of a run, and its place
@@ -78,8 +76,6 @@ same_by m n at (byte ∷ bytes) is =
     ap (λ o. agrees o byte && same m (at + 1) bytes) (is at (omega arith) (omega arith))
     ∙ ap (λ b. agrees (map.get n at) byte && b) (same_by m n (at + 1) bytes (λ q low high. is q (omega arith) (omega arith)))
 
--- Two runs of bytes
-
 -- the part of a run from an offset on and below another
 abbrev pub part : ℕ → List ℕ → ℕ → ℕ → List ℕ
 part at xs from to = take (to - at - (from - at)) (drop (from - at) xs)
@@ -91,26 +87,3 @@ pub part_at : (at : ℕ) (xs : List ℕ) (from to k : ℕ) → at ≤ from → k
 part_at at xs from to k low below =
     let e : from - at + k ≡ from + k - at = omega arith in
     get_or-take (to - at - (from - at)) (drop (from - at) xs) k 0 (omega arith) ∙ get_or-drop (from - at) xs k 0 ∙ ap (slice_index xs) e
-
-pub one_by_slices : (at offset from to : ℕ) (own bytes : List ℕ) (r : Bool) → from ≡ max at offset → to ≡ min (at + length own) (offset + length bytes) → from < to
-    → Decides r (take (to - at - (from - at)) (drop (from - at) own) ≡ take (to - offset - (from - offset)) (drop (from - offset) bytes)) → Decides r (AreOne at own offset bytes)
-one_by_slices at offset from to own bytes r from_is to_is some decides = (
-  λ equal q b c e f.
-      let slices = decides.0 equal in
-      let x = byte_in at own q b e in
-      let y = byte_in offset bytes q c f in
-      let low : from ≤ q = omega (arith, x.0, y.0) in
-      let high : q < to = omega (arith, x.1, y.1) in
-      let back : from + (q - from) ≡ q = omega arith in
-      sym (part_at at own from to (q - from) (omega arith) (omega arith) ∙ ap (λ i. slice_index own (i - at)) back ∙ x.2)
-      ∙ ap (λ xs. slice_index xs (q - from)) slices
-      ∙ part_at offset bytes from to (q - from) (omega arith) (omega arith) ∙ ap (λ i. slice_index bytes (i - offset)) back ∙ y.2,
-  λ one.
-      let len = length_part at own from to (omega arith) (omega arith) (omega arith) in
-      let len' = length_part offset bytes from to (omega arith) (omega arith) (omega arith) in
-      decides.1 (same_number_lists (part at own from to) (part offset bytes from to) (len ∙ sym len') (λ k below.
-      let b : k < to - from = omega (arith, below, len) in
-      part_at at own from to k (omega arith) b
-      ∙ one (from + k) (slice_index own (from + k - at)) (slice_index bytes (from + k - offset)) (byte_there at own (from + k) (omega arith) (omega arith)) (byte_there offset bytes (from + k) (omega arith) (omega arith))
-      ∙ sym (part_at offset bytes from to k (omega arith) b))),
-)

@@ -3,7 +3,7 @@ use Rattle.std.specs.Prelude.{◌≡◌, ℕ, ◌-◌, ◌≤◌, ◌^◌, Bool,
 use Rattle.std.specs.FinMap as map
 use Rattle.std.specs.FinSet as set
 use Rattle.qs_recv.specs.Assembled.{Assembled}
-use Rattle.qs_recv.specs.Chunks.{byte_at}
+use Rattle.qs_recv.specs.Bytes.{byte_at}
 use Rattle.qs_recv.specs.Lane.{RecvLane, new_lane, highest, taken, check_stream, check_bytes, take_stream, check_reset, take_reset, after_read, stop, raise}
 use Rattle.qs_recv.specs.Lawful.{IsLawful}
 

@@ -1,9 +1,7 @@
 pub mod Assembled
-pub mod Chunks
-pub mod Kept
+pub mod Bytes
 pub mod Lane
 pub mod Lawful
 pub mod Laws
-pub mod Replay
 pub mod Ring
 pub mod Sound

@@ -1,8 +1,6 @@
 //! Laws on receiving lanes, each the contract of a function.
 ghost use Rattle.qs_recv.specs.Laws.{NewLanesAreLawful, CallsKeepLanesLawful, CallsNeverTakeBack, StoredBytesWereGranted, CreditIsWithinWindow, StoredBytesWereSent, ChangedBytesAreTold, SentBytesPass, TakenBytesPass, StoredBytesStay};
 
-pub use crate::replay::{Shown, Step, replay};
-
 /// A new lane is lawful.
 pub fn new_lanes_are_lawful()
     ensures { NewLanesAreLawful }

@@ -5,7 +5,7 @@ use Rattle.std.proofs.lemmas.Bool.{or_from, true≢false, false≢true, both_way
 use Rattle.std.specs.FinSet as set
 use Rattle.qs_ranges.specs.Numbers.{end_of}
 use Rattle.qs_recv.specs.Lane.{RecvLane, highest, highest_after, breaks_known, check_stream, check_reset, check_bytes, new_lane as new_recv_lane}
-use Rattle.qs_recv.specs.Chunks.{byte_at}
+use Rattle.qs_recv.specs.Bytes.{byte_at}
 use Rattle.qs_recv.specs.Laws.{IsSent, IsPart}
 use Rattle.qs_recv.proofs.SameAgain.{sent_passes}
 use Rattle.qs_recv.specs.declared.half.Highest.{Highest}

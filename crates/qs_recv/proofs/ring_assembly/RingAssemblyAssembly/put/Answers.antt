@@ -1,9 +1,8 @@
 use Rattle.std.proofs.Common.{◌∙◌, ◌+◌, ◌≤◌, sym, ap, subst, arith, length, refl, false}
 use Rattle.qs_recv.specs.Assembled.{Assembled}
 use Rattle.qs_recv.specs.Ring.{ring_bytes}
-use Rattle.qs_recv.proofs.AssembledLaws.{with_run}
+use Rattle.qs_recv.proofs.AssembledLaws.{with_run, put_is}
 use Rattle.qs_recv.proofs.NewsLaws.{on_err, err_then, refused_news}
-use Rattle.qs_recv.proofs.PutLaws.{put_is}
 use Rattle.qs_recv.proofs.RingLaws.{all_known, gap_news, ring_there, is_put, put_known, put_stored, put_unseen, ring_noted, ring_put, ring_unseen, stored_within, vec_written}
 use Rattle.qs_recv.proofs.ring_assembly.RingAssemblyAssembly.put.Goals as goal
 

@@ -1,0 +1,9 @@
+pub mod ChunkLaws
+pub mod EditLaws
+pub mod KeptLaws
+pub mod NewsLaws
+pub mod PutLaws
+pub mod ReadLaws
+pub mod ReplayLaws
+pub mod SameChunks
+pub mod SpotLaws

@@ -1,5 +1,0 @@
-use Rattle.qs_recv.proofs.ReplayLaws.{played_new}
-use Rattle.qs_recv.proofs.replay.Player.new.Goals as goal
-
-pub invariant_of-result : goal.invariant_of-result
-invariant_of-result g c = rw c.new.ensures (played_new c.args.window c.requires.small)
