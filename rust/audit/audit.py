@@ -23,6 +23,8 @@ FOLDERS = ("rust/src/proved", "rust/qstream/src/proved")
 KINDS = AUDIT / "kinds.txt"
 # Crates of which nothing is made in Rust: an example of a use from Rattle.
 RATTLE_ALONE = {"qs_example"}
+# Crates that only tests use.
+FOR_TESTS = {"qs_chunks", "qs_tests", "qs_units"}
 
 
 class Refused(Exception):
@@ -118,7 +120,7 @@ def _end_of_allow(words, listed, name, seen):
 def audit_list(text, made, folder, listed):
     """Whether the list of modules names each folder, in order, and has nothing beside but lints that may be allowed.
 
-    The list of the program names the library's modules first, each by the path of its file; its tests are for tests.
+    The list of the program names the library's modules first, each by the path of its file; what only tests use is for tests.
     """
     name = made.relative_to(ROOT)
     words = _words(rust_lexer.tokens(text))
@@ -131,7 +133,7 @@ def audit_list(text, made, folder, listed):
         for crate in sorted(path.name for path in root.iterdir() if path.is_dir()):
             if root != folder:
                 expected += ["#", "[", "path", "=", f'"../../../src/proved/{crate}/mod.rs"', "]"]
-            tests = crate == "qs_tests"
+            tests = crate in FOR_TESTS
             expected += ["#", "[", "cfg", "(", "test", ")", "]"] if tests else ["pub", "(", "crate", ")"]
             expected += ["mod", crate, ";"]
     if words != expected:

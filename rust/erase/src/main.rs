@@ -30,7 +30,14 @@ const LIBRARY: [&str; 7] = [
 const LIBRARY_FOLDER: &str = "rust/src/proved";
 
 /// The crates of the program and of its tests.
-const PROGRAM: [&str; 4] = ["qs_world", "qs_cli", "qs_tool", "qs_tests"];
+const PROGRAM: [&str; 6] = [
+    "qs_world",
+    "qs_cli",
+    "qs_tool",
+    "qs_chunks",
+    "qs_units",
+    "qs_tests",
+];
 
 const PROGRAM_FOLDER: &str = "rust/qstream/src/proved";
 

@@ -32,8 +32,12 @@ pub(crate) mod qs_send;
 #[path = "../../../src/proved/qs_wire/mod.rs"]
 pub(crate) mod qs_wire;
 
+#[cfg(test)]
+mod qs_chunks;
 pub(crate) mod qs_cli;
 #[cfg(test)]
 mod qs_tests;
 pub(crate) mod qs_tool;
+#[cfg(test)]
+mod qs_units;
 pub(crate) mod qs_world;

@@ -2,15 +2,10 @@
 //! The receiving half of a stream: what arrived is put in order, read once, and paid back as credit.
 
 mod assembly;
-mod chunk;
-mod chunk_assembly;
-mod chunk_list;
 mod half;
 pub mod laws;
-mod replay;
 mod ring_assembly;
 
 pub use assembly::Assembly;
-pub use chunk_assembly::ChunkAssembly;
 pub use half::{Highest, Read, RecvFault, RecvHalf, RecvState};
 pub use ring_assembly::RingAssembly;

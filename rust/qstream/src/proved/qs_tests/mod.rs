@@ -1,22 +1,8 @@
 // Made from crates/qs_tests/src/lib.rt by rust/erase; not edited by hand.
-//! Tests of what no clause says, through the public calls of the libraries. They stand in a crate of their own, since a crate with tests is
-//! proved once more with them.
+//! Tests of what no clause says, through the public calls of endpoints and worlds. They stand in a crate of their own, since a crate with tests
+//! is proved once more with them.
 
 #[cfg(test)]
-mod lost;
-#[cfg(test)]
-mod ranges;
-#[cfg(test)]
-mod records;
-#[cfg(test)]
-mod recv;
-#[cfg(test)]
-mod replay;
-#[cfg(test)]
-mod send;
-#[cfg(test)]
 mod texts;
-#[cfg(test)]
-mod wire;
 #[cfg(test)]
 mod world;

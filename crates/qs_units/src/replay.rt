@@ -1,11 +1,12 @@
 //! Steps that are played on an assembly of each kind. A test is a list of steps with what they show.
 ghost use Rattle.std.specs.Prelude.{◌≡◌, true, IfOk};
 ghost use Rattle.std.specs.List.{list_all};
-ghost use Rattle.qs_recv.specs.Replay.{step_fits};
+ghost use Rattle.qs_chunks.specs.Replay.{step_fits};
 
+use qs_chunks::ChunkAssembly;
+use qs_chunks::laws::{Shown, Step, replay};
 use qs_ranges::NoMemory;
-use qs_recv::laws::{Shown, Step, replay};
-use qs_recv::{Assembly, ChunkAssembly, RingAssembly};
+use qs_recv::{Assembly, RingAssembly};
 use std::alloc::Global;
 use std::test::Fail;
 

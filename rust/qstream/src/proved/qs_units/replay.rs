@@ -1,10 +1,11 @@
-// Made from crates/qs_tests/src/replay.rt by rust/erase; not edited by hand.
+// Made from crates/qs_units/src/replay.rt by rust/erase; not edited by hand.
 //! Steps that are played on an assembly of each kind. A test is a list of steps with what they show.
 use crate::shim::{HostRuntime, Vec, assert_eq};
 
+use crate::proved::qs_chunks::ChunkAssembly;
+use crate::proved::qs_chunks::laws::{Shown, Step, replay};
 use crate::proved::qs_ranges::NoMemory;
-use crate::proved::qs_recv::laws::{Shown, Step, replay};
-use crate::proved::qs_recv::{Assembly, ChunkAssembly, RingAssembly};
+use crate::proved::qs_recv::{Assembly, RingAssembly};
 use crate::shim::alloc::Global;
 use crate::shim::test::Fail;
 

@@ -1,7 +1,7 @@
 use Rattle.std.specs.Prelude.{◌≡◌, true}
 use Rattle.std.specs.List.{list_all}
-use Rattle.qs_recv.specs.Replay.{step_fits}
-use Rattle.qs_tests.proofs.replay.steps_of.Given as goal
+use Rattle.qs_chunks.specs.Replay.{step_fits}
+use Rattle.qs_units.proofs.replay.steps_of.Given as goal
 
 -- the steps so far fit
 abbrev pub invariant-loop-row : goal.invariant-loop-row

@@ -1,12 +1,10 @@
-// Made from crates/qs_tests/src/recv.rt by rust/erase; not edited by hand.
 //! Each test is a list of steps, played by one function: so no test's proof follows the half's value.
-use crate::shim::{HostRuntime, assert_eq};
+ghost use Rattle.std.specs.Prelude.{◌≤◌, ◌^◌};
 
-use crate::proved::qs_recv::{
-    Assembly, ChunkAssembly, Highest, Read, RecvFault, RecvHalf, RecvState, RingAssembly,
-};
-use crate::shim::alloc::Global;
-use crate::shim::test::Fail;
+use qs_chunks::ChunkAssembly;
+use qs_recv::{Assembly, Highest, Read, RecvFault, RecvHalf, RecvState, RingAssembly};
+use std::alloc::Global;
+use std::test::Fail;
 
 /// A call with what it answers.
 #[derive(Clone, Copy)]
@@ -158,9 +156,9 @@ fn played_on<A: Assembly>(mut half: RecvHalf<A>, steps: &[Step]) -> usize {
 }
 
 // The same over each kind of assembly: the fewest of them.
-fn played(alloc: Global, window: u64, steps: &[Step]) -> usize {
-    debug_assert!(1 <= window);
-    debug_assert!(window <= 1 << 20);
+fn played(alloc: Global, window: u64, steps: &[Step]) -> usize
+    requires { (1 ≤ window) × (window ≤ 2 ^ 20) }
+{
     let chunks: RecvHalf<ChunkAssembly> = RecvHalf::new(alloc, window);
     let ring: RecvHalf<RingAssembly> = RecvHalf::new(alloc, window);
     played_on(chunks, steps).min(played_on(ring, steps))
@@ -171,8 +169,7 @@ fn highest(before: u64, after: u64) -> Highest {
 }
 
 #[test]
-fn credit_bounds_the_end() {
-    let rt = HostRuntime::new();
+fn credit_bounds_the_end(rt: HostRuntime) {
     let steps = [
         Step::Refuse(0, 11, false, RecvFault::StreamCredit),
         Step::Refuse(8, 3, false, RecvFault::StreamCredit),
@@ -182,8 +179,7 @@ fn credit_bounds_the_end() {
 }
 
 #[test]
-fn credit_follows_what_is_read() {
-    let rt = HostRuntime::new();
+fn credit_follows_what_is_read(rt: HostRuntime) {
     let steps = [
         Step::Take(0, b"0123456789", false),
         Step::Counts(10, 10, 0),
@@ -198,8 +194,7 @@ fn credit_follows_what_is_read() {
 }
 
 #[test]
-fn the_final_size_grows_the_highest_offset() {
-    let rt = HostRuntime::new();
+fn the_final_size_grows_the_highest_offset(rt: HostRuntime) {
     let steps = [
         Step::Take(0, b"0123456789", false),
         Step::Pass(12, 0, true, highest(10, 12)),
@@ -211,8 +206,7 @@ fn the_final_size_grows_the_highest_offset() {
 }
 
 #[test]
-fn the_first_reset_stays() {
-    let rt = HostRuntime::new();
+fn the_first_reset_stays(rt: HostRuntime) {
     let steps = [
         Step::Take(0, b"01234", false),
         Step::Reset(7, 9),
@@ -229,8 +223,7 @@ fn the_first_reset_stays() {
 
 // From the first byte to what the reader is told; the size was known by an end without bytes.
 #[test]
-fn a_reset_comes_once_the_size_is_known() {
-    let rt = HostRuntime::new();
+fn a_reset_comes_once_the_size_is_known(rt: HostRuntime) {
     let steps = [
         Step::Pass(0, 10, false, highest(0, 10)),
         Step::Refuse(0, 11, false, RecvFault::StreamCredit),
@@ -258,8 +251,7 @@ fn a_reset_comes_once_the_size_is_known() {
 }
 
 #[test]
-fn data_is_read_in_order() {
-    let rt = HostRuntime::new();
+fn data_is_read_in_order(rt: HostRuntime) {
     let steps = [
         Step::Take(5, b"fgh", true),
         Step::Take(0, b"abc", false),
@@ -275,8 +267,7 @@ fn data_is_read_in_order() {
 }
 
 #[test]
-fn a_final_size_is_kept_after_the_end() {
-    let rt = HostRuntime::new();
+fn a_final_size_is_kept_after_the_end(rt: HostRuntime) {
     let steps = [
         Step::Take(0, b"abcde", true),
         Step::Refuse(5, 1, true, RecvFault::FinalSize),
@@ -290,8 +281,7 @@ fn a_final_size_is_kept_after_the_end() {
 }
 
 #[test]
-fn a_final_size_is_not_below_what_came() {
-    let rt = HostRuntime::new();
+fn a_final_size_is_not_below_what_came(rt: HostRuntime) {
     let steps = [
         Step::Take(0, b"abcde", false),
         Step::Refuse(0, 4, true, RecvFault::FinalSize),
@@ -301,8 +291,7 @@ fn a_final_size_is_not_below_what_came() {
 }
 
 #[test]
-fn a_stop_throws_away_and_counts() {
-    let rt = HostRuntime::new();
+fn a_stop_throws_away_and_counts(rt: HostRuntime) {
     let steps = [
         Step::Take(0, b"abc", false),
         Step::Stop(7),
@@ -316,8 +305,7 @@ fn a_stop_throws_away_and_counts() {
 }
 
 #[test]
-fn a_reset_counts_its_final_size() {
-    let rt = HostRuntime::new();
+fn a_reset_counts_its_final_size(rt: HostRuntime) {
     let steps = [
         Step::Take(0, b"abc", false),
         Step::RefuseReset(11, RecvFault::StreamCredit),
@@ -328,8 +316,7 @@ fn a_reset_counts_its_final_size() {
 }
 
 #[test]
-fn an_empty_stream_ends_at_once() {
-    let rt = HostRuntime::new();
+fn an_empty_stream_ends_at_once(rt: HostRuntime) {
     let ended = [
         Step::Read(4, Read::Wait, b""),
         Step::Take(0, b"", true),
@@ -341,8 +328,7 @@ fn an_empty_stream_ends_at_once() {
 }
 
 #[test]
-fn a_read_without_room_tells_whether_a_byte_is_next() {
-    let rt = HostRuntime::new();
+fn a_read_without_room_tells_whether_a_byte_is_next(rt: HostRuntime) {
     let steps = [
         Step::Read(0, Read::Wait, b""),
         Step::Take(0, b"a", false),
@@ -353,8 +339,7 @@ fn a_read_without_room_tells_whether_a_byte_is_next() {
 
 // What was read isn't compared. The last bytes wrap in a ring.
 #[test]
-fn a_changed_byte_is_told() {
-    let rt = HostRuntime::new();
+fn a_changed_byte_is_told(rt: HostRuntime) {
     let steps = [
         Step::Take(0, b"abcdef", false),
         Step::Read(4, Read::Bytes(4), b"abcd"),
@@ -373,8 +358,7 @@ fn a_changed_byte_is_told() {
 }
 
 #[test]
-fn what_is_thrown_away_is_not_compared() {
-    let rt = HostRuntime::new();
+fn what_is_thrown_away_is_not_compared(rt: HostRuntime) {
     let steps = [
         Step::Take(0, b"ab", false),
         Step::Change(0, b"aX"),
@@ -385,8 +369,7 @@ fn what_is_thrown_away_is_not_compared() {
 }
 
 #[test]
-fn a_frame_fills_the_gaps() {
-    let rt = HostRuntime::new();
+fn a_frame_fills_the_gaps(rt: HostRuntime) {
     let steps = [
         Step::Take(1, b"B", false),
         Step::Take(4, b"DD", false),
@@ -399,8 +382,7 @@ fn a_frame_fills_the_gaps() {
 
 // The same places of a ring are used again.
 #[test]
-fn bytes_follow_what_was_read() {
-    let rt = HostRuntime::new();
+fn bytes_follow_what_was_read(rt: HostRuntime) {
     let steps = [
         Step::Take(0, b"abcdef", false),
         Step::Read(6, Read::Bytes(6), b"abcdef"),
@@ -421,8 +403,7 @@ fn bytes_follow_what_was_read() {
 
 // Bytes come alone, before others, over them and behind them: each memory that may be wanted is.
 #[test]
-fn refused_frames_change_nothing() {
-    let rt = HostRuntime::new();
+fn refused_frames_change_nothing(rt: HostRuntime) {
     let steps = [
         Step::Take(8, b"ij", false),
         Step::Take(4, b"ef", false),

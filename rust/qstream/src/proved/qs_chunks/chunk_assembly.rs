@@ -1,9 +1,9 @@
-// Made from crates/qs_recv/src/chunk_assembly.rt by rust/erase; not edited by hand.
+// Made from crates/qs_chunks/src/chunk_assembly.rt by rust/erase; not edited by hand.
 //! An assembly that keeps what came in chunks, each with its own bytes.
 
-use crate::proved::qs_recv::assembly::Assembly;
-use crate::proved::qs_recv::chunk_list::{ChunkList, Spot};
+use crate::proved::qs_chunks::chunk_list::{ChunkList, Spot};
 use crate::proved::qs_ranges::{NoMemory, RangeSet};
+use crate::proved::qs_recv::Assembly;
 use crate::shim::alloc::Global;
 
 /// Chunks in order that lie apart, beside the set of every offset that came.

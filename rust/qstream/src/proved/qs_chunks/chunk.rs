@@ -1,4 +1,4 @@
-// Made from crates/qs_recv/src/chunk.rt by rust/erase; not edited by hand.
+// Made from crates/qs_chunks/src/chunk.rt by rust/erase; not edited by hand.
 //! Consecutive bytes of a stream, which grow at the back and go away at the front.
 use crate::shim::Vec;
 

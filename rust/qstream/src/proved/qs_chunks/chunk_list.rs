@@ -1,8 +1,8 @@
-// Made from crates/qs_recv/src/chunk_list.rt by rust/erase; not edited by hand.
+// Made from crates/qs_chunks/src/chunk_list.rt by rust/erase; not edited by hand.
 //! Chunks in order, with the memory of one that was read kept for the next.
 use crate::shim::{SliceCalls, Vec};
 
-use crate::proved::qs_recv::chunk::Chunk;
+use crate::proved::qs_chunks::chunk::Chunk;
 use crate::proved::qs_ranges::NoMemory;
 use crate::shim::alloc::Global;
 use crate::shim::collections::VecDeque;

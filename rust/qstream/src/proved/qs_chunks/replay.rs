@@ -1,9 +1,9 @@
-// Made from crates/qs_recv/src/replay.rt by rust/erase; not edited by hand.
+// Made from crates/qs_chunks/src/replay.rt by rust/erase; not edited by hand.
 //! Steps are played on an assembly, of whichever kind, and each shows what the definition gives.
 use crate::shim::{Vec, vec};
 
-use crate::proved::qs_recv::assembly::Assembly;
 use crate::proved::qs_ranges::NoMemory;
+use crate::proved::qs_recv::Assembly;
 use crate::shim::alloc::Global;
 
 /// What is done to an assembly.
