@@ -234,6 +234,48 @@ impl Endpoint {
         self.inner.granted_streams(dir.inner())
     }
 
+    /// The least stream at or above `from` at which a read of one byte tells something new: bytes, or an end or a reset that
+    /// wasn't told yet (RFC 9000, sections 2.2 and 3.2). Of a stopped stream the end and a reset are told, too. `None` where
+    /// there is none, and of a closed end.
+    ///
+    /// A loop over all of them goes on from the number behind each; it costs a look at one word for 64 streams:
+    ///
+    /// ```
+    /// use gotsavena::{Dir, Endpoint, Read, Role, Settings, StreamId};
+    ///
+    /// let settings = Settings::default();
+    /// let mut client = Endpoint::new(Role::Client, settings, settings.limits())?;
+    /// let mut server = Endpoint::new(Role::Server, settings, settings.limits())?;
+    /// let stream = client.open(Dir::Uni)?;
+    /// client.write(stream, b"hello")?;
+    /// assert_eq!(client.next_sendable(stream), Some(stream));
+    ///
+    /// let mut payload = [0; 1200];
+    /// let made = client.make_packet(&mut payload)?.expect("bytes are due");
+    /// server.receive(made.number, &payload[..made.len])?;
+    ///
+    /// let mut bytes = [0; 16];
+    /// let mut from = StreamId::new(0);
+    /// while let Some(stream) = from.and_then(|from| server.next_readable(from)) {
+    ///     while let Read::Bytes(count) = server.read(stream, &mut bytes)? {
+    ///         assert_eq!(&bytes[..count], b"hello");
+    ///     }
+    ///     from = StreamId::new(stream.value() + 1);
+    /// }
+    /// assert_eq!(server.next_readable(stream), None);
+    /// # Ok::<(), Box<dyn std::error::Error>>(())
+    /// ```
+    pub fn next_readable(&self, from: StreamId) -> Option<StreamId> {
+        self.inner.next_readable(from.inner()).map(StreamId::of)
+    }
+
+    /// The least stream at or above `from` of which bytes or the end are due, which the stream's own limit lets go; whether
+    /// the connection's credit does isn't asked (RFC 9000, sections 4.1 and 13.3). `None` where there is none, and of a
+    /// closed end.
+    pub fn next_sendable(&self, from: StreamId) -> Option<StreamId> {
+        self.inner.next_sendable(from.inner()).map(StreamId::of)
+    }
+
     /// How the halves of a stream stand at this end; `None` where it isn't open (RFC 9000, section 3).
     pub fn report(&self, stream: StreamId) -> Option<StreamReport> {
         self.inner.lane_report(stream.inner()).map(StreamReport::of)

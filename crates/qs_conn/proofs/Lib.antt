@@ -41,3 +41,6 @@ pub mod Summed
 pub mod Tasks
 pub mod Quiets
 pub mod LaneMarks
+pub mod RecvNews
+pub mod Least
+pub mod Sought

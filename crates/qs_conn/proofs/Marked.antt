@@ -107,6 +107,14 @@ module _ {X : Type 0} (Q : X → Type 0) where
       let few : length (xs ++ map begin (range_with_len (length xs) n)) ≤ 2 ^ 60 = omega (arith, h.0, small, le, ge, missing, length-append xs (map begin (range_with_len (length xs) n)), length-map-range_with_len begin (length xs) n) in
       rw (is, are, same) (few, marked_opened begin q xs ms (length xs) n h.1)
 
+-- what was opened beside the marks is taken back
+pub take_opened : {X : Type 0} (xs ys : List X) (n : ℕ) → n ≡ length xs → take n (xs ++ ys) ≡ xs
+take_opened xs ys n is = rw is (take_front xs ys)
+  where
+    take_front : {Y : Type 0} (us vs : List Y) → take (length us) (us ++ vs) ≡ us
+    take_front [] vs = refl
+    take_front (u ∷ us) vs = ap (λ ws. u ∷ ws) (take_front us vs)
+
 -- of a weaker property
 pub weaker : {X : Type 0} (P Q : X → Type 0) → ((x : X) → P x → Q x) → (xs : List X) (ms : List Bool) → AreMarked P xs ms → AreMarked Q xs ms
 weaker P Q f [] [] h = h

@@ -5,5 +5,6 @@ pub mod Filling
 pub mod Runs
 pub mod Marks
 pub mod Tasks
+pub mod RecvTasks
 pub mod Words
 pub mod Sending

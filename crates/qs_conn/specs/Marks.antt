@@ -1,10 +1,11 @@
 -- Which streams may have something to send or to tell: a mark for each index, and streams that have nothing.
-use Rattle.std.specs.Prelude.{◌≡◌, ℕ, ◌+◌, ◌*◌, ◌/◌, ◌^◌, ◌≤◌, ◌<◌, length, Bool, true, false, List, [], ◌∷◌, slice_index_or, min, Option, None, Some, ⊤}
+use Rattle.std.specs.Prelude.{◌≡◌, ℕ, ◌+◌, ◌*◌, ◌/◌, ◌^◌, ◌≤◌, ◌<◌, length, Bool, true, false, List, [], ◌∷◌, slice_index_or, slice_get, min, Option, None, Some, ⊤}
 use Rattle.qs_recv.specs.Lane.{RecvLane}
 use Rattle.qs_machine.specs.Tables.{Tables, kind_of, lookup}
 use Rattle.qs_send.specs.declared.piece.Item.{Item}
 use Rattle.qs_conn.specs.declared.slot.Slot.{Slot}
 use Rattle.qs_machine.specs.Ends.{End}
+use Rattle.qs_machine.specs.News.{IsHeld}
 use Rattle.qs_machine.specs.Due.{IsCurrent, IsCovered}
 use Rattle.qs_conn.specs.Filling.{slot_of}
 use Rattle.qs_conn.specs.Layers.{stop_to_tell}
@@ -44,6 +45,14 @@ pub record IsNextMark (marks : List Bool) (from : ℕ) (answer : Option ℕ) : T
 pub record IsNextInWord (marks : List Bool) (from : ℕ) (answer : Option ℕ) : Type 0 where
   pub found : (n : ℕ) → answer ≡ Some n → (from ≤ n) × (n / 64 ≡ from / 64) × (is_marked marks n ≡ true)
   pub unmarked : (i : ℕ) → from ≤ i → i / 64 ≡ from / 64 → IsBefore i answer → is_marked marks i ≡ false
+
+-- there is a part at an index, and it has the property
+abbrev pub IsAt : {X : Type 0} → (X → Type 0) → List X → ℕ → Type 0
+IsAt {X} P xs i = (x : X) × (slice_get xs i ≡ Some x) × P x
+
+-- a stream of a type is open, and what is kept of it has the property
+abbrev pub IsHeldOf : {X : Type 0} → (X → Type 0) → Tables X → ℕ → ℕ → Type 0
+IsHeldOf {X} P t kind n = (kind_of n ≡ kind) × IsHeld P t n
 
 -- no index of a word of 64 is marked
 abbrev pub HasNoMark : List Bool → ℕ → Type 0

@@ -3,7 +3,12 @@ use Rattle.std.specs.Prelude.{ℕ, Bool, true, false, ◌⊎◌}
 use Rattle.qs_send.specs.declared.piece.Item.{Item}
 use Rattle.qs_machine.specs.Ends.{End}
 use Rattle.qs_machine.specs.Due.{IsDueItem, StreamGoes}
+use Rattle.qs_machine.specs.News.{IsHeld, HasForPacket}
 use Rattle.qs_conn.specs.Filling.{slot_of, Passed, IsPassed}
+
+-- bytes of the stream or its end are due, which its own limit lets go
+abbrev pub IsDueOf : End → ℕ → Type 0
+IsDueOf e n = IsHeld (HasForPacket e n) e.sends n
 
 -- some item is due; or none of the slots that were passed
 abbrev pub TellsDue : Bool → End → Passed → Type 0

@@ -1,5 +1,5 @@
 -- Which sending halves have something for a packet, by what it is, and those that have not.
-use Rattle.std.specs.Prelude.{◌≡◌, ℕ, ◌≤◌, ◌<◌, Bool, true, false, List, slice_set, None, Some, is_some}
+use Rattle.std.specs.Prelude.{◌≡◌, ℕ, ◌≤◌, ◌<◌, ◌⊎◌, Bool, true, false, List, slice_set, None, Some, is_some}
 use Rattle.std.specs.FinSet as set
 use Rattle.qs_send.specs.Lane.{SendLane, Sending}
 use Rattle.qs_machine.specs.Tables.{lookup}
@@ -21,6 +21,12 @@ abbrev pub IsQuiet : Task → Sending → Type 0
 IsQuiet tasks.Bytes s = HasNothing s
 IsQuiet tasks.Reset s = is_some s.lane.was_reset ≡ true → s.lane.reset_acked ≡ true
 IsQuiet tasks.Blocked s = (m : ℕ) → IsBlockedAt (Some s.lane) m → ⊥
+
+-- a half that has something of a kind for a packet (RFC 9000, sections 3.1, 4.1 and 13.3)
+abbrev pub HasTask : Task → Sending → Type 0
+HasTask tasks.Bytes s = ((q : ℕ) × (set.contains s.due.offsets q ≡ true) × (q < s.lane.limit)) ⊎ ((s.due.fin ≡ true) × (s.lane.sent_end ≡ s.lane.written))
+HasTask tasks.Reset s = (is_some s.lane.was_reset ≡ true) × (s.lane.reset_acked ≡ false)
+HasTask tasks.Blocked s = (m : ℕ) × IsBlockedAt (Some s.lane) m
 
 -- the marks for a task
 abbrev pub marks_of : SendMarks → Task → List Bool

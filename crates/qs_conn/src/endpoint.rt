@@ -23,6 +23,7 @@ mod acking;
 mod frames;
 mod losing;
 mod making;
+mod news;
 mod opening;
 mod owner;
 mod receiving;

@@ -11,9 +11,12 @@ ghost use Rattle.qs_machine.specs.Verdicts.{or_new};
 ghost use Rattle.qs_machine.specs.Sums.{changed, tally_of, tally_on, moved, IsPart, IsPaid, EachLawful};
 ghost use Rattle.qs_conn.specs.Ended.{recv_over};
 ghost use Rattle.qs_conn.specs.Layers.{limit_to_tell, stop_to_tell, AreSettled, touch};
-ghost use Rattle.qs_conn.specs.Marks.{IsBefore, AreMarked, IsQuietLane};
+ghost use Rattle.qs_machine.specs.News.{IsLeast};
+ghost use Rattle.qs_conn.specs.Marks.{IsBefore, IsAt, AreMarked, IsQuietLane};
+ghost use Rattle.qs_conn.specs.RecvTasks.{HasOne};
 
 use crate::marks::Marks;
+use crate::recv_marks::{RecvMarks, RecvTask, has};
 use qs_calls::RecvReport;
 use qs_machine::Tally;
 use qs_ranges::NoMemory;
@@ -42,6 +45,8 @@ pub(crate) struct RecvLanes {
     first: u64,
     // A lane without a mark has nothing to tell.
     marks: Marks,
+    // A lane without a mark has no answer for its owner.
+    news: RecvMarks,
 }
 
 // Clauses see the lanes.
@@ -51,6 +56,7 @@ impl Model for RecvLanes {
     ghost use Rattle.qs_recv.specs.Lane.{RecvLane, lane_code};
     ghost use Rattle.qs_conn.specs.Layers.{AreCounted};
     ghost use Rattle.qs_conn.specs.Marks.{AreMarked, IsQuietLane};
+    ghost use Rattle.qs_conn.specs.RecvTasks.{AreNoted};
 
     ghost Value = { List RecvLane };
 
@@ -58,7 +64,7 @@ impl Model for RecvLanes {
 
     ghost view = { λ l. l.halves.items };
 
-    ghost invariant = { λ l. AreCounted l.halves.items l.tally l.touched × AreMarked (IsQuietLane l.first) l.halves.items l.marks };
+    ghost invariant = { λ l. AreCounted l.halves.items l.tally l.touched × AreMarked (IsQuietLane l.first) l.halves.items l.marks × AreNoted l.halves.items l.news };
 }
 
 impl RecvLanes {
@@ -76,6 +82,7 @@ impl RecvLanes {
             touched: Touched::Nothing,
             first: 0,
             marks: Marks::new(alloc),
+            news: RecvMarks::new(alloc),
         }
     }
 
@@ -181,6 +188,11 @@ impl RecvLanes {
             self.halves.truncate(before);
             return Err(NoMemory);
         }
+        if let Err(_refused) = self.news.open_to(count) {
+            self.halves.truncate(before);
+            self.marks.close_to(before);
+            return Err(NoMemory);
+        }
         self.first = self.first.max(window);
         Ok(())
     }
@@ -191,9 +203,17 @@ impl RecvLanes {
     {
         let missing = count.saturating_sub(self.halves.len());
         match self.halves.reserve(missing) {
-            Ok(()) => self.marks.reserve(count),
+            Ok(()) => self.reserve_marks(count),
             Err(_refused) => Err(NoMemory),
         }
+    }
+
+    // Takes the memory for the marks of all indexes below a count.
+    fn reserve_marks(&mut self, count: usize) -> Result<(), NoMemory>
+        ensures { self.new ≡ self.old }
+    {
+        self.marks.reserve(count)?;
+        self.news.reserve(count)
     }
 
     /// Takes the lanes from a count on away, which nothing came for.
@@ -203,6 +223,7 @@ impl RecvLanes {
     {
         self.halves.truncate(count);
         self.marks.close_to(count);
+        self.news.close_to(count);
     }
 
     /// Takes a frame that passed both checks, at an open lane; or changes nothing.
@@ -232,6 +253,7 @@ impl RecvLanes {
         }
         let is = measure(half);
         self.marks.set(index, is_busy(half, self.first));
+        self.news.look(index, half);
         self.tally = moved(self.tally, was, is);
         if stopped {
             self.touched = touch(self.touched, index);
@@ -253,6 +275,7 @@ impl RecvLanes {
         half.take_reset(code, size);
         let is = measure(half);
         self.marks.set(index, is_busy(half, self.first));
+        self.news.look(index, half);
         self.tally = moved(self.tally, was, is);
     }
 
@@ -270,6 +293,7 @@ impl RecvLanes {
         let answer = half.read(into);
         let is = measure(half);
         self.marks.set(index, is_busy(half, self.first));
+        self.news.look(index, half);
         self.tally = moved(self.tally, was, is);
         self.touched = touch(self.touched, index);
         answer
@@ -288,6 +312,7 @@ impl RecvLanes {
         half.stop(code);
         let is = measure(half);
         self.marks.set(index, true);
+        self.news.look(index, half);
         self.tally = moved(self.tally, was, is);
         self.touched = touch(self.touched, index);
     }
@@ -360,6 +385,21 @@ impl RecvLanes {
             return self.next_open(from);
         }
         self.marks.next(from)
+    }
+
+    /// The least index from one on whose lane has an answer for its owner.
+    pub(crate) fn next_with(&self, task: RecvTask, from: usize) -> Option<usize>
+        ensures least { IsLeast (IsAt (HasOne task) self.now) from result }
+        ensures small { IfSome result (λ n. n < 2 ^ 60) }
+    {
+        let mut next = from;
+        while let Some(index) = self.news.next(task, next) {
+            if has(task, &self.halves[index]) {
+                return Some(index);
+            }
+            next = index + 1;
+        }
+        None
     }
 
     // An index from one on, where a lane is open there.

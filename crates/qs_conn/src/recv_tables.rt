@@ -9,10 +9,14 @@ ghost use Rattle.qs_machine.specs.Verdicts.{or_new};
 ghost use Rattle.qs_machine.specs.Sums.{stored_on, tally_on, IsPaid};
 ghost use Rattle.qs_conn.specs.Ended.{recv_over};
 ghost use Rattle.qs_conn.specs.Layers.{limit_to_tell, stop_to_tell};
-ghost use Rattle.qs_conn.specs.Marks.{HaveTo, IsQuietLane};
+ghost use Rattle.qs_machine.specs.News.{IsLeast, IsHeld};
+ghost use Rattle.qs_conn.specs.Marks.{HaveTo, IsHeldOf, IsQuietLane};
+ghost use Rattle.qs_conn.specs.RecvTasks.{HasOne};
 
+use crate::marks::least;
 use crate::places::{index_of, kind_of};
 use crate::recv_lanes::RecvLanes;
+use crate::recv_marks::RecvTask;
 use qs_calls::RecvReport;
 use qs_machine::Tally;
 use qs_ranges::NoMemory;
@@ -275,6 +279,40 @@ impl RecvTables {
         let first = (from + 3 - kind as u64) / 4;
         let index = lanes.next_marked(first as usize, window)?;
         Some((index * 4 + kind) as u64)
+    }
+
+    /// The least number from one on of a stream whose receiving half has an answer for its owner.
+    pub(crate) fn next_with(&self, task: RecvTask, from: u64) -> Option<StreamId>
+        requires { from ≤ 2 ^ 62 }
+        ensures { IsLeast (IsHeld (HasOne task) self.now) from result }
+    {
+        let bidi = least(
+            self.next_with_of(task, 0, from),
+            self.next_with_of(task, 1, from),
+        );
+        let uni = least(
+            self.next_with_of(task, 2, from),
+            self.next_with_of(task, 3, from),
+        );
+        match least(bidi, uni) {
+            Some(number) => StreamId::new(number),
+            None => None,
+        }
+    }
+
+    // The least such number among the streams of a type.
+    fn next_with_of(&self, task: RecvTask, kind: usize, from: u64) -> Option<u64>
+        requires kind { kind < 4 }
+        requires from { from ≤ 2 ^ 62 }
+        ensures least { IsLeast (IsHeldOf (HasOne task) self.now kind) from result }
+        ensures small { IfSome result (λ n. n < 2 ^ 62) }
+    {
+        let lanes = &self.types[kind];
+        let first = (from + 3 - kind as u64) / 4;
+        match lanes.next_with(task, first as usize) {
+            Some(index) => Some((index * 4 + kind) as u64),
+            None => None,
+        }
     }
 
     /// The sums over all streams.

@@ -6,10 +6,11 @@ ghost use Rattle.qs_send.specs.Chunks.{IsDueChunk, WasSent};
 ghost use Rattle.qs_machine.specs.Tables.{widened};
 ghost use Rattle.qs_machine.specs.Memory.{ChunkMayRunOut};
 ghost use Rattle.qs_machine.specs.Sums.{changed, no_sending};
-ghost use Rattle.qs_conn.specs.Marks.{IsBefore};
-ghost use Rattle.qs_conn.specs.Tasks.{IsQuiet};
+ghost use Rattle.qs_machine.specs.News.{IsLeast};
+ghost use Rattle.qs_conn.specs.Marks.{IsBefore, IsAt};
+ghost use Rattle.qs_conn.specs.Tasks.{IsQuiet, HasTask};
 
-use crate::send_marks::{SendMarks, Task};
+use crate::send_marks::{SendMarks, Task, has};
 use qs_ranges::NoMemory;
 use qs_send::{Chunk, SendFault, SendHalf, SendState};
 use qs_wire::StreamId;
@@ -236,5 +237,20 @@ impl SendLanes {
         ensures quiet { (i : ℕ) (s : Sending) → from ≤ i → IsBefore i result → slice_get self.now i ≡ Some s → IsQuiet task s }
     {
         self.marks.next(task, from)
+    }
+
+    /// The least index from one on whose half has something of a task.
+    pub(crate) fn next_with(&self, task: Task, from: usize) -> Option<usize>
+        ensures least { IsLeast (IsAt (HasTask task) self.now) from result }
+        ensures small { IfSome result (λ n. n < 2 ^ 60) }
+    {
+        let mut next = from;
+        while let Some(index) = self.marks.next(task, next) {
+            if has(task, &self.halves[index]) {
+                return Some(index);
+            }
+            next = index + 1;
+        }
+        None
     }
 }

@@ -1,7 +1,7 @@
 //! Which sending halves of one type have something for a packet, by what it is.
-ghost use Rattle.std.specs.Prelude.{◌≡◌, ◌++◌, ◌-◌, ◌<◌, [], false, length, take, replicate, OnOk, OnErr};
+ghost use Rattle.std.specs.Prelude.{◌≡◌, ◌++◌, ◌-◌, ◌<◌, [], true, false, length, take, replicate, OnOk, OnErr};
 ghost use Rattle.qs_conn.specs.Marks.{IsNextMark};
-ghost use Rattle.qs_conn.specs.Tasks.{IsQuiet, IsLooked, marks_of};
+ghost use Rattle.qs_conn.specs.Tasks.{IsQuiet, IsLooked, HasTask, marks_of};
 ghost use Rattle.qs_conn.specs.declared.send_marks.Task.TheVariants as tasks;
 
 use crate::marks::Marks;
@@ -98,10 +98,24 @@ impl SendMarks {
     }
 }
 
+/// Whether a half has something of a task.
+pub(crate) fn has(task: Task, half: &SendHalf) -> bool
+    ensures some { result ≡ true → HasTask task half.now }
+    ensures none { result ≡ false → IsQuiet task half.now }
+{
+    match task {
+        Task::Bytes => may_send(half),
+        Task::Reset => may_reset(half),
+        Task::Blocked => may_be_blocked(half),
+    }
+}
+
 // Whether bytes or the end may go: a byte below the limit is due, or the end is and every byte was sent.
 fn may_send(half: &SendHalf) -> bool
-    ensures { result ≡ false → IsQuiet tasks.Bytes half.now }
+    ensures some { result ≡ true → HasTask tasks.Bytes half.now }
+    ensures none { result ≡ false → IsQuiet tasks.Bytes half.now }
 {
+    half.is_lawful();
     if half.end_due() && half.sent_end() == half.written() {
         return true;
     }
@@ -113,7 +127,8 @@ fn may_send(half: &SendHalf) -> bool
 
 // Whether a reset is to be told, or is under way.
 fn may_reset(half: &SendHalf) -> bool
-    ensures { result ≡ false → IsQuiet tasks.Reset half.now }
+    ensures some { result ≡ true → HasTask tasks.Reset half.now }
+    ensures none { result ≡ false → IsQuiet tasks.Reset half.now }
 {
     if let Some(_code) = half.reset_code() {
         return !matches!(half.state(), SendState::ResetRecvd);
@@ -123,7 +138,8 @@ fn may_reset(half: &SendHalf) -> bool
 
 // Whether the stream's limit is reached and more was written.
 fn may_be_blocked(half: &SendHalf) -> bool
-    ensures { result ≡ false → IsQuiet tasks.Blocked half.now }
+    ensures some { result ≡ true → HasTask tasks.Blocked half.now }
+    ensures none { result ≡ false → IsQuiet tasks.Blocked half.now }
 {
     half.reset_code().is_none() && half.limit() < half.written() && half.sent_end() == half.limit()
 }

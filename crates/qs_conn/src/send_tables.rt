@@ -6,8 +6,9 @@ ghost use Rattle.qs_send.specs.Chunks.{IsDueChunk, WasSent};
 ghost use Rattle.qs_machine.specs.Tables.{no_streams, table, with_table, lookup, updated, open_to, kind_of};
 ghost use Rattle.qs_machine.specs.Memory.{ChunkMayRunOut};
 ghost use Rattle.qs_machine.specs.Sums.{or_no_sending};
-ghost use Rattle.qs_conn.specs.Marks.{IsBefore, HaveTo};
-ghost use Rattle.qs_conn.specs.Tasks.{IsQuiet};
+ghost use Rattle.qs_machine.specs.News.{IsLeast, IsHeld};
+ghost use Rattle.qs_conn.specs.Marks.{IsBefore, HaveTo, IsHeldOf};
+ghost use Rattle.qs_conn.specs.Tasks.{IsQuiet, HasTask};
 
 use crate::marks::least;
 use crate::places::{index_of, kind_of};
@@ -239,5 +240,39 @@ impl SendTables {
         let first = (from + 3 - kind as u64) / 4;
         let index = lanes.next_marked(task, first as usize)?;
         Some((index * 4 + kind) as u64)
+    }
+
+    /// The least number from one on of a stream whose half has something of a task.
+    pub(crate) fn next_with(&self, task: Task, from: u64) -> Option<StreamId>
+        requires { from ≤ 2 ^ 62 }
+        ensures { IsLeast (IsHeld (HasTask task) self.now) from result }
+    {
+        let bidi = least(
+            self.next_with_of(task, 0, from),
+            self.next_with_of(task, 1, from),
+        );
+        let uni = least(
+            self.next_with_of(task, 2, from),
+            self.next_with_of(task, 3, from),
+        );
+        match least(bidi, uni) {
+            Some(number) => StreamId::new(number),
+            None => None,
+        }
+    }
+
+    // The least such number among the streams of a type.
+    fn next_with_of(&self, task: Task, kind: usize, from: u64) -> Option<u64>
+        requires kind { kind < 4 }
+        requires from { from ≤ 2 ^ 62 }
+        ensures least { IsLeast (IsHeldOf (HasTask task) self.now kind) from result }
+        ensures small { IfSome result (λ n. n < 2 ^ 62) }
+    {
+        let lanes = &self.types[kind];
+        let first = (from + 3 - kind as u64) / 4;
+        match lanes.next_with(task, first as usize) {
+            Some(index) => Some((index * 4 + kind) as u64),
+            None => None,
+        }
     }
 }

@@ -13,6 +13,7 @@ pub mod Owner
 pub mod Receiving
 pub mod Making
 pub mod Reports
+pub mod News
 pub mod EndStep
 pub mod Standing
 pub mod Laws

@@ -3,5 +3,6 @@ pub mod Bytes
 pub mod Lane
 pub mod Lawful
 pub mod Laws
+pub mod News
 pub mod Ring
 pub mod Sound

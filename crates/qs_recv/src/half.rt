@@ -4,6 +4,7 @@ ghost use Rattle.std.specs.FinMap as map;
 ghost use Rattle.qs_ranges.specs.Numbers.{MAX_VARINT, MissesRange, covers};
 ghost use Rattle.qs_recv.specs.Lawful.{IsLawful};
 ghost use Rattle.qs_recv.specs.Sound.{CodeFits};
+ghost use Rattle.qs_recv.specs.News.{is_readable, tells_something};
 ghost use Rattle.qs_recv.specs.Lane.{new_lane, highest, highest_after, taken, state, check_stream, check_bytes, take_stream, check_reset, take_reset, is_whole, breaks_final_size, read_answer, bytes_read, after_read, stop, raise, raise_answer};
 
 use crate::assembly::Assembly;
@@ -329,6 +330,14 @@ impl<A: Assembly> RecvHalf<A> {
         }
     }
 
+    /// Whether a read of one byte would tell something new: bytes, or an end or a reset that wasn't told yet. Of a stopped half only the
+    /// end and a reset are told (sections 2.2, 3.2 and 3.5).
+    pub fn is_readable(&self) -> bool
+        ensures { result ≡ is_readable self.now }
+    {
+        !self.told && self.tells_something()
+    }
+
     /// How many bytes are stored and not read.
     pub fn stored(&self) -> u64
         ensures value { result ≡ map.len self.now.arrived.stored }
@@ -357,6 +366,22 @@ impl<A: Assembly> RecvHalf<A> {
         ensures { result ≡ self.now.reset_code }
     {
         self.reset_code
+    }
+
+    // Whether a read of one byte would tell something, be it new or not.
+    fn tells_something(&self) -> bool
+        ensures { result ≡ tells_something (read_answer self.now 1) }
+    {
+        if let Some(_code) = self.reset_code {
+            return true;
+        }
+        if self.stop_code.is_some() {
+            return self.is_whole();
+        }
+        if Some(self.read_count) == self.final_size {
+            return true;
+        }
+        self.assembly.received().has(self.read_count)
     }
 
     // Whether the final size is known and every offset below it came.

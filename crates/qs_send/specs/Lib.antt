@@ -4,6 +4,7 @@ pub mod Sound
 pub mod Calls
 pub mod Parts
 pub mod Laws
+pub mod Writable
 pub mod PieceCodes
 pub mod Records
 pub mod AckPass

@@ -4,6 +4,7 @@ ghost use Rattle.std.specs.FinSet as set;
 ghost use Rattle.qs_ranges.specs.Numbers.{MAX_VARINT, MissesRange};
 ghost use Rattle.qs_send.specs.Chunks.{IsDueChunk, WasSent};
 ghost use Rattle.qs_send.specs.Sound.{IsLawful};
+ghost use Rattle.qs_send.specs.Writable.{is_writable};
 ghost use Rattle.qs_send.specs.Lane.{new_sending, free_room, accepted, refusal, answer_of, reset_refusal, is_whole, state, declared_size, after_write, after_finish, after_reset, after_reset_acked, after_blocked, after_allow, after_sent, after_acked, after_lost};
 
 use crate::edits::{add, forget};
@@ -337,6 +338,20 @@ impl SendHalf {
         ensures { result ≡ free_room self.now.lane }
     {
         self.buffer - self.kept.len()
+    }
+
+    /// Whether a write of one byte would be accepted, if there is memory for it: neither the end was asked for nor a reset made, and there
+    /// is room (RFC 9000, sections 2.2, 2.4 and 3.1).
+    pub fn is_writable(&self) -> bool
+        ensures { result ≡ is_writable self.now.lane }
+    {
+        if self.was_reset.is_some() {
+            return false;
+        }
+        if self.finished {
+            return false;
+        }
+        (self.room() as u64).min(MAX_VARINT - self.written) > 0
     }
 
     // Whether every written offset and the end were acknowledged.

@@ -4,9 +4,12 @@ ghost use Rattle.qs_ranges.specs.Numbers.{MAX_VARINT};
 ghost use Rattle.qs_send.specs.declared.piece.Piece.TheVariants as pieces;
 ghost use Rattle.qs_machine.specs.Tables.{lookup};
 ghost use Rattle.qs_machine.specs.Sums.{or_none};
+ghost use Rattle.qs_machine.specs.Ends.{End};
+ghost use Rattle.qs_machine.specs.News.{IsLeast};
 ghost use Rattle.qs_conn.specs.Marks.{IsBefore};
+ghost use Rattle.qs_conn.specs.Sending.{IsDueOf};
 ghost use Rattle.qs_conn.specs.Tasks.{IsQuietAt};
-ghost use Rattle.qs_machine.specs.Outgoing.{IsCarried, IsAckedOut, IsAckedReset, IsBlockedAt, WantsMore, reset_by};
+ghost use Rattle.qs_machine.specs.Outgoing.{IsCarried, IsAckedOut, IsAckedReset, IsBlockedAt, WantsMore, reset_by, with_outgoing};
 
 use super::Outbox;
 use crate::send_marks::Task;
@@ -98,6 +101,21 @@ impl Outbox {
     {
         let _next = self.next;
         self.sends.next_marked(task, from)
+    }
+
+    /// The least number from one on of a stream of which bytes or the end are due, which its own limit lets go.
+    pub(crate) fn next_sendable(&self, from: u64) -> Option<StreamId>
+        requires { from ≤ 2 ^ 62 }
+        ensures { (e : End) → IsLeast (IsDueOf (with_outgoing self.now e)) from result }
+    {
+        let _next = self.next;
+        match self.sends.next_with(Task::Bytes, from) {
+            Some(stream) => {
+                self.sends.get(stream).is_lawful();
+                Some(stream)
+            }
+            None => None,
+        }
     }
 }
 

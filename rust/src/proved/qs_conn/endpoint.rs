@@ -15,6 +15,7 @@ mod acking;
 mod frames;
 mod losing;
 mod making;
+mod news;
 mod opening;
 mod owner;
 mod receiving;

@@ -9,6 +9,7 @@ mod marks;
 mod outbox;
 mod places;
 mod recv_lanes;
+mod recv_marks;
 mod recv_tables;
 mod send_lanes;
 mod send_marks;

@@ -3,6 +3,7 @@
 use crate::shim::Vec;
 
 use crate::proved::qs_conn::marks::Marks;
+use crate::proved::qs_conn::recv_marks::{RecvMarks, RecvTask, has};
 use crate::proved::qs_calls::RecvReport;
 use crate::proved::qs_machine::Tally;
 use crate::proved::qs_ranges::NoMemory;
@@ -29,6 +30,8 @@ pub(crate) struct RecvLanes {
     first: u64,
     // A lane without a mark has nothing to tell.
     marks: Marks,
+    // A lane without a mark has no answer for its owner.
+    news: RecvMarks,
 }
 
 impl RecvLanes {
@@ -44,6 +47,7 @@ impl RecvLanes {
             touched: Touched::Nothing,
             first: 0,
             marks: Marks::new(alloc),
+            news: RecvMarks::new(alloc),
         }
     }
 
@@ -130,6 +134,11 @@ impl RecvLanes {
             self.halves.truncate(before);
             return Err(NoMemory);
         }
+        if let Err(_refused) = self.news.open_to(count) {
+            self.halves.truncate(before);
+            self.marks.close_to(before);
+            return Err(NoMemory);
+        }
         self.first = self.first.max(window);
         Ok(())
     }
@@ -138,15 +147,22 @@ impl RecvLanes {
     pub(crate) fn reserve_to(&mut self, count: usize) -> Result<(), NoMemory> {
         let missing = count.saturating_sub(self.halves.len());
         match self.halves.reserve(missing) {
-            Ok(()) => self.marks.reserve(count),
+            Ok(()) => self.reserve_marks(count),
             Err(_refused) => Err(NoMemory),
         }
+    }
+
+    // Takes the memory for the marks of all indexes below a count.
+    fn reserve_marks(&mut self, count: usize) -> Result<(), NoMemory> {
+        self.marks.reserve(count)?;
+        self.news.reserve(count)
     }
 
     /// Takes the lanes from a count on away, which nothing came for.
     pub(crate) fn close_to(&mut self, count: usize) {
         self.halves.truncate(count);
         self.marks.close_to(count);
+        self.news.close_to(count);
     }
 
     /// Takes a frame that passed both checks, at an open lane; or changes nothing.
@@ -165,6 +181,7 @@ impl RecvLanes {
         }
         let is = measure(half);
         self.marks.set(index, is_busy(half, self.first));
+        self.news.look(index, half);
         self.tally = moved(self.tally, was, is);
         if stopped {
             self.touched = touch(self.touched, index);
@@ -180,6 +197,7 @@ impl RecvLanes {
         half.take_reset(code, size);
         let is = measure(half);
         self.marks.set(index, is_busy(half, self.first));
+        self.news.look(index, half);
         self.tally = moved(self.tally, was, is);
     }
 
@@ -190,6 +208,7 @@ impl RecvLanes {
         let answer = half.read(into);
         let is = measure(half);
         self.marks.set(index, is_busy(half, self.first));
+        self.news.look(index, half);
         self.tally = moved(self.tally, was, is);
         self.touched = touch(self.touched, index);
         answer
@@ -203,6 +222,7 @@ impl RecvLanes {
         half.stop(code);
         let is = measure(half);
         self.marks.set(index, true);
+        self.news.look(index, half);
         self.tally = moved(self.tally, was, is);
         self.touched = touch(self.touched, index);
     }
@@ -259,6 +279,18 @@ impl RecvLanes {
             return self.next_open(from);
         }
         self.marks.next(from)
+    }
+
+    /// The least index from one on whose lane has an answer for its owner.
+    pub(crate) fn next_with(&self, task: RecvTask, from: usize) -> Option<usize> {
+        let mut next = from;
+        while let Some(index) = self.news.next(task, next) {
+            if has(task, &self.halves[index]) {
+                return Some(index);
+            }
+            next = index + 1;
+        }
+        None
     }
 
     // An index from one on, where a lane is open there.

@@ -1,8 +1,10 @@
 // Made from crates/qs_conn/src/recv_tables.rt by rust/erase; not edited by hand.
 //! The receiving halves of an end.
 
+use crate::proved::qs_conn::marks::least;
 use crate::proved::qs_conn::places::{index_of, kind_of};
 use crate::proved::qs_conn::recv_lanes::RecvLanes;
+use crate::proved::qs_conn::recv_marks::RecvTask;
 use crate::proved::qs_calls::RecvReport;
 use crate::proved::qs_machine::Tally;
 use crate::proved::qs_ranges::NoMemory;
@@ -181,6 +183,35 @@ impl RecvTables {
         let first = (from + 3 - kind as u64) / 4;
         let index = lanes.next_marked(first as usize, window)?;
         Some((index * 4 + kind) as u64)
+    }
+
+    /// The least number from one on of a stream whose receiving half has an answer for its owner.
+    pub(crate) fn next_with(&self, task: RecvTask, from: u64) -> Option<StreamId> {
+        debug_assert!(from <= 1 << 62);
+        let bidi = least(
+            self.next_with_of(task, 0, from),
+            self.next_with_of(task, 1, from),
+        );
+        let uni = least(
+            self.next_with_of(task, 2, from),
+            self.next_with_of(task, 3, from),
+        );
+        match least(bidi, uni) {
+            Some(number) => StreamId::new(number),
+            None => None,
+        }
+    }
+
+    // The least such number among the streams of a type.
+    fn next_with_of(&self, task: RecvTask, kind: usize, from: u64) -> Option<u64> {
+        debug_assert!(kind < 4);
+        debug_assert!(from <= 1 << 62);
+        let lanes = &self.types[kind];
+        let first = (from + 3 - kind as u64) / 4;
+        match lanes.next_with(task, first as usize) {
+            Some(index) => Some((index * 4 + kind) as u64),
+            None => None,
+        }
     }
 
     /// The sums over all streams.

@@ -2,7 +2,7 @@
 //! The sending halves of the streams of one type.
 use crate::shim::Vec;
 
-use crate::proved::qs_conn::send_marks::{SendMarks, Task};
+use crate::proved::qs_conn::send_marks::{SendMarks, Task, has};
 use crate::proved::qs_ranges::NoMemory;
 use crate::proved::qs_send::{Chunk, SendFault, SendHalf, SendState};
 use crate::proved::qs_wire::StreamId;
@@ -152,5 +152,17 @@ impl SendLanes {
     /// The least index from one on whose half may have a task. The halves between are quiet of it.
     pub(crate) fn next_marked(&self, task: Task, from: usize) -> Option<usize> {
         self.marks.next(task, from)
+    }
+
+    /// The least index from one on whose half has something of a task.
+    pub(crate) fn next_with(&self, task: Task, from: usize) -> Option<usize> {
+        let mut next = from;
+        while let Some(index) = self.marks.next(task, next) {
+            if has(task, &self.halves[index]) {
+                return Some(index);
+            }
+            next = index + 1;
+        }
+        None
     }
 }

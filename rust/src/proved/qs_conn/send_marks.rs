@@ -80,8 +80,18 @@ impl SendMarks {
     }
 }
 
+/// Whether a half has something of a task.
+pub(crate) fn has(task: Task, half: &SendHalf) -> bool {
+    match task {
+        Task::Bytes => may_send(half),
+        Task::Reset => may_reset(half),
+        Task::Blocked => may_be_blocked(half),
+    }
+}
+
 // Whether bytes or the end may go: a byte below the limit is due, or the end is and every byte was sent.
 fn may_send(half: &SendHalf) -> bool {
+    half.is_lawful();
     if half.end_due() && half.sent_end() == half.written() {
         return true;
     }

@@ -149,4 +149,33 @@ impl SendTables {
         let index = lanes.next_marked(task, first as usize)?;
         Some((index * 4 + kind) as u64)
     }
+
+    /// The least number from one on of a stream whose half has something of a task.
+    pub(crate) fn next_with(&self, task: Task, from: u64) -> Option<StreamId> {
+        debug_assert!(from <= 1 << 62);
+        let bidi = least(
+            self.next_with_of(task, 0, from),
+            self.next_with_of(task, 1, from),
+        );
+        let uni = least(
+            self.next_with_of(task, 2, from),
+            self.next_with_of(task, 3, from),
+        );
+        match least(bidi, uni) {
+            Some(number) => StreamId::new(number),
+            None => None,
+        }
+    }
+
+    // The least such number among the streams of a type.
+    fn next_with_of(&self, task: Task, kind: usize, from: u64) -> Option<u64> {
+        debug_assert!(kind < 4);
+        debug_assert!(from <= 1 << 62);
+        let lanes = &self.types[kind];
+        let first = (from + 3 - kind as u64) / 4;
+        match lanes.next_with(task, first as usize) {
+            Some(index) => Some((index * 4 + kind) as u64),
+            None => None,
+        }
+    }
 }

@@ -254,6 +254,12 @@ impl<A: Assembly> RecvHalf<A> {
         }
     }
 
+    /// Whether a read of one byte would tell something new: bytes, or an end or a reset that wasn't told yet. Of a stopped half only the
+    /// end and a reset are told (sections 2.2, 3.2 and 3.5).
+    pub fn is_readable(&self) -> bool {
+        !self.told && self.tells_something()
+    }
+
     /// How many bytes are stored and not read.
     pub fn stored(&self) -> u64 {
         self.assembly.stored()
@@ -272,6 +278,20 @@ impl<A: Assembly> RecvHalf<A> {
     /// The code of the reset that was taken, if there was one.
     pub fn reset_code(&self) -> Option<u64> {
         self.reset_code
+    }
+
+    // Whether a read of one byte would tell something, be it new or not.
+    fn tells_something(&self) -> bool {
+        if let Some(_code) = self.reset_code {
+            return true;
+        }
+        if self.stop_code.is_some() {
+            return self.is_whole();
+        }
+        if Some(self.read_count) == self.final_size {
+            return true;
+        }
+        self.assembly.received().has(self.read_count)
     }
 
     // Whether the final size is known and every offset below it came.

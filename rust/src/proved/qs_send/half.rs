@@ -246,6 +246,18 @@ impl SendHalf {
         self.buffer - self.kept.len()
     }
 
+    /// Whether a write of one byte would be accepted, if there is memory for it: neither the end was asked for nor a reset made, and there
+    /// is room (RFC 9000, sections 2.2, 2.4 and 3.1).
+    pub fn is_writable(&self) -> bool {
+        if self.was_reset.is_some() {
+            return false;
+        }
+        if self.finished {
+            return false;
+        }
+        (self.room() as u64).min(MAX_VARINT - self.written) > 0
+    }
+
     // Whether every written offset and the end were acknowledged.
     fn is_whole(&self) -> bool {
         self.kept.len() == 0 && self.fin_acked

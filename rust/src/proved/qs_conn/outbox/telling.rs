@@ -74,6 +74,19 @@ impl Outbox {
         let _next = self.next;
         self.sends.next_marked(task, from)
     }
+
+    /// The least number from one on of a stream of which bytes or the end are due, which its own limit lets go.
+    pub(crate) fn next_sendable(&self, from: u64) -> Option<StreamId> {
+        debug_assert!(from <= 1 << 62);
+        let _next = self.next;
+        match self.sends.next_with(Task::Bytes, from) {
+            Some(stream) => {
+                self.sends.get(stream).is_lawful();
+                Some(stream)
+            }
+            None => None,
+        }
+    }
 }
 
 // A reset, where it has a code.

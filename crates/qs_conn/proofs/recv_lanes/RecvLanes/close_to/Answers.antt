@@ -3,6 +3,7 @@ use Rattle.std.proofs.lemmas.List.{length-take}
 use Rattle.qs_conn.specs.Marks.{IsQuietLane}
 use Rattle.qs_conn.proofs.Marked.{marked_take}
 use Rattle.qs_machine.proofs.Tallies.{lawful_take}
+use Rattle.qs_conn.proofs.RecvNews.{noted_fewer}
 use Rattle.qs_conn.proofs.Settling.{are_taken}
 use Rattle.qs_conn.proofs.recv_lanes.RecvLanes.close_to.Goals as goal
 
@@ -17,4 +18,5 @@ invariant_of-self c =
         few = omega (arith, c.self.invariant.0.few, length-take c.args.count items);
       },
       marked_take (IsQuietLane c.self.inside.first) c.args.count items c.self.inside.marks c.self.invariant.1,
+      noted_fewer c.args.count items c.self.inside.news _ c.close_to-2.ensures c.self.invariant.2,
     )

@@ -11,5 +11,6 @@ invariant-loop-opened l =
       tally : l.self-inside.tally ≡ l.initial.self-inside.tally;
       touched : l.self-inside.touched ≡ l.initial.self-inside.touched;
       marks : l.self-inside.marks ≡ l.initial.self-inside.marks;
+      news : l.self-inside.news ≡ l.initial.self-inside.news;
       first : l.self-inside.first ≡ l.initial.self-inside.first;
     }

@@ -1,6 +1,7 @@
 use Rattle.std.proofs.Common.{◌∙◌}
 use Rattle.std.proofs.lemmas.List.{length-map}
 use Rattle.qs_machine.proofs.Tallies.{tally_raised, lawful_raised}
+use Rattle.qs_conn.proofs.RecvNews.{noted_raised}
 use Rattle.qs_conn.proofs.Settling.{all_settled}
 use Rattle.qs_conn.proofs.recv_lanes.RecvLanes.raise_all.Goals as goal
 
@@ -15,4 +16,5 @@ invariant_of-self c =
             few = rw length-map c.self.invariant.0.few;
           }),
       c.raise_touched.ensures.marked,
+      noted_raised items _ c.self.inside.news c.raise_touched.ensures.after c.self.invariant.2,
     )

@@ -13,5 +13,5 @@ set-requires-3 c = c.requires tasks.Blocked
 
 pub returns : goal.returns
 returns c =
-    looked c.args.self.now (record { bytes = c.set.new.self; resets = c.set-2.new.self; blocks = c.set-3.new.self }) c.args.index c.args.half.now c.may_send.result c.may_reset.result c.may_be_blocked.result c.may_send.ensures c.may_reset.ensures c.may_be_blocked.ensures c.set.ensures
+    looked c.args.self.now (record { bytes = c.set.new.self; resets = c.set-2.new.self; blocks = c.set-3.new.self }) c.args.index c.args.half.now c.may_send.result c.may_reset.result c.may_be_blocked.result c.may_send.ensures.none c.may_reset.ensures.none c.may_be_blocked.ensures.none c.set.ensures
     c.set-2.ensures c.set-3.ensures

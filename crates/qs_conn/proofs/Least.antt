@@ -1,0 +1,152 @@
+-- Searches for the least number with a property.
+use Rattle.std.proofs.Common.{◌≡◌, ℕ, zero, suc, ◌+◌, ◌-◌, ◌*◌, ◌/◌, ◌%◌, ◌<◌, ◌≤◌, ◌^◌, ◌⊎◌, min, Bool, true, false, List, [], ◌∷◌, length, get_or, Option, None, Some, slice_get, refl, sym, ap, ◌∙◌, subst, arith, inl, inr}
+use Rattle.std.specs.Option.{IfSome, IfNone}
+use Rattle.std.proofs.lemmas.Bool.{cases_lt, both_ways}
+use Rattle.std.proofs.lemmas.Option.{none-some, same_Some}
+use Rattle.qs_machine.specs.News.{IsLeast, IsHeld}
+use Rattle.qs_machine.specs.Sums.{tables_of}
+use Rattle.qs_machine.specs.Tables.{Tables, kind_of, lookup}
+use Rattle.qs_machine.proofs.TableEdits.{lookup_is}
+use Rattle.qs_conn.specs.Marks.{is_marked, AreMarked, IsBefore, IsNextMark, IsAt, IsHeldOf, least_of}
+use Rattle.qs_conn.proofs.Marked.{mark_past, marked_len, unmarked_at, least_has}
+
+-- none below the answer has the property
+pub least_by : (P : ℕ → Type 0) (from : ℕ) (answer : Option ℕ) → ((n : ℕ) → answer ≡ Some n → (from ≤ n) × P n) → ((n : ℕ) → from ≤ n → IsBefore n answer → P n → ⊥) → IsLeast P from answer
+least_by P from None found none = record { found = found; least = λ n le p. absurd (none n le tt p) }
+least_by P from (Some m) found none = record { found = found; least = λ n le p. (m, refl, elim (cases_lt n m) [ inl lt ↦ absurd (none n le lt p) | inr ge ↦ ge ]) }
+
+pub none_before : (P : ℕ → Type 0) (from : ℕ) (answer : Option ℕ) → IsLeast P from answer → (n : ℕ) → from ≤ n → IsBefore n answer → P n → ⊥
+none_before P from None h n le before p = none-some (h.least n le p).0 (h.least n le p).1
+none_before P from (Some m) h n le before p = (let l = h.least n le p in let same : m ≡ l.0 = same_Some m l.0 l.1 in omega (arith, before, same, l.2))
+
+-- The search over marks
+
+-- up to a place none has the property
+pub record IsClear (P : ℕ → Type 0) (from next : ℕ) : Type 0 where
+  pub after : from ≤ next
+  pub none : (i : ℕ) → from ≤ i → i < next → P i → ⊥
+
+pub clear_at : (P : ℕ → Type 0) (from : ℕ) → IsClear P from from
+clear_at P from = record { after = omega arith; none = λ i ge lt p. omega (arith, ge, lt) }
+
+module _ {X : Type 0} (Q R : X → Type 0) (apart : (x : X) → Q x → R x → ⊥) (xs : List X) (ms : List Bool) (marked : AreMarked Q xs ms) where
+  -- an unmarked index has no part with the property
+  unmarked_none : (i : ℕ) → is_marked ms i ≡ false → IsAt R xs i → ⊥
+  unmarked_none i is (x, at, r) = apart x (unmarked_at Q xs ms i x marked at is) r
+
+  pub next_there : (next index : ℕ) → IsNextMark ms next (Some index) → index < length xs
+  next_there next index h = elim (cases_lt index (length xs)) [ inl lt ↦ lt | inr ge ↦ absurd (both_ways (is_marked ms index) (mark_past ms index (omega (arith, ge, marked_len Q xs ms marked))) (h.found index refl).1) ]
+
+  pub clear_to : (from next index : ℕ) → IsClear (IsAt R xs) from next → IsNextMark ms next (Some index) → IsClear (IsAt R xs) from index
+  clear_to from next index c h =
+      record {
+        after = omega (arith, c.after, (h.found index refl).0);
+        none = λ i ge lt p. elim (cases_lt i next) [ inl before ↦ c.none i ge before p | inr past ↦ unmarked_none i (h.unmarked i past lt) p ];
+      }
+
+  pub clear_all : (from next : ℕ) → IsClear (IsAt R xs) from next → IsNextMark ms next None → IsLeast (IsAt R xs) from None
+  clear_all from next c h =
+      least_by (IsAt R xs) from None (λ n none. absurd (none-some n none)) (λ i ge before p. elim (cases_lt i next) [ inl lt ↦ c.none i ge lt p | inr past ↦ unmarked_none i (h.unmarked i past tt) p ])
+
+-- a part is read
+pub part_at : {X : Type 0} (xs : List X) (i : ℕ) (x : X) → i < length xs → x ≡ get_or xs i x → slice_get xs i ≡ Some x
+part_at [] i x lt is = absurd (omega (arith, lt))
+part_at (y ∷ xs) zero x lt is = ap Some (sym is)
+part_at (y ∷ xs) (suc i) x lt is = part_at xs i x (omega (arith, lt)) is
+
+module _ {X : Type 0} (R : X → Type 0) (xs : List X) where
+  pub clear_past : (from index : ℕ) (x : X) → slice_get xs index ≡ Some x → (R x → ⊥) → IsClear (IsAt R xs) from index → IsClear (IsAt R xs) from (index + 1)
+  clear_past from index x at without c =
+      record {
+        after = omega (arith, c.after);
+        none = λ i ge lt p. elim (cases_lt i index) [ inl before ↦ c.none i ge before p | inr past ↦ (let same : i ≡ index = omega (arith, lt, past) in without (subst R (same_Some p.0 x (sym p.1 ∙ ap (slice_get xs) same ∙ at)) p.2)) ];
+      }
+
+  pub least_at : (from index : ℕ) (x : X) → slice_get xs index ≡ Some x → R x → IsClear (IsAt R xs) from index → IsLeast (IsAt R xs) from (Some index)
+  least_at from index x at r c =
+      least_by (IsAt R xs) from (Some index) (λ n is. (let same : index ≡ n = same_Some index n is in (omega (arith, c.after, same), subst (IsAt R xs) same (x, at, r)))) (λ i ge before p. c.none i ge before p)
+
+-- Answers of several searches
+
+-- the lesser of two answers, where each number with the property is in one of two parts
+pub least_two : (P Q R : ℕ → Type 0) (from : ℕ) (a b : Option ℕ) → ((n : ℕ) → P n → R n) → ((n : ℕ) → Q n → R n) → ((n : ℕ) → R n → P n ⊎ Q n) → IsLeast P from a → IsLeast Q from b → IsLeast R from (least_of a b)
+least_two P Q R from a b left right parts p q = least_by R from (least_of a b) (found a b p q) (λ n le before r. elim (parts n r) [ inl x ↦ none_before P from a p n le (before_left a b n before) x | inr y ↦ none_before Q from b q n le (before_right a b n before) y ])
+  where
+    before_left : (x y : Option ℕ) (n : ℕ) → IsBefore n (least_of x y) → IsBefore n x
+    before_left None y n is = tt
+    before_left (Some x) None n is = is
+    before_left (Some x) (Some y) n is = omega (arith, is)
+
+    before_right : (x y : Option ℕ) (n : ℕ) → IsBefore n (least_of x y) → IsBefore n y
+    before_right None y n is = is
+    before_right (Some x) None n is = tt
+    before_right (Some x) (Some y) n is = omega (arith, is)
+
+    found : (x y : Option ℕ) → IsLeast P from x → IsLeast Q from y → (n : ℕ) → least_of x y ≡ Some n → (from ≤ n) × R n
+    found None y s t n is = (let f = t.found n is in (f.0, right n f.1))
+    found (Some x) None s t n is = (let f = s.found n is in (f.0, left n f.1))
+    found (Some x) (Some y) s t n is = elim (cases_lt x y) [
+      | inl lt ↦ (let f = s.found x refl in let e : x ≡ n = omega (arith, lt, same_Some (min x y) n is) in (omega (arith, f.0, e), subst R e (left x f.1)))
+      | inr ge ↦ (let f = t.found y refl in let e : y ≡ n = omega (arith, ge, same_Some (min x y) n is) in (omega (arith, f.0, e), subst R e (right y f.1)))
+    ]
+
+-- Streams
+
+index_from : (n k from first : ℕ) → k < 4 → first ≡ (from + 3 - k) / 4 → kind_of n ≡ k → from ≤ n → first ≤ n / 4
+index_from n k from first small is kind ge = omega (arith, small, is, kind, ge)
+
+part_of : {X : Type 0} (R : X → Type 0) (ls : List (List X)) (k n : ℕ) (d : List X) → length ls ≡ 4 → IsHeldOf R (tables_of ls) k n → IsAt R (get_or ls k d) (n / 4)
+part_of R ls k n d len held = (held.1.0, sym (lookup_is ls n k (n / 4) d len (sym held.0) refl) ∙ held.1.1, held.1.2)
+
+-- of all parts of one type, the least index from one on
+pub kind_none : {X : Type 0} (R : X → Type 0) (ls : List (List X)) (k from first : ℕ) (d : List X) → length ls ≡ 4 → k < 4 → first ≡ (from + 3 - k) / 4 → IsLeast (IsAt R (get_or ls k d)) first None → IsLeast (IsHeldOf R (tables_of ls) k) from None
+kind_none R ls k from first d len small is h = least_by (IsHeldOf R (tables_of ls) k) from None (λ n none. absurd (none-some n none)) (λ n ge before held. none_before (IsAt R (get_or ls k d)) first None h (n / 4) (index_from n k from first small is held.0 ge) tt (part_of R ls k n d len held))
+
+pub kind_some : {X : Type 0} (R : X → Type 0) (ls : List (List X)) (k from first i : ℕ) (d : List X) → length ls ≡ 4 → k < 4 → first ≡ (from + 3 - k) / 4 → IsLeast (IsAt R (get_or ls k d)) first (Some i) → IsLeast (IsHeldOf R (tables_of ls) k) from (Some (i * 4 + k))
+kind_some R ls k from first i d len small is h =
+    least_by (IsHeldOf R (tables_of ls) k) from (Some (i * 4 + k)) found
+    (λ n ge before held. none_before (IsAt R (get_or ls k d)) first (Some i) h (n / 4) (index_from n k from first small is held.0 ge) (let kind = held.0 in omega (arith, before, kind, small)) (part_of R ls k n d len held))
+  where
+    found : (n : ℕ) → Some (i * 4 + k) ≡ Some n → (from ≤ n) × IsHeldOf R (tables_of ls) k n
+    found n e =
+        let at : i * 4 + k ≡ n = same_Some (i * 4 + k) n e in
+        let f = h.found i refl in
+        let ge = f.0 in
+        let p = f.1 in
+        let kind : kind_of n ≡ k = omega (arith, at, small) in
+        let index : i ≡ n / 4 = omega (arith, at, small) in
+        (omega (arith, at, ge, is, small), (kind, (p.0, lookup_is ls n k i d len (sym kind) index ∙ p.1, p.2)))
+
+module _ {X : Type 0} (R : X → Type 0) (t : Tables X) (from : ℕ) where
+  pub of_four : (a b c d : Option ℕ) → IsLeast (IsHeldOf R t 0) from a → IsLeast (IsHeldOf R t 1) from b → IsLeast (IsHeldOf R t 2) from c → IsLeast (IsHeldOf R t 3) from d → IsLeast (IsHeld R t) from (least_of (least_of a b) (least_of c d))
+  of_four a b c d p q r s =
+      let Bidi : ℕ → Type 0 = λ n. IsHeldOf R t 0 n ⊎ IsHeldOf R t 1 n in
+      let Uni : ℕ → Type 0 = λ n. IsHeldOf R t 2 n ⊎ IsHeldOf R t 3 n in
+      least_two Bidi Uni (IsHeld R t) from (least_of a b) (least_of c d) (λ n h. elim h [ inl x ↦ x.1 | inr y ↦ y.1 ]) (λ n h. elim h [ inl x ↦ x.1 | inr y ↦ y.1 ]) by_kind
+      (least_two (IsHeldOf R t 0) (IsHeldOf R t 1) Bidi from a b (λ n x. inl x) (λ n y. inr y) (λ n h. h) p q) (least_two (IsHeldOf R t 2) (IsHeldOf R t 3) Uni from c d (λ n x. inl x) (λ n y. inr y) (λ n h. h) r s)
+    where
+      by_kind : (n : ℕ) → IsHeld R t n → (IsHeldOf R t 0 n ⊎ IsHeldOf R t 1 n) ⊎ (IsHeldOf R t 2 n ⊎ IsHeldOf R t 3 n)
+      by_kind n held = go (n % 4) refl (omega arith)
+        where
+          go : (k : ℕ) → n % 4 ≡ k → k < 4 → (IsHeldOf R t 0 n ⊎ IsHeldOf R t 1 n) ⊎ (IsHeldOf R t 2 n ⊎ IsHeldOf R t 3 n)
+          go zero e lt = inl (inl (e, held))
+          go (suc zero) e lt = inl (inr (e, held))
+          go (suc (suc zero)) e lt = inr (inl (e, held))
+          go (suc (suc (suc zero))) e lt = inr (inr (e, held))
+          go (suc (suc (suc (suc k)))) e lt = absurd (omega (arith, lt))
+
+-- the number of the answer is a stream's
+pub least_id : (P : ℕ → Type 0) (from : ℕ) (id r : Option ℕ) (number : ℕ) → r ≡ Some number → IfSome r (λ n. n < 2 ^ 62) → IfSome id (λ m. (m ≡ number) × (number < 2 ^ 62)) → IfNone id (2 ^ 62 ≤ number) → IsLeast P from r → IsLeast P from id
+least_id P from (Some m) r number is small some none h = subst (IsLeast P from) (is ∙ ap Some (sym some.0)) h
+least_id P from None r number is small some none h = (let few : IfSome (Some number) (λ n. n < 2 ^ 62) = subst (λ x. IfSome x (λ n. n < 2 ^ 62)) is small in absurd (omega (arith, few, none)))
+
+pub small_two : (a b : Option ℕ) → IfSome a (λ n. n < 2 ^ 62) → IfSome b (λ n. n < 2 ^ 62) → IfSome (least_of a b) (λ n. n < 2 ^ 62)
+small_two a b p q = least_has (λ n. n < 2 ^ 62) a b p q
+
+-- A premise
+
+pub least_given : (A : Type 0) (P : ℕ → Type 0) (from : ℕ) (r : Option ℕ) → A → IsLeast P from r → IsLeast (λ n. A × P n) from r
+least_given A P from r a h = record { found = λ n is. (let f = h.found n is in (f.0, (a, f.1))); least = λ n ge p. h.least n ge p.1 }
+
+pub least_never : (A : Type 0) (P : ℕ → Type 0) (from : ℕ) → (A → ⊥) → IsLeast (λ n. A × P n) from None
+least_never A P from never = record { found = λ n none. absurd (none-some n none); least = λ n ge p. absurd (never p.0) }

@@ -1,0 +1,66 @@
+-- Marks of receiving halves that have an answer for their owner.
+use Rattle.std.proofs.Common.{◌≡◌, ℕ, zero, suc, ◌+◌, ◌-◌, ◌≤◌, ◌<◌, ◌^◌, Bool, true, false, not, ◌&&◌, List, [], ◌∷◌, ◌++◌, length, map, take, replicate, Option, None, Some, is_some, refl, sym, ap, ◌∙◌, subst, arith}
+use Rattle.std.specs.List.{range_with_len}
+use Rattle.std.specs.Prelude.{slice_set}
+use Rattle.std.specs.FinSet as fin_set
+use Rattle.std.specs.Ordering.{nat_cmp}
+use Rattle.std.proofs.Math.ListN.{set}
+use Rattle.qs_recv.specs.Lane.{RecvLane, new_lane, raise, answer_by}
+use Rattle.qs_recv.specs.declared.half.Read.TheVariants.{Wait}
+use Rattle.qs_recv.specs.News.{tells_something}
+use Rattle.qs_machine.proofs.Choices.{not_chosen}
+use Rattle.qs_conn.specs.Marks.{AreMarked}
+use Rattle.qs_conn.specs.RecvTasks.{has, marks_of, HasNone, AreNoted}
+use Rattle.qs_conn.specs.declared.recv_marks.RecvTask.{RecvTask}
+use Rattle.qs_conn.specs.declared.recv_marks.RecvTask.TheVariants as tasks
+use Rattle.qs_conn.specs.declared.recv_marks.RecvMarks.{RecvMarks}
+use Rattle.qs_conn.proofs.Marked.{look_again, marked_take, marked_len, mark_there, undone, more_opened}
+
+pub by_task : (P : RecvTask → Type 0) → P tasks.Readable → P tasks.Ended → (t : RecvTask) → P t
+by_task P a b tasks.Readable = a
+by_task P a b tasks.Ended = b
+
+-- an index has a mark for each task
+pub noted_there : (xs : List RecvLane) (marks : RecvMarks) (i : ℕ) → AreNoted xs marks → i < length xs → (t : RecvTask) → i < length (marks_of marks t)
+noted_there xs marks i h there t = mark_there (HasNone t) xs (marks_of marks t) i (h t) there
+
+-- a lane was changed and then looked at
+pub noted_again : (xs : List RecvLane) (old new : RecvMarks) (i : ℕ) (y : RecvLane) → ((t : RecvTask) → marks_of new t ≡ slice_set (marks_of old t) i (has t y)) → AreNoted xs old → AreNoted (set xs i y) new
+noted_again xs old new i y looked h t = look_again (HasNone t) xs (marks_of old t) (marks_of new t) i y (has t y) (λ is. is) (looked t) (h t)
+
+-- some lanes leave
+pub noted_fewer : (n : ℕ) (xs : List RecvLane) (old new : RecvMarks) → ((t : RecvTask) → marks_of new t ≡ take n (marks_of old t)) → AreNoted xs old → AreNoted (take n xs) new
+noted_fewer n xs old new is h t = subst (AreMarked (HasNone t) (take n xs)) (sym (is t)) (marked_take (HasNone t) n xs (marks_of old t) (h t))
+
+-- what was opened is taken back
+pub noted_undone : (xs now : List RecvLane) (old new : RecvMarks) → now ≡ xs → ((t : RecvTask) → marks_of new t ≡ marks_of old t) → AreNoted xs old → AreNoted now new
+noted_undone xs now old new is at h t = rw (is, at t) (h t)
+
+-- a lane begins without an answer
+pub begins_without : (t : RecvTask) (window : ℕ) → HasNone t (new_lane window)
+begins_without tasks.Readable window = ap tells_something (not_chosen _ _ Wait (fin_set.contains-empty nat_cmp 0))
+begins_without tasks.Ended window = refl
+
+-- lanes open
+pub noted_opened : (window : ℕ) (xs now : List RecvLane) (old new : RecvMarks) (count n m : ℕ) → length xs ≤ 2 ^ 60 → count ≤ 2 ^ 60 → now ≡ xs ++ map (λ (i : ℕ). new_lane window) (range_with_len (length xs) n) → n ≤ m → m ≤ n → m ≡ count - length xs
+    → ((t : RecvTask) → marks_of new t ≡ marks_of old t ++ replicate (count - length (marks_of old t)) false) → AreNoted xs old → AreNoted now new
+noted_opened window xs now old new count n m few small is le ge missing at h t =
+    (more_opened (HasNone t) (λ (i : ℕ). new_lane window) (λ i. begins_without t window) xs now (marks_of old t) (marks_of new t) count n m small is le ge missing (at t) (few, h t)).1
+
+-- a raised limit makes no news
+answer_raised : (o : Option ℕ) (l : RecvLane) → tells_something (answer_by o (raise l) 1) ≡ tells_something (answer_by o l 1)
+answer_raised None l = refl
+answer_raised (Some code) l = refl
+
+pub has_raised : (t : RecvTask) (l : RecvLane) → has t (raise l) ≡ has t l
+has_raised tasks.Readable l = ap (λ b. not l.told && b) (answer_raised l.reset_code l)
+has_raised tasks.Ended l = refl
+
+raised_marks : (t : RecvTask) (xs : List RecvLane) (ms : List Bool) → AreMarked (HasNone t) xs ms → AreMarked (HasNone t) (map raise xs) ms
+raised_marks t [] [] h = h
+raised_marks t [] (m ∷ ms) h = absurd h
+raised_marks t (x ∷ xs) [] h = absurd h
+raised_marks t (x ∷ xs) (m ∷ ms) h = (λ is. has_raised t x ∙ h.0 is, raised_marks t xs ms h.1)
+
+pub noted_raised : (xs now : List RecvLane) (marks : RecvMarks) → now ≡ map raise xs → AreNoted xs marks → AreNoted now marks
+noted_raised xs now marks is h t = rw is (raised_marks t xs (marks_of marks t) (h t))

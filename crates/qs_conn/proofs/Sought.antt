@@ -1,0 +1,81 @@
+-- Sending halves that have something for a packet, or for their owner.
+use Rattle.std.proofs.Common.{◌≡◌, ℕ, ◌+◌, ◌<◌, ◌≤◌, ◌⊎◌, Bool, true, false, Option, Some, None, is_some, option_map, refl, sym, ap, ◌∙◌, subst, arith, inl, inr}
+use Rattle.std.proofs.lemmas.Bool.{both_ways}
+use Rattle.std.proofs.lemmas.Option.{none-some, same_Some}
+use Rattle.std.specs.FinSet as set
+use Rattle.qs_send.specs.Lane.{SendLane, Sending}
+use Rattle.qs_send.specs.Sound.{IsLawful}
+use Rattle.qs_machine.specs.Tables.{Tables, lookup}
+use Rattle.qs_machine.specs.Ends.{End}
+use Rattle.qs_machine.specs.News.{IsLeast, IsHeld, HasForPacket, IsReadable, IsSendable}
+use Rattle.qs_machine.specs.Outgoing.{Outgoing, IsTied, lanes_of, with_outgoing}
+use Rattle.qs_machine.proofs.LaneTables.{lookup_lanes}
+use Rattle.qs_conn.specs.Sending.{IsDueOf}
+use Rattle.qs_conn.specs.RecvTasks.{HasOne}
+use Rattle.qs_conn.specs.declared.recv_marks.RecvTask.TheVariants as recv_tasks
+use Rattle.qs_conn.proofs.Least.{least_given}
+use Rattle.qs_conn.specs.Tasks.{IsQuiet, HasTask}
+use Rattle.qs_conn.specs.declared.send_marks.Task.{Task}
+use Rattle.qs_conn.specs.declared.send_marks.Task.TheVariants as tasks
+use Rattle.qs_conn.proofs.DueTied.{due_is, is_due, end_due_is, is_end_due}
+
+-- no half both has something of a task and is quiet of it
+pub quiet_has_none : (t : Task) (s : Sending) → IsQuiet t s → HasTask t s → ⊥
+quiet_has_none tasks.Bytes s quiet (inl (q, due, below)) = both_ways (set.contains s.due.offsets q) (quiet.no_offset q below) due
+quiet_has_none tasks.Bytes s quiet (inr (due, whole)) = both_ways s.due.fin (quiet.no_end whole) due
+quiet_has_none tasks.Reset s quiet (reset, open_still) = both_ways s.lane.reset_acked open_still (quiet reset)
+quiet_has_none tasks.Blocked s quiet (m, at) = quiet m at
+
+module _ (e : End) (n : ℕ) (s : Sending) (tied : IsTied e.outstanding n s) where
+  packet_has : IsLawful s → HasTask tasks.Bytes s → HasForPacket e n s.lane
+  packet_has law (inl (q, due, below)) = inl (q, due_is e n s tied law q due, below)
+  packet_has law (inr (due, whole)) = inr (end_due_is e n s tied law due, whole)
+
+  has_packet : HasForPacket e n s.lane → HasTask tasks.Bytes s
+  has_packet (inl (q, due, below)) = inl (q, is_due e n s tied q due, below)
+  has_packet (inr (due, whole)) = inr (is_end_due e n s tied due, whole)
+
+-- a lane among the lanes of halves is that of a half
+half_of_lane : (t : Tables Sending) (n : ℕ) (l : SendLane) → lookup (lanes_of t) n ≡ Some l → (s : Sending) × (lookup t n ≡ Some s) × (s.lane ≡ l)
+half_of_lane t n l at = go (lookup t n) refl (sym (lookup_lanes t n) ∙ at)
+  where
+    go : (x : Option Sending) → lookup t n ≡ x → option_map (λ (s : Sending). s.lane) x ≡ Some l → (s : Sending) × (lookup t n ≡ Some s) × (s.lane ≡ l)
+    go None e is = absurd (none-some l is)
+    go (Some s) e is = (s, e, same_Some s.lane l is)
+
+lane_of_half : (t : Tables Sending) (n : ℕ) (s : Sending) → lookup t n ≡ Some s → lookup (lanes_of t) n ≡ Some s.lane
+lane_of_half t n s at = lookup_lanes t n ∙ ap (option_map (λ (x : Sending). x.lane)) at
+
+-- an answer about halves is one about what of their streams is due
+pub due_least : (v o : Outgoing) (t : Tables Sending) (from : ℕ) (r : Option ℕ) → v ≡ o → lanes_of t ≡ v.sends → ((n : ℕ) (s : Sending) → lookup t n ≡ Some s → IsTied v.outstanding n s) → ((n : ℕ) (s : Sending) → r ≡ Some n → lookup t n ≡ Some s → IsLawful s) → IsLeast (IsHeld (HasTask tasks.Bytes) t) from r
+    → (e : End) → IsLeast (IsDueOf (with_outgoing o e)) from r
+due_least v o t from r same lanes tied lawful h e = subst (λ x. IsLeast (IsDueOf (with_outgoing x e)) from r) same (record { found = found; least = least })
+  where
+    found : (n : ℕ) → r ≡ Some n → (from ≤ n) × IsDueOf (with_outgoing v e) n
+    found n is =
+        let f = h.found n is in
+        let s = f.1.0 in
+        let at = f.1.1 in
+        (f.0, (s.lane, ap (λ x. lookup x n) (sym lanes) ∙ lane_of_half t n s at, packet_has (with_outgoing v e) n s (tied n s at) (lawful n s is at) f.1.2))
+
+    least : (n : ℕ) → from ≤ n → IsDueOf (with_outgoing v e) n → (m : ℕ) × (r ≡ Some m) × (m ≤ n)
+    least n ge (l, at, due) =
+        let (s, there, is) = half_of_lane t n l (ap (λ x. lookup x n) lanes ∙ at) in
+        h.least n ge (s, there, has_packet (with_outgoing v e) n s (tied n s there) (subst (HasForPacket (with_outgoing v e) n) (sym is) due))
+
+-- the half that was found
+pub lawful_found : (t : Tables Sending) (m : ℕ) (x : Sending) → lookup t m ≡ Some x → IsLawful x → (n : ℕ) (s : Sending) → Some m ≡ Some n → lookup t n ≡ Some s → IsLawful s
+lawful_found t m x there law n s is at = subst IsLawful (same_Some x s (sym there ∙ ap (lookup t) (same_Some m n is) ∙ at)) law
+
+-- Answers of an end that isn't closed
+
+unclosed : {X : Type 0} (o : Option X) (b : Bool) → b ≡ is_some o → b ≡ false → o ≡ None
+unclosed None b is none = refl
+unclosed (Some x) b is none = absurd (both_ways true (sym is ∙ none) refl)
+
+pub readable_least : (v old : End) (b : Bool) (at from : ℕ) (r : Option ℕ) → v ≡ old → b ≡ is_some v.closed → b ≡ false → at ≡ from → IsLeast (IsHeld (HasOne recv_tasks.Readable) v.recvs) at r → IsLeast (IsReadable old) from r
+readable_least v old b at from r same is none begin h = rw (← same, ← begin) (least_given (v.closed ≡ None) (IsHeld (HasOne recv_tasks.Readable) v.recvs) at r (unclosed v.closed b is none) h)
+
+pub sendable_least : (v old : End) (o : Outgoing) (b : Bool) (at from : ℕ) (r : Option ℕ) → v ≡ old → with_outgoing o v ≡ v → b ≡ is_some v.closed → b ≡ false → at ≡ from → ((e : End) → IsLeast (IsDueOf (with_outgoing o e)) at r) → IsLeast (IsSendable old) from r
+sendable_least v old o b at from r same out is none begin h =
+    rw (← same, ← begin) (least_given (v.closed ≡ None) (IsDueOf v) at r (unclosed v.closed b is none) (subst (λ x. IsLeast (IsDueOf x) at r) out (h v)))

@@ -1,0 +1,104 @@
+//! Which receiving halves of one type wait for their owner, and which are over.
+ghost use Rattle.std.specs.Prelude.{◌≡◌, ◌++◌, ◌-◌, ◌<◌, [], false, length, take, slice_set, replicate, OnOk, OnErr};
+ghost use Rattle.qs_recv.specs.News.{is_readable};
+ghost use Rattle.qs_machine.specs.Credit.{recv_ended};
+ghost use Rattle.qs_conn.specs.Marks.{IsNextMark};
+ghost use Rattle.qs_conn.specs.RecvTasks.{has, marks_of};
+
+use crate::marks::Marks;
+use qs_ranges::NoMemory;
+use qs_recv::{RecvHalf, RecvState, RingAssembly};
+use std::alloc::Global;
+
+/// What an owner may want to know of a receiving half.
+#[derive(Clone, Copy, Drop)]
+pub(crate) enum RecvTask {
+    /// A read of one byte tells something new.
+    Readable,
+    /// It came to its end: Data Read or Reset Read.
+    Ended,
+}
+
+/// The halves of one type with an answer for their owner, for each task. A half without a mark has none.
+#[derive(Drop)]
+pub(crate) struct RecvMarks {
+    readable: Marks,
+    ended: Marks,
+}
+
+impl RecvMarks {
+    pub(crate) fn new(alloc: Global) -> Self
+        ensures { (t : RecvTask) → marks_of result t ≡ [] }
+    {
+        RecvMarks {
+            readable: Marks::new(alloc),
+            ended: Marks::new(alloc),
+        }
+    }
+
+    /// Takes the memory for the indexes below a count.
+    pub(crate) fn reserve(&mut self, count: usize) -> Result<(), NoMemory>
+        ensures { (t : RecvTask) → marks_of self.new t ≡ marks_of self.old t }
+    {
+        self.readable.reserve(count)?;
+        self.ended.reserve(count)
+    }
+
+    /// Makes room for all indexes below a count: the new ones have no mark.
+    pub(crate) fn open_to(&mut self, count: usize) -> Result<(), NoMemory>
+        ensures ok { OnOk result ((t : RecvTask) → marks_of self.new t ≡ marks_of self.old t ++ replicate (count - length (marks_of self.old t)) false) }
+        ensures err { OnErr result ((t : RecvTask) → marks_of self.new t ≡ marks_of self.old t) }
+    {
+        let readable = self.readable.len();
+        self.readable.open_to(count)?;
+        if let Err(refused) = self.ended.open_to(count) {
+            self.readable.close_to(readable);
+            return Err(refused);
+        }
+        Ok(())
+    }
+
+    /// Takes the indexes from a count on away.
+    pub(crate) fn close_to(&mut self, count: usize)
+        ensures { (t : RecvTask) → marks_of self.new t ≡ take count (marks_of self.old t) }
+    {
+        self.readable.close_to(count);
+        self.ended.close_to(count);
+    }
+
+    /// Looks again at a half that changed.
+    pub(crate) fn look(&mut self, index: usize, half: &RecvHalf<RingAssembly>)
+        requires { (t : RecvTask) → index < length (marks_of self.old t) }
+        ensures { (t : RecvTask) → marks_of self.new t ≡ slice_set (marks_of self.old t) index (has t half.now) }
+    {
+        self.readable.set(index, half.is_readable());
+        self.ended.set(index, has_ended(half));
+    }
+
+    /// The least marked index from one on.
+    pub(crate) fn next(&self, task: RecvTask, from: usize) -> Option<usize>
+        ensures { IsNextMark (marks_of self.now task) from result }
+    {
+        match task {
+            RecvTask::Readable => self.readable.next(from),
+            RecvTask::Ended => self.ended.next(from),
+        }
+    }
+}
+
+/// Whether a half has an answer of that kind.
+pub(crate) fn has(task: RecvTask, half: &RecvHalf<RingAssembly>) -> bool
+    ensures { result ≡ has task half.now }
+{
+    match task {
+        RecvTask::Readable => half.is_readable(),
+        RecvTask::Ended => has_ended(half),
+    }
+}
+
+// Whether the end or a reset was told to a reader (RFC 9000, section 3.2).
+fn has_ended(half: &RecvHalf<RingAssembly>) -> bool
+    ensures { result ≡ recv_ended half.now }
+{
+    matches!(half.state(), RecvState::DataRead | RecvState::ResetRead)
+}

@@ -1,0 +1,31 @@
+// Made from crates/qs_conn/src/endpoint/news.rt by rust/erase; not edited by hand.
+//! Which streams wait for their owner, and which have something for a packet.
+
+use super::Endpoint;
+use crate::proved::qs_conn::recv_marks::RecvTask;
+use crate::proved::qs_wire::StreamId;
+
+impl Endpoint {
+    /// The least stream at or above `from` at which a read of one byte tells something new: bytes, or an end or a reset that wasn't told
+    /// yet (RFC 9000, sections 2.2 and 3.2). Of a stopped stream the end and a reset are told, too: it counts as ended only once they are.
+    /// `None` where there is none, and of a closed end.
+    ///
+    /// It takes no memory, and looks at one word of marks for 64 streams of a type.
+    pub fn next_readable(&self, from: StreamId) -> Option<StreamId> {
+        if self.closed.is_some() {
+            return None;
+        }
+        self.recvs.next_with(RecvTask::Readable, from.value())
+    }
+
+    /// The least stream at or above `from` of which bytes or the end are due, which the stream's own limit lets go; whether the
+    /// connection's credit does isn't asked (RFC 9000, sections 4.1 and 13.3). `None` where there is none, and of a closed end.
+    ///
+    /// It takes no memory, and looks at one word of marks for 64 streams of a type.
+    pub fn next_sendable(&self, from: StreamId) -> Option<StreamId> {
+        if self.closed.is_some() {
+            return None;
+        }
+        self.outbox.next_sendable(from.value())
+    }
+}

@@ -1,0 +1,81 @@
+// Made from crates/qs_conn/src/recv_marks.rt by rust/erase; not edited by hand.
+//! Which receiving halves of one type wait for their owner, and which are over.
+
+use crate::proved::qs_conn::marks::Marks;
+use crate::proved::qs_ranges::NoMemory;
+use crate::proved::qs_recv::{RecvHalf, RecvState, RingAssembly};
+use crate::shim::alloc::Global;
+
+/// What an owner may want to know of a receiving half.
+#[derive(Clone, Copy)]
+pub(crate) enum RecvTask {
+    /// A read of one byte tells something new.
+    Readable,
+    /// It came to its end: Data Read or Reset Read.
+    Ended,
+}
+
+/// The halves of one type with an answer for their owner, for each task. A half without a mark has none.
+pub(crate) struct RecvMarks {
+    readable: Marks,
+    ended: Marks,
+}
+
+impl RecvMarks {
+    pub(crate) fn new(alloc: Global) -> Self {
+        RecvMarks {
+            readable: Marks::new(alloc),
+            ended: Marks::new(alloc),
+        }
+    }
+
+    /// Takes the memory for the indexes below a count.
+    pub(crate) fn reserve(&mut self, count: usize) -> Result<(), NoMemory> {
+        self.readable.reserve(count)?;
+        self.ended.reserve(count)
+    }
+
+    /// Makes room for all indexes below a count: the new ones have no mark.
+    pub(crate) fn open_to(&mut self, count: usize) -> Result<(), NoMemory> {
+        let readable = self.readable.len();
+        self.readable.open_to(count)?;
+        if let Err(refused) = self.ended.open_to(count) {
+            self.readable.close_to(readable);
+            return Err(refused);
+        }
+        Ok(())
+    }
+
+    /// Takes the indexes from a count on away.
+    pub(crate) fn close_to(&mut self, count: usize) {
+        self.readable.close_to(count);
+        self.ended.close_to(count);
+    }
+
+    /// Looks again at a half that changed.
+    pub(crate) fn look(&mut self, index: usize, half: &RecvHalf<RingAssembly>) {
+        self.readable.set(index, half.is_readable());
+        self.ended.set(index, has_ended(half));
+    }
+
+    /// The least marked index from one on.
+    pub(crate) fn next(&self, task: RecvTask, from: usize) -> Option<usize> {
+        match task {
+            RecvTask::Readable => self.readable.next(from),
+            RecvTask::Ended => self.ended.next(from),
+        }
+    }
+}
+
+/// Whether a half has an answer of that kind.
+pub(crate) fn has(task: RecvTask, half: &RecvHalf<RingAssembly>) -> bool {
+    match task {
+        RecvTask::Readable => half.is_readable(),
+        RecvTask::Ended => has_ended(half),
+    }
+}
+
+// Whether the end or a reset was told to a reader (RFC 9000, section 3.2).
+fn has_ended(half: &RecvHalf<RingAssembly>) -> bool {
+    matches!(half.state(), RecvState::DataRead | RecvState::ResetRead)
+}
