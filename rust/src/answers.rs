@@ -73,6 +73,10 @@ pub struct SendReport {
     pub written: u64,
     /// The final size in bytes, once it is declared.
     pub final_size: Option<u64>,
+    /// The code of the reset, once there was one: the owner's, or that of the peer's STOP_SENDING (section 3.5).
+    pub reset_code: Option<u64>,
+    /// The limit on offsets that the peer granted.
+    pub limit: u64,
 }
 
 /// How a receiving half stands (RFC 9000, section 3.2).
@@ -88,6 +92,8 @@ pub struct RecvReport {
     pub limit: u64,
     /// The final size in bytes, once it is known.
     pub final_size: Option<u64>,
+    /// The code of the peer's reset, once it was taken.
+    pub reset_code: Option<u64>,
 }
 
 /// The states of a sending half (RFC 9000, section 3.1).
@@ -193,6 +199,8 @@ impl SendReport {
             state: SendState::of(report.state),
             written: report.written,
             final_size: report.final_size,
+            reset_code: report.reset_code,
+            limit: report.limit,
         }
     }
 }
@@ -205,6 +213,7 @@ impl RecvReport {
             highest: report.highest,
             limit: report.limit,
             final_size: report.final_size,
+            reset_code: report.reset_code,
         }
     }
 }

@@ -276,6 +276,42 @@ impl Endpoint {
         self.inner.next_sendable(from.inner()).map(StreamId::of)
     }
 
+    /// How many streams of a direction the peer may open in all time to come: the settings' count of all, without those
+    /// that it opened. Where none is left, a new connection is needed (RFC 9000, section 4.6).
+    pub fn streams_left(&self, dir: Dir) -> u64 {
+        self.inner.streams_left(dir.inner())
+    }
+
+    /// How many streams of a direction [`open`](Endpoint::open) may open by the count that the peer told last (RFC 9000,
+    /// section 4.6). What the peer grants later, this end can't know.
+    pub fn open_left(&self, dir: Dir) -> u64 {
+        self.inner.open_left(dir.inner())
+    }
+
+    /// Whether a packet would carry more than an ACK: a control item is due, or bytes or the end of a stream that no
+    /// limit holds back (RFC 9000, sections 4.1 and 13.3). Of an end that closed nothing goes.
+    pub fn is_sendable(&self) -> bool {
+        self.inner.is_sendable()
+    }
+
+    /// Whether bytes were written to the stream that weren't sent, and credit alone holds them back: the stream's limit
+    /// is reached, or the connection's credit is used up (RFC 9000, section 4.1). Bytes that were lost need no credit.
+    pub fn is_blocked(&self, stream: StreamId) -> bool {
+        self.inner.is_blocked(stream.inner())
+    }
+
+    /// The least number from one on of a packet that is outstanding: it was made, asks for an ACK, and is neither
+    /// acknowledged nor declared lost (RFC 9000, section 13.3). It looks at each number on the way there, from the least
+    /// outstanding one on.
+    pub fn next_outstanding(&self, from: u64) -> Option<u64> {
+        self.inner.next_outstanding(from)
+    }
+
+    /// The code with which the peer closed, `None` where it didn't (RFC 9000, section 10.2).
+    pub fn peer_closed(&self) -> Option<u64> {
+        self.inner.peer_closed()
+    }
+
     /// How the halves of a stream stand at this end; `None` where it isn't open (RFC 9000, section 3).
     pub fn report(&self, stream: StreamId) -> Option<StreamReport> {
         self.inner.lane_report(stream.inner()).map(StreamReport::of)

@@ -1,4 +1,5 @@
 pub mod AckLaws
+pub mod Asked
 pub mod Chunks
 pub mod Counting
 pub mod Counted

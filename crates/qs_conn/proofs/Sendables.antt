@@ -14,6 +14,8 @@ use Rattle.qs_conn.specs.declared.terms.Terms.{Terms}
 use Rattle.qs_machine.specs.Tables.{Tables, lookup}
 use Rattle.qs_machine.specs.Ends.{End}
 use Rattle.qs_machine.specs.Due.{IsCovered, StreamGoes, Sendable}
+use Rattle.qs_machine.specs.Asking.{GoesBesideAck}
+use Rattle.qs_calls.specs.declared.closing.Closed.{Closed}
 use Rattle.qs_machine.specs.Outgoing.{Outgoing, HasSending, ChunkFound, sent_sum, with_outgoing}
 use Rattle.qs_conn.specs.Filling.{end_by, slot_of, slot_at, IsCurrentIn, Passed, and_slot, and_kind, and_below, IsPassed, all_items}
 use Rattle.qs_conn.specs.Marks.{IsIdle}
@@ -134,3 +136,22 @@ sendable_frame v old t o b same due is out tells = subst (λ e. IsTrue b ↔ Sen
     go : (c : Bool) → TellsFrame c v → IsTrue c ↔ Sendable v
     go true some = ((λ h. inr some), (λ h. refl))
     go false none = ((λ h. absurd (both_ways false refl h)), (λ h. elim h [ inl ack ↦ absurd (true≢false (sym ack ∙ due)) | inr some ↦ absurd (none some) ]))
+
+-- Beside an ACK
+
+pub beside_closed : (v old : End) → v ≡ old → is_some v.closed ≡ true → IsTrue false ↔ GoesBesideAck old
+beside_closed v old same closed = ((λ h. absurd (both_ways false refl h)), (λ goes. absurd (true≢false (sym closed ∙ ap (λ (e : End). is_some e.closed) same ∙ ap is_some goes.0))))
+
+pub beside_frame : (v old : End) (t : Terms) (o : Outgoing) (b : Bool) → v ≡ old → is_some v.closed ≡ false → t ≡ terms_of old → with_outgoing o v ≡ v → ((e : End) → TellsFrame b (end_by t v.recvs o e)) → IsTrue b ↔ GoesBesideAck old
+beside_frame v old t o b same open_still is out tells = subst (λ e. IsTrue b ↔ GoesBesideAck e) same (go b (subst (TellsFrame b) parts (tells v)))
+  where
+    parts : end_by t v.recvs o v ≡ v
+    parts = ap (λ (x : Terms). end_by x v.recvs o v) (is ∙ ap terms_of (sym same)) ∙ out
+
+    none_of : (x : Option Closed) → is_some x ≡ false → x ≡ None
+    none_of None h = refl
+    none_of (Some c) h = absurd (true≢false h)
+
+    go : (c : Bool) → TellsFrame c v → IsTrue c ↔ GoesBesideAck v
+    go true some = ((λ h. (none_of v.closed open_still, some)), (λ h. refl))
+    go false none = ((λ h. absurd (both_ways false refl h)), (λ h. absurd (none h.1)))

@@ -1,5 +1,5 @@
 -- What an end has to tell of its sending side.
-use Rattle.std.proofs.Common.{◌≡◌, ℕ, ◌<◌, ◌≤◌, ◌↔◌, Bool, true, false, IsTrue, min, nat_lt, Option, Some, None, is_some, option_map, cond, refl, sym, ap, ◌∙◌, arith}
+use Rattle.std.proofs.Common.{◌≡◌, ℕ, ◌<◌, ◌≤◌, ◌↔◌, Bool, true, false, IsTrue, min, nat_lt, ◌&&◌, ◌||◌, ◌==◌, Option, Some, None, is_some, is_none, option_map, cond, refl, sym, ap, ◌∙◌, arith}
 use Rattle.std.proofs.lemmas.Bool.{both_ways}
 use Rattle.std.proofs.lemmas.Bool.Decides.{nat_tests}
 use Rattle.qs_wire.specs.declared.stream_id.Dir.TheVariants.{Bidi, Uni}
@@ -11,6 +11,7 @@ use Rattle.qs_send.specs.Lane.{SendLane, Sending, state, declared_size, size_of}
 use Rattle.qs_machine.specs.Tables.{Tables, lookup}
 use Rattle.qs_machine.specs.Sums.{or_none}
 use Rattle.qs_machine.specs.Told.{IsNoted}
+use Rattle.qs_machine.specs.Asking.{waits_for_credit}
 use Rattle.qs_machine.specs.Outgoing.{Outgoing, lanes_of, IsAckedOut, IsAckedReset, IsBlockedAt, WantsMore, reset_by}
 use Rattle.qs_machine.proofs.Carried.{none_some, some_is}
 use Rattle.qs_machine.proofs.LaneTables.{lane_there}
@@ -134,3 +135,28 @@ blocked_sent o l e r m = rw e (λ h. r h.3)
 
 pub blocked_is : (o : Option SendLane) (l : SendLane) (m : ℕ) → o ≡ Some l → l.was_reset ≡ None → m ≡ l.limit → l.limit < l.written → l.sent_end ≡ l.limit → IsBlockedAt o m
 blocked_is o l m e r at more end = rw e (r, at, more, end)
+
+-- Whether bytes wait for credit
+
+pub waits_none : (b : Bool) (o : Option SendLane) → o ≡ None → false ≡ waits_for_credit b o
+waits_none b o e = rw e refl
+
+pub waits_reset : (b : Bool) (o : Option SendLane) (l : SendLane) → o ≡ Some l → (l.was_reset ≡ None → ⊥) → false ≡ waits_for_credit b o
+waits_reset b o l e r = rw e (go l.was_reset r)
+  where
+    go : (x : Option Reset) → (x ≡ None → ⊥) → false ≡ (is_none x && nat_lt l.sent_end l.written && (l.sent_end == l.limit || b))
+    go None h = absurd (h refl)
+    go (Some r) h = refl
+
+waits_open : (b : Bool) (o : Option SendLane) (l : SendLane) → o ≡ Some l → l.was_reset ≡ None → (nat_lt l.sent_end l.written && (l.sent_end == l.limit || b)) ≡ waits_for_credit b o
+waits_open b o l e r = rw (e, r) refl
+
+pub waits_sent : (b : Bool) (o : Option SendLane) (l : SendLane) → o ≡ Some l → l.was_reset ≡ None → l.written ≤ l.sent_end → false ≡ waits_for_credit b o
+waits_sent b o l e r le =
+    let all : nat_lt l.sent_end l.written ≡ false = grind (arith, nat_tests, le) in
+    ap (λ (t : Bool). t && (l.sent_end == l.limit || b)) (sym all) ∙ waits_open b o l e r
+
+pub waits_more : (b : Bool) (o : Option SendLane) (l : SendLane) → o ≡ Some l → l.was_reset ≡ None → l.sent_end < l.written → (l.sent_end == l.limit || b) ≡ waits_for_credit b o
+waits_more b o l e r lt =
+    let more : nat_lt l.sent_end l.written ≡ true = grind (arith, nat_tests, lt) in
+    ap (λ (t : Bool). t && (l.sent_end == l.limit || b)) (sym more) ∙ waits_open b o l e r

@@ -20,6 +20,7 @@ use std::alloc::Global;
 use std::marker::Model;
 
 mod acking;
+mod asking;
 mod frames;
 mod losing;
 mod making;

@@ -338,6 +338,7 @@ impl RecvLanes {
             highest: half.highest(),
             limit: half.limit(),
             final_size: half.final_size(),
+            reset_code: half.reset_code(),
         })
     }
 

@@ -14,6 +14,7 @@ pub mod Receiving
 pub mod Making
 pub mod Reports
 pub mod News
+pub mod Asking
 pub mod EndStep
 pub mod Standing
 pub mod Laws

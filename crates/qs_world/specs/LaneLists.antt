@@ -24,10 +24,10 @@ receiving (Some report) = report.recv
 
 -- a half that an end hasn't opened
 abbrev pub never_sent : SendReport
-never_sent = record { state = Ready; written = 0; final_size = None }
+never_sent = record { state = Ready; written = 0; final_size = None; reset_code = None; limit = 0 }
 
 abbrev pub never_received : RecvReport
-never_received = record { state = Recv; read_count = 0; highest = 0; limit = 0; final_size = None }
+never_received = record { state = Recv; read_count = 0; highest = 0; limit = 0; final_size = None; reset_code = None }
 
 abbrev pub joined : Side → ℕ → SendReport → RecvReport → LaneTotals
 joined s n sent read =

@@ -57,14 +57,14 @@ impl Endpoint {
         ensures by { (room : ℕ) → MakeBy self.now room result [] self.now }
         ensures text { (out : List ℕ) → made_text result out ≡ [] }
     {
-        if self.is_sendable() {
+        if self.may_make() {
             return Err(MakeFault::NoMemory);
         }
         Ok(None)
     }
 
     // Whether something is due that no limit holds back.
-    fn is_sendable(&self) -> bool
+    fn may_make(&self) -> bool
         ensures { IsTrue result ↔ Sendable self.now }
     {
         if self.ack_due {
@@ -75,7 +75,7 @@ impl Endpoint {
     }
 
     // What is to be told beside what the streams have.
-    fn terms(&self) -> Terms
+    pub(super) fn terms(&self) -> Terms
         ensures { result ≡ record { role = self.now.role; settings = self.now.settings; granted = self.now.granted; granted_bidi = self.now.granted_bidi; granted_uni = self.now.granted_uni; known_data = self.now.known_data; known_bidi = self.now.known_bidi; known_uni = self.now.known_uni; wanted_bidi = self.now.wanted_bidi; wanted_uni = self.now.wanted_uni } }
     {
         Terms {

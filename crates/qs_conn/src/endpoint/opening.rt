@@ -146,7 +146,7 @@ impl Endpoint {
     }
 
     // How many streams of a direction the peer allows.
-    fn known_count(&self, dir: Dir) -> u64
+    pub(super) fn known_count(&self, dir: Dir) -> u64
         ensures value { result ≡ known_count self.now dir }
         ensures small { result ≤ 2 ^ 60 }
     {
@@ -157,7 +157,7 @@ impl Endpoint {
     }
 
     // How many streams of a type are open.
-    fn opened_count(&self, kind: usize) -> usize
+    pub(super) fn opened_count(&self, kind: usize) -> usize
         requires { kind < 4 }
         ensures value { result ≡ opened_count self.now kind }
         ensures small { result ≤ 2 ^ 60 }
@@ -166,7 +166,7 @@ impl Endpoint {
     }
 
     // The type of the streams that this end opens.
-    fn own_kind(&self, dir: Dir) -> usize
+    pub(super) fn own_kind(&self, dir: Dir) -> usize
         ensures value { result ≡ own_kind self.now dir }
         ensures small { result < 4 }
     {
@@ -177,7 +177,7 @@ impl Endpoint {
     }
 
     // The type of the streams that the peer opens.
-    fn peer_kind(&self, dir: Dir) -> usize
+    pub(super) fn peer_kind(&self, dir: Dir) -> usize
         ensures value { result ≡ peer_kind self.now dir }
         ensures small { result < 4 }
     {

@@ -7,6 +7,7 @@ ghost use Rattle.qs_send.specs.Records.{Among};
 ghost use Rattle.qs_send.specs.AckPass.{Falls, IsNextNamed};
 ghost use Rattle.qs_send.specs.Lane.{Sending, after_reset_acked};
 ghost use Rattle.qs_machine.specs.Tables.{lookup, updated};
+ghost use Rattle.qs_machine.specs.Asking.{IsNextOutstanding};
 ghost use Rattle.qs_machine.specs.Memory.{NoteMayRunOut, PieceMayRunOut};
 ghost use Rattle.qs_machine.specs.Outgoing.{lanes_of, first_piece, first_acked_out, first_lost_out, acked_at, IsIdle, IsSentPiece, NoneEmpty, item_noted, halves_acked, items_acked, halves_lost};
 
@@ -15,7 +16,7 @@ use crate::send_tables::SendTables;
 use crate::told::ToldItems;
 use crate::told_index::ToldIndex;
 use qs_ranges::NoMemory;
-use qs_send::{AckPass, Item, LostPass, Piece, SendState};
+use qs_send::{AckPass, Item, LostPass, Piece, Records, SendState};
 use qs_wire::StreamId;
 
 impl Outbox {
@@ -26,6 +27,15 @@ impl Outbox {
     {
         let _next = self.next;
         self.records.none_is_empty();
+    }
+
+    /// The least number from one on of an outstanding packet.
+    pub(crate) fn next_outstanding(&self, from: u64) -> Option<u64>
+        requires { IsIdle self.now }
+        ensures { IsNextOutstanding self.now.outstanding from result }
+    {
+        let _next = self.next;
+        next_held(&self.records, from)
     }
 
     /// The next outstanding packet that a pass over an ACK names, `None` after the last.
@@ -121,6 +131,22 @@ impl Outbox {
         forget(&mut self.index, piece);
         Ok(())
     }
+}
+
+// The least number from one on that is held.
+#[tactic(auto, using(crate::proofs::Asked::next_none, crate::proofs::Asked::next_start, crate::proofs::Asked::next_found, crate::proofs::Asked::next_step, crate::proofs::Asked::next_end))]
+fn next_held(records: &Records, from: u64) -> Option<u64>
+    ensures { IsNextOutstanding records.now.pieces from result }
+{
+    let end = records.greatest()?;
+    let mut number = from.max(records.base());
+    while number <= end {
+        if records.is_held(number) {
+            return Some(number);
+        }
+        number += 1;
+    }
+    None
 }
 
 // A chunk, or an item, is acknowledged; or nothing changes.

@@ -1,11 +1,12 @@
 //! What an end has to tell of its sending side.
-ghost use Rattle.std.specs.Prelude.{◌≡◌, ◌≤◌, ◌^◌, ◌↔◌, IsTrue, ℕ, IfSome, IfNone};
+ghost use Rattle.std.specs.Prelude.{◌≡◌, ◌≤◌, ◌^◌, ◌↔◌, ◌||◌, IsTrue, ℕ, IfSome, IfNone};
 ghost use Rattle.qs_ranges.specs.Numbers.{MAX_VARINT};
 ghost use Rattle.qs_send.specs.declared.piece.Piece.TheVariants as pieces;
 ghost use Rattle.qs_machine.specs.Tables.{lookup};
 ghost use Rattle.qs_machine.specs.Sums.{or_none};
 ghost use Rattle.qs_machine.specs.Ends.{End};
 ghost use Rattle.qs_machine.specs.News.{IsLeast};
+ghost use Rattle.qs_machine.specs.Asking.{waits_for_credit};
 ghost use Rattle.qs_conn.specs.Marks.{IsBefore};
 ghost use Rattle.qs_conn.specs.Sending.{IsDueOf};
 ghost use Rattle.qs_conn.specs.Tasks.{IsQuietAt};
@@ -93,6 +94,23 @@ impl Outbox {
         half.sent_end() < half.written().min(half.limit())
     }
 
+    /// Whether bytes of a stream weren't sent, and its limit alone holds them back, or that of the connection, where that is used up.
+    pub(crate) fn waits_for_credit(&self, stream: StreamId, is_used_up: bool) -> bool
+        ensures { result ≡ waits_for_credit is_used_up (lookup self.now.sends stream) }
+    {
+        if !self.sends.is_open(stream) {
+            return false;
+        }
+        let half = self.sends.get(stream);
+        if let Some(_code) = half.reset_code() {
+            return false;
+        }
+        if half.sent_end() >= half.written() {
+            return false;
+        }
+        either(half.sent_end() == half.limit(), is_used_up)
+    }
+
     /// The least number from one on of a stream that may have a task. The streams between have none of it.
     pub(crate) fn next_marked(&self, task: Task, from: u64) -> Option<StreamId>
         requires { from ≤ 2 ^ 62 }
@@ -117,6 +135,12 @@ impl Outbox {
             None => None,
         }
     }
+}
+
+fn either(a: bool, b: bool) -> bool
+    ensures { result ≡ (a || b) }
+{
+    a || b
 }
 
 // A reset, where it has a code.

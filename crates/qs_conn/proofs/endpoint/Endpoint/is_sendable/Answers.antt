@@ -1,9 +1,9 @@
-use Rattle.std.proofs.Common.{refl}
-use Rattle.qs_conn.proofs.Sendables.{sendable_due, sendable_frame}
+use Rattle.std.proofs.Common.{refl, sym, ◌∙◌}
+use Rattle.qs_conn.proofs.Sendables.{beside_closed, beside_frame}
 use Rattle.qs_conn.proofs.endpoint.Endpoint.is_sendable.Goals as goal
 
-pub returns-then-self : goal.returns-then-self
-returns-then-self c = sendable_due _ c.args.self.now c.self.view_is c.if-self.true
+pub returns-then-is_some : goal.returns-then-is_some
+returns-then-is_some c = beside_closed _ c.args.self.now c.self.view_is (sym c.is_some.ensures ∙ c.if-is_some.true)
 
 pub returns : goal.returns
-returns c = sendable_frame _ c.args.self.now c.terms-terms.result c.self.inside.outbox c.has_frame.result c.self.view_is c.if-self.false c.terms-terms.ensures refl c.has_frame.ensures
+returns c = beside_frame _ c.args.self.now c.terms-terms.result c.self.inside.outbox c.has_frame.result c.self.view_is (sym c.is_some.ensures ∙ c.if-is_some.false) c.terms-terms.ensures refl c.has_frame.ensures

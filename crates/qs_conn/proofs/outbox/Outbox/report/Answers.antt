@@ -9,5 +9,5 @@ returns-then-not-is_open c =
 
 pub returns : goal.returns
 returns c =
-    rw (c.state.ensures, c.written.ensures.exact, c.final_size.ensures.value)
+    rw (c.state.ensures, c.written.ensures.exact, c.final_size.ensures.value, c.reset_code.ensures.value, c.limit.ensures.exact)
     (report_some _ c.args.self.now c.self.inside.sends c.args.stream c.get-half.result.now c.self.view_is refl c.get-half.ensures)

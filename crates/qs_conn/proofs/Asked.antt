@@ -1,0 +1,42 @@
+-- What an end is asked: the next outstanding packet.
+use Rattle.std.proofs.Common.{◌≡◌, ℕ, ◌+◌, ◌<◌, ◌≤◌, Bool, true, false, max, Option, None, Some, refl, sym, ◌∙◌, subst, arith, inl, inr}
+use Rattle.std.proofs.lemmas.Bool.{true≢false, cases_lt}
+use Rattle.std.specs.FinMap as fmap
+use Rattle.qs_send.specs.Records.{IsGreatest}
+use Rattle.qs_machine.specs.Ends.{Records}
+use Rattle.qs_machine.specs.Asking.{IsLeastFrom, IsNextOutstanding}
+
+pub next_none : (m : Records) (from : ℕ) → ((k : ℕ) → fmap.contains_key m k ≡ false) → IsNextOutstanding m from None
+next_none m from none = λ k ge. none k
+
+pub next_start : (m : Records) (from base n : ℕ) → n ≡ max from base → ((k : ℕ) → k < base → fmap.contains_key m k ≡ false) → (from ≤ n) × ((k : ℕ) → from ≤ k → k < n → fmap.contains_key m k ≡ false)
+next_start m from base n is below = (grind (arith, is), λ k ge lt. below k (grind (arith, is, ge, lt)))
+
+pub next_found : (m : Records) (from n : ℕ) → (from ≤ n) × ((k : ℕ) → from ≤ k → k < n → fmap.contains_key m k ≡ false) → fmap.contains_key m n ≡ true → IsNextOutstanding m from (Some n)
+next_found m from n before held =
+    record {
+      held = held;
+      from_on = before.0;
+      least = λ k ge there. elim (cases_lt k n) [ inl lt ↦ absurd (true≢false (sym there ∙ before.1 k ge lt)) | inr le ↦ le ];
+    }
+
+pub next_step : (m : Records) (from n : ℕ) → (from ≤ n) × ((k : ℕ) → from ≤ k → k < n → fmap.contains_key m k ≡ false) → fmap.contains_key m n ≡ false → (from ≤ n + 1) × ((k : ℕ) → from ≤ k → k < n + 1 → fmap.contains_key m k ≡ false)
+next_step m from n before absent =
+    let le = before.0 in (
+      omega (arith, le),
+      λ k ge lt. elim (cases_lt k n) [
+        | inl less ↦ before.1 k ge less
+        | inr past ↦ (let same : k ≡ n = omega (arith, lt, past) in subst (λ j. fmap.contains_key m j ≡ false) (sym same) absent)
+      ],
+    )
+
+past_greatest : (m : Records) (end k : ℕ) → IsGreatest m end → end < k → fmap.contains_key m k ≡ false
+past_greatest m end k great lt = go (fmap.contains_key m k) refl
+  where
+    go : (b : Bool) → fmap.contains_key m k ≡ b → fmap.contains_key m k ≡ false
+    go true there = (let le = great.greatest k there in absurd (omega (arith, le, lt)))
+    go false absent = absent
+
+pub next_end : (m : Records) (from n end : ℕ) → IsGreatest m end → end < n → (from ≤ n) × ((k : ℕ) → from ≤ k → k < n → fmap.contains_key m k ≡ false) → IsNextOutstanding m from None
+next_end m from n end great past before =
+    λ k ge. elim (cases_lt k n) [ inl lt ↦ before.1 k ge lt | inr le ↦ past_greatest m end k great (omega (arith, past, le)) ]

@@ -1,0 +1,53 @@
+-- What an end's owner, and the layer beneath, may ask of an end as it is; nothing changes by it.
+use Rattle.std.specs.Prelude.{◌≡◌, ℕ, ◌-◌, ◌≤◌, Bool, true, false, ◌&&◌, ◌||◌, ◌==◌, nat_lt, ◌⊎◌, Option, None, Some, is_none}
+use Rattle.std.specs.FinMap as fmap
+use Rattle.qs_wire.specs.declared.stream_id.Dir.{Dir}
+use Rattle.qs_send.specs.Lane.{SendLane}
+use Rattle.qs_send.specs.declared.piece.Item.{Item}
+use Rattle.qs_calls.specs.declared.closing.Closed.{Closed}
+use Rattle.qs_calls.specs.declared.closing.Closed.TheVariants.{ByUs, ByPeer}
+use Rattle.qs_machine.specs.Ends.{End, Records, send_lane}
+use Rattle.qs_machine.specs.Credit.{all_sent, lifetime}
+use Rattle.qs_machine.specs.Due.{IsDueItem, StreamGoes, known_count}
+use Rattle.qs_machine.specs.Owner.{opened_count, own_kind, peer_kind}
+
+-- Something beside an ACK goes: a control item that is due, or bytes or the end of a stream that no limit holds back. Of an end that
+-- closed nothing goes (RFC 9000, sections 4.1, 10.2 and 13.3).
+abbrev pub GoesBesideAck : End → Type 0
+GoesBesideAck e = (e.closed ≡ None) × (((i : Item) × IsDueItem e i) ⊎ ((n : ℕ) × StreamGoes e n))
+
+-- the code with which the peer closed, None where it didn't (RFC 9000, section 10.2)
+abbrev pub peer_closing : Option Closed → Option ℕ
+peer_closing None = None
+peer_closing (Some (ByUs closing)) = None
+peer_closing (Some (ByPeer code)) = Some code
+
+-- how many streams of a direction the peer may open in all time to come: the lifetime's count without those that it opened (RFC 9000,
+-- section 4.6)
+abbrev pub streams_left : End → Dir → ℕ
+streams_left e d = lifetime e.settings d - opened_count e (peer_kind e d)
+
+-- how many this end may open by the count that the peer told last (RFC 9000, section 4.6)
+abbrev pub open_left : End → Dir → ℕ
+open_left e d = known_count e d - opened_count e (own_kind e d)
+
+-- Bytes were written that weren't sent, and nothing but credit holds them back: the stream's limit is reached, or the connection's
+-- credit is used up (RFC 9000, section 4.1).
+abbrev pub waits_for_credit : Bool → Option SendLane → Bool
+waits_for_credit used_up None = false
+waits_for_credit used_up (Some l) = is_none l.was_reset && nat_lt l.sent_end l.written && (l.sent_end == l.limit || used_up)
+
+-- the same of a stream at this end (RFC 9000, section 4.1)
+abbrev pub is_blocked : End → ℕ → Bool
+is_blocked e n = waits_for_credit (all_sent e == e.known_data) (send_lane e n)
+
+-- the least number from one on of an outstanding packet (RFC 9000, section 13.3)
+pub record IsLeastFrom (m : Records) (from k : ℕ) : Type 0 where
+  pub held : fmap.contains_key m k ≡ true
+  pub from_on : from ≤ k
+  pub least : (j : ℕ) → from ≤ j → fmap.contains_key m j ≡ true → k ≤ j
+
+-- that number, None where no packet from it on is outstanding (RFC 9000, section 13.3)
+abbrev pub IsNextOutstanding : Records → ℕ → Option ℕ → Type 0
+IsNextOutstanding m from None = (j : ℕ) → from ≤ j → fmap.contains_key m j ≡ false
+IsNextOutstanding m from (Some k) = IsLeastFrom m from k

@@ -1,0 +1,156 @@
+//! What an end is asked, and what it answers as it is.
+
+use gotsavena::{Dir, Endpoint, LostFault, Received, Role, Settings, StreamId};
+
+fn ends(settings: Settings) -> (Endpoint, Endpoint) {
+    let client = Endpoint::new(Role::Client, settings, settings.limits()).expect("in range");
+    let server = Endpoint::new(Role::Server, settings, settings.limits()).expect("in range");
+    (client, server)
+}
+
+// One packet from an end to the other, where there is one.
+fn pass(from: &mut Endpoint, to: &mut Endpoint) -> Option<u64> {
+    let mut payload = [0; 1200];
+    let made = from.make_packet(&mut payload).expect("open")?;
+    assert_eq!(
+        to.receive(made.number, &payload[..made.len]),
+        Ok(Received::Done)
+    );
+    Some(made.number)
+}
+
+#[test]
+fn an_ack_alone_is_not_sendable() {
+    let (mut client, mut server) = ends(Settings::default());
+    assert!(!client.is_sendable());
+    let stream = client.open(Dir::Bidi).expect("granted");
+    assert!(!client.is_sendable());
+    client.write(stream, b"hello").expect("open");
+    assert!(client.is_sendable());
+    assert_eq!(pass(&mut client, &mut server), Some(0));
+    assert!(!client.is_sendable());
+    // The server owes an ACK and nothing else.
+    assert!(!server.is_sendable());
+    assert_eq!(pass(&mut server, &mut client), Some(0));
+    assert_eq!(pass(&mut server, &mut client), None);
+    server.write(stream, b"you").expect("open");
+    assert!(server.is_sendable());
+}
+
+#[test]
+fn a_closed_end_has_nothing_sendable() {
+    let (mut client, mut server) = ends(Settings::default());
+    let stream = server.open(Dir::Uni).expect("granted");
+    server.write(stream, b"late").expect("open");
+    assert!(server.is_sendable());
+    assert_eq!(server.peer_closed(), None);
+    assert_eq!(
+        server.receive(0, &[0x1c, 0x07, 0, 0]),
+        Ok(Received::PeerClosed(7))
+    );
+    assert_eq!(server.peer_closed(), Some(7));
+    assert_eq!(server.closing(), None);
+    assert!(!server.is_sendable());
+    // A stream of its own that isn't open: this end closes, and not its peer.
+    assert!(client.receive(0, &[0x11, 0x00, 0x05]).is_err());
+    assert_eq!(client.peer_closed(), None);
+    assert!(client.closing().is_some());
+}
+
+#[test]
+fn streams_are_left_for_all_time() {
+    let (mut client, mut server) = ends(Settings::default().bidi_streams(2, 5).uni_streams(1, 1));
+    assert_eq!(server.streams_left(Dir::Bidi), 5);
+    assert_eq!(client.open_left(Dir::Bidi), 2);
+    let first = client.open(Dir::Bidi).expect("granted");
+    assert_eq!(client.open_left(Dir::Bidi), 1);
+    client.finish(first).expect("open");
+    pass(&mut client, &mut server).expect("due");
+    assert_eq!(server.streams_left(Dir::Bidi), 4);
+    assert_eq!(client.streams_left(Dir::Bidi), 5);
+    assert_eq!(server.streams_left(Dir::Uni), 1);
+    let uni = client.open(Dir::Uni).expect("granted");
+    client.finish(uni).expect("open");
+    pass(&mut client, &mut server).expect("due");
+    assert_eq!(server.streams_left(Dir::Uni), 0);
+    assert_eq!(client.open_left(Dir::Uni), 0);
+    assert_eq!(server.open_left(Dir::Uni), 1);
+}
+
+#[test]
+fn credit_alone_blocks() {
+    let settings = Settings::default()
+        .conn_window(10)
+        .bidi_local_window(6)
+        .bidi_remote_window(6)
+        .send_buffer(8);
+    let (mut client, mut server) = ends(settings);
+    let first = client.open(Dir::Bidi).expect("granted");
+    let second = client.open(Dir::Bidi).expect("granted");
+    // The buffer is full; credit holds nothing back yet.
+    assert_eq!(client.write(first, b"12345678"), Ok(8));
+    assert!(!client.is_blocked(first));
+    pass(&mut client, &mut server).expect("due");
+    // By the stream's limit of 6.
+    assert!(client.is_blocked(first));
+    assert_eq!(client.write(second, b"1234"), Ok(4));
+    assert!(!client.is_blocked(second));
+    pass(&mut client, &mut server).expect("due");
+    assert!(!client.is_blocked(second));
+    // By the connection's credit of 10.
+    assert_eq!(client.write(second, b"5"), Ok(1));
+    assert!(client.is_blocked(second));
+    client.reset(second, 9).expect("open");
+    assert!(!client.is_blocked(second));
+    assert!(!client.is_blocked(StreamId::new(400).expect("small")));
+    // The reader takes all, and its credit comes back.
+    let mut bytes = [0; 16];
+    server.read(first, &mut bytes).expect("open");
+    while pass(&mut server, &mut client).is_some() {}
+    assert!(!client.is_blocked(first));
+}
+
+#[test]
+fn outstanding_packets_are_found() {
+    let (mut client, mut server) = ends(Settings::default());
+    let stream = client.open(Dir::Bidi).expect("granted");
+    let mut payload = [0; 1200];
+    assert_eq!(client.next_outstanding(0), None);
+    for number in 0..4 {
+        client.write(stream, b"some").expect("open");
+        let made = client.make_packet(&mut payload).expect("open");
+        let made = made.expect("due");
+        assert_eq!(made.number, number);
+        if number == 1 {
+            server.receive(made.number, &payload[..made.len]).expect("sound");
+        }
+    }
+    assert_eq!(client.next_outstanding(0), Some(0));
+    assert_eq!(client.next_outstanding(1), Some(1));
+    pass(&mut server, &mut client).expect("an ACK");
+    assert_eq!(client.next_outstanding(1), Some(2));
+    assert_eq!(client.next_outstanding(3), Some(3));
+    assert_eq!(client.next_outstanding(4), None);
+    assert_eq!(client.next_outstanding(u64::MAX), None);
+    assert_eq!(client.declare_lost(0), Ok(()));
+    assert_eq!(client.declare_lost(1), Err(LostFault::NotOutstanding));
+    assert_eq!(client.next_outstanding(0), Some(2));
+}
+
+#[test]
+fn reports_tell_resets_and_limits() {
+    let (mut client, mut server) = ends(Settings::default());
+    let stream = client.open(Dir::Bidi).expect("granted");
+    let report = client.report(stream).expect("open");
+    let send = report.send.expect("bidirectional");
+    assert_eq!(send.reset_code, None);
+    assert_eq!(send.limit, Settings::default().limits().bidi_remote);
+    client.reset(stream, 41).expect("open");
+    pass(&mut client, &mut server).expect("due");
+    let send = client.report(stream).expect("open").send;
+    assert_eq!(send.expect("bidirectional").reset_code, Some(41));
+    let recv = server.report(stream).expect("open").recv;
+    assert_eq!(recv.expect("bidirectional").reset_code, Some(41));
+    let send = server.report(stream).expect("open").send;
+    assert_eq!(send.expect("bidirectional").reset_code, None);
+}
