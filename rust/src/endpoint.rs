@@ -166,6 +166,43 @@ impl Endpoint {
         }
     }
 
+    /// Makes the next packet, as [`Endpoint::make_packet`] does, but for two things. Bytes go in from stream `first` on,
+    /// lower streams first, and then those of the streams below it; which of them goes first is the owner's to say (RFC
+    /// 9000, section 2.3). And an ACK tells this delay, below 2^62, in the unit of the ack_delay_exponent that the peer
+    /// was told (sections 18.2 and 19.3).
+    ///
+    /// An owner whose streams send by turns moves `first` on behind the [`last_stream`](crate::last_stream) of which a
+    /// packet carried bytes.
+    ///
+    /// ```
+    /// use gotsavena::{Dir, Endpoint, Role, Settings, last_stream};
+    ///
+    /// let settings = Settings::default();
+    /// let mut client = Endpoint::new(Role::Client, settings, settings.limits())?;
+    /// let low = client.open(Dir::Uni)?;
+    /// let high = client.open(Dir::Uni)?;
+    /// client.write(low, &[1; 4000])?;
+    /// client.write(high, &[2; 4000])?;
+    ///
+    /// let mut payload = [0; 1200];
+    /// let made = client.make_packet_from(high, 0, &mut payload)?.expect("bytes are due");
+    /// assert_eq!(last_stream(&payload[..made.len]), Some(high));
+    /// # Ok::<(), Box<dyn std::error::Error>>(())
+    /// ```
+    ///
+    /// # Errors
+    ///
+    /// As of [`Endpoint::make_packet`]; `Invalid` for a delay of 2^62 or more, too.
+    pub fn make_packet_from(&mut self, first: StreamId, delay: u64, out: &mut [u8]) -> Result<Option<Made>, MakeFault> {
+        if out.len() < MIN_ROOM || out.len() > MAX_ROOM || delay > MAX_VARINT {
+            return Err(MakeFault::Invalid);
+        }
+        match self.inner.make_packet_from(first.inner(), delay, out) {
+            Ok(made) => Ok(made.map(Made::of)),
+            Err(fault) => Err(MakeFault::of(fault)),
+        }
+    }
+
     /// Declares the packet of a number lost: what it carried and is still of use is due again (RFC 9000, section 13.3).
     /// An acknowledgement that comes late still counts, of the 256 packets that were declared lost last.
     ///

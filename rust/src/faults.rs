@@ -58,7 +58,7 @@ pub enum MakeFault {
     NoMemory,
     /// The last packet number was used (RFC 9000, section 12.3).
     Exhausted,
-    /// The room isn't of 128 to 16,383 bytes.
+    /// The room isn't of 128 to 16,383 bytes, or a delay is 2^62 or more.
     Invalid,
 }
 
@@ -197,7 +197,7 @@ impl fmt::Display for MakeFault {
             MakeFault::Closed => CLOSED,
             MakeFault::NoMemory => NO_MEMORY,
             MakeFault::Exhausted => "there is no packet number left",
-            MakeFault::Invalid => "a packet needs a room of 128 to 16383 bytes",
+            MakeFault::Invalid => "a packet needs a room of 128 to 16383 bytes, and a delay below 2^62",
         })
     }
 }

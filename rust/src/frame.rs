@@ -363,7 +363,14 @@ pub fn put_ack(ranges: &[Range<u64>], out: &mut [u8]) -> Result<(usize, usize), 
     if pairs.is_empty() {
         return Err(PutFault::Invalid);
     }
-    wire::put_ack(pairs, out).map_err(|_full| PutFault::Full)
+    wire::put_ack(pairs, 0, out).map_err(|_full| PutFault::Full)
+}
+
+/// The stream of the last STREAM frame that is read in a payload, up to its end or to the first fault; `None` where there
+/// is none. An owner whose streams send by turns goes on behind it
+/// ([`Endpoint::make_packet_from`](crate::Endpoint::make_packet_from)).
+pub fn last_stream(payload: &[u8]) -> Option<StreamId> {
+    wire::last_stream(payload).map(StreamId::of)
 }
 
 /// The number at the front of the bytes, and how many bytes it takes; `None` where the bytes end before it does

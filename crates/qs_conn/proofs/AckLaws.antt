@@ -21,7 +21,7 @@ use Rattle.qs_machine.specs.Ends.{End}
 use Rattle.qs_machine.specs.Credit.{all_sent}
 use Rattle.qs_machine.specs.Seen.{Ack, seen}
 use Rattle.qs_machine.specs.FrameStep.{is_named}
-use Rattle.qs_machine.specs.Lawful.{MayAck, Fills, frame_put}
+use Rattle.qs_machine.specs.Lawful.{MayAck, Fills, AreInTurn, frame_put}
 use Rattle.qs_machine.specs.Making.{IsText, IsPlainAck, NamesMost}
 use Rattle.qs_conn.specs.Filling.{InPacket, Begun, IsPassed, no_slot}
 use Rattle.qs_conn.proofs.Texts.{no_text, text_push, ack_left}
@@ -101,7 +101,7 @@ top_of [] = 0
 top_of (p ∷ ps) = p.1 - 1
 
 -- an ACK of some ranges
-module _ (old : End) (runs pairs : Runs) (is : AreRunsOf old.done runs) (highest : pairs ≡ reverse runs) (ok : AreAckPairs pairs) (due : old.ack_due ≡ true) (n : ℕ) (some : 0 < n) (within : n ≤ length pairs) where
+module _ (delay : ℕ) (old : End) (runs pairs : Runs) (is : AreRunsOf old.done runs) (highest : pairs ≡ reverse runs) (ok : AreAckPairs pairs) (due : old.ack_due ≡ true) (n : ℕ) (some : 0 < n) (within : n ≤ length pairs) where
   kept_is : (k : ℕ) → has_number pairs k ≡ set.contains old.done k
   kept_is k = ap (λ ps. has_number ps k) highest ∙ has_reversed runs k ∙ sym (is.members k)
 
@@ -109,7 +109,7 @@ module _ (old : End) (runs pairs : Runs) (is : AreRunsOf old.done runs) (highest
   taken_ok = record { some = omega (arith, some, length-take-le n pairs within); few = omega (arith, ok.few, length-take-le n pairs within, within); apart = apart_take high pairs n ok.apart }
 
   abbrev pub frame : FrameValue
-  frame = ack_of (take n pairs)
+  frame = ack_of delay (take n pairs)
 
   abbrev pub ranges : List (ℕ × ℕ)
   ranges = map inclusive (take n pairs)
@@ -117,9 +117,9 @@ module _ (old : End) (runs pairs : Runs) (is : AreRunsOf old.done runs) (highest
   named : (k : ℕ) → is_named ranges k ≡ has_number (take n pairs) k
   named k = named_is high (take n pairs) k taken_ok.apart
 
-  seen_by : (ps : Runs) → AreAckPairs ps → seen (ack_of ps) ≡ Ack (top_of ps) (map inclusive ps)
+  seen_by : (ps : Runs) → AreAckPairs ps → seen (ack_of delay ps) ≡ Ack (top_of ps) (map inclusive ps)
   seen_by [] ok = absurd (omega (arith, ok.some))
-  seen_by (p ∷ ps) ok = ap (Ack (p.1 - 1)) (ranges_of_pairs (p ∷ ps) ok)
+  seen_by (p ∷ ps) ok = ap (Ack (p.1 - 1)) (ranges_of_pairs delay (p ∷ ps) ok)
 
   top_named : (ps : Runs) → AreAckPairs ps → has_number ps (top_of ps) ≡ true
   top_named [] ok = absurd (omega (arith, ok.some))
@@ -150,10 +150,10 @@ module _ (old : End) (runs pairs : Runs) (is : AreRunsOf old.done runs) (highest
   all_named : length pairs ≤ n → (k : ℕ) → set.contains old.done k ≡ true → is_named ranges k ≡ true
   all_named le k there = named k ∙ ap (λ ps. has_number ps k) (take_all n pairs le) ∙ kept_is k ∙ there
 
--- without delay and counts
-plain : (ps : Runs) → AreAckPairs ps → IsPlainAck (ack_of ps)
-plain [] ok = absurd (omega (arith, ok.some))
-plain (p ∷ ps) ok = (refl, refl)
+-- with the delay, and without counts
+plain : (delay : ℕ) (ps : Runs) → AreAckPairs ps → IsPlainAck delay (ack_of delay ps)
+plain delay [] ok = absurd (omega (arith, ok.some))
+plain delay (p ∷ ps) ok = (refl, refl)
 
 -- One range more
 
@@ -162,10 +162,10 @@ gaps_push smallest [] q = refl
 gaps_push smallest (p ∷ ps) q = ap (λ (vs : List ℕ). ((smallest - p.1) - 1) ∷ ((p.1 - 1) - p.0) ∷ vs) (gaps_push p.0 ps q)
 
 -- an ACK of some ranges, where one range more doesn't fit
-names_most : (old : End) (room : ℕ) (pairs : Runs) (n : ℕ) → AreAckPairs (take (suc n) pairs) → 0 < n → n < length pairs → MayAck old old (top_of (take (suc n) pairs)) (map inclusive (take (suc n) pairs)) → room < length (canonical (ack_of (take (suc n) pairs))) → NamesMost old room (ack_of (take n pairs))
-names_most old room [] n ok some lt may long = absurd (omega (arith, lt))
-names_most old room (p ∷ ps) zero ok some lt may long = absurd (omega (arith, some))
-names_most old room (p ∷ ps) (suc i) ok some lt may long =
+names_most : (old : End) (delay room : ℕ) (pairs : Runs) (n : ℕ) → delay < 2 ^ 62 → AreAckPairs (take (suc n) pairs) → 0 < n → n < length pairs → MayAck old old (top_of (take (suc n) pairs)) (map inclusive (take (suc n) pairs)) → room < length (canonical (ack_of delay (take (suc n) pairs))) → NamesMost old delay room (ack_of delay (take n pairs))
+names_most old delay room [] n small ok some lt may long = absurd (omega (arith, lt))
+names_most old delay room (p ∷ ps) zero small ok some lt may long = absurd (omega (arith, some))
+names_most old delay room (p ∷ ps) (suc i) small ok some lt may long =
     let q = get_or ps i (0, 0) in
     let rest = take (suc i) ps in
     let up : suc i ≡ i + 1 = omega arith in
@@ -174,48 +174,49 @@ names_most old room (p ∷ ps) (suc i) ok some lt may long =
     inr (record {
       gap = (last_below p.0 (take i ps) - q.1) - 1;
       len = (q.1 - 1) - q.0;
-      fits = subst (λ gs. Fits (ack (p.1 - 1) 0 (((p.1 - 1) - p.0) ∷ gs) None)) more (ack_fits (p ∷ rest) ok);
-      may = subst (λ gs. MayAck old old (p.1 - 1) (ack_ranges_of (p.1 - 1) (((p.1 - 1) - p.0) ∷ gs))) more (subst (MayAck old old (p.1 - 1)) (sym (ranges_of_pairs (p ∷ rest) ok)) may);
-      too_long = subst (λ gs. room < length (canonical (ack (p.1 - 1) 0 (((p.1 - 1) - p.0) ∷ gs) None))) more long;
+      fits = subst (λ gs. Fits (ack (p.1 - 1) delay (((p.1 - 1) - p.0) ∷ gs) None)) more (ack_fits delay (p ∷ rest) small ok);
+      may = subst (λ gs. MayAck old old (p.1 - 1) (ack_ranges_of (p.1 - 1) (((p.1 - 1) - p.0) ∷ gs))) more (subst (MayAck old old (p.1 - 1)) (sym (ranges_of_pairs delay (p ∷ rest) ok)) may);
+      too_long = subst (λ gs. room < length (canonical (ack (p.1 - 1) delay (((p.1 - 1) - p.0) ∷ gs) None))) more long;
     })
 
 -- an ACK of all kept numbers
-names_all : (old : End) (room : ℕ) (ps : Runs) → AreAckPairs ps → ((k : ℕ) → set.contains old.done k ≡ true → is_named (map inclusive ps) k ≡ true) → NamesMost old room (ack_of ps)
-names_all old room [] ok all = absurd (omega (arith, ok.some))
-names_all old room (p ∷ ps) ok all = inl (λ k there. ap (λ rs. is_named rs k) (ranges_of_pairs (p ∷ ps) ok) ∙ all k there)
+names_all : (old : End) (delay room : ℕ) (ps : Runs) → AreAckPairs ps → ((k : ℕ) → set.contains old.done k ≡ true → is_named (map inclusive ps) k ≡ true) → NamesMost old delay room (ack_of delay ps)
+names_all old delay room [] ok all = absurd (omega (arith, ok.some))
+names_all old delay room (p ∷ ps) ok all = inl (λ k there. ap (λ rs. is_named rs k) (ranges_of_pairs delay (p ∷ ps) ok) ∙ all k there)
 
 -- a packet begins with the ACK of as many ranges as fit
-module _ (old : End) (runs pairs : Runs) (is : AreRunsOf old.done runs) (highest : pairs ≡ reverse runs) (ok : AreAckPairs pairs) (due : old.ack_due ≡ true) (n : ℕ) (some : 0 < n) (within : n ≤ length pairs) where
-  abbrev first : FrameValue
-  first = ack_of (take n pairs)
+module _ (delay : ℕ) (old : End) (runs pairs : Runs) (is : AreRunsOf old.done runs) (highest : pairs ≡ reverse runs) (ok : AreAckPairs pairs) (due : old.ack_due ≡ true) (n : ℕ) (some : 0 < n) (within : n ≤ length pairs) (small : delay < 2 ^ 62) where
+  abbrev begins : FrameValue
+  begins = ack_of delay (take n pairs)
 
   first_ok : AreAckPairs (take n pairs)
-  first_ok = taken_ok old runs pairs is highest ok due n some within
+  first_ok = taken_ok delay old runs pairs is highest ok due n some within
 
-  more_than : (room : ℕ) → ((m : ℕ) → n < m → m ≤ length pairs → room < length (canonical (ack_of (take m pairs)))) → NamesMost old room (ack_of (take n pairs))
+  more_than : (room : ℕ) → ((m : ℕ) → n < m → m ≤ length pairs → room < length (canonical (ack_of delay (take m pairs)))) → NamesMost old delay room (ack_of delay (take n pairs))
   more_than room most =
       elim (cases_lt n (length pairs)) [
         | inl fewer ↦ (
             let up : 0 < suc n = omega arith in
             let le : suc n ≤ length pairs = omega (arith, fewer) in
-            names_most old room pairs n (taken_ok old runs pairs is highest ok due (suc n) up le) some fewer (may_ack old runs pairs is highest ok due (suc n) up le) (most (suc n) (omega arith) le))
-        | inr all ↦ names_all old room (take n pairs) first_ok (all_named old runs pairs is highest ok due n some within all)
+            names_most old delay room pairs n small (taken_ok delay old runs pairs is highest ok due (suc n) up le) some fewer (may_ack delay old runs pairs is highest ok due (suc n) up le) (most (suc n) (omega arith) le))
+        | inr all ↦ names_all old delay room (take n pairs) first_ok (all_named delay old runs pairs is highest ok due n some within all)
       ]
 
-  pub begun_ack : (room : ℕ) (text : List ℕ) → text ≡ canonical first → ((m : ℕ) → n < m → m ≤ length pairs → room < length (canonical (ack_of (take m pairs)))) → all_sent old ≤ old.known_data → ((x : Piece) → InPacket old x → ⊥) →
-      Begun room old text (record old { ack_due = false }) (IsPassed no_slot)
+  pub begun_ack : (room : ℕ) (text : List ℕ) → text ≡ canonical begins → ((m : ℕ) → n < m → m ≤ length pairs → room < length (canonical (ack_of delay (take m pairs)))) → all_sent old ≤ old.known_data → ((x : Piece) → InPacket old x → ⊥) →
+      Begun delay room old text (record old { ack_due = false }) (IsPassed no_slot)
   unfolding frame_put
   begun_ack room text written most sent fresh =
       record {
-        frames = first ∷ [];
-        fills = subst (λ f. Fills old old (f ∷ []) (record old { ack_due = false })) (sym (seen_is old runs pairs is highest ok due n some within)) (may_ack old runs pairs is highest ok due n some within, refl);
-        spells = subst (IsText (first ∷ [])) (sym written) (text_push [] [] first no_text (ack_fits (take n pairs) first_ok) (plain (take n pairs) first_ok));
+        frames = begins ∷ [];
+        fills = subst (λ f. Fills old old (f ∷ []) (record old { ack_due = false })) (sym (seen_is delay old runs pairs is highest ok due n some within)) (may_ack delay old runs pairs is highest ok due n some within, refl);
+        spells = subst (IsText delay (begins ∷ [])) (sym written) (text_push delay [] [] begins (no_text delay) (ack_fits delay (take n pairs) small first_ok) (plain delay (take n pairs) first_ok));
         acks = (more_than room most, tt);
+        turns = λ first. subst (λ f. AreInTurn first old (f ∷ [])) (sym (seen_is delay old runs pairs is highest ok due n some within)) (tt, tt);
         steady = refl;
         within = sent;
         ack = λ x. elim (cases_lt n (length pairs)) [
-          | inl fewer ↦ inl (omega (arith, ap length written, ack_left pairs n room ok some fewer (most (n + 1) (omega arith) (omega (arith, fewer)))))
-          | inr all ↦ inr (top_of (take n pairs), map inclusive (take n pairs), inl (sym (seen_is old runs pairs is highest ok due n some within)), all_named old runs pairs is highest ok due n some within all)
+          | inl fewer ↦ inl (omega (arith, ap length written, ack_left delay pairs n room ok some fewer (most (n + 1) (omega arith) (omega (arith, fewer)))))
+          | inr all ↦ inr (top_of (take n pairs), map inclusive (take n pairs), inl (sym (seen_is delay old runs pairs is highest ok due n some within)), all_named delay old runs pairs is highest ok due n some within all)
         ];
         items = λ i p x. absurd p;
         no_chunk = λ m c there. fresh (Data m c) there;

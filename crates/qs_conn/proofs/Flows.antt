@@ -1,5 +1,5 @@
 -- The bytes of streams go into a packet, one stream after the other.
-use Rattle.std.proofs.Common.{◌≡◌, ℕ, ◌+◌, ◌-◌, ◌<◌, ◌≤◌, Bool, true, false, List, [], ◌∷◌, ◌++◌, ◌⊎◌, length, take, is_some, ◌↔◌, IsTrue, refl, sym, ap, ◌∙◌, subst, arith, inl, inr, Option, None, Some}
+use Rattle.std.proofs.Common.{◌≡◌, ◌≢◌, ℕ, ◌+◌, ◌-◌, ◌<◌, ◌≤◌, Bool, true, false, List, [], ◌∷◌, ◌++◌, ◌⊎◌, length, take, is_some, ◌↔◌, IsTrue, refl, sym, ap, ◌∙◌, subst, arith, inl, inr, Option, None, Some}
 use Rattle.std.proofs.lemmas.Bool.{true≢false, cases_lt, cases_eq}
 use Rattle.std.proofs.lemmas.List.{length-append, length-take-le}
 use Rattle.std.proofs.lemmas.Option.{same_Some, none-some}
@@ -30,43 +30,84 @@ use Rattle.qs_machine.specs.Ends.{End, send_lane}
 use Rattle.qs_machine.specs.Credit.{all_sent}
 use Rattle.qs_machine.specs.Seen.{Seen, Ack, Stream, Control, seen_all}
 use Rattle.qs_machine.specs.Due.{Among, IsDueItem, IsDue, IsEndDue, StreamGoes}
-use Rattle.qs_machine.specs.Lawful.{Fills, AcksAll, frame_put}
+use Rattle.qs_machine.specs.Lawful.{Fills, AcksAll, AreInTurn, ComesBefore, frame_put}
 use Rattle.qs_machine.specs.Making.{IsText, NamesMost}
-use Rattle.qs_conn.specs.Filling.{end_by, MayGo, stream_frame, InPacket, slot_of, IsPassed, all_items, Flowing, Flow, Packed, Stage}
+use Rattle.qs_conn.specs.Filling.{end_by, MayGo, stream_frame, InPacket, slot_of, IsPassed, all_items, Turn, turn_at, HadTurn, IsOnWay, start_of, way_end, Flowing, Flow, Packed, Stage}
 use Rattle.qs_conn.proofs.Pieces.{among_more}
 use Rattle.qs_conn.proofs.Items.{fills_push, sum_by_base, known_by_base}
 use Rattle.qs_conn.proofs.Texts.{all_push, text_push, seen_push}
-use Rattle.qs_conn.proofs.Stages.{no_ack}
+use Rattle.qs_conn.proofs.Stages.{no_ack, turn_push}
 use Rattle.qs_conn.proofs.Chunks.{Ties, ties_of, same_truth, IsClear, may_carry, chunk_lane, chunk_sum, chunk_known, clear_old, clear_new, cut_last, goes_other, chunk_only, none_goes}
 
--- A packet with the streams below n, and some chunks of stream n: of these no later one begins where another ended, or none may follow.
-pub record Chunking (room : ℕ) (old : End) (text : List ℕ) (e : End) (n : ℕ) : Type 0 where
+-- A packet with the streams that had their turn before n, and some chunks of stream n: of these no later one begins where another ended,
+-- or none may follow.
+pub record Chunking (delay room : ℕ) (old : End) (text : List ℕ) (e : End) (around : Bool) (first n : ℕ) : Type 0 where
   pub frames : List FrameValue
   pub fills : Fills old old (seen_all frames) e
-  pub spells : IsText frames text
-  pub acks : AllByRecursion (NamesMost old room) frames
+  pub spells : IsText delay frames text
+  pub acks : AllByRecursion (NamesMost old delay room) frames
+  pub turns : AreInTurn first old (seen_all frames)
   pub within : all_sent e ≤ e.known_data
   pub ack : old.ack_due ≡ true → (room < length text + 25) ⊎ AcksAll old (seen_all frames)
   pub items : (i : Item) → IsDueItem old i → Among (Control i) (seen_all frames)
-  pub below : (m : ℕ) → m < n → StreamGoes e m → room < length text + 25
-  pub untouched : (m : ℕ) → n < m → (c : Chunk) → InPacket e (Data m c) → ⊥
+  pub on_way : IsOnWay around first n
+  pub over : (m : ℕ) → HadTurn around first n m → StreamGoes e m → ⊥
+  pub untouched : (m : ℕ) → (HadTurn around first n m → ⊥) → m ≢ n → (c : Chunk) → InPacket e (Data m c) → ⊥
   pub clear : ((l : SendLane) → send_lane e n ≡ Some l → (c : Chunk) → InPacket e (Data n c) → IsClear e n l c)
       ⊎ ((s : Sending) → Ties e n s → HasNoChunk s (room - length text) (e.known_data - all_sent e))
 
+-- Turns
+
+-- a stream's turn isn't over as it begins
+not_yet : (around : Bool) (first n : ℕ) → IsOnWay around first n → HadTurn around first n n → ⊥
+not_yet false first n on (ge, lt) = omega (arith, lt)
+not_yet true first n on (inl ge) = omega (arith, on, ge)
+not_yet true first n on (inr lt) = omega (arith, lt)
+
+-- it is over as the next one begins
+now_had : (around : Bool) (first n : ℕ) → IsOnWay around first n → HadTurn around first (n + 1) n
+now_had false first n on = (on, omega arith)
+now_had true first n on = inr (omega arith)
+
+had_still : (around : Bool) (first a b m : ℕ) → a ≤ b → HadTurn around first a m → HadTurn around first b m
+had_still false first a b m le (ge, lt) = (ge, omega (arith, lt, le))
+had_still true first a b m le (inl ge) = inl ge
+had_still true first a b m le (inr lt) = inr (omega (arith, lt, le))
+
+-- turns that were over before, and those between
+had_before : (around : Bool) (first a b m : ℕ) → HadTurn around first b m → HadTurn around first a m ⊎ ((a ≤ m) × (m < b))
+had_before false first a b m (ge, lt) = elim (cases_lt m a) [ inl before ↦ inl (ge, before) | inr past ↦ inr (past, lt) ]
+had_before true first a b m (inl ge) = inl (inl ge)
+had_before true first a b m (inr lt) = elim (cases_lt m a) [ inl before ↦ inl (inr before) | inr past ↦ inr (past, lt) ]
+
+-- a stream that isn't of the way lies behind all of it that are left
+pub off_way : (around : Bool) (first from past n : ℕ) → start_of around first ≤ from → from ≤ past → (IsOnWay around first past → ⊥) → IsOnWay around first n → n < past
+off_way false first from past n begun le off on = absurd (off (omega (arith, begun, le)))
+off_way true first from past n begun le off on = elim (cases_lt n past) [ inl lt ↦ lt | inr ge ↦ absurd (off (omega (arith, ge, on))) ]
+
+-- what comes before a stream had its turn
+comes_before : (around : Bool) (first m n : ℕ) → IsOnWay around first n → ComesBefore first m n → HadTurn around first n m
+comes_before false first m n on (inl (ge, lt)) = absurd (omega (arith, on, lt))
+comes_before false first m n on (inr (lt, inl ge)) = (ge, lt)
+comes_before false first m n on (inr (lt, inr below)) = absurd (omega (arith, on, below))
+comes_before true first m n on (inl (ge, lt)) = inl ge
+comes_before true first m n on (inr (lt, some)) = inr lt
+
 -- after the control items
-pub flow_first : (room : ℕ) (old : End) (text : List ℕ) (e : End) (b : Bool) → Stage room old text e b all_items → Flow room old text e b 0
-flow_first room old text e true s = s
-flow_first room old text e false s =
+pub flow_first : (first delay room : ℕ) (old : End) (text : List ℕ) (e : End) (b : Bool) → Stage delay room old text e b all_items → Flow delay room old text e b (turn_at false first first)
+flow_first first delay room old text e true s = s first
+flow_first first delay room old text e false s =
     record {
       frames = s.frames;
       fills = s.fills;
       spells = s.spells;
       acks = s.acks;
+      turns = s.turns first;
       within = (let same = sum_by_base e old s.steady in let known = known_by_base e old s.steady in omega (arith, same, known, s.within));
       ack = s.ack;
       items = λ i due. s.items i (passed i due) due;
-      below = λ n lt. absurd (omega (arith, lt));
-      untouched = λ n ge c there. s.no_chunk n c there;
+      over = λ n (ge, lt). absurd (omega (arith, ge, lt));
+      untouched = λ n no c there. s.no_chunk n c there;
     }
   where
     passed : (i : Item) → IsDueItem old i → IsPassed all_items (slot_of i)
@@ -82,48 +123,48 @@ flow_first room old text e false s =
     passed (StreamsBlocked Uni m) due = inr refl
 
 -- a stream begins
-pub chunking_begins : (room : ℕ) (old : End) (text : List ℕ) (e : End) (n : ℕ) → Flowing room old text e n → Chunking room old text e n
-chunking_begins room old text e n f =
+pub chunking_begins : (delay room : ℕ) (old : End) (text : List ℕ) (e : End) (around : Bool) (first n : ℕ) → IsOnWay around first n → Flowing delay room old text e (turn_at around first n) → Chunking delay room old text e around first n
+chunking_begins delay room old text e around first n on f =
     record {
       frames = f.frames;
       fills = f.fills;
       spells = f.spells;
       acks = f.acks;
+      turns = f.turns;
       within = f.within;
       ack = f.ack;
       items = f.items;
-      below = f.below;
-      untouched = λ m lt. f.untouched m (omega (arith, lt));
-      clear = inl (λ l there c in_it. absurd (f.untouched n (omega arith) c in_it));
+      on_way = on;
+      over = f.over;
+      untouched = λ m no ne. f.untouched m no;
+      clear = inl (λ l there c in_it. absurd (f.untouched n (not_yet around first n on) c in_it));
     }
 
-module _ (room : ℕ) (old : End) (text : List ℕ) (e : End) (n : ℕ) (k : Chunking room old text e n) (s : Sending) (t : Ties e n s) (fits : length text ≤ room) where
-  -- it ends, as no chunk may go any more
-  pub chunking_ends : HasNoChunk s (room - length text) (e.known_data - all_sent e) → Flowing room old text e (n + 1)
+module _ (delay room : ℕ) (old : End) (text : List ℕ) (e : End) (around : Bool) (first n : ℕ) (k : Chunking delay room old text e around first n) (s : Sending) (t : Ties e n s) (fits : length text ≤ room) where
+  -- it ends, as no chunk may go any more, whatever the room
+  pub chunking_ends : HasNoChunk s 25 (e.known_data - all_sent e) → Flowing delay room old text e (turn_at around first (n + 1))
   chunking_ends none =
       record {
         frames = k.frames;
         fills = k.fills;
         spells = k.spells;
         acks = k.acks;
+        turns = k.turns;
         within = k.within;
         ack = k.ack;
         items = k.items;
-        below = λ m lt goes. elim (cases_lt m n) [
-          | inl before ↦ k.below m before goes
-          | inr ge ↦ elim (cases_lt room (length text + 25)) [
-            | inl full ↦ full
-            | inr enough ↦ (let same : m ≡ n = omega (arith, lt, ge) in absurd (none_goes e n s (room - length text) t (omega (arith, enough)) k.within none (subst (StreamGoes e) same goes)))
-          ]
+        over = λ m had goes. elim (had_before around first n (n + 1) m had) [
+          | inl before ↦ k.over m before goes
+          | inr (ge, lt) ↦ (let same : m ≡ n = omega (arith, lt, ge) in none_goes e n s 25 t (omega arith) k.within none (subst (StreamGoes e) same goes))
         ];
-        untouched = λ m le. k.untouched m (omega (arith, le));
+        untouched = λ m no. k.untouched m (λ had. no (had_still around first n (n + 1) m (omega arith) had)) (λ same. no (subst (HadTurn around first (n + 1)) (sym same) (now_had around first n k.on_way)));
       }
 
   -- the packet is full, as the room holds a chunk back
-  pub chunking_full : HasNoChunk s (room - length text) (e.known_data - all_sent e) → IsHeldByRoom s (room - length text) (e.known_data - all_sent e) → Packed room old text e
+  pub chunking_full : HasNoChunk s (room - length text) (e.known_data - all_sent e) → IsHeldByRoom s (room - length text) (e.known_data - all_sent e) → Packed first delay room old text e
   chunking_full none held =
       let few : room - length text < 19 = (held_by_room_or_limits s (room - length text) (e.known_data - all_sent e) t.lawful none).0 held in
-      record { frames = k.frames; fills = k.fills; spells = k.spells; acks = k.acks; within = k.within; whole = λ left. absurd (omega (arith, few, left, fits)) }
+      record { frames = k.frames; fills = k.fills; spells = k.spells; acks = k.acks; turns = k.turns; within = k.within; whole = λ left. absurd (omega (arith, few, left, fits)) }
 
   module _ (c : Chunk) (next : IsNextChunk s (room - length text) (e.known_data - all_sent e) c) (has : HasBytes s.lane c) (bytes : List ℕ) (is : bytes ≡ bytes_of s.lane c) (count : length bytes ≡ c.len) where
     abbrev frame : FrameValue
@@ -170,18 +211,20 @@ module _ (room : ℕ) (old : End) (text : List ℕ) (e : End) (n : ℕ) (k : Chu
         ])))
 
     -- one more chunk
-    pub chunking_next : Chunking room old text' after n
+    pub chunking_next : Chunking delay room old text' after around first n
     chunking_next =
         record {
           frames = k.frames ++ frame ∷ [];
           fills = subst (λ fs. Fills old old fs after) (sym (seen_push k.frames frame)) (fills_push old old e (seen_all k.frames) (Stream n c.offset bytes c.fin) k.fills (s.lane, may_carry e n s t c next.allowed.chunk bytes is count has clear_before));
-          spells = text_push k.frames text frame k.spells chunk_fits tt;
-          acks = all_push (NamesMost old room) k.frames frame k.acks tt;
+          spells = text_push delay k.frames text frame k.spells chunk_fits tt;
+          acks = all_push (NamesMost old delay room) k.frames frame k.acks tt;
+          turns = subst (AreInTurn first old) (sym (seen_push k.frames frame)) (turn_push first old old (seen_all k.frames) (Stream n c.offset bytes c.fin) e k.fills k.turns (λ m before. k.over m (comes_before around first m n k.on_way before)));
           within = omega (arith, chunk_known e n s t c next.allowed.chunk bytes count, chunk_sum e n s t c next.allowed.chunk bytes count, k.within, next.allowed.within_credit);
           ack = λ due. elim (k.ack due) [ inl full ↦ inl (omega (arith, len', full)) | inr (largest, ranges, there, all) ↦ inr (largest, ranges, more (Ack largest ranges) there, all) ];
           items = λ i due. more (Control i) (k.items i due);
-          below = λ m lt goes. omega (arith, len', k.below m lt (goes_other e n s t c next.allowed.chunk bytes count m (λ same. omega (arith, lt, same)) goes));
-          untouched = λ m lt d there. elim (chunk_only e n s t c next.allowed.chunk bytes count m d there) [ inl before ↦ k.untouched m lt d before | inr (same, new) ↦ omega (arith, lt, same) ];
+          on_way = k.on_way;
+          over = λ m had goes. k.over m had (goes_other e n s t c next.allowed.chunk bytes count m (λ same. not_yet around first n k.on_way (subst (HadTurn around first n) same had)) goes);
+          untouched = λ m no ne d there. elim (chunk_only e n s t c next.allowed.chunk bytes count m d there) [ inl before ↦ k.untouched m no ne d before | inr (same, new) ↦ ne same ];
           clear = clear_after (set.contains s.due.offsets (c.offset + c.len)) refl;
         }
       where
@@ -189,51 +232,91 @@ module _ (room : ℕ) (old : End) (text : List ℕ) (e : End) (n : ℕ) (k : Chu
         more x there = subst (Among x) (sym (seen_push k.frames frame)) (among_more (seen_all k.frames) (Stream n c.offset bytes c.fin ∷ []) x there)
 
 -- a stream that can't send
-pub flow_absent : (room : ℕ) (old : End) (text : List ℕ) (e : End) (n : ℕ) → send_lane e n ≡ None → Flowing room old text e n → Flowing room old text e (n + 1)
-flow_absent room old text e n none f =
+pub flow_absent : (delay room : ℕ) (old : End) (text : List ℕ) (e : End) (around : Bool) (first n : ℕ) → send_lane e n ≡ None → Flowing delay room old text e (turn_at around first n) → Flowing delay room old text e (turn_at around first (n + 1))
+flow_absent delay room old text e around first n none f =
     record {
       frames = f.frames;
       fills = f.fills;
       spells = f.spells;
       acks = f.acks;
+      turns = f.turns;
       within = f.within;
       ack = f.ack;
       items = f.items;
-      below = λ m lt goes. elim (cases_lt m n) [ inl before ↦ f.below m before goes | inr ge ↦ (let same : m ≡ n = omega (arith, lt, ge) in absurd (none-some goes.0 (sym none ∙ ap (send_lane e) (sym same) ∙ goes.1))) ];
-      untouched = λ m le. f.untouched m (omega (arith, le));
+      over = λ m had goes. elim (had_before around first n (n + 1) m had) [ inl before ↦ f.over m before goes | inr (ge, lt) ↦ (let same : m ≡ n = omega (arith, lt, ge) in absurd (none-some goes.0 (sym none ∙ ap (send_lane e) (sym same) ∙ goes.1))) ];
+      untouched = λ m no. f.untouched m (λ had. no (had_still around first n (n + 1) m (omega arith) had));
     }
 
 -- streams of which nothing goes
-pub flow_idle : (room : ℕ) (old : End) (text : List ℕ) (e : End) (b : Bool) (done next : ℕ) → done ≤ next → ((n : ℕ) → done ≤ n → n < next → StreamGoes e n → ⊥) → Flow room old text e b done → Flow room old text e b next
-flow_idle room old text e true done next le idle f = f
-flow_idle room old text e false done next le idle f =
+pub flow_idle : (delay room : ℕ) (old : End) (text : List ℕ) (e : End) (b : Bool) (around : Bool) (first done next : ℕ) → done ≤ next → ((n : ℕ) → done ≤ n → n < next → StreamGoes e n → ⊥) → Flow delay room old text e b (turn_at around first done) → Flow delay room old text e b (turn_at around first next)
+flow_idle delay room old text e true around first done next le idle f = f
+flow_idle delay room old text e false around first done next le idle f =
     record {
       frames = f.frames;
       fills = f.fills;
       spells = f.spells;
       acks = f.acks;
+      turns = f.turns;
       within = f.within;
       ack = f.ack;
       items = f.items;
-      below = λ m lt goes. elim (cases_lt m done) [ inl before ↦ f.below m before goes | inr ge ↦ absurd (idle m ge lt goes) ];
-      untouched = λ m past. f.untouched m (omega (arith, le, past));
+      over = λ m had goes. elim (had_before around first done next m had) [ inl before ↦ f.over m before goes | inr (ge, lt) ↦ absurd (idle m ge lt goes) ];
+      untouched = λ m no. f.untouched m (λ had. no (had_still around first done next m le had));
     }
 
--- all streams were looked at
-pub flow_packed : (room : ℕ) (old : End) (text : List ℕ) (e : End) (b : Bool) (done : ℕ) → ((n : ℕ) → done ≤ n → StreamGoes e n → ⊥) → Flow room old text e b done → Packed room old text e
-flow_packed room old text e true done past f = f
-flow_packed room old text e false done past f =
+-- all streams of the way were looked at
+pub flow_way : (delay room : ℕ) (old : End) (text : List ℕ) (e : End) (b : Bool) (around : Bool) (first done : ℕ) → ((n : ℕ) → done ≤ n → IsOnWay around first n → StreamGoes e n → ⊥) → Flow delay room old text e b (turn_at around first done) → Flow delay room old text e b (way_end around first)
+flow_way delay room old text e true false first done past f = f
+flow_way delay room old text e true true first done past f = f
+flow_way delay room old text e false false first done past f =
     record {
       frames = f.frames;
       fills = f.fills;
       spells = f.spells;
       acks = f.acks;
+      turns = f.turns;
+      within = f.within;
+      ack = f.ack;
+      items = f.items;
+      over = λ m had goes. elim had [
+        | inl ge ↦ elim (cases_lt m done) [ inl lt ↦ f.over m (ge, lt) goes | inr le ↦ past m le ge goes ]
+        | inr none ↦ absurd (omega (arith, none))
+      ];
+      untouched = λ m no. f.untouched m (λ (ge, lt). no (inl ge));
+    }
+flow_way delay room old text e false true first done past f =
+    record {
+      frames = f.frames;
+      fills = f.fills;
+      spells = f.spells;
+      acks = f.acks;
+      turns = f.turns;
+      within = f.within;
+      ack = f.ack;
+      items = f.items;
+      over = λ m had goes. elim had [
+        | inl ge ↦ f.over m (inl ge) goes
+        | inr on ↦ elim (cases_lt m done) [ inl lt ↦ f.over m (inr lt) goes | inr le ↦ past m le on goes ]
+      ];
+      untouched = λ m no c there. elim (cases_lt m first) [ inl lt ↦ no (inr lt) | inr ge ↦ no (inl ge) ];
+    }
+
+-- all streams had their turn
+pub flow_packed : (first delay room : ℕ) (old : End) (text : List ℕ) (e : End) (b : Bool) → Flow delay room old text e b (turn_at true first first) → Packed first delay room old text e
+flow_packed first delay room old text e true f = f
+flow_packed first delay room old text e false f =
+    record {
+      frames = f.frames;
+      fills = f.fills;
+      spells = f.spells;
+      acks = f.acks;
+      turns = f.turns;
       within = f.within;
       whole = λ left. record {
         ack = acked left;
         items = f.items;
         no_ack = no_ack old e (seen_all f.frames) f.fills (acked left);
-        no_stream = λ n goes. elim (cases_lt n done) [ inl lt ↦ absurd (omega (arith, left, f.below n lt goes)) | inr ge ↦ past n ge goes ];
+        no_stream = λ n goes. elim (cases_lt n first) [ inl lt ↦ f.over n (inr lt) goes | inr ge ↦ f.over n (inl ge) goes ];
       };
     }
   where
@@ -249,18 +332,18 @@ end_chunk t recvs o e n c bytes count = ap (λ k. end_by t recvs (chunk_put n (r
 lane_there : (o : Outgoing) (n : ℕ) (s : Sending) → HasSending o n s → or_none (lookup o.sends n) ≡ s.lane
 lane_there o n s h = ap or_none h.lane
 
-pub chunking_put : (t : Terms) (recvs : Tables RecvLane) (o : Outgoing) (e : End) (room : ℕ) (old : End) (before after : List ℕ) (len end n : ℕ) (c : Chunk) (left fresh : ℕ) (s : Sending) →
+pub chunking_put : (around : Bool) (first : ℕ) (t : Terms) (recvs : Tables RecvLane) (o : Outgoing) (e : End) (delay room : ℕ) (old : End) (before after : List ℕ) (len end n : ℕ) (c : Chunk) (left fresh : ℕ) (s : Sending) →
     HasSending o n s → IsNextChunk s left fresh c → HasBytes s.lane c → len ≤ length before → room ≡ length before → left ≡ length before - len → fresh ≡ t.known_data - sent_sum o.sends →
     length (bytes_of (or_none (lookup o.sends n)) c) ≡ c.len → take end after ≡ take len before ++ canonical (stream_frame o n c) →
-    Chunking room old (take len before) (end_by t recvs o e) n → Chunking room old (take end after) (end_by t recvs (chunk_put n c o) e) n
-chunking_put t recvs o e room old before after len end n c left fresh s h next has within at left_is fresh_is count text k =
+    Chunking delay room old (take len before) (end_by t recvs o e) around first n → Chunking delay room old (take end after) (end_by t recvs (chunk_put n c o) e) around first n
+chunking_put around first t recvs o e delay room old before after len end n c left fresh s h next has within at left_is fresh_is count text k =
     let there = end_by t recvs o e in
     let len_is : length (take len before) ≡ len = length-take-le len before within in
     let same : room - length (take len before) ≡ left = omega (arith, len_is, at, left_is) in
     let now : IsNextChunk s (room - length (take len before)) (there.known_data - all_sent there) c = subst (λ f. IsNextChunk s (room - length (take len before)) f c) fresh_is (subst (λ r. IsNextChunk s r fresh c) (sym same) next) in
     let bytes : List ℕ = bytes_of (or_none (lookup o.sends n)) c in
     let told : bytes ≡ bytes_of s.lane c = ap (λ l. bytes_of l c) (lane_there o n s h) in
-    rw (text, end_chunk t recvs o e n c bytes count) (chunking_next room old (take len before) there n k s (ties_of t recvs o e n s h) (omega (arith, len_is, at, within)) c now has bytes told count)
+    rw (text, end_chunk t recvs o e n c bytes count) (chunking_next delay room old (take len before) there around first n k s (ties_of t recvs o e n s h) (omega (arith, len_is, at, within)) c now has bytes told count)
 
 -- there is one half of each stream
 pub one_half : (e : End) (n : ℕ) (s s' : Sending) → Ties e n s → Ties e n s' → s ≡ s'
@@ -278,10 +361,10 @@ one_half e n s s' t t' = same_parts s s' lane offsets fin
     same_parts : (a b : Sending) → a.lane ≡ b.lane → a.due.offsets ≡ b.due.offsets → a.due.fin ≡ b.due.fin → a ≡ b
     same_parts a b lane offsets fin = λ i. record { lane = lane i; due = record { offsets = offsets i; fin = fin i } }
 
-pub flow_ends : (t : Terms) (recvs : Tables RecvLane) (o : Outgoing) (e : End) (room : ℕ) (old : End) (before : List ℕ) (len n left fresh : ℕ) (s s' : Sending) (full : Bool) →
+pub flow_ends : (around : Bool) (first : ℕ) (t : Terms) (recvs : Tables RecvLane) (o : Outgoing) (e : End) (delay room : ℕ) (old : End) (before : List ℕ) (len n left fresh : ℕ) (s s' : Sending) (full : Bool) →
     HasSending o n s → HasNoChunk s left fresh → HasSending o n s' → IsTrue full ↔ IsHeldByRoom s' left fresh → len ≤ length before → room ≡ length before → left ≡ length before - len → fresh ≡ t.known_data - sent_sum o.sends →
-    Chunking room old (take len before) (end_by t recvs o e) n → Flow room old (take len before) (end_by t recvs o e) full (n + 1)
-flow_ends t recvs o e room old before len n left fresh s s' full h none h' held within at left_is fresh_is k = go full refl
+    Chunking delay room old (take len before) (end_by t recvs o e) around first n → Flow delay room old (take len before) (end_by t recvs o e) full (turn_at around first (n + 1))
+flow_ends around first t recvs o e delay room old before len n left fresh s s' full h none h' held within at left_is fresh_is k = go full refl
   where
     there : End
     there = end_by t recvs o e
@@ -307,9 +390,12 @@ flow_ends t recvs o e room old before len n left fresh s s' full h none h' held 
     held_now : IsHeldByRoom s' left fresh → IsHeldByRoom s (room - length (take len before)) (there.known_data - all_sent there)
     held_now x = subst (λ f. IsHeldByRoom s (room - length (take len before)) f) fresh_is (subst (λ r. IsHeldByRoom s r fresh) room_is (subst (λ y. IsHeldByRoom y left fresh) same x))
 
-    go : (b : Bool) → full ≡ b → Flow room old (take len before) there b (n + 1)
-    go true is = chunking_full room old (take len before) there n k s tied fits now (held_now (held.0 is))
-    go false is = chunking_ends room old (take len before) there n k s tied fits now
+    held_then : IsHeldByRoom s (room - length (take len before)) (there.known_data - all_sent there) → IsHeldByRoom s' left fresh
+    held_then x = subst (λ y. IsHeldByRoom y left fresh) (sym same) (subst (λ r. IsHeldByRoom s r fresh) (sym room_is) (subst (λ f. IsHeldByRoom s (room - length (take len before)) f) (sym fresh_is) x))
+
+    go : (b : Bool) → full ≡ b → Flow delay room old (take len before) there b (turn_at around first (n + 1))
+    go true is = chunking_full delay room old (take len before) there around first n k s tied fits now (held_now (held.0 is))
+    go false is = chunking_ends delay room old (take len before) there around first n k s tied fits ((held_by_room_or_limits s (room - length (take len before)) (there.known_data - all_sent there) tied.lawful now).1 (λ x. true≢false (sym (held.1 (held_then x)) ∙ is)) 25)
 
 -- a stream's chunk opens no stream
 pub none_stays : (o : Outgoing) (n m : ℕ) (c : Chunk) → lookup o.sends m ≡ None → lookup (chunk_put n c o).sends m ≡ None
@@ -326,13 +412,13 @@ sum_within o n s c left fresh known h next is le = subst (λ x. sent_sum (update
 pub still_open : (o : Outgoing) (n : ℕ) (s : Sending) (c : Chunk) → HasSending o n s → is_some (lookup (chunk_put n c o).sends n) ≡ true
 still_open o n s c h = subst (λ x. is_some (lookup (updated o.sends n (λ l. sent_lane l c) x) n) ≡ true) (sym h.lane) (ap is_some (lookup_same o.sends n s.lane (sent_lane s.lane c) h.lane))
 
-pub flow_begins : (room : ℕ) (old : End) (text : List ℕ) (e : End) (b : Bool) (n : ℕ) → b ≡ false → Flow room old text e b n → Chunking room old text e n
-flow_begins room old text e true n is f = absurd (true≢false is)
-flow_begins room old text e false n is f = chunking_begins room old text e n f
+pub flow_begins : (delay room : ℕ) (old : End) (text : List ℕ) (e : End) (b : Bool) (around : Bool) (first n : ℕ) → b ≡ false → IsOnWay around first n → Flow delay room old text e b (turn_at around first n) → Chunking delay room old text e around first n
+flow_begins delay room old text e true around first n is on f = absurd (true≢false is)
+flow_begins delay room old text e false around first n is on f = chunking_begins delay room old text e around first n on f
 
-pub flow_full : (room : ℕ) (old : End) (text : List ℕ) (e : End) (b : Bool) (n m : ℕ) → b ≡ true → Flow room old text e b n → Flow room old text e b m
-flow_full room old text e true n m is f = f
-flow_full room old text e false n m is f = absurd (true≢false (sym is))
+pub flow_full : (delay room : ℕ) (old : End) (text : List ℕ) (e : End) (b : Bool) (around : Bool) (first n m : ℕ) → b ≡ true → Flow delay room old text e b (turn_at around first n) → Flow delay room old text e b (turn_at around first m)
+flow_full delay room old text e true around first n m is f = f
+flow_full delay room old text e false around first n m is f = absurd (true≢false (sym is))
 
 two : (t v : ℕ) (rest : List ℕ) → 2 ≤ length (short t ++ (short v ++ rest))
 two t v rest = omega (arith, length-append (short t) (short v ++ rest), length-append (short v) rest, short_positive t, short_positive v)
@@ -359,11 +445,12 @@ none_of : (o : Option SendLane) → is_some o ≡ false → o ≡ None
 none_of None is = refl
 none_of (Some l) is = absurd (true≢false is)
 
-pub flow_none : (room : ℕ) (old : End) (text : List ℕ) (e : End) (b : Bool) (n : ℕ) → is_some (send_lane e n) ≡ false → Flow room old text e b n → Flow room old text e b (n + 1)
-flow_none room old text e true n none f = f
-flow_none room old text e false n none f = flow_absent room old text e n (none_of (send_lane e n) none) f
+pub flow_none : (delay room : ℕ) (old : End) (text : List ℕ) (e : End) (b : Bool) (around : Bool) (first n : ℕ) → is_some (send_lane e n) ≡ false → Flow delay room old text e b (turn_at around first n) → Flow delay room old text e b (turn_at around first (n + 1))
+flow_none delay room old text e true around first n none f = f
+flow_none delay room old text e false around first n none f = flow_absent delay room old text e around first n (none_of (send_lane e n) none) f
 
 -- a packet that is full needs no more
-pub flow_whole : (room : ℕ) (old : End) (text : List ℕ) (e : End) (b : Bool) (n : ℕ) → b ≡ true → Flow room old text e b n → Packed room old text e
-flow_whole room old text e true n is f = f
-flow_whole room old text e false n is f = absurd (true≢false (sym is))
+pub flow_whole : (delay room : ℕ) (old : End) (text : List ℕ) (e : End) (b : Bool) (around : Bool) (first n : ℕ) → b ≡ true → Flow delay room old text e b (turn_at around first n) → Flow delay room old text e b (way_end around first)
+flow_whole delay room old text e true false first n is f = f
+flow_whole delay room old text e true true first n is f = f
+flow_whole delay room old text e false around first n is f = absurd (true≢false (sym is))

@@ -25,8 +25,8 @@ use Rattle.qs_conn.proofs.Stages.{packed_none, packed_some}
 
 -- Refusals
 
-pub make_exhausted : (v old : End) (room : ℕ) → v ≡ old → is_some v.closed ≡ false → MAX_VARINT < v.next → MakeStep old room (Err making.Exhausted) [] old
-make_exhausted v old room same clear past = subst (λ e. MakeStep e room (Err making.Exhausted) [] e) same (subst (λ r. MakeAt r v room (Err making.Exhausted) [] v) (sym is) (refl, refl, refl))
+pub make_exhausted : (v old : End) (first delay room : ℕ) → v ≡ old → is_some v.closed ≡ false → MAX_VARINT < v.next → MakeStep old first delay room (Err making.Exhausted) [] old
+make_exhausted v old first delay room same clear past = subst (λ e. MakeStep e first delay room (Err making.Exhausted) [] e) same (subst (λ r. MakeAt r v first delay room (Err making.Exhausted) [] v) (sym is) (refl, refl, refl))
   where
     is : make_refusal v ≡ Some making.Exhausted
     is = (let test : nat_le (MAX_VARINT + 1) v.next ≡ true = grind (arith, nat_tests, past) in rw (clear, test) refl)
@@ -49,12 +49,12 @@ abbrev pub outgoing_of : ℕ → End → Outgoing
 outgoing_of spare v = record { sends = v.sends; next = v.next; outstanding = v.outstanding; lost = v.lost; acked = v.acked; spare = spare }
 
 -- the call filled a packet
-module _ (v old : End) (same : v ≡ old) (t : Terms) (o o' : Outgoing) (spare room len : ℕ) (out : List ℕ) (idle : fmap.get v.outstanding v.next ≡ None) (t_is : t ≡ terms_of v) (o_is : o ≡ outgoing_of spare v)
-    (fills : (x : End) → end_by t v.recvs o x ≡ x → x.done ≡ v.done → x.ack_due ≡ v.ack_due → ((p : Piece) → InPacket x p → ⊥) → Packed room x (take len out) (end_by t v.recvs o' (record x { ack_due = false }))) where
+module _ (v old : End) (same : v ≡ old) (t : Terms) (o o' : Outgoing) (spare first delay room len : ℕ) (out : List ℕ) (idle : fmap.get v.outstanding v.next ≡ None) (t_is : t ≡ terms_of v) (o_is : o ≡ outgoing_of spare v)
+    (fills : (x : End) → end_by t v.recvs o x ≡ x → x.done ≡ v.done → x.ack_due ≡ v.ack_due → ((p : Piece) → InPacket x p → ⊥) → Packed first delay room x (take len out) (end_by t v.recvs o' (record x { ack_due = false }))) where
   abbrev pub filled : End
   filled = end_by t v.recvs o' (record v { ack_due = false })
 
-  packed : Packed room v (take len out) filled
+  packed : Packed first delay room v (take len out) filled
   packed = fills v parts refl refl (fresh_of v idle)
     where
       parts : end_by t v.recvs o v ≡ v
@@ -70,27 +70,27 @@ module _ (v old : End) (same : v ≡ old) (t : Terms) (o o' : Outgoing) (spare r
   filled_counted role c h = fills_counted role v v filled (seen_all packed.frames) c packed.fills h
 
   none_is : 25 ≤ room → len ≡ 0 → (Sendable v → ⊥) × (filled ≡ v)
-  none_is enough none = packed_none room v (take len out) filled packed enough (ap (λ k. take k out) none)
+  none_is enough none = packed_none first delay room v (take len out) filled packed enough (ap (λ k. take k out) none)
 
   same_parts : filled ≡ v → with_outgoing o' v ≡ v
   same_parts is = ap (λ (x : End). record v { sends = x.sends; next = x.next; outstanding = x.outstanding; lost = x.lost; acked = x.acked }) is
 
   -- it had nothing to send
-  pub make_none : is_some v.closed ≡ false → v.next ≤ MAX_VARINT → 25 ≤ room → len ≡ 0 → MakeStep old room (Ok None) [] (with_outgoing o' v)
+  pub make_none : is_some v.closed ≡ false → v.next ≤ MAX_VARINT → 25 ≤ room → len ≡ 0 → MakeStep old first delay room (Ok None) [] (with_outgoing o' v)
   make_none clear le enough none =
       let (quiet, is) = none_is enough none in
-      subst (λ e. MakeStep e room (Ok None) [] (with_outgoing o' v)) same (subst (λ r. MakeAt r v room (Ok None) [] (with_outgoing o' v)) (sym (no_refusal v clear le)) (quiet, refl, same_parts is))
+      subst (λ e. MakeStep e first delay room (Ok None) [] (with_outgoing o' v)) same (subst (λ r. MakeAt r v first delay room (Ok None) [] (with_outgoing o' v)) (sym (no_refusal v clear le)) (quiet, refl, same_parts is))
 
   pub idle_none : 25 ≤ room → len ≡ 0 → fmap.get o'.outstanding o'.next ≡ None
   idle_none enough none = (let (quiet, is) = none_is enough none in ap (λ (x : End). fmap.get x.outstanding x.next) is ∙ idle)
 
   -- it had some
   pub make_some : (new : End) (o'' : Outgoing) (number : ℕ) → is_some v.closed ≡ false → v.next ≤ MAX_VARINT → 0 < len → len ≤ room → length out ≡ room → number ≡ v.next → o'' ≡ record o' { next = o'.next + 1; spare = 0 } →
-      new ≡ settle (with_outgoing o'' (record v { ack_due = false })) → MakeStep old room (Ok (Some (record { number = number; len = len }))) (take len out) new
+      new ≡ settle (with_outgoing o'' (record v { ack_due = false })) → MakeStep old first delay room (Ok (Some (record { number = number; len = len }))) (take len out) new
   make_some new o'' number clear le some within count is after settled =
       let inside : length (take len out) ≡ len = length-take-le len out (omega (arith, within, count)) in
-      let made = packed_some room v (take len out) filled packed number len is (sym inside) within (λ none. omega (arith, some, inside, ap length none)) in
+      let made = packed_some first delay room v (take len out) filled packed number len is (sym inside) within (λ none. omega (arith, some, inside, ap length none)) in
       let mid : with_outgoing o'' (record v { ack_due = false }) ≡ record filled { next = v.next + 1 } = rw (after, t_is, filled_next) refl in
       let end : new ≡ settle (record filled { next = v.next + 1 }) = settled ∙ ap settle mid in
-      subst (λ e. MakeStep e room (Ok (Some (record { number = number; len = len }))) (take len out) new) same
-      (subst (λ r. MakeAt r v room (Ok (Some (record { number = number; len = len }))) (take len out) new) (sym (no_refusal v clear le)) (subst (IsMade v room (record { number = number; len = len }) (take len out)) (sym end) made))
+      subst (λ e. MakeStep e first delay room (Ok (Some (record { number = number; len = len }))) (take len out) new) same
+      (subst (λ r. MakeAt r v first delay room (Ok (Some (record { number = number; len = len }))) (take len out) new) (sym (no_refusal v clear le)) (subst (IsMade v first delay room (record { number = number; len = len }) (take len out)) (sym end) made))

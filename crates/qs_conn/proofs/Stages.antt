@@ -14,7 +14,7 @@ use Rattle.qs_machine.specs.Ends.{End}
 use Rattle.qs_machine.specs.Credit.{all_sent, settle}
 use Rattle.qs_machine.specs.Seen.{Seen, Ack, Stream, Control, Close, Plain, seen, seen_all}
 use Rattle.qs_machine.specs.Due.{Among, IsCurrent, IsCovered, IsDueItem, StreamGoes, Sendable}
-use Rattle.qs_machine.specs.Lawful.{Fills, AcksAll, IsWhole, frame_put}
+use Rattle.qs_machine.specs.Lawful.{Fills, AcksAll, IsWhole, IsInTurn, AreInTurn, frame_put}
 use Rattle.qs_machine.specs.Making.{IsMade, NamesMost}
 use Rattle.qs_conn.specs.Filling.{InPacket, slot_of, frame_of_item, no_slot, IsPassed, Begun, Packed}
 use Rattle.qs_conn.proofs.Pieces.{put_packet, among_more, among_last, due_more, end_due_more, item_ack_due}
@@ -28,16 +28,22 @@ pushed frames f s is P p = subst P (sym (seen_push frames f ∙ ap (λ x. seen_a
 acks_more : (old : End) (fs : List Seen) (f : Seen) → AcksAll old fs → AcksAll old (fs ++ f ∷ [])
 acks_more old fs f (largest, ranges, there, all) = (largest, ranges, among_more fs (f ∷ []) _ there, all)
 
+-- one more frame in its turn
+pub turn_push : (first : ℕ) (old e : End) (fs : List Seen) (f : Seen) (mid : End) → Fills old e fs mid → AreInTurn first e fs → IsInTurn first mid f → AreInTurn first e (fs ++ f ∷ [])
+turn_push first old e [] f mid is turns now = (subst (λ x. IsInTurn first x f) is now, tt)
+turn_push first old e (g ∷ fs) f mid (may, rest) (here, turns) now = (here, turn_push first old (frame_put g e) fs f mid rest turns now)
+
 -- Items
 
 -- a packet without a frame, where no ACK is due
-pub begun_first : (room : ℕ) (old : End) → all_sent old ≤ old.known_data → old.ack_due ≡ false → ((x : Piece) → InPacket old x → ⊥) → Begun room old [] old (λ s. ⊥)
-begun_first room old within none fresh =
+pub begun_first : (delay room : ℕ) (old : End) → all_sent old ≤ old.known_data → old.ack_due ≡ false → ((x : Piece) → InPacket old x → ⊥) → Begun delay room old [] old (λ s. ⊥)
+begun_first delay room old within none fresh =
     record {
       frames = [];
       fills = refl;
-      spells = no_text;
+      spells = no_text delay;
       acks = tt;
+      turns = λ first. tt;
       steady = refl;
       within = within;
       ack = λ due. absurd (true≢false (sym due ∙ none));
@@ -45,10 +51,10 @@ begun_first room old within none fresh =
       no_chunk = λ n c there. fresh (Data n c) there;
     }
 
-pub begun_none : (room : ℕ) (old : End) → all_sent old ≤ old.known_data → old.ack_due ≡ false → ((x : Piece) → InPacket old x → ⊥) → Begun room old [] (record old { ack_due = false }) (IsPassed no_slot)
-begun_none room old within none fresh = subst (λ b. Begun room old [] (record old { ack_due = b }) (IsPassed no_slot)) none (begun_first room old within none fresh)
+pub begun_none : (delay room : ℕ) (old : End) → all_sent old ≤ old.known_data → old.ack_due ≡ false → ((x : Piece) → InPacket old x → ⊥) → Begun delay room old [] (record old { ack_due = false }) (IsPassed no_slot)
+begun_none delay room old within none fresh = subst (λ b. Begun delay room old [] (record old { ack_due = b }) (IsPassed no_slot)) none (begun_first delay room old within none fresh)
 
-module _ (room : ℕ) (old : End) (text : List ℕ) (e : End) (P : Slot → Type 0) (b : Begun room old text e P) where
+module _ (delay room : ℕ) (old : End) (text : List ℕ) (e : End) (P : Slot → Type 0) (b : Begun delay room old text e P) where
   now : (i : Item) → IsCurrent old i → IsCurrent e i
   now = current_by_base old e (sym b.steady)
 
@@ -68,17 +74,18 @@ module _ (room : ℕ) (old : End) (text : List ℕ) (e : End) (P : Slot → Type
   covered_first i (inr acked) = inl (inr (acked_by_base e old b.steady i acked))
 
   -- fewer slots
-  pub begun_fewer : (Q : Slot → Type 0) → ((s : Slot) → Q s → P s) → Begun room old text e Q
-  begun_fewer Q fewer = record { frames = b.frames; fills = b.fills; spells = b.spells; acks = b.acks; steady = b.steady; within = b.within; ack = b.ack; items = λ i q due. b.items i (fewer (slot_of i) q) due; no_chunk = b.no_chunk }
+  pub begun_fewer : (Q : Slot → Type 0) → ((s : Slot) → Q s → P s) → Begun delay room old text e Q
+  begun_fewer Q fewer = record { frames = b.frames; fills = b.fills; spells = b.spells; acks = b.acks; turns = b.turns; steady = b.steady; within = b.within; ack = b.ack; items = λ i q due. b.items i (fewer (slot_of i) q) due; no_chunk = b.no_chunk }
 
   -- a slot of which nothing is current
-  pub begun_absent : (s : Slot) → ((j : Item) → slot_of j ≡ s → IsCurrent e j → ⊥) → Begun room old text e (λ t. P t ⊎ (t ≡ s))
+  pub begun_absent : (s : Slot) → ((j : Item) → slot_of j ≡ s → IsCurrent e j → ⊥) → Begun delay room old text e (λ t. P t ⊎ (t ≡ s))
   begun_absent s none =
       record {
         frames = b.frames;
         fills = b.fills;
         spells = b.spells;
         acks = b.acks;
+        turns = b.turns;
         steady = b.steady;
         within = b.within;
         ack = b.ack;
@@ -87,13 +94,14 @@ module _ (room : ℕ) (old : End) (text : List ℕ) (e : End) (P : Slot → Type
       }
 
   -- slots of which all that is current is covered
-  pub begun_idle : (Q : Slot → Type 0) → ((i : Item) → Q (slot_of i) → IsCurrent e i → IsCovered e i) → Begun room old text e (λ t. P t ⊎ Q t)
+  pub begun_idle : (Q : Slot → Type 0) → ((i : Item) → Q (slot_of i) → IsCurrent e i → IsCovered e i) → Begun delay room old text e (λ t. P t ⊎ Q t)
   begun_idle Q covered =
       record {
         frames = b.frames;
         fills = b.fills;
         spells = b.spells;
         acks = b.acks;
+        turns = b.turns;
         steady = b.steady;
         within = b.within;
         ack = b.ack;
@@ -103,13 +111,14 @@ module _ (room : ℕ) (old : End) (text : List ℕ) (e : End) (P : Slot → Type
 
   module _ (i : Item) (only : (j : Item) → slot_of j ≡ slot_of i → IsCurrent e j → j ≡ i) where
     -- a slot whose item is covered
-    pub begun_covered : IsCovered e i → Begun room old text e (λ t. P t ⊎ (t ≡ slot_of i))
+    pub begun_covered : IsCovered e i → Begun delay room old text e (λ t. P t ⊎ (t ≡ slot_of i))
     begun_covered covered =
         record {
           frames = b.frames;
           fills = b.fills;
           spells = b.spells;
           acks = b.acks;
+          turns = b.turns;
           steady = b.steady;
           within = b.within;
           ack = b.ack;
@@ -122,13 +131,14 @@ module _ (room : ℕ) (old : End) (text : List ℕ) (e : End) (P : Slot → Type
             elim (covered_first i covered) [ inl before ↦ absurd (due.1 (subst (IsCovered old) (sym same) before)) | inr a ↦ subst (λ k. Among (Control k) (seen_all b.frames)) (sym same) a ]
 
     -- its item is put
-    pub begun_item : IsDueItem e i → Fits (frame_of_item i) → Begun room old (text ++ canonical (frame_of_item i)) (frame_put (Control i) e) (λ t. P t ⊎ (t ≡ slot_of i))
+    pub begun_item : IsDueItem e i → Fits (frame_of_item i) → Begun delay room old (text ++ canonical (frame_of_item i)) (frame_put (Control i) e) (λ t. P t ⊎ (t ≡ slot_of i))
     begun_item due fits =
         record {
           frames = b.frames ++ frame_of_item i ∷ [];
           fills = pushed b.frames (frame_of_item i) (Control i) (seen_item i) (λ fs. Fills old old fs (frame_put (Control i) e)) (fills_push old old e (seen_all b.frames) (Control i) b.fills (due_first i due, due));
-          spells = text_push b.frames text (frame_of_item i) b.spells fits (plain_item i);
-          acks = all_push (NamesMost old room) b.frames (frame_of_item i) b.acks (item_most old room i);
+          spells = text_push delay b.frames text (frame_of_item i) b.spells fits (plain_item delay i);
+          acks = all_push (NamesMost old delay room) b.frames (frame_of_item i) b.acks (item_most old delay room i);
+          turns = λ first. pushed b.frames (frame_of_item i) (Control i) (seen_item i) (AreInTurn first old) (turn_push first old old (seen_all b.frames) (Control i) e b.fills (b.turns first) tt);
           steady = base_item i e ∙ b.steady;
           within = b.within;
           ack = λ is. elim (b.ack is) [
@@ -146,19 +156,20 @@ module _ (room : ℕ) (old : End) (text : List ℕ) (e : End) (P : Slot → Type
         not_told n c is = cc is
 
   -- Less than 25 bytes are left: nothing more is asked.
-  pub begun_full : room < length text + 25 → Packed room old text e
-  begun_full full =
+  pub begun_full : room < length text + 25 → (first : ℕ) → Packed first delay room old text e
+  begun_full full first =
       record {
         frames = b.frames;
         fills = b.fills;
         spells = b.spells;
         acks = b.acks;
+        turns = b.turns first;
         within = (let same = sum_by_base e old b.steady in let known = known_by_base e old b.steady in omega (arith, same, known, b.within));
         whole = λ left. absurd (omega (arith, full, left));
       }
 
   -- as where an item doesn't fit
-  pub begun_too_long : (i : Item) → Fits (frame_of_item i) → length text ≤ room → room - length text < length (canonical (frame_of_item i)) → Packed room old text e
+  pub begun_too_long : (i : Item) → Fits (frame_of_item i) → length text ≤ room → room - length text < length (canonical (frame_of_item i)) → (first : ℕ) → Packed first delay room old text e
   begun_too_long i fits within long = begun_full (omega (arith, within, long, control_short (frame_of_item i) (control_item i) fits))
 
 -- The end
@@ -203,18 +214,18 @@ goes_same e k n (l, lane, some) = (
   ],
 )
 
-module _ (room : ℕ) (old : End) (text : List ℕ) (e : End) (p : Packed room old text e) where
+module _ (first delay room : ℕ) (old : End) (text : List ℕ) (e : End) (p : Packed first delay room old text e) where
   -- a packet without a byte: there was nothing to send, and nothing changed
   pub packed_none : 25 ≤ room → text ≡ [] → (Sendable old → ⊥) × (e ≡ old)
   packed_none enough none =
-      let frames : p.frames ≡ [] = no_frames p.frames text p.spells none in
+      let frames : p.frames ≡ [] = no_frames delay p.frames text p.spells none in
       let fills : e ≡ old = subst (λ fs. Fills old old (seen_all fs) e) frames p.fills in
       let w : IsWhole old [] e = subst (λ fs. IsWhole old (seen_all fs) e) frames (p.whole (omega (arith, enough, ap length none))) in
       let v : IsWhole old [] old = subst (IsWhole old []) fills w in
       (λ goes. elim goes [ inl due ↦ (v.ack due).2 | inr (inl (i, due)) ↦ v.items i due | inr (inr (n, some)) ↦ v.no_stream n some ], fills)
 
   -- a packet with some
-  pub packed_some : (number len : ℕ) → number ≡ old.next → len ≡ length text → len ≤ room → text ≢ [] → IsMade old room (record { number = number; len = len }) text (settle (record e { next = old.next + 1 }))
+  pub packed_some : (number len : ℕ) → number ≡ old.next → len ≡ length text → len ≤ room → text ≢ [] → IsMade old first delay room (record { number = number; len = len }) text (settle (record e { next = old.next + 1 }))
   packed_some number len is count fits some =
       record {
         number = is;
@@ -223,6 +234,7 @@ module _ (room : ℕ) (old : End) (text : List ℕ) (e : End) (p : Packed room o
         frames = p.frames;
         spells = p.spells;
         acks = p.acks;
+        turn = p.turns;
         mid = record e { next = old.next + 1 };
         lawful = record { some = not_empty p.frames refl; filled = (e, p.fills, refl); within = p.within };
         whole = λ left. (

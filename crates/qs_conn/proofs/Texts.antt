@@ -1,5 +1,5 @@
 -- The text of a packet grows by one frame after the other.
-use Rattle.std.proofs.Common.{◌≡◌, ℕ, ◌+◌, ◌-◌, ◌<◌, ◌≤◌, List, [], ◌∷◌, ◌++◌, length, take, drop, get_or, refl, sym, ap, ◌∙◌, arith}
+use Rattle.std.proofs.Common.{◌≡◌, ℕ, ◌+◌, ◌-◌, ◌<◌, ◌≤◌, ◌^◌, List, [], ◌∷◌, ◌++◌, length, take, drop, get_or, refl, sym, ap, ◌∙◌, arith}
 use Rattle.std.specs.List.{AllByRecursion}
 use Rattle.std.proofs.lemmas.List.{length-append, length-take-le, take-append-drop, drop_at, map-append, append-nil}
 use borrow.Rule.Slice.PartMut.{put_mid}
@@ -23,14 +23,14 @@ all_push P [] x all p = (p, all)
 all_push P (y ∷ xs) x all p = (all.0, all_push P xs x all.1 p)
 
 -- no frame, no byte
-pub no_text : IsText [] []
-no_text = record { fits = tt; plain = tt; canonical = refl }
+pub no_text : (delay : ℕ) → IsText delay [] []
+no_text delay = record { fits = tt; plain = tt; canonical = refl }
 
-pub text_push : (frames : List FrameValue) (text : List ℕ) (f : FrameValue) → IsText frames text → Fits f → IsPlainAck f → IsText (frames ++ f ∷ []) (text ++ canonical f)
-text_push frames text f is fits plain =
+pub text_push : (delay : ℕ) (frames : List FrameValue) (text : List ℕ) (f : FrameValue) → IsText delay frames text → Fits f → IsPlainAck delay f → IsText delay (frames ++ f ∷ []) (text ++ canonical f)
+text_push delay frames text f is fits plain =
     record {
       fits = all_push Fits frames f is.fits fits;
-      plain = all_push IsPlainAck frames f is.plain plain;
+      plain = all_push (IsPlainAck delay) frames f is.plain plain;
       canonical = ap (λ t. t ++ canonical f) is.canonical ∙ ap (λ t. canonical_all frames ++ t) (sym (append-nil (canonical f))) ∙ sym (flat_map-append canonical frames (f ∷ []));
     }
 
@@ -49,26 +49,26 @@ seen_item (DataBlocked m) = refl
 seen_item (StreamDataBlocked n m) = refl
 seen_item (StreamsBlocked d m) = refl
 
-pub plain_item : (i : Item) → IsPlainAck (frame_of_item i)
-plain_item (MaxData m) = tt
-plain_item (MaxStreamData n m) = tt
-plain_item (MaxStreams d m) = tt
-plain_item (ResetStream n code size) = tt
-plain_item (StopSending n code) = tt
-plain_item (DataBlocked m) = tt
-plain_item (StreamDataBlocked n m) = tt
-plain_item (StreamsBlocked d m) = tt
+pub plain_item : (delay : ℕ) (i : Item) → IsPlainAck delay (frame_of_item i)
+plain_item delay (MaxData m) = tt
+plain_item delay (MaxStreamData n m) = tt
+plain_item delay (MaxStreams d m) = tt
+plain_item delay (ResetStream n code size) = tt
+plain_item delay (StopSending n code) = tt
+plain_item delay (DataBlocked m) = tt
+plain_item delay (StreamDataBlocked n m) = tt
+plain_item delay (StreamsBlocked d m) = tt
 
 -- no item is an ACK
-pub item_most : (old : End) (room : ℕ) (i : Item) → NamesMost old room (frame_of_item i)
-item_most old room (MaxData m) = tt
-item_most old room (MaxStreamData n m) = tt
-item_most old room (MaxStreams d m) = tt
-item_most old room (ResetStream n code size) = tt
-item_most old room (StopSending n code) = tt
-item_most old room (DataBlocked m) = tt
-item_most old room (StreamDataBlocked n m) = tt
-item_most old room (StreamsBlocked d m) = tt
+pub item_most : (old : End) (delay room : ℕ) (i : Item) → NamesMost old delay room (frame_of_item i)
+item_most old delay room (MaxData m) = tt
+item_most old delay room (MaxStreamData n m) = tt
+item_most old delay room (MaxStreams d m) = tt
+item_most old delay room (ResetStream n code size) = tt
+item_most old delay room (StopSending n code) = tt
+item_most old delay room (DataBlocked m) = tt
+item_most old delay room (StreamDataBlocked n m) = tt
+item_most old delay room (StreamsBlocked d m) = tt
 
 pub control_item : (i : Item) → IsControl (frame_of_item i)
 control_item (MaxData m) = tt
@@ -87,16 +87,16 @@ pub text_some : (f : FrameValue) → 0 < length (canonical f)
 unfolding canonical
 text_some f = (let s = spelled f in omega (arith, length-append (short (number_of_type s.type)) (short_fields (layout s.type) s.values), short_positive (number_of_type s.type)))
 
-pub no_frames : (frames : List FrameValue) (text : List ℕ) → IsText frames text → text ≡ [] → frames ≡ []
-no_frames [] text is none = refl
-no_frames (f ∷ frames) text is none =
+pub no_frames : (delay : ℕ) (frames : List FrameValue) (text : List ℕ) → IsText delay frames text → text ≡ [] → frames ≡ []
+no_frames delay [] text is none = refl
+no_frames delay (f ∷ frames) text is none =
     let len : length (canonical f ++ canonical_all frames) ≡ 0 = ap length (sym is.canonical ∙ none) in
     absurd (omega (arith, len, length-append (canonical f) (canonical_all frames), text_some f))
 
 -- Where an ACK of one range more would not fit, less than 25 bytes are left.
-pub ack_left : (pairs : List (ℕ × ℕ)) (k room : ℕ) → AreAckPairs pairs → 0 < k → k < length pairs → room < length (canonical (ack_of (take (k + 1) pairs))) → room < length (canonical (ack_of (take k pairs))) + 25
-ack_left [] k room is some more much = absurd (omega arith)
-ack_left (p ∷ ps) k room is some more much =
+pub ack_left : (delay : ℕ) (pairs : List (ℕ × ℕ)) (k room : ℕ) → AreAckPairs pairs → 0 < k → k < length pairs → room < length (canonical (ack_of delay (take (k + 1) pairs))) → room < length (canonical (ack_of delay (take k pairs))) + 25
+ack_left delay [] k room is some more much = absurd (omega arith)
+ack_left delay (p ∷ ps) k room is some more much =
     let i : ℕ = k - 1 in
     let here : i < length ps = omega arith in
     let lies = lies_below p.0 ps i (0, 0) is.apart.2 here in
@@ -104,12 +104,12 @@ ack_left (p ∷ ps) k room is some more much =
     let q = get_or ps i (0, 0) in
     let gap : length (short ((last_below p.0 (take i ps) - q.1) - 1)) ≤ 8 = short_most _ (omega (arith, above, is.apart.0, is.apart.1)) in
     let len : length (short ((q.1 - 1) - q.0)) ≤ 8 = short_most _ (omega (arith, lies.below, above, is.apart.0, is.apart.1)) in
-    let fewer = length-ack_take (p ∷ ps) ps i is refl (omega arith) in
-    let longer = length-ack_take (p ∷ ps) ps (i + 1) is refl (omega arith) in
+    let fewer = length-ack_take delay (p ∷ ps) ps i is refl (omega arith) in
+    let longer = length-ack_take delay (p ∷ ps) ps (i + 1) is refl (omega arith) in
     let one : i + 1 ≡ k = omega arith in
     let two : i + 1 + 1 ≡ k + 1 = omega arith in
-    let a : length (canonical (ack_of (take (i + 1) (p ∷ ps)))) ≡ length (canonical (ack_of (take k (p ∷ ps)))) = ap (λ n. length (canonical (ack_of (take n (p ∷ ps))))) one in
-    let b : length (canonical (ack_of (take (i + 1 + 1) (p ∷ ps)))) ≡ length (canonical (ack_of (take (k + 1) (p ∷ ps)))) = ap (λ n. length (canonical (ack_of (take n (p ∷ ps))))) two in
+    let a : length (canonical (ack_of delay (take (i + 1) (p ∷ ps)))) ≡ length (canonical (ack_of delay (take k (p ∷ ps)))) = ap (λ n. length (canonical (ack_of delay (take n (p ∷ ps))))) one in
+    let b : length (canonical (ack_of delay (take (i + 1 + 1) (p ∷ ps)))) ≡ length (canonical (ack_of delay (take (k + 1) (p ∷ ps)))) = ap (λ n. length (canonical (ack_of delay (take n (p ∷ ps))))) two in
     omega (arith, much, a, b, fewer, longer, text_more_len p.0 ps i (0, 0) here, gap, len)
 
 -- what stands behind a text that was written into the rest of a slice
@@ -119,10 +119,10 @@ behind_text out text new at more within len is =
     let front : length (take at out ++ text) ≡ at + more = omega (arith, length-append (take at out) text, length-take-le at out within, len) in
     ap (drop (at + more)) whole ∙ drop_at (take at out ++ text) (drop (at + more) out) (at + more) front
 
--- an ACK of one range has 19 bytes at most
-pub ack_one : (pairs : List (ℕ × ℕ)) → AreAckPairs pairs → length (canonical (ack_of (take 1 pairs))) ≤ 19
-ack_one [] is = absurd (omega (arith, is.some))
-ack_one (p ∷ ps) is =
+-- an ACK of one range has 26 bytes at most
+pub ack_one : (delay : ℕ) (pairs : List (ℕ × ℕ)) → delay < 2 ^ 62 → AreAckPairs pairs → length (canonical (ack_of delay (take 1 pairs))) ≤ 26
+ack_one delay [] small is = absurd (omega (arith, is.some))
+ack_one delay (p ∷ ps) small is =
     let largest : length (short (p.1 - 1)) ≤ 8 = short_most (p.1 - 1) (omega (arith, is.apart.0, is.apart.1)) in
     let len : length (short ((p.1 - 1) - p.0)) ≤ 8 = short_most ((p.1 - 1) - p.0) (omega (arith, is.apart.0, is.apart.1)) in
-    omega (arith, length-ack_take (p ∷ ps) ps 0 is refl (omega arith), largest, len)
+    omega (arith, length-ack_take delay (p ∷ ps) ps 0 is refl (omega arith), largest, len, short_most delay small)

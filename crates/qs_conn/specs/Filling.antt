@@ -29,7 +29,7 @@ use Rattle.qs_machine.specs.Seen.{Control, seen_all}
 use Rattle.qs_machine.specs.Due.{Among, IsCurrent, IsDueItem, StreamGoes}
 use Rattle.qs_machine.specs.Outgoing.{Outgoing, sent_sum, HasSending, WantsMore, item_put_out}
 use Rattle.qs_machine.specs.Sums.{or_none}
-use Rattle.qs_machine.specs.Lawful.{Fills, AcksAll, HasAll, pieces_so_far}
+use Rattle.qs_machine.specs.Lawful.{Fills, AcksAll, HasAll, AreInTurn, pieces_so_far}
 use Rattle.qs_machine.specs.Making.{IsText, NamesMost}
 
 -- what an item speaks of
@@ -153,48 +153,80 @@ abbrev pub InPacket : End → Piece → Type 0
 InPacket e x = Among x (pieces_so_far e e.next)
 
 -- A packet so far: an ACK and control items. Of the slots that were passed, all that was due is in it.
-pub record Begun (room : ℕ) (old : End) (text : List ℕ) (e : End) (P : Slot → Type 0) : Type 0 where
+pub record Begun (delay room : ℕ) (old : End) (text : List ℕ) (e : End) (P : Slot → Type 0) : Type 0 where
   pub frames : List FrameValue
   pub fills : Fills old old (seen_all frames) e
-  pub spells : IsText frames text
-  pub acks : AllByRecursion (NamesMost old room) frames
+  pub spells : IsText delay frames text
+  pub acks : AllByRecursion (NamesMost old delay room) frames
+  pub turns : (first : ℕ) → AreInTurn first old (seen_all frames)
   pub steady : base e ≡ base old
   pub within : all_sent old ≤ old.known_data
   pub ack : old.ack_due ≡ true → (room < length text + 25) ⊎ AcksAll old (seen_all frames)
   pub items : (i : Item) → P (slot_of i) → IsDueItem old i → Among (Control i) (seen_all frames)
   pub no_chunk : (n : ℕ) (c : Chunk) → InPacket e (Data n c) → ⊥
 
--- A packet so far, with all control items that were due. Streams below `done` have nothing to send any more, or the packet is full; of
--- those from `done` on nothing is in it.
-pub record Flowing (room : ℕ) (old : End) (text : List ℕ) (e : End) (done : ℕ) : Type 0 where
+-- How far the turns of streams are, that begin at `first`: those from there on and below `at` had theirs; or, on the way around, all
+-- those and the ones below `at`.
+pub record Turn : Type 0 where
+  pub around : Bool
+  pub first : ℕ
+  pub at : ℕ
+
+abbrev pub turn_at : Bool → (first at : ℕ) → Turn
+turn_at around first at = record { around = around; first = first; at = at }
+
+abbrev pub HadTurn : Bool → (first at n : ℕ) → Type 0
+HadTurn false first at n = (first ≤ n) × (n < at)
+HadTurn true first at n = (first ≤ n) ⊎ (n < at)
+
+-- the stream is one of this way
+abbrev pub IsOnWay : Bool → (first n : ℕ) → Type 0
+IsOnWay false first n = first ≤ n
+IsOnWay true first n = n < first
+
+-- where the way begins
+abbrev pub start_of : Bool → ℕ → ℕ
+start_of false first = first
+start_of true first = 0
+
+-- the turns once each stream of the way had its own
+abbrev pub way_end : Bool → ℕ → Turn
+way_end false first = turn_at true first 0
+way_end true first = turn_at true first first
+
+-- A packet so far, with all control items that were due. Streams that had their turn have nothing to send any more; of the others nothing
+-- is in it.
+pub record Flowing (delay room : ℕ) (old : End) (text : List ℕ) (e : End) (t : Turn) : Type 0 where
   pub frames : List FrameValue
   pub fills : Fills old old (seen_all frames) e
-  pub spells : IsText frames text
-  pub acks : AllByRecursion (NamesMost old room) frames
+  pub spells : IsText delay frames text
+  pub acks : AllByRecursion (NamesMost old delay room) frames
+  pub turns : AreInTurn t.first old (seen_all frames)
   pub within : all_sent e ≤ e.known_data
   pub ack : old.ack_due ≡ true → (room < length text + 25) ⊎ AcksAll old (seen_all frames)
   pub items : (i : Item) → IsDueItem old i → Among (Control i) (seen_all frames)
-  pub below : (n : ℕ) → n < done → StreamGoes e n → room < length text + 25
-  pub untouched : (n : ℕ) → done ≤ n → (c : Chunk) → InPacket e (Data n c) → ⊥
+  pub over : (n : ℕ) → HadTurn t.around t.first t.at n → StreamGoes e n → ⊥
+  pub untouched : (n : ℕ) → (HadTurn t.around t.first t.at n → ⊥) → (c : Chunk) → InPacket e (Data n c) → ⊥
 
 -- A packet that needs no more: it has all, or no room for an item more.
-pub record Packed (room : ℕ) (old : End) (text : List ℕ) (e : End) : Type 0 where
+pub record Packed (first delay room : ℕ) (old : End) (text : List ℕ) (e : End) : Type 0 where
   pub frames : List FrameValue
   pub fills : Fills old old (seen_all frames) e
-  pub spells : IsText frames text
-  pub acks : AllByRecursion (NamesMost old room) frames
+  pub spells : IsText delay frames text
+  pub acks : AllByRecursion (NamesMost old delay room) frames
+  pub turns : AreInTurn first old (seen_all frames)
   pub within : all_sent e ≤ e.known_data
   pub whole : HasAll room (length text) old (seen_all frames) e
 
--- a packet with the streams below a number, or one that is full
-abbrev pub Flow : ℕ → End → List ℕ → End → Bool → ℕ → Type 0
-Flow room old text e true done = Packed room old text e
-Flow room old text e false done = Flowing room old text e done
+-- a packet with the streams that had their turn, or one that is full
+abbrev pub Flow : (delay room : ℕ) → End → List ℕ → End → Bool → Turn → Type 0
+Flow delay room old text e true t = Packed t.first delay room old text e
+Flow delay room old text e false t = Flowing delay room old text e t
 
 -- a packet so far, or one that is full
-abbrev pub Stage : ℕ → End → List ℕ → End → Bool → Passed → Type 0
-Stage room old text e true passed = Packed room old text e
-Stage room old text e false passed = Begun room old text e (IsPassed passed)
+abbrev pub Stage : (delay room : ℕ) → End → List ℕ → End → Bool → Passed → Type 0
+Stage delay room old text e true passed = (first : ℕ) → Packed first delay room old text e
+Stage delay room old text e false passed = Begun delay room old text e (IsPassed passed)
 
 -- the frame of a chunk, with the written bytes
 abbrev pub stream_frame : Outgoing → ℕ → Chunk → FrameValue

@@ -1,5 +1,5 @@
 //! A packet is filled: what is due goes into a slice, frame by frame.
-ghost use Rattle.std.specs.Prelude.{◌≡◌, ◌+◌, ◌-◌, ◌≤◌, ◌<◌, ◌++◌, ◌^◌, ℕ, true, false, None, is_some, length, take, drop, IfSome, IfNone};
+ghost use Rattle.std.specs.Prelude.{◌≡◌, ◌+◌, ◌-◌, ◌≤◌, ◌<◌, ◌↔◌, ◌++◌, ◌^◌, ℕ, IsTrue, Bool, true, false, None, is_some, length, take, drop, IfSome, IfNone};
 ghost use Rattle.qs_recv.specs.Lane.{RecvLane};
 ghost use Rattle.std.specs.FinSet as set;
 ghost use Rattle.qs_ranges.specs.Numbers.{MAX_VARINT, run_starts};
@@ -17,7 +17,7 @@ ghost use Rattle.qs_machine.specs.Due.{IsCovered};
 ghost use Rattle.qs_machine.specs.Outgoing.{IsCarried, MayTell, sent_sum, on_lane, chunk_put};
 ghost use Rattle.qs_machine.specs.Sums.{or_none};
 ghost use Rattle.qs_conn.specs.Marks.{IsBefore, IsIdle};
-ghost use Rattle.qs_conn.specs.Filling.{frame_of_item, slot_at, end_by, TermsFit, HasSpare, PutsItem, Passed, no_slot, and_slot, and_kind, all_items, Stage, Flow, Packed, InPacket, Begun, IsPassed, MayGo, stream_frame};
+ghost use Rattle.qs_conn.specs.Filling.{frame_of_item, slot_at, end_by, TermsFit, HasSpare, PutsItem, Passed, no_slot, and_slot, and_kind, all_items, Stage, Flow, Packed, InPacket, Begun, IsPassed, MayGo, stream_frame, turn_at, start_of, way_end, IsOnWay};
 
 use crate::outbox::Outbox;
 use crate::recv_tables::RecvTables;
@@ -133,9 +133,9 @@ pub(crate) fn put_slot(
     requires terms { TermsFit terms.now }
     requires within { packet.len ≤ length out.old }
     requires spare { HasSpare (length out.old) packet.len outbox.old.spare }
-    ensures stage { (room : ℕ) (old e : End) (passed : Passed) → room ≡ length out.old
-        → Stage room old (take packet.len out.old) (end_by terms.now recvs.now outbox.old e) packet.is_full passed
-        → Stage room old (take result.len out.new) (end_by terms.now recvs.now outbox.new e) result.is_full (and_slot passed slot) }
+    ensures stage { (delay room : ℕ) (old e : End) (passed : Passed) → room ≡ length out.old
+        → Stage delay room old (take packet.len out.old) (end_by terms.now recvs.now outbox.old e) packet.is_full passed
+        → Stage delay room old (take result.len out.new) (end_by terms.now recvs.now outbox.new e) result.is_full (and_slot passed slot) }
     ensures sum { sent_sum outbox.new.sends ≡ sent_sum outbox.old.sends }
     ensures within { result.len ≤ length out.new }
     ensures spare { HasSpare (length out.new) result.len outbox.new.spare }
@@ -184,9 +184,9 @@ pub(crate) fn put_kind(
     requires terms { TermsFit terms.now }
     requires within { packet.len ≤ length out.old }
     requires spare { HasSpare (length out.old) packet.len outbox.old.spare }
-    ensures stage { (room : ℕ) (old e : End) (passed : Passed) → room ≡ length out.old
-        → Stage room old (take packet.len out.old) (end_by terms.now recvs.now outbox.old e) packet.is_full passed
-        → Stage room old (take result.len out.new) (end_by terms.now recvs.now outbox.new e) result.is_full (and_kind passed kind) }
+    ensures stage { (delay room : ℕ) (old e : End) (passed : Passed) → room ≡ length out.old
+        → Stage delay room old (take packet.len out.old) (end_by terms.now recvs.now outbox.old e) packet.is_full passed
+        → Stage delay room old (take result.len out.new) (end_by terms.now recvs.now outbox.new e) result.is_full (and_kind passed kind) }
     ensures sum { sent_sum outbox.new.sends ≡ sent_sum outbox.old.sends }
     ensures within { result.len ≤ length out.new }
     ensures spare { HasSpare (length out.new) result.len outbox.new.spare }
@@ -218,9 +218,9 @@ pub(crate) fn put_items(
     requires terms { TermsFit terms.now }
     requires within { packet.len ≤ length out.old }
     requires spare { HasSpare (length out.old) packet.len outbox.old.spare }
-    ensures stage { (room : ℕ) (old e : End) → room ≡ length out.old
-        → Stage room old (take packet.len out.old) (end_by terms.now recvs.now outbox.old e) packet.is_full no_slot
-        → Stage room old (take result.len out.new) (end_by terms.now recvs.now outbox.new e) result.is_full all_items }
+    ensures stage { (delay room : ℕ) (old e : End) → room ≡ length out.old
+        → Stage delay room old (take packet.len out.old) (end_by terms.now recvs.now outbox.old e) packet.is_full no_slot
+        → Stage delay room old (take result.len out.new) (end_by terms.now recvs.now outbox.new e) result.is_full all_items }
     ensures sum { sent_sum outbox.new.sends ≡ sent_sum outbox.old.sends }
     ensures within { result.len ≤ length out.new }
     ensures spare { HasSpare (length out.new) result.len outbox.new.spare }
@@ -291,9 +291,9 @@ pub(crate) fn put_chunks(
     requires open { is_some (lookup outbox.old.sends stream) ≡ true }
     requires within { packet.len ≤ length out.old }
     requires spare { HasSpare (length out.old) packet.len outbox.old.spare }
-    ensures flow { (recvs : Tables RecvLane) (room : ℕ) (old e : End) → room ≡ length out.old
-        → Flow room old (take packet.len out.old) (end_by terms.now recvs outbox.old e) packet.is_full stream
-        → Flow room old (take result.len out.new) (end_by terms.now recvs outbox.new e) result.is_full (stream + 1) }
+    ensures flow { (around : Bool) (first : ℕ) (recvs : Tables RecvLane) (delay room : ℕ) (old e : End) → room ≡ length out.old → IsOnWay around first stream
+        → Flow delay room old (take packet.len out.old) (end_by terms.now recvs outbox.old e) packet.is_full (turn_at around first stream)
+        → Flow delay room old (take result.len out.new) (end_by terms.now recvs outbox.new e) result.is_full (turn_at around first (stream + 1)) }
     ensures lanes { (n : ℕ) → lookup outbox.old.sends n ≡ None → lookup outbox.new.sends n ≡ None }
     ensures credit { sent_sum outbox.new.sends ≤ terms.now.known_data }
     ensures within { result.len ≤ length out.new }
@@ -325,9 +325,9 @@ fn put_stream(
     requires credit { sent_sum outbox.old.sends ≤ terms.now.known_data }
     requires within { packet.len ≤ length out.old }
     requires spare { HasSpare (length out.old) packet.len outbox.old.spare }
-    ensures flow { (recvs : Tables RecvLane) (room : ℕ) (old e : End) → room ≡ length out.old
-        → Flow room old (take packet.len out.old) (end_by terms.now recvs outbox.old e) packet.is_full stream
-        → Flow room old (take result.len out.new) (end_by terms.now recvs outbox.new e) result.is_full (stream + 1) }
+    ensures flow { (around : Bool) (first : ℕ) (recvs : Tables RecvLane) (delay room : ℕ) (old e : End) → room ≡ length out.old → IsOnWay around first stream
+        → Flow delay room old (take packet.len out.old) (end_by terms.now recvs outbox.old e) packet.is_full (turn_at around first stream)
+        → Flow delay room old (take result.len out.new) (end_by terms.now recvs outbox.new e) result.is_full (turn_at around first (stream + 1)) }
     ensures lanes { (n : ℕ) → lookup outbox.old.sends n ≡ None → lookup outbox.new.sends n ≡ None }
     ensures credit { sent_sum outbox.new.sends ≤ terms.now.known_data }
     ensures within { result.len ≤ length out.new }
@@ -340,27 +340,53 @@ fn put_stream(
     packet
 }
 
-/// Puts the bytes of all streams into the packet, lower numbers first, as far as the limits and the room allow.
-pub(crate) fn put_streams(
+// Where the way begins: at `first`, or, on the way around, at the least stream.
+fn way_start(around: bool, first: u64) -> u64
+    requires { first < 2 ^ 62 }
+    ensures value { result ≡ start_of around first }
+    ensures small { result ≤ 2 ^ 62 }
+{
+    if around { 0 } else { first }
+}
+
+// Whether a stream is one of the way: from `first` on, or, on the way around, below it.
+fn is_on_way(around: bool, first: u64, stream: StreamId) -> bool
+    ensures { IsTrue result ↔ IsOnWay around first stream }
+{
+    if around {
+        return stream.value() < first;
+    }
+    stream.value() >= first
+}
+
+// Puts the bytes of the streams of a way into the packet, lower numbers first, as far as the limits and the room allow.
+fn put_way(
     terms: &Terms,
     outbox: &mut Outbox,
+    first: u64,
+    around: bool,
     out: &mut [u8],
     packet: Packet,
 ) -> Packet
+    requires first { first < 2 ^ 62 }
     requires terms { TermsFit terms.now }
     requires credit { sent_sum outbox.old.sends ≤ terms.now.known_data }
     requires within { packet.len ≤ length out.old }
     requires spare { HasSpare (length out.old) packet.len outbox.old.spare }
-    ensures packed { (recvs : Tables RecvLane) (room : ℕ) (old e : End) → room ≡ length out.old
-        → Flow room old (take packet.len out.old) (end_by terms.now recvs outbox.old e) packet.is_full 0
-        → Packed room old (take result.len out.new) (end_by terms.now recvs outbox.new e) }
+    ensures flow { (recvs : Tables RecvLane) (delay room : ℕ) (old e : End) → room ≡ length out.old
+        → Flow delay room old (take packet.len out.old) (end_by terms.now recvs outbox.old e) packet.is_full (turn_at around first (start_of around first))
+        → Flow delay room old (take result.len out.new) (end_by terms.now recvs outbox.new e) result.is_full (way_end around first) }
+    ensures credit { sent_sum outbox.new.sends ≤ terms.now.known_data }
     ensures within { result.len ≤ length out.new }
     ensures spare { HasSpare (length out.new) result.len outbox.new.spare }
     ensures room { length out.new ≡ length out.old }
 {
     let mut packet = packet;
-    let mut from = 0;
+    let mut from = way_start(around, first);
     while let Some(stream) = outbox.next_marked(Task::Bytes, from) {
+        if !is_on_way(around, first, stream) {
+            return packet;
+        }
         packet = put_stream(terms, outbox, stream, out, packet);
         if packet.is_full {
             return packet;
@@ -370,13 +396,40 @@ pub(crate) fn put_streams(
     packet
 }
 
-/// Writes an ACK of the kept numbers at the slice's front, the highest ranges first and as many as fit, and answers its length.
-pub(crate) fn put_kept(done: &RangeSet, out: &mut [u8]) -> usize
+/// Puts the bytes of all streams into the packet, those from `first` on before the others and lower numbers first, as far as the limits
+/// and the room allow.
+pub(crate) fn put_streams(
+    terms: &Terms,
+    outbox: &mut Outbox,
+    first: u64,
+    out: &mut [u8],
+    packet: Packet,
+) -> Packet
+    requires first { first < 2 ^ 62 }
+    requires terms { TermsFit terms.now }
+    requires credit { sent_sum outbox.old.sends ≤ terms.now.known_data }
+    requires within { packet.len ≤ length out.old }
+    requires spare { HasSpare (length out.old) packet.len outbox.old.spare }
+    ensures packed { (recvs : Tables RecvLane) (delay room : ℕ) (old e : End) → room ≡ length out.old
+        → Flow delay room old (take packet.len out.old) (end_by terms.now recvs outbox.old e) packet.is_full (turn_at false first first)
+        → Packed first delay room old (take result.len out.new) (end_by terms.now recvs outbox.new e) }
+    ensures within { result.len ≤ length out.new }
+    ensures spare { HasSpare (length out.new) result.len outbox.new.spare }
+    ensures room { length out.new ≡ length out.old }
+{
+    let packet = put_way(terms, outbox, first, false, out, packet);
+    put_way(terms, outbox, first, true, out, packet)
+}
+
+/// Writes an ACK of the kept numbers at the slice's front, which tells a delay, the highest ranges first and as many as fit, and answers
+/// its length.
+pub(crate) fn put_kept(done: &RangeSet, delay: u64, out: &mut [u8]) -> usize
+    requires delay { delay < 2 ^ 62 }
     requires some { 0 < set.len (run_starts done.now) }
     requires few { set.len (run_starts done.now) ≤ 32 }
-    requires space { 25 ≤ length out.old }
+    requires space { 26 ≤ length out.old }
     ensures begun { (old : End) → old.done ≡ done.now → old.ack_due ≡ true → all_sent old ≤ old.known_data → ((x : Piece) → InPacket old x → ⊥)
-        → Begun (length out.old) old (take result out.new) (record old { ack_due = false }) (IsPassed no_slot) }
+        → Begun delay (length out.old) old (take result out.new) (record old { ack_due = false }) (IsPassed no_slot) }
     ensures within { result ≤ length out.new }
     ensures room { length out.new ≡ length out.old }
 {
@@ -385,26 +438,34 @@ pub(crate) fn put_kept(done: &RangeSet, out: &mut [u8]) -> usize
     let highest = &mut pairs[..runs.len()];
     highest.copy_from_slice(runs);
     highest.reverse();
-    match put_ack(highest, out) {
+    match put_ack(highest, delay, out) {
         Ok((_count, len)) => len,
         Err(_full) => 0,
     }
 }
 
 // Begins a packet with an ACK, if one is due.
-fn put_ack_if(done: &RangeSet, ack_due: bool, out: &mut [u8]) -> usize
+fn put_ack_if(done: &RangeSet, ack_due: bool, delay: u64, out: &mut [u8]) -> usize
+    requires delay { delay < 2 ^ 62 }
     requires acks { ack_due ≡ true → 0 < set.len (run_starts done.now) }
     requires few { set.len (run_starts done.now) ≤ 32 }
-    requires space { 25 ≤ length out.old }
+    requires space { 26 ≤ length out.old }
     ensures begun { (old : End) → old.done ≡ done.now → old.ack_due ≡ ack_due → all_sent old ≤ old.known_data → ((x : Piece) → InPacket old x → ⊥)
-        → Begun (length out.old) old (take result out.new) (record old { ack_due = false }) (IsPassed no_slot) }
+        → Begun delay (length out.old) old (take result out.new) (record old { ack_due = false }) (IsPassed no_slot) }
     ensures within { result ≤ length out.new }
     ensures room { length out.new ≡ length out.old }
 {
     if ack_due {
-        return put_kept(done, out);
+        return put_kept(done, delay, out);
     }
     0
+}
+
+/// What a packet is to hold beside what is due: from which stream on bytes go in, and the delay that an ACK tells.
+#[derive(Clone, Copy, Drop)]
+pub(crate) struct Wish {
+    pub first: u64,
+    pub delay: u64,
 }
 
 /// Fills a packet from its first byte on, and answers how many bytes it has: the ACK if one is due, control items, and the bytes of
@@ -415,26 +476,29 @@ pub(crate) fn fill(
     done: &RangeSet,
     ack_due: bool,
     outbox: &mut Outbox,
+    wish: Wish,
     out: &mut [u8],
 ) -> usize
+    requires first { wish.first < 2 ^ 62 }
+    requires delay { wish.delay < 2 ^ 62 }
     requires terms { TermsFit terms.now }
     requires credit { sent_sum outbox.old.sends ≤ terms.now.known_data }
     requires acks { ack_due ≡ true → 0 < set.len (run_starts done.now) }
     requires few { set.len (run_starts done.now) ≤ 32 }
-    requires space { 25 ≤ length out.old }
+    requires space { 26 ≤ length out.old }
     requires spare { HasSpare (length out.old) 0 outbox.old.spare }
     ensures packed { (old : End) → end_by terms.now recvs.now outbox.old old ≡ old → old.done ≡ done.now → old.ack_due ≡ ack_due
         → ((x : Piece) → InPacket old x → ⊥)
-        → Packed (length out.old) old (take result out.new) (end_by terms.now recvs.now outbox.new (record old { ack_due = false })) }
+        → Packed wish.first wish.delay (length out.old) old (take result out.new) (end_by terms.now recvs.now outbox.new (record old { ack_due = false })) }
     ensures within { result ≤ length out.new }
     ensures room { length out.new ≡ length out.old }
 {
-    let len = put_ack_if(done, ack_due, out);
+    let len = put_ack_if(done, ack_due, wish.delay, out);
     let start = Packet {
         len,
         is_full: false,
     };
     let packet = put_items(terms, recvs, outbox, out, start);
-    let packet = put_streams(terms, outbox, out, packet);
+    let packet = put_streams(terms, outbox, wish.first, out, packet);
     packet.len
 }

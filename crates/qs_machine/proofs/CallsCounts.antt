@@ -91,13 +91,13 @@ module _ (P : End → Type 0) (old : End) (kept : P old) (settles : (mid : End) 
   receive_by (Some (ByUs closing)) number payload result new step = becomes new step.1
   receive_by (Some (ByPeer code)) number payload result new step = becomes new step.1
 
-  make_by : (r : Option MakeFault) (room : ℕ) (answer : Result (Option Made) MakeFault) (text : List ℕ) (new : End) → MakeAt r old room answer text new → P new
-  make_by (Some fault) room answer text new step = becomes new step.2
-  make_by None room (Ok (Some made)) text new step = settled step.mid new step.after
-  make_by None room (Ok None) text new step = becomes new step.2
-  make_by None room (Err making.NoMemory) text new step = becomes new step.2
-  make_by None room (Err making.Closed) text new step = absurd step
-  make_by None room (Err making.Exhausted) text new step = absurd step
+  make_by : (r : Option MakeFault) (first delay room : ℕ) (answer : Result (Option Made) MakeFault) (text : List ℕ) (new : End) → MakeAt r old first delay room answer text new → P new
+  make_by (Some fault) first delay room answer text new step = becomes new step.2
+  make_by None first delay room (Ok (Some made)) text new step = settled step.mid new step.after
+  make_by None first delay room (Ok None) text new step = becomes new step.2
+  make_by None first delay room (Err making.NoMemory) text new step = becomes new step.2
+  make_by None first delay room (Err making.Closed) text new step = absurd step
+  make_by None first delay room (Err making.Exhausted) text new step = absurd step
 
   module _ (loses : (k : ℕ) (ps : List Piece) → P (losses k ps old)) where
     lost : (k : ℕ) (ps : List Piece) (new : End) → new ≡ losses k ps old → P new
@@ -125,7 +125,7 @@ module _ (P : End → Type 0) (old : End) (kept : P old) (settles : (mid : End) 
         by_refusal (P new) (recv_refusal old n) old answer new _ step (becomes new) (λ done. settled (on_recv n (λ m. stop m code) old) new done.1)
     ends_by (ReadUpTo n size) answer new step = read_by (recv_refusal old n) n size answer.0 answer.1 new step
     ends_by (Receive k payload) answer new step = receive_by old.closed k payload answer new step
-    ends_by (Make room) answer new step = make_by (make_refusal old) room answer.0 answer.1 new step
+    ends_by (Make first delay room) answer new step = make_by (make_refusal old) first delay room answer.0 answer.1 new step
     ends_by (Lose k) answer new step = lose_by k answer new step
     ends_by (ClosingPayload slice) answer new step = becomes new step.1
     ends_by Stored answer new step = becomes new step.1
@@ -282,15 +282,15 @@ module _ (old : End) (sound : IsSound old) (sent : SentWasWritten old) where
   rises_receive (Some (ByUs closing)) number payload result new step = rises_same new step.1
   rises_receive (Some (ByPeer code)) number payload result new step = rises_same new step.1
 
-  rises_make : (r : Option MakeFault) (room : ℕ) (answer : Result (Option Made) MakeFault) (text : List ℕ) (new : End) → MakeAt r old room answer text new → CountsRise old new
-  rises_make (Some fault) room answer text new step = rises_same new step.2
-  rises_make None room (Ok (Some made)) text new m =
+  rises_make : (r : Option MakeFault) (first delay room : ℕ) (answer : Result (Option Made) MakeFault) (text : List ℕ) (new : End) → MakeAt r old first delay room answer text new → CountsRise old new
+  rises_make (Some fault) first delay room answer text new step = rises_same new step.2
+  rises_make None first delay room (Ok (Some made)) text new m =
       let (mid, fills, after) = m.lawful.filled in
       rises_settled m.mid new m.after (subst (Moves old) (sym after) (moves_fills old old (seen_all m.frames) mid fills))
-  rises_make None room (Ok None) text new step = rises_same new step.2
-  rises_make None room (Err making.NoMemory) text new step = rises_same new step.2
-  rises_make None room (Err making.Closed) text new step = absurd step
-  rises_make None room (Err making.Exhausted) text new step = absurd step
+  rises_make None first delay room (Ok None) text new step = rises_same new step.2
+  rises_make None first delay room (Err making.NoMemory) text new step = rises_same new step.2
+  rises_make None first delay room (Err making.Closed) text new step = absurd step
+  rises_make None first delay room (Err making.Exhausted) text new step = absurd step
 
   -- a half that takes bytes wasn't finished
   half_allowed : (closed other : Bool) (o : Option SendLane) → first_refusal (refuse_if closed uses.Closed) (elim o [ None ↦ Some (no_half other) | Some l ↦ half_refusal (refusal l) ]) ≡ None → (l : SendLane) → o ≡ Some l → refusal l ≡ None
@@ -338,7 +338,7 @@ module _ (old : End) (sound : IsSound old) (sent : SentWasWritten old) where
       rises_settled (on_recv n (λ m. stop m code) old) new done.1 (moves_recv n (λ m. stop m code) old (stop_stays code)))
   counts_call (ReadUpTo n size) answer new step = rises_read (recv_refusal old n) n size answer.0 answer.1 new step
   counts_call (Receive k payload) answer new step = rises_receive old.closed k payload answer new step
-  counts_call (Make room) answer new step = rises_make (make_refusal old) room answer.0 answer.1 new step
+  counts_call (Make first delay room) answer new step = rises_make (make_refusal old) first delay room answer.0 answer.1 new step
   counts_call (Lose k) answer new step = rises_lose k answer new step
   counts_call (ClosingPayload slice) answer new step = rises_same new step.1
   counts_call Stored answer new step = rises_same new step.1

@@ -223,18 +223,18 @@ sound_fills : (old e : End) (fs : List Seen) (new : End) → IsInCredit e → Fi
 sound_fills old e [] new h fills = becomes e new fills h
 sound_fills old e (f ∷ fs) new h fills = sound_fills old (frame_put f e) fs new (sound_put f e h) fills.1
 
-sound_made : (old : End) (room : ℕ) (made : Made) (text : List ℕ) (new : End) → IsInCredit old → IsMade old room made text new → IsInCredit new
-sound_made old room made text new h m =
+sound_made : (old : End) (first delay room : ℕ) (made : Made) (text : List ℕ) (new : End) → IsInCredit old → IsMade old first delay room made text new → IsInCredit new
+sound_made old first delay room made text new h m =
     let (mid, fills, after) = m.lawful.filled in
     settled m.mid new m.after (becomes _ m.mid after (sound_fills old old (seen_all m.frames) mid h fills))
 
-sound_make : (r : Option MakeFault) (old : End) (room : ℕ) (answer : Result (Option Made) MakeFault) (text : List ℕ) (new : End) → IsInCredit old → MakeAt r old room answer text new → IsInCredit new
-sound_make (Some fault) old room answer text new h step = becomes old new step.2 h
-sound_make None old room (Ok (Some made)) text new h step = sound_made old room made text new h step
-sound_make None old room (Ok None) text new h step = becomes old new step.2 h
-sound_make None old room (Err making.NoMemory) text new h step = becomes old new step.2 h
-sound_make None old room (Err making.Closed) text new h step = absurd step
-sound_make None old room (Err making.Exhausted) text new h step = absurd step
+sound_make : (r : Option MakeFault) (old : End) (first delay room : ℕ) (answer : Result (Option Made) MakeFault) (text : List ℕ) (new : End) → IsInCredit old → MakeAt r old first delay room answer text new → IsInCredit new
+sound_make (Some fault) old first delay room answer text new h step = becomes old new step.2 h
+sound_make None old first delay room (Ok (Some made)) text new h step = sound_made old first delay room made text new h step
+sound_make None old first delay room (Ok None) text new h step = becomes old new step.2 h
+sound_make None old first delay room (Err making.NoMemory) text new h step = becomes old new step.2 h
+sound_make None old first delay room (Err making.Closed) text new h step = absurd step
+sound_make None old first delay room (Err making.Exhausted) text new h step = absurd step
 
 sound_losses : (k : ℕ) (ps : List Piece) (e : End) → IsInCredit e → IsInCredit (losses k ps e)
 unfolding losses
@@ -265,7 +265,7 @@ sound_call old (Stop n code) answer new h step = by_refusal (IsInCredit new) (re
     settled (on_recv n (λ m. stop m code) old) new done.1 (sound_stop n code old h))
 sound_call old (ReadCall n size) answer new h step = sound_read_by (recv_refusal old n) old n size answer.0 answer.1 new h step
 sound_call old (Receive k payload) answer new h step = sound_receive old.closed k payload old answer new h step
-sound_call old (Make room) answer new h step = sound_make (make_refusal old) old room answer.0 answer.1 new h step
+sound_call old (Make first delay room) answer new h step = sound_make (make_refusal old) old first delay room answer.0 answer.1 new h step
 sound_call old (Lose k) answer new h step = sound_lose old k answer new h step
 sound_call old (ClosingPayload slice) answer new h step = becomes old new step.1 h
 sound_call old Stored answer new h step = becomes old new step.1 h

@@ -224,7 +224,7 @@ next_fits gap len fits =
       length-append (short 2) (short 3 ++ (short 0 ++ ((short 1 ++ (short 0 ++ vs)) ++ []))),
     )
 
-largest_alone : NamesMost owing 29 (ack 3 0 (0 ∷ []) None) → ⊥
+largest_alone : NamesMost owing 0 29 (ack 3 0 (0 ∷ []) None) → ⊥
 largest_alone (inl all) = false≢true (all 1 kept_1)
 largest_alone (inr next) = (let most = next_fits next.gap next.len next.fits in omega (arith, most, next.too_long))
 
@@ -253,7 +253,7 @@ answers =
       number = λ text new made. (let e : 1 ≡ 0 = made.number in omega arith);
       len = λ new made. (let e : 2 ≡ 1 = made.len in omega arith);
       no_room = λ made new is. (let le : 1 ≤ 0 = is.fits in omega arith);
-      largest_alone = λ made text new is frames. largest_alone (subst (λ fs. AllByRecursion (NamesMost owing 29) fs) frames is.acks).0;
+      largest_alone = λ made text new is frames. largest_alone (subst (λ fs. AllByRecursion (NamesMost owing 0 29) fs) frames is.acks).0;
       closed = λ made text new step. ok_is_no_err _ _ step.0;
       exhausted = λ made text new step. ok_is_no_err _ _ step.0;
       last_number = λ new step. step;

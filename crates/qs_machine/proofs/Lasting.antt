@@ -32,10 +32,10 @@ read_refused : (b : Bool) (r : Option UseFault) (old : End) (n size : ℕ) (answ
 read_refused true r old n size answer new is h = h.2
 read_refused false r old n size answer new is h = absurd (false≢true is)
 
-make_refused : (b : Bool) (r : Option MakeFault) (old : End) (room : ℕ) (answer : Answer (Make room)) (new : End) → b ≡ true
-    → MakeAt (first_refusal (refuse_if b making.Closed) r) old room answer.0 answer.1 new → new ≡ old
-make_refused true r old room answer new is h = h.2
-make_refused false r old room answer new is h = absurd (false≢true is)
+make_refused : (b : Bool) (r : Option MakeFault) (old : End) (first delay room : ℕ) (answer : Answer (Make first delay room)) (new : End) → b ≡ true
+    → MakeAt (first_refusal (refuse_if b making.Closed) r) old first delay room answer.0 answer.1 new → new ≡ old
+make_refused true r old first delay room answer new is h = h.2
+make_refused false r old first delay room answer new is h = absurd (false≢true is)
 
 accept_none : (b : Bool) (old : End) (answer : Option ℕ) (new : End) → b ≡ true → MatchBool b (GivesNone old answer new) (AcceptOpen old answer new) → new ≡ old
 accept_none true old answer new is h = h.1
@@ -55,7 +55,7 @@ closed_stays old (Reset n code) answer new is h = refused_first (is_some old.clo
 closed_stays old (Stop n code) answer new is h = refused_first (is_some old.closed) uses.Closed _ old answer new _ is h
 closed_stays old (ReadUpTo n size) answer new is h = read_refused (is_some old.closed) _ old n size answer new is h
 closed_stays old (Receive k payload) answer new is h = receive_again old.closed k payload old answer new is h
-closed_stays old (Make room) answer new is h = make_refused (is_some old.closed) _ old room answer new is h
+closed_stays old (Make first delay room) answer new is h = make_refused (is_some old.closed) _ old first delay room answer new is h
 closed_stays old (Lose k) answer new is h = refused_first (is_some old.closed) losing.Closed _ old answer new _ is h
 closed_stays old (ClosingPayload slice) answer new is h = h.1
 closed_stays old Stored answer new is h = h.1

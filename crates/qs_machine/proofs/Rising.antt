@@ -301,18 +301,18 @@ rises_fills : (old e : End) (fs : List Seen) (new : End) → Fills old e fs new 
 rises_fills old e [] new fills = becomes e e new fills (rises_same e)
 rises_fills old e (f ∷ fs) new fills = rises_twice e (frame_put f e) new (rises_put f e) (rises_fills old (frame_put f e) fs new fills.1)
 
-rises_made : (old : End) (room : ℕ) (made : Made) (text : List ℕ) (new : End) → IsMade old room made text new → LimitsRise old new
-rises_made old room made text new m =
+rises_made : (old : End) (first delay room : ℕ) (made : Made) (text : List ℕ) (new : End) → IsMade old first delay room made text new → LimitsRise old new
+rises_made old first delay room made text new m =
     let (mid, fills, after) = m.lawful.filled in
     settled old m.mid new m.after (becomes old _ m.mid after (rises_fills old old (seen_all m.frames) mid fills))
 
-rises_make : (r : Option MakeFault) (old : End) (room : ℕ) (answer : Result (Option Made) MakeFault) (text : List ℕ) (new : End) → MakeAt r old room answer text new → LimitsRise old new
-rises_make (Some fault) old room answer text new step = becomes old old new step.2 (rises_same old)
-rises_make None old room (Ok (Some made)) text new step = rises_made old room made text new step
-rises_make None old room (Ok None) text new step = becomes old old new step.2 (rises_same old)
-rises_make None old room (Err making.NoMemory) text new step = becomes old old new step.2 (rises_same old)
-rises_make None old room (Err making.Closed) text new step = absurd step
-rises_make None old room (Err making.Exhausted) text new step = absurd step
+rises_make : (r : Option MakeFault) (old : End) (first delay room : ℕ) (answer : Result (Option Made) MakeFault) (text : List ℕ) (new : End) → MakeAt r old first delay room answer text new → LimitsRise old new
+rises_make (Some fault) old first delay room answer text new step = becomes old old new step.2 (rises_same old)
+rises_make None old first delay room (Ok (Some made)) text new step = rises_made old first delay room made text new step
+rises_make None old first delay room (Ok None) text new step = becomes old old new step.2 (rises_same old)
+rises_make None old first delay room (Err making.NoMemory) text new step = becomes old old new step.2 (rises_same old)
+rises_make None old first delay room (Err making.Closed) text new step = absurd step
+rises_make None old first delay room (Err making.Exhausted) text new step = absurd step
 
 rises_losses : (k : ℕ) (ps : List Piece) (e : End) → LimitsRise e (losses k ps e)
 unfolding losses
@@ -383,7 +383,7 @@ rises_call old (Stop n code) answer new step =
     settled old (on_recv n (λ m. stop m code) old) new done.1 (rises_recv n (λ m. stop m code) old (stop_limit code)))
 rises_call old (ReadUpTo n size) answer new step = rises_read_by (recv_refusal old n) old n size answer.0 answer.1 new step
 rises_call old (Receive k payload) answer new step = rises_receive old.closed k payload old answer new step
-rises_call old (Make room) answer new step = rises_make (make_refusal old) old room answer.0 answer.1 new step
+rises_call old (Make first delay room) answer new step = rises_make (make_refusal old) old first delay room answer.0 answer.1 new step
 rises_call old (Lose k) answer new step = rises_lose old k answer new step
 rises_call old (ClosingPayload slice) answer new step = becomes old old new step.1 (rises_same old)
 rises_call old Stored answer new step = becomes old old new step.1 (rises_same old)

@@ -275,18 +275,18 @@ keeps_fills : (old e : End) (fs : List Seen) (new : End) → Fills old e fs new 
 keeps_fills old e [] new fills = becomes e e new fills (keeps_same e)
 keeps_fills old e (f ∷ fs) new fills = keeps_twice e (frame_put f e) new (keeps_put old f e fills.0) (keeps_fills old (frame_put f e) fs new fills.1)
 
-keeps_made : (old : End) (room : ℕ) (made : Made) (text : List ℕ) (new : End) → IsMade old room made text new → Keeps old new
-keeps_made old room made text new m =
+keeps_made : (old : End) (first delay room : ℕ) (made : Made) (text : List ℕ) (new : End) → IsMade old first delay room made text new → Keeps old new
+keeps_made old first delay room made text new m =
     let (mid, fills, after) = m.lawful.filled in
     settled old m.mid new m.after (becomes old _ m.mid after (keeps_fills old old (seen_all m.frames) mid fills))
 
-keeps_make : (r : Option MakeFault) (old : End) (room : ℕ) (answer : Result (Option Made) MakeFault) (text : List ℕ) (new : End) → MakeAt r old room answer text new → Keeps old new
-keeps_make (Some fault) old room answer text new step = becomes old old new step.2 (keeps_same old)
-keeps_make None old room (Ok (Some made)) text new step = keeps_made old room made text new step
-keeps_make None old room (Ok None) text new step = becomes old old new step.2 (keeps_same old)
-keeps_make None old room (Err making.NoMemory) text new step = becomes old old new step.2 (keeps_same old)
-keeps_make None old room (Err making.Closed) text new step = absurd step
-keeps_make None old room (Err making.Exhausted) text new step = absurd step
+keeps_make : (r : Option MakeFault) (old : End) (first delay room : ℕ) (answer : Result (Option Made) MakeFault) (text : List ℕ) (new : End) → MakeAt r old first delay room answer text new → Keeps old new
+keeps_make (Some fault) old first delay room answer text new step = becomes old old new step.2 (keeps_same old)
+keeps_make None old first delay room (Ok (Some made)) text new step = keeps_made old first delay room made text new step
+keeps_make None old first delay room (Ok None) text new step = becomes old old new step.2 (keeps_same old)
+keeps_make None old first delay room (Err making.NoMemory) text new step = becomes old old new step.2 (keeps_same old)
+keeps_make None old first delay room (Err making.Closed) text new step = absurd step
+keeps_make None old first delay room (Err making.Exhausted) text new step = absurd step
 
 -- a piece that moves to the lost record was written
 keeps_first_lost : (k : ℕ) (p : Piece) (e : End) → WasWritten e.sends p → Keeps e (first_lost k p e)
@@ -363,7 +363,7 @@ keeps_call old (Stop n code) answer new step =
     settled old (on_recv n (λ m. stop m code) old) new done.1 (keeps_same old))
 keeps_call old (ReadUpTo n size) answer new step = keeps_read_by (recv_refusal old n) old n size answer.0 answer.1 new step
 keeps_call old (Receive k payload) answer new step = keeps_receive old.closed k payload old answer new step
-keeps_call old (Make room) answer new step = keeps_make (make_refusal old) old room answer.0 answer.1 new step
+keeps_call old (Make first delay room) answer new step = keeps_make (make_refusal old) old first delay room answer.0 answer.1 new step
 keeps_call old (Lose k) answer new step = keeps_lose old k answer new step
 keeps_call old (ClosingPayload slice) answer new step = becomes old old new step.1 (keeps_same old)
 keeps_call old Stored answer new step = becomes old old new step.1 (keeps_same old)

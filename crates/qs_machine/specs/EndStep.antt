@@ -28,7 +28,7 @@ pub data Call : Type 0 where
   Stop : (stream code : ℕ) → Call
   ReadUpTo : (stream size : ℕ) → Call
   Receive : (number : ℕ) (payload : List ℕ) → Call
-  Make : (room : ℕ) → Call
+  Make : (first delay room : ℕ) → Call
   Lose : (number : ℕ) → Call
   ClosingPayload : (slice : List ℕ) → Call
   Stored : Call
@@ -47,7 +47,7 @@ Answer (Reset n code) = Result (Unit {0}) UseFault
 Answer (Stop n code) = Result (Unit {0}) UseFault
 Answer (ReadUpTo n size) = Result Read UseFault × List ℕ
 Answer (Receive k payload) = Result Received Closing
-Answer (Make room) = Result (Option Made) MakeFault × List ℕ
+Answer (Make first delay room) = Result (Option Made) MakeFault × List ℕ
 Answer (Lose k) = Result (Unit {0}) LostFault
 Answer (ClosingPayload slice) = Option ℕ × List ℕ
 Answer Stored = ℕ
@@ -66,7 +66,7 @@ EndStep old (Reset n code) answer new = ResetStep old n code answer new
 EndStep old (Stop n code) answer new = StopStep old n code answer new
 EndStep old (ReadUpTo n size) answer new = ReadStep old n size answer.0 answer.1 new
 EndStep old (Receive k payload) answer new = ReceiveStep old k payload answer new
-EndStep old (Make room) answer new = MakeStep old room answer.0 answer.1 new
+EndStep old (Make first delay room) answer new = MakeStep old first delay room answer.0 answer.1 new
 EndStep old (Lose k) answer new = LoseStep old k answer new
 EndStep old (ClosingPayload slice) answer new = ClosePayload old slice answer.0 answer.1 × (new ≡ old)
 EndStep old Stored answer new = (answer ≡ all_stored old) × (new ≡ old)

@@ -128,15 +128,15 @@ pub record ToldIsNotDue : Type 0 where
 -- `make_packet` answers None only where nothing may go: not where there is
 pub record NoneIsNoAnswer : Type 0 where
   -- an ACK due (section 13.2)
-  pub ack : MakeStep (record (client_of standard) { ack_due = true }) 1200 (Ok None) [] (record (client_of standard) { ack_due = true }) → ⊥
+  pub ack : MakeStep (record (client_of standard) { ack_due = true }) 0 0 1200 (Ok None) [] (record (client_of standard) { ack_due = true }) → ⊥
   -- a control item due (section 13.3)
-  pub item : MakeStep raised 1200 (Ok None) [] raised → ⊥
+  pub item : MakeStep raised 0 0 1200 (Ok None) [] raised → ⊥
   -- a byte that wasn't sent, within both limits (section 4.1)
-  pub new_byte : MakeStep (client_with wrote) 1200 (Ok None) [] (client_with wrote) → ⊥
+  pub new_byte : MakeStep (client_with wrote) 0 0 1200 (Ok None) [] (client_with wrote) → ⊥
   -- a byte that was lost, though the connection's credit is used up (sections 4.1 and 13.3)
-  pub lost_byte : MakeStep (held_back (record two_of_three { written = 2 })) 1200 (Ok None) [] (held_back (record two_of_three { written = 2 })) → ⊥
+  pub lost_byte : MakeStep (held_back (record two_of_three { written = 2 })) 0 0 1200 (Ok None) [] (held_back (record two_of_three { written = 2 })) → ⊥
   -- the end of a stream without bytes (section 2.2)
-  pub end : MakeStep (client_with finished) 1200 (Ok None) [] (client_with finished) → ⊥
+  pub end : MakeStep (client_with finished) 0 0 1200 (Ok None) [] (client_with finished) → ⊥
 
 pub record NotDue : Type 0 where
   pub offsets : NoOffsetIsDue

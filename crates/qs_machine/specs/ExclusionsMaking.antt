@@ -109,36 +109,36 @@ pub record NothingIsLeftOut : Type 0 where
 -- A text isn't that of frames (sections 12.4 and 19.3)
 pub record NoSuchText : Type 0 where
   -- where it spells others
-  pub others : IsText (ping ∷ []) (2 ∷ []) → ⊥
+  pub others : IsText 0 (ping ∷ []) (2 ∷ []) → ⊥
   -- with a delay in an ACK
-  pub delayed : (text : List ℕ) → IsText (ack 3 5 [] None ∷ []) text → ⊥
+  pub delayed : (text : List ℕ) → IsText 0 (ack 3 5 [] None ∷ []) text → ⊥
   -- with counts of marks in an ACK
-  pub counted : (text : List ℕ) → IsText (ack 3 0 [] (Some (record { ect0 = 1; ect1 = 0; ce = 0 })) ∷ []) text → ⊥
+  pub counted : (text : List ℕ) → IsText 0 (ack 3 0 [] (Some (record { ect0 = 1; ect1 = 0; ce = 0 })) ∷ []) text → ⊥
 
 -- `make_packet` doesn't answer so (sections 10.2 and 12.3)
 pub record NoSuchAnswer : Type 0 where
   -- with another number than the next
-  pub number : (text : List ℕ) (new : End) → MakeStep writer 1200 (Ok (Some (record { number = 1; len = 8 }))) text new → ⊥
+  pub number : (text : List ℕ) (new : End) → MakeStep writer 0 0 1200 (Ok (Some (record { number = 1; len = 8 }))) text new → ⊥
   -- with another length than the text's
-  pub len : (new : End) → MakeStep writer 1200 (Ok (Some (record { number = 0; len = 2 }))) (1 ∷ []) new → ⊥
+  pub len : (new : End) → MakeStep writer 0 0 1200 (Ok (Some (record { number = 0; len = 2 }))) (1 ∷ []) new → ⊥
   -- with a text that doesn't fit
-  pub no_room : (made : Made) (new : End) → MakeStep writer 0 (Ok (Some made)) (1 ∷ []) new → ⊥
+  pub no_room : (made : Made) (new : End) → MakeStep writer 0 0 0 (Ok (Some made)) (1 ∷ []) new → ⊥
   -- with an ACK of the largest number alone, in a room for more
-  pub largest_alone : (made : Made) (text : List ℕ) (new : End) (is : IsMade owing 29 made text new) → is.frames ≡ ack 3 0 (0 ∷ []) None ∷ [] → ⊥
+  pub largest_alone : (made : Made) (text : List ℕ) (new : End) (is : IsMade owing 0 0 29 made text new) → is.frames ≡ ack 3 0 (0 ∷ []) None ∷ [] → ⊥
   -- with a packet once the end closed
-  pub closed : (made : Made) (text : List ℕ) (new : End) → MakeStep (record writer { closed = Some (ByPeer 0) }) 1200 (Ok (Some made)) text new → ⊥
+  pub closed : (made : Made) (text : List ℕ) (new : End) → MakeStep (record writer { closed = Some (ByPeer 0) }) 0 0 1200 (Ok (Some made)) text new → ⊥
   -- nor once the last number was used
-  pub exhausted : (made : Made) (text : List ℕ) (new : End) → MakeStep (record writer { next = MAX_VARINT + 1 }) 1200 (Ok (Some made)) text new → ⊥
+  pub exhausted : (made : Made) (text : List ℕ) (new : End) → MakeStep (record writer { next = MAX_VARINT + 1 }) 0 0 1200 (Ok (Some made)) text new → ⊥
   -- with the last number unused
-  pub last_number : (new : End) → MakeStep (record writer { next = MAX_VARINT }) 1200 (Err making.Exhausted) [] new → ⊥
+  pub last_number : (new : End) → MakeStep (record writer { next = MAX_VARINT }) 0 0 1200 (Err making.Exhausted) [] new → ⊥
   -- as closed while it is open
-  pub not_closed : (new : End) → MakeStep writer 1200 (Err making.Closed) [] new → ⊥
+  pub not_closed : (new : End) → MakeStep writer 0 0 1200 (Err making.Closed) [] new → ⊥
   -- with a number used up though nothing was made
-  pub nothing_used : MakeStep (client_with begun) 1200 (Ok None) [] (record (client_with begun) { next = 1 }) → ⊥
+  pub nothing_used : MakeStep (client_with begun) 0 0 1200 (Ok None) [] (record (client_with begun) { next = 1 }) → ⊥
   -- nor where there was no memory
-  pub memory_used : MakeStep writer 1200 (Err making.NoMemory) [] (record writer { next = 1 }) → ⊥
+  pub memory_used : MakeStep writer 0 0 1200 (Err making.NoMemory) [] (record writer { next = 1 }) → ⊥
   -- and not for want of memory where nothing is due
-  pub nothing_due : (text : List ℕ) (new : End) → MakeStep (server standard) 1200 (Err making.NoMemory) text new → ⊥
+  pub nothing_due : (text : List ℕ) (new : End) → MakeStep (server standard) 0 0 1200 (Err making.NoMemory) text new → ⊥
 
 -- a client that sent three bytes in packet 0
 abbrev pub one_flying : End

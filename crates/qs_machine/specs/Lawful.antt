@@ -89,6 +89,22 @@ pub record Lawful (old : End) (frames : List Seen) (new : End) : Type 0 where
   pub filled : (mid : End) × Fills old old frames mid × (new ≡ record mid { next = old.next + 1 })
   pub within : all_sent new ≤ new.known_data
 
+-- Turns: ours, for RFC 9000, section 2.3, leaves the order of streams to the owner
+
+-- stream m comes before stream n where turns begin at `first`: those from there on, lower numbers first, and then those below it
+abbrev pub ComesBefore : (first m n : ℕ) → Type 0
+ComesBefore first m n = ((first ≤ m) × (n < first)) ⊎ ((m < n) × ((first ≤ m) ⊎ (n < first)))
+
+-- a STREAM frame goes in only once no stream that comes before its own has anything that may go (ours, for RFC 9000, section 2.3)
+abbrev pub IsInTurn : ℕ → End → Seen → Type 0
+IsInTurn first e (Stream n offset bytes fin) = (m : ℕ) → ComesBefore first m n → StreamGoes e m → ⊥
+IsInTurn first e f = Unit {0}
+
+-- so do all frames of a packet, each at the end that those before it led to (ours, for RFC 9000, section 2.3)
+abbrev pub AreInTurn : ℕ → End → List Seen → Type 0
+AreInTurn first e [] = Unit {0}
+AreInTurn first e (f ∷ fs) = IsInTurn first e f × AreInTurn first (frame_put f e) fs
+
 -- Completeness: ours, for RFC 9000, section 13, leaves open how far a packet is filled
 
 -- the ranges of an ACK name every kept number

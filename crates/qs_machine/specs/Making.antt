@@ -18,66 +18,68 @@ use Rattle.qs_machine.specs.Ends.{End, lost_with}
 use Rattle.qs_machine.specs.Credit.{settle}
 use Rattle.qs_machine.specs.Seen.{seen_all}
 use Rattle.qs_machine.specs.Due.{Sendable}
-use Rattle.qs_machine.specs.Lawful.{MayAck, Lawful, NamesAll, HasAll}
+use Rattle.qs_machine.specs.Lawful.{MayAck, Lawful, NamesAll, HasAll, AreInTurn}
 use Rattle.qs_machine.specs.Owner.{Certain, first_refusal, refuse_if}
 
--- an ACK is written with a delay of 0 and without ECN counts (RFC 9000, section 19.3)
-abbrev pub IsPlainAck : FrameValue → Type 0
-IsPlainAck (ack largest delay ranges ecn) = (delay ≡ 0) × (ecn ≡ None)
-IsPlainAck frame = Unit {0}
+-- an ACK tells this delay and no ECN counts (RFC 9000, section 19.3)
+abbrev pub IsPlainAck : ℕ → FrameValue → Type 0
+IsPlainAck delay (ack largest told ranges ecn) = (told ≡ delay) × (ecn ≡ None)
+IsPlainAck delay frame = Unit {0}
 
--- the bytes are the canonical text of these frames (RFC 9000, section 12.4)
-pub record IsText (frames : List FrameValue) (text : List ℕ) : Type 0 where
+-- the bytes are the canonical text of these frames, whose ACKs tell this delay (RFC 9000, section 12.4)
+pub record IsText (delay : ℕ) (frames : List FrameValue) (text : List ℕ) : Type 0 where
   pub fits : AllByRecursion Fits frames
-  pub plain : AllByRecursion IsPlainAck frames
+  pub plain : AllByRecursion (IsPlainAck delay) frames
   pub canonical : text ≡ canonical_all frames
 
 -- An ACK that names the next run too, by one Gap and one ACK Range Length more, is longer than the room (RFC 9000, section 19.3.1).
-pub record NextIsTooLong (old : End) (room largest : ℕ) (ranges : List ℕ) : Type 0 where
+pub record NextIsTooLong (old : End) (delay room largest : ℕ) (ranges : List ℕ) : Type 0 where
   pub gap : ℕ
   pub len : ℕ
-  pub fits : Fits (ack largest 0 (ranges ++ gap ∷ len ∷ []) None)
+  pub fits : Fits (ack largest delay (ranges ++ gap ∷ len ∷ []) None)
   pub may : MayAck old old largest (ack_ranges_of largest (ranges ++ gap ∷ len ∷ []))
-  pub too_long : room < length (canonical (ack largest 0 (ranges ++ gap ∷ len ∷ []) None))
+  pub too_long : room < length (canonical (ack largest delay (ranges ++ gap ∷ len ∷ []) None))
 
 -- an ACK names all kept numbers, or no run more fits the room (RFC 9000, section 13.2.3)
-abbrev pub NamesMost : End → ℕ → FrameValue → Type 0
-NamesMost old room (ack largest delay ranges ecn) = NamesAll old (ack_ranges_of largest ranges) ⊎ NextIsTooLong old room largest ranges
-NamesMost old room frame = Unit {0}
+abbrev pub NamesMost : End → (delay room : ℕ) → FrameValue → Type 0
+NamesMost old delay room (ack largest told ranges ecn) = NamesAll old (ack_ranges_of largest ranges) ⊎ NextIsTooLong old delay room largest ranges
+NamesMost old delay room frame = Unit {0}
 
 -- A packet of the next number was made: the canonical text of a lawful packet that fits the room and leaves nothing out that it had room
--- for (RFC 9000, section 12.3).
-pub record IsMade (old : End) (room : ℕ) (made : Made) (text : List ℕ) (new : End) : Type 0 where
+-- for (RFC 9000, section 12.3). Bytes of streams go in by turns that begin at `first`.
+pub record IsMade (old : End) (first delay room : ℕ) (made : Made) (text : List ℕ) (new : End) : Type 0 where
   pub number : made.number ≡ old.next
   pub len : made.len ≡ length text
   pub fits : length text ≤ room
   pub frames : List FrameValue
-  pub spells : IsText frames text
+  pub spells : IsText delay frames text
   pub mid : End
   pub lawful : Lawful old (seen_all frames) mid
-  pub acks : AllByRecursion (NamesMost old room) frames
+  pub acks : AllByRecursion (NamesMost old delay room) frames
+  pub turn : AreInTurn first old (seen_all frames)
   pub whole : HasAll room (length text) old (seen_all frames) mid
   pub after : new ≡ settle mid
 
 -- a packet was made, or there was nothing that may go, or there was and memory was refused (RFC 9000, section 12.3)
-abbrev pub MakeBy : End → ℕ → Result (Option Made) MakeFault → List ℕ → End → Type 0
-MakeBy old room (Ok (Some made)) text new = IsMade old room made text new
-MakeBy old room (Ok None) text new = (Sendable old → ⊥) × (text ≡ []) × (new ≡ old)
-MakeBy old room (Err making.NoMemory) text new = Sendable old × (text ≡ []) × (new ≡ old)
-MakeBy old room (Err fault) text new = ⊥
+abbrev pub MakeBy : End → (first delay room : ℕ) → Result (Option Made) MakeFault → List ℕ → End → Type 0
+MakeBy old first delay room (Ok (Some made)) text new = IsMade old first delay room made text new
+MakeBy old first delay room (Ok None) text new = (Sendable old → ⊥) × (text ≡ []) × (new ≡ old)
+MakeBy old first delay room (Err making.NoMemory) text new = Sendable old × (text ≡ []) × (new ≡ old)
+MakeBy old first delay room (Err fault) text new = ⊥
 
 -- an end that closed makes no packet, and one that used the last number none either (RFC 9000, sections 10.2 and 12.3)
 abbrev pub make_refusal : End → Option MakeFault
 make_refusal e = first_refusal (refuse_if (is_some e.closed) making.Closed) (refuse_if (nat_le (MAX_VARINT + 1) e.next) making.Exhausted)
 
 -- the refusal, or what else comes of it (RFC 9000, sections 10.2 and 12.3)
-abbrev pub MakeAt : Option MakeFault → End → ℕ → Result (Option Made) MakeFault → List ℕ → End → Type 0
-MakeAt (Some fault) old room answer text new = (answer ≡ Err fault) × (text ≡ []) × (new ≡ old)
-MakeAt None old room answer text new = MakeBy old room answer text new
+abbrev pub MakeAt : Option MakeFault → End → (first delay room : ℕ) → Result (Option Made) MakeFault → List ℕ → End → Type 0
+MakeAt (Some fault) old first delay room answer text new = (answer ≡ Err fault) × (text ≡ []) × (new ≡ old)
+MakeAt None old first delay room answer text new = MakeBy old first delay room answer text new
 
--- `make_packet` into a slice of that size, with the payload that it writes (RFC 9000, section 12.3)
-abbrev pub MakeStep : End → ℕ → Result (Option Made) MakeFault → List ℕ → End → Type 0
-MakeStep old room answer text new = MakeAt (make_refusal old) old room answer text new
+-- `make_packet_from` into a slice of that size, with the payload that it writes (RFC 9000, section 12.3); `make_packet` is that from
+-- stream 0 on with a delay of 0
+abbrev pub MakeStep : End → (first delay room : ℕ) → Result (Option Made) MakeFault → List ℕ → End → Type 0
+MakeStep old first delay room answer text new = MakeAt (make_refusal old) old first delay room answer text new
 
 -- Losses (RFC 9000, section 13.3)
 

@@ -90,15 +90,15 @@ module _ (P : End → Type 0) (old : End) (edits : Edits P old) where
   read_by (Some fault) n size answer bytes new step = becomes new step.2
   read_by None n size answer bytes new (l, is, told, given, after) = settled (on_recv n (λ m. after_read m size) old) new (edits.reads n size) after
 
-  make_by : (r : Option MakeFault) (room : ℕ) (answer : Result (Option Made) MakeFault) (text : List ℕ) (new : End) → MakeAt r old room answer text new → P new
-  make_by (Some fault) room answer text new step = becomes new step.2
-  make_by None room (Ok (Some made)) text new step =
+  make_by : (r : Option MakeFault) (first delay room : ℕ) (answer : Result (Option Made) MakeFault) (text : List ℕ) (new : End) → MakeAt r old first delay room answer text new → P new
+  make_by (Some fault) first delay room answer text new step = becomes new step.2
+  make_by None first delay room (Ok (Some made)) text new step =
       let (mid, fills, after) = step.lawful.filled in
       settled step.mid new (subst P (sym after) (edits.fills (seen_all step.frames) mid fills)) step.after
-  make_by None room (Ok None) text new step = becomes new step.2
-  make_by None room (Err making.NoMemory) text new step = becomes new step.2
-  make_by None room (Err making.Closed) text new step = absurd step
-  make_by None room (Err making.Exhausted) text new step = absurd step
+  make_by None first delay room (Ok None) text new step = becomes new step.2
+  make_by None first delay room (Err making.NoMemory) text new step = becomes new step.2
+  make_by None first delay room (Err making.Closed) text new step = absurd step
+  make_by None first delay room (Err making.Exhausted) text new step = absurd step
 
   lost : (k : ℕ) (ps : List Piece) (new : End) → new ≡ losses k ps old → P new
   lost k ps new same = subst P (sym same) (edits.loses k ps)
@@ -147,7 +147,7 @@ module _ (P : End → Type 0) (old : End) (edits : Edits P old) where
         by_refusal (P new) (recv_refusal old n) old answer new _ step (becomes new) (λ done. settled (on_recv n (λ m. stop m code) old) new (edits.stops n code) done.1)
     each_call (ReadUpTo n size) answer new step = read_by (recv_refusal old n) n size answer.0 answer.1 new step
     each_call (Receive k payload) answer new step = receive_by old.closed k payload answer new step
-    each_call (Make room) answer new step = make_by (make_refusal old) room answer.0 answer.1 new step
+    each_call (Make first delay room) answer new step = make_by (make_refusal old) first delay room answer.0 answer.1 new step
     each_call (Lose k) answer new step = lose_by k answer new step
     each_call (ClosingPayload slice) answer new step = becomes new step.1
     each_call Stored answer new step = becomes new step.1
@@ -168,6 +168,6 @@ module _ (P : End → Type 0) (old : End) (edits : Edits P old) where
   each_own (acts.Stop n code) (answers.Stop r) new step =
       by_refusal (P new) (recv_refusal old n) old r new _ step (becomes new) (λ done. settled (on_recv n (λ m. stop m code) old) new (edits.stops n code) done.1)
   each_own (acts.ReadUpTo n size) (answers.ReadUpTo r bytes) new step = read_by (recv_refusal old n) n size r bytes.items new step
-  each_own (acts.Make room) (answers.Make r text) new step = make_by (make_refusal old) room r text.items new step
+  each_own (acts.Make room) (answers.Make r text) new (first, delay, step) = make_by (make_refusal old) first delay room r text.items new step
   each_own (acts.Lose k) (answers.Lose r) new step = lose_by k r new step
   each_own act answer new step = absurd step

@@ -36,7 +36,7 @@ own_call e new (acts.Finish n) (answers.Finish r) step = (Finish n, r, step)
 own_call e new (acts.Reset n code) (answers.Reset r) step = (Reset n code, r, step)
 own_call e new (acts.Stop n code) (answers.Stop r) step = (Stop n code, r, step)
 own_call e new (acts.ReadUpTo n size) (answers.ReadUpTo r bytes) step = (ReadUpTo n size, (r, bytes.items), step)
-own_call e new (acts.Make room) (answers.Make r text) step = (Make room, (r, text.items), step)
+own_call e new (acts.Make room) (answers.Make r text) (first, delay, step) = (Make first delay room, (r, text.items), step)
 own_call e new (acts.Lose k) (answers.Lose r) step = (Lose k, r, step)
 own_call e new act answer step = absurd step
 
@@ -62,21 +62,21 @@ filled_count old e mid [] d count fills a = absurd a
 filled_count old e mid (f ∷ fs) d count fills (inl is) = put_count old e f d count fills.0 (sym is)
 filled_count old e mid (f ∷ fs) d count fills (inr a) = filled_count old (frame_put f e) mid fs d count fills.1 a
 
-made_count : (e new : End) (room : ℕ) (made : Made) (text : Vec ℕ) (d : Dir) (count : ℕ) → IsMade e room made text.items new → Tells (seen_by (acts.Make room) (answers.Make (Ok (Some made)) text)) (Control (MaxStreams d count)) → count ≤ granted_streams e d
-made_count e new room made text d count h t =
+made_count : (e new : End) (first delay room : ℕ) (made : Made) (text : Vec ℕ) (d : Dir) (count : ℕ) → IsMade e first delay room made text.items new → Tells (seen_by (acts.Make room) (answers.Make (Ok (Some made)) text)) (Control (MaxStreams d count)) → count ≤ granted_streams e d
+made_count e new first delay room made text d count h t =
     let (last, fills, is) = h.lawful.filled in
     filled_count e e last (seen_all h.frames) d count fills
-    (subst (Among (Control (MaxStreams d count))) (text_seen h.frames text.items h.lawful.some h.spells) (told_one _ (Control (MaxStreams d count)) t))
+    (subst (Among (Control (MaxStreams d count))) (text_seen delay h.frames text.items h.lawful.some h.spells) (told_one _ (Control (MaxStreams d count)) t))
 
-make_count : (o : Option MakeFault) (e new : End) (room : ℕ) (r : Result (Option Made) MakeFault) (text : Vec ℕ) (d : Dir) (count : ℕ) → MakeAt o e room r text.items new
+make_count : (o : Option MakeFault) (e new : End) (first delay room : ℕ) (r : Result (Option Made) MakeFault) (text : Vec ℕ) (d : Dir) (count : ℕ) → MakeAt o e first delay room r text.items new
     → Tells (seen_by (acts.Make room) (answers.Make r text)) (Control (MaxStreams d count)) → count ≤ granted_streams e d
-make_count None e new room (Ok (Some made)) text d count h t = made_count e new room made text d count h t
-make_count None e new room (Ok None) text d count h t = absurd (tells_nothing _ _ refl t)
-make_count None e new room (Err fault) text d count h t = absurd (tells_nothing _ _ refl t)
-make_count (Some fault) e new room r text d count h t = absurd (tells_nothing _ _ (ap (λ x. seen_by (acts.Make room) (answers.Make x text)) h.0) t)
+make_count None e new first delay room (Ok (Some made)) text d count h t = made_count e new first delay room made text d count h t
+make_count None e new first delay room (Ok None) text d count h t = absurd (tells_nothing _ _ refl t)
+make_count None e new first delay room (Err fault) text d count h t = absurd (tells_nothing _ _ refl t)
+make_count (Some fault) e new first delay room r text d count h t = absurd (tells_nothing _ _ (ap (λ x. seen_by (acts.Make room) (answers.Make x text)) h.0) t)
 
 told_now : (e new : End) (act : Act) (answer : Answer) (d : Dir) (count : ℕ) → OwnStep e act answer new → Tells (seen_by act answer) (Control (MaxStreams d count)) → count ≤ granted_streams e d
-told_now e new (acts.Make room) (answers.Make r text) d count step t = make_count (make_refusal e) e new room r text d count step t
+told_now e new (acts.Make room) (answers.Make r text) d count (first, delay, step) t = make_count (make_refusal e) e new first delay room r text d count step t
 told_now e new (acts.OpenStream dir) (answers.OpenStream r) d count step t = absurd (tells_nothing _ _ refl t)
 told_now e new acts.Accept (answers.Accept r) d count step t = absurd (tells_nothing _ _ refl t)
 told_now e new (acts.Write n bytes) (answers.Write r) d count step t = absurd (tells_nothing _ _ refl t)

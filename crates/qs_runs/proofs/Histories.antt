@@ -94,12 +94,12 @@ faultless_at [] k text all is = absurd (none-some text is)
 faultless_at (t ∷ texts) zero text all is = rw (same_Some t text is) at all.0
 faultless_at (t ∷ texts) (suc k) text all is = faultless_at texts k text all.1 is
 
-made_faultless : (o : Option MakeFault) (e : End) (room : ℕ) (answer : Result (Option Made) MakeFault) (text : Vec ℕ) (new : End) → MakeAt o e room answer text.items new → AreFaultless (made_by (acts.Make room) (answers.Make answer text))
-made_faultless None e room (Ok (Some made)) text new h = (text_faultless h.frames text.items h.lawful.some h.spells, tt)
-made_faultless (Some fault) e room (Ok (Some made)) text new h = absurd (cc (h.0))
-made_faultless o e room (Ok None) text new h = tt
-made_faultless o e room (Err fault) text new h = tt
+made_faultless : (o : Option MakeFault) (e : End) (first delay room : ℕ) (answer : Result (Option Made) MakeFault) (text : Vec ℕ) (new : End) → MakeAt o e first delay room answer text.items new → AreFaultless (made_by (acts.Make room) (answers.Make answer text))
+made_faultless None e first delay room (Ok (Some made)) text new h = (text_faultless delay h.frames text.items h.lawful.some h.spells, tt)
+made_faultless (Some fault) e first delay room (Ok (Some made)) text new h = absurd (cc (h.0))
+made_faultless o e first delay room (Ok None) text new h = tt
+made_faultless o e first delay room (Err fault) text new h = tt
 
 pub own_faultless : (e : End) (act : Act) (answer : Answer) (new : End) → OwnStep e act answer new → AreFaultless (made_by act answer)
-own_faultless e (acts.Make room) (answers.Make r text) new step = made_faultless (make_refusal e) e room r text new step
+own_faultless e (acts.Make room) (answers.Make r text) new (first, delay, step) = made_faultless (make_refusal e) e first delay room r text new step
 own_faultless e act answer new step = tt

@@ -167,10 +167,10 @@ module _ (p : Past) (e new : End) (ok : EndOk p e) where
       by (Some fault) h = same_end e new h.2
       by None (l, there, is, given, same) = settled e.recvs (on_recv n (λ m. after_read m size) e) new (on_recv_grows e n (λ m. after_read m size) (λ m at. answer_grows (read_answer m size) m size)) same
 
-  make_grows : (room : ℕ) (answer : Result (Option Made) MakeFault) (text : List ℕ) → MakeStep e room answer text new → AllGrow e.recvs new.recvs
-  make_grows room answer text step = by (make_refusal e) answer step
+  make_grows : (first delay room : ℕ) (answer : Result (Option Made) MakeFault) (text : List ℕ) → MakeStep e first delay room answer text new → AllGrow e.recvs new.recvs
+  make_grows first delay room answer text step = by (make_refusal e) answer step
     where
-      by : (o : Option MakeFault) (answer : Result (Option Made) MakeFault) → MakeAt o e room answer text new → AllGrow e.recvs new.recvs
+      by : (o : Option MakeFault) (answer : Result (Option Made) MakeFault) → MakeAt o e first delay room answer text new → AllGrow e.recvs new.recvs
       by (Some fault) answer h = same_end e new h.2
       by None (Ok (Some made)) h =
           let (last, fills, is) = h.lawful.filled in
@@ -196,7 +196,7 @@ own_grows p e new ok (acts.Finish n) (answers.Finish r) step = finish_grows p e 
 own_grows p e new ok (acts.Reset n code) (answers.Reset r) step = reset_grows p e new ok n code r step
 own_grows p e new ok (acts.Stop n code) (answers.Stop r) step = stop_all_grow p e new ok n code r step
 own_grows p e new ok (acts.ReadUpTo n size) (answers.ReadUpTo r bytes) step = read_grows p e new ok n size r bytes.items step
-own_grows p e new ok (acts.Make room) (answers.Make r text) step = make_grows p e new ok room r text.items step
+own_grows p e new ok (acts.Make room) (answers.Make r text) (first, delay, step) = make_grows p e new ok first delay room r text.items step
 own_grows p e new ok (acts.Lose k) (answers.Lose r) step = lose_grows p e new ok k r step
 own_grows p e new ok act answer step = absurd step
 

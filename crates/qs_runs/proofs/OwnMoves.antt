@@ -248,22 +248,22 @@ module _ (p : Past) (e new : End) (ok : EndOk p e) where
 
   -- Packets
 
-  made_moves : (room : ℕ) (made : Made) (text : Vec ℕ) → IsMade e room made text.items new → EndOk (with_call p (acts.Make room) (answers.Make (Ok (Some made)) text)) new
-  made_moves room made text h =
+  made_moves : (first delay room : ℕ) (made : Made) (text : Vec ℕ) → IsMade e first delay room made text.items new → EndOk (with_call p (acts.Make room) (answers.Make (Ok (Some made)) text)) new
+  made_moves first delay room made text h =
       let frames : List Seen = seen_all h.frames in
       subst (λ x. EndOk x new)
-      (λ i. record { mine = p.mine ++ sym (text_seen h.frames text.items h.lawful.some h.spells) i ∷ []; theirs = p.theirs; bytes = λ m. sym (append-nil (p.bytes m)) i; gave = λ m. sym (append-nil (p.gave m)) i; stopped = p.stopped; ended = p.ended; processed = p.processed })
+      (λ i. record { mine = p.mine ++ sym (text_seen delay h.frames text.items h.lawful.some h.spells) i ∷ []; theirs = p.theirs; bytes = λ m. sym (append-nil (p.bytes m)) i; gave = λ m. sym (append-nil (p.gave m)) i; stopped = p.stopped; ended = p.ended; processed = p.processed })
       (ended_by _ _ new h.after (made_ok p e h.mid frames ok h.lawful))
 
-  make_moves : (room : ℕ) (answer : Result (Option Made) MakeFault) (text : Vec ℕ) → MakeStep e room answer text.items new → EndOk (with_call p (acts.Make room) (answers.Make answer text)) new
-  make_moves room answer text step = by (make_refusal e) answer step
+  make_moves : (first delay room : ℕ) (answer : Result (Option Made) MakeFault) (text : Vec ℕ) → MakeStep e first delay room answer text.items new → EndOk (with_call p (acts.Make room) (answers.Make answer text)) new
+  make_moves first delay room answer text step = by (make_refusal e) answer step
     where
       silent : (answer : Result (Option Made) MakeFault) → seen_by (acts.Make room) (answers.Make answer text) ≡ [] → new ≡ e → EndOk (with_call p (acts.Make room) (answers.Make answer text)) new
       silent answer none same = quiet_moves (acts.Make room) (answers.Make answer text) (quiet p (acts.Make room) (answers.Make answer text) none (λ m. refl) (λ m. refl) (λ m. refl) (λ m. refl)) (ended_by p e new same ok)
 
-      by : (o : Option MakeFault) (answer : Result (Option Made) MakeFault) → MakeAt o e room answer text.items new → EndOk (with_call p (acts.Make room) (answers.Make answer text)) new
+      by : (o : Option MakeFault) (answer : Result (Option Made) MakeFault) → MakeAt o e first delay room answer text.items new → EndOk (with_call p (acts.Make room) (answers.Make answer text)) new
       by (Some fault) answer h = subst (λ a. EndOk (with_call p (acts.Make room) (answers.Make a text)) new) (sym h.0) (silent (Err fault) refl h.2)
-      by None (Ok (Some made)) h = made_moves room made text h
+      by None (Ok (Some made)) h = made_moves first delay room made text h
       by None (Ok None) h = silent (Ok None) refl h.2
       by None (Err making.NoMemory) h = silent (Err making.NoMemory) refl h.2
       by None (Err making.Closed) h = absurd h
@@ -285,6 +285,6 @@ own_moves p e new (acts.Finish n) (answers.Finish r) ok step = quiet_moves p e n
 own_moves p e new (acts.Reset n code) (answers.Reset r) ok step = quiet_moves p e new ok (acts.Reset n code) (answers.Reset r) (quiet p (acts.Reset n code) (answers.Reset r) refl (λ m. refl) (λ m. refl) (λ m. refl) (λ m. refl)) (reset_moves p e new ok n code r step)
 own_moves p e new (acts.Stop n code) (answers.Stop r) ok step = stop_moves p e new ok n code r step
 own_moves p e new (acts.ReadUpTo n size) (answers.ReadUpTo r bytes) ok step = read_moves p e new ok n size r bytes step
-own_moves p e new (acts.Make room) (answers.Make r text) ok step = make_moves p e new ok room r text step
+own_moves p e new (acts.Make room) (answers.Make r text) ok (first, delay, step) = make_moves p e new ok first delay room r text step
 own_moves p e new (acts.Lose k) (answers.Lose r) ok step = quiet_moves p e new ok (acts.Lose k) (answers.Lose r) (quiet p (acts.Lose k) (answers.Lose r) refl (λ m. refl) (λ m. refl) (λ m. refl) (λ m. refl)) (lose_moves p e new ok k r step)
 own_moves p e new act answer ok step = absurd step

@@ -17,6 +17,6 @@ own_stands e new (acts.Finish n) (answers.Finish r) step = finish_stands e new n
 own_stands e new (acts.Reset n code) (answers.Reset r) step = reset_stands e new n code r step
 own_stands e new (acts.Stop n code) (answers.Stop r) step = stop_stands e new n code r step
 own_stands e new (acts.ReadUpTo n size) (answers.ReadUpTo r bytes) step = read_stands e new n size r bytes.items step
-own_stands e new (acts.Make room) (answers.Make r text) step = make_stands e new room r text.items step
+own_stands e new (acts.Make room) (answers.Make r text) (first, delay, step) = make_stands e new first delay room r text.items step
 own_stands e new (acts.Lose k) (answers.Lose r) step = lose_stands e new k r step
 own_stands e new act answer step = absurd step

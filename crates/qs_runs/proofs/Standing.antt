@@ -187,10 +187,10 @@ module _ (e new : End) where
       by (Some fault) h = ap standing h.2
       by None (l, there, is, given, same) = ap standing same
 
-  pub make_stands : (room : ℕ) (answer : Result (Option Made) MakeFault) (text : List ℕ) → MakeStep e room answer text new → standing new ≡ standing e
-  make_stands room answer text step = by (make_refusal e) answer step
+  pub make_stands : (first delay room : ℕ) (answer : Result (Option Made) MakeFault) (text : List ℕ) → MakeStep e first delay room answer text new → standing new ≡ standing e
+  make_stands first delay room answer text step = by (make_refusal e) answer step
     where
-      by : (o : Option MakeFault) (answer : Result (Option Made) MakeFault) → MakeAt o e room answer text new → standing new ≡ standing e
+      by : (o : Option MakeFault) (answer : Result (Option Made) MakeFault) → MakeAt o e first delay room answer text new → standing new ≡ standing e
       by (Some fault) answer h = ap standing h.2
       by None (Ok (Some made)) h =
           let (last, fills, is) = h.lawful.filled in

@@ -17,8 +17,8 @@ not_empty [] some = absurd (some refl)
 not_empty (f ∷ fs) some = omega arith
 
 -- a text that was made gives the frames that were put in it, and has no fault
-pub text_seen : (frames : List FrameValue) (text : List ℕ) → seen_all frames ≢ [] → IsText frames text → frames_in text ≡ seen_all frames
-text_seen frames text some is = ap frames_in is.canonical ∙ ap seen_all (canonical_reads_back frames (not_empty frames some) is.fits).0
+pub text_seen : (delay : ℕ) (frames : List FrameValue) (text : List ℕ) → seen_all frames ≢ [] → IsText delay frames text → frames_in text ≡ seen_all frames
+text_seen delay frames text some is = ap frames_in is.canonical ∙ ap seen_all (canonical_reads_back frames (not_empty frames some) is.fits).0
 
-pub text_faultless : (frames : List FrameValue) (text : List ℕ) → seen_all frames ≢ [] → IsText frames text → (reading_of text).fault ≡ None
-text_faultless frames text some is = ap (λ t. (reading_of t).fault) is.canonical ∙ (canonical_reads_back frames (not_empty frames some) is.fits).1
+pub text_faultless : (delay : ℕ) (frames : List FrameValue) (text : List ℕ) → seen_all frames ≢ [] → IsText delay frames text → (reading_of text).fault ≡ None
+text_faultless delay frames text some is = ap (λ t. (reading_of t).fault) is.canonical ∙ (canonical_reads_back frames (not_empty frames some) is.fits).1

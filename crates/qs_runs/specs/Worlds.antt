@@ -35,7 +35,7 @@ both_made (Ok a) (Ok b) = Ok (record { a = a; b = b })
 abbrev pub world_made : Settings → Settings → Result World SetupFault
 world_made a b = both_made (end_made Client a (limits_of b)) (end_made Server b (limits_of a))
 
--- what an end's owner does, and what the end answers
+-- what an end's owner does, and what the end answers; a packet may be made from any stream on, and an ACK tell any delay
 abbrev pub OwnStep : End → Act → Answer → End → Type 0
 OwnStep old (acts.OpenStream dir) (answers.OpenStream r) new = OpenStep old dir r new
 OwnStep old acts.Accept (answers.Accept r) new = AcceptStep old r new
@@ -44,7 +44,7 @@ OwnStep old (acts.Finish n) (answers.Finish r) new = FinishStep old n r new
 OwnStep old (acts.Reset n code) (answers.Reset r) new = ResetStep old n code r new
 OwnStep old (acts.Stop n code) (answers.Stop r) new = StopStep old n code r new
 OwnStep old (acts.ReadUpTo n size) (answers.ReadUpTo r bytes) new = ReadStep old n size r bytes.items new
-OwnStep old (acts.Make room) (answers.Make r text) new = MakeStep old room r text.items new
+OwnStep old (acts.Make room) (answers.Make r text) new = (first : ℕ) × (delay : ℕ) × MakeStep old first delay room r text.items new
 OwnStep old (acts.Lose k) (answers.Lose r) new = LoseStep old k r new
 OwnStep old act answer new = ⊥
 

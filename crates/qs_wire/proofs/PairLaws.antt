@@ -123,37 +123,36 @@ regroup : (a b c d e f : List ℕ) → (a ++ (b ++ (c ++ (d ++ (e ++ []))))) ++ 
 regroup a b c d e f = simp (append_assoc, append-nil)
 
 -- what stands before the gap of the second range
-abbrev pub first_text : ℕ × ℕ → ℕ → List ℕ
-first_text p others = short 2 ++ (short (p.1 - 1) ++ (short 0 ++ (short others ++ (short ((p.1 - 1) - p.0) ++ []))))
+abbrev pub first_text : ℕ → ℕ × ℕ → ℕ → List ℕ
+first_text delay p others = short 2 ++ (short (p.1 - 1) ++ (short delay ++ (short others ++ (short ((p.1 - 1) - p.0) ++ []))))
 
-pub ack_text : (p : ℕ × ℕ) (ps : List (ℕ × ℕ)) → canonical (ack_of (p ∷ ps)) ≡ first_text p (length ps) ++ text_below p.0 ps
+pub ack_text : (delay : ℕ) (p : ℕ × ℕ) (ps : List (ℕ × ℕ)) → canonical (ack_of delay (p ∷ ps)) ≡ first_text delay p (length ps) ++ text_below p.0 ps
 unfolding canonical
-ack_text p ps =
+ack_text delay p ps =
     let count : (suc (length (gaps_below p.0 ps)) - 1) / 2 ≡ length ps = omega (arith, length-gaps p.0 ps) in
     let a = short (p.1 - 1) in
     let l = short ((p.1 - 1) - p.0) in
-    ap (λ (n : ℕ). short 2 ++ (a ++ (short 0 ++ ((short n ++ (l ++ text_below p.0 ps)) ++ [])))) count
-    ∙ sym (regroup (short 2) a (short 0) (short (length ps)) l (text_below p.0 ps))
+    ap (λ (n : ℕ). short 2 ++ (a ++ (short delay ++ ((short n ++ (l ++ text_below p.0 ps)) ++ [])))) count
+    ∙ sym (regroup (short 2) a (short delay) (short (length ps)) l (text_below p.0 ps))
 
-pub length-first_text : (p : ℕ × ℕ) (others : ℕ) → others < 64 → length (first_text p others) ≡ length (short (p.1 - 1)) + length (short ((p.1 - 1) - p.0)) + 3
-length-first_text p others few =
+pub length-first_text : (delay : ℕ) (p : ℕ × ℕ) (others : ℕ) → others < 64 → length (first_text delay p others) ≡ length (short (p.1 - 1)) + length (short ((p.1 - 1) - p.0)) + length (short delay) + 2
+length-first_text delay p others few =
     let a = short (p.1 - 1) in
     let l = short ((p.1 - 1) - p.0) in
     omega (
       arith,
       ap length (short_byte 2 (omega arith)),
-      ap length (short_byte 0 (omega arith)),
       ap length (short_byte others few),
-      length-append (short 2) (a ++ (short 0 ++ (short others ++ (l ++ [])))),
-      length-append a (short 0 ++ (short others ++ (l ++ []))),
-      length-append (short 0) (short others ++ (l ++ [])),
+      length-append (short 2) (a ++ (short delay ++ (short others ++ (l ++ [])))),
+      length-append a (short delay ++ (short others ++ (l ++ []))),
+      length-append (short delay) (short others ++ (l ++ [])),
       length-append (short others) (l ++ []),
       length-append l [],
     )
 
-pub length-ack : (p : ℕ × ℕ) (ps : List (ℕ × ℕ)) → length ps < 64
-    → length (canonical (ack_of (p ∷ ps))) ≡ length (short (p.1 - 1)) + length (short ((p.1 - 1) - p.0)) + 3 + length (text_below p.0 ps)
-length-ack p ps few = omega (arith, ap length (ack_text p ps), length-append (first_text p (length ps)) (text_below p.0 ps), length-first_text p (length ps) few)
+pub length-ack : (delay : ℕ) (p : ℕ × ℕ) (ps : List (ℕ × ℕ)) → length ps < 64
+    → length (canonical (ack_of delay (p ∷ ps))) ≡ length (short (p.1 - 1)) + length (short ((p.1 - 1) - p.0)) + length (short delay) + 2 + length (text_below p.0 ps)
+length-ack delay p ps few = omega (arith, ap length (ack_text delay p ps), length-append (first_text delay p (length ps)) (text_below p.0 ps), length-first_text delay p (length ps) few)
 
 -- ---- the ACK of the first ranges, as a call finds it
 
@@ -161,21 +160,21 @@ length-ack p ps few = omega (arith, ap length (ack_text p ps), length-append (fi
 abbrev pub top : List (ℕ × ℕ) → ℕ × ℕ
 top pairs = get_or pairs 0 (0, 0)
 
-pub ack_take : (pairs others : List (ℕ × ℕ)) (k : ℕ) → 0 < length pairs → others ≡ drop 1 pairs → k ≤ length others
-    → canonical (ack_of (take (k + 1) pairs)) ≡ first_text (top pairs) k ++ text_below (top pairs).0 (take k others)
-ack_take [] others k some is le = absurd (omega arith)
-ack_take (p ∷ ps) others k some is le =
+pub ack_take : (delay : ℕ) (pairs others : List (ℕ × ℕ)) (k : ℕ) → 0 < length pairs → others ≡ drop 1 pairs → k ≤ length others
+    → canonical (ack_of delay (take (k + 1) pairs)) ≡ first_text delay (top pairs) k ++ text_below (top pairs).0 (take k others)
+ack_take delay [] others k some is le = absurd (omega arith)
+ack_take delay (p ∷ ps) others k some is le =
     let next : k + 1 ≡ suc k = omega arith in
     let fits : k ≤ length ps = omega (arith, ap length is) in
-    ap (λ (n : ℕ). canonical (ack_of (take n (p ∷ ps)))) next ∙ ack_text p (take k ps)
-    ∙ ap (λ (n : ℕ). first_text p n ++ text_below p.0 (take k ps)) (length-take-le k ps fits)
-    ∙ ap (λ (qs : List (ℕ × ℕ)). first_text p k ++ text_below p.0 (take k qs)) (sym is)
+    ap (λ (n : ℕ). canonical (ack_of delay (take n (p ∷ ps)))) next ∙ ack_text delay p (take k ps)
+    ∙ ap (λ (n : ℕ). first_text delay p n ++ text_below p.0 (take k ps)) (length-take-le k ps fits)
+    ∙ ap (λ (qs : List (ℕ × ℕ)). first_text delay p k ++ text_below p.0 (take k qs)) (sym is)
 
-pub length-ack_take : (pairs others : List (ℕ × ℕ)) (k : ℕ) → AreAckPairs pairs → others ≡ drop 1 pairs → k ≤ length others
-    → length (canonical (ack_of (take (k + 1) pairs))) ≡ length (short ((top pairs).1 - 1)) + length (short (((top pairs).1 - 1) - (top pairs).0)) + 3 + length (text_below (top pairs).0 (take k others))
-length-ack_take pairs others k h is le =
+pub length-ack_take : (delay : ℕ) (pairs others : List (ℕ × ℕ)) (k : ℕ) → AreAckPairs pairs → others ≡ drop 1 pairs → k ≤ length others
+    → length (canonical (ack_of delay (take (k + 1) pairs))) ≡ length (short ((top pairs).1 - 1)) + length (short (((top pairs).1 - 1) - (top pairs).0)) + length (short delay) + 2 + length (text_below (top pairs).0 (take k others))
+length-ack_take delay pairs others k h is le =
     let few : k < 64 = omega (arith, h.few, ap length is, length-drop 1 pairs) in
-    omega (arith, ap length (ack_take pairs others k h.some is le), length-append (first_text (top pairs) k) (text_below (top pairs).0 (take k others)), length-first_text (top pairs) k few)
+    omega (arith, ap length (ack_take delay pairs others k h.some is le), length-append (first_text delay (top pairs) k) (text_below (top pairs).0 (take k others)), length-first_text delay (top pairs) k few)
 
 pub apart_others : (pairs others : List (ℕ × ℕ)) (k : ℕ) → AreAckPairs pairs → others ≡ drop 1 pairs → AreApartBelow (top pairs).0 (take k others)
 apart_others [] others k h is = absurd (omega (arith, h.some))
@@ -197,9 +196,9 @@ ranges_below s (q ∷ qs) p some is h =
     ∙ ap (λ (rs : List (ℕ × ℕ)). inclusive p ∷ rs) others
 
 -- the numbers that an ACK of ranges holds name those ranges
-pub ranges_of_pairs : (pairs : List (ℕ × ℕ)) → AreAckPairs pairs → ack_pairs (ack_of pairs) ≡ map inclusive pairs
-ranges_of_pairs [] h = absurd (omega (arith, h.some))
-ranges_of_pairs (p ∷ ps) h = ranges_below (p.1 - 1) ps p h.apart.1 refl h.apart.2
+pub ranges_of_pairs : (delay : ℕ) (pairs : List (ℕ × ℕ)) → AreAckPairs pairs → ack_pairs (ack_of delay pairs) ≡ map inclusive pairs
+ranges_of_pairs delay [] h = absurd (omega (arith, h.some))
+ranges_of_pairs delay (p ∷ ps) h = ranges_below (p.1 - 1) ps p h.apart.1 refl h.apart.2
 
 taken-gaps : (smallest : ℕ) (ps : List (ℕ × ℕ)) → AreApartBelow smallest ps → taken (gaps_below smallest ps) ≤ smallest
 taken-gaps smallest [] h = omega arith
@@ -210,9 +209,9 @@ gaps-small smallest [] le h = tt
 gaps-small smallest (p ∷ ps) le h = (omega (arith, h.0, h.1), (omega (arith, h.0, h.1), gaps-small p.0 ps (omega (arith, h.0, h.1)) h.2))
 
 -- an ACK of ranges can be written, and reads back
-pub ack_fits : (pairs : List (ℕ × ℕ)) → AreAckPairs pairs → Fits (ack_of pairs)
-ack_fits [] h = absurd (omega (arith, h.some))
-ack_fits (p ∷ ps) h =
+pub ack_fits : (delay : ℕ) (pairs : List (ℕ × ℕ)) → delay < 2 ^ 62 → AreAckPairs pairs → Fits (ack_of delay pairs)
+ack_fits delay [] small h = absurd (omega (arith, h.some))
+ack_fits delay (p ∷ ps) small h =
     let below : p.1 < 2 ^ 62 + 1 = h.apart.0 in
     let some : p.0 < p.1 = h.apart.1 in
     let few : length ps ≤ 31 = omega (arith, h.few) in (

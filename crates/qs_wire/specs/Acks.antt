@@ -23,10 +23,10 @@ abbrev pub gaps_below : ℕ → List (ℕ × ℕ) → List ℕ
 gaps_below smallest [] = []
 gaps_below smallest (p ∷ ps) = ((smallest - p.1) - 1) ∷ ((p.1 - 1) - p.0) ∷ gaps_below p.0 ps
 
--- the ACK of the ranges, without delay and ECN counts
-abbrev pub ack_of : List (ℕ × ℕ) → FrameValue
-ack_of [] = ack 0 0 [] None
-ack_of (p ∷ ps) = ack (p.1 - 1) 0 (((p.1 - 1) - p.0) ∷ gaps_below p.0 ps) None
+-- the ACK of the ranges that tells this delay, without ECN counts (RFC 9000, section 19.3)
+abbrev pub ack_of : ℕ → List (ℕ × ℕ) → FrameValue
+ack_of delay [] = ack 0 delay [] None
+ack_of delay (p ∷ ps) = ack (p.1 - 1) delay (((p.1 - 1) - p.0) ∷ gaps_below p.0 ps) None
 
 -- each range has a number, and its largest is at least 2 below `high` and below each range before it
 abbrev pub FallBelow : ℕ → List (ℕ × ℕ) → Type 0

@@ -123,21 +123,27 @@ fn put_ranges(smallest: u64, pairs: &[(u64, u64)], at: usize, out: &mut [u8])
 
 const ACK: u64 = 0x02;
 
-/// Writes an ACK frame without delay and ECN counts, of as many ranges as fit, at the slice's front, and
+/// Writes an ACK frame that tells a delay and no ECN counts, of as many ranges as fit, at the slice's front, and
 /// answers how many and the frame's length in bytes. The ranges are half-open, the highest first. Where
 /// not even one fits, nothing is written.
-pub fn put_ack(pairs: &[(u64, u64)], out: &mut [u8]) -> Result<(usize, usize), Full>
-    requires { AreAckPairs pairs.now }
+pub fn put_ack(
+    pairs: &[(u64, u64)],
+    delay: u64,
+    out: &mut [u8],
+) -> Result<(usize, usize), Full>
+    requires pairs { AreAckPairs pairs.now }
+    requires delay { delay < 2 ^ 62 }
     ensures some { IfOk result (λ x. (0 < x.0) × (x.0 ≤ length pairs.now)) }
-    ensures written { IfOk result (λ x. (x.1 ≡ length (canonical (ack_of (take x.0 pairs.now)))) × (x.1 ≤ length out.old)
-        × (out.new ≡ canonical (ack_of (take x.0 pairs.now)) ++ drop x.1 out.old)) }
+    ensures written { IfOk result (λ x. (x.1 ≡ length (canonical (ack_of delay (take x.0 pairs.now)))) × (x.1 ≤ length out.old)
+        × (out.new ≡ canonical (ack_of delay (take x.0 pairs.now)) ++ drop x.1 out.old)) }
     // More ranges would not fit.
-    ensures most { IfOk result (λ x. (n : ℕ) → x.0 < n → n ≤ length pairs.now → length out.old < length (canonical (ack_of (take n pairs.now)))) }
-    ensures full { IfErr result (λ _. (length out.old < length (canonical (ack_of (take 1 pairs.now)))) × (out.new ≡ out.old)) }
+    ensures most { IfOk result (λ x. (n : ℕ) → x.0 < n → n ≤ length pairs.now → length out.old < length (canonical (ack_of delay (take n pairs.now)))) }
+    ensures full { IfErr result (λ _. (length out.old < length (canonical (ack_of delay (take 1 pairs.now)))) × (out.new ≡ out.old)) }
 {
     let (start, end) = pairs[0];
     let (_, others) = pairs.split_at(1);
-    let first = varint_len(end - 1) + varint_len(end - 1 - start) + 3;
+    let numbers = varint_len(end - 1) + varint_len(end - 1 - start);
+    let first = numbers + varint_len(delay) + 2;
     if first > out.len() {
         return Err(Full);
     }
@@ -146,7 +152,7 @@ pub fn put_ack(pairs: &[(u64, u64)], out: &mut [u8]) -> Result<(usize, usize), F
         &[
             Part::Number(ACK),
             Part::Number(end - 1),
-            Part::Number(0),
+            Part::Number(delay),
             Part::Number(count as u64),
             Part::Number(end - 1 - start),
         ],

@@ -1,6 +1,6 @@
 //! Laws of the definitions alone: each is a function whose contract is the law.
 
-ghost use Rattle.std.specs.Prelude.{◌≡◌, ℕ, ◌+◌, ◌<◌, ◌≤◌, Bool, List, length, map, Some, None, if◌then◌else◌, nat_lt};
+ghost use Rattle.std.specs.Prelude.{◌≡◌, ℕ, ◌+◌, ◌<◌, ◌≤◌, ◌^◌, Bool, List, length, map, Some, None, if◌then◌else◌, nat_lt};
 ghost use Rattle.std.specs.List.{AllByRecursion};
 ghost use Rattle.qs_wire.specs.declared.fault.WireFault.{WireFault};
 ghost use Rattle.qs_wire.specs.Varint.{short_len};
@@ -45,8 +45,8 @@ pub fn read_frames_fit()
 /// The ACK of ranges can be written and names those ranges. The ranges of any ACK fall, and between two
 /// of them lies a number.
 pub fn acks_name_ranges()
-    ensures fits { (pairs : List (ℕ × ℕ)) → AreAckPairs pairs → Fits (ack_of pairs) }
-    ensures names { (pairs : List (ℕ × ℕ)) → AreAckPairs pairs → ack_pairs (ack_of pairs) ≡ map inclusive pairs }
+    ensures fits { (delay : ℕ) (pairs : List (ℕ × ℕ)) → delay < 2 ^ 62 → AreAckPairs pairs → Fits (ack_of delay pairs) }
+    ensures names { (delay : ℕ) (pairs : List (ℕ × ℕ)) → AreAckPairs pairs → ack_pairs (ack_of delay pairs) ≡ map inclusive pairs }
     ensures fall { (largest : ℕ) (numbers : List ℕ) → taken numbers ≤ largest + 1 → FallBelow (largest + 2) (ack_ranges_of largest numbers) }
 {}
 

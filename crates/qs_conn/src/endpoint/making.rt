@@ -1,28 +1,61 @@
 //! Packets are made.
-ghost use Rattle.std.specs.Prelude.{◌≡◌, ◌≤◌, ◌↔◌, ℕ, IsTrue, List, [], length};
+ghost use Rattle.std.specs.Prelude.{◌≡◌, ◌≤◌, ◌<◌, ◌^◌, ◌↔◌, ℕ, IsTrue, List, [], length};
 ghost use Rattle.qs_machine.specs.Due.{Sendable};
 ghost use Rattle.qs_machine.specs.Making.{MakeBy, MakeStep};
 ghost use Rattle.qs_conn.specs.Filling.{made_text};
 
 use super::Endpoint;
-use crate::filling::fill;
+use crate::filling::{Wish, fill};
 use crate::sendable::has_frame;
 use crate::terms::Terms;
 use qs_calls::{Made, MakeFault};
+use qs_wire::StreamId;
 
 /// The largest packet number (RFC 9000, section 12.3).
 const MAX_NUMBER: u64 = (1 << 62) - 1;
 
 impl Endpoint {
     /// Makes the next packet: writes its payload at the slice's front. `None` where nothing is to be sent that the limits allow. What
-    /// is due goes in as far as there is room, in the order ACK, control items, bytes of streams (RFC 9000, sections 4, 13.2 and 13.3).
+    /// is due goes in as far as there is room, in the order ACK, control items, bytes of streams, lower streams first (RFC 9000, sections
+    /// 4, 13.2 and 13.3). An ACK tells a delay of 0.
     ///
     /// Refused, and then unchanged: `Closed`; `Exhausted` where the last packet number was used; `NoMemory` where something
     /// may go and memory was refused.
     pub fn make_packet(&mut self, out: &mut [u8]) -> Result<Option<Made>, MakeFault>
         requires least { 128 ≤ length out.old }
         requires most { length out.old ≤ 16383 }
-        ensures { MakeStep self.old (length out.old) result (made_text result out.new) self.new }
+        ensures { MakeStep self.old 0 0 (length out.old) result (made_text result out.new) self.new }
+    {
+        self.make(Wish { first: 0, delay: 0 }, out)
+    }
+
+    /// Makes the next packet, as `make_packet` does, but for two things: bytes go in from stream `first` on, lower streams first, and
+    /// then those of the streams below it; and an ACK tells this delay, in the unit that the peer was told (RFC 9000, sections 2.3, 18.2
+    /// and 19.3).
+    pub fn make_packet_from(
+        &mut self,
+        first: StreamId,
+        delay: u64,
+        out: &mut [u8],
+    ) -> Result<Option<Made>, MakeFault>
+        requires delay { delay < 2 ^ 62 }
+        requires least { 128 ≤ length out.old }
+        requires most { length out.old ≤ 16383 }
+        ensures { MakeStep self.old first delay (length out.old) result (made_text result out.new) self.new }
+    {
+        let wish = Wish {
+            first: first.value(),
+            delay,
+        };
+        self.make(wish, out)
+    }
+
+    // Makes the next packet as it is wished.
+    fn make(&mut self, wish: Wish, out: &mut [u8]) -> Result<Option<Made>, MakeFault>
+        requires first { wish.first < 2 ^ 62 }
+        requires delay { wish.delay < 2 ^ 62 }
+        requires least { 128 ≤ length out.old }
+        ensures { MakeStep self.old wish.first wish.delay (length out.old) result (made_text result out.new) self.new }
     {
         if self.closed.is_some() {
             return Err(MakeFault::Closed);
@@ -41,6 +74,7 @@ impl Endpoint {
             &self.done,
             self.ack_due,
             &mut self.outbox,
+            wish,
             out,
         );
         if len == 0 {
@@ -54,7 +88,7 @@ impl Endpoint {
 
     // What a call answers that found no memory for a packet: where nothing may go, it needs none.
     fn without_memory(&self) -> Result<Option<Made>, MakeFault>
-        ensures by { (room : ℕ) → MakeBy self.now room result [] self.now }
+        ensures by { (first delay room : ℕ) → MakeBy self.now first delay room result [] self.now }
         ensures text { (out : List ℕ) → made_text result out ≡ [] }
     {
         if self.may_make() {

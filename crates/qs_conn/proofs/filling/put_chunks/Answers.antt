@@ -8,7 +8,7 @@ use Rattle.qs_conn.proofs.filling.put_chunks.Goals as goal
 pub loop-chunk-init : goal.loop-chunk-init
 loop-chunk-init c =
     record {
-      chunking = λ recvs room old e at f. flow_begins room old (take c.args.packet.len c.args.out.now) (end_by c.args.terms.now recvs c.args.outbox.now e) c.args.packet.is_full c.args.stream c.if-packet.false f;
+      chunking = λ around first recvs delay room old e at on f. flow_begins delay room old (take c.args.packet.len c.args.out.now) (end_by c.args.terms.now recvs c.args.outbox.now e) c.args.packet.is_full around first c.args.stream c.if-packet.false on f;
       is_open = c.requires.open;
       lanes = λ n none. none;
       credit = c.requires.credit;
@@ -43,8 +43,8 @@ loop-chunk-preserved c =
     let left = length c.loop-chunk.out - c.loop-chunk.len in
     let put = sym c.put_chunk-len.ensures.outbox in
     record {
-      chunking = λ recvs room old e at f. subst (λ x. Chunking room old (take c.put_chunk-len.result c.put_chunk-len.new.out) (end_by c.args.terms.now recvs x e) n) put
-          (chunking_put c.args.terms.now recvs o e room old c.loop-chunk.out c.put_chunk-len.new.out c.loop-chunk.len c.put_chunk-len.result n c.in-Some.chunk left c.loop-chunk.fresh s h next c.in-Some.ensures.2.1 c.loop-chunk.invariant.within (at ∙ sym c.loop-chunk.invariant.room) refl c.loop-chunk.invariant.fresh c.put_chunk-len.ensures.count c.put_chunk-len.ensures.text (c.loop-chunk.invariant.chunking recvs room old e at f));
+      chunking = λ around first recvs delay room old e at on f. subst (λ x. Chunking delay room old (take c.put_chunk-len.result c.put_chunk-len.new.out) (end_by c.args.terms.now recvs x e) around first n) put
+          (chunking_put around first c.args.terms.now recvs o e delay room old c.loop-chunk.out c.put_chunk-len.new.out c.loop-chunk.len c.put_chunk-len.result n c.in-Some.chunk left c.loop-chunk.fresh s h next c.in-Some.ensures.2.1 c.loop-chunk.invariant.within (at ∙ sym c.loop-chunk.invariant.room) refl c.loop-chunk.invariant.fresh c.put_chunk-len.ensures.count c.put_chunk-len.ensures.text (c.loop-chunk.invariant.chunking around first recvs delay room old e at on f));
       is_open = subst (λ x. is_some (lookup x.sends n) ≡ true) put (still_open o n s c.in-Some.chunk h);
       lanes = λ m none. subst (λ x. lookup x.sends m ≡ None) put (none_stays o n m c.in-Some.chunk (c.loop-chunk.invariant.lanes m none));
       credit = subst (λ x. sent_sum x.sends ≤ known) put (sum_within o n s c.in-Some.chunk left c.loop-chunk.fresh known h next c.loop-chunk.invariant.fresh c.loop-chunk.invariant.credit);
@@ -55,9 +55,9 @@ loop-chunk-preserved c =
     }
 
 pub returns-clause-flow : goal.returns-clause-flow
-returns-clause-flow c = λ recvs room old e at f.
+returns-clause-flow c = λ around first recvs delay room old e at on f.
     let left = length c.loop-chunk.out - c.loop-chunk.len in
     let none = c.in_default.ensures in
     let held = c.is_held_by_room-is_full.ensures in
-    flow_ends c.args.terms.now recvs c.loop-chunk.outbox e room old c.loop-chunk.out c.loop-chunk.len c.args.stream left c.loop-chunk.fresh none.0 held.0 c.is_held_by_room-is_full.result
-    none.1 none.2 held.1 held.2 c.loop-chunk.invariant.within (at ∙ sym c.loop-chunk.invariant.room) refl c.loop-chunk.invariant.fresh (c.loop-chunk.invariant.chunking recvs room old e at f)
+    flow_ends around first c.args.terms.now recvs c.loop-chunk.outbox e delay room old c.loop-chunk.out c.loop-chunk.len c.args.stream left c.loop-chunk.fresh none.0 held.0 c.is_held_by_room-is_full.result
+    none.1 none.2 held.1 held.2 c.loop-chunk.invariant.within (at ∙ sym c.loop-chunk.invariant.room) refl c.loop-chunk.invariant.fresh (c.loop-chunk.invariant.chunking around first recvs delay room old e at on f)

@@ -20,8 +20,8 @@ copy_from_slice-requires c =
     let few : length c.pairs-runs.result.now ≤ 32 = omega (arith, count_runs c.args.done.now c.pairs-runs.result.now c.pairs-runs.ensures.runs, c.requires.few) in
     length-take-le (length c.pairs-runs.result.now) _ few
 
-pub put_ack-requires : goal.put_ack-requires
-put_ack-requires c =
+pub put_ack-requires-clause-pairs : goal.put_ack-requires-clause-pairs
+put_ack-requires-clause-pairs c =
     let runs = c.pairs-runs.result.now in
     let count = count_runs c.args.done.now runs c.pairs-runs.ensures.runs in
     subst AreAckPairs (sym (c.reverse.ensures.after ∙ ap reverse c.copy_from_slice.ensures.after)) (pairs_ok c.args.done.now runs c.pairs-runs.ensures.runs c.pairs-runs.ensures.within (omega (arith, count, c.requires.some)) (omega (arith, count, c.requires.few)))
@@ -33,9 +33,9 @@ returns-in-Ok-clause-begun c = λ old same due sent fresh.
     let count = count_runs c.args.done.now runs c.pairs-runs.ensures.runs in
     let highest : pairs ≡ reverse runs = c.reverse.ensures.after ∙ ap reverse c.copy_from_slice.ensures.after in
     let ok : AreAckPairs pairs = subst AreAckPairs (sym highest) (pairs_ok c.args.done.now runs c.pairs-runs.ensures.runs c.pairs-runs.ensures.within (omega (arith, count, c.requires.some)) (omega (arith, count, c.requires.few))) in
-    let text : take c.in-Ok.len c.put_ack.new.out ≡ canonical (ack_of (take c.in-Ok._count pairs)) =
-    ap (take c.in-Ok.len) c.in-Ok.ensures.written.2 ∙ take_at (canonical (ack_of (take c.in-Ok._count pairs))) (drop c.in-Ok.len c.args.out.now) c.in-Ok.len (sym c.in-Ok.ensures.written.0) in
-    begun_ack old runs pairs (subst (λ s. AreRunsOf s runs) (sym same) c.pairs-runs.ensures.runs) highest ok due c.in-Ok._count c.in-Ok.ensures.some.0 c.in-Ok.ensures.some.1 (length c.args.out.now) (take c.in-Ok.len c.put_ack.new.out) text c.in-Ok.ensures.most sent fresh
+    let text : take c.in-Ok.len c.put_ack.new.out ≡ canonical (ack_of c.args.delay (take c.in-Ok._count pairs)) =
+    ap (take c.in-Ok.len) c.in-Ok.ensures.written.2 ∙ take_at (canonical (ack_of c.args.delay (take c.in-Ok._count pairs))) (drop c.in-Ok.len c.args.out.now) c.in-Ok.len (sym c.in-Ok.ensures.written.0) in
+    begun_ack c.args.delay old runs pairs (subst (λ s. AreRunsOf s runs) (sym same) c.pairs-runs.ensures.runs) highest ok due c.in-Ok._count c.in-Ok.ensures.some.0 c.in-Ok.ensures.some.1 c.requires.delay (length c.args.out.now) (take c.in-Ok.len c.put_ack.new.out) text c.in-Ok.ensures.most sent fresh
 
 pub returns-in-Err-clause-begun : goal.returns-in-Err-clause-begun
 returns-in-Err-clause-begun c = λ old same due sent fresh.
@@ -44,4 +44,4 @@ returns-in-Err-clause-begun c = λ old same due sent fresh.
     let count = count_runs c.args.done.now runs c.pairs-runs.ensures.runs in
     let highest : pairs ≡ reverse runs = c.reverse.ensures.after ∙ ap reverse c.copy_from_slice.ensures.after in
     let ok : AreAckPairs pairs = subst AreAckPairs (sym highest) (pairs_ok c.args.done.now runs c.pairs-runs.ensures.runs c.pairs-runs.ensures.within (omega (arith, count, c.requires.some)) (omega (arith, count, c.requires.few))) in
-    absurd (omega (arith, c.in-Err.ensures.full.0, ack_one pairs ok, c.requires.space))
+    absurd (omega (arith, c.in-Err.ensures.full.0, ack_one c.args.delay pairs c.requires.delay ok, c.requires.space))

@@ -8,11 +8,11 @@ loop-stream-preserved c =
     let stream = c.in-Some.stream in
     record {
       small = omega (arith, c.value-from.ensures.in_range);
-      stage = λ room old e passed at start. (
-          let before = c.loop-stream.invariant.stage room old e passed at start in
-          let here = stage_idle room old (take c.loop-stream.packet.len c.loop-stream.out) (end_by c.args.terms.now c.args.recvs.now c.loop-stream.outbox e) c.loop-stream.packet.is_full passed c.args.kind c.loop-stream.from stream (λ n. c.in-Some.ensures.idle n e) before in
-          let after = c.put_slot-packet.ensures.stage room old e (and_below passed c.args.kind stream) (at ∙ sym c.loop-stream.invariant.room) here in
-          stage_fewer room old (take c.put_slot-packet.result.len c.put_slot-packet.new.out) (end_by c.args.terms.now c.args.recvs.now c.put_slot-packet.new.outbox e) c.put_slot-packet.result.is_full
+      stage = λ delay room old e passed at start. (
+          let before = c.loop-stream.invariant.stage delay room old e passed at start in
+          let here = stage_idle delay room old (take c.loop-stream.packet.len c.loop-stream.out) (end_by c.args.terms.now c.args.recvs.now c.loop-stream.outbox e) c.loop-stream.packet.is_full passed c.args.kind c.loop-stream.from stream (λ n. c.in-Some.ensures.idle n e) before in
+          let after = c.put_slot-packet.ensures.stage delay room old e (and_below passed c.args.kind stream) (at ∙ sym c.loop-stream.invariant.room) here in
+          stage_fewer delay room old (take c.put_slot-packet.result.len c.put_slot-packet.new.out) (end_by c.args.terms.now c.args.recvs.now c.put_slot-packet.new.outbox e) c.put_slot-packet.result.is_full
           (and_slot (and_below passed c.args.kind stream) c.at.result) (and_below passed c.args.kind (c.value-from.result + 1))
           (λ s. below_next passed c.args.kind stream (c.value-from.result + 1) c.at.result s c.at.ensures (ap (λ k. k + 1) c.value-from.ensures.same)) after);
       within = c.put_slot-packet.ensures.within;
@@ -22,6 +22,6 @@ loop-stream-preserved c =
     }
 
 pub returns-clause-stage : goal.returns-clause-stage
-returns-clause-stage c = λ room old e passed at start.
-    stage_kind room old (take c.loop-stream.packet.len c.loop-stream.out) (end_by c.args.terms.now c.args.recvs.now c.loop-stream.outbox e) c.loop-stream.packet.is_full passed c.args.kind c.loop-stream.from
-    (λ n le. c.in_default.ensures.idle n e le tt) (c.loop-stream.invariant.stage room old e passed at start)
+returns-clause-stage c = λ delay room old e passed at start.
+    stage_kind delay room old (take c.loop-stream.packet.len c.loop-stream.out) (end_by c.args.terms.now c.args.recvs.now c.loop-stream.outbox e) c.loop-stream.packet.is_full passed c.args.kind c.loop-stream.from
+    (λ n le. c.in_default.ensures.idle n e le tt) (c.loop-stream.invariant.stage delay room old e passed at start)
