@@ -34,8 +34,8 @@ use Rattle.qs_machine.specs.FrameStep.{frames_taken}
 use Rattle.qs_machine.specs.Lawful.{Fills, frame_put, item_put, chunk_of}
 use Rattle.qs_machine.specs.Owner.{OpenStep, AcceptStep, ReadBy, recv_refusal, with_wanted, first_refusal, refuse_if, no_half, half_refusal, IsBlocked, IsOpened, GivesNone, GivesBidi, GivesUni, AcceptOpen, peer_kind, next_stream, send_refusal}
 use Rattle.qs_machine.specs.Receiving.{ReceiveBy, TakesPayload, OpenReceive}
-use Rattle.qs_machine.specs.Making.{MakeAt, make_refusal, LoseStep, first_lost, losses, lose_refusal}
-use Rattle.qs_machine.specs.EndStep.{Call, Answer, EndStep, Open, Accept, Write, Finish, Reset, Stop, ReadUpTo, Receive, Make, Lose, ClosingPayload, Stored, Granted, Spent, GrantedStreams, Report}
+use Rattle.qs_machine.specs.Making.{MakeAt, make_refusal, claim_refusal, LoseStep, first_lost, losses, lose_refusal}
+use Rattle.qs_machine.specs.EndStep.{Call, Answer, EndStep, Open, Accept, Write, Finish, Reset, Stop, ReadUpTo, Receive, Make, Lose, Claim, ClosingPayload, Stored, Granted, Spent, GrantedStreams, Report}
 use Rattle.qs_machine.specs.Standing.{IsSound, CountsStand, CountsAreSettled, CountsRise}
 use Rattle.qs_machine.specs.Repeats.{SentWasWritten}
 use Rattle.qs_machine.proofs.Choices.{by_refusal, by_memory, by_test, if_allowed}
@@ -99,7 +99,7 @@ module _ (P : End → Type 0) (old : End) (kept : P old) (settles : (mid : End) 
   make_by None first delay room (Err making.Closed) text new step = absurd step
   make_by None first delay room (Err making.Exhausted) text new step = absurd step
 
-  module _ (loses : (k : ℕ) (ps : List Piece) → P (losses k ps old)) where
+  module _ (loses : (k : ℕ) (ps : List Piece) → P (losses k ps old)) (claims : P (record old { next = old.next + 1 })) where
     lost : (k : ℕ) (ps : List Piece) (new : End) → new ≡ losses k ps old → P new
     lost k ps new same = subst P (sym same) (loses k ps)
 
@@ -127,6 +127,7 @@ module _ (P : End → Type 0) (old : End) (kept : P old) (settles : (mid : End) 
     ends_by (Receive k payload) answer new step = receive_by old.closed k payload answer new step
     ends_by (Make first delay room) answer new step = make_by (make_refusal old) first delay room answer.0 answer.1 new step
     ends_by (Lose k) answer new step = lose_by k answer new step
+    ends_by Claim answer new step = by_refusal (P new) (claim_refusal old) old answer new _ step (becomes new) (λ done. subst P (sym done.1) claims)
     ends_by (ClosingPayload slice) answer new step = becomes new step.1
     ends_by Stored answer new step = becomes new step.1
     ends_by Granted answer new step = becomes new step.1
@@ -134,7 +135,7 @@ module _ (P : End → Type 0) (old : End) (kept : P old) (settles : (mid : End) 
     ends_by (GrantedStreams d) answer new step = becomes new step.1
     ends_by (Report n) answer new step = becomes new step.1
 
--- A packet that is lost changes no count.
+-- A packet that is lost changes no count, and a number that is claimed none either.
 
 granted_lost : (k : ℕ) (ps : List Piece) (e : End) (d : Dir) → granted_streams (losses k ps e) d ≡ granted_streams e d
 unfolding losses
@@ -154,14 +155,22 @@ stand_lost e h k ps = (
   omega (arith, h.1, granted_lost k ps e Uni, next_lost k ps e Uni),
 )
 
+granted_claimed : (e : End) (d : Dir) → granted_streams (record e { next = e.next + 1 }) d ≡ granted_streams e d
+granted_claimed e Bidi = refl
+granted_claimed e Uni = refl
+
+settled_claimed : (e : End) → CountsAreSettled e → CountsAreSettled (record e { next = e.next + 1 })
+settled_claimed e h Bidi = h Bidi
+settled_claimed e h Uni = h Uni
+
 -- After every call the counts are settled.
 pub settled_call : (old : End) (call : Call) (answer : Answer call) (new : End) → CountsAreSettled old → EndStep old call answer new → CountsAreSettled new
 settled_call old call answer new h step =
-    ends_by CountsAreSettled old h counts_settle (λ k ps d. granted_lost k ps old d ∙ h d ∙ sym (next_lost k ps old d)) call answer new step
+    ends_by CountsAreSettled old h counts_settle (λ k ps d. granted_lost k ps old d ∙ h d ∙ sym (next_lost k ps old d)) (settled_claimed old h) call answer new step
 
 -- Every call leaves a sound end sound.
 pub sound_end : (old : End) (call : Call) (answer : Answer call) (new : End) → IsSound old → EndStep old call answer new → IsSound new
-sound_end old call answer new h step = (sound_call old call answer new h.0 step, ends_by CountsStand old h.1 counts_stand (stand_lost old h.1) call answer new step)
+sound_end old call answer new h step = (sound_call old call answer new h.0 step, ends_by CountsStand old h.1 counts_stand (stand_lost old h.1) h.1 call answer new step)
 
 -- Before a call ends, halves that ended stay so
 
@@ -340,6 +349,8 @@ module _ (old : End) (sound : IsSound old) (sent : SentWasWritten old) where
   counts_call (Receive k payload) answer new step = rises_receive old.closed k payload answer new step
   counts_call (Make first delay room) answer new step = rises_make (make_refusal old) first delay room answer.0 answer.1 new step
   counts_call (Lose k) answer new step = rises_lose k answer new step
+  counts_call Claim answer new step =
+      by_refusal (CountsRise old new) (claim_refusal old) old answer new _ step (rises_same new) (λ done. subst (CountsRise old) (sym done.1) (λ d. omega (arith, granted_claimed old d)))
   counts_call (ClosingPayload slice) answer new step = rises_same new step.1
   counts_call Stored answer new step = rises_same new step.1
   counts_call Granted answer new step = rises_same new step.1

@@ -37,8 +37,8 @@ use Rattle.qs_machine.specs.FrameStep.{frame_taken, named}
 use Rattle.qs_machine.specs.Lawful.{Fills, frame_put, item_put}
 use Rattle.qs_machine.specs.Owner.{OpenStep, AcceptStep, ReadBy, recv_refusal, with_wanted, refuse_if, IsBlocked, IsOpened, GivesNone, GivesBidi, GivesUni, AcceptOpen, peer_kind, next_stream, send_refusal}
 use Rattle.qs_machine.specs.Receiving.{AtEnd, RunsOut, Stops, GoesOn, Takes, ReceiveBy, TakesPayload, OpenReceive}
-use Rattle.qs_machine.specs.Making.{MakeAt, make_refusal, LoseStep, IsMade, first_lost, losses, lose_refusal}
-use Rattle.qs_machine.specs.EndStep.{Call, Answer, EndStep, Open, Accept, Write, Finish, Reset, Stop, ReadUpTo as ReadCall, Receive, Make, Lose, ClosingPayload, Stored, Granted, Spent, GrantedStreams, Report}
+use Rattle.qs_machine.specs.Making.{MakeAt, make_refusal, LoseStep, IsMade, first_lost, losses, claim_refusal, lose_refusal}
+use Rattle.qs_machine.specs.EndStep.{Call, Answer, EndStep, Open, Accept, Write, Finish, Reset, Stop, ReadUpTo as ReadCall, Receive, Make, Lose, Claim, ClosingPayload, Stored, Granted, Spent, GrantedStreams, Report}
 use Rattle.qs_machine.specs.Standing.{IsInCredit}
 use Rattle.qs_machine.proofs.Choices.{by_refusal, by_memory, by_test}
 use Rattle.qs_machine.proofs.Sound.{keeps_updated, keeps_settle}
@@ -267,6 +267,8 @@ sound_call old (ReadCall n size) answer new h step = sound_read_by (recv_refusal
 sound_call old (Receive k payload) answer new h step = sound_receive old.closed k payload old answer new h step
 sound_call old (Make first delay room) answer new h step = sound_make (make_refusal old) old first delay room answer.0 answer.1 new h step
 sound_call old (Lose k) answer new h step = sound_lose old k answer new h step
+sound_call old Claim answer new h step =
+    by_refusal (IsInCredit new) (claim_refusal old) old answer new _ step (λ same. becomes old new same h) (λ done. becomes (record old { next = old.next + 1 }) new done.1 h)
 sound_call old (ClosingPayload slice) answer new h step = becomes old new step.1 h
 sound_call old Stored answer new h step = becomes old new step.1 h
 sound_call old Granted answer new h step = becomes old new step.1 h

@@ -23,6 +23,7 @@ use Rattle.qs_send.specs.declared.piece.Item.{Item}
 use Rattle.qs_send.specs.declared.piece.Item.TheVariants.{MaxData, MaxStreamData, MaxStreams, ResetStream, StopSending, DataBlocked, StreamDataBlocked, StreamsBlocked}
 use Rattle.qs_send.specs.declared.piece.Piece.{Piece}
 use Rattle.qs_send.specs.declared.piece.Piece.TheVariants.{Data, Told}
+use Rattle.qs_calls.specs.declared.making.MakeFault.{MakeFault}
 use Rattle.qs_calls.specs.declared.making.LostFault.{LostFault}
 use Rattle.qs_calls.specs.declared.making.LostFault.TheVariants as losing
 use Rattle.qs_machine.specs.Tables.{lookup, update, total}
@@ -30,13 +31,14 @@ use Rattle.qs_machine.specs.Ends.{End}
 use Rattle.qs_machine.specs.Credit.{all_sent}
 use Rattle.qs_machine.specs.Seen.{Seen, Ack, Stream, Control}
 use Rattle.qs_machine.specs.FrameStep.{is_named}
+use Rattle.qs_machine.specs.Verdicts.{verdict}
 use Rattle.qs_machine.specs.Due.{IsDue, IsCurrent, Sendable}
 use Rattle.qs_machine.specs.Lawful.{Lawful, frame_put}
 use Rattle.qs_machine.specs.Owner.{Certain, first_refusal, refuse_if}
 use Rattle.qs_machine.specs.Making.{NamesMost, LoseStep, losses, lose_refusal}
 use Rattle.qs_machine.specs.Examples.{standard, server}
 use Rattle.qs_machine.specs.SmallEnds.{chunk, abc, wrote, owing}
-use Rattle.qs_machine.specs.ExclusionsMaking.{NoSuchStreamFrame, NoSuchAck, NoSuchFrame, NoSuchPacket, NothingIsLeftOut, NoSuchText, NoSuchAnswer, NoSuchLoss, NotMade, writer, two_due, one_flying, two_flying}
+use Rattle.qs_machine.specs.ExclusionsMaking.{NoSuchStreamFrame, NoSuchAck, NoSuchFrame, NoSuchPacket, NothingIsLeftOut, NoSuchText, NoSuchAnswer, NoSuchClaim, NoSuchLoss, NotMade, writer, two_due, one_flying, two_flying}
 use Rattle.qs_machine.proofs.Ties.{nowhere}
 use Rattle.qs_machine.proofs.SmallEndsLaws.{none_in, none_carried, only_carried}
 
@@ -263,6 +265,24 @@ answers =
       nothing_due = λ text new step. none_due step.0;
     }
 
+abbrev number_in : Result ℕ MakeFault → ℕ
+number_in (Ok number) = number
+number_in (Err fault) = 0
+
+claims : NoSuchClaim
+unfolding verdict
+claims =
+    record {
+      number = λ new step. (let e : 3 ≡ 4 = ap number_in step.0 in omega arith);
+      again = λ number new step same. (let e : 5 ≡ 4 = ap (λ (e : End). e.next) (sym step.1) ∙ same in omega arith);
+      unknown = λ number new step closes. none-some _ (ap (λ (e : End). verdict e (Ack 4 ((4, 4) ∷ []))) (sym step.1) ∙ closes);
+      recorded = λ number new step carried. none_carried _ (subst (λ (e : End). IsCarried e.outstanding (Told (MaxData 5000))) step.1 carried);
+      exhausted = λ number new step. ok_is_no_err _ _ step.0;
+      last_number = λ new step. ok_is_no_err _ _ (sym step.0);
+      closed = λ new step. ok_is_no_err _ _ (sym step.0);
+      memory = λ new step. ok_is_no_err _ _ (sym step.0);
+    }
+
 -- Losses
 
 abbrev told_then_data : List Piece
@@ -361,4 +381,4 @@ lost =
     }
 
 pub not_made : NotMade
-not_made = record { stream = stream; acks = acks; others = others; packets = packets; left_out = left_out; texts = texts; answers = answers; losses = lost }
+not_made = record { stream = stream; acks = acks; others = others; packets = packets; left_out = left_out; texts = texts; answers = answers; claims = claims; losses = lost }

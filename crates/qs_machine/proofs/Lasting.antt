@@ -1,5 +1,5 @@
--- After a closing nothing changes.
-use Rattle.std.proofs.Common.{◌≡◌, ℕ, Bool, true, false, List, Option, Some, None, is_some}
+-- After a closing nothing changes but the number of the next packet.
+use Rattle.std.proofs.Common.{◌≡◌, ℕ, ◌+◌, Bool, true, false, List, Option, Some, None, is_some, sym, ap, ◌∙◌}
 use Rattle.std.specs.Prelude.{Result, MatchBool}
 use Rattle.std.proofs.lemmas.Bool.{false≢true}
 use Rattle.qs_calls.specs.declared.closing.Closing.{Closing}
@@ -15,8 +15,10 @@ use Rattle.qs_calls.specs.declared.uses.UseFault.TheVariants as uses
 use Rattle.qs_machine.specs.Ends.{End}
 use Rattle.qs_machine.specs.Owner.{Certain, first_refusal, refuse_if, ReadBy, AcceptOpen, GivesNone}
 use Rattle.qs_machine.specs.Receiving.{ReceiveBy}
-use Rattle.qs_machine.specs.Making.{MakeAt}
-use Rattle.qs_machine.specs.EndStep.{Call, Answer, EndStep, Open, Accept, Write, Finish, Reset, Stop, ReadUpTo, Receive, Make, Lose, ClosingPayload, Stored, Granted, Spent, GrantedStreams, Report}
+use Rattle.qs_machine.specs.Making.{MakeAt, ClaimStep, claim_refusal}
+use Rattle.qs_machine.specs.EndStep.{Call, Answer, EndStep, Open, Accept, Write, Finish, Reset, Stop, ReadUpTo, Receive, Make, Lose, Claim, ClosingPayload, Stored, Granted, Spent, GrantedStreams, Report}
+use Rattle.qs_machine.specs.Laws.{StaysButNumber}
+use Rattle.qs_machine.proofs.Choices.{by_refusal}
 
 -- a call whose first refusal is a closing
 refused : {A F : Type 0} (b : Bool) (fault : F) (old : End) (answer : Result A F) (new : End) (Effect : Type 0) → b ≡ true → Certain (refuse_if b fault) old answer new Effect → new ≡ old
@@ -46,7 +48,15 @@ receive_again None number payload old result new is h = absurd (false≢true is)
 receive_again (Some (ByUs closing)) number payload old result new is h = h.1
 receive_again (Some (ByPeer code)) number payload old result new is h = h.1
 
-pub closed_stays : (old : End) (call : Call) (answer : Answer call) (new : End) → is_some old.closed ≡ true → EndStep old call answer new → new ≡ old
+-- a number that was claimed
+but_number : (old new : End) (n : ℕ) → new ≡ record old { next = n } → new ≡ record old { next = new.next }
+but_number old new n same = same ∙ ap (λ (e : End). record old { next = e.next }) (sym same)
+
+claim_stays : (old : End) (answer : Answer Claim) (new : End) → ClaimStep old answer new → new ≡ record old { next = new.next }
+claim_stays old answer new step =
+    by_refusal (new ≡ record old { next = new.next }) (claim_refusal old) old answer new _ step (but_number old new old.next) (λ done. but_number old new (old.next + 1) done.1)
+
+pub closed_stays : (old : End) (call : Call) (answer : Answer call) (new : End) → is_some old.closed ≡ true → EndStep old call answer new → StaysButNumber old call new
 closed_stays old (Open d) answer new is h = refused (is_some old.closed) opening.Closed old answer new _ is h
 closed_stays old Accept answer new is h = accept_none (is_some old.closed) old answer new is h
 closed_stays old (Write n bytes) answer new is h = refused_first (is_some old.closed) uses.Closed _ old answer new _ is h
@@ -57,6 +67,7 @@ closed_stays old (ReadUpTo n size) answer new is h = read_refused (is_some old.c
 closed_stays old (Receive k payload) answer new is h = receive_again old.closed k payload old answer new is h
 closed_stays old (Make first delay room) answer new is h = make_refused (is_some old.closed) _ old first delay room answer new is h
 closed_stays old (Lose k) answer new is h = refused_first (is_some old.closed) losing.Closed _ old answer new _ is h
+closed_stays old Claim answer new is h = claim_stays old answer new h
 closed_stays old (ClosingPayload slice) answer new is h = h.1
 closed_stays old Stored answer new is h = h.1
 closed_stays old Granted answer new is h = h.1

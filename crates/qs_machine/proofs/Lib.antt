@@ -37,3 +37,4 @@ pub mod ExclusionsReceiving
 pub mod ExclusionsOwner
 pub mod SettledLimits
 pub mod OffsetParts
+pub mod Claims

@@ -40,8 +40,8 @@ use Rattle.qs_machine.specs.FrameStep.{frame_taken, item_taken, AckedPiece, with
 use Rattle.qs_machine.specs.Lawful.{Fills, frame_put, item_put, chunk_of}
 use Rattle.qs_machine.specs.Owner.{OpenStep, AcceptStep, ReadBy, send_refusal, recv_refusal, with_wanted, refuse_if, IsBlocked, IsOpened, GivesNone, GivesBidi, GivesUni, AcceptOpen, peer_kind, next_stream}
 use Rattle.qs_machine.specs.Receiving.{AtEnd, RunsOut, Stops, Takes, ReceiveBy, TakesPayload, OpenReceive}
-use Rattle.qs_machine.specs.Making.{MakeAt, make_refusal, LoseStep, lose_refusal, IsMade, first_lost, losses}
-use Rattle.qs_machine.specs.EndStep.{Call, Answer, EndStep, Open, Accept, Write, Finish, Reset, Stop, ReadUpTo, Receive, Make, Lose, ClosingPayload, Stored, Granted, Spent, GrantedStreams, Report}
+use Rattle.qs_machine.specs.Making.{MakeAt, make_refusal, LoseStep, claim_refusal, lose_refusal, IsMade, first_lost, losses}
+use Rattle.qs_machine.specs.EndStep.{Call, Answer, EndStep, Open, Accept, Write, Finish, Reset, Stop, ReadUpTo, Receive, Make, Lose, Claim, ClosingPayload, Stored, Granted, Spent, GrantedStreams, Report}
 use Rattle.qs_machine.specs.Standing.{LimitsRiseIn, LimitsRise}
 use Rattle.qs_machine.proofs.Choices.{by_refusal, by_memory, by_test}
 use Rattle.qs_machine.proofs.TableLaws.{lookup_same, lookup_other, lookup_open, lookup_each}
@@ -385,6 +385,9 @@ rises_call old (ReadUpTo n size) answer new step = rises_read_by (recv_refusal o
 rises_call old (Receive k payload) answer new step = rises_receive old.closed k payload old answer new step
 rises_call old (Make first delay room) answer new step = rises_make (make_refusal old) old first delay room answer.0 answer.1 new step
 rises_call old (Lose k) answer new step = rises_lose old k answer new step
+rises_call old Claim answer new step =
+    by_refusal (LimitsRise old new) (claim_refusal old) old answer new _ step (λ same. becomes old old new same (rises_same old))
+    (λ done. becomes old (record old { next = old.next + 1 }) new done.1 (rises_same old))
 rises_call old (ClosingPayload slice) answer new step = becomes old old new step.1 (rises_same old)
 rises_call old Stored answer new step = becomes old old new step.1 (rises_same old)
 rises_call old Granted answer new step = becomes old old new step.1 (rises_same old)

@@ -36,8 +36,8 @@ use Rattle.qs_machine.specs.FrameStep.{frame_taken, item_taken, AckedPiece, held
 use Rattle.qs_machine.specs.Lawful.{Fills, MayPut, frame_put, item_put, chunk_of, noted, pieces_so_far}
 use Rattle.qs_machine.specs.Owner.{OpenStep, AcceptStep, ReadBy, send_refusal, recv_refusal, with_wanted, refuse_if, IsBlocked, IsOpened, GivesNone, GivesBidi, GivesUni, AcceptOpen, peer_kind, next_stream}
 use Rattle.qs_machine.specs.Receiving.{AtEnd, RunsOut, Stops, Takes, ReceiveBy, TakesPayload, OpenReceive}
-use Rattle.qs_machine.specs.Making.{MakeAt, make_refusal, LoseStep, lose_refusal, IsMade, first_lost, losses}
-use Rattle.qs_machine.specs.EndStep.{Call, Answer, EndStep, Open, Accept, Write, Finish, Reset, Stop, ReadUpTo, Receive, Make, Lose, ClosingPayload, Stored, Granted, Spent, GrantedStreams, Report}
+use Rattle.qs_machine.specs.Making.{MakeAt, make_refusal, LoseStep, claim_refusal, lose_refusal, IsMade, first_lost, losses}
+use Rattle.qs_machine.specs.EndStep.{Call, Answer, EndStep, Open, Accept, Write, Finish, Reset, Stop, ReadUpTo, Receive, Make, Lose, Claim, ClosingPayload, Stored, Granted, Spent, GrantedStreams, Report}
 use Rattle.std.specs.FinMap as fmap
 use Rattle.qs_wire.specs.declared.stream_id.Role.{Role}
 use Rattle.qs_send.specs.Records.{Among, IsCarried}
@@ -365,6 +365,9 @@ keeps_call old (ReadUpTo n size) answer new step = keeps_read_by (recv_refusal o
 keeps_call old (Receive k payload) answer new step = keeps_receive old.closed k payload old answer new step
 keeps_call old (Make first delay room) answer new step = keeps_make (make_refusal old) old first delay room answer.0 answer.1 new step
 keeps_call old (Lose k) answer new step = keeps_lose old k answer new step
+keeps_call old Claim answer new step =
+    by_refusal (Keeps old new) (claim_refusal old) old answer new _ step (λ same. becomes old old new same (keeps_same old))
+    (λ done. becomes old (record old { next = old.next + 1 }) new done.1 (λ h late p is. h late p is))
 keeps_call old (ClosingPayload slice) answer new step = becomes old old new step.1 (keeps_same old)
 keeps_call old Stored answer new step = becomes old old new step.1 (keeps_same old)
 keeps_call old Granted answer new step = becomes old old new step.1 (keeps_same old)

@@ -64,4 +64,4 @@ losses_settled k [] e h = h
 losses_settled k (p ∷ ps) e h = losses_settled k ps (first_lost k p e) (record { connection = h.connection; streams = h.streams })
 
 pub calls_settle : (old : End) (call : Call) (answer : Answer call) (new : End) → LimitsAreSettled old → EndStep old call answer new → LimitsAreSettled new
-calls_settle old call answer new h step = ends_by LimitsAreSettled old h settles (λ k ps. losses_settled k ps old h) call answer new step
+calls_settle old call answer new h step = ends_by LimitsAreSettled old h settles (λ k ps. losses_settled k ps old h) (record { connection = h.connection; streams = h.streams }) call answer new step

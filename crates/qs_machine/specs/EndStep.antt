@@ -15,7 +15,7 @@ use Rattle.qs_machine.specs.Ends.{End}
 use Rattle.qs_machine.specs.Credit.{spent, all_stored, granted_streams}
 use Rattle.qs_machine.specs.Owner.{OpenStep, AcceptStep, WriteStep, FinishStep, ResetStep, StopStep, ReadStep}
 use Rattle.qs_machine.specs.Receiving.{ReceiveStep}
-use Rattle.qs_machine.specs.Making.{MakeStep, LoseStep, ClosePayload}
+use Rattle.qs_machine.specs.Making.{MakeStep, ClaimStep, LoseStep, ClosePayload}
 use Rattle.qs_machine.specs.Reports.{lane_report}
 
 -- a call of an end; of a slice that is written into only what counts, its size or its bytes
@@ -30,6 +30,7 @@ pub data Call : Type 0 where
   Receive : (number : ℕ) (payload : List ℕ) → Call
   Make : (first delay room : ℕ) → Call
   Lose : (number : ℕ) → Call
+  Claim : Call
   ClosingPayload : (slice : List ℕ) → Call
   Stored : Call
   Granted : Call
@@ -49,6 +50,7 @@ Answer (ReadUpTo n size) = Result Read UseFault × List ℕ
 Answer (Receive k payload) = Result Received Closing
 Answer (Make first delay room) = Result (Option Made) MakeFault × List ℕ
 Answer (Lose k) = Result (Unit {0}) LostFault
+Answer Claim = Result ℕ MakeFault
 Answer (ClosingPayload slice) = Option ℕ × List ℕ
 Answer Stored = ℕ
 Answer Granted = ℕ
@@ -68,6 +70,7 @@ EndStep old (ReadUpTo n size) answer new = ReadStep old n size answer.0 answer.1
 EndStep old (Receive k payload) answer new = ReceiveStep old k payload answer new
 EndStep old (Make first delay room) answer new = MakeStep old first delay room answer.0 answer.1 new
 EndStep old (Lose k) answer new = LoseStep old k answer new
+EndStep old Claim answer new = ClaimStep old answer new
 EndStep old (ClosingPayload slice) answer new = ClosePayload old slice answer.0 answer.1 × (new ≡ old)
 EndStep old Stored answer new = (answer ≡ all_stored old) × (new ≡ old)
 EndStep old Granted answer new = (answer ≡ old.granted) × (new ≡ old)

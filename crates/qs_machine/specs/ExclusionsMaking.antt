@@ -14,9 +14,10 @@ use Rattle.qs_calls.specs.declared.making.LostFault.TheVariants as losing
 use Rattle.qs_machine.specs.Ends.{End}
 use Rattle.qs_machine.specs.Seen.{Ack, Stream, Control, Close, Plain}
 use Rattle.qs_machine.specs.Lawful.{MayPut, Lawful, HasAll, frame_put}
-use Rattle.qs_machine.specs.Making.{IsText, IsMade, MakeStep, LoseStep}
+use Rattle.qs_machine.specs.Making.{IsText, IsMade, MakeStep, ClaimStep, LoseStep}
+use Rattle.qs_machine.specs.Verdicts.{verdict, PROTOCOL_VIOLATION}
 use Rattle.qs_machine.specs.Examples.{standard, server}
-use Rattle.qs_machine.specs.SmallEnds.{client_with, carrying, chunk, abc, begun, wrote, sent, second_acked, raised, owing}
+use Rattle.qs_machine.specs.SmallEnds.{client_with, carrying, chunk, abc, begun, wrote, sent, second_acked, raised, owing, four_made}
 use Rattle.qs_machine.specs.ExclusionsDue.{held_back}
 
 -- a client that wrote three bytes
@@ -140,6 +141,25 @@ pub record NoSuchAnswer : Type 0 where
   -- and not for want of memory where nothing is due
   pub nothing_due : (text : List ℕ) (new : End) → MakeStep (server standard) 0 0 1200 (Err making.NoMemory) text new → ⊥
 
+-- `claim_number` doesn't answer so (sections 12.3 and 13.1)
+pub record NoSuchClaim : Type 0 where
+  -- with another number than the next
+  pub number : (new : End) → ClaimStep four_made (Ok 3) new → ⊥
+  -- with one that may be used again
+  pub again : (number : ℕ) (new : End) → ClaimStep four_made (Ok number) new → new.next ≡ 4 → ⊥
+  -- with one of which an ACK closes
+  pub unknown : (number : ℕ) (new : End) → ClaimStep four_made (Ok number) new → verdict new (Ack 4 ((4, 4) ∷ [])) ≡ Some PROTOCOL_VIOLATION → ⊥
+  -- with one under which something is outstanding
+  pub recorded : (number : ℕ) (new : End) → ClaimStep (client_with begun) (Ok number) new → IsCarried new.outstanding (Told (MaxData 5000)) → ⊥
+  -- with one past the last
+  pub exhausted : (number : ℕ) (new : End) → ClaimStep (record four_made { next = MAX_VARINT + 1 }) (Ok number) new → ⊥
+  -- with the last number unused
+  pub last_number : (new : End) → ClaimStep (record four_made { next = MAX_VARINT }) (Err making.Exhausted) new → ⊥
+  -- as closed, since a closing goes in a packet
+  pub closed : (new : End) → ClaimStep (record four_made { closed = Some (ByPeer 0) }) (Err making.Closed) new → ⊥
+  -- nor for want of memory
+  pub memory : (new : End) → ClaimStep four_made (Err making.NoMemory) new → ⊥
+
 -- a client that sent three bytes in packet 0
 abbrev pub one_flying : End
 one_flying = carrying (Data 0 (chunk 0 3 false)) (client_with sent)
@@ -171,4 +191,5 @@ pub record NotMade : Type 0 where
   pub left_out : NothingIsLeftOut
   pub texts : NoSuchText
   pub answers : NoSuchAnswer
+  pub claims : NoSuchClaim
   pub losses : NoSuchLoss

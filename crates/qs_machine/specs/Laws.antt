@@ -1,5 +1,6 @@
 -- Laws on ends and their calls.
-use Rattle.std.specs.Prelude.{◌≡◌, ℕ, Bool, true, false, List, ◌++◌, is_some, Result, Ok}
+use Rattle.std.specs.Prelude.{◌≡◌, ℕ, ◌≤◌, Bool, true, false, List, ◌++◌, None, is_some, Result, Ok, Err}
+use Rattle.std.specs.FinMap as fmap
 use Rattle.qs_wire.specs.Layout.{PlacedValue}
 use Rattle.qs_wire.specs.Grammar.{frames_of}
 use Rattle.qs_wire.specs.Reading.{reading_of}
@@ -16,12 +17,16 @@ use Rattle.qs_calls.specs.declared.settings.PeerLimits.{PeerLimits}
 use Rattle.qs_calls.specs.declared.closing.Closing.{Closing}
 use Rattle.qs_calls.specs.declared.closing.Received.{Received}
 use Rattle.qs_calls.specs.declared.closing.Received.TheVariants.{Done}
+use Rattle.qs_calls.specs.declared.making.LostFault.{LostFault}
+use Rattle.qs_calls.specs.declared.making.LostFault.TheVariants.{NotOutstanding}
 use Rattle.qs_machine.specs.Ends.{End, end_made}
 use Rattle.qs_machine.specs.Credit.{settle, recv_ended, send_ended}
-use Rattle.qs_machine.specs.Seen.{Seen, seen_all, any_asks}
+use Rattle.qs_machine.specs.Seen.{Seen, Ack, seen_all, any_asks}
+use Rattle.qs_machine.specs.Verdicts.{verdict}
 use Rattle.qs_machine.specs.FrameStep.{NoFault, frames_taken}
 use Rattle.qs_machine.specs.Receiving.{TakesPayload, EndsBy, ReceiveStep}
-use Rattle.qs_machine.specs.EndStep.{Call, Answer, EndStep}
+use Rattle.qs_machine.specs.Making.{ClaimStep, LoseStep}
+use Rattle.qs_machine.specs.EndStep.{Call, Answer, EndStep, Claim}
 use Rattle.qs_machine.specs.Standing.{IsSound, IsWithinCredit, CountsAreSettled, LimitsRise, CountsRise}
 use Rattle.qs_machine.specs.Repeats.{SentWasWritten, AreAmong, Resumes, OnlyRecords}
 
@@ -70,9 +75,23 @@ CountsNeverFall =
 abbrev pub LimitsNeverFall : Type 0
 LimitsNeverFall = (old : End) (call : Call) (answer : Answer call) (new : End) → EndStep old call answer new → LimitsRise old new
 
--- after a closing nothing changes
+-- nothing changes, but the number of the next packet where one is claimed
+abbrev pub StaysButNumber : End → Call → End → Type 0
+StaysButNumber old Claim new = new ≡ record old { next = new.next }
+StaysButNumber old call new = new ≡ old
+
+-- after a closing nothing changes, but that numbers are claimed
 abbrev pub ClosedEndsStay : Type 0
-ClosedEndsStay = (old : End) (call : Call) (answer : Answer call) (new : End) → is_some old.closed ≡ true → EndStep old call answer new → new ≡ old
+ClosedEndsStay =
+    (old : End) (call : Call) (answer : Answer call) (new : End) → is_some old.closed ≡ true → EndStep old call answer new → StaysButNumber old call new
+
+-- once a number was claimed
+pub record ClaimedNumbersAreKnown : Type 0 where
+  -- an ACK of it, or of a number before it, is no fault (RFC 9000, section 13.1)
+  pub acked : (old new : End) (number largest : ℕ) (ranges : List (ℕ × ℕ)) → ClaimStep old (Ok number) new → largest ≤ number → verdict new (Ack largest ranges) ≡ None
+  -- and no packet of that number is outstanding, where none was before
+  pub not_outstanding : (old mid new : End) (number : ℕ) (answer : Result (Unit {0}) LostFault) → fmap.get old.outstanding old.next ≡ None → old.closed ≡ None
+      → ClaimStep old (Ok number) mid → LoseStep mid number answer new → answer ≡ Err NotOutstanding
 
 -- Of the frames of a payload the first ones took effect, one after the other and each without a fault; and then the processing ended.
 abbrev pub PayloadsAreTakenInOrder : Type 0

@@ -81,6 +81,17 @@ MakeAt None old first delay room answer text new = MakeBy old first delay room a
 abbrev pub MakeStep : End → (first delay room : ℕ) → Result (Option Made) MakeFault → List ℕ → End → Type 0
 MakeStep old first delay room answer text new = MakeAt (make_refusal old) old first delay room answer text new
 
+-- Numbers that the layer beneath claims (RFC 9000, section 12.3)
+
+-- an end that used the last number has none to give; one that closed does, since its CONNECTION_CLOSE goes in a packet (RFC 9000, sections
+-- 10.2.3 and 12.3)
+abbrev pub claim_refusal : End → Option MakeFault
+claim_refusal e = refuse_if (nat_le (MAX_VARINT + 1) e.next) making.Exhausted
+
+-- The layer beneath uses the next number up for a packet of its own, of which the end records nothing (RFC 9000, section 12.3).
+abbrev pub ClaimStep : End → Result ℕ MakeFault → End → Type 0
+ClaimStep old answer new = Certain (claim_refusal old) old answer new ((answer ≡ Ok old.next) × (new ≡ record old { next = old.next + 1 }))
+
 -- Losses (RFC 9000, section 13.3)
 
 -- The first piece of packet k is lost. It leaves the outstanding record, and so is due again if it is of use, and stands in the lost

@@ -1,6 +1,6 @@
 //! Laws on ends and their calls, each the contract of a function.
 
-ghost use Rattle.qs_machine.specs.Laws.{NewEndsAreSound, CallsKeepEndsSound, StoredBytesWereGranted, EndedIsLastState, NewEndsSettleCounts, CallsSettleCounts, CountsNeverFall, LimitsNeverFall, ClosedEndsStay, PayloadsAreTakenInOrder, EffectsRepeat, PayloadsRepeat, ProcessedPayloadsRepeat, NewEndsSentNothing, CallsSendWhatWasWritten};
+ghost use Rattle.qs_machine.specs.Laws.{NewEndsAreSound, CallsKeepEndsSound, StoredBytesWereGranted, EndedIsLastState, NewEndsSettleCounts, CallsSettleCounts, CountsNeverFall, LimitsNeverFall, ClosedEndsStay, ClaimedNumbersAreKnown, PayloadsAreTakenInOrder, EffectsRepeat, PayloadsRepeat, ProcessedPayloadsRepeat, NewEndsSentNothing, CallsSendWhatWasWritten};
 ghost use Rattle.qs_machine.specs.SettledLimits.{NewEndsSettleLimits, CallsSettleLimits};
 ghost use Rattle.qs_machine.specs.OffsetParts.{OffsetsAreInOnePart};
 ghost use Rattle.qs_machine.specs.Examples.{Examples};
@@ -50,9 +50,14 @@ pub fn limits_never_fall()
     ensures { LimitsNeverFall }
 {}
 
-/// After a closing nothing changes any more.
+/// After a closing nothing changes any more, but the number of the next packet where one is claimed.
 pub fn closed_ends_stay()
     ensures { ClosedEndsStay }
+{}
+
+/// An ACK that names a claimed number doesn't close the end, and no packet of that number is outstanding.
+pub fn claimed_numbers_are_known()
+    ensures { ClaimedNumbersAreKnown }
 {}
 
 /// Of a payload's frames some first ones take effect, in order, and then the processing ends.
