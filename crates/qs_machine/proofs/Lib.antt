@@ -33,6 +33,7 @@ pub mod RunLaws
 pub mod SmallEndsLaws
 pub mod ExclusionsDue
 pub mod ExclusionsMaking
+pub mod ExclusionsMemory
 pub mod ExclusionsReceiving
 pub mod ExclusionsOwner
 pub mod SettledLimits

@@ -2,6 +2,7 @@
 use Rattle.qs_machine.specs.ExclusionsDue.{NotDue}
 use Rattle.qs_machine.specs.ExclusionsMaking.{NotMade}
 use Rattle.qs_machine.specs.ExclusionsReceiving.{NotReceived}
+use Rattle.qs_machine.specs.ExclusionsMemory.{NotRefused}
 use Rattle.qs_machine.specs.ExclusionsOwner.{NotOwned}
 
 pub record Exclusions : Type 0 where
@@ -9,3 +10,4 @@ pub record Exclusions : Type 0 where
   pub making : NotMade
   pub receiving : NotReceived
   pub owner : NotOwned
+  pub memory : NotRefused

@@ -27,6 +27,7 @@ pub mod Told
 pub mod SmallEnds
 pub mod ExclusionsDue
 pub mod ExclusionsMaking
+pub mod ExclusionsMemory
 pub mod ExclusionsReceiving
 pub mod ExclusionsOwner
 pub mod Exclusions
