@@ -1,17 +1,19 @@
 -- Where memory isn't asked for, and how a payload doesn't end.
-use Rattle.std.proofs.Common.{◌≡◌, ◌≤◌, ◌<◌, Bool, true, false, ◌||◌, Option, Some, None, ◌⊎◌, refl, sym, ap, ◌∙◌, inl, inr, arith}
+use Rattle.std.proofs.Common.{◌≡◌, true, ◌||◌, Option, Some, None, ◌⊎◌, refl, sym, ap, ◌∙◌, subst, slice_get, inl, inr, arith}
 use Rattle.std.specs.FinMap as fmap
 use Rattle.std.specs.FinSet as set
 use Rattle.std.specs.Cmp.{nat_cmp_total}
 use Rattle.std.proofs.lemmas.Option.{none-some}
 use Rattle.std.proofs.lemmas.Bool.{false≢true, both_ways}
-use Rattle.qs_ranges.specs.Numbers.{NumberSet, contains-numbers, contains-with_range, numbers}
+use Rattle.qs_ranges.specs.Numbers.{contains-numbers, contains-with_range, numbers}
 use Rattle.qs_send.specs.Lane.{SendLane}
 use Rattle.qs_machine.specs.Tables.{lookup}
 use Rattle.qs_machine.specs.Ends.{End}
 use Rattle.qs_machine.specs.SmallEnds.{only, second_acked}
 use Rattle.qs_machine.specs.ExclusionsMemory.{NoFrameRunsOut, NoPieceRunsOut, NoOtherEnd, NotRefused}
+use Rattle.qs_machine.specs.Memory.{StopsAt}
 use Rattle.qs_machine.proofs.ExclusionsDue.{came_whole}
+use Rattle.qs_machine.proofs.ExclusionsReceiving.{none_named}
 use Rattle.qs_machine.proofs.SmallEndsLaws.{only_open}
 
 last_came : set.contains (set.union set.empty (numbers 0 3)) 2 ≡ true
@@ -29,6 +31,7 @@ frames =
       plain = λ h. h;
       plain_stops = λ h. h.1;
       close = λ h. h;
+      names_none = λ new (m, after, stops). subst (λ ps. StopsAt new.sends new.acked (slice_get ps m)) none_named stops;
       max_data = λ h. h;
       max_streams = λ h. h;
       data_blocked = λ h. h;

@@ -73,7 +73,7 @@ abbrev three_bytes : List Piece
 three_bytes = Data 0 (chunk 0 3 false) ∷ []
 
 -- nothing that is outstanding is named
-none_named : named flying ((5, 5) ∷ []) ≡ []
+pub none_named : named flying ((5, 5) ∷ []) ≡ []
 none_named i = flat_map (pieces_of false flying.outstanding) (filter_nothing flying.outstanding (is_named ((5, 5) ∷ [])) only_zero i) ++ flat_map (pieces_of true fmap.empty) (filter_nothing fmap.empty (is_named ((5, 5) ∷ [])) none_late i)
   where
     only_zero : (j : ℕ) → is_some (fmap.get flying.outstanding j) ≡ true → is_named ((5, 5) ∷ []) j ≡ false

@@ -6,21 +6,20 @@ use Rattle.std.specs.FinSet as set
 use Rattle.qs_wire.specs.declared.fault.WireFault.{WireFault}
 use Rattle.qs_wire.specs.declared.stream_id.Dir.TheVariants.{Bidi}
 use Rattle.qs_recv.specs.Lane.{stop}
-use Rattle.qs_send.specs.declared.piece.Item.{Item}
 use Rattle.qs_send.specs.declared.piece.Item.TheVariants.{MaxData, MaxStreamData, MaxStreams, ResetStream, StopSending, DataBlocked, StreamDataBlocked, StreamsBlocked}
 use Rattle.qs_send.specs.declared.piece.Piece.{Piece}
 use Rattle.qs_send.specs.declared.piece.Piece.TheVariants.{Data, Told}
 use Rattle.qs_calls.specs.declared.closing.Closing.{Closing}
 use Rattle.qs_calls.specs.declared.closing.Received.TheVariants.{Done, Duplicate, NoMemory}
-use Rattle.qs_machine.specs.Tables.{Tables, no_streams}
+use Rattle.qs_machine.specs.Tables.{no_streams}
 use Rattle.qs_machine.specs.Ends.{End, AckedItems, no_items}
-use Rattle.qs_machine.specs.Seen.{Stream, Control, Close, Plain}
+use Rattle.qs_machine.specs.Seen.{Ack, Stream, Control, Close, Plain}
 use Rattle.qs_machine.specs.FrameStep.{acked_at}
 use Rattle.qs_machine.specs.Memory.{MayRunOut, StopsAt}
 use Rattle.qs_machine.specs.Receiving.{AtEnd, RunsOut, closing_of}
 use Rattle.qs_machine.specs.Examples.{standard, server, client_of}
 use Rattle.qs_machine.specs.SmallEnds.{only, server_with, abc, chunk, second_acked, fresh, three_came}
-use Rattle.qs_machine.specs.ExclusionsReceiving.{ten}
+use Rattle.qs_machine.specs.ExclusionsReceiving.{ten, flying}
 
 -- a server whose peer opened stream 2, which the peer alone sends on
 abbrev pub one_way : End
@@ -32,6 +31,8 @@ pub record NoFrameRunsOut : Type 0 where
   pub plain : MayRunOut ten (Plain true) → ⊥
   pub plain_stops : RunsOut ten (Plain true) ten → ⊥
   pub close : MayRunOut ten (Close 7) → ⊥
+  -- an ACK that names no packet that is kept
+  pub names_none : (new : End) → RunsOut flying (Ack 5 ((5, 5) ∷ [])) new → ⊥
   -- of the connection
   pub max_data : MayRunOut ten (Control (MaxData 5)) → ⊥
   pub max_streams : MayRunOut ten (Control (MaxStreams Bidi 5)) → ⊥
