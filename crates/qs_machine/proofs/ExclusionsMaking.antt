@@ -27,18 +27,18 @@ use Rattle.qs_calls.specs.declared.making.MakeFault.{MakeFault}
 use Rattle.qs_calls.specs.declared.making.LostFault.{LostFault}
 use Rattle.qs_calls.specs.declared.making.LostFault.TheVariants as losing
 use Rattle.qs_machine.specs.Tables.{lookup, update, total}
-use Rattle.qs_machine.specs.Ends.{End}
+use Rattle.qs_machine.specs.Ends.{End, send_lane}
 use Rattle.qs_machine.specs.Credit.{all_sent}
 use Rattle.qs_machine.specs.Seen.{Seen, Ack, Stream, Control}
 use Rattle.qs_machine.specs.FrameStep.{is_named}
 use Rattle.qs_machine.specs.Verdicts.{verdict}
-use Rattle.qs_machine.specs.Due.{IsDue, IsCurrent, Sendable}
+use Rattle.qs_machine.specs.Due.{IsDue, IsCurrent, StreamGoes, Sendable}
 use Rattle.qs_machine.specs.Lawful.{Lawful, frame_put}
 use Rattle.qs_machine.specs.Owner.{Certain, first_refusal, refuse_if}
 use Rattle.qs_machine.specs.Making.{NamesMost, LoseStep, losses, lose_refusal}
 use Rattle.qs_machine.specs.Examples.{standard, server}
 use Rattle.qs_machine.specs.SmallEnds.{chunk, abc, wrote, owing}
-use Rattle.qs_machine.specs.ExclusionsMaking.{NoSuchStreamFrame, NoSuchAck, NoSuchFrame, NoSuchPacket, NothingIsLeftOut, NoSuchText, NoSuchAnswer, NoSuchClaim, NoSuchLoss, NotMade, writer, two_due, one_flying, two_flying}
+use Rattle.qs_machine.specs.ExclusionsMaking.{NoSuchStreamFrame, NoSuchAck, NoSuchFrame, NoSuchPacket, NothingIsLeftOut, NothingIsOutOfTurn, NoSuchText, NoSuchAnswer, NoSuchClaim, NoSuchLoss, NotMade, writer, two_due, two_writers, one_flying, two_flying}
 use Rattle.qs_machine.proofs.Ties.{nowhere}
 use Rattle.qs_machine.proofs.SmallEndsLaws.{none_in, none_carried, only_carried}
 
@@ -184,6 +184,36 @@ left_out =
       no_ack = λ left whole. (let (largest, ranges, among, names) = (whole (omega arith)).ack refl in no_ack_in largest ranges among);
       number = λ left whole. (let (largest, ranges, among, names) = (whole (omega arith)).ack refl in too_few largest ranges among (names 1 kept_1));
       ack_after = λ whole. true≢false (whole (omega arith)).no_ack;
+    }
+
+-- each of the two streams has a byte that goes
+both_go : (n : ℕ) (l : SendLane) → l.was_reset ≡ None → l.written ≡ 3 → l.acked ≡ set.empty → l.limit ≡ 1024 → l.sent_end ≡ 0 → send_lane two_writers n ≡ Some l → StreamGoes two_writers n
+unfolding total
+both_go n l reset written acked limit sent there = (
+  l,
+  there,
+  inl (
+    0,
+    record {
+      no_reset = reset;
+      written = omega (arith, written);
+      not_acked = ap (λ s. set.contains s 0) acked ∙ set.contains-empty nat_cmp 0;
+      not_sent = λ (c, carried, low, high). none_carried _ carried;
+    },
+    omega (arith, limit),
+    inr (sym sent, credit),
+  ),
+)
+  where
+    credit : all_sent two_writers < two_writers.known_data
+    credit = omega arith
+
+turns : NothingIsOutOfTurn
+unfolding lookup
+turns =
+    record {
+      higher_first = λ (here, rest). here 0 (inr (omega arith, inl (omega arith))) (both_go 0 wrote refl refl refl refl refl refl);
+      first_ignored = λ (here, rest). here 4 (inl (omega arith, omega arith)) (both_go 4 (record wrote { id = 4 }) refl refl refl refl refl refl);
     }
 
 texts : NoSuchText
@@ -381,4 +411,4 @@ lost =
     }
 
 pub not_made : NotMade
-not_made = record { stream = stream; acks = acks; others = others; packets = packets; left_out = left_out; texts = texts; answers = answers; claims = claims; losses = lost }
+not_made = record { stream = stream; acks = acks; others = others; packets = packets; left_out = left_out; turns = turns; texts = texts; answers = answers; claims = claims; losses = lost }

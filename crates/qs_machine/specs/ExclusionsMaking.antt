@@ -13,11 +13,11 @@ use Rattle.qs_calls.specs.declared.making.MakeFault.TheVariants as making
 use Rattle.qs_calls.specs.declared.making.LostFault.TheVariants as losing
 use Rattle.qs_machine.specs.Ends.{End}
 use Rattle.qs_machine.specs.Seen.{Ack, Stream, Control, Close, Plain}
-use Rattle.qs_machine.specs.Lawful.{MayPut, Lawful, HasAll, frame_put}
+use Rattle.qs_machine.specs.Lawful.{MayPut, Lawful, HasAll, AreInTurn, frame_put}
 use Rattle.qs_machine.specs.Making.{IsText, IsMade, MakeStep, ClaimStep, LoseStep}
 use Rattle.qs_machine.specs.Verdicts.{verdict, PROTOCOL_VIOLATION}
 use Rattle.qs_machine.specs.Examples.{standard, server}
-use Rattle.qs_machine.specs.SmallEnds.{client_with, carrying, chunk, abc, begun, wrote, sent, second_acked, raised, owing, four_made}
+use Rattle.qs_machine.specs.SmallEnds.{client_with, carrying, chunk, abc, begun, wrote, sent, second_acked, raised, owing, four_made, only}
 use Rattle.qs_machine.specs.ExclusionsDue.{held_back}
 
 -- a client that wrote three bytes
@@ -107,6 +107,17 @@ pub record NothingIsLeftOut : Type 0 where
   -- and no ACK is due after it
   pub ack_after : HasAll 28 3 (client_with begun) [] (record (client_with begun) { ack_due = true }) → ⊥
 
+-- a client that wrote three bytes to streams 0 and 4
+abbrev pub two_writers : End
+two_writers = record writer { sends = record (only wrote) { client_bidi = wrote ∷ record wrote { id = 4 } ∷ [] } }
+
+-- Bytes don't go out of turn (ours, for section 2.3): there goes no STREAM frame
+pub record NothingIsOutOfTurn : Type 0 where
+  -- of a higher stream before a lower one, where turns begin at the lower
+  pub higher_first : AreInTurn 0 two_writers (Stream 4 0 abc false ∷ []) → ⊥
+  -- of a lower stream first, where turns begin at the higher
+  pub first_ignored : AreInTurn 4 two_writers (Stream 0 0 abc false ∷ []) → ⊥
+
 -- A text isn't that of frames (sections 12.4 and 19.3)
 pub record NoSuchText : Type 0 where
   -- where it spells others
@@ -189,6 +200,7 @@ pub record NotMade : Type 0 where
   pub others : NoSuchFrame
   pub packets : NoSuchPacket
   pub left_out : NothingIsLeftOut
+  pub turns : NothingIsOutOfTurn
   pub texts : NoSuchText
   pub answers : NoSuchAnswer
   pub claims : NoSuchClaim

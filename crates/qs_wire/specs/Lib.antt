@@ -1,6 +1,7 @@
 pub mod Acks
 pub mod Faults
 pub mod Grammar
+pub mod LastStream
 pub mod Layout
 pub mod Reading
 pub mod Streams
