@@ -181,19 +181,25 @@ impl Endpoint {
     /// let mut client = Endpoint::new(Role::Client, settings, settings.limits())?;
     /// let low = client.open(Dir::Uni)?;
     /// let high = client.open(Dir::Uni)?;
-    /// client.write(low, &[1; 4000])?;
-    /// client.write(high, &[2; 4000])?;
+    /// client.write(low, b"low")?;
+    /// client.write(high, b"high")?;
     ///
     /// let mut payload = [0; 1200];
     /// let made = client.make_packet_from(high, 0, &mut payload)?.expect("bytes are due");
-    /// assert_eq!(last_stream(&payload[..made.len]), Some(high));
+    /// // The bytes of `high` stand before those of `low`.
+    /// assert_eq!(last_stream(&payload[..made.len]), Some(low));
     /// # Ok::<(), Box<dyn std::error::Error>>(())
     /// ```
     ///
     /// # Errors
     ///
     /// As of [`Endpoint::make_packet`]; `Invalid` for a delay of 2^62 or more, too.
-    pub fn make_packet_from(&mut self, first: StreamId, delay: u64, out: &mut [u8]) -> Result<Option<Made>, MakeFault> {
+    pub fn make_packet_from(
+        &mut self,
+        first: StreamId,
+        delay: u64,
+        out: &mut [u8],
+    ) -> Result<Option<Made>, MakeFault> {
         if out.len() < MIN_ROOM || out.len() > MAX_ROOM || delay > MAX_VARINT {
             return Err(MakeFault::Invalid);
         }

@@ -197,7 +197,9 @@ impl fmt::Display for MakeFault {
             MakeFault::Closed => CLOSED,
             MakeFault::NoMemory => NO_MEMORY,
             MakeFault::Exhausted => "there is no packet number left",
-            MakeFault::Invalid => "a packet needs a room of 128 to 16383 bytes, and a delay below 2^62",
+            MakeFault::Invalid => {
+                "a packet needs a room of 128 to 16383 bytes, and a delay below 2^62"
+            }
         })
     }
 }

@@ -85,8 +85,8 @@ pub use answers::{
 pub use endpoint::{Endpoint, MAX_PAYLOAD, MAX_ROOM, MIN_ROOM};
 pub use faults::{LostFault, MakeFault, OpenFault, PutFault, ReceiveFault, SetupFault, UseFault};
 pub use frame::{
-    AckRanges, EcnCounts, FaultKind, Frame, Frames, Placed, WireFault, frames, last_stream, put, put_ack,
-    read_varint, write_varint,
+    AckRanges, EcnCounts, FaultKind, Frame, Frames, Placed, WireFault, frames, last_stream, put,
+    put_ack, read_varint, write_varint,
 };
 pub use ids::{Dir, Role, StreamId};
 pub use settings::{PeerLimits, Settings};

@@ -2,7 +2,9 @@
 
 mod support;
 
-use gotsavena::{Dir, Endpoint, Frame, MakeFault, Received, Settings, StreamId, frames, last_stream};
+use gotsavena::{
+    Dir, Endpoint, Frame, MakeFault, Received, Settings, StreamId, frames, last_stream,
+};
 use support::two_ends;
 
 const STREAMS: usize = 64;
@@ -44,13 +46,28 @@ fn next(stream: StreamId) -> StreamId {
 fn by_turns_no_stream_is_a_packet_ahead() {
     let ([mut client, mut server], streams) = writers();
     let mut sent = [0; STREAMS];
+    let mut packets = [0; STREAMS];
     let mut first = streams[0];
     let mut payload = [0; 1200];
-    while let Some(made) = client.make_packet_from(first, 0, &mut payload).expect("open") {
+    while let Some(made) = client
+        .make_packet_from(first, 0, &mut payload)
+        .expect("open")
+    {
         let text = &payload[..made.len];
+        let before = sent;
         count(&mut sent, text);
-        let (least, most) = (sent.iter().min().unwrap(), sent.iter().max().unwrap());
-        assert!(most - least <= 1200, "{most} beside {least}");
+        for (i, had) in packets.iter_mut().enumerate() {
+            *had += usize::from(sent[i] > before[i]);
+        }
+        // Of the streams that have more, none is more than a packet behind another.
+        let waiting = (0..STREAMS)
+            .filter(|&i| sent[i] < BYTES)
+            .map(|i| packets[i]);
+        let least = waiting.min().unwrap_or(usize::MAX);
+        assert!(
+            packets.iter().all(|&had| had <= least.saturating_add(1)),
+            "{packets:?}"
+        );
         first = next(last_stream(text).expect("bytes went"));
         assert_eq!(server.receive(made.number, text), Ok(Received::Done));
     }
@@ -63,7 +80,10 @@ fn without_turns_the_least_stream_goes_first() {
     let mut sent = [0; STREAMS];
     let mut payload = [0; 1200];
     for _ in 0..20 {
-        let made = client.make_packet(&mut payload).expect("open").expect("due");
+        let made = client
+            .make_packet(&mut payload)
+            .expect("open")
+            .expect("due");
         count(&mut sent, &payload[..made.len]);
         let busy = sent.iter().position(|&bytes| bytes < BYTES).expect("more");
         assert!(sent[..busy].iter().all(|&bytes| bytes == BYTES));
@@ -74,7 +94,10 @@ fn without_turns_the_least_stream_goes_first() {
     let ([mut other, _], _) = writers();
     let mut same = [0; 1200];
     while let Some(made) = one.make_packet(&mut payload).expect("open") {
-        assert_eq!(other.make_packet_from(StreamId::new(0).unwrap(), 0, &mut same), Ok(Some(made)));
+        assert_eq!(
+            other.make_packet_from(StreamId::new(0).unwrap(), 0, &mut same),
+            Ok(Some(made))
+        );
         assert_eq!(payload[..made.len], same[..made.len]);
     }
     assert_eq!(last_stream(&payload[..1]), None);
@@ -85,7 +108,10 @@ fn without_turns_the_least_stream_goes_first() {
 fn from_the_last_stream_on_the_others_follow() {
     let ([mut client, _], streams) = writers();
     let mut payload = [0; 16_383];
-    let made = client.make_packet_from(streams[63], 0, &mut payload).expect("open").expect("due");
+    let made = client
+        .make_packet_from(streams[63], 0, &mut payload)
+        .expect("open")
+        .expect("due");
     let carried = frames(&payload[..made.len])
         .filter_map(|placed| match placed.expect("frames").frame {
             Frame::Stream { stream, .. } => Some(stream),
@@ -100,11 +126,20 @@ fn an_ack_tells_its_delay() {
     let ([mut client, mut server], streams) = writers();
     let mut payload = [0; 1200];
     for delay in [0, 1, 63, 64, 16_384, 1 << 30, (1 << 62) - 1] {
-        let made = client.make_packet(&mut payload).expect("open").expect("due");
+        let made = client
+            .make_packet(&mut payload)
+            .expect("open")
+            .expect("due");
         let received = server.receive(made.number, &payload[..made.len]);
         assert_eq!(received, Ok(Received::Done));
-        let made = server.make_packet_from(streams[0], delay, &mut payload).expect("open").expect("an ACK");
-        let first = frames(&payload[..made.len]).next().expect("one").expect("frames");
+        let made = server
+            .make_packet_from(streams[0], delay, &mut payload)
+            .expect("open")
+            .expect("an ACK");
+        let first = frames(&payload[..made.len])
+            .next()
+            .expect("one")
+            .expect("frames");
         assert!(matches!(first.frame, Frame::Ack { delay: told, .. } if told == delay));
     }
     let refused = server.make_packet_from(streams[0], 1 << 62, &mut payload);

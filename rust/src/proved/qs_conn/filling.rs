@@ -220,16 +220,36 @@ fn put_stream(
     packet
 }
 
-/// Puts the bytes of all streams into the packet, lower numbers first, as far as the limits and the room allow.
-pub(crate) fn put_streams(
+// Where the way begins: at `first`, or, on the way around, at the least stream.
+fn way_start(around: bool, first: u64) -> u64 {
+    debug_assert!(first < 1 << 62);
+    if around { 0 } else { first }
+}
+
+// Whether a stream is one of the way: from `first` on, or, on the way around, below it.
+fn is_on_way(around: bool, first: u64, stream: StreamId) -> bool {
+    if around {
+        return stream.value() < first;
+    }
+    stream.value() >= first
+}
+
+// Puts the bytes of the streams of a way into the packet, lower numbers first, as far as the limits and the room allow.
+fn put_way(
     terms: &Terms,
     outbox: &mut Outbox,
+    first: u64,
+    around: bool,
     out: &mut [u8],
     packet: Packet,
 ) -> Packet {
+    debug_assert!(first < 1 << 62);
     let mut packet = packet;
-    let mut from = 0;
+    let mut from = way_start(around, first);
     while let Some(stream) = outbox.next_marked(Task::Bytes, from) {
+        if !is_on_way(around, first, stream) {
+            return packet;
+        }
         packet = put_stream(terms, outbox, stream, out, packet);
         if packet.is_full {
             return packet;
@@ -239,27 +259,51 @@ pub(crate) fn put_streams(
     packet
 }
 
-/// Writes an ACK of the kept numbers at the slice's front, the highest ranges first and as many as fit, and answers its length.
-pub(crate) fn put_kept(done: &RangeSet, out: &mut [u8]) -> usize {
-    debug_assert!(25 <= out.len());
+/// Puts the bytes of all streams into the packet, those from `first` on before the others and lower numbers first, as far as the limits
+/// and the room allow.
+pub(crate) fn put_streams(
+    terms: &Terms,
+    outbox: &mut Outbox,
+    first: u64,
+    out: &mut [u8],
+    packet: Packet,
+) -> Packet {
+    debug_assert!(first < 1 << 62);
+    let packet = put_way(terms, outbox, first, false, out, packet);
+    put_way(terms, outbox, first, true, out, packet)
+}
+
+/// Writes an ACK of the kept numbers at the slice's front, which tells a delay, the highest ranges first and as many as fit, and answers
+/// its length.
+pub(crate) fn put_kept(done: &RangeSet, delay: u64, out: &mut [u8]) -> usize {
+    debug_assert!(delay < 1 << 62);
+    debug_assert!(26 <= out.len());
     let runs = done.pairs();
     let mut pairs = [(0, 0); 32];
     let highest = &mut pairs[..runs.len()];
     highest.copy_from_slice(runs);
     highest.reverse();
-    match put_ack(highest, out) {
+    match put_ack(highest, delay, out) {
         Ok((_count, len)) => len,
         Err(_full) => 0,
     }
 }
 
 // Begins a packet with an ACK, if one is due.
-fn put_ack_if(done: &RangeSet, ack_due: bool, out: &mut [u8]) -> usize {
-    debug_assert!(25 <= out.len());
+fn put_ack_if(done: &RangeSet, ack_due: bool, delay: u64, out: &mut [u8]) -> usize {
+    debug_assert!(delay < 1 << 62);
+    debug_assert!(26 <= out.len());
     if ack_due {
-        return put_kept(done, out);
+        return put_kept(done, delay, out);
     }
     0
+}
+
+/// What a packet is to hold beside what is due: from which stream on bytes go in, and the delay that an ACK tells.
+#[derive(Clone, Copy)]
+pub(crate) struct Wish {
+    pub first: u64,
+    pub delay: u64,
 }
 
 /// Fills a packet from its first byte on, and answers how many bytes it has: the ACK if one is due, control items, and the bytes of
@@ -270,15 +314,16 @@ pub(crate) fn fill(
     done: &RangeSet,
     ack_due: bool,
     outbox: &mut Outbox,
+    wish: Wish,
     out: &mut [u8],
 ) -> usize {
-    debug_assert!(25 <= out.len());
-    let len = put_ack_if(done, ack_due, out);
+    debug_assert!(26 <= out.len());
+    let len = put_ack_if(done, ack_due, wish.delay, out);
     let start = Packet {
         len,
         is_full: false,
     };
     let packet = put_items(terms, recvs, outbox, out, start);
-    let packet = put_streams(terms, outbox, out, packet);
+    let packet = put_streams(terms, outbox, wish.first, out, packet);
     packet.len
 }

@@ -82,13 +82,19 @@ fn put_ranges(smallest: u64, pairs: &[(u64, u64)], at: usize, out: &mut [u8]) {
 
 const ACK: u64 = 0x02;
 
-/// Writes an ACK frame without delay and ECN counts, of as many ranges as fit, at the slice's front, and
+/// Writes an ACK frame that tells a delay and no ECN counts, of as many ranges as fit, at the slice's front, and
 /// answers how many and the frame's length in bytes. The ranges are half-open, the highest first. Where
 /// not even one fits, nothing is written.
-pub fn put_ack(pairs: &[(u64, u64)], out: &mut [u8]) -> Result<(usize, usize), Full> {
+pub fn put_ack(
+    pairs: &[(u64, u64)],
+    delay: u64,
+    out: &mut [u8],
+) -> Result<(usize, usize), Full> {
+    debug_assert!(delay < 1 << 62);
     let (start, end) = pairs[0];
     let (_, others) = pairs.split_at(1);
-    let first = varint_len(end - 1) + varint_len(end - 1 - start) + 3;
+    let numbers = varint_len(end - 1) + varint_len(end - 1 - start);
+    let first = numbers + varint_len(delay) + 2;
     if first > out.len() {
         return Err(Full);
     }
@@ -97,7 +103,7 @@ pub fn put_ack(pairs: &[(u64, u64)], out: &mut [u8]) -> Result<(usize, usize), F
         &[
             Part::Number(ACK),
             Part::Number(end - 1),
-            Part::Number(0),
+            Part::Number(delay),
             Part::Number(count as u64),
             Part::Number(end - 1 - start),
         ],

@@ -11,6 +11,7 @@ mod frames;
 pub mod laws;
 mod reading;
 mod stream_id;
+mod turns;
 mod varint;
 mod writing;
 
@@ -19,5 +20,6 @@ pub use fault::{FaultKind, Full, WireFault};
 pub use frame::{EcnCounts, Frame, Placed};
 pub use frames::Frames;
 pub use stream_id::{Dir, Role, StreamId};
+pub use turns::last_stream;
 pub use varint::{read_varint, varint_len, write_varint};
 pub use writing::put;

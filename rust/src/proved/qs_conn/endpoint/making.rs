@@ -2,23 +2,50 @@
 //! Packets are made.
 
 use super::Endpoint;
-use crate::proved::qs_conn::filling::fill;
+use crate::proved::qs_conn::filling::{Wish, fill};
 use crate::proved::qs_conn::sendable::has_frame;
 use crate::proved::qs_conn::terms::Terms;
 use crate::proved::qs_calls::{Made, MakeFault};
+use crate::proved::qs_wire::StreamId;
 
 /// The largest packet number (RFC 9000, section 12.3).
 const MAX_NUMBER: u64 = (1 << 62) - 1;
 
 impl Endpoint {
     /// Makes the next packet: writes its payload at the slice's front. `None` where nothing is to be sent that the limits allow. What
-    /// is due goes in as far as there is room, in the order ACK, control items, bytes of streams (RFC 9000, sections 4, 13.2 and 13.3).
+    /// is due goes in as far as there is room, in the order ACK, control items, bytes of streams, lower streams first (RFC 9000, sections
+    /// 4, 13.2 and 13.3). An ACK tells a delay of 0.
     ///
     /// Refused, and then unchanged: `Closed`; `Exhausted` where the last packet number was used; `NoMemory` where something
     /// may go and memory was refused.
     pub fn make_packet(&mut self, out: &mut [u8]) -> Result<Option<Made>, MakeFault> {
         debug_assert!(128 <= out.len());
         debug_assert!(out.len() <= 16383);
+        self.make(Wish { first: 0, delay: 0 }, out)
+    }
+
+    /// Makes the next packet, as `make_packet` does, but for two things: bytes go in from stream `first` on, lower streams first, and
+    /// then those of the streams below it; and an ACK tells this delay, in the unit that the peer was told (RFC 9000, sections 2.3, 18.2
+    /// and 19.3).
+    pub fn make_packet_from(
+        &mut self,
+        first: StreamId,
+        delay: u64,
+        out: &mut [u8],
+    ) -> Result<Option<Made>, MakeFault> {
+        debug_assert!(delay < 1 << 62);
+        debug_assert!(128 <= out.len());
+        debug_assert!(out.len() <= 16383);
+        let wish = Wish {
+            first: first.value(),
+            delay,
+        };
+        self.make(wish, out)
+    }
+
+    // Makes the next packet as it is wished.
+    fn make(&mut self, wish: Wish, out: &mut [u8]) -> Result<Option<Made>, MakeFault> {
+        debug_assert!(128 <= out.len());
         if self.closed.is_some() {
             return Err(MakeFault::Closed);
         }
@@ -36,6 +63,7 @@ impl Endpoint {
             &self.done,
             self.ack_due,
             &mut self.outbox,
+            wish,
             out,
         );
         if len == 0 {

@@ -82,6 +82,22 @@ pub(super) fn make(end: &mut Endpoint, out: &mut [u8]) -> Result<Option<Made>, M
     first
 }
 
+pub(super) fn make_from(
+    end: &mut Endpoint,
+    first: StreamId,
+    delay: u64,
+    out: &mut [u8],
+) -> Result<Option<Made>, MakeFault> {
+    if out.len() < 128 || out.len() > 16_383 || delay >= 1 << 62 {
+        return Err(MakeFault::Exhausted);
+    }
+    let made = end.make_packet_from(first, delay, out);
+    if made == Err(MakeFault::NoMemory) {
+        return end.make_packet_from(first, delay, out);
+    }
+    made
+}
+
 pub(super) fn lose(end: &mut Endpoint, number: u64) -> Result<(), LostFault> {
     let first = end.declare_lost(number);
     if first == Err(LostFault::NoMemory) {

@@ -535,3 +535,34 @@ fn all_that_blocks_goes_into_one_packet() -> Result<(), Fail> {
           make 1200 -> none",
     )
 }
+
+#[test]
+fn bytes_go_in_by_turns() -> Result<(), Fail> {
+    let rt = HostRuntime::new();
+    play_rows(
+        rt.alloc(),
+        b"client
+          open bidi -> 0
+          open bidi -> 4
+          write 0 616263 -> 3
+          write 4 646566 -> 3
+          make-from 1200 4 0 -> 0 0a04036465660a0003616263
+          lose 0 -> ok
+          make 1200 -> 1 0a00036162630a0403646566
+          lose 1 -> ok
+          make-from 1200 5 0 -> 2 0a00036162630a0403646566",
+    )
+}
+
+#[test]
+fn an_ack_tells_the_delay_that_is_given() -> Result<(), Fail> {
+    let rt = HostRuntime::new();
+    play_rows(
+        rt.alloc(),
+        b"server
+          receive 0 0a000461626364 -> done
+          make-from 1200 0 7 -> 0 0200070000
+          receive 1 01 -> done
+          make-from 1200 0 4611686018427387903 -> 1 0201ffffffffffffffff0001",
+    )
+}

@@ -58,12 +58,12 @@ fn acks_are_made() {
     let rt = HostRuntime::new();
     let pairs = [(4, 6), (1, 3)];
     let mut seven = [9; 7];
-    assert_eq!(rt; put_ack(&pairs, &mut seven), Ok((2, 7)));
+    assert_eq!(rt; put_ack(&pairs, 0, &mut seven), Ok((2, 7)));
     assert_eq!(rt; seven, *b"\x02\x05\x00\x01\x01\x00\x01");
     let mut six = [9; 6];
-    assert_eq!(rt; put_ack(&pairs, &mut six), Ok((1, 5)));
+    assert_eq!(rt; put_ack(&pairs, 0, &mut six), Ok((1, 5)));
     assert_eq!(rt; six, *b"\x02\x05\x00\x00\x01\x09");
     let mut four = [9; 4];
-    assert_eq!(rt; put_ack(&pairs, &mut four), Err(Full));
+    assert_eq!(rt; put_ack(&pairs, 0, &mut four), Err(Full));
     assert_eq!(rt; four, [9; 4]);
 }

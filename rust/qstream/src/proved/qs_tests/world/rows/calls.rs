@@ -10,7 +10,7 @@ use super::told::{
 use super::words::{Words, bytes, dir, number, size, stream};
 use crate::proved::qs_tests::world::ends;
 use crate::proved::qs_conn::Endpoint;
-use crate::proved::qs_world::{Read, UseFault};
+use crate::proved::qs_world::{Made, MakeFault, Read, UseFault};
 
 /// No bytes of a call are more.
 const ROOM: usize = 1200;
@@ -20,6 +20,7 @@ pub(super) fn call(end: &mut Endpoint, words: Words, answer: &mut String) -> Res
     match words[0] {
         b"receive" => receive(end, words, answer),
         b"make" => make(end, words, answer),
+        b"make-from" => make_from(end, words, answer),
         b"lose" => lose(end, words, answer),
         _ => stream_call(end, words, answer),
     }
@@ -78,7 +79,26 @@ fn make(end: &mut Endpoint, words: Words, answer: &mut String) -> Result<(), Row
     let Some(out) = room.get_mut(..size(words[1])?) else {
         return Err(RowFault::Unreadable);
     };
-    match ends::make(end, out) {
+    let made = ends::make(end, out);
+    tell_made(answer, made, out)
+}
+
+// The room, the stream that goes first, and the delay that an ACK tells.
+fn make_from(end: &mut Endpoint, words: Words, answer: &mut String) -> Result<(), RowFault> {
+    let mut room = [0u8; ROOM];
+    let Some(out) = room.get_mut(..size(words[1])?) else {
+        return Err(RowFault::Unreadable);
+    };
+    let made = ends::make_from(end, stream(words[2])?, number(words[3])?, out);
+    tell_made(answer, made, out)
+}
+
+fn tell_made(
+    answer: &mut String,
+    made: Result<Option<Made>, MakeFault>,
+    out: &[u8],
+) -> Result<(), RowFault> {
+    match made {
         Ok(Some(made)) => {
             let Some(payload) = out.get(..made.len) else {
                 return Err(RowFault::Unreadable);
