@@ -104,7 +104,7 @@ fn play_call(end: &mut Endpoint, row: &[u8], answer: &mut String) -> Result<(), 
     if words[0].is_empty() {
         return Ok(());
     }
-    if !words[3].is_empty() {
+    if !words[4].is_empty() {
         return Err(fault_at(row, RowFault::Unreadable));
     }
     answer.clear();

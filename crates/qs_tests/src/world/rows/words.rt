@@ -7,7 +7,7 @@ use qs_wire::{Dir, StreamId};
 use std::str;
 
 /// The first words of a call, and empty ones where it has no more. No call has as many.
-pub(super) type Words<'a> = [&'a [u8]; 4];
+pub(super) type Words<'a> = [&'a [u8]; 5];
 
 /// The first line without its line feed, and what follows.
 pub(super) fn split_line(text: &[u8]) -> (&[u8], &[u8]) {
@@ -37,8 +37,9 @@ pub(super) fn first_words(call: &[u8]) -> Words<'_> {
     let (first, rest) = next_word(call);
     let (second, rest) = next_word(rest);
     let (third, rest) = next_word(rest);
-    let (fourth, _) = next_word(rest);
-    [first, second, third, fourth]
+    let (fourth, rest) = next_word(rest);
+    let (fifth, _) = next_word(rest);
+    [first, second, third, fourth, fifth]
 }
 
 /// The next word, empty where there is none, and what follows it.
