@@ -11,7 +11,8 @@ use Rattle.qs_world.specs.declared.report.PlayFault.{PlayFault}
 use Rattle.qs_world.specs.declared.report.PlayFault.TheVariants as faults
 use Rattle.qs_runs.specs.Logs.{payload}
 use Rattle.qs_runs.specs.Worlds.{World, world_made}
-use Rattle.qs_world.specs.Plays.{AgreeingRun, Played, IsReportOf, begun}
+use Rattle.qs_world.specs.Copies.{IsReportOf}
+use Rattle.qs_world.specs.Plays.{AgreeingRun, Played, begun}
 use Rattle.qs_world.specs.PlayText.{play_text}
 use Rattle.qs_world.proofs.PlayedRuns.{played_none}
 use Rattle.qs_world.proofs.OneMore.{one_more}

@@ -16,7 +16,8 @@ use Rattle.qs_world.specs.declared.script.ScriptFault.{ScriptFault}
 use Rattle.qs_calls.specs.Events.{fits, act_fits}
 use Rattle.qs_runs.specs.Logs.{History, payload}
 use Rattle.qs_runs.specs.Worlds.{WorldStep}
-use Rattle.qs_world.specs.Plays.{SameEvent, AgreeingRun, Played, IsMissing, IsReportOf}
+use Rattle.qs_world.specs.Copies.{SameEvent, IsReportOf}
+use Rattle.qs_world.specs.Plays.{AgreeingRun, Played, IsMissing}
 use Rattle.qs_world.specs.PlayText.{play_text}
 use Rattle.qs_cli.specs.declared.status.Status.{Status}
 use Rattle.qs_cli.specs.declared.status.Status.TheVariants.{Success, FaultShown, BadUsage, Failed}

@@ -26,12 +26,12 @@ use std::io;
 pub fn run_events<W: io::Write>(
     alloc: Global,
     settings: Settings,
-    events: &[Event],
+    events: Vec<Event>,
     out: &mut W,
 ) -> Status
-    requires fit { list_all fits events.now ≡ true }
+    requires fit { list_all fits events.items ≡ true }
     requires range { are_in_range settings ≡ true }
-    ensures { AnswersEvents result settings events.now (W.contents out.old) (W.contents out.new) }
+    ensures { AnswersEvents result settings events.items (W.contents out.old) (W.contents out.new) }
 {
     show_events(alloc, settings, events, out).unwrap_or(Status::Failed)
 }
@@ -39,12 +39,12 @@ pub fn run_events<W: io::Write>(
 fn show_events<W: io::Write>(
     alloc: Global,
     settings: Settings,
-    events: &[Event],
+    events: Vec<Event>,
     out: &mut W,
 ) -> io::Result<Status>
-    requires fit { list_all fits events.now ≡ true }
+    requires fit { list_all fits events.items ≡ true }
     requires range { are_in_range settings ≡ true }
-    ensures { IfOk result (λ status. AnswersEvents status settings events.now (W.contents out.old) (W.contents out.new)) }
+    ensures { IfOk result (λ status. AnswersEvents status settings events.items (W.contents out.old) (W.contents out.new)) }
 {
     match play(alloc, settings, settings, events) {
         Ok(report) => show_report(alloc, &report, out),
@@ -96,7 +96,7 @@ pub fn run_play_with<W: io::Write>(
     ensures { AnswersPlay result settings script.now (W.contents out.old) (W.contents out.new) }
 {
     match parse_script(alloc, script) {
-        Ok(events) => run_events(alloc, settings, &events, out),
+        Ok(events) => run_events(alloc, settings, events, out),
         Err(fault) => show_script_fault(alloc, fault, out).unwrap_or(Status::Failed),
     }
 }

@@ -1,4 +1,5 @@
 -- A packet that is drawn was made.
+use Rattle.std.specs.Prelude.{⊤}
 use Rattle.std.proofs.Common.{◌≡◌, ℕ, zero, suc, ◌<◌, ◌==◌, Bool, true, false, List, [], length, slice_get, None, Err, refl, sym, ◌∙◌, arith, if◌then◌else◌}
 use Rattle.std.proofs.lemmas.Option.{slice_get-get_or, none-some}
 use Rattle.std.proofs.lemmas.Nat.{mod_below}
@@ -62,7 +63,7 @@ not_missing h s kind m g new act count drawn missing = missing
 
 -- a step that is refused found no memory, where nothing is missing
 pub only_memory : (old new : Played) (event : Event) (fault : PlayFault)
-    → (IsMissing old.log event → ⊥) → PlayStep old event (Err fault) new → fault ≡ faults.NoMemory
+    → (IsMissing old.log event → ⊥) → PlayStep {X = ⊤} old event (Err fault) new → fault ≡ faults.NoMemory
 only_memory old new event faults.NoMemory not step = refl
 only_memory old new event (faults.NoSuchPacket k) not step = absurd (let (same, missing, count) = step in not missing)
 only_memory old new event (faults.Setup fault) not step = absurd step

@@ -3,7 +3,7 @@ use Rattle.std.proofs.Common.{◌≡◌, ℕ, ◌+◌, ◌<◌, List, [], ◌∷
 use Rattle.std.proofs.lemmas.List.{take_more}
 use Rattle.qs_calls.specs.declared.event.Event.{Event}
 use Rattle.qs_calls.specs.declared.answer.Answer.{Answer}
-use Rattle.qs_world.specs.Plays.{SameEvent, SameAnswer, SameLog}
+use Rattle.qs_world.specs.Copies.{SameEvent, SameAnswer, SameLog}
 
 same_log_push : (xs ys : List (Event × Answer)) (x y : Event × Answer) → SameLog xs ys → SameEvent x.0 y.0 → SameAnswer x.1 y.1 → SameLog (xs ++ x ∷ []) (ys ++ y ∷ [])
 same_log_push [] [] x y same event answer = (event, answer, tt)

@@ -1,5 +1,5 @@
--- What a call answers with bytes: how many there may be, and which they are.
-use Rattle.std.specs.Prelude.{ℕ, List, [], Option, Some, Result, Ok}
+-- What a call answers with bytes: how many there may be, and how many there are.
+use Rattle.std.specs.Prelude.{ℕ, Option, Some, Result, Ok}
 use Rattle.qs_recv.specs.declared.half.Read.{Read}
 use Rattle.qs_recv.specs.declared.half.Read.TheVariants.{Bytes}
 use Rattle.qs_calls.specs.declared.uses.UseFault.{UseFault}
@@ -7,20 +7,12 @@ use Rattle.qs_calls.specs.declared.making.Made.{Made}
 use Rattle.qs_calls.specs.declared.making.MakeFault.{MakeFault}
 use Rattle.qs_calls.specs.declared.event.Act.{Act}
 use Rattle.qs_calls.specs.declared.event.Act.TheVariants.{ReadUpTo, Make}
-use Rattle.qs_calls.specs.declared.answer.Answer.{Answer}
-use Rattle.qs_calls.specs.declared.answer.Answer.TheVariants as answers
 
 -- the most bytes with which an act is answered
 abbrev pub room_of : Act → ℕ
 room_of (ReadUpTo n size) = size
 room_of (Make room) = room
 room_of act = 0
-
--- the bytes of an answer
-abbrev pub bytes_of : Answer → List ℕ
-bytes_of (answers.ReadUpTo read bytes) = bytes.items
-bytes_of (answers.Make made text) = text.items
-bytes_of answer = []
 
 -- how many bytes a read answers
 abbrev pub count_read : Result Read UseFault → ℕ

@@ -1,6 +1,6 @@
 -- Events are played: what two ends have come to, and what happened to them. The whole file is ours:
 -- RFC 9000 has no runs.
-use Rattle.std.specs.Prelude.{◌≡◌, ℕ, suc, List, [], ◌∷◌, ◌++◌, length, reverse, take, None, Result, Ok, Err, ⊤, refl}
+use Rattle.std.specs.Prelude.{◌≡◌, suc, List, [], ◌∷◌, ◌++◌, length, map, reverse, None, Result, Ok, Err, ⊤, refl}
 use Rattle.std.specs.Coded.{Coded, code_by, coded×, coded_list}
 use Rattle.qs_machine.specs.EndCodes.{end_code}
 use Rattle.qs_machine.specs.Ends.{End}
@@ -12,41 +12,17 @@ use Rattle.qs_calls.specs.declared.event.Act.{Act}
 use Rattle.qs_calls.specs.declared.event.Act.TheVariants as acts
 use Rattle.qs_calls.specs.declared.event.Event.{Event}
 use Rattle.qs_calls.specs.declared.answer.Answer.{Answer}
-use Rattle.qs_calls.specs.declared.answer.Answer.TheVariants as answers
 use Rattle.qs_world.specs.declared.report.Report.{Report}
 use Rattle.qs_world.specs.declared.report.PlayFault.{PlayFault}
 use Rattle.qs_world.specs.declared.report.PlayFault.TheVariants as faults
 use Rattle.qs_runs.specs.Logs.{History, payload}
 use Rattle.qs_runs.specs.Worlds.{World, world_made, WorldStep}
 use Rattle.qs_runs.specs.Agree.{Agree, StepAgrees}
-use Rattle.qs_world.specs.Reports.{IsReport, all_lanes, end_totals}
+use Rattle.qs_world.specs.Reports.{IsReport}
 
--- The same but for where bytes lie in memory
-
--- two acts with the same numbers and bytes
-abbrev pub SameAct : Act → Act → Type 0
-SameAct (acts.Write n bytes) (acts.Write m more) = (n ≡ m) × (bytes.items ≡ more.items)
-SameAct a b = a ≡ b
-
-abbrev pub SameEvent : Event → Event → Type 0
-SameEvent x y = (x.end ≡ y.end) × SameAct x.act y.act
-
--- two answers with the same numbers and bytes
-abbrev pub SameAnswer : Answer → Answer → Type 0
-SameAnswer (answers.ReadUpTo r bytes) (answers.ReadUpTo q more) = (r ≡ q) × (bytes.items ≡ more.items)
-SameAnswer (answers.Make r bytes) (answers.Make q more) = (r ≡ q) × (bytes.items ≡ more.items)
-SameAnswer a b = a ≡ b
-
--- the events of a log, each the same, in order
-abbrev pub AreEvents : List (Event × Answer) → List Event → Type 0
-AreEvents [] [] = ⊤
-AreEvents (x ∷ log) (e ∷ events) = SameEvent x.0 e × AreEvents log events
-AreEvents log events = ⊥
-
-abbrev pub SameLog : List (Event × Answer) → List (Event × Answer) → Type 0
-SameLog [] [] = ⊤
-SameLog (x ∷ log) (y ∷ more) = SameEvent x.0 y.0 × SameAnswer x.1 y.1 × SameLog log more
-SameLog log more = ⊥
+-- the events of a log, in its order
+abbrev pub events_of : List (Event × Answer) → List Event
+events_of log = map (λ x. x.0) log
 
 -- Runs
 
@@ -72,10 +48,10 @@ abbrev pub world_by : Side → End → End → World
 world_by A own peer = record { a = own; b = peer }
 world_by B own peer = record { a = peer; b = own }
 
--- so many of the events were played
-pub record HasPlayed (a b : Settings) (events : List Event) (i : ℕ) (p : Played) : Type 0 where
+-- these events were played
+pub record HasPlayed (a b : Settings) (events : List Event) (p : Played) : Type 0 where
   pub run : AgreeingRun a b p.log p.ends
-  pub are : AreEvents (reverse p.log) (take i events)
+  pub are : events_of (reverse p.log) ≡ events
 
 -- nothing has happened yet
 abbrev pub begun : Result World SetupFault → Result Played SetupFault
@@ -91,28 +67,22 @@ abbrev pub IsMissing : History → Event → Type 0
 IsMissing h event = IsMissingBy h event.end event.act
 
 -- One more event: it happened, and is logged with its answer; or a packet that wasn't made was to be delivered; or the log found no memory.
-abbrev pub PlayStep : Played → Event → Result Answer PlayFault → Played → Type 0
-PlayStep old event (Ok answer) new =
-    (logged : Answer) × SameAnswer logged answer × (new.log ≡ (event, logged) ∷ old.log) × WorldStep old.log old.ends event logged new.ends
+abbrev pub PlayStep : {X : Type 0} → Played → Event → Result X PlayFault → Played → Type 0
+PlayStep old event (Ok done) new = (answer : Answer) × (new.log ≡ (event, answer) ∷ old.log) × WorldStep old.log old.ends event answer new.ends
 PlayStep old event (Err (faults.NoSuchPacket k)) new = (new ≡ old) × IsMissing old.log event × (k ≡ suc (length old.log))
 PlayStep old event (Err faults.NoMemory) new = (new ≡ old) × (IsMissing old.log event → ⊥)
 PlayStep old event (Err (faults.Setup fault)) new = ⊥
 
--- What comes of playing events: the report of an agreeing run of them; or such a run of those before one whose packet wasn't made.
+-- What comes of playing events: the report of an agreeing run, whose log has these events; or such a run of those before one whose packet
+-- wasn't made.
 abbrev pub PlayOf : Settings → Settings → List Event → Result Report PlayFault → Type 0
 PlayOf a b events (Ok report) =
-    (h : History) × (w : World) × AgreeingRun a b h w × AreEvents (reverse h) events × IsReport h w report
+    (h : History) × (w : World) × AgreeingRun a b h w × (events_of (reverse h) ≡ events) × IsReport h w report
 PlayOf a b events (Err (faults.NoSuchPacket k)) =
     (h : History) × (w : World) × (before after : List Event) × (event : Event)
-    × (events ≡ before ++ event ∷ after) × AgreeingRun a b h w × AreEvents (reverse h) before × IsMissing h event × (k ≡ suc (length before))
+    × (events ≡ before ++ event ∷ after) × AgreeingRun a b h w × (events_of (reverse h) ≡ before) × IsMissing h event × (k ≡ suc (length before))
 PlayOf a b events (Err (faults.Setup fault)) = world_made a b ≡ Err fault
 PlayOf a b events (Err faults.NoMemory) = ⊤
-
--- a report of what was played, with a copy of the log
-pub record IsReportOf (p : Played) (report : Report) : Type 0 where
-  pub log : SameLog report.log.items (reverse p.log)
-  pub lanes : report.lanes.items ≡ all_lanes p.ends
-  pub ends : report.ends ≡ end_totals p.ends.a ∷ end_totals p.ends.b ∷ []
 
 -- the settings of the two ends began the run, and it agrees
 abbrev pub HasAgreed : Played → Type 0

@@ -1,6 +1,6 @@
 //! Copies of what happened, in memory of their own.
 ghost use Rattle.std.specs.Prelude.{IfOk};
-ghost use Rattle.qs_world.specs.Plays.{SameEvent, SameAct, SameAnswer, SameLog};
+ghost use Rattle.qs_world.specs.Copies.{SameEvent, SameAct, SameAnswer, SameLog};
 
 use qs_calls::{Act, Answer, Event};
 use std::alloc::{AllocError, Global};

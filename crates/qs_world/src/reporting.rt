@@ -1,7 +1,7 @@
 //! What two ends have come to is reported.
 ghost use Rattle.std.specs.Prelude.{◌≡◌, ◌++◌, ◌*◌, ◌<◌, ◌^◌, reverse, option_to_list, IfOk, IfErr, OnOk};
 ghost use Rattle.qs_world.specs.LaneLists.{sending, receiving, told_lane, lanes_of, lanes_from};
-ghost use Rattle.qs_world.specs.Plays.{IsReportOf};
+ghost use Rattle.qs_world.specs.Copies.{IsReportOf};
 ghost use Rattle.qs_world.specs.Reports.{is_received, all_lanes, end_totals};
 ghost use Rattle.qs_world.specs.declared.report.PlayFault.TheVariants.{NoMemory};
 

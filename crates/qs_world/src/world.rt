@@ -4,12 +4,13 @@ ghost use Rattle.qs_calls.specs.Events.{fits};
 ghost use Rattle.qs_runs.specs.Logs.{made, payload};
 ghost use Rattle.qs_runs.specs.Worlds.{world_made};
 ghost use Rattle.qs_world.specs.Reports.{IsReport};
-ghost use Rattle.qs_world.specs.Plays.{begun, PlayStep, HasAgreed, IsReportOf};
+ghost use Rattle.qs_world.specs.Copies.{IsReportOf};
+ghost use Rattle.qs_world.specs.Plays.{begun, PlayStep, HasAgreed};
 ghost use Rattle.qs_world.specs.declared.report.PlayFault.TheVariants.{NoMemory};
 
 use crate::report::{PlayFault, Report};
 use crate::reporting::{all_lanes, end_totals, report_of};
-use calls::{room_of, twin};
+use calls::room_of;
 use happening::{buffer_of, happen, is_missing};
 use log::Log;
 use qs_calls::{Answer, Event, Side};
@@ -64,11 +65,11 @@ impl World {
         })
     }
 
-    /// One event happens, and is logged with its answer. A refusal of memory by an end is an answer.
+    /// One event happens, and stands with its answer last in [`World::log`]. A refusal of memory by an end is an answer.
     ///
     /// Refused, and then nothing changed: `NoSuchPacket` where a packet is to be delivered that its end hasn't made, with one more than
     /// the events so far; and `NoMemory` where the log found none.
-    pub fn step(&mut self, event: Event) -> Result<Answer, PlayFault>
+    pub fn step(&mut self, event: Event) -> Result<(), PlayFault>
         requires { fits event ≡ true }
         ensures step { PlayStep self.old event result self.new }
         ensures agrees { HasAgreed self.new }
@@ -78,20 +79,22 @@ impl World {
                 event: self.log.len() + 1,
             });
         }
-        let size = room_of(&event.act);
-        let Ok(buffer) = buffer_of(self.alloc, size) else {
-            return Err(PlayFault::NoMemory);
-        };
-        let Ok(spare) = buffer_of(self.alloc, size) else {
+        let Ok(buffer) = buffer_of(self.alloc, room_of(&event.act)) else {
             return Err(PlayFault::NoMemory);
         };
         if let Err(_refused) = self.log.make_room() {
             return Err(PlayFault::NoMemory);
         }
         let answer = happen(&self.log, &mut self.a, &mut self.b, &event, buffer);
-        let again = twin(&answer, spare);
         self.log.push(event, answer);
-        Ok(again)
+        Ok(())
+    }
+
+    /// What happened so far, in order: each event with its answer.
+    pub fn log(&self) -> &[(Event, Answer)]
+        ensures { result.now ≡ reverse self.now.log }
+    {
+        self.log.entries()
     }
 
     /// How many packets an end has made. Their numbers begin at 0.

@@ -9,7 +9,7 @@ use std::test::Fail;
 
 fn play_once(alloc: Global, script: &[u8]) -> Result<Report, PlayFault> {
     match parse_script(alloc, script) {
-        Ok(events) => play(alloc, standard_settings(), standard_settings(), &events),
+        Ok(events) => play(alloc, standard_settings(), standard_settings(), events),
         Err(_) => Err(PlayFault::NoMemory),
     }
 }
@@ -165,7 +165,22 @@ fn without_window() -> Settings {
 
 #[test]
 fn ends_need_lawful_settings(rt: HostRuntime) {
+    let alloc = rt.alloc();
     let refused = Err(PlayFault::Setup(SetupFault::OutOfRange));
-    assert!(rt; play(rt.alloc(), without_window(), standard_settings(), &[]) == refused);
-    assert!(rt; play(rt.alloc(), standard_settings(), without_window(), &[]) == refused);
+    assert!(rt;
+        play(
+            alloc,
+            without_window(),
+            standard_settings(),
+            Vec::new(alloc)
+        ) == refused
+    );
+    assert!(rt;
+        play(
+            alloc,
+            standard_settings(),
+            without_window(),
+            Vec::new(alloc)
+        ) == refused
+    );
 }

@@ -9,7 +9,7 @@ use std::alloc::Global;
 use std::test::Fail;
 
 /// An event that keeps to its bounds happens; no other one does.
-fn step_if_it_fits(world: &mut World, event: Event) -> Result<Answer, PlayFault> {
+fn step_if_it_fits(world: &mut World, event: Event) -> Result<(), PlayFault> {
     if event.fits() {
         world.step(event)
     } else {
@@ -18,7 +18,7 @@ fn step_if_it_fits(world: &mut World, event: Event) -> Result<Answer, PlayFault>
 }
 
 /// The event of a line happens.
-fn step_once(alloc: Global, world: &mut World, line: &[u8]) -> Result<Answer, PlayFault> {
+fn step_once(alloc: Global, world: &mut World, line: &[u8]) -> Result<(), PlayFault> {
     let Ok(mut events) = parse_script(alloc, line) else {
         return Err(PlayFault::NoMemory);
     };
@@ -28,29 +28,33 @@ fn step_once(alloc: Global, world: &mut World, line: &[u8]) -> Result<Answer, Pl
     }
 }
 
-fn found_no_memory(answered: &Result<Answer, PlayFault>) -> bool {
-    match answered {
-        Ok(answer) => ran_short(answer),
+/// The log found no memory, or an end found none for the newest event.
+fn found_no_memory(world: &World, stepped: &Result<(), PlayFault>) -> bool {
+    match stepped {
+        Ok(()) => match world.log().last() {
+            Some((_, answer)) => ran_short(answer),
+            None => false,
+        },
         Err(fault) => *fault == PlayFault::NoMemory,
     }
 }
 
 /// The event of a line happens, once more where memory was refused.
-fn step_twice(alloc: Global, world: &mut World, line: &[u8]) -> Result<Answer, PlayFault> {
-    let answered = step_once(alloc, world, line);
-    if found_no_memory(&answered) {
+fn step_twice(alloc: Global, world: &mut World, line: &[u8]) -> Result<(), PlayFault> {
+    let stepped = step_once(alloc, world, line);
+    if found_no_memory(world, &stepped) {
         return step_once(alloc, world, line);
     }
-    answered
+    stepped
 }
 
 /// The event of a line happens, and memory isn't refused twice.
 fn step(alloc: Global, world: &mut World, line: &[u8]) -> Result<(), Fail> {
-    let answered = step_twice(alloc, world, line);
-    if found_no_memory(&answered) {
+    let stepped = step_twice(alloc, world, line);
+    if found_no_memory(world, &stepped) {
         return Err(Fail::new("memory was refused twice"));
     }
-    answered?;
+    stepped?;
     Ok(())
 }
 

@@ -21,12 +21,7 @@ fn stayed_open(report: &Report) -> bool {
 fn random_scripts_play_to_their_end(rt: HostRuntime) -> Result<(), Fail> {
     for seed in 0..100 {
         let events = random_script(rt.alloc(), seed, 500)?;
-        let report = play(
-            rt.alloc(),
-            standard_settings(),
-            standard_settings(),
-            &events,
-        )?;
+        let report = play(rt.alloc(), standard_settings(), standard_settings(), events)?;
         assert!(rt; report.log.len() == 500);
         assert!(rt; stayed_open(&report));
     }

@@ -215,7 +215,12 @@ fn a_script_without_events(rt: HostRuntime) {
         NOTHING_HAPPENED,
     );
     let mut out = Vec::new(rt.alloc());
-    let status = run_events(rt.alloc(), standard_settings(), &[], &mut out);
+    let status = run_events(
+        rt.alloc(),
+        standard_settings(),
+        Vec::new(rt.alloc()),
+        &mut out,
+    );
     assert!(rt; status == Status::Success);
     assert!(rt; out.as_slice() == NOTHING_HAPPENED.as_bytes());
 }

@@ -16,7 +16,7 @@ fn run<W: io::Write>(alloc: Global, number: usize, out: &mut W) -> Status {
         3 => run_play(alloc, b"jump A", out),
         4 => run_play(alloc, b"deliver A 0", out),
         5 => run_random(alloc, 1, 3, out),
-        6 => run_events(alloc, standard_settings(), &[], out),
+        6 => run_events(alloc, standard_settings(), Vec::new(alloc), out),
         _ => run_over_wire(alloc, number, out),
     }
 }

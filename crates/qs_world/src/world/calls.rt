@@ -4,8 +4,7 @@ ghost use Rattle.qs_calls.specs.Events.{act_fits};
 ghost use Rattle.qs_calls.specs.declared.event.Act.TheVariants.{ReadUpTo, Make};
 ghost use Rattle.qs_runs.specs.Logs.{is_delivery};
 ghost use Rattle.qs_runs.specs.Worlds.{OwnStep};
-ghost use Rattle.qs_world.specs.Buffers.{room_of, bytes_of, count_read, count_made};
-ghost use Rattle.qs_world.specs.Plays.{SameAnswer};
+ghost use Rattle.qs_world.specs.Buffers.{room_of, count_read, count_made};
 
 use qs_calls::{Act, Answer};
 use qs_conn::{Endpoint, Made, MakeFault, UseFault};
@@ -28,8 +27,7 @@ pub(crate) fn own_call(end: &mut Endpoint, act: &Act, buffer: Vec<u8>) -> Answer
     requires own { is_delivery act.now ≡ false }
     requires fits { act_fits act.now ≡ true }
     requires room { length buffer.items ≡ room_of act.now }
-    ensures step { OwnStep end.old act.now result end.new }
-    ensures bytes { length (bytes_of result) ≤ room_of act.now }
+    ensures { OwnStep end.old act.now result end.new }
 {
     match act {
         Act::OpenStream(dir) => Answer::OpenStream(end.open(*dir)),
@@ -46,8 +44,7 @@ pub(crate) fn own_call(end: &mut Endpoint, act: &Act, buffer: Vec<u8>) -> Answer
 }
 
 fn read(end: &mut Endpoint, stream: StreamId, mut buffer: Vec<u8>) -> Answer
-    ensures step { OwnStep end.old (ReadUpTo stream (length buffer.items)) result end.new }
-    ensures bytes { length (bytes_of result) ≤ length buffer.items }
+    ensures { OwnStep end.old (ReadUpTo stream (length buffer.items)) result end.new }
 {
     let answer = end.read(stream, &mut buffer);
     buffer.truncate(count_read(&answer));
@@ -66,8 +63,7 @@ fn count_read(answer: &Result<Read, UseFault>) -> usize
 fn make(end: &mut Endpoint, mut buffer: Vec<u8>) -> Answer
     requires least { 128 ≤ length buffer.items }
     requires most { length buffer.items ≤ 16383 }
-    ensures step { OwnStep end.old (Make (length buffer.items)) result end.new }
-    ensures bytes { length (bytes_of result) ≤ length buffer.items }
+    ensures { OwnStep end.old (Make (length buffer.items)) result end.new }
 {
     let answer = end.make_packet(&mut buffer);
     buffer.truncate(count_made(&answer));
@@ -81,33 +77,4 @@ fn count_made(answer: &Result<Option<Made>, MakeFault>) -> usize
         Ok(Some(made)) => made.len,
         _ => 0,
     }
-}
-
-/// The answer again, with its bytes in another buffer.
-pub(crate) fn twin(answer: &Answer, spare: Vec<u8>) -> Answer
-    requires { length (bytes_of answer.now) ≤ length spare.items }
-    ensures { SameAnswer answer.now result }
-{
-    match answer {
-        Answer::OpenStream(result) => Answer::OpenStream(*result),
-        Answer::Accept(result) => Answer::Accept(*result),
-        Answer::Write(result) => Answer::Write(*result),
-        Answer::Finish(result) => Answer::Finish(*result),
-        Answer::Reset(result) => Answer::Reset(*result),
-        Answer::Stop(result) => Answer::Stop(*result),
-        Answer::ReadUpTo(result, bytes) => Answer::ReadUpTo(*result, copied(bytes, spare)),
-        Answer::Make(result, text) => Answer::Make(*result, copied(text, spare)),
-        Answer::Lose(result) => Answer::Lose(*result),
-        Answer::Deliver(result) => Answer::Deliver(*result),
-    }
-}
-
-// The buffer, holding these bytes alone.
-fn copied(bytes: &[u8], mut buffer: Vec<u8>) -> Vec<u8>
-    requires { length bytes.now ≤ length buffer.items }
-    ensures { result.items ≡ bytes.now }
-{
-    buffer.truncate(bytes.len());
-    buffer.copy_from_slice(bytes);
-    buffer
 }

@@ -1,7 +1,7 @@
 //! One event happens to two ends.
 ghost use Rattle.std.specs.Prelude.{◌≡◌, ◌≤◌, ◌<◌, ◌^◌, List, ℕ, length, true, None, Some, IfOk, MatchBool};
 ghost use Rattle.qs_machine.specs.Receiving.{ReceiveStep};
-ghost use Rattle.qs_world.specs.Buffers.{room_of, bytes_of};
+ghost use Rattle.qs_world.specs.Buffers.{room_of};
 ghost use Rattle.qs_calls.specs.Events.{act_fits, fits};
 ghost use Rattle.qs_runs.specs.Logs.{payload};
 ghost use Rattle.qs_world.specs.Plays.{IsMissing, IsMissingBy, world_by};
@@ -41,8 +41,7 @@ pub(crate) fn happen(
     requires there { IsMissing log.now.history event.now → ⊥ }
     requires fits { fits event.now ≡ true }
     requires room { length buffer.items ≡ room_of event.now.act }
-    ensures step { WorldStep log.now.history (record { a = a.old; b = b.old }) event.now result (record { a = a.new; b = b.new }) }
-    ensures bytes { length (bytes_of result) ≤ room_of event.now.act }
+    ensures { WorldStep log.now.history (record { a = a.old; b = b.old }) event.now result (record { a = a.new; b = b.new }) }
 {
     match event.end {
         Side::A => happen_at(log, Side::A, a, b, &event.act, buffer),
@@ -63,8 +62,7 @@ fn happen_at(
     requires there { IsMissingBy log.now.history side act.now → ⊥ }
     requires fits { act_fits act.now ≡ true }
     requires room { length buffer.items ≡ room_of act.now }
-    ensures step { StepBy log.now.history (world_by side own.old peer.old) side act.now result (world_by side own.new peer.new) }
-    ensures bytes { length (bytes_of result) ≤ room_of act.now }
+    ensures { StepBy log.now.history (world_by side own.old peer.old) side act.now result (world_by side own.new peer.new) }
 {
     match act {
         Act::Deliver(number) => Answer::Deliver(deliver(log, side, peer, *number)),

@@ -2,9 +2,9 @@ use Rattle.qs_cli.proofs.Answered.{answered_report, answered_none}
 use Rattle.qs_cli.proofs.scripts.show_events.Goals as goal
 
 pub returns-in-Ok : goal.returns-in-Ok
-returns-in-Ok g c = answered_report c.show_report.result c.args.settings c.args.events.now c.in-Ok.report _ _ c.in-Ok.ensures c.show_report.ensures
+returns-in-Ok g c = answered_report c.show_report.result c.args.settings c.args.events.items c.in-Ok.report _ _ c.in-Ok.ensures c.show_report.ensures
 
 pub returns-in-Err-NoSuchPacket : goal.returns-in-Err-NoSuchPacket
 returns-in-Err-NoSuchPacket g c =
-    answered_none c.show_missing.result c.args.settings c.args.events.now c.in-Err-NoSuchPacket.event _ _
+    answered_none c.show_missing.result c.args.settings c.args.events.items c.in-Err-NoSuchPacket.event _ _
     (rw c.in-Err-NoSuchPacket.field-0-is at c.in-Err-NoSuchPacket.ensures) c.show_missing.ensures

@@ -1,5 +1,5 @@
 use Rattle.std.proofs.Common.{take}
-use Rattle.qs_world.specs.Plays.{SameLog}
+use Rattle.qs_world.specs.Copies.{SameLog}
 use Rattle.qs_world.proofs.copies.copy_log.Given as goal
 
 -- what was copied is the front of the log

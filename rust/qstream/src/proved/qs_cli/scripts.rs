@@ -1,7 +1,7 @@
 // Made from crates/qs_cli/src/scripts.rt by rust/erase; not edited by hand.
 //! Plays events and scripts, and makes scripts of random events.
 
-use crate::shim::{String, format};
+use crate::shim::{String, Vec, format};
 
 use crate::proved::qs_cli::report_text::{play_text, script_text};
 use crate::proved::qs_cli::status::Status;
@@ -19,7 +19,7 @@ use crate::shim::io;
 pub fn run_events<W: io::Write>(
     alloc: Global,
     settings: Settings,
-    events: &[Event],
+    events: Vec<Event>,
     out: &mut W,
 ) -> Status {
     show_events(alloc, settings, events, out).unwrap_or(Status::Failed)
@@ -28,7 +28,7 @@ pub fn run_events<W: io::Write>(
 fn show_events<W: io::Write>(
     alloc: Global,
     settings: Settings,
-    events: &[Event],
+    events: Vec<Event>,
     out: &mut W,
 ) -> io::Result<Status> {
     match play(alloc, settings, settings, events) {
@@ -70,7 +70,7 @@ pub fn run_play_with<W: io::Write>(
     out: &mut W,
 ) -> Status {
     match parse_script(alloc, script) {
-        Ok(events) => run_events(alloc, settings, &events, out),
+        Ok(events) => run_events(alloc, settings, events, out),
         Err(fault) => show_script_fault(alloc, fault, out).unwrap_or(Status::Failed),
     }
 }

@@ -4,7 +4,7 @@ use crate::shim::Vec;
 
 use crate::proved::qs_world::report::{PlayFault, Report};
 use crate::proved::qs_world::reporting::{all_lanes, end_totals, report_of};
-use calls::{room_of, twin};
+use calls::room_of;
 use happening::{buffer_of, happen, is_missing};
 use log::Log;
 use crate::proved::qs_calls::{Answer, Event, Side};
@@ -41,30 +41,30 @@ impl World {
         })
     }
 
-    /// One event happens, and is logged with its answer. A refusal of memory by an end is an answer.
+    /// One event happens, and stands with its answer last in [`World::log`]. A refusal of memory by an end is an answer.
     ///
     /// Refused, and then nothing changed: `NoSuchPacket` where a packet is to be delivered that its end hasn't made, with one more than
     /// the events so far; and `NoMemory` where the log found none.
-    pub fn step(&mut self, event: Event) -> Result<Answer, PlayFault> {
+    pub fn step(&mut self, event: Event) -> Result<(), PlayFault> {
         if is_missing(&self.log, &event) {
             return Err(PlayFault::NoSuchPacket {
                 event: self.log.len() + 1,
             });
         }
-        let size = room_of(&event.act);
-        let Ok(buffer) = buffer_of(self.alloc, size) else {
-            return Err(PlayFault::NoMemory);
-        };
-        let Ok(spare) = buffer_of(self.alloc, size) else {
+        let Ok(buffer) = buffer_of(self.alloc, room_of(&event.act)) else {
             return Err(PlayFault::NoMemory);
         };
         if let Err(_refused) = self.log.make_room() {
             return Err(PlayFault::NoMemory);
         }
         let answer = happen(&self.log, &mut self.a, &mut self.b, &event, buffer);
-        let again = twin(&answer, spare);
         self.log.push(event, answer);
-        Ok(again)
+        Ok(())
+    }
+
+    /// What happened so far, in order: each event with its answer.
+    pub fn log(&self) -> &[(Event, Answer)] {
+        self.log.entries()
     }
 
     /// How many packets an end has made. Their numbers begin at 0.

@@ -57,26 +57,3 @@ fn count_made(answer: &Result<Option<Made>, MakeFault>) -> usize {
         _ => 0,
     }
 }
-
-/// The answer again, with its bytes in another buffer.
-pub(crate) fn twin(answer: &Answer, spare: Vec<u8>) -> Answer {
-    match answer {
-        Answer::OpenStream(result) => Answer::OpenStream(*result),
-        Answer::Accept(result) => Answer::Accept(*result),
-        Answer::Write(result) => Answer::Write(*result),
-        Answer::Finish(result) => Answer::Finish(*result),
-        Answer::Reset(result) => Answer::Reset(*result),
-        Answer::Stop(result) => Answer::Stop(*result),
-        Answer::ReadUpTo(result, bytes) => Answer::ReadUpTo(*result, copied(bytes, spare)),
-        Answer::Make(result, text) => Answer::Make(*result, copied(text, spare)),
-        Answer::Lose(result) => Answer::Lose(*result),
-        Answer::Deliver(result) => Answer::Deliver(*result),
-    }
-}
-
-// The buffer, holding these bytes alone.
-fn copied(bytes: &[u8], mut buffer: Vec<u8>) -> Vec<u8> {
-    buffer.truncate(bytes.len());
-    buffer.copy_from_slice(bytes);
-    buffer
-}
