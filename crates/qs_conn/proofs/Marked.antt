@@ -1,9 +1,9 @@
 -- Marks beside parts: each part that isn't marked has a property.
-use Rattle.std.proofs.Common.{◌≡◌, ℕ, zero, suc, ◌+◌, ◌-◌, ◌*◌, ◌/◌, ◌%◌, min, ◌<◌, ◌≤◌, ◌^◌, Bool, false, List, [], ◌∷◌, ◌++◌, map, length, get_or, take, replicate, Option, None, Some, slice_get, refl, sym, ap, ◌∙◌, subst, arith, inl, inr}
+use Rattle.std.proofs.Common.{◌≡◌, ℕ, zero, suc, ◌+◌, ◌-◌, ◌*◌, ◌/◌, ◌%◌, min, ◌<◌, ◌≤◌, ◌^◌, Bool, true, false, List, [], ◌∷◌, ◌++◌, map, length, get_or, take, replicate, Option, None, Some, slice_get, refl, sym, ap, ◌∙◌, subst, arith, inl, inr}
 use Rattle.std.specs.List.{range_with_len}
 use Rattle.std.specs.Option.{IfSome, IfNone}
 use Rattle.std.proofs.Math.ListN.{set, length-set}
-use Rattle.std.proofs.lemmas.Bool.{cases_lt, both_ways}
+use Rattle.std.proofs.lemmas.Bool.{cases_lt, both_ways, true≢false}
 use Rattle.std.proofs.lemmas.List.{length-append, length-take}
 use Rattle.std.proofs.lemmas.List.FromFn.{length-map-range_with_len}
 use Rattle.std.proofs.lemmas.Option.{none-some, same_Some}
@@ -106,6 +106,45 @@ module _ {X : Type 0} (Q : X → Type 0) where
       let same : count - length ms ≡ n = omega (arith, le, ge, missing, marked_len xs ms h.1) in
       let few : length (xs ++ map begin (range_with_len (length xs) n)) ≤ 2 ^ 60 = omega (arith, h.0, small, le, ge, missing, length-append xs (map begin (range_with_len (length xs) n)), length-map-range_with_len begin (length xs) n) in
       rw (is, are, same) (few, marked_opened begin q xs ms (length xs) n h.1)
+
+-- parts were opened, each with a mark, or each without one and with the property
+module _ {X : Type 0} (Q : X → Type 0) where
+  begun_marked : (begin : ℕ → X) (lo n : ℕ) → AreMarked Q (map begin (range_with_len lo n)) (replicate n true)
+  begun_marked begin lo zero = tt
+  begun_marked begin lo (suc n) = (λ is. absurd (true≢false is), begun_marked begin (lo + 1) n)
+
+  all_marked : (begin : ℕ → X) (xs : List X) (ms : List Bool) (lo n : ℕ) → AreMarked Q xs ms → AreMarked Q (xs ++ map begin (range_with_len lo n)) (ms ++ replicate n true)
+  all_marked begin [] [] lo n h = begun_marked begin lo n
+  all_marked begin [] (m ∷ ms) lo n h = absurd h
+  all_marked begin (x ∷ xs) [] lo n h = absurd h
+  all_marked begin (x ∷ xs) (m ∷ ms) lo n h = (h.0, all_marked begin xs ms lo n h.1)
+
+  pub more_begun : (b : Bool) (begin : ℕ → X) → (b ≡ false → (i : ℕ) → Q (begin i)) → (xs now : List X) (ms now_ms : List Bool) (count n m : ℕ) → count ≤ 2 ^ 60 → now ≡ xs ++ map begin (range_with_len (length xs) n) → n ≤ m → m ≤ n → m ≡ count - length xs
+      → now_ms ≡ ms ++ replicate (count - length ms) b → (length xs ≤ 2 ^ 60) × AreMarked Q xs ms → (length now ≤ 2 ^ 60) × AreMarked Q now now_ms
+  more_begun false begin q xs now ms now_ms count n m small is le ge missing are h = more_opened Q begin (q refl) xs now ms now_ms count n m small is le ge missing are h
+  more_begun true begin q xs now ms now_ms count n m small is le ge missing are h =
+      let same : count - length ms ≡ n = omega (arith, le, ge, missing, marked_len Q xs ms h.1) in
+      let few : length (xs ++ map begin (range_with_len (length xs) n)) ≤ 2 ^ 60 = omega (arith, h.0, small, le, ge, missing, length-append xs (map begin (range_with_len (length xs) n)), length-map-range_with_len begin (length xs) n) in
+      rw (is, are, same) (few, all_marked begin xs ms (length xs) n h.1)
+
+-- the next one of the new marks is set
+pub mark_more : (ms now : List Bool) (k n : ℕ) → k < n → now ≡ ms ++ (replicate k true ++ replicate (n - k) false) → set now (length ms + k) true ≡ ms ++ (replicate (k + 1) true ++ replicate (n - (k + 1)) false)
+mark_more ms now k n lt is = rw (is, left) (past ms (replicate k true ++ replicate (suc (n - (k + 1))) false) k (length ms + k) refl ∙ ap (λ xs. ms ++ xs) (at k (k + 1) (n - (k + 1)) refl))
+  where
+    left : n - k ≡ suc (n - (k + 1))
+    left = omega (arith, lt)
+
+    past : (xs ys : List Bool) (i j : ℕ) → j ≡ length xs + i → set (xs ++ ys) j true ≡ xs ++ set ys i true
+    past [] ys i j e = (let same : j ≡ i = omega (arith, e) in ap (λ k. set ys k true) same)
+    past (x ∷ xs) ys i zero e = absurd (omega (arith, e))
+    past (x ∷ xs) ys i (suc j) e = ap (λ zs. x ∷ zs) (past xs ys i j (omega (arith, e)))
+
+    at : (i m j : ℕ) → m ≡ i + 1 → set (replicate i true ++ replicate (suc j) false) i true ≡ replicate m true ++ replicate j false
+    at zero zero j e = absurd (omega (arith, e))
+    at zero (suc zero) j e = refl
+    at zero (suc (suc m)) j e = absurd (omega (arith, e))
+    at (suc i) zero j e = absurd (omega (arith, e))
+    at (suc i) (suc m) j e = ap (λ zs. true ∷ zs) (at i m j (omega (arith, e)))
 
 -- what was opened beside the marks is taken back
 pub take_opened : {X : Type 0} (xs ys : List X) (n : ℕ) → n ≡ length xs → take n (xs ++ ys) ≡ xs

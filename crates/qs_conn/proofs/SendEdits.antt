@@ -1,5 +1,5 @@
 -- Sending halves are opened and edited.
-use Rattle.std.proofs.Common.{◌≡◌, ℕ, ◌+◌, ◌-◌, subst, ◌<◌, ◌^◌, List, length, take, get_or, Option, Some, None, slice_get, Result, Ok, Err, refl, sym, ap, ◌∙◌, arith}
+use Rattle.std.proofs.Common.{◌≡◌, ℕ, false, ◌+◌, ◌-◌, subst, ◌<◌, ◌^◌, List, length, take, get_or, Option, Some, None, slice_get, Result, Ok, Err, refl, sym, ap, ◌∙◌, arith}
 use Rattle.std.specs.Option.{IfSome}
 use Rattle.std.specs.Ordering.{nat_cmp}
 use Rattle.std.specs.Result.{OnOk, OnErr, IfOk}
@@ -15,7 +15,7 @@ use Rattle.qs_send.specs.Lane.{Sending, new_sending, accepted, refusal, after_wr
 use Rattle.qs_machine.specs.Sums.{changed, no_sending}
 use Rattle.qs_conn.specs.declared.send_marks.Task.{Task}
 use Rattle.qs_conn.specs.declared.send_marks.Task.TheVariants as tasks
-use Rattle.qs_conn.specs.Tasks.{IsQuiet}
+use Rattle.qs_conn.specs.Tasks.{IsQuiet, begins}
 use Rattle.qs_conn.proofs.LaneEdits.{changed_at}
 
 -- a sending half is opened: its number
@@ -42,7 +42,9 @@ wrote_at (Ok n) xs i x y bytes there at h =
 wrote_at (Err e) xs i x y bytes there at h = tt
 
 -- a half begins quiet
-pub begins_quiet : (t : Task) (id limit buffer : ℕ) → IsQuiet t (new_sending id limit buffer)
-begins_quiet tasks.Bytes id limit buffer = record { no_offset = λ q lt. set.contains-empty nat_cmp q; no_end = λ whole. refl; sent = λ none lt. omega arith }
-begins_quiet tasks.Reset id limit buffer = λ is. absurd (true≢false (sym is))
-begins_quiet tasks.Blocked id limit buffer = λ m (none, is, more, at). omega (arith, more)
+pub begins_quiet : (t : Task) → begins t ≡ false → (id limit buffer : ℕ) → IsQuiet t (new_sending id limit buffer)
+begins_quiet tasks.Bytes unmarked id limit buffer = record { no_offset = λ q lt. set.contains-empty nat_cmp q; no_end = λ whole. refl; sent = λ none lt. omega arith }
+begins_quiet tasks.Reset unmarked id limit buffer = λ is. absurd (true≢false (sym is))
+begins_quiet tasks.Blocked unmarked id limit buffer = λ m (none, is, more, at). omega (arith, more)
+begins_quiet tasks.Writable unmarked id limit buffer = absurd (true≢false unmarked)
+begins_quiet tasks.Ended unmarked id limit buffer = refl

@@ -5,12 +5,14 @@ use Rattle.std.proofs.lemmas.Option.{none-some, same_Some}
 use Rattle.std.specs.FinSet as set
 use Rattle.qs_send.specs.Lane.{SendLane, Sending}
 use Rattle.qs_send.specs.Sound.{IsLawful}
+use Rattle.qs_send.specs.Writable.{is_writable}
+use Rattle.qs_machine.specs.Credit.{send_ended}
 use Rattle.qs_machine.specs.Tables.{Tables, lookup}
 use Rattle.qs_machine.specs.Ends.{End}
-use Rattle.qs_machine.specs.News.{IsLeast, IsHeld, HasForPacket, IsReadable, IsSendable}
+use Rattle.qs_machine.specs.News.{IsLeast, IsHeld, HasForPacket, IsReadable, IsSendable, IsWritable}
 use Rattle.qs_machine.specs.Outgoing.{Outgoing, IsTied, lanes_of, with_outgoing}
 use Rattle.qs_machine.proofs.LaneTables.{lookup_lanes}
-use Rattle.qs_conn.specs.Sending.{IsDueOf}
+use Rattle.qs_conn.specs.Sending.{IsDueOf, MayWrite}
 use Rattle.qs_conn.specs.RecvTasks.{HasOne}
 use Rattle.qs_conn.specs.declared.recv_marks.RecvTask.TheVariants as recv_tasks
 use Rattle.qs_conn.proofs.Least.{least_given}
@@ -25,6 +27,8 @@ quiet_has_none tasks.Bytes s quiet (inl (q, due, below)) = both_ways (set.contai
 quiet_has_none tasks.Bytes s quiet (inr (due, whole)) = both_ways s.due.fin (quiet.no_end whole) due
 quiet_has_none tasks.Reset s quiet (reset, open_still) = both_ways s.lane.reset_acked open_still (quiet reset)
 quiet_has_none tasks.Blocked s quiet (m, at) = quiet m at
+quiet_has_none tasks.Writable s quiet room = both_ways (is_writable s.lane) quiet room
+quiet_has_none tasks.Ended s quiet over = both_ways (send_ended s.lane) quiet over
 
 module _ (e : End) (n : ℕ) (s : Sending) (tied : IsTied e.outstanding n s) where
   packet_has : IsLawful s → HasTask tasks.Bytes s → HasForPacket e n s.lane
@@ -79,3 +83,21 @@ readable_least v old b at from r same is none begin h = rw (← same, ← begin)
 pub sendable_least : (v old : End) (o : Outgoing) (b : Bool) (at from : ℕ) (r : Option ℕ) → v ≡ old → with_outgoing o v ≡ v → b ≡ is_some v.closed → b ≡ false → at ≡ from → ((e : End) → IsLeast (IsDueOf (with_outgoing o e)) at r) → IsLeast (IsSendable old) from r
 sendable_least v old o b at from r same out is none begin h =
     rw (← same, ← begin) (least_given (v.closed ≡ None) (IsDueOf v) at r (unclosed v.closed b is none) (subst (λ x. IsLeast (IsDueOf x) at r) out (h v)))
+
+-- an answer about halves is one about their lanes
+pub lanes_least : (P : Sending → Type 0) (Q : SendLane → Type 0) → ((s : Sending) → P s → Q s.lane) → ((s : Sending) → Q s.lane → P s) → (v o : Outgoing) (t : Tables Sending) (from : ℕ) (r : Option ℕ) → v ≡ o → lanes_of t ≡ v.sends → IsLeast (IsHeld P t) from r → IsLeast (IsHeld Q o.sends) from r
+lanes_least P Q to back v o t from r same lanes h = subst (λ (x : Outgoing). IsLeast (IsHeld Q x.sends) from r) same (record { found = found; least = least })
+  where
+    found : (n : ℕ) → r ≡ Some n → (from ≤ n) × IsHeld Q v.sends n
+    found n is =
+        let f = h.found n is in
+        let s = f.1.0 in
+        (f.0, (s.lane, ap (λ x. lookup x n) (sym lanes) ∙ lane_of_half t n s f.1.1, to s f.1.2))
+
+    least : (n : ℕ) → from ≤ n → IsHeld Q v.sends n → (m : ℕ) × (r ≡ Some m) × (m ≤ n)
+    least n ge (l, at, q) =
+        let (s, there, is) = half_of_lane t n l (ap (λ x. lookup x n) lanes ∙ at) in
+        h.least n ge (s, there, back s (subst Q (sym is) q))
+
+pub writable_least : (v old : End) (b : Bool) (at from : ℕ) (r : Option ℕ) → v ≡ old → b ≡ is_some v.closed → b ≡ false → at ≡ from → IsLeast (IsHeld MayWrite v.sends) at r → IsLeast (IsWritable old) from r
+writable_least v old b at from r same is none begin h = rw (← same, ← begin) (least_given (v.closed ≡ None) (IsHeld MayWrite v.sends) at r (unclosed v.closed b is none) h)

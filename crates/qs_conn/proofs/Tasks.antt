@@ -5,28 +5,32 @@ use Rattle.std.specs.Prelude.{slice_set}
 use Rattle.std.proofs.Math.ListN.{set, length-set}
 use Rattle.qs_send.specs.Lane.{Sending, new_sending}
 use Rattle.qs_conn.specs.Marks.{AreMarked}
-use Rattle.qs_conn.specs.Tasks.{IsQuiet, IsLooked, AreAllMarked, marks_of}
+use Rattle.qs_conn.specs.Tasks.{IsQuiet, IsLooked, AreAllMarked, begins, marks_of}
 use Rattle.qs_conn.specs.declared.send_marks.Task.{Task}
 use Rattle.qs_conn.specs.declared.send_marks.Task.TheVariants as tasks
 use Rattle.qs_conn.specs.declared.send_marks.SendMarks.{SendMarks}
-use Rattle.qs_conn.proofs.Marked.{look_again, undone, more_opened, fewer}
+use Rattle.qs_conn.proofs.Marked.{look_again, undone, more_begun, fewer}
 use Rattle.qs_conn.proofs.SendEdits.{begins_quiet}
 
-module _ (old new : SendMarks) (index : ℕ) (s : Sending) (b r k : Bool) where
-  pub looked : (b ≡ false → IsQuiet tasks.Bytes s) → (r ≡ false → IsQuiet tasks.Reset s) → (k ≡ false → IsQuiet tasks.Blocked s) → new.bytes ≡ slice_set old.bytes index b → new.resets ≡ slice_set old.resets index r → new.blocks ≡ slice_set old.blocks index k
+module _ (old new : SendMarks) (index : ℕ) (s : Sending) (b r k w e : Bool) where
+  pub looked : (b ≡ false → IsQuiet tasks.Bytes s) → (r ≡ false → IsQuiet tasks.Reset s) → (k ≡ false → IsQuiet tasks.Blocked s) → (w ≡ false → IsQuiet tasks.Writable s) → (e ≡ false → IsQuiet tasks.Ended s) → new.bytes ≡ slice_set old.bytes index b → new.resets ≡ slice_set old.resets index r → new.blocks ≡ slice_set old.blocks index k → new.writable ≡ slice_set old.writable index w → new.ended ≡ slice_set old.ended index e
       → (t : Task) → IsLooked t index s (marks_of old t) (marks_of new t)
-  looked no_bytes no_reset no_block bytes resets blocks tasks.Bytes = (b, no_bytes, bytes)
-  looked no_bytes no_reset no_block bytes resets blocks tasks.Reset = (r, no_reset, resets)
-  looked no_bytes no_reset no_block bytes resets blocks tasks.Blocked = (k, no_block, blocks)
+  looked no_bytes no_reset no_block no_room no_end bytes resets blocks writable ended tasks.Bytes = (b, no_bytes, bytes)
+  looked no_bytes no_reset no_block no_room no_end bytes resets blocks writable ended tasks.Reset = (r, no_reset, resets)
+  looked no_bytes no_reset no_block no_room no_end bytes resets blocks writable ended tasks.Blocked = (k, no_block, blocks)
+  looked no_bytes no_reset no_block no_room no_end bytes resets blocks writable ended tasks.Writable = (w, no_room, writable)
+  looked no_bytes no_reset no_block no_room no_end bytes resets blocks writable ended tasks.Ended = (e, no_end, ended)
 
 -- a half was changed and then looked at
 pub all_looked : (xs : List Sending) (old new : SendMarks) (i : ℕ) (y : Sending) → ((t : Task) → IsLooked t i y (marks_of old t) (marks_of new t)) → (length xs ≤ 2 ^ 60) × AreAllMarked xs old → (length (set xs i y) ≤ 2 ^ 60) × AreAllMarked (set xs i y) new
 all_looked xs old new i y looked h = (rw length-set h.0, λ t. let l = looked t in look_again (IsQuiet t) xs (marks_of old t) (marks_of new t) i y l.0 l.1 l.2 (h.1 t))
 
-pub by_task : (P : Task → Type 0) → P tasks.Bytes → P tasks.Reset → P tasks.Blocked → (t : Task) → P t
-by_task P a b c tasks.Bytes = a
-by_task P a b c tasks.Reset = b
-by_task P a b c tasks.Blocked = c
+pub by_task : (P : Task → Type 0) → P tasks.Bytes → P tasks.Reset → P tasks.Blocked → P tasks.Writable → P tasks.Ended → (t : Task) → P t
+by_task P a b c d e tasks.Bytes = a
+by_task P a b c d e tasks.Reset = b
+by_task P a b c d e tasks.Blocked = c
+by_task P a b c d e tasks.Writable = d
+by_task P a b c d e tasks.Ended = e
 
 -- some halves leave
 pub all_fewer : (xs now : List Sending) (old new : SendMarks) (n : ℕ) → now ≡ take n xs → ((t : Task) → marks_of new t ≡ take n (marks_of old t)) → (length xs ≤ 2 ^ 60) × AreAllMarked xs old → (length now ≤ 2 ^ 60) × AreAllMarked now new
@@ -42,8 +46,8 @@ all_undone xs now old new is at h =
 
 -- halves open
 pub all_opened : (kind limit buffer : ℕ) (xs now : List Sending) (old new : SendMarks) (count n m : ℕ) → count ≤ 2 ^ 60 → now ≡ xs ++ map (λ (i : ℕ). new_sending (i * 4 + kind) limit buffer) (range_with_len (length xs) n) → n ≤ m → m ≤ n → m ≡ count - length xs
-    → ((t : Task) → marks_of new t ≡ marks_of old t ++ replicate (count - length (marks_of old t)) false) → (length xs ≤ 2 ^ 60) × AreAllMarked xs old → (length now ≤ 2 ^ 60) × AreAllMarked now new
+    → ((t : Task) → marks_of new t ≡ marks_of old t ++ replicate (count - length (marks_of old t)) (begins t)) → (length xs ≤ 2 ^ 60) × AreAllMarked xs old → (length now ≤ 2 ^ 60) × AreAllMarked now new
 all_opened kind limit buffer xs now old new count n m small is le ge missing at h =
     let one : (t : Task) → (length now ≤ 2 ^ 60) × AreMarked (IsQuiet t) now (marks_of new t) = λ t.
-    more_opened (IsQuiet t) (λ (i : ℕ). new_sending (i * 4 + kind) limit buffer) (λ i. begins_quiet t (i * 4 + kind) limit buffer) xs now (marks_of old t) (marks_of new t) count n m small is le ge missing (at t) (h.0, h.1 t) in
+    more_begun (IsQuiet t) (begins t) (λ (i : ℕ). new_sending (i * 4 + kind) limit buffer) (λ unmarked i. begins_quiet t unmarked (i * 4 + kind) limit buffer) xs now (marks_of old t) (marks_of new t) count n m small is le ge missing (at t) (h.0, h.1 t) in
     ((one tasks.Bytes).0, λ t. (one t).1)

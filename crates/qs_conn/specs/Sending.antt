@@ -1,5 +1,7 @@
 -- Whether anything is due that may go: what a walk over control items and streams tells.
-use Rattle.std.specs.Prelude.{ℕ, Bool, true, false, ◌⊎◌}
+use Rattle.std.specs.Prelude.{◌≡◌, ℕ, Bool, true, false, ◌⊎◌}
+use Rattle.qs_send.specs.Lane.{SendLane}
+use Rattle.qs_send.specs.Writable.{is_writable}
 use Rattle.qs_send.specs.declared.piece.Item.{Item}
 use Rattle.qs_machine.specs.Ends.{End}
 use Rattle.qs_machine.specs.Due.{IsDueItem, StreamGoes}
@@ -9,6 +11,10 @@ use Rattle.qs_conn.specs.Filling.{slot_of, Passed, IsPassed}
 -- bytes of the stream or its end are due, which its own limit lets go
 abbrev pub IsDueOf : End → ℕ → Type 0
 IsDueOf e n = IsHeld (HasForPacket e n) e.sends n
+
+-- a half takes bytes now
+abbrev pub MayWrite : SendLane → Type 0
+MayWrite l = is_writable l ≡ true
 
 -- some item is due; or none of the slots that were passed
 abbrev pub TellsDue : Bool → End → Passed → Type 0

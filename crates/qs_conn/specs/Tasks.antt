@@ -2,6 +2,8 @@
 use Rattle.std.specs.Prelude.{◌≡◌, ℕ, ◌≤◌, ◌<◌, ◌⊎◌, Bool, true, false, List, slice_set, None, Some, is_some}
 use Rattle.std.specs.FinSet as set
 use Rattle.qs_send.specs.Lane.{SendLane, Sending}
+use Rattle.qs_send.specs.Writable.{is_writable}
+use Rattle.qs_machine.specs.Credit.{send_ended}
 use Rattle.qs_machine.specs.Tables.{lookup}
 use Rattle.qs_machine.specs.Outgoing.{Outgoing, IsTied, IsBlockedAt}
 use Rattle.qs_conn.specs.declared.send_marks.Task.{Task}
@@ -21,18 +23,32 @@ abbrev pub IsQuiet : Task → Sending → Type 0
 IsQuiet tasks.Bytes s = HasNothing s
 IsQuiet tasks.Reset s = is_some s.lane.was_reset ≡ true → s.lane.reset_acked ≡ true
 IsQuiet tasks.Blocked s = (m : ℕ) → IsBlockedAt (Some s.lane) m → ⊥
+IsQuiet tasks.Writable s = is_writable s.lane ≡ false
+IsQuiet tasks.Ended s = send_ended s.lane ≡ false
 
 -- a half that has something of a kind for a packet (RFC 9000, sections 3.1, 4.1 and 13.3)
 abbrev pub HasTask : Task → Sending → Type 0
 HasTask tasks.Bytes s = ((q : ℕ) × (set.contains s.due.offsets q ≡ true) × (q < s.lane.limit)) ⊎ ((s.due.fin ≡ true) × (s.lane.sent_end ≡ s.lane.written))
 HasTask tasks.Reset s = (is_some s.lane.was_reset ≡ true) × (s.lane.reset_acked ≡ false)
 HasTask tasks.Blocked s = (m : ℕ) × IsBlockedAt (Some s.lane) m
+HasTask tasks.Writable s = is_writable s.lane ≡ true
+HasTask tasks.Ended s = send_ended s.lane ≡ true
+
+-- whether a half that opens has a mark: it may be written to at once
+abbrev pub begins : Task → Bool
+begins tasks.Bytes = false
+begins tasks.Reset = false
+begins tasks.Blocked = false
+begins tasks.Writable = true
+begins tasks.Ended = false
 
 -- the marks for a task
 abbrev pub marks_of : SendMarks → Task → List Bool
 marks_of marks tasks.Bytes = marks.bytes
 marks_of marks tasks.Reset = marks.resets
 marks_of marks tasks.Blocked = marks.blocks
+marks_of marks tasks.Writable = marks.writable
+marks_of marks tasks.Ended = marks.ended
 
 -- a half was looked at, and has no mark only where it is quiet
 abbrev pub IsLooked : Task → ℕ → Sending → List Bool → List Bool → Type 0

@@ -1,5 +1,5 @@
 //! Which streams of one type may have something to send or to tell.
-ghost use Rattle.std.specs.Prelude.{◌≡◌, ◌++◌, ◌*◌, ◌-◌, ◌<◌, ◌^◌, [], false, length, take, slice_set, replicate, OnOk, OnErr};
+ghost use Rattle.std.specs.Prelude.{◌≡◌, ◌++◌, ◌*◌, ◌-◌, ◌<◌, ◌^◌, [], true, false, length, take, slice_set, replicate, OnOk, OnErr};
 ghost use Rattle.qs_conn.specs.Marks.{IsNextMark, HasNoMark, least_of};
 
 use crate::bits::{Bits, FLAGS_PER_WORD};
@@ -67,6 +67,20 @@ impl Marks {
         // More words than there are marks for sum up the same marks.
         self.words.open_to(count.div_ceil(FLAGS_PER_WORD))?;
         self.marks.open_to(count)
+    }
+
+    /// Makes room for all indexes below a count: the new ones are marked.
+    pub(crate) fn open_marked_to(&mut self, count: usize) -> Result<(), NoMemory>
+        ensures ok { OnOk result (self.new ≡ self.old ++ replicate (count - length self.old) true) }
+        ensures err { OnErr result (self.new ≡ self.old) }
+    {
+        let before = self.len();
+        let missing = count.saturating_sub(before);
+        self.open_to(count)?;
+        for opened in 0..missing {
+            self.set(before + opened, true);
+        }
+        Ok(())
     }
 
     /// Takes the indexes from a count on away.

@@ -1,7 +1,8 @@
 //! Which sending halves of one type have something for a packet, by what it is.
 ghost use Rattle.std.specs.Prelude.{◌≡◌, ◌++◌, ◌-◌, ◌<◌, [], true, false, length, take, replicate, OnOk, OnErr};
+ghost use Rattle.qs_machine.specs.Credit.{send_ended};
 ghost use Rattle.qs_conn.specs.Marks.{IsNextMark};
-ghost use Rattle.qs_conn.specs.Tasks.{IsQuiet, IsLooked, HasTask, marks_of};
+ghost use Rattle.qs_conn.specs.Tasks.{IsQuiet, IsLooked, HasTask, begins, marks_of};
 ghost use Rattle.qs_conn.specs.declared.send_marks.Task.TheVariants as tasks;
 
 use crate::marks::Marks;
@@ -18,6 +19,10 @@ pub(crate) enum Task {
     Reset,
     /// That the stream's limit is reached, and more was written.
     Blocked,
+    /// Room for its owner to write.
+    Writable,
+    /// Its end: Data Recvd or Reset Recvd.
+    Ended,
 }
 
 /// The halves of one type that have a task, for each task. A half without a mark has none.
@@ -26,6 +31,8 @@ pub(crate) struct SendMarks {
     bytes: Marks,
     resets: Marks,
     blocks: Marks,
+    writable: Marks,
+    ended: Marks,
 }
 
 impl SendMarks {
@@ -36,6 +43,8 @@ impl SendMarks {
             bytes: Marks::new(alloc),
             resets: Marks::new(alloc),
             blocks: Marks::new(alloc),
+            writable: Marks::new(alloc),
+            ended: Marks::new(alloc),
         }
     }
 
@@ -45,15 +54,18 @@ impl SendMarks {
     {
         self.bytes.reserve(count)?;
         self.resets.reserve(count)?;
-        self.blocks.reserve(count)
+        self.blocks.reserve(count)?;
+        self.writable.reserve(count)?;
+        self.ended.reserve(count)
     }
 
-    /// Makes room for all indexes below a count: the new ones have no mark.
+    /// Makes room for all indexes below a count: the new ones have no mark but that they may be written to.
     pub(crate) fn open_to(&mut self, count: usize) -> Result<(), NoMemory>
-        ensures ok { OnOk result ((t : Task) → marks_of self.new t ≡ marks_of self.old t ++ replicate (count - length (marks_of self.old t)) false) }
+        ensures ok { OnOk result ((t : Task) → marks_of self.new t ≡ marks_of self.old t ++ replicate (count - length (marks_of self.old t)) (begins t)) }
         ensures err { OnErr result ((t : Task) → marks_of self.new t ≡ marks_of self.old t) }
     {
         let (bytes, resets) = (self.bytes.len(), self.resets.len());
+        let (blocks, writable) = (self.blocks.len(), self.writable.len());
         self.bytes.open_to(count)?;
         if let Err(refused) = self.resets.open_to(count) {
             self.bytes.close_to(bytes);
@@ -62,6 +74,19 @@ impl SendMarks {
         if let Err(refused) = self.blocks.open_to(count) {
             self.bytes.close_to(bytes);
             self.resets.close_to(resets);
+            return Err(refused);
+        }
+        if let Err(refused) = self.writable.open_marked_to(count) {
+            self.bytes.close_to(bytes);
+            self.resets.close_to(resets);
+            self.blocks.close_to(blocks);
+            return Err(refused);
+        }
+        if let Err(refused) = self.ended.open_to(count) {
+            self.bytes.close_to(bytes);
+            self.resets.close_to(resets);
+            self.blocks.close_to(blocks);
+            self.writable.close_to(writable);
             return Err(refused);
         }
         Ok(())
@@ -74,6 +99,8 @@ impl SendMarks {
         self.bytes.close_to(count);
         self.resets.close_to(count);
         self.blocks.close_to(count);
+        self.writable.close_to(count);
+        self.ended.close_to(count);
     }
 
     /// Looks again at a half that changed.
@@ -84,6 +111,8 @@ impl SendMarks {
         self.bytes.set(index, may_send(half));
         self.resets.set(index, may_reset(half));
         self.blocks.set(index, may_be_blocked(half));
+        self.writable.set(index, half.is_writable());
+        self.ended.set(index, has_ended(half));
     }
 
     /// The least marked index from one on.
@@ -94,6 +123,8 @@ impl SendMarks {
             Task::Bytes => self.bytes.next(from),
             Task::Reset => self.resets.next(from),
             Task::Blocked => self.blocks.next(from),
+            Task::Writable => self.writable.next(from),
+            Task::Ended => self.ended.next(from),
         }
     }
 }
@@ -107,6 +138,8 @@ pub(crate) fn has(task: Task, half: &SendHalf) -> bool
         Task::Bytes => may_send(half),
         Task::Reset => may_reset(half),
         Task::Blocked => may_be_blocked(half),
+        Task::Writable => half.is_writable(),
+        Task::Ended => has_ended(half),
     }
 }
 
@@ -142,4 +175,15 @@ fn may_be_blocked(half: &SendHalf) -> bool
     ensures none { result ≡ false → IsQuiet tasks.Blocked half.now }
 {
     half.reset_code().is_none() && half.limit() < half.written() && half.sent_end() == half.limit()
+}
+
+// Whether all that was sent is acknowledged, the end too, or the reset is (RFC 9000, section 3.1).
+fn has_ended(half: &SendHalf) -> bool
+    ensures { result ≡ send_ended half.now.lane }
+{
+    half.is_lawful();
+    matches!(
+        half.state(),
+        SendState::DataRecvd | SendState::ResetRecvd
+    )
 }

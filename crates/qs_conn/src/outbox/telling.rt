@@ -5,10 +5,10 @@ ghost use Rattle.qs_send.specs.declared.piece.Piece.TheVariants as pieces;
 ghost use Rattle.qs_machine.specs.Tables.{lookup};
 ghost use Rattle.qs_machine.specs.Sums.{or_none};
 ghost use Rattle.qs_machine.specs.Ends.{End};
-ghost use Rattle.qs_machine.specs.News.{IsLeast};
+ghost use Rattle.qs_machine.specs.News.{IsLeast, IsHeld};
 ghost use Rattle.qs_machine.specs.Asking.{waits_for_credit};
 ghost use Rattle.qs_conn.specs.Marks.{IsBefore};
-ghost use Rattle.qs_conn.specs.Sending.{IsDueOf};
+ghost use Rattle.qs_conn.specs.Sending.{IsDueOf, MayWrite};
 ghost use Rattle.qs_conn.specs.Tasks.{IsQuietAt};
 ghost use Rattle.qs_machine.specs.Outgoing.{IsCarried, IsAckedOut, IsAckedReset, IsBlockedAt, WantsMore, reset_by, with_outgoing};
 
@@ -119,6 +119,15 @@ impl Outbox {
     {
         let _next = self.next;
         self.sends.next_marked(task, from)
+    }
+
+    /// The least number from one on of a stream that may be written to.
+    pub(crate) fn next_writable(&self, from: u64) -> Option<StreamId>
+        requires { from ≤ 2 ^ 62 }
+        ensures { IsLeast (IsHeld MayWrite self.now.sends) from result }
+    {
+        let _next = self.next;
+        self.sends.next_with(Task::Writable, from)
     }
 
     /// The least number from one on of a stream of which bytes or the end are due, which its own limit lets go.

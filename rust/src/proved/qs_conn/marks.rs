@@ -43,6 +43,17 @@ impl Marks {
         self.marks.open_to(count)
     }
 
+    /// Makes room for all indexes below a count: the new ones are marked.
+    pub(crate) fn open_marked_to(&mut self, count: usize) -> Result<(), NoMemory> {
+        let before = self.len();
+        let missing = count.saturating_sub(before);
+        self.open_to(count)?;
+        for opened in 0..missing {
+            self.set(before + opened, true);
+        }
+        Ok(())
+    }
+
     /// Takes the indexes from a count on away.
     pub(crate) fn close_to(&mut self, count: usize) {
         self.marks.close_to(count);

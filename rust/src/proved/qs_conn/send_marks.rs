@@ -15,6 +15,10 @@ pub(crate) enum Task {
     Reset,
     /// That the stream's limit is reached, and more was written.
     Blocked,
+    /// Room for its owner to write.
+    Writable,
+    /// Its end: Data Recvd or Reset Recvd.
+    Ended,
 }
 
 /// The halves of one type that have a task, for each task. A half without a mark has none.
@@ -22,6 +26,8 @@ pub(crate) struct SendMarks {
     bytes: Marks,
     resets: Marks,
     blocks: Marks,
+    writable: Marks,
+    ended: Marks,
 }
 
 impl SendMarks {
@@ -30,6 +36,8 @@ impl SendMarks {
             bytes: Marks::new(alloc),
             resets: Marks::new(alloc),
             blocks: Marks::new(alloc),
+            writable: Marks::new(alloc),
+            ended: Marks::new(alloc),
         }
     }
 
@@ -37,12 +45,15 @@ impl SendMarks {
     pub(crate) fn reserve(&mut self, count: usize) -> Result<(), NoMemory> {
         self.bytes.reserve(count)?;
         self.resets.reserve(count)?;
-        self.blocks.reserve(count)
+        self.blocks.reserve(count)?;
+        self.writable.reserve(count)?;
+        self.ended.reserve(count)
     }
 
-    /// Makes room for all indexes below a count: the new ones have no mark.
+    /// Makes room for all indexes below a count: the new ones have no mark but that they may be written to.
     pub(crate) fn open_to(&mut self, count: usize) -> Result<(), NoMemory> {
         let (bytes, resets) = (self.bytes.len(), self.resets.len());
+        let (blocks, writable) = (self.blocks.len(), self.writable.len());
         self.bytes.open_to(count)?;
         if let Err(refused) = self.resets.open_to(count) {
             self.bytes.close_to(bytes);
@@ -53,6 +64,19 @@ impl SendMarks {
             self.resets.close_to(resets);
             return Err(refused);
         }
+        if let Err(refused) = self.writable.open_marked_to(count) {
+            self.bytes.close_to(bytes);
+            self.resets.close_to(resets);
+            self.blocks.close_to(blocks);
+            return Err(refused);
+        }
+        if let Err(refused) = self.ended.open_to(count) {
+            self.bytes.close_to(bytes);
+            self.resets.close_to(resets);
+            self.blocks.close_to(blocks);
+            self.writable.close_to(writable);
+            return Err(refused);
+        }
         Ok(())
     }
 
@@ -61,6 +85,8 @@ impl SendMarks {
         self.bytes.close_to(count);
         self.resets.close_to(count);
         self.blocks.close_to(count);
+        self.writable.close_to(count);
+        self.ended.close_to(count);
     }
 
     /// Looks again at a half that changed.
@@ -68,6 +94,8 @@ impl SendMarks {
         self.bytes.set(index, may_send(half));
         self.resets.set(index, may_reset(half));
         self.blocks.set(index, may_be_blocked(half));
+        self.writable.set(index, half.is_writable());
+        self.ended.set(index, has_ended(half));
     }
 
     /// The least marked index from one on.
@@ -76,6 +104,8 @@ impl SendMarks {
             Task::Bytes => self.bytes.next(from),
             Task::Reset => self.resets.next(from),
             Task::Blocked => self.blocks.next(from),
+            Task::Writable => self.writable.next(from),
+            Task::Ended => self.ended.next(from),
         }
     }
 }
@@ -86,6 +116,8 @@ pub(crate) fn has(task: Task, half: &SendHalf) -> bool {
         Task::Bytes => may_send(half),
         Task::Reset => may_reset(half),
         Task::Blocked => may_be_blocked(half),
+        Task::Writable => half.is_writable(),
+        Task::Ended => has_ended(half),
     }
 }
 
@@ -112,4 +144,13 @@ fn may_reset(half: &SendHalf) -> bool {
 // Whether the stream's limit is reached and more was written.
 fn may_be_blocked(half: &SendHalf) -> bool {
     half.reset_code().is_none() && half.limit() < half.written() && half.sent_end() == half.limit()
+}
+
+// Whether all that was sent is acknowledged, the end too, or the reset is (RFC 9000, section 3.1).
+fn has_ended(half: &SendHalf) -> bool {
+    half.is_lawful();
+    matches!(
+        half.state(),
+        SendState::DataRecvd | SendState::ResetRecvd
+    )
 }

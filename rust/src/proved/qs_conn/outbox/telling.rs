@@ -75,6 +75,13 @@ impl Outbox {
         self.sends.next_marked(task, from)
     }
 
+    /// The least number from one on of a stream that may be written to.
+    pub(crate) fn next_writable(&self, from: u64) -> Option<StreamId> {
+        debug_assert!(from <= 1 << 62);
+        let _next = self.next;
+        self.sends.next_with(Task::Writable, from)
+    }
+
     /// The least number from one on of a stream of which bytes or the end are due, which its own limit lets go.
     pub(crate) fn next_sendable(&self, from: u64) -> Option<StreamId> {
         debug_assert!(from <= 1 << 62);

@@ -1,7 +1,7 @@
-use Rattle.std.proofs.Common.{ℕ, Some, rules, ap, ◌∙◌, arith, ◌≡◌, ◌+◌, ◌-◌, ◌*◌, ◌++◌, false, length, take, replicate}
+use Rattle.std.proofs.Common.{ℕ, Some, rules, ap, ◌∙◌, arith, ◌≡◌, ◌+◌, ◌-◌, ◌*◌, ◌++◌, length, take, replicate}
 use Rattle.qs_send.specs.Lane.{new_sending}
 use Rattle.qs_conn.proofs.LaneEdits.{opened_more, opened_all, opened_back}
-use Rattle.qs_conn.specs.Tasks.{marks_of}
+use Rattle.qs_conn.specs.Tasks.{begins, marks_of}
 use Rattle.qs_conn.proofs.Tasks.{all_undone, all_opened}
 use Rattle.qs_conn.proofs.SendEdits.{id_is}
 use Rattle.qs_conn.proofs.send_lanes.SendLanes.open_to.Goals as goal
@@ -34,4 +34,4 @@ invariant_of-self-in_default-open_to c =
     let len : c.len-before.result ≡ length c.self.inside.halves.items = omega (arith, c.len-before.ensures) in
     all_opened c.args.kind c.args.limit c.args.buffer c.self.inside.halves.items c.loop-opened.self-inside.halves.items c.self.inside.marks c.open_to.new.self c.args.count c.loop-opened.opened c.saturating_sub-missing.result c.requires.count c.loop-opened.invariant.items
     c.loop-opened.auto.opened-end c.loop-opened-test.false (c.saturating_sub-missing.ensures ∙ ap (λ k. c.args.count - k) len)
-    (λ t. c.in_default-open_to.ensures.ok t ∙ ap (λ ms. marks_of ms t ++ replicate (c.args.count - length (marks_of ms t)) false) c.loop-opened.invariant.marks) c.self.invariant
+    (λ t. c.in_default-open_to.ensures.ok t ∙ ap (λ ms. marks_of ms t ++ replicate (c.args.count - length (marks_of ms t)) (begins t)) c.loop-opened.invariant.marks) c.self.invariant
