@@ -1,7 +1,9 @@
 //! One end of a connection.
 
 use crate::answers::{Closing, Made, Read, Received, StreamReport};
-use crate::faults::{LostFault, MakeFault, OpenFault, ReceiveFault, SetupFault, UseFault};
+use crate::faults::{
+    LostFault, MakeFault, OpenFault, RaiseFault, ReceiveFault, SetupFault, UseFault,
+};
 use crate::frame::MAX_VARINT;
 use crate::ids::{Dir, Role, StreamId};
 use crate::proved::qs_conn as conn;
@@ -63,6 +65,20 @@ impl Endpoint {
             Ok(inner) => Ok(Endpoint { inner }),
             Err(fault) => Err(SetupFault::of(fault)),
         }
+    }
+
+    /// Takes in limits of the peer that weren't known as the end was made: a client that began with those that it
+    /// remembered, for 0-RTT, hands in those of the handshake (RFC 9000, section 7.4.1). Each limit becomes the greater
+    /// one of what stands and what comes, of open streams too, and streams that open later begin with it; none falls.
+    /// That the server lowered a limit, which that section forbids, the caller sees itself.
+    ///
+    /// # Errors
+    ///
+    /// `Closed`; and `Refused` with what [`new`](Endpoint::new) answers for such limits.
+    pub fn raise_limits(&mut self, limits: PeerLimits) -> Result<(), RaiseFault> {
+        self.inner
+            .raise_limits(&limits.inner())
+            .map_err(RaiseFault::of)
     }
 
     /// Opens the next stream of that direction, and answers its number (RFC 9000, sections 2.1 and 4.6).

@@ -15,6 +15,16 @@ pub enum SetupFault {
     TooManyStreams,
 }
 
+/// Why no limits were raised. Nothing changed.
+#[derive(Clone, Copy, Debug, PartialEq, Eq)]
+#[non_exhaustive]
+pub enum RaiseFault {
+    /// The connection is closed.
+    Closed,
+    /// No end can be made of such limits, for this reason.
+    Refused(SetupFault),
+}
+
 /// Why no stream was opened.
 #[derive(Clone, Copy, Debug, PartialEq, Eq)]
 #[non_exhaustive]
@@ -112,6 +122,15 @@ impl SetupFault {
     }
 }
 
+impl RaiseFault {
+    pub(crate) fn of(fault: calls::RaiseFault) -> RaiseFault {
+        match fault {
+            calls::RaiseFault::Closed => RaiseFault::Closed,
+            calls::RaiseFault::Refused(fault) => RaiseFault::Refused(SetupFault::of(fault)),
+        }
+    }
+}
+
 impl OpenFault {
     pub(crate) fn of(fault: calls::OpenFault) -> OpenFault {
         match fault {
@@ -191,6 +210,15 @@ impl fmt::Display for UseFault {
     }
 }
 
+impl fmt::Display for RaiseFault {
+    fn fmt(&self, f: &mut fmt::Formatter<'_>) -> fmt::Result {
+        match self {
+            RaiseFault::Closed => f.write_str(CLOSED),
+            RaiseFault::Refused(fault) => fault.fmt(f),
+        }
+    }
+}
+
 impl fmt::Display for MakeFault {
     fn fmt(&self, f: &mut fmt::Formatter<'_>) -> fmt::Result {
         f.write_str(match self {
@@ -240,6 +268,15 @@ impl Error for UseFault {}
 impl Error for MakeFault {}
 impl Error for LostFault {}
 impl Error for PutFault {}
+
+impl Error for RaiseFault {
+    fn source(&self) -> Option<&(dyn Error + 'static)> {
+        match self {
+            RaiseFault::Closed => None,
+            RaiseFault::Refused(fault) => Some(fault),
+        }
+    }
+}
 
 impl Error for ReceiveFault {
     fn source(&self) -> Option<&(dyn Error + 'static)> {

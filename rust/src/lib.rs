@@ -83,7 +83,9 @@ pub use answers::{
     Closing, Made, Read, Received, RecvReport, RecvState, SendReport, SendState, StreamReport,
 };
 pub use endpoint::{Endpoint, MAX_PAYLOAD, MAX_ROOM, MIN_ROOM};
-pub use faults::{LostFault, MakeFault, OpenFault, PutFault, ReceiveFault, SetupFault, UseFault};
+pub use faults::{
+    LostFault, MakeFault, OpenFault, PutFault, RaiseFault, ReceiveFault, SetupFault, UseFault,
+};
 pub use frame::{
     AckRanges, EcnCounts, FaultKind, Frame, Frames, Placed, WireFault, frames, last_stream, put,
     put_ack, read_varint, write_varint,

@@ -1,6 +1,9 @@
 //! What an end is asked, and what it answers as it is.
 
-use gotsavena::{Dir, Endpoint, LostFault, Received, Role, Settings, StreamId};
+use gotsavena::{
+    Dir, Endpoint, LostFault, OpenFault, PeerLimits, RaiseFault, Received, Role, Settings, SetupFault,
+    StreamId,
+};
 
 fn ends(settings: Settings) -> (Endpoint, Endpoint) {
     let client = Endpoint::new(Role::Client, settings, settings.limits()).expect("in range");
@@ -153,4 +156,127 @@ fn reports_tell_resets_and_limits() {
     assert_eq!(recv.expect("bidirectional").reset_code, Some(41));
     let send = server.report(stream).expect("open").send;
     assert_eq!(send.expect("bidirectional").reset_code, None);
+}
+
+fn limits(max_data: u64, stream: u64, streams: u64) -> PeerLimits {
+    PeerLimits {
+        max_data,
+        bidi_local: stream + 1,
+        bidi_remote: stream,
+        uni: stream + 2,
+        streams_bidi: streams,
+        streams_uni: streams + 1,
+    }
+}
+
+// A client that remembered small limits takes in those of the handshake.
+#[test]
+fn limits_rise_and_never_fall() {
+    let settings = Settings::default();
+    let mut client = Endpoint::new(Role::Client, settings, limits(10, 6, 1)).expect("in range");
+    let first = client.open(Dir::Bidi).expect("granted");
+    assert_eq!(client.open(Dir::Bidi), Err(OpenFault::Blocked(1)));
+    assert_eq!(client.write(first, b"0123456789abcdef"), Ok(16));
+    let mut payload = [0; 1200];
+    client.make_packet(&mut payload).expect("open").expect("due");
+    assert!(client.is_blocked(first));
+    // What comes is greater in part: the lower part changes nothing.
+    let mut mixed = limits(12, 4, 0);
+    mixed.bidi_remote = 8;
+    assert_eq!(client.raise_limits(mixed), Ok(()));
+    let limit = |end: &Endpoint, stream| {
+        let report = end.report(stream).expect("open");
+        report.send.expect("it sends").limit
+    };
+    assert_eq!(limit(&client, first), 8);
+    assert_eq!(client.open_left(Dir::Bidi), 0);
+    assert_eq!(client.open_left(Dir::Uni), 2);
+    assert!(client.is_sendable());
+    client.make_packet(&mut payload).expect("open").expect("due");
+    assert!(client.is_blocked(first));
+    assert_eq!(client.raise_limits(limits(1000, 100, 4)), Ok(()));
+    assert_eq!(limit(&client, first), 100);
+    assert!(!client.is_blocked(first));
+    let made = client.make_packet(&mut payload).expect("open");
+    assert!(made.expect("the freed bytes").len > 8);
+    // Streams that open later begin with the greater limit, by their type.
+    let second = client.open(Dir::Bidi).expect("granted now");
+    assert_eq!(limit(&client, second), 100);
+    let uni = client.open(Dir::Uni).expect("granted");
+    assert_eq!(limit(&client, uni), 102);
+    assert_eq!(client.raise_limits(limits(1, 1, 1)), Ok(()));
+    assert_eq!(limit(&client, second), 100);
+    assert_eq!(client.open_left(Dir::Bidi), 2);
+}
+
+#[test]
+fn limits_without_a_number_are_refused() {
+    let settings = Settings::default();
+    let mut client = Endpoint::new(Role::Client, settings, limits(10, 6, 1)).expect("in range");
+    let stream = client.open(Dir::Bidi).expect("granted");
+    let before = client.report(stream);
+    assert_eq!(
+        client.raise_limits(limits(1 << 62, 60, 10)),
+        Err(RaiseFault::Refused(SetupFault::OutOfRange))
+    );
+    assert_eq!(
+        client.raise_limits(limits(100, 60, 1 << 60)),
+        Err(RaiseFault::Refused(SetupFault::TooManyStreams))
+    );
+    assert_eq!(client.report(stream), before);
+    assert_eq!(client.open_left(Dir::Bidi), 0);
+    assert_eq!(
+        client.receive(0, &[0x1c, 0x07, 0, 0]),
+        Ok(Received::PeerClosed(7))
+    );
+    assert_eq!(
+        client.raise_limits(limits(100, 60, 10)),
+        Err(RaiseFault::Closed)
+    );
+    assert_eq!(client.report(stream), before);
+}
+
+// What is outstanding in order.
+fn outstanding(end: &Endpoint) -> Vec<u64> {
+    let mut numbers = Vec::new();
+    let mut from = 0;
+    while let Some(number) = end.next_outstanding(from) {
+        numbers.push(number);
+        from = number + 1;
+    }
+    numbers
+}
+
+// What a payload acknowledged for the first time was outstanding before it and isn't after it.
+#[test]
+fn newly_acknowledged_packets_are_told_by_what_is_outstanding() {
+    let (mut client, mut server) = ends(Settings::default());
+    let stream = client.open(Dir::Bidi).expect("granted");
+    let mut payloads = Vec::new();
+    for _ in 0..5 {
+        client.write(stream, b"part").expect("open");
+        let mut payload = [0; 200];
+        let made = client.make_packet(&mut payload).expect("open");
+        payloads.push((made.expect("due"), payload));
+    }
+    for number in [0, 1, 3] {
+        let (made, payload) = payloads[number];
+        server
+            .receive(made.number, &payload[..made.len])
+            .expect("sound");
+    }
+    let mut ack = [0; 200];
+    let made = server.make_packet(&mut ack).expect("open").expect("an ACK");
+    let before = outstanding(&client);
+    client.receive(0, &ack[..made.len]).expect("sound");
+    let after = outstanding(&client);
+    let newly: Vec<u64> = before
+        .iter()
+        .copied()
+        .filter(|number| !after.contains(number))
+        .collect();
+    assert_eq!(newly, [0, 1, 3]);
+    // The same ACK in another packet acknowledges nothing more.
+    client.receive(1, &ack[..made.len]).expect("sound");
+    assert_eq!(outstanding(&client), after);
 }

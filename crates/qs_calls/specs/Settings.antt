@@ -45,6 +45,10 @@ are_spellable p =
 abbrev pub are_countable : PeerLimits → Bool
 are_countable p = nat_le p.streams_bidi (2 ^ 60) && nat_le p.streams_uni (2 ^ 60)
 
+-- why the peer's limits are refused (RFC 9000, sections 4.6 and 7.4)
+abbrev pub limits_fault : PeerLimits → Option SetupFault
+limits_fault p = if not (are_spellable p) then Some OutOfRange else (if not (are_countable p) then Some TooManyStreams else None)
+
 -- why no end can be made of these settings
 abbrev pub setup_fault : Settings → PeerLimits → Option SetupFault
 setup_fault s p =

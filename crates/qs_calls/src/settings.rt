@@ -51,6 +51,16 @@ pub enum SetupFault {
     TooManyStreams,
 }
 
+/// Why no limits were raised.
+#[derive(Clone, Copy, Debug, PartialEq, Eq, Drop, Error)]
+pub enum RaiseFault {
+    #[error("the connection is closed")]
+    Closed,
+    /// No end can be made of such limits.
+    #[error("the limits of the peer are out of their range")]
+    Refused(SetupFault),
+}
+
 impl Settings {
     /// What the other end is told of these settings.
     pub fn limits(&self) -> PeerLimits

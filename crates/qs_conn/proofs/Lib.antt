@@ -1,4 +1,5 @@
 pub mod AckLaws
+pub mod Allowed
 pub mod Asked
 pub mod Chunks
 pub mod Counting

@@ -27,6 +27,7 @@ mod making;
 mod news;
 mod opening;
 mod owner;
+mod raising;
 mod receiving;
 mod recording;
 mod taking;

@@ -1,6 +1,6 @@
 //! Whether an end can be made.
 ghost use Rattle.std.specs.Prelude.{◌≡◌};
-ghost use Rattle.qs_calls.specs.Settings.{is_between, are_in_range, are_spellable, are_countable, setup_fault};
+ghost use Rattle.qs_calls.specs.Settings.{is_between, are_in_range, are_spellable, are_countable, limits_fault, setup_fault};
 
 use qs_calls::{PeerLimits, Settings, SetupFault};
 
@@ -11,6 +11,19 @@ pub(crate) fn setup_fault(settings: &Settings, peer: &PeerLimits) -> Option<Setu
     ensures { result ≡ setup_fault settings.now peer.now }
 {
     if !are_in_range(settings) || !are_spellable(peer) {
+        Some(SetupFault::OutOfRange)
+    } else if !are_countable(peer) {
+        Some(SetupFault::TooManyStreams)
+    } else {
+        None
+    }
+}
+
+/// Why such limits of the peer are refused.
+pub(crate) fn limits_fault(peer: &PeerLimits) -> Option<SetupFault>
+    ensures { result ≡ limits_fault peer.now }
+{
+    if !are_spellable(peer) {
         Some(SetupFault::OutOfRange)
     } else if !are_countable(peer) {
         Some(SetupFault::TooManyStreams)

@@ -35,7 +35,10 @@ use Rattle.qs_machine.specs.Lawful.{Fills, frame_put, item_put, chunk_of}
 use Rattle.qs_machine.specs.Owner.{OpenStep, AcceptStep, ReadBy, recv_refusal, with_wanted, first_refusal, refuse_if, no_half, half_refusal, IsBlocked, IsOpened, GivesNone, GivesBidi, GivesUni, AcceptOpen, peer_kind, next_stream, send_refusal}
 use Rattle.qs_machine.specs.Receiving.{ReceiveBy, TakesPayload, OpenReceive}
 use Rattle.qs_machine.specs.Making.{MakeAt, make_refusal, claim_refusal, LoseStep, first_lost, losses, lose_refusal}
-use Rattle.qs_machine.specs.EndStep.{Call, Answer, EndStep, Open, Accept, Write, Finish, Reset, Stop, ReadUpTo, Receive, Make, Lose, Claim, ClosingPayload, Stored, Granted, Spent, GrantedStreams, Report}
+use Rattle.qs_machine.specs.EndStep.{Call, Answer, EndStep, Open, Accept, Write, Finish, Reset, Stop, ReadUpTo, Receive, Make, Lose, RaiseLimits, Claim, ClosingPayload, Stored, Granted, Spent, GrantedStreams, Report}
+use Rattle.qs_calls.specs.declared.settings.PeerLimits.{PeerLimits}
+use Rattle.qs_machine.specs.Raising.{limits_raised, raise_refusal}
+use Rattle.qs_machine.proofs.Raised.{kept_raised}
 use Rattle.qs_machine.specs.Standing.{IsSound, CountsStand, CountsAreSettled, CountsRise}
 use Rattle.qs_machine.specs.Repeats.{SentWasWritten}
 use Rattle.qs_machine.proofs.Choices.{by_refusal, by_memory, by_test, if_allowed}
@@ -128,6 +131,8 @@ module _ (P : End → Type 0) (old : End) (kept : P old) (settles : (mid : End) 
     ends_by (Make first delay room) answer new step = make_by (make_refusal old) first delay room answer.0 answer.1 new step
     ends_by (Lose k) answer new step = lose_by k answer new step
     ends_by Claim answer new step = by_refusal (P new) (claim_refusal old) old answer new _ step (becomes new) (λ done. subst P (sym done.1) claims)
+    ends_by (RaiseLimits p) answer new step =
+        by_refusal (P new) (raise_refusal old p) old answer new _ step (becomes new) (λ done. settled (limits_raised p old) new done.1)
     ends_by (ClosingPayload slice) answer new step = becomes new step.1
     ends_by Stored answer new step = becomes new step.1
     ends_by Granted answer new step = becomes new step.1
@@ -211,6 +216,9 @@ moves_opens n e = (
 moves_wanted : (d : Dir) (count : ℕ) (e : End) → Moves e (with_wanted d count e)
 moves_wanted Bidi count e = moves_same e
 moves_wanted Uni count e = moves_same e
+
+moves_raised : (p : PeerLimits) (e : End) → Moves e (limits_raised p e)
+moves_raised p e = (refl, refl, kept_same RecvStays recv_same e.recvs, kept_raised SendStays send_same (λ l m k r s is. s (r is)) (λ limit l is. is) p e)
 
 -- Packets
 
@@ -351,6 +359,9 @@ module _ (old : End) (sound : IsSound old) (sent : SentWasWritten old) where
   counts_call (Lose k) answer new step = rises_lose k answer new step
   counts_call Claim answer new step =
       by_refusal (CountsRise old new) (claim_refusal old) old answer new _ step (rises_same new) (λ done. subst (CountsRise old) (sym done.1) (λ d. omega (arith, granted_claimed old d)))
+  counts_call (RaiseLimits p) answer new step =
+      by_refusal (CountsRise old new) (raise_refusal old p) old answer new _ step (rises_same new) (λ done.
+      rises_settled (limits_raised p old) new done.1 (moves_raised p old))
   counts_call (ClosingPayload slice) answer new step = rises_same new step.1
   counts_call Stored answer new step = rises_same new step.1
   counts_call Granted answer new step = rises_same new step.1

@@ -38,7 +38,8 @@ use Rattle.qs_machine.specs.Lawful.{Fills, frame_put, item_put}
 use Rattle.qs_machine.specs.Owner.{OpenStep, AcceptStep, ReadBy, recv_refusal, with_wanted, refuse_if, IsBlocked, IsOpened, GivesNone, GivesBidi, GivesUni, AcceptOpen, peer_kind, next_stream, send_refusal}
 use Rattle.qs_machine.specs.Receiving.{AtEnd, RunsOut, Stops, GoesOn, Takes, ReceiveBy, TakesPayload, OpenReceive}
 use Rattle.qs_machine.specs.Making.{MakeAt, make_refusal, LoseStep, IsMade, first_lost, losses, claim_refusal, lose_refusal}
-use Rattle.qs_machine.specs.EndStep.{Call, Answer, EndStep, Open, Accept, Write, Finish, Reset, Stop, ReadUpTo as ReadCall, Receive, Make, Lose, Claim, ClosingPayload, Stored, Granted, Spent, GrantedStreams, Report}
+use Rattle.qs_machine.specs.EndStep.{Call, Answer, EndStep, Open, Accept, Write, Finish, Reset, Stop, ReadUpTo as ReadCall, Receive, Make, Lose, RaiseLimits, Claim, ClosingPayload, Stored, Granted, Spent, GrantedStreams, Report}
+use Rattle.qs_machine.specs.Raising.{limits_raised, raise_refusal}
 use Rattle.qs_machine.specs.Standing.{IsInCredit}
 use Rattle.qs_machine.proofs.Choices.{by_refusal, by_memory, by_test}
 use Rattle.qs_machine.proofs.Sound.{keeps_updated, keeps_settle}
@@ -269,6 +270,8 @@ sound_call old (Make first delay room) answer new h step = sound_make (make_refu
 sound_call old (Lose k) answer new h step = sound_lose old k answer new h step
 sound_call old Claim answer new h step =
     by_refusal (IsInCredit new) (claim_refusal old) old answer new _ step (λ same. becomes old new same h) (λ done. becomes (record old { next = old.next + 1 }) new done.1 h)
+sound_call old (RaiseLimits p) answer new h step = by_refusal (IsInCredit new) (raise_refusal old p) old answer new _ step (λ same. becomes old new same h) (λ done.
+    settled (limits_raised p old) new done.1 h)
 sound_call old (ClosingPayload slice) answer new h step = becomes old new step.1 h
 sound_call old Stored answer new h step = becomes old new step.1 h
 sound_call old Granted answer new h step = becomes old new step.1 h

@@ -16,9 +16,10 @@ use Rattle.qs_machine.specs.Ends.{End}
 use Rattle.qs_machine.specs.Owner.{Certain, first_refusal, refuse_if, ReadBy, AcceptOpen, GivesNone}
 use Rattle.qs_machine.specs.Receiving.{ReceiveBy}
 use Rattle.qs_machine.specs.Making.{MakeAt, ClaimStep, claim_refusal}
-use Rattle.qs_machine.specs.EndStep.{Call, Answer, EndStep, Open, Accept, Write, Finish, Reset, Stop, ReadUpTo, Receive, Make, Lose, Claim, ClosingPayload, Stored, Granted, Spent, GrantedStreams, Report}
+use Rattle.qs_machine.specs.EndStep.{Call, Answer, EndStep, Open, Accept, Write, Finish, Reset, Stop, ReadUpTo, Receive, Make, Lose, RaiseLimits, Claim, ClosingPayload, Stored, Granted, Spent, GrantedStreams, Report}
 use Rattle.qs_machine.specs.Laws.{StaysButNumber}
 use Rattle.qs_machine.proofs.Choices.{by_refusal}
+use Rattle.qs_calls.specs.declared.settings.RaiseFault.TheVariants as raising
 
 -- a call whose first refusal is a closing
 refused : {A F : Type 0} (b : Bool) (fault : F) (old : End) (answer : Result A F) (new : End) (Effect : Type 0) → b ≡ true → Certain (refuse_if b fault) old answer new Effect → new ≡ old
@@ -68,6 +69,7 @@ closed_stays old (Receive k payload) answer new is h = receive_again old.closed 
 closed_stays old (Make first delay room) answer new is h = make_refused (is_some old.closed) _ old first delay room answer new is h
 closed_stays old (Lose k) answer new is h = refused_first (is_some old.closed) losing.Closed _ old answer new _ is h
 closed_stays old Claim answer new is h = claim_stays old answer new h
+closed_stays old (RaiseLimits p) answer new is h = refused_first (is_some old.closed) raising.Closed _ old answer new _ is h
 closed_stays old (ClosingPayload slice) answer new is h = h.1
 closed_stays old Stored answer new is h = h.1
 closed_stays old Granted answer new is h = h.1

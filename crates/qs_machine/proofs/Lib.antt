@@ -9,6 +9,7 @@ pub mod LaneTables
 pub mod Lasting
 pub mod LostSent
 pub mod Prefix
+pub mod Raised
 pub mod Rising
 pub mod Named
 pub mod Sound

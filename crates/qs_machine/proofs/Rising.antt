@@ -41,7 +41,10 @@ use Rattle.qs_machine.specs.Lawful.{Fills, frame_put, item_put, chunk_of}
 use Rattle.qs_machine.specs.Owner.{OpenStep, AcceptStep, ReadBy, send_refusal, recv_refusal, with_wanted, refuse_if, IsBlocked, IsOpened, GivesNone, GivesBidi, GivesUni, AcceptOpen, peer_kind, next_stream}
 use Rattle.qs_machine.specs.Receiving.{AtEnd, RunsOut, Stops, Takes, ReceiveBy, TakesPayload, OpenReceive}
 use Rattle.qs_machine.specs.Making.{MakeAt, make_refusal, LoseStep, claim_refusal, lose_refusal, IsMade, first_lost, losses}
-use Rattle.qs_machine.specs.EndStep.{Call, Answer, EndStep, Open, Accept, Write, Finish, Reset, Stop, ReadUpTo, Receive, Make, Lose, Claim, ClosingPayload, Stored, Granted, Spent, GrantedStreams, Report}
+use Rattle.qs_machine.specs.EndStep.{Call, Answer, EndStep, Open, Accept, Write, Finish, Reset, Stop, ReadUpTo, Receive, Make, Lose, RaiseLimits, Claim, ClosingPayload, Stored, Granted, Spent, GrantedStreams, Report}
+use Rattle.qs_calls.specs.declared.settings.PeerLimits.{PeerLimits}
+use Rattle.qs_machine.specs.Raising.{limits_raised, raise_refusal}
+use Rattle.qs_machine.proofs.Raised.{kept_raised}
 use Rattle.qs_machine.specs.Standing.{LimitsRiseIn, LimitsRise}
 use Rattle.qs_machine.proofs.Choices.{by_refusal, by_memory, by_test}
 use Rattle.qs_machine.proofs.TableLaws.{lookup_same, lookup_other, lookup_open, lookup_each}
@@ -104,6 +107,17 @@ becomes old mid new same h = subst (LimitsRise old) (sym same) h
 rises_send : (n : ℕ) (f : SendLane → SendLane) (e : End) → ((l : SendLane) → l.limit ≤ (f l).limit) → LimitsRise e (on_send n f e)
 rises_send n f e up =
     (le_same e.granted, le_same e.known_data, le_same e.known_bidi, le_same e.known_uni, rise_same (λ l. l.limit) e.recvs, rise_updated (λ l. l.limit) e.sends n f up)
+
+-- each limit of the peer is the greater one
+rises_raised : (p : PeerLimits) (e : End) → LimitsRise e (limits_raised p e)
+rises_raised p e = (
+  le_same e.granted,
+  omega arith,
+  omega arith,
+  omega arith,
+  rise_same (λ l. l.limit) e.recvs,
+  kept_raised (λ l m. l.limit ≤ m.limit) (λ l. le_same l.limit) (λ l m k r s. omega (arith, r, s)) (λ limit l. omega arith) p e,
+)
 
 rises_recv : (n : ℕ) (f : RecvLane → RecvLane) (e : End) → ((l : RecvLane) → l.limit ≤ (f l).limit) → LimitsRise e (on_recv n f e)
 rises_recv n f e up =
@@ -388,6 +402,9 @@ rises_call old (Lose k) answer new step = rises_lose old k answer new step
 rises_call old Claim answer new step =
     by_refusal (LimitsRise old new) (claim_refusal old) old answer new _ step (λ same. becomes old old new same (rises_same old))
     (λ done. becomes old (record old { next = old.next + 1 }) new done.1 (rises_same old))
+rises_call old (RaiseLimits p) answer new step =
+    by_refusal (LimitsRise old new) (raise_refusal old p) old answer new _ step (λ same. becomes old old new same (rises_same old)) (λ done.
+    settled old (limits_raised p old) new done.1 (rises_raised p old))
 rises_call old (ClosingPayload slice) answer new step = becomes old old new step.1 (rises_same old)
 rises_call old Stored answer new step = becomes old old new step.1 (rises_same old)
 rises_call old Granted answer new step = becomes old old new step.1 (rises_same old)

@@ -37,7 +37,9 @@ use Rattle.qs_machine.specs.Lawful.{Fills, MayPut, frame_put, item_put, chunk_of
 use Rattle.qs_machine.specs.Owner.{OpenStep, AcceptStep, ReadBy, send_refusal, recv_refusal, with_wanted, refuse_if, IsBlocked, IsOpened, GivesNone, GivesBidi, GivesUni, AcceptOpen, peer_kind, next_stream}
 use Rattle.qs_machine.specs.Receiving.{AtEnd, RunsOut, Stops, Takes, ReceiveBy, TakesPayload, OpenReceive}
 use Rattle.qs_machine.specs.Making.{MakeAt, make_refusal, LoseStep, claim_refusal, lose_refusal, IsMade, first_lost, losses}
-use Rattle.qs_machine.specs.EndStep.{Call, Answer, EndStep, Open, Accept, Write, Finish, Reset, Stop, ReadUpTo, Receive, Make, Lose, Claim, ClosingPayload, Stored, Granted, Spent, GrantedStreams, Report}
+use Rattle.qs_machine.specs.EndStep.{Call, Answer, EndStep, Open, Accept, Write, Finish, Reset, Stop, ReadUpTo, Receive, Make, Lose, RaiseLimits, Claim, ClosingPayload, Stored, Granted, Spent, GrantedStreams, Report}
+use Rattle.qs_machine.specs.Raising.{limits_raised, raise_refusal}
+use Rattle.qs_machine.proofs.Raised.{kept_raised}
 use Rattle.std.specs.FinMap as fmap
 use Rattle.qs_wire.specs.declared.stream_id.Role.{Role}
 use Rattle.qs_send.specs.Records.{Among, IsCarried}
@@ -78,6 +80,9 @@ becomes old mid new same h = subst (Keeps old) (sym same) h
 
 keeps_send : (n : ℕ) (f : SendLane → SendLane) (e : End) → ((l : SendLane) → l.written ≤ (f l).written) → Keeps e (on_send n f e)
 keeps_send n f e up h late = halves_keep e.sends (updated e.sends n f (lookup e.sends n)) (held late e) (kept_updated IsLonger longer_same e.sends n f (λ l is. up l)) (h late)
+
+keeps_raised : (p : PeerLimits) (e : End) → Keeps e (limits_raised p e)
+keeps_raised p e h late = halves_keep e.sends (limits_raised p e).sends (held late e) (kept_raised IsLonger longer_same (λ l m k r s. omega (arith, r, s)) (λ limit l. omega arith) p e) (h late)
 
 keeps_opens : (n : ℕ) (e : End) → Keeps e (opens n e)
 keeps_opens n e h late =
@@ -368,6 +373,9 @@ keeps_call old (Lose k) answer new step = keeps_lose old k answer new step
 keeps_call old Claim answer new step =
     by_refusal (Keeps old new) (claim_refusal old) old answer new _ step (λ same. becomes old old new same (keeps_same old))
     (λ done. becomes old (record old { next = old.next + 1 }) new done.1 (λ h late p is. h late p is))
+keeps_call old (RaiseLimits p) answer new step =
+    by_refusal (Keeps old new) (raise_refusal old p) old answer new _ step (λ same. becomes old old new same (keeps_same old)) (λ done.
+    settled old (limits_raised p old) new done.1 (keeps_raised p old))
 keeps_call old (ClosingPayload slice) answer new step = becomes old old new step.1 (keeps_same old)
 keeps_call old Stored answer new step = becomes old old new step.1 (keeps_same old)
 keeps_call old Granted answer new step = becomes old old new step.1 (keeps_same old)

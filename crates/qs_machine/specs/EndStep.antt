@@ -9,6 +9,8 @@ use Rattle.qs_calls.specs.declared.making.Made.{Made}
 use Rattle.qs_calls.specs.declared.making.MakeFault.{MakeFault}
 use Rattle.qs_calls.specs.declared.making.LostFault.{LostFault}
 use Rattle.qs_calls.specs.declared.report.LaneReport.{LaneReport}
+use Rattle.qs_calls.specs.declared.settings.PeerLimits.{PeerLimits}
+use Rattle.qs_calls.specs.declared.settings.RaiseFault.{RaiseFault}
 use Rattle.qs_calls.specs.declared.uses.OpenFault.{OpenFault}
 use Rattle.qs_calls.specs.declared.uses.UseFault.{UseFault}
 use Rattle.qs_machine.specs.Ends.{End}
@@ -17,6 +19,7 @@ use Rattle.qs_machine.specs.Owner.{OpenStep, AcceptStep, WriteStep, FinishStep, 
 use Rattle.qs_machine.specs.Receiving.{ReceiveStep}
 use Rattle.qs_machine.specs.Making.{MakeStep, ClaimStep, LoseStep, ClosePayload}
 use Rattle.qs_machine.specs.Reports.{lane_report}
+use Rattle.qs_machine.specs.Raising.{RaiseStep}
 
 -- a call of an end; of a slice that is written into only what counts, its size or its bytes
 pub data Call : Type 0 where
@@ -31,6 +34,7 @@ pub data Call : Type 0 where
   Make : (first delay room : ℕ) → Call
   Lose : (number : ℕ) → Call
   Claim : Call
+  RaiseLimits : (limits : PeerLimits) → Call
   ClosingPayload : (slice : List ℕ) → Call
   Stored : Call
   Granted : Call
@@ -51,6 +55,7 @@ Answer (Receive k payload) = Result Received Closing
 Answer (Make first delay room) = Result (Option Made) MakeFault × List ℕ
 Answer (Lose k) = Result (Unit {0}) LostFault
 Answer Claim = Result ℕ MakeFault
+Answer (RaiseLimits p) = Result (Unit {0}) RaiseFault
 Answer (ClosingPayload slice) = Option ℕ × List ℕ
 Answer Stored = ℕ
 Answer Granted = ℕ
@@ -71,6 +76,7 @@ EndStep old (Receive k payload) answer new = ReceiveStep old k payload answer ne
 EndStep old (Make first delay room) answer new = MakeStep old first delay room answer.0 answer.1 new
 EndStep old (Lose k) answer new = LoseStep old k answer new
 EndStep old Claim answer new = ClaimStep old answer new
+EndStep old (RaiseLimits p) answer new = RaiseStep old p answer new
 EndStep old (ClosingPayload slice) answer new = ClosePayload old slice answer.0 answer.1 × (new ≡ old)
 EndStep old Stored answer new = (answer ≡ all_stored old) × (new ≡ old)
 EndStep old Granted answer new = (answer ≡ old.granted) × (new ≡ old)

@@ -1,5 +1,5 @@
 -- What each call of an end does before its limits move: one of a few edits.
-use Rattle.std.proofs.Common.{◌≡◌, ℕ, ◌+◌, ◌*◌, List, length, take, Option, Some, None, is_some, subst, sym, inl, inr, refl, true, false, Bool}
+use Rattle.std.proofs.Common.{◌≡◌, ℕ, ◌+◌, ◌*◌, List, [], length, take, Option, Some, None, is_some, subst, sym, inl, inr, refl, true, false, Bool}
 use Rattle.std.specs.Prelude.{nat_lt, Result, Ok, Err, MatchBool}
 use Rattle.std.specs.FinSet as set
 use Rattle.std.proofs.lemmas.Option.{none-some}
@@ -28,8 +28,10 @@ use Rattle.qs_machine.specs.Seen.{Seen, seen_all}
 use Rattle.qs_machine.specs.Lawful.{Fills}
 use Rattle.qs_machine.specs.Owner.{OpenStep, AcceptStep, ReadBy, recv_refusal, with_wanted, first_refusal, refuse_if, no_half, half_refusal, IsBlocked, IsOpened, GivesNone, GivesBidi, GivesUni, AcceptOpen, peer_kind, next_stream, send_refusal}
 use Rattle.qs_machine.specs.Receiving.{ReceiveBy, TakesPayload, OpenReceive}
-use Rattle.qs_machine.specs.Making.{MakeAt, make_refusal, LoseStep, losses, lose_refusal}
-use Rattle.qs_machine.specs.EndStep.{Call, Answer, EndStep, Open, Accept, Write, Finish, Reset, Stop, ReadUpTo, Receive, Make, Lose, ClosingPayload, Stored, Granted, Spent, GrantedStreams, Report}
+use Rattle.qs_machine.specs.Making.{MakeAt, make_refusal, LoseStep, losses, claim_refusal, lose_refusal}
+use Rattle.qs_machine.specs.EndStep.{Call, Answer, EndStep, Open, Accept, Write, Finish, Reset, Stop, ReadUpTo, Receive, Make, Lose, Claim, RaiseLimits, ClosingPayload, Stored, Granted, Spent, GrantedStreams, Report}
+use Rattle.qs_machine.specs.Raising.{limits_raised, raise_refusal}
+use Rattle.qs_calls.specs.declared.settings.PeerLimits.{PeerLimits}
 use Rattle.qs_calls.specs.declared.event.Act.{Act}
 use Rattle.qs_calls.specs.declared.event.Act.TheVariants as acts
 use Rattle.qs_calls.specs.declared.answer.Answer.{Answer as Answered}
@@ -111,6 +113,10 @@ module _ (P : End → Type 0) (old : End) (edits : Edits P old) where
         | inr part ↦ (let (moved, few, none, after) = part in lost k (take moved ps) new after)
       ])
 
+  -- a number is claimed as by a packet without a frame
+  claimed : {A : Type 0} {new : End} → A × (new ≡ record old { next = old.next + 1 }) → P new
+  claimed done = subst P (sym done.1) (edits.fills [] old refl)
+
   write_by : (n : ℕ) (bytes : List ℕ) (answer : Answer (Write n bytes)) (new : End) → EndStep old (Write n bytes) answer new → P new
   write_by n bytes answer new step =
       if_allowed (P new) (send_refusal old n refusal) old answer new _ step (becomes new) (λ allowed some.
@@ -135,26 +141,30 @@ module _ (P : End → Type 0) (old : End) (edits : Edits P old) where
     receive_by (Some (ByUs closing)) number payload result new step = becomes new step.1
     receive_by (Some (ByPeer code)) number payload result new step = becomes new step.1
 
-    pub each_call : (call : Call) (answer : Answer call) (new : End) → EndStep old call answer new → P new
-    each_call (Open d) answer new step = open_by d answer new step
-    each_call Accept answer new step = accept_by answer new step
-    each_call (Write n bytes) answer new step = write_by n bytes answer new step
-    each_call (Finish n) answer new step =
+    -- every call, where P stays as limits rise, too
+    pub each_call : ((p : PeerLimits) → P (limits_raised p old)) → (call : Call) (answer : Answer call) (new : End) → EndStep old call answer new → P new
+    each_call raises (Open d) answer new step = open_by d answer new step
+    each_call raises Accept answer new step = accept_by answer new step
+    each_call raises (Write n bytes) answer new step = write_by n bytes answer new step
+    each_call raises (Finish n) answer new step =
         by_refusal (P new) (send_refusal old n refusal) old answer new _ step (becomes new) (λ done. settled (on_send n finish_lane old) new (edits.finishes n) done.1)
-    each_call (Reset n code) answer new step =
+    each_call raises (Reset n code) answer new step =
         by_refusal (P new) (send_refusal old n reset_refusal) old answer new _ step (becomes new) (λ done. settled (on_send n (λ m. reset_lane m code) old) new (edits.resets n code) done.1)
-    each_call (Stop n code) answer new step =
+    each_call raises (Stop n code) answer new step =
         by_refusal (P new) (recv_refusal old n) old answer new _ step (becomes new) (λ done. settled (on_recv n (λ m. stop m code) old) new (edits.stops n code) done.1)
-    each_call (ReadUpTo n size) answer new step = read_by (recv_refusal old n) n size answer.0 answer.1 new step
-    each_call (Receive k payload) answer new step = receive_by old.closed k payload answer new step
-    each_call (Make first delay room) answer new step = make_by (make_refusal old) first delay room answer.0 answer.1 new step
-    each_call (Lose k) answer new step = lose_by k answer new step
-    each_call (ClosingPayload slice) answer new step = becomes new step.1
-    each_call Stored answer new step = becomes new step.1
-    each_call Granted answer new step = becomes new step.1
-    each_call Spent answer new step = becomes new step.1
-    each_call (GrantedStreams d) answer new step = becomes new step.1
-    each_call (Report n) answer new step = becomes new step.1
+    each_call raises (ReadUpTo n size) answer new step = read_by (recv_refusal old n) n size answer.0 answer.1 new step
+    each_call raises (Receive k payload) answer new step = receive_by old.closed k payload answer new step
+    each_call raises (Make first delay room) answer new step = make_by (make_refusal old) first delay room answer.0 answer.1 new step
+    each_call raises (Lose k) answer new step = lose_by k answer new step
+    each_call raises Claim answer new step = by_refusal (P new) (claim_refusal old) old answer new _ step (becomes new) claimed
+    each_call raises (RaiseLimits p) answer new step =
+        by_refusal (P new) (raise_refusal old p) old answer new _ step (becomes new) (λ done. settled (limits_raised p old) new (raises p) done.1)
+    each_call raises (ClosingPayload slice) answer new step = becomes new step.1
+    each_call raises Stored answer new step = becomes new step.1
+    each_call raises Granted answer new step = becomes new step.1
+    each_call raises Spent answer new step = becomes new step.1
+    each_call raises (GrantedStreams d) answer new step = becomes new step.1
+    each_call raises (Report n) answer new step = becomes new step.1
 
   -- what an owner does
   pub each_own : (act : Act) (answer : Answered) (new : End) → OwnStep old act answer new → P new

@@ -124,7 +124,8 @@ stay_edits old =
 pub stops_stay : (old : End) (call : Call) (answer : Answer call) (new : End) → EndStep old call answer new → Stay old.recvs new.recvs
 stops_stay old call answer new step =
     each_call (λ mid. Stay old.recvs mid.recvs) old (stay_edits old)
-    (λ number payload result mid taken. stay_takes number (reading_of payload).fault false old (reading_of payload).left result mid taken) call answer new step
+    (λ number payload result mid taken. stay_takes number (reading_of payload).fault false old (reading_of payload).left result mid taken)
+    (λ p. stay_same old.recvs) call answer new step
 
 -- what a stopped half has taken
 pub stopped_taken : (l : RecvLane) (code : ℕ) → l.stop_code ≡ Some code → taken l ≡ highest l

@@ -1,0 +1,7 @@
+use Rattle.std.proofs.Common.{◌≡◌}
+use Rattle.qs_send.specs.Lane.{allow_lane}
+use Rattle.qs_conn.proofs.Allowed.{first_halves}
+use Rattle.qs_conn.proofs.endpoint.Endpoint.allow_type.Given as goal
+
+abbrev pub invariant-loop-index : goal.invariant-loop-index
+invariant-loop-index l = l.self ≡ first_halves (λ m. allow_lane m l.limit) l.kind l.index l.fn.self

@@ -1,0 +1,95 @@
+//! Limits of the peer that rise after the end was made.
+ghost use Rattle.std.specs.Prelude.{◌≡◌, ◌≤◌, ◌<◌, is_some, true, None};
+ghost use Rattle.qs_ranges.specs.Numbers.{MAX_VARINT};
+ghost use Rattle.qs_send.specs.Lane.{allow_lane};
+ghost use Rattle.qs_calls.specs.Settings.{limits_fault};
+ghost use Rattle.qs_machine.specs.Tables.{lookup};
+ghost use Rattle.qs_machine.specs.Ends.{on_send, first_send_limit};
+ghost use Rattle.qs_machine.specs.Raising.{RaiseStep, raise_refusal, greater_limits, knows_limits, type_allowed};
+
+use super::Endpoint;
+use crate::setup::limits_fault;
+use qs_calls::{PeerLimits, RaiseFault};
+use qs_wire::StreamId;
+
+impl Endpoint {
+    /// Takes in limits of the peer that weren't known as the end was made: a client that began with those that it remembered hands in
+    /// those of the handshake (RFC 9000, section 7.4.1). Each limit becomes the greater one of what stands and what comes, of open
+    /// streams too, and streams that open later begin with it; none falls. It looks at each open sending half.
+    ///
+    /// Refused, and then unchanged: `Closed`; `Refused` where no end can be made of such limits, with the fault that `new` answers.
+    pub fn raise_limits(&mut self, limits: &PeerLimits) -> Result<(), RaiseFault>
+        ensures { RaiseStep self.old limits.now result self.new }
+    {
+        if let Some(fault) = self.raise_refusal(limits) {
+            return Err(fault);
+        }
+        self.know_limits(limits);
+        self.allow_type(0);
+        self.allow_type(1);
+        self.allow_type(2);
+        self.allow_type(3);
+        self.settle();
+        Ok(())
+    }
+
+    // Why limits are refused.
+    fn raise_refusal(&self, limits: &PeerLimits) -> Option<RaiseFault>
+        ensures { result ≡ raise_refusal self.now limits.now }
+    {
+        if self.closed.is_some() {
+            return Some(RaiseFault::Closed);
+        }
+        match limits_fault(limits) {
+            Some(fault) => Some(RaiseFault::Refused(fault)),
+            None => None,
+        }
+    }
+
+    // The first limits and the counts are known, and the connection's limit; open streams aren't looked at.
+    fn know_limits(&mut self, limits: &PeerLimits)
+        requires { limits_fault limits.now ≡ None }
+        ensures { self.new ≡ knows_limits limits.now self.old }
+    {
+        self.peer = greater_limits(&self.peer, limits);
+        self.known_data = self.known_data.max(limits.max_data);
+        self.known_bidi = self.known_bidi.max(limits.streams_bidi);
+        self.known_uni = self.known_uni.max(limits.streams_uni);
+    }
+
+    // Each open half of a type may send what one may that opens now.
+    fn allow_type(&mut self, kind: usize)
+        requires { kind < 4 }
+        ensures { self.new ≡ record self.old { sends = type_allowed kind (first_send_limit self.old kind) self.old.sends } }
+    {
+        let limit = self.first_send_limit(StreamId::new(kind as u64).unwrap());
+        for index in 0..self.outbox.count_of(kind) {
+            let stream = StreamId::new((index * 4 + kind) as u64).unwrap();
+            self.allow_to(stream, limit);
+        }
+    }
+
+    // An open half may send the offsets below a limit.
+    #[tactic(auto, using(crate::proofs::Runs::idle_with))]
+    fn allow_to(&mut self, stream: StreamId, limit: u64)
+        requires open { is_some (lookup self.old.sends stream) ≡ true }
+        requires limit { limit ≤ MAX_VARINT }
+        ensures { self.new ≡ on_send stream (λ l. allow_lane l limit) self.old }
+    {
+        self.outbox.allow(stream, limit);
+    }
+}
+
+// Of two limits each the greater one.
+fn greater_limits(a: &PeerLimits, b: &PeerLimits) -> PeerLimits
+    ensures { result ≡ greater_limits a.now b.now }
+{
+    PeerLimits {
+        max_data: a.max_data.max(b.max_data),
+        bidi_local: a.bidi_local.max(b.bidi_local),
+        bidi_remote: a.bidi_remote.max(b.bidi_remote),
+        uni: a.uni.max(b.uni),
+        streams_bidi: a.streams_bidi.max(b.streams_bidi),
+        streams_uni: a.streams_uni.max(b.streams_uni),
+    }
+}
