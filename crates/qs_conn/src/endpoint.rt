@@ -21,6 +21,7 @@ use std::marker::Model;
 
 mod acking;
 mod asking;
+mod claiming;
 mod frames;
 mod losing;
 mod making;
