@@ -15,5 +15,4 @@ mod vec;
 
 // Modules in which nothing takes memory.
 pub use core::{array, cmp, fmt, iter, mem, num, ops, str};
-pub(crate) use vec::vec_in as vec;
 pub use vec::{SliceCalls, Vec};

@@ -19,8 +19,8 @@ mod runtime;
 mod string;
 #[cfg(test)]
 pub mod test;
+mod vectors;
 
-pub(crate) use base::vec;
 pub use base::*;
 pub use iterators::IteratorCalls;
 pub use runtime::HostRuntime;
@@ -29,3 +29,4 @@ pub use string::String;
 pub(crate) use string::format_in as format;
 #[cfg(test)]
 pub(crate) use test::{assert_eq_in as assert_eq, assert_in as assert, panic_in as panic};
+pub(crate) use vectors::vec_in as vec;

@@ -70,8 +70,17 @@ fn events_of(script: &str) -> shim::Vec<Event> {
     parse_script(Global, script.as_bytes()).expect("it is a script")
 }
 
+fn copied(event: &Event) -> Event {
+    copy_event(Global, event).expect("none is refused here")
+}
+
+/// What comes of the events where an allocation is refused to `play` alone.
 fn played(events: &[Event]) -> Result<Report, PlayFault> {
-    play(Global, standard_settings(), standard_settings(), events)
+    let mut handed_in = shim::Vec::new(Global);
+    for event in events {
+        handed_in.push(copied(event)).expect("none is refused here");
+    }
+    watched(|| play(Global, standard_settings(), standard_settings(), handed_in))
 }
 
 /// An end found no memory.
@@ -147,7 +156,7 @@ fn lacks_packet(events: &[Event], refused: u64, event: usize) {
         panic!("event {event} is {act:?}");
     };
     refuse(refused);
-    let report = watched(|| played(before)).expect("the events before it are played");
+    let report = played(before).expect("the events before it are played");
     assert_eq!(count_short(&report), 1);
     let makes = |(event, answer): &&(Event, Answer)| {
         event.end == *end && matches!(answer, Answer::Make(Ok(Some(_)), _))
@@ -194,7 +203,7 @@ fn plays_with_refusals(script: &str, told: &mut Told) -> u64 {
     let events = events_of(script);
     for refused in 0.. {
         refuse(refused);
-        let result = watched(|| played(&events));
+        let result = played(&events);
         if asked() <= refused {
             let report = result.expect("no memory was refused");
             assert_eq!(count_short(&report), 0);
@@ -218,15 +227,23 @@ fn short_runs_agree() {
     assert!(told.no_memory > 20 && told.no_packet > 5 && told.short > 20);
 }
 
+/// The end found no memory for the newest event.
+fn newest_ran_short(world: &World) -> bool {
+    world
+        .log()
+        .last()
+        .is_some_and(|(_, answer)| ran_short(answer))
+}
+
 /// An event happens, and once more where memory was refused.
 fn step_twice(world: &mut World, event: &Event) -> bool {
     for again in [false, true] {
-        let event = copy_event(Global, event).expect("none is refused here");
+        let event = copied(event);
         match watched(|| world.step(event)) {
             Err(PlayFault::NoMemory) => {}
             Err(fault) => panic!("{fault}"),
-            Ok(answer) if ran_short(&answer) => {}
-            Ok(_) => return again,
+            Ok(()) if newest_ran_short(world) => {}
+            Ok(()) => return again,
         }
     }
     panic!("memory was refused twice");

@@ -1,7 +1,8 @@
 //! A set of numbers, and the halves of a stream: what found no memory is as it was, and the next try succeeds.
 
+use super::proved::qs_chunks::ChunkAssembly;
 use super::proved::qs_ranges::RangeSet;
-use super::proved::qs_recv::{Assembly, ChunkAssembly, RecvHalf, RingAssembly};
+use super::proved::qs_recv::{Assembly, RecvHalf, RingAssembly};
 use super::proved::qs_send::{Chunk, SendHalf};
 use super::proved::qs_wire::StreamId;
 use super::refusing::{asked, refuse, watched};

@@ -5,6 +5,8 @@
 
 #[path = "../../../src/proved/qs_calls/mod.rs"]
 pub(crate) mod qs_calls;
+#[path = "../../src/proved/qs_chunks/mod.rs"]
+pub(crate) mod qs_chunks;
 #[path = "../../src/proved/qs_cli/mod.rs"]
 pub(crate) mod qs_cli;
 #[path = "../../../src/proved/qs_conn/mod.rs"]
