@@ -14,5 +14,5 @@ pub use closing::{Closed, Closing, Received};
 pub use event::{Act, Event, MAX_BYTES, MAX_ROOM, MAX_VARINT, MIN_ROOM, Side};
 pub use making::{LostFault, Made, MakeFault};
 pub use report::{LaneReport, RecvReport, SendReport};
-pub use settings::{PeerLimits, Settings, SetupFault};
+pub use settings::{PeerLimits, RaiseFault, Settings, SetupFault};
 pub use uses::{OpenFault, UseFault};

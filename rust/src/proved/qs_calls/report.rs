@@ -19,6 +19,10 @@ pub struct SendReport {
     pub written: u64,
     /// The final size, once it is declared.
     pub final_size: Option<u64>,
+    /// The code of the RESET_STREAM, once there was a reset: the owner's code, or that of the peer's STOP_SENDING (section 3.5).
+    pub reset_code: Option<u64>,
+    /// The limit on offsets that the peer granted.
+    pub limit: u64,
 }
 
 /// A receiving half (RFC 9000, section 3.2).
@@ -33,4 +37,6 @@ pub struct RecvReport {
     pub limit: u64,
     /// The final size, once it is known.
     pub final_size: Option<u64>,
+    /// The code of the peer's RESET_STREAM, once it was taken.
+    pub reset_code: Option<u64>,
 }

@@ -56,6 +56,25 @@ impl core::fmt::Display for SetupFault {
 
 impl core::error::Error for SetupFault {}
 
+/// Why no limits were raised.
+#[derive(Clone, Copy, Debug, PartialEq, Eq)]
+pub enum RaiseFault {
+    Closed,
+    /// No end can be made of such limits.
+    Refused(SetupFault),
+}
+
+impl core::fmt::Display for RaiseFault {
+    fn fmt(&self, f: &mut core::fmt::Formatter<'_>) -> core::fmt::Result {
+        match self {
+            Self::Closed => f.write_str("the connection is closed"),
+            Self::Refused(..) => f.write_str("the limits of the peer are out of their range"),
+        }
+    }
+}
+
+impl core::error::Error for RaiseFault {}
+
 impl Settings {
     /// What the other end is told of these settings.
     pub fn limits(&self) -> PeerLimits {

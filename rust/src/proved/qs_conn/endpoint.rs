@@ -12,12 +12,15 @@ use crate::proved::qs_wire::{Dir, Frame, Role, StreamId, put};
 use crate::shim::alloc::Global;
 
 mod acking;
+mod asking;
+mod claiming;
 mod frames;
 mod losing;
 mod making;
 mod news;
 mod opening;
 mod owner;
+mod raising;
 mod receiving;
 mod recording;
 mod taking;

@@ -24,7 +24,7 @@ mod told_index;
 
 pub use endpoint::Endpoint;
 pub use crate::proved::qs_calls::{
-    Closed, Closing, LaneReport, LostFault, Made, MakeFault, OpenFault, PeerLimits, Received,
-    RecvReport, SendReport, Settings, SetupFault, UseFault,
+    Closed, Closing, LaneReport, LostFault, Made, MakeFault, OpenFault, PeerLimits, RaiseFault,
+    Received, RecvReport, SendReport, Settings, SetupFault, UseFault,
 };
 pub use crate::proved::qs_machine::laws;

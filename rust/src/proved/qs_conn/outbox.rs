@@ -97,6 +97,8 @@ impl Outbox {
             state: half.state(),
             written: half.written(),
             final_size: half.final_size(),
+            reset_code: half.reset_code(),
+            limit: half.limit(),
         })
     }
 

@@ -244,6 +244,7 @@ impl RecvLanes {
             highest: half.highest(),
             limit: half.limit(),
             final_size: half.final_size(),
+            reset_code: half.reset_code(),
         })
     }
 

@@ -16,6 +16,17 @@ pub(crate) fn setup_fault(settings: &Settings, peer: &PeerLimits) -> Option<Setu
     }
 }
 
+/// Why such limits of the peer are refused.
+pub(crate) fn limits_fault(peer: &PeerLimits) -> Option<SetupFault> {
+    if !are_spellable(peer) {
+        Some(SetupFault::OutOfRange)
+    } else if !are_countable(peer) {
+        Some(SetupFault::TooManyStreams)
+    } else {
+        None
+    }
+}
+
 fn is_between(low: u64, high: u64, n: u64) -> bool {
     low <= n && n <= high
 }

@@ -19,6 +19,8 @@ const NEVER_SENT: SendReport = SendReport {
     state: SendState::Ready,
     written: 0,
     final_size: None,
+    reset_code: None,
+    limit: 0,
 };
 
 const NEVER_RECEIVED: RecvReport = RecvReport {
@@ -27,6 +29,7 @@ const NEVER_RECEIVED: RecvReport = RecvReport {
     highest: 0,
     limit: 0,
     final_size: None,
+    reset_code: None,
 };
 
 /// What came of two ends and their log, of which the report has a copy.

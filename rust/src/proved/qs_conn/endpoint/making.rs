@@ -77,14 +77,14 @@ impl Endpoint {
 
     // What a call answers that found no memory for a packet: where nothing may go, it needs none.
     fn without_memory(&self) -> Result<Option<Made>, MakeFault> {
-        if self.is_sendable() {
+        if self.may_make() {
             return Err(MakeFault::NoMemory);
         }
         Ok(None)
     }
 
     // Whether something is due that no limit holds back.
-    fn is_sendable(&self) -> bool {
+    fn may_make(&self) -> bool {
         if self.ack_due {
             return true;
         }
@@ -93,7 +93,7 @@ impl Endpoint {
     }
 
     // What is to be told beside what the streams have.
-    fn terms(&self) -> Terms {
+    pub(super) fn terms(&self) -> Terms {
         Terms {
             role: self.role,
             settings: self.settings,

@@ -113,7 +113,7 @@ impl Endpoint {
     }
 
     // How many streams of a direction the peer allows.
-    fn known_count(&self, dir: Dir) -> u64 {
+    pub(super) fn known_count(&self, dir: Dir) -> u64 {
         match dir {
             Dir::Bidi => self.known_bidi,
             Dir::Uni => self.known_uni,
@@ -121,13 +121,13 @@ impl Endpoint {
     }
 
     // How many streams of a type are open.
-    fn opened_count(&self, kind: usize) -> usize {
+    pub(super) fn opened_count(&self, kind: usize) -> usize {
         debug_assert!(kind < 4);
         self.outbox.count_of(kind).max(self.recvs.count_of(kind))
     }
 
     // The type of the streams that this end opens.
-    fn own_kind(&self, dir: Dir) -> usize {
+    pub(super) fn own_kind(&self, dir: Dir) -> usize {
         match dir {
             Dir::Bidi => role_bit(self.role),
             Dir::Uni => 2 + role_bit(self.role),
@@ -135,7 +135,7 @@ impl Endpoint {
     }
 
     // The type of the streams that the peer opens.
-    fn peer_kind(&self, dir: Dir) -> usize {
+    pub(super) fn peer_kind(&self, dir: Dir) -> usize {
         match dir {
             Dir::Bidi => 1 - role_bit(self.role),
             Dir::Uni => 3 - role_bit(self.role),

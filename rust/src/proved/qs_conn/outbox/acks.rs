@@ -6,7 +6,7 @@ use crate::proved::qs_conn::send_tables::SendTables;
 use crate::proved::qs_conn::told::ToldItems;
 use crate::proved::qs_conn::told_index::ToldIndex;
 use crate::proved::qs_ranges::NoMemory;
-use crate::proved::qs_send::{AckPass, Item, LostPass, Piece, SendState};
+use crate::proved::qs_send::{AckPass, Item, LostPass, Piece, Records, SendState};
 use crate::proved::qs_wire::StreamId;
 
 impl Outbox {
@@ -14,6 +14,12 @@ impl Outbox {
     pub(crate) fn none_is_empty(&self) {
         let _next = self.next;
         self.records.none_is_empty();
+    }
+
+    /// The least number from one on of an outstanding packet.
+    pub(crate) fn next_outstanding(&self, from: u64) -> Option<u64> {
+        let _next = self.next;
+        next_held(&self.records, from)
     }
 
     /// The next outstanding packet that a pass over an ACK names, `None` after the last.
@@ -73,6 +79,19 @@ impl Outbox {
         forget(&mut self.index, piece);
         Ok(())
     }
+}
+
+// The least number from one on that is held.
+fn next_held(records: &Records, from: u64) -> Option<u64> {
+    let end = records.greatest()?;
+    let mut number = from.max(records.base());
+    while number <= end {
+        if records.is_held(number) {
+            return Some(number);
+        }
+        number += 1;
+    }
+    None
 }
 
 // A chunk, or an item, is acknowledged; or nothing changes.

@@ -68,6 +68,21 @@ impl Outbox {
         half.sent_end() < half.written().min(half.limit())
     }
 
+    /// Whether bytes of a stream weren't sent, and its limit alone holds them back, or that of the connection, where that is used up.
+    pub(crate) fn waits_for_credit(&self, stream: StreamId, is_used_up: bool) -> bool {
+        if !self.sends.is_open(stream) {
+            return false;
+        }
+        let half = self.sends.get(stream);
+        if let Some(_code) = half.reset_code() {
+            return false;
+        }
+        if half.sent_end() >= half.written() {
+            return false;
+        }
+        either(half.sent_end() == half.limit(), is_used_up)
+    }
+
     /// The least number from one on of a stream that may have a task. The streams between have none of it.
     pub(crate) fn next_marked(&self, task: Task, from: u64) -> Option<StreamId> {
         debug_assert!(from <= 1 << 62);
@@ -94,6 +109,10 @@ impl Outbox {
             None => None,
         }
     }
+}
+
+fn either(a: bool, b: bool) -> bool {
+    a || b
 }
 
 // A reset, where it has a code.
