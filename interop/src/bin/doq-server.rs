@@ -1,0 +1,39 @@
+//! A name server over QUIC (RFC 9250): answers from a zone's file.
+
+use gotsavena::Settings;
+use gotsavena_interop::connection::Config;
+use gotsavena_interop::doq::{NameServer, PROTOCOL};
+use gotsavena_interop::program::{self, Refusal, Words, listen};
+use gotsavena_interop::server::Server;
+use gotsavena_interop::tls::server_config;
+use gotsavena_interop::zone::Zone;
+use std::process::ExitCode;
+use std::sync::Arc;
+use std::time::Duration;
+
+fn main() -> ExitCode {
+    program::run("doq-server [--verbose yes] ZONEFILE ADDR", serve)
+}
+
+fn serve(words: Words) -> Result<(), Refusal> {
+    let [file, address] = words.exactly()?;
+    let text = std::fs::read_to_string(&file)
+        .map_err(|error| Refusal::Failure(format!("{file} can't be read: {error}")))?;
+    let zone = Zone::read(&text).map_err(|fault| Refusal::Failure(format!("{file}, {fault}")))?;
+    let zone = Arc::new(zone);
+    let tls = server_config(&[PROTOCOL]).map_err(Refusal::failure)?;
+    // Queries are short: a small window for each stream, and many streams in a connection's life.
+    let settings = Settings::default()
+        .conn_window(1 << 18)
+        .stream_windows(1 << 12)
+        .send_buffer(1 << 16)
+        .bidi_streams(100, 65_536)
+        .uni_streams(0, 0);
+    let config = Config {
+        settings,
+        idle: Duration::from_secs(30),
+    };
+    let socket = listen(&address)?;
+    let mut server = Server::new(socket, tls, config, move || NameServer::new(zone.clone()));
+    server.run().map_err(Refusal::failure)
+}

@@ -1,0 +1,253 @@
+//! One connection: the stream layer's endpoint, with handshake, protection, loss detection and timers around it.
+//!
+//! Datagrams go in by [`Connection::receive`] and come out of [`Connection::send`]; [`Connection::timer`] says when
+//! [`Connection::time_is_up`] is to be called. Once the handshake is done, [`Connection::end`] is the endpoint, whose streams the
+//! application uses.
+
+mod ending;
+mod frames;
+mod handshake;
+mod receive;
+mod send;
+
+use crate::crypto::{CryptoIn, CryptoOut};
+use crate::fault::{Fault, Outcome};
+use crate::ids::{ACTIVE_IDS, PeerIds};
+use crate::packet::{ConnectionId, Level, OWN_ID_LEN, VERSION_1};
+use crate::parameters::Parameters;
+use crate::protection::DataKeys;
+use crate::ranges::Numbers;
+use crate::recovery::{Control, Recovery, Standing};
+use crate::tls::Session;
+use ending::State;
+use gotsavena::{Endpoint, Role, Settings};
+use ring::rand::{SecureRandom, SystemRandom};
+use rustls::quic::{Keys, Version};
+use rustls::{ClientConfig, ServerConfig};
+use std::collections::VecDeque;
+use std::sync::Arc;
+use std::time::{Duration, Instant};
+
+/// The least datagram that every path carries (RFC 9000, section 14).
+pub const DATAGRAM: usize = 1200;
+
+/// How many 1-RTT packets are kept that come before the handshake is done.
+const MOST_EARLY: usize = 32;
+
+/// What a connection is made with.
+#[derive(Clone, Copy, Debug)]
+pub struct Config {
+    /// The stream layer's settings, of which the peer is told.
+    pub settings: Settings,
+    /// After how long a silence the connection ends.
+    pub idle: Duration,
+}
+
+/// What a client begins with.
+#[derive(Clone)]
+pub struct ClientSetup {
+    pub tls: Arc<ClientConfig>,
+    /// The server's name.
+    pub name: String,
+    /// The version that is tried first: one that the server doesn't speak makes it negotiate.
+    pub version: u32,
+}
+
+/// A level's keys, numbers and bytes of the handshake. Of the application's space the stream layer has the numbers.
+#[derive(Default)]
+struct Space {
+    keys: Option<Keys>,
+    next_number: u64,
+    received: Numbers,
+    is_ack_due: bool,
+    out: CryptoOut,
+    incoming: CryptoIn,
+    /// How many packets are to be sent whatever the window says.
+    probes: u32,
+}
+
+pub struct Connection {
+    role: Role,
+    config: Config,
+    version: u32,
+    session: Session,
+    client: Option<ClientSetup>,
+    write_level: Level,
+    spaces: [Space; 3],
+    data_keys: Option<DataKeys>,
+    end: Option<Endpoint>,
+    /// One more than the largest number of a 1-RTT packet that came.
+    expected: u64,
+    early: Vec<Vec<u8>>,
+    recovery: Recovery,
+    own_id: ConnectionId,
+    first_destination: ConnectionId,
+    retry_source: Option<ConnectionId>,
+    token: Vec<u8>,
+    peer_ids: PeerIds,
+    has_peer_id: bool,
+    has_opened: bool,
+    peer: Parameters,
+    controls: VecDeque<Control>,
+    is_confirmed: bool,
+    /// Whether the peer's address is known to be its own (RFC 9000, section 8.1).
+    is_validated: bool,
+    /// Whether the peer acknowledged a packet of the Handshake space.
+    is_handshake_acked: bool,
+    bytes_in: usize,
+    bytes_out: usize,
+    last_active: Instant,
+    asked_since_active: bool,
+    state: State,
+    outcome: Option<Outcome>,
+}
+
+fn random_id() -> Result<ConnectionId, Fault> {
+    let mut bytes = [0; OWN_ID_LEN];
+    SystemRandom::new()
+        .fill(&mut bytes)
+        .map_err(|_| Fault::new(crate::fault::INTERNAL_ERROR, 0, "no random bytes"))?;
+    Ok(ConnectionId::new(&bytes).unwrap_or_default())
+}
+
+impl Connection {
+    /// A client's connection, which begins with a ClientHello.
+    pub fn client(setup: ClientSetup, config: Config, now: Instant) -> Result<Connection, Fault> {
+        let own_id = random_id()?;
+        let destination = random_id()?;
+        let told = own_parameters(&config, own_id);
+        let session = Session::client(setup.tls.clone(), &setup.name, told.write())?;
+        let mut connection = Connection::new(Role::Client, config, session, own_id, destination, now);
+        connection.version = setup.version;
+        connection.client = Some(setup);
+        connection.is_validated = true;
+        connection.peer_ids = PeerIds::new(destination);
+        connection.pull_handshake()?;
+        Ok(connection)
+    }
+
+    /// A server's connection, which answers an Initial with these identifiers.
+    pub fn server(
+        tls: Arc<ServerConfig>,
+        config: Config,
+        destination: ConnectionId,
+        source: ConnectionId,
+        now: Instant,
+    ) -> Result<Connection, Fault> {
+        let own_id = random_id()?;
+        let mut told = own_parameters(&config, own_id);
+        told.original_destination = Some(destination);
+        let session = Session::server(tls, told.write())?;
+        let mut connection = Connection::new(Role::Server, config, session, own_id, destination, now);
+        connection.peer_ids = PeerIds::new(source);
+        connection.has_peer_id = true;
+        Ok(connection)
+    }
+
+    fn new(
+        role: Role,
+        config: Config,
+        session: Session,
+        own_id: ConnectionId,
+        destination: ConnectionId,
+        now: Instant,
+    ) -> Connection {
+        let mut spaces: [Space; 3] = Default::default();
+        let is_client = role == Role::Client;
+        spaces[0].keys = Some(Keys::initial(Version::V1, destination.as_slice(), is_client));
+        Connection {
+            role,
+            config,
+            version: VERSION_1,
+            session,
+            client: None,
+            write_level: Level::Initial,
+            spaces,
+            data_keys: None,
+            end: None,
+            expected: 0,
+            early: Vec::new(),
+            recovery: Recovery::new(DATAGRAM),
+            own_id,
+            first_destination: destination,
+            retry_source: None,
+            token: Vec::new(),
+            peer_ids: PeerIds::new(ConnectionId::default()),
+            has_peer_id: false,
+            has_opened: false,
+            peer: Parameters::default(),
+            controls: VecDeque::new(),
+            is_confirmed: false,
+            is_validated: false,
+            is_handshake_acked: false,
+            bytes_in: 0,
+            bytes_out: 0,
+            last_active: now,
+            asked_since_active: false,
+            state: State::Open,
+            outcome: None,
+        }
+    }
+
+    /// The identifiers under which the peer finds this connection.
+    pub fn ids(&self) -> [ConnectionId; 2] {
+        [self.own_id, self.first_destination]
+    }
+
+    /// The stream layer's end, once the handshake is done and until the connection ends.
+    pub fn end(&mut self) -> Option<&mut Endpoint> {
+        match self.state {
+            State::Open if self.session.is_done() => self.end.as_mut(),
+            _ => None,
+        }
+    }
+
+    /// The name of the protocol over the streams that both ends agreed on.
+    pub fn protocol(&self) -> Option<&[u8]> {
+        self.session.protocol()
+    }
+
+    /// How it ended, or ends.
+    pub fn outcome(&self) -> Option<&Outcome> {
+        self.outcome.as_ref()
+    }
+
+    /// Whether nothing more is to come of it.
+    pub fn is_gone(&self) -> bool {
+        matches!(self.state, State::Gone)
+    }
+
+    /// Whether a packet of the peer was opened.
+    pub fn has_peer(&self) -> bool {
+        self.has_opened
+    }
+
+    /// How many key updates there were (RFC 9001, section 6).
+    pub fn key_updates(&self) -> u64 {
+        self.data_keys.as_ref().map_or(0, |keys| keys.updates)
+    }
+
+    fn space(&mut self, level: Level) -> &mut Space {
+        &mut self.spaces[level as usize]
+    }
+
+    fn standing(&self) -> Standing {
+        Standing {
+            has_handshake_keys: self.spaces[Level::Handshake as usize].keys.is_some(),
+            is_confirmed: self.is_confirmed,
+            peer_validated: self.role == Role::Server || self.is_handshake_acked || self.is_confirmed,
+            is_held_back: !self.is_validated && self.bytes_out + DATAGRAM > 3 * self.bytes_in,
+        }
+    }
+}
+
+/// What this end tells of itself.
+fn own_parameters(config: &Config, own_id: ConnectionId) -> Parameters {
+    Parameters {
+        limits: config.settings.limits(),
+        idle: config.idle,
+        active_ids: ACTIVE_IDS,
+        initial_source: Some(own_id),
+        ..Parameters::default()
+    }
+}

@@ -1,0 +1,290 @@
+//! Datagrams go: packets of several levels in one (RFC 9000, section 12.2).
+
+use super::{Connection, DATAGRAM, State};
+use crate::crypto::push_frame;
+use crate::fault::{Fault, INTERNAL_ERROR};
+use crate::packet::{Draft, Header, Level, TAG_LEN};
+use crate::protection::seal;
+use crate::recovery::{Control, Sent};
+use gotsavena::{Frame, MIN_ROOM, MakeFault, Role, frames, put_ack};
+use std::time::Instant;
+
+/// Below so much room no packet is begun.
+const LEAST_ROOM: usize = 64;
+
+/// What an ACK of the handshake takes at most.
+const ACK_LEN: usize = 300;
+
+/// A packet in the making, and what is to be known of it once it was sent.
+struct Planned {
+    draft: Draft,
+    sent: Sent,
+}
+
+/// The transport's own frames of a packet.
+#[derive(Default)]
+struct OwnFrames {
+    payload: Vec<u8>,
+    controls: Vec<Control>,
+    crypto: Vec<std::ops::Range<usize>>,
+}
+
+impl Connection {
+    /// Makes the next datagram, in a vector that is empty. Answers whether there is one.
+    pub fn send(&mut self, out: &mut Vec<u8>, now: Instant) -> bool {
+        out.clear();
+        if self.standing().is_held_back {
+            return false;
+        }
+        let planned = match self.state {
+            State::Open => self.plan(out, now),
+            State::Closing { .. } => self.plan_closing(out, now),
+            State::Draining { .. } | State::Gone => return false,
+        };
+        let planned = match planned {
+            Ok(planned) if planned.is_empty() => return false,
+            Ok(planned) => planned,
+            Err(fault) => {
+                self.fail(fault, now);
+                return false;
+            }
+        };
+        self.finish(planned, out);
+        true
+    }
+
+    fn plan(&mut self, out: &mut Vec<u8>, now: Instant) -> Result<Vec<Planned>, Fault> {
+        let mut planned = Vec::new();
+        for level in [Level::Initial, Level::Handshake] {
+            planned.extend(self.plan_handshake(level, out, now));
+        }
+        planned.extend(self.plan_data(out, now)?);
+        Ok(planned)
+    }
+
+    // Pads a datagram that has an Initial (RFC 9000, section 14.1), protects the packets, and notes them as sent.
+    fn finish(&mut self, mut planned: Vec<Planned>, out: &mut Vec<u8>) {
+        let has_initial = planned.iter().any(|plan| plan.draft.level == Level::Initial);
+        if let (Some(last), true) = (planned.last_mut(), has_initial) {
+            last.draft.pad(out, DATAGRAM);
+        }
+        let has_handshake = planned.iter().any(|plan| plan.draft.level == Level::Handshake);
+        for plan in planned {
+            self.note_sent(plan, out);
+        }
+        self.bytes_out += out.len();
+        // A client needs its Initial keys no more once it sends a Handshake packet (RFC 9001, section 4.9.1).
+        if has_handshake && self.role == Role::Client {
+            self.discard(Level::Initial);
+        }
+    }
+
+    fn note_sent(&mut self, plan: Planned, out: &mut [u8]) {
+        let Planned { draft, mut sent } = plan;
+        match (draft.level, &self.data_keys, &self.spaces[draft.level as usize].keys) {
+            (Level::Data, Some(keys), _) => keys.seal(out, &draft),
+            (_, _, Some(keys)) => seal(&keys.local.header, &keys.local.packet, out, &draft),
+            _ => return,
+        }
+        if !sent.asks {
+            return;
+        }
+        if !self.asked_since_active {
+            self.asked_since_active = true;
+            self.last_active = sent.at;
+        }
+        sent.size = draft.end + TAG_LEN - draft.start;
+        self.recovery.sent(draft.level, draft.number, sent);
+    }
+
+    fn header(&self, level: Level, number: u64) -> Header<'_> {
+        Header {
+            level,
+            version: self.version,
+            destination: self.peer_ids.current(),
+            source: self.own_id,
+            token: &self.token,
+            number,
+            key_phase: self.data_keys.as_ref().is_some_and(|keys| keys.phase()),
+        }
+    }
+
+    /// How many bytes of frames a packet of the level has room for behind what is in the datagram.
+    fn room(&self, header: &Header<'_>, out: &[u8]) -> usize {
+        DATAGRAM.saturating_sub(out.len() + header.len() + TAG_LEN)
+    }
+
+    fn plan_handshake(&mut self, level: Level, out: &mut Vec<u8>, now: Instant) -> Option<Planned> {
+        let space = &self.spaces[level as usize];
+        space.keys.as_ref()?;
+        let may_ask = self.recovery.congestion.allows() || space.probes > 0;
+        if !(space.is_ack_due || may_ask && (space.out.is_due() || space.probes > 0)) {
+            return None;
+        }
+        let header = self.header(level, space.next_number);
+        let room = self.room(&header, out);
+        if room < LEAST_ROOM {
+            return None;
+        }
+        let mut draft = header.write(out);
+        let space = &mut self.spaces[level as usize];
+        let before = out.len();
+        put_ranges(space.received.as_slice(), out, room);
+        space.is_ack_due = false;
+        let mut crypto = Vec::new();
+        if may_ask {
+            let left = room - (out.len() - before);
+            crypto.extend(space.out.put(out, left));
+            if crypto.is_empty() && space.probes > 0 {
+                push_frame(out, &Frame::Ping);
+            }
+        }
+        if out.len() == before {
+            out.truncate(draft.start);
+            return None;
+        }
+        let asks = !crypto.is_empty() || space.probes > 0;
+        space.probes = space.probes.saturating_sub(1);
+        space.next_number += 1;
+        draft.finish(out);
+        let sent = sent_now(now, asks, crypto, Vec::new());
+        Some(Planned { draft, sent })
+    }
+
+    // A 1-RTT packet: what the stream layer has to say, and behind it the transport's own frames. Where the stream layer has
+    // nothing to say, the transport claims the number.
+    fn plan_data(&mut self, out: &mut Vec<u8>, now: Instant) -> Result<Option<Planned>, Fault> {
+        let probes = self.space(Level::Data).probes;
+        let may_go = self.recovery.congestion.allows() || probes > 0;
+        let Some(end) = self.end.as_ref().filter(|_| self.session.is_done() && may_go) else {
+            return Ok(None);
+        };
+        let header = self.header(Level::Data, end.next_number());
+        let room = self.room(&header, out);
+        if room <= MIN_ROOM {
+            return Ok(None);
+        }
+        let mut draft = header.write(out);
+        let own = self.own_frames(room - MIN_ROOM - 1);
+        let made = self.make(out, room - own.payload.len() - 1)?;
+        if !made && own.payload.is_empty() && probes == 0 {
+            out.truncate(draft.start);
+            return Ok(None);
+        }
+        let mut asks = asks_for_ack(&out[draft.payload_at()..]) || !own.payload.is_empty();
+        out.extend_from_slice(&own.payload);
+        if probes > 0 && !asks {
+            push_frame(out, &Frame::Ping);
+            asks = true;
+        }
+        if !made {
+            draft.number = self.claim()?;
+        }
+        self.space(Level::Data).probes = probes.saturating_sub(1);
+        draft.finish(out);
+        let sent = sent_now(now, asks, own.crypto, own.controls);
+        Ok(Some(Planned { draft, sent }))
+    }
+
+    // The stream layer writes a payload behind the header. Answers whether it had one.
+    fn make(&mut self, out: &mut Vec<u8>, room: usize) -> Result<bool, Fault> {
+        let at = out.len();
+        out.resize(at + room, 0);
+        let made = match &mut self.end {
+            Some(end) => end.make_packet(&mut out[at..]),
+            None => Ok(None),
+        };
+        let len = made.as_ref().ok().and_then(|made| *made).map(|made| made.len);
+        out.truncate(at + len.unwrap_or(0));
+        match made {
+            // Where memory is refused, nothing goes for now.
+            Ok(_) | Err(MakeFault::NoMemory) => Ok(len.is_some()),
+            Err(fault) => Err(Fault::new(INTERNAL_ERROR, 0, &fault.to_string())),
+        }
+    }
+
+    /// The next number of the application's space, for a packet without the stream layer's frames.
+    fn claim(&mut self) -> Result<u64, Fault> {
+        let claimed = self.end.as_mut().map(|end| end.claim_number());
+        claimed
+            .unwrap_or(Ok(0))
+            .map_err(|fault| Fault::new(INTERNAL_ERROR, 0, &fault.to_string()))
+    }
+
+    fn own_frames(&mut self, room: usize) -> OwnFrames {
+        let mut own = OwnFrames::default();
+        while own.payload.len() + LEAST_ROOM <= room
+            && let Some(control) = self.controls.pop_front()
+        {
+            push_frame(&mut own.payload, &frame_of(&control));
+            // A response isn't sent again: the peer asks anew (RFC 9000, section 13.3).
+            if !matches!(control, Control::PathResponse(_)) {
+                own.controls.push(control);
+            }
+        }
+        let left = room.saturating_sub(own.payload.len());
+        let put = self.space(Level::Data).out.put(&mut own.payload, left);
+        own.crypto.extend(put);
+        own
+    }
+
+    fn plan_closing(&mut self, out: &mut Vec<u8>, now: Instant) -> Result<Vec<Planned>, Fault> {
+        if !self.takes_closing() {
+            return Ok(Vec::new());
+        }
+        let mut planned = Vec::new();
+        for level in Level::ALL {
+            let number = match level {
+                Level::Data if self.data_keys.is_some() && self.session.is_done() => self.claim()?,
+                _ if self.space(level).keys.is_some() => {
+                    self.space(level).next_number += 1;
+                    self.space(level).next_number - 1
+                }
+                _ => continue,
+            };
+            let mut draft = self.header(level, number).write(out);
+            self.put_close(level, out);
+            draft.finish(out);
+            let sent = sent_now(now, false, Vec::new(), Vec::new());
+            planned.push(Planned { draft, sent });
+        }
+        Ok(planned)
+    }
+}
+
+fn sent_now(
+    at: Instant,
+    asks: bool,
+    crypto: Vec<std::ops::Range<usize>>,
+    controls: Vec<Control>,
+) -> Sent {
+    Sent {
+        at,
+        size: 0,
+        asks,
+        crypto,
+        controls,
+    }
+}
+
+fn frame_of(control: &Control) -> Frame<'_> {
+    match control {
+        Control::HandshakeDone => Frame::HandshakeDone,
+        Control::RetireId(sequence) => Frame::RetireConnectionId { sequence: *sequence },
+        Control::PathResponse(bytes) => Frame::PathResponse { bytes },
+    }
+}
+
+// Writes an ACK of as many ranges as there is room for.
+fn put_ranges(ranges: &[std::ops::Range<u64>], out: &mut Vec<u8>, room: usize) {
+    let at = out.len();
+    out.resize(at + room.min(ACK_LEN), 0);
+    let len = put_ack(ranges, &mut out[at..]).map_or(0, |(_, len)| len);
+    out.truncate(at + len);
+}
+
+// Whether a payload asks for an ACK (RFC 9002, section 2).
+fn asks_for_ack(payload: &[u8]) -> bool {
+    let mut found = frames(payload).flatten();
+    found.any(|placed| !matches!(placed.frame, Frame::Ack { .. } | Frame::Padding))
+}

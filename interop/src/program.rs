@@ -1,0 +1,125 @@
+//! What the programs have in common: words of the command line, messages and statuses.
+
+use std::collections::BTreeMap;
+use std::fmt::Display;
+use std::net::{SocketAddr, ToSocketAddrs, UdpSocket};
+use std::process::ExitCode;
+use std::sync::atomic::{AtomicBool, Ordering};
+
+static TELLS_MORE: AtomicBool = AtomicBool::new(false);
+
+/// Why a program ends before its work is done.
+#[derive(Debug)]
+pub enum Refusal {
+    /// The command line makes no sense: status 2.
+    Usage(String),
+    /// Something else failed: status 1.
+    Failure(String),
+}
+
+impl Refusal {
+    pub fn failure(what: impl Display) -> Refusal {
+        Refusal::Failure(what.to_string())
+    }
+}
+
+/// The words of a command line: options with their values, and the other words in order.
+#[derive(Debug, Default)]
+pub struct Words {
+    options: BTreeMap<String, String>,
+    pub rest: Vec<String>,
+}
+
+/// Writes a line on standard error.
+pub fn tell(line: &str) {
+    eprintln!("{line}");
+}
+
+/// The same, where `--verbose yes` asks for it.
+pub fn tell_more(line: &str) {
+    if TELLS_MORE.load(Ordering::Relaxed) {
+        tell(line);
+    }
+}
+
+/// Runs a program: `usage` is told where its words make no sense.
+pub fn run(usage: &str, main: impl FnOnce(Words) -> Result<(), Refusal>) -> ExitCode {
+    match words(std::env::args().skip(1)).and_then(main) {
+        Ok(()) => ExitCode::SUCCESS,
+        Err(Refusal::Usage(reason)) => {
+            tell(&format!("{reason}\nusage: {usage}"));
+            ExitCode::from(2)
+        }
+        Err(Refusal::Failure(reason)) => {
+            tell(&reason);
+            ExitCode::from(1)
+        }
+    }
+}
+
+fn words(given: impl Iterator<Item = String>) -> Result<Words, Refusal> {
+    let mut words = Words::default();
+    let mut given = given;
+    while let Some(word) = given.next() {
+        let Some(name) = word.strip_prefix("--") else {
+            words.rest.push(word);
+            continue;
+        };
+        let value = given
+            .next()
+            .ok_or_else(|| Refusal::Usage(format!("--{name} lacks its value")))?;
+        words.options.insert(name.to_owned(), value);
+    }
+    if words.options.remove("verbose").is_some() {
+        TELLS_MORE.store(true, Ordering::Relaxed);
+    }
+    Ok(words)
+}
+
+impl Words {
+    /// The value of an option, where it is given.
+    pub fn option(&mut self, name: &str) -> Option<String> {
+        self.options.remove(name)
+    }
+
+    /// The number that an option has, or the usual one.
+    pub fn number(&mut self, name: &str, usual: u64) -> Result<u64, Refusal> {
+        match self.option(name) {
+            Some(value) => value
+                .parse()
+                .map_err(|_| Refusal::Usage(format!("--{name} {value} is no number"))),
+            None => Ok(usual),
+        }
+    }
+
+    /// The words that are no options: exactly so many, and no option that wasn't asked for.
+    pub fn exactly<const N: usize>(&self) -> Result<[String; N], Refusal> {
+        self.no_more_options()?;
+        let count = self.rest.len();
+        let rest = self.rest.clone().try_into();
+        rest.map_err(|_| Refusal::Usage(format!("{count} words where {N} are expected")))
+    }
+
+    pub fn no_more_options(&self) -> Result<(), Refusal> {
+        match self.options.keys().next() {
+            Some(name) => Err(Refusal::Usage(format!("there is no option --{name}"))),
+            None => Ok(()),
+        }
+    }
+}
+
+/// The first address that a text names.
+pub fn address(text: &str) -> Result<SocketAddr, Refusal> {
+    let found = text.to_socket_addrs().ok().and_then(|mut found| found.next());
+    found.ok_or_else(|| Refusal::Usage(format!("{text} is no address, such as 127.0.0.1:8853")))
+}
+
+/// A socket on an address, which is told on standard output: with the port 0 the system chooses one.
+pub fn listen(text: &str) -> Result<UdpSocket, Refusal> {
+    let wanted = address(text)?;
+    let socket = UdpSocket::bind(wanted)
+        .map_err(|error| Refusal::Failure(format!("{wanted} can't be listened on: {error}")))?;
+    let own = socket.local_addr().map_err(Refusal::failure)?;
+    println!("listening on {own}");
+    Ok(socket)
+}

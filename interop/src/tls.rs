@@ -1,0 +1,110 @@
+//! TLS 1.3 for QUIC (RFC 9001, section 4), by rustls.
+
+use crate::certificate::Identity;
+use crate::fault::{CRYPTO_ERROR, Fault, INTERNAL_ERROR};
+use rustls::client::{ServerCertVerified, ServerCertVerifier};
+use rustls::quic::{ClientQuicExt, KeyChange, QuicExt, ServerQuicExt, Version};
+use rustls::{
+    Certificate, ClientConfig, ClientConnection, Connection, Error, PrivateKey, ServerConfig,
+    ServerConnection, ServerName,
+};
+use std::sync::Arc;
+use std::time::SystemTime;
+
+/// What TLS needs of a server: a certificate, and the names of the protocols that are spoken over the streams.
+pub fn server_config(protocols: &[&[u8]]) -> Result<Arc<ServerConfig>, Fault> {
+    let identity = Identity::new()
+        .map_err(|_| Fault::new(INTERNAL_ERROR, 0, "no certificate could be made"))?;
+    let mut config = ServerConfig::builder()
+        .with_safe_defaults()
+        .with_no_client_auth()
+        .with_single_cert(
+            vec![Certificate(identity.certificate)],
+            PrivateKey(identity.key),
+        )
+        .map_err(|error| Fault::new(INTERNAL_ERROR, 0, &error.to_string()))?;
+    config.alpn_protocols = protocols.iter().map(|name| name.to_vec()).collect();
+    Ok(Arc::new(config))
+}
+
+/// What TLS needs of a client. It takes every certificate: it is meant for the loopback alone.
+pub fn client_config(protocols: &[&[u8]]) -> Arc<ClientConfig> {
+    let mut config = ClientConfig::builder()
+        .with_safe_defaults()
+        .with_custom_certificate_verifier(Arc::new(AnyCertificate))
+        .with_no_client_auth();
+    config.alpn_protocols = protocols.iter().map(|name| name.to_vec()).collect();
+    Arc::new(config)
+}
+
+struct AnyCertificate;
+
+impl ServerCertVerifier for AnyCertificate {
+    fn verify_server_cert(
+        &self,
+        _end_entity: &Certificate,
+        _intermediates: &[Certificate],
+        _server_name: &ServerName,
+        _scts: &mut dyn Iterator<Item = &[u8]>,
+        _ocsp_response: &[u8],
+        _now: SystemTime,
+    ) -> Result<ServerCertVerified, Error> {
+        Ok(ServerCertVerified::assertion())
+    }
+}
+
+/// One handshake.
+pub struct Session {
+    inner: Connection,
+}
+
+impl Session {
+    pub fn client(
+        config: Arc<ClientConfig>,
+        name: &str,
+        parameters: Vec<u8>,
+    ) -> Result<Session, Fault> {
+        let name = ServerName::try_from(name)
+            .map_err(|_| Fault::new(INTERNAL_ERROR, 0, "the server's name is no name"))?;
+        ClientConnection::new_quic(config, Version::V1, name, parameters)
+            .map(|inner| Session {
+                inner: inner.into(),
+            })
+            .map_err(|error| Fault::new(INTERNAL_ERROR, 0, &error.to_string()))
+    }
+
+    pub fn server(config: Arc<ServerConfig>, parameters: Vec<u8>) -> Result<Session, Fault> {
+        ServerConnection::new_quic(config, Version::V1, parameters)
+            .map(|inner| Session {
+                inner: inner.into(),
+            })
+            .map_err(|error| Fault::new(INTERNAL_ERROR, 0, &error.to_string()))
+    }
+
+    /// Takes in bytes of the handshake, which came in order.
+    pub fn read(&mut self, bytes: &[u8]) -> Result<(), Fault> {
+        self.inner.read_hs(bytes).map_err(|error| {
+            let alert = self.inner.alert().map_or(80, |alert| alert.get_u8());
+            Fault::new(CRYPTO_ERROR + u64::from(alert), 0x06, &error.to_string())
+        })
+    }
+
+    /// The next bytes of the handshake, of one level, and the keys of the level after them.
+    pub fn write(&mut self, bytes: &mut Vec<u8>) -> Option<KeyChange> {
+        self.inner.write_hs(bytes)
+    }
+
+    pub fn is_done(&self) -> bool {
+        !self.inner.is_handshaking()
+    }
+
+    /// The peer's transport parameters, once they came.
+    pub fn peer_parameters(&self) -> Option<&[u8]> {
+        self.inner.quic_transport_parameters()
+    }
+
+    /// The name of the protocol over the streams that both ends agreed on.
+    pub fn protocol(&self) -> Option<&[u8]> {
+        self.inner.alpn_protocol()
+    }
+}
