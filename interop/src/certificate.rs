@@ -68,10 +68,22 @@ fn to_be_signed(public_key: &[u8]) -> Vec<u8> {
     let end = der(TIME, &[b"20991231235959Z"]);
     let validity = der(SEQUENCE, &[&begin, &end]);
     let key_type = der(SEQUENCE, &[EC_PUBLIC_KEY, P256]);
-    let key = der(SEQUENCE, &[&key_type, &der(BIT_STRING, &[&[0], public_key])]);
+    let key = der(
+        SEQUENCE,
+        &[&key_type, &der(BIT_STRING, &[&[0], public_key])],
+    );
     let names = der(SEQUENCE, &[&der(0x82, &[NAME])]);
     let extension = der(SEQUENCE, &[SUBJECT_ALT_NAME, &der(OCTET_STRING, &[&names])]);
     let extensions = der(0xa3, &[&der(SEQUENCE, &[&extension])]);
-    let parts: [&[u8]; 8] = [&version, &serial, &algorithm, &name, &validity, &name, &key, &extensions];
+    let parts: [&[u8]; 8] = [
+        &version,
+        &serial,
+        &algorithm,
+        &name,
+        &validity,
+        &name,
+        &key,
+        &extensions,
+    ];
     der(SEQUENCE, &parts)
 }

@@ -27,12 +27,18 @@ pub fn run<A: Application>(
 ) -> io::Result<Outcome> {
     let mut out = Vec::new();
     loop {
-        let more = turn(connection, application, &mut out, |bytes| socket.send(bytes))?;
+        let more = turn(connection, application, &mut out, |bytes| {
+            socket.send(bytes)
+        })?;
         if let (Some(outcome), false) = (connection.outcome(), more) {
             return Ok(outcome.clone());
         }
         let now = Instant::now();
-        let until = if more { Some(now) } else { connection.timer(now) };
+        let until = if more {
+            Some(now)
+        } else {
+            connection.timer(now)
+        };
         receive_batch(socket, until, |datagram, _from| {
             connection.receive(datagram, Instant::now());
         })?;

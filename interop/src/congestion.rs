@@ -69,7 +69,10 @@ impl NewReno {
 
     /// Packets are lost, of which the last was sent at a time.
     pub fn lost(&mut self, last_sent_at: Instant, now: Instant) {
-        if self.recovery_began.is_some_and(|began| last_sent_at <= began) {
+        if self
+            .recovery_began
+            .is_some_and(|began| last_sent_at <= began)
+        {
             return;
         }
         self.recovery_began = Some(now);

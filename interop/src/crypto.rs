@@ -84,7 +84,10 @@ impl CryptoIn {
             let reason = "too many bytes of the handshake are ahead";
             return Err(Fault::new(CRYPTO_BUFFER_EXCEEDED, 0x06, reason));
         }
-        let longer = self.ahead.get(&offset).is_none_or(|kept| kept.len() < bytes.len());
+        let longer = self
+            .ahead
+            .get(&offset)
+            .is_none_or(|kept| kept.len() < bytes.len());
         if end > self.read && longer {
             self.ahead.insert(offset, bytes.to_vec());
         }
@@ -108,7 +111,9 @@ impl CryptoIn {
 pub fn push_frame(out: &mut Vec<u8>, frame: &Frame<'_>) {
     let bytes = match frame {
         Frame::Crypto { bytes, .. } => bytes.len(),
-        Frame::ConnectionClose { reason, .. } | Frame::ApplicationClose { reason, .. } => reason.len(),
+        Frame::ConnectionClose { reason, .. } | Frame::ApplicationClose { reason, .. } => {
+            reason.len()
+        }
         _ => 0,
     };
     let at = out.len();

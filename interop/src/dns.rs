@@ -168,7 +168,10 @@ fn has_opt(mut rest: Reader<'_>, count: u16) -> bool {
             return true;
         }
         let skipped = rest.take(6).and_then(|_| rest.u16());
-        if skipped.and_then(|len| rest.take(usize::from(len))).is_none() {
+        if skipped
+            .and_then(|len| rest.take(usize::from(len)))
+            .is_none()
+        {
             return false;
         }
     }
@@ -210,14 +213,21 @@ pub fn answer(zone: &Zone, query: &[u8]) -> Option<Vec<u8>> {
         out.extend_from_slice(&number.to_be_bytes());
     }
     out.extend_from_slice(question.map_or(&[], |question| question.text));
-    answers.into_iter().chain(authority).for_each(|record| push_record(&mut out, record));
+    answers
+        .into_iter()
+        .chain(authority)
+        .for_each(|record| push_record(&mut out, record));
     if has_opt {
         push_opt(&mut out);
     }
     Some(out)
 }
 
-fn look_up<'a>(zone: &'a Zone, name: &Name, kind: u16) -> (u16, Vec<&'a Record>, Option<&'a Record>) {
+fn look_up<'a>(
+    zone: &'a Zone,
+    name: &Name,
+    kind: u16,
+) -> (u16, Vec<&'a Record>, Option<&'a Record>) {
     match zone.find(name, kind) {
         Found::Records(records) => (NO_ERROR, records, None),
         Found::NoRecords => (NO_ERROR, Vec::new(), zone.soa()),

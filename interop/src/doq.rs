@@ -80,7 +80,12 @@ impl Application for NameServer {
 
 impl Query {
     // Answers whether there is nothing more to do.
-    fn progress(&mut self, zone: &Zone, end: &mut Endpoint, stream: StreamId) -> Result<bool, Close> {
+    fn progress(
+        &mut self,
+        zone: &Zone,
+        end: &mut Endpoint,
+        stream: StreamId,
+    ) -> Result<bool, Close> {
         if let Query::Comes(bytes) = self {
             match read_more(end, stream, bytes, MOST_BYTES).map_err(internal)? {
                 Came::Some => return Ok(false),
@@ -89,7 +94,12 @@ impl Query {
                     end.reset(stream, REQUEST_CANCELLED).map_err(internal)?;
                     return Ok(true);
                 }
-                Came::TooMuch => return Err(Close::new(PROTOCOL_ERROR, "bytes behind the query of a stream")),
+                Came::TooMuch => {
+                    return Err(Close::new(
+                        PROTOCOL_ERROR,
+                        "bytes behind the query of a stream",
+                    ));
+                }
                 Came::All => {}
             }
             let Some(answer) = answer(zone, message(bytes)?) else {
@@ -121,7 +131,13 @@ mod tests {
     #[test]
     fn a_stream_has_one_query() {
         assert_eq!(message(&[0, 3, 0, 0, 7]), Ok(&[0, 0, 7][..]));
-        for wrong in [&[0][..], &[0, 3, 0, 0], &[0, 3, 0, 0, 7, 0], &[0, 3, 0, 1, 7], &[0, 1, 0]] {
+        for wrong in [
+            &[0][..],
+            &[0, 3, 0, 0],
+            &[0, 3, 0, 0, 7, 0],
+            &[0, 3, 0, 1, 7],
+            &[0, 1, 0],
+        ] {
             assert_eq!(message(wrong).unwrap_err().code, PROTOCOL_ERROR);
         }
     }

@@ -80,14 +80,20 @@ impl fmt::Display for Fault {
 impl fmt::Display for Outcome {
     fn fmt(&self, f: &mut fmt::Formatter<'_>) -> fmt::Result {
         match self {
-            Outcome::Closed(close) => write!(f, "closed with code {:#x}: {}", close.code, close.reason),
+            Outcome::Closed(close) => {
+                write!(f, "closed with code {:#x}: {}", close.code, close.reason)
+            }
             Outcome::Failed(fault) => write!(f, "failed with {fault}"),
             Outcome::PeerClosed {
                 by_application,
                 code,
                 reason,
             } => {
-                let whose = if *by_application { "the application's" } else { "QUIC's" };
+                let whose = if *by_application {
+                    "the application's"
+                } else {
+                    "QUIC's"
+                };
                 write!(f, "the peer closed with {whose} code {code:#x}: {reason}")
             }
             Outcome::Idle => f.write_str("nothing came for too long"),

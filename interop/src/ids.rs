@@ -69,7 +69,10 @@ impl PeerIds {
     ) -> Result<Vec<u64>, Fault> {
         let fault = |code, reason| Err(Fault::new(code, NEW_CONNECTION_ID, reason));
         if retire > sequence {
-            return fault(FRAME_ENCODING_ERROR, "more identifiers are retired than were given");
+            return fault(
+                FRAME_ENCODING_ERROR,
+                "more identifiers are retired than were given",
+            );
         }
         if self.current().is_empty() {
             return fault(PROTOCOL_VIOLATION, "an identifier where none is used");

@@ -16,12 +16,16 @@ pub mod crypto;
 pub mod dns;
 pub mod doq;
 pub mod fault;
+pub mod files;
+#[cfg(feature = "http3")]
+pub mod h3;
 pub mod ids;
 pub mod packet;
 pub mod parameters;
 pub mod program;
 pub mod protection;
 pub mod ranges;
+pub mod raw;
 pub mod recovery;
 pub mod server;
 pub mod streams;

@@ -114,8 +114,12 @@ impl Parameters {
         let mut names = BTreeSet::new();
         let mut rest = Reader::new(text);
         while !rest.is_empty() {
-            let name = rest.varint().ok_or_else(|| wrong("a parameter is cut off"))?;
-            let value = rest.counted().ok_or_else(|| wrong("a parameter is cut off"))?;
+            let name = rest
+                .varint()
+                .ok_or_else(|| wrong("a parameter is cut off"))?;
+            let value = rest
+                .counted()
+                .ok_or_else(|| wrong("a parameter is cut off"))?;
             if !names.insert(name) {
                 return Err(wrong("a parameter stands there twice"));
             }

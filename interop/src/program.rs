@@ -1,10 +1,17 @@
 //! What the programs have in common: words of the command line, messages and statuses.
 
+use crate::connection::{ClientSetup, Config, Connection};
+use crate::fault::Outcome;
+use crate::packet::VERSION_1;
+use crate::tls::client_config;
+use gotsavena::Settings;
 use std::collections::BTreeMap;
 use std::fmt::Display;
 use std::net::{SocketAddr, ToSocketAddrs, UdpSocket};
+use std::path::Path;
 use std::process::ExitCode;
 use std::sync::atomic::{AtomicBool, Ordering};
+use std::time::{Duration, Instant};
 
 static TELLS_MORE: AtomicBool = AtomicBool::new(false);
 
@@ -100,6 +107,15 @@ impl Words {
         rest.map_err(|_| Refusal::Usage(format!("{count} words where {N} are expected")))
     }
 
+    /// The version that a client tries first: `--version HEX`.
+    pub fn version(&mut self) -> Result<u32, Refusal> {
+        match self.option("version") {
+            Some(text) => u32::from_str_radix(&text, 16)
+                .map_err(|_| Refusal::Usage(format!("--version {text} is no version"))),
+            None => Ok(VERSION_1),
+        }
+    }
+
     pub fn no_more_options(&self) -> Result<(), Refusal> {
         match self.options.keys().next() {
             Some(name) => Err(Refusal::Usage(format!("there is no option --{name}"))),
@@ -110,7 +126,10 @@ impl Words {
 
 /// The first address that a text names.
 pub fn address(text: &str) -> Result<SocketAddr, Refusal> {
-    let found = text.to_socket_addrs().ok().and_then(|mut found| found.next());
+    let found = text
+        .to_socket_addrs()
+        .ok()
+        .and_then(|mut found| found.next());
     found.ok_or_else(|| Refusal::Usage(format!("{text} is no address, such as 127.0.0.1:8853")))
 }
 
@@ -122,4 +141,68 @@ pub fn listen(text: &str) -> Result<UdpSocket, Refusal> {
     let own = socket.local_addr().map_err(Refusal::failure)?;
     println!("listening on {own}");
     Ok(socket)
+}
+
+/// What a connection for files is made with: `--window BYTES` is the window of the connection, and of a stream as far as one goes;
+/// `--streams N` how many the peer may open at once, of which the stream layer allows 65,536 in all.
+pub fn config(words: &mut Words) -> Result<Config, Refusal> {
+    let window = words.number("window", 1 << 22)?;
+    let streams = words.number("streams", 100)?;
+    if !(1..=1 << 24).contains(&window) || !(1..=4096).contains(&streams) {
+        let reason = "a window has 1 to 16777216 bytes, and the peer may open 1 to 4096 streams";
+        return Err(Refusal::Usage(reason.to_owned()));
+    }
+    let settings = Settings::default()
+        .conn_window(window)
+        .stream_windows(window.min(1 << 20))
+        .bidi_remote_window(window.min(1 << 16))
+        .send_buffer(1 << 20)
+        .streams(streams, 65_536);
+    Ok(Config {
+        settings,
+        idle: Duration::from_secs(30),
+    })
+}
+
+/// A client's connection to a server of a name.
+pub fn client(
+    protocol: &[u8],
+    name: &str,
+    version: u32,
+    config: Config,
+) -> Result<Connection, Refusal> {
+    // TLS has no name for a bare address: the certificate isn't looked at anyway.
+    let is_address = name
+        .trim_matches(['[', ']'])
+        .parse::<std::net::IpAddr>()
+        .is_ok();
+    let setup = ClientSetup {
+        tls: client_config(&[protocol]),
+        name: if is_address { "localhost" } else { name }.to_owned(),
+        version,
+    };
+    Connection::client(setup, config, Instant::now()).map_err(Refusal::failure)
+}
+
+/// A connection that ended otherwise than by this end's own wish is a failure.
+pub fn expect_close(outcome: &Outcome, code: u64) -> Result<(), Refusal> {
+    match outcome {
+        Outcome::Closed(close) if close.code == code => Ok(()),
+        outcome => Err(Refusal::Failure(format!("the connection {outcome}"))),
+    }
+}
+
+/// Writes a file into a folder, under the last part of its path.
+pub fn save(folder: &str, path: &str, bytes: &[u8]) -> Result<(), Refusal> {
+    let name = path.rsplit('/').next().filter(|name| !name.is_empty());
+    let file = Path::new(folder).join(name.unwrap_or("index.html"));
+    std::fs::write(&file, bytes)
+        .map_err(|error| Refusal::Failure(format!("{} can't be written: {error}", file.display())))
+}
+
+/// Tells how much came in which time.
+pub fn tell_speed(bytes: usize, time: Duration) {
+    let seconds = time.as_secs_f64().max(1e-9);
+    let speed = bytes as f64 / 1e6 / seconds;
+    println!("{bytes} bytes in {seconds:.3} s: {speed:.2} MB/s");
 }

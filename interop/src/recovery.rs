@@ -164,12 +164,18 @@ impl Recovery {
         delay: Duration,
         now: Instant,
     ) {
-        let newest = news.acked.iter().find(|(number, _)| Some(*number) == largest);
-        let (Some((_, newest)), true) = (newest, news.acked.iter().any(|(_, sent)| sent.asks)) else {
+        let newest = news
+            .acked
+            .iter()
+            .find(|(number, _)| Some(*number) == largest);
+        let (Some((_, newest)), true) = (newest, news.acked.iter().any(|(_, sent)| sent.asks))
+        else {
             return;
         };
         self.latest = now.saturating_duration_since(newest.at);
-        let least = self.least.map_or(self.latest, |least| least.min(self.latest));
+        let least = self
+            .least
+            .map_or(self.latest, |least| least.min(self.latest));
         if self.least.replace(least).is_none() {
             self.first_sample = Some(now);
             self.smoothed = self.latest;
@@ -236,7 +242,10 @@ impl Recovery {
         };
         let long = 3 * (self.smoothed + (4 * self.variation).max(GRANULARITY) + self.max_ack_delay);
         let mut began: Option<(u64, Instant)> = None;
-        for (number, sent) in lost.iter().filter(|(_, sent)| sent.asks && sent.at > first_sample) {
+        for (number, sent) in lost
+            .iter()
+            .filter(|(_, sent)| sent.asks && sent.at > first_sample)
+        {
             match began {
                 Some((before, at)) if before + 1 == *number => {
                     if sent.at - at > long {
@@ -298,7 +307,11 @@ impl Recovery {
                 false => Level::Initial,
             };
             // The time of the last packet, or now: with nothing in flight it is a fallback against a deadlock.
-            let last = self.spaces.iter().filter_map(|space| space.last_asked).max();
+            let last = self
+                .spaces
+                .iter()
+                .filter_map(|space| space.last_asked)
+                .max();
             let from = last.unwrap_or(now);
             times.push((from + self.probe_timeout(level) * back_off, level));
         }
@@ -368,7 +381,10 @@ mod tests {
         recovery.sent(Level::Initial, 0, sent(begin));
         let first = recovery.timer(CONFIRMED, begin).unwrap() - begin;
         assert_eq!(first, Duration::from_millis(999));
-        assert!(matches!(recovery.time_is_up(CONFIRMED, begin + first), Some(Due::Probe(Level::Initial))));
+        assert!(matches!(
+            recovery.time_is_up(CONFIRMED, begin + first),
+            Some(Due::Probe(Level::Initial))
+        ));
         assert_eq!(recovery.timer(CONFIRMED, begin), Some(begin + 2 * first));
     }
 }

@@ -1,7 +1,9 @@
 //! A server: many connections on one socket.
 
 use crate::connection::{Config, Connection, DATAGRAM};
-use crate::packet::{ConnectionId, Kind, Level, Packet, VERSION_1, read_packet, version_negotiation};
+use crate::packet::{
+    ConnectionId, Kind, Level, Packet, VERSION_1, read_packet, version_negotiation,
+};
 use crate::program;
 use crate::streams::Application;
 use rustls::ServerConfig;
@@ -42,7 +44,9 @@ pub fn receive_batch(
     until: Option<Instant>,
     mut take: impl FnMut(&mut [u8], SocketAddr),
 ) -> io::Result<()> {
-    let wait = until.map_or(LONG, |until| until.saturating_duration_since(Instant::now()));
+    let wait = until.map_or(LONG, |until| {
+        until.saturating_duration_since(Instant::now())
+    });
     socket.set_nonblocking(wait.is_zero())?;
     socket.set_read_timeout(Some(wait.max(Duration::from_micros(1))))?;
     let mut buffer = [0; 65_536];
@@ -50,7 +54,9 @@ pub fn receive_batch(
         match socket.recv_from(&mut buffer) {
             Ok((len, from)) => take(&mut buffer[..len], from),
             Err(error) => match error.kind() {
-                ErrorKind::WouldBlock | ErrorKind::TimedOut | ErrorKind::Interrupted => return Ok(()),
+                ErrorKind::WouldBlock | ErrorKind::TimedOut | ErrorKind::Interrupted => {
+                    return Ok(());
+                }
                 // The peer's socket is gone; its silence will tell.
                 ErrorKind::ConnectionRefused => {}
                 _ => return Err(error),
@@ -135,7 +141,9 @@ impl<A: Application> Server<A> {
     fn next_timer(&self) -> Option<Instant> {
         let now = Instant::now();
         let served = self.served.values();
-        served.filter_map(|served| served.connection.timer(now)).min()
+        served
+            .filter_map(|served| served.connection.timer(now))
+            .min()
     }
 
     fn timers_are_up(&mut self) -> Vec<u64> {
@@ -208,7 +216,9 @@ impl<A: Application> Server<A> {
             peer,
             application,
         } = served;
-        let more = turn(connection, application, out, |bytes| self.socket.send_to(bytes, *peer))?;
+        let more = turn(connection, application, out, |bytes| {
+            self.socket.send_to(bytes, *peer)
+        })?;
         if connection.is_gone() {
             for id in connection.ids() {
                 self.ids.remove(&id);

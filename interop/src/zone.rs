@@ -59,14 +59,21 @@ impl Zone {
         let mut lines = 0;
         for entry in entries(text)? {
             lines = entry.line;
-            reader
-                .take(&entry)
-                .map_err(|reason| ZoneFault { line: entry.line, reason })?;
+            reader.take(&entry).map_err(|reason| ZoneFault {
+                line: entry.line,
+                reason,
+            })?;
         }
-        let mut soas = reader.records.iter().filter(|record| record.kind == TYPE_SOA);
+        let mut soas = reader
+            .records
+            .iter()
+            .filter(|record| record.kind == TYPE_SOA);
         let (Some(soa), None) = (soas.next(), soas.next()) else {
             let reason = "a zone has one SOA record".to_owned();
-            return Err(ZoneFault { line: lines, reason });
+            return Err(ZoneFault {
+                line: lines,
+                reason,
+            });
         };
         Ok(Zone::of(soa.name.clone(), reader.records))
     }
@@ -143,7 +150,11 @@ fn entries(text: &str) -> Result<Vec<Entry>, ZoneFault> {
         if depth == 0 {
             let is_indented = text.starts_with([' ', '\t']);
             let words = Vec::new();
-            out.push(Entry { line, is_indented, words });
+            out.push(Entry {
+                line,
+                is_indented,
+                words,
+            });
         }
         for word in words {
             match (word.as_str(), depth) {
@@ -175,7 +186,9 @@ fn split(line: &str) -> Result<Vec<String>, String> {
             ';' => break,
             '(' | ')' => 1,
             '"' => 1 + rest[1..].find('"').ok_or("a quote isn't closed")?,
-            _ => rest.find([' ', '\t', ';', '(', ')', '"']).unwrap_or(rest.len()),
+            _ => rest
+                .find([' ', '\t', ';', '(', ')', '"'])
+                .unwrap_or(rest.len()),
         };
         words.push(rest[..len].to_owned());
         let after = if first == '"' { len + 1 } else { len };
@@ -235,7 +248,12 @@ impl ZoneReader {
         let kind = words.next().ok_or("a record lacks its type")?;
         let rest: Vec<&str> = words.collect();
         let (kind, data) = self.data(kind, &rest)?;
-        self.records.push(Record { name, kind, ttl, data });
+        self.records.push(Record {
+            name,
+            kind,
+            ttl,
+            data,
+        });
         Ok(())
     }
 
@@ -246,7 +264,10 @@ impl ZoneReader {
     fn data(&self, kind: &str, words: &[&str]) -> Result<(u16, Vec<u8>), String> {
         let one = || match words {
             [word] => Ok(*word),
-            _ => Err(format!("a record of type {kind} has one value, and not {}", words.len())),
+            _ => Err(format!(
+                "a record of type {kind} has one value, and not {}",
+                words.len()
+            )),
         };
         match kind.to_ascii_uppercase().as_str() {
             "A" => {
@@ -261,7 +282,9 @@ impl ZoneReader {
             "CNAME" => Ok((TYPE_CNAME, self.name(one()?)?.as_slice().to_vec())),
             "TXT" => Ok((TYPE_TXT, texts(words)?)),
             "SOA" => Ok((TYPE_SOA, self.soa(words)?)),
-            _ => Err(format!("there is no type {kind} here: A, AAAA, TXT, SOA, NS, CNAME")),
+            _ => Err(format!(
+                "there is no type {kind} here: A, AAAA, TXT, SOA, NS, CNAME"
+            )),
         }
     }
 
@@ -293,7 +316,8 @@ fn texts(words: &[&str]) -> Result<Vec<u8>, String> {
     let mut out = Vec::new();
     for word in words {
         let text = word.strip_prefix('"').unwrap_or(word);
-        let len = u8::try_from(text.len()).map_err(|_| "a text has more than 255 bytes".to_owned())?;
+        let len =
+            u8::try_from(text.len()).map_err(|_| "a text has more than 255 bytes".to_owned())?;
         out.push(len);
         out.extend_from_slice(text.as_bytes());
     }
@@ -307,7 +331,8 @@ fn texts(words: &[&str]) -> Result<Vec<u8>, String> {
 mod tests {
     use super::*;
 
-    const SOA: &str = "$ORIGIN example.\n$TTL 60\n@ IN SOA ns.example. host (\n 1 2 3 ; numbers\n 4 5 )\n";
+    const SOA: &str =
+        "$ORIGIN example.\n$TTL 60\n@ IN SOA ns.example. host (\n 1 2 3 ; numbers\n 4 5 )\n";
 
     fn name(text: &str) -> Name {
         Name::of_text(text, &Name::root()).unwrap()
@@ -315,7 +340,9 @@ mod tests {
 
     #[test]
     fn records_are_found() {
-        let text = format!("{SOA}www 5 IN A 192.0.2.1\n    A 192.0.2.2\na.b TXT \"x; y\" z\nalias CNAME www\n");
+        let text = format!(
+            "{SOA}www 5 IN A 192.0.2.1\n    A 192.0.2.2\na.b TXT \"x; y\" z\nalias CNAME www\n"
+        );
         let zone = Zone::read(&text).unwrap();
         let count = |text: &str, kind| match zone.find(&name(text), kind) {
             Found::Records(records) => records.len(),
@@ -338,13 +365,19 @@ mod tests {
     fn a_wrong_line_is_named() {
         let wrong = [
             ("www A 192.0.2", "line 6: 192.0.2 is not an IPv4 address"),
-            ("www MX 10 mail", "line 6: there is no type MX here: A, AAAA, TXT, SOA, NS, CNAME"),
+            (
+                "www MX 10 mail",
+                "line 6: there is no type MX here: A, AAAA, TXT, SOA, NS, CNAME",
+            ),
             ("www TXT \"x", "line 6: a quote isn't closed"),
             ("www TXT", "line 6: a record of type TXT lacks its text"),
             ("www", "line 6: a record lacks its type"),
             ("w..w A 192.0.2.1", "line 6: w..w is no name"),
             ("www A (192.0.2.1", "line 6: a parenthesis isn't closed"),
-            ("www A 192.0.2.1)", "line 6: a parenthesis is closed that wasn't opened"),
+            (
+                "www A 192.0.2.1)",
+                "line 6: a parenthesis is closed that wasn't opened",
+            ),
         ];
         for (line, told) in wrong {
             let fault = Zone::read(&format!("{SOA}{line}\n")).unwrap_err();

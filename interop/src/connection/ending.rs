@@ -18,7 +18,9 @@ pub(super) enum State {
         answer_after: u32,
     },
     /// The peer closed: nothing is sent.
-    Draining { until: Instant },
+    Draining {
+        until: Instant,
+    },
     Gone,
 }
 
@@ -71,7 +73,9 @@ impl Connection {
     fn probe_handshake(&mut self) {
         for level in [Level::Initial, Level::Handshake] {
             let in_flight = self.recovery.in_flight(level);
-            let ranges = in_flight.flat_map(|(_, sent)| sent.crypto.clone()).collect();
+            let ranges = in_flight
+                .flat_map(|(_, sent)| sent.crypto.clone())
+                .collect();
             let space = self.space(level);
             if space.keys.is_some() {
                 space.out.probe(ranges);
@@ -82,14 +86,23 @@ impl Connection {
 
     // What the oldest packet carried goes again (RFC 9002, section 6.2.4). It stays in flight: its ACK may come late.
     fn probe_data(&mut self) {
-        let asking = self.recovery.in_flight(Level::Data).filter(|(_, sent)| sent.asks);
-        let oldest: Vec<_> = asking.take(2).map(|(number, sent)| (number, sent.clone())).collect();
+        let asking = self
+            .recovery
+            .in_flight(Level::Data)
+            .filter(|(_, sent)| sent.asks);
+        let oldest: Vec<_> = asking
+            .take(2)
+            .map(|(number, sent)| (number, sent.clone()))
+            .collect();
         self.lose(Level::Data, oldest);
         self.space(Level::Data).probes = 2;
     }
 
     fn linger(&self, now: Instant) -> Instant {
-        now + 3 * self.recovery.probe_timeout(Level::Data).max(Duration::from_millis(5))
+        now + 3 * self
+            .recovery
+            .probe_timeout(Level::Data)
+            .max(Duration::from_millis(5))
     }
 
     /// The application closes the connection.
@@ -162,7 +175,13 @@ impl Connection {
         let (code, frame_type, reason) = match &self.outcome {
             Some(Outcome::Closed(close)) if level == Level::Data => {
                 let reason = close.reason.as_bytes();
-                push_frame(out, &Frame::ApplicationClose { code: close.code, reason });
+                push_frame(
+                    out,
+                    &Frame::ApplicationClose {
+                        code: close.code,
+                        reason,
+                    },
+                );
                 return;
             }
             Some(Outcome::Failed(fault)) => (fault.code, fault.frame_type, fault.reason.as_str()),
@@ -170,6 +189,13 @@ impl Connection {
             _ => (INTERNAL_ERROR, 0, ""),
         };
         let reason = reason.as_bytes();
-        push_frame(out, &Frame::ConnectionClose { code, frame_type, reason });
+        push_frame(
+            out,
+            &Frame::ConnectionClose {
+                code,
+                frame_type,
+                reason,
+            },
+        );
     }
 }

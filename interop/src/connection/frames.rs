@@ -26,7 +26,9 @@ impl Connection {
             match placed.frame {
                 Frame::Padding => continue,
                 Frame::Ping => {}
-                Frame::Ack { largest, ranges, .. } => {
+                Frame::Ack {
+                    largest, ranges, ..
+                } => {
                     self.take_handshake_ack(level, largest, ranges, now)?;
                     continue;
                 }
@@ -61,7 +63,14 @@ impl Connection {
         Ok(())
     }
 
-    fn take_ack(&mut self, level: Level, largest: u64, ranges: &[u8], delay: Duration, now: Instant) {
+    fn take_ack(
+        &mut self,
+        level: Level,
+        largest: u64,
+        ranges: &[u8],
+        delay: Duration,
+        now: Instant,
+    ) {
         let ranges = AckRanges::new(largest, ranges).into_iter().flatten();
         let News { lost, .. } = self.recovery.acked(level, ranges, delay, now);
         self.lose(level, lost);
@@ -93,15 +102,30 @@ impl Connection {
         Ok(())
     }
 
-    fn take_data_frame(&mut self, frame: &Frame<'_>, frame_type: u64, now: Instant) -> Result<(), Fault> {
+    fn take_data_frame(
+        &mut self,
+        frame: &Frame<'_>,
+        frame_type: u64,
+        now: Instant,
+    ) -> Result<(), Fault> {
         match *frame {
-            Frame::Ack { largest, delay, ranges, .. } => {
+            Frame::Ack {
+                largest,
+                delay,
+                ranges,
+                ..
+            } => {
                 let micros = delay.checked_shl(self.peer.ack_delay_exponent as u32);
                 let delay = Duration::from_micros(micros.unwrap_or(u64::MAX));
                 self.take_ack(Level::Data, largest, ranges, delay, now);
             }
             Frame::Crypto { offset, bytes } => self.take_crypto(Level::Data, offset, bytes)?,
-            Frame::NewConnectionId { sequence, retire, identifier, reset_token } => {
+            Frame::NewConnectionId {
+                sequence,
+                retire,
+                identifier,
+                reset_token,
+            } => {
                 self.take_new_id(sequence, retire, identifier, reset_token)?;
             }
             Frame::RetireConnectionId { .. } => {
@@ -116,7 +140,9 @@ impl Connection {
                 return Err(Fault::new(PROTOCOL_VIOLATION, frame_type, reason));
             }
             Frame::HandshakeDone if !self.is_confirmed => self.confirm(),
-            Frame::ConnectionClose { code, reason, .. } => self.peer_closed(false, code, reason, now),
+            Frame::ConnectionClose { code, reason, .. } => {
+                self.peer_closed(false, code, reason, now)
+            }
             Frame::ApplicationClose { code, reason } => self.peer_closed(true, code, reason, now),
             // What is the stream layer's own, and a path that wasn't challenged.
             _ => {}
@@ -132,7 +158,11 @@ impl Connection {
         reset_token: &[u8],
     ) -> Result<(), Fault> {
         let (Some(id), Ok(token)) = (ConnectionId::new(identifier), reset_token.try_into()) else {
-            return Err(Fault::new(FRAME_ENCODING_ERROR, 0x18, "an identifier of a wrong length"));
+            return Err(Fault::new(
+                FRAME_ENCODING_ERROR,
+                0x18,
+                "an identifier of a wrong length",
+            ));
         };
         for retired in self.peer_ids.take(sequence, retire, id, token)? {
             self.control(Control::RetireId(retired));

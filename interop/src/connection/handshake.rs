@@ -11,7 +11,12 @@ use rustls::quic::KeyChange;
 
 impl Connection {
     /// Bytes of the handshake came at a level.
-    pub(super) fn take_crypto(&mut self, level: Level, offset: u64, bytes: &[u8]) -> Result<(), Fault> {
+    pub(super) fn take_crypto(
+        &mut self,
+        level: Level,
+        offset: u64,
+        bytes: &[u8],
+    ) -> Result<(), Fault> {
         let next = self.space(level).incoming.take(offset, bytes)?;
         if next.is_empty() {
             return Ok(());
@@ -75,7 +80,13 @@ impl Connection {
 
     // The identifiers of the first packets are those that the parameters tell (RFC 9000, section 7.3).
     fn check_ids(&self, peer: &Parameters) -> Result<(), Fault> {
-        let wrong = |code| Err(Fault::new(code, 0, "an identifier isn't that of the first packets"));
+        let wrong = |code| {
+            Err(Fault::new(
+                code,
+                0,
+                "an identifier isn't that of the first packets",
+            ))
+        };
         match peer.initial_source {
             None => return wrong(TRANSPORT_PARAMETER_ERROR),
             Some(id) if id != self.peer_ids.current() => return wrong(PROTOCOL_VIOLATION),

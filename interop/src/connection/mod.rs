@@ -117,7 +117,8 @@ impl Connection {
         let destination = random_id()?;
         let told = own_parameters(&config, own_id);
         let session = Session::client(setup.tls.clone(), &setup.name, told.write())?;
-        let mut connection = Connection::new(Role::Client, config, session, own_id, destination, now);
+        let mut connection =
+            Connection::new(Role::Client, config, session, own_id, destination, now);
         connection.version = setup.version;
         connection.client = Some(setup);
         connection.is_validated = true;
@@ -138,7 +139,8 @@ impl Connection {
         let mut told = own_parameters(&config, own_id);
         told.original_destination = Some(destination);
         let session = Session::server(tls, told.write())?;
-        let mut connection = Connection::new(Role::Server, config, session, own_id, destination, now);
+        let mut connection =
+            Connection::new(Role::Server, config, session, own_id, destination, now);
         connection.peer_ids = PeerIds::new(source);
         connection.has_peer_id = true;
         Ok(connection)
@@ -154,7 +156,11 @@ impl Connection {
     ) -> Connection {
         let mut spaces: [Space; 3] = Default::default();
         let is_client = role == Role::Client;
-        spaces[0].keys = Some(Keys::initial(Version::V1, destination.as_slice(), is_client));
+        spaces[0].keys = Some(Keys::initial(
+            Version::V1,
+            destination.as_slice(),
+            is_client,
+        ));
         Connection {
             role,
             config,
@@ -235,7 +241,9 @@ impl Connection {
         Standing {
             has_handshake_keys: self.spaces[Level::Handshake as usize].keys.is_some(),
             is_confirmed: self.is_confirmed,
-            peer_validated: self.role == Role::Server || self.is_handshake_acked || self.is_confirmed,
+            peer_validated: self.role == Role::Server
+                || self.is_handshake_acked
+                || self.is_confirmed,
             is_held_back: !self.is_validated && self.bytes_out + DATAGRAM > 3 * self.bytes_in,
         }
     }

@@ -40,7 +40,12 @@ impl Connection {
     }
 
     // Answers whether the packet is the peer's.
-    fn take_packet(&mut self, packet: &Packet, bytes: &mut [u8], now: Instant) -> Result<bool, Fault> {
+    fn take_packet(
+        &mut self,
+        packet: &Packet,
+        bytes: &mut [u8],
+        now: Instant,
+    ) -> Result<bool, Fault> {
         let level = match packet.kind {
             Kind::Protected(Level::Data) if !self.session.is_done() || self.end.is_none() => {
                 if self.early.len() < MOST_EARLY {
@@ -77,7 +82,12 @@ impl Connection {
             return self.data_keys.as_mut()?.open(bytes, packet, self.expected);
         }
         let space = &self.spaces[level as usize];
-        protection::open(&space.keys.as_ref()?.remote, bytes, packet, space.received.end())
+        protection::open(
+            &space.keys.as_ref()?.remote,
+            bytes,
+            packet,
+            space.received.end(),
+        )
     }
 
     fn take_handshake(
@@ -140,8 +150,11 @@ impl Connection {
             return Ok(false);
         };
         let versions = bytes[packet.body..].chunks_exact(4);
-        let mut versions = versions.map(|bytes| u32::from_be_bytes([bytes[0], bytes[1], bytes[2], bytes[3]]));
-        if packet.destination != self.own_id || versions.clone().any(|version| version == self.version) {
+        let mut versions =
+            versions.map(|bytes| u32::from_be_bytes([bytes[0], bytes[1], bytes[2], bytes[3]]));
+        if packet.destination != self.own_id
+            || versions.clone().any(|version| version == self.version)
+        {
             return Ok(false);
         }
         if !versions.any(|version| version == VERSION_1) {
@@ -156,7 +169,8 @@ impl Connection {
 
     // A server asks for a token to come back (RFC 9000, section 17.2.5).
     fn retry(&mut self, packet: &Packet, bytes: &[u8]) -> bool {
-        let is_first = self.role == Role::Client && !self.has_peer_id && self.retry_source.is_none();
+        let is_first =
+            self.role == Role::Client && !self.has_peer_id && self.retry_source.is_none();
         let Some((body, tag)) = bytes.split_last_chunk::<TOKEN_LEN>() else {
             return false;
         };
@@ -180,15 +194,20 @@ impl Connection {
 // What shows that a Retry answers the first Initial (RFC 9001, section 5.8).
 fn retry_tag(destination: &[u8], body: &[u8]) -> Option<[u8; TOKEN_LEN]> {
     const KEY: [u8; 16] = [
-        0xbe, 0x0c, 0x69, 0x0b, 0x9f, 0x66, 0x57, 0x5a, 0x1d, 0x76, 0x6b, 0x54, 0xe3, 0x68, 0xc8, 0x4e,
+        0xbe, 0x0c, 0x69, 0x0b, 0x9f, 0x66, 0x57, 0x5a, 0x1d, 0x76, 0x6b, 0x54, 0xe3, 0x68, 0xc8,
+        0x4e,
     ];
-    const NONCE: [u8; 12] = [0x46, 0x15, 0x99, 0xd3, 0x5d, 0x63, 0x2b, 0xf2, 0x23, 0x98, 0x25, 0xbb];
+    const NONCE: [u8; 12] = [
+        0x46, 0x15, 0x99, 0xd3, 0x5d, 0x63, 0x2b, 0xf2, 0x23, 0x98, 0x25, 0xbb,
+    ];
     let key = LessSafeKey::new(UnboundKey::new(&AES_128_GCM, &KEY).ok()?);
     let mut text = vec![destination.len() as u8];
     text.extend_from_slice(destination);
     text.extend_from_slice(body);
     let nonce = Nonce::assume_unique_for_key(NONCE);
-    let tag = key.seal_in_place_separate_tag(nonce, Aad::from(text), &mut []).ok()?;
+    let tag = key
+        .seal_in_place_separate_tag(nonce, Aad::from(text), &mut [])
+        .ok()?;
     tag.as_ref().try_into().ok()
 }
 
@@ -200,8 +219,12 @@ mod tests {
     fn the_tag_of_a_retry_is_that_of_the_standard() {
         // RFC 9001, section A.4.
         let destination = [0x83, 0x94, 0xc8, 0xf0, 0x3e, 0x51, 0x57, 0x08];
-        let body = b"\xff\x00\x00\x00\x01\x00\x08\xf0\x67\xa5\x50\x2a\x42\x62\xb5\x74\x6f\x6b\x65\x6e";
+        let body =
+            b"\xff\x00\x00\x00\x01\x00\x08\xf0\x67\xa5\x50\x2a\x42\x62\xb5\x74\x6f\x6b\x65\x6e";
         let tag = retry_tag(&destination, body).unwrap();
-        assert_eq!(tag, *b"\x04\xa2\x65\xba\x2e\xff\x4d\x82\x90\x58\xfb\x3f\x0f\x24\x96\xba");
+        assert_eq!(
+            tag,
+            *b"\x04\xa2\x65\xba\x2e\xff\x4d\x82\x90\x58\xfb\x3f\x0f\x24\x96\xba"
+        );
     }
 }

@@ -64,11 +64,15 @@ impl Connection {
 
     // Pads a datagram that has an Initial (RFC 9000, section 14.1), protects the packets, and notes them as sent.
     fn finish(&mut self, mut planned: Vec<Planned>, out: &mut Vec<u8>) {
-        let has_initial = planned.iter().any(|plan| plan.draft.level == Level::Initial);
+        let has_initial = planned
+            .iter()
+            .any(|plan| plan.draft.level == Level::Initial);
         if let (Some(last), true) = (planned.last_mut(), has_initial) {
             last.draft.pad(out, DATAGRAM);
         }
-        let has_handshake = planned.iter().any(|plan| plan.draft.level == Level::Handshake);
+        let has_handshake = planned
+            .iter()
+            .any(|plan| plan.draft.level == Level::Handshake);
         for plan in planned {
             self.note_sent(plan, out);
         }
@@ -81,7 +85,11 @@ impl Connection {
 
     fn note_sent(&mut self, plan: Planned, out: &mut [u8]) {
         let Planned { draft, mut sent } = plan;
-        match (draft.level, &self.data_keys, &self.spaces[draft.level as usize].keys) {
+        match (
+            draft.level,
+            &self.data_keys,
+            &self.spaces[draft.level as usize].keys,
+        ) {
             (Level::Data, Some(keys), _) => keys.seal(out, &draft),
             (_, _, Some(keys)) => seal(&keys.local.header, &keys.local.packet, out, &draft),
             _ => return,
@@ -156,7 +164,11 @@ impl Connection {
     fn plan_data(&mut self, out: &mut Vec<u8>, now: Instant) -> Result<Option<Planned>, Fault> {
         let probes = self.space(Level::Data).probes;
         let may_go = self.recovery.congestion.allows() || probes > 0;
-        let Some(end) = self.end.as_ref().filter(|_| self.session.is_done() && may_go) else {
+        let Some(end) = self
+            .end
+            .as_ref()
+            .filter(|_| self.session.is_done() && may_go)
+        else {
             return Ok(None);
         };
         let header = self.header(Level::Data, end.next_number());
@@ -194,7 +206,11 @@ impl Connection {
             Some(end) => end.make_packet(&mut out[at..]),
             None => Ok(None),
         };
-        let len = made.as_ref().ok().and_then(|made| *made).map(|made| made.len);
+        let len = made
+            .as_ref()
+            .ok()
+            .and_then(|made| *made)
+            .map(|made| made.len);
         out.truncate(at + len.unwrap_or(0));
         match made {
             // Where memory is refused, nothing goes for now.
@@ -235,7 +251,9 @@ impl Connection {
         let mut planned = Vec::new();
         for level in Level::ALL {
             let number = match level {
-                Level::Data if self.data_keys.is_some() && self.session.is_done() => self.claim()?,
+                Level::Data if self.data_keys.is_some() && self.session.is_done() => {
+                    self.claim()?
+                }
                 _ if self.space(level).keys.is_some() => {
                     self.space(level).next_number += 1;
                     self.space(level).next_number - 1
@@ -270,7 +288,9 @@ fn sent_now(
 fn frame_of(control: &Control) -> Frame<'_> {
     match control {
         Control::HandshakeDone => Frame::HandshakeDone,
-        Control::RetireId(sequence) => Frame::RetireConnectionId { sequence: *sequence },
+        Control::RetireId(sequence) => Frame::RetireConnectionId {
+            sequence: *sequence,
+        },
         Control::PathResponse(bytes) => Frame::PathResponse { bytes },
     }
 }

@@ -1,0 +1,144 @@
+//! Serves and loads files over QUIC by quinn: the bytes of a stream are a path, the answer is the file.
+//!
+//!     quinn-peer server DIR ADDR CERTIFICATE.der KEY.der
+//!     quinn-peer client ADDR DIR PATH..
+
+use quinn::{ClientConfig, Connecting, Connection, Endpoint, RecvStream, SendStream, ServerConfig};
+use std::error::Error;
+use std::net::SocketAddr;
+use std::path::Path;
+use std::process::ExitCode;
+use std::sync::Arc;
+use std::time::{Instant, SystemTime};
+
+type Fallible<T> = Result<T, Box<dyn Error + Send + Sync>>;
+
+const PROTOCOL: &[u8] = b"gotsavena-raw";
+const NO_FILE: u32 = 2;
+const MOST_PATH: usize = 4096;
+const MOST_BYTES: usize = 1 << 30;
+
+fn main() -> ExitCode {
+    let words: Vec<String> = std::env::args().skip(1).collect();
+    match run(&words) {
+        Ok(()) => ExitCode::SUCCESS,
+        Err(error) => {
+            eprintln!("quinn-peer: {error}");
+            ExitCode::FAILURE
+        }
+    }
+}
+
+fn run(words: &[String]) -> Fallible<()> {
+    let runtime = tokio::runtime::Builder::new_current_thread()
+        .enable_all()
+        .build()?;
+    let words: Vec<&str> = words.iter().map(String::as_str).collect();
+    match words.as_slice() {
+        ["server", folder, address, certificate, key] => {
+            runtime.block_on(serve(folder, address.parse()?, certificate, key))
+        }
+        ["client", address, folder, paths @ ..] => {
+            runtime.block_on(load(address.parse()?, folder, paths))
+        }
+        _ => Err("server DIR ADDR CERTIFICATE KEY, or client ADDR DIR PATH..".into()),
+    }
+}
+
+async fn serve(folder: &str, address: SocketAddr, certificate: &str, key: &str) -> Fallible<()> {
+    let certificate = rustls::Certificate(std::fs::read(certificate)?);
+    let key = rustls::PrivateKey(std::fs::read(key)?);
+    let mut tls = rustls::ServerConfig::builder()
+        .with_safe_defaults()
+        .with_no_client_auth()
+        .with_single_cert(vec![certificate], key)?;
+    tls.alpn_protocols = vec![PROTOCOL.to_vec()];
+    let endpoint = Endpoint::server(ServerConfig::with_crypto(Arc::new(tls)), address)?;
+    println!("listening on {}", endpoint.local_addr()?);
+    while let Some(connecting) = endpoint.accept().await {
+        tokio::spawn(serve_connection(folder.to_owned(), connecting));
+    }
+    Ok(())
+}
+
+async fn serve_connection(folder: String, connecting: Connecting) {
+    let Ok(connection) = connecting.await else {
+        return;
+    };
+    while let Ok((send, receive)) = connection.accept_bi().await {
+        let folder = folder.clone();
+        tokio::spawn(async move {
+            if let Err(error) = serve_stream(&folder, send, receive).await {
+                eprintln!("quinn-peer: {error}");
+            }
+        });
+    }
+}
+
+async fn serve_stream(folder: &str, mut send: SendStream, receive: RecvStream) -> Fallible<()> {
+    let path = String::from_utf8(receive.read_to_end(MOST_PATH).await?)?;
+    let is_below = !path.split('/').any(|part| part == "..");
+    match std::fs::read(Path::new(folder).join(path.trim_start_matches('/'))) {
+        Ok(bytes) if is_below => {
+            send.write_all(&bytes).await?;
+            send.finish().await?;
+        }
+        _ => send.reset(NO_FILE.into())?,
+    }
+    Ok(())
+}
+
+async fn load(address: SocketAddr, folder: &str, paths: &[&str]) -> Fallible<()> {
+    let mut tls = rustls::ClientConfig::builder()
+        .with_safe_defaults()
+        .with_custom_certificate_verifier(Arc::new(AnyCertificate))
+        .with_no_client_auth();
+    tls.alpn_protocols = vec![PROTOCOL.to_vec()];
+    let mut endpoint = Endpoint::client("127.0.0.1:0".parse()?)?;
+    endpoint.set_default_client_config(ClientConfig::new(Arc::new(tls)));
+    let begin = Instant::now();
+    let connection = endpoint.connect(address, "localhost")?.await?;
+    let mut loading = Vec::new();
+    for path in paths {
+        let one = load_one(connection.clone(), (*path).to_owned());
+        loading.push((path, tokio::spawn(one)));
+    }
+    let mut count = 0;
+    for (path, one) in loading {
+        let bytes = one.await??;
+        count += bytes.len();
+        let name = path.rsplit('/').next().unwrap_or(path);
+        std::fs::write(Path::new(folder).join(name), bytes)?;
+    }
+    connection.close(0u32.into(), b"");
+    let seconds = begin.elapsed().as_secs_f64();
+    println!(
+        "{count} bytes in {seconds:.3} s: {:.2} MB/s",
+        count as f64 / 1e6 / seconds
+    );
+    endpoint.wait_idle().await;
+    Ok(())
+}
+
+async fn load_one(connection: Connection, path: String) -> Fallible<Vec<u8>> {
+    let (mut send, receive) = connection.open_bi().await?;
+    send.write_all(path.as_bytes()).await?;
+    send.finish().await?;
+    Ok(receive.read_to_end(MOST_BYTES).await?)
+}
+
+struct AnyCertificate;
+
+impl rustls::client::ServerCertVerifier for AnyCertificate {
+    fn verify_server_cert(
+        &self,
+        _end_entity: &rustls::Certificate,
+        _intermediates: &[rustls::Certificate],
+        _server_name: &rustls::ServerName,
+        _scts: &mut dyn Iterator<Item = &[u8]>,
+        _ocsp_response: &[u8],
+        _now: SystemTime,
+    ) -> Result<rustls::client::ServerCertVerified, rustls::Error> {
+        Ok(rustls::client::ServerCertVerified::assertion())
+    }
+}

@@ -1,0 +1,47 @@
+//! A client of files without HTTP: loads each path into a folder, under the path's last part.
+
+use gotsavena_interop::client::{connect, run};
+use gotsavena_interop::program::{
+    self, Refusal, Words, address, client, config, expect_close, save,
+};
+use gotsavena_interop::raw::{NO_ERROR, PROTOCOL, RawClient};
+use std::process::ExitCode;
+use std::time::Instant;
+
+fn main() -> ExitCode {
+    program::run(
+        "raw-client [--window BYTES] [--streams N] [--version HEX] ADDR DIR PATH..",
+        load,
+    )
+}
+
+fn load(mut words: Words) -> Result<(), Refusal> {
+    let config = config(&mut words)?;
+    let version = words.version()?;
+    words.no_more_options()?;
+    let [server, folder, paths @ ..] = words.rest.as_slice() else {
+        return Err(Refusal::Usage(
+            "an address, a folder and paths are expected".to_owned(),
+        ));
+    };
+    if paths.is_empty() {
+        return Err(Refusal::Usage("a path is expected".to_owned()));
+    }
+    let begin = Instant::now();
+    let socket = connect(address(server)?).map_err(Refusal::failure)?;
+    let mut connection = client(PROTOCOL, "localhost", version, config)?;
+    let mut loader = RawClient::new(paths.to_vec());
+    let outcome = run(&socket, &mut connection, &mut loader).map_err(Refusal::failure)?;
+    expect_close(&outcome, NO_ERROR)?;
+    let time = begin.elapsed();
+    let mut bytes = 0;
+    for (path, loaded) in &loader.loaded {
+        let loaded = loaded
+            .as_ref()
+            .ok_or_else(|| Refusal::Failure(format!("{path}: the server has no such file")))?;
+        bytes += loaded.len();
+        save(folder, path, loaded)?;
+    }
+    program::tell_speed(bytes, time);
+    Ok(())
+}

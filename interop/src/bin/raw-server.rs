@@ -1,0 +1,26 @@
+//! A server of files without HTTP: the bytes of a stream are a path, the answer is the file.
+
+use gotsavena_interop::files::Folder;
+use gotsavena_interop::program::{self, Refusal, Words, config, listen};
+use gotsavena_interop::raw::{PROTOCOL, RawServer};
+use gotsavena_interop::server::Server;
+use gotsavena_interop::tls::server_config;
+use std::process::ExitCode;
+
+fn main() -> ExitCode {
+    program::run(
+        "raw-server [--window BYTES] [--streams N] [--verbose yes] DIR ADDR",
+        serve,
+    )
+}
+
+fn serve(mut words: Words) -> Result<(), Refusal> {
+    let config = config(&mut words)?;
+    let [root, address] = words.exactly()?;
+    let folder = Folder::open(&root)
+        .map_err(|error| Refusal::Failure(format!("{root} can't be opened: {error}")))?;
+    let tls = server_config(&[PROTOCOL]).map_err(Refusal::failure)?;
+    let socket = listen(&address)?;
+    let mut server = Server::new(socket, tls, config, move || RawServer::new(folder.clone()));
+    server.run().map_err(Refusal::failure)
+}

@@ -1,0 +1,575 @@
+//! One HTTP/3 connection: nghttp3's, with its callbacks as events and its streams over those of the endpoint.
+//!
+//! All unsafe code of the package stands here. Its reasons: `conn` is made once and freed once; the callbacks get the `Shared` that
+//! lives as long as `conn` does, and run only within calls on it, during which no reference to it is held here.
+
+use super::declarations::*;
+use super::{INTERNAL_ERROR, REQUEST_CANCELLED};
+use crate::fault::Close;
+use gotsavena::{Dir, Endpoint, OpenFault, Read, Role, StreamId, UseFault};
+use std::collections::{BTreeSet, HashMap, VecDeque};
+use std::ffi::{CStr, c_int, c_void};
+use std::ptr;
+use std::sync::Arc;
+
+/// A field of a request or response.
+pub type Field = (Vec<u8>, Vec<u8>);
+
+/// What came.
+#[derive(Debug, PartialEq, Eq)]
+pub enum Event {
+    Field(StreamId, Field),
+    /// All fields came; whether the stream ends with them.
+    FieldsEnd(StreamId),
+    Data(StreamId, Vec<u8>),
+    End(StreamId),
+    /// The peer broke the stream off, or asked to stop.
+    Broken(StreamId, u64),
+}
+
+/// How many bytes of a body are given at once, so that streams go by turns.
+const TURN: usize = 1 << 16;
+
+/// How many parts of a stream are written at once.
+const PARTS: usize = 16;
+
+struct Body {
+    bytes: Arc<[u8]>,
+    given: usize,
+}
+
+/// What the callbacks see.
+#[derive(Default)]
+struct Shared {
+    events: VecDeque<Event>,
+    bodies: HashMap<i64, Body>,
+    stops: Vec<(i64, u64)>,
+    resets: Vec<(i64, u64)>,
+}
+
+pub struct Session {
+    conn: *mut Conn,
+    shared: *mut Shared,
+    reading: BTreeSet<StreamId>,
+    /// Streams whose ends were read, and those whose ends were written.
+    read: BTreeSet<StreamId>,
+    written: BTreeSet<StreamId>,
+    /// Streams that the library knows no more, and whose ends weren't read.
+    closed: BTreeSet<StreamId>,
+    blocked: Vec<i64>,
+}
+
+extern "C" fn on_data(
+    _conn: *mut Conn,
+    stream: i64,
+    bytes: *const u8,
+    len: usize,
+    shared: *mut c_void,
+    _of_stream: *mut c_void,
+) -> c_int {
+    // Sound: the library gives bytes of that length, and what was registered as user data.
+    let (shared, bytes) = unsafe { (shared_of(shared), slice(bytes, len)) };
+    shared
+        .events
+        .push_back(Event::Data(id(stream), bytes.to_vec()));
+    0
+}
+
+extern "C" fn on_header(
+    _conn: *mut Conn,
+    stream: i64,
+    _token: i32,
+    name: *mut RcBuf,
+    value: *mut RcBuf,
+    _flags: u8,
+    shared: *mut c_void,
+    _of_stream: *mut c_void,
+) -> c_int {
+    // Sound: as of `on_data`, and the buffers live during the call.
+    let (shared, field) = unsafe { (shared_of(shared), (bytes_of(name), bytes_of(value))) };
+    shared.events.push_back(Event::Field(id(stream), field));
+    0
+}
+
+extern "C" fn on_headers_end(
+    _conn: *mut Conn,
+    stream: i64,
+    _fin: c_int,
+    shared: *mut c_void,
+    _of_stream: *mut c_void,
+) -> c_int {
+    // Sound: as of `on_data`.
+    let shared = unsafe { shared_of(shared) };
+    shared.events.push_back(Event::FieldsEnd(id(stream)));
+    0
+}
+
+extern "C" fn on_end(
+    _conn: *mut Conn,
+    stream: i64,
+    shared: *mut c_void,
+    _of_stream: *mut c_void,
+) -> c_int {
+    // Sound: as of `on_data`.
+    unsafe { shared_of(shared) }
+        .events
+        .push_back(Event::End(id(stream)));
+    0
+}
+
+extern "C" fn on_stop(
+    _conn: *mut Conn,
+    stream: i64,
+    code: u64,
+    shared: *mut c_void,
+    _of_stream: *mut c_void,
+) -> c_int {
+    // Sound: as of `on_data`.
+    unsafe { shared_of(shared) }.stops.push((stream, code));
+    0
+}
+
+extern "C" fn on_reset(
+    _conn: *mut Conn,
+    stream: i64,
+    code: u64,
+    shared: *mut c_void,
+    _of_stream: *mut c_void,
+) -> c_int {
+    // Sound: as of `on_data`.
+    unsafe { shared_of(shared) }.resets.push((stream, code));
+    0
+}
+
+extern "C" fn read_data(
+    _conn: *mut Conn,
+    stream: i64,
+    parts: *mut Bytes,
+    count: usize,
+    flags: *mut u32,
+    shared: *mut c_void,
+    _of_stream: *mut c_void,
+) -> isize {
+    // Sound: as of `on_data`.
+    let shared = unsafe { shared_of(shared) };
+    let Some(body) = shared.bodies.get_mut(&stream).filter(|_| count > 0) else {
+        return ERR_WOULDBLOCK;
+    };
+    let part = &body.bytes[body.given..body.bytes.len().min(body.given + TURN)];
+    body.given += part.len();
+    // Sound: there is at least one part, and the flags are the library's. The bytes stay until the stream is closed, and the
+    // library only reads them.
+    unsafe {
+        *parts = Bytes {
+            base: part.as_ptr().cast_mut(),
+            len: part.len(),
+        };
+        if body.given == body.bytes.len() {
+            *flags |= DATA_FLAG_EOF;
+        }
+    }
+    isize::from(!part.is_empty())
+}
+
+/// # Safety
+///
+/// The pointer is that of a session's `Shared`, to which no other reference is held.
+unsafe fn shared_of<'a>(shared: *mut c_void) -> &'a mut Shared {
+    unsafe { &mut *shared.cast() }
+}
+
+/// # Safety
+///
+/// So many bytes stand there, if any.
+unsafe fn slice<'a>(bytes: *const u8, len: usize) -> &'a [u8] {
+    match len {
+        0 => &[],
+        _ => unsafe { std::slice::from_raw_parts(bytes, len) },
+    }
+}
+
+/// # Safety
+///
+/// The buffer is one of the library's.
+unsafe fn bytes_of(buffer: *mut RcBuf) -> Vec<u8> {
+    unsafe {
+        let bytes = nghttp3_rcbuf_get_buf(buffer);
+        slice(bytes.base, bytes.len).to_vec()
+    }
+}
+
+// The library names only streams that it was given.
+fn id(stream: i64) -> StreamId {
+    StreamId::new(stream as u64).expect("the library names a stream that it was given")
+}
+
+fn number(stream: StreamId) -> i64 {
+    stream.value() as i64
+}
+
+fn check(error: c_int) -> Result<(), Close> {
+    match error {
+        0.. => Ok(()),
+        _ => Err(close_of(error)),
+    }
+}
+
+fn close_of(error: c_int) -> Close {
+    // Sound: both take any number; the text is static.
+    let (code, text) = unsafe {
+        (
+            nghttp3_err_infer_quic_app_error_code(error),
+            CStr::from_ptr(nghttp3_strerror(error)),
+        )
+    };
+    Close::new(code, &text.to_string_lossy())
+}
+
+fn internal(fault: UseFault) -> Close {
+    Close::new(INTERNAL_ERROR, &fault.to_string())
+}
+
+impl Session {
+    /// A session, whose three streams for itself are opened.
+    pub fn new(role: Role, end: &mut Endpoint) -> Result<Session, Close> {
+        let callbacks = Callbacks {
+            recv_data: Some(on_data),
+            recv_header: Some(on_header),
+            end_headers: Some(on_headers_end),
+            end_stream: Some(on_end),
+            stop_sending: Some(on_stop),
+            reset_stream: Some(on_reset),
+            ..Callbacks::default()
+        };
+        let settings = Settings {
+            max_field_section_size: 1 << 16,
+            qpack_max_dtable_capacity: 4096,
+            qpack_encoder_max_dtable_capacity: 4096,
+            qpack_blocked_streams: 100,
+            enable_connect_protocol: 0,
+        };
+        let shared = Box::into_raw(Box::<Shared>::default());
+        let mut conn = ptr::null_mut();
+        // Sound: the versions are those of the declarations, and the library copies callbacks and settings.
+        let error = unsafe {
+            let make = match role {
+                Role::Client => nghttp3_conn_client_new_versioned,
+                Role::Server => nghttp3_conn_server_new_versioned,
+            };
+            make(
+                &mut conn,
+                CALLBACKS_VERSION,
+                &callbacks,
+                SETTINGS_VERSION,
+                &settings,
+                nghttp3_mem_default(),
+                shared.cast(),
+            )
+        };
+        let mut session = Session {
+            conn,
+            shared,
+            reading: BTreeSet::new(),
+            read: BTreeSet::new(),
+            written: BTreeSet::new(),
+            closed: BTreeSet::new(),
+            blocked: Vec::new(),
+        };
+        check(error)?;
+        session.bind(role, end)?;
+        Ok(session)
+    }
+
+    fn bind(&mut self, role: Role, end: &mut Endpoint) -> Result<(), Close> {
+        let mut open = || {
+            end.open(Dir::Uni)
+                .map(number)
+                .map_err(|fault| Close::new(INTERNAL_ERROR, &fault.to_string()))
+        };
+        let (control, encoder, decoder) = (open()?, open()?, open()?);
+        // Sound: `conn` is alive, here and below.
+        check(unsafe { nghttp3_conn_bind_control_stream(self.conn, control) })?;
+        check(unsafe { nghttp3_conn_bind_qpack_streams(self.conn, encoder, decoder) })?;
+        if role == Role::Server {
+            unsafe { nghttp3_conn_set_max_client_streams_bidi(self.conn, 1 << 60) };
+        }
+        Ok(())
+    }
+
+    fn shared(&mut self) -> &mut Shared {
+        // Sound: no call on `conn` runs, since `self` is borrowed.
+        unsafe { &mut *self.shared }
+    }
+
+    /// The next thing that came.
+    pub fn next_event(&mut self) -> Option<Event> {
+        self.shared().events.pop_front()
+    }
+
+    /// Opens a stream with a request without a body; `None` where the peer allows no more for now.
+    pub fn request(
+        &mut self,
+        end: &mut Endpoint,
+        fields: &[Field],
+    ) -> Result<Option<StreamId>, Close> {
+        let stream = match end.open(Dir::Bidi) {
+            Ok(stream) => stream,
+            Err(OpenFault::Blocked(_)) => return Ok(None),
+            Err(fault) => return Err(Close::new(INTERNAL_ERROR, &fault.to_string())),
+        };
+        self.reading.insert(stream);
+        let fields = name_values(fields);
+        // Sound: the library copies the fields.
+        let error = unsafe {
+            let (at, count) = (fields.as_ptr(), fields.len());
+            nghttp3_conn_submit_request(
+                self.conn,
+                number(stream),
+                at,
+                count,
+                ptr::null(),
+                ptr::null_mut(),
+            )
+        };
+        check(error)?;
+        Ok(Some(stream))
+    }
+
+    /// Answers a request, with a body or without one.
+    pub fn respond(
+        &mut self,
+        stream: StreamId,
+        fields: &[Field],
+        body: Option<Arc<[u8]>>,
+    ) -> Result<(), Close> {
+        let reader = DataReader { read_data };
+        let source = match body {
+            Some(bytes) => {
+                let body = Body { bytes, given: 0 };
+                self.shared().bodies.insert(number(stream), body);
+                &raw const reader
+            }
+            None => ptr::null(),
+        };
+        let fields = name_values(fields);
+        // Sound: the library copies fields and reader.
+        let error = unsafe {
+            let (at, count) = (fields.as_ptr(), fields.len());
+            nghttp3_conn_submit_response(self.conn, number(stream), at, count, source)
+        };
+        check(error)
+    }
+
+    /// Takes in what came, and writes what there is room for.
+    pub fn progress(&mut self, end: &mut Endpoint) -> Result<(), Close> {
+        while let Some(stream) = end.accept() {
+            self.reading.insert(stream);
+        }
+        for stream in std::mem::take(&mut self.reading) {
+            if self.read_stream(end, stream)? {
+                self.reading.insert(stream);
+            }
+        }
+        Ok(())
+    }
+
+    // Answers whether more may come.
+    fn read_stream(&mut self, end: &mut Endpoint, stream: StreamId) -> Result<bool, Close> {
+        let mut buffer = [0; TURN];
+        loop {
+            let (bytes, fin) = match end.read(stream, &mut buffer).map_err(internal)? {
+                Read::Bytes(count) => (&buffer[..count], false),
+                Read::End => (&[][..], true),
+                Read::Reset(code) => {
+                    self.broken(end, stream, code)?;
+                    return Ok(false);
+                }
+                Read::Wait => return Ok(true),
+            };
+            if !self.closed.contains(&stream) {
+                // Sound: the library copies what it keeps.
+                let (at, len) = (bytes.as_ptr(), bytes.len());
+                let taken = unsafe {
+                    nghttp3_conn_read_stream(self.conn, number(stream), at, len, c_int::from(fin))
+                };
+                check(taken.try_into().unwrap_or(0))?;
+                self.take_orders(end)?;
+            }
+            if fin {
+                if !self.closed.remove(&stream) {
+                    self.read.insert(stream);
+                    self.close_if_over(stream)?;
+                }
+                return Ok(false);
+            }
+        }
+    }
+
+    // What the library asks for itself: streams to stop and to reset.
+    fn take_orders(&mut self, end: &mut Endpoint) -> Result<(), Close> {
+        for (stream, code) in std::mem::take(&mut self.shared().stops) {
+            end.stop(id(stream), code).map_err(internal)?;
+        }
+        for (stream, code) in std::mem::take(&mut self.shared().resets) {
+            end.reset(id(stream), code).or_else(ignore_finished)?;
+        }
+        Ok(())
+    }
+
+    // The peer broke a stream off: what it still waits for is broken off, too.
+    fn broken(&mut self, end: &mut Endpoint, stream: StreamId, code: u64) -> Result<(), Close> {
+        if self.closed.remove(&stream) {
+            return Ok(());
+        }
+        self.read.insert(stream);
+        if stream.dir() == Dir::Bidi {
+            end.reset(stream, REQUEST_CANCELLED)
+                .or_else(ignore_finished)?;
+        }
+        self.shared().events.push_back(Event::Broken(stream, code));
+        self.close(stream, code)
+    }
+
+    /// Breaks a stream off that was asked for: no more of it is wanted.
+    pub fn cancel(&mut self, end: &mut Endpoint, stream: StreamId) -> Result<(), Close> {
+        end.stop(stream, REQUEST_CANCELLED).map_err(internal)?;
+        end.reset(stream, REQUEST_CANCELLED)
+            .or_else(ignore_finished)?;
+        self.close(stream, REQUEST_CANCELLED)
+    }
+
+    /// Writes as far as there is room.
+    pub fn write(&mut self, end: &mut Endpoint) -> Result<(), Close> {
+        for stream in std::mem::take(&mut self.blocked) {
+            // Sound: as above. A stream that is closed is unknown, which is no fault.
+            unsafe { nghttp3_conn_unblock_stream(self.conn, stream) };
+        }
+        loop {
+            let (mut stream, mut fin) = (-1, 0);
+            let mut parts = [Bytes {
+                base: ptr::null_mut(),
+                len: 0,
+            }; PARTS];
+            // Sound: there is room for so many parts.
+            let count = unsafe {
+                nghttp3_conn_writev_stream(
+                    self.conn,
+                    &mut stream,
+                    &mut fin,
+                    parts.as_mut_ptr(),
+                    PARTS,
+                )
+            };
+            if count < 0 {
+                return Err(close_of(count as c_int));
+            }
+            if stream < 0 {
+                return Ok(());
+            }
+            self.write_parts(end, stream, &parts[..count as usize], fin != 0)?;
+        }
+    }
+
+    fn write_parts(
+        &mut self,
+        end: &mut Endpoint,
+        stream: i64,
+        parts: &[Bytes],
+        fin: bool,
+    ) -> Result<(), Close> {
+        let mut written = 0;
+        for part in parts {
+            // Sound: the library's bytes stay until they are acknowledged to it, below.
+            let bytes = unsafe { slice(part.base, part.len) };
+            match end.write(id(stream), bytes) {
+                Ok(count) => written += count,
+                Err(UseFault::WasReset) => return self.stopped(stream),
+                Err(fault) => return Err(internal(fault)),
+            }
+        }
+        // The stream layer keeps the bytes itself, so to the library they are acknowledged at once.
+        // Sound: as above.
+        unsafe {
+            check(nghttp3_conn_add_write_offset(self.conn, stream, written))?;
+            check(nghttp3_conn_add_ack_offset(
+                self.conn,
+                stream,
+                written as u64,
+            ))?;
+        }
+        if written < parts.iter().map(|part| part.len).sum() {
+            // Sound: as above.
+            unsafe { nghttp3_conn_block_stream(self.conn, stream) };
+            self.blocked.push(stream);
+        } else if fin {
+            end.finish(id(stream)).map_err(internal)?;
+            self.written.insert(id(stream));
+            self.close_if_over(id(stream))?;
+        }
+        Ok(())
+    }
+
+    // The peer asked to stop (RFC 9114, section 4.1.1): the stream layer has reset the sending half.
+    fn stopped(&mut self, stream: i64) -> Result<(), Close> {
+        // Sound: as above.
+        unsafe { nghttp3_conn_shutdown_stream_write(self.conn, stream) };
+        let stream = id(stream);
+        self.shared()
+            .events
+            .push_back(Event::Broken(stream, REQUEST_CANCELLED));
+        self.close(stream, REQUEST_CANCELLED)
+    }
+
+    fn close_if_over(&mut self, stream: StreamId) -> Result<(), Close> {
+        let is_over = self.read.contains(&stream) && self.written.contains(&stream);
+        match is_over && stream.dir() == Dir::Bidi {
+            true => self.close(stream, super::NO_ERROR),
+            false => Ok(()),
+        }
+    }
+
+    // The library forgets the stream. What it told before stays.
+    fn close(&mut self, stream: StreamId, code: u64) -> Result<(), Close> {
+        self.written.remove(&stream);
+        if !self.read.remove(&stream) {
+            self.closed.insert(stream);
+        }
+        // Sound: as above.
+        let error = unsafe { nghttp3_conn_close_stream(self.conn, number(stream), code) };
+        self.shared().bodies.remove(&number(stream));
+        match error {
+            ERR_STREAM_NOT_FOUND => Ok(()),
+            error => check(error),
+        }
+    }
+}
+
+fn ignore_finished(fault: UseFault) -> Result<(), Close> {
+    match fault {
+        UseFault::Finished => Ok(()),
+        fault => Err(internal(fault)),
+    }
+}
+
+fn name_values(fields: &[Field]) -> Vec<NameValue> {
+    let each = fields.iter().map(|(name, value)| NameValue {
+        name: name.as_ptr(),
+        value: value.as_ptr(),
+        name_len: name.len(),
+        value_len: value.len(),
+        flags: 0,
+    });
+    each.collect()
+}
+
+impl Drop for Session {
+    fn drop(&mut self) {
+        // Sound: each was made once and is freed once, the library's first, since it may call back.
+        unsafe {
+            if !self.conn.is_null() {
+                nghttp3_conn_del(self.conn);
+            }
+            drop(Box::from_raw(self.shared));
+        }
+    }
+}
