@@ -1,0 +1,186 @@
+# shellcheck shell=bash
+# What tests/interop/run and interop/test share: packages, building, programs that run beside the test, and checks. It is sourced in
+# the repository's top folder, in strict mode. Each program is ended by its own process number.
+
+interop=$PWD/interop
+registry=/usr/share/cargo/registry
+room=$(mktemp -d)
+# Where the programs stand that were built.
+# shellcheck disable=SC2034
+built=$interop/target/release
+running=()
+passed=0 failed=0
+
+leave() {
+  local pid
+  for pid in ${running[@]+"${running[@]}"}; do
+    kill "$pid" 2>/dev/null || true
+  done
+  rm -rf "$room"
+}
+trap leave EXIT
+
+finish() {
+  echo "$passed passed, $failed failed"
+  [ "$failed" = 0 ]
+  exit
+}
+
+skip() {
+  echo "skipped: $1"
+  finish
+}
+
+# A command that has to succeed. What it says is told where it doesn't.
+check() {
+  local what=$1
+  shift
+  if "$@" >"$room/log" 2>&1 </dev/null; then
+    passed=$((passed + 1))
+  else
+    failed=$((failed + 1))
+    echo "FAILED: $what"
+    tail -n 30 "$room/log"
+  fi
+}
+
+# A command that ends with this status and says this on standard error.
+ends() {
+  local wanted=$1 text=$2 status=0
+  shift 2
+  timeout 20 "$@" >"$room/out" 2>"$room/err" || status=$?
+  cat "$room/err"
+  [ "$status" = "$wanted" ] && grep -qF -- "$text" "$room/err"
+}
+
+is_installed() {
+  dpkg-query -W -f '${Status}' "$1" 2>/dev/null | grep -q 'install ok installed'
+}
+
+# Debian's packages of these names are there, or are installed; else the test is skipped.
+need() {
+  local name missing=()
+  command -v dpkg-query >/dev/null || skip "the packages $* are Debian's, and dpkg-query is not here"
+  for name in "$@"; do
+    is_installed "$name" || missing+=("$name")
+  done
+  [ "${#missing[@]}" = 0 ] && return
+  if command -v apt-get >/dev/null && [ "$(id -u)" = 0 ]; then
+    install_packages "${missing[@]}" || update_and_install "${missing[@]}" || true
+  fi
+  for name in "${missing[@]}"; do
+    is_installed "$name" || skip "the package $name is not installed: apt-get install ${missing[*]}"
+  done
+}
+
+install_packages() {
+  DEBIAN_FRONTEND=noninteractive timeout 90 apt-get install -qq -y --no-install-recommends "$@" >/dev/null 2>&1
+}
+
+# The list of packages may be old, or not there at all.
+update_and_install() {
+  timeout 60 apt-get update -qq >/dev/null 2>&1 && install_packages "$@"
+}
+
+# Cargo, with the crates that Debian packages in place of crates.io. Both packages share what they build of these.
+debian_cargo() {
+  mkdir -p "$room/cargo"
+  cat >"$room/cargo/config.toml" <<TOML
+[source.crates-io]
+replace-with = "debian"
+[source.debian]
+directory = "$registry"
+[net]
+offline = true
+TOML
+  CARGO_HOME=$room/cargo CARGO_TARGET_DIR=$interop/target CARGO_TERM_COLOR=never cargo "$@" --offline
+}
+
+build() {
+  (cd "$interop/$1" && debian_cargo build --quiet --release)
+}
+
+# Starts a program beside the test, and waits until it tells on which address it listens: `address` has it then. It is started with
+# the port 0, so that the system chooses one.
+start() {
+  local name=$1 tries=0
+  shift
+  : >"$room/$name.out"
+  "$@" >"$room/$name.out" 2>"$room/$name.err" </dev/null &
+  started=$!
+  running+=("$started")
+  address=
+  while [ "$tries" -lt 200 ] && kill -0 "$started" 2>/dev/null; do
+    address=$(sed -n 's/^listening on //p' "$room/$name.out")
+    [ -n "$address" ] && return
+    sleep 0.05
+    tries=$((tries + 1))
+  done
+  failed=$((failed + 1))
+  echo "FAILED: $name starts"
+  tail -n 5 "$room/$name.err"
+}
+
+# Ends a program that was started.
+end() {
+  kill "$1" 2>/dev/null || true
+  wait "$1" 2>/dev/null || true
+}
+
+# Makes a file of so many bytes that don't repeat.
+make_file() {
+  head -c "$2" /dev/urandom >"$room/files/$1"
+}
+
+# Loads files into an empty folder, and compares each with its original.
+loads() {
+  local names=$1 name
+  shift
+  rm -rf "$room/loaded"
+  mkdir "$room/loaded"
+  "$@" || return
+  for name in $names; do
+    cmp "$room/files/$name" "$room/loaded/$name" || return
+  done
+}
+
+zone_file() {
+  cat >"$room/zone" <<'ZONE'
+$ORIGIN example.
+$TTL 300
+@ IN SOA ns hostmaster ( 1 ; the number
+  3600 600 86400 60 )
+@ NS ns
+ns A 192.0.2.53
+www A 192.0.2.1
+www AAAA 2001:db8::1
+alias CNAME www
+text TXT "a text; with a blank" "and more"
+ZONE
+}
+
+# kdig's answer to a query is this.
+asks() {
+  local wanted=$1 said
+  shift
+  said=$(timeout 20 kdig +quic +short +timeout=8 +retry=0 "@${address%:*}" -p "${address##*:}" "$@") || return
+  echo "$said"
+  [ "$said" = "$wanted" ]
+}
+
+# kdig tells this status.
+has_status() {
+  local wanted=$1
+  shift
+  timeout 20 kdig +quic +timeout=8 +retry=0 "@${address%:*}" -p "${address##*:}" "$@" | tee /dev/stderr | grep -qF "status: $wanted"
+}
+
+# gtlsclient's addresses and options, for the server that was started last.
+gtls_loads() {
+  local names=$1 name urls=()
+  shift
+  for name in $names; do
+    urls+=("https://localhost/$name")
+  done
+  loads "$names" timeout 120 gtlsclient -q --exit-on-all-streams-close --download "$room/loaded" "$@" "${address%:*}" "${address##*:}" "${urls[@]}"
+}
