@@ -5,9 +5,10 @@
 interop=$PWD/interop
 registry=/usr/share/cargo/registry
 room=$(mktemp -d)
-# Where the programs stand that were built.
+# How the programs are built, and where they stand then.
+profile=${profile:-quick}
 # shellcheck disable=SC2034
-built=$interop/target/release
+built=$interop/target/$profile
 running=()
 passed=0 failed=0
 
@@ -93,11 +94,15 @@ directory = "$registry"
 [net]
 offline = true
 TOML
-  CARGO_HOME=$room/cargo CARGO_TARGET_DIR=$interop/target CARGO_TERM_COLOR=never cargo "$@" --offline
+  CARGO_HOME=$room/cargo CARGO_TARGET_DIR=$interop/target CARGO_TERM_COLOR=never CARGO_NET_OFFLINE=true cargo "$@"
+}
+
+in_package() {
+  (cd "$interop/$1" && debian_cargo "${@:2}")
 }
 
 build() {
-  (cd "$interop/$1" && debian_cargo build --quiet --release)
+  in_package "$1" build --quiet --profile "$profile"
 }
 
 # Starts a program beside the test, and waits until it tells on which address it listens: `address` has it then. It is started with
