@@ -1,12 +1,12 @@
-//! TLS 1.3 for QUIC (RFC 9001, section 4), by rustls.
+//! TLS 1.3 for QUIC (RFC 9001, section 4), by rustls. Where the environment has SSLKEYLOGFILE, secrets are written to that file.
 
 use crate::certificate::Identity;
 use crate::fault::{CRYPTO_ERROR, Fault, INTERNAL_ERROR};
 use rustls::client::{ServerCertVerified, ServerCertVerifier};
 use rustls::quic::{ClientQuicExt, KeyChange, QuicExt, ServerQuicExt, Version};
 use rustls::{
-    Certificate, ClientConfig, ClientConnection, Connection, Error, PrivateKey, ServerConfig,
-    ServerConnection, ServerName,
+    Certificate, ClientConfig, ClientConnection, Connection, Error, KeyLogFile, PrivateKey,
+    ServerConfig, ServerConnection, ServerName,
 };
 use std::sync::Arc;
 use std::time::SystemTime;
@@ -24,6 +24,7 @@ pub fn server_config(protocols: &[&[u8]]) -> Result<Arc<ServerConfig>, Fault> {
         )
         .map_err(|error| Fault::new(INTERNAL_ERROR, 0, &error.to_string()))?;
     config.alpn_protocols = protocols.iter().map(|name| name.to_vec()).collect();
+    config.key_log = Arc::new(KeyLogFile::new());
     Ok(Arc::new(config))
 }
 
@@ -34,6 +35,7 @@ pub fn client_config(protocols: &[&[u8]]) -> Arc<ClientConfig> {
         .with_custom_certificate_verifier(Arc::new(AnyCertificate))
         .with_no_client_auth();
     config.alpn_protocols = protocols.iter().map(|name| name.to_vec()).collect();
+    config.key_log = Arc::new(KeyLogFile::new());
     Arc::new(config)
 }
 

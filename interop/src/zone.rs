@@ -235,8 +235,15 @@ impl ZoneReader {
                 self.last = Some(name);
             }
         }
+        let rest: Vec<&str> = words.collect();
+        self.take_record(&rest)
+    }
+
+    // The words of a record behind its name.
+    fn take_record(&mut self, words: &[&str]) -> Result<(), String> {
         let name = self.last.clone().ok_or("the first record lacks its name")?;
         let mut ttl = self.ttl;
+        let mut words = words.iter().copied().peekable();
         while let Some(word) = words.peek() {
             match word.parse() {
                 Ok(told) => ttl = told,

@@ -58,7 +58,7 @@ impl Connection {
             let reason = "an ACK of a number that was not sent";
             return Err(Fault::new(PROTOCOL_VIOLATION, 0x02, reason));
         }
-        self.is_handshake_acked |= level == Level::Handshake;
+        self.known.is_handshake_acked |= level == Level::Handshake;
         self.take_ack(level, largest, ranges, Duration::ZERO, now);
         Ok(())
     }
@@ -120,14 +120,7 @@ impl Connection {
                 self.take_ack(Level::Data, largest, ranges, delay, now);
             }
             Frame::Crypto { offset, bytes } => self.take_crypto(Level::Data, offset, bytes)?,
-            Frame::NewConnectionId {
-                sequence,
-                retire,
-                identifier,
-                reset_token,
-            } => {
-                self.take_new_id(sequence, retire, identifier, reset_token)?;
-            }
+            Frame::NewConnectionId { .. } => self.take_new_id(frame)?,
             Frame::RetireConnectionId { .. } => {
                 let reason = "the only identifier is retired";
                 return Err(Fault::new(PROTOCOL_VIOLATION, frame_type, reason));
@@ -139,7 +132,7 @@ impl Connection {
                 let reason = "a frame that only a server sends";
                 return Err(Fault::new(PROTOCOL_VIOLATION, frame_type, reason));
             }
-            Frame::HandshakeDone if !self.is_confirmed => self.confirm(),
+            Frame::HandshakeDone if !self.known.is_confirmed => self.confirm(),
             Frame::ConnectionClose { code, reason, .. } => {
                 self.peer_closed(false, code, reason, now)
             }
@@ -150,19 +143,19 @@ impl Connection {
         Ok(())
     }
 
-    fn take_new_id(
-        &mut self,
-        sequence: u64,
-        retire: u64,
-        identifier: &[u8],
-        reset_token: &[u8],
-    ) -> Result<(), Fault> {
+    fn take_new_id(&mut self, frame: &Frame<'_>) -> Result<(), Fault> {
+        let Frame::NewConnectionId {
+            sequence,
+            retire,
+            identifier,
+            reset_token,
+        } = *frame
+        else {
+            return Ok(());
+        };
         let (Some(id), Ok(token)) = (ConnectionId::new(identifier), reset_token.try_into()) else {
-            return Err(Fault::new(
-                FRAME_ENCODING_ERROR,
-                0x18,
-                "an identifier of a wrong length",
-            ));
+            let reason = "an identifier of a wrong length";
+            return Err(Fault::new(FRAME_ENCODING_ERROR, 0x18, reason));
         };
         for retired in self.peer_ids.take(sequence, retire, id, token)? {
             self.control(Control::RetireId(retired));

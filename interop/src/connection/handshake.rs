@@ -24,7 +24,7 @@ impl Connection {
         self.session.read(&next)?;
         self.pull_handshake()?;
         self.look_at_parameters()?;
-        if self.session.is_done() && !self.is_confirmed && self.role == Role::Server {
+        if self.session.is_done() && !self.known.is_confirmed && self.role == Role::Server {
             self.controls.push_back(Control::HandshakeDone);
             self.confirm();
         }
@@ -106,7 +106,7 @@ impl Connection {
 
     /// Both ends have finished the handshake: its keys go (RFC 9001, section 4.9.2).
     pub(super) fn confirm(&mut self) {
-        self.is_confirmed = true;
+        self.known.is_confirmed = true;
         self.discard(Level::Initial);
         self.discard(Level::Handshake);
     }

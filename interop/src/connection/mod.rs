@@ -9,6 +9,8 @@ mod frames;
 mod handshake;
 mod receive;
 mod send;
+#[cfg(test)]
+mod tests;
 
 use crate::crypto::{CryptoIn, CryptoOut};
 use crate::fault::{Fault, Outcome};
@@ -66,6 +68,21 @@ struct Space {
     probes: u32,
 }
 
+/// What came to be known of the peer.
+#[derive(Default)]
+struct Known {
+    /// Whether a packet of its was opened.
+    has_opened: bool,
+    /// Whether it told the identifier that it chose for itself.
+    has_peer_id: bool,
+    /// Whether its address is its own (RFC 9000, section 8.1).
+    is_validated: bool,
+    /// Whether it acknowledged a packet of the Handshake space.
+    is_handshake_acked: bool,
+    /// Whether both ends have finished the handshake.
+    is_confirmed: bool,
+}
+
 pub struct Connection {
     role: Role,
     config: Config,
@@ -85,15 +102,12 @@ pub struct Connection {
     retry_source: Option<ConnectionId>,
     token: Vec<u8>,
     peer_ids: PeerIds,
-    has_peer_id: bool,
-    has_opened: bool,
     peer: Parameters,
     controls: VecDeque<Control>,
-    is_confirmed: bool,
-    /// Whether the peer's address is known to be its own (RFC 9000, section 8.1).
-    is_validated: bool,
-    /// Whether the peer acknowledged a packet of the Handshake space.
-    is_handshake_acked: bool,
+    known: Known,
+    /// Whether an ACK is owed for a 1-RTT packet, and which numbers the stream layer has taken in.
+    is_ack_owed: bool,
+    taken: Numbers,
     bytes_in: usize,
     bytes_out: usize,
     last_active: Instant,
@@ -121,7 +135,7 @@ impl Connection {
             Connection::new(Role::Client, config, session, own_id, destination, now);
         connection.version = setup.version;
         connection.client = Some(setup);
-        connection.is_validated = true;
+        connection.known.is_validated = true;
         connection.peer_ids = PeerIds::new(destination);
         connection.pull_handshake()?;
         Ok(connection)
@@ -142,7 +156,7 @@ impl Connection {
         let mut connection =
             Connection::new(Role::Server, config, session, own_id, destination, now);
         connection.peer_ids = PeerIds::new(source);
-        connection.has_peer_id = true;
+        connection.known.has_peer_id = true;
         Ok(connection)
     }
 
@@ -154,13 +168,6 @@ impl Connection {
         destination: ConnectionId,
         now: Instant,
     ) -> Connection {
-        let mut spaces: [Space; 3] = Default::default();
-        let is_client = role == Role::Client;
-        spaces[0].keys = Some(Keys::initial(
-            Version::V1,
-            destination.as_slice(),
-            is_client,
-        ));
         Connection {
             role,
             config,
@@ -168,7 +175,7 @@ impl Connection {
             session,
             client: None,
             write_level: Level::Initial,
-            spaces,
+            spaces: first_spaces(role, destination),
             data_keys: None,
             end: None,
             expected: 0,
@@ -179,13 +186,11 @@ impl Connection {
             retry_source: None,
             token: Vec::new(),
             peer_ids: PeerIds::new(ConnectionId::default()),
-            has_peer_id: false,
-            has_opened: false,
             peer: Parameters::default(),
             controls: VecDeque::new(),
-            is_confirmed: false,
-            is_validated: false,
-            is_handshake_acked: false,
+            known: Known::default(),
+            is_ack_owed: false,
+            taken: Numbers::default(),
             bytes_in: 0,
             bytes_out: 0,
             last_active: now,
@@ -225,7 +230,7 @@ impl Connection {
 
     /// Whether a packet of the peer was opened.
     pub fn has_peer(&self) -> bool {
-        self.has_opened
+        self.known.has_opened
     }
 
     /// How many key updates there were (RFC 9001, section 6).
@@ -240,13 +245,21 @@ impl Connection {
     fn standing(&self) -> Standing {
         Standing {
             has_handshake_keys: self.spaces[Level::Handshake as usize].keys.is_some(),
-            is_confirmed: self.is_confirmed,
+            is_confirmed: self.known.is_confirmed,
             peer_validated: self.role == Role::Server
-                || self.is_handshake_acked
-                || self.is_confirmed,
-            is_held_back: !self.is_validated && self.bytes_out + DATAGRAM > 3 * self.bytes_in,
+                || self.known.is_handshake_acked
+                || self.known.is_confirmed,
+            is_held_back: !self.known.is_validated && self.bytes_out + DATAGRAM > 3 * self.bytes_in,
         }
     }
+}
+
+/// The keys of the first packets are known from their identifier (RFC 9001, section 5.2).
+fn first_spaces(role: Role, destination: ConnectionId) -> [Space; 3] {
+    let mut spaces: [Space; 3] = Default::default();
+    let (id, is_client) = (destination.as_slice(), role == Role::Client);
+    spaces[Level::Initial as usize].keys = Some(Keys::initial(Version::V1, id, is_client));
+    spaces
 }
 
 /// What this end tells of itself.

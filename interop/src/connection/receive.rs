@@ -1,5 +1,6 @@
 //! Datagrams come (RFC 9000, section 12.2).
 
+use super::send::asks_for_ack;
 use super::{Connection, MOST_EARLY, State};
 use crate::fault::{Fault, INTERNAL_ERROR, Outcome, PROTOCOL_VIOLATION};
 use crate::packet::{Kind, Level, Packet, VERSION_1, read_packet};
@@ -64,7 +65,7 @@ impl Connection {
         if opened.has_reserved_bits() {
             return Err(Fault::new(PROTOCOL_VIOLATION, 0, "a reserved bit is set"));
         }
-        self.has_opened = true;
+        self.known.has_opened = true;
         self.last_active = now;
         self.asked_since_active = false;
         let payload = &bytes[opened.payload.clone()];
@@ -101,12 +102,12 @@ impl Connection {
         if self.space(level).received.has(number) {
             return Ok(());
         }
-        if !self.has_peer_id {
-            self.has_peer_id = true;
+        if !self.known.has_peer_id {
+            self.known.has_peer_id = true;
             self.peer_ids.replace_first(packet.source);
         }
         if level == Level::Handshake && self.role == Role::Server {
-            self.is_validated = true;
+            self.known.is_validated = true;
             self.discard(Level::Initial);
         }
         // Its number is noted before its frames, since these may end the level.
@@ -121,7 +122,12 @@ impl Connection {
         };
         self.expected = self.expected.max(number + 1);
         match end.receive(number, payload) {
-            Ok(Received::Done | Received::PeerClosed(_)) => self.take_data_frames(payload, now),
+            Ok(Received::Done) => {
+                self.taken.insert(number);
+                self.is_ack_owed |= asks_for_ack(payload);
+                self.take_data_frames(payload, now)
+            }
+            Ok(Received::PeerClosed(_)) => self.take_data_frames(payload, now),
             Ok(Received::Duplicate | Received::BelowFloor | Received::NoMemory) => Ok(()),
             Err(ReceiveFault::Closing(closing)) => {
                 let reason = "the stream layer refuses a frame";
@@ -146,7 +152,7 @@ impl Connection {
 
     // A server asks for another version (RFC 9000, section 6.2).
     fn negotiate(&mut self, packet: &Packet, bytes: &[u8], now: Instant) -> Result<bool, Fault> {
-        let (Some(setup), false) = (&self.client, self.has_peer_id) else {
+        let (Some(setup), false) = (&self.client, self.known.has_peer_id) else {
             return Ok(false);
         };
         let versions = bytes[packet.body..].chunks_exact(4);
@@ -170,7 +176,7 @@ impl Connection {
     // A server asks for a token to come back (RFC 9000, section 17.2.5).
     fn retry(&mut self, packet: &Packet, bytes: &[u8]) -> bool {
         let is_first =
-            self.role == Role::Client && !self.has_peer_id && self.retry_source.is_none();
+            self.role == Role::Client && !self.known.has_peer_id && self.retry_source.is_none();
         let Some((body, tag)) = bytes.split_last_chunk::<TOKEN_LEN>() else {
             return false;
         };

@@ -159,16 +159,8 @@ impl Connection {
         Some(Planned { draft, sent })
     }
 
-    // A 1-RTT packet: what the stream layer has to say, and behind it the transport's own frames. Where the stream layer has
-    // nothing to say, the transport claims the number.
     fn plan_data(&mut self, out: &mut Vec<u8>, now: Instant) -> Result<Option<Planned>, Fault> {
-        let probes = self.space(Level::Data).probes;
-        let may_go = self.recovery.congestion.allows() || probes > 0;
-        let Some(end) = self
-            .end
-            .as_ref()
-            .filter(|_| self.session.is_done() && may_go)
-        else {
+        let Some(end) = self.end.as_ref().filter(|_| self.session.is_done()) else {
             return Ok(None);
         };
         let header = self.header(Level::Data, end.next_number());
@@ -176,7 +168,28 @@ impl Connection {
         if room <= MIN_ROOM {
             return Ok(None);
         }
-        let mut draft = header.write(out);
+        let draft = header.write(out);
+        let probes = self.space(Level::Data).probes;
+        if self.recovery.congestion.allows() || probes > 0 {
+            return self.fill_data(draft, room, out, now);
+        }
+        if !self.is_ack_owed {
+            out.truncate(draft.start);
+            return Ok(None);
+        }
+        self.acknowledge(draft, room, out, now).map(Some)
+    }
+
+    // A 1-RTT packet: what the stream layer has to say, and behind it the transport's own frames. Where the stream layer has
+    // nothing to say, the transport claims the number.
+    fn fill_data(
+        &mut self,
+        mut draft: Draft,
+        room: usize,
+        out: &mut Vec<u8>,
+        now: Instant,
+    ) -> Result<Option<Planned>, Fault> {
+        let probes = self.space(Level::Data).probes;
         let own = self.own_frames(room - MIN_ROOM - 1);
         let made = self.make(out, room - own.payload.len() - 1)?;
         if !made && own.payload.is_empty() && probes == 0 {
@@ -189,13 +202,31 @@ impl Connection {
             push_frame(out, &Frame::Ping);
             asks = true;
         }
-        if !made {
-            draft.number = self.claim()?;
+        match made {
+            true => self.is_ack_owed = false,
+            false => draft.number = self.claim()?,
         }
         self.space(Level::Data).probes = probes.saturating_sub(1);
         draft.finish(out);
         let sent = sent_now(now, asks, own.crypto, own.controls);
         Ok(Some(Planned { draft, sent }))
+    }
+
+    // Where the window is full an ACK goes nevertheless, alone (RFC 9002, section 7): the stream layer would put more into the
+    // packet, so the transport makes this one, under a number that it claims, of the numbers that the stream layer took in.
+    fn acknowledge(
+        &mut self,
+        mut draft: Draft,
+        room: usize,
+        out: &mut Vec<u8>,
+        now: Instant,
+    ) -> Result<Planned, Fault> {
+        self.is_ack_owed = false;
+        put_ranges(self.taken.as_slice(), out, room);
+        draft.number = self.claim()?;
+        draft.finish(out);
+        let sent = sent_now(now, false, Vec::new(), Vec::new());
+        Ok(Planned { draft, sent })
     }
 
     // The stream layer writes a payload behind the header. Answers whether it had one.
@@ -304,7 +335,7 @@ fn put_ranges(ranges: &[std::ops::Range<u64>], out: &mut Vec<u8>, room: usize) {
 }
 
 // Whether a payload asks for an ACK (RFC 9002, section 2).
-fn asks_for_ack(payload: &[u8]) -> bool {
+pub(super) fn asks_for_ack(payload: &[u8]) -> bool {
     let mut found = frames(payload).flatten();
     found.any(|placed| !matches!(placed.frame, Frame::Ack { .. } | Frame::Padding))
 }

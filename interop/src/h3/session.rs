@@ -229,43 +229,49 @@ fn internal(fault: UseFault) -> Close {
     Close::new(INTERNAL_ERROR, &fault.to_string())
 }
 
+// A connection of the library, which is null where an error is told.
+fn new_conn(role: Role, shared: *mut Shared) -> (*mut Conn, c_int) {
+    let callbacks = Callbacks {
+        recv_data: Some(on_data),
+        recv_header: Some(on_header),
+        end_headers: Some(on_headers_end),
+        end_stream: Some(on_end),
+        stop_sending: Some(on_stop),
+        reset_stream: Some(on_reset),
+        ..Callbacks::default()
+    };
+    let settings = Settings {
+        max_field_section_size: 1 << 16,
+        qpack_max_dtable_capacity: 4096,
+        qpack_encoder_max_dtable_capacity: 4096,
+        qpack_blocked_streams: 100,
+        enable_connect_protocol: 0,
+    };
+    let mut conn = ptr::null_mut();
+    // Sound: the versions are those of the declarations, and the library copies callbacks and settings.
+    let error = unsafe {
+        let make = match role {
+            Role::Client => nghttp3_conn_client_new_versioned,
+            Role::Server => nghttp3_conn_server_new_versioned,
+        };
+        make(
+            &mut conn,
+            CALLBACKS_VERSION,
+            &callbacks,
+            SETTINGS_VERSION,
+            &settings,
+            nghttp3_mem_default(),
+            shared.cast(),
+        )
+    };
+    (conn, error)
+}
+
 impl Session {
     /// A session, whose three streams for itself are opened.
     pub fn new(role: Role, end: &mut Endpoint) -> Result<Session, Close> {
-        let callbacks = Callbacks {
-            recv_data: Some(on_data),
-            recv_header: Some(on_header),
-            end_headers: Some(on_headers_end),
-            end_stream: Some(on_end),
-            stop_sending: Some(on_stop),
-            reset_stream: Some(on_reset),
-            ..Callbacks::default()
-        };
-        let settings = Settings {
-            max_field_section_size: 1 << 16,
-            qpack_max_dtable_capacity: 4096,
-            qpack_encoder_max_dtable_capacity: 4096,
-            qpack_blocked_streams: 100,
-            enable_connect_protocol: 0,
-        };
         let shared = Box::into_raw(Box::<Shared>::default());
-        let mut conn = ptr::null_mut();
-        // Sound: the versions are those of the declarations, and the library copies callbacks and settings.
-        let error = unsafe {
-            let make = match role {
-                Role::Client => nghttp3_conn_client_new_versioned,
-                Role::Server => nghttp3_conn_server_new_versioned,
-            };
-            make(
-                &mut conn,
-                CALLBACKS_VERSION,
-                &callbacks,
-                SETTINGS_VERSION,
-                &settings,
-                nghttp3_mem_default(),
-                shared.cast(),
-            )
-        };
+        let (conn, error) = new_conn(role, shared);
         let mut session = Session {
             conn,
             shared,

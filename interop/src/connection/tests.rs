@@ -1,0 +1,249 @@
+//! Two connections, with the network and the clock of the test between them.
+
+use super::{ClientSetup, Config, Connection};
+use crate::fault::{Close, Outcome};
+use crate::packet::{VERSION_1, read_packet};
+use crate::tls::{client_config, server_config};
+use gotsavena::{Dir, Read, Settings, StreamId};
+use std::collections::VecDeque;
+use std::time::{Duration, Instant};
+
+const PROTOCOL: &[&[u8]] = &[b"test"];
+const ONE_WAY: Duration = Duration::from_millis(5);
+
+/// A client, a server once an Initial came, and datagrams on their ways with the times at which they come.
+struct World {
+    now: Instant,
+    ends: [Option<Connection>; 2],
+    ways: [VecDeque<(Instant, Vec<u8>)>; 2],
+    config: Config,
+    /// How many of a hundred datagrams are lost.
+    lost: u64,
+    random: u64,
+}
+
+impl World {
+    fn new(lost: u64, idle: Duration) -> World {
+        let now = Instant::now();
+        let settings = Settings::default()
+            .conn_window(1 << 20)
+            .stream_windows(1 << 18)
+            .send_buffer(1 << 18);
+        let config = Config { settings, idle };
+        let setup = ClientSetup {
+            tls: client_config(PROTOCOL),
+            name: "localhost".to_owned(),
+            version: VERSION_1,
+        };
+        let client = Connection::client(setup, config, now).unwrap();
+        World {
+            now,
+            ends: [Some(client), None],
+            ways: Default::default(),
+            config,
+            lost,
+            random: 0x2545_f491_4f6c_dd1d ^ lost,
+        }
+    }
+
+    fn end(&mut self, place: usize) -> &mut Connection {
+        self.ends[place].as_mut().unwrap()
+    }
+
+    // Everything goes that may go now.
+    fn send(&mut self) {
+        let mut out = Vec::new();
+        for place in 0..2 {
+            while let Some(end) = &mut self.ends[place]
+                && end.send(&mut out, self.now)
+            {
+                // xorshift64*
+                self.random ^= self.random >> 12;
+                self.random ^= self.random << 25;
+                self.random ^= self.random >> 27;
+                let word = self.random.wrapping_mul(0x2545_f491_4f6c_dd1d) >> 32;
+                if word % 100 >= self.lost {
+                    self.ways[place].push_back((self.now + ONE_WAY, out.clone()));
+                }
+            }
+        }
+    }
+
+    // The clock goes on to what comes next: a datagram or a timer. Answers whether there is anything.
+    fn step(&mut self) -> bool {
+        self.send();
+        let now = self.now;
+        let come = self
+            .ways
+            .iter()
+            .filter_map(|way| way.front().map(|(at, _)| *at));
+        let timers = self.ends.iter().flatten().filter_map(|end| end.timer(now));
+        let Some(next) = come.chain(timers).min() else {
+            return false;
+        };
+        self.now = next.max(now);
+        for place in 0..2 {
+            while self.ways[place]
+                .front()
+                .is_some_and(|(at, _)| *at <= self.now)
+            {
+                let (_, mut datagram) = self.ways[place].pop_front().unwrap();
+                self.deliver(1 - place, &mut datagram);
+            }
+        }
+        for end in self.ends.iter_mut().flatten() {
+            if end.timer(self.now).is_some_and(|at| at <= self.now) {
+                end.time_is_up(self.now);
+            }
+        }
+        true
+    }
+
+    fn deliver(&mut self, place: usize, datagram: &mut [u8]) {
+        if self.ends[place].is_none() {
+            let packet = read_packet(datagram).unwrap();
+            let tls = server_config(PROTOCOL).unwrap();
+            let (destination, source) = (packet.destination, packet.source);
+            let server = Connection::server(tls, self.config, destination, source, self.now);
+            self.ends[place] = Some(server.unwrap());
+        }
+        let now = self.now;
+        self.end(place).receive(datagram, now);
+    }
+
+    fn until(&mut self, what: impl Fn(&mut World) -> bool) {
+        for _ in 0..100_000 {
+            if what(self) {
+                return;
+            }
+            assert!(
+                self.step(),
+                "nothing more comes: {:?}",
+                self.ends[0].as_ref().map(|end| end.outcome())
+            );
+        }
+        panic!("it doesn't end");
+    }
+
+    fn connect(&mut self) {
+        self.until(|world| {
+            world
+                .ends
+                .iter_mut()
+                .all(|end| end.as_mut().is_some_and(|end| end.end().is_some()))
+        });
+    }
+}
+
+// Both ends write so many bytes on a stream and read those of the other one.
+fn exchange(world: &mut World, count: usize) {
+    let stream = world.end(0).end().unwrap().open(Dir::Bidi).unwrap();
+    let mut left = [count; 2];
+    let mut read = [0; 2];
+    for _ in 0..200_000 {
+        for place in 0..2 {
+            let Some(end) = world.end(place).end() else {
+                panic!("{:?}", world.end(place).outcome());
+            };
+            turn(end, stream, &mut left[place], &mut read[place]);
+        }
+        if read == [count; 2] {
+            return;
+        }
+        assert!(world.step());
+    }
+    panic!("{left:?} left, {read:?} read");
+}
+
+fn turn(end: &mut gotsavena::Endpoint, stream: StreamId, left: &mut usize, read: &mut usize) {
+    end.accept();
+    // A server's half is there once the client's first bytes came.
+    if end.report(stream).is_none() {
+        return;
+    }
+    let mut buffer = [0; 4096];
+    while *left > 0 {
+        match end
+            .write(stream, &buffer[..buffer.len().min(*left)])
+            .unwrap()
+        {
+            0 => break,
+            count => *left -= count,
+        }
+        if *left == 0 {
+            end.finish(stream).unwrap();
+        }
+    }
+    while let Read::Bytes(count) = end.read(stream, &mut buffer).unwrap() {
+        *read += count;
+    }
+}
+
+#[test]
+fn bytes_go_both_ways() {
+    let mut world = World::new(0, Duration::from_secs(30));
+    world.connect();
+    exchange(&mut world, 2_000_000);
+}
+
+#[test]
+fn bytes_go_both_ways_where_datagrams_are_lost() {
+    for lost in [1, 5, 10, 20, 30] {
+        let mut world = World::new(lost, Duration::from_secs(30));
+        world.connect();
+        exchange(&mut world, 200_000);
+    }
+}
+
+#[test]
+fn a_close_is_told() {
+    let mut world = World::new(0, Duration::from_secs(30));
+    world.connect();
+    let now = world.now;
+    world.end(0).close(Close::new(7, "enough"), now);
+    world.until(|world| world.ends.iter().flatten().all(|end| end.is_gone()));
+    assert!(matches!(world.end(0).outcome(), Some(Outcome::Closed(close)) if close.code == 7));
+    let told = Outcome::PeerClosed {
+        by_application: true,
+        code: 7,
+        reason: "enough".to_owned(),
+    };
+    assert_eq!(world.end(1).outcome(), Some(&told));
+}
+
+#[test]
+fn silence_ends_a_connection() {
+    let mut world = World::new(0, Duration::from_secs(2));
+    world.connect();
+    let begin = world.now;
+    world.until(|world| world.ends.iter().flatten().all(|end| end.is_gone()));
+    assert_eq!(world.end(0).outcome(), Some(&Outcome::Idle));
+    assert!(world.now - begin < Duration::from_secs(3));
+}
+
+#[test]
+fn a_server_sends_little_to_an_address_that_is_not_validated() {
+    let mut world = World::new(0, Duration::from_secs(5));
+    let mut out = Vec::new();
+    let now = world.now;
+    assert!(world.end(0).send(&mut out, now));
+    let came = out.len();
+    world.deliver(1, &mut out);
+    let mut sent = 0;
+    // The client is gone: the server probes until it is silent.
+    world.ends[0] = None;
+    for _ in 0..100 {
+        let now = world.now;
+        while world.end(1).send(&mut out, now) {
+            sent += out.len();
+        }
+        let Some(at) = world.end(1).timer(now) else {
+            break;
+        };
+        world.now = at.max(now);
+        let now = world.now;
+        world.end(1).time_is_up(now);
+    }
+    assert!(sent > came && sent <= 3 * came, "{sent} bytes for {came}");
+    assert!(world.end(1).is_gone());
+}
