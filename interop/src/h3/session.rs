@@ -243,7 +243,9 @@ fn new_conn(role: Role, shared: *mut Shared) -> (*mut Conn, c_int) {
     let settings = Settings {
         max_field_section_size: 1 << 16,
         qpack_max_dtable_capacity: 4096,
-        qpack_encoder_max_dtable_capacity: 4096,
+        // No field waits for the encoder's stream: the stream layer sends lower streams first, so that a body could use up the
+        // connection's credit before the instructions went on which its own fields depend (RFC 9204, section 2.1.3).
+        qpack_encoder_max_dtable_capacity: 0,
         qpack_blocked_streams: 100,
         enable_connect_protocol: 0,
     };

@@ -2,6 +2,8 @@
 //!
 //!     quinn-peer server DIR ADDR CERTIFICATE.der KEY.der
 //!     quinn-peer client ADDR DIR PATH..
+//!     quinn-peer stops ADDR PATH     stops the stream of a file in the middle, and then loads that file whole
+//!     quinn-peer resets ADDR PATH    breaks a request off before it is whole, and then loads that file
 
 use quinn::{ClientConfig, Connecting, Connection, Endpoint, RecvStream, SendStream, ServerConfig};
 use std::error::Error;
@@ -41,6 +43,8 @@ fn run(words: &[String]) -> Fallible<()> {
         ["client", address, folder, paths @ ..] => {
             runtime.block_on(load(address.parse()?, folder, paths))
         }
+        ["stops", address, path] => runtime.block_on(stop(address.parse()?, path)),
+        ["resets", address, path] => runtime.block_on(reset(address.parse()?, path)),
         _ => Err("server DIR ADDR CERTIFICATE KEY, or client ADDR DIR PATH..".into()),
     }
 }
@@ -88,7 +92,7 @@ async fn serve_stream(folder: &str, mut send: SendStream, receive: RecvStream) -
     Ok(())
 }
 
-async fn load(address: SocketAddr, folder: &str, paths: &[&str]) -> Fallible<()> {
+async fn connect(address: SocketAddr) -> Fallible<(Endpoint, Connection)> {
     let mut tls = rustls::ClientConfig::builder()
         .with_safe_defaults()
         .with_custom_certificate_verifier(Arc::new(AnyCertificate))
@@ -96,8 +100,13 @@ async fn load(address: SocketAddr, folder: &str, paths: &[&str]) -> Fallible<()>
     tls.alpn_protocols = vec![PROTOCOL.to_vec()];
     let mut endpoint = Endpoint::client("127.0.0.1:0".parse()?)?;
     endpoint.set_default_client_config(ClientConfig::new(Arc::new(tls)));
-    let begin = Instant::now();
     let connection = endpoint.connect(address, "localhost")?.await?;
+    Ok((endpoint, connection))
+}
+
+async fn load(address: SocketAddr, folder: &str, paths: &[&str]) -> Fallible<()> {
+    let begin = Instant::now();
+    let (endpoint, connection) = connect(address).await?;
     let mut loading = Vec::new();
     for path in paths {
         let one = load_one(connection.clone(), (*path).to_owned());
@@ -118,6 +127,43 @@ async fn load(address: SocketAddr, folder: &str, paths: &[&str]) -> Fallible<()>
     );
     endpoint.wait_idle().await;
     Ok(())
+}
+
+async fn stop(address: SocketAddr, path: &str) -> Fallible<()> {
+    let (endpoint, connection) = connect(address).await?;
+    let (mut send, mut receive) = connection.open_bi().await?;
+    send.write_all(path.as_bytes()).await?;
+    send.finish().await?;
+    let mut front = [0; 1000];
+    receive.read_exact(&mut front).await?;
+    receive.stop(7u32.into())?;
+    expect_whole(&connection, path, &front).await?;
+    connection.close(0u32.into(), b"");
+    endpoint.wait_idle().await;
+    Ok(())
+}
+
+async fn reset(address: SocketAddr, path: &str) -> Fallible<()> {
+    let (endpoint, connection) = connect(address).await?;
+    let (mut send, receive) = connection.open_bi().await?;
+    send.write_all(&path.as_bytes()[..1]).await?;
+    send.reset(7u32.into())?;
+    if receive.read_to_end(MOST_BYTES).await.is_ok() {
+        return Err("a request that was broken off is answered".into());
+    }
+    expect_whole(&connection, path, &[]).await?;
+    connection.close(0u32.into(), b"");
+    endpoint.wait_idle().await;
+    Ok(())
+}
+
+// The connection goes on: a file is loaded, which begins so.
+async fn expect_whole(connection: &Connection, path: &str, front: &[u8]) -> Fallible<()> {
+    let bytes = load_one(connection.clone(), path.to_owned()).await?;
+    match bytes.len() > front.len() && bytes.starts_with(front) {
+        true => Ok(()),
+        false => Err("the file doesn't begin as it did".into()),
+    }
 }
 
 async fn load_one(connection: Connection, path: String) -> Fallible<Vec<u8>> {
