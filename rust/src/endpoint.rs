@@ -225,6 +225,23 @@ impl Endpoint {
         }
     }
 
+    /// Uses up the next packet number for a packet that the layer beneath makes by itself, and answers it (RFC 9000,
+    /// section 12.3). To this end it is a packet without content: an ACK may name it, and it can't be declared lost.
+    /// It works on a closed end, too.
+    ///
+    /// # Errors
+    ///
+    /// `Exhausted` where the last packet number was used. Then nothing changed.
+    pub fn claim_number(&mut self) -> Result<u64, MakeFault> {
+        self.inner.claim_number().map_err(MakeFault::of)
+    }
+
+    /// The number that the next packet will have: one more than the last that was used, 0 at first (RFC 9000, section
+    /// 12.3).
+    pub fn next_number(&self) -> u64 {
+        self.inner.next_number()
+    }
+
     /// Declares the packet of a number lost: what it carried and is still of use is due again (RFC 9000, section 13.3).
     /// An acknowledgement that comes late still counts, of the 256 packets that were declared lost last.
     ///

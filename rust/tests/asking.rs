@@ -1,8 +1,8 @@
 //! What an end is asked, and what it answers as it is.
 
 use gotsavena::{
-    Dir, Endpoint, LostFault, OpenFault, PeerLimits, RaiseFault, Received, Role, Settings, SetupFault,
-    StreamId,
+    Dir, Endpoint, LostFault, OpenFault, PeerLimits, RaiseFault, Received, Role, Settings,
+    SetupFault, StreamId,
 };
 
 fn ends(settings: Settings) -> (Endpoint, Endpoint) {
@@ -125,7 +125,9 @@ fn outstanding_packets_are_found() {
         let made = made.expect("due");
         assert_eq!(made.number, number);
         if number == 1 {
-            server.receive(made.number, &payload[..made.len]).expect("sound");
+            server
+                .receive(made.number, &payload[..made.len])
+                .expect("sound");
         }
     }
     assert_eq!(client.next_outstanding(0), Some(0));
@@ -178,7 +180,10 @@ fn limits_rise_and_never_fall() {
     assert_eq!(client.open(Dir::Bidi), Err(OpenFault::Blocked(1)));
     assert_eq!(client.write(first, b"0123456789abcdef"), Ok(16));
     let mut payload = [0; 1200];
-    client.make_packet(&mut payload).expect("open").expect("due");
+    client
+        .make_packet(&mut payload)
+        .expect("open")
+        .expect("due");
     assert!(client.is_blocked(first));
     // What comes is greater in part: the lower part changes nothing.
     let mut mixed = limits(12, 4, 0);
@@ -192,7 +197,10 @@ fn limits_rise_and_never_fall() {
     assert_eq!(client.open_left(Dir::Bidi), 0);
     assert_eq!(client.open_left(Dir::Uni), 2);
     assert!(client.is_sendable());
-    client.make_packet(&mut payload).expect("open").expect("due");
+    client
+        .make_packet(&mut payload)
+        .expect("open")
+        .expect("due");
     assert!(client.is_blocked(first));
     assert_eq!(client.raise_limits(limits(1000, 100, 4)), Ok(()));
     assert_eq!(limit(&client, first), 100);

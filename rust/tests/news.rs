@@ -3,9 +3,7 @@
 
 mod support;
 
-use gotsavena::{
-    Dir, Endpoint, Frame, Read, Settings, StreamId, StreamReport, frames,
-};
+use gotsavena::{Dir, Endpoint, Frame, Read, Settings, StreamId, StreamReport, frames};
 use std::collections::BTreeSet;
 use support::{Random, two_ends};
 
@@ -160,10 +158,7 @@ fn next_event(random: &mut Random, run: &Run) -> Event {
     let stream = id(random.below(4 * STREAMS));
     let made = run.made[1 - side].len();
     match random.below(40) {
-        0..=4 => Event::Open(
-            side,
-            [Dir::Bidi, Dir::Uni][random.below(2) as usize],
-        ),
+        0..=4 => Event::Open(side, [Dir::Bidi, Dir::Uni][random.below(2) as usize]),
         5..=12 => Event::Write(side, stream, random.below(300) as usize),
         13..=14 => Event::Finish(side, stream),
         15 if random.chance(40) => Event::Reset(side, stream),

@@ -1,0 +1,74 @@
+// Made from crates/qs_conn/src/endpoint/raising.rt by rust/erase; not edited by hand.
+//! Limits of the peer that rise after the end was made.
+
+use super::Endpoint;
+use crate::proved::qs_conn::setup::limits_fault;
+use crate::proved::qs_calls::{PeerLimits, RaiseFault};
+use crate::proved::qs_wire::StreamId;
+
+impl Endpoint {
+    /// Takes in limits of the peer that weren't known as the end was made: a client that began with those that it remembered hands in
+    /// those of the handshake (RFC 9000, section 7.4.1). Each limit becomes the greater one of what stands and what comes, of open
+    /// streams too, and streams that open later begin with it; none falls. It looks at each open sending half.
+    ///
+    /// Refused, and then unchanged: `Closed`; `Refused` where no end can be made of such limits, with the fault that `new` answers.
+    pub fn raise_limits(&mut self, limits: &PeerLimits) -> Result<(), RaiseFault> {
+        if let Some(fault) = self.raise_refusal(limits) {
+            return Err(fault);
+        }
+        self.know_limits(limits);
+        self.allow_type(0);
+        self.allow_type(1);
+        self.allow_type(2);
+        self.allow_type(3);
+        self.settle();
+        Ok(())
+    }
+
+    // Why limits are refused.
+    fn raise_refusal(&self, limits: &PeerLimits) -> Option<RaiseFault> {
+        if self.closed.is_some() {
+            return Some(RaiseFault::Closed);
+        }
+        match limits_fault(limits) {
+            Some(fault) => Some(RaiseFault::Refused(fault)),
+            None => None,
+        }
+    }
+
+    // The first limits and the counts are known, and the connection's limit; open streams aren't looked at.
+    fn know_limits(&mut self, limits: &PeerLimits) {
+        self.peer = greater_limits(&self.peer, limits);
+        self.known_data = self.known_data.max(limits.max_data);
+        self.known_bidi = self.known_bidi.max(limits.streams_bidi);
+        self.known_uni = self.known_uni.max(limits.streams_uni);
+    }
+
+    // Each open half of a type may send what one may that opens now.
+    fn allow_type(&mut self, kind: usize) {
+        debug_assert!(kind < 4);
+        let limit = self.first_send_limit(StreamId::new(kind as u64).unwrap());
+        for index in 0..self.outbox.count_of(kind) {
+            let stream = StreamId::new((index * 4 + kind) as u64).unwrap();
+            self.allow_to(stream, limit);
+        }
+    }
+
+    // An open half may send the offsets below a limit.
+    fn allow_to(&mut self, stream: StreamId, limit: u64) {
+        debug_assert!(limit <= 0x3fff_ffff_ffff_ffff);
+        self.outbox.allow(stream, limit);
+    }
+}
+
+// Of two limits each the greater one.
+fn greater_limits(a: &PeerLimits, b: &PeerLimits) -> PeerLimits {
+    PeerLimits {
+        max_data: a.max_data.max(b.max_data),
+        bidi_local: a.bidi_local.max(b.bidi_local),
+        bidi_remote: a.bidi_remote.max(b.bidi_remote),
+        uni: a.uni.max(b.uni),
+        streams_bidi: a.streams_bidi.max(b.streams_bidi),
+        streams_uni: a.streams_uni.max(b.streams_uni),
+    }
+}
