@@ -117,23 +117,29 @@ kind_some R ls k from first i d len small is h =
         let index : i ≡ n / 4 = omega (arith, at, small) in
         (omega (arith, at, ge, is, small), (kind, (p.0, lookup_is ls n k i d len (sym kind) index ∙ p.1, p.2)))
 
-module _ {X : Type 0} (R : X → Type 0) (t : Tables X) (from : ℕ) where
-  pub of_four : (a b c d : Option ℕ) → IsLeast (IsHeldOf R t 0) from a → IsLeast (IsHeldOf R t 1) from b → IsLeast (IsHeldOf R t 2) from c → IsLeast (IsHeldOf R t 3) from d → IsLeast (IsHeld R t) from (least_of (least_of a b) (least_of c d))
-  of_four a b c d p q r s =
-      let Bidi : ℕ → Type 0 = λ n. IsHeldOf R t 0 n ⊎ IsHeldOf R t 1 n in
-      let Uni : ℕ → Type 0 = λ n. IsHeldOf R t 2 n ⊎ IsHeldOf R t 3 n in
-      least_two Bidi Uni (IsHeld R t) from (least_of a b) (least_of c d) (λ n h. elim h [ inl x ↦ x.1 | inr y ↦ y.1 ]) (λ n h. elim h [ inl x ↦ x.1 | inr y ↦ y.1 ]) by_kind
-      (least_two (IsHeldOf R t 0) (IsHeldOf R t 1) Bidi from a b (λ n x. inl x) (λ n y. inr y) (λ n h. h) p q) (least_two (IsHeldOf R t 2) (IsHeldOf R t 3) Uni from c d (λ n x. inl x) (λ n y. inr y) (λ n h. h) r s)
-    where
-      by_kind : (n : ℕ) → IsHeld R t n → (IsHeldOf R t 0 n ⊎ IsHeldOf R t 1 n) ⊎ (IsHeldOf R t 2 n ⊎ IsHeldOf R t 3 n)
-      by_kind n held = go (n % 4) refl (omega arith)
-        where
-          go : (k : ℕ) → n % 4 ≡ k → k < 4 → (IsHeldOf R t 0 n ⊎ IsHeldOf R t 1 n) ⊎ (IsHeldOf R t 2 n ⊎ IsHeldOf R t 3 n)
-          go zero e lt = inl (inl (e, held))
-          go (suc zero) e lt = inl (inr (e, held))
-          go (suc (suc zero)) e lt = inr (inl (e, held))
-          go (suc (suc (suc zero))) e lt = inr (inr (e, held))
-          go (suc (suc (suc (suc k)))) e lt = absurd (omega (arith, lt))
+-- of all four types
+abbrev OfKind : (ℕ → Type 0) → ℕ → ℕ → Type 0
+OfKind P k n = (kind_of n ≡ k) × P n
+
+pub kinds_four : (P : ℕ → Type 0) (from : ℕ) (a b c d : Option ℕ) → IsLeast (OfKind P 0) from a → IsLeast (OfKind P 1) from b → IsLeast (OfKind P 2) from c → IsLeast (OfKind P 3) from d → IsLeast P from (least_of (least_of a b) (least_of c d))
+kinds_four P from a b c d p q r s =
+    let Bidi : ℕ → Type 0 = λ n. OfKind P 0 n ⊎ OfKind P 1 n in
+    let Uni : ℕ → Type 0 = λ n. OfKind P 2 n ⊎ OfKind P 3 n in
+    least_two Bidi Uni P from (least_of a b) (least_of c d) (λ n h. elim h [ inl x ↦ x.1 | inr y ↦ y.1 ]) (λ n h. elim h [ inl x ↦ x.1 | inr y ↦ y.1 ]) by_kind
+    (least_two (OfKind P 0) (OfKind P 1) Bidi from a b (λ n x. inl x) (λ n y. inr y) (λ n h. h) p q) (least_two (OfKind P 2) (OfKind P 3) Uni from c d (λ n x. inl x) (λ n y. inr y) (λ n h. h) r s)
+  where
+    by_kind : (n : ℕ) → P n → (OfKind P 0 n ⊎ OfKind P 1 n) ⊎ (OfKind P 2 n ⊎ OfKind P 3 n)
+    by_kind n held = go (n % 4) refl (omega arith)
+      where
+        go : (k : ℕ) → n % 4 ≡ k → k < 4 → (OfKind P 0 n ⊎ OfKind P 1 n) ⊎ (OfKind P 2 n ⊎ OfKind P 3 n)
+        go zero e lt = inl (inl (e, held))
+        go (suc zero) e lt = inl (inr (e, held))
+        go (suc (suc zero)) e lt = inr (inl (e, held))
+        go (suc (suc (suc zero))) e lt = inr (inr (e, held))
+        go (suc (suc (suc (suc k)))) e lt = absurd (omega (arith, lt))
+
+pub of_four : {X : Type 0} (R : X → Type 0) (t : Tables X) (from : ℕ) (a b c d : Option ℕ) → IsLeast (IsHeldOf R t 0) from a → IsLeast (IsHeldOf R t 1) from b → IsLeast (IsHeldOf R t 2) from c → IsLeast (IsHeldOf R t 3) from d → IsLeast (IsHeld R t) from (least_of (least_of a b) (least_of c d))
+of_four R t = kinds_four (IsHeld R t)
 
 -- the number of the answer is a stream's
 pub least_id : (P : ℕ → Type 0) (from : ℕ) (id r : Option ℕ) (number : ℕ) → r ≡ Some number → IfSome r (λ n. n < 2 ^ 62) → IfSome id (λ m. (m ≡ number) × (number < 2 ^ 62)) → IfNone id (2 ^ 62 ≤ number) → IsLeast P from r → IsLeast P from id

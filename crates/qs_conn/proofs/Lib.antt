@@ -46,3 +46,4 @@ pub mod LaneMarks
 pub mod RecvNews
 pub mod Least
 pub mod Sought
+pub mod Overs

@@ -40,14 +40,14 @@ module _ (e : End) (n : ℕ) (s : Sending) (tied : IsTied e.outstanding n s) whe
   has_packet (inr (due, whole)) = inr (is_end_due e n s tied due, whole)
 
 -- a lane among the lanes of halves is that of a half
-half_of_lane : (t : Tables Sending) (n : ℕ) (l : SendLane) → lookup (lanes_of t) n ≡ Some l → (s : Sending) × (lookup t n ≡ Some s) × (s.lane ≡ l)
+pub half_of_lane : (t : Tables Sending) (n : ℕ) (l : SendLane) → lookup (lanes_of t) n ≡ Some l → (s : Sending) × (lookup t n ≡ Some s) × (s.lane ≡ l)
 half_of_lane t n l at = go (lookup t n) refl (sym (lookup_lanes t n) ∙ at)
   where
     go : (x : Option Sending) → lookup t n ≡ x → option_map (λ (s : Sending). s.lane) x ≡ Some l → (s : Sending) × (lookup t n ≡ Some s) × (s.lane ≡ l)
     go None e is = absurd (none-some l is)
     go (Some s) e is = (s, e, same_Some s.lane l is)
 
-lane_of_half : (t : Tables Sending) (n : ℕ) (s : Sending) → lookup t n ≡ Some s → lookup (lanes_of t) n ≡ Some s.lane
+pub lane_of_half : (t : Tables Sending) (n : ℕ) (s : Sending) → lookup t n ≡ Some s → lookup (lanes_of t) n ≡ Some s.lane
 lane_of_half t n s at = lookup_lanes t n ∙ ap (option_map (λ (x : Sending). x.lane)) at
 
 -- an answer about halves is one about what of their streams is due

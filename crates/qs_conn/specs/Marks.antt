@@ -5,7 +5,7 @@ use Rattle.qs_machine.specs.Tables.{Tables, kind_of, lookup}
 use Rattle.qs_send.specs.declared.piece.Item.{Item}
 use Rattle.qs_conn.specs.declared.slot.Slot.{Slot}
 use Rattle.qs_machine.specs.Ends.{End}
-use Rattle.qs_machine.specs.News.{IsHeld}
+use Rattle.qs_machine.specs.News.{IsHeld, IsEnded}
 use Rattle.qs_machine.specs.Due.{IsCurrent, IsCovered}
 use Rattle.qs_conn.specs.Filling.{slot_of}
 use Rattle.qs_conn.specs.Layers.{stop_to_tell}
@@ -53,6 +53,10 @@ IsAt {X} P xs i = (x : X) × (slice_get xs i ≡ Some x) × P x
 -- a stream of a type is open, and what is kept of it has the property
 abbrev pub IsHeldOf : {X : Type 0} → (X → Type 0) → Tables X → ℕ → ℕ → Type 0
 IsHeldOf {X} P t kind n = (kind_of n ≡ kind) × IsHeld P t n
+
+-- a stream of a type that is over
+abbrev pub IsEndedOf : End → ℕ → ℕ → Type 0
+IsEndedOf e kind n = (kind_of n ≡ kind) × IsEnded e n
 
 -- no index of a word of 64 is marked
 abbrev pub HasNoMark : List Bool → ℕ → Type 0

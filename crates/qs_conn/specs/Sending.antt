@@ -4,6 +4,7 @@ use Rattle.qs_send.specs.Lane.{SendLane}
 use Rattle.qs_send.specs.Writable.{is_writable}
 use Rattle.qs_send.specs.declared.piece.Item.{Item}
 use Rattle.qs_machine.specs.Ends.{End}
+use Rattle.qs_machine.specs.Credit.{send_ended}
 use Rattle.qs_machine.specs.Due.{IsDueItem, StreamGoes}
 use Rattle.qs_machine.specs.News.{IsHeld, HasForPacket}
 use Rattle.qs_conn.specs.Filling.{slot_of, Passed, IsPassed}
@@ -15,6 +16,10 @@ IsDueOf e n = IsHeld (HasForPacket e n) e.sends n
 -- a half takes bytes now
 abbrev pub MayWrite : SendLane → Type 0
 MayWrite l = is_writable l ≡ true
+
+-- a half came to its end: Data Recvd or Reset Recvd (RFC 9000, section 3.1)
+abbrev pub HasSent : SendLane → Type 0
+HasSent l = send_ended l ≡ true
 
 -- some item is due; or none of the slots that were passed
 abbrev pub TellsDue : Bool → End → Passed → Type 0

@@ -300,8 +300,8 @@ impl RecvTables {
         }
     }
 
-    // The least such number among the streams of a type.
-    fn next_with_of(&self, task: RecvTask, kind: usize, from: u64) -> Option<u64>
+    /// The least such number among the streams of a type.
+    pub(crate) fn next_with_of(&self, task: RecvTask, kind: usize, from: u64) -> Option<u64>
         requires kind { kind < 4 }
         requires from { from ≤ 2 ^ 62 }
         ensures least { IsLeast (IsHeldOf (HasOne task) self.now kind) from result }

@@ -182,8 +182,5 @@ fn has_ended(half: &SendHalf) -> bool
     ensures { result ≡ send_ended half.now.lane }
 {
     half.is_lawful();
-    matches!(
-        half.state(),
-        SendState::DataRecvd | SendState::ResetRecvd
-    )
+    matches!(half.state(), SendState::DataRecvd | SendState::ResetRecvd)
 }

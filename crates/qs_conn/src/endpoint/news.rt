@@ -1,7 +1,10 @@
 //! Which streams wait for their owner, and which have something for a packet.
-ghost use Rattle.qs_machine.specs.News.{IsLeast, IsReadable, IsSendable, IsWritable};
+ghost use Rattle.std.specs.Prelude.{◌≤◌, ◌<◌, ◌^◌, IfSome};
+ghost use Rattle.qs_machine.specs.News.{IsLeast, IsReadable, IsSendable, IsWritable, IsEnded};
+ghost use Rattle.qs_conn.specs.Marks.{IsEndedOf};
 
-use super::Endpoint;
+use super::{Endpoint, role_bit};
+use crate::marks::least;
 use crate::recv_marks::RecvTask;
 use qs_wire::StreamId;
 
@@ -44,5 +47,56 @@ impl Endpoint {
             return None;
         }
         self.outbox.next_writable(from.value())
+    }
+
+    /// The least stream at or above `from` whose every half here came to its end: the end or the reset was told to the reader, and all
+    /// that was sent is acknowledged, or the reset (RFC 9000, section 3). `None` where there is none.
+    ///
+    /// It takes no memory, and looks at one word of marks for 64 streams of a type; of a bidirectional one it goes from a receiving half
+    /// that ended to the next sending half that did, and back, until they are of one stream.
+    pub fn next_ended(&self, from: StreamId) -> Option<StreamId>
+        ensures { IsLeast (IsEnded self.now) from result }
+    {
+        let from = from.value();
+        let bidi = least(self.next_bidi_ended(0, from), self.next_bidi_ended(1, from));
+        let uni = least(self.next_uni_ended(2, from), self.next_uni_ended(3, from));
+        match least(bidi, uni) {
+            Some(number) => StreamId::new(number),
+            None => None,
+        }
+    }
+
+    // The least such number among the bidirectional streams of a type.
+    fn next_bidi_ended(&self, kind: usize, from: u64) -> Option<u64>
+        requires kind { kind < 2 }
+        requires from { from ≤ 2 ^ 62 }
+        ensures least { IsLeast (IsEndedOf self.now kind) from result }
+        ensures small { IfSome result (λ n. n < 2 ^ 62) }
+    {
+        let mut next = from;
+        while let Some(recv) = self.recvs.next_with_of(RecvTask::Ended, kind, next) {
+            let Some(send) = self.outbox.next_ended_of(kind, recv) else {
+                return None;
+            };
+            if send == recv {
+                return Some(send);
+            }
+            next = send;
+        }
+        None
+    }
+
+    // The least such number among the unidirectional streams of a type: those of this end only send.
+    fn next_uni_ended(&self, kind: usize, from: u64) -> Option<u64>
+        requires kind { (2 ≤ kind) × (kind < 4) }
+        requires from { from ≤ 2 ^ 62 }
+        ensures least { IsLeast (IsEndedOf self.now kind) from result }
+        ensures small { IfSome result (λ n. n < 2 ^ 62) }
+    {
+        if kind % 2 == role_bit(self.role) {
+            self.outbox.next_ended_of(kind, from)
+        } else {
+            self.recvs.next_with_of(RecvTask::Ended, kind, from)
+        }
     }
 }

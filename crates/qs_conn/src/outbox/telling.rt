@@ -1,5 +1,5 @@
 //! What an end has to tell of its sending side.
-ghost use Rattle.std.specs.Prelude.{◌≡◌, ◌≤◌, ◌^◌, ◌↔◌, ◌||◌, IsTrue, ℕ, IfSome, IfNone};
+ghost use Rattle.std.specs.Prelude.{◌≡◌, ◌≤◌, ◌<◌, ◌^◌, ◌↔◌, ◌||◌, IsTrue, ℕ, IfSome, IfNone};
 ghost use Rattle.qs_ranges.specs.Numbers.{MAX_VARINT};
 ghost use Rattle.qs_send.specs.declared.piece.Piece.TheVariants as pieces;
 ghost use Rattle.qs_machine.specs.Tables.{lookup};
@@ -7,8 +7,8 @@ ghost use Rattle.qs_machine.specs.Sums.{or_none};
 ghost use Rattle.qs_machine.specs.Ends.{End};
 ghost use Rattle.qs_machine.specs.News.{IsLeast, IsHeld};
 ghost use Rattle.qs_machine.specs.Asking.{waits_for_credit};
-ghost use Rattle.qs_conn.specs.Marks.{IsBefore};
-ghost use Rattle.qs_conn.specs.Sending.{IsDueOf, MayWrite};
+ghost use Rattle.qs_conn.specs.Marks.{IsBefore, IsHeldOf};
+ghost use Rattle.qs_conn.specs.Sending.{IsDueOf, MayWrite, HasSent};
 ghost use Rattle.qs_conn.specs.Tasks.{IsQuietAt};
 ghost use Rattle.qs_machine.specs.Outgoing.{IsCarried, IsAckedOut, IsAckedReset, IsBlockedAt, WantsMore, reset_by, with_outgoing};
 
@@ -128,6 +128,17 @@ impl Outbox {
     {
         let _next = self.next;
         self.sends.next_with(Task::Writable, from)
+    }
+
+    /// The least number from one on of a stream of a type whose sending half came to its end.
+    pub(crate) fn next_ended_of(&self, kind: usize, from: u64) -> Option<u64>
+        requires kind { kind < 4 }
+        requires from { from ≤ 2 ^ 62 }
+        ensures least { IsLeast (IsHeldOf HasSent self.now.sends kind) from result }
+        ensures small { IfSome result (λ n. n < 2 ^ 62) }
+    {
+        let _next = self.next;
+        self.sends.next_with_of(Task::Ended, kind, from)
     }
 
     /// The least number from one on of a stream of which bytes or the end are due, which its own limit lets go.

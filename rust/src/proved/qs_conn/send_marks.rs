@@ -149,8 +149,5 @@ fn may_be_blocked(half: &SendHalf) -> bool {
 // Whether all that was sent is acknowledged, the end too, or the reset is (RFC 9000, section 3.1).
 fn has_ended(half: &SendHalf) -> bool {
     half.is_lawful();
-    matches!(
-        half.state(),
-        SendState::DataRecvd | SendState::ResetRecvd
-    )
+    matches!(half.state(), SendState::DataRecvd | SendState::ResetRecvd)
 }

@@ -167,8 +167,8 @@ impl SendTables {
         }
     }
 
-    // The least such number among the streams of a type.
-    fn next_with_of(&self, task: Task, kind: usize, from: u64) -> Option<u64> {
+    /// The least such number among the streams of a type.
+    pub(crate) fn next_with_of(&self, task: Task, kind: usize, from: u64) -> Option<u64> {
         debug_assert!(kind < 4);
         debug_assert!(from <= 1 << 62);
         let lanes = &self.types[kind];

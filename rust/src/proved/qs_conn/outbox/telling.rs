@@ -97,6 +97,14 @@ impl Outbox {
         self.sends.next_with(Task::Writable, from)
     }
 
+    /// The least number from one on of a stream of a type whose sending half came to its end.
+    pub(crate) fn next_ended_of(&self, kind: usize, from: u64) -> Option<u64> {
+        debug_assert!(kind < 4);
+        debug_assert!(from <= 1 << 62);
+        let _next = self.next;
+        self.sends.next_with_of(Task::Ended, kind, from)
+    }
+
     /// The least number from one on of a stream of which bytes or the end are due, which its own limit lets go.
     pub(crate) fn next_sendable(&self, from: u64) -> Option<StreamId> {
         debug_assert!(from <= 1 << 62);
