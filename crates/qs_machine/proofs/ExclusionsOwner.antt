@@ -22,7 +22,7 @@ use Rattle.qs_machine.specs.Credit.{settle}
 use Rattle.qs_machine.specs.FrameStep.{frame_taken}
 use Rattle.qs_machine.specs.Owner.{Certain, send_refusal}
 use Rattle.qs_machine.specs.SmallEnds.{client_with, abc, begun, wrote, fresh}
-use Rattle.qs_machine.specs.ExclusionsOwner.{NoSuchOpening, NoSuchAccepting, NoSuchSending, NoSuchReading, LimitsSettle, NotOwned}
+use Rattle.qs_machine.specs.ExclusionsOwner.{NoSuchOpening, NoSuchAccepting, NoSuchSending, NoSuchReading, LimitsSettle, LimitsOnlyRise, NotOwned}
 use Rattle.qs_machine.proofs.Choices.{not_chosen}
 use Rattle.qs_machine.proofs.ExclusionsMaking.{ok_is_no_err}
 
@@ -159,5 +159,8 @@ settling : LimitsSettle
 unfolding frame_taken lookup update open_to each total
 settling = record { by_one = refl; of_direction = refl; stream = refl; ended = refl; connection = refl }
 
+risings : LimitsOnlyRise
+risings = record { lower = refl; open_too = refl; of_type = refl; closed = λ new h. ok_is_no_err _ _ h.0; uncountable = λ new h. ok_is_no_err _ _ h.0 }
+
 pub not_owned : NotOwned
-not_owned = record { opening = openings; accepting = acceptings; sending = sendings; reading = readings; settling = settling }
+not_owned = record { opening = openings; accepting = acceptings; sending = sendings; reading = readings; settling = settling; rising = risings }

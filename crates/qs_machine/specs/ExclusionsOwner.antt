@@ -1,14 +1,16 @@
 -- Which answers an end's owner isn't given, and what its calls don't leave (RFC 9000, sections 2, 3 and 4).
-use Rattle.std.specs.Prelude.{◌≡◌, ℕ, List, [], ◌∷◌, None, Some, Ok, Err}
+use Rattle.std.specs.Prelude.{◌≡◌, ℕ, ◌+◌, ◌^◌, List, [], ◌∷◌, None, Some, Ok, Err}
 use Rattle.qs_wire.specs.declared.stream_id.Dir.TheVariants.{Bidi}
 use Rattle.qs_recv.specs.Lane.{RecvLane, stop}
 use Rattle.qs_recv.specs.declared.half.Read.TheVariants as reads
 use Rattle.qs_calls.specs.declared.closing.Closed.TheVariants.{ByPeer}
+use Rattle.qs_calls.specs.Settings.{limits_of}
 use Rattle.qs_calls.specs.declared.uses.OpenFault.TheVariants as opening
 use Rattle.qs_calls.specs.declared.uses.UseFault.TheVariants.{NoSuchStream, NoMemory}
 use Rattle.qs_machine.specs.Ends.{End, send_lane, recv_lane}
 use Rattle.qs_machine.specs.Credit.{settle}
 use Rattle.qs_machine.specs.Owner.{OpenStep, AcceptStep, WriteStep, FinishStep, ResetStep, StopStep, ReadStep}
+use Rattle.qs_machine.specs.Raising.{limits_raised, RaiseStep}
 use Rattle.qs_machine.specs.Examples.{standard, server, client_of, told_reset}
 use Rattle.qs_machine.specs.SmallEnds.{client_with, server_with, abc, begun, wrote, finished, reset_half, fresh, three_came}
 
@@ -121,9 +123,23 @@ pub record LimitsSettle : Type 0 where
   -- the connection's limit by what was read in all
   pub connection : (settle (record (server_with six_read) { granted = 10; settings = record standard { conn_window = 10 } })).granted ≡ 16
 
+-- As limits of the peer rise (section 7.4.1)
+pub record LimitsOnlyRise : Type 0 where
+  -- lower ones change nothing
+  pub lower : limits_raised (record (limits_of standard) { max_data = 1; bidi_remote = 1; streams_bidi = 1 }) (client_with wrote) ≡ client_with wrote
+  -- a stream that is open may send below the greater one of its type
+  pub open_too : (limits_raised (record (limits_of standard) { bidi_remote = 2000 }) (client_with wrote)).sends.client_bidi ≡ record wrote { limit = 2000 } ∷ []
+  -- and below that of no other type
+  pub of_type : (limits_raised (record (limits_of standard) { bidi_local = 2000; uni = 2000 }) (client_with wrote)).sends.client_bidi ≡ wrote ∷ []
+  -- none rises once the end closed
+  pub closed : (new : End) → RaiseStep (over (client_of standard)) (limits_of standard) (Ok tt) new → ⊥
+  -- nor where more streams are allowed than have a number (section 4.6)
+  pub uncountable : (new : End) → RaiseStep (client_of standard) (record (limits_of standard) { streams_uni = 2 ^ 60 + 1 }) (Ok tt) new → ⊥
+
 pub record NotOwned : Type 0 where
   pub opening : NoSuchOpening
   pub accepting : NoSuchAccepting
   pub sending : NoSuchSending
   pub reading : NoSuchReading
   pub settling : LimitsSettle
+  pub rising : LimitsOnlyRise
