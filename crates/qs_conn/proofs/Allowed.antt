@@ -92,6 +92,6 @@ module _ (f : SendLane → SendLane) (k i n : ℕ) (few : k < 4) (number : n ≡
       let xs = first_changed f i (table e.sends k) in
       let next : suc i ≡ i + 1 = omega arith in
       let at : updated (with_table e.sends k xs) n f (lookup (with_table e.sends k xs) n) ≡ with_table e.sends k (changed xs i f (slice_get xs i)) =
-          subst (λ j. updated (with_table e.sends j xs) n f (lookup (with_table e.sends j xs) n) ≡ with_table e.sends j (changed xs i f (slice_get xs i))) kind_is
-          (updated_with e.sends n xs f ∙ ap (λ m. with_table e.sends (n % 4) (changed xs m f (slice_get xs m))) index_is) in
+      subst (λ j. updated (with_table e.sends j xs) n f (lookup (with_table e.sends j xs) n) ≡ with_table e.sends j (changed xs i f (slice_get xs i))) kind_is
+      (updated_with e.sends n xs f ∙ ap (λ m. with_table e.sends (n % 4) (changed xs m f (slice_get xs m))) index_is) in
       step ∙ ap (on_send n f) is ∙ ap (λ (t : Tables SendLane). record e { sends = t }) (at ∙ ap (with_table e.sends k) (one_more f i (table e.sends k) below ∙ ap (λ j. first_changed f j (table e.sends k)) next))

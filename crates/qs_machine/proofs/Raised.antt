@@ -1,10 +1,10 @@
 -- Limits that rise: each open half stays, and its limit is no lower.
-use Rattle.std.proofs.Common.{◌≡◌, ℕ, ◌%◌, ◌/◌, map, option_map, Some, refl, sym, ap, ◌∙◌, subst, inl, inr}
+use Rattle.std.proofs.Common.{ℕ, ◌%◌, ◌/◌, option_map, sym, ap, ◌∙◌, inl, inr}
 use Rattle.std.proofs.lemmas.Bool.{cases_eq}
 use Rattle.std.proofs.lemmas.Option.{slice_get-map}
 use Rattle.qs_send.specs.Lane.{SendLane, allow_lane}
 use Rattle.qs_calls.specs.declared.settings.PeerLimits.{PeerLimits}
-use Rattle.qs_machine.specs.Tables.{Tables, table, with_table, lookup}
+use Rattle.qs_machine.specs.Tables.{Tables, table}
 use Rattle.qs_machine.specs.Ends.{End, first_send_limit}
 use Rattle.qs_machine.specs.Raising.{knows_limits, type_allowed, limits_raised}
 use Rattle.qs_machine.proofs.TableLaws.{with_same, with_other, lookup_in}
