@@ -1,10 +1,12 @@
 //! A relay of datagrams between clients and one server, which drops, repeats and holds back some of them, as a seed draws.
 //!
 //! What a share is in a hundred: `--drop` of both ways, `--drop-up` to the server and `--drop-down` from it, `--repeat`,
-//! `--reorder`: a datagram that is held back goes behind the next one of its way, or after 20 ms.
+//! `--reorder`: a datagram that is held back goes behind the next one of its way, or after 20 ms. `--rebind N`: from the Nth datagram
+//! of a client on the server sees it at another address, as behind a NAT that forgot it.
 
 use gotsavena_interop::program::{self, Refusal, Words, address, listen};
 use std::collections::HashMap;
+use std::collections::hash_map::Entry;
 use std::io::{self, ErrorKind};
 use std::net::{SocketAddr, UdpSocket};
 use std::process::ExitCode;
@@ -31,7 +33,7 @@ struct Way {
 }
 
 fn main() -> ExitCode {
-    let usage = "relay [--seed N] [--drop P] [--drop-up P] [--drop-down P] [--repeat P] [--reorder P] ADDR SERVER";
+    let usage = "relay [--seed N] [--drop P] [--drop-up P] [--drop-down P] [--repeat P] [--reorder P] [--rebind N] ADDR SERVER";
     program::run(usage, relay)
 }
 
@@ -47,6 +49,7 @@ fn relay(mut words: Words) -> Result<(), Refusal> {
     {
         return Err(Refusal::Usage("a share is at most 100".to_owned()));
     }
+    let rebind = words.number("rebind", 0)?;
     let [own, server] = words.exactly()?;
     let server = address(&server)?;
     let socket = Arc::new(listen(&own)?);
@@ -55,41 +58,77 @@ fn relay(mut words: Words) -> Result<(), Refusal> {
         repeated,
         reordered,
     };
-    run(socket, server, weather(up), weather(down), seed).map_err(Refusal::failure)
+    let (up, down) = (weather(up), weather(down));
+    let relay = Relay {
+        socket,
+        server,
+        up,
+        down,
+        seed,
+        rebind,
+    };
+    relay.run().map_err(Refusal::failure)
 }
 
-// Each client has a socket of its own to the server, and a thread for the way back.
-fn run(
+/// What stands between clients and a server.
+struct Relay {
     socket: Arc<UdpSocket>,
     server: SocketAddr,
     up: Weather,
     down: Weather,
     seed: u64,
-) -> io::Result<()> {
-    let mut clients: HashMap<SocketAddr, (Arc<UdpSocket>, Way)> = HashMap::new();
-    let mut buffer = [0; 65_536];
-    socket.set_read_timeout(Some(HELD))?;
-    loop {
-        for (to_server, way) in clients.values_mut() {
-            way.release(|bytes| to_server.send(bytes));
+    /// After so many datagrams of a client its way to the server has another address.
+    rebind: u64,
+}
+
+/// A client, with a socket of its own to the server.
+struct Client {
+    to_server: Arc<UdpSocket>,
+    way: Way,
+    came: u64,
+}
+
+impl Relay {
+    fn run(&self) -> io::Result<()> {
+        let mut clients: HashMap<SocketAddr, Client> = HashMap::new();
+        let mut buffer = [0; 65_536];
+        self.socket.set_read_timeout(Some(HELD))?;
+        loop {
+            for client in clients.values_mut() {
+                client.way.release(|bytes| client.to_server.send(bytes));
+            }
+            let (len, from) = match self.socket.recv_from(&mut buffer) {
+                Ok(came) => came,
+                Err(error) if is_pause(&error) => continue,
+                Err(error) => return Err(error),
+            };
+            let seed = self.seed ^ (2 * clients.len() as u64) << 32;
+            let client = match clients.entry(from) {
+                Entry::Occupied(known) => known.into_mut(),
+                Entry::Vacant(place) => place.insert(Client {
+                    to_server: self.open(from, seed)?,
+                    way: Way::new(self.up, seed),
+                    came: 0,
+                }),
+            };
+            client.came += 1;
+            if client.came == self.rebind {
+                client.to_server = self.open(from, seed)?;
+            }
+            client
+                .way
+                .carry(&buffer[..len], |bytes| client.to_server.send(bytes));
         }
-        let (len, from) = match socket.recv_from(&mut buffer) {
-            Ok(came) => came,
-            Err(error) if is_pause(&error) => continue,
-            Err(error) => return Err(error),
-        };
-        if !clients.contains_key(&from) {
-            let place = clients.len() as u64;
-            let to_server = Arc::new(UdpSocket::bind("127.0.0.1:0")?);
-            to_server.connect(server)?;
-            let back = Way::new(down, seed ^ (2 * place + 1) << 32);
-            let (own, to_client) = (to_server.clone(), socket.clone());
-            thread::spawn(move || bring_back(&own, &to_client, from, back));
-            clients.insert(from, (to_server, Way::new(up, seed ^ (2 * place) << 32)));
-        }
-        if let Some((to_server, way)) = clients.get_mut(&from) {
-            way.carry(&buffer[..len], |bytes| to_server.send(bytes));
-        }
+    }
+
+    // A socket to the server, with a thread for the way back to a client.
+    fn open(&self, client: SocketAddr, seed: u64) -> io::Result<Arc<UdpSocket>> {
+        let to_server = Arc::new(UdpSocket::bind("127.0.0.1:0")?);
+        to_server.connect(self.server)?;
+        let back = Way::new(self.down, seed ^ 1 << 32);
+        let (own, to_client) = (to_server.clone(), self.socket.clone());
+        thread::spawn(move || bring_back(&own, &to_client, client, back));
+        Ok(to_server)
     }
 }
 

@@ -108,6 +108,9 @@ impl Connection {
         frame_type: u64,
         now: Instant,
     ) -> Result<(), Fault> {
+        if let Some((code, reason)) = self.refusal(frame) {
+            return Err(Fault::new(code, frame_type, reason));
+        }
         match *frame {
             Frame::Ack {
                 largest,
@@ -121,26 +124,32 @@ impl Connection {
             }
             Frame::Crypto { offset, bytes } => self.take_crypto(Level::Data, offset, bytes)?,
             Frame::NewConnectionId { .. } => self.take_new_id(frame)?,
-            Frame::RetireConnectionId { .. } => {
-                let reason = "the only identifier is retired";
-                return Err(Fault::new(PROTOCOL_VIOLATION, frame_type, reason));
-            }
             Frame::PathChallenge { bytes } => {
                 self.control(Control::PathResponse(bytes.try_into().unwrap_or_default()));
-            }
-            Frame::HandshakeDone | Frame::NewToken { .. } if self.role == Role::Server => {
-                let reason = "a frame that only a server sends";
-                return Err(Fault::new(PROTOCOL_VIOLATION, frame_type, reason));
             }
             Frame::HandshakeDone if !self.known.is_confirmed => self.confirm(),
             Frame::ConnectionClose { code, reason, .. } => {
                 self.peer_closed(false, code, reason, now)
             }
             Frame::ApplicationClose { code, reason } => self.peer_closed(true, code, reason, now),
-            // What is the stream layer's own, and a path that wasn't challenged.
+            // What is the stream layer's own, a token, and a path that wasn't challenged.
             _ => {}
         }
         Ok(())
+    }
+
+    // What the stream layer leaves to the transport to refuse.
+    fn refusal(&self, frame: &Frame<'_>) -> Option<(u64, &'static str)> {
+        match frame {
+            Frame::HandshakeDone | Frame::NewToken { .. } if self.role == Role::Server => {
+                Some((PROTOCOL_VIOLATION, "a frame that only a server sends"))
+            }
+            Frame::NewToken { bytes: [] } => Some((FRAME_ENCODING_ERROR, "a token without a byte")),
+            Frame::RetireConnectionId { .. } => {
+                Some((PROTOCOL_VIOLATION, "the only identifier is retired"))
+            }
+            _ => None,
+        }
     }
 
     fn take_new_id(&mut self, frame: &Frame<'_>) -> Result<(), Fault> {

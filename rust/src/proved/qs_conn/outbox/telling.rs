@@ -123,10 +123,6 @@ fn either(a: bool, b: bool) -> bool {
     a || b
 }
 
-fn either(a: bool, b: bool) -> bool {
-    a || b
-}
-
 // A reset, where it has a code.
 fn reset_by(code: Option<u64>, size: Option<u64>) -> Option<Reset> {
     match (code, size) {
