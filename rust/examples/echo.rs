@@ -4,7 +4,8 @@
 //!     cargo run --example echo -- server 127.0.0.1:4433
 //!     printf 'one\ntwo\n' | cargo run --example echo -- client 127.0.0.1:4433
 //!
-//! There is no handshake: the client's first byte connects them, and both know the limits.
+//! There is no handshake: the client's first byte connects them, and both know the limits. A stream that is reset or
+//! stopped ends the program: `loop.rs` goes on.
 
 mod link;
 

@@ -6,7 +6,9 @@ use std::net::UdpSocket;
 
 fn main() -> Result<(), Box<dyn std::error::Error>> {
     let socket = UdpSocket::bind("127.0.0.1:4433")?;
-    let (settings, limits_of_the_client) = (Settings::default(), Settings::default().limits());
+    // 100 streams at a time and 1,000 in all; the handshake would tell what the client grants.
+    let settings = Settings::default().streams(100, 1000);
+    let limits_of_the_client = settings.limits();
     let mut end = Endpoint::new(Role::Server, settings, limits_of_the_client)?;
     let (mut datagram, mut streams) = ([0; 1500], Vec::new());
     loop {
@@ -40,7 +42,11 @@ fn echo(end: &mut Endpoint, stream: StreamId, kept: &mut Vec<u8>) -> Result<bool
             Read::Wait => {}
         }
     }
-    let count = end.write(stream, kept)?;
-    kept.drain(..count);
+    match end.write(stream, kept) {
+        Ok(count) => drop(kept.drain(..count)),
+        // The client stopped it. What it sends is read on to its end, or it could open no stream in place of this one.
+        Err(UseFault::WasReset) => kept.clear(),
+        Err(fault) => return Err(fault),
+    }
     Ok(true)
 }
