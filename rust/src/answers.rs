@@ -27,7 +27,8 @@ pub enum Received {
     Duplicate,
     /// The packet number lies below those that are still told apart (RFC 9000, section 13.2.3). Nothing changed.
     BelowFloor,
-    /// The peer closed the connection, now or before, with this code. The frames before its CONNECTION_CLOSE took effect.
+    /// The peer closed the connection, now or before, with this code. The frames before its CONNECTION_CLOSE took
+    /// effect, but bytes that weren't read before can't be read any more: `read` answers `Closed`.
     PeerClosed(u64),
     /// Memory was refused. The first frames took effect, the number isn't kept, and the same payload may come again.
     NoMemory,
@@ -36,9 +37,9 @@ pub enum Received {
 /// What a reader is told (RFC 9000, section 2.2).
 #[derive(Clone, Copy, Debug, PartialEq, Eq)]
 pub enum Read {
-    /// So many bytes were read, at the slice's front.
+    /// So many bytes were read, at the slice's front: 0 only into an empty slice.
     Bytes(usize),
-    /// All bytes were read before.
+    /// The stream ended: all its bytes were read before, or thrown away by a stop.
     End,
     /// The peer broke the stream off, with this code.
     Reset(u64),

@@ -53,8 +53,8 @@ pub struct Endpoint {
 }
 
 impl Endpoint {
-    /// A new end. `peer` is what the other end grants: its transport parameters (RFC 9000, section 18.2). It takes no
-    /// memory.
+    /// A new end. `settings` are its own; `peer` is what the other end grants: its transport parameters (RFC 9000,
+    /// section 18.2). It takes no memory.
     ///
     /// # Errors
     ///
@@ -81,11 +81,12 @@ impl Endpoint {
             .map_err(RaiseFault::of)
     }
 
-    /// Opens the next stream of that direction, and answers its number (RFC 9000, sections 2.1 and 4.6).
+    /// Opens the next stream of that direction, and answers its number (RFC 9000, sections 2.1 and 4.6). The peer learns
+    /// of it with its first byte, its end or its reset.
     ///
     /// # Errors
     ///
-    /// `Closed`; `Blocked` with the peer's count where as many are open; and `NoMemory`, and then nothing changed.
+    /// `Closed`; `Blocked` with the peer's count where as many were opened; and `NoMemory`, and then nothing changed.
     pub fn open(&mut self, dir: Dir) -> Result<StreamId, OpenFault> {
         self.inner
             .open(dir.inner())
@@ -136,7 +137,8 @@ impl Endpoint {
     /// Reads the bytes that are next into the slice's front, or tells how the stream stands (RFC 9000, section 2.2).
     ///
     /// A stream of the peer gives its place to a new one once it was read to `End` or `Reset` (section 4.6), one that
-    /// was stopped too: read on until then.
+    /// was stopped too: read on until then. Where both ends send, its sending half here has to be over as well: finished
+    /// or reset, or stopped by the peer, and that acknowledged.
     ///
     /// # Errors
     ///
@@ -149,7 +151,8 @@ impl Endpoint {
     }
 
     /// Throws the stream's bytes away, those stored and those still to come, and asks the peer to stop sending with the
-    /// application's code, below 2^62 (RFC 9000, sections 3.5 and 20.2). The first code stays.
+    /// application's code, below 2^62 (RFC 9000, sections 3.5 and 20.2). The first code stays. From then on
+    /// [`Endpoint::read`] answers `Wait`, and `End` or `Reset` once all the bytes or the reset came.
     ///
     /// # Errors
     ///
@@ -165,8 +168,8 @@ impl Endpoint {
     /// limits allow. What is due goes in as far as there is room: an ACK, control items, bytes of streams (RFC 9000,
     /// sections 4, 13.2 and 13.3).
     ///
-    /// The packet's number is used up: it is to be sent, or to be declared lost. `out` has 128 to 16,383 bytes
-    /// ([`MIN_ROOM`], [`MAX_ROOM`]).
+    /// The packet's number is used up: it is to be sent, or to be declared lost. One that holds an ACK alone asks for
+    /// no ACK, and needn't be declared lost. `out` has 128 to 16,383 bytes ([`MIN_ROOM`], [`MAX_ROOM`]).
     ///
     /// # Errors
     ///
@@ -388,7 +391,7 @@ impl Endpoint {
         self.inner.peer_closed()
     }
 
-    /// How the halves of a stream stand at this end; `None` where it isn't open (RFC 9000, section 3).
+    /// How the halves of a stream stand at this end; `None` where it was never opened (RFC 9000, section 3).
     pub fn report(&self, stream: StreamId) -> Option<StreamReport> {
         self.inner.lane_report(stream.inner()).map(StreamReport::of)
     }

@@ -29,8 +29,8 @@ pub enum RaiseFault {
 #[derive(Clone, Copy, Debug, PartialEq, Eq)]
 #[non_exhaustive]
 pub enum OpenFault {
-    /// As many streams are open as the peer allows: so many (RFC 9000, section 4.6). The peer is told by a
-    /// STREAMS_BLOCKED.
+    /// As many streams were opened, ended ones too, as the peer allows so far: so many (RFC 9000, section 4.6). The peer
+    /// is told by a STREAMS_BLOCKED. It allows more as streams end, up to what it allows in all.
     Blocked(u64),
     /// The connection is closed.
     Closed,
@@ -48,7 +48,8 @@ pub enum UseFault {
     WrongDirection,
     /// The end of the stream was asked for already.
     Finished,
-    /// The sending half was broken off, by this end or by the peer's STOP_SENDING.
+    /// The sending half was broken off, by this end or by the peer's STOP_SENDING, whose code [`frames`](crate::frames)
+    /// finds in the payload.
     WasReset,
     /// The connection is closed.
     Closed,
@@ -76,7 +77,8 @@ pub enum MakeFault {
 #[derive(Clone, Copy, Debug, PartialEq, Eq)]
 #[non_exhaustive]
 pub enum LostFault {
-    /// No such packet is outstanding: it wasn't made, it is acknowledged or lost, or it needs no answer. Nothing changed.
+    /// No such packet is outstanding: it wasn't made, it is acknowledged or lost, or it holds an ACK alone, which needs
+    /// no answer. Nothing changed.
     NotOutstanding,
     /// Memory was refused. Some of what the packet carried may be due again; the call may be made again.
     NoMemory,

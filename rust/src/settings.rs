@@ -6,7 +6,8 @@ use crate::proved::qs_calls as calls;
 ///
 /// [`Settings::default`] are the standard settings, those of the scripts: a connection window of 4,096 bytes, windows
 /// of 1,024 bytes for each stream, a sending buffer of 2,048 bytes for each stream, and eight streams of each direction,
-/// in all. They are small, for trying. A real end sets its own:
+/// in all: once a peer opened eight, its `open` answers `Blocked` for good. They are small, for trying. A real end sets
+/// its own:
 ///
 /// ```
 /// use gotsavena::Settings;

@@ -9,7 +9,7 @@ use crate::ids::StreamId;
 ///
 /// With the feature `std` it is a [`Write`](std::io::Write): a write that finds the stream's buffer full is
 /// `WouldBlock`, and one of a stream that was finished, reset or closed is an error whose inner error is the
-/// [`UseFault`].
+/// [`UseFault`]. `write` tells how many bytes were accepted; `write_all` doesn't where the buffer becomes full.
 ///
 /// ```
 /// # #[cfg(feature = "std")] {
@@ -37,6 +37,8 @@ pub struct SendStream<'a> {
 ///
 /// With the feature `std` it is a [`Read`](std::io::Read): `WouldBlock` where nothing is there, 0 at the end, and
 /// `ConnectionReset` where the peer broke the stream off; other errors have the [`UseFault`] as inner error.
+/// `read_to_end` keeps the bytes that came before `WouldBlock`; `read_to_string` loses them where they end amid a
+/// character.
 ///
 /// ```
 /// # #[cfg(feature = "std")] {
@@ -53,9 +55,9 @@ pub struct SendStream<'a> {
 /// let made = client.make_packet(&mut payload)?.expect("bytes are due");
 /// server.receive(made.number, &payload[..made.len])?;
 ///
-/// let mut text = String::new();
-/// server.recv_stream(stream).read_to_string(&mut text)?;
-/// assert_eq!(text, "hello");
+/// let mut bytes = Vec::new();
+/// server.recv_stream(stream).read_to_end(&mut bytes)?;
+/// assert_eq!(bytes, b"hello");
 /// # }
 /// # Ok::<(), Box<dyn std::error::Error>>(())
 /// ```
