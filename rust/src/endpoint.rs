@@ -391,6 +391,19 @@ impl Endpoint {
         self.inner.peer_closed()
     }
 
+    /// The least stream at or above `from` at which a write of one byte is accepted, if there is memory for it: it wasn't
+    /// finished, reset or stopped by the peer, and its buffer has room (RFC 9000, sections 2.2 and 2.4). `None` where there
+    /// is none, and of a closed end.
+    pub fn next_writable(&self, from: StreamId) -> Option<StreamId> {
+        self.inner.next_writable(from.inner()).map(StreamId::of)
+    }
+
+    /// The least stream at or above `from` whose every half here came to its end: the end or the reset was told to the
+    /// reader, and all that was sent is acknowledged, or the reset (RFC 9000, section 3). `None` where there is none.
+    pub fn next_ended(&self, from: StreamId) -> Option<StreamId> {
+        self.inner.next_ended(from.inner()).map(StreamId::of)
+    }
+
     /// How the halves of a stream stand at this end; `None` where it was never opened (RFC 9000, section 3).
     pub fn report(&self, stream: StreamId) -> Option<StreamReport> {
         self.inner.lane_report(stream.inner()).map(StreamReport::of)

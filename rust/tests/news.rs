@@ -3,7 +3,9 @@
 
 mod support;
 
-use gotsavena::{Dir, Endpoint, Frame, Read, Settings, StreamId, StreamReport, frames};
+use gotsavena::{
+    Dir, Endpoint, Frame, Read, RecvState, SendState, Settings, StreamId, StreamReport, frames,
+};
 use std::collections::BTreeSet;
 use support::{Random, two_ends};
 
@@ -148,6 +150,34 @@ impl Run {
     }
 }
 
+/// Those at which a write of one byte is accepted.
+fn writable(run: &mut Run, side: usize) -> BTreeSet<StreamId> {
+    let mut writable = BTreeSet::new();
+    for (stream, _) in run.open(side) {
+        if run.ends[side].write(stream, &[1]) == Ok(1) {
+            writable.insert(stream);
+        }
+    }
+    writable
+}
+
+/// Those whose every half came to its end.
+fn ended(run: &Run, side: usize) -> BTreeSet<StreamId> {
+    let is_over = |report: &StreamReport| {
+        let recv = report
+            .recv
+            .is_none_or(|half| matches!(half.state, RecvState::DataRead | RecvState::ResetRead));
+        let send = report
+            .send
+            .is_none_or(|half| matches!(half.state, SendState::DataRecvd | SendState::ResetRecvd));
+        recv && send
+    };
+    let open = run.open(side).into_iter();
+    open.filter(|(_, report)| is_over(report))
+        .map(|(stream, _)| stream)
+        .collect()
+}
+
 fn id(number: u64) -> StreamId {
     StreamId::new(number).expect("a stream's number")
 }
@@ -160,14 +190,14 @@ fn next_event(random: &mut Random, run: &Run) -> Event {
     match random.below(40) {
         0..=4 => Event::Open(side, [Dir::Bidi, Dir::Uni][random.below(2) as usize]),
         5..=12 => Event::Write(side, stream, random.below(300) as usize),
-        13..=14 => Event::Finish(side, stream),
-        15 if random.chance(40) => Event::Reset(side, stream),
-        15 if random.chance(40) => Event::Stop(side, stream),
-        15..=22 => Event::Read(side, stream, 1 + random.below(300) as usize),
-        23..=29 => Event::Make(side, 128 + random.below(900) as usize),
-        30 => Event::Lose(side, random.below(1 + run.made[side].len() as u64)),
-        31..=33 if made > 0 => Event::Deliver(side, random.below(made as u64) as usize),
-        34..=39 if made > 0 => Event::Deliver(side, made - 1),
+        13..=16 => Event::Finish(side, stream),
+        17 if random.chance(20) => Event::Reset(side, stream),
+        17 if random.chance(20) => Event::Stop(side, stream),
+        17..=25 => Event::Read(side, stream, 1 + random.below(300) as usize),
+        26..=28 => Event::Make(side, 128 + random.below(900) as usize),
+        29 => Event::Lose(side, random.below(1 + run.made[side].len() as u64)),
+        30..=32 if made > 0 => Event::Deliver(side, random.below(made as u64) as usize),
+        33..=38 if made > 0 => Event::Deliver(side, made - 1),
         _ => Event::Make(side, 300),
     }
 }
@@ -181,17 +211,26 @@ fn settings(seed: u64) -> Settings {
         .streams(STREAMS, STREAMS)
 }
 
-fn look(run: &Run, events: &[Event], random: &mut Random) {
+fn look(run: &Run, events: &[Event], random: &mut Random, most: &mut [usize; 3]) {
     for side in 0..2 {
         let readable = run.found(side, Endpoint::next_readable, random);
         assert_eq!(readable, Run::copy(run.settings, events).readable(side));
         let sendable = run.found(side, Endpoint::next_sendable, random);
         assert_eq!(sendable, Run::copy(run.settings, events).sendable(side));
+        let found = run.found(side, Endpoint::next_writable, random);
+        assert_eq!(found, writable(&mut Run::copy(run.settings, events), side));
+        let found = run.found(side, Endpoint::next_ended, random);
+        assert_eq!(found, ended(run, side));
+        for (most, set) in most.iter_mut().zip([readable, sendable]) {
+            *most = set.len().max(*most);
+        }
+        most[2] = found.len().max(most[2]);
     }
 }
 
 #[test]
 fn searches_answer_what_a_walk_tells() {
+    let mut most = [0; 3];
     for seed in 0..SEEDS {
         let mut random = Random::new(seed);
         let mut run = Run::new(settings(seed));
@@ -201,8 +240,10 @@ fn searches_answer_what_a_walk_tells() {
             run.act(&event);
             events.push(event);
             if count % PACE == PACE - 1 {
-                look(&run, &events, &mut random);
+                look(&run, &events, &mut random, &mut most);
             }
         }
     }
+    println!("at most {most:?} readable, sendable and ended streams at once");
+    assert!(most.iter().all(|&count| count > 10));
 }
