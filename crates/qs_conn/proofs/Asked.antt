@@ -1,10 +1,10 @@
 -- What an end is asked: the next outstanding packet.
-use Rattle.std.proofs.Common.{◌≡◌, ℕ, ◌+◌, ◌<◌, ◌≤◌, Bool, true, false, max, Option, None, Some, refl, sym, ◌∙◌, subst, arith, inl, inr}
+use Rattle.std.proofs.Common.{◌≡◌, ℕ, ◌+◌, ◌<◌, ◌≤◌, Bool, true, false, max, None, Some, refl, sym, ◌∙◌, subst, arith, inl, inr}
 use Rattle.std.proofs.lemmas.Bool.{true≢false, cases_lt}
 use Rattle.std.specs.FinMap as fmap
 use Rattle.qs_send.specs.Records.{IsGreatest}
 use Rattle.qs_machine.specs.Ends.{Records}
-use Rattle.qs_machine.specs.Asking.{IsLeastFrom, IsNextOutstanding}
+use Rattle.qs_machine.specs.Asking.{IsNextOutstanding}
 
 pub next_none : (m : Records) (from : ℕ) → ((k : ℕ) → fmap.contains_key m k ≡ false) → IsNextOutstanding m from None
 next_none m from none = λ k ge. none k

@@ -1,4 +1,4 @@
-use Rattle.std.proofs.Common.{◌≡◌, ℕ, ◌+◌, ◌*◌, ◌<◌, ◌≤◌, length, arith, sym, ap, ◌∙◌, subst}
+use Rattle.std.proofs.Common.{◌≡◌, ◌<◌, ◌≤◌, length, arith, ap, ◌∙◌}
 use Rattle.qs_send.specs.Lane.{allow_lane}
 use Rattle.qs_machine.specs.Tables.{table}
 use Rattle.qs_machine.specs.Ends.{End, first_send_limit}

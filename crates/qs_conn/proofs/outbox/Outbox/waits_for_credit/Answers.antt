@@ -1,4 +1,4 @@
-use Rattle.std.proofs.Common.{refl, sym, ◌∙◌, ◌≡◌, ◌≤◌, ◌<◌, false, arith, ap, Bool, ◌||◌}
+use Rattle.std.proofs.Common.{refl, sym, ◌∙◌, ◌≡◌, ◌≤◌, ◌<◌, false, arith}
 use Rattle.qs_conn.proofs.Telling.{no_lookup, lookup_now, waits_none, waits_reset, waits_sent, waits_more, has_code, no_code}
 use Rattle.qs_conn.proofs.outbox.Outbox.waits_for_credit.Goals as goal
 
