@@ -77,13 +77,21 @@ fn told(end: &Endpoint, stream: StreamId) -> String {
         end.granted_streams(Dir::Bidi),
         end.granted_streams(Dir::Uni),
     );
-    format!("{end:?} {:?} {counts:?}", end.report(stream))
+    let asked = (
+        end.is_sendable(),
+        end.is_blocked(stream),
+        end.peer_closed(),
+        end.next_outstanding(0),
+        end.streams_left(Dir::Bidi),
+        end.open_left(Dir::Uni),
+    );
+    format!("{end:?} {:?} {counts:?} {asked:?}", end.report(stream))
 }
 
 // One call. Answers whether it was invalid.
 fn call(end: &mut Endpoint, random: &mut Random, stream: StreamId) -> bool {
     let (length, code) = (size(random), number(random));
-    match random.below(10) {
+    match random.below(11) {
         0 => {
             _ = end.open(if random.chance(50) {
                 Dir::Bidi
@@ -99,6 +107,7 @@ fn call(end: &mut Endpoint, random: &mut Random, stream: StreamId) -> bool {
         6 => _ = end.read(stream, &mut vec![0; length]),
         7 => return end.make_packet(&mut vec![0; length]) == Err(MakeFault::Invalid),
         8 => _ = end.declare_lost(code),
+        9 => _ = end.raise_limits(any_limits(random)),
         _ => {
             let mut payload = vec![0; length];
             let frame = any_frame(random, stream);
@@ -107,6 +116,17 @@ fn call(end: &mut Endpoint, random: &mut Random, stream: StreamId) -> bool {
         }
     }
     false
+}
+
+fn any_limits(random: &mut Random) -> PeerLimits {
+    PeerLimits {
+        max_data: number(random),
+        bidi_local: number(random),
+        bidi_remote: number(random),
+        uni: number(random),
+        streams_bidi: random.below(40),
+        streams_uni: number(random),
+    }
 }
 
 fn any_frame<'a>(random: &mut Random, stream: StreamId) -> Frame<'a> {
