@@ -67,6 +67,7 @@ need() {
   done
   [ "${#missing[@]}" = 0 ] && return
   if command -v apt-get >/dev/null && [ "$(id -u)" = 0 ]; then
+    echo "installing ${missing[*]}"
     install_packages "${missing[@]}" || update_and_install "${missing[@]}" || true
   fi
   for name in "${missing[@]}"; do
@@ -81,6 +82,15 @@ install_packages() {
 # The list of packages may be old, or not there at all.
 update_and_install() {
   timeout 60 apt-get update -qq >/dev/null 2>&1 && install_packages "$@"
+}
+
+# The versions are those for which the example is written.
+need_versions() {
+  local crate
+  for crate in "$@"; do
+    compgen -G "$registry/$crate*" >/dev/null || skip "the packages have no crate $crate of Rust"
+  done
+  grep -qF '"0.8.' /usr/include/nghttp3/version.h || skip 'nghttp3 is not of version 0.8'
 }
 
 # Cargo, with the crates that Debian packages in place of crates.io. Both packages share what they build of these.
