@@ -85,11 +85,7 @@ const ACK: u64 = 0x02;
 /// Writes an ACK frame that tells a delay and no ECN counts, of as many ranges as fit, at the slice's front, and
 /// answers how many and the frame's length in bytes. The ranges are half-open, the highest first. Where
 /// not even one fits, nothing is written.
-pub fn put_ack(
-    pairs: &[(u64, u64)],
-    delay: u64,
-    out: &mut [u8],
-) -> Result<(usize, usize), Full> {
+pub fn put_ack(pairs: &[(u64, u64)], delay: u64, out: &mut [u8]) -> Result<(usize, usize), Full> {
     debug_assert!(delay < 1 << 62);
     let (start, end) = pairs[0];
     let (_, others) = pairs.split_at(1);
