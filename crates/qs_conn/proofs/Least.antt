@@ -1,11 +1,11 @@
 -- Searches for the least number with a property.
-use Rattle.std.proofs.Common.{◌≡◌, ℕ, zero, suc, ◌+◌, ◌-◌, ◌*◌, ◌/◌, ◌%◌, ◌<◌, ◌≤◌, ◌^◌, ◌⊎◌, min, Bool, true, false, List, [], ◌∷◌, length, get_or, Option, None, Some, slice_get, refl, sym, ap, ◌∙◌, subst, arith, inl, inr}
+use Rattle.std.proofs.Common.{◌≡◌, ℕ, zero, suc, ◌+◌, ◌-◌, ◌*◌, ◌/◌, ◌%◌, ◌<◌, ◌≤◌, ◌^◌, ◌⊎◌, min, Bool, false, List, [], ◌∷◌, length, get_or, Option, None, Some, slice_get, refl, sym, ap, ◌∙◌, subst, arith, inl, inr}
 use Rattle.std.specs.Option.{IfSome, IfNone}
 use Rattle.std.proofs.lemmas.Bool.{cases_lt, both_ways}
 use Rattle.std.proofs.lemmas.Option.{none-some, same_Some}
 use Rattle.qs_machine.specs.News.{IsLeast, IsHeld}
 use Rattle.qs_machine.specs.Sums.{tables_of}
-use Rattle.qs_machine.specs.Tables.{Tables, kind_of, lookup}
+use Rattle.qs_machine.specs.Tables.{Tables, kind_of}
 use Rattle.qs_machine.proofs.TableEdits.{lookup_is}
 use Rattle.qs_conn.specs.Marks.{is_marked, AreMarked, IsBefore, IsNextMark, IsAt, IsHeldOf, least_of}
 use Rattle.qs_conn.proofs.Marked.{mark_past, marked_len, unmarked_at, least_has}

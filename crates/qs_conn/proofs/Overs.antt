@@ -1,15 +1,14 @@
 -- Streams that are over: both halves of a bidirectional one, and the only half of a unidirectional one.
-use Rattle.std.proofs.Common.{◌≡◌, ℕ, zero, suc, ◌+◌, ◌-◌, ◌<◌, ◌≤◌, ◌^◌, ◌%◌, ◌==◌, ◌&&◌, not, nat_le, Bool, true, false, Option, Some, None, option_map, refl, sym, ap, ◌∙◌, subst, arith, inl, inr}
+use Rattle.std.proofs.Common.{◌≡◌, ℕ, zero, suc, ◌<◌, ◌≤◌, ◌%◌, ◌==◌, ◌&&◌, not, nat_le, Bool, true, false, Option, Some, None, refl, sym, ap, ◌∙◌, subst, arith, inl, inr}
 use Rattle.std.proofs.lemmas.Bool.{both_ways, true≢false, cases_lt}
 use Rattle.std.proofs.lemmas.Bool.Decides.{nat_tests}
 use Rattle.std.proofs.lemmas.Option.{none-some, same_Some}
-use Rattle.qs_recv.specs.Lane.{RecvLane}
-use Rattle.qs_send.specs.Lane.{SendLane, Sending}
+use Rattle.qs_send.specs.Lane.{Sending}
 use Rattle.qs_machine.specs.Tables.{Tables, kind_of, lookup}
 use Rattle.qs_machine.specs.Ends.{End, role_bit, is_uni, is_own}
-use Rattle.qs_machine.specs.News.{IsLeast, IsHeld, IsEnded}
+use Rattle.qs_machine.specs.News.{IsLeast}
 use Rattle.qs_machine.specs.Outgoing.{Outgoing, lanes_of}
-use Rattle.qs_conn.specs.Marks.{IsBefore, IsHeldOf, IsEndedOf}
+use Rattle.qs_conn.specs.Marks.{IsHeldOf, IsEndedOf}
 use Rattle.qs_conn.specs.RecvTasks.{HasOne}
 use Rattle.qs_conn.specs.declared.recv_marks.RecvTask.TheVariants as recv_tasks
 use Rattle.qs_conn.specs.Sending.{HasSent}

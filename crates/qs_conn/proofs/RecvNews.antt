@@ -1,5 +1,5 @@
 -- Marks of receiving halves that have an answer for their owner.
-use Rattle.std.proofs.Common.{◌≡◌, ℕ, zero, suc, ◌+◌, ◌-◌, ◌≤◌, ◌<◌, ◌^◌, Bool, true, false, not, ◌&&◌, List, [], ◌∷◌, ◌++◌, length, map, take, replicate, Option, None, Some, is_some, refl, sym, ap, ◌∙◌, subst, arith}
+use Rattle.std.proofs.Common.{◌≡◌, ℕ, ◌-◌, ◌≤◌, ◌<◌, ◌^◌, Bool, false, not, ◌&&◌, List, [], ◌∷◌, ◌++◌, length, map, take, replicate, Option, None, Some, refl, sym, ap, ◌∙◌, subst}
 use Rattle.std.specs.List.{range_with_len}
 use Rattle.std.specs.Prelude.{slice_set}
 use Rattle.std.specs.FinSet as fin_set
@@ -14,7 +14,7 @@ use Rattle.qs_conn.specs.RecvTasks.{has, marks_of, HasNone, AreNoted}
 use Rattle.qs_conn.specs.declared.recv_marks.RecvTask.{RecvTask}
 use Rattle.qs_conn.specs.declared.recv_marks.RecvTask.TheVariants as tasks
 use Rattle.qs_conn.specs.declared.recv_marks.RecvMarks.{RecvMarks}
-use Rattle.qs_conn.proofs.Marked.{look_again, marked_take, marked_len, mark_there, undone, more_opened}
+use Rattle.qs_conn.proofs.Marked.{look_again, marked_take, mark_there, more_opened}
 
 pub by_task : (P : RecvTask → Type 0) → P tasks.Readable → P tasks.Ended → (t : RecvTask) → P t
 by_task P a b tasks.Readable = a

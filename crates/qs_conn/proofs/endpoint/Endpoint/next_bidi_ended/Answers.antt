@@ -1,4 +1,4 @@
-use Rattle.std.proofs.Common.{refl, arith}
+use Rattle.std.proofs.Common.{arith}
 use Rattle.qs_conn.specs.Marks.{IsEndedOf}
 use Rattle.qs_conn.proofs.Least.{clear_at}
 use Rattle.qs_conn.proofs.Overs.{no_recv, no_sent, both_found, clear_next, goes_on, recvs_of, sends_of}

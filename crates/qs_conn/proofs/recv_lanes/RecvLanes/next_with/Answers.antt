@@ -1,4 +1,4 @@
-use Rattle.std.proofs.Common.{◌≡◌, refl, sym, ◌∙◌, true, false, arith}
+use Rattle.std.proofs.Common.{refl, sym, ◌∙◌, arith}
 use Rattle.std.proofs.lemmas.Bool.{both_ways}
 use Rattle.qs_conn.specs.Marks.{IsAt}
 use Rattle.qs_conn.specs.RecvTasks.{has, marks_of, HasOne, HasNone}

@@ -1,4 +1,4 @@
-use Rattle.std.proofs.Common.{◌≡◌, refl, sym, ◌∙◌, true, false, arith}
+use Rattle.std.proofs.Common.{refl, arith}
 use Rattle.qs_conn.proofs.Sought.{quiet_has_none}
 use Rattle.qs_conn.specs.Marks.{IsAt}
 use Rattle.qs_conn.specs.Tasks.{marks_of, HasTask, IsQuiet}
