@@ -37,6 +37,7 @@ pub mod ExclusionsMaking
 pub mod ExclusionsMemory
 pub mod ExclusionsReceiving
 pub mod ExclusionsOwner
+pub mod ExclusionsNews
 pub mod SettledLimits
 pub mod OffsetParts
 pub mod Claims

@@ -4,6 +4,7 @@ use Rattle.qs_machine.specs.ExclusionsMaking.{NotMade}
 use Rattle.qs_machine.specs.ExclusionsReceiving.{NotReceived}
 use Rattle.qs_machine.specs.ExclusionsMemory.{NotRefused}
 use Rattle.qs_machine.specs.ExclusionsOwner.{NotOwned}
+use Rattle.qs_machine.specs.ExclusionsNews.{NotFound}
 
 pub record Exclusions : Type 0 where
   pub due : NotDue
@@ -11,3 +12,4 @@ pub record Exclusions : Type 0 where
   pub receiving : NotReceived
   pub owner : NotOwned
   pub memory : NotRefused
+  pub news : NotFound

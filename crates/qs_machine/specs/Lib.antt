@@ -31,6 +31,7 @@ pub mod ExclusionsMaking
 pub mod ExclusionsMemory
 pub mod ExclusionsReceiving
 pub mod ExclusionsOwner
+pub mod ExclusionsNews
 pub mod Exclusions
 pub mod SettledLimits
 pub mod OffsetParts
