@@ -48,10 +48,13 @@ impl NewReno {
         self.in_flight = self.in_flight.saturating_sub(size);
     }
 
-    /// A packet is acknowledged.
-    pub fn acked(&mut self, size: usize, sent_at: Instant) {
-        // A window that isn't used doesn't grow (section 7.8).
-        let is_used = 2 * self.in_flight >= self.window;
+    /// Whether the window is used: one that isn't doesn't grow (section 7.8). It is asked before an ACK is taken in.
+    pub fn is_used(&self) -> bool {
+        2 * self.in_flight >= self.window
+    }
+
+    /// A packet is acknowledged, by an ACK that came while the window was used or not.
+    pub fn acked(&mut self, size: usize, sent_at: Instant, is_used: bool) {
         self.forget(size);
         if self.recovery_began.is_some_and(|began| sent_at <= began) || !is_used {
             return;
@@ -101,14 +104,14 @@ mod tests {
         assert_eq!(reno.window(), 12_000);
         reno.sent(12_000);
         assert!(!reno.allows());
-        reno.acked(1200, begin);
+        reno.acked(1200, begin, true);
         assert_eq!(reno.window(), 13_200);
         reno.lost(begin, later);
         reno.lost(begin, later);
         assert_eq!(reno.window(), 6_600);
-        reno.acked(1200, later);
+        reno.acked(1200, later, true);
         assert_eq!(reno.window(), 6_600);
-        reno.acked(6600, later + Duration::from_millis(1));
+        reno.acked(6600, later + Duration::from_millis(1), true);
         assert_eq!(reno.window(), 7_800);
     }
 }

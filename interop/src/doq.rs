@@ -2,7 +2,7 @@
 
 use crate::dns::{answer, message_id};
 use crate::fault::Close;
-use crate::streams::{Application, Came, Outgoing, read_more};
+use crate::streams::{Application, Came, Outgoing, abandon, read_more};
 use crate::zone::Zone;
 use gotsavena::{Endpoint, StreamId, UseFault};
 use std::collections::BTreeMap;
@@ -91,7 +91,7 @@ impl Query {
                 Came::Some => return Ok(false),
                 Came::Reset(_) => {
                     // The client gave up; its answer's half ends, too.
-                    end.reset(stream, REQUEST_CANCELLED).map_err(internal)?;
+                    abandon(end, stream, REQUEST_CANCELLED).map_err(internal)?;
                     return Ok(true);
                 }
                 Came::TooMuch => {

@@ -77,7 +77,7 @@ fn wrong(reason: &str) -> Fault {
 }
 
 impl Parameters {
-    /// Their text. The stream layer makes the ACKs, at once, so that no delay is told.
+    /// Their text.
     pub fn write(&self) -> Vec<u8> {
         let mut out = Vec::new();
         let numbers = [
@@ -89,6 +89,7 @@ impl Parameters {
             (MAX_STREAM_DATA_UNI, self.limits.uni),
             (MAX_STREAMS_BIDI, self.limits.streams_bidi),
             (MAX_STREAMS_UNI, self.limits.streams_uni),
+            (MAX_ACK_DELAY, self.max_ack_delay.as_millis() as u64),
             (ACTIVE_ID_LIMIT, self.active_ids),
         ];
         for (name, value) in numbers {

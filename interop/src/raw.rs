@@ -2,7 +2,7 @@
 
 use crate::fault::Close;
 use crate::files::Folder;
-use crate::streams::{Application, Came, Outgoing, read_more};
+use crate::streams::{Application, Came, Outgoing, abandon, read_more};
 use gotsavena::{Dir, Endpoint, OpenFault, StreamId, UseFault};
 use std::collections::{BTreeMap, VecDeque};
 
@@ -52,14 +52,14 @@ impl Answer {
             match read_more(end, stream, path, MOST_PATH)? {
                 Came::Some => return Ok(false),
                 Came::All => {}
-                Came::Reset(_) => return end.reset(stream, NO_FILE).map(|()| true),
+                Came::Reset(_) => return abandon(end, stream, NO_FILE).map(|()| true),
                 Came::TooMuch => {
                     end.stop(stream, NO_FILE)?;
-                    return end.reset(stream, NO_FILE).map(|()| true);
+                    return abandon(end, stream, NO_FILE).map(|()| true);
                 }
             }
             let Some(bytes) = folder.read(&String::from_utf8_lossy(path)) else {
-                return end.reset(stream, NO_FILE).map(|()| true);
+                return abandon(end, stream, NO_FILE).map(|()| true);
             };
             *self = Answer::Goes(Outgoing::new(bytes));
         }

@@ -146,10 +146,11 @@ impl Recovery {
         if news.acked.is_empty() {
             return news;
         }
+        let is_used = self.congestion.is_used();
         self.take_sample(level, &news, largest, delay, now);
         news.lost = self.detect(level, now);
         for (_, sent) in &news.acked {
-            self.congestion.acked(sent.size, sent.at);
+            self.congestion.acked(sent.size, sent.at, is_used);
         }
         self.probes = 0;
         news

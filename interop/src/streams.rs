@@ -46,6 +46,14 @@ pub fn read_more(
     }
 }
 
+/// Breaks a sending half off. One that is over already, or was broken off as the peer asked, stays as it is.
+pub fn abandon(end: &mut Endpoint, stream: StreamId, code: u64) -> Result<(), UseFault> {
+    match end.reset(stream, code) {
+        Ok(()) | Err(UseFault::Finished | UseFault::WasReset) => Ok(()),
+        Err(fault) => Err(fault),
+    }
+}
+
 /// Bytes that are written to a stream and then end it.
 #[derive(Clone, Debug)]
 pub struct Outgoing {

@@ -33,6 +33,9 @@ use std::time::{Duration, Instant};
 /// The least datagram that every path carries (RFC 9000, section 14).
 pub const DATAGRAM: usize = 1200;
 
+/// How late an ACK is at the most (RFC 9000, section 13.2.1). One is due with each packet: it waits for the loop's turn alone.
+const MAX_ACK_DELAY: Duration = Duration::from_millis(5);
+
 /// How many 1-RTT packets are kept that come before the handshake is done.
 const MOST_EARLY: usize = 32;
 
@@ -267,6 +270,7 @@ fn own_parameters(config: &Config, own_id: ConnectionId) -> Parameters {
     Parameters {
         limits: config.settings.limits(),
         idle: config.idle,
+        max_ack_delay: MAX_ACK_DELAY,
         active_ids: ACTIVE_IDS,
         initial_source: Some(own_id),
         ..Parameters::default()

@@ -6,6 +6,7 @@
 use super::declarations::*;
 use super::{INTERNAL_ERROR, REQUEST_CANCELLED};
 use crate::fault::Close;
+use crate::streams::abandon;
 use gotsavena::{Dir, Endpoint, OpenFault, Read, Role, StreamId, UseFault};
 use std::collections::{BTreeSet, HashMap, VecDeque};
 use std::ffi::{CStr, c_int, c_void};
@@ -419,7 +420,7 @@ impl Session {
             end.stop(id(stream), code).map_err(internal)?;
         }
         for (stream, code) in std::mem::take(&mut self.shared().resets) {
-            end.reset(id(stream), code).or_else(ignore_finished)?;
+            abandon(end, id(stream), code).map_err(internal)?;
         }
         Ok(())
     }
@@ -431,8 +432,7 @@ impl Session {
         }
         self.read.insert(stream);
         if stream.dir() == Dir::Bidi {
-            end.reset(stream, REQUEST_CANCELLED)
-                .or_else(ignore_finished)?;
+            abandon(end, stream, REQUEST_CANCELLED).map_err(internal)?;
         }
         self.shared().events.push_back(Event::Broken(stream, code));
         self.close(stream, code)
@@ -441,8 +441,7 @@ impl Session {
     /// Breaks a stream off that was asked for: no more of it is wanted.
     pub fn cancel(&mut self, end: &mut Endpoint, stream: StreamId) -> Result<(), Close> {
         end.stop(stream, REQUEST_CANCELLED).map_err(internal)?;
-        end.reset(stream, REQUEST_CANCELLED)
-            .or_else(ignore_finished)?;
+        abandon(end, stream, REQUEST_CANCELLED).map_err(internal)?;
         self.close(stream, REQUEST_CANCELLED)
     }
 
@@ -529,8 +528,8 @@ impl Session {
     }
 
     fn close_if_over(&mut self, stream: StreamId) -> Result<(), Close> {
-        let is_over = self.read.contains(&stream) && self.written.contains(&stream);
-        match is_over && stream.dir() == Dir::Bidi {
+        let is_written = stream.dir() == Dir::Uni || self.written.contains(&stream);
+        match is_written && self.read.contains(&stream) {
             true => self.close(stream, super::NO_ERROR),
             false => Ok(()),
         }
@@ -549,13 +548,6 @@ impl Session {
             ERR_STREAM_NOT_FOUND => Ok(()),
             error => check(error),
         }
-    }
-}
-
-fn ignore_finished(fault: UseFault) -> Result<(), Close> {
-    match fault {
-        UseFault::Finished => Ok(()),
-        fault => Err(internal(fault)),
     }
 }
 

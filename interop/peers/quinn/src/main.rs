@@ -3,7 +3,7 @@
 //!     quinn-peer server DIR ADDR CERTIFICATE.der KEY.der
 //!     quinn-peer client ADDR DIR PATH..
 //!     quinn-peer stops ADDR PATH     stops the stream of a file in the middle, and then loads that file whole
-//!     quinn-peer resets ADDR PATH    breaks a request off before it is whole, and then loads that file
+//!     quinn-peer resets ADDR PATH    breaks requests off before they are whole, one with a stop, and then loads that file
 
 use quinn::{ClientConfig, Connecting, Connection, Endpoint, RecvStream, SendStream, ServerConfig};
 use std::error::Error;
@@ -151,6 +151,10 @@ async fn reset(address: SocketAddr, path: &str) -> Fallible<()> {
     if receive.read_to_end(MOST_BYTES).await.is_ok() {
         return Err("a request that was broken off is answered".into());
     }
+    let (mut send, mut receive) = connection.open_bi().await?;
+    send.write_all(&path.as_bytes()[..1]).await?;
+    send.reset(7u32.into())?;
+    receive.stop(7u32.into())?;
     expect_whole(&connection, path, &[]).await?;
     connection.close(0u32.into(), b"");
     endpoint.wait_idle().await;
