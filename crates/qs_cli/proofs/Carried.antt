@@ -32,7 +32,7 @@ delivers old new s k j text (Err (faults.Setup fault)) made step = step
 -- nothing happened yet
 pub carried_none : (p : Played) → Ok p ≡ begun (world_made standard standard) → HasCarried [] p
 carried_none p is =
-    let played = played_none standard standard [] p is in
+    let played = played_none standard standard p is in
     record { run = played.run; carried = subst (Carried []) (sym (begins (world_made standard standard) is)) tt }
   where
     begins : (made : Result World SetupFault) → Ok p ≡ begun made → p.log ≡ []
