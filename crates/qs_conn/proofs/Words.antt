@@ -1,5 +1,5 @@
 -- Flags as bits of words: one word, and a list of them.
-use Rattle.std.proofs.Common.{◌≡◌, ◌≢◌, ℕ, ◌+◌, ◌-◌, ◌*◌, ◌/◌, ◌%◌, ◌^◌, ◌<◌, ◌≤◌, Bool, true, false, List, [], ◌∷◌, ◌++◌, length, get_or, set, take, replicate, zero, suc, Option, None, Some, bit_and, bit_or, w64, sym, ap, ◌∙◌, subst, refl, inl, inr, arith}
+use Rattle.std.proofs.Common.{◌≡◌, ◌≢◌, ℕ, ◌+◌, ◌-◌, ◌*◌, ◌/◌, ◌%◌, ◌^◌, ◌<◌, ◌≤◌, ◌==◌, Bool, true, false, List, [], ◌∷◌, ◌++◌, length, get_or, set, take, replicate, zero, suc, Option, None, Some, bit_and, bit_or, w64, sym, ap, ◌∙◌, subst, refl, inl, inr, arith}
 use Rattle.std.specs.Int.{bit_at, bit_not, trailing_zeros}
 use Rattle.std.proofs.lemmas.Bool.{cases_lt, cases_eq, eq-eqb, both_ways}
 use Rattle.std.proofs.lemmas.List.{length-append, length-replicate, length-set, length-take, get_or-set_same, get_or-set_other, get_or-take, get_or_past, get_or_read, take_all, append-nil, ext_get_or}
@@ -159,6 +159,14 @@ module _ (ws : List ℕ) (count to last after : ℕ) (are : AreFlags ws count) (
       flags_are (set (take (to / 64 + 1) ws) (to / 64) after) to (take to (flags ws count))
       (omega (arith, less, flags_len ws count, length-take to (flags ws count)))
       (λ i lt. get_or-take to (flags ws count) i false lt ∙ marked_is ws count i are ∙ sym (flag_kept i lt))
+
+-- a bit is read
+pub flag_read :
+    (ws : List ℕ) (count index word : ℕ) (answer : Bool) → AreFlags ws count → index < count → word ≡ get_or ws (index / 64) word → answer ≡ (bit_at word (index % 64) == 1)
+    → answer ≡ is_marked (flags ws count) index
+flag_read ws count index word answer are there read is =
+    let word_is : word ≡ get_or ws (index / 64) 0 = get_or_read ws (index / 64) word (omega (arith, there, are.room)) read 0 in
+    is ∙ ap (λ w. bit_at w (index % 64) == 1) word_is ∙ sym (marked_is ws count index are)
 
 -- a bit is set or cleared
 module _ (ws : List ℕ) (count index before after : ℕ) (is_set : Bool) (are : AreFlags ws count) (there : index < count) (read : before ≡ get_or ws (index / 64) before) (bit : HasBit before (index % 64) is_set after) where

@@ -1,6 +1,7 @@
 //! Flags of indexes, as bits of words.
-ghost use Rattle.std.specs.Prelude.{◌≡◌, ◌++◌, ◌-◌, ◌<◌, ◌^◌, [], false, length, take, slice_set, replicate, OnOk, OnErr};
-ghost use Rattle.qs_conn.specs.Marks.{IsNextMark, IsNextInWord};
+ghost use Rattle.std.specs.Prelude.{◌≡◌, ◌++◌, ◌-◌, ◌<◌, ◌==◌, ◌^◌, [], false, length, take, slice_set, replicate, OnOk, OnErr};
+ghost use Rattle.std.specs.Int.{bit_at};
+ghost use Rattle.qs_conn.specs.Marks.{IsNextMark, IsNextInWord, is_marked};
 ghost use Rattle.qs_conn.specs.Words.{HasBit, IsCutAt, IsLowestBit};
 
 use qs_ranges::NoMemory;
@@ -93,6 +94,15 @@ impl Bits {
         self.count = count;
     }
 
+    /// Whether an index is marked.
+    pub(crate) fn has(&self, index: usize) -> bool
+        requires { index < length self.now }
+        ensures { result ≡ is_marked self.now index }
+    {
+        let place = index / FLAGS_PER_WORD;
+        has_bit(self.words[place], index % FLAGS_PER_WORD)
+    }
+
     /// Marks an index, or takes its mark away.
     pub(crate) fn set(&mut self, index: usize, is_marked: bool)
         requires { index < length self.old }
@@ -129,6 +139,14 @@ impl Bits {
         }
         None
     }
+}
+
+/// Whether a bit of a word is set.
+fn has_bit(word: u64, bit: usize) -> bool
+    requires { bit < 64 }
+    ensures { result ≡ (bit_at word bit == 1) }
+{
+    (word >> bit) & 1 == 1
 }
 
 /// A word with one of its bits set or cleared.

@@ -95,6 +95,10 @@ impl Marks {
         requires { index < length self.old }
         ensures { self.new ≡ slice_set self.old index is_marked }
     {
+        // Most marks stay as they are.
+        if self.marks.has(index) == is_marked {
+            return;
+        }
         self.marks.set(index, is_marked);
         let word = index / FLAGS_PER_WORD;
         self.words.set(word, has_mark(&self.marks, word));
