@@ -14,7 +14,7 @@ impl Endpoint {
     pub fn claim_number(&mut self) -> Result<u64, MakeFault>
         ensures { ClaimStep self.old result self.new }
     {
-        let number = self.outbox.next();
+        let number = self.next_number();
         if number > MAX_VARINT {
             return Err(MakeFault::Exhausted);
         }

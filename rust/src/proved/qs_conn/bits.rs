@@ -64,6 +64,12 @@ impl Bits {
         self.count = count;
     }
 
+    /// Whether an index is marked.
+    pub(crate) fn has(&self, index: usize) -> bool {
+        let place = index / FLAGS_PER_WORD;
+        has_bit(self.words[place], index % FLAGS_PER_WORD)
+    }
+
     /// Marks an index, or takes its mark away.
     pub(crate) fn set(&mut self, index: usize, is_marked: bool) {
         let place = index / FLAGS_PER_WORD;
@@ -93,6 +99,12 @@ impl Bits {
         }
         None
     }
+}
+
+/// Whether a bit of a word is set.
+fn has_bit(word: u64, bit: usize) -> bool {
+    debug_assert!(bit < 64);
+    (word >> bit) & 1 == 1
 }
 
 /// A word with one of its bits set or cleared.

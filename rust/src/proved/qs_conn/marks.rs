@@ -61,6 +61,10 @@ impl Marks {
 
     /// Marks an index, or takes its mark away.
     pub(crate) fn set(&mut self, index: usize, is_marked: bool) {
+        // Most marks stay as they are.
+        if self.marks.has(index) == is_marked {
+            return;
+        }
         self.marks.set(index, is_marked);
         let word = index / FLAGS_PER_WORD;
         self.words.set(word, has_mark(&self.marks, word));
