@@ -127,6 +127,54 @@ fn internal(fault: UseFault) -> Close {
 #[cfg(test)]
 mod tests {
     use super::*;
+    use gotsavena::{Dir, Role, Settings};
+
+    // What a server does with the bytes of a stream, and what comes back.
+    fn ask(bytes: &[u8]) -> Result<Vec<u8>, Close> {
+        let zone = Zone::read("example. 60 SOA ns hostmaster 1 2 3 4 5").unwrap();
+        let settings = Settings::default();
+        let [mut client, mut server] = [Role::Client, Role::Server]
+            .map(|role| Endpoint::new(role, settings, settings.limits()).unwrap());
+        let mut application = NameServer::new(Arc::new(zone));
+        let stream = client.open(Dir::Bidi).unwrap();
+        client.write(stream, bytes).unwrap();
+        client.finish(stream).unwrap();
+        let mut payload = [0; 1200];
+        while let Some(made) = client.make_packet(&mut payload).unwrap() {
+            server.receive(made.number, &payload[..made.len]).unwrap();
+        }
+        application.progress(&mut server)?;
+        while let Some(made) = server.make_packet(&mut payload).unwrap() {
+            client.receive(made.number, &payload[..made.len]).unwrap();
+        }
+        let mut answer = Vec::new();
+        let came = read_more(&mut client, stream, &mut answer, MOST_BYTES);
+        assert_eq!(came, Ok(Came::All));
+        Ok(answer)
+    }
+
+    const QUERY: &[u8] = b"\0\x19\0\0\x01\0\0\x01\0\0\0\0\0\0\x07example\0\0\x06\0\x01";
+
+    #[test]
+    fn a_query_is_answered_on_its_stream() {
+        let answer = ask(QUERY).unwrap();
+        let len = usize::from(u16::from_be_bytes([answer[0], answer[1]]));
+        assert_eq!(answer.len(), 2 + len);
+        assert_eq!(answer[4..10], [0x85, 0, 0, 1, 0, 1]);
+    }
+
+    #[test]
+    fn a_wrong_query_closes_the_connection() {
+        let mut other_id = QUERY.to_vec();
+        other_id[3] = 1;
+        let mut response = QUERY.to_vec();
+        response[4] |= 0x80;
+        let twice = [QUERY, QUERY].concat();
+        let short = &QUERY[..QUERY.len() - 1];
+        for wrong in [&twice[..], &other_id, &response, short, &[]] {
+            assert_eq!(ask(wrong).unwrap_err().code, PROTOCOL_ERROR);
+        }
+    }
 
     #[test]
     fn a_stream_has_one_query() {

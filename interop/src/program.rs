@@ -144,10 +144,12 @@ pub fn listen(text: &str) -> Result<UdpSocket, Refusal> {
 }
 
 /// What a connection for files is made with: `--window BYTES` is the window of the connection, and of a stream as far as one goes;
-/// `--streams N` how many the peer may open at once, of which the stream layer allows 65,536 in all.
+/// `--streams N` how many the peer may open at once, of which the stream layer allows 65,536 in all; `--idle SECONDS` after how long a
+/// silence it ends.
 pub fn config(words: &mut Words) -> Result<Config, Refusal> {
     let window = words.number("window", 1 << 22)?;
     let streams = words.number("streams", 100)?;
+    let idle = words.number("idle", 30)?;
     if !(1..=1 << 24).contains(&window) || !(1..=4096).contains(&streams) {
         let reason = "a window has 1 to 16777216 bytes, and the peer may open 1 to 4096 streams";
         return Err(Refusal::Usage(reason.to_owned()));
@@ -160,7 +162,7 @@ pub fn config(words: &mut Words) -> Result<Config, Refusal> {
         .streams(streams, 65_536);
     Ok(Config {
         settings,
-        idle: Duration::from_secs(30),
+        idle: Duration::from_secs(idle),
     })
 }
 

@@ -11,7 +11,7 @@ use std::time::Instant;
 
 fn main() -> ExitCode {
     program::run(
-        "h3-client [--download DIR] [--stop-after BYTES] [--window BYTES] [--streams N] [--version HEX] URL..",
+        "h3-client [--download DIR] [--stop-after BYTES] [--window BYTES] [--streams N] [--idle SECONDS] [--version HEX] URL..",
         load,
     )
 }

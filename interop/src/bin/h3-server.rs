@@ -10,7 +10,7 @@ use std::process::ExitCode;
 
 fn main() -> ExitCode {
     program::run(
-        "h3-server [--window BYTES] [--streams N] [--verbose yes] DIR ADDR",
+        "h3-server [--window BYTES] [--streams N] [--idle SECONDS] [--verbose yes] DIR ADDR",
         serve,
     )
 }

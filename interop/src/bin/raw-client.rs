@@ -10,7 +10,7 @@ use std::time::Instant;
 
 fn main() -> ExitCode {
     program::run(
-        "raw-client [--window BYTES] [--streams N] [--version HEX] ADDR DIR PATH..",
+        "raw-client [--window BYTES] [--streams N] [--idle SECONDS] [--version HEX] ADDR DIR PATH..",
         load,
     )
 }

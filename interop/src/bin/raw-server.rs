@@ -9,7 +9,7 @@ use std::process::ExitCode;
 
 fn main() -> ExitCode {
     program::run(
-        "raw-server [--window BYTES] [--streams N] [--verbose yes] DIR ADDR",
+        "raw-server [--window BYTES] [--streams N] [--idle SECONDS] [--verbose yes] DIR ADDR",
         serve,
     )
 }

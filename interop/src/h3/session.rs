@@ -366,7 +366,14 @@ impl Session {
             let (at, count) = (fields.as_ptr(), fields.len());
             nghttp3_conn_submit_response(self.conn, number(stream), at, count, source)
         };
-        check(error)
+        match error {
+            // The peer gave up meanwhile.
+            ERR_STREAM_NOT_FOUND => {
+                self.shared().bodies.remove(&number(stream));
+                Ok(())
+            }
+            error => check(error),
+        }
     }
 
     /// Takes in what came, and writes what there is room for.
