@@ -1,6 +1,8 @@
 //! Packet numbers that the layer beneath uses for packets of its own (RFC 9000, section 12.3).
 
-use gotsavena::{Dir, Endpoint, LostFault, MakeFault, ReceiveFault, Received, Role, Settings, StreamId};
+use gotsavena::{
+    Dir, Endpoint, LostFault, MakeFault, ReceiveFault, Received, Role, Settings, StreamId,
+};
 
 const PADDING: u8 = 0x00;
 const PING: u8 = 0x01;

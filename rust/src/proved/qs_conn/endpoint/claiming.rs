@@ -11,7 +11,7 @@ impl Endpoint {
     ///
     /// Refused, and then unchanged: `Exhausted` where the last packet number was used.
     pub fn claim_number(&mut self) -> Result<u64, MakeFault> {
-        let number = self.outbox.next();
+        let number = self.next_number();
         if number > MAX_VARINT {
             return Err(MakeFault::Exhausted);
         }
