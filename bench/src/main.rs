@@ -7,6 +7,7 @@ mod counted;
 mod ends;
 mod parts;
 mod scaling;
+mod searches;
 mod whole;
 
 // The parts are private modules of the crate: here its own text is compiled once more.
@@ -32,10 +33,15 @@ pub struct Row {
 }
 
 fn main() -> ExitCode {
-    let rows: Vec<Row> = [parts::rows(), whole::rows(), scaling::rows()]
-        .into_iter()
-        .flatten()
-        .collect();
+    let rows: Vec<Row> = [
+        parts::rows(),
+        whole::rows(),
+        scaling::rows(),
+        searches::rows(),
+    ]
+    .into_iter()
+    .flatten()
+    .collect();
     let Some(name) = std::env::args().nth(1) else {
         for row in rows {
             println!("{} {}", row.name, row.unit);

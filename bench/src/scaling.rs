@@ -131,7 +131,8 @@ fn request(client: &mut Endpoint, server: &mut Endpoint) {
     hand_on(client, server);
 }
 
-fn hand_on(from: &mut Endpoint, to: &mut Endpoint) {
+/// All that an end has for packets comes to the other one.
+pub fn hand_on(from: &mut Endpoint, to: &mut Endpoint) {
     let mut payload = [0; 1200];
     while let Ok(Some(made)) = from.make_packet(&mut payload) {
         to.receive(made.number, &payload[..made.len])

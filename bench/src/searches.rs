@@ -1,0 +1,137 @@
+//! What it costs to find the one stream among ten thousand open ones that waits for its owner, has something for a packet, or is over.
+
+use crate::clock::time;
+use crate::scaling::hand_on;
+use crate::{Row, Run};
+use gotsavena::{Dir, Endpoint, Read, Role, Settings, StreamId};
+use std::hint::black_box;
+
+/// How many streams of each direction the client opens, and how many bidirectional ones the server does.
+const OPENED: [u64; 3] = [4096, 4096, 1808];
+
+/// Two ends with 10,000 open streams, of which each was begun with its first byte, and that byte read.
+struct Crowd {
+    client: Endpoint,
+    server: Endpoint,
+    streams: Vec<StreamId>,
+}
+
+impl Crowd {
+    fn new() -> Crowd {
+        let settings = Settings::default()
+            .conn_window(1 << 20)
+            .stream_windows(256)
+            .send_buffer(256)
+            .streams(4096, 4096);
+        let end = |role| {
+            Endpoint::new(role, settings, settings.limits()).expect("the settings are in range")
+        };
+        let (mut client, mut server) = (end(Role::Client), end(Role::Server));
+        let mut streams = begun(&mut client, Dir::Uni, OPENED[0]);
+        streams.extend(begun(&mut client, Dir::Bidi, OPENED[1]));
+        streams.extend(begun(&mut server, Dir::Bidi, OPENED[2]));
+        let mut crowd = Crowd {
+            client,
+            server,
+            streams,
+        };
+        crowd.settle();
+        crowd
+    }
+
+    /// Each end hands on what it has, and reads all, until nothing is left.
+    fn settle(&mut self) {
+        for _ in 0..3 {
+            hand_on(&mut self.client, &mut self.server);
+            hand_on(&mut self.server, &mut self.client);
+            for &stream in &self.streams {
+                read_all(&mut self.client, stream);
+                read_all(&mut self.server, stream);
+            }
+        }
+    }
+
+    /// The last of the client's streams that only it sends on.
+    fn last(&self) -> StreamId {
+        StreamId::from_parts(Role::Client, Dir::Uni, OPENED[0] - 1).expect("it is below 2^62")
+    }
+}
+
+// So many streams, each with its first byte.
+fn begun(end: &mut Endpoint, dir: Dir, count: u64) -> Vec<StreamId> {
+    let mut begin = || {
+        let stream = end.open(dir).expect("the peer grants as many");
+        end.write(stream, b"?").expect("it is open");
+        stream
+    };
+    (0..count).map(|_| begin()).collect()
+}
+
+fn read_all(end: &mut Endpoint, stream: StreamId) {
+    let mut bytes = [0; 256];
+    while let Ok(Read::Bytes(_)) = end.read(stream, &mut bytes) {}
+}
+
+// Times the search from the least stream on, which finds this one.
+fn timed(
+    end: &Endpoint,
+    stream: StreamId,
+    next: fn(&Endpoint, StreamId) -> Option<StreamId>,
+) -> Run {
+    let least = StreamId::new(0).expect("it is below 2^62");
+    let units = 1_000_000;
+    assert_eq!(next(end, least), Some(stream));
+    let time = time(|| {
+        for _ in 0..units {
+            black_box(next(black_box(end), least));
+        }
+    });
+    Run { time, units }
+}
+
+fn readable() -> Run {
+    let mut crowd = Crowd::new();
+    let last = crowd.last();
+    crowd.client.write(last, b"!").expect("it is open");
+    hand_on(&mut crowd.client, &mut crowd.server);
+    timed(&crowd.server, last, Endpoint::next_readable)
+}
+
+fn sendable() -> Run {
+    let mut crowd = Crowd::new();
+    let last = crowd.last();
+    crowd.client.write(last, b"!").expect("it is open");
+    timed(&crowd.client, last, Endpoint::next_sendable)
+}
+
+fn writable() -> Run {
+    let mut crowd = Crowd::new();
+    let last = crowd.last();
+    for &stream in crowd.streams.iter().filter(|&&stream| stream != last) {
+        // Of those that only the server sends on there is none.
+        crowd.client.finish(stream).expect("it is open");
+    }
+    timed(&crowd.client, last, Endpoint::next_writable)
+}
+
+fn ended() -> Run {
+    let mut crowd = Crowd::new();
+    let last = crowd.last();
+    crowd.client.finish(last).expect("it is open");
+    crowd.settle();
+    timed(&crowd.server, last, Endpoint::next_ended)
+}
+
+pub fn rows() -> Vec<Row> {
+    let row = |name, run| Row {
+        name,
+        unit: "search",
+        run,
+    };
+    vec![
+        row("search-readable-10000", readable),
+        row("search-sendable-10000", sendable),
+        row("search-writable-10000", writable),
+        row("search-ended-10000", ended),
+    ]
+}
