@@ -15,8 +15,8 @@ cut_is (Err fault) out = refl
 kept : (out buffer : List ℕ) (room : ℕ) → length out ≡ length buffer → length buffer ≡ room → take room (out ++ drop (length out) buffer) ≡ out
 kept out buffer room same len = ap (take room) (ap (λ xs. out ++ xs) (drop_all (length out) buffer (omega (arith, same))) ∙ append-nil out) ∙ take_all room out (omega (arith, same, len))
 
-pub returns-clause-step : goal.returns-clause-step
-returns-clause-step c =
+pub returns : goal.returns
+returns c =
     let out = c.make_packet-answer.new.out in
     let r = c.make_packet-answer.result in
     let len : length c.args.buffer.items ≡ c.args.buffer.len = search rules in
