@@ -93,7 +93,7 @@ need_versions() {
   grep -qF '"0.8.' /usr/include/nghttp3/version.h || skip 'nghttp3 is not of version 0.8'
 }
 
-# Cargo, with the crates that Debian packages in place of crates.io. Both packages share what they build of these.
+# Cargo, with the crates that Debian packages in place of the registry. Both packages share what they build of these.
 debian_cargo() {
   mkdir -p "$room/cargo"
   cat >"$room/cargo/config.toml" <<TOML
