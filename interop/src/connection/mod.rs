@@ -22,7 +22,7 @@ use crate::ranges::Numbers;
 use crate::recovery::{Control, Recovery, Standing};
 use crate::tls::Session;
 use ending::State;
-use gotsavena::{Endpoint, Role, Settings};
+use gotsavena::{Endpoint, Role, Settings, StreamId};
 use ring::rand::{SecureRandom, SystemRandom};
 use rustls::quic::{Keys, Version};
 use rustls::{ClientConfig, ServerConfig};
@@ -96,6 +96,8 @@ pub struct Connection {
     spaces: [Space; 3],
     data_keys: Option<DataKeys>,
     end: Option<Endpoint>,
+    /// The stream behind the one that sent last: from it on the next packet takes bytes, so that streams send by turns.
+    turn: StreamId,
     /// One more than the largest number of a 1-RTT packet that came.
     expected: u64,
     early: Vec<Vec<u8>>,
@@ -117,6 +119,12 @@ pub struct Connection {
     asked_since_active: bool,
     state: State,
     outcome: Option<Outcome>,
+}
+
+// The stream behind one, and the least where there is none.
+fn stream_behind(last: Option<StreamId>) -> StreamId {
+    last.and_then(|last| StreamId::new(last.value() + 1))
+        .unwrap_or(StreamId::new(0).expect("it is below 2^62"))
 }
 
 fn random_id() -> Result<ConnectionId, Fault> {
@@ -181,6 +189,7 @@ impl Connection {
             spaces: first_spaces(role, destination),
             data_keys: None,
             end: None,
+            turn: stream_behind(None),
             expected: 0,
             early: Vec::new(),
             recovery: Recovery::new(DATAGRAM),

@@ -1,12 +1,12 @@
 //! Datagrams go: packets of several levels in one (RFC 9000, section 12.2).
 
-use super::{Connection, DATAGRAM, State};
+use super::{Connection, DATAGRAM, State, stream_behind};
 use crate::crypto::push_frame;
 use crate::fault::{Fault, INTERNAL_ERROR};
 use crate::packet::{Draft, Header, Level, TAG_LEN};
 use crate::protection::seal;
 use crate::recovery::{Control, Sent};
-use gotsavena::{Frame, MIN_ROOM, MakeFault, Role, frames, put_ack};
+use gotsavena::{Frame, MIN_ROOM, MakeFault, Role, frames, last_stream, put_ack};
 use std::time::Instant;
 
 /// Below so much room no packet is begun.
@@ -234,7 +234,7 @@ impl Connection {
         let at = out.len();
         out.resize(at + room, 0);
         let made = match &mut self.end {
-            Some(end) => end.make_packet(&mut out[at..]),
+            Some(end) => end.make_packet_from(self.turn, 0, &mut out[at..]),
             None => Ok(None),
         };
         let len = made
@@ -243,6 +243,9 @@ impl Connection {
             .and_then(|made| *made)
             .map(|made| made.len);
         out.truncate(at + len.unwrap_or(0));
+        if let Some(last) = last_stream(&out[at..]) {
+            self.turn = stream_behind(Some(last));
+        }
         match made {
             // Where memory is refused, nothing goes for now.
             Ok(_) | Err(MakeFault::NoMemory) => Ok(len.is_some()),
