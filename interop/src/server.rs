@@ -27,7 +27,8 @@ pub struct Server<A> {
     tls: Arc<ServerConfig>,
     config: Config,
     make: Box<dyn Fn() -> A>,
-    served: HashMap<u64, Served<A>>,
+    // (boxed: a table that grew keeps its places)
+    served: HashMap<u64, Box<Served<A>>>,
     ids: HashMap<ConnectionId, u64>,
     next: u64,
 }
@@ -203,7 +204,7 @@ impl<A: Application> Server<A> {
             peer: from,
             application,
         };
-        self.served.insert(key, served);
+        self.served.insert(key, Box::new(served));
         Some(key)
     }
 
@@ -215,7 +216,7 @@ impl<A: Application> Server<A> {
             connection,
             peer,
             application,
-        } = served;
+        } = &mut **served;
         let more = turn(connection, application, out, |bytes| {
             self.socket.send_to(bytes, *peer)
         })?;
