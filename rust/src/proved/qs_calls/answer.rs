@@ -1,12 +1,12 @@
 // Made from crates/qs_calls/src/answer.rt by rust/erase; not edited by hand.
 //! What the ends answer.
 
+use crate::shim::Vec;
 use crate::proved::qs_calls::closing::{Closing, Received};
 use crate::proved::qs_calls::making::{LostFault, Made, MakeFault};
 use crate::proved::qs_calls::uses::{OpenFault, UseFault};
 use crate::proved::qs_recv::Read;
 use crate::proved::qs_wire::StreamId;
-use crate::shim::Vec;
 
 /// What the call answered, for each act.
 #[derive(Debug, PartialEq, Eq)]

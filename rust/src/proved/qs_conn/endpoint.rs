@@ -1,12 +1,12 @@
 // Made from crates/qs_conn/src/endpoint.rt by rust/erase; not edited by hand.
 //! One end of a connection.
 
-use crate::proved::qs_calls::{Closed, Closing, PeerLimits, Settings, SetupFault};
 use crate::proved::qs_conn::ended::EndedStreams;
 use crate::proved::qs_conn::outbox::Outbox;
 use crate::proved::qs_conn::places::kind_of;
 use crate::proved::qs_conn::recv_tables::RecvTables;
 use crate::proved::qs_conn::setup::setup_fault;
+use crate::proved::qs_calls::{Closed, Closing, PeerLimits, Settings, SetupFault};
 use crate::proved::qs_ranges::RangeSet;
 use crate::proved::qs_wire::{Dir, Frame, Role, StreamId, put};
 use crate::shim::alloc::Global;
@@ -130,8 +130,11 @@ impl Endpoint {
         let taken = self.recvs.tally().taken;
         let settings = &self.settings;
         self.granted = next_limit(self.granted, taken, settings.conn_window);
-        self.granted_bidi =
-            next_count(settings.grant_bidi, settings.lifetime_bidi, self.ended.bidi);
+        self.granted_bidi = next_count(
+            settings.grant_bidi,
+            settings.lifetime_bidi,
+            self.ended.bidi,
+        );
         self.granted_uni = next_count(settings.grant_uni, settings.lifetime_uni, self.ended.uni);
     }
 

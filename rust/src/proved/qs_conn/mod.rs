@@ -22,9 +22,9 @@ mod terms;
 mod told;
 mod told_index;
 
+pub use endpoint::Endpoint;
 pub use crate::proved::qs_calls::{
     Closed, Closing, LaneReport, LostFault, Made, MakeFault, OpenFault, PeerLimits, RaiseFault,
     Received, RecvReport, SendReport, Settings, SetupFault, UseFault,
 };
 pub use crate::proved::qs_machine::laws;
-pub use endpoint::Endpoint;

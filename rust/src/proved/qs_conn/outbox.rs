@@ -2,10 +2,10 @@
 //! The sending side of an end.
 use crate::shim::Vec;
 
-use crate::proved::qs_calls::SendReport;
 use crate::proved::qs_conn::send_tables::SendTables;
 use crate::proved::qs_conn::told::ToldItems;
 use crate::proved::qs_conn::told_index::ToldIndex;
+use crate::proved::qs_calls::SendReport;
 use crate::proved::qs_ranges::NoMemory;
 use crate::proved::qs_send::{LostRecords, Piece, Records, SendFault, SendState};
 use crate::proved::qs_wire::StreamId;

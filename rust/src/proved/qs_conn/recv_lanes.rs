@@ -2,9 +2,9 @@
 //! The receiving halves of the streams of one type.
 use crate::shim::Vec;
 
-use crate::proved::qs_calls::RecvReport;
 use crate::proved::qs_conn::marks::Marks;
 use crate::proved::qs_conn::recv_marks::{RecvMarks, RecvTask, has};
+use crate::proved::qs_calls::RecvReport;
 use crate::proved::qs_machine::Tally;
 use crate::proved::qs_ranges::NoMemory;
 use crate::proved::qs_recv::{Highest, Read, RecvFault, RecvHalf, RecvState, RingAssembly};

@@ -1,11 +1,11 @@
 // Made from crates/qs_conn/src/recv_tables.rt by rust/erase; not edited by hand.
 //! The receiving halves of an end.
 
-use crate::proved::qs_calls::RecvReport;
 use crate::proved::qs_conn::marks::least;
 use crate::proved::qs_conn::places::{index_of, kind_of};
 use crate::proved::qs_conn::recv_lanes::RecvLanes;
 use crate::proved::qs_conn::recv_marks::RecvTask;
+use crate::proved::qs_calls::RecvReport;
 use crate::proved::qs_machine::Tally;
 use crate::proved::qs_ranges::NoMemory;
 use crate::proved::qs_recv::{Highest, Read, RecvFault};

@@ -10,13 +10,7 @@ use crate::proved::qs_conn::terms::Terms;
 use crate::proved::qs_wire::{Dir, StreamId};
 
 // The item of a slot is due, or one was found before.
-fn has_slot(
-    terms: &Terms,
-    recvs: &RecvTables,
-    outbox: &Outbox,
-    slot: Slot,
-    is_found: bool,
-) -> bool {
+fn has_slot(terms: &Terms, recvs: &RecvTables, outbox: &Outbox, slot: Slot, is_found: bool) -> bool {
     if is_found {
         return true;
     }
@@ -27,13 +21,7 @@ fn has_slot(
 }
 
 // An item of a kind is due, or one was found before.
-fn has_kind(
-    terms: &Terms,
-    recvs: &RecvTables,
-    outbox: &Outbox,
-    kind: Kind,
-    is_found: bool,
-) -> bool {
+fn has_kind(terms: &Terms, recvs: &RecvTables, outbox: &Outbox, kind: Kind, is_found: bool) -> bool {
     let mut is_found = is_found;
     let mut from = 0;
     while let Some(stream) = next_of_kind(terms, recvs, outbox, kind, from) {

@@ -1,7 +1,6 @@
 // Made from crates/qs_conn/src/terms.rt by rust/erase; not edited by hand.
 //! Which control items an end has to tell.
 
-use crate::proved::qs_calls::Settings;
 use crate::proved::qs_conn::endpoint::{is_uni, role_bit};
 use crate::proved::qs_conn::marks::least;
 use crate::proved::qs_conn::outbox::Outbox;
@@ -9,6 +8,7 @@ use crate::proved::qs_conn::places::kind_of;
 use crate::proved::qs_conn::recv_tables::RecvTables;
 use crate::proved::qs_conn::send_marks::Task;
 use crate::proved::qs_conn::slot::Slot;
+use crate::proved::qs_calls::Settings;
 use crate::proved::qs_send::Item;
 use crate::proved::qs_wire::{Dir, Role, StreamId};
 

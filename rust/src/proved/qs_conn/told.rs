@@ -43,7 +43,9 @@ impl ToldItems {
                 raise(&mut self.max_data, maximum);
                 Ok(())
             }
-            Item::MaxStreamData { stream, maximum } => self.max_stream_data.raise(stream, maximum),
+            Item::MaxStreamData { stream, maximum } => {
+                self.max_stream_data.raise(stream, maximum)
+            }
             Item::MaxStreams { dir, count } => {
                 match dir {
                     Dir::Bidi => raise(&mut self.bidi_streams, count),

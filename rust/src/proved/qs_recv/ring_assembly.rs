@@ -2,8 +2,8 @@
 //! An assembly that keeps what came in one ring: the byte of an offset stands at the offset modulo the window.
 use crate::shim::Vec;
 
-use crate::proved::qs_ranges::{NoMemory, RangeSet};
 use crate::proved::qs_recv::assembly::Assembly;
+use crate::proved::qs_ranges::{NoMemory, RangeSet};
 use crate::shim::alloc::Global;
 
 /// A ring of window size, beside the set of every offset that came. Its memory is taken for the first byte that is

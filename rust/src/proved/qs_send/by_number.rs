@@ -2,9 +2,9 @@
 //! Records of lost packets by number.
 use crate::shim::Vec;
 
-use crate::proved::qs_ranges::NoMemory;
 use crate::proved::qs_send::lost_record::{LostRecord, hold};
 use crate::proved::qs_send::piece::Piece;
+use crate::proved::qs_ranges::NoMemory;
 use crate::shim::alloc::Global;
 use crate::shim::mem;
 

@@ -1,10 +1,10 @@
 // Made from crates/qs_send/src/half.rt by rust/erase; not edited by hand.
 //! The sending half of a stream (RFC 9000, sections 2.2, 3.1 and 13.3).
 
-use crate::proved::qs_ranges::{NoMemory, RangeSet};
 use crate::proved::qs_send::edits::{add, forget};
 use crate::proved::qs_send::kept::Kept;
 use crate::proved::qs_send::parts::{Chunk, Reset, SendFault, SendState};
+use crate::proved::qs_ranges::{NoMemory, RangeSet};
 use crate::proved::qs_wire::StreamId;
 use crate::shim::alloc::Global;
 

@@ -2,8 +2,8 @@
 //! What one packet carried that was declared lost.
 use crate::shim::Vec;
 
-use crate::proved::qs_ranges::NoMemory;
 use crate::proved::qs_send::piece::Piece;
+use crate::proved::qs_ranges::NoMemory;
 
 /// The pieces of a packet in the order in which they were declared lost. The first `start` ones of the vector were let go.
 pub(crate) struct LostRecord {

@@ -1,9 +1,9 @@
 // Made from crates/qs_send/src/lost_records.rt by rust/erase; not edited by hand.
 //! What the packets carried that were declared lost.
 
-use crate::proved::qs_ranges::NoMemory;
 use crate::proved::qs_send::by_number::ByNumber;
 use crate::proved::qs_send::piece::Piece;
+use crate::proved::qs_ranges::NoMemory;
 use crate::shim::alloc::Global;
 use crate::shim::collections::VecDeque;
 

@@ -2,9 +2,9 @@
 //! What the outstanding packets carried.
 use crate::shim::Vec;
 
-use crate::proved::qs_ranges::NoMemory;
 use crate::proved::qs_send::carried::Carried;
 use crate::proved::qs_send::piece::Piece;
+use crate::proved::qs_ranges::NoMemory;
 use crate::shim::alloc::Global;
 use crate::shim::collections::VecDeque;
 

@@ -58,12 +58,7 @@ fn new_token_at(bytes: &[u8]) -> Result<(Frame<'_>, &[u8]), FaultKind> {
     Ok((Frame::NewToken { bytes }, rest))
 }
 
-fn stream_at(
-    off: bool,
-    len: bool,
-    fin: bool,
-    bytes: &[u8],
-) -> Result<(Frame<'_>, &[u8]), FaultKind> {
+fn stream_at(off: bool, len: bool, fin: bool, bytes: &[u8]) -> Result<(Frame<'_>, &[u8]), FaultKind> {
     let (stream, rest) = number_at(bytes)?;
     let (offset, rest) = number_if(off, rest)?;
     let (bytes, rest) = counted_if(len, rest)?;
@@ -165,10 +160,7 @@ fn application_close_at(bytes: &[u8]) -> Result<(Frame<'_>, &[u8]), FaultKind> {
 }
 
 /// The frame of a type, and the bytes after it.
-pub(crate) fn body_at(
-    frame_type: FrameType,
-    bytes: &[u8],
-) -> Result<(Frame<'_>, &[u8]), FaultKind> {
+pub(crate) fn body_at(frame_type: FrameType, bytes: &[u8]) -> Result<(Frame<'_>, &[u8]), FaultKind> {
     match frame_type {
         FrameType::Padding => Ok((Frame::Padding, bytes)),
         FrameType::Ping => Ok((Frame::Ping, bytes)),

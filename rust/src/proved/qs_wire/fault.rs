@@ -65,15 +65,7 @@ pub struct WireFault {
 impl core::fmt::Display for WireFault {
     fn fmt(&self, f: &mut core::fmt::Formatter<'_>) -> core::fmt::Result {
         match self {
-            Self {
-                frame_type,
-                place,
-                code,
-                ..
-            } => write!(
-                f,
-                "a frame of type {frame_type:#x} at {place} breaks code {code:#x}"
-            ),
+            Self { frame_type, place, code, .. } => write!(f, "a frame of type {frame_type:#x} at {place} breaks code {code:#x}"),
         }
     }
 }

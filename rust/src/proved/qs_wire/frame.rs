@@ -26,11 +26,19 @@ pub enum Frame<'a> {
         final_size: u64,
     },
     /// Section 19.5.
-    StopSending { stream: StreamId, code: u64 },
+    StopSending {
+        stream: StreamId,
+        code: u64,
+    },
     /// Section 19.6.
-    Crypto { offset: u64, bytes: &'a [u8] },
+    Crypto {
+        offset: u64,
+        bytes: &'a [u8],
+    },
     /// Section 19.7. An empty token is read, and a server reads it too: to refuse them is for the layer beneath.
-    NewToken { bytes: &'a [u8] },
+    NewToken {
+        bytes: &'a [u8],
+    },
     /// Section 19.8.
     Stream {
         stream: StreamId,
@@ -39,17 +47,33 @@ pub enum Frame<'a> {
         bytes: &'a [u8],
     },
     /// Section 19.9.
-    MaxData { maximum: u64 },
+    MaxData {
+        maximum: u64,
+    },
     /// Section 19.10.
-    MaxStreamData { stream: StreamId, maximum: u64 },
+    MaxStreamData {
+        stream: StreamId,
+        maximum: u64,
+    },
     /// Section 19.11, of both types: one for each direction.
-    MaxStreams { dir: Dir, count: u64 },
+    MaxStreams {
+        dir: Dir,
+        count: u64,
+    },
     /// Section 19.12.
-    DataBlocked { limit: u64 },
+    DataBlocked {
+        limit: u64,
+    },
     /// Section 19.13.
-    StreamDataBlocked { stream: StreamId, limit: u64 },
+    StreamDataBlocked {
+        stream: StreamId,
+        limit: u64,
+    },
     /// Section 19.14, of both types: one for each direction.
-    StreamsBlocked { dir: Dir, count: u64 },
+    StreamsBlocked {
+        dir: Dir,
+        count: u64,
+    },
     /// Section 19.15. That `retire` is at most `sequence` is for the layer beneath to check.
     NewConnectionId {
         sequence: u64,
@@ -60,11 +84,17 @@ pub enum Frame<'a> {
         reset_token: &'a [u8],
     },
     /// Section 19.16.
-    RetireConnectionId { sequence: u64 },
+    RetireConnectionId {
+        sequence: u64,
+    },
     /// Section 19.17. 8 bytes.
-    PathChallenge { bytes: &'a [u8] },
+    PathChallenge {
+        bytes: &'a [u8],
+    },
     /// Section 19.18. 8 bytes.
-    PathResponse { bytes: &'a [u8] },
+    PathResponse {
+        bytes: &'a [u8],
+    },
     /// Section 19.19, of the type that QUIC itself closes with.
     ConnectionClose {
         code: u64,
@@ -73,7 +103,10 @@ pub enum Frame<'a> {
         reason: &'a [u8],
     },
     /// Section 19.19, of the type that an application closes with.
-    ApplicationClose { code: u64, reason: &'a [u8] },
+    ApplicationClose {
+        code: u64,
+        reason: &'a [u8],
+    },
     /// Section 19.20. A server reads it too: to refuse it is for the layer beneath.
     HandshakeDone,
 }

@@ -48,7 +48,9 @@ fn breach_of(frame: &Frame) -> Option<FaultKind> {
             }
         }
         Frame::Ack {
-            largest, ranges, ..
+            largest,
+            ranges,
+            ..
         } => {
             if falls_below_zero(largest, ranges) {
                 Some(FaultKind::BelowZero)

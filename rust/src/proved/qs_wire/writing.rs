@@ -173,12 +173,16 @@ fn parts_of<'a>(frame: &Frame<'a>) -> [Part<'a>; 5] {
             Number(code),
             Number(final_size)
         ),
-        Frame::StopSending { stream, code } => {
-            parts!(FrameType::StopSending, Number(stream.value()), Number(code))
-        }
-        Frame::Crypto { offset, bytes } => {
-            parts!(FrameType::Crypto, Number(offset), Counted(bytes))
-        }
+        Frame::StopSending { stream, code } => parts!(
+            FrameType::StopSending,
+            Number(stream.value()),
+            Number(code)
+        ),
+        Frame::Crypto { offset, bytes } => parts!(
+            FrameType::Crypto,
+            Number(offset),
+            Counted(bytes)
+        ),
         Frame::NewToken { bytes } => parts!(FrameType::NewToken, Counted(bytes)),
         Frame::Stream {
             stream,
@@ -208,9 +212,10 @@ fn parts_of<'a>(frame: &Frame<'a>) -> [Part<'a>; 5] {
             Number(stream.value()),
             Number(limit)
         ),
-        Frame::StreamsBlocked { dir, count } => {
-            parts!(FrameType::StreamsBlocked { dir }, Number(count))
-        }
+        Frame::StreamsBlocked { dir, count } => parts!(
+            FrameType::StreamsBlocked { dir },
+            Number(count)
+        ),
         Frame::NewConnectionId {
             sequence,
             retire,
@@ -223,9 +228,10 @@ fn parts_of<'a>(frame: &Frame<'a>) -> [Part<'a>; 5] {
             Identifier(identifier),
             Plain(reset_token)
         ),
-        Frame::RetireConnectionId { sequence } => {
-            parts!(FrameType::RetireConnectionId, Number(sequence))
-        }
+        Frame::RetireConnectionId { sequence } => parts!(
+            FrameType::RetireConnectionId,
+            Number(sequence)
+        ),
         Frame::PathChallenge { bytes } => parts!(FrameType::PathChallenge, Plain(bytes)),
         Frame::PathResponse { bytes } => parts!(FrameType::PathResponse, Plain(bytes)),
         Frame::ConnectionClose {
@@ -238,9 +244,11 @@ fn parts_of<'a>(frame: &Frame<'a>) -> [Part<'a>; 5] {
             Number(frame_type),
             Counted(reason)
         ),
-        Frame::ApplicationClose { code, reason } => {
-            parts!(FrameType::ApplicationClose, Number(code), Counted(reason))
-        }
+        Frame::ApplicationClose { code, reason } => parts!(
+            FrameType::ApplicationClose,
+            Number(code),
+            Counted(reason)
+        ),
         Frame::HandshakeDone => parts!(FrameType::HandshakeDone),
     }
 }

@@ -2,8 +2,8 @@
 //! What an end's owner, and the layer beneath, may ask of it. Nothing changes.
 
 use super::Endpoint;
-use crate::proved::qs_calls::Closed;
 use crate::proved::qs_conn::sendable::has_frame;
+use crate::proved::qs_calls::Closed;
 use crate::proved::qs_wire::{Dir, StreamId};
 
 impl Endpoint {

@@ -43,7 +43,9 @@ impl Endpoint {
                 bytes,
             } => self.stream_fault(stream, offset, bytes, fin),
             Frame::ResetStream {
-                stream, final_size, ..
+                stream,
+                final_size,
+                ..
             } => self.reset_fault(stream, final_size),
             Frame::StreamDataBlocked { stream, .. } => self.state_fault_in(stream),
             Frame::StopSending { stream, .. } => self.state_fault_out(stream),

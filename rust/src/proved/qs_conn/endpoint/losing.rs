@@ -2,8 +2,8 @@
 //! A packet is declared lost.
 
 use super::Endpoint;
-use crate::proved::qs_calls::LostFault;
 use crate::proved::qs_conn::outbox::Outbox;
+use crate::proved::qs_calls::LostFault;
 use crate::proved::qs_ranges::NoMemory;
 
 impl Endpoint {

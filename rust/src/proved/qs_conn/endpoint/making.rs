@@ -2,10 +2,10 @@
 //! Packets are made.
 
 use super::Endpoint;
-use crate::proved::qs_calls::{Made, MakeFault};
 use crate::proved::qs_conn::filling::{Wish, fill};
 use crate::proved::qs_conn::sendable::has_frame;
 use crate::proved::qs_conn::terms::Terms;
+use crate::proved::qs_calls::{Made, MakeFault};
 use crate::proved::qs_wire::StreamId;
 
 /// The largest packet number (RFC 9000, section 12.3).

@@ -2,9 +2,9 @@
 //! Streams are opened, and given out.
 
 use super::{Endpoint, is_uni, role_bit};
-use crate::proved::qs_calls::OpenFault;
 use crate::proved::qs_conn::outbox::Outbox;
 use crate::proved::qs_conn::recv_tables::RecvTables;
+use crate::proved::qs_calls::OpenFault;
 use crate::proved::qs_ranges::NoMemory;
 use crate::proved::qs_wire::{Dir, StreamId};
 

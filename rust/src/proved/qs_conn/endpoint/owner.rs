@@ -2,8 +2,8 @@
 //! What an end's owner does with its streams.
 
 use super::Endpoint;
-use crate::proved::qs_calls::{Closed, Closing, LaneReport, UseFault};
 use crate::proved::qs_conn::ended::is_over;
+use crate::proved::qs_calls::{Closed, Closing, LaneReport, UseFault};
 use crate::proved::qs_recv::Read;
 use crate::proved::qs_send::SendFault;
 use crate::proved::qs_wire::StreamId;

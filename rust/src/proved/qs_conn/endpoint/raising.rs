@@ -2,8 +2,8 @@
 //! Limits of the peer that rise after the end was made.
 
 use super::Endpoint;
-use crate::proved::qs_calls::{PeerLimits, RaiseFault};
 use crate::proved::qs_conn::setup::limits_fault;
+use crate::proved::qs_calls::{PeerLimits, RaiseFault};
 use crate::proved::qs_wire::StreamId;
 
 impl Endpoint {

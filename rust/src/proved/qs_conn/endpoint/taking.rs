@@ -24,7 +24,9 @@ impl Endpoint {
             | Frame::ApplicationClose { .. }
             | Frame::HandshakeDone => Ok(()),
             Frame::Ack {
-                largest, ranges, ..
+                largest,
+                ranges,
+                ..
             } => self.take_ack(largest, ranges),
             Frame::MaxData { maximum } => {
                 self.known_data = self.known_data.max(maximum);

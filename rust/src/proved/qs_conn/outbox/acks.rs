@@ -95,11 +95,7 @@ fn next_held(records: &Records, from: u64) -> Option<u64> {
 }
 
 // A chunk, or an item, is acknowledged; or nothing changes.
-fn piece_acked(
-    sends: &mut SendTables,
-    told: &mut ToldItems,
-    piece: &Piece,
-) -> Result<(), NoMemory> {
+fn piece_acked(sends: &mut SendTables, told: &mut ToldItems, piece: &Piece) -> Result<(), NoMemory> {
     match *piece {
         Piece::Data { stream, chunk } => sends.acked(stream, chunk),
         Piece::Told(item) => item_acked(sends, told, item),
