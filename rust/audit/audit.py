@@ -24,7 +24,7 @@ KINDS = AUDIT / "kinds.txt"
 # Crates of which nothing is made in Rust: an example of a use from Rattle.
 RATTLE_ALONE = {"qs_example"}
 # Crates that only tests use.
-FOR_TESTS = {"qs_chunks", "qs_tests", "qs_units"}
+FOR_TESTS = {"qs_chunks", "qs_ends", "qs_tests", "qs_units"}
 
 
 class Refused(Exception):

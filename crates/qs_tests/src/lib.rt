@@ -1,4 +1,4 @@
-//! Tests of what no clause says, through the public calls of endpoints and worlds. They stand in a crate of their own, since a crate with tests
+//! Tests of what no clause says, through the public calls of worlds. They stand in a crate of their own, since a crate with tests
 //! is proved once more with them.
 #![tactic(auto)]
 

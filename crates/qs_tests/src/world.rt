@@ -1,21 +1,12 @@
-//! Which events fit; and what an endpoint does, whose tests stand here since they would cost more beside its proofs.
+//! Which events fit, and what worlds do.
 
-mod counts;
 mod draws;
-mod ends;
-mod every_payload;
-mod fragments;
-mod many_packets;
 mod memory;
-mod owners;
-mod packets;
-mod payloads;
 mod plays;
 mod refusals;
-mod rows;
 mod runs;
 mod script;
-mod settings;
+mod worlds;
 
 use qs_world::{Act, Dir, Event, Side, StreamId};
 use std::test::Fail;

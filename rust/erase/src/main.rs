@@ -30,12 +30,13 @@ const LIBRARY: [&str; 7] = [
 const LIBRARY_FOLDER: &str = "rust/src/proved";
 
 /// The crates of the program and of its tests.
-const PROGRAM: [&str; 6] = [
+const PROGRAM: [&str; 7] = [
     "qs_world",
     "qs_cli",
     "qs_tool",
     "qs_chunks",
     "qs_units",
+    "qs_ends",
     "qs_tests",
 ];
 

@@ -1,7 +1,7 @@
 //! Long runs of two ends: random scripts, and busy ones that use up every limit.
 ghost use Rattle.std.specs.Prelude.{◌<◌};
 
-use super::ends::{NewWorld, made, new_world};
+use super::worlds::{NewWorld, made, new_world};
 use qs_wire::{Frame, Frames};
 use qs_world::{
     Act, Answer, Dir, Event, Report, Side, StreamId, World, play, random_script, standard_settings,

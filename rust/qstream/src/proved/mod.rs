@@ -36,6 +36,8 @@ pub(crate) mod qs_wire;
 mod qs_chunks;
 pub(crate) mod qs_cli;
 #[cfg(test)]
+mod qs_ends;
+#[cfg(test)]
 mod qs_tests;
 pub(crate) mod qs_tool;
 #[cfg(test)]

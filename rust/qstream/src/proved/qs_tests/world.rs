@@ -1,23 +1,14 @@
 // Made from crates/qs_tests/src/world.rt by rust/erase; not edited by hand.
-//! Which events fit; and what an endpoint does, whose tests stand here since they would cost more beside its proofs.
+//! Which events fit, and what worlds do.
 
 use crate::shim::{HostRuntime, Vec, assert, assert_eq};
-mod counts;
 mod draws;
-mod ends;
-mod every_payload;
-mod fragments;
-mod many_packets;
 mod memory;
-mod owners;
-mod packets;
-mod payloads;
 mod plays;
 mod refusals;
-mod rows;
 mod runs;
 mod script;
-mod settings;
+mod worlds;
 
 use crate::proved::qs_world::{Act, Dir, Event, Side, StreamId};
 use crate::shim::test::Fail;

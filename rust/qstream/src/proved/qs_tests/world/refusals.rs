@@ -2,8 +2,8 @@
 //! Two ends where memory is refused: nothing is lost, and the call that is made again succeeds. With each allocation refused in turn, these
 //! tests meet every refusal of a run.
 use crate::shim::{HostRuntime, assert};
-use super::ends::{NewWorld, made, new_world};
 use super::plays::{LOST_AND_SENT_AGAIN, end, id, ran_short, unused};
+use super::worlds::{NewWorld, made, new_world};
 use crate::proved::qs_world::{
     Answer, Event, LaneTotals, PlayFault, Report, Side, World, parse_script, standard_settings,
 };

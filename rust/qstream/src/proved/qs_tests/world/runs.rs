@@ -2,7 +2,7 @@
 //! Long runs of two ends: random scripts, and busy ones that use up every limit.
 use crate::shim::{HostRuntime, assert, vec};
 
-use super::ends::{NewWorld, made, new_world};
+use super::worlds::{NewWorld, made, new_world};
 use crate::proved::qs_wire::{Frame, Frames};
 use crate::proved::qs_world::{
     Act, Answer, Dir, Event, Report, Side, StreamId, World, play, random_script, standard_settings,

@@ -1,10 +1,8 @@
-// Made from crates/qs_tests/src/world/many_packets.rt by rust/erase; not edited by hand.
 //! A thousand packets are acknowledged by one range; and of many lost packets the oldest is forgotten.
-use crate::shim::{HostRuntime, assert};
 use super::ends::{NewEnd, lose, made, make, new_client, open, receive, write};
-use crate::proved::qs_conn::Endpoint;
-use crate::proved::qs_world::{Dir, Made, Received, StreamId};
-use crate::shim::test::Fail;
+use qs_conn::{Endpoint, Made, Received};
+use qs_wire::{Dir, StreamId};
+use std::test::Fail;
 
 /// An ACK of 999 and the 999 numbers below.
 const ALL_ACKED: &[u8] = b"\x02\x43\xe7\x00\x00\x43\xe7";
@@ -43,8 +41,7 @@ fn sends_and_frees(new: &mut NewEnd) -> Result<bool, Fail> {
 }
 
 #[test]
-fn a_thousand_packets_are_acknowledged_at_once() -> Result<(), Fail> {
-    let rt = HostRuntime::new();
+fn a_thousand_packets_are_acknowledged_at_once(rt: HostRuntime) -> Result<(), Fail> {
     let freed = sends_and_frees(&mut new_client(rt.alloc()));
     assert!(rt; freed?);
     Ok(())
@@ -84,8 +81,7 @@ fn acknowledges_late(new: &mut NewEnd) -> Result<bool, Fail> {
 }
 
 #[test]
-fn the_257th_lost_packet_makes_the_first_forgotten() -> Result<(), Fail> {
-    let rt = HostRuntime::new();
+fn the_257th_lost_packet_makes_the_first_forgotten(rt: HostRuntime) -> Result<(), Fail> {
     let acknowledged = acknowledges_late(&mut new_client(rt.alloc()));
     assert!(rt; acknowledged?);
     Ok(())

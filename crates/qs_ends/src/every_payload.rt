@@ -1,9 +1,8 @@
 //! Every payload of one byte and of two bytes that comes to a new server. What is expected is read off the table of frames and the rules
 //! on streams, by hand.
 use super::ends::{USUAL, receive, server};
-use qs_conn::Endpoint;
+use qs_conn::{Closing, Endpoint, Received};
 use qs_wire::{Frame, Frames};
-use qs_world::{Closing, Received};
 use std::alloc::Global;
 use std::test::Fail;
 

@@ -1,7 +1,8 @@
 //! A stream that comes in packets of one byte each, out of order.
 use super::ends::{USUAL, receive, server};
-use qs_conn::Endpoint;
-use qs_world::{Closing, Read, Received, StreamId};
+use qs_conn::{Closing, Endpoint, Received};
+use qs_recv::Read;
+use qs_wire::StreamId;
 use std::alloc::Global;
 use std::test::Fail;
 

@@ -1,11 +1,10 @@
-// Made from crates/qs_tests/src/world/every_payload.rt by rust/erase; not edited by hand.
+// Made from crates/qs_ends/src/every_payload.rt by rust/erase; not edited by hand.
 //! Every payload of one byte and of two bytes that comes to a new server. What is expected is read off the table of frames and the rules
 //! on streams, by hand.
 use crate::shim::{HostRuntime, assert};
 use super::ends::{USUAL, receive, server};
-use crate::proved::qs_conn::Endpoint;
+use crate::proved::qs_conn::{Closing, Endpoint, Received};
 use crate::proved::qs_wire::{Frame, Frames};
-use crate::proved::qs_world::{Closing, Received};
 use crate::shim::alloc::Global;
 use crate::shim::test::Fail;
 

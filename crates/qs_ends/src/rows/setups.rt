@@ -1,19 +1,17 @@
-// Made from crates/qs_tests/src/world/rows/setups.rt by rust/erase; not edited by hand.
 //! The row that makes an end.
 
 use super::RowFault;
 use super::words::{any_number, next_word, size};
-use crate::proved::qs_tests::world::ends::{USUAL, USUAL_PEER};
-use crate::proved::qs_conn::{Endpoint, PeerLimits};
-use crate::proved::qs_wire::Role;
-use crate::proved::qs_world::{Settings, SetupFault};
-use crate::shim::alloc::Global;
+use crate::ends::{USUAL, USUAL_PEER};
+use qs_conn::{Endpoint, PeerLimits, Settings, SetupFault};
+use qs_wire::Role;
+use std::alloc::Global;
 
 /// An end, or why there is none.
 pub(super) type Made = Result<Endpoint, SetupFault>;
 
 /// What an end is made of.
-#[derive(Clone, Copy)]
+#[derive(Clone, Copy, Drop)]
 pub(super) struct Setup {
     role: Role,
     settings: Settings,

@@ -1,9 +1,10 @@
-// Made from crates/qs_tests/src/world/fragments.rt by rust/erase; not edited by hand.
+// Made from crates/qs_ends/src/fragments.rt by rust/erase; not edited by hand.
 //! A stream that comes in packets of one byte each, out of order.
 use crate::shim::{HostRuntime, assert};
 use super::ends::{USUAL, receive, server};
-use crate::proved::qs_conn::Endpoint;
-use crate::proved::qs_world::{Closing, Read, Received, StreamId};
+use crate::proved::qs_conn::{Closing, Endpoint, Received};
+use crate::proved::qs_recv::Read;
+use crate::proved::qs_wire::StreamId;
 use crate::shim::alloc::Global;
 use crate::shim::test::Fail;
 

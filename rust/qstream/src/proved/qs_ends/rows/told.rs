@@ -1,12 +1,13 @@
-// Made from crates/qs_tests/src/world/rows/told.rt by rust/erase; not edited by hand.
+// Made from crates/qs_ends/src/rows/told.rt by rust/erase; not edited by hand.
 //! How answers are spelled.
 
 use crate::shim::String;
 use super::RowFault;
-use crate::proved::qs_conn::{RecvReport, SendReport};
+use crate::proved::qs_conn::{
+    Closing, LostFault, MakeFault, OpenFault, Received, RecvReport, SendReport, UseFault,
+};
 use crate::proved::qs_recv::RecvState;
 use crate::proved::qs_send::SendState;
-use crate::proved::qs_world::{Closing, LostFault, MakeFault, OpenFault, Received, UseFault};
 
 /// Hex, a dash where there are none.
 pub(super) fn tell_bytes(answer: &mut String, bytes: &[u8]) -> Result<(), RowFault> {

@@ -1,18 +1,18 @@
+// Made from crates/qs_ends/src/rows/setups.rt by rust/erase; not edited by hand.
 //! The row that makes an end.
 
 use super::RowFault;
 use super::words::{any_number, next_word, size};
-use crate::world::ends::{USUAL, USUAL_PEER};
-use qs_conn::{Endpoint, PeerLimits};
-use qs_wire::Role;
-use qs_world::{Settings, SetupFault};
-use std::alloc::Global;
+use crate::proved::qs_ends::ends::{USUAL, USUAL_PEER};
+use crate::proved::qs_conn::{Endpoint, PeerLimits, Settings, SetupFault};
+use crate::proved::qs_wire::Role;
+use crate::shim::alloc::Global;
 
 /// An end, or why there is none.
 pub(super) type Made = Result<Endpoint, SetupFault>;
 
 /// What an end is made of.
-#[derive(Clone, Copy, Drop)]
+#[derive(Clone, Copy)]
 pub(super) struct Setup {
     role: Role,
     settings: Settings,

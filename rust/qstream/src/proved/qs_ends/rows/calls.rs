@@ -1,14 +1,16 @@
+// Made from crates/qs_ends/src/rows/calls.rt by rust/erase; not edited by hand.
 //! A call for each kind of row. Each tells its answer.
 
+use crate::shim::String;
 use super::RowFault;
 use super::told::{
     lost_fault, make_fault, tell_bytes, tell_closing, tell_count, tell_number, tell_open_fault,
     tell_received, tell_receiving, tell_sending, tell_word, use_fault,
 };
 use super::words::{Words, bytes, dir, number, size, stream};
-use crate::world::ends;
-use qs_conn::Endpoint;
-use qs_world::{Made, MakeFault, Read, UseFault};
+use crate::proved::qs_ends::ends;
+use crate::proved::qs_conn::{Endpoint, Made, MakeFault, UseFault};
+use crate::proved::qs_recv::Read;
 
 /// No bytes of a call are more.
 const ROOM: usize = 1200;

@@ -1,8 +1,10 @@
+// Made from crates/qs_ends/src/many_packets.rt by rust/erase; not edited by hand.
 //! A thousand packets are acknowledged by one range; and of many lost packets the oldest is forgotten.
+use crate::shim::{HostRuntime, assert};
 use super::ends::{NewEnd, lose, made, make, new_client, open, receive, write};
-use qs_conn::Endpoint;
-use qs_world::{Dir, Made, Received, StreamId};
-use std::test::Fail;
+use crate::proved::qs_conn::{Endpoint, Made, Received};
+use crate::proved::qs_wire::{Dir, StreamId};
+use crate::shim::test::Fail;
 
 /// An ACK of 999 and the 999 numbers below.
 const ALL_ACKED: &[u8] = b"\x02\x43\xe7\x00\x00\x43\xe7";
@@ -41,7 +43,8 @@ fn sends_and_frees(new: &mut NewEnd) -> Result<bool, Fail> {
 }
 
 #[test]
-fn a_thousand_packets_are_acknowledged_at_once(rt: HostRuntime) -> Result<(), Fail> {
+fn a_thousand_packets_are_acknowledged_at_once() -> Result<(), Fail> {
+    let rt = HostRuntime::new();
     let freed = sends_and_frees(&mut new_client(rt.alloc()));
     assert!(rt; freed?);
     Ok(())
@@ -81,7 +84,8 @@ fn acknowledges_late(new: &mut NewEnd) -> Result<bool, Fail> {
 }
 
 #[test]
-fn the_257th_lost_packet_makes_the_first_forgotten(rt: HostRuntime) -> Result<(), Fail> {
+fn the_257th_lost_packet_makes_the_first_forgotten() -> Result<(), Fail> {
+    let rt = HostRuntime::new();
     let acknowledged = acknowledges_late(&mut new_client(rt.alloc()));
     assert!(rt; acknowledged?);
     Ok(())

@@ -1,10 +1,11 @@
 //! How answers are spelled.
 
 use super::RowFault;
-use qs_conn::{RecvReport, SendReport};
+use qs_conn::{
+    Closing, LostFault, MakeFault, OpenFault, Received, RecvReport, SendReport, UseFault,
+};
 use qs_recv::RecvState;
 use qs_send::SendState;
-use qs_world::{Closing, LostFault, MakeFault, OpenFault, Received, UseFault};
 
 /// Hex, a dash where there are none.
 pub(super) fn tell_bytes(answer: &mut String, bytes: &[u8]) -> Result<(), RowFault> {

@@ -1,15 +1,15 @@
-// Made from crates/qs_tests/src/world/ends.rt by rust/erase; not edited by hand.
 //! Ends to begin with, and calls of them. A call that found no memory is made once more, so that the tests pass with each allocation
 //! refused in turn.
 
-use crate::proved::qs_conn::{Endpoint, PeerLimits};
-use crate::proved::qs_wire::Role;
-use crate::proved::qs_world::{
-    Closing, Dir, LostFault, Made, MakeFault, OpenFault, Received, Settings, SetupFault, StreamId,
-    UseFault, World, standard_settings,
+ghost use Rattle.std.specs.Prelude.{◌<◌, ◌^◌};
+
+use qs_conn::{
+    Closing, Endpoint, LostFault, Made, MakeFault, OpenFault, PeerLimits, Received, Settings,
+    SetupFault, UseFault,
 };
-use crate::shim::alloc::Global;
-use crate::shim::test::Fail;
+use qs_wire::{Dir, Role, StreamId};
+use std::alloc::Global;
+use std::test::Fail;
 
 /// The credit that an end grants in most tests.
 pub(super) const USUAL: Settings = Settings {
@@ -39,14 +39,7 @@ pub(super) fn server(alloc: Global, settings: Settings) -> Result<Endpoint, Fail
     Ok(Endpoint::new(alloc, Role::Server, settings, USUAL_PEER)?)
 }
 
-/// A world, or why there is none. It is handed on by reference, so that few proofs follow how it is dropped.
-pub(super) type NewWorld = Result<World, SetupFault>;
-
-pub(super) fn new_world(alloc: Global) -> NewWorld {
-    World::new(alloc, standard_settings(), standard_settings())
-}
-
-/// The same of an end.
+/// An end, or why there is none. It is handed on by reference, so that few proofs follow how it is dropped.
 pub(super) type NewEnd = Result<Endpoint, SetupFault>;
 
 pub(super) fn new_client(alloc: Global) -> NewEnd {
@@ -61,8 +54,9 @@ pub(super) fn made<T>(new: &mut Result<T, SetupFault>) -> Result<&mut T, SetupFa
     }
 }
 
-pub(super) fn receive(end: &mut Endpoint, number: u64, payload: &[u8]) -> Result<Received, Closing> {
-    debug_assert!(number < 1 << 62);
+pub(super) fn receive(end: &mut Endpoint, number: u64, payload: &[u8]) -> Result<Received, Closing>
+    requires { number < 2 ^ 62 }
+{
     let first = end.receive(number, payload);
     if first == Ok(Received::NoMemory) {
         return end.receive(number, payload);
