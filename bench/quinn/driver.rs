@@ -444,6 +444,7 @@ struct Pair {
     packets: Vec<(u64, Vec<u8>)>,
     lost: Vec<u64>,
     made: u64,
+    written: u64,
 }
 
 impl Pair {
@@ -473,6 +474,7 @@ impl Pair {
             packets: Vec::new(),
             lost: Vec::new(),
             made: 0,
+            written: 0,
         }
     }
 
@@ -487,9 +489,10 @@ impl Pair {
                 conn_state: &end.state,
             };
             for _ in 0..times {
-                match stream.write(&self.source) {
-                    Ok(count) if count == self.source.len() => {}
-                    _ => break,
+                let count = stream.write(&self.source).unwrap_or(0);
+                self.written += count as u64;
+                if count < self.source.len() {
+                    break;
                 }
             }
         }
@@ -610,6 +613,42 @@ fn carried(streams: u32) -> Run {
     Run {
         time: spent,
         units: pair.made,
+    }
+}
+
+fn raised(streams: u32) -> Run {
+    let mut pair = Pair::new(Load {
+        active: streams,
+        open: streams,
+        window: 16 << 10,
+        write: 1200,
+        ..PLAIN
+    });
+    let mut read = 0;
+    while read < u64::from(streams) * (12 << 10) {
+        pair.write();
+        pair.carry();
+        read += pair.read();
+        pair.answer();
+    }
+    while read < pair.written {
+        pair.carry();
+        read += pair.read();
+        pair.answer();
+    }
+    pair.ids.truncate(1);
+    let (before, until) = (pair.made, read + (16 << 20));
+    let time = time(|| {
+        while read < until {
+            pair.write();
+            pair.carry();
+            read += pair.read();
+            pair.answer();
+        }
+    });
+    Run {
+        time,
+        units: pair.made - before,
     }
 }
 
@@ -745,6 +784,10 @@ fn rows() -> Vec<(&'static str, fn() -> Run)> {
         ("carried-64", || carried(64)),
         ("carried-1000", || carried(1000)),
         ("carried-4096", || carried(4096)),
+        ("raised-1", || raised(1)),
+        ("raised-64", || raised(64)),
+        ("raised-1000", || raised(1000)),
+        ("raised-4096", || raised(4096)),
         ("same-ack-32-ranges-of-10000", || same_ack(10_000)),
     ]
 }

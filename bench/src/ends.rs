@@ -48,6 +48,8 @@ pub struct Pair {
     spare: Vec<Vec<u8>>,
     lost: Vec<u64>,
     pub made: u64,
+    /// How many bytes were written in all.
+    pub written: u64,
 }
 
 impl Pair {
@@ -79,6 +81,7 @@ impl Pair {
             spare: Vec::new(),
             lost: Vec::new(),
             made: 0,
+            written: 0,
         }
     }
 
@@ -87,9 +90,10 @@ impl Pair {
         let times = (256 << 10) / self.source.len() / self.streams.len() + 1;
         for &stream in &self.streams {
             for _ in 0..times {
-                match self.sender.write(stream, &self.source) {
-                    Ok(count) if count == self.source.len() => {}
-                    _ => break,
+                let count = self.sender.write(stream, &self.source).unwrap_or(0);
+                self.written += count as u64;
+                if count < self.source.len() {
+                    break;
                 }
             }
         }

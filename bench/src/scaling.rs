@@ -51,6 +51,43 @@ fn carried(streams: u64) -> Run {
     }
 }
 
+// So many streams were used until their limits rose, and the news of it came; then one of them goes on alone.
+fn raised(streams: u64) -> Run {
+    let mut pair = Pair::new(Load {
+        active: streams,
+        open: streams,
+        window: 16 << 10,
+        write: 1200,
+        ..PLAIN
+    });
+    let mut read = 0;
+    while read < streams * (12 << 10) {
+        pair.write();
+        pair.carry();
+        read += pair.read();
+        pair.answer();
+    }
+    while read < pair.written {
+        pair.carry();
+        read += pair.read();
+        pair.answer();
+    }
+    pair.streams.truncate(1);
+    let (before, until) = (pair.made, read + (16 << 20));
+    let time = time(|| {
+        while read < until {
+            pair.write();
+            pair.carry();
+            read += pair.read();
+            pair.answer();
+        }
+    });
+    Run {
+        time,
+        units: pair.made - before,
+    }
+}
+
 /// So many packets are under way; then an ACK of 32 ranges comes again and again, which names nothing new.
 fn same_ack(packets: u64) -> Run {
     let mut pair = Pair::new(Load {
@@ -156,6 +193,10 @@ pub fn rows() -> Vec<Row> {
         row("carried-64", "packet", || carried(64)),
         row("carried-1000", "packet", || carried(1000)),
         row("carried-4096", "packet", || carried(4096)),
+        row("raised-1", "packet", || raised(1)),
+        row("raised-64", "packet", || raised(64)),
+        row("raised-1000", "packet", || raised(1000)),
+        row("raised-4096", "packet", || raised(4096)),
         row("same-ack-32-ranges-of-10000", "ACK", || same_ack(10_000)),
         row("request", "request", || request_after(0)),
         row("request-after-60000", "request", || request_after(60_000)),
