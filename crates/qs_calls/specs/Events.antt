@@ -1,3 +1,4 @@
+-- Of public contracts.
 -- Which events a script may name.
 use Rattle.std.specs.Prelude.{Bool, true, ◌&&◌, nat_le, length}
 use Rattle.qs_ranges.specs.Numbers.{MAX_VARINT}

@@ -1,3 +1,4 @@
+-- Trusted.
 -- What an end is set to, and what it is told of the other end's settings: the limits with which a connection begins (RFC 9000,
 -- sections 4.1, 4.6 and 18.2, for the whole file; the ranges are ours).
 use Rattle.std.specs.Prelude.{ℕ, ◌^◌, Bool, ◌&&◌, not, nat_le, Option, Some, None, if◌then◌else◌}

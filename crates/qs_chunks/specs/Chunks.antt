@@ -1,3 +1,4 @@
+-- Of private contracts.
 -- Bytes kept in chunks, and the map of bytes that they stand for.
 --     Piece      consecutive bytes from an offset on
 --     stored_in pieces      each byte under its offset; the first of two pieces wins

@@ -1,3 +1,4 @@
+-- Of private contracts.
 -- What holds of a chunk assembly's fields at all times.
 use Rattle.std.specs.Prelude.{◌≡◌, ℕ, ◌<◌, ◌≤◌, Bool, true, false, List}
 use Rattle.std.specs.FinMap as map

@@ -1,3 +1,4 @@
+-- Of public contracts.
 -- Steps on an assembly, one after the other: what each shows, and what they leave.
 use Rattle.std.specs.Prelude.{◌≡◌, ℕ, ◌+◌, ◌<◌, ◌≤◌, ◌^◌, Bool, true, not, if◌then◌else◌, ◌&&◌, nat_le, nat_lt, List, [], ◌∷◌, length}
 use Rattle.std.specs.FinMap as map

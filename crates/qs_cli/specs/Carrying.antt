@@ -1,3 +1,4 @@
+-- Of public contracts.
 -- Packets go over a wire that may fail: which events take place, and what is written of them.
 use Rattle.std.specs.Prelude.{◌≡◌, ℕ, suc, ◌-◌, ◌≤◌, ◌^◌, List, [], ◌∷◌, ◌++◌, length, take, drop, reverse, codes, decimal, Option, Some, Result, Ok, Err, nat_lt, true, ⊤, ◌⊎◌, if◌then◌else◌}
 use Rattle.std.specs.Int.{w64, from_be_bytes}

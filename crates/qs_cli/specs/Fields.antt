@@ -1,3 +1,4 @@
+-- Of public contracts.
 -- The text of a field as the program holds it.
 use Rattle.std.specs.Prelude.{ℕ, List, []}
 use Rattle.std.specs.Fmt.{decimal}

@@ -1,3 +1,4 @@
+-- Of public contracts.
 -- What a run of the program answers and writes.
 use Rattle.std.specs.Prelude.{◌≡◌, ℕ, List, ◌++◌, codes, decimal, length, ◌≤◌, ◌⊎◌, Option, None, Ok, Err, is_some, true, ⊤}
 use Rattle.std.specs.Io.KnownBytes.{Appends}

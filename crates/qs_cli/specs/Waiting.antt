@@ -1,3 +1,4 @@
+-- Of public contracts.
 -- A wire in memory, as contracts see it.
 use Rattle.std.specs.Prelude.{ℕ, List, [], ◌∷◌, ◌++◌, refl}
 use Rattle.std.specs.Coded.{Coded, code_by, coded×, coded_list, coded_ℕ}

@@ -1,3 +1,4 @@
+-- Of private contracts.
 -- Which streams of the peer came to their end, and how many (RFC 9000, sections 3 and 4.6).
 use Rattle.std.specs.Prelude.{◌≡◌, ℕ, ◌+◌, ◌-◌, ◌≤◌, Bool, true, false, ◌&&◌, ◌||◌, if◌then◌else◌, length, zip, Option, None, Some, ⊤}
 use Rattle.std.specs.List.{filter}

@@ -1,3 +1,4 @@
+-- Of private contracts.
 -- Control items in an order, in which one is found by a binary search.
 --     Indexed      items, and for how many more there is memory
 --     item_key i      what an item is ordered by

@@ -1,3 +1,4 @@
+-- Of private contracts.
 -- What the private layers of an endpoint keep beside their values.
 use Rattle.std.specs.Prelude.{◌≡◌, ℕ, zero, suc, ◌≤◌, ◌<◌, ◌^◌, ◌==◌, true, if◌then◌else◌, List, [], ◌∷◌, length, Option, None, Some, is_some, is_none, ⊤}
 use Rattle.qs_ranges.specs.Numbers.{MAX_VARINT}

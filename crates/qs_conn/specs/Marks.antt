@@ -1,3 +1,4 @@
+-- Of private contracts.
 -- Which streams may have something to send or to tell: a mark for each index, and streams that have nothing.
 use Rattle.std.specs.Prelude.{◌≡◌, ℕ, ◌+◌, ◌*◌, ◌/◌, ◌^◌, ◌≤◌, ◌<◌, length, Bool, true, false, List, [], ◌∷◌, slice_index_or, slice_get, min, Option, None, Some, ⊤}
 use Rattle.qs_recv.specs.Lane.{RecvLane}

@@ -1,3 +1,4 @@
+-- Of private contracts.
 -- Which receiving halves have an answer for their owner, and the marks of those that may.
 use Rattle.std.specs.Prelude.{◌≡◌, Bool, true, false, List}
 use Rattle.qs_recv.specs.Lane.{RecvLane}

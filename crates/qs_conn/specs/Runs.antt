@@ -1,3 +1,4 @@
+-- Of private contracts.
 -- What the private loops over an end's packets do: pieces are due again, or acknowledged, one after the other, as far as there is memory.
 use Rattle.std.specs.Prelude.{◌≡◌, ℕ, ◌<◌, Bool, ◌&&◌, ◌||◌, nat_le, nat_lt, true, false, if◌then◌else◌, List, [], ◌∷◌, ◌++◌, length, take, slice_get, reverse, flat_map, Result, Ok, Err}
 use Rattle.std.specs.List.{filter}

@@ -1,3 +1,4 @@
+-- Of private contracts.
 -- Whether anything is due that may go: what a walk over control items and streams tells.
 use Rattle.std.specs.Prelude.{◌≡◌, ℕ, Bool, true, false, ◌⊎◌}
 use Rattle.qs_send.specs.Lane.{SendLane}

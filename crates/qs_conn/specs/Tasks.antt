@@ -1,3 +1,4 @@
+-- Of private contracts.
 -- Which sending halves have something for a packet, by what it is, and those that have not.
 use Rattle.std.specs.Prelude.{◌≡◌, ℕ, ◌≤◌, ◌<◌, ◌⊎◌, Bool, true, false, List, slice_set, None, Some, is_some}
 use Rattle.std.specs.FinSet as set

@@ -1,3 +1,4 @@
+-- Of private contracts.
 -- A flag for each index, kept as bits of words of 64.
 use Rattle.std.specs.Prelude.{◌≡◌, ◌≢◌, ℕ, ◌+◌, ◌*◌, ◌/◌, ◌%◌, ◌^◌, ◌<◌, ◌≤◌, ◌==◌, Bool, false, List, length, map, slice_index, Option, Some}
 use Rattle.std.specs.List.{range_with_len}

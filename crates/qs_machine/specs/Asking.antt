@@ -1,3 +1,4 @@
+-- Of public contracts.
 -- What an end's owner, and the layer beneath, may ask of an end as it is; nothing changes by it.
 use Rattle.std.specs.Prelude.{◌≡◌, ℕ, ◌-◌, ◌≤◌, Bool, true, false, ◌&&◌, ◌||◌, ◌==◌, nat_lt, ◌⊎◌, Option, None, Some, is_none}
 use Rattle.std.specs.FinMap as fmap

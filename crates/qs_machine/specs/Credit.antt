@@ -1,3 +1,4 @@
+-- Trusted.
 -- Credit: what the peer may send and has used up, and how the limits move (RFC 9000, section 4).
 use Rattle.std.specs.Prelude.{ℕ, ◌+◌, Bool, ◌&&◌, ◌||◌, length, min, zip, is_some, is_none, if◌then◌else◌}
 use Rattle.std.specs.List.{filter}

@@ -1,3 +1,4 @@
+-- Trusted.
 -- What is to be sent: bytes, ends, control items and the ACK (RFC 9000, sections 4, 13.2 and 13.3).
 use Rattle.std.specs.Prelude.{◌≡◌, ℕ, ◌+◌, ◌<◌, ◌≤◌, true, false, ◌⊎◌, Option, Some, None}
 use Rattle.std.specs.FinMap as fmap

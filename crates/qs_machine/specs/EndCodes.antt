@@ -1,3 +1,4 @@
+-- Of private contracts.
 -- An end as numbers, lists and maps, so that it can be what contracts see of an endpoint.
 use Rattle.std.specs.Prelude.{◌≡◌, ℕ, zero, suc, Bool, List, ◌⊎◌, Option, refl}
 use Rattle.std.proofs.Common.{inl, inr}

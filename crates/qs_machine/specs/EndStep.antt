@@ -1,3 +1,4 @@
+-- Trusted.
 -- The calls of an end, and what each may answer and leave. Of RFC 9000, for the whole file: section 2.4, on what is done with streams,
 -- and section 13, on packets that come, are made and are lost.
 use Rattle.std.specs.Prelude.{◌≡◌, ℕ, List, Option, Result}

@@ -1,3 +1,4 @@
+-- Trusted.
 -- One end of a connection: its streams, its credit and its packets (RFC 9000, sections 2 to 4 and 13).
 use Rattle.std.specs.Prelude.{ℕ, ◌+◌, ◌-◌, ◌%◌, Bool, false, not, ◌&&◌, ◌==◌, nat_le, Option, None, Some, Result, Ok, Err, if◌then◌else◌}
 use Rattle.std.specs.Ordering.{nat_cmp}

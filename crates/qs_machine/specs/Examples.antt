@@ -1,3 +1,4 @@
+-- Of laws.
 -- Decisive steps of small connections.
 use Rattle.std.specs.Prelude.{◌≡◌, ℕ, true, false, List, [], ◌∷◌, length, replicate, None, Some, Err}
 use Rattle.std.specs.FinMap as fmap

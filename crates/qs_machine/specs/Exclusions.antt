@@ -1,3 +1,4 @@
+-- Of laws.
 -- What the definitions exclude: beside each example of what a step gives, one of what it doesn't.
 use Rattle.qs_machine.specs.ExclusionsDue.{NotDue}
 use Rattle.qs_machine.specs.ExclusionsMaking.{NotMade}

@@ -1,3 +1,4 @@
+-- Of laws.
 -- What isn't due, and may not go out (RFC 9000, sections 3, 4 and 13.3): each is excluded by one clause of a definition.
 use Rattle.std.specs.Prelude.{true, false, [], None, Some, Ok}
 use Rattle.std.specs.FinMap as fmap

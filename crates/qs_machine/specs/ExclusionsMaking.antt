@@ -1,3 +1,4 @@
+-- Of laws.
 -- What no packet holds, which packets aren't made, and what a loss doesn't leave (RFC 9000, sections 2.2, 4, 12.3, 13.2 and 13.3).
 use Rattle.std.specs.Prelude.{◌≡◌, ℕ, ◌+◌, true, false, List, [], ◌∷◌, None, Some, Ok, Err}
 use Rattle.std.specs.FinMap as fmap

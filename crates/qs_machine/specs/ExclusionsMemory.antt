@@ -1,3 +1,4 @@
+-- Of laws.
 -- Where memory isn't asked for, so that none can be refused, and how a payload doesn't end (RFC 9000, sections 3.2, 11.1, 13.1 and 13.3;
 -- ours where it speaks of want of memory).
 use Rattle.std.specs.Prelude.{◌≡◌, true, false, [], ◌∷◌, None, Some, Ok, Err}

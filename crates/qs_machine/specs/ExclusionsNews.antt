@@ -1,3 +1,4 @@
+-- Of laws.
 -- Which streams no search among them answers (RFC 9000, sections 2.2, 2.4, 3 and 13.3).
 use Rattle.std.specs.Prelude.{◌≡◌, ℕ, ◌≤◌, true, None, Some}
 use Rattle.qs_recv.specs.Lane.{stop}

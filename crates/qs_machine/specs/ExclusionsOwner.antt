@@ -1,3 +1,4 @@
+-- Of laws.
 -- Which answers an end's owner isn't given, and what its calls don't leave (RFC 9000, sections 2, 3 and 4).
 use Rattle.std.specs.Prelude.{◌≡◌, ℕ, ◌+◌, ◌^◌, List, [], ◌∷◌, None, Some, Ok, Err}
 use Rattle.qs_wire.specs.declared.stream_id.Dir.TheVariants.{Bidi}

@@ -1,3 +1,4 @@
+-- Of laws.
 -- How a payload isn't taken, and which answers aren't given (RFC 9000, sections 3.5, 4, 10.2, 12.3, 13 and 20.1).
 use Rattle.std.specs.Prelude.{◌≡◌, ℕ, zero, suc, ◌+◌, true, false, List, [], ◌∷◌, None, Some, Ok, Err}
 use Rattle.std.specs.FinSet as set

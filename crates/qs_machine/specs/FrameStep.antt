@@ -1,3 +1,4 @@
+-- Trusted.
 -- What a frame changes (RFC 9000, sections 3, 13.3 and 19).
 use Rattle.std.specs.Prelude.{◌≡◌, ℕ, Bool, true, false, if◌then◌else◌, ◌&&◌, List, [], ◌∷◌, ◌++◌, map, reverse, flat_map, max, Option, None, Some, nat_le, ⊤}
 use Rattle.std.specs.List.{list_any, filter}

@@ -1,3 +1,4 @@
+-- Trusted.
 -- What a packet may hold (RFC 9000, sections 2.2, 4, 13.2 and 13.3).
 use Rattle.std.specs.Prelude.{◌≡◌, ◌≢◌, ℕ, ◌+◌, ◌<◌, ◌≤◌, Bool, true, false, List, [], ◌∷◌, ◌++◌, ◌⊎◌, length, Some, None}
 use Rattle.std.specs.FinMap as fmap

@@ -1,3 +1,4 @@
+-- Of laws.
 -- Laws on ends and their calls.
 use Rattle.std.specs.Prelude.{◌≡◌, ℕ, ◌≤◌, Bool, true, false, List, ◌++◌, None, is_some, Result, Ok, Err}
 use Rattle.std.specs.FinMap as fmap

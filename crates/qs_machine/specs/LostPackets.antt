@@ -1,3 +1,4 @@
+-- Trusted.
 -- What is kept of the packets that were declared lost: a late ACK may still name them (RFC 9000, section 13.3, for the whole file).
 --     LostPackets        the pieces of the packets by number, and the order of their declaring
 --     lost_with k p l    packet k is lost with one piece more

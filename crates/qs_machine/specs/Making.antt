@@ -1,3 +1,4 @@
+-- Trusted.
 -- Packets that are made, packets that are lost, and the payload that tells of a closing (RFC 9000, sections 10.2.3, 12.3 and 13.3).
 use Rattle.std.specs.Prelude.{◌≡◌, ℕ, ◌+◌, ◌<◌, ◌≤◌, List, [], ◌∷◌, ◌++◌, length, take, drop, ◌⊎◌, Option, None, Some, is_some, is_none, Result, Ok, Err, nat_le, MatchBool}
 use Rattle.std.specs.List.{AllByRecursion}

@@ -1,3 +1,4 @@
+-- Trusted.
 -- Which frame may run out of memory, and at which end: memory is refused only where it is asked for (ours for the whole file: RFC 9000
 -- says nothing of want of memory; by section 13.1 a packet of which some frame took no effect isn't acknowledged).
 use Rattle.std.specs.Prelude.{◌≡◌, ℕ, ◌+◌, ◌-◌, ◌<◌, false, IsTrue, length, ◌⊎◌, Option, None, Some, is_some, ⊤}

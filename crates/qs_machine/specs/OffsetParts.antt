@@ -1,3 +1,4 @@
+-- Of laws.
 -- Where each written offset of a sending half stands (RFC 9000, section 13.3).
 use Rattle.std.specs.Prelude.{◌≡◌, ℕ, ◌<◌, true, false, ◌⊎◌, None}
 use Rattle.std.specs.FinSet as set

@@ -1,3 +1,4 @@
+-- Of private contracts.
 -- The sending side of an end: its sending halves, its packets, and what was acknowledged of them.
 use Rattle.std.specs.Prelude.{◌≡◌, ℕ, ◌+◌, ◌-◌, ◌<◌, ◌≤◌, ◌↔◌, Bool, true, false, if◌then◌else◌, List, [], ◌∷◌, ◌++◌, length, map, Option, None, Some, is_some, ⊤, IsTrue}
 use Rattle.std.specs.FinMap as fmap

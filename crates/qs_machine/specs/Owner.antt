@@ -1,3 +1,4 @@
+-- Trusted.
 -- The calls of an end's owner on streams: what each answers and leaves (RFC 9000, sections 2.4 and 3, for the whole
 -- file). As each ends, the limits move.
 use Rattle.std.specs.Prelude.{◌≡◌, ℕ, ◌+◌, ◌*◌, ◌<◌, Bool, List, [], ◌⊎◌, length, take, max, Option, None, Some, is_some, Result, Ok, Err, nat_le, nat_lt, MatchBool, if◌then◌else◌}

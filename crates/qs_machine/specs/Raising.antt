@@ -1,3 +1,4 @@
+-- Trusted.
 -- Limits that rise after an end was made: a client that began with those that it remembered takes in those of the handshake (RFC 9000,
 -- section 7.4.1, for the whole file).
 use Rattle.std.specs.Prelude.{◌≡◌, ℕ, map, max, Option, option_map, is_some, Result, Ok}

@@ -1,3 +1,4 @@
+-- Trusted.
 -- What comes of a payload that arrives under a packet number (RFC 9000, sections 10.2, 11.1, 12.3, 12.4 and 13.1).
 use Rattle.std.specs.Prelude.{◌≡◌, ℕ, ◌+◌, ◌-◌, Bool, false, ◌||◌, List, [], ◌∷◌, take, slice_get, ◌⊎◌, Option, None, Some, Result, Ok, Err, nat_lt, MatchBool}
 use Rattle.std.specs.FinSet as set

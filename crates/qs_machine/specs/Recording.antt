@@ -1,3 +1,4 @@
+-- Trusted.
 -- Which processed packet numbers are kept (RFC 9000, sections 13.2.3 and 13.2.4, for the whole file).
 use Rattle.std.specs.Prelude.{ℕ, Bool, ◌||◌, List, [], ◌∷◌, min, nat_lt, if◌then◌else◌}
 use Rattle.std.specs.FinSet as set

@@ -1,3 +1,4 @@
+-- Of laws.
 -- What frames find that took effect and come again.
 use Rattle.std.specs.Prelude.{◌≡◌, ℕ, ◌+◌, ◌≤◌, ⊤, ◌⊎◌, Bool, List, Option, None, Some, Result, Ok, Err}
 use Rattle.qs_wire.specs.Layout.{PlacedValue}

@@ -1,3 +1,4 @@
+-- Trusted.
 -- What an end tells of itself (RFC 9000, sections 3.1 and 3.2, for the whole file).
 use Rattle.std.specs.Prelude.{ℕ, Option, None, Some, option_map}
 use Rattle.qs_recv.specs.Lane.{RecvLane, highest, state as recv_state}

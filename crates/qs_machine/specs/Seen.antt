@@ -1,3 +1,4 @@
+-- Trusted.
 -- What an end reads of a frame (RFC 9000, section 19, for the whole file).
 use Rattle.std.specs.Prelude.{ℕ, Bool, true, false, List, [], ◌∷◌, ◌||◌, map}
 use Rattle.qs_wire.specs.Layout.{FrameValue, padding, ping, ack, reset_stream, stop_sending, crypto, new_token, stream, max_data, max_stream_data, max_streams, data_blocked, stream_data_blocked, streams_blocked, new_connection_id, retire_connection_id, path_challenge, path_response, connection_close, application_close, handshake_done, ack_ranges_of}

@@ -1,3 +1,4 @@
+-- Of laws.
 -- How limits stand between calls (RFC 9000, sections 4.1 and 4.2).
 use Rattle.std.specs.Prelude.{◌≡◌, ℕ, None, Some, Ok}
 use Rattle.qs_wire.specs.declared.stream_id.Role.{Role}

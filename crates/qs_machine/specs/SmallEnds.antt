@@ -1,3 +1,4 @@
+-- Of laws.
 -- Small ends, and halves of a stream, of which exclusions speak.
 use Rattle.std.specs.Prelude.{ℕ, Bool, true, false, List, [], ◌∷◌, Some}
 use Rattle.std.specs.FinMap as fmap

@@ -1,3 +1,4 @@
+-- Of public contracts.
 -- What holds of an end at all times, and what no call takes back (RFC 9000, section 4.1).
 use Rattle.std.specs.Prelude.{◌≡◌, ℕ, ◌+◌, ◌-◌, ◌≤◌, true, ⊤, Option, None, Some}
 use Rattle.std.specs.FinMap as fmap

@@ -1,3 +1,4 @@
+-- Of private contracts.
 -- Sums over the streams of an end, and lists of streams as tables.
 use Rattle.std.specs.Prelude.{ℕ, ◌+◌, ◌-◌, ◌≤◌, List, [], ◌∷◌, slice_set, slice_index_or, Option, None, Some, ⊤}
 use Rattle.std.specs.List.{sum_by}

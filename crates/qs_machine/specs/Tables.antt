@@ -1,3 +1,4 @@
+-- Trusted.
 -- What an end keeps for each stream, in four lists: by the type of the stream, at its index (RFC 9000, section 2.1, for the whole file).
 use Rattle.std.specs.Prelude.{ℕ, zero, suc, ◌+◌, ◌-◌, ◌*◌, ◌/◌, ◌%◌, List, [], ◌++◌, map, length, slice_get, slice_set, Option, None, Some}
 use Rattle.std.specs.List.{range_with_len, sum_by}

@@ -1,3 +1,4 @@
+-- Of private contracts.
 -- Which control items were acknowledged (RFC 9000, section 13.3).
 use Rattle.std.specs.Prelude.{◌≡◌, true, Some}
 use Rattle.std.specs.FinMap as fmap

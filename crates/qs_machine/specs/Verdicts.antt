@@ -1,3 +1,4 @@
+-- Trusted.
 -- Whether a frame closes the connection, and with which code. The checks stand in the order in which they are made: the state and the
 -- count of the stream, the final size, the stream's credit, the connection's credit, the bytes that are still stored (RFC 9000, sections
 -- 2.2, 4, 19 and 20.1).

@@ -1,3 +1,4 @@
+-- Of laws.
 -- Laws on sets of numbers and their runs.
 use Rattle.std.specs.Prelude.{◌≡◌, ℕ, ◌+◌, ◌-◌, ◌<◌, ◌≤◌, ◌↔◌, IsTrue, false, All}
 use Rattle.std.specs.FinSet as set

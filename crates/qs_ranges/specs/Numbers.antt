@@ -1,3 +1,4 @@
+-- Trusted.
 -- Sets of numbers, as contracts see them. The whole file is ours: the numbers are offsets of streams and packet numbers (RFC 9000,
 -- sections 2.2 and 12.3).
 use Rattle.std.specs.Prelude.{◌≡◌, ℕ, suc, zero, ◌+◌, ◌-◌, ◌<◌, ◌≤◌, Bool, false, IsTrue, not, ◌&&◌, ◌||◌, ◌==◌, nat_le, nat_lt, if◌then◌else◌, max, List, [], ◌∷◌}

@@ -1,3 +1,4 @@
+-- Trusted.
 -- What an assembly holds of a stream, however it keeps it (RFC 9000, section 2.2, for the whole file).
 --     Assembled      the bytes that are still to be read, by offset; every offset that came; how many bytes were read; how far past
 --                    these the next ones may lie; and whether bytes are thrown away

@@ -1,3 +1,4 @@
+-- Trusted.
 -- The receiving lane of a stream (RFC 9000, section 3.2), and what each call on it answers and leaves.
 use Rattle.std.specs.Prelude.{ℕ, ◌+◌, ◌/◌, Bool, true, false, not, if◌then◌else◌, ◌&&◌, ◌||◌, ◌==◌, nat_le, nat_lt, max, min, List, [], length, Option, None, Some, is_some, unwrap_or, Result, Ok, Err, refl}
 use Rattle.std.specs.Coded.{Coded, code_by, coded×, coded_ℕ, coded_bool, coded_option}

@@ -1,3 +1,4 @@
+-- Of public contracts.
 -- What holds of a receiving lane at all times.
 use Rattle.std.specs.Prelude.{◌≡◌, ℕ, ◌+◌, ◌≤◌, ◌^◌, true, ◌||◌, is_some}
 use Rattle.std.specs.FinMap as map

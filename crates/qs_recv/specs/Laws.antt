@@ -1,3 +1,4 @@
+-- Of laws.
 -- Laws on receiving lanes and the calls that change them.
 use Rattle.std.specs.Prelude.{◌≡◌, ℕ, ◌-◌, ◌≤◌, ◌^◌, Bool, true, List, length, slice_get, Some, IsOk, ◌↔◌}
 use Rattle.std.specs.FinMap as map

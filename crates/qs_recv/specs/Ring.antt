@@ -1,3 +1,4 @@
+-- Of private contracts.
 -- Bytes kept in a ring, and the map of bytes that they stand for. The byte of an offset stands at the offset modulo the ring's size.
 --     ring_bytes, stored_in_ring      each byte under its offset
 --     IsRing       what holds of a ring assembly's fields at all times

@@ -1,3 +1,4 @@
+-- Of public contracts.
 -- What holds of the fields of a receiving half at all times.
 use Rattle.std.specs.Prelude.{◌≡◌, ℕ, ◌≤◌, Option, IfSome}
 use Rattle.qs_ranges.specs.Numbers.{MAX_VARINT, end_of}

@@ -1,3 +1,4 @@
+-- Of laws.
 -- What a rest excludes: beside ends that are at rest, one that isn't for each reason.
 use Rattle.std.specs.Prelude.{true, [], Some}
 use Rattle.qs_wire.specs.declared.stream_id.Role.{Role}

@@ -1,3 +1,4 @@
+-- Of laws.
 -- What holds of an end in every run, beside the invariant of qs_runs: what was acknowledged was told, and what was told took effect.
 use Rattle.std.specs.Prelude.{◌≡◌, ℕ, ◌<◌, ◌≤◌, true, ◌⊎◌, List, Some, is_some, slice_get}
 use Rattle.std.specs.List.{AllByRecursion}

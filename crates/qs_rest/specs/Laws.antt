@@ -1,3 +1,4 @@
+-- Of laws.
 -- Laws of one end: what was wanted is told until the peer knows it, and a stop gives back credit.
 use Rattle.std.specs.Prelude.{◌≡◌, ℕ, ◌⊎◌, Some}
 use Rattle.qs_recv.specs.Lane.{RecvLane, highest, taken}

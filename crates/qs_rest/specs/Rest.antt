@@ -1,3 +1,4 @@
+-- Of laws.
 -- Two ends at rest (the whole file is ours, but that each clause names its section of RFC 9000).
 use Rattle.std.specs.Prelude.{◌≡◌, ℕ, true, ⊤, Some}
 use Rattle.qs_recv.specs.Lane.{RecvLane, read_answer}

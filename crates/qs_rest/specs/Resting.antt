@@ -1,3 +1,4 @@
+-- Of laws.
 -- What holds of two ends at rest, in every run.
 use Rattle.std.specs.Prelude.{◌≡◌, ℕ, ◌<◌, true, false, ◌⊎◌, None, Some, is_some}
 use Rattle.std.specs.FinMap as fmap

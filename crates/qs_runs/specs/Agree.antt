@@ -1,3 +1,4 @@
+-- Trusted.
 -- What two ends agree on, whatever happens to them and to their packets.
 use Rattle.std.specs.Prelude.{◌≡◌, ◌≢◌, ℕ, ◌+◌, ◌<◌, ◌≤◌, true, List, ◌++◌, length, None, Some, ⊤}
 use Rattle.std.specs.List.{AllByRecursion}

@@ -1,3 +1,4 @@
+-- Of laws.
 -- What the invariant says of two ends together: six clauses of a stream as side s sends it and the other side receives it, and four of
 -- the connection.
 use Rattle.std.specs.Prelude.{◌≡◌, ℕ, ◌+◌, ◌<◌, ◌≤◌, Bool, true, List, length, ◌⊎◌, Option, None, Some, is_some, slice_get, if◌then◌else◌}

@@ -1,3 +1,4 @@
+-- Of laws.
 -- What is read off a small log.
 use Rattle.std.specs.Prelude.{◌≡◌, ℕ, true, false, [], ◌∷◌, None, Some, Ok}
 use Rattle.std.specs.Global.{Vec}

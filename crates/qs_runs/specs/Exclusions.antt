@@ -1,3 +1,4 @@
+-- Of laws.
 -- What two ends that agree exclude: beside each clause a small history, and a world, that lacks it (RFC 9000, sections 2.2, 3 and 4).
 use Rattle.std.specs.Prelude.{◌≡◌, ℕ, true, false, [], ◌∷◌, None, Some, Ok}
 use Rattle.std.specs.Global.{Vec}

@@ -1,3 +1,4 @@
+-- Of laws.
 -- The invariant of a run. It is local: it speaks of one end, of the calls of its owner, of what it processed, and of the packets that
 -- it and its peer made. What the two ends have in common follows from the two halves (Agreement).
 use Rattle.std.specs.Prelude.{◌≡◌, ℕ, ◌+◌, ◌/◌, ◌<◌, ◌≤◌, Bool, true, false, List, [], ◌⊎◌, length, drop, Option, Some, None, is_some, slice_get, if◌then◌else◌}

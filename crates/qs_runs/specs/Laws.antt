@@ -1,3 +1,4 @@
+-- Of laws.
 -- Laws on two ends: the invariant, its clauses, and what agrees.
 use Rattle.std.specs.Prelude.{◌≡◌, ℕ, [], ◌∷◌, Ok}
 use Rattle.qs_calls.specs.declared.settings.Settings.{Settings}

@@ -1,3 +1,4 @@
+-- Trusted.
 -- What can be read off a log: what was written, read, made and processed. The whole file is ours:
 -- RFC 9000 has no log.
 use Rattle.std.specs.Prelude.{ℕ, Bool, true, false, not, ◌&&◌, ◌==◌, List, [], ◌∷◌, ◌++◌, take, Option, Some, Ok, slice_get, if◌then◌else◌}

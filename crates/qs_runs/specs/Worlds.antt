@@ -1,3 +1,4 @@
+-- Trusted.
 -- Two ends, each of which was told the other's limits, and what may happen to them. The whole file is ours, but that an
 -- end is the client, the other the server, and each knows the other's limits (RFC 9000, sections 2.1 and 18.2).
 use Rattle.std.specs.Prelude.{◌≡◌, ℕ, List, [], ◌∷◌, Some, Result, Ok, Err}

@@ -1,3 +1,4 @@
+-- Of public contracts.
 -- An ACK is taken in by one pass over the slots of the records, from the highest number down (RFC 9000, sections 13.3 and 19.3).
 --     Passing            how far the pass has come
 --     IsAhead p k        the ranges name number k, and the pass has not come to it

@@ -1,3 +1,4 @@
+-- Of private contracts.
 -- Records of packets in a list that rises by number, and what it holds as a map.
 --     Numbered            a record
 --     Listed              the records, and how many more there is memory for

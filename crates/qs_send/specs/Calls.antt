@@ -1,3 +1,4 @@
+-- Of laws.
 -- The calls that change a half, as one list, for the laws.
 use Rattle.std.specs.Prelude.{◌≡◌, ℕ, ◌≤◌, List, length, None}
 use Rattle.qs_ranges.specs.Numbers.{MAX_VARINT}

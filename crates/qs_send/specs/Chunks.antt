@@ -1,3 +1,4 @@
+-- Of public contracts.
 -- Which chunks a lane may send (RFC 9000, sections 2.2 and 19.8).
 use Rattle.std.specs.Prelude.{◌≡◌, ℕ, ◌+◌, ◌≤◌, ◌<◌, true, IsTrue, if◌then◌else◌, ◌&&◌, ◌||◌, ◌==◌, nat_lt}
 use Rattle.qs_ranges.specs.Numbers.{ContainsRange, MissesRange}

@@ -1,3 +1,4 @@
+-- Trusted.
 -- The sending lane of a stream, what of it is due, and what each call leaves.
 use Rattle.std.specs.Prelude.{ℕ, ◌+◌, ◌-◌, Bool, true, false, not, if◌then◌else◌, ◌&&◌, ◌||◌, ◌==◌, nat_lt, max, min, List, [], ◌++◌, length, take, drop, Option, None, Some, is_some, Result, Ok, Err, refl}
 use Rattle.std.specs.Coded.{Coded, code_by, coded×, coded_ℕ, coded_bool, coded_option, coded_list}

@@ -1,3 +1,4 @@
+-- Of laws.
 -- Laws on halves and chunks.
 use Rattle.std.specs.Prelude.{◌≡◌, ℕ, ◌+◌, ◌-◌, ◌≤◌, ◌<◌, ◌⊎◌, ◌↔◌, Bool, true, IsTrue, if◌then◌else◌, nat_lt, max, List, length, Some, None}
 use Rattle.std.specs.FinSet as set

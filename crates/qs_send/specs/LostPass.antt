@@ -1,3 +1,4 @@
+-- Of public contracts.
 -- A late ACK is taken in by one pass over the lost records, from the highest number down (RFC 9000, section 13.3).
 --     count_below order n      how many numbers of the order are below n
 --     lost_ahead p l           how many turns the pass may still take

@@ -1,3 +1,4 @@
+-- Trusted.
 -- What the packets carried that were declared lost, of which the latest stay (RFC 9000, section 13.3, for the whole file).
 --     Lost            the pieces of the packets, the order of their declaring, and for which number there is room
 --     IsOrderOf m order      the order has exactly the numbers that are held

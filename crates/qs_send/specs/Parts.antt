@@ -1,3 +1,4 @@
+-- Of laws.
 -- The three parts of the written offsets: acknowledged, due and in flight.
 use Rattle.std.specs.Prelude.{◌≡◌, ℕ, ◌+◌, Bool, true, false, if◌then◌else◌, is_some, length}
 use Rattle.std.specs.FinSet as set

@@ -1,3 +1,4 @@
+-- Of private contracts.
 -- Pieces as numbers, so that they can be part of what contracts see of a value.
 use Rattle.std.specs.Prelude.{◌≡◌, ℕ, zero, suc, Bool, ◌⊎◌, refl}
 use Rattle.std.proofs.Common.{inl, inr}

@@ -1,3 +1,4 @@
+-- Trusted.
 -- What the outstanding packets carried, by packet number (RFC 9000, section 13.3, for the whole file).
 --     Recorded      the pieces of the packets; which numbers have slots; and below which number there is room
 --     without_first, first_piece      a packet without its first piece, and that piece

@@ -1,3 +1,4 @@
+-- Of public contracts.
 -- What holds of a sending lane at all times.
 use Rattle.std.specs.Prelude.{◌≡◌, ℕ, ◌+◌, ◌≤◌, Bool, true, false, length, Option, Some, is_some, IfSome}
 use Rattle.std.specs.FinSet as set

@@ -1,3 +1,4 @@
+-- Of public contracts.
 -- Which sending lanes take bytes now (RFC 9000, sections 2.2, 2.4 and 3.1).
 use Rattle.std.specs.Prelude.{Bool, ◌&&◌, is_none, nat_lt}
 use Rattle.qs_send.specs.Lane.{SendLane, accepted, refusal}

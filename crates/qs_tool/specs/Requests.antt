@@ -1,3 +1,4 @@
+-- Of public contracts.
 -- What the program can be asked to do.
 use Rattle.std.specs.Prelude.{◌≡◌, true, ⊤}
 use Rattle.qs_calls.specs.Settings.{are_in_range}

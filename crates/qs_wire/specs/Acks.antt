@@ -1,3 +1,4 @@
+-- Of public contracts.
 -- The ACK frames that this crate makes, of half-open ranges of packet numbers, the highest first.
 use Rattle.std.specs.Prelude.{ℕ, ◌+◌, ◌-◌, ◌^◌, ◌<◌, ◌≤◌, List, [], ◌∷◌, length, None}
 use Rattle.qs_wire.specs.Layout.{FrameValue, ack, ack_ranges_of}

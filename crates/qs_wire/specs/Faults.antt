@@ -1,3 +1,4 @@
+-- Trusted.
 -- The code and the number of each fault.
 use Rattle.std.specs.Prelude.{ℕ}
 use Rattle.qs_wire.specs.declared.fault.FaultKind.{FaultKind}

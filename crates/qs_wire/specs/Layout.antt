@@ -1,3 +1,4 @@
+-- Trusted.
 -- The frames, and the fields of each (RFC 9000, section 19, for the whole file).
 use Rattle.std.specs.Prelude.{ℕ, ◌+◌, ◌-◌, ◌*◌, ◌==◌, Bool, true, false, List, [], ◌∷◌, Option, Some, None, nat_le, ◌&&◌, not, bit_and, if◌then◌else◌}
 use Rattle.qs_wire.specs.declared.frame.EcnCounts.{EcnCounts}

@@ -1,3 +1,4 @@
+-- Trusted.
 -- Reading from left to right, with the first fault that is met (RFC 9000, sections 12.4, 16 and 19, for the whole file).
 use Rattle.std.specs.Prelude.{◌≡◌, ℕ, zero, suc, ◌+◌, ◌-◌, ◌*◌, ◌^◌, ◌<◌, List, [], ◌∷◌, length, take, drop, Option, Some, None, Result, Ok, Err, nat_lt, nat_le, ◌==◌, ◌&&◌, if◌then◌else◌}
 use Rattle.qs_wire.specs.declared.fault.FaultKind.{FaultKind}

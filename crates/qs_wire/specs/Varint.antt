@@ -1,3 +1,4 @@
+-- Trusted.
 -- Numbers of variable length: the two top bits of the first byte tell how many bytes there are
 -- (RFC 9000, section 16, for the whole file).
 use Rattle.std.specs.Prelude.{◌≡◌, ℕ, zero, suc, ◌+◌, ◌*◌, ◌^◌, ◌<◌, ◌%◌, List, [], ◌∷◌, length, drop, Option, Some, None, nat_lt, if◌then◌else◌}

@@ -1,3 +1,4 @@
+-- Of private contracts.
 -- The fields of a canonical text, and what a write into the middle of a slice leaves.
 use Rattle.std.specs.Prelude.{◌≡◌, ℕ, ◌+◌, ◌^◌, ◌<◌, ◌≤◌, List, [], ◌++◌, length, take, drop}
 use Rattle.qs_wire.specs.declared.writing.Part.{Part}

@@ -1,3 +1,4 @@
+-- Of private contracts.
 -- What a call answers with bytes: how many there may be, and how many there are.
 use Rattle.std.specs.Prelude.{ℕ, Option, Some, Result, Ok}
 use Rattle.qs_recv.specs.declared.half.Read.{Read}

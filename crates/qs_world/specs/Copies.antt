@@ -1,3 +1,4 @@
+-- Of public contracts.
 -- Of copies: what is the same but for where its bytes lie in memory. No statement on `play` rests on this file.
 use Rattle.std.specs.Prelude.{◌≡◌, List, [], ◌∷◌, reverse, ⊤}
 use Rattle.qs_calls.specs.declared.event.Act.{Act}

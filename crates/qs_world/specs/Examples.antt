@@ -1,3 +1,4 @@
+-- Of laws.
 -- A run of one step, and printed lines of small reports.
 use Rattle.std.specs.Prelude.{◌≡◌, true, false, [], ◌∷◌, codes, None, Some, Ok, Err}
 use Rattle.qs_wire.specs.declared.stream_id.Dir.TheVariants.{Bidi}

@@ -1,3 +1,4 @@
+-- Of private contracts.
 -- The lanes of a world, stream by stream, as both ends report them.
 use Rattle.std.specs.Prelude.{ℕ, List, ◌++◌, Option, None, Some, unwrap_or}
 use Rattle.std.specs.List.{flat_map, range_with_len}

@@ -1,3 +1,4 @@
+-- Of private contracts.
 -- A log in which a payload is found by its number: for each end the places of its payloads are kept.
 use Rattle.std.specs.Prelude.{◌≡◌, ℕ, Bool, true, false, ◌&&◌, List, [], ◌∷◌, reverse, Option, None, Some, Ok, ⊤, slice_get, refl}
 use Rattle.std.specs.Coded.{Coded, code_by, coded×, coded_bool, coded_list}

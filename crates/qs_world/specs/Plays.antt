@@ -1,3 +1,4 @@
+-- Trusted.
 -- Events are played: what two ends have come to, and what happened to them. The whole file is ours:
 -- RFC 9000 has no runs.
 use Rattle.std.specs.Prelude.{◌≡◌, suc, List, [], ◌∷◌, ◌++◌, length, map, reverse, None, Result, Ok, Err, ⊤, refl}

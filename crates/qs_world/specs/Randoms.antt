@@ -1,3 +1,4 @@
+-- Of public contracts.
 -- Scripts of random events.
 use Rattle.std.specs.Prelude.{◌≡◌, ℕ, List, [], ◌∷◌, length, map, reverse, true}
 use Rattle.std.specs.List.{list_all}

@@ -1,3 +1,4 @@
+-- Trusted.
 -- What is reported of a world. The whole file is ours; what it tells are the states, sizes and credit of RFC 9000, sections 3 and 4.
 use Rattle.std.specs.Prelude.{◌≡◌, ℕ, ◌*◌, Bool, true, false, List, [], ◌∷◌, ◌++◌, length, max, reverse, Option, None, Some}
 use Rattle.std.specs.List.{flat_map, range_with_len}

@@ -1,3 +1,4 @@
+-- Of public contracts.
 -- The language of scripts: which events a text says, or which of its lines is no event and why.
 use Rattle.std.specs.Prelude.{◌≡◌, ◌⊎◌, ◌<◌, ◌≤◌, ℕ, suc, ◌+◌, ◌*◌, ◌==◌, ◌&&◌, ◌||◌, nat_le, nat_eq, Bool, true, false, List, [], ◌∷◌, length, filter, map, codes, if◌then◌else◌, Option, None, Some, Result, Ok, Err, IsOk, ◌++◌, option_to_list}
 use Rattle.std.specs.Cmp.Lexicographic.{pointwise}
