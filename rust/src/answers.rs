@@ -54,6 +54,9 @@ pub struct Made {
     pub number: u64,
     /// The length of its payload in bytes.
     pub len: usize,
+    /// Whether it asks for an ACK: it holds a frame other than an ACK (RFC 9000, section 13.2.1). One that doesn't isn't in
+    /// flight for congestion control (RFC 9002, section 2), and can't be declared lost.
+    pub is_ack_eliciting: bool,
 }
 
 /// How the halves of a stream stand at an end.
@@ -181,6 +184,7 @@ impl Made {
         Made {
             number: made.number,
             len: made.len,
+            is_ack_eliciting: made.is_ack_eliciting,
         }
     }
 }

@@ -228,6 +228,31 @@ impl Endpoint {
         }
     }
 
+    /// Makes the next packet, of an ACK alone; `None` where none is due. It names the highest numbers that came, as many
+    /// ranges as there is room for, and tells this delay, below 2^62, in the unit of the ack_delay_exponent that the peer
+    /// was told (RFC 9000, sections 13.2 and 19.3). Such a packet isn't in flight, so it may go where the congestion window
+    /// is full (RFC 9002, sections 2 and 7), and it can't be declared lost. What else is due stays due. It takes no memory.
+    ///
+    /// # Errors
+    ///
+    /// `Invalid` where the room isn't of 128 to 16,383 bytes, or the delay is 2^62 or more; `Closed`; and `Exhausted` where
+    /// the last packet number was used (section 12.3). Then nothing changed.
+    pub fn make_ack(&mut self, delay: u64, out: &mut [u8]) -> Result<Option<Made>, MakeFault> {
+        if out.len() < MIN_ROOM || out.len() > MAX_ROOM || delay > MAX_VARINT {
+            return Err(MakeFault::Invalid);
+        }
+        match self.inner.make_ack(delay, out) {
+            Ok(made) => Ok(made.map(Made::of)),
+            Err(fault) => Err(MakeFault::of(fault)),
+        }
+    }
+
+    /// Whether an ACK is due: from the first packet that came and asks for one on, until one was made (RFC 9000, section
+    /// 13.2).
+    pub fn ack_is_due(&self) -> bool {
+        self.inner.ack_is_due()
+    }
+
     /// Uses up the next packet number for a packet that the layer beneath makes by itself, and answers it (RFC 9000,
     /// section 12.3). To this end it is a packet without content: an ACK may name it, and it can't be declared lost.
     /// It works on a closed end, too.

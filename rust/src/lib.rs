@@ -23,8 +23,9 @@
 //! Each payload that it hands to `receive` is that of an authenticated packet of the application's number space, with
 //! its full packet number. It sends each payload that was made under the number that was told, in a packet of its own,
 //! once; and it declares a packet lost (RFC 9002, section 6) so that what it carried goes out again. It calls
-//! `make_packet` only where the congestion window allows a packet. The limits of each end go to the other one in the
-//! handshake ([`Settings::limits`], [`PeerLimits`]).
+//! `make_packet` only where the congestion window allows a packet; where it doesn't, a packet of an ACK alone may go still
+//! ([`Endpoint::make_ack`]). The limits of each end go to the other one in the handshake ([`Settings::limits`],
+//! [`PeerLimits`]).
 //!
 //! # What was proved, and of what
 //!

@@ -149,3 +149,40 @@ fn an_ack_tells_its_delay() {
         assert_eq!(refused, Err(MakeFault::Invalid));
     }
 }
+
+#[test]
+fn an_ack_alone_leaves_what_is_due() {
+    let ([mut client, mut server], streams) = writers();
+    let mut payload = [0; 1200];
+    assert!(!server.ack_is_due());
+    assert_eq!(server.make_ack(3, &mut payload), Ok(None));
+    let back = server.open(Dir::Uni).expect("a stream");
+    assert_eq!(server.write(back, b"back"), Ok(4));
+    let made = client
+        .make_packet(&mut payload)
+        .expect("open")
+        .expect("due");
+    assert!(made.is_ack_eliciting);
+    let received = server.receive(made.number, &payload[..made.len]);
+    assert_eq!(received, Ok(Received::Done));
+    assert!(server.ack_is_due());
+    let made = server
+        .make_ack(3, &mut payload)
+        .expect("open")
+        .expect("due");
+    assert!(!made.is_ack_eliciting);
+    assert_eq!(payload[..made.len], [0x02, 0, 3, 0, 0]);
+    assert!(!server.ack_is_due());
+    assert_eq!(server.make_ack(3, &mut payload), Ok(None));
+    let made = server
+        .make_packet(&mut payload)
+        .expect("open")
+        .expect("due");
+    assert!(made.is_ack_eliciting);
+    assert_eq!(last_stream(&payload[..made.len]), Some(back));
+    assert_eq!(
+        server.make_ack(1 << 62, &mut payload),
+        Err(MakeFault::Invalid)
+    );
+    assert!(streams.is_sorted());
+}

@@ -2,11 +2,13 @@
 
 use thiserror::Error;
 
-/// A packet that was made: its number, and the length of its payload in bytes.
+/// A packet that was made: its number, the length of its payload in bytes, and whether it asks for an ACK: whether it holds a frame other
+/// than an ACK (RFC 9000, section 13.2.1).
 #[derive(Clone, Copy, Debug, PartialEq, Eq, Drop)]
 pub struct Made {
     pub number: u64,
     pub len: usize,
+    pub is_ack_eliciting: bool,
 }
 
 /// Why no packet was made.

@@ -23,7 +23,7 @@ use Rattle.qs_machine.specs.Seen.{Ack, seen}
 use Rattle.qs_machine.specs.FrameStep.{is_named}
 use Rattle.qs_machine.specs.Lawful.{MayAck, Fills, AreInTurn, frame_put}
 use Rattle.qs_machine.specs.Making.{IsText, IsPlainAck, NamesMost}
-use Rattle.qs_conn.specs.Filling.{InPacket, Begun, IsPassed, no_slot}
+use Rattle.qs_conn.specs.Filling.{InPacket, IsAckText, Begun, IsPassed, no_slot}
 use Rattle.qs_conn.proofs.Texts.{no_text, text_push, ack_left}
 
 -- How many ranges there are
@@ -201,6 +201,18 @@ module _ (delay : ℕ) (old : End) (runs pairs : Runs) (is : AreRunsOf old.done 
             names_most old delay room pairs n small (taken_ok delay old runs pairs is highest ok due (suc n) up le) some fewer (may_ack delay old runs pairs is highest ok due (suc n) up le) (most (suc n) (omega arith) le))
         | inr all ↦ names_all old delay room (take n pairs) first_ok (all_named delay old runs pairs is highest ok due n some within all)
       ]
+
+  pub ack_alone : (room : ℕ) (text : List ℕ) → text ≡ canonical begins → ((m : ℕ) → n < m → m ≤ length pairs → room < length (canonical (ack_of delay (take m pairs)))) → IsAckText delay room old text
+  ack_alone room text written most =
+      record {
+        frame = begins;
+        spells = subst (IsText delay (begins ∷ [])) (sym written) (text_push delay [] [] begins (no_text delay) (ack_fits delay (take n pairs) small first_ok) (plain delay (take n pairs) first_ok));
+        most = more_than room most;
+        largest = top_of (take n pairs);
+        ranges = map inclusive (take n pairs);
+        is = seen_is delay old runs pairs is highest ok due n some within;
+        may = may_ack delay old runs pairs is highest ok due n some within;
+      }
 
   pub begun_ack : (room : ℕ) (text : List ℕ) → text ≡ canonical begins → ((m : ℕ) → n < m → m ≤ length pairs → room < length (canonical (ack_of delay (take m pairs)))) → all_sent old ≤ old.known_data → ((x : Piece) → InPacket old x → ⊥) →
       Begun delay room old text (record old { ack_due = false }) (IsPassed no_slot)

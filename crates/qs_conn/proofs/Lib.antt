@@ -1,4 +1,5 @@
 pub mod AckLaws
+pub mod AckPackets
 pub mod Allowed
 pub mod Asked
 pub mod Chunks

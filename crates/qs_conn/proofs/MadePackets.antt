@@ -1,5 +1,5 @@
 -- What a call of make_packet leaves.
-use Rattle.std.proofs.Common.{◌≡◌, ℕ, ◌+◌, ◌<◌, ◌≤◌, true, false, List, [], ◌∷◌, length, take, refl, sym, ap, ◌∙◌, subst, arith, None, Some, is_some, nat_le}
+use Rattle.std.proofs.Common.{◌≡◌, ℕ, ◌+◌, ◌<◌, ◌≤◌, Bool, true, false, List, [], ◌∷◌, length, take, refl, sym, ap, ◌∙◌, subst, arith, None, Some, is_some, nat_le}
 use Rattle.std.specs.Prelude.{Ok, Err}
 use Rattle.std.proofs.lemmas.Bool.Decides.{nat_tests}
 use Rattle.std.proofs.lemmas.List.{length-take-le}
@@ -31,7 +31,7 @@ make_exhausted v old first delay room same clear past = subst (λ e. MakeStep e 
     is : make_refusal v ≡ Some making.Exhausted
     is = (let test : nat_le (MAX_VARINT + 1) v.next ≡ true = grind (arith, nat_tests, past) in rw (clear, test) refl)
 
-no_refusal : (v : End) → is_some v.closed ≡ false → v.next ≤ MAX_VARINT → make_refusal v ≡ None
+pub no_refusal : (v : End) → is_some v.closed ≡ false → v.next ≤ MAX_VARINT → make_refusal v ≡ None
 no_refusal v clear le = (let test : nat_le (MAX_VARINT + 1) v.next ≡ false = grind (arith, nat_tests, le) in rw (clear, test) refl)
 
 -- nothing is in a packet that isn't in the making
@@ -85,12 +85,12 @@ module _ (v old : End) (same : v ≡ old) (t : Terms) (o o' : Outgoing) (spare f
   idle_none enough none = (let (quiet, is) = none_is enough none in ap (λ (x : End). fmap.get x.outstanding x.next) is ∙ idle)
 
   -- it had some
-  pub make_some : (new : End) (o'' : Outgoing) (number : ℕ) → is_some v.closed ≡ false → v.next ≤ MAX_VARINT → 0 < len → len ≤ room → length out ≡ room → number ≡ v.next → o'' ≡ record o' { next = o'.next + 1; spare = 0 } →
-      new ≡ settle (with_outgoing o'' (record v { ack_due = false })) → MakeStep old first delay room (Ok (Some (record { number = number; len = len }))) (take len out) new
-  make_some new o'' number clear le some within count is after settled =
+  pub make_some : (new : End) (o'' : Outgoing) (number : ℕ) (asks : Bool) → asks ≡ is_some (fmap.get o'.outstanding o'.next) → is_some v.closed ≡ false → v.next ≤ MAX_VARINT → 0 < len → len ≤ room → length out ≡ room → number ≡ v.next → o'' ≡ record o' { next = o'.next + 1; spare = 0 } →
+      new ≡ settle (with_outgoing o'' (record v { ack_due = false })) → MakeStep old first delay room (Ok (Some (record { number = number; len = len; is_ack_eliciting = asks }))) (take len out) new
+  make_some new o'' number asks asked clear le some within count is after settled =
       let inside : length (take len out) ≡ len = length-take-le len out (omega (arith, within, count)) in
-      let made = packed_some first delay room v (take len out) filled packed number len is (sym inside) within (λ none. omega (arith, some, inside, ap length none)) in
+      let made = packed_some first delay room v (take len out) filled packed number len asks idle asked is (sym inside) within (λ none. omega (arith, some, inside, ap length none)) in
       let mid : with_outgoing o'' (record v { ack_due = false }) ≡ record filled { next = v.next + 1 } = rw (after, t_is, filled_next) refl in
       let end : new ≡ settle (record filled { next = v.next + 1 }) = settled ∙ ap settle mid in
-      subst (λ e. MakeStep e first delay room (Ok (Some (record { number = number; len = len }))) (take len out) new) same
-      (subst (λ r. MakeAt r v first delay room (Ok (Some (record { number = number; len = len }))) (take len out) new) (sym (no_refusal v clear le)) (subst (IsMade v first delay room (record { number = number; len = len }) (take len out)) (sym end) made))
+      subst (λ e. MakeStep e first delay room (Ok (Some (record { number = number; len = len; is_ack_eliciting = asks }))) (take len out) new) same
+      (subst (λ r. MakeAt r v first delay room (Ok (Some (record { number = number; len = len; is_ack_eliciting = asks }))) (take len out) new) (sym (no_refusal v clear le)) (subst (IsMade v first delay room (record { number = number; len = len; is_ack_eliciting = asks }) (take len out)) (sym end) made))

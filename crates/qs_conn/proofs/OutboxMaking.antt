@@ -33,6 +33,11 @@ pub chunk_found : (s : Sending) (room fresh : ℕ) (r : Option Chunk) → IfSome
 chunk_found s room fresh None found none kept = none
 chunk_found s room fresh (Some c) found none kept = (found, kept)
 
+-- the packet in the making has a piece
+pub piece_there : (m : Records) (k : ℕ) (ps : List Piece) (n : ℕ) → n ≡ length ps → AreBelow m k → nat_lt 0 n ≡ is_some (fmap.get (with_pending m k ps) k)
+piece_there m k [] n is below = (let test : nat_lt 0 n ≡ false = grind (arith, nat_tests, is) in test ∙ ap is_some (sym (none_above m k below)))
+piece_there m k (p ∷ ps) n is below = (let test : nat_lt 0 n ≡ true = grind (arith, nat_tests, is) in test ∙ ap is_some (sym (get_new m k (p ∷ ps))))
+
 -- What is due is told by the lane and by what is outstanding
 
 pub unreset : (r : Option Reset) → is_some r ≡ false → r ≡ None

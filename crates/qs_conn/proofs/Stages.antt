@@ -1,5 +1,6 @@
 -- The stages of a packet in the making, and what comes of the last one.
-use Rattle.std.proofs.Common.{◌≡◌, ◌≢◌, ℕ, ◌+◌, ◌-◌, ◌<◌, ◌≤◌, Bool, true, false, List, [], ◌∷◌, ◌++◌, ◌⊎◌, length, refl, sym, ap, ◌∙◌, subst, arith, inl, inr}
+use Rattle.std.proofs.Common.{◌≡◌, ◌≢◌, ℕ, ◌+◌, ◌-◌, ◌<◌, ◌≤◌, Bool, true, false, ◌||◌, List, [], ◌∷◌, ◌++◌, ◌⊎◌, length, refl, sym, ap, ◌∙◌, subst, arith, inl, inr, None, is_some}
+use Rattle.std.specs.FinMap as fmap
 use Rattle.std.proofs.lemmas.Bool.{true≢false}
 use Rattle.std.proofs.lemmas.List.{length-append}
 use Rattle.qs_wire.specs.Layout.{FrameValue}
@@ -12,12 +13,12 @@ use Rattle.qs_send.specs.declared.piece.Piece.TheVariants.{Data, Told}
 use Rattle.qs_conn.specs.declared.slot.Slot.{Slot}
 use Rattle.qs_machine.specs.Ends.{End}
 use Rattle.qs_machine.specs.Credit.{all_sent, settle}
-use Rattle.qs_machine.specs.Seen.{Seen, Ack, Stream, Control, Close, Plain, seen, seen_all}
+use Rattle.qs_machine.specs.Seen.{Seen, Ack, Stream, Control, Close, Plain, seen, seen_all, asks_ack, any_asks}
 use Rattle.qs_machine.specs.Due.{Among, IsCurrent, IsCovered, IsDueItem, StreamGoes, Sendable}
-use Rattle.qs_machine.specs.Lawful.{Fills, AcksAll, IsWhole, IsInTurn, AreInTurn, frame_put}
+use Rattle.qs_machine.specs.Lawful.{MayPut, Fills, AcksAll, IsWhole, IsInTurn, AreInTurn, frame_put}
 use Rattle.qs_machine.specs.Making.{IsMade, NamesMost}
 use Rattle.qs_conn.specs.Filling.{InPacket, slot_of, frame_of_item, no_slot, IsPassed, Begun, Packed}
-use Rattle.qs_conn.proofs.Pieces.{put_packet, among_more, among_last, due_more, end_due_more, item_ack_due}
+use Rattle.qs_conn.proofs.Pieces.{get_new, put_packet, among_more, among_last, due_more, end_due_more, item_ack_due}
 use Rattle.qs_conn.proofs.Items.{current_by_base, acked_by_base, sum_by_base, known_by_base, base_item, fills_push, out_old, out_is}
 use Rattle.qs_conn.proofs.Texts.{all_push, no_text, no_frames, text_push, seen_push, seen_item, item_most, plain_item, control_item}
 
@@ -32,6 +33,32 @@ acks_more old fs f (largest, ranges, there, all) = (largest, ranges, among_more 
 pub turn_push : (first : ℕ) (old e : End) (fs : List Seen) (f : Seen) (mid : End) → Fills old e fs mid → AreInTurn first e fs → IsInTurn first mid f → AreInTurn first e (fs ++ f ∷ [])
 turn_push first old e [] f mid is turns now = (subst (λ x. IsInTurn first x f) is now, tt)
 turn_push first old e (g ∷ fs) f mid (may, rest) (here, turns) now = (here, turn_push first old (frame_put g e) fs f mid rest turns now)
+
+-- Whether a packet asks for an ACK
+
+-- it does once it has a piece
+asks_put : (f : Seen) (old e : End) → MayPut old e f → is_some (fmap.get (frame_put f e).outstanding (frame_put f e).next) ≡ (asks_ack f || is_some (fmap.get e.outstanding e.next))
+unfolding frame_put
+asks_put (Ack largest ranges) old e may = refl
+asks_put (Stream n offset bytes fin) old e may = ap is_some (get_new _ _ _)
+asks_put (Control i) old e may = ap is_some (get_new _ _ _)
+asks_put (Close code) old e may = absurd may
+asks_put (Plain asks) old e may = absurd may
+
+turned : (a b c : Bool) → (a || (b || c)) ≡ ((b || a) || c)
+turned true true c = refl
+turned true false c = refl
+turned false true c = refl
+turned false false c = refl
+
+or_none : (b : Bool) → (b || false) ≡ b
+or_none true = refl
+or_none false = refl
+
+fills_ask : (old e mid : End) (fs : List Seen) → Fills old e fs mid → is_some (fmap.get mid.outstanding mid.next) ≡ (any_asks fs || is_some (fmap.get e.outstanding e.next))
+fills_ask old e mid [] is = ap (λ (x : End). is_some (fmap.get x.outstanding x.next)) is
+fills_ask old e mid (f ∷ fs) (may, rest) =
+    fills_ask old (frame_put f e) mid fs rest ∙ ap (λ b. any_asks fs || b) (asks_put f old e may) ∙ turned (any_asks fs) (asks_ack f) (is_some (fmap.get e.outstanding e.next))
 
 -- Items
 
@@ -225,13 +252,14 @@ module _ (first delay room : ℕ) (old : End) (text : List ℕ) (e : End) (p : P
       (λ goes. elim goes [ inl due ↦ (v.ack due).2 | inr (inl (i, due)) ↦ v.items i due | inr (inr (n, some)) ↦ v.no_stream n some ], fills)
 
   -- a packet with some
-  pub packed_some : (number len : ℕ) → number ≡ old.next → len ≡ length text → len ≤ room → text ≢ [] → IsMade old first delay room (record { number = number; len = len }) text (settle (record e { next = old.next + 1 }))
-  packed_some number len is count fits some =
+  pub packed_some : (number len : ℕ) (asks : Bool) → fmap.get old.outstanding old.next ≡ None → asks ≡ is_some (fmap.get e.outstanding e.next) → number ≡ old.next → len ≡ length text → len ≤ room → text ≢ [] → IsMade old first delay room (record { number = number; len = len; is_ack_eliciting = asks }) text (settle (record e { next = old.next + 1 }))
+  packed_some number len asks idle asked is count fits some =
       record {
         number = is;
         len = count;
         fits = omega (arith, count, fits);
         frames = p.frames;
+        asks = asked ∙ fills_ask old old e (seen_all p.frames) p.fills ∙ ap (λ o. any_asks (seen_all p.frames) || is_some o) idle ∙ or_none (any_asks (seen_all p.frames));
         spells = p.spells;
         acks = p.acks;
         turn = p.turns;

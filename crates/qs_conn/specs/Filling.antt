@@ -1,6 +1,6 @@
 -- Of private contracts.
 -- A packet in the making: what holds of it so far.
-use Rattle.std.specs.Prelude.{◌≡◌, ℕ, ◌+◌, ◌-◌, ◌*◌, ◌<◌, ◌≤◌, ◌^◌, Bool, true, false, List, [], ◌++◌, ◌⊎◌, length, take, Option, None, Some, Result, Ok, Err}
+use Rattle.std.specs.Prelude.{◌≡◌, ℕ, ◌+◌, ◌-◌, ◌*◌, ◌<◌, ◌≤◌, ◌^◌, Bool, true, false, List, [], ◌∷◌, ◌++◌, ◌⊎◌, length, take, Option, None, Some, Result, Ok, Err}
 use Rattle.std.specs.List.{AllByRecursion}
 use Rattle.std.specs.FinMap as fmap
 use Rattle.std.specs.FinSet as set
@@ -26,11 +26,11 @@ use Rattle.qs_conn.specs.declared.slot.Slot.TheVariants as slots
 use Rattle.qs_machine.specs.Tables.{Tables, lookup, each}
 use Rattle.qs_machine.specs.Ends.{End}
 use Rattle.qs_machine.specs.Credit.{all_sent}
-use Rattle.qs_machine.specs.Seen.{Control, seen_all}
+use Rattle.qs_machine.specs.Seen.{Ack, Control, seen, seen_all}
 use Rattle.qs_machine.specs.Due.{Among, IsCurrent, IsDueItem, StreamGoes}
 use Rattle.qs_machine.specs.Outgoing.{Outgoing, sent_sum, HasSending, WantsMore, item_put_out}
 use Rattle.qs_machine.specs.Sums.{or_none}
-use Rattle.qs_machine.specs.Lawful.{Fills, AcksAll, HasAll, AreInTurn, pieces_so_far}
+use Rattle.qs_machine.specs.Lawful.{MayAck, Fills, AcksAll, HasAll, AreInTurn, pieces_so_far}
 use Rattle.qs_machine.specs.Making.{IsText, NamesMost}
 
 -- what an item speaks of
@@ -240,6 +240,16 @@ pub record MayGo (o : Outgoing) (n : ℕ) (c : Chunk) (room : ℕ) : Type 0 wher
   pub chunk : IsDueChunk half c
   pub has : HasBytes half.lane c
   pub fits : frame_len n c.offset c.len ≤ room
+
+-- the text of an ACK alone, of as many kept numbers as the room lets it name
+pub record IsAckText (delay room : ℕ) (old : End) (text : List ℕ) : Type 0 where
+  pub frame : FrameValue
+  pub spells : IsText delay (frame ∷ []) text
+  pub most : NamesMost old delay room frame
+  pub largest : ℕ
+  pub ranges : List (ℕ × ℕ)
+  pub is : seen frame ≡ Ack largest ranges
+  pub may : MayAck old old largest ranges
 
 -- what lets an end make packets: it is within the peer's credit, and an ACK that is due has a number to name, of at most 32 ranges
 pub record IsFunded (sends : Tables SendLane) (known_data : ℕ) (done : NumberSet) (ack_due : Bool) : Type 0 where

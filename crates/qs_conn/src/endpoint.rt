@@ -19,6 +19,7 @@ use qs_wire::{Dir, Frame, Role, StreamId, put};
 use std::alloc::Global;
 use std::marker::Model;
 
+mod ack_alone;
 mod acking;
 mod asking;
 mod claiming;

@@ -17,7 +17,7 @@ ghost use Rattle.qs_machine.specs.Due.{IsCovered};
 ghost use Rattle.qs_machine.specs.Outgoing.{IsCarried, MayTell, sent_sum, on_lane, chunk_put};
 ghost use Rattle.qs_machine.specs.Sums.{or_none};
 ghost use Rattle.qs_conn.specs.Marks.{IsBefore, IsIdle};
-ghost use Rattle.qs_conn.specs.Filling.{frame_of_item, slot_at, end_by, TermsFit, HasSpare, PutsItem, Passed, no_slot, and_slot, and_kind, all_items, Stage, Flow, Packed, InPacket, Begun, IsPassed, MayGo, stream_frame, turn_at, start_of, way_end, IsOnWay};
+ghost use Rattle.qs_conn.specs.Filling.{frame_of_item, slot_at, end_by, TermsFit, HasSpare, PutsItem, Passed, no_slot, and_slot, and_kind, all_items, Stage, Flow, Packed, InPacket, Begun, IsAckText, IsPassed, MayGo, stream_frame, turn_at, start_of, way_end, IsOnWay};
 
 use crate::outbox::Outbox;
 use crate::recv_tables::RecvTables;
@@ -430,6 +430,7 @@ pub(crate) fn put_kept(done: &RangeSet, delay: u64, out: &mut [u8]) -> usize
     requires space { 26 ≤ length out.old }
     ensures begun { (old : End) → old.done ≡ done.now → old.ack_due ≡ true → all_sent old ≤ old.known_data → ((x : Piece) → InPacket old x → ⊥)
         → Begun delay (length out.old) old (take result out.new) (record old { ack_due = false }) (IsPassed no_slot) }
+    ensures alone { (old : End) → old.done ≡ done.now → old.ack_due ≡ true → IsAckText delay (length out.old) old (take result out.new) }
     ensures within { result ≤ length out.new }
     ensures room { length out.new ≡ length out.old }
 {

@@ -34,8 +34,8 @@ use Rattle.qs_machine.specs.FrameStep.{frames_taken}
 use Rattle.qs_machine.specs.Lawful.{Fills, frame_put, item_put, chunk_of}
 use Rattle.qs_machine.specs.Owner.{OpenStep, AcceptStep, ReadBy, recv_refusal, with_wanted, first_refusal, refuse_if, no_half, half_refusal, IsBlocked, IsOpened, GivesNone, GivesBidi, GivesUni, AcceptOpen, peer_kind, next_stream, send_refusal}
 use Rattle.qs_machine.specs.Receiving.{ReceiveBy, TakesPayload, OpenReceive}
-use Rattle.qs_machine.specs.Making.{MakeAt, make_refusal, claim_refusal, LoseStep, first_lost, losses, lose_refusal}
-use Rattle.qs_machine.specs.EndStep.{Call, Answer, EndStep, Open, Accept, Write, Finish, Reset, Stop, ReadUpTo, Receive, Make, Lose, RaiseLimits, Claim, ClosingPayload, Stored, Granted, Spent, GrantedStreams, Report}
+use Rattle.qs_machine.specs.Making.{MakeAt, make_refusal, claim_refusal, LoseStep, first_lost, losses, lose_refusal, MakeAckAt}
+use Rattle.qs_machine.specs.EndStep.{Call, Answer, EndStep, Open, Accept, Write, Finish, Reset, Stop, ReadUpTo, Receive, Make, Lose, RaiseLimits, Claim, ClosingPayload, Stored, Granted, Spent, GrantedStreams, Report, MakeAck}
 use Rattle.qs_calls.specs.declared.settings.PeerLimits.{PeerLimits}
 use Rattle.qs_machine.specs.Raising.{limits_raised, raise_refusal}
 use Rattle.qs_machine.proofs.Raised.{kept_raised}
@@ -102,6 +102,12 @@ module _ (P : End → Type 0) (old : End) (kept : P old) (settles : (mid : End) 
   make_by None first delay room (Err making.Closed) text new step = absurd step
   make_by None first delay room (Err making.Exhausted) text new step = absurd step
 
+  ack_by : (r : Option MakeFault) (delay room : ℕ) (answer : Result (Option Made) MakeFault) (text : List ℕ) (new : End) → MakeAckAt r old delay room answer text new → P new
+  ack_by (Some fault) delay room answer text new step = becomes new step.2
+  ack_by None delay room (Ok (Some made)) text new step = settled step.mid new step.after
+  ack_by None delay room (Ok None) text new step = becomes new step.2
+  ack_by None delay room (Err fault) text new step = absurd step
+
   module _ (loses : (k : ℕ) (ps : List Piece) → P (losses k ps old)) (claims : P (record old { next = old.next + 1 })) where
     lost : (k : ℕ) (ps : List Piece) (new : End) → new ≡ losses k ps old → P new
     lost k ps new same = subst P (sym same) (loses k ps)
@@ -129,6 +135,7 @@ module _ (P : End → Type 0) (old : End) (kept : P old) (settles : (mid : End) 
     ends_by (ReadUpTo n size) answer new step = read_by (recv_refusal old n) n size answer.0 answer.1 new step
     ends_by (Receive k payload) answer new step = receive_by old.closed k payload answer new step
     ends_by (Make first delay room) answer new step = make_by (make_refusal old) first delay room answer.0 answer.1 new step
+    ends_by (MakeAck delay room) answer new step = ack_by (make_refusal old) delay room answer.0 answer.1 new step
     ends_by (Lose k) answer new step = lose_by k answer new step
     ends_by Claim answer new step = by_refusal (P new) (claim_refusal old) old answer new _ step (becomes new) (λ done. subst P (sym done.1) claims)
     ends_by (RaiseLimits p) answer new step =
@@ -309,6 +316,14 @@ module _ (old : End) (sound : IsSound old) (sent : SentWasWritten old) where
   rises_make None first delay room (Err making.Closed) text new step = absurd step
   rises_make None first delay room (Err making.Exhausted) text new step = absurd step
 
+  rises_ack : (r : Option MakeFault) (delay room : ℕ) (answer : Result (Option Made) MakeFault) (text : List ℕ) (new : End) → MakeAckAt r old delay room answer text new → CountsRise old new
+  rises_ack (Some fault) delay room answer text new step = rises_same new step.2
+  rises_ack None delay room (Ok (Some made)) text new m =
+      let (mid, fills, after) = m.lawful.filled in
+      rises_settled m.mid new m.after (subst (Moves old) (sym after) (moves_fills old old (Ack m.largest m.ranges ∷ []) mid fills))
+  rises_ack None delay room (Ok None) text new step = rises_same new step.2
+  rises_ack None delay room (Err fault) text new step = absurd step
+
   -- a half that takes bytes wasn't finished
   half_allowed : (closed other : Bool) (o : Option SendLane) → first_refusal (refuse_if closed uses.Closed) (elim o [ None ↦ Some (no_half other) | Some l ↦ half_refusal (refusal l) ]) ≡ None → (l : SendLane) → o ≡ Some l → refusal l ≡ None
   half_allowed true other o h l is = absurd (none-some uses.Closed (sym h))
@@ -356,6 +371,7 @@ module _ (old : End) (sound : IsSound old) (sent : SentWasWritten old) where
   counts_call (ReadUpTo n size) answer new step = rises_read (recv_refusal old n) n size answer.0 answer.1 new step
   counts_call (Receive k payload) answer new step = rises_receive old.closed k payload answer new step
   counts_call (Make first delay room) answer new step = rises_make (make_refusal old) first delay room answer.0 answer.1 new step
+  counts_call (MakeAck delay room) answer new step = rises_ack (make_refusal old) delay room answer.0 answer.1 new step
   counts_call (Lose k) answer new step = rises_lose k answer new step
   counts_call Claim answer new step =
       by_refusal (CountsRise old new) (claim_refusal old) old answer new _ step (rises_same new) (λ done. subst (CountsRise old) (sym done.1) (λ d. omega (arith, granted_claimed old d)))

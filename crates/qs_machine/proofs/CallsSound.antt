@@ -37,8 +37,8 @@ use Rattle.qs_machine.specs.FrameStep.{frame_taken, named}
 use Rattle.qs_machine.specs.Lawful.{Fills, frame_put, item_put}
 use Rattle.qs_machine.specs.Owner.{OpenStep, AcceptStep, ReadBy, recv_refusal, with_wanted, refuse_if, IsBlocked, IsOpened, GivesNone, GivesBidi, GivesUni, AcceptOpen, peer_kind, next_stream, send_refusal}
 use Rattle.qs_machine.specs.Receiving.{AtEnd, RunsOut, Stops, GoesOn, Takes, ReceiveBy, TakesPayload, OpenReceive}
-use Rattle.qs_machine.specs.Making.{MakeAt, make_refusal, LoseStep, IsMade, first_lost, losses, claim_refusal, lose_refusal}
-use Rattle.qs_machine.specs.EndStep.{Call, Answer, EndStep, Open, Accept, Write, Finish, Reset, Stop, ReadUpTo as ReadCall, Receive, Make, Lose, RaiseLimits, Claim, ClosingPayload, Stored, Granted, Spent, GrantedStreams, Report}
+use Rattle.qs_machine.specs.Making.{MakeAt, make_refusal, LoseStep, IsMade, first_lost, losses, claim_refusal, lose_refusal, MakeAckAt}
+use Rattle.qs_machine.specs.EndStep.{Call, Answer, EndStep, Open, Accept, Write, Finish, Reset, Stop, ReadUpTo as ReadCall, Receive, Make, Lose, RaiseLimits, Claim, ClosingPayload, Stored, Granted, Spent, GrantedStreams, Report, MakeAck}
 use Rattle.qs_machine.specs.Raising.{limits_raised, raise_refusal}
 use Rattle.qs_machine.specs.Standing.{IsInCredit}
 use Rattle.qs_machine.proofs.Choices.{by_refusal, by_memory, by_test}
@@ -237,6 +237,14 @@ sound_make None old first delay room (Err making.NoMemory) text new h step = bec
 sound_make None old first delay room (Err making.Closed) text new h step = absurd step
 sound_make None old first delay room (Err making.Exhausted) text new h step = absurd step
 
+sound_ack : (r : Option MakeFault) (old : End) (delay room : ℕ) (answer : Result (Option Made) MakeFault) (text : List ℕ) (new : End) → IsInCredit old → MakeAckAt r old delay room answer text new → IsInCredit new
+sound_ack (Some fault) old delay room answer text new h step = becomes old new step.2 h
+sound_ack None old delay room (Ok (Some made)) text new h m =
+    let (mid, fills, after) = m.lawful.filled in
+    settled m.mid new m.after (becomes _ m.mid after (sound_fills old old (Ack m.largest m.ranges ∷ []) mid h fills))
+sound_ack None old delay room (Ok None) text new h step = becomes old new step.2 h
+sound_ack None old delay room (Err fault) text new h step = absurd step
+
 sound_losses : (k : ℕ) (ps : List Piece) (e : End) → IsInCredit e → IsInCredit (losses k ps e)
 unfolding losses
 sound_losses k [] e h = h
@@ -267,6 +275,7 @@ sound_call old (Stop n code) answer new h step = by_refusal (IsInCredit new) (re
 sound_call old (ReadCall n size) answer new h step = sound_read_by (recv_refusal old n) old n size answer.0 answer.1 new h step
 sound_call old (Receive k payload) answer new h step = sound_receive old.closed k payload old answer new h step
 sound_call old (Make first delay room) answer new h step = sound_make (make_refusal old) old first delay room answer.0 answer.1 new h step
+sound_call old (MakeAck delay room) answer new h step = sound_ack (make_refusal old) old delay room answer.0 answer.1 new h step
 sound_call old (Lose k) answer new h step = sound_lose old k answer new h step
 sound_call old Claim answer new h step =
     by_refusal (IsInCredit new) (claim_refusal old) old answer new _ step (λ same. becomes old new same h) (λ done. becomes (record old { next = old.next + 1 }) new done.1 h)

@@ -1,5 +1,5 @@
 -- What no packet holds, which packets aren't made, and what a loss doesn't leave.
-use Rattle.std.proofs.Common.{◌≡◌, ℕ, zero, suc, ◌+◌, ◌-◌, ◌<◌, ◌≤◌, ◌⊎◌, List, [], ◌∷◌, ◌++◌, take, drop, length, slice_index_or, Bool, true, false, cond, Option, Some, None, is_some, is_none, refl, sym, ap, ◌∙◌, subst, arith, inl, inr}
+use Rattle.std.proofs.Common.{◌≡◌, ◌≢◌, ℕ, zero, suc, ◌+◌, ◌-◌, ◌<◌, ◌≤◌, ◌⊎◌, List, [], ◌∷◌, ◌++◌, take, drop, length, slice_index_or, Bool, true, false, ◌||◌, cond, Option, Some, None, is_some, is_none, refl, sym, ap, ◌∙◌, subst, arith, inl, inr}
 use Rattle.std.specs.Prelude.{Result, Ok, Err}
 use Rattle.std.specs.List.{AllByRecursion}
 use Rattle.std.proofs.lemmas.List.{length-append}
@@ -23,22 +23,23 @@ use Rattle.qs_send.specs.declared.piece.Item.{Item}
 use Rattle.qs_send.specs.declared.piece.Item.TheVariants.{MaxData, MaxStreamData, MaxStreams, ResetStream, StopSending, DataBlocked, StreamDataBlocked, StreamsBlocked}
 use Rattle.qs_send.specs.declared.piece.Piece.{Piece}
 use Rattle.qs_send.specs.declared.piece.Piece.TheVariants.{Data, Told}
+use Rattle.qs_calls.specs.declared.making.Made.{Made}
 use Rattle.qs_calls.specs.declared.making.MakeFault.{MakeFault}
 use Rattle.qs_calls.specs.declared.making.LostFault.{LostFault}
 use Rattle.qs_calls.specs.declared.making.LostFault.TheVariants as losing
 use Rattle.qs_machine.specs.Tables.{lookup, update, total}
 use Rattle.qs_machine.specs.Ends.{End, send_lane}
-use Rattle.qs_machine.specs.Credit.{all_sent}
-use Rattle.qs_machine.specs.Seen.{Seen, Ack, Stream, Control}
+use Rattle.qs_machine.specs.Credit.{all_sent, settle}
+use Rattle.qs_machine.specs.Seen.{Seen, Ack, Stream, Control, Close, Plain, seen_all, asks_ack, any_asks}
 use Rattle.qs_machine.specs.FrameStep.{is_named}
 use Rattle.qs_machine.specs.Verdicts.{verdict}
 use Rattle.qs_machine.specs.Due.{IsDue, IsCurrent, StreamGoes, Sendable}
-use Rattle.qs_machine.specs.Lawful.{Lawful, frame_put}
+use Rattle.qs_machine.specs.Lawful.{MayPut, Fills, Lawful, frame_put}
 use Rattle.qs_machine.specs.Owner.{Certain, first_refusal, refuse_if}
-use Rattle.qs_machine.specs.Making.{NamesMost, LoseStep, losses, lose_refusal}
+use Rattle.qs_machine.specs.Making.{NamesMost, IsAckMade, LoseStep, losses, lose_refusal}
 use Rattle.qs_machine.specs.Examples.{standard, server}
 use Rattle.qs_machine.specs.SmallEnds.{chunk, abc, wrote, owing}
-use Rattle.qs_machine.specs.ExclusionsMaking.{NoSuchStreamFrame, NoSuchAck, NoSuchFrame, NoSuchPacket, NothingIsLeftOut, NothingIsOutOfTurn, NoSuchText, NoSuchAnswer, NoSuchClaim, NoSuchLoss, NotMade, writer, two_due, two_writers, one_flying, two_flying}
+use Rattle.qs_machine.specs.ExclusionsMaking.{NoSuchStreamFrame, NoSuchAck, NoSuchFrame, NoSuchPacket, NothingIsLeftOut, NothingIsOutOfTurn, NoSuchText, NoSuchAnswer, NoSuchAckAlone, NoSuchClaim, NoSuchLoss, NotMade, writer, two_due, two_writers, one_flying, two_flying}
 use Rattle.qs_machine.proofs.Ties.{nowhere}
 use Rattle.qs_machine.proofs.SmallEndsLaws.{none_in, none_carried, only_carried}
 
@@ -279,11 +280,24 @@ none_due (inl due) = false≢true due
 none_due (inr (inl (i, due))) = no_item i due.0
 none_due (inr (inr (n, (l, there, goes)))) = none-some l (sym (nowhere n) ∙ there)
 
+-- a packet that has a frame asks for an ACK, where none is due
+asks_first : (old : End) (f : Seen) → old.ack_due ≡ false → MayPut old old f → asks_ack f ≡ true
+asks_first old (Ack largest ranges) none may = absurd (true≢false (sym may.due ∙ none))
+asks_first old (Stream n offset bytes fin) none may = refl
+asks_first old (Control i) none may = refl
+asks_first old (Close code) none may = absurd may
+asks_first old (Plain asks) none may = absurd may
+
+asks_some : (old mid : End) (fs : List Seen) → old.ack_due ≡ false → fs ≢ [] → Fills old old fs mid → any_asks fs ≡ true
+asks_some old mid [] none some fills = absurd (some refl)
+asks_some old mid (f ∷ fs) none some (may, rest) = ap (λ b. b || any_asks fs) (asks_first old f none may)
+
 answers : NoSuchAnswer
 answers =
     record {
       number = λ text new made. (let e : 1 ≡ 0 = made.number in omega arith);
       len = λ new made. (let e : 2 ≡ 1 = made.len in omega arith);
+      asks_not = λ text new made. (let (mid, fills, after) = made.lawful.filled in false≢true (made.asks ∙ asks_some writer mid (seen_all made.frames) refl made.lawful.some fills));
       no_room = λ made new is. (let le : 1 ≤ 0 = is.fits in omega arith);
       largest_alone = λ made text new is frames. largest_alone (subst (λ fs. AllByRecursion (NamesMost owing 0 29) fs) frames is.acks).0;
       closed = λ made text new step. ok_is_no_err _ _ step.0;
@@ -293,6 +307,30 @@ answers =
       nothing_used = λ step. (let e : 1 ≡ 0 = ap (λ (e : End). e.next) step.2 in omega arith);
       memory_used = λ step. (let e : 1 ≡ 0 = ap (λ (e : End). e.next) step.2 in omega arith);
       nothing_due = λ text new step. none_due step.0;
+    }
+
+-- what a packet of an ACK alone leaves
+alone_is : (made : Made) (text : List ℕ) (new : End) → IsAckMade owing 0 1200 made text new → new ≡ settle (record owing { ack_due = false; next = 1 })
+unfolding frame_put
+alone_is made text new m = m.after ∙ ap settle (left_is (Ack m.largest m.ranges) owing m.mid m.lawful)
+
+acked_alone : NoSuchAckAlone
+unfolding total
+acked_alone =
+    record {
+      undue = λ made text new m. (let (mid, fills, after) = m.lawful.filled in false≢true fills.0.due);
+      left_out = λ text new step. true≢false step.0;
+      asks = λ text new m. true≢false m.asks;
+      number = λ text new m. (let e : 1 ≡ 0 = m.number in omega arith);
+      bytes = λ made text new m three. (let e : 0 ≡ 3 = ap all_sent (sym (alone_is made text new m)) ∙ three in omega arith);
+      recorded = λ made text new m carried. none_carried _ (subst (λ (e : End). IsCarried e.outstanding (Data 0 (chunk 0 3 false))) (alone_is made text new m) carried);
+      still_due = λ made text new m due. false≢true (ap (λ (e : End). e.ack_due) (sym (alone_is made text new m)) ∙ due);
+      same_number = λ made text new m zero. (let e : 1 ≡ 0 = ap (λ (e : End). e.next) (sym (alone_is made text new m)) ∙ zero in omega arith);
+      largest_alone = λ made text new m frame. largest_alone (subst (NamesMost owing 0 29) frame m.most);
+      closed = λ made text new step. ok_is_no_err _ _ step.0;
+      exhausted = λ made text new step. ok_is_no_err _ _ step.0;
+      nothing_used = λ step. (let e : 1 ≡ 0 = ap (λ (e : End). e.next) step.2 in omega arith);
+      memory = λ text new step. step;
     }
 
 abbrev number_in : Result ℕ MakeFault → ℕ
@@ -411,4 +449,4 @@ lost =
     }
 
 pub not_made : NotMade
-not_made = record { stream = stream; acks = acks; others = others; packets = packets; left_out = left_out; turns = turns; texts = texts; answers = answers; claims = claims; losses = lost }
+not_made = record { stream = stream; acks = acks; others = others; packets = packets; left_out = left_out; turns = turns; texts = texts; answers = answers; alone = acked_alone; claims = claims; losses = lost }

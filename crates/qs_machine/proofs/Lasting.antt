@@ -15,8 +15,8 @@ use Rattle.qs_calls.specs.declared.uses.UseFault.TheVariants as uses
 use Rattle.qs_machine.specs.Ends.{End}
 use Rattle.qs_machine.specs.Owner.{Certain, first_refusal, refuse_if, ReadBy, AcceptOpen, GivesNone}
 use Rattle.qs_machine.specs.Receiving.{ReceiveBy}
-use Rattle.qs_machine.specs.Making.{MakeAt, ClaimStep, claim_refusal}
-use Rattle.qs_machine.specs.EndStep.{Call, Answer, EndStep, Open, Accept, Write, Finish, Reset, Stop, ReadUpTo, Receive, Make, Lose, RaiseLimits, Claim, ClosingPayload, Stored, Granted, Spent, GrantedStreams, Report}
+use Rattle.qs_machine.specs.Making.{MakeAt, ClaimStep, claim_refusal, MakeAckAt}
+use Rattle.qs_machine.specs.EndStep.{Call, Answer, EndStep, Open, Accept, Write, Finish, Reset, Stop, ReadUpTo, Receive, Make, Lose, RaiseLimits, Claim, ClosingPayload, Stored, Granted, Spent, GrantedStreams, Report, MakeAck}
 use Rattle.qs_machine.specs.Laws.{StaysButNumber}
 use Rattle.qs_machine.proofs.Choices.{by_refusal}
 use Rattle.qs_calls.specs.declared.settings.RaiseFault.TheVariants as raising
@@ -39,6 +39,11 @@ make_refused : (b : Bool) (r : Option MakeFault) (old : End) (first delay room :
     → MakeAt (first_refusal (refuse_if b making.Closed) r) old first delay room answer.0 answer.1 new → new ≡ old
 make_refused true r old first delay room answer new is h = h.2
 make_refused false r old first delay room answer new is h = absurd (false≢true is)
+
+ack_refused : (b : Bool) (r : Option MakeFault) (old : End) (delay room : ℕ) (answer : Answer (MakeAck delay room)) (new : End) → b ≡ true
+    → MakeAckAt (first_refusal (refuse_if b making.Closed) r) old delay room answer.0 answer.1 new → new ≡ old
+ack_refused true r old delay room answer new is h = h.2
+ack_refused false r old delay room answer new is h = absurd (false≢true is)
 
 accept_none : (b : Bool) (old : End) (answer : Option ℕ) (new : End) → b ≡ true → MatchBool b (GivesNone old answer new) (AcceptOpen old answer new) → new ≡ old
 accept_none true old answer new is h = h.1
@@ -67,6 +72,7 @@ closed_stays old (Stop n code) answer new is h = refused_first (is_some old.clos
 closed_stays old (ReadUpTo n size) answer new is h = read_refused (is_some old.closed) _ old n size answer new is h
 closed_stays old (Receive k payload) answer new is h = receive_again old.closed k payload old answer new is h
 closed_stays old (Make first delay room) answer new is h = make_refused (is_some old.closed) _ old first delay room answer new is h
+closed_stays old (MakeAck delay room) answer new is h = ack_refused (is_some old.closed) _ old delay room answer new is h
 closed_stays old (Lose k) answer new is h = refused_first (is_some old.closed) losing.Closed _ old answer new _ is h
 closed_stays old Claim answer new is h = claim_stays old answer new h
 closed_stays old (RaiseLimits p) answer new is h = refused_first (is_some old.closed) raising.Closed _ old answer new _ is h

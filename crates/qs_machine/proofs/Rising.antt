@@ -40,8 +40,8 @@ use Rattle.qs_machine.specs.FrameStep.{frame_taken, item_taken, AckedPiece, with
 use Rattle.qs_machine.specs.Lawful.{Fills, frame_put, item_put, chunk_of}
 use Rattle.qs_machine.specs.Owner.{OpenStep, AcceptStep, ReadBy, send_refusal, recv_refusal, with_wanted, refuse_if, IsBlocked, IsOpened, GivesNone, GivesBidi, GivesUni, AcceptOpen, peer_kind, next_stream}
 use Rattle.qs_machine.specs.Receiving.{AtEnd, RunsOut, Stops, Takes, ReceiveBy, TakesPayload, OpenReceive}
-use Rattle.qs_machine.specs.Making.{MakeAt, make_refusal, LoseStep, claim_refusal, lose_refusal, IsMade, first_lost, losses}
-use Rattle.qs_machine.specs.EndStep.{Call, Answer, EndStep, Open, Accept, Write, Finish, Reset, Stop, ReadUpTo, Receive, Make, Lose, RaiseLimits, Claim, ClosingPayload, Stored, Granted, Spent, GrantedStreams, Report}
+use Rattle.qs_machine.specs.Making.{MakeAt, make_refusal, LoseStep, claim_refusal, lose_refusal, IsMade, first_lost, losses, MakeAckAt}
+use Rattle.qs_machine.specs.EndStep.{Call, Answer, EndStep, Open, Accept, Write, Finish, Reset, Stop, ReadUpTo, Receive, Make, Lose, RaiseLimits, Claim, ClosingPayload, Stored, Granted, Spent, GrantedStreams, Report, MakeAck}
 use Rattle.qs_calls.specs.declared.settings.PeerLimits.{PeerLimits}
 use Rattle.qs_machine.specs.Raising.{limits_raised, raise_refusal}
 use Rattle.qs_machine.proofs.Raised.{kept_raised}
@@ -328,6 +328,14 @@ rises_make None old first delay room (Err making.NoMemory) text new step = becom
 rises_make None old first delay room (Err making.Closed) text new step = absurd step
 rises_make None old first delay room (Err making.Exhausted) text new step = absurd step
 
+rises_ack : (r : Option MakeFault) (old : End) (delay room : ℕ) (answer : Result (Option Made) MakeFault) (text : List ℕ) (new : End) → MakeAckAt r old delay room answer text new → LimitsRise old new
+rises_ack (Some fault) old delay room answer text new step = becomes old old new step.2 (rises_same old)
+rises_ack None old delay room (Ok (Some made)) text new m =
+    let (mid, fills, after) = m.lawful.filled in
+    settled old m.mid new m.after (becomes old _ m.mid after (rises_fills old old (Ack m.largest m.ranges ∷ []) mid fills))
+rises_ack None old delay room (Ok None) text new step = becomes old old new step.2 (rises_same old)
+rises_ack None old delay room (Err fault) text new step = absurd step
+
 rises_losses : (k : ℕ) (ps : List Piece) (e : End) → LimitsRise e (losses k ps e)
 unfolding losses
 rises_losses k [] e = rises_same e
@@ -398,6 +406,7 @@ rises_call old (Stop n code) answer new step =
 rises_call old (ReadUpTo n size) answer new step = rises_read_by (recv_refusal old n) old n size answer.0 answer.1 new step
 rises_call old (Receive k payload) answer new step = rises_receive old.closed k payload old answer new step
 rises_call old (Make first delay room) answer new step = rises_make (make_refusal old) old first delay room answer.0 answer.1 new step
+rises_call old (MakeAck delay room) answer new step = rises_ack (make_refusal old) old delay room answer.0 answer.1 new step
 rises_call old (Lose k) answer new step = rises_lose old k answer new step
 rises_call old Claim answer new step =
     by_refusal (LimitsRise old new) (claim_refusal old) old answer new _ step (λ same. becomes old old new same (rises_same old))

@@ -36,8 +36,8 @@ use Rattle.qs_machine.specs.FrameStep.{frame_taken, item_taken, AckedPiece, held
 use Rattle.qs_machine.specs.Lawful.{Fills, MayPut, frame_put, item_put, chunk_of, noted, pieces_so_far}
 use Rattle.qs_machine.specs.Owner.{OpenStep, AcceptStep, ReadBy, send_refusal, recv_refusal, with_wanted, refuse_if, IsBlocked, IsOpened, GivesNone, GivesBidi, GivesUni, AcceptOpen, peer_kind, next_stream}
 use Rattle.qs_machine.specs.Receiving.{AtEnd, RunsOut, Stops, Takes, ReceiveBy, TakesPayload, OpenReceive}
-use Rattle.qs_machine.specs.Making.{MakeAt, make_refusal, LoseStep, claim_refusal, lose_refusal, IsMade, first_lost, losses}
-use Rattle.qs_machine.specs.EndStep.{Call, Answer, EndStep, Open, Accept, Write, Finish, Reset, Stop, ReadUpTo, Receive, Make, Lose, RaiseLimits, Claim, ClosingPayload, Stored, Granted, Spent, GrantedStreams, Report}
+use Rattle.qs_machine.specs.Making.{MakeAt, make_refusal, LoseStep, claim_refusal, lose_refusal, IsMade, first_lost, losses, MakeAckAt}
+use Rattle.qs_machine.specs.EndStep.{Call, Answer, EndStep, Open, Accept, Write, Finish, Reset, Stop, ReadUpTo, Receive, Make, Lose, RaiseLimits, Claim, ClosingPayload, Stored, Granted, Spent, GrantedStreams, Report, MakeAck}
 use Rattle.qs_machine.specs.Raising.{limits_raised, raise_refusal}
 use Rattle.qs_machine.proofs.Raised.{kept_raised}
 use Rattle.std.specs.FinMap as fmap
@@ -293,6 +293,14 @@ keeps_make None old first delay room (Err making.NoMemory) text new step = becom
 keeps_make None old first delay room (Err making.Closed) text new step = absurd step
 keeps_make None old first delay room (Err making.Exhausted) text new step = absurd step
 
+keeps_ack : (r : Option MakeFault) (old : End) (delay room : ℕ) (answer : Result (Option Made) MakeFault) (text : List ℕ) (new : End) → MakeAckAt r old delay room answer text new → Keeps old new
+keeps_ack (Some fault) old delay room answer text new step = becomes old old new step.2 (keeps_same old)
+keeps_ack None old delay room (Ok (Some made)) text new m =
+    let (mid, fills, after) = m.lawful.filled in
+    settled old m.mid new m.after (becomes old _ m.mid after (keeps_fills old old (Ack m.largest m.ranges ∷ []) mid fills))
+keeps_ack None old delay room (Ok None) text new step = becomes old old new step.2 (keeps_same old)
+keeps_ack None old delay room (Err fault) text new step = absurd step
+
 -- a piece that moves to the lost record was written
 keeps_first_lost : (k : ℕ) (p : Piece) (e : End) → WasWritten e.sends p → Keeps e (first_lost k p e)
 keeps_first_lost k p e written h false q is = h false q (carried-without_first e.outstanding k q is)
@@ -369,6 +377,7 @@ keeps_call old (Stop n code) answer new step =
 keeps_call old (ReadUpTo n size) answer new step = keeps_read_by (recv_refusal old n) old n size answer.0 answer.1 new step
 keeps_call old (Receive k payload) answer new step = keeps_receive old.closed k payload old answer new step
 keeps_call old (Make first delay room) answer new step = keeps_make (make_refusal old) old first delay room answer.0 answer.1 new step
+keeps_call old (MakeAck delay room) answer new step = keeps_ack (make_refusal old) old delay room answer.0 answer.1 new step
 keeps_call old (Lose k) answer new step = keeps_lose old k answer new step
 keeps_call old Claim answer new step =
     by_refusal (Keeps old new) (claim_refusal old) old answer new _ step (λ same. becomes old old new same (keeps_same old))

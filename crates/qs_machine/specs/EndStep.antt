@@ -18,7 +18,7 @@ use Rattle.qs_machine.specs.Ends.{End}
 use Rattle.qs_machine.specs.Credit.{spent, all_stored, granted_streams}
 use Rattle.qs_machine.specs.Owner.{OpenStep, AcceptStep, WriteStep, FinishStep, ResetStep, StopStep, ReadStep}
 use Rattle.qs_machine.specs.Receiving.{ReceiveStep}
-use Rattle.qs_machine.specs.Making.{MakeStep, ClaimStep, LoseStep, ClosePayload}
+use Rattle.qs_machine.specs.Making.{MakeStep, ClaimStep, LoseStep, ClosePayload, MakeAckStep}
 use Rattle.qs_machine.specs.Reports.{lane_report}
 use Rattle.qs_machine.specs.Raising.{RaiseStep}
 
@@ -33,6 +33,7 @@ pub data Call : Type 0 where
   ReadUpTo : (stream size : ℕ) → Call
   Receive : (number : ℕ) (payload : List ℕ) → Call
   Make : (first delay room : ℕ) → Call
+  MakeAck : (delay room : ℕ) → Call
   Lose : (number : ℕ) → Call
   Claim : Call
   RaiseLimits : (limits : PeerLimits) → Call
@@ -54,6 +55,7 @@ Answer (Stop n code) = Result (Unit {0}) UseFault
 Answer (ReadUpTo n size) = Result Read UseFault × List ℕ
 Answer (Receive k payload) = Result Received Closing
 Answer (Make first delay room) = Result (Option Made) MakeFault × List ℕ
+Answer (MakeAck delay room) = Result (Option Made) MakeFault × List ℕ
 Answer (Lose k) = Result (Unit {0}) LostFault
 Answer Claim = Result ℕ MakeFault
 Answer (RaiseLimits p) = Result (Unit {0}) RaiseFault
@@ -75,6 +77,7 @@ EndStep old (Stop n code) answer new = StopStep old n code answer new
 EndStep old (ReadUpTo n size) answer new = ReadStep old n size answer.0 answer.1 new
 EndStep old (Receive k payload) answer new = ReceiveStep old k payload answer new
 EndStep old (Make first delay room) answer new = MakeStep old first delay room answer.0 answer.1 new
+EndStep old (MakeAck delay room) answer new = MakeAckStep old delay room answer.0 answer.1 new
 EndStep old (Lose k) answer new = LoseStep old k answer new
 EndStep old Claim answer new = ClaimStep old answer new
 EndStep old (RaiseLimits p) answer new = RaiseStep old p answer new

@@ -13,9 +13,10 @@ use Rattle.qs_calls.specs.declared.making.Made.{Made}
 use Rattle.qs_calls.specs.declared.making.MakeFault.TheVariants as making
 use Rattle.qs_calls.specs.declared.making.LostFault.TheVariants as losing
 use Rattle.qs_machine.specs.Ends.{End}
+use Rattle.qs_machine.specs.Credit.{all_sent}
 use Rattle.qs_machine.specs.Seen.{Ack, Stream, Control, Close, Plain}
 use Rattle.qs_machine.specs.Lawful.{MayPut, Lawful, HasAll, AreInTurn, frame_put}
-use Rattle.qs_machine.specs.Making.{IsText, IsMade, MakeStep, ClaimStep, LoseStep}
+use Rattle.qs_machine.specs.Making.{IsText, IsMade, MakeStep, IsAckMade, MakeAckStep, ClaimStep, LoseStep}
 use Rattle.qs_machine.specs.Verdicts.{verdict, PROTOCOL_VIOLATION}
 use Rattle.qs_machine.specs.Examples.{standard, server}
 use Rattle.qs_machine.specs.SmallEnds.{client_with, carrying, chunk, abc, begun, wrote, sent, second_acked, raised, owing, four_made, only}
@@ -131,9 +132,11 @@ pub record NoSuchText : Type 0 where
 -- `make_packet` doesn't answer so (sections 10.2 and 12.3)
 pub record NoSuchAnswer : Type 0 where
   -- with another number than the next
-  pub number : (text : List ℕ) (new : End) → MakeStep writer 0 0 1200 (Ok (Some (record { number = 1; len = 8 }))) text new → ⊥
+  pub number : (text : List ℕ) (new : End) → MakeStep writer 0 0 1200 (Ok (Some (record { number = 1; len = 8; is_ack_eliciting = true }))) text new → ⊥
   -- with another length than the text's
-  pub len : (new : End) → MakeStep writer 0 0 1200 (Ok (Some (record { number = 0; len = 2 }))) (1 ∷ []) new → ⊥
+  pub len : (new : End) → MakeStep writer 0 0 1200 (Ok (Some (record { number = 0; len = 2; is_ack_eliciting = true }))) (1 ∷ []) new → ⊥
+  -- as asking for no ACK, where it can't be an ACK alone
+  pub asks_not : (text : List ℕ) (new : End) → MakeStep writer 0 0 1200 (Ok (Some (record { number = 0; len = 8; is_ack_eliciting = false }))) text new → ⊥
   -- with a text that doesn't fit
   pub no_room : (made : Made) (new : End) → MakeStep writer 0 0 0 (Ok (Some made)) (1 ∷ []) new → ⊥
   -- with an ACK of the largest number alone, in a room for more
@@ -152,6 +155,35 @@ pub record NoSuchAnswer : Type 0 where
   pub memory_used : MakeStep writer 0 0 1200 (Err making.NoMemory) [] (record writer { next = 1 }) → ⊥
   -- and not for want of memory where nothing is due
   pub nothing_due : (text : List ℕ) (new : End) → MakeStep (server standard) 0 0 1200 (Err making.NoMemory) text new → ⊥
+
+-- `make_ack` doesn't answer so (sections 10.2, 12.3 and 13.2)
+pub record NoSuchAckAlone : Type 0 where
+  -- with a packet where no ACK is due
+  pub undue : (made : Made) (text : List ℕ) (new : End) → MakeAckStep writer 0 1200 (Ok (Some made)) text new → ⊥
+  -- with none where one is
+  pub left_out : (text : List ℕ) (new : End) → MakeAckStep owing 0 1200 (Ok None) text new → ⊥
+  -- as asking for an ACK
+  pub asks : (text : List ℕ) (new : End) → MakeAckStep owing 0 1200 (Ok (Some (record { number = 0; len = 7; is_ack_eliciting = true }))) text new → ⊥
+  -- with another number than the next
+  pub number : (text : List ℕ) (new : End) → MakeAckStep owing 0 1200 (Ok (Some (record { number = 1; len = 7; is_ack_eliciting = false }))) text new → ⊥
+  -- with bytes that count as sent
+  pub bytes : (made : Made) (text : List ℕ) (new : End) → MakeAckStep owing 0 1200 (Ok (Some made)) text new → all_sent new ≡ 3 → ⊥
+  -- with something that is outstanding under its number
+  pub recorded : (made : Made) (text : List ℕ) (new : End) → MakeAckStep owing 0 1200 (Ok (Some made)) text new → IsCarried new.outstanding (Data 0 (chunk 0 3 false)) → ⊥
+  -- where the ACK that it holds is due still
+  pub still_due : (made : Made) (text : List ℕ) (new : End) → MakeAckStep owing 0 1200 (Ok (Some made)) text new → new.ack_due ≡ true → ⊥
+  -- where its number may be used again
+  pub same_number : (made : Made) (text : List ℕ) (new : End) → MakeAckStep owing 0 1200 (Ok (Some made)) text new → new.next ≡ 0 → ⊥
+  -- with an ACK of the largest number alone, in a room for more
+  pub largest_alone : (made : Made) (text : List ℕ) (new : End) (is : IsAckMade owing 0 29 made text new) → is.frame ≡ ack 3 0 (0 ∷ []) None → ⊥
+  -- with a packet once the end closed
+  pub closed : (made : Made) (text : List ℕ) (new : End) → MakeAckStep (record owing { closed = Some (ByPeer 0) }) 0 1200 (Ok (Some made)) text new → ⊥
+  -- nor once the last number was used
+  pub exhausted : (made : Made) (text : List ℕ) (new : End) → MakeAckStep (record owing { next = MAX_VARINT + 1 }) 0 1200 (Ok (Some made)) text new → ⊥
+  -- with a number used up though nothing was made
+  pub nothing_used : MakeAckStep writer 0 1200 (Ok None) [] (record writer { next = 1 }) → ⊥
+  -- and never for want of memory
+  pub memory : (text : List ℕ) (new : End) → MakeAckStep owing 0 1200 (Err making.NoMemory) text new → ⊥
 
 -- `claim_number` doesn't answer so (sections 12.3 and 13.1)
 pub record NoSuchClaim : Type 0 where
@@ -204,5 +236,6 @@ pub record NotMade : Type 0 where
   pub turns : NothingIsOutOfTurn
   pub texts : NoSuchText
   pub answers : NoSuchAnswer
+  pub alone : NoSuchAckAlone
   pub claims : NoSuchClaim
   pub losses : NoSuchLoss

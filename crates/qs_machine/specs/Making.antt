@@ -1,6 +1,6 @@
 -- Trusted.
 -- Packets that are made, packets that are lost, and the payload that tells of a closing (RFC 9000, sections 10.2.3, 12.3 and 13.3).
-use Rattle.std.specs.Prelude.{◌≡◌, ℕ, ◌+◌, ◌<◌, ◌≤◌, List, [], ◌∷◌, ◌++◌, length, take, drop, ◌⊎◌, Option, None, Some, is_some, is_none, Result, Ok, Err, nat_le, MatchBool}
+use Rattle.std.specs.Prelude.{◌≡◌, ℕ, ◌+◌, ◌<◌, ◌≤◌, List, [], ◌∷◌, ◌++◌, length, take, drop, ◌⊎◌, false, Option, None, Some, is_some, is_none, Result, Ok, Err, nat_le, MatchBool}
 use Rattle.std.specs.List.{AllByRecursion}
 use Rattle.std.specs.FinMap as fmap
 use Rattle.qs_ranges.specs.Numbers.{MAX_VARINT}
@@ -17,7 +17,7 @@ use Rattle.qs_calls.specs.declared.making.LostFault.{LostFault}
 use Rattle.qs_calls.specs.declared.making.LostFault.TheVariants as losing
 use Rattle.qs_machine.specs.Ends.{End, lost_with}
 use Rattle.qs_machine.specs.Credit.{settle}
-use Rattle.qs_machine.specs.Seen.{seen_all}
+use Rattle.qs_machine.specs.Seen.{Ack, seen, seen_all, any_asks}
 use Rattle.qs_machine.specs.Due.{Sendable}
 use Rattle.qs_machine.specs.Lawful.{MayAck, Lawful, NamesAll, HasAll, AreInTurn}
 use Rattle.qs_machine.specs.Owner.{Certain, first_refusal, refuse_if}
@@ -53,6 +53,7 @@ pub record IsMade (old : End) (first delay room : ℕ) (made : Made) (text : Lis
   pub len : made.len ≡ length text
   pub fits : length text ≤ room
   pub frames : List FrameValue
+  pub asks : made.is_ack_eliciting ≡ any_asks (seen_all frames)
   pub spells : IsText delay frames text
   pub mid : End
   pub lawful : Lawful old (seen_all frames) mid
@@ -81,6 +82,37 @@ MakeAt None old first delay room answer text new = MakeBy old first delay room a
 -- stream 0 on with a delay of 0
 abbrev pub MakeStep : End → (first delay room : ℕ) → Result (Option Made) MakeFault → List ℕ → End → Type 0
 MakeStep old first delay room answer text new = MakeAt (make_refusal old) old first delay room answer text new
+
+-- A packet of the next number was made that holds an ACK alone (RFC 9000, section 13.2, and RFC 9002, section 7).
+pub record IsAckMade (old : End) (delay room : ℕ) (made : Made) (text : List ℕ) (new : End) : Type 0 where
+  pub number : made.number ≡ old.next
+  pub len : made.len ≡ length text
+  pub fits : length text ≤ room
+  pub asks : made.is_ack_eliciting ≡ false
+  pub frame : FrameValue
+  pub spells : IsText delay (frame ∷ []) text
+  pub most : NamesMost old delay room frame
+  pub largest : ℕ
+  pub ranges : List (ℕ × ℕ)
+  pub is : seen frame ≡ Ack largest ranges
+  pub mid : End
+  pub lawful : Lawful old (Ack largest ranges ∷ []) mid
+  pub after : new ≡ settle mid
+
+-- a packet was made where an ACK was due (RFC 9000, section 13.2)
+abbrev pub MakeAckBy : End → (delay room : ℕ) → Result (Option Made) MakeFault → List ℕ → End → Type 0
+MakeAckBy old delay room (Ok (Some made)) text new = IsAckMade old delay room made text new
+MakeAckBy old delay room (Ok None) text new = (old.ack_due ≡ false) × (text ≡ []) × (new ≡ old)
+MakeAckBy old delay room (Err fault) text new = ⊥
+
+-- the refusal, or what else comes of it (RFC 9000, sections 10.2 and 12.3)
+abbrev pub MakeAckAt : Option MakeFault → End → (delay room : ℕ) → Result (Option Made) MakeFault → List ℕ → End → Type 0
+MakeAckAt (Some fault) old delay room answer text new = (answer ≡ Err fault) × (text ≡ []) × (new ≡ old)
+MakeAckAt None old delay room answer text new = MakeAckBy old delay room answer text new
+
+-- `make_ack` into a slice of that size, with the payload that it writes (RFC 9000, section 13.2, and RFC 9002, section 7)
+abbrev pub MakeAckStep : End → (delay room : ℕ) → Result (Option Made) MakeFault → List ℕ → End → Type 0
+MakeAckStep old delay room answer text new = MakeAckAt (make_refusal old) old delay room answer text new
 
 -- Numbers that the layer beneath claims (RFC 9000, section 12.3)
 

@@ -1,5 +1,5 @@
 -- What each call of an end does before its limits move: one of a few edits.
-use Rattle.std.proofs.Common.{◌≡◌, ℕ, ◌+◌, ◌*◌, List, [], length, take, Option, Some, None, is_some, subst, sym, inl, inr, refl, true, false, Bool}
+use Rattle.std.proofs.Common.{◌≡◌, ℕ, ◌+◌, ◌*◌, List, [], length, take, Option, Some, None, is_some, subst, sym, inl, inr, refl, true, false, Bool, ◌∷◌}
 use Rattle.std.specs.Prelude.{nat_lt, Result, Ok, Err, MatchBool}
 use Rattle.std.specs.FinSet as set
 use Rattle.std.proofs.lemmas.Option.{none-some}
@@ -24,12 +24,12 @@ use Rattle.qs_calls.specs.declared.uses.UseFault.TheVariants as uses
 use Rattle.qs_machine.specs.Ends.{End, send_lane, recv_lane, on_send, on_recv, opens}
 use Rattle.qs_machine.specs.Credit.{settle}
 use Rattle.qs_machine.specs.Due.{known_count}
-use Rattle.qs_machine.specs.Seen.{Seen, seen_all}
+use Rattle.qs_machine.specs.Seen.{Seen, Ack, seen_all}
 use Rattle.qs_machine.specs.Lawful.{Fills}
 use Rattle.qs_machine.specs.Owner.{OpenStep, AcceptStep, ReadBy, recv_refusal, with_wanted, first_refusal, refuse_if, no_half, half_refusal, IsBlocked, IsOpened, GivesNone, GivesBidi, GivesUni, AcceptOpen, peer_kind, next_stream, send_refusal}
 use Rattle.qs_machine.specs.Receiving.{ReceiveBy, TakesPayload, OpenReceive}
-use Rattle.qs_machine.specs.Making.{MakeAt, make_refusal, LoseStep, losses, claim_refusal, lose_refusal}
-use Rattle.qs_machine.specs.EndStep.{Call, Answer, EndStep, Open, Accept, Write, Finish, Reset, Stop, ReadUpTo, Receive, Make, Lose, Claim, RaiseLimits, ClosingPayload, Stored, Granted, Spent, GrantedStreams, Report}
+use Rattle.qs_machine.specs.Making.{MakeAt, make_refusal, LoseStep, losses, claim_refusal, lose_refusal, MakeAckAt}
+use Rattle.qs_machine.specs.EndStep.{Call, Answer, EndStep, Open, Accept, Write, Finish, Reset, Stop, ReadUpTo, Receive, Make, Lose, Claim, RaiseLimits, ClosingPayload, Stored, Granted, Spent, GrantedStreams, Report, MakeAck}
 use Rattle.qs_machine.specs.Raising.{limits_raised, raise_refusal}
 use Rattle.qs_calls.specs.declared.settings.PeerLimits.{PeerLimits}
 use Rattle.qs_calls.specs.declared.event.Act.{Act}
@@ -102,6 +102,14 @@ module _ (P : End → Type 0) (old : End) (edits : Edits P old) where
   make_by None first delay room (Err making.Closed) text new step = absurd step
   make_by None first delay room (Err making.Exhausted) text new step = absurd step
 
+  ack_by : (r : Option MakeFault) (delay room : ℕ) (answer : Result (Option Made) MakeFault) (text : List ℕ) (new : End) → MakeAckAt r old delay room answer text new → P new
+  ack_by (Some fault) delay room answer text new step = becomes new step.2
+  ack_by None delay room (Ok (Some made)) text new step =
+      let (mid, fills, after) = step.lawful.filled in
+      settled step.mid new (subst P (sym after) (edits.fills (Ack step.largest step.ranges ∷ []) mid fills)) step.after
+  ack_by None delay room (Ok None) text new step = becomes new step.2
+  ack_by None delay room (Err fault) text new step = absurd step
+
   lost : (k : ℕ) (ps : List Piece) (new : End) → new ≡ losses k ps old → P new
   lost k ps new same = subst P (sym same) (edits.loses k ps)
 
@@ -155,6 +163,7 @@ module _ (P : End → Type 0) (old : End) (edits : Edits P old) where
     each_call raises (ReadUpTo n size) answer new step = read_by (recv_refusal old n) n size answer.0 answer.1 new step
     each_call raises (Receive k payload) answer new step = receive_by old.closed k payload answer new step
     each_call raises (Make first delay room) answer new step = make_by (make_refusal old) first delay room answer.0 answer.1 new step
+    each_call raises (MakeAck delay room) answer new step = ack_by (make_refusal old) delay room answer.0 answer.1 new step
     each_call raises (Lose k) answer new step = lose_by k answer new step
     each_call raises Claim answer new step = by_refusal (P new) (claim_refusal old) old answer new _ step (becomes new) claimed
     each_call raises (RaiseLimits p) answer new step =

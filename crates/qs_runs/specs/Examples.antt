@@ -31,7 +31,7 @@ told_end side none = (at side (ReadUpTo 0 10), answers.ReadUpTo (Ok End) none)
 
 -- `make_packet` made packet 0 of this text
 abbrev pub packet : Side → Vec ℕ → Event × Answer
-packet side text = (at side (Make 1200), answers.Make (Ok (Some (record { number = 0; len = 8 }))) text)
+packet side text = (at side (Make 1200), answers.Make (Ok (Some (record { number = 0; len = 8; is_ack_eliciting = true }))) text)
 
 -- A writes bytes, makes packet 0 of them, which comes to B, and B reads them and then the end; the newest first
 abbrev pub story : Vec ℕ → Vec ℕ → Vec ℕ → History

@@ -27,7 +27,7 @@ pub record AnswerLines : Type 0 where
   pub wrong_way : answer_text (answers.Finish (Err uses.WrongDirection)) ≡ codes "wrong-direction"
   pub gave : read_text (Ok (reads.Bytes 2)) (10 ∷ 255 ∷ []) ≡ codes "bytes 0aff"
   pub gave_none : read_text (Ok (reads.Bytes 0)) [] ≡ codes "bytes -"
-  pub packet : make_text (Ok (Some (record { number = 0; len = 3 }))) (0x0b ∷ 0 ∷ 0 ∷ []) ≡ codes "packet 0 0b0000"
+  pub packet : make_text (Ok (Some (record { number = 0; len = 3; is_ack_eliciting = true }))) (0x0b ∷ 0 ∷ 0 ∷ []) ≡ codes "packet 0 0b0000"
   pub not_outstanding : answer_text (answers.Lose (Err losing.NotOutstanding)) ≡ codes "not-outstanding"
   pub closing : answer_text (answers.Deliver (Err (record { code = 3; frame_type = 0x0a; place = 11 }))) ≡ codes "closing 0x03 0x0a 11"
 

@@ -143,7 +143,7 @@ impl Player {
     fn make(&mut self, side: usize, room: usize) -> String {
         let mut out = vec![0; room];
         match self.call(side, |e| e.make_packet(&mut out)) {
-            Ok(Some(Made { number, len })) => {
+            Ok(Some(Made { number, len, .. })) => {
                 assert_eq!(number, self.made[side].len() as u64);
                 self.made[side].push(out[..len].to_vec());
                 format!("packet {number} {}", hex(&out[..len]))

@@ -1,5 +1,6 @@
 //! Packets are made.
 ghost use Rattle.std.specs.Prelude.{◌≡◌, ◌+◌, ◌-◌, ◌≤◌, ◌<◌, ◌↔◌, ◌++◌, ◌∷◌, [], vec_len, vec_capacity, IsTrue, length, is_some, true, OnOk, OnErr};
+ghost use Rattle.std.specs.FinMap as fmap;
 ghost use Rattle.qs_ranges.specs.Numbers.{MAX_VARINT};
 ghost use Rattle.qs_send.specs.declared.piece.Piece.TheVariants as pieces;
 ghost use Rattle.qs_send.specs.Lane.{Sending, sent_lane, bytes_of, after_blocked};
@@ -90,6 +91,13 @@ impl Outbox {
         hold(&mut self.pending, Piece::Told(item));
         self.index.insert(item);
         self.spare -= 1;
+    }
+
+    /// Whether the packet in the making has a piece.
+    pub(crate) fn has_piece(&self) -> bool
+        ensures { result ≡ is_some (fmap.get self.now.outstanding self.now.next) }
+    {
+        self.pending.len() > 0
     }
 
     /// The packet is made, and the next one has the next number.

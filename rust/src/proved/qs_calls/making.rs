@@ -1,11 +1,13 @@
 // Made from crates/qs_calls/src/making.rt by rust/erase; not edited by hand.
 //! What comes of making a packet, and of losing one.
 
-/// A packet that was made: its number, and the length of its payload in bytes.
+/// A packet that was made: its number, the length of its payload in bytes, and whether it asks for an ACK: whether it holds a frame other
+/// than an ACK (RFC 9000, section 13.2.1).
 #[derive(Clone, Copy, Debug, PartialEq, Eq)]
 pub struct Made {
     pub number: u64,
     pub len: usize,
+    pub is_ack_eliciting: bool,
 }
 
 /// Why no packet was made.

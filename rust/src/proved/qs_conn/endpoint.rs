@@ -11,6 +11,7 @@ use crate::proved::qs_ranges::RangeSet;
 use crate::proved::qs_wire::{Dir, Frame, Role, StreamId, put};
 use crate::shim::alloc::Global;
 
+mod ack_alone;
 mod acking;
 mod asking;
 mod claiming;

@@ -69,10 +69,15 @@ impl Endpoint {
         if len == 0 {
             return Ok(None);
         }
+        let is_ack_eliciting = self.outbox.has_piece();
         self.ack_due = false;
         self.outbox.commit();
         self.settle();
-        Ok(Some(Made { number, len }))
+        Ok(Some(Made {
+            number,
+            len,
+            is_ack_eliciting,
+        }))
     }
 
     // What a call answers that found no memory for a packet: where nothing may go, it needs none.

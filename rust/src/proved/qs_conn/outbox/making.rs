@@ -62,6 +62,11 @@ impl Outbox {
         self.spare -= 1;
     }
 
+    /// Whether the packet in the making has a piece.
+    pub(crate) fn has_piece(&self) -> bool {
+        self.pending.len() > 0
+    }
+
     /// The packet is made, and the next one has the next number.
     pub(crate) fn commit(&mut self) {
         let pieces = hand_over(self.alloc, &mut self.pending);

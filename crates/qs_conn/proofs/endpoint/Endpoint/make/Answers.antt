@@ -47,5 +47,5 @@ invariant_of-self-3 c =
 pub returns : goal.returns
 returns c =
     make_some _ c.args.self.now c.self.view_is c.terms-terms.result c.begin.new.self c.fill-len.new.outbox (length c.args.out.now / 2) c.args.wish.first c.args.wish.delay (length c.args.out.now) c.fill-len.result c.fill-len.new.out c.self.invariant.1 c.terms-terms.ensures c.in_default.ensures.ok c.fill-len.ensures.packed
-    c.settle.new.self c.commit.new.self c.next-number.result (sym c.is_some.ensures ∙ c.if-is_some.false) (omega (arith, c.if-number-gt-MAX_NUMBER.false, c.next-number.ensures))
+    c.settle.new.self c.commit.new.self c.next-number.result c.has_piece-is_ack_eliciting.result c.has_piece-is_ack_eliciting.ensures (sym c.is_some.ensures ∙ c.if-is_some.false) (omega (arith, c.if-number-gt-MAX_NUMBER.false, c.next-number.ensures))
     (omega (arith, c.if-len-eq0.false)) (omega (arith, c.fill-len.ensures.within, c.fill-len.ensures.room)) c.fill-len.ensures.room c.next-number.ensures c.commit.ensures.after c.settle.ensures
