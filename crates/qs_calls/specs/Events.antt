@@ -3,7 +3,7 @@
 use Rattle.std.specs.Prelude.{Bool, true, ◌&&◌, nat_le, length}
 use Rattle.qs_ranges.specs.Numbers.{MAX_VARINT}
 use Rattle.qs_calls.specs.declared.event.Act.{Act}
-use Rattle.qs_calls.specs.declared.event.Act.TheVariants.{OpenStream, Accept, Write, Finish, Reset, Stop, ReadUpTo, Make, Lose, Deliver}
+use Rattle.qs_calls.specs.declared.event.Act.TheVariants.{OpenStream, Accept, Write, Finish, Reset, Stop, ReadUpTo, Make, Lose, Claim, Deliver}
 use Rattle.qs_calls.specs.declared.event.Event.{Event}
 
 -- whether each number lies in its range
@@ -17,6 +17,7 @@ act_fits (Stop n code) = nat_le code MAX_VARINT
 act_fits (ReadUpTo n size) = nat_le size 65535
 act_fits (Make room) = nat_le 128 room && nat_le room 16383
 act_fits (Lose k) = nat_le k MAX_VARINT
+act_fits Claim = true
 act_fits (Deliver k) = nat_le k MAX_VARINT
 
 abbrev pub fits : Event → Bool

@@ -28,6 +28,8 @@ pub enum Act {
     Make(usize),
     /// The packet of that number is declared lost.
     Lose(u64),
+    /// The layer beneath claims the next packet number, and sends a packet of its own under it: a PING.
+    Claim,
     /// The payload that this end made under that number comes to the other end.
     Deliver(u64),
 }
@@ -44,7 +46,7 @@ impl Event {
         ensures { result ≡ fits self.now }
     {
         match &self.act {
-            Act::OpenStream(_) | Act::Accept | Act::Finish(_) => true,
+            Act::OpenStream(_) | Act::Accept | Act::Finish(_) | Act::Claim => true,
             Act::Write(_, bytes) => bytes.len() <= MAX_BYTES,
             Act::ReadUpTo(_, size) => *size <= MAX_BYTES,
             Act::Reset(_, code) | Act::Stop(_, code) => *code <= MAX_VARINT,

@@ -3,7 +3,7 @@
 ghost use Rattle.std.specs.Prelude.{◌≡◌, ◌++◌, OnOk, IfOk, codes};
 ghost use Rattle.std.specs.List.{flat_map};
 ghost use Rattle.std.specs.String.{string_bytes};
-ghost use Rattle.qs_world.specs.PlayText.{line, side_text, closing_text, event_text, script_text, use_fault_text, open_text, use_text, read_text, make_text, lose_text, deliver_text, answer_text, number_text, lane_text, closing_part, end_text, ends_text, step_text, play_text};
+ghost use Rattle.qs_world.specs.PlayText.{line, side_text, closing_text, event_text, script_text, use_fault_text, open_text, use_text, read_text, make_fault_text, make_text, lose_text, claim_text, deliver_text, answer_text, number_text, lane_text, closing_part, end_text, ends_text, step_text, play_text};
 
 use crate::text::{dir_name, push_code, push_hex, yes_no};
 use qs_world::{
@@ -86,6 +86,7 @@ fn push_event(alloc: Global, text: &mut String, event: &Event) -> Result<(), All
         Act::ReadUpTo(id, size) => write!(text, "read {side} {} {size}", id.value()),
         Act::Make(room) => write!(text, "make {side} {room}"),
         Act::Lose(number) => write!(text, "lose {side} {number}"),
+        Act::Claim => write!(text, "claim {side}"),
         Act::Deliver(number) => write!(text, "deliver {side} {number}"),
     }
 }
@@ -106,6 +107,7 @@ fn push_answer(alloc: Global, text: &mut String, answer: &Answer) -> Result<(), 
         Answer::ReadUpTo(read, bytes) => push_read(alloc, text, *read, bytes),
         Answer::Make(made, payload) => push_made(alloc, text, *made, payload),
         Answer::Lose(lost) => text.push_str(lose_name(*lost)),
+        Answer::Claim(number) => push_claimed(text, *number),
         Answer::Deliver(received) => push_received(text, *received),
     }
 }
@@ -129,6 +131,16 @@ fn use_name(done: Result<(), UseFault>) -> &'static str
     match done {
         Ok(()) => "ok",
         Err(fault) => use_fault_name(fault),
+    }
+}
+
+fn make_fault_name(fault: MakeFault) -> &'static str
+    ensures { result.now ≡ make_fault_text fault }
+{
+    match fault {
+        MakeFault::Closed => "closed",
+        MakeFault::NoMemory => "no-memory",
+        MakeFault::Exhausted => "exhausted",
     }
 }
 
@@ -191,9 +203,17 @@ fn push_made(
             push_hex(alloc, text, payload)
         }
         Ok(None) => text.push_str("nothing"),
-        Err(MakeFault::Closed) => text.push_str("closed"),
-        Err(MakeFault::NoMemory) => text.push_str("no-memory"),
-        Err(MakeFault::Exhausted) => text.push_str("exhausted"),
+        Err(fault) => text.push_str(make_fault_name(fault)),
+    }
+}
+
+/// Appends what came of claiming a packet number.
+fn push_claimed(text: &mut String, claimed: Result<u64, MakeFault>) -> Result<(), AllocError>
+    ensures { OnOk result (string_bytes text.new ≡ string_bytes text.old ++ claim_text claimed) }
+{
+    match claimed {
+        Ok(number) => write!(text, "number {number}"),
+        Err(fault) => text.push_str(make_fault_name(fault)),
     }
 }
 

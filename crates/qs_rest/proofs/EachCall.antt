@@ -189,4 +189,5 @@ module _ (P : End → Type 0) (old : End) (edits : Edits P old) where
   each_own (acts.ReadUpTo n size) (answers.ReadUpTo r bytes) new step = read_by (recv_refusal old n) n size r bytes.items new step
   each_own (acts.Make room) (answers.Make r text) new (first, delay, step) = make_by (make_refusal old) first delay room r text.items new step
   each_own (acts.Lose k) (answers.Lose r) new step = lose_by k r new step
+  each_own acts.Claim (answers.Claim r) new step = by_refusal (P new) (claim_refusal old) old r new _ step (becomes new) claimed
   each_own act answer new step = absurd step

@@ -94,6 +94,7 @@ module _ (a b : Settings) (h : History) (v w : World) (s : Side) (ok : WorldOk a
   step_by (acts.ReadUpTo n size) answer step = own_step (acts.ReadUpTo n size) answer refl step.0 step.1
   step_by (acts.Make room) answer step = own_step (acts.Make room) answer refl step.0 step.1
   step_by (acts.Lose k) answer step = own_step (acts.Lose k) answer refl step.0 step.1
+  step_by acts.Claim answer step = own_step acts.Claim answer refl step.0 step.1
 
 pub every_run_keeps : EveryRunKeeps
 every_run_keeps a b [] w is =

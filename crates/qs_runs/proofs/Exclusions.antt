@@ -1,5 +1,5 @@
 -- Each clause of what agrees excludes something.
-use Rattle.std.proofs.Common.{◌≡◌, ℕ, ◌<◌, ◌≤◌, List, [], ◌∷◌, ◌++◌, length, take, true, cond, ◌&&◌, ◌==◌, Some, slice_index_or, refl, sym, ap, ◌∙◌, arith, subst}
+use Rattle.std.proofs.Common.{◌≡◌, ℕ, ◌+◌, ◌<◌, ◌≤◌, List, [], ◌∷◌, ◌++◌, length, take, true, cond, ◌&&◌, ◌==◌, Some, slice_index_or, refl, sym, ap, ◌∙◌, arith, subst}
 use Rattle.std.specs.Global.{Vec}
 use Rattle.std.specs.FinSet as set
 use Rattle.std.proofs.lemmas.Option.{same_Some, none-some}
@@ -16,6 +16,7 @@ use Rattle.qs_machine.specs.Tables.{lookup, total}
 use Rattle.qs_machine.specs.Ends.{End}
 use Rattle.qs_machine.specs.Credit.{spent}
 use Rattle.qs_machine.specs.SmallEnds.{server_with, abc, sent, fresh, all_came}
+use Rattle.qs_machine.proofs.Claims.{gave}
 use Rattle.qs_wire.specs.Reading.{reading_from}
 use Rattle.qs_runs.specs.Agree.{IsOld, frames_in}
 use Rattle.std.specs.List.{AllByRecursion}
@@ -122,6 +123,8 @@ steps bytes text none =
       not_its = λ v w (payload, made, taken, same). none-some payload made;
       sender = λ v w (payload, made, taken, same) changed. changed same;
       other = λ v w step changed. changed step.1;
+      unused = λ v w number step same. (let (is, new) = gave v.a w.a number step.0 in omega (arith, same, ap (λ (e : End). e.next) new));
+      not_next = λ v w step. (let (is, new) = gave v.a w.a (v.a.next + 1) step.0 in omega (arith, is));
       other_answer = λ v w step. step.0;
     }
 

@@ -4,6 +4,7 @@ use Rattle.std.proofs.lemmas.Option.{none-some, same_Some}
 use Rattle.std.specs.Global.{Vec}
 use Rattle.qs_wire.specs.declared.stream_id.Dir.{Dir}
 use Rattle.qs_wire.specs.declared.stream_id.Dir.TheVariants.{Bidi, Uni}
+use Rattle.qs_send.specs.declared.piece.Item.{Item}
 use Rattle.qs_send.specs.declared.piece.Item.TheVariants.{MaxStreams}
 use Rattle.qs_send.specs.Records.{Among}
 use Rattle.qs_calls.specs.declared.settings.Settings.{Settings}
@@ -19,13 +20,13 @@ use Rattle.qs_machine.specs.Credit.{first_grant, granted_streams}
 use Rattle.qs_machine.specs.Seen.{Seen, Control, seen_all}
 use Rattle.qs_machine.specs.Lawful.{MayPut, Fills, frame_put}
 use Rattle.qs_machine.specs.Making.{MakeAt, make_refusal, IsMade}
-use Rattle.qs_machine.specs.EndStep.{Call, Answer as CallAnswer, EndStep, Open, Accept, Write, Finish, Reset, Stop, ReadUpTo, Make, Lose}
+use Rattle.qs_machine.specs.EndStep.{Call, Answer as CallAnswer, EndStep, Open, Accept, Write, Finish, Reset, Stop, ReadUpTo, Make, Lose, Claim}
 use Rattle.qs_machine.specs.Standing.{CountsRise}
 use Rattle.qs_runs.specs.Worlds.{OwnStep}
 use Rattle.qs_runs.specs.Pasts.{Packets, Past, Tells, seen_by}
 use Rattle.qs_runs.specs.Invariant.{EndOk, CountsTrue, CountsOk}
 use Rattle.qs_runs.proofs.NewEnds.{tells_nothing}
-use Rattle.qs_runs.proofs.Wire.{text_seen}
+use Rattle.qs_runs.proofs.Wire.{text_seen, ping_seen}
 
 -- what an owner does is a call of the end
 pub own_call : (e new : End) (act : Act) (answer : Answer) → OwnStep e act answer new → (call : Call) × (given : CallAnswer call) × EndStep e call given new
@@ -38,6 +39,7 @@ own_call e new (acts.Stop n code) (answers.Stop r) step = (Stop n code, r, step)
 own_call e new (acts.ReadUpTo n size) (answers.ReadUpTo r bytes) step = (ReadUpTo n size, (r, bytes.items), step)
 own_call e new (acts.Make room) (answers.Make r text) (first, delay, step) = (Make first delay room, (r, text.items), step)
 own_call e new (acts.Lose k) (answers.Lose r) step = (Lose k, r, step)
+own_call e new acts.Claim (answers.Claim r) step = (Claim, r, step)
 own_call e new act answer step = absurd step
 
 -- What a packet tells
@@ -75,6 +77,11 @@ make_count None e new first delay room (Ok None) text d count h t = absurd (tell
 make_count None e new first delay room (Err fault) text d count h t = absurd (tells_nothing _ _ refl t)
 make_count (Some fault) e new first delay room r text d count h t = absurd (tells_nothing _ _ (ap (λ x. seen_by (acts.Make room) (answers.Make x text)) h.0) t)
 
+-- a claimed number's packet tells no control item
+claim_tells : (r : Result ℕ MakeFault) (i : Item) → Tells (seen_by acts.Claim (answers.Claim r)) (Control i) → ⊥
+claim_tells (Ok number) i t = elim (subst (Among (Control i)) ping_seen (told_one _ (Control i) t)) [ inl is ↦ cc | inr none ↦ none ]
+claim_tells (Err fault) i t = tells_nothing _ _ refl t
+
 told_now : (e new : End) (act : Act) (answer : Answer) (d : Dir) (count : ℕ) → OwnStep e act answer new → Tells (seen_by act answer) (Control (MaxStreams d count)) → count ≤ granted_streams e d
 told_now e new (acts.Make room) (answers.Make r text) d count (first, delay, step) t = make_count (make_refusal e) e new first delay room r text d count step t
 told_now e new (acts.OpenStream dir) (answers.OpenStream r) d count step t = absurd (tells_nothing _ _ refl t)
@@ -85,6 +92,7 @@ told_now e new (acts.Reset n code) (answers.Reset r) d count step t = absurd (te
 told_now e new (acts.Stop n code) (answers.Stop r) d count step t = absurd (tells_nothing _ _ refl t)
 told_now e new (acts.ReadUpTo n size) (answers.ReadUpTo r bytes) d count step t = absurd (tells_nothing _ _ refl t)
 told_now e new (acts.Lose k) (answers.Lose r) d count step t = absurd (tells_nothing _ _ refl t)
+told_now e new acts.Claim (answers.Claim r) d count step t = absurd (claim_tells r (MaxStreams d count) t)
 told_now e new act answer d count step t = absurd step
 
 -- The clause on counts

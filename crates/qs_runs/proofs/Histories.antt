@@ -26,7 +26,7 @@ use Rattle.qs_runs.specs.Pasts.{seen_by, seen_in, past_of, past}
 use Rattle.qs_runs.proofs.OwnMoves.{with_call}
 use Rattle.qs_runs.proofs.PeerMoves.{with_theirs}
 use Rattle.qs_runs.proofs.Receives.{with_received}
-use Rattle.qs_runs.proofs.Wire.{text_faultless}
+use Rattle.qs_runs.proofs.Wire.{text_faultless, ping_faultless}
 
 -- the event of a side
 abbrev pub does : Side → Act → Event
@@ -49,6 +49,7 @@ none_delivered (acts.Stop n code) own answer k d = refl
 none_delivered (acts.ReadUpTo n size) own answer k d = refl
 none_delivered (acts.Make room) own answer k d = refl
 none_delivered (acts.Lose k) own answer j d = refl
+none_delivered acts.Claim own answer j d = refl
 none_delivered (acts.Deliver k) own answer j d = absurd (cc)
 
 pub past_own : (s : Side) (act : Act) (answer : Answer) (h : History) → is_delivery act ≡ false → past s ((does s act, answer) ∷ h) ≡ with_call (past s h) act answer
@@ -102,4 +103,5 @@ made_faultless o e first delay room (Err fault) text new h = tt
 
 pub own_faultless : (e : End) (act : Act) (answer : Answer) (new : End) → OwnStep e act answer new → AreFaultless (made_by act answer)
 own_faultless e (acts.Make room) (answers.Make r text) new (first, delay, step) = made_faultless (make_refusal e) e first delay room r text new step
+own_faultless e acts.Claim (answers.Claim (Ok number)) new step = (ping_faultless, tt)
 own_faultless e act answer new step = tt

@@ -36,7 +36,7 @@ use Rattle.qs_send.specs.Records.{Among}
 use Rattle.qs_machine.specs.Due.{known_count}
 use Rattle.qs_machine.specs.Lawful.{Fills, frame_put, item_put}
 use Rattle.qs_machine.specs.Owner.{refuse_if, send_refusal, recv_refusal, peer_kind, next_stream, with_wanted, OpenStep, IsBlocked, IsOpened, AcceptStep, GivesNone, GivesBidi, GivesUni, AcceptOpen, WriteStep, FinishStep, ResetStep, StopStep, ReadStep, ReadBy}
-use Rattle.qs_machine.specs.Making.{MakeStep, MakeAt, make_refusal, LoseStep, lose_refusal, first_lost, losses}
+use Rattle.qs_machine.specs.Making.{MakeStep, MakeAt, make_refusal, ClaimStep, claim_refusal, LoseStep, lose_refusal, first_lost, losses}
 use Rattle.qs_machine.specs.Receiving.{ReceiveStep, ReceiveBy, ClosedReceive, TakesPayload, Takes, Stops, AtEnd}
 use Rattle.qs_calls.specs.declared.event.Act.{Act}
 use Rattle.qs_calls.specs.declared.event.Act.TheVariants as acts
@@ -188,6 +188,13 @@ module _ (p : Past) (e new : End) (ok : EndOk p e) where
         | inr (allowed, (ps, there, inr (moved, lt, is, same))) ↦ same_recvs e.recvs new.recvs (ap (λ x. x.recvs) same ∙ losses_recvs k (take moved ps) e)
       ]
 
+  claim_grows : (answer : Result ℕ MakeFault) → ClaimStep e answer new → AllGrow e.recvs new.recvs
+  claim_grows answer step =
+      elim (certain_cases (claim_refusal e) e answer new _ step) [
+        | inl (fault, is, same) ↦ same_end e new same
+        | inr (allowed, (is, same)) ↦ same_recvs e.recvs new.recvs (ap (λ x. x.recvs) same)
+      ]
+
 pub own_grows : (p : Past) (e new : End) → EndOk p e → (act : Act) (answer : Answer) → OwnStep e act answer new → AllGrow e.recvs new.recvs
 own_grows p e new ok (acts.OpenStream dir) (answers.OpenStream r) step = open_grows p e new ok dir r step
 own_grows p e new ok acts.Accept (answers.Accept r) step = accept_grows p e new ok r step
@@ -198,6 +205,7 @@ own_grows p e new ok (acts.Stop n code) (answers.Stop r) step = stop_all_grow p 
 own_grows p e new ok (acts.ReadUpTo n size) (answers.ReadUpTo r bytes) step = read_grows p e new ok n size r bytes.items step
 own_grows p e new ok (acts.Make room) (answers.Make r text) (first, delay, step) = make_grows p e new ok first delay room r text.items step
 own_grows p e new ok (acts.Lose k) (answers.Lose r) step = lose_grows p e new ok k r step
+own_grows p e new ok acts.Claim (answers.Claim r) step = claim_grows p e new ok r step
 own_grows p e new ok act answer step = absurd step
 
 -- Payloads

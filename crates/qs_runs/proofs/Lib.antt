@@ -27,6 +27,7 @@ pub mod Repeats
 pub mod Histories
 pub mod OwnStands
 pub mod Runs
+pub mod Claims
 pub mod Agrees
 pub mod Clauses
 pub mod Statements

@@ -40,7 +40,7 @@ FrameTrue p e (Control (DataBlocked m)) = Unit {0}
 FrameTrue p e (Control (StreamDataBlocked n m)) = (l : SendLane) × (lookup e.sends n ≡ Some l)
 FrameTrue p e (Control (StreamsBlocked d m)) = Unit {0}
 FrameTrue p e (Close code) = ⊥
-FrameTrue p e (Plain asks) = ⊥
+FrameTrue p e (Plain asks) = asks ≡ true
 
 true_is_made : (p : Past) (e : End) (f : Seen) → FrameTrue p e f → IsMade f
 true_is_made p e (Ack largest ranges) t = tt
@@ -54,7 +54,7 @@ true_is_made p e (Control (DataBlocked m)) t = tt
 true_is_made p e (Control (StreamDataBlocked n m)) t = tt
 true_is_made p e (Control (StreamsBlocked d m)) t = tt
 true_is_made p e (Close c) t = absurd t
-true_is_made p e (Plain asks) t = absurd t
+true_is_made p e (Plain asks) t = t
 
 -- More was sent: what holds still does, and what is told is told before or is the frame.
 module _ (p : Past) (more : Packets) (e : End) (sent : ℕ) (f : Seen)
@@ -409,3 +409,18 @@ made_ok p e mid frames ok lawful =
     let has_all : EndHas (with_packet p frames) (counted last) 0 = fills_ok p e ok.packets.is_done frames [] e last fills ok.packets.count (empty_packet p e ok) in
     let same : mid ≡ counted last = is ∙ ap (λ x. record last { next = x + 1 }) (sym (fills_next p e ok.packets.is_done frames e last fills)) in
     settle_ok (with_packet p frames) mid (without_sum _ mid 0 (all_sent mid) (subst (λ x. EndHas (with_packet p frames) x 0) (sym same) has_all) lawful.within)
+
+-- the packet of a claimed number
+ping_down : (ms : Packets) (g : Seen) → Tells (ms ++ (Plain true ∷ []) ∷ []) g → Tells ms g ⊎ (g ≡ Plain true)
+ping_down ms g (k, (fs, at, a)) =
+    elim (slice_get-push ms (Plain true ∷ []) k fs at) [
+      | inl old ↦ inl (k, (fs, old, a))
+      | inr new ↦ elim (subst (Among g) new.1 a) [ inl is ↦ inr is | inr none ↦ absurd none ]
+    ]
+
+-- a number is used up, and its packet is a PING
+pub claimed_ok : (p : Past) (e : End) → EndOk p e → EndOk (with_packet p (Plain true ∷ [])) (counted e)
+claimed_ok p e ok =
+    put_ok p (p.mine ++ (Plain true ∷ []) ∷ []) e (all_sent e) (Plain true)
+    (λ k g holds. (let (fs, at, a) = holds in (fs, slice_get-append p.mine _ k fs at, a)))
+    (ping_down p.mine) refl (e.next + 1) ok (ap (λ x. x + 1) ok.packets.count ∙ sym (length-append p.mine ((Plain true ∷ []) ∷ [])))

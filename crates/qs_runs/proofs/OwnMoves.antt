@@ -25,7 +25,7 @@ use Rattle.qs_machine.specs.Credit.{settle}
 use Rattle.qs_machine.specs.Seen.{Seen, seen_all}
 use Rattle.qs_machine.specs.Due.{known_count}
 use Rattle.qs_machine.specs.Owner.{first_refusal, refuse_if, send_refusal, recv_refusal, half_refusal, no_half, opened_count, own_kind, peer_kind, with_wanted, OpenStep, IsBlocked, IsOpened, AcceptStep, GivesNone, GivesBidi, GivesUni, AcceptOpen, WriteStep, FinishStep, ResetStep, StopStep, ReadStep, ReadBy, next_stream}
-use Rattle.qs_machine.specs.Making.{MakeStep, MakeAt, make_refusal, IsMade, LoseStep, lose_refusal}
+use Rattle.qs_machine.specs.Making.{MakeStep, MakeAt, make_refusal, IsMade, LoseStep, lose_refusal, ClaimStep, claim_refusal}
 use Rattle.qs_calls.specs.declared.event.Act.{Act}
 use Rattle.qs_calls.specs.declared.event.Act.TheVariants as acts
 use Rattle.qs_calls.specs.declared.answer.Answer.{Answer}
@@ -39,9 +39,9 @@ use Rattle.qs_runs.proofs.Changes.{Grows, Grows_refl, send_kept}
 use Rattle.qs_runs.proofs.Settling.{settle_ok}
 use Rattle.qs_runs.proofs.Acking.{reset_ok, reset_end}
 use Rattle.qs_runs.proofs.Losing.{losses_ok}
-use Rattle.qs_runs.proofs.Making.{made_ok}
+use Rattle.qs_runs.proofs.Making.{made_ok, claimed_ok}
 use Rattle.qs_runs.proofs.Standing.{certain_cases, uncertain_cases}
-use Rattle.qs_runs.proofs.Wire.{text_seen}
+use Rattle.qs_runs.proofs.Wire.{text_seen, ping_seen}
 use Rattle.qs_runs.proofs.Writing.{write_allowed, finish_ok, wrote_ok, with_bytes}
 use Rattle.qs_runs.proofs.Reading.{not_at_end, end_by_fin, read_bytes_ok, read_told_ok, stop_ok, stop_grows, recv_view}
 use Rattle.qs_runs.proofs.OwnStreams.{next_own, next_below, own_opened}
@@ -277,6 +277,17 @@ module _ (p : Past) (e new : End) (ok : EndOk p e) where
         | inr (allowed, (ps, there, inr (moved, lt, is, same))) ↦ ended_by p _ new same (losses_ok p k (take moved ps) e (λ x a. ok.packets.records k ps x there (Among_take moved ps x a)) ok)
       ]
 
+  claim_moves : (answer : Result ℕ MakeFault) → ClaimStep e answer new → EndOk (with_call p acts.Claim (answers.Claim answer)) new
+  claim_moves answer step =
+      elim (certain_cases (claim_refusal e) e answer new _ step) [
+        | inl (fault, is, same) ↦ subst (λ a. EndOk (with_call p acts.Claim (answers.Claim a)) new) (sym is)
+            (quiet_moves acts.Claim (answers.Claim (Err fault)) (quiet p acts.Claim (answers.Claim (Err fault)) refl (λ m. refl) (λ m. refl) (λ m. refl) (λ m. refl)) (ended_by p e new same ok))
+        | inr (allowed, (is, same)) ↦ subst (λ a. EndOk (with_call p acts.Claim (answers.Claim a)) new) (sym is)
+            (subst (λ x. EndOk x new)
+            (λ i. record { mine = p.mine ++ sym ping_seen i ∷ []; theirs = p.theirs; bytes = λ m. sym (append-nil (p.bytes m)) i; gave = λ m. sym (append-nil (p.gave m)) i; stopped = p.stopped; ended = p.ended; processed = p.processed })
+            (ended_by _ _ new same (claimed_ok p e ok)))
+      ]
+
 pub own_moves : (p : Past) (e new : End) (act : Act) (answer : Answer) → EndOk p e → OwnStep e act answer new → EndOk (with_call p act answer) new
 own_moves p e new (acts.OpenStream dir) (answers.OpenStream r) ok step = quiet_moves p e new ok (acts.OpenStream dir) (answers.OpenStream r) (quiet p (acts.OpenStream dir) (answers.OpenStream r) refl (λ m. refl) (λ m. refl) (λ m. refl) (λ m. refl)) (open_moves p e new ok dir r step)
 own_moves p e new acts.Accept (answers.Accept r) ok step = quiet_moves p e new ok acts.Accept (answers.Accept r) (quiet p acts.Accept (answers.Accept r) refl (λ m. refl) (λ m. refl) (λ m. refl) (λ m. refl)) (accept_moves p e new ok r step)
@@ -287,4 +298,5 @@ own_moves p e new (acts.Stop n code) (answers.Stop r) ok step = stop_moves p e n
 own_moves p e new (acts.ReadUpTo n size) (answers.ReadUpTo r bytes) ok step = read_moves p e new ok n size r bytes step
 own_moves p e new (acts.Make room) (answers.Make r text) ok (first, delay, step) = make_moves p e new ok first delay room r text step
 own_moves p e new (acts.Lose k) (answers.Lose r) ok step = quiet_moves p e new ok (acts.Lose k) (answers.Lose r) (quiet p (acts.Lose k) (answers.Lose r) refl (λ m. refl) (λ m. refl) (λ m. refl) (λ m. refl)) (lose_moves p e new ok k r step)
+own_moves p e new acts.Claim (answers.Claim r) ok step = claim_moves p e new ok r step
 own_moves p e new act answer ok step = absurd step

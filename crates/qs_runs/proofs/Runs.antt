@@ -115,7 +115,7 @@ start a b w is =
     let first : w ≡ first_world a b = made_first a b w is in
     moved (WorldOk a b []) _ _ first (first_ok a b (is ∙ ap Ok first))
 
-made_own : (s : Side) (act : Act) (answer : Answer) (h : History) → is_delivery act ≡ false → made s ((does s act, answer) ∷ h) ≡ made s h ++ made_by act answer
+pub made_own : (s : Side) (act : Act) (answer : Answer) (h : History) → is_delivery act ≡ false → made s ((does s act, answer) ∷ h) ≡ made s h ++ made_by act answer
 unfolding own_calls
 made_own A act answer h own = rw own refl
 made_own B act answer h own = rw own refl
@@ -191,6 +191,7 @@ module _ (a b : Settings) (h : History) (v w : World) (s : Side) (ok : WorldOk a
   step_by (acts.ReadUpTo n size) answer step = own_step (acts.ReadUpTo n size) answer refl step.0 step.1
   step_by (acts.Make room) answer step = own_step (acts.Make room) answer refl step.0 step.1
   step_by (acts.Lose k) answer step = own_step (acts.Lose k) answer refl step.0 step.1
+  step_by acts.Claim answer step = own_step acts.Claim answer refl step.0 step.1
 
 -- one step keeps the invariant
 pub step_keeps : (a b : Settings) (h : History) (v w : World) (event : Event) (answer : Answer) → WorldOk a b h v → WorldStep h v event answer w → WorldOk a b ((event, answer) ∷ h) w

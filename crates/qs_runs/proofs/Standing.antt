@@ -24,7 +24,7 @@ use Rattle.qs_machine.specs.Lawful.{Fills, frame_put, item_put}
 use Rattle.qs_machine.specs.Due.{known_count}
 use Rattle.qs_machine.specs.Owner.{Certain, Uncertain, refuse_if, send_refusal, recv_refusal, peer_kind, with_wanted, OpenStep, IsBlocked, IsOpened, AcceptStep, GivesNone, GivesBidi, GivesUni, AcceptOpen, WriteStep, FinishStep, ResetStep, StopStep, ReadStep, ReadBy}
 use Rattle.qs_runs.specs.Invariant.{Standing, standing}
-use Rattle.qs_machine.specs.Making.{MakeStep, MakeAt, make_refusal, LoseStep, lose_refusal, first_lost, losses}
+use Rattle.qs_machine.specs.Making.{MakeStep, MakeAt, make_refusal, LoseStep, ClaimStep, claim_refusal, lose_refusal, first_lost, losses}
 
 -- that, the number below which no packet is told apart, and the granted counts of streams
 abbrev pub standing_at : End → Standing × ℕ × ℕ × ℕ
@@ -206,4 +206,11 @@ module _ (e new : End) where
         | inl (fault, is, same) ↦ ap standing same
         | inr (allowed, (ps, there, inl (is, same))) ↦ ap standing same ∙ losses_stand k ps e
         | inr (allowed, (ps, there, inr (moved, lt, is, same))) ↦ ap standing same ∙ losses_stand k (take moved ps) e
+      ]
+
+  pub claim_stands : (answer : Result ℕ MakeFault) → ClaimStep e answer new → standing new ≡ standing e
+  claim_stands answer step =
+      elim (certain_cases (claim_refusal e) e answer new _ step) [
+        | inl (fault, is, same) ↦ ap standing same
+        | inr (allowed, (is, same)) ↦ ap standing same
       ]

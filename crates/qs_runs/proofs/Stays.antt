@@ -50,6 +50,7 @@ module _ (a b : Settings) (h : History) (v w : World) (s : Side) (ok : WorldOk a
   all_grow (acts.ReadUpTo n size) answer step = own_grow (acts.ReadUpTo n size) answer step.0 step.1
   all_grow (acts.Make room) answer step = own_grow (acts.Make room) answer step.0 step.1
   all_grow (acts.Lose k) answer step = own_grow (acts.Lose k) answer step.0 step.1
+  all_grow acts.Claim answer step = own_grow acts.Claim answer step.0 step.1
 
   known_stays : (act : Act) (answer : Answer) → StepBy h v s act answer w → (t : Side) (n : ℕ) → AllKeepWhatTheyKnow v w t n
   known_stays act answer step t n r is = (let (m, there, g) = all_grow act answer step (other t) n r is in (m, there, keeps r m g))

@@ -1,12 +1,14 @@
 -- How bytes enter: a canonical text has no fault and gives its frames.
-use Rattle.std.proofs.Common.{◌≡◌, ◌≢◌, ℕ, ◌<◌, List, [], ◌∷◌, length, None, refl, ap, ◌∙◌, arith}
+use Rattle.std.proofs.Common.{◌≡◌, ◌≢◌, ℕ, ◌<◌, List, [], ◌∷◌, length, true, None, refl, ap, ◌∙◌, arith}
 use Rattle.std.specs.List.{AllByRecursion}
-use Rattle.qs_wire.specs.Layout.{FrameValue}
-use Rattle.qs_wire.specs.Grammar.{Fits, canonical_all, frames_of}
+use Rattle.qs_wire.specs.Layout.{FrameValue, ping}
+use Rattle.qs_wire.specs.Grammar.{Fits, canonical, canonical_all, frames_of}
+use Rattle.qs_wire.specs.Varint.{short}
 use Rattle.qs_wire.specs.Reading.{reading_of}
 use Rattle.qs_wire.proofs.PayloadLaws.{canonical_payload, payload_again}
-use Rattle.qs_machine.specs.Seen.{seen_all}
+use Rattle.qs_machine.specs.Seen.{Plain, seen_all}
 use Rattle.qs_machine.specs.Making.{IsText}
+use Rattle.qs_runs.specs.Logs.{ping_text}
 use Rattle.qs_runs.specs.Agree.{frames_in}
 
 pub canonical_reads_back : (frames : List FrameValue) → 0 < length frames → AllByRecursion Fits frames → (frames_of (reading_of (canonical_all frames)).left ≡ frames) × ((reading_of (canonical_all frames)).fault ≡ None)
@@ -22,3 +24,12 @@ text_seen delay frames text some is = ap frames_in is.canonical ∙ ap seen_all 
 
 pub text_faultless : (delay : ℕ) (frames : List FrameValue) (text : List ℕ) → seen_all frames ≢ [] → IsText delay frames text → (reading_of text).fault ≡ None
 text_faultless delay frames text some is = ap (λ t. (reading_of t).fault) is.canonical ∙ (canonical_reads_back frames (not_empty frames some) is.fits).1
+
+-- the one byte of a PING reads as a PING
+pub ping_seen : frames_in ping_text ≡ Plain true ∷ []
+unfolding canonical short
+ping_seen = ap seen_all (canonical_reads_back (ping ∷ []) (omega arith) (tt, tt)).0
+
+pub ping_faultless : (reading_of ping_text).fault ≡ None
+unfolding canonical short
+ping_faultless = (canonical_reads_back (ping ∷ []) (omega arith) (tt, tt)).1

@@ -1,13 +1,14 @@
 -- Of laws.
 -- What is read off a small log.
-use Rattle.std.specs.Prelude.{◌≡◌, ℕ, true, false, [], ◌∷◌, None, Some, Ok}
+use Rattle.std.specs.Prelude.{◌≡◌, ℕ, true, false, [], ◌∷◌, None, Some, Ok, Err}
 use Rattle.std.specs.Global.{Vec}
 use Rattle.qs_recv.specs.declared.half.Read.TheVariants.{Bytes, End}
 use Rattle.qs_calls.specs.declared.closing.Received.TheVariants.{Done, Duplicate}
+use Rattle.qs_calls.specs.declared.making.MakeFault.TheVariants.{Exhausted}
 use Rattle.qs_calls.specs.declared.event.Side.{Side}
 use Rattle.qs_calls.specs.declared.event.Side.TheVariants.{A, B}
 use Rattle.qs_calls.specs.declared.event.Act.{Act}
-use Rattle.qs_calls.specs.declared.event.Act.TheVariants.{Write, Stop, ReadUpTo, Make, Deliver}
+use Rattle.qs_calls.specs.declared.event.Act.TheVariants.{Write, Stop, ReadUpTo, Make, Claim, Deliver}
 use Rattle.qs_calls.specs.declared.event.Event.{Event}
 use Rattle.qs_calls.specs.declared.answer.Answer.{Answer}
 use Rattle.qs_calls.specs.declared.answer.Answer.TheVariants as answers
@@ -69,6 +70,10 @@ pub record LogsAreRead (bytes none : Vec ℕ) : Type 0 where
   pub in_order : written A 0 (wrote A bytes 1 ∷ wrote A bytes 3 ∷ []) ≡ 97 ∷ 98 ∷ 99 ∷ 97 ∷ []
   -- as does what was read later
   pub read_in_order : read B 0 (got B bytes ∷ told_end B none ∷ got B bytes ∷ []) ≡ 97 ∷ 98 ∷ 99 ∷ 97 ∷ 98 ∷ 99 ∷ []
+  -- under a claimed number a PING goes
+  pub claimed : payload A 0 ((at A Claim, answers.Claim (Ok 0)) ∷ []) ≡ Some (1 ∷ [])
+  -- and no packet where none was left to claim
+  pub none_claimed : made A ((at A Claim, answers.Claim (Err Exhausted)) ∷ []) ≡ []
   -- a packet that came twice was processed once
   pub twice : processed B 0 ((at A (Deliver 0), answers.Deliver (Ok Duplicate)) ∷ []) ≡ false
   -- a reader that was told no end wasn't told the whole

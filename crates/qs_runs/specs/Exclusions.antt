@@ -1,6 +1,6 @@
 -- Of laws.
 -- What two ends that agree exclude: beside each clause a small history, and a world, that lacks it (RFC 9000, sections 2.2, 3 and 4).
-use Rattle.std.specs.Prelude.{◌≡◌, ℕ, true, false, [], ◌∷◌, None, Some, Ok}
+use Rattle.std.specs.Prelude.{◌≡◌, ℕ, ◌+◌, true, false, [], ◌∷◌, None, Some, Ok}
 use Rattle.std.specs.Global.{Vec}
 use Rattle.qs_ranges.specs.Numbers.{numbers}
 use Rattle.qs_recv.specs.Lane.{RecvLane}
@@ -9,7 +9,7 @@ use Rattle.qs_send.specs.declared.piece.Item.TheVariants.{ResetStream}
 use Rattle.qs_calls.specs.declared.closing.Closed.TheVariants.{ByPeer}
 use Rattle.qs_calls.specs.declared.closing.Received.TheVariants.{Done}
 use Rattle.qs_calls.specs.declared.event.Side.TheVariants.{A, B}
-use Rattle.qs_calls.specs.declared.event.Act.TheVariants.{Accept, Deliver}
+use Rattle.qs_calls.specs.declared.event.Act.TheVariants.{Accept, Claim, Deliver}
 use Rattle.qs_calls.specs.declared.answer.Answer.TheVariants as answers
 use Rattle.qs_machine.specs.Ends.{End}
 use Rattle.qs_machine.specs.Seen.{Stream, Control}
@@ -103,6 +103,10 @@ pub record NothingHappens (bytes text none : Vec ℕ) : Type 0 where
   pub sender : (v w : World) → WorldStep (story bytes text none) v (at A (Deliver 0)) (answers.Deliver (Ok Done)) w → (w.a ≡ v.a → ⊥) → ⊥
   -- a call of one end changes the other
   pub other : (v w : World) → WorldStep (story bytes text none) v (at A Accept) (answers.Accept None) w → (w.b ≡ v.b → ⊥) → ⊥
+  -- a number is claimed and stays unused
+  pub unused : (v w : World) (number : ℕ) → WorldStep (story bytes text none) v (at A Claim) (answers.Claim (Ok number)) w → w.a.next ≡ v.a.next → ⊥
+  -- or isn't the next one
+  pub not_next : (v w : World) → WorldStep (story bytes text none) v (at A Claim) (answers.Claim (Ok (v.a.next + 1))) w → ⊥
   -- a call answers as another one does
   pub other_answer : (v w : World) → WorldStep (story bytes text none) v (at A Accept) (answers.Finish (Ok tt)) w → ⊥
 

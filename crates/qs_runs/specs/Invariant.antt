@@ -119,10 +119,10 @@ FrameTaken t (Stream n offset bytes fin) = (l : RecvLane) × (lookup t n ≡ Som
 FrameTaken t (Control (ResetStream n code size)) = (l : RecvLane) × (lookup t n ≡ Some l) × (l.final_size ≡ Some size)
 FrameTaken t f = Unit {0}
 
--- An end makes no other frames.
+-- An end makes no other frames, and the layer beneath sends a PING.
 abbrev pub IsMade : Seen → Type 0
 IsMade (Close code) = ⊥
-IsMade (Plain asks) = ⊥
+IsMade (Plain asks) = asks ≡ true
 IsMade f = Unit {0}
 
 -- An ACK names processed numbers alone, its largest among them.

@@ -4,6 +4,7 @@ pub mod Agree
 pub mod Pasts
 pub mod Invariant
 pub mod Clauses
+pub mod Claims
 pub mod Laws
 pub mod Examples
 pub mod Exclusions

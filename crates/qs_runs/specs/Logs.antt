@@ -46,8 +46,14 @@ abbrev pub read_by : ℕ → Act → Answer → List ℕ
 read_by n (acts.ReadUpTo m size) (answers.ReadUpTo (Ok (Bytes count)) bytes) = if n == m then bytes.items else []
 read_by n act answer = []
 
+-- what the layer beneath sends under a number that it claimed: a PING (RFC 9000, section 19.2)
+abbrev pub ping_text : List ℕ
+ping_text = 1 ∷ []
+
+-- the payload that a call made, or that goes under the number that it claimed
 abbrev pub made_by : Act → Answer → List (List ℕ)
 made_by (acts.Make room) (answers.Make (Ok (Some made)) payload) = payload.items ∷ []
+made_by acts.Claim (answers.Claim (Ok number)) = ping_text ∷ []
 made_by act answer = []
 
 abbrev pub wrote : ℕ → List (Act × Answer) → List ℕ
@@ -70,7 +76,7 @@ written s n h = wrote n (own_calls s h)
 abbrev pub read : Side → ℕ → History → List ℕ
 read s n h = gave n (own_calls s h)
 
--- the payloads that one end made, in order: packet numbers count from 0
+-- the payloads of the packets that one end's side sent, its own and those under claimed numbers, in order: packet numbers count from 0
 abbrev pub made : Side → History → List (List ℕ)
 made s h = made_in (own_calls s h)
 

@@ -9,7 +9,7 @@ use Rattle.qs_calls.specs.Settings.{limits_of}
 use Rattle.qs_machine.specs.Ends.{End, end_made}
 use Rattle.qs_machine.specs.Owner.{OpenStep, AcceptStep, WriteStep, FinishStep, ResetStep, StopStep, ReadStep}
 use Rattle.qs_machine.specs.Receiving.{ReceiveStep}
-use Rattle.qs_machine.specs.Making.{MakeStep, LoseStep}
+use Rattle.qs_machine.specs.Making.{MakeStep, LoseStep, ClaimStep}
 use Rattle.qs_calls.specs.declared.event.Side.{Side}
 use Rattle.qs_calls.specs.declared.event.Side.TheVariants.{A, B}
 use Rattle.qs_calls.specs.declared.event.Act.{Act}
@@ -47,6 +47,7 @@ OwnStep old (acts.Stop n code) (answers.Stop r) new = StopStep old n code r new
 OwnStep old (acts.ReadUpTo n size) (answers.ReadUpTo r bytes) new = ReadStep old n size r bytes.items new
 OwnStep old (acts.Make room) (answers.Make r text) new = (first : ℕ) × (delay : ℕ) × MakeStep old first delay room r text.items new
 OwnStep old (acts.Lose k) (answers.Lose r) new = LoseStep old k r new
+OwnStep old acts.Claim (answers.Claim r) new = ClaimStep old r new
 OwnStep old act answer new = ⊥
 
 -- the payload that one end made under a number comes to the other end

@@ -2,6 +2,7 @@
 //! it; each of its clauses is a law, and so is each part of what agrees. The last law joins them over whole runs.
 
 ghost use Rattle.qs_runs.specs.Agree.{EveryRunAgrees};
+ghost use Rattle.qs_runs.specs.Claims.{ClaimsAlwaysTellNothing};
 ghost use Rattle.qs_runs.specs.Examples.{Examples};
 ghost use Rattle.qs_runs.specs.Exclusions.{Exclusions};
 ghost use Rattle.qs_runs.specs.Laws.{NewEndsMeetInvariant, StepsKeepInvariant, PiecesAreAlwaysWritten, ReceivedIsAlwaysBelowSent, StoredIsAlwaysWritten, ReadIsAlwaysWritten, ProcessedWasAlwaysTaken, AckedWasAlwaysProcessed, FinalSizeIsAlwaysDeclared, WhatIsKnownStays, ResetCodeIsAlwaysTheSenders, SentIsAlwaysWithinKnown, KnownIsAlwaysWithinGranted, StreamsAreOpenAtInitiator, OpenedIsAlwaysBelowKnown, ReadIsAPrefix, SpentIsBelowSent, RepeatsSpendNothing, ReceivedIsWhole, FinalSizesAlwaysAgree, NoEndCloses};
@@ -114,6 +115,12 @@ pub fn no_end_closes()
 /// Whatever two ends are asked to do, in whatever order and number their packets come, each run of them agrees.
 pub fn every_run_agrees()
     ensures { EveryRunAgrees }
+{}
+
+/// The packet of a number that the layer beneath claimed is a PING, and one that comes changes nothing at the peer but which numbers it
+/// keeps, from which one on, and whether an ACK is due.
+pub fn claims_tell_nothing()
+    ensures { ClaimsAlwaysTellNothing }
 {}
 
 /// What was written, read, made and processed, read off small logs.

@@ -54,11 +54,11 @@ opened_zero =
 
 event_lines : EventLines
 unfolding digits
-event_lines = record { opens = refl; accepts = refl; resets = refl; reads = refl; makes = refl; delivers = refl }
+event_lines = record { opens = refl; accepts = refl; resets = refl; reads = refl; makes = refl; claims = refl; delivers = refl }
 
 answer_lines : AnswerLines
 unfolding digits encode_with
-answer_lines = record { blocked = refl; none = refl; wrong_way = refl; gave = refl; gave_none = refl; packet = refl; not_outstanding = refl; closing = refl }
+answer_lines = record { blocked = refl; none = refl; wrong_way = refl; gave = refl; gave_none = refl; packet = refl; not_outstanding = refl; number = refl; exhausted = refl; closing = refl }
 
 report_lines : ReportLines
 unfolding digits

@@ -8,7 +8,7 @@ use Rattle.qs_calls.specs.declared.event.Act.TheVariants as acts
 use Rattle.qs_calls.specs.declared.event.Event.{Event}
 use Rattle.qs_calls.specs.declared.answer.Answer.{Answer}
 use Rattle.qs_calls.specs.declared.answer.Answer.TheVariants as answers
-use Rattle.qs_runs.specs.Logs.{History, payload, same_side, is_delivery, own_calls, made, made_in, made_by}
+use Rattle.qs_runs.specs.Logs.{History, payload, same_side, is_delivery, own_calls, made, made_in, made_by, ping_text}
 use Rattle.qs_world.specs.Places.{makes, makes_by, text_of, IsPlace, ArePlaces, IsPlaceOf}
 use Rattle.qs_runs.proofs.Lists.{slice_get-append, slice_get-last}
 
@@ -69,10 +69,12 @@ place_none log (p ∷ ps) [] k h at = absurd h
 
 made_once : (act : Act) (answer : Answer) → makes_by act answer ≡ true → (text : List ℕ) × (made_by act answer ≡ text ∷ []) × (text_of answer ≡ Some text)
 made_once (acts.Make room) (answers.Make (Ok (Some made)) text) is = (text.items, refl, refl)
+made_once acts.Claim (answers.Claim (Ok number)) is = (ping_text, refl, refl)
 made_once act answer is = absurd (cc)
 
 made_nothing : (act : Act) (answer : Answer) → makes_by act answer ≡ false → made_by act answer ≡ []
 made_nothing (acts.Make room) (answers.Make (Ok (Some made)) text) is = absurd (cc)
+made_nothing acts.Claim (answers.Claim (Ok number)) is = absurd (cc)
 made_nothing act answer is = refl
 
 -- what an end made, and where, after one event more

@@ -8,7 +8,7 @@ use Rattle.qs_calls.specs.declared.event.Act.TheVariants as acts
 use Rattle.qs_calls.specs.declared.event.Event.{Event}
 use Rattle.qs_calls.specs.declared.answer.Answer.{Answer}
 use Rattle.qs_calls.specs.declared.answer.Answer.TheVariants as answers
-use Rattle.qs_runs.specs.Logs.{History, same_side, payload}
+use Rattle.qs_runs.specs.Logs.{History, same_side, payload, ping_text}
 
 -- what happened, and whether there is room for one event more
 pub record Logged : Type 0 where
@@ -20,18 +20,20 @@ abbrev pub logged_code : Coded Event → Coded Answer → Coded Logged
 logged_code event answer =
     code_by (History × Bool) (coded× (coded_list (coded× event answer)) coded_bool) (λ l. (l.history, l.ready)) (λ p. record { history = p.0; ready = p.1 }) (λ _. refl)
 
--- the call made a packet
+-- the call made a packet, or claimed a number for one
 abbrev pub makes_by : Act → Answer → Bool
 makes_by (acts.Make room) (answers.Make (Ok (Some made)) text) = true
+makes_by acts.Claim (answers.Claim (Ok number)) = true
 makes_by act answer = false
 
--- the event made a packet of that end
+-- the event made a packet of that end, or claimed a number for one
 abbrev pub makes : Side → Event → Answer → Bool
 makes s event answer = same_side s event.end && makes_by event.act answer
 
--- the payload that stands in an answer
+-- the payload of the packet with whose number a call was answered
 abbrev pub text_of : Answer → Option (List ℕ)
 text_of (answers.Make made text) = Some text.items
+text_of (answers.Claim number) = Some ping_text
 text_of answer = None
 
 -- the payload stands at that place of the log

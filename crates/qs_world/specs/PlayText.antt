@@ -69,6 +69,7 @@ act_text (acts.Stop n code) side = codes "stop" ++ side ++ also (decimal n) ++ a
 act_text (acts.ReadUpTo n size) side = codes "read" ++ side ++ also (decimal n) ++ also (decimal size)
 act_text (acts.Make room) side = codes "make" ++ side ++ also (decimal room)
 act_text (acts.Lose k) side = codes "lose" ++ side ++ also (decimal k)
+act_text acts.Claim side = codes "claim" ++ side
 act_text (acts.Deliver k) side = codes "deliver" ++ side ++ also (decimal k)
 
 -- an event as a script has it
@@ -114,18 +115,25 @@ read_text (Ok (reads.Reset code)) bytes = codes "reset " ++ decimal code
 read_text (Ok reads.Wait) bytes = codes "wait"
 read_text (Err fault) bytes = use_fault_text fault
 
+abbrev pub make_fault_text : MakeFault → List ℕ
+make_fault_text making.Closed = codes "closed"
+make_fault_text making.NoMemory = codes "no-memory"
+make_fault_text making.Exhausted = codes "exhausted"
+
 abbrev pub make_text : Result (Option Made) MakeFault → List ℕ → List ℕ
 make_text (Ok (Some made)) payload = codes "packet " ++ decimal made.number ++ also (hex_text payload)
 make_text (Ok None) payload = codes "nothing"
-make_text (Err making.Closed) payload = codes "closed"
-make_text (Err making.NoMemory) payload = codes "no-memory"
-make_text (Err making.Exhausted) payload = codes "exhausted"
+make_text (Err fault) payload = make_fault_text fault
 
 abbrev pub lose_text : Result (Unit {0}) LostFault → List ℕ
 lose_text (Ok done) = codes "ok"
 lose_text (Err losing.NotOutstanding) = codes "not-outstanding"
 lose_text (Err losing.NoMemory) = codes "no-memory"
 lose_text (Err losing.Closed) = codes "closed"
+
+abbrev pub claim_text : Result ℕ MakeFault → List ℕ
+claim_text (Ok number) = codes "number " ++ decimal number
+claim_text (Err fault) = make_fault_text fault
 
 abbrev pub deliver_text : Result Received Closing → List ℕ
 deliver_text (Ok received.Done) = codes "done"
@@ -145,6 +153,7 @@ answer_text (answers.Stop r) = use_text r
 answer_text (answers.ReadUpTo r bytes) = read_text r bytes.items
 answer_text (answers.Make r payload) = make_text r payload.items
 answer_text (answers.Lose r) = lose_text r
+answer_text (answers.Claim r) = claim_text r
 answer_text (answers.Deliver r) = deliver_text r
 
 -- Reports

@@ -132,6 +132,7 @@ kinds_of verbs.Stop = any_number ∷ any_number ∷ []
 kinds_of verbs.Read = any_number ∷ number_word 0 65535 ∷ []
 kinds_of verbs.Make = number_word 128 16383 ∷ []
 kinds_of verbs.Lose = any_number ∷ []
+kinds_of verbs.Claim = []
 kinds_of verbs.Deliver = any_number ∷ []
 
 -- what an event says: its first word, its end, and what its other words say
@@ -150,6 +151,7 @@ verb_in (acts.Stop n code) = verbs.Stop
 verb_in (acts.ReadUpTo n size) = verbs.Read
 verb_in (acts.Make room) = verbs.Make
 verb_in (acts.Lose k) = verbs.Lose
+verb_in acts.Claim = verbs.Claim
 verb_in (acts.Deliver k) = verbs.Deliver
 
 abbrev pub values_in : Act → List Value
@@ -162,6 +164,7 @@ values_in (acts.Stop n code) = number_value n ∷ number_value code ∷ []
 values_in (acts.ReadUpTo n size) = number_value n ∷ number_value size ∷ []
 values_in (acts.Make room) = number_value room ∷ []
 values_in (acts.Lose k) = number_value k ∷ []
+values_in acts.Claim = []
 values_in (acts.Deliver k) = number_value k ∷ []
 
 abbrev pub said : Event → Said
@@ -178,11 +181,12 @@ name_of verbs.Stop = codes "stop"
 name_of verbs.Read = codes "read"
 name_of verbs.Make = codes "make"
 name_of verbs.Lose = codes "lose"
+name_of verbs.Claim = codes "claim"
 name_of verbs.Deliver = codes "deliver"
 
 abbrev pub all_verbs : List Verb
 all_verbs =
-    verbs.Open ∷ verbs.Accept ∷ verbs.Write ∷ verbs.Finish ∷ verbs.Reset ∷ verbs.Stop ∷ verbs.Read ∷ verbs.Make ∷ verbs.Lose ∷ verbs.Deliver ∷ []
+    verbs.Open ∷ verbs.Accept ∷ verbs.Write ∷ verbs.Finish ∷ verbs.Reset ∷ verbs.Stop ∷ verbs.Read ∷ verbs.Make ∷ verbs.Lose ∷ verbs.Claim ∷ verbs.Deliver ∷ []
 
 -- the one of these that has that name
 abbrev pub verb_among : List Verb → List ℕ → Result Verb Reason

@@ -97,14 +97,14 @@ impl World {
         self.log.entries()
     }
 
-    /// How many packets an end has made. Their numbers begin at 0.
+    /// How many packets an end has made, with those of the numbers that it claimed. Their numbers begin at 0.
     pub fn made(&self, end: Side) -> u64
         ensures { result ≡ length (made end self.now.log) }
     {
         self.log.made(end)
     }
 
-    /// The payload of a packet that the end made.
+    /// The payload of a packet that the end made, or a PING where it claimed the number.
     pub fn payload(&self, end: Side, number: u64) -> Option<&[u8]>
         ensures found { IfSome result (λ text. payload end number self.now.log ≡ Some text.now) }
         ensures none { IfNone result (payload end number self.now.log ≡ None) }

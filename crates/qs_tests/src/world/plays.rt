@@ -102,6 +102,33 @@ fn a_packet_is_lost_and_sent_again(rt: HostRuntime) -> Result<(), Fail> {
     Ok(())
 }
 
+/// A number is claimed, and its PING comes twice; the ACK names it, and it isn't outstanding (RFC 9000, sections 12.3 and 13.1).
+const CLAIMED: &[u8] = b"\
+claim A
+open A bidi
+write A 0 6869
+make A 1200
+deliver A 1
+deliver A 0
+deliver A 0
+make B 1200
+deliver B 0
+lose A 0
+";
+
+#[test]
+fn a_claimed_number_is_acknowledged(rt: HostRuntime) -> Result<(), Fail> {
+    let report = played(rt.alloc(), CLAIMED)?;
+    let answer = |event: usize| report.log.get(event).map(|(_, answer)| answer);
+    assert!(rt; answer(0) == Some(&Answer::Claim(Ok(0))));
+    assert!(rt; answer(5) == Some(&Answer::Deliver(Ok(Received::Done))));
+    assert!(rt; answer(6) == Some(&Answer::Deliver(Ok(Received::Duplicate))));
+    assert!(rt; answer(8) == Some(&Answer::Deliver(Ok(Received::Done))));
+    assert!(rt; answer(9) == Some(&Answer::Lose(Err(LostFault::NotOutstanding))));
+    assert!(rt; report.ends[0] == end(0));
+    Ok(())
+}
+
 // A stream that one end alone has opened has its lanes, and a unidirectional one has one (RFC 9000, section 2.1).
 #[test]
 fn lanes_come_by_stream_number(rt: HostRuntime) -> Result<(), Fail> {

@@ -59,13 +59,16 @@ fn id(rt: &impl Abort, number: u64) -> StreamId {
 
 #[test]
 fn each_reason(rt: HostRuntime) {
-    let scripts: [(&[u8], u64); 12] = [
+    let scripts: [(&[u8], u64); 15] = [
         (b"jump A", 1),
         (b" # x", 1),
         (b"read A 0", 2),
         (b"accept A 0", 2),
         (b"write A 0 61 62 63", 2),
+        (b"claim", 2),
+        (b"claim A 0", 2),
         (b"open C bidi", 3),
+        (b"claim C", 3),
         (b"open A both", 4),
         (b"lose A x", 5),
         (b"make A 127", 6),
@@ -215,6 +218,16 @@ fn a_packet_is_lost_and_sent_again(rt: HostRuntime) -> Result<(), Fail> {
     ];
     means(&rt, rt.alloc(), script, &events);
     Ok(())
+}
+
+#[test]
+fn numbers_are_claimed(rt: HostRuntime) {
+    let events = [
+        on(Side::A, Act::Claim),
+        on(Side::A, Act::Deliver(0)),
+        on(Side::B, Act::Claim),
+    ];
+    means(&rt, rt.alloc(), b"claim A\ndeliver A 0\nclaim  B", &events);
 }
 
 #[test]

@@ -39,6 +39,7 @@ pub(crate) fn own_call(end: &mut Endpoint, act: &Act, buffer: Vec<u8>) -> Answer
         Act::ReadUpTo(stream, _) => read(end, *stream, buffer),
         Act::Make(_) => make(end, buffer),
         Act::Lose(number) => Answer::Lose(end.declare_lost(*number)),
+        Act::Claim => Answer::Claim(end.claim_number()),
         Act::Deliver(_) => unreachable!(),
     }
 }

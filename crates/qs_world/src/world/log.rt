@@ -1,6 +1,6 @@
 //! The log of a world, in which a payload is found by its number.
 ghost use Rattle.std.specs.Prelude.{◌≡◌, ◌+◌, ◌<◌, ◌≤◌, ◌^◌, ◌++◌, ◌∷◌, [], length, reverse, true, Some, None, IfSome, IfNone, OnOk, OnErr, vec_len, vec_capacity, slice_get, if◌then◌else◌};
-ghost use Rattle.qs_runs.specs.Logs.{made, payload, same_side};
+ghost use Rattle.qs_runs.specs.Logs.{made, payload, same_side, ping_text};
 ghost use Rattle.qs_world.specs.Places.{ArePlaces, IsPlaceOf, makes, makes_by, text_of};
 
 use qs_calls::{Act, Answer, Event, Side};
@@ -141,18 +141,26 @@ fn nth(numbers: &[usize], place: u64) -> Option<usize>
     numbers.get(place as usize).copied()
 }
 
-// The payload that stands in an answer.
+// What the layer beneath sends under a number that it claimed: a PING.
+fn ping_text() -> &'static [u8]
+    ensures { result.now ≡ ping_text }
+{
+    b"\x01"
+}
+
+// The payload of the packet with whose number a call was answered.
 fn text_of(answer: &Answer) -> Option<&[u8]>
     ensures found { IfSome result (λ text. text_of answer.now ≡ Some text.now) }
     ensures none { IfNone result (text_of answer.now ≡ None) }
 {
     match answer {
         Answer::Make(_, text) => Some(text),
+        Answer::Claim(_) => Some(ping_text()),
         _ => None,
     }
 }
 
-// Whether the event made a packet of that end.
+// Whether the event made a packet of that end, or claimed a number for one.
 fn makes(end: Side, event: &Event, answer: &Answer) -> bool
     ensures { result ≡ makes end event.now answer.now }
 {
@@ -163,12 +171,13 @@ fn makes(end: Side, event: &Event, answer: &Answer) -> bool
     }
 }
 
-// Whether the call made a packet.
+// Whether the call made a packet, or claimed a number for one.
 fn makes_by(act: &Act, answer: &Answer) -> bool
     ensures { result ≡ makes_by act.now answer.now }
 {
     match (act, answer) {
         (Act::Make(_), Answer::Make(Ok(Some(_)), _)) => true,
+        (Act::Claim, Answer::Claim(Ok(_))) => true,
         _ => false,
     }
 }

@@ -22,6 +22,8 @@ pub enum Answer {
     /// With the payload.
     Make(Result<Option<Made>, MakeFault>, Vec<u8>),
     Lose(Result<(), LostFault>),
+    /// With the packet number.
+    Claim(Result<u64, MakeFault>),
     /// Of the end that the payload came to.
     Deliver(Result<Received, Closing>),
 }

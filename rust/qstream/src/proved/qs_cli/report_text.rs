@@ -72,6 +72,7 @@ fn push_event(alloc: Global, text: &mut String, event: &Event) -> Result<(), All
         Act::ReadUpTo(id, size) => write!(text, "read {side} {} {size}", id.value()),
         Act::Make(room) => write!(text, "make {side} {room}"),
         Act::Lose(number) => write!(text, "lose {side} {number}"),
+        Act::Claim => write!(text, "claim {side}"),
         Act::Deliver(number) => write!(text, "deliver {side} {number}"),
     }
 }
@@ -90,6 +91,7 @@ fn push_answer(alloc: Global, text: &mut String, answer: &Answer) -> Result<(), 
         Answer::ReadUpTo(read, bytes) => push_read(alloc, text, *read, bytes),
         Answer::Make(made, payload) => push_made(alloc, text, *made, payload),
         Answer::Lose(lost) => text.push_str(lose_name(*lost)),
+        Answer::Claim(number) => push_claimed(text, *number),
         Answer::Deliver(received) => push_received(text, *received),
     }
 }
@@ -109,6 +111,14 @@ fn use_name(done: Result<(), UseFault>) -> &'static str {
     match done {
         Ok(()) => "ok",
         Err(fault) => use_fault_name(fault),
+    }
+}
+
+fn make_fault_name(fault: MakeFault) -> &'static str {
+    match fault {
+        MakeFault::Closed => "closed",
+        MakeFault::NoMemory => "no-memory",
+        MakeFault::Exhausted => "exhausted",
     }
 }
 
@@ -163,9 +173,15 @@ fn push_made(
             push_hex(alloc, text, payload)
         }
         Ok(None) => text.push_str("nothing"),
-        Err(MakeFault::Closed) => text.push_str("closed"),
-        Err(MakeFault::NoMemory) => text.push_str("no-memory"),
-        Err(MakeFault::Exhausted) => text.push_str("exhausted"),
+        Err(fault) => text.push_str(make_fault_name(fault)),
+    }
+}
+
+/// Appends what came of claiming a packet number.
+fn push_claimed(text: &mut String, claimed: Result<u64, MakeFault>) -> Result<(), AllocError> {
+    match claimed {
+        Ok(number) => write!(text, "number {number}"),
+        Err(fault) => text.push_str(make_fault_name(fault)),
     }
 }
 

@@ -42,6 +42,7 @@ fn codes_and_numbers_have_bounds() -> Result<(), Fail> {
     assert!(rt; fits(Act::ReadUpTo(id, 65_535)));
     assert!(rt; !fits(Act::ReadUpTo(id, 65_536)));
     assert!(rt; fits(Act::OpenStream(Dir::Uni)));
+    assert!(rt; fits(Act::Claim));
     Ok(())
 }
 

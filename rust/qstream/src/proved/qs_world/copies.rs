@@ -28,6 +28,7 @@ pub(crate) fn copy_answer(alloc: Global, answer: &Answer) -> Result<Answer, Allo
         }
         Answer::Make(result, payload) => Answer::Make(*result, Vec::from_slice(alloc, payload)?),
         Answer::Lose(result) => Answer::Lose(*result),
+        Answer::Claim(result) => Answer::Claim(*result),
         Answer::Deliver(result) => Answer::Deliver(*result),
     })
 }
@@ -57,6 +58,7 @@ fn copy_act(alloc: Global, act: &Act) -> Result<Act, AllocError> {
         Act::ReadUpTo(stream, size) => Act::ReadUpTo(*stream, *size),
         Act::Make(room) => Act::Make(*room),
         Act::Lose(number) => Act::Lose(*number),
+        Act::Claim => Act::Claim,
         Act::Deliver(number) => Act::Deliver(*number),
     })
 }

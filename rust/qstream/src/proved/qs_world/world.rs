@@ -67,12 +67,12 @@ impl World {
         self.log.entries()
     }
 
-    /// How many packets an end has made. Their numbers begin at 0.
+    /// How many packets an end has made, with those of the numbers that it claimed. Their numbers begin at 0.
     pub fn made(&self, end: Side) -> u64 {
         self.log.made(end)
     }
 
-    /// The payload of a packet that the end made.
+    /// The payload of a packet that the end made, or a PING where it claimed the number.
     pub fn payload(&self, end: Side, number: u64) -> Option<&[u8]> {
         self.log.payload(end, number)
     }

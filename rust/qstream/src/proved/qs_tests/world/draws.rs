@@ -27,6 +27,8 @@ fn note(seen: &mut Seen, event: &Event) {
         Act::Make(_) => 7,
         Act::Lose(_) => 8,
         Act::Deliver(_) => 9,
+        // No claim is drawn.
+        Act::Claim => return,
     };
     seen.kinds[kind] = true;
 }

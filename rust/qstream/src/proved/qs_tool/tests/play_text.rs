@@ -74,7 +74,9 @@ fn packet_answer(alloc: Global, number: usize) -> (Answer, &'static str) {
             "not-outstanding",
         ),
         3 => (Answer::Deliver(Ok(Received::BelowFloor)), "below-floor"),
-        4 => (
+        4 => (Answer::Claim(Ok(7)), "number 7"),
+        5 => (Answer::Claim(Err(MakeFault::Exhausted)), "exhausted"),
+        6 => (
             Answer::Deliver(Ok(Received::PeerClosed(16))),
             "peer-closed 16",
         ),
@@ -108,7 +110,7 @@ fn answers_of_streams() -> Result<(), Fail> {
 #[test]
 fn answers_of_packets() -> Result<(), Fail> {
     let rt = HostRuntime::new();
-    for number in 0..6 {
+    for number in 0..8 {
         let (answer, text) = packet_answer(rt.alloc(), number);
         shows(&rt, rt.alloc(), answer, text)?;
     }

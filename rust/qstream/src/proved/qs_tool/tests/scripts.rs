@@ -108,6 +108,50 @@ fn an_acknowledgement_of_a_lost_packet_comes_late() {
     plays(&rt, rt.alloc(), LATE_SCRIPT, Status::Success, LATE);
 }
 
+const CLAIMING_SCRIPT: &[u8] = b"\
+claim A
+open A bidi
+write A 0 6869
+make A 1200
+deliver A 1
+deliver A 0
+deliver A 0
+make B 1200
+deliver B 0
+lose A 0
+claim B
+deliver B 1
+make A 1200
+";
+
+/// A PING goes under a claimed number. It may come late and twice, and is acknowledged like any other packet; nothing of it is outstanding
+/// (RFC 9000, sections 12.3, 13.1 and 19.2).
+const CLAIMING: &str = "\
+claim A -> number 0
+open A bidi -> stream 0
+write A 0 6869 -> wrote 2
+make A 1200 -> packet 1 0a00026869
+deliver A 1 -> done
+deliver A 0 -> done
+deliver A 0 -> duplicate
+make B 1200 -> packet 0 0201000001
+deliver B 0 -> done
+lose A 0 -> not-outstanding
+claim B -> number 1
+deliver B 1 -> done
+make A 1200 -> packet 2 0201000001
+lane A 0 written 2 read 0 received no declared none known none
+lane B 0 written 0 read 0 received no declared none known none
+end A spent 0 granted 4096 stored 0
+end B spent 2 granted 4096 stored 2
+";
+
+#[test]
+fn a_number_is_claimed() {
+    let rt = HostRuntime::new();
+    plays(&rt, rt.alloc(), CLAIMING_SCRIPT, Status::Success, CLAIMING);
+}
+
 const OVERTAKING_SCRIPT: &[u8] = b"\
 open A bidi
 write A 0 616263

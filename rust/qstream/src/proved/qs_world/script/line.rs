@@ -21,11 +21,12 @@ enum Verb {
     Read,
     Make,
     Lose,
+    Claim,
     Deliver,
 }
 
 impl Verb {
-    const ALL: [Verb; 10] = [
+    const ALL: [Verb; 11] = [
         Verb::Open,
         Verb::Accept,
         Verb::Write,
@@ -35,6 +36,7 @@ impl Verb {
         Verb::Read,
         Verb::Make,
         Verb::Lose,
+        Verb::Claim,
         Verb::Deliver,
     ];
 
@@ -58,6 +60,7 @@ impl Verb {
             Verb::Read => b"read",
             Verb::Make => b"make",
             Verb::Lose => b"lose",
+            Verb::Claim => b"claim",
             Verb::Deliver => b"deliver",
         }
     }
@@ -65,7 +68,7 @@ impl Verb {
     /// How many words follow it.
     fn more_words(self) -> usize {
         match self {
-            Verb::Accept => 1,
+            Verb::Accept | Verb::Claim => 1,
             Verb::Open | Verb::Finish | Verb::Make | Verb::Lose | Verb::Deliver => 2,
             Verb::Write | Verb::Reset | Verb::Stop | Verb::Read => 3,
         }
@@ -133,6 +136,7 @@ fn parse_words(alloc: Global, verb: Verb, third: &[u8], fourth: &[u8]) -> Result
         }
         Verb::Make => Ok(Act::Make(parse_size(third, MIN_ROOM, MAX_ROOM)?)),
         Verb::Lose => Ok(Act::Lose(parse_number(third, 0, MAX_VARINT)?)),
+        Verb::Claim => Ok(Act::Claim),
         Verb::Deliver => Ok(Act::Deliver(parse_number(third, 0, MAX_VARINT)?)),
     }
 }

@@ -89,15 +89,21 @@ fn nth(numbers: &[usize], place: u64) -> Option<usize> {
     numbers.get(place as usize).copied()
 }
 
-// The payload that stands in an answer.
+// What the layer beneath sends under a number that it claimed: a PING.
+fn ping_text() -> &'static [u8] {
+    b"\x01"
+}
+
+// The payload of the packet with whose number a call was answered.
 fn text_of(answer: &Answer) -> Option<&[u8]> {
     match answer {
         Answer::Make(_, text) => Some(text),
+        Answer::Claim(_) => Some(ping_text()),
         _ => None,
     }
 }
 
-// Whether the event made a packet of that end.
+// Whether the event made a packet of that end, or claimed a number for one.
 fn makes(end: Side, event: &Event, answer: &Answer) -> bool {
     if same_side(end, event.end) {
         makes_by(&event.act, answer)
@@ -106,10 +112,11 @@ fn makes(end: Side, event: &Event, answer: &Answer) -> bool {
     }
 }
 
-// Whether the call made a packet.
+// Whether the call made a packet, or claimed a number for one.
 fn makes_by(act: &Act, answer: &Answer) -> bool {
     match (act, answer) {
         (Act::Make(_), Answer::Make(Ok(Some(_)), _)) => true,
+        (Act::Claim, Answer::Claim(Ok(_))) => true,
         _ => false,
     }
 }

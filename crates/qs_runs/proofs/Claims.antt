@@ -1,0 +1,190 @@
+-- What comes of a packet of a claimed number.
+use Rattle.std.proofs.Common.{◌≡◌, ℕ, ◌+◌, Bool, true, false, List, [], ◌∷◌, ◌++◌, ◌⊎◌, length, Option, Some, None, Result, Ok, Err, slice_get, refl, sym, ap, ◌∙◌, subst, inl, inr, MatchBool, nat_lt}
+use Rattle.std.proofs.lemmas.Option.{none-some}
+use Rattle.std.proofs.lemmas.List.{length-map}
+use Rattle.std.specs.FinSet as set
+use Rattle.qs_wire.specs.Layout.{PlacedValue}
+use Rattle.qs_wire.specs.Grammar.{frames_of}
+use Rattle.qs_wire.specs.Reading.{reading_of}
+use Rattle.qs_wire.specs.declared.fault.WireFault.{WireFault}
+use Rattle.qs_wire.specs.declared.stream_id.Role.{Role}
+use Rattle.qs_wire.specs.declared.stream_id.Role.TheVariants.{Client, Server}
+use Rattle.qs_wire.specs.declared.stream_id.Dir.TheVariants.{Bidi, Uni}
+use Rattle.qs_send.specs.declared.piece.Piece.{Piece}
+use Rattle.qs_calls.specs.Settings.{limits_of}
+use Rattle.qs_calls.specs.declared.settings.Settings.{Settings}
+use Rattle.qs_calls.specs.declared.settings.PeerLimits.{PeerLimits}
+use Rattle.qs_calls.specs.declared.closing.Closing.{Closing}
+use Rattle.qs_calls.specs.declared.closing.Received.{Received}
+use Rattle.qs_calls.specs.declared.closing.Received.TheVariants.{Done, Duplicate, BelowFloor, PeerClosed, NoMemory}
+use Rattle.qs_calls.specs.declared.making.MakeFault.{MakeFault}
+use Rattle.qs_calls.specs.declared.event.Side.{Side}
+use Rattle.qs_calls.specs.declared.event.Side.TheVariants.{A, B}
+use Rattle.qs_calls.specs.declared.event.Act.{Act}
+use Rattle.qs_calls.specs.declared.event.Act.TheVariants as acts
+use Rattle.qs_calls.specs.declared.answer.Answer.{Answer}
+use Rattle.qs_calls.specs.declared.answer.Answer.TheVariants as answers
+use Rattle.qs_machine.specs.Tables.{each}
+use Rattle.qs_machine.specs.Ends.{End, new_end, end_made}
+use Rattle.qs_machine.specs.Credit.{settle}
+use Rattle.qs_machine.specs.Seen.{Seen, Plain, seen, seen_all, asks_ack}
+use Rattle.qs_machine.specs.Verdicts.{verdict}
+use Rattle.qs_machine.specs.FrameStep.{frame_taken}
+use Rattle.qs_machine.specs.Recording.{recorded}
+use Rattle.qs_machine.specs.Receiving.{ReceiveStep, ReceiveBy, TakesPayload, Takes, Stops, GoesOn, AtEnd}
+use Rattle.qs_machine.specs.Making.{ClaimStep, claim_refusal, first_lost, losses}
+use Rattle.qs_machine.specs.EndStep.{Call, Answer as CallAnswer, EndStep, Receive}
+use Rattle.qs_machine.specs.Repeats.{OnlyRecords}
+use Rattle.qs_machine.proofs.Bounds.{new_ends_settled as new_counts_settled}
+use Rattle.qs_machine.proofs.CallsCounts.{ends_by}
+use Rattle.qs_machine.proofs.ProcessedAgain.{settle_twice}
+use Rattle.qs_machine.proofs.SettledLimits.{new_ends_settled}
+use Rattle.qs_runs.specs.Logs.{History, other, own_calls, made, made_in, payload, ping_text}
+use Rattle.qs_runs.specs.Worlds.{World, end_of, world_made, OwnStep, StepBy, WorldStep, Run}
+use Rattle.qs_runs.specs.Agree.{frames_in}
+use Rattle.qs_runs.specs.Pasts.{past}
+use Rattle.qs_runs.specs.Invariant.{WorldOk}
+use Rattle.qs_runs.specs.Claims.{claimed, ChangesNumbers, ClaimsAlwaysTellNothing}
+use Rattle.qs_runs.proofs.Lists.{slice_get-last}
+use Rattle.qs_runs.proofs.Standing.{certain_cases}
+use Rattle.qs_runs.proofs.Wire.{ping_seen, ping_faultless}
+use Rattle.qs_runs.proofs.Granting.{own_call}
+use Rattle.qs_runs.proofs.Histories.{does, seen_made}
+use Rattle.qs_runs.proofs.NewEnds.{first_world, made_first, ends_made}
+use Rattle.qs_runs.proofs.Runs.{two_sides, run_keeps, is_open_end, made_own}
+
+-- In every run each end stands as its last call left it.
+
+begun_settled : (role : Role) (s : Settings) (p : PeerLimits) → end_made role s p ≡ Ok (new_end role s p) → settle (new_end role s p) ≡ new_end role s p
+unfolding each
+begun_settled role s p begun =
+    let limits = new_ends_settled role s p (new_end role s p) begun in
+    let counts = new_counts_settled role s p (new_end role s p) begun in
+    λ i. record (new_end role s p) { granted = limits.connection i; granted_bidi = sym (counts Bidi) i; granted_uni = sym (counts Uni) i }
+
+losses_settled : (k : ℕ) (ps : List Piece) (e : End) → settle e ≡ e → settle (losses k ps e) ≡ losses k ps e
+unfolding losses
+losses_settled k [] e h = h
+losses_settled k (p ∷ ps) e h = losses_settled k ps (first_lost k p e) (ap (first_lost k p) h)
+
+call_settled : (old : End) (call : Call) (answer : CallAnswer call) (new : End) → settle old ≡ old → EndStep old call answer new → settle new ≡ new
+call_settled old call answer new h step =
+    ends_by (λ e. settle e ≡ e) old h settle_twice (λ k ps. losses_settled k ps old h) (ap (λ (e : End). record e { next = e.next + 1 }) h) call answer new step
+
+first_settled : (a b : Settings) → world_made a b ≡ Ok (first_world a b) → (s : Side) → settle (end_of (first_world a b) s) ≡ end_of (first_world a b) s
+first_settled a b is A = begun_settled Client a (limits_of b) (ends_made a b (first_world a b) is).0
+first_settled a b is B = begun_settled Server b (limits_of a) (ends_made a b (first_world a b) is).1
+
+same_settled : (e new : End) → new ≡ e → settle e ≡ e → settle new ≡ new
+same_settled e new is h = subst (λ x. settle x ≡ x) (sym is) h
+
+module _ (h : History) (v w : World) (s : Side) (settled : (t : Side) → settle (end_of v t) ≡ end_of v t) where
+  own_settled : (act : Act) (answer : Answer) → OwnStep (end_of v s) act answer (end_of w s) → end_of w (other s) ≡ end_of v (other s) → (t : Side) → settle (end_of w t) ≡ end_of w t
+  own_settled act answer step same =
+      let (call, given, is) = own_call (end_of v s) (end_of w s) act answer step in
+      two_sides (λ t. settle (end_of w t) ≡ end_of w t) s (call_settled (end_of v s) call given (end_of w s) (settled s) is) (same_settled (end_of v (other s)) (end_of w (other s)) same (settled (other s)))
+
+  step_settled : (act : Act) (answer : Answer) → StepBy h v s act answer w → (t : Side) → settle (end_of w t) ≡ end_of w t
+  step_settled (acts.Deliver k) (answers.Deliver result) (text, is, step, same) =
+      two_sides (λ t. settle (end_of w t) ≡ end_of w t) s (same_settled (end_of v s) (end_of w s) same (settled s)) (call_settled (end_of v (other s)) (Receive k text) result (end_of w (other s)) (settled (other s)) step)
+  step_settled (acts.Deliver k) answer step = absurd step
+  step_settled act answer step = own_settled act answer step.0 step.1
+
+run_settled : (a b : Settings) (h : History) (w : World) → Run a b h w → (s : Side) → settle (end_of w s) ≡ end_of w s
+run_settled a b [] w is =
+    let at = made_first a b w is in
+    subst (λ x. (s : Side) → settle (end_of x s) ≡ end_of x s) (sym at) (first_settled a b (subst (λ x. world_made a b ≡ Ok x) at is))
+run_settled a b ((event, answer) ∷ h) w (v, before, step) = step_settled h v w event.end (run_settled a b h v before) event.act answer step
+
+-- A PING comes
+
+-- it has no fault, and takes no memory of its own
+ping_goes : (v : PlacedValue) (f : Seen) (k : ℕ) (e mid : End) (result : Result Received Closing) → f ≡ Plain true → Stops v f e result mid ⊎ (GoesOn e f × AtEnd k (asks_ack f) None (frame_taken f e) result mid) → AtEnd k true None e result mid
+unfolding verdict frame_taken
+ping_goes v f k e mid result is h = by result (subst (λ g. Stops v g e result mid ⊎ (GoesOn e g × AtEnd k (asks_ack g) None (frame_taken g e) result mid)) is h)
+  where
+    by : (r : Result Received Closing) → Stops v (Plain true) e r mid ⊎ (GoesOn e (Plain true) × AtEnd k true None (frame_taken (Plain true) e) r mid) → AtEnd k true None e r mid
+    by r (inr goes) = goes.1
+    by (Ok NoMemory) (inl stops) = absurd stops.1.1
+    by (Ok Done) (inl stops) = absurd stops
+    by (Ok Duplicate) (inl stops) = absurd stops
+    by (Ok BelowFloor) (inl stops) = absurd stops
+    by (Ok (PeerClosed code)) (inl stops) = absurd stops
+    by (Err closing) (inl stops) = absurd (none-some closing.code stops.0)
+
+-- all that is read in it
+ping_taken : (left : List PlacedValue) (fault : Option WireFault) (k : ℕ) (e mid : End) (result : Result Received Closing) → seen_all (frames_of left) ≡ Plain true ∷ [] → fault ≡ None → Takes k fault false e left result mid → AtEnd k true None e result mid
+ping_taken [] fault k e mid result is none h = absurd (cc is)
+ping_taken (v ∷ []) fault k e mid result is none h =
+    ping_goes v (seen v.frame) k e mid result (cc is)
+    (subst (λ o. Stops v (seen v.frame) e result mid ⊎ (GoesOn e (seen v.frame) × AtEnd k (asks_ack (seen v.frame)) o (frame_taken (seen v.frame) e) result mid)) none h)
+ping_taken (v ∷ w ∷ left) fault k e mid result is none h = absurd (cc is)
+
+ping_ends : (k : ℕ) (e mid new : End) (result : Result Received Closing) → settle e ≡ e → AtEnd k true None e result mid → new ≡ settle mid → OnlyRecords k true result e new
+ping_ends k e mid new (Ok Done) same end is = is ∙ ap settle end ∙ ap (recorded k true) same
+ping_ends k e mid new (Ok NoMemory) same end is = is ∙ ap settle end.0 ∙ same
+ping_ends k e mid new (Ok Duplicate) same end is = absurd end
+ping_ends k e mid new (Ok BelowFloor) same end is = absurd end
+ping_ends k e mid new (Ok (PeerClosed code)) same end is = absurd end
+ping_ends k e mid new (Err closing) same end is = absurd end
+
+ping_received : (k : ℕ) (e new : End) (result : Result Received Closing) → e.closed ≡ None → settle e ≡ e → ReceiveStep e k ping_text result new → OnlyRecords k true result e new
+ping_received k e new result not_closed same step = by_floor _ (subst (λ o. ReceiveBy o k ping_text e result new) not_closed step)
+  where
+    by_kept : (b : Bool) → MatchBool b ((result ≡ Ok Duplicate) × (new ≡ e)) ((mid : End) × TakesPayload k ping_text e result mid × (new ≡ settle mid)) → OnlyRecords k true result e new
+    by_kept true h = subst (λ r. OnlyRecords k true r e new) (sym h.0) h.1
+    by_kept false (mid, takes, is) = ping_ends k e mid new result same (ping_taken (reading_of ping_text).left (reading_of ping_text).fault k e mid result ping_seen ping_faultless takes) is
+
+    by_floor : (b : Bool) → MatchBool b ((result ≡ Ok BelowFloor) × (new ≡ e)) (MatchBool (set.contains e.done k) ((result ≡ Ok Duplicate) × (new ≡ e)) ((mid : End) × TakesPayload k ping_text e result mid × (new ≡ settle mid))) → OnlyRecords k true result e new
+    by_floor true h = subst (λ r. OnlyRecords k true r e new) (sym h.0) h.1
+    by_floor false h = by_kept _ h
+
+records_numbers : (k : ℕ) (result : Result Received Closing) (old new : End) → OnlyRecords k true result old new → ChangesNumbers old new
+records_numbers k (Ok Done) old new is = subst (ChangesNumbers old) (sym is) refl
+records_numbers k (Ok Duplicate) old new is = subst (ChangesNumbers old) (sym is) refl
+records_numbers k (Ok BelowFloor) old new is = subst (ChangesNumbers old) (sym is) refl
+records_numbers k (Ok NoMemory) old new is = subst (ChangesNumbers old) (sym is) refl
+records_numbers k (Ok (PeerClosed code)) old new is = absurd is
+records_numbers k (Err closing) old new is = absurd is
+
+-- A number is claimed
+
+abbrev number_in : Result ℕ MakeFault → ℕ
+number_in (Ok number) = number
+number_in (Err fault) = 0
+
+-- it is that of the next packet
+module _ (a b : Settings) (h : History) (v : World) (s : Side) (ok : WorldOk a b h v) where
+  made_so_far : (end_of v s).next ≡ length (made s h)
+  made_so_far = (ok.ends s).packets.count ∙ ap length (seen_made (own_calls s h)) ∙ length-map (made s h) frames_in
+
+  claimed_is : (number : ℕ) (new : End) → ClaimStep (end_of v s) (Ok number) new → number ≡ length (made s h)
+  claimed_is number new step =
+      elim (certain_cases (claim_refusal (end_of v s)) (end_of v s) (Ok number) new _ step) [
+        | inl (fault, is, same) ↦ absurd (cc is)
+        | inr (allowed, (is, same)) ↦ ap number_in is ∙ made_so_far
+      ]
+
+  claimed_ping : (number : ℕ) (new : End) → ClaimStep (end_of v s) (Ok number) new → payload s number (claimed s number ∷ h) ≡ Some ping_text
+  claimed_ping number new step =
+      ap (λ ts. slice_get ts number) (made_own s acts.Claim (answers.Claim (Ok number)) h refl)
+      ∙ ap (slice_get (made s h ++ ping_text ∷ [])) (claimed_is number new step)
+      ∙ slice_get-last (made s h) ping_text
+
+text_is : (s : Side) (k : ℕ) (h : History) (text : List ℕ) → payload s k h ≡ Some ping_text → payload s k h ≡ Some text → text ≡ ping_text
+text_is s k h text ping is = cc (sym is ∙ ping)
+
+pub claims_tell_nothing : ClaimsAlwaysTellNothing
+claims_tell_nothing a b h v w s number run =
+    let ok : WorldOk a b h v = run_keeps a b h v run in
+    record {
+      ping = λ step. claimed_ping a b h v s ok number (end_of w s) step.0;
+      recorded = records;
+      rest = λ result ping step. records_numbers number result (end_of v (other s)) (end_of w (other s)) (records result ping step);
+    }
+  where
+    records : (result : Result Received Closing) → payload s number h ≡ Some ping_text → StepBy h v s (acts.Deliver number) (answers.Deliver result) w → OnlyRecords number true result (end_of v (other s)) (end_of w (other s))
+    records result ping (text, is, step, same) =
+        let ok : WorldOk a b h v = run_keeps a b h v run in
+        ping_received number (end_of v (other s)) (end_of w (other s)) result (is_open_end a b h v ok (other s)) (run_settled a b h v run (other s))
+        (subst (λ t. ReceiveStep (end_of v (other s)) number t result (end_of w (other s))) (text_is s number h text ping is) step)
