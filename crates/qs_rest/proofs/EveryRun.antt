@@ -19,7 +19,7 @@ use Rattle.qs_send.specs.Lane.{SendLane}
 use Rattle.qs_machine.specs.Tables.{table, lookup, no_streams}
 use Rattle.qs_machine.specs.Ends.{new_end, end_made}
 use Rattle.qs_machine.proofs.SettledLimits.{new_ends_settled}
-use Rattle.qs_machine.proofs.Bounds.{new_ends_settled as new_counts_settled}
+use Rattle.qs_machine.proofs.Bounds.{no_lane, new_ends_settled as new_counts_settled}
 use Rattle.qs_runs.specs.Logs.{History, other, is_delivery, processed, own_calls}
 use Rattle.qs_runs.specs.Worlds.{World, world_made, end_of, OwnStep, DeliverStep, StepBy}
 use Rattle.qs_runs.specs.Pasts.{Past, past, seen_by}
@@ -55,6 +55,7 @@ first_rests role s peer p none made =
         uni = λ m is. absurd (none-some m is);
         stops = λ n is. absurd (false≢true (sym (set.contains-empty nat_cmp n) ∙ is));
       };
+      told = λ n l at. absurd (none-some l (sym (no_lane n) ∙ at));
       taken = λ k done. absurd (false≢true (sym (none k) ∙ done));
       limits = new_ends_settled role s peer (new_end role s peer) made;
       counts = new_counts_settled role s peer (new_end role s peer) made;

@@ -23,13 +23,12 @@ use Rattle.qs_machine.specs.Examples.{standard, client_of}
 use Rattle.qs_machine.specs.SmallEnds.{client_with, wrote, finished, fresh, three_came}
 use Rattle.qs_machine.proofs.Bounds.{no_lane}
 use Rattle.qs_machine.proofs.SmallEndsLaws.{none_carried, one_carried, only_open}
-use Rattle.qs_rest.specs.Rest.{TellsNoNews, AtRest}
+use Rattle.qs_rest.specs.Rest.{TellsNoNews, HasMore, AtRest}
 use Rattle.qs_rest.specs.Exclusions.{reads_by, IsAtRest, IsNotAtRest, Exclusions}
 use Rattle.qs_rest.proofs.EveryRun.{no_half}
 
 -- An end without a sending half, of which nothing is to be told, and whose readers neither stopped nor had a limit raised.
 pub record IsSilent (e : End) : Type 0 where
-  pub ack : e.ack_due ≡ false
   pub sends : (n : ℕ) (l : SendLane) → lookup e.sends n ≡ Some l → ⊥
   pub granted : e.granted ≤ e.settings.conn_window
   pub bidi : e.granted_bidi ≤ e.settings.grant_bidi
@@ -50,15 +49,18 @@ no_item e h (StreamDataBlocked n m) (l, at, fine, value, more, end) = h.sends n 
 no_item e h (StreamsBlocked Bidi m) is = none-some m (sym h.wants_bidi ∙ is.0)
 no_item e h (StreamsBlocked Uni m) is = none-some m (sym h.wants_uni ∙ is.0)
 
-silent : (e : End) → IsSilent e → Sendable e → ⊥
-silent e h (inl ack) = false≢true (sym h.ack ∙ ack)
-silent e h (inr (inl (i, due))) = no_item e h i due.0
-silent e h (inr (inr (n, (l, at, goes)))) = h.sends n l at
+silent : (e : End) → IsSilent e → HasMore e → ⊥
+silent e h (inl (i, due)) = no_item e h i due.0
+silent e h (inr (n, (l, at, goes))) = h.sends n l at
+
+-- nor is an ACK due
+mute : (e : End) → IsSilent e → e.ack_due ≡ false → Sendable e → ⊥
+mute e h none (inl ack) = false≢true (sym none ∙ ack)
+mute e h none (inr more) = silent e h more
 
 new_silent : (role : Role) → IsSilent (new_end role standard (limits_of standard))
 new_silent role =
     record {
-      ack = refl;
       sends = λ n l at. none-some l (sym (no_half n) ∙ at);
       granted = omega arith;
       bidi = omega arith;
@@ -79,7 +81,6 @@ window_of n = go (is_uni n) (is_own (client_of standard) n) 1024
 reads_silent : (r : RecvLane) → r.limit ≡ 1024 → r.stop_code ≡ None → IsSilent (reads_by r)
 reads_silent r limit stop =
     record {
-      ack = refl;
       sends = λ n l at. none-some l (sym (no_half n) ∙ at);
       granted = omega arith;
       bidi = omega arith;
@@ -116,6 +117,11 @@ rests : IsAtRest
 rests =
     record {
       new = λ role. record { quiet = silent (new_end role standard (limits_of standard)) (new_silent role); landed = λ p flies. none_carried p flies; told = λ n l at. absurd (none-some l (sym (no_lane n) ∙ at)) };
+      ack = record {
+        quiet = silent _ (record { sends = (new_silent Client).sends; granted = omega arith; bidi = omega arith; uni = omega arith; recvs = (new_silent Client).recvs; wants_bidi = refl; wants_uni = refl });
+        landed = λ p flies. none_carried p flies;
+        told = λ n l at. absurd (none-some l (sym (no_lane n) ∙ at));
+      };
       waits = reads_at_rest fresh refl refl waiting;
       told_end = reads_at_rest _ refl refl refl;
       told_reset = reads_at_rest _ refl refl refl;
@@ -125,13 +131,13 @@ byte_due : AtRest (client_with wrote) → ⊥
 unfolding lookup total
 byte_due rest =
     let due : IsDue (client_with wrote) 0 wrote 0 = record { no_reset = refl; written = omega arith; not_acked = set.contains-empty nat_cmp 0; not_sent = λ (c, flies, low, high). none_carried _ flies } in
-    rest.quiet (inr (inr (0, (wrote, refl, inl (0, due, omega arith, inr (refl, omega arith))))))
+    rest.quiet (inr (0, (wrote, refl, inl (0, due, omega arith, inr (refl, omega arith)))))
 
 end_due : AtRest (client_with finished) → ⊥
 unfolding lookup
 end_due rest =
     let due : IsEndDue (client_with finished) 0 finished = record { no_reset = refl; finished = refl; not_acked = refl; not_sent = λ offset len flies. none_carried _ flies } in
-    rest.quiet (inr (inr (0, (finished, refl, inr (due, refl)))))
+    rest.quiet (inr (0, (finished, refl, inr (due, refl))))
 
 unread : AtRest (reads_by three_came) → ⊥
 unread rest = subst (λ b. TellsNoNews (if b then Bytes (length (front_of three_came.arrived 1)) else Wait) three_came) first_came (rest.told 0 three_came (is_there three_came))
@@ -139,18 +145,17 @@ unread rest = subst (λ b. TellsNoNews (if b then Bytes (length (front_of three_
 others : IsNotAtRest
 others =
     record {
-      ack = λ rest. rest.quiet (inl refl);
-      limit = λ rest. rest.quiet (inr (inl (MaxData 5000, ((refl, omega arith), λ covered. elim covered [ inl flies ↦ none_carried _ flies | inr acked ↦ none-some 5000 acked ]))));
+      limit = λ rest. rest.quiet (inl (MaxData 5000, ((refl, omega arith), λ covered. elim covered [ inl flies ↦ none_carried _ flies | inr acked ↦ none-some 5000 acked ])));
       byte = byte_due;
       end = end_due;
       in_flight = (
-        silent _ (record { ack = refl; sends = (new_silent Client).sends; granted = omega arith; bidi = omega arith; uni = omega arith; recvs = (new_silent Client).recvs; wants_bidi = refl; wants_uni = refl }),
+        mute _ (record { sends = (new_silent Client).sends; granted = omega arith; bidi = omega arith; uni = omega arith; recvs = (new_silent Client).recvs; wants_bidi = refl; wants_uni = refl }) refl,
         λ rest. rest.landed (Told (MaxData 4096)) (one_carried 0 (Told (MaxData 4096))),
       );
-      unread = (silent _ (reads_silent three_came refl refl), unread);
-      untold_end = (silent _ (reads_silent (take_stream fresh 0 [] true) refl refl), λ rest. false≢true (rest.told 0 _ (is_there (take_stream fresh 0 [] true))));
+      unread = (mute _ (reads_silent three_came refl refl) refl, unread);
+      untold_end = (mute _ (reads_silent (take_stream fresh 0 [] true) refl refl) refl, λ rest. false≢true (rest.told 0 _ (is_there (take_stream fresh 0 [] true))));
       untold_reset = (
-        silent _ (reads_silent (record fresh { final_size = Some 0; reset_code = Some 7 }) refl refl),
+        mute _ (reads_silent (record fresh { final_size = Some 0; reset_code = Some 7 }) refl refl) refl,
         λ rest. false≢true (rest.told 0 _ (is_there (record fresh { final_size = Some 0; reset_code = Some 7 }))),
       );
     }

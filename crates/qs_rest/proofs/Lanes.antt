@@ -104,7 +104,7 @@ module _ (e : End) (rest : AtRest e) (n : ℕ) (l : SendLane) (at : send_lane e 
   sent_acked written limit q lt =
       elim (due_or_acked q (omega arith)) [
         | inl acked ↦ acked
-        | inr due ↦ absurd (rest.quiet (inr (inr (n, (l, at, inl (q, due, omega arith, inl lt))))))
+        | inr due ↦ absurd (rest.quiet (inr (n, (l, at, inl (q, due, omega arith, inl lt)))))
       ]
 
   -- all was sent, or a limit is used up
@@ -118,7 +118,7 @@ module _ (e : End) (rest : AtRest e) (n : ℕ) (l : SendLane) (at : send_lane e 
             | inr blocked ↦ inr (inr blocked)
             | inl credit ↦ elim (due_or_acked l.sent_end more) [
               | inl acked ↦ (let lt : l.sent_end < l.sent_end = below l.sent_end acked in absurd (omega arith))
-              | inr due ↦ absurd (rest.quiet (inr (inr (n, (l, at, inl (l.sent_end, due, room, inr (refl, credit)))))))
+              | inr due ↦ absurd (rest.quiet (inr (n, (l, at, inl (l.sent_end, due, room, inr (refl, credit))))))
             ]
           ]
         ]
@@ -132,4 +132,4 @@ module _ (e : End) (rest : AtRest e) (n : ℕ) (l : SendLane) (at : send_lane e 
       go true is = is
       go false is =
           let due : IsEndDue e n l = record { no_reset = no_reset; finished = finished; not_acked = is; not_sent = λ offset len flies. rest.landed _ flies } in
-          absurd (rest.quiet (inr (inr (n, (l, at, inr (due, whole))))))
+          absurd (rest.quiet (inr (n, (l, at, inr (due, whole)))))

@@ -6,6 +6,7 @@ pub mod Halves
 pub mod Moves
 pub mod Effects
 pub mod Payloads
+pub mod Telling
 pub mod Runs
 pub mod EveryRun
 pub mod Lanes
@@ -13,3 +14,4 @@ pub mod Resting
 pub mod Streams
 pub mod Delivered
 pub mod Exclusions
+pub mod Idle

@@ -37,7 +37,7 @@ pub items_acked : ItemsAreAcked
 items_acked e i rest current =
     elim (item_part e i current) [
       | inl flies ↦ absurd (rest.landed (Told i) flies)
-      | inr down ↦ elim down [ inl acked ↦ acked | inr due ↦ absurd (rest.quiet (inr (inl (i, due)))) ]
+      | inr down ↦ elim down [ inl acked ↦ acked | inr due ↦ absurd (rest.quiet (inl (i, due))) ]
     ]
 
 module _ (a b : Settings) (h : History) (w : World) (ok : WorldOk a b h w) (keeps : (s : Side) → RestOk (past s h) (end_of w s)) where

@@ -40,6 +40,7 @@ use Rattle.qs_rest.specs.Invariant.{WasTold, AckedTrue, HalfTrue, RestOk}
 use Rattle.qs_rest.proofs.EachCall.{each_own}
 use Rattle.qs_rest.proofs.Moves.{AllTrue, SlotTrue, Moved, moved_same, moved_edits}
 use Rattle.qs_rest.proofs.Effects.{items_stay}
+use Rattle.qs_rest.proofs.Telling.{all_told, told_at, own_told, received_held, receive_told}
 use Rattle.qs_rest.proofs.Payloads.{After, takes, settled, not_done}
 
 -- The past goes on
@@ -86,6 +87,7 @@ peer_rests p packets e ok =
       uni = ok.uni;
       sends = λ n l is. half_more p (with_theirs p packets) (told_theirs p packets) n _ l (ok.sends n l is);
       acked = acked_more p (with_theirs p packets) (told_theirs p packets) e.acked ok.acked;
+      told = ok.told;
       taken = λ k is. (let (fs, there, all) = ok.taken k is in (fs, slice_get-append p.theirs packets k fs there, all));
       limits = ok.limits;
       counts = ok.counts;
@@ -115,6 +117,7 @@ own_rests p e new good ok act answer step =
       uni = known_uni p e new ok m;
       sends = λ n l at. half_more p q (told_call p act answer) n _ l (slot_at p new m.halves n l at);
       acked = acked_more p q (told_call p act answer) new.acked m.acked;
+      told = told_at new (own_told e new (all_told e ok.told) act answer step);
       taken = λ k done. (let (fs, there, all) = ok.taken k done in (fs, there, items_stay e new m.conn m.bidi m.uni m.sends grow fs all));
       limits = calls_settle e call given new ok.limits is;
       counts = settled_call e call given new ok.counts is;
@@ -168,6 +171,7 @@ receive_rests p e new k text result good ok is step =
       uni = known_uni p e new ok m;
       sends = λ n l at. half_more p q (λ i told. told) n _ l (slot_at p new m.halves n l at);
       acked = acked_more p q (λ i told. told) new.acked m.acked;
+      told = told_at new (receive_told e new (received_held e new k text result step) a.grow (all_told e ok.told));
       taken = λ j done.
           elim (processed_or k j (is_done (answers.Deliver result)) (p.processed j) done) [
             | inl now ↦ (frames_in text, ap (slice_get p.theirs) now.0 ∙ is, a.done now.1)

@@ -20,6 +20,8 @@ reads_by l = record (client_of standard) { recvs = only l }
 pub record IsAtRest : Type 0 where
   -- that is new, the client's and the server's (section 3)
   pub new : (role : Role) → AtRest (new_end role standard (limits_of standard))
+  -- of which an ACK is due, and no more (section 13.2.1)
+  pub ack : AtRest (record (client_of standard) { ack_due = true })
   -- whose reader waits (section 2.2)
   pub waits : AtRest (reads_by fresh)
   -- whose reader was told the end (section 3.2)
@@ -29,8 +31,6 @@ pub record IsAtRest : Type 0 where
 
 -- It isn't at rest
 pub record IsNotAtRest : Type 0 where
-  -- where an ACK is due (section 13.2.1)
-  pub ack : AtRest (record (client_of standard) { ack_due = true }) → ⊥
   -- where a limit was raised that wasn't told (section 13.3)
   pub limit : AtRest raised → ⊥
   -- where a byte is due (section 13.3)

@@ -46,6 +46,15 @@ pub record HalfTrue (p : Past) (n first : ℕ) (l : SendLane) : Type 0 where
   pub small : l.written ≤ MAX_VARINT
   pub reset_told : l.reset_acked ≡ true → ResetTold p n
 
+-- A half whose reader was told of its end, for good: by a reset, once it stopped by all that came, or by the final size (RFC 9000,
+-- sections 3.2 and 3.5).
+abbrev pub IsToldOf : RecvLane → Type 0
+IsToldOf l = (is_some l.reset_code ≡ true) ⊎ ((is_some l.stop_code ≡ true) × (is_whole l ≡ true)) ⊎ (l.final_size ≡ Some l.arrived.read_count)
+
+-- a reader was told only what stands (RFC 9000, section 3.2)
+abbrev pub ToldTrue : RecvLane → Type 0
+ToldTrue l = l.told ≡ true → IsToldOf l
+
 -- what a control item of a processed packet did, for good (RFC 9000, sections 3.2, 3.5 and 4.1)
 abbrev pub ItemTaken : End → Seen → Type 0
 ItemTaken e (Control (MaxData m)) = m ≤ e.known_data
@@ -63,6 +72,7 @@ pub record RestOk (p : Past) (e : End) : Type 0 where
   pub uni : e.peer.streams_uni ≤ e.known_uni
   pub sends : (n : ℕ) (l : SendLane) → lookup e.sends n ≡ Some l → HalfTrue p n (first_send_limit e n) l
   pub acked : AckedTrue p e.acked
+  pub told : (n : ℕ) (l : RecvLane) → lookup e.recvs n ≡ Some l → ToldTrue l
   pub taken : (k : ℕ) → p.processed k ≡ true → (fs : List Seen) × (slice_get p.theirs k ≡ Some fs) × AllByRecursion (ItemTaken e) fs
   pub limits : LimitsAreSettled e
   pub counts : CountsAreSettled e

@@ -1,7 +1,7 @@
 //! Laws of the definitions alone: each is a function whose contract is the law.
 
 ghost use Rattle.qs_rest.specs.Laws.{ItemsAreInOnePart, StopsGiveBack};
-ghost use Rattle.qs_rest.specs.Rest.{EveryRunKeeps};
+ghost use Rattle.qs_rest.specs.Rest.{EveryRunKeeps, IdleIsRest};
 ghost use Rattle.qs_rest.specs.Exclusions.{Exclusions};
 ghost use Rattle.qs_rest.specs.Resting.{ItemsAreAcked, ToldIsTaken, AtEachRest, KnowsItsLimits, CreditIsWhole, ResetsAreFinal, AllIsDelivered};
 
@@ -18,6 +18,11 @@ pub fn stops_give_back()
 /// In every run, of both ends: what counts as acknowledged was told, what was told took effect, and limits and counts are settled.
 pub fn every_run_keeps()
     ensures { EveryRunKeeps }
+{}
+
+/// An end is at rest whose code answers so: `is_sendable` is false, and from 0 on `next_outstanding` and `next_readable` are `None`.
+pub fn idle_is_rest()
+    ensures { IdleIsRest }
 {}
 
 /// At rest the peer acknowledged each item that is to be told.
