@@ -1,3 +1,4 @@
+-- Of laws.
 -- Numbers that the layer beneath claims, and the PING that goes under each (RFC 9000, sections 12.3, 13.1 and 19.2).
 use Rattle.std.specs.Prelude.{◌≡◌, ℕ, true, ◌∷◌, Some, Result, Ok}
 use Rattle.qs_calls.specs.declared.settings.Settings.{Settings}

@@ -8,4 +8,5 @@ pub mod Copies
 pub mod Places
 pub mod Buffers
 pub mod PlayText
+pub mod ScriptLaws
 pub mod Examples

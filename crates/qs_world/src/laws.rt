@@ -1,6 +1,7 @@
 //! Laws of the definitions alone: those of runs, and of what is printed.
 
 ghost use Rattle.qs_world.specs.Examples.{Examples};
+ghost use Rattle.qs_world.specs.ScriptLaws.{PrintedScriptsParse};
 
 pub use qs_runs::laws::{
     acked_was_processed, claims_tell_nothing, every_run_agrees, final_size_is_declared,
@@ -14,4 +15,9 @@ pub use qs_runs::laws::{
 /// Printed lines, computed by the definitions.
 pub fn examples()
     ensures { Examples }
+{}
+
+/// The printed script of events that may be played says exactly these events.
+pub fn printed_scripts_parse()
+    ensures { PrintedScriptsParse }
 {}
