@@ -190,7 +190,7 @@ pub fn client(
 pub fn expect_close(outcome: &Outcome, code: u64) -> Result<(), Refusal> {
     match outcome {
         Outcome::Closed(close) if close.code == code => Ok(()),
-        outcome => Err(Refusal::Failure(format!("the connection {outcome}"))),
+        outcome => Err(Refusal::Failure(format!("the connection ended: {outcome}"))),
     }
 }
 

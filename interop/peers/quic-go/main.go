@@ -2,6 +2,14 @@
 //
 //	quic-go-peer server DIR ADDR CERTIFICATE.pem KEY.pem
 //	quic-go-peer client ADDR DIR PATH..
+//
+// And over HTTP/3, by its package http3:
+//
+//	quic-go-peer h3-server DIR ADDR CERTIFICATE.pem KEY.pem
+//	quic-go-peer h3-resets ADDR DIR N PATH..
+//
+// The last loads files on one connection, and breaks off N other requests beside each in the middle: one half of them by
+// RESET_STREAM alone, the other with STOP_SENDING.
 package main
 
 import (
@@ -10,18 +18,26 @@ import (
 	"errors"
 	"fmt"
 	"io"
+	"net"
+	"net/http"
 	"os"
 	"path/filepath"
+	"strconv"
 	"strings"
 	"time"
 
 	"github.com/lucas-clemente/quic-go"
+	"github.com/lucas-clemente/quic-go/http3"
 )
 
 const (
 	protocol = "gotsavena-raw"
 	noFile   = 2
 	mostPath = 4096
+	// H3_REQUEST_CANCELLED (RFC 9114, section 8.1).
+	requestCancelled = 0x10c
+	// What goes at most of the body of a request that is broken off.
+	begun = 20_000
 )
 
 func main() {
@@ -37,8 +53,16 @@ func run(words []string) error {
 		return serve(words[1], words[2], words[3], words[4])
 	case len(words) >= 4 && words[0] == "client":
 		return load(words[1], words[2], words[3:])
+	case len(words) == 5 && words[0] == "h3-server":
+		return serveHTTP(words[1], words[2], words[3], words[4])
+	case len(words) >= 5 && words[0] == "h3-resets":
+		count, err := strconv.Atoi(words[3])
+		if err != nil {
+			return err
+		}
+		return loadAndBreakOff(words[1], words[2], count, words[4:])
 	}
-	return errors.New("server DIR ADDR CERTIFICATE KEY, or client ADDR DIR PATH..")
+	return errors.New("server or h3-server DIR ADDR CERTIFICATE KEY, client ADDR DIR PATH.., or h3-resets ADDR DIR N PATH..")
 }
 
 func serve(folder, address, certificate, key string) error {
@@ -135,4 +159,97 @@ func loadOne(connection quic.Connection, folder, path string) (int, error) {
 	}
 	name := path[strings.LastIndex(path, "/")+1:]
 	return len(bytes), os.WriteFile(filepath.Join(folder, name), bytes, 0o644)
+}
+
+func serveHTTP(folder, address, certificate, key string) error {
+	pair, err := tls.LoadX509KeyPair(certificate, key)
+	if err != nil {
+		return err
+	}
+	socket, err := net.ListenPacket("udp", address)
+	if err != nil {
+		return err
+	}
+	files := http.FileServer(http.Dir(folder))
+	answer := func(writer http.ResponseWriter, request *http.Request) {
+		// A request that was broken off isn't answered.
+		if _, err := io.Copy(io.Discard, request.Body); err != nil {
+			panic(http.ErrAbortHandler)
+		}
+		files.ServeHTTP(writer, request)
+	}
+	server := http3.Server{
+		TLSConfig: http3.ConfigureTLSConfig(&tls.Config{Certificates: []tls.Certificate{pair}}),
+		Handler:   http.HandlerFunc(answer),
+	}
+	fmt.Println("listening on", socket.LocalAddr())
+	return server.Serve(socket)
+}
+
+func loadAndBreakOff(address, folder string, count int, paths []string) error {
+	client := &http3.RoundTripper{TLSClientConfig: &tls.Config{InsecureSkipVerify: true}}
+	defer client.Close()
+	over := make(chan error)
+	for _, path := range paths {
+		url := "https://" + address + "/" + path
+		for place := 0; place < count; place++ {
+			go func(stops bool) { over <- breakOff(client, url, stops) }(place%2 == 1)
+		}
+		go func(path string) { over <- loadHTTP(client, url, filepath.Join(folder, path)) }(path)
+	}
+	for range make([]struct{}, (count+1)*len(paths)) {
+		if err := <-over; err != nil {
+			return err
+		}
+	}
+	return nil
+}
+
+func loadHTTP(client *http3.RoundTripper, url, file string) error {
+	request, err := http.NewRequest(http.MethodGet, url, nil)
+	if err != nil {
+		return err
+	}
+	response, err := client.RoundTrip(request)
+	if err != nil {
+		return err
+	}
+	defer response.Body.Close()
+	if response.StatusCode != http.StatusOK {
+		return fmt.Errorf("%s: %s", url, response.Status)
+	}
+	bytes, err := io.ReadAll(response.Body)
+	if err != nil {
+		return err
+	}
+	return os.WriteFile(file, bytes, 0o644)
+}
+
+// breakOff begins a request with a body, and breaks it off by RESET_STREAM: its body fails, or, with STOP_SENDING, it is given up.
+func breakOff(client *http3.RoundTripper, url string, stops bool) error {
+	reader, writer := io.Pipe()
+	context, giveUp := context.WithCancel(context.Background())
+	defer giveUp()
+	request, err := http.NewRequestWithContext(context, http.MethodPost, url, reader)
+	if err != nil {
+		return err
+	}
+	go func() {
+		writer.Write(make([]byte, begun))
+		if stops {
+			giveUp()
+		}
+		writer.CloseWithError(errors.New("given up"))
+	}()
+	response, err := client.RoundTrip(request)
+	if err == nil {
+		response.Body.Close()
+		return errors.New("a request that was broken off is answered")
+	}
+	// The server breaks its half off, too.
+	var code *quic.StreamError
+	if !stops && !(errors.As(err, &code) && code.ErrorCode == requestCancelled) {
+		return err
+	}
+	return nil
 }

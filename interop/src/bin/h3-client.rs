@@ -1,4 +1,5 @@
-//! An HTTP/3 client: loads files of one server, all at once on one connection, into a folder.
+//! An HTTP/3 client: loads files of one server, all at once on one connection, into a folder. With `--stop-after BYTES` it stops each
+//! file in the middle; with `--resets N` it begins N requests before each file that it breaks off in the middle.
 
 use gotsavena_interop::client::{connect, run};
 use gotsavena_interop::h3::client::{Loader, Url};
@@ -11,7 +12,7 @@ use std::time::Instant;
 
 fn main() -> ExitCode {
     program::run(
-        "h3-client [--download DIR] [--stop-after BYTES] [--window BYTES] [--streams N] [--idle SECONDS] [--version HEX] URL..",
+        "h3-client [--download DIR] [--stop-after BYTES] [--resets N] [--window BYTES] [--streams N] [--idle SECONDS] [--version HEX] URL..",
         load,
     )
 }
@@ -21,6 +22,7 @@ fn load(mut words: Words) -> Result<(), Refusal> {
     let version = words.version()?;
     let folder = words.option("download");
     let stop_after = words.number("stop-after", u64::MAX)?;
+    let resets = words.number("resets", 0)?;
     words.no_more_options()?;
     let urls = words.rest.iter().map(|text| {
         Url::read(text)
@@ -36,7 +38,7 @@ fn load(mut words: Words) -> Result<(), Refusal> {
     let begin = Instant::now();
     let socket = connect(address(&first.authority)?).map_err(Refusal::failure)?;
     let mut connection = client(PROTOCOL, first.host(), version, config)?;
-    let mut loader = Loader::new(urls, stop_after as usize);
+    let mut loader = Loader::new(urls, stop_after as usize, resets as usize);
     let outcome = run(&socket, &mut connection, &mut loader).map_err(Refusal::failure)?;
     expect_close(&outcome, NO_ERROR)?;
     let time = begin.elapsed();

@@ -4,8 +4,12 @@ use super::NO_ERROR;
 use super::session::{Event, Session};
 use crate::fault::Close;
 use crate::streams::Application;
-use gotsavena::{Endpoint, Role, StreamId};
-use std::collections::{HashMap, VecDeque};
+use gotsavena::{Endpoint, Role, SendState, StreamId};
+use std::collections::{BTreeSet, HashMap, VecDeque};
+use std::sync::Arc;
+
+/// What goes at most of the body of a request that is broken off.
+const BEGUN: usize = 20_000;
 
 /// What is to be loaded.
 #[derive(Clone, Debug, PartialEq, Eq)]
@@ -43,30 +47,61 @@ pub struct Loaded {
     pub is_whole: bool,
 }
 
+impl Loaded {
+    fn new(url: Url) -> Loaded {
+        Loaded {
+            url,
+            status: String::new(),
+            body: Vec::new(),
+            is_whole: false,
+        }
+    }
+}
+
+// What is asked for next.
+enum Wanted {
+    File(Url),
+    /// A request that is given up under way.
+    Nothing(Url),
+}
+
 pub struct Loader {
     session: Option<Session>,
-    wanted: VecDeque<Url>,
+    wanted: VecDeque<Wanted>,
     running: HashMap<StreamId, Loaded>,
+    /// The streams of requests that are given up once something of them went, until the peer knows.
+    given_up: BTreeSet<StreamId>,
     pub loaded: Vec<Loaded>,
     /// After so many bytes of a body no more is wanted.
     stop_after: usize,
 }
 
 impl Loader {
-    pub fn new(wanted: Vec<Url>, stop_after: usize) -> Loader {
+    /// Before each file so many requests are begun, with a body, that are broken off in the middle.
+    pub fn new(urls: Vec<Url>, stop_after: usize, resets: usize) -> Loader {
+        let mut wanted = VecDeque::new();
+        for url in urls {
+            wanted.extend((0..resets).map(|_| Wanted::Nothing(url.clone())));
+            wanted.push_back(Wanted::File(url));
+        }
         Loader {
             session: None,
-            wanted: wanted.into(),
+            wanted,
             running: HashMap::new(),
+            given_up: BTreeSet::new(),
             loaded: Vec::new(),
             stop_after,
         }
     }
 
     fn begin(&mut self, session: &mut Session, end: &mut Endpoint) -> Result<(), Close> {
-        while let Some(url) = self.wanted.front() {
+        while let Some(wanted) = self.wanted.front() {
+            let (method, url, begun) = match wanted {
+                Wanted::File(url) => ("GET", url, None),
+                Wanted::Nothing(url) => ("POST", url, Some(Arc::from([0; BEGUN]))),
+            };
             let fields = [
-                (":method", "GET"),
+                (":method", method),
                 (":scheme", "https"),
                 (":authority", &url.authority),
                 (":path", &url.path),
@@ -74,18 +109,32 @@ impl Loader {
             ];
             let fields =
                 fields.map(|(name, value)| (name.as_bytes().to_vec(), value.as_bytes().to_vec()));
-            let Some(stream) = session.request(end, &fields)? else {
+            let Some(stream) = session.request(end, &fields, begun)? else {
                 return Ok(());
             };
-            if let Some(url) = self.wanted.pop_front() {
-                let loaded = Loaded {
-                    url,
-                    status: String::new(),
-                    body: Vec::new(),
-                    is_whole: false,
-                };
-                self.running.insert(stream, loaded);
+            match self.wanted.pop_front() {
+                Some(Wanted::File(url)) => {
+                    self.running.insert(stream, Loaded::new(url));
+                }
+                _ => {
+                    self.given_up.insert(stream);
+                }
             }
+        }
+        Ok(())
+    }
+
+    // Breaks the requests off of which something went.
+    fn give_up(&mut self, session: &mut Session, end: &mut Endpoint) -> Result<(), Close> {
+        for stream in std::mem::take(&mut self.given_up) {
+            let send = end.report(stream).and_then(|report| report.send);
+            match send.map(|send| send.state) {
+                Some(SendState::Send) => session.cancel(end, stream)?,
+                Some(SendState::Ready | SendState::ResetSent) => {}
+                // The peer knows of it. Its own half it may leave as it is, where the reset was the first that it saw of the stream.
+                _ => continue,
+            }
+            self.given_up.insert(stream);
         }
         Ok(())
     }
@@ -137,10 +186,11 @@ impl Application for Loader {
         while let Some(event) = session.next_event() {
             self.take(event, &mut session, end)?;
         }
+        self.give_up(&mut session, end)?;
         self.begin(&mut session, end)?;
         session.write(end)?;
         self.session = Some(session);
-        match self.wanted.is_empty() && self.running.is_empty() {
+        match self.wanted.is_empty() && self.running.is_empty() && self.given_up.is_empty() {
             true => Err(Close::new(NO_ERROR, "all is loaded")),
             false => Ok(()),
         }

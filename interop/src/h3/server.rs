@@ -3,6 +3,7 @@
 use super::session::{Event, Field, Session};
 use crate::fault::Close;
 use crate::files::Folder;
+use crate::program::tell_more;
 use crate::streams::Application;
 use gotsavena::{Endpoint, Role, StreamId};
 use std::collections::HashMap;
@@ -64,8 +65,12 @@ impl Application for FileServer {
                     ];
                     session.respond(stream, &fields, body)?;
                 }
-                Event::Broken(stream, _) => {
-                    self.requests.remove(&stream);
+                Event::Broken(stream, code) => {
+                    let what = match self.requests.remove(&stream) {
+                        Some(_) => "a request",
+                        None => "a stream",
+                    };
+                    tell_more(&format!("{what} is broken off: code {code:#x}"));
                 }
                 // What a request brings beside its fields isn't used.
                 Event::FieldsEnd(_) | Event::Data(..) => {}

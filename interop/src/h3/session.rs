@@ -37,6 +37,8 @@ const PARTS: usize = 16;
 struct Body {
     bytes: Arc<[u8]>,
     given: usize,
+    /// Whether the stream ends with them.
+    is_whole: bool,
 }
 
 /// What the callbacks see.
@@ -158,6 +160,9 @@ extern "C" fn read_data(
     };
     let part = &body.bytes[body.given..body.bytes.len().min(body.given + TURN)];
     body.given += part.len();
+    if part.is_empty() && !body.is_whole {
+        return ERR_WOULDBLOCK;
+    }
     // Sound: there is at least one part, and the flags are the library's. The bytes stay until the stream is closed, and the
     // library only reads them.
     unsafe {
@@ -165,7 +170,7 @@ extern "C" fn read_data(
             base: part.as_ptr().cast_mut(),
             len: part.len(),
         };
-        if body.given == body.bytes.len() {
+        if body.is_whole && body.given == body.bytes.len() {
             *flags |= DATA_FLAG_EOF;
         }
     }
@@ -315,11 +320,13 @@ impl Session {
         self.shared().events.pop_front()
     }
 
-    /// Opens a stream with a request without a body; `None` where the peer allows no more for now.
+    /// Opens a stream with a request: without a body, or with one that begins with these bytes and doesn't end. `None` where the
+    /// peer allows no more for now.
     pub fn request(
         &mut self,
         end: &mut Endpoint,
         fields: &[Field],
+        begun: Option<Arc<[u8]>>,
     ) -> Result<Option<StreamId>, Close> {
         let stream = match end.open(Dir::Bidi) {
             Ok(stream) => stream,
@@ -327,18 +334,17 @@ impl Session {
             Err(fault) => return Err(Close::new(INTERNAL_ERROR, &fault.to_string())),
         };
         self.reading.insert(stream);
+        let reader = DataReader { read_data };
+        let source = match self.has_body(stream, begun, false) {
+            true => &raw const reader,
+            false => ptr::null(),
+        };
         let fields = name_values(fields);
-        // Sound: the library copies the fields.
+        // Sound: the library copies fields and reader.
         let error = unsafe {
             let (at, count) = (fields.as_ptr(), fields.len());
-            nghttp3_conn_submit_request(
-                self.conn,
-                number(stream),
-                at,
-                count,
-                ptr::null(),
-                ptr::null_mut(),
-            )
+            let stream = number(stream);
+            nghttp3_conn_submit_request(self.conn, stream, at, count, source, ptr::null_mut())
         };
         check(error)?;
         Ok(Some(stream))
@@ -352,13 +358,9 @@ impl Session {
         body: Option<Arc<[u8]>>,
     ) -> Result<(), Close> {
         let reader = DataReader { read_data };
-        let source = match body {
-            Some(bytes) => {
-                let body = Body { bytes, given: 0 };
-                self.shared().bodies.insert(number(stream), body);
-                &raw const reader
-            }
-            None => ptr::null(),
+        let source = match self.has_body(stream, body, true) {
+            true => &raw const reader,
+            false => ptr::null(),
         };
         let fields = name_values(fields);
         // Sound: the library copies fields and reader.
@@ -374,6 +376,19 @@ impl Session {
             }
             error => check(error),
         }
+    }
+
+    // Keeps what a stream has for a body. Answers whether it has one.
+    fn has_body(&mut self, stream: StreamId, bytes: Option<Arc<[u8]>>, is_whole: bool) -> bool {
+        let body = bytes.map(|bytes| Body {
+            bytes,
+            given: 0,
+            is_whole,
+        });
+        let has_body = body.is_some();
+        let bodies = &mut self.shared().bodies;
+        bodies.extend(body.map(|body| (number(stream), body)));
+        has_body
     }
 
     /// Takes in what came, and writes what there is room for.
@@ -440,15 +455,23 @@ impl Session {
         self.read.insert(stream);
         if stream.dir() == Dir::Bidi {
             abandon(end, stream, REQUEST_CANCELLED).map_err(internal)?;
+            self.read_no_more(stream)?;
         }
         self.shared().events.push_back(Event::Broken(stream, code));
         self.close(stream, code)
     }
 
-    /// Breaks a stream off that was asked for: no more of it is wanted.
+    // What a stream's fields refer to needn't be kept for it (RFC 9204, section 2.2.2.2).
+    fn read_no_more(&mut self, stream: StreamId) -> Result<(), Close> {
+        // Sound: as above.
+        check(unsafe { nghttp3_conn_shutdown_stream_read(self.conn, number(stream)) })
+    }
+
+    /// Breaks a stream off that was asked for: no more of it is wanted, and no more of the request goes (RFC 9114, section 4.1.1).
     pub fn cancel(&mut self, end: &mut Endpoint, stream: StreamId) -> Result<(), Close> {
         end.stop(stream, REQUEST_CANCELLED).map_err(internal)?;
         abandon(end, stream, REQUEST_CANCELLED).map_err(internal)?;
+        self.read_no_more(stream)?;
         self.close(stream, REQUEST_CANCELLED)
     }
 
