@@ -110,9 +110,6 @@ pub struct Connection {
     peer: Parameters,
     controls: VecDeque<Control>,
     known: Known,
-    /// Whether an ACK is owed for a 1-RTT packet, and which numbers the stream layer has taken in.
-    is_ack_owed: bool,
-    taken: Numbers,
     bytes_in: usize,
     bytes_out: usize,
     last_active: Instant,
@@ -201,8 +198,6 @@ impl Connection {
             peer: Parameters::default(),
             controls: VecDeque::new(),
             known: Known::default(),
-            is_ack_owed: false,
-            taken: Numbers::default(),
             bytes_in: 0,
             bytes_out: 0,
             last_active: now,

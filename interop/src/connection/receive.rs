@@ -1,6 +1,5 @@
 //! Datagrams come (RFC 9000, section 12.2).
 
-use super::send::asks_for_ack;
 use super::{Connection, MOST_EARLY, State};
 use crate::fault::{Fault, INTERNAL_ERROR, Outcome, PROTOCOL_VIOLATION};
 use crate::packet::{Kind, Level, Packet, VERSION_1, read_packet};
@@ -122,12 +121,7 @@ impl Connection {
         };
         self.expected = self.expected.max(number + 1);
         match end.receive(number, payload) {
-            Ok(Received::Done) => {
-                self.taken.insert(number);
-                self.is_ack_owed |= asks_for_ack(payload);
-                self.take_data_frames(payload, now)
-            }
-            Ok(Received::PeerClosed(_)) => self.take_data_frames(payload, now),
+            Ok(Received::Done | Received::PeerClosed(_)) => self.take_data_frames(payload, now),
             Ok(Received::Duplicate | Received::BelowFloor | Received::NoMemory) => Ok(()),
             Err(ReceiveFault::Closing(closing)) => {
                 let reason = "the stream layer refuses a frame";

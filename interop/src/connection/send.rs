@@ -6,7 +6,7 @@ use crate::fault::{Fault, INTERNAL_ERROR};
 use crate::packet::{Draft, Header, Level, TAG_LEN};
 use crate::protection::seal;
 use crate::recovery::{Control, Sent};
-use gotsavena::{Frame, MIN_ROOM, MakeFault, Role, frames, last_stream, put_ack};
+use gotsavena::{Endpoint, Frame, MIN_ROOM, Made, MakeFault, Role, frames, last_stream, put_ack};
 use std::time::Instant;
 
 /// Below so much room no packet is begun.
@@ -173,11 +173,7 @@ impl Connection {
         if self.recovery.congestion.allows() || probes > 0 {
             return self.fill_data(draft, room, out, now);
         }
-        if !self.is_ack_owed {
-            out.truncate(draft.start);
-            return Ok(None);
-        }
-        self.acknowledge(draft, room, out, now).map(Some)
+        self.acknowledge(draft, room, out, now)
     }
 
     // A 1-RTT packet: what the stream layer has to say, and behind it the transport's own frames. Where the stream layer has
@@ -202,9 +198,8 @@ impl Connection {
             push_frame(out, &Frame::Ping);
             asks = true;
         }
-        match made {
-            true => self.is_ack_owed = false,
-            false => draft.number = self.claim()?,
+        if !made {
+            draft.number = self.claim()?;
         }
         self.space(Level::Data).probes = probes.saturating_sub(1);
         draft.finish(out);
@@ -212,40 +207,49 @@ impl Connection {
         Ok(Some(Planned { draft, sent }))
     }
 
-    // Where the window is full an ACK goes nevertheless, alone (RFC 9002, section 7): the stream layer would put more into the
-    // packet, so the transport makes this one, under a number that it claims, of the numbers that the stream layer took in.
+    // Where the window is full an ACK goes nevertheless, alone, if one is due (RFC 9002, section 7).
     fn acknowledge(
         &mut self,
         mut draft: Draft,
         room: usize,
         out: &mut Vec<u8>,
         now: Instant,
-    ) -> Result<Planned, Fault> {
-        self.is_ack_owed = false;
-        put_ranges(self.taken.as_slice(), out, room);
-        draft.number = self.claim()?;
+    ) -> Result<Option<Planned>, Fault> {
+        if !self.put_made(out, room, |end, room| end.make_ack(0, room))? {
+            out.truncate(draft.start);
+            return Ok(None);
+        }
         draft.finish(out);
         let sent = sent_now(now, false, Vec::new(), Vec::new());
-        Ok(Planned { draft, sent })
+        Ok(Some(Planned { draft, sent }))
     }
 
-    // The stream layer writes a payload behind the header. Answers whether it had one.
+    // The stream layer writes what is due behind the header, bytes of the stream behind the one that sent last first. Answers
+    // whether it had something.
     fn make(&mut self, out: &mut Vec<u8>, room: usize) -> Result<bool, Fault> {
-        let at = out.len();
-        out.resize(at + room, 0);
-        let made = match &mut self.end {
-            Some(end) => end.make_packet_from(self.turn, 0, &mut out[at..]),
-            None => Ok(None),
-        };
-        let len = made
-            .as_ref()
-            .ok()
-            .and_then(|made| *made)
-            .map(|made| made.len);
-        out.truncate(at + len.unwrap_or(0));
+        let (at, turn) = (out.len(), self.turn);
+        let made = self.put_made(out, room, |end, room| end.make_packet_from(turn, 0, room))?;
         if let Some(last) = last_stream(&out[at..]) {
             self.turn = stream_behind(Some(last));
         }
+        Ok(made)
+    }
+
+    // The stream layer makes a payload behind the header. Answers whether there was one to make.
+    fn put_made(
+        &mut self,
+        out: &mut Vec<u8>,
+        room: usize,
+        make: impl FnOnce(&mut Endpoint, &mut [u8]) -> Result<Option<Made>, MakeFault>,
+    ) -> Result<bool, Fault> {
+        let at = out.len();
+        out.resize(at + room, 0);
+        let made = match &mut self.end {
+            Some(end) => make(end, &mut out[at..]),
+            None => Ok(None),
+        };
+        let len = made.ok().flatten().map(|made| made.len);
+        out.truncate(at + len.unwrap_or(0));
         match made {
             // Where memory is refused, nothing goes for now.
             Ok(_) | Err(MakeFault::NoMemory) => Ok(len.is_some()),
