@@ -251,6 +251,7 @@ as_many (k ∷ ks) (v ∷ vs) can = ap suc (as_many ks vs can.1)
 all_short : (v : Verb) → AllShort (kinds_of v)
 all_short verbs.Open = (tt, tt)
 all_short verbs.Accept = tt
+all_short verbs.Claim = tt
 all_short verbs.Write = (omega arith, (tt, tt))
 all_short verbs.Finish = (omega arith, tt)
 all_short verbs.Reset = (omega arith, (omega arith, tt))
@@ -263,6 +264,7 @@ all_short verbs.Deliver = (omega arith, tt)
 plain_name : (v : Verb) → IsPlain (name_of v)
 plain_name verbs.Open = (refl, refl)
 plain_name verbs.Accept = (refl, refl)
+plain_name verbs.Claim = (refl, refl)
 plain_name verbs.Write = (refl, refl)
 plain_name verbs.Finish = (refl, refl)
 plain_name verbs.Reset = (refl, refl)
@@ -275,6 +277,7 @@ plain_name verbs.Deliver = (refl, refl)
 verb_is : (v : Verb) → verb_among all_verbs (name_of v) ≡ Ok v
 verb_is verbs.Open = refl
 verb_is verbs.Accept = refl
+verb_is verbs.Claim = refl
 verb_is verbs.Write = refl
 verb_is verbs.Finish = refl
 verb_is verbs.Reset = refl
@@ -287,6 +290,7 @@ verb_is verbs.Deliver = refl
 no_comment : (v : Verb) (w : List ℕ) (ws : List (List ℕ)) → is_comment (spaced (name_of v) (w ∷ ws)) ≡ false
 no_comment verbs.Open w ws = refl
 no_comment verbs.Accept w ws = refl
+no_comment verbs.Claim w ws = refl
 no_comment verbs.Write w ws = refl
 no_comment verbs.Finish w ws = refl
 no_comment verbs.Reset w ws = refl
@@ -306,6 +310,7 @@ within n most small = grind (arith, nat_tests, small)
 has_line : (s : Side) (act : Act) → act_fits act ≡ true → IsTyped act → HasLine (record { end = s; act = act })
 has_line s (acts.OpenStream dir) fit typed = (tt, tt)
 has_line s acts.Accept fit typed = tt
+has_line s acts.Claim fit typed = tt
 has_line s (acts.Write n bs) fit typed = ((omega arith, typed.0), ((within (length bs.items) 65535 fit, typed.1), tt))
 has_line s (acts.Finish n) fit typed = ((omega arith, typed), tt)
 has_line s (acts.Reset n code) fit typed = ((omega arith, typed), ((omega arith, within code MAX_VARINT fit), tt))
@@ -328,6 +333,7 @@ two_more s a b = append_assoc (side_text s) (32 ∷ a) (32 ∷ b)
 text_is : (s : Side) (act : Act) → event_text (record { end = s; act = act }) ≡ line_words s act
 text_is s (acts.OpenStream dir) = refl
 text_is s acts.Accept = refl
+text_is s acts.Claim = refl
 text_is s (acts.Write n bs) = ap (λ t. codes "write " ++ t) (two_more s (decimal n) (hex_text bs.items))
 text_is s (acts.Finish n) = refl
 text_is s (acts.Reset n code) = ap (λ t. codes "reset " ++ t) (two_more s (decimal n) (decimal code))
