@@ -1,42 +1,124 @@
--- What playing a script answers.
-use Rattle.std.proofs.Common.{◌≡◌, ℕ, List, Option, Result, Ok, Err, IfOk, true, inl, sym, subst}
+-- What runs answer.
+use Rattle.std.proofs.Common.{◌≡◌, ℕ, ◌/◌, ◌%◌, ◌<◌, ◌≤◌, List, length, map, Option, Some, None, Result, Ok, Err, true, false, Bool, inl, inr, ◌⊎◌, refl, sym, ap, ◌∙◌, subst, arith}
+use Rattle.std.specs.Prelude.{is_some}
+use Rattle.std.specs.Io.KnownBytes.{Appends}
 use Rattle.std.specs.List.{list_all}
+use Rattle.std.proofs.lemmas.List.Sums.{list_all-from_AllPass}
+use Rattle.hex.specs.Hex.{is_hex_digit, decode_of}
+use Rattle.hex.proofs.HexLemmas.{decode_of-ok}
+use Rattle.qs_wire.specs.Reading.{reading_of}
 use Rattle.qs_calls.specs.declared.settings.Settings.{Settings}
 use Rattle.qs_calls.specs.declared.event.Event.{Event}
 use Rattle.qs_world.specs.declared.report.Report.{Report}
 use Rattle.qs_world.specs.declared.report.PlayFault.TheVariants.{NoSuchPacket}
+use Rattle.qs_world.specs.declared.script.ScriptFault.{ScriptFault}
 use Rattle.qs_calls.specs.Events.{fits}
+use Rattle.qs_world.specs.Scripts.{script_of, said, IsFaultOf}
 use Rattle.qs_world.specs.Plays.{PlayOf}
-use Rattle.qs_world.specs.PlayText.{play_text}
+use Rattle.qs_world.specs.PlayText.{play_text, script_text}
+use Rattle.qs_world.specs.Randoms.{IsRandomScript, seeded}
+use Rattle.qs_world.proofs.ScriptDigits.{decodes, hex_even}
 use Rattle.qs_cli.specs.declared.status.Status.{Status}
-use Rattle.qs_cli.specs.declared.status.Status.TheVariants.{Success, FaultShown, BadUsage, Failed}
-use Rattle.qs_cli.specs.Runs.{AnswersEvents, AnswersPlay, Shows, missing_line}
-use Rattle.qs_cli.specs.Carrying.{AnswersCarried, AnswersUdp}
+use Rattle.qs_cli.specs.declared.status.Status.TheVariants.{Success, FaultShown, BadUsage, NoMemory, Failed}
+use Rattle.qs_cli.specs.FrameText.{payload_text}
+use Rattle.qs_cli.specs.Runs.{AnswersFrames, AnswersEvents, AnswersPlay, AnswersRandom, IsPayload, IsScriptOf, Shows, ShowsScriptFault, missing_line}
+use Rattle.qs_cli.specs.Carrying.{Failings, AnswersCarried, AnswersUdp}
 
--- a script is answered as some events are
+-- What is so of the text that was written, of want of memory and of a writer that failed is so of the answer.
+pub by_shown : (text : List ℕ) (status answer : Status) (old new : Option (List ℕ)) (P : Status → Type 0)
+    → Shows text status old new answer → (Appends old new text → P status) → (new ≡ old → P NoMemory) → P Failed → P answer
+by_shown text status answer old new P (inl (is, there)) done none failed = subst P (sym is) (done there)
+by_shown text status answer old new P (inr (inl (is, same))) done none failed = subst P (sym is) (none same)
+by_shown text status answer old new P (inr (inr is)) done none failed = subst P (sym is) failed
+
+-- a script is answered as its events are
 pub events_answer : (status : Status) (s : Settings) (script : List ℕ) (events : List Event) (old new : Option (List ℕ))
-    → list_all fits events ≡ true → AnswersEvents status s events old new → AnswersPlay status s script old new
-events_answer Success s script events old new fit shown = (events, fit, shown)
-events_answer FaultShown s script events old new fit shown = inl (events, fit, shown)
-events_answer BadUsage s script events old new fit shown = shown
-events_answer Failed s script events old new fit shown = shown
+    → IsScriptOf script events → AnswersEvents status s events old new → AnswersPlay status s script old new
+events_answer Success s script events old new is shown = (events, is, shown)
+events_answer FaultShown s script events old new is shown = inl (events, is, shown)
+events_answer BadUsage s script events old new is shown = shown
+events_answer NoMemory s script events old new is shown = shown
+events_answer Failed s script events old new is shown = tt
 
 -- and so is one over a wire
-pub carried_answer : (status : Status) (script : List ℕ) (events : List Event) (before after : ℕ) (old new : Option (List ℕ))
-    → list_all fits events ≡ true → AnswersCarried status events before after old new → AnswersUdp status script before after old new
-carried_answer Success script events before after old new fit shown = (events, fit, shown)
-carried_answer FaultShown script events before after old new fit shown = inl (events, fit, shown)
-carried_answer BadUsage script events before after old new fit shown = shown
-carried_answer Failed script events before after old new fit shown = shown
+pub carried_answer : (status : Status) (script : List ℕ) (events : List Event) (before after : Failings) (old new : Option (List ℕ))
+    → IsScriptOf script events → AnswersCarried status events before after old new → AnswersUdp status script before after old new
+carried_answer Success script events before after old new is shown = (events, is, shown)
+carried_answer FaultShown script events before after old new is shown = inl (events, is, shown)
+carried_answer BadUsage script events before after old new is shown = shown
+carried_answer NoMemory script events before after old new is shown = shown
+carried_answer Failed script events before after old new is shown = tt
+
+-- the first line that is no event was named
+pub fault_answer : (answer : Status) (s : Settings) (script : List ℕ) (fault : ScriptFault) (old new : Option (List ℕ))
+    → IsFaultOf script fault → ShowsScriptFault fault old new answer → AnswersPlay answer s script old new
+fault_answer answer s script fault old new (inl is) (inl (other, same, text)) = subst (λ a. AnswersPlay a s script old new) (sym same) (inr (fault, is, text))
+fault_answer answer s script fault old new (inr out) (inl (other, same, text)) = absurd (other out.0)
+fault_answer answer s script fault old new is (inr (inl (same, none))) = subst (λ a. AnswersPlay a s script old new) (sym same) none
+fault_answer answer s script fault old new is (inr (inr same)) = subst (λ a. AnswersPlay a s script old new) (sym same) tt
+
+-- and so it was over a wire, of which no call was made
+pub fault_carried : (answer : Status) (script : List ℕ) (fault : ScriptFault) (before after : Failings) (old new : Option (List ℕ))
+    → IsFaultOf script fault → ShowsScriptFault fault old new answer → AnswersUdp answer script before after old new
+fault_carried answer script fault before after old new (inl is) (inl (other, same, text)) = subst (λ a. AnswersUdp a script before after old new) (sym same) (inr (fault, is, text))
+fault_carried answer script fault before after old new (inr out) (inl (other, same, text)) = absurd (other out.0)
+fault_carried answer script fault before after old new is (inr (inl (same, none))) = subst (λ a. AnswersUdp a script before after old new) (sym same) none
+fault_carried answer script fault before after old new is (inr (inr same)) = subst (λ a. AnswersUdp a script before after old new) (sym same) tt
 
 -- a report of the events was written
-pub answered_report : {E : Type 0} (result : Result Status E) (s : Settings) (events : List Event) (report : Report) (old new : Option (List ℕ))
-    → PlayOf s s events (Ok report) → IfOk result (Shows (play_text report) Success old new) → IfOk result (λ status. AnswersEvents status s events old new)
-answered_report (Ok status) s events report old new played (same, text) = subst (λ a. AnswersEvents a s events old new) (sym same) (report, played, text)
-answered_report (Err error) s events report old new played done = tt
+pub answered_report : (answer : Status) (s : Settings) (events : List Event) (report : Report) (old new : Option (List ℕ))
+    → PlayOf s s events (Ok report) → Shows (play_text report) Success old new answer → AnswersEvents answer s events old new
+answered_report answer s events report old new played shown =
+    by_shown (play_text report) Success answer old new (λ a. AnswersEvents a s events old new) shown (λ text. (report, played, text)) (λ same. same) tt
 
 -- a packet that wasn't made was named
-pub answered_none : {E : Type 0} (result : Result Status E) (s : Settings) (events : List Event) (k : ℕ) (old new : Option (List ℕ))
-    → PlayOf s s events (Err (NoSuchPacket k)) → IfOk result (Shows (missing_line k) FaultShown old new) → IfOk result (λ status. AnswersEvents status s events old new)
-answered_none (Ok status) s events k old new stops (same, text) = subst (λ a. AnswersEvents a s events old new) (sym same) (k, stops, text)
-answered_none (Err error) s events k old new stops done = tt
+pub answered_none : (answer : Status) (s : Settings) (events : List Event) (k : ℕ) (old new : Option (List ℕ))
+    → PlayOf s s events (Err (NoSuchPacket k)) → Shows (missing_line k) FaultShown old new answer → AnswersEvents answer s events old new
+answered_none answer s events k old new stops shown =
+    by_shown (missing_line k) FaultShown answer old new (λ a. AnswersEvents a s events old new) shown (λ text. (k, stops, text)) (λ same. same) tt
+
+-- random events were written
+pub answered_random : (answer : Status) (seed n : ℕ) (events : List Event) (text : List ℕ) (old new : Option (List ℕ))
+    → IsRandomScript (seeded seed) n events → text ≡ script_text events → Shows text Success old new answer → AnswersRandom answer seed n old new
+answered_random answer seed n events text old new drawn is shown =
+    by_shown text Success answer old new (λ a. AnswersRandom a seed n old new) shown (λ there. (events, drawn, subst (Appends old new) is there)) (λ same. same) tt
+
+-- Payloads in hex
+
+-- as many hex digits as a payload has are one
+pub spelled : (w : List ℕ) → length w % 2 ≡ 0 → length w / 2 ≤ 65535 → list_all is_hex_digit w ≡ true → IsPayload w
+spelled w even short all =
+    let d = decodes w (sym (hex_even w even) ∙ all) in
+    (d.0, (d.1, omega (arith, d.2, short)))
+
+pub odd_spells_none : (w : List ℕ) → (length w % 2 ≡ 0 → ⊥) → IsPayload w → ⊥
+odd_spells_none w odd (payload, (is, short)) = odd (decode_of-ok w payload is).0
+
+pub long_spells_none : (w : List ℕ) → 65535 < length w / 2 → IsPayload w → ⊥
+long_spells_none w long (payload, (is, short)) = omega (arith, long, short, (decode_of-ok w payload is).2)
+
+pub other_spells_none : (w : List ℕ) → list_all is_hex_digit w ≡ false → IsPayload w → ⊥
+other_spells_none w other (payload, (is, short)) = absurd (cc (other, list_all-from_AllPass is_hex_digit w (decode_of-ok w payload is).1))
+
+-- the payload's text was written
+pub answered_payload : (status answer : Status) (word payload : List ℕ) (fault : Bool) (old new : Option (List ℕ)) → decode_of word ≡ Ok payload → IsPayload word
+    → fault ≡ is_some (reading_of payload).fault → (fault ≡ true → status ≡ FaultShown) → (fault ≡ false → status ≡ Success)
+    → Shows (payload_text payload) status old new answer → AnswersFrames answer word old new
+answered_payload status answer word payload true old new is (other, (same, short)) found shows none shown =
+    by_shown (payload_text payload) status answer old new (λ a. AnswersFrames a word old new) shown
+    (λ text. subst (λ a. AnswersFrames a word old new) (sym (shows refl)) (payload, (is, fits), sym found, text))
+    (λ kept. ((other, (same, short)), kept)) (other, (same, short))
+  where
+    fits : length payload ≤ 65535
+    fits = (let e : other ≡ payload = cc (same, is) in rw (sym e) short)
+answered_payload status answer word payload false old new is (other, (same, short)) found shows none shown =
+    by_shown (payload_text payload) status answer old new (λ a. AnswersFrames a word old new) shown
+    (λ text. subst (λ a. AnswersFrames a word old new) (sym (none refl)) (payload, (is, fits), no_fault (reading_of payload).fault (sym found), text))
+    (λ kept. ((other, (same, short)), kept)) (other, (same, short))
+  where
+    fits : length payload ≤ 65535
+    fits = (let e : other ≡ payload = cc (same, is) in rw (sym e) short)
+
+    no_fault : {X : Type 0} (o : Option X) → is_some o ≡ false → o ≡ None
+    no_fault None e = refl
+    no_fault (Some x) e = absurd (cc (e))

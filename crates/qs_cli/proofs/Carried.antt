@@ -1,39 +1,106 @@
 -- What takes place of events over a wire.
-use Rattle.std.proofs.Common.{◌≡◌, ℕ, zero, suc, ◌+◌, ◌<◌, ◌≤◌, List, [], ◌∷◌, ◌++◌, length, take, drop, get_or, reverse, ◌-◌, Option, Some, Result, Ok, Err, IfOk, refl, sym, ap, ◌∙◌, subst, inl, inr, arith}
+use Rattle.std.proofs.Common.{◌≡◌, ℕ, zero, suc, ◌+◌, ◌<◌, ◌≤◌, List, [], ◌∷◌, ◌++◌, length, take, drop, get_or, reverse, ◌-◌, Bool, true, false, Option, Some, Result, Ok, Err, refl, sym, ap, ◌∙◌, subst, inl, inr, arith}
+use Rattle.std.specs.Prelude.{⊤}
 use Rattle.std.proofs.lemmas.List.{take_more, take_all, reverse-append}
 use Rattle.qs_machine.specs.Examples.{standard}
 use Rattle.qs_calls.specs.declared.settings.SetupFault.{SetupFault}
 use Rattle.qs_calls.specs.declared.event.Side.{Side}
-use Rattle.qs_calls.specs.declared.event.Act.TheVariants.{Deliver}
+use Rattle.qs_calls.specs.declared.event.Act.{Act}
+use Rattle.qs_calls.specs.declared.event.Act.TheVariants as acts
+use Rattle.qs_calls.specs.declared.event.Act.TheVariants.{Lose, Deliver}
 use Rattle.qs_calls.specs.declared.event.Event.{Event}
 use Rattle.qs_world.specs.declared.report.Report.{Report}
 use Rattle.qs_world.specs.declared.report.PlayFault.{PlayFault}
 use Rattle.qs_world.specs.declared.report.PlayFault.TheVariants as faults
-use Rattle.qs_runs.specs.Logs.{payload}
+use Rattle.qs_runs.specs.Logs.{History, payload}
 use Rattle.qs_runs.specs.Worlds.{World, world_made}
-use Rattle.qs_world.specs.Copies.{IsReportOf}
-use Rattle.qs_world.specs.Plays.{AgreeingRun, Played, begun}
+use Rattle.qs_world.specs.Copies.{SameEvent, SameAct, IsReportOf}
+use Rattle.qs_world.specs.Plays.{AgreeingRun, Played, IsMissingBy, begun}
 use Rattle.qs_world.specs.PlayText.{play_text}
 use Rattle.qs_world.proofs.PlayedRuns.{played_none}
 use Rattle.qs_world.proofs.OneMore.{one_more}
 use Rattle.qs_cli.specs.declared.status.Status.{Status}
-use Rattle.qs_cli.specs.declared.status.Status.TheVariants.{Success, FaultShown, BadUsage, Failed}
+use Rattle.qs_cli.specs.declared.status.Status.TheVariants.{Success, FaultShown, BadUsage, NoMemory, Failed}
 use Rattle.qs_cli.specs.Runs.{Shows, missing_line}
-use Rattle.qs_cli.specs.Carrying.{Carried, StepsBy, CarryStep, CarryOf, HasCarried, ShowsWorld, AnswersCarried, wire_line}
+use Rattle.qs_cli.proofs.Answered.{by_shown}
+use Rattle.qs_cli.specs.Carrying.{Failings, Happens, Carried, Carries, StepsBy, CarryStep, CarryOf, HasCarried, ShowsWorld, AnswersCarried, counted, send_failed, wire_line}
 
--- a delivery in the place of another
-pub delivers : {X : Type 0} (old new : Played) (s : Side) (k j : ℕ) (text : List ℕ) (result : Result X PlayFault)
-    → payload s j old.log ≡ Some text → StepsBy old (record { end = s; act = Deliver j }) result new → CarryStep old (record { end = s; act = Deliver k }) result new
-delivers old new s k j text (Ok done) made (answer, log, step) = inr (record { end = s; act = Deliver j }, answer, inr (j, refl), log, step)
-delivers old new s k j text (Err (faults.NoSuchPacket n)) made (same, missing, place) = absurd (cc (made, missing))
-delivers old new s k j text (Err faults.NoMemory) made step = tt
-delivers old new s k j text (Err (faults.Setup fault)) made step = step
+-- Deliveries
+
+-- a packet arrives, perhaps in the place of another
+pub arrives : (old new : Played) (f : Failings) (s : Side) (k j : ℕ) (text : List ℕ) (result : Result Bool PlayFault)
+    → payload s j old.log ≡ Some text → StepsBy old (record { end = s; act = Deliver j }) result new → CarryStep old f (record { end = s; act = Deliver k }) result new f
+arrives old new f s k j text (Ok stranger) made step = inr (inr (inr (refl, step.0, j, step.1)))
+arrives old new f s k j text (Err (faults.NoSuchPacket n)) made (same, missing, place) = absurd (cc (made, missing))
+arrives old new f s k j text (Err faults.NoMemory) made step = tt
+arrives old new f s k j text (Err (faults.Setup fault)) made step = step
+
+-- the packet itself is to be delivered, and may be missing
+pub asked_for : (old new : Played) (f : Failings) (s : Side) (k : ℕ) (result : Result Bool PlayFault)
+    → StepsBy old (record { end = s; act = Deliver k }) result new → CarryStep old f (record { end = s; act = Deliver k }) result new f
+asked_for old new f s k (Ok stranger) step = inr (inr (inr (refl, step.0, k, step.1)))
+asked_for old new f s k (Err (faults.NoSuchPacket n)) (same, missing, place) = (same, refl, missing, place)
+asked_for old new f s k (Err faults.NoMemory) step = tt
+asked_for old new f s k (Err (faults.Setup fault)) step = step
+
+-- the send failed, and the packet is lost
+pub is_lost : (old new : Played) (f g : Failings) (s : Side) (k : ℕ) (result : Result Bool PlayFault)
+    → g ≡ send_failed f → StepsBy old (record { end = s; act = Lose k }) result new → CarryStep old f (record { end = s; act = Deliver k }) result new g
+is_lost old new f g s k (Ok stranger) failed step = inl (failed, step.0, step.1)
+is_lost old new f g s k (Err (faults.NoSuchPacket n)) failed (same, missing, place) = absurd (missing)
+is_lost old new f g s k (Err faults.NoMemory) failed step = tt
+is_lost old new f g s k (Err (faults.Setup fault)) failed step = step
+
+-- Any other event
+
+-- an act that is no delivery
+abbrev pub IsOther : Act → Type 0
+IsOther (Deliver k) = ⊥
+IsOther act = ⊤
+
+other_step : (s : Side) (act : Act) (old new : Played) (f : Failings) (placed : Event) (stranger : Bool)
+    → IsOther act → SameEvent placed (record { end = s; act = act }) → stranger ≡ false → Happens old placed new → Carries s act old f stranger new f
+other_step s (Deliver k) old new f placed stranger other same none happens = absurd (other)
+other_step s (acts.OpenStream d) old new f placed stranger other same none happens = (refl, none, placed, same, happens)
+other_step s acts.Accept old new f placed stranger other same none happens = (refl, none, placed, same, happens)
+other_step s acts.Claim old new f placed stranger other same none happens = (refl, none, placed, same, happens)
+other_step s (acts.Write n bytes) old new f placed stranger other same none happens = (refl, none, placed, same, happens)
+other_step s (acts.Finish n) old new f placed stranger other same none happens = (refl, none, placed, same, happens)
+other_step s (acts.Reset n code) old new f placed stranger other same none happens = (refl, none, placed, same, happens)
+other_step s (acts.Stop n code) old new f placed stranger other same none happens = (refl, none, placed, same, happens)
+other_step s (acts.ReadUpTo n size) old new f placed stranger other same none happens = (refl, none, placed, same, happens)
+other_step s (acts.Make room) old new f placed stranger other same none happens = (refl, none, placed, same, happens)
+other_step s (acts.Lose k) old new f placed stranger other same none happens = (refl, none, placed, same, happens)
+
+-- no event but a delivery has a packet that wasn't made
+none_missing : (h : History) (s : Side) (act more : Act) → IsOther act → SameAct more act → IsMissingBy h s more → ⊥
+none_missing h s act (Deliver j) other same missing = go act other same where
+  go : (a : Act) → IsOther a → SameAct (Deliver j) a → ⊥
+  go a other is = subst IsOther (sym is) other
+none_missing h s act (acts.OpenStream d) other same missing = missing
+none_missing h s act acts.Accept other same missing = missing
+none_missing h s act acts.Claim other same missing = missing
+none_missing h s act (acts.Write n bytes) other same missing = missing
+none_missing h s act (acts.Finish n) other same missing = missing
+none_missing h s act (acts.Reset n code) other same missing = missing
+none_missing h s act (acts.Stop n code) other same missing = missing
+none_missing h s act (acts.ReadUpTo n size) other same missing = missing
+none_missing h s act (acts.Make room) other same missing = missing
+none_missing h s act (acts.Lose k) other same missing = missing
+
+-- an event other than a delivery happens as it was handed in
+pub happens_so : (old new : Played) (f : Failings) (placed event : Event) (result : Result Bool PlayFault)
+    → IsOther event.act → SameEvent placed event → StepsBy old placed result new → CarryStep old f event result new f
+happens_so old new f placed event (Ok stranger) other same step = other_step event.end event.act old new f placed stranger other same step.0 step.1
+happens_so old new f placed event (Err (faults.NoSuchPacket n)) other same (still, missing, place) = absurd (none_missing old.log placed.end event.act placed.act other same.1 missing)
+happens_so old new f placed event (Err faults.NoMemory) other same step = tt
+happens_so old new f placed event (Err (faults.Setup fault)) other same step = step
 
 -- nothing happened yet
-pub carried_none : (p : Played) → Ok p ≡ begun (world_made standard standard) → HasCarried [] p
-carried_none p is =
+pub carried_none : (f : Failings) (p : Played) → Ok p ≡ begun (world_made standard standard) → HasCarried f [] p f 0
+carried_none f p is =
     let played = played_none standard standard p is in
-    record { run = played.run; carried = subst (Carried []) (sym (begins (world_made standard standard) is)) tt }
+    record { run = played.run; carried = (begins (world_made standard standard) is, refl, refl) }
   where
     begins : (made : Result World SetupFault) → Ok p ≡ begun made → p.log ≡ []
     begins (Err fault) e = absurd (cc (e))
@@ -45,19 +112,39 @@ reverse_last events i event lt is =
     let more : take (i + 1) events ≡ take i events ++ event ∷ [] = take_more events i event lt ∙ ap (λ e. take i events ++ e ∷ []) (sym is) in
     ap reverse more ∙ reverse-append (take i events) (event ∷ [])
 
+-- the run goes on with what happens
+runs_on : (old new : Played) (event : Event) → AgreeingRun standard standard old.log old.ends → Happens old event new → AgreeingRun standard standard new.log new.ends
+runs_on old new event run (answer, log, step) =
+    subst (λ h. AgreeingRun standard standard h new.ends) (sym log) (one_more standard standard old.log old.ends new.ends event answer run step)
+
+-- whatever an event comes to, the run goes on
+carries_on : (s : Side) (act : Act) (old new : Played) (f g : Failings) (stranger : Bool) → AgreeingRun standard standard old.log old.ends
+    → Carries s act old f stranger new g → AgreeingRun standard standard new.log new.ends
+carries_on s (Deliver k) old new f g stranger run (inl (failed, none, happens)) = runs_on old new _ run happens
+carries_on s (Deliver k) old new f g stranger run (inr (inl (failed, none, same))) = subst (λ (q : Played). AgreeingRun standard standard q.log q.ends) (sym same) run
+carries_on s (Deliver k) old new f g stranger run (inr (inr (inl (failed, one, same)))) = subst (λ (q : Played). AgreeingRun standard standard q.log q.ends) (sym same) run
+carries_on s (Deliver k) old new f g stranger run (inr (inr (inr (failed, none, j, happens)))) = runs_on old new _ run happens
+carries_on s (acts.OpenStream d) old new f g stranger run (failed, none, placed, same, happens) = runs_on old new placed run happens
+carries_on s acts.Accept old new f g stranger run (failed, none, placed, same, happens) = runs_on old new placed run happens
+carries_on s acts.Claim old new f g stranger run (failed, none, placed, same, happens) = runs_on old new placed run happens
+carries_on s (acts.Write n bytes) old new f g stranger run (failed, none, placed, same, happens) = runs_on old new placed run happens
+carries_on s (acts.Finish n) old new f g stranger run (failed, none, placed, same, happens) = runs_on old new placed run happens
+carries_on s (acts.Reset n code) old new f g stranger run (failed, none, placed, same, happens) = runs_on old new placed run happens
+carries_on s (acts.Stop n code) old new f g stranger run (failed, none, placed, same, happens) = runs_on old new placed run happens
+carries_on s (acts.ReadUpTo n size) old new f g stranger run (failed, none, placed, same, happens) = runs_on old new placed run happens
+carries_on s (acts.Make room) old new f g stranger run (failed, none, placed, same, happens) = runs_on old new placed run happens
+carries_on s (acts.Lose k) old new f g stranger run (failed, none, placed, same, happens) = runs_on old new placed run happens
+
 -- one event more
-pub carried_more : {X : Type 0} (events : List Event) (i : ℕ) (event : Event) (came : X) (old new : Played) → i < length events → event ≡ get_or events i event →
-    HasCarried (take i events) old → CarryStep old event (Ok came) new → HasCarried (take (i + 1) events) new
-carried_more events i event came old new lt is before (inl (falls, same)) =
-    let carried : Carried (event ∷ reverse (take i events)) old.log = inl (falls, before.carried) in
-    let all : Carried (reverse (take (i + 1) events)) old.log = subst (λ es. Carried es old.log) (sym (reverse_last events i event lt is)) carried in
-    let had : HasCarried (take (i + 1) events) old = record { run = before.run; carried = all } in
-    subst (HasCarried (take (i + 1) events)) (sym same) had
-carried_more events i event came old new lt is before (inr (placed, answer, takes, log, step)) =
-    let run : AgreeingRun standard standard ((placed, answer) ∷ old.log) new.ends = one_more standard standard old.log old.ends new.ends placed answer before.run step in
-    let carried : Carried (event ∷ reverse (take i events)) ((placed, answer) ∷ old.log) = inr (takes, before.carried) in
-    let all : Carried (reverse (take (i + 1) events)) ((placed, answer) ∷ old.log) = subst (λ es. Carried es ((placed, answer) ∷ old.log)) (sym (reverse_last events i event lt is)) carried in
-    record { run = subst (λ h. AgreeingRun standard standard h new.ends) (sym log) run; carried = subst (Carried (reverse (take (i + 1) events))) (sym log) all }
+pub carried_more : (before mid after : Failings) (events : List Event) (i : ℕ) (event : Event) (stranger : Bool) (n : ℕ) (old new : Played)
+    → i < length events → event ≡ get_or events i event
+    → HasCarried before (take i events) old mid n → CarryStep old mid event (Ok stranger) new after → HasCarried before (take (i + 1) events) new after (counted stranger n)
+carried_more before mid after events i event stranger n old new lt is had step =
+    let carried : Carried before (event ∷ reverse (take i events)) new after (counted stranger n) = (old, mid, n, stranger, had.carried, step, refl) in
+    record {
+      run = carries_on event.end event.act old new mid after stranger had.run step;
+      carried = subst (λ es. Carried before es new after (counted stranger n)) (sym (reverse_last events i event lt is)) carried;
+    }
 
 split_at : {X : Type 0} (xs : List X) (i : ℕ) (d : X) → i < length xs → xs ≡ take i xs ++ get_or xs i d ∷ drop (suc i) xs
 split_at [] i d lt = absurd (omega arith)
@@ -65,38 +152,39 @@ split_at (x ∷ xs) zero d lt = refl
 split_at (x ∷ xs) (suc i) d lt = ap (λ l. x ∷ l) (split_at xs i d (omega arith))
 
 -- the events stop at one
-pub carrying_stops : (X Y : Type 0) (events : List Event) (i : ℕ) (event : Event) (fault : PlayFault) (old new : Played) → i < length events → event ≡ get_or events i event →
-    HasCarried (take i events) old → CarryStep {X = X} old event (Err fault) new → CarryOf {X = Y} events (Err fault) new
-carrying_stops X Y events i event (faults.NoSuchPacket k) old new lt is before (same, missing, place) =
+pub carrying_stops : (before mid after : Failings) (events : List Event) (i : ℕ) (event : Event) (n : ℕ) (fault : PlayFault) (old new : Played)
+    → i < length events → event ≡ get_or events i event
+    → HasCarried before (take i events) old mid n → CarryStep old mid event (Err fault) new after → CarryOf before events (Err fault) new after
+carrying_stops before mid after events i event n (faults.NoSuchPacket k) old new lt is had (same, still, missing, place) =
     let all : events ≡ take i events ++ event ∷ drop (suc i) events = split_at events i event lt ∙ ap (λ e. take i events ++ e ∷ drop (suc i) events) (sym is) in
-    let stops : CarryOf {X = Y} events (Err (faults.NoSuchPacket k)) old = (take i events, drop (suc i) events, event, all, before, missing, place) in
-    subst (CarryOf {X = Y} events (Err (faults.NoSuchPacket k))) (sym same) stops
-carrying_stops X Y events i event faults.NoMemory old new lt is before step = tt
-carrying_stops X Y events i event (faults.Setup fault) old new lt is before step = step
+    let stops : CarryOf before events (Err (faults.NoSuchPacket k)) old mid = (take i events, drop (suc i) events, event, n, all, had, missing, place) in
+    subst (CarryOf before events (Err (faults.NoSuchPacket k)) new) (sym still) (subst (λ q. CarryOf before events (Err (faults.NoSuchPacket k)) q mid) (sym same) stops)
+carrying_stops before mid after events i event n faults.NoMemory old new lt is had step = tt
+carrying_stops before mid after events i event n (faults.Setup fault) old new lt is had step = step
 
 -- all events were handed in
-pub carried_all : (events : List Event) (i : ℕ) (p : Played) → length events ≤ i → HasCarried (take i events) p → HasCarried events p
-carried_all events i p all before = subst (λ es. HasCarried es p) (take_all i events all) before
+pub carried_all : (before after : Failings) (events : List Event) (i n : ℕ) (p : Played) → length events ≤ i → HasCarried before (take i events) p after n → HasCarried before events p after n
+carried_all before after events i n p all had = subst (λ es. HasCarried before es p after n) (take_all i events all) had
 
 -- What was written
 
 -- a report of the world was written
-pub shown_world : {E : Type 0} (result : Result Status E) (p : Played) (report : Report) (failures strangers : ℕ) (old new : Option (List ℕ)) → IsReportOf p report →
-    IfOk result (Shows (play_text report ++ wire_line failures strangers) Success old new) → IfOk result (λ status. ShowsWorld status p failures strangers old new)
-shown_world (Ok status) p report failures strangers old new is (same, text) = subst (λ s. ShowsWorld s p failures strangers old new) (sym same) (report, is, text)
-shown_world (Err error) p report failures strangers old new is done = tt
+pub shown_world : (answer : Status) (p : Played) (report : Report) (failures strangers : ℕ) (old new : Option (List ℕ)) → IsReportOf p report →
+    Shows (play_text report ++ wire_line failures strangers) Success old new answer → ShowsWorld answer p failures strangers old new
+shown_world answer p report failures strangers old new is shown =
+    by_shown (play_text report ++ wire_line failures strangers) Success answer old new (λ a. ShowsWorld a p failures strangers old new) shown (λ text. (report, is, text)) (λ same. same) tt
 
 -- what took place of the events was shown
-pub answered_world : {E : Type 0} (result : Result Status E) (events : List Event) (p : Played) (before after failures strangers : ℕ) (old new : Option (List ℕ)) →
-    HasCarried events p → failures ≡ after - before → IfOk result (λ status. ShowsWorld status p failures strangers old new) → IfOk result (λ status. AnswersCarried status events before after old new)
-answered_world (Ok Success) events p before after failures strangers old new carried rise shown = (p, strangers, carried, subst (λ n. ShowsWorld Success p n strangers old new) rise shown)
-answered_world (Ok FaultShown) events p before after failures strangers old new carried rise shown = absurd (shown)
-answered_world (Ok BadUsage) events p before after failures strangers old new carried rise shown = shown
-answered_world (Ok Failed) events p before after failures strangers old new carried rise shown = tt
-answered_world (Err error) events p before after failures strangers old new carried rise shown = tt
+pub answered_world : (answer : Status) (events : List Event) (p : Played) (before after : Failings) (failures strangers : ℕ) (old new : Option (List ℕ)) →
+    HasCarried before events p after strangers → failures ≡ after.calls - before.calls → ShowsWorld answer p failures strangers old new → AnswersCarried answer events before after old new
+answered_world Success events p before after failures strangers old new carried rise shown = (p, strangers, carried, subst (λ n. ShowsWorld Success p n strangers old new) rise shown)
+answered_world FaultShown events p before after failures strangers old new carried rise shown = absurd (shown)
+answered_world BadUsage events p before after failures strangers old new carried rise shown = shown
+answered_world NoMemory events p before after failures strangers old new carried rise shown = shown
+answered_world Failed events p before after failures strangers old new carried rise shown = tt
 
 -- a packet that wasn't made was named
-pub answered_missing : {E : Type 0} (result : Result Status E) (events : List Event) (p : Played) (k before after : ℕ) (old new : Option (List ℕ)) →
-    CarryOf {X = ℕ} events (Err (faults.NoSuchPacket k)) p → IfOk result (Shows (missing_line k) FaultShown old new) → IfOk result (λ status. AnswersCarried status events before after old new)
-answered_missing (Ok status) events p k before after old new stops (same, text) = subst (λ s. AnswersCarried s events before after old new) (sym same) (k, p, stops, text)
-answered_missing (Err error) events p k before after old new stops done = tt
+pub answered_missing : (answer : Status) (events : List Event) (p : Played) (k : ℕ) (before after : Failings) (old new : Option (List ℕ)) →
+    CarryOf before events (Err (faults.NoSuchPacket k)) p after → Shows (missing_line k) FaultShown old new answer → AnswersCarried answer events before after old new
+answered_missing answer events p k before after old new stops shown =
+    by_shown (missing_line k) FaultShown answer old new (λ a. AnswersCarried a events before after old new) shown (λ text. (k, p, stops, text)) (λ same. same) tt

@@ -1,9 +1,9 @@
 -- Of public contracts.
 -- Packets go over a wire that may fail: which events take place, and what is written of them.
-use Rattle.std.specs.Prelude.{◌≡◌, ℕ, suc, ◌-◌, ◌≤◌, ◌^◌, List, [], ◌∷◌, ◌++◌, length, take, drop, reverse, codes, decimal, Option, Some, Result, Ok, Err, nat_lt, true, ⊤, ◌⊎◌, if◌then◌else◌}
+use Rattle.std.specs.Prelude.{◌≡◌, ℕ, suc, ◌-◌, ◌≤◌, ◌^◌, List, [], ◌∷◌, ◌++◌, length, take, drop, reverse, codes, decimal, Option, Some, Result, Ok, Err, nat_lt, Bool, true, false, ⊤, ◌⊎◌, if◌then◌else◌, refl}
+use Rattle.std.specs.Coded.{Coded, code_by, coded×, coded_ℕ}
 use Rattle.std.specs.Int.{w64, from_be_bytes}
 use Rattle.std.specs.Io.KnownBytes.{Appends}
-use Rattle.std.specs.List.{list_all}
 use Rattle.qs_machine.specs.Examples.{standard}
 use Rattle.qs_calls.specs.declared.event.Side.{Side}
 use Rattle.qs_calls.specs.declared.event.Act.{Act}
@@ -13,25 +13,48 @@ use Rattle.qs_calls.specs.declared.answer.Answer.{Answer}
 use Rattle.qs_world.specs.declared.report.Report.{Report}
 use Rattle.qs_world.specs.declared.report.PlayFault.{PlayFault}
 use Rattle.qs_world.specs.declared.report.PlayFault.TheVariants as faults
-use Rattle.qs_world.specs.declared.script.ScriptFault.{ScriptFault}
-use Rattle.qs_calls.specs.Events.{fits, act_fits}
+use Rattle.qs_calls.specs.Events.{act_fits}
 use Rattle.qs_runs.specs.Logs.{History, payload}
 use Rattle.qs_runs.specs.Worlds.{WorldStep}
 use Rattle.qs_world.specs.Copies.{SameEvent, IsReportOf}
 use Rattle.qs_world.specs.Plays.{AgreeingRun, Played, IsMissing}
 use Rattle.qs_world.specs.PlayText.{play_text}
 use Rattle.qs_cli.specs.declared.status.Status.{Status}
-use Rattle.qs_cli.specs.declared.status.Status.TheVariants.{Success, FaultShown, BadUsage, Failed}
-use Rattle.qs_cli.specs.Runs.{missing_line, ShowsScriptFault, IsLineOf}
+use Rattle.qs_cli.specs.declared.status.Status.TheVariants.{Success, FaultShown, BadUsage, NoMemory, Failed}
+use Rattle.qs_cli.specs.Runs.{missing_line, IsScriptOf, NamesFault}
 
--- one more call of a wire failed: the count stays at its greatest value
+-- how many calls of a wire failed, and how many of these were sends
+pub record Failings : Type 0 where
+  pub calls : ℕ
+  pub sends : ℕ
+
+-- it is stored as the pair of its fields
+abbrev pub failings_code : Coded Failings
+failings_code = code_by (ℕ × ℕ) (coded× coded_ℕ coded_ℕ) (λ f. (f.calls, f.sends)) (λ p. record { calls = p.0; sends = p.1 }) (λ _. refl)
+
+abbrev pub none_failed : Failings
+none_failed = record { calls = 0; sends = 0 }
+
+-- one more: a count stays at its greatest value
 abbrev pub one_more : ℕ → ℕ
 one_more n = if nat_lt n (2 ^ 64 - 1) then suc n else n
 
--- how many calls of a wire failed after one that gave this answer
-abbrev pub counted : {X E : Type 0} → Result X E → ℕ → ℕ
-counted (Ok answer) n = n
-counted (Err error) n = one_more n
+-- one more send failed
+abbrev pub send_failed : Failings → Failings
+send_failed f = record { calls = one_more f.calls; sends = one_more f.sends }
+
+-- one more receive failed
+abbrev pub recv_failed : Failings → Failings
+recv_failed f = record f { calls = one_more f.calls }
+
+-- what failed after a send that gave this answer, and after a receive
+abbrev pub after_send : {X E : Type 0} → Result X E → Failings → Failings
+after_send (Ok done) f = f
+after_send (Err error) f = send_failed f
+
+abbrev pub after_recv : {X E : Type 0} → Result X E → Failings → Failings
+after_recv (Ok count) f = f
+after_recv (Err error) f = recv_failed f
 
 -- A datagram is the packet that an end made under that number: the number in eight bytes, the most significant one first, and then the
 -- payload.
@@ -43,92 +66,100 @@ IsPacketOf s h k datagram =
 abbrev pub IsStranger : Side → History → List ℕ → Type 0
 IsStranger s h datagram = (k : ℕ) → IsPacketOf s h k datagram → ⊥
 
--- the packet of that number is declared lost, or some packet of the end is delivered
-abbrev pub ComesOfDelivery : Side → ℕ → Event → Type 0
-ComesOfDelivery s k event = (event ≡ record { end = s; act = Lose k }) ⊎ ((j : ℕ) × (event ≡ record { end = s; act = Deliver j }))
+-- an event happens, and is logged with its answer
+abbrev pub Happens : Played → Event → Played → Type 0
+Happens old event new = (answer : Answer) × (new.log ≡ (event, answer) ∷ old.log) × WorldStep old.log old.ends event answer new.ends
 
--- an event takes place as it was handed in, and a delivery as what comes of it
-abbrev pub TakesPlaceBy : Side → Act → Event → Type 0
-TakesPlaceBy s (Deliver k) event = ComesOfDelivery s k event
-TakesPlaceBy s act event = SameEvent event (record { end = s; act = act })
-
--- nothing comes of a delivery
-abbrev pub FallsAwayBy : Act → Type 0
-FallsAwayBy (Deliver k) = ⊤
-FallsAwayBy act = ⊥
-
--- the newest event of a log took place in that event's place, and the rest is so
-abbrev pub LastTakesPlace : Event → (History → Type 0) → History → Type 0
-LastTakesPlace event Rest [] = ⊥
-LastTakesPlace event Rest (x ∷ h) = TakesPlaceBy event.end event.act x.0 × Rest h
-
--- What took place of the events handed in, the newest first of both: by the last one, which took place or of which nothing came.
-abbrev pub Carried : List Event → History → Type 0
-Carried [] [] = ⊤
-Carried [] (x ∷ h) = ⊥
-Carried (event ∷ before) h = (FallsAwayBy event.act × Carried before h) ⊎ LastTakesPlace event (Carried before) h
-
--- One event takes place, and is logged with its answer; or a packet that wasn't made was to be delivered; or there was no memory.
-abbrev pub StepsBy : {X : Type 0} → Played → Event → Result X PlayFault → Played → Type 0
-StepsBy old event (Ok done) new = (answer : Answer) × (new.log ≡ (event, answer) ∷ old.log) × WorldStep old.log old.ends event answer new.ends
+-- An event happens, and no stranger's datagram came; or a packet that wasn't made was to be delivered; or there was no memory.
+abbrev pub StepsBy : Played → Event → Result Bool PlayFault → Played → Type 0
+StepsBy old event (Ok stranger) new = (stranger ≡ false) × Happens old event new
 StepsBy old event (Err (faults.NoSuchPacket k)) new = (new ≡ old) × IsMissing old.log event × (k ≡ suc (length old.log))
 StepsBy old event (Err faults.NoMemory) new = ⊤
 StepsBy old event (Err (faults.Setup fault)) new = ⊥
 
--- What comes of one event over a wire: one that takes place, with its answer; nothing; a packet that wasn't made; or want of memory.
-abbrev pub CarryStep : {X : Type 0} → Played → Event → Result X PlayFault → Played → Type 0
-CarryStep old event (Ok came) new =
-    (FallsAwayBy event.act × (new ≡ old))
-    ⊎ ((placed : Event) × (answer : Answer) × TakesPlaceBy event.end event.act placed × (new.log ≡ (placed, answer) ∷ old.log) × WorldStep old.log old.ends placed answer new.ends)
-CarryStep old event (Err (faults.NoSuchPacket k)) new = (new ≡ old) × IsMissing old.log event × (k ≡ suc (length old.log))
-CarryStep old event (Err faults.NoMemory) new = ⊤
-CarryStep old event (Err (faults.Setup fault)) new = ⊥
+-- What comes of a packet that is to be delivered, by what failed of the wire before and after, and whether a stranger's datagram came: the
+-- send failed, and the packet is lost; or the receive failed, and nothing happens; or a stranger's datagram came, and nothing happens; or
+-- a packet of that end arrives.
+abbrev pub Delivers : Side → ℕ → Played → Failings → Bool → Played → Failings → Type 0
+Delivers s k old f stranger new g =
+    ((g ≡ send_failed f) × (stranger ≡ false) × Happens old (record { end = s; act = Lose k }) new)
+    ⊎ (((g ≡ recv_failed f) × (stranger ≡ false) × (new ≡ old))
+    ⊎ (((g ≡ f) × (stranger ≡ true) × (new ≡ old))
+    ⊎ ((g ≡ f) × (stranger ≡ false) × (j : ℕ) × Happens old (record { end = s; act = Deliver j }) new)))
 
--- an agreeing run between two ends of the standard settings of what took place of these events
-pub record HasCarried (events : List Event) (p : Played) : Type 0 where
+-- what comes of an event over a wire: a delivery as above, and any other event happens as it was handed in
+abbrev pub Carries : Side → Act → Played → Failings → Bool → Played → Failings → Type 0
+Carries s (Deliver k) old f stranger new g = Delivers s k old f stranger new g
+Carries s act old f stranger new g =
+    (g ≡ f) × (stranger ≡ false) × (placed : Event) × SameEvent placed (record { end = s; act = act }) × Happens old placed new
+
+-- What one event comes to over a wire, and what failed of the wire; or a packet wasn't made that was to be delivered; or there was no
+-- memory.
+abbrev pub CarryStep : Played → Failings → Event → Result Bool PlayFault → Played → Failings → Type 0
+CarryStep old f event (Ok stranger) new g = Carries event.end event.act old f stranger new g
+CarryStep old f event (Err (faults.NoSuchPacket k)) new g = (new ≡ old) × (g ≡ f) × IsMissing old.log event × (k ≡ suc (length old.log))
+CarryStep old f event (Err faults.NoMemory) new g = ⊤
+CarryStep old f event (Err (faults.Setup fault)) new g = ⊥
+
+-- one stranger's datagram more, if one came
+abbrev pub counted : Bool → ℕ → ℕ
+counted true n = one_more n
+counted false n = n
+
+-- Each event came to what it may over a wire, the last one first: from a new world on to this one, from what had failed of the wire to
+-- what failed since, with so many strangers' datagrams.
+abbrev pub Carried : Failings → List Event → Played → Failings → ℕ → Type 0
+Carried before [] p after strangers = (p.log ≡ []) × (after ≡ before) × (strangers ≡ 0)
+Carried before (event ∷ earlier) p after strangers =
+    (q : Played) × (mid : Failings) × (n : ℕ) × (stranger : Bool)
+    × Carried before earlier q mid n × Carries event.end event.act q mid stranger p after × (strangers ≡ counted stranger n)
+
+-- an agreeing run between two ends of the standard settings of what these events came to
+pub record HasCarried (before : Failings) (events : List Event) (p : Played) (after : Failings) (strangers : ℕ) : Type 0 where
   pub run : AgreeingRun standard standard p.log p.ends
-  pub carried : Carried (reverse events) p.log
+  pub carried : Carried before (reverse events) p after strangers
 
 -- What comes of events over a wire, in a world that was new: such a run of them; or of those before one whose packet wasn't made; or want
 -- of memory.
-abbrev pub CarryOf : {X : Type 0} → List Event → Result X PlayFault → Played → Type 0
-CarryOf events (Ok strangers) p = HasCarried events p
-CarryOf events (Err (faults.NoSuchPacket k)) p =
-    (before after : List Event) × (event : Event)
-    × (events ≡ before ++ event ∷ after) × HasCarried before p × IsMissing p.log event × (k ≡ suc (length p.log))
-CarryOf events (Err faults.NoMemory) p = ⊤
-CarryOf events (Err (faults.Setup fault)) p = ⊥
+abbrev pub CarryOf : Failings → List Event → Result ℕ PlayFault → Played → Failings → Type 0
+CarryOf failed events (Ok strangers) p now = HasCarried failed events p now strangers
+CarryOf failed events (Err (faults.NoSuchPacket k)) p now =
+    (before after : List Event) × (event : Event) × (strangers : ℕ)
+    × (events ≡ before ++ event ∷ after) × HasCarried failed before p now strangers × IsMissing p.log event × (k ≡ suc (length p.log))
+CarryOf failed events (Err faults.NoMemory) p now = ⊤
+CarryOf failed events (Err (faults.Setup fault)) p now = ⊥
 
 -- the line that tells how many calls of the wire failed and how many datagrams were a stranger's
 abbrev pub wire_line : ℕ → ℕ → List ℕ
 wire_line failures strangers = codes "wire failures " ++ (decimal failures ++ (codes " strangers " ++ (decimal strangers ++ codes "\n")))
 
--- the text of a report of a world was written, and the line of the wire; or memory was refused
+-- the text of a report of a world was written, and the line of the wire; where memory was refused nothing was
 abbrev pub ShowsWorld : Status → Played → ℕ → ℕ → Option (List ℕ) → Option (List ℕ) → Type 0
 ShowsWorld Success p failures strangers old new =
     (report : Report) × IsReportOf p report × Appends old new (play_text report ++ wire_line failures strangers)
 ShowsWorld FaultShown p failures strangers old new = ⊥
 ShowsWorld BadUsage p failures strangers old new = ⊥
+ShowsWorld NoMemory p failures strangers old new = new ≡ old
 ShowsWorld Failed p failures strangers old new = ⊤
 
 -- The text of a report of what took place was written, and the line of the wire with the rise of its failures; or the line that names a
--- packet that wasn't made; where memory or the writer failed nothing is said.
-abbrev pub AnswersCarried : Status → List Event → ℕ → ℕ → Option (List ℕ) → Option (List ℕ) → Type 0
-AnswersCarried Success events before after old new = (p : Played) × (strangers : ℕ) × HasCarried events p × ShowsWorld Success p (after - before) strangers old new
+-- packet that wasn't made; where memory was refused nothing was written.
+abbrev pub AnswersCarried : Status → List Event → Failings → Failings → Option (List ℕ) → Option (List ℕ) → Type 0
+AnswersCarried Success events before after old new =
+    (p : Played) × (strangers : ℕ) × HasCarried before events p after strangers × ShowsWorld Success p (after.calls - before.calls) strangers old new
 AnswersCarried FaultShown events before after old new =
-    (k : ℕ) × (p : Played) × CarryOf {X = ℕ} events (Err (faults.NoSuchPacket k)) p × Appends old new (missing_line k)
+    (k : ℕ) × (p : Played) × CarryOf before events (Err (faults.NoSuchPacket k)) p after × Appends old new (missing_line k)
 AnswersCarried BadUsage events before after old new = ⊥
+AnswersCarried NoMemory events before after old new = new ≡ old
 AnswersCarried Failed events before after old new = ⊤
 
--- what some events that fit are answered with over a wire
-abbrev pub AnswersSomeCarried : Status → ℕ → ℕ → Option (List ℕ) → Option (List ℕ) → Type 0
-AnswersSomeCarried status before after old new =
-    (events : List Event) × (list_all fits events ≡ true) × AnswersCarried status events before after old new
-
--- Some events were played over a wire, or the fault of a line was named; where memory or the writer failed nothing is said.
-abbrev pub AnswersUdp : Status → List ℕ → ℕ → ℕ → Option (List ℕ) → Option (List ℕ) → Type 0
-AnswersUdp Success script before after old new = AnswersSomeCarried Success before after old new
+-- The events of the script were played over a wire, or its first line that is no event was named; where memory was refused nothing was
+-- written.
+abbrev pub AnswersUdp : Status → List ℕ → Failings → Failings → Option (List ℕ) → Option (List ℕ) → Type 0
+AnswersUdp Success script before after old new =
+    (events : List Event) × IsScriptOf script events × AnswersCarried Success events before after old new
 AnswersUdp FaultShown script before after old new =
-    AnswersSomeCarried FaultShown before after old new ⊎ ((fault : ScriptFault) × IsLineOf script fault.line × ShowsScriptFault FaultShown fault old new)
+    ((events : List Event) × IsScriptOf script events × AnswersCarried FaultShown events before after old new) ⊎ NamesFault script old new
 AnswersUdp BadUsage script before after old new = ⊥
+AnswersUdp NoMemory script before after old new = new ≡ old
 AnswersUdp Failed script before after old new = ⊤

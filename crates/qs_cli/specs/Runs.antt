@@ -1,6 +1,6 @@
 -- Of public contracts.
 -- What a run of the program answers and writes.
-use Rattle.std.specs.Prelude.{◌≡◌, ℕ, List, ◌++◌, codes, decimal, length, ◌≤◌, ◌⊎◌, Option, None, Ok, Err, is_some, true, ⊤}
+use Rattle.std.specs.Prelude.{◌≡◌, ℕ, List, ◌++◌, codes, decimal, length, map, ◌≤◌, ◌⊎◌, Option, None, Ok, Err, is_some, true, ⊤}
 use Rattle.std.specs.Io.KnownBytes.{Appends}
 use Rattle.std.specs.List.{list_all}
 use Rattle.hex.specs.Hex.{decode_of}
@@ -9,15 +9,15 @@ use Rattle.qs_calls.specs.declared.settings.Settings.{Settings}
 use Rattle.qs_calls.specs.declared.event.Event.{Event}
 use Rattle.qs_world.specs.declared.report.Report.{Report}
 use Rattle.qs_world.specs.declared.report.PlayFault.TheVariants.{NoSuchPacket}
-use Rattle.qs_world.specs.declared.script.Reason.TheVariants.{NoMemory}
+use Rattle.qs_world.specs.declared.script.Reason.TheVariants as reasons
 use Rattle.qs_world.specs.declared.script.ScriptFault.{ScriptFault}
 use Rattle.qs_calls.specs.Events.{fits}
-use Rattle.qs_world.specs.Scripts.{lines_of, reason_number}
+use Rattle.qs_world.specs.Scripts.{script_of, said, reason_number}
 use Rattle.qs_world.specs.Plays.{PlayOf}
 use Rattle.qs_world.specs.Randoms.{IsRandomScript, seeded}
 use Rattle.qs_world.specs.PlayText.{play_text, script_text}
 use Rattle.qs_cli.specs.declared.status.Status.{Status}
-use Rattle.qs_cli.specs.declared.status.Status.TheVariants.{Success, FaultShown, BadUsage, Failed}
+use Rattle.qs_cli.specs.declared.status.Status.TheVariants.{Success, FaultShown, BadUsage, NoMemory, Failed}
 use Rattle.qs_cli.specs.FrameText.{payload_text}
 
 -- the number that the process ends with
@@ -25,20 +25,35 @@ abbrev pub exit_code : Status → ℕ
 exit_code Success = 0
 exit_code FaultShown = 1
 exit_code BadUsage = 2
+exit_code NoMemory = 3
 exit_code Failed = 3
+
+-- memory was refused, and nothing was written; or the writer failed
+abbrev pub ShowsNothing : Option (List ℕ) → Option (List ℕ) → Status → Type 0
+ShowsNothing old new answer = ((answer ≡ NoMemory) × (new ≡ old)) ⊎ (answer ≡ Failed)
+
+-- the text was written, and the answer is the status that goes with it; or nothing can be shown
+abbrev pub Shows : List ℕ → Status → Option (List ℕ) → Option (List ℕ) → Status → Type 0
+Shows text status old new answer = ((answer ≡ status) × Appends old new text) ⊎ ShowsNothing old new answer
 
 -- the word spells a payload in hex
 abbrev pub SpellsPayload : List ℕ → List ℕ → Type 0
 SpellsPayload word payload = (decode_of word ≡ Ok payload) × (length payload ≤ 65535)
 
--- Without a fault and with one the payload's text was written, for bad hex nothing; where memory or the writer failed nothing is said.
+-- the word spells some payload
+abbrev pub IsPayload : List ℕ → Type 0
+IsPayload word = (payload : List ℕ) × SpellsPayload word payload
+
+-- Without a fault and with one the payload's text was written. Bad usage is answered where the word spells no payload, and nowhere else;
+-- then nothing was written, nor was anything where memory was refused. Where the writer failed nothing is said of what was written.
 abbrev pub AnswersFrames : Status → List ℕ → Option (List ℕ) → Option (List ℕ) → Type 0
 AnswersFrames Success word old new =
     (payload : List ℕ) × SpellsPayload word payload × ((reading_of payload).fault ≡ None) × Appends old new (payload_text payload)
 AnswersFrames FaultShown word old new =
     (payload : List ℕ) × SpellsPayload word payload × (is_some (reading_of payload).fault ≡ true) × Appends old new (payload_text payload)
-AnswersFrames BadUsage word old new = ((payload : List ℕ) → SpellsPayload word payload → ⊥) × (new ≡ old)
-AnswersFrames Failed word old new = ⊤
+AnswersFrames BadUsage word old new = (IsPayload word → ⊥) × (new ≡ old)
+AnswersFrames NoMemory word old new = IsPayload word × (new ≡ old)
+AnswersFrames Failed word old new = IsPayload word
 
 -- the line that names the first event whose packet wasn't made
 abbrev pub missing_line : ℕ → List ℕ
@@ -48,44 +63,41 @@ missing_line event = codes "fault: no such packet at event " ++ decimal event ++
 abbrev pub script_fault_line : ScriptFault → List ℕ
 script_fault_line fault = codes "fault: line " ++ decimal fault.line ++ codes " reason " ++ decimal (reason_number fault.reason) ++ codes "\n"
 
--- the text was written, and the answer is the status that goes with it
-abbrev pub Shows : List ℕ → Status → Option (List ℕ) → Option (List ℕ) → Status → Type 0
-Shows text status old new answer = (answer ≡ status) × Appends old new text
-
--- The text of a report of the events that were played was written, or the line that names a packet that wasn't made; where memory or the
--- writer failed nothing is said.
+-- The text of a report of the events that were played was written, or the line that names a packet that wasn't made; where memory was
+-- refused nothing was.
 abbrev pub AnswersEvents : Status → Settings → List Event → Option (List ℕ) → Option (List ℕ) → Type 0
 AnswersEvents Success s events old new = (report : Report) × PlayOf s s events (Ok report) × Appends old new (play_text report)
 AnswersEvents FaultShown s events old new = (k : ℕ) × PlayOf s s events (Err (NoSuchPacket k)) × Appends old new (missing_line k)
 AnswersEvents BadUsage s events old new = ⊥
+AnswersEvents NoMemory s events old new = new ≡ old
 AnswersEvents Failed s events old new = ⊤
 
--- what playing some events that fit between two ends of these settings answers
-abbrev pub AnswersSome : Status → Settings → Option (List ℕ) → Option (List ℕ) → Type 0
-AnswersSome status s old new = (events : List Event) × (list_all fits events ≡ true) × AnswersEvents status s events old new
+-- the events are those that the script says, and their numbers lie in their ranges
+abbrev pub IsScriptOf : List ℕ → List Event → Type 0
+IsScriptOf script events = (script_of script ≡ Ok (map said events)) × (list_all fits events ≡ true)
 
--- the fault of a script was named, which isn't want of memory
-abbrev pub ShowsScriptFault : Status → ScriptFault → Option (List ℕ) → Option (List ℕ) → Type 0
-ShowsScriptFault Success fault old new = ⊥
-ShowsScriptFault FaultShown fault old new = (fault.reason ≡ NoMemory → ⊥) × Appends old new (script_fault_line fault)
-ShowsScriptFault BadUsage fault old new = ⊥
-ShowsScriptFault Failed fault old new = ⊤
+-- the fault of a script was named, which isn't want of memory; or nothing can be shown
+abbrev pub ShowsScriptFault : ScriptFault → Option (List ℕ) → Option (List ℕ) → Status → Type 0
+ShowsScriptFault fault old new answer =
+    ((fault.reason ≡ reasons.NoMemory → ⊥) × (answer ≡ FaultShown) × Appends old new (script_fault_line fault)) ⊎ ShowsNothing old new answer
 
--- the line is one of the script's, counted from 1
-abbrev pub IsLineOf : List ℕ → ℕ → Type 0
-IsLineOf script n = (1 ≤ n) × (n ≤ length (lines_of script))
+-- the script's first line that is no event was named, with the reason
+abbrev pub NamesFault : List ℕ → Option (List ℕ) → Option (List ℕ) → Type 0
+NamesFault script old new = (fault : ScriptFault) × (script_of script ≡ Err (fault.line, fault.reason)) × Appends old new (script_fault_line fault)
 
--- Some events were played, or the fault of a line was named; where memory or the writer failed nothing is said.
+-- The events of the script were played, or its first line that is no event was named; where memory was refused nothing was written.
 abbrev pub AnswersPlay : Status → Settings → List ℕ → Option (List ℕ) → Option (List ℕ) → Type 0
-AnswersPlay Success s script old new = AnswersSome Success s old new
+AnswersPlay Success s script old new = (events : List Event) × IsScriptOf script events × AnswersEvents Success s events old new
 AnswersPlay FaultShown s script old new =
-    AnswersSome FaultShown s old new ⊎ ((fault : ScriptFault) × IsLineOf script fault.line × ShowsScriptFault FaultShown fault old new)
+    ((events : List Event) × IsScriptOf script events × AnswersEvents FaultShown s events old new) ⊎ NamesFault script old new
 AnswersPlay BadUsage s script old new = ⊥
+AnswersPlay NoMemory s script old new = new ≡ old
 AnswersPlay Failed s script old new = ⊤
 
--- The text of so many random events was written; where memory or the writer failed nothing is said.
+-- The text of so many random events was written; where memory was refused nothing was.
 abbrev pub AnswersRandom : Status → ℕ → ℕ → Option (List ℕ) → Option (List ℕ) → Type 0
 AnswersRandom Success seed n old new = (events : List Event) × IsRandomScript (seeded seed) n events × Appends old new (script_text events)
 AnswersRandom FaultShown seed n old new = ⊥
 AnswersRandom BadUsage seed n old new = ⊥
+AnswersRandom NoMemory seed n old new = new ≡ old
 AnswersRandom Failed seed n old new = ⊤

@@ -9,12 +9,12 @@ ghost use Rattle.qs_world.specs.PlayText.{play_text};
 ghost use Rattle.qs_calls.specs.declared.event.Act.TheVariants.{Lose, Deliver};
 ghost use Rattle.qs_cli.specs.Runs.{Shows};
 ghost use Rattle.qs_cli.specs.declared.status.Status.TheVariants.{Success};
-ghost use Rattle.qs_cli.specs.Carrying.{IsPacketOf, IsStranger, StepsBy, CarryStep, CarryOf, HasCarried, ShowsWorld, AnswersCarried, AnswersUdp, wire_line};
+ghost use Rattle.qs_cli.specs.Carrying.{IsPacketOf, IsStranger, StepsBy, CarryStep, CarryOf, HasCarried, ShowsWorld, AnswersCarried, AnswersUdp, counted, wire_line};
 
 use crate::report_text::play_text;
 use crate::scripts::{show, show_missing, show_script_fault};
 use crate::status::Status;
-use crate::wire::{Wire, other_side};
+use crate::wire::{Wire, one_more, other_side};
 use qs_world::{
     Act, Event, PlayFault, Report, Side, World, copy_event, parse_script, standard_settings,
 };
@@ -36,7 +36,7 @@ pub fn run_udp<Wi: Wire, W: io::Write>(
 {
     match parse_script(alloc, script) {
         Ok(events) => udp_events(alloc, &events, wire, out),
-        Err(fault) => show_script_fault(alloc, fault, out).unwrap_or(Status::Failed),
+        Err(fault) => show_script_fault(alloc, fault, out),
     }
 }
 
@@ -55,18 +55,6 @@ pub fn udp_events<Wi: Wire, W: io::Write>(
     requires { list_all fits events.now ≡ true }
     ensures { AnswersCarried result events.now (Wi.failed wire.old) (Wi.failed wire.new) (W.contents out.old) (W.contents out.new) }
 {
-    show_carried(alloc, events, wire, out).unwrap_or(Status::Failed)
-}
-
-fn show_carried<Wi: Wire, W: io::Write>(
-    alloc: Global,
-    events: &[Event],
-    wire: &mut Wi,
-    out: &mut W,
-) -> io::Result<Status>
-    requires { list_all fits events.now ≡ true }
-    ensures { IfOk result (λ status. AnswersCarried status events.now (Wi.failed wire.old) (Wi.failed wire.new) (W.contents out.old) (W.contents out.new)) }
-{
     let Ok(mut world) = World::new(alloc, standard_settings(), standard_settings()) else {
         unreachable!()
     };
@@ -80,10 +68,10 @@ fn carry_and_show<Wi: Wire, W: io::Write>(
     wire: &mut Wi,
     world: &mut World,
     out: &mut W,
-) -> io::Result<Status>
+) -> Status
     requires fit { list_all fits events.now ≡ true }
-    requires begun { HasCarried [] world.old }
-    ensures { IfOk result (λ status. AnswersCarried status events.now (Wi.failed wire.old) (Wi.failed wire.new) (W.contents out.old) (W.contents out.new)) }
+    requires begun { HasCarried (Wi.failed wire.old) [] world.old (Wi.failed wire.old) 0 }
+    ensures { AnswersCarried result events.now (Wi.failed wire.old) (Wi.failed wire.new) (W.contents out.old) (W.contents out.new) }
 {
     let before = wire.failures();
     match carry_events(alloc, events, wire, world) {
@@ -92,7 +80,7 @@ fn carry_and_show<Wi: Wire, W: io::Write>(
             show_world(alloc, world, failures, strangers, out)
         }
         Err(PlayFault::NoSuchPacket { event }) => show_missing(alloc, event, out),
-        Err(PlayFault::NoMemory) => Ok(Status::Failed),
+        Err(PlayFault::NoMemory) => Status::NoMemory,
         Err(PlayFault::Setup(_)) => unreachable!(),
     }
 }
@@ -104,12 +92,12 @@ fn show_world<W: io::Write>(
     failures: u64,
     strangers: u64,
     out: &mut W,
-) -> io::Result<Status>
-    ensures { IfOk result (λ status. ShowsWorld status world.now failures strangers (W.contents out.old) (W.contents out.new)) }
+) -> Status
+    ensures { ShowsWorld result world.now failures strangers (W.contents out.old) (W.contents out.new) }
 {
     match world.report() {
         Ok(report) => show_report(alloc, &report, failures, strangers, out),
-        Err(_) => Ok(Status::Failed),
+        Err(_) => Status::NoMemory,
     }
 }
 
@@ -120,11 +108,13 @@ fn show_report<W: io::Write>(
     failures: u64,
     strangers: u64,
     out: &mut W,
-) -> io::Result<Status>
-    ensures { IfOk result (Shows (play_text report.now ++ wire_line failures strangers) Success (W.contents out.old) (W.contents out.new)) }
+) -> Status
+    ensures { Shows (play_text report.now ++ wire_line failures strangers) Success (W.contents out.old) (W.contents out.new) result }
 {
-    let text = carried_text(alloc, report, failures, strangers)?;
-    show(&text, Status::Success, out)
+    match carried_text(alloc, report, failures, strangers) {
+        Ok(text) => show(&text, Status::Success, out),
+        Err(_) => Status::NoMemory,
+    }
 }
 
 /// The text of a report, and the line of the wire.
@@ -156,9 +146,9 @@ fn carry_events<Wi: Wire>(
     world: &mut World,
 ) -> Result<u64, PlayFault>
     requires fit { list_all fits events.now ≡ true }
-    requires begun { HasCarried [] world.old }
-    ensures carried { CarryOf events.now result world.new }
-    ensures rise { Wi.failed wire.old ≤ Wi.failed wire.new }
+    requires begun { HasCarried (Wi.failed wire.old) [] world.old (Wi.failed wire.old) 0 }
+    ensures carried { CarryOf (Wi.failed wire.old) events.now result world.new (Wi.failed wire.new) }
+    ensures rise { (Wi.failed wire.old).calls ≤ (Wi.failed wire.new).calls }
 {
     let Ok(mut room) = Room::new(alloc) else {
         return Err(PlayFault::NoMemory);
@@ -175,18 +165,25 @@ fn carry_each<Wi: Wire>(
     room: &mut Room,
 ) -> Result<u64, PlayFault>
     requires fit { list_all fits events.now ≡ true }
-    requires begun { HasCarried [] world.old }
-    ensures carried { CarryOf events.now result world.new }
-    ensures rise { Wi.failed wire.old ≤ Wi.failed wire.new }
+    requires begun { HasCarried (Wi.failed wire.old) [] world.old (Wi.failed wire.old) 0 }
+    ensures carried { CarryOf (Wi.failed wire.old) events.now result world.new (Wi.failed wire.new) }
+    ensures rise { (Wi.failed wire.old).calls ≤ (Wi.failed wire.new).calls }
 {
-    let mut strangers: u64 = 0;
+    let mut strangers = 0;
     for event in events {
         match carry_event(alloc, world, event, wire, room) {
-            Ok(stranger) => strangers = strangers.saturating_add(stranger as u64),
+            Ok(stranger) => strangers = counted(stranger, strangers),
             Err(fault) => return Err(fault),
         }
     }
     Ok(strangers)
+}
+
+/// One stranger's datagram more, if one came.
+fn counted(stranger: bool, count: u64) -> u64
+    ensures { result ≡ counted stranger count }
+{
+    if stranger { one_more(count) } else { count }
 }
 
 /// Room for the datagram that is sent, and for the one that is received.
@@ -223,8 +220,8 @@ fn carry_event<Wi: Wire>(
     room: &mut Room,
 ) -> Result<bool, PlayFault>
     requires { fits event.now ≡ true }
-    ensures step { CarryStep world.old event.now result world.new }
-    ensures rise { Wi.failed wire.old ≤ Wi.failed wire.new }
+    ensures step { CarryStep world.old (Wi.failed wire.old) event.now result world.new (Wi.failed wire.new) }
+    ensures rise { (Wi.failed wire.old).calls ≤ (Wi.failed wire.new).calls }
 {
     match &event.act {
         Act::Deliver(number) => carry_packet(world, event.end, *number, wire, room),
@@ -244,8 +241,8 @@ fn carry_packet<Wi: Wire>(
     room: &mut Room,
 ) -> Result<bool, PlayFault>
     requires { act_fits (Deliver number) ≡ true }
-    ensures step { CarryStep world.old (record { end = end; act = Deliver number }) result world.new }
-    ensures rise { Wi.failed wire.old ≤ Wi.failed wire.new }
+    ensures step { CarryStep world.old (Wi.failed wire.old) (record { end = end; act = Deliver number }) result world.new (Wi.failed wire.new) }
+    ensures rise { (Wi.failed wire.old).calls ≤ (Wi.failed wire.new).calls }
 {
     let Some(payload) = world.payload(end, number) else {
         return step(world, deliver(end, number));

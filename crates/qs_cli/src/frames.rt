@@ -1,18 +1,21 @@
 //! Shows the frames of a payload.
 
-ghost use Rattle.std.specs.Prelude.{◌≡◌, ◌++◌, OnOk, IfOk, is_some};
+ghost use Rattle.std.specs.Prelude.{◌≡◌, ◌++◌, OnOk, IfOk, is_some, true, false};
+ghost use Rattle.std.specs.List.{list_all};
+ghost use Rattle.hex.specs.Hex.{is_hex_digit};
 ghost use Rattle.std.specs.String.{string_bytes};
 ghost use Rattle.qs_wire.specs.Reading.{reading_of};
 ghost use Rattle.qs_wire.specs.Grammar.{canonical, canonical_all, frames_of, Fits};
 ghost use Rattle.qs_wire.specs.Layout.{view};
 ghost use Rattle.qs_wire.specs.Reading.{view_placed};
 ghost use Rattle.qs_cli.specs.FrameText.{line_of, lines_of, payload_text};
-ghost use Rattle.qs_cli.specs.Runs.{AnswersFrames};
+ghost use Rattle.qs_cli.specs.declared.status.Status.TheVariants.{Success, FaultShown};
+ghost use Rattle.qs_cli.specs.Runs.{AnswersFrames, IsPayload};
 
 use crate::frame_text::{push_fault, push_frame};
+use crate::scripts::show;
 use crate::status::Status;
 use crate::text::push_hex;
-use hex::FromHexError;
 use qs_wire::{Frame, Frames, Full, Placed, WireFault, put};
 use std::alloc::{AllocError, Global};
 use std::io;
@@ -21,30 +24,54 @@ use std::io;
 const MAX_PAYLOAD: usize = 65_535;
 
 /// Writes the frames of the payload that the word spells in hex, a line for each, and then its
-/// canonical text or the fault that ends it.
+/// canonical text or the fault that ends it. `BadUsage` where the word spells no payload of at most 65,535 bytes.
+///
+/// It is written once the text stands whole: `NoMemory` where memory was refused, and then nothing was written, and `Failed` where
+/// writing failed.
 pub fn run_frames<W: io::Write>(alloc: Global, word: &str, out: &mut W) -> Status
     ensures { AnswersFrames result word.now (W.contents out.old) (W.contents out.new) }
 {
-    let payload = match hex::decode(alloc, word) {
-        Ok(payload) => payload,
-        Err(FromHexError::OutOfMemory) => return Status::Failed,
-        Err(_) => return Status::BadUsage,
-    };
-    if payload.len() > MAX_PAYLOAD {
+    if !is_payload(word.as_bytes()) {
         return Status::BadUsage;
     }
-    let (text, fault) = match payload_text(alloc, &payload) {
-        Ok(shown) => shown,
-        Err(_) => return Status::Failed,
+    let Ok(payload) = hex::decode(alloc, word) else {
+        return Status::NoMemory;
     };
-    if out.write_all(text.as_bytes()).is_err() {
-        return Status::Failed;
+    match payload_text(alloc, &payload) {
+        Ok((text, fault)) => show(&text, status_of(fault), out),
+        Err(_) => Status::NoMemory,
     }
+}
+
+fn status_of(fault: bool) -> Status
+    ensures fault { fault ≡ true → result ≡ FaultShown }
+    ensures none { fault ≡ false → result ≡ Success }
+{
     if fault {
         Status::FaultShown
     } else {
         Status::Success
     }
+}
+
+/// Whether a word spells a payload in hex, of at most 65,535 bytes.
+fn is_payload(word: &[u8]) -> bool
+    ensures payload { result ≡ true → IsPayload word.now }
+    ensures none { result ≡ false → IsPayload word.now → ⊥ }
+{
+    if word.len() % 2 != 0 {
+        return false;
+    }
+    if word.len() / 2 > MAX_PAYLOAD {
+        return false;
+    }
+    are_hex(word)
+}
+
+fn are_hex(word: &[u8]) -> bool
+    ensures { result ≡ list_all is_hex_digit word.now }
+{
+    word.iter().all(|byte| byte.is_ascii_hexdigit())
 }
 
 /// The text of a payload, and whether it has a fault.

@@ -75,11 +75,11 @@ impl<'a> Wire for MemoryWire<'a> {
     fn send(&mut self, from: Side, bytes: &[u8]) -> Result<(), WireError> {
         self.sends = self.sends.saturating_add(1);
         if self.failing_sends.contains(&self.sends) {
-            return Err(self.failures.note());
+            return Err(self.failures.note_send());
         }
         match self.inject(other_side(from), bytes) {
             Ok(()) => Ok(()),
-            Err(_) => Err(self.failures.note()),
+            Err(_) => Err(self.failures.note_send()),
         }
     }
 
@@ -87,7 +87,7 @@ impl<'a> Wire for MemoryWire<'a> {
     fn recv(&mut self, at: Side, into: &mut [u8]) -> Result<usize, WireError> {
         self.recvs = self.recvs.saturating_add(1);
         if self.failing_recvs.contains(&self.recvs) {
-            return Err(self.failures.note());
+            return Err(self.failures.note_recv());
         }
         let waiting = match at {
             Side::A => self.at_a.pop_front(),
@@ -95,7 +95,7 @@ impl<'a> Wire for MemoryWire<'a> {
         };
         match waiting {
             Some(datagram) => Ok(copy_front(&datagram, into)),
-            None => Err(self.failures.note()),
+            None => Err(self.failures.note_recv()),
         }
     }
 

@@ -22,7 +22,8 @@ use std::io;
 /// Plays events between two ends of these settings, and writes the report: a line for each event with its answer, for each lane and for
 /// each end. An event that delivers a packet which wasn't made is named in place of it all.
 ///
-/// It is written once the text stands whole. `Failed` where memory was refused or writing failed.
+/// It is written once the text stands whole: `NoMemory` where memory was refused, and then nothing was written, and `Failed` where
+/// writing failed.
 pub fn run_events<W: io::Write>(
     alloc: Global,
     settings: Settings,
@@ -33,48 +34,41 @@ pub fn run_events<W: io::Write>(
     requires range { are_in_range settings ≡ true }
     ensures { AnswersEvents result settings events.items (W.contents out.old) (W.contents out.new) }
 {
-    show_events(alloc, settings, events, out).unwrap_or(Status::Failed)
-}
-
-fn show_events<W: io::Write>(
-    alloc: Global,
-    settings: Settings,
-    events: Vec<Event>,
-    out: &mut W,
-) -> io::Result<Status>
-    requires fit { list_all fits events.items ≡ true }
-    requires range { are_in_range settings ≡ true }
-    ensures { IfOk result (λ status. AnswersEvents status settings events.items (W.contents out.old) (W.contents out.new)) }
-{
     match play(alloc, settings, settings, events) {
         Ok(report) => show_report(alloc, &report, out),
         Err(PlayFault::NoSuchPacket { event }) => show_missing(alloc, event, out),
-        Err(PlayFault::NoMemory) => Ok(Status::Failed),
+        Err(PlayFault::NoMemory) => Status::NoMemory,
         Err(PlayFault::Setup(_)) => unreachable!(),
     }
 }
 
-fn show_report<W: io::Write>(alloc: Global, report: &Report, out: &mut W) -> io::Result<Status>
-    ensures { IfOk result (Shows (play_text report.now) Success (W.contents out.old) (W.contents out.new)) }
+fn show_report<W: io::Write>(alloc: Global, report: &Report, out: &mut W) -> Status
+    ensures { Shows (play_text report.now) Success (W.contents out.old) (W.contents out.new) result }
 {
-    let text = play_text(alloc, report)?;
-    show(&text, Status::Success, out)
+    match play_text(alloc, report) {
+        Ok(text) => show(&text, Status::Success, out),
+        Err(_) => Status::NoMemory,
+    }
 }
 
 /// Writes the line that names an event whose packet wasn't made.
-pub fn show_missing<W: io::Write>(alloc: Global, event: usize, out: &mut W) -> io::Result<Status>
-    ensures { IfOk result (Shows (missing_line event) FaultShown (W.contents out.old) (W.contents out.new)) }
+pub fn show_missing<W: io::Write>(alloc: Global, event: usize, out: &mut W) -> Status
+    ensures { Shows (missing_line event) FaultShown (W.contents out.old) (W.contents out.new) result }
 {
-    let text = format!(in alloc; "fault: no such packet at event {event}\n")?;
-    show(&text, Status::FaultShown, out)
+    match format!(in alloc; "fault: no such packet at event {event}\n") {
+        Ok(text) => show(&text, Status::FaultShown, out),
+        Err(_) => Status::NoMemory,
+    }
 }
 
-/// Writes a text, and answers the status that goes with it.
-pub fn show<W: io::Write>(text: &String, status: Status, out: &mut W) -> io::Result<Status>
-    ensures { IfOk result (Shows (string_bytes text.now) status (W.contents out.old) (W.contents out.new)) }
+/// Writes a text, and answers the status that goes with it, or `Failed` where writing did.
+pub fn show<W: io::Write>(text: &String, status: Status, out: &mut W) -> Status
+    ensures { Shows (string_bytes text.now) status (W.contents out.old) (W.contents out.new) result }
 {
-    out.write_all(text.as_bytes())?;
-    Ok(status)
+    match out.write_all(text.as_bytes()) {
+        Ok(()) => status,
+        Err(_) => Status::Failed,
+    }
 }
 
 /// Plays a script between two ends of the standard settings, as [`run_play_with`] does.
@@ -97,24 +91,20 @@ pub fn run_play_with<W: io::Write>(
 {
     match parse_script(alloc, script) {
         Ok(events) => run_events(alloc, settings, events, out),
-        Err(fault) => show_script_fault(alloc, fault, out).unwrap_or(Status::Failed),
+        Err(fault) => show_script_fault(alloc, fault, out),
     }
 }
 
 /// Writes the line that names the fault of a script, unless it is want of memory.
-pub fn show_script_fault<W: io::Write>(
-    alloc: Global,
-    fault: ScriptFault,
-    out: &mut W,
-) -> io::Result<Status>
-    ensures { IfOk result (λ status. ShowsScriptFault status fault (W.contents out.old) (W.contents out.new)) }
+pub fn show_script_fault<W: io::Write>(alloc: Global, fault: ScriptFault, out: &mut W) -> Status
+    ensures { ShowsScriptFault fault (W.contents out.old) (W.contents out.new) result }
 {
-    match fault.reason {
-        Reason::NoMemory => Ok(Status::Failed),
-        _ => {
-            let text = script_fault_text(alloc, fault)?;
-            show(&text, Status::FaultShown, out)
-        }
+    if let Reason::NoMemory = fault.reason {
+        return Status::NoMemory;
+    }
+    match script_fault_text(alloc, fault) {
+        Ok(text) => show(&text, Status::FaultShown, out),
+        Err(_) => Status::NoMemory,
     }
 }
 
@@ -133,14 +123,10 @@ pub fn run_random<W: io::Write>(alloc: Global, seed: u64, n: usize, out: &mut W)
 {
     let events = match random_script(alloc, seed, n) {
         Ok(events) => events,
-        Err(_) => return Status::Failed,
+        Err(_) => return Status::NoMemory,
     };
-    let text = match script_text(alloc, &events) {
-        Ok(text) => text,
-        Err(_) => return Status::Failed,
-    };
-    match out.write_all(text.as_bytes()) {
-        Ok(()) => Status::Success,
-        Err(_) => Status::Failed,
+    match script_text(alloc, &events) {
+        Ok(text) => show(&text, Status::Success, out),
+        Err(_) => Status::NoMemory,
     }
 }

@@ -12,7 +12,9 @@ pub enum Status {
     FaultShown,
     /// The command line makes no sense, or its hex doesn't.
     BadUsage,
-    /// Memory was refused, or reading or writing failed.
+    /// Memory was refused. A run that answers so has written nothing.
+    NoMemory,
+    /// Reading or writing failed.
     Failed,
 }
 
@@ -21,6 +23,11 @@ impl Status {
     pub fn code(self) -> u8
         ensures { result ≡ exit_code self }
     {
-        self as u8
+        match self {
+            Status::Success => 0,
+            Status::FaultShown => 1,
+            Status::BadUsage => 2,
+            Status::NoMemory | Status::Failed => 3,
+        }
     }
 }

@@ -1,6 +1,7 @@
 //! A wire over UDP on this machine.
 
 ghost use Rattle.std.specs.Prelude.{◌≡◌, IfOk};
+ghost use Rattle.qs_cli.specs.Carrying.{none_failed};
 
 use crate::wire::{Failures, Wire, WireError};
 use qs_world::Side;
@@ -17,14 +18,13 @@ pub struct UdpWire {
     failures: Failures,
 }
 
-// It is seen as how many calls failed.
+// It is seen as what failed.
 impl Model for UdpWire {
-    ghost use Rattle.std.specs.Prelude.{ℕ};
-    ghost use Rattle.std.specs.Coded.{coded_ℕ};
+    ghost use Rattle.qs_cli.specs.Carrying.{Failings, failings_code};
 
-    ghost Value = { ℕ };
+    ghost Value = { Failings };
 
-    ghost coded = { coded_ℕ };
+    ghost coded = { failings_code };
 
     ghost view = { λ wire. wire.failures };
 }
@@ -32,7 +32,7 @@ impl Model for UdpWire {
 impl UdpWire {
     /// Binds both sockets to 127.0.0.1, at ports that are free.
     pub fn bind<R: Net>(net: &R) -> Result<UdpWire, WireError>
-        ensures { IfOk result (λ wire. wire ≡ 0) }
+        ensures { IfOk result (λ wire. wire ≡ none_failed) }
     {
         match bind_both(net) {
             Ok((a, b)) => Ok(UdpWire {
@@ -55,7 +55,7 @@ impl Wire for UdpWire {
         };
         match sent {
             Ok(count) if count == bytes.len() => Ok(()),
-            _ => Err(self.failures.note()),
+            _ => Err(self.failures.note_send()),
         }
     }
 
@@ -66,7 +66,7 @@ impl Wire for UdpWire {
         };
         match received {
             Ok(count) => Ok(count),
-            Err(_) => Err(self.failures.note()),
+            Err(_) => Err(self.failures.note_recv()),
         }
     }
 

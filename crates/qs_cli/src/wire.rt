@@ -1,8 +1,8 @@
 //! What carries datagrams between two ends.
 
-ghost use Rattle.std.specs.Prelude.{◌≡◌, ℕ, ◌≤◌, length, IfOk};
+ghost use Rattle.std.specs.Prelude.{◌≡◌, ◌≤◌, length, IfOk};
 ghost use Rattle.qs_runs.specs.Logs.{other};
-ghost use Rattle.qs_cli.specs.Carrying.{counted, one_more};
+ghost use Rattle.qs_cli.specs.Carrying.{Failings, none_failed, after_send, after_recv, one_more, send_failed, recv_failed};
 
 use qs_world::Side;
 use std::marker::Model;
@@ -13,64 +13,80 @@ pub struct WireError;
 
 /// Carries datagrams from each of two ends to the other, and may lose them, hold them up or bring strangers'.
 ///
-/// An error is answered only where the wire failed in that call. The failures are counted, and the count stays at its greatest value.
+/// An error is answered only where the wire failed in that call. The failures are counted, those of sends apart, too, and a count stays at
+/// its greatest value.
 pub trait Wire {
-    // How many calls failed.
-    ghost failed: { Self → ℕ };
+    // How many calls failed, and how many of these were sends.
+    ghost failed: { Self → Failings };
 
     /// Sends a datagram from one end to the other.
     fn send(&mut self, from: Side, bytes: &[u8]) -> Result<(), WireError>
-        ensures { failed self.new ≡ counted result (failed self.old) };
+        ensures { failed self.new ≡ after_send result (failed self.old) };
 
     /// Receives one datagram at an end, and answers how many of its bytes stand in the slice. What doesn't fit is lost.
     fn recv(&mut self, at: Side, into: &mut [u8]) -> Result<usize, WireError>
-        ensures failed { failed self.new ≡ counted result (failed self.old) }
+        ensures failed { failed self.new ≡ after_recv result (failed self.old) }
         ensures within { IfOk result (λ count. count ≤ length into.new) };
 
     /// How many calls failed.
     fn failures(&self) -> u64
-        ensures { result ≡ failed self.now };
+        ensures { result ≡ (failed self.now).calls };
 }
 
-/// How many calls of a wire failed.
+/// How many calls of a wire failed, and how many of these were sends.
 #[derive(Drop)]
 pub(crate) struct Failures {
-    count: u64,
+    calls: u64,
+    sends: u64,
 }
 
 impl Model for Failures {
-    ghost use Rattle.std.specs.Prelude.{ℕ};
-    ghost use Rattle.std.specs.Coded.{coded_ℕ};
+    ghost use Rattle.qs_cli.specs.Carrying.{Failings, failings_code};
 
-    ghost Value = { ℕ };
+    ghost Value = { Failings };
 
-    ghost coded = { coded_ℕ };
+    ghost coded = { failings_code };
 
-    ghost view = { λ f. f.count };
+    ghost view = { λ f. record { calls = f.calls; sends = f.sends } };
 }
 
 impl Failures {
     pub(crate) fn none() -> Failures
-        ensures { result ≡ 0 }
+        ensures { result ≡ none_failed }
     {
-        Failures { count: 0 }
+        Failures { calls: 0, sends: 0 }
     }
 
-    /// One call more failed, which is answered so.
-    pub(crate) fn note(&mut self) -> WireError
-        ensures { self.new ≡ one_more self.old }
+    /// One send more failed, which is answered so.
+    pub(crate) fn note_send(&mut self) -> WireError
+        ensures { self.new ≡ send_failed self.old }
     {
-        if self.count < u64::MAX {
-            self.count += 1;
-        }
+        self.calls = one_more(self.calls);
+        self.sends = one_more(self.sends);
         WireError
     }
 
-    pub(crate) fn count(&self) -> u64
-        ensures { result ≡ self.now }
+    /// One receive more failed, which is answered so.
+    pub(crate) fn note_recv(&mut self) -> WireError
+        ensures { self.new ≡ recv_failed self.old }
     {
-        self.count
+        self.calls = one_more(self.calls);
+        WireError
     }
+
+    /// How many calls failed.
+    pub(crate) fn count(&self) -> u64
+        ensures { result ≡ self.now.calls }
+    {
+        self.calls
+    }
+}
+
+/// One more than a count, which stays at its greatest value.
+pub(crate) fn one_more(count: u64) -> u64
+    ensures { result ≡ one_more count }
+{
+    if count < u64::MAX { count + 1 } else { count }
 }
 
 /// The end to which the other end's datagrams come.

@@ -35,12 +35,12 @@ pub enum Request<'a> {
 
 impl<'a> Request<'a> {
     /// What the words ask for, the program's name first. `BadUsage` where they make no sense, as a request
-    /// for help does not either, and `Failed` where memory was refused.
+    /// for help does not either, and `NoMemory` where memory was refused.
     pub fn parse(alloc: Global, words: &'a [String]) -> Result<Request<'a>, Status>
         ensures { IfOk result IsPlayable }
     {
         let Ok(command) = command(alloc) else {
-            return Err(Status::Failed);
+            return Err(Status::NoMemory);
         };
         let matches = match command.try_get_matches_from(words) {
             Ok(matches) => matches,
@@ -152,7 +152,7 @@ fn command<'a>(alloc: Global) -> Result<Command<'a>, AllocError> {
 
 fn status_of(error: &Error) -> Status {
     if error.kind() == ErrorKind::OutOfMemory {
-        Status::Failed
+        Status::NoMemory
     } else {
         Status::BadUsage
     }

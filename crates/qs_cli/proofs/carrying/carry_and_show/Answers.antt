@@ -6,8 +6,8 @@ pub returns-in-Ok : goal.returns-in-Ok
 returns-in-Ok g c =
     let now = c.failures.ensures in
     let before = c.failures-before.ensures in
-    let rise : c.failures.result - c.failures-before.result ≡ g.Wi.Wire.failed c.carry_events.new.wire - g.Wi.Wire.failed c.args.wire.now =
-    ap (λ n. n - c.failures-before.result) now ∙ ap (λ n. g.Wi.Wire.failed c.carry_events.new.wire - n) before in
+    let rise : c.failures.result - c.failures-before.result ≡ (g.Wi.Wire.failed c.carry_events.new.wire).calls - (g.Wi.Wire.failed c.args.wire.now).calls =
+    ap (λ n. n - c.failures-before.result) now ∙ ap (λ n. (g.Wi.Wire.failed c.carry_events.new.wire).calls - n) before in
     answered_world c.show_world.result c.args.events.now c.carry_events.new.world _ _ _ c.in-Ok.strangers _ _ c.in-Ok.ensures.carried rise c.show_world.ensures
 
 pub returns-in-Err-NoSuchPacket : goal.returns-in-Err-NoSuchPacket

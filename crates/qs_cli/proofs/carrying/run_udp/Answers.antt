@@ -1,10 +1,12 @@
 use Rattle.std.proofs.Common.{◌≡◌, true}
-use Rattle.std.specs.List.{list_all}
-use Rattle.qs_calls.specs.Events.{fits}
-use Rattle.qs_cli.proofs.Answered.{carried_answer}
+use Rattle.qs_cli.specs.Runs.{IsScriptOf}
+use Rattle.qs_cli.proofs.Answered.{carried_answer, fault_carried}
 use Rattle.qs_cli.proofs.carrying.run_udp.Goals as goal
 
 pub returns-in-Ok : goal.returns-in-Ok
 returns-in-Ok g c =
-    let fit : list_all fits c.deref.result.now ≡ true = rw c.deref.ensures.value c.in-Ok.ensures.fit in
-    carried_answer _ _ _ _ _ _ _ fit c.udp_events.ensures
+    let is : IsScriptOf c.args.script.now c.deref.result.now = rw c.deref.ensures.value (c.in-Ok.ensures.events, c.in-Ok.ensures.fit) in
+    carried_answer _ _ _ _ _ _ _ is c.udp_events.ensures
+
+pub returns-in-Err : goal.returns-in-Err
+returns-in-Err g c = fault_carried _ _ c.in-Err.fault _ _ _ _ c.in-Err.ensures.fault c.show_script_fault.ensures

@@ -6,7 +6,7 @@ use crate::shim::{String, Vec};
 use crate::proved::qs_cli::report_text::play_text;
 use crate::proved::qs_cli::scripts::{show, show_missing, show_script_fault};
 use crate::proved::qs_cli::status::Status;
-use crate::proved::qs_cli::wire::{Wire, other_side};
+use crate::proved::qs_cli::wire::{Wire, one_more, other_side};
 use crate::proved::qs_world::{
     Act, Event, PlayFault, Report, Side, World, copy_event, parse_script, standard_settings,
 };
@@ -26,7 +26,7 @@ pub fn run_udp<Wi: Wire, W: io::Write>(
 ) -> Status {
     match parse_script(alloc, script) {
         Ok(events) => udp_events(alloc, &events, wire, out),
-        Err(fault) => show_script_fault(alloc, fault, out).unwrap_or(Status::Failed),
+        Err(fault) => show_script_fault(alloc, fault, out),
     }
 }
 
@@ -42,15 +42,6 @@ pub fn udp_events<Wi: Wire, W: io::Write>(
     wire: &mut Wi,
     out: &mut W,
 ) -> Status {
-    show_carried(alloc, events, wire, out).unwrap_or(Status::Failed)
-}
-
-fn show_carried<Wi: Wire, W: io::Write>(
-    alloc: Global,
-    events: &[Event],
-    wire: &mut Wi,
-    out: &mut W,
-) -> io::Result<Status> {
     let Ok(mut world) = World::new(alloc, standard_settings(), standard_settings()) else {
         unreachable!()
     };
@@ -64,7 +55,7 @@ fn carry_and_show<Wi: Wire, W: io::Write>(
     wire: &mut Wi,
     world: &mut World,
     out: &mut W,
-) -> io::Result<Status> {
+) -> Status {
     let before = wire.failures();
     match carry_events(alloc, events, wire, world) {
         Ok(strangers) => {
@@ -72,7 +63,7 @@ fn carry_and_show<Wi: Wire, W: io::Write>(
             show_world(alloc, world, failures, strangers, out)
         }
         Err(PlayFault::NoSuchPacket { event }) => show_missing(alloc, event, out),
-        Err(PlayFault::NoMemory) => Ok(Status::Failed),
+        Err(PlayFault::NoMemory) => Status::NoMemory,
         Err(PlayFault::Setup(_)) => unreachable!(),
     }
 }
@@ -84,10 +75,10 @@ fn show_world<W: io::Write>(
     failures: u64,
     strangers: u64,
     out: &mut W,
-) -> io::Result<Status> {
+) -> Status {
     match world.report() {
         Ok(report) => show_report(alloc, &report, failures, strangers, out),
-        Err(_) => Ok(Status::Failed),
+        Err(_) => Status::NoMemory,
     }
 }
 
@@ -98,9 +89,11 @@ fn show_report<W: io::Write>(
     failures: u64,
     strangers: u64,
     out: &mut W,
-) -> io::Result<Status> {
-    let text = carried_text(alloc, report, failures, strangers)?;
-    show(&text, Status::Success, out)
+) -> Status {
+    match carried_text(alloc, report, failures, strangers) {
+        Ok(text) => show(&text, Status::Success, out),
+        Err(_) => Status::NoMemory,
+    }
 }
 
 /// The text of a report, and the line of the wire.
@@ -141,14 +134,19 @@ fn carry_each<Wi: Wire>(
     world: &mut World,
     room: &mut Room,
 ) -> Result<u64, PlayFault> {
-    let mut strangers: u64 = 0;
+    let mut strangers = 0;
     for event in events {
         match carry_event(alloc, world, event, wire, room) {
-            Ok(stranger) => strangers = strangers.saturating_add(stranger as u64),
+            Ok(stranger) => strangers = counted(stranger, strangers),
             Err(fault) => return Err(fault),
         }
     }
     Ok(strangers)
+}
+
+/// One stranger's datagram more, if one came.
+fn counted(stranger: bool, count: u64) -> u64 {
+    if stranger { one_more(count) } else { count }
 }
 
 /// Room for the datagram that is sent, and for the one that is received.

@@ -4,9 +4,9 @@
 use crate::shim::{String, Vec};
 
 use crate::proved::qs_cli::frame_text::{push_fault, push_frame};
+use crate::proved::qs_cli::scripts::show;
 use crate::proved::qs_cli::status::Status;
 use crate::proved::qs_cli::text::push_hex;
-use crate::shim::hex::FromHexError;
 use crate::proved::qs_wire::{Frame, Frames, Full, Placed, WireFault, put};
 use crate::shim::alloc::{AllocError, Global};
 use crate::shim::io;
@@ -15,28 +15,44 @@ use crate::shim::io;
 const MAX_PAYLOAD: usize = 65_535;
 
 /// Writes the frames of the payload that the word spells in hex, a line for each, and then its
-/// canonical text or the fault that ends it.
+/// canonical text or the fault that ends it. `BadUsage` where the word spells no payload of at most 65,535 bytes.
+///
+/// It is written once the text stands whole: `NoMemory` where memory was refused, and then nothing was written, and `Failed` where
+/// writing failed.
 pub fn run_frames<W: io::Write>(alloc: Global, word: &str, out: &mut W) -> Status {
-    let payload = match crate::shim::hex::decode(alloc, word) {
-        Ok(payload) => payload,
-        Err(FromHexError::OutOfMemory) => return Status::Failed,
-        Err(_) => return Status::BadUsage,
-    };
-    if payload.len() > MAX_PAYLOAD {
+    if !is_payload(word.as_bytes()) {
         return Status::BadUsage;
     }
-    let (text, fault) = match payload_text(alloc, &payload) {
-        Ok(shown) => shown,
-        Err(_) => return Status::Failed,
+    let Ok(payload) = crate::shim::hex::decode(alloc, word) else {
+        return Status::NoMemory;
     };
-    if out.write_all(text.as_bytes()).is_err() {
-        return Status::Failed;
+    match payload_text(alloc, &payload) {
+        Ok((text, fault)) => show(&text, status_of(fault), out),
+        Err(_) => Status::NoMemory,
     }
+}
+
+fn status_of(fault: bool) -> Status {
     if fault {
         Status::FaultShown
     } else {
         Status::Success
     }
+}
+
+/// Whether a word spells a payload in hex, of at most 65,535 bytes.
+fn is_payload(word: &[u8]) -> bool {
+    if word.len() % 2 != 0 {
+        return false;
+    }
+    if word.len() / 2 > MAX_PAYLOAD {
+        return false;
+    }
+    are_hex(word)
+}
+
+fn are_hex(word: &[u8]) -> bool {
+    word.iter().all(|byte| byte.is_ascii_hexdigit())
 }
 
 /// The text of a payload, and whether it has a fault.

@@ -10,13 +10,20 @@ pub enum Status {
     FaultShown,
     /// The command line makes no sense, or its hex doesn't.
     BadUsage,
-    /// Memory was refused, or reading or writing failed.
+    /// Memory was refused. A run that answers so has written nothing.
+    NoMemory,
+    /// Reading or writing failed.
     Failed,
 }
 
 impl Status {
     /// The number that the process ends with, 0 to 3.
     pub fn code(self) -> u8 {
-        self as u8
+        match self {
+            Status::Success => 0,
+            Status::FaultShown => 1,
+            Status::BadUsage => 2,
+            Status::NoMemory | Status::Failed => 3,
+        }
     }
 }

@@ -36,7 +36,7 @@ impl Wire for UdpWire {
         };
         match sent {
             Ok(count) if count == bytes.len() => Ok(()),
-            _ => Err(self.failures.note()),
+            _ => Err(self.failures.note_send()),
         }
     }
 
@@ -47,7 +47,7 @@ impl Wire for UdpWire {
         };
         match received {
             Ok(count) => Ok(count),
-            Err(_) => Err(self.failures.note()),
+            Err(_) => Err(self.failures.note_recv()),
         }
     }
 

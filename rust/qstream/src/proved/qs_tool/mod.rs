@@ -19,7 +19,7 @@ pub(crate) fn main(rt: HostRuntime) -> ExitCode {
     let told = match status {
         Status::Success | Status::FaultShown => Ok(()),
         Status::BadUsage => rt.eprintln("qstream: bad usage"),
-        Status::Failed => rt.eprintln("qstream: failed"),
+        Status::NoMemory | Status::Failed => rt.eprintln("qstream: failed"),
     };
     match told {
         Ok(()) => ExitCode::from(status.code()),
@@ -64,7 +64,7 @@ fn over_udp<W: io::Write>(rt: &HostRuntime, script: &[u8], out: &mut W) -> Statu
 /// The words of the command line. One that is no text makes no sense.
 fn arguments(rt: &HostRuntime) -> Result<Vec<String>, Status> {
     match env::args(rt) {
-        Ok(words) => words.collected_in(rt.alloc()).map_err(|_| Status::Failed),
+        Ok(words) => words.collected_in(rt.alloc()).map_err(|_| Status::NoMemory),
         Err(error) if error.kind() == io::ErrorKind::InvalidData => Err(Status::BadUsage),
         Err(_) => Err(Status::Failed),
     }

@@ -1,5 +1,5 @@
 use Rattle.qs_cli.proofs.Answered.{answered_report, answered_none}
-use Rattle.qs_cli.proofs.scripts.show_events.Goals as goal
+use Rattle.qs_cli.proofs.scripts.run_events.Goals as goal
 
 pub returns-in-Ok : goal.returns-in-Ok
 returns-in-Ok g c = answered_report c.show_report.result c.args.settings c.args.events.items c.in-Ok.report _ _ c.in-Ok.ensures c.show_report.ensures
