@@ -106,6 +106,9 @@ impl Assembly for ChunkAssembly {
         self.discarding = true;
     }
 
+    // Chunks that are read are gone.
+    fn give_back(&mut self) {}
+
     fn same(&self, offset: u64, bytes: &[u8]) -> bool {
         self.chunks.agree(offset, bytes)
     }

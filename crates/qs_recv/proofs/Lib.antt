@@ -5,6 +5,7 @@ pub mod LawfulLaws
 pub mod NewsLaws
 pub mod ReadLaws
 pub mod RingCount
+pub mod RingEmpty
 pub mod RingLaws
 pub mod RingPlaces
 pub mod SameAgain

@@ -1,7 +1,7 @@
 -- Bytes that are held against those in a ring.
 --     at_once, at_twice, not_at_front      bytes at their places, in one piece and in two
 --     run_fits, run_more      run after run of the offsets that came
---     ring_fits, same_ring      and so against the map that the ring stands for
+--     ring_fits, ring_has, same_ring      and so against the map that the ring stands for
 use Rattle.std.specs.Prelude.{◌≡◌, ℕ, ◌+◌, ◌-◌, ◌%◌, ◌<◌, ◌≤◌, Bool, true, false, cond, ◌&&◌, max, List, length, take, drop, slice_index, None, Some, is_some, unwrap_or, refl}
 use Rattle.std.proofs.Common.{sym, ◌∙◌, ap, arith, inl, inr, length-drop}
 use Rattle.std.specs.Bool.{Decides}
@@ -143,7 +143,7 @@ ring_fits r ring w from stored start h low q past came =
     let within = h.came_within refl q came in
     omega (arith, size, within)
 
-ring_has : (r : NumberSet) (ring : List ℕ) (w from q : ℕ) → from ≤ q → q < from + w → set.contains r q ≡ true → map.get (ring_bytes r ring w from w) q ≡ Some (slice_index ring (q % w))
+pub ring_has : (r : NumberSet) (ring : List ℕ) (w from q : ℕ) → from ≤ q → q < from + w → set.contains r q ≡ true → map.get (ring_bytes r ring w from w) q ≡ Some (slice_index ring (q % w))
 ring_has r ring w from q low high came =
     get-ring r ring w from w q ∙ ap (λ t. cond t (Some (slice_index ring (q % w))) None) (and_from _ _ (and_from _ _ (le-leb from q low) (lt-ltb q (from + w) high)) came)
 

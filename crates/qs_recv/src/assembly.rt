@@ -42,6 +42,10 @@ pub trait Assembly: Drop {
     fn discard(&mut self)
         ensures { holds self.new ≡ discard (holds self.old) };
 
+    /// Gives back memory in which nothing is stored.
+    fn give_back(&mut self)
+        ensures { holds self.new ≡ holds self.old };
+
     /// Whether bytes are those that are stored at their offsets. Offsets where no byte is stored don't count: those that
     /// didn't come, were read, or are thrown away.
     fn same(&self, offset: u64, bytes: &[u8]) -> bool

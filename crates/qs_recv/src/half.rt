@@ -223,6 +223,7 @@ impl<A: Assembly> RecvHalf<A> {
             return Read::Wait;
         }
         if self.final_size == Some(self.read_count) {
+            self.assembly.give_back();
             self.told = true;
             return Read::End;
         }

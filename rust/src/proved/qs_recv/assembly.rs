@@ -18,6 +18,9 @@ pub trait Assembly {
     /// Throws the stored bytes away, and those that come from now on.
     fn discard(&mut self);
 
+    /// Gives back memory in which nothing is stored.
+    fn give_back(&mut self);
+
     /// Whether bytes are those that are stored at their offsets. Offsets where no byte is stored don't count: those that
     /// didn't come, were read, or are thrown away.
     fn same(&self, offset: u64, bytes: &[u8]) -> bool;

@@ -7,7 +7,7 @@ use crate::proved::qs_ranges::{NoMemory, RangeSet};
 use crate::shim::alloc::Global;
 
 /// A ring of window size, beside the set of every offset that came. Its memory is taken for the first byte that is
-/// stored, and given back where bytes are thrown away.
+/// stored, and given back where bytes are thrown away, and once all was read if that is asked for.
 ///
 /// A put searches the set once, and once more for each gap that it fills, copies the bytes of each gap, and notes the
 /// offsets by one insert. A take is one search and one copy. A copy is made in two pieces where its places wrap.
@@ -70,6 +70,12 @@ impl Assembly for RingAssembly {
         self.ring = Vec::new(self.alloc);
         self.stored = 0;
         self.discarding = true;
+    }
+
+    fn give_back(&mut self) {
+        if self.stored == 0 {
+            self.ring = Vec::new(self.alloc);
+        }
     }
 
     fn same(&self, offset: u64, bytes: &[u8]) -> bool {

@@ -5,8 +5,12 @@ use crate::shim::Vec;
 use crate::proved::qs_ranges::NoMemory;
 use crate::shim::alloc::Global;
 
+// The most bytes of room that stay where nothing is kept, so that a few bytes now and then take no memory anew.
+const IDLE_ROOM: usize = 4096;
+
 /// The bytes stand in a row from `start` on. Those before it were let go, and never take more than half of the room.
 pub struct Kept {
+    alloc: Global,
     bytes: Vec<u8>,
     start: usize,
 }
@@ -14,6 +18,7 @@ pub struct Kept {
 impl Kept {
     pub fn new(alloc: Global) -> Self {
         Self {
+            alloc,
             bytes: Vec::new(alloc),
             start: 0,
         }
@@ -24,7 +29,7 @@ impl Kept {
     }
 
     /// Appends the bytes. Where `most` bytes at most are ever kept, no more than twice as many are
-    /// allocated, and once these are there nothing is.
+    /// allocated, and while these are there nothing is.
     pub fn append(&mut self, bytes: &[u8], most: usize) -> Result<(), NoMemory> {
         let len = self.bytes.len();
         let capacity = self.bytes.capacity();
@@ -42,11 +47,15 @@ impl Kept {
         self.bytes.truncate(self.start + n);
     }
 
-    /// Lets the first `n` bytes go. What is left is moved only once it is no more than what was let go before it.
+    /// Lets the first `n` bytes go. What is left is moved only once it is no more than what was let go before it. Where
+    /// nothing is left a room of more than 4,096 bytes is given back.
     pub fn let_go(&mut self, n: usize) {
         let start = self.start + n;
         let left = self.bytes.len() - start;
-        if left <= start {
+        if left == 0 && self.bytes.capacity() > IDLE_ROOM {
+            self.bytes = Vec::new(self.alloc);
+            self.start = 0;
+        } else if left <= start {
             self.bytes.copy_within(start.., 0);
             self.bytes.truncate(left);
             self.start = 0;
