@@ -2,6 +2,7 @@
 #![tactic(auto)]
 
 mod carrying;
+mod draining;
 mod fields;
 mod frame_text;
 mod frames;
@@ -15,6 +16,7 @@ mod udp_wire;
 mod wire;
 
 pub use carrying::{run_udp, udp_events};
+pub use draining::run_drained;
 pub use frames::run_frames;
 pub use memory_wire::MemoryWire;
 pub use report_text::{play_text, script_text};

@@ -1,6 +1,8 @@
 //! The program: shows the frames of a payload, plays scripts, and makes random ones.
 #![tactic(auto)]
 
+ghost use Rattle.std.specs.Prelude.{◌≡◌, true};
+ghost use Rattle.qs_calls.specs.Settings.{are_in_range};
 ghost use Rattle.qs_tool.specs.Requests.{IsPlayable};
 
 mod input;
@@ -10,7 +12,8 @@ mod tests;
 
 use crate::input::read_file;
 use crate::request::Request;
-use qs_cli::{Status, UdpWire, run_frames, run_play_with, run_random, run_udp};
+use qs_cli::{Status, UdpWire, run_drained, run_frames, run_play_with, run_random, run_udp};
+use qs_world::Settings;
 use std::process::ExitCode;
 use std::{env, io};
 
@@ -44,8 +47,12 @@ fn answer(rt: &HostRuntime, request: Request) -> Status
     let mut out = io::writer(rt);
     match request {
         Request::Frames(hex) => run_frames(rt.alloc(), hex, &mut out),
-        Request::Play { file, settings } => match read_file(rt, file) {
-            Ok(script) => run_play_with(rt.alloc(), settings, &script, &mut out),
+        Request::Play {
+            file,
+            settings,
+            drain,
+        } => match read_file(rt, file) {
+            Ok(script) => play(rt, settings, &script, drain, &mut out),
             Err(status) => status,
         },
         Request::Udp(name) => match read_file(rt, name) {
@@ -53,6 +60,22 @@ fn answer(rt: &HostRuntime, request: Request) -> Status
             Err(status) => status,
         },
         Request::Random { seed, n } => run_random(rt.alloc(), seed, n, &mut out),
+    }
+}
+
+fn play<W: io::Write>(
+    rt: &HostRuntime,
+    settings: Settings,
+    script: &[u8],
+    drain: bool,
+    out: &mut W,
+) -> Status
+    requires { are_in_range settings ≡ true }
+{
+    if drain {
+        run_drained(rt.alloc(), settings, script, out)
+    } else {
+        run_play_with(rt.alloc(), settings, script, out)
     }
 }
 

@@ -1,3 +1,4 @@
+pub mod Draining
 pub mod DrawSteps
 pub mod DrawnPackets
 pub mod DrawnRuns

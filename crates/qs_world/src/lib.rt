@@ -2,6 +2,7 @@
 #![tactic(auto)]
 
 mod copies;
+mod drained;
 mod draws;
 pub mod laws;
 mod playing;
@@ -12,6 +13,7 @@ mod script;
 mod world;
 
 pub use copies::copy_event;
+pub use drained::play_drained;
 pub use playing::play;
 pub use qs_calls::{Act, Answer, Event, Side};
 pub use qs_conn::{
@@ -22,4 +24,4 @@ pub use qs_wire::{Dir, StreamId};
 pub use random::{random_script, standard_settings};
 pub use report::{EndTotals, LaneTotals, PlayFault, Report};
 pub use script::{Reason, ScriptFault, parse_script};
-pub use world::World;
+pub use world::{Drained, World};

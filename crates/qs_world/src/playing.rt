@@ -39,7 +39,7 @@ pub fn play(
 }
 
 // Plays the events in order, up to the first that is refused.
-fn play_each(world: &mut World, events: Vec<Event>) -> Result<(), PlayFault>
+pub(crate) fn play_each(world: &mut World, events: Vec<Event>) -> Result<(), PlayFault>
     requires { list_all fits events.items ≡ true }
     ensures ok { OnOk result ((a b : Settings) → HasPlayed a b [] world.old → HasPlayed a b events.items world.new) }
     ensures err { IfErr result (λ fault. (a b : Settings) → HasPlayed a b [] world.old → PlayOf a b events.items (Err fault)) }

@@ -11,6 +11,7 @@ ghost use Rattle.qs_world.specs.declared.report.PlayFault.TheVariants.{NoMemory}
 use crate::report::{PlayFault, Report};
 use crate::reporting::{all_lanes, end_totals, report_of};
 use calls::room_of;
+pub use draining::Drained;
 use happening::{buffer_of, happen, is_missing};
 use log::Log;
 use qs_calls::{Answer, Event, Side};
@@ -20,6 +21,7 @@ use std::alloc::Global;
 use std::marker::Model;
 
 mod calls;
+mod draining;
 mod happening;
 mod log;
 

@@ -39,11 +39,18 @@ const BAD_USAGE: Error = Error {
     kind: ErrorKind::BadUsage,
 };
 
-/// An argument: a word at its place, or the value of an option with a long name.
+/// What comes of an option: it takes no value, and tells that it is there.
+#[derive(Clone, Copy, PartialEq, Eq)]
+pub enum ArgAction {
+    SetTrue,
+}
+
+/// An argument: a word at its place, the value of an option with a long name, or such an option without a value.
 #[derive(Clone, Copy)]
 pub struct Arg<'a> {
     id: &'a str,
     long: Option<&'a str>,
+    action: Option<ArgAction>,
     required: bool,
 }
 
@@ -52,8 +59,14 @@ impl<'a> Arg<'a> {
         Arg {
             id,
             long: None,
+            action: None,
             required: false,
         }
+    }
+
+    pub fn action(mut self, action: ArgAction) -> Self {
+        self.action = Some(action);
+        self
     }
 
     pub fn long(mut self, name: &'a str) -> Self {
@@ -160,6 +173,12 @@ impl<'a> Command<'a> {
         let name = name.strip_prefix("--").ok_or(BAD_USAGE)?;
         let arg = self.args.iter().find(|arg| arg.long == Some(name));
         let arg = arg.ok_or(BAD_USAGE)?;
+        if arg.action == Some(ArgAction::SetTrue) {
+            return match value {
+                Some(_) => Err(BAD_USAGE),
+                None => found.put(arg.id, ""),
+            };
+        }
         let value = match value {
             Some(value) => value,
             None => words
@@ -195,6 +214,10 @@ impl<'a> ArgMatches<'a> {
     pub fn get_str(&self, id: &str) -> Option<&'a str> {
         let value = self.values.iter().find(|value| value.0 == id)?;
         Some(value.1)
+    }
+
+    pub fn get_flag(&self, id: &str) -> bool {
+        self.get_str(id).is_some()
     }
 
     /// The subcommand's name and its values.

@@ -10,7 +10,8 @@ mod tests;
 
 use crate::proved::qs_tool::input::read_file;
 use crate::proved::qs_tool::request::Request;
-use crate::proved::qs_cli::{Status, UdpWire, run_frames, run_play_with, run_random, run_udp};
+use crate::proved::qs_cli::{Status, UdpWire, run_drained, run_frames, run_play_with, run_random, run_udp};
+use crate::proved::qs_world::Settings;
 use crate::shim::process::ExitCode;
 use crate::shim::{env, io};
 
@@ -42,8 +43,12 @@ fn answer(rt: &HostRuntime, request: Request) -> Status {
     let mut out = io::writer(rt);
     match request {
         Request::Frames(hex) => run_frames(rt.alloc(), hex, &mut out),
-        Request::Play { file, settings } => match read_file(rt, file) {
-            Ok(script) => run_play_with(rt.alloc(), settings, &script, &mut out),
+        Request::Play {
+            file,
+            settings,
+            drain,
+        } => match read_file(rt, file) {
+            Ok(script) => play(rt, settings, &script, drain, &mut out),
             Err(status) => status,
         },
         Request::Udp(name) => match read_file(rt, name) {
@@ -51,6 +56,20 @@ fn answer(rt: &HostRuntime, request: Request) -> Status {
             Err(status) => status,
         },
         Request::Random { seed, n } => run_random(rt.alloc(), seed, n, &mut out),
+    }
+}
+
+fn play<W: io::Write>(
+    rt: &HostRuntime,
+    settings: Settings,
+    script: &[u8],
+    drain: bool,
+    out: &mut W,
+) -> Status {
+    if drain {
+        run_drained(rt.alloc(), settings, script, out)
+    } else {
+        run_play_with(rt.alloc(), settings, script, out)
     }
 }
 

@@ -4,7 +4,7 @@
 use crate::shim::String;
 
 use crate::shim::clap::error::ErrorKind;
-use crate::shim::clap::{Arg, ArgMatches, Command, Error};
+use crate::shim::clap::{Arg, ArgAction, ArgMatches, Command, Error};
 use crate::proved::qs_cli::Status;
 use crate::proved::qs_world::{Settings, standard_settings};
 use crate::shim::alloc::{AllocError, Global};
@@ -25,12 +25,19 @@ const MAX_LIFETIME: u64 = 65_536;
 pub enum Request<'a> {
     /// Show the frames of the payload that the word spells in hex.
     Frames(&'a str),
-    /// Play the script in the file of that name, between two ends of these settings.
-    Play { file: &'a str, settings: Settings },
+    /// Play the script in the file of that name, between two ends of these settings, and lead them to rest where that is asked for.
+    Play {
+        file: &'a str,
+        settings: Settings,
+        drain: bool,
+    },
     /// Play the script in the file of that name, with its packets over UDP.
     Udp(&'a str),
     /// Show a script of `n` random events, at most 10,000, which the seed determines.
-    Random { seed: u64, n: usize },
+    Random {
+        seed: u64,
+        n: usize,
+    },
 }
 
 impl<'a> Request<'a> {
@@ -59,6 +66,7 @@ fn asked_for<'a>(name: &str, found: &ArgMatches<'a>) -> Option<Request<'a>> {
             found.get_str("file")?,
             found.get_str("grant"),
             found.get_str("lifetime"),
+            found.get_flag("drain"),
         ),
         "udp" => Some(Request::Udp(found.get_str("file")?)),
         "random" => random(found.get_str("seed")?, found.get_str("n")?),
@@ -68,7 +76,12 @@ fn asked_for<'a>(name: &str, found: &ArgMatches<'a>) -> Option<Request<'a>> {
 
 /// To play the file between ends that grant so many streams of each direction at first, and so many in all. Where these aren't named, 8 at
 /// first, and 8 in all or as many as at first.
-fn play<'a>(file: &'a str, grant: Option<&str>, lifetime: Option<&str>) -> Option<Request<'a>> {
+fn play<'a>(
+    file: &'a str,
+    grant: Option<&str>,
+    lifetime: Option<&str>,
+    drain: bool,
+) -> Option<Request<'a>> {
     let grant = number_or(grant, USUAL_GRANT)?;
     let lifetime = number_or(lifetime, grant.max(USUAL_GRANT))?;
     if grant > MAX_GRANT || lifetime < grant || lifetime > MAX_LIFETIME {
@@ -81,7 +94,11 @@ fn play<'a>(file: &'a str, grant: Option<&str>, lifetime: Option<&str>) -> Optio
         lifetime_uni: lifetime,
         ..standard_settings()
     };
-    Some(Request::Play { file, settings })
+    Some(Request::Play {
+        file,
+        settings,
+        drain,
+    })
 }
 
 /// The number that the word spells, or the usual one where there is no word.
@@ -124,7 +141,12 @@ fn file_command<'a>(alloc: Global, name: &'a str) -> Result<Command<'a>, AllocEr
 fn play_command<'a>(alloc: Global) -> Result<Command<'a>, AllocError> {
     file_command(alloc, "play")?
         .arg(Arg::new(alloc, "grant").long("grant"))?
-        .arg(Arg::new(alloc, "lifetime").long("lifetime"))
+        .arg(Arg::new(alloc, "lifetime").long("lifetime"))?
+        .arg(
+            Arg::new(alloc, "drain")
+                .long("drain")
+                .action(ArgAction::SetTrue),
+        )
 }
 
 fn random_command<'a>(alloc: Global) -> Result<Command<'a>, AllocError> {

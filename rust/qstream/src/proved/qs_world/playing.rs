@@ -33,7 +33,7 @@ pub fn play(
 }
 
 // Plays the events in order, up to the first that is refused.
-fn play_each(world: &mut World, events: Vec<Event>) -> Result<(), PlayFault> {
+pub(crate) fn play_each(world: &mut World, events: Vec<Event>) -> Result<(), PlayFault> {
     for event in events {
         if let Err(fault) = world.step(event) {
             return Err(fault);

@@ -5,6 +5,7 @@ use crate::shim::Vec;
 use crate::proved::qs_world::report::{PlayFault, Report};
 use crate::proved::qs_world::reporting::{all_lanes, end_totals, report_of};
 use calls::room_of;
+pub use draining::Drained;
 use happening::{buffer_of, happen, is_missing};
 use log::Log;
 use crate::proved::qs_calls::{Answer, Event, Side};
@@ -13,6 +14,7 @@ use crate::proved::qs_wire::Role;
 use crate::shim::alloc::Global;
 
 mod calls;
+mod draining;
 mod happening;
 mod log;
 

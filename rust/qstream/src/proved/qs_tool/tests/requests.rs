@@ -31,7 +31,7 @@ fn the_command_line_names_a_payload() -> Result<(), Fail> {
 #[test]
 fn other_command_lines_make_no_sense() -> Result<(), Fail> {
     let rt = HostRuntime::new();
-    let lines: [&[&str]; 16] = [
+    let lines: [&[&str]; 18] = [
         &["qstream"],
         &["qstream", "frames"],
         &["qstream", "frames", "01", "02"],
@@ -47,6 +47,8 @@ fn other_command_lines_make_no_sense() -> Result<(), Fail> {
         &["qstream", "help"],
         &["qstream", "udp"],
         &["qstream", "udp", "one", "--grant", "1"],
+        &["qstream", "udp", "one", "--drain"],
+        &["qstream", "play", "one", "--drain=yes"],
         &["qstream", "random", "1", "2", "--lifetime", "9"],
     ];
     for line in lines {
@@ -61,11 +63,14 @@ fn the_command_line_names_a_file() -> Result<(), Fail> {
     let rt = HostRuntime::new();
     let line = words(rt.alloc(), &["qstream", "play", "a file"])?;
     let settings = standard_settings();
-    let play = Request::Play {
+    let play = |drain| Request::Play {
         file: "a file",
         settings,
+        drain,
     };
-    assert!(rt; Request::parse(rt.alloc(), &line) == Ok(play));
+    assert!(rt; Request::parse(rt.alloc(), &line) == Ok(play(false)));
+    let line = words(rt.alloc(), &["qstream", "play", "a file", "--drain"])?;
+    assert!(rt; Request::parse(rt.alloc(), &line) == Ok(play(true)));
     let line = words(rt.alloc(), &["qstream", "udp", "a file"])?;
     assert!(rt; Request::parse(rt.alloc(), &line) == Ok(Request::Udp("a file")));
     Ok(())

@@ -1,0 +1,49 @@
+//! Events are played, and then both ends are led to rest.
+ghost use Rattle.std.specs.Prelude.{◌≡◌, true, IfOk, IfErr};
+ghost use Rattle.std.specs.List.{list_all};
+ghost use Rattle.qs_calls.specs.Events.{fits};
+ghost use Rattle.qs_world.specs.Draining.{DrainedPlayOf, DrainedReport};
+
+use crate::playing::play_each;
+use crate::report::{PlayFault, Report};
+use crate::world::{Drained, World};
+use qs_calls::Event;
+use qs_conn::Settings;
+use std::alloc::Global;
+
+/// Plays the events between two new ends, as [`crate::play`] does, and then plain rounds until both are at rest, or until that many events
+/// more happened, as [`World::drain`] does. The report tells all of it, as of one run.
+///
+/// Refused as [`crate::play`] is.
+pub fn play_drained(
+    alloc: Global,
+    a: Settings,
+    b: Settings,
+    events: Vec<Event>,
+    most: u64,
+) -> Result<(Report, Drained), PlayFault>
+    requires { list_all fits events.items ≡ true }
+    ensures { DrainedPlayOf a b events.items most result }
+{
+    let mut world = match World::new(alloc, a, b) {
+        Ok(world) => world,
+        Err(fault) => return Err(PlayFault::Setup(fault)),
+    };
+    match play_each(&mut world, events) {
+        Ok(()) => drain_and_report(world, most),
+        Err(fault) => Err(fault),
+    }
+}
+
+// Leads both ends to rest, and reports.
+fn drain_and_report(mut world: World, most: u64) -> Result<(Report, Drained), PlayFault>
+    ensures { DrainedReport world most result }
+{
+    match world.drain(most) {
+        Ok(drained) => match world.into_report() {
+            Ok(report) => Ok((report, drained)),
+            Err(fault) => Err(fault),
+        },
+        Err(fault) => Err(fault),
+    }
+}

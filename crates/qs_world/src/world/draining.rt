@@ -1,0 +1,231 @@
+//! Plain rounds lead two ends to rest.
+ghost use Rattle.std.specs.Prelude.{◌≡◌, ◌+◌, ◌<◌, ◌≤◌, true, None, IfSome, IfNone, MatchBool};
+ghost use Rattle.qs_machine.specs.News.{IsLeast, IsReadable};
+ghost use Rattle.qs_ranges.specs.Numbers.{MAX_VARINT};
+ghost use Rattle.qs_calls.specs.Events.{fits};
+ghost use Rattle.qs_runs.specs.Logs.{payload};
+ghost use Rattle.qs_runs.specs.Worlds.{end_of};
+ghost use Rattle.qs_world.specs.Plays.{HasAgreed, IsMissing};
+ghost use Rattle.qs_world.specs.declared.world.draining.Turn.TheVariants.{Lose, Read};
+ghost use Rattle.qs_world.specs.Draining.{IsIdle, AreIdle, HasJustMade, IsPlain, DrainStep, turns_to_make, IsOver};
+
+use super::World;
+use crate::report::PlayFault;
+use qs_calls::{Act, Answer, Event, MAX_VARINT, Side};
+use qs_conn::Endpoint;
+use qs_wire::StreamId;
+
+/// The room of a packet that is made in a plain round, in bytes.
+const ROOM: usize = 1200;
+
+/// The most bytes that a read of a plain round asks for.
+const SIZE: usize = 1024;
+
+/// What plain rounds came to.
+#[derive(Clone, Copy, Debug, PartialEq, Eq, Drop)]
+pub enum Drained {
+    /// Both ends are at rest: nothing but an ACK may go out of them, no packet is outstanding, and no stream has news for its reader.
+    AtRest,
+    /// As many events happened as were allowed, and the ends aren't at rest.
+    UsedUp,
+}
+
+/// Whose turn it is in a round, and for what.
+#[derive(Clone, Copy, Debug, PartialEq, Eq, Drop)]
+pub enum Turn {
+    /// All that is outstanding is declared lost.
+    Lose(Side),
+    /// Packets are made until none is made, and each is delivered at once.
+    Make(Side),
+    /// Each stream is read until there is nothing new.
+    Read(Side),
+}
+
+impl Turn {
+    /// The turn that follows. A round has six, and begins with A's losses.
+    fn after(self) -> Turn
+        ensures nearer { 0 < turns_to_make self → turns_to_make result + 1 ≡ turns_to_make self }
+        ensures near { turns_to_make result ≤ 4 }
+    {
+        match self {
+            Turn::Lose(Side::A) => Turn::Lose(Side::B),
+            Turn::Lose(Side::B) => Turn::Make(Side::A),
+            Turn::Make(Side::A) => Turn::Make(Side::B),
+            Turn::Make(Side::B) => Turn::Read(Side::A),
+            Turn::Read(Side::A) => Turn::Read(Side::B),
+            Turn::Read(Side::B) => Turn::Lose(Side::A),
+        }
+    }
+}
+
+impl World {
+    /// Plays plain rounds until both ends are at rest, or until that many events happened. In a round each end declares lost all that is
+    /// outstanding, then each makes packets until none is made, each of which is delivered at once, and then the owner of each reads all
+    /// that there is to read. Each event stands in [`World::log`] with its answer, as by [`World::step`].
+    ///
+    /// At rest nothing that was asked for is left undone: `qs_rest::laws` say what that comes to.
+    ///
+    /// Refused: `NoMemory` where the log found none. What happened until then stays.
+    pub fn drain(&mut self, most: u64) -> Result<Drained, PlayFault>
+        ensures drained { DrainStep self.old most result self.new }
+        ensures agrees { HasAgreed self.new }
+    {
+        let mut left = most;
+        let mut turn = Turn::Lose(Side::A);
+        while !self.is_idle() {
+            if left == 0 {
+                return Ok(Drained::UsedUp);
+            }
+            match self.next_event(turn) {
+                Some(event) => {
+                    if let Err(fault) = self.step(event) {
+                        return Err(fault);
+                    }
+                    left -= 1;
+                    if self.has_made_none() {
+                        turn = turn.after();
+                    }
+                }
+                None => turn = turn.after(),
+            }
+        }
+        Ok(Drained::AtRest)
+    }
+
+    fn is_idle(&self) -> bool
+        ensures idle { MatchBool result (AreIdle self.now.ends) (AreIdle self.now.ends → ⊥) }
+        ensures agrees { HasAgreed self.now }
+    {
+        is_idle(&self.a) && is_idle(&self.b)
+    }
+
+    // The next event of a turn.
+    fn next_event(&self, turn: Turn) -> Option<Event>
+        ensures plain { IfSome result (λ event. IsPlain self.now event.end event.act × (fits event ≡ true) × (IsMissing self.now.log event → ⊥)) }
+        ensures over { IfNone result (IsOver turn self.now.ends) }
+    {
+        match turn {
+            Turn::Lose(end) => self.next_loss(end),
+            Turn::Make(end) => Some(self.next_making(end)),
+            Turn::Read(end) => self.next_read(end),
+        }
+    }
+
+    fn next_loss(&self, end: Side) -> Option<Event>
+        ensures plain { IfSome result (λ event. IsPlain self.now event.end event.act × (fits event ≡ true) × (IsMissing self.now.log event → ⊥)) }
+        ensures over { IfNone result (IsOver (Lose end) self.now.ends) }
+    {
+        match self.end(end).next_outstanding(0) {
+            Some(number) if number <= MAX_VARINT => Some(Event {
+                end,
+                act: Act::Lose(number),
+            }),
+            _ => None,
+        }
+    }
+
+    // The packet that was just made is delivered, or else one is made.
+    fn next_making(&self, end: Side) -> Event
+        ensures plain { IsPlain self.now result.end result.act }
+        ensures fits { fits result ≡ true }
+        ensures there { IsMissing self.now.log result → ⊥ }
+    {
+        match self.just_made(end) {
+            Some(number) => Event {
+                end,
+                act: Act::Deliver(number),
+            },
+            None => Event {
+                end,
+                act: Act::Make(ROOM),
+            },
+        }
+    }
+
+    fn next_read(&self, end: Side) -> Option<Event>
+        ensures plain { IfSome result (λ event. IsPlain self.now event.end event.act × (fits event ≡ true) × (IsMissing self.now.log event → ⊥)) }
+        ensures over { IfNone result (IsOver (Read end) self.now.ends) }
+    {
+        match next_news(self.end(end)) {
+            Some(stream) => Some(Event {
+                end,
+                act: Act::ReadUpTo(stream, SIZE),
+            }),
+            None => None,
+        }
+    }
+
+    // The packet of that end that the newest event made.
+    fn just_made(&self, end: Side) -> Option<u64>
+        ensures { IfSome result (λ k. HasJustMade end k self.now.log × (k ≤ MAX_VARINT) × (payload end k self.now.log ≡ None → ⊥)) }
+    {
+        match self.log.entries().last() {
+            Some((event, Answer::Make(Ok(Some(made)), _))) => {
+                let number = made.number;
+                if event.end == end && number <= MAX_VARINT && self.payload(end, number).is_some() {
+                    Some(number)
+                } else {
+                    None
+                }
+            }
+            _ => None,
+        }
+    }
+
+    // Whether the newest event was to make a packet, and made none.
+    fn has_made_none(&self) -> bool {
+        match self.log.entries().last() {
+            Some((_, Answer::Make(Ok(Some(_)), _))) => false,
+            Some((_, Answer::Make(_, _))) => true,
+            _ => false,
+        }
+    }
+
+    fn end(&self, side: Side) -> &Endpoint
+        ensures { result.now ≡ end_of self.now.ends side }
+    {
+        match side {
+            Side::A => &self.a,
+            Side::B => &self.b,
+        }
+    }
+}
+
+#[tactic(auto, using(crate::proofs::Draining::some_outstanding, crate::proofs::Draining::idle_by))]
+fn is_idle(end: &Endpoint) -> bool
+    ensures { MatchBool result (IsIdle end.now) (IsIdle end.now → ⊥) }
+{
+    if end.is_sendable() {
+        return false;
+    }
+    match end.next_outstanding(0) {
+        Some(_) => false,
+        None => has_no_news(end),
+    }
+}
+
+// Whether no stream has news for its reader.
+fn has_no_news(end: &Endpoint) -> bool
+    ensures { MatchBool result (IsLeast (IsReadable end.now) 0 None) (IsLeast (IsReadable end.now) 0 None → ⊥) }
+{
+    match next_news(end) {
+        Some(_) => false,
+        None => true,
+    }
+}
+
+// The least stream that has news for its reader.
+fn next_news(end: &Endpoint) -> Option<StreamId>
+    ensures { IsLeast (IsReadable end.now) 0 result }
+{
+    end.next_readable(first_stream())
+}
+
+fn first_stream() -> StreamId
+    ensures { result ≡ 0 }
+{
+    match StreamId::new(0) {
+        Some(id) => id,
+        None => unreachable!(),
+    }
+}

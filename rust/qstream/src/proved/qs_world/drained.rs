@@ -1,0 +1,42 @@
+// Made from crates/qs_world/src/drained.rt by rust/erase; not edited by hand.
+//! Events are played, and then both ends are led to rest.
+use crate::shim::Vec;
+
+use crate::proved::qs_world::playing::play_each;
+use crate::proved::qs_world::report::{PlayFault, Report};
+use crate::proved::qs_world::world::{Drained, World};
+use crate::proved::qs_calls::Event;
+use crate::proved::qs_conn::Settings;
+use crate::shim::alloc::Global;
+
+/// Plays the events between two new ends, as [`crate::proved::qs_world::play`] does, and then plain rounds until both are at rest, or until that many events
+/// more happened, as [`World::drain`] does. The report tells all of it, as of one run.
+///
+/// Refused as [`crate::proved::qs_world::play`] is.
+pub fn play_drained(
+    alloc: Global,
+    a: Settings,
+    b: Settings,
+    events: Vec<Event>,
+    most: u64,
+) -> Result<(Report, Drained), PlayFault> {
+    let mut world = match World::new(alloc, a, b) {
+        Ok(world) => world,
+        Err(fault) => return Err(PlayFault::Setup(fault)),
+    };
+    match play_each(&mut world, events) {
+        Ok(()) => drain_and_report(world, most),
+        Err(fault) => Err(fault),
+    }
+}
+
+// Leads both ends to rest, and reports.
+fn drain_and_report(mut world: World, most: u64) -> Result<(Report, Drained), PlayFault> {
+    match world.drain(most) {
+        Ok(drained) => match world.into_report() {
+            Ok(report) => Ok((report, drained)),
+            Err(fault) => Err(fault),
+        },
+        Err(fault) => Err(fault),
+    }
+}

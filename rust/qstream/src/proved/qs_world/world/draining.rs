@@ -1,0 +1,188 @@
+// Made from crates/qs_world/src/world/draining.rt by rust/erase; not edited by hand.
+//! Plain rounds lead two ends to rest.
+
+use super::World;
+use crate::proved::qs_world::report::PlayFault;
+use crate::proved::qs_calls::{Act, Answer, Event, MAX_VARINT, Side};
+use crate::proved::qs_conn::Endpoint;
+use crate::proved::qs_wire::StreamId;
+
+/// The room of a packet that is made in a plain round, in bytes.
+const ROOM: usize = 1200;
+
+/// The most bytes that a read of a plain round asks for.
+const SIZE: usize = 1024;
+
+/// What plain rounds came to.
+#[derive(Clone, Copy, Debug, PartialEq, Eq)]
+pub enum Drained {
+    /// Both ends are at rest: nothing but an ACK may go out of them, no packet is outstanding, and no stream has news for its reader.
+    AtRest,
+    /// As many events happened as were allowed, and the ends aren't at rest.
+    UsedUp,
+}
+
+/// Whose turn it is in a round, and for what.
+#[derive(Clone, Copy, Debug, PartialEq, Eq)]
+pub enum Turn {
+    /// All that is outstanding is declared lost.
+    Lose(Side),
+    /// Packets are made until none is made, and each is delivered at once.
+    Make(Side),
+    /// Each stream is read until there is nothing new.
+    Read(Side),
+}
+
+impl Turn {
+    /// The turn that follows. A round has six, and begins with A's losses.
+    fn after(self) -> Turn {
+        match self {
+            Turn::Lose(Side::A) => Turn::Lose(Side::B),
+            Turn::Lose(Side::B) => Turn::Make(Side::A),
+            Turn::Make(Side::A) => Turn::Make(Side::B),
+            Turn::Make(Side::B) => Turn::Read(Side::A),
+            Turn::Read(Side::A) => Turn::Read(Side::B),
+            Turn::Read(Side::B) => Turn::Lose(Side::A),
+        }
+    }
+}
+
+impl World {
+    /// Plays plain rounds until both ends are at rest, or until that many events happened. In a round each end declares lost all that is
+    /// outstanding, then each makes packets until none is made, each of which is delivered at once, and then the owner of each reads all
+    /// that there is to read. Each event stands in [`World::log`] with its answer, as by [`World::step`].
+    ///
+    /// At rest nothing that was asked for is left undone: `qs_rest::laws` say what that comes to.
+    ///
+    /// Refused: `NoMemory` where the log found none. What happened until then stays.
+    pub fn drain(&mut self, most: u64) -> Result<Drained, PlayFault> {
+        let mut left = most;
+        let mut turn = Turn::Lose(Side::A);
+        while !self.is_idle() {
+            if left == 0 {
+                return Ok(Drained::UsedUp);
+            }
+            match self.next_event(turn) {
+                Some(event) => {
+                    if let Err(fault) = self.step(event) {
+                        return Err(fault);
+                    }
+                    left -= 1;
+                    if self.has_made_none() {
+                        turn = turn.after();
+                    }
+                }
+                None => turn = turn.after(),
+            }
+        }
+        Ok(Drained::AtRest)
+    }
+
+    fn is_idle(&self) -> bool {
+        is_idle(&self.a) && is_idle(&self.b)
+    }
+
+    // The next event of a turn.
+    fn next_event(&self, turn: Turn) -> Option<Event> {
+        match turn {
+            Turn::Lose(end) => self.next_loss(end),
+            Turn::Make(end) => Some(self.next_making(end)),
+            Turn::Read(end) => self.next_read(end),
+        }
+    }
+
+    fn next_loss(&self, end: Side) -> Option<Event> {
+        match self.end(end).next_outstanding(0) {
+            Some(number) if number <= MAX_VARINT => Some(Event {
+                end,
+                act: Act::Lose(number),
+            }),
+            _ => None,
+        }
+    }
+
+    // The packet that was just made is delivered, or else one is made.
+    fn next_making(&self, end: Side) -> Event {
+        match self.just_made(end) {
+            Some(number) => Event {
+                end,
+                act: Act::Deliver(number),
+            },
+            None => Event {
+                end,
+                act: Act::Make(ROOM),
+            },
+        }
+    }
+
+    fn next_read(&self, end: Side) -> Option<Event> {
+        match next_news(self.end(end)) {
+            Some(stream) => Some(Event {
+                end,
+                act: Act::ReadUpTo(stream, SIZE),
+            }),
+            None => None,
+        }
+    }
+
+    // The packet of that end that the newest event made.
+    fn just_made(&self, end: Side) -> Option<u64> {
+        match self.log.entries().last() {
+            Some((event, Answer::Make(Ok(Some(made)), _))) => {
+                let number = made.number;
+                if event.end == end && number <= MAX_VARINT && self.payload(end, number).is_some() {
+                    Some(number)
+                } else {
+                    None
+                }
+            }
+            _ => None,
+        }
+    }
+
+    // Whether the newest event was to make a packet, and made none.
+    fn has_made_none(&self) -> bool {
+        match self.log.entries().last() {
+            Some((_, Answer::Make(Ok(Some(_)), _))) => false,
+            Some((_, Answer::Make(_, _))) => true,
+            _ => false,
+        }
+    }
+
+    fn end(&self, side: Side) -> &Endpoint {
+        match side {
+            Side::A => &self.a,
+            Side::B => &self.b,
+        }
+    }
+}
+
+fn is_idle(end: &Endpoint) -> bool {
+    if end.is_sendable() {
+        return false;
+    }
+    match end.next_outstanding(0) {
+        Some(_) => false,
+        None => has_no_news(end),
+    }
+}
+
+// Whether no stream has news for its reader.
+fn has_no_news(end: &Endpoint) -> bool {
+    match next_news(end) {
+        Some(_) => false,
+        None => true,
+    }
+}
+
+// The least stream that has news for its reader.
+fn next_news(end: &Endpoint) -> Option<StreamId> {
+    end.next_readable(first_stream())
+}
+
+fn first_stream() -> StreamId {
+    match StreamId::new(0) {
+        Some(id) => id,
+        None => unreachable!(),
+    }
+}
