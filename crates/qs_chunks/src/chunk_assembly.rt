@@ -25,7 +25,8 @@ pub struct ChunkAssembly {
 }
 
 impl Model for ChunkAssembly {
-    ghost use Rattle.qs_recv.specs.Assembled.{Assembled, assembled_code};
+    ghost use Rattle.qs_recv.specs.Assembled.{Assembled};
+    ghost use Rattle.qs_recv.specs.Codes.{assembled_code};
     ghost use Rattle.qs_chunks.specs.Chunks.{stored_in};
     ghost use Rattle.qs_chunks.specs.Kept.{IsKept};
 

@@ -71,7 +71,8 @@ struct Player<A: Assembly> {
 }
 
 impl<A: Assembly> Model for Player<A> {
-    ghost use Rattle.qs_recv.specs.Assembled.{Assembled, assembled_code};
+    ghost use Rattle.qs_recv.specs.Assembled.{Assembled};
+    ghost use Rattle.qs_recv.specs.Codes.{assembled_code};
     ghost use Rattle.qs_chunks.specs.Replay.{IsPlayed};
 
     ghost Value = { Assembled };

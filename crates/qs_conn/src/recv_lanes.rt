@@ -53,7 +53,8 @@ pub(crate) struct RecvLanes {
 impl Model for RecvLanes {
     ghost use Rattle.std.specs.Prelude.{List};
     ghost use Rattle.std.specs.Coded.{coded_list};
-    ghost use Rattle.qs_recv.specs.Lane.{RecvLane, lane_code};
+    ghost use Rattle.qs_recv.specs.Lane.{RecvLane};
+    ghost use Rattle.qs_recv.specs.Codes.{lane_code};
     ghost use Rattle.qs_conn.specs.Layers.{AreCounted};
     ghost use Rattle.qs_conn.specs.Marks.{AreMarked, IsQuietLane};
     ghost use Rattle.qs_conn.specs.RecvTasks.{AreNoted};

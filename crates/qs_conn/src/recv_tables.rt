@@ -36,7 +36,7 @@ impl Model for RecvTables {
     ghost use Rattle.std.specs.Prelude.{◌≡◌, length};
     ghost use Rattle.qs_recv.specs.Lane.{RecvLane};
     ghost use Rattle.qs_machine.specs.Tables.{Tables};
-    ghost use Rattle.qs_recv.specs.Lane.{lane_code};
+    ghost use Rattle.qs_recv.specs.Codes.{lane_code};
     ghost use Rattle.qs_machine.specs.EndCodes.{tables_code};
     ghost use Rattle.qs_machine.specs.Sums.{tables_of};
 

@@ -30,7 +30,8 @@ pub(crate) struct SendLanes {
 impl Model for SendLanes {
     ghost use Rattle.std.specs.Prelude.{◌≤◌, ◌^◌, List, length};
     ghost use Rattle.std.specs.Coded.{coded_list};
-    ghost use Rattle.qs_send.specs.Lane.{Sending, sending_code};
+    ghost use Rattle.qs_send.specs.Lane.{Sending};
+    ghost use Rattle.qs_send.specs.Codes.{sending_code};
     ghost use Rattle.qs_conn.specs.Tasks.{AreAllMarked};
 
     ghost Value = { List Sending };

@@ -29,7 +29,8 @@ pub(crate) struct SendTables {
 
 impl Model for SendTables {
     ghost use Rattle.std.specs.Prelude.{◌≡◌, length};
-    ghost use Rattle.qs_send.specs.Lane.{Sending, sending_code};
+    ghost use Rattle.qs_send.specs.Lane.{Sending};
+    ghost use Rattle.qs_send.specs.Codes.{sending_code};
     ghost use Rattle.qs_machine.specs.Tables.{Tables};
     ghost use Rattle.qs_machine.specs.EndCodes.{tables_code};
     ghost use Rattle.qs_machine.specs.Sums.{tables_of};

@@ -9,16 +9,18 @@ use Rattle.std.specs.FinSet as set
 use Rattle.qs_ranges.specs.Numbers.{NumberSet}
 use Rattle.qs_wire.specs.declared.stream_id.Role.{Role}
 use Rattle.qs_wire.specs.declared.stream_id.Role.TheVariants.{Client, Server}
-use Rattle.qs_recv.specs.Lane.{RecvLane, lane_code as recv_code}
-use Rattle.qs_send.specs.Lane.{SendLane, lane_code as send_code}
-use Rattle.qs_send.specs.Records.{packet_pieces_code}
+use Rattle.qs_recv.specs.Lane.{RecvLane}
+use Rattle.qs_recv.specs.Codes.{lane_code as recv_code}
+use Rattle.qs_send.specs.Lane.{SendLane}
+use Rattle.qs_send.specs.Records.{PacketPieces}
+use Rattle.qs_send.specs.Codes.{lane_code as send_code, packet_pieces_code}
 use Rattle.qs_calls.specs.declared.settings.Settings.{Settings}
 use Rattle.qs_calls.specs.declared.settings.PeerLimits.{PeerLimits}
 use Rattle.qs_calls.specs.declared.closing.Closing.{Closing}
 use Rattle.qs_calls.specs.declared.closing.Closed.{Closed}
 use Rattle.qs_calls.specs.declared.closing.Closed.TheVariants.{ByUs, ByPeer}
 use Rattle.qs_machine.specs.Tables.{Tables}
-use Rattle.qs_machine.specs.LostPackets.{LostPackets, lost_packets_code}
+use Rattle.qs_machine.specs.LostPackets.{LostPackets}
 use Rattle.qs_machine.specs.Ends.{End, Records, AckedItems}
 use Rattle.qs_machine.specs.Outgoing.{Outgoing}
 
@@ -98,6 +100,9 @@ tables_code {X} x =
 
 abbrev pub values_code : Coded (fmap.FinMap nat_cmp ℕ)
 values_code = fmap.code coded_ℕ coded_ℕ
+
+abbrev pub lost_packets_code : Coded LostPackets
+lost_packets_code = code_by (PacketPieces × List ℕ) (coded× packet_pieces_code (coded_list coded_ℕ)) (λ l. (l.pieces, l.order)) (λ p. record { pieces = p.0; order = p.1 }) (λ _. refl)
 
 abbrev pub acked_code : Coded AckedItems
 acked_code =

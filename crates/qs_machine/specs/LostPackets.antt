@@ -5,18 +5,14 @@
 --     lost_less k l      the lost packet k lost its first piece
 use Rattle.std.specs.Prelude.{ℕ, List, [], if◌then◌else◌, refl}
 use Rattle.std.specs.FinMap as fmap
-use Rattle.std.specs.Coded.{Coded, code_by, coded×, coded_ℕ, coded_list}
 use Rattle.qs_send.specs.declared.piece.Piece.{Piece}
-use Rattle.qs_send.specs.Records.{PacketPieces, packet_pieces_code, without_first}
+use Rattle.qs_send.specs.Records.{PacketPieces, without_first}
 use Rattle.qs_send.specs.LostRecords.{with_piece, with_number, without_number, without_oldest, latest}
 
 -- the pieces of the packets, and their numbers, the one first that was declared lost first
 pub record LostPackets : Type 0 where
   pub pieces : PacketPieces
   pub order : List ℕ
-
-abbrev pub lost_packets_code : Coded LostPackets
-lost_packets_code = code_by (PacketPieces × List ℕ) (coded× packet_pieces_code (coded_list coded_ℕ)) (λ l. (l.pieces, l.order)) (λ p. record { pieces = p.0; order = p.1 }) (λ _. refl)
 
 abbrev pub no_lost : LostPackets
 no_lost = record { pieces = fmap.empty; order = [] }

@@ -7,7 +7,6 @@
 --     same m at bytes      whether bytes from an offset on are those that m has there
 use Rattle.std.specs.Prelude.{ℕ, ◌+◌, zero, suc, Bool, true, false, if◌then◌else◌, ◌==◌, ◌&&◌, nat_le, List, [], ◌∷◌, length, Option, None, Some, refl}
 use Rattle.std.specs.Ordering.{nat_cmp}
-use Rattle.std.specs.Coded.{Coded, code_by, coded×, coded_ℕ, coded_bool}
 use Rattle.std.specs.FinMap as map
 use Rattle.std.specs.FinSet as set
 use Rattle.qs_ranges.specs.Numbers.{NumberSet, numbers}
@@ -18,14 +17,6 @@ pub record Assembled : Type 0 where
   pub read_count : ℕ
   pub window : ℕ
   pub discarding : Bool
-
-abbrev pub assembled_code : Coded Assembled
-assembled_code =
-    code_by (map.FinMap nat_cmp ℕ × (NumberSet × (ℕ × (ℕ × Bool))))
-    (coded× (map.code coded_ℕ coded_ℕ) (coded× (set.code coded_ℕ) (coded× coded_ℕ (coded× coded_ℕ coded_bool))))
-    (λ a. (a.stored, (a.received, (a.read_count, (a.window, a.discarding)))))
-    (λ p. record { stored = p.0; received = p.1.0; read_count = p.1.1.0; window = p.1.1.1.0; discarding = p.1.1.1.1 })
-    (λ _. refl)
 
 -- nothing came, and bytes within one window may (RFC 9000, section 4.1)
 abbrev pub nothing_yet : ℕ → Assembled

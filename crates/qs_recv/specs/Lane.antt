@@ -1,7 +1,6 @@
 -- Trusted.
 -- The receiving lane of a stream (RFC 9000, section 3.2), and what each call on it answers and leaves.
 use Rattle.std.specs.Prelude.{ℕ, ◌+◌, ◌/◌, Bool, true, false, not, if◌then◌else◌, ◌&&◌, ◌||◌, ◌==◌, nat_le, nat_lt, max, min, List, [], length, Option, None, Some, is_some, unwrap_or, Result, Ok, Err, refl}
-use Rattle.std.specs.Coded.{Coded, code_by, coded×, coded_ℕ, coded_bool, coded_option}
 use Rattle.std.specs.FinSet as set
 use Rattle.qs_ranges.specs.Numbers.{NumberSet, MAX_VARINT, covers, end_of}
 use Rattle.qs_recv.specs.declared.half.Read.{Read}
@@ -11,7 +10,7 @@ use Rattle.qs_recv.specs.declared.half.RecvState.TheVariants.{Recv, SizeKnown, D
 use Rattle.qs_recv.specs.declared.half.RecvFault.{RecvFault}
 use Rattle.qs_recv.specs.declared.half.RecvFault.TheVariants.{FinalSize, StreamCredit, ChangedByte}
 use Rattle.qs_recv.specs.declared.half.Highest.{Highest}
-use Rattle.qs_recv.specs.Assembled.{Assembled, assembled_code, nothing_yet, put, take_front, front_of, discard, same}
+use Rattle.qs_recv.specs.Assembled.{Assembled, nothing_yet, put, take_front, front_of, discard, same}
 
 -- what arrived; the final size, the reset's code and the code of this end's own stop, where known; whether a reader was told of the end or
 -- the reset; and the limit on offsets that was granted (RFC 9000, sections 3.2, 3.5 and 4.1)
@@ -22,14 +21,6 @@ pub record RecvLane : Type 0 where
   pub stop_code : Option ℕ
   pub told : Bool
   pub limit : ℕ
-
-abbrev pub lane_code : Coded RecvLane
-lane_code =
-    code_by (Assembled × (Option ℕ × (Option ℕ × (Option ℕ × (Bool × ℕ)))))
-    (coded× assembled_code (coded× (coded_option coded_ℕ) (coded× (coded_option coded_ℕ) (coded× (coded_option coded_ℕ) (coded× coded_bool coded_ℕ)))))
-    (λ l. (l.arrived, (l.final_size, (l.reset_code, (l.stop_code, (l.told, l.limit))))))
-    (λ p. record { arrived = p.0; final_size = p.1.0; reset_code = p.1.1.0; stop_code = p.1.1.1.0; told = p.1.1.1.1.0; limit = p.1.1.1.1.1 })
-    (λ _. refl)
 
 -- nothing arrived, and one window is granted (RFC 9000, section 4.1)
 abbrev pub new_lane : ℕ → RecvLane

@@ -1,6 +1,7 @@
 pub mod Assembled
 pub mod Bytes
 pub mod Lane
+pub mod Codes
 pub mod Lawful
 pub mod Laws
 pub mod News

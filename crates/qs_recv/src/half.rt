@@ -71,7 +71,8 @@ pub struct RecvHalf<A: Assembly> {
 }
 
 impl<A: Assembly> Model for RecvHalf<A> {
-    ghost use Rattle.qs_recv.specs.Lane.{RecvLane, lane_code};
+    ghost use Rattle.qs_recv.specs.Lane.{RecvLane};
+    ghost use Rattle.qs_recv.specs.Codes.{lane_code};
     ghost use Rattle.qs_recv.specs.Sound.{IsSound};
 
     ghost Value = { RecvLane };

@@ -27,7 +27,8 @@ pub struct RingAssembly {
 }
 
 impl Model for RingAssembly {
-    ghost use Rattle.qs_recv.specs.Assembled.{Assembled, assembled_code};
+    ghost use Rattle.qs_recv.specs.Assembled.{Assembled};
+    ghost use Rattle.qs_recv.specs.Codes.{assembled_code};
     ghost use Rattle.qs_recv.specs.Ring.{stored_in_ring, IsRing};
 
     ghost Value = { Assembled };

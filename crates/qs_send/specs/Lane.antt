@@ -1,7 +1,6 @@
 -- Trusted.
 -- The sending lane of a stream, what of it is due, and what each call leaves.
 use Rattle.std.specs.Prelude.{ℕ, ◌+◌, ◌-◌, Bool, true, false, not, if◌then◌else◌, ◌&&◌, ◌||◌, ◌==◌, nat_lt, max, min, List, [], ◌++◌, length, take, drop, Option, None, Some, is_some, Result, Ok, Err, refl}
-use Rattle.std.specs.Coded.{Coded, code_by, coded×, coded_ℕ, coded_bool, coded_option, coded_list}
 use Rattle.std.specs.FinSet as set
 use Rattle.qs_ranges.specs.Numbers.{MAX_VARINT, NumberSet, numbers, missing_from}
 use Rattle.qs_send.specs.declared.parts.Chunk.{Chunk}
@@ -38,24 +37,6 @@ pub record Due : Type 0 where
 pub record Sending : Type 0 where
   pub lane : SendLane
   pub due : Due
-
--- the records as pairs, so that a value of a half can be compared
-abbrev pub reset_code : Coded Reset
-reset_code = code_by (ℕ × ℕ) (coded× coded_ℕ coded_ℕ) (λ r. (r.code, r.size)) (λ p. record { code = p.0; size = p.1 }) (λ _. refl)
-
-abbrev pub lane_code : Coded SendLane
-lane_code =
-    code_by (ℕ × (ℕ × (List ℕ × (NumberSet × (ℕ × (Bool × (Bool × (Bool × (Bool × (Option Reset × (Bool × (ℕ × ℕ))))))))))))
-    (coded× coded_ℕ (coded× coded_ℕ (coded× (coded_list coded_ℕ) (coded× (set.code coded_ℕ) (coded× coded_ℕ (coded× coded_bool (coded× coded_bool (coded× coded_bool (coded× coded_bool (coded× (coded_option reset_code) (coded× coded_bool (coded× coded_ℕ coded_ℕ))))))))))))
-    (λ l. (l.id, (l.written, (l.kept, (l.acked, (l.sent_end, (l.finished, (l.fin_sent, (l.fin_acked, (l.blocked_sent, (l.was_reset, (l.reset_acked, (l.limit, l.buffer)))))))))))))
-    (λ p. record { id = p.0; written = p.1.0; kept = p.1.1.0; acked = p.1.1.1.0; sent_end = p.1.1.1.1.0; finished = p.1.1.1.1.1.0; fin_sent = p.1.1.1.1.1.1.0; fin_acked = p.1.1.1.1.1.1.1.0; blocked_sent = p.1.1.1.1.1.1.1.1.0; was_reset = p.1.1.1.1.1.1.1.1.1.0; reset_acked = p.1.1.1.1.1.1.1.1.1.1.0; limit = p.1.1.1.1.1.1.1.1.1.1.1.0; buffer = p.1.1.1.1.1.1.1.1.1.1.1.1 })
-    (λ _. refl)
-
-abbrev pub due_code : Coded Due
-due_code = code_by (NumberSet × Bool) (coded× (set.code coded_ℕ) coded_bool) (λ d. (d.offsets, d.fin)) (λ p. record { offsets = p.0; fin = p.1 }) (λ _. refl)
-
-abbrev pub sending_code : Coded Sending
-sending_code = code_by (SendLane × Due) (coded× lane_code due_code) (λ s. (s.lane, s.due)) (λ p. record { lane = p.0; due = p.1 }) (λ _. refl)
 
 -- the lowest offset that isn't acknowledged (RFC 9000, section 13.3)
 abbrev pub unacked_from : SendLane → ℕ

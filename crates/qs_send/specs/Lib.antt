@@ -10,4 +10,5 @@ pub mod Records
 pub mod AckPass
 pub mod ByNumber
 pub mod LostRecords
+pub mod Codes
 pub mod LostPass

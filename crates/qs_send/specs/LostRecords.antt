@@ -7,9 +7,8 @@
 --     without_number               the order without a number
 use Rattle.std.specs.Prelude.{◌≡◌, ℕ, ◌≤◌, ◌↔◌, Bool, true, false, List, [], ◌∷◌, ◌++◌, length, nat_eq, leb, if◌then◌else◌, Option, None, Some, refl}
 use Rattle.std.specs.FinMap as fmap
-use Rattle.std.specs.Coded.{Coded, code_by, coded×, coded_ℕ, coded_list, coded_option}
 use Rattle.qs_send.specs.declared.piece.Piece.{Piece}
-use Rattle.qs_send.specs.Records.{PacketPieces, NoneEmpty, Among, packet_pieces_code}
+use Rattle.qs_send.specs.Records.{PacketPieces, NoneEmpty, Among}
 
 -- The pieces of the packets; their numbers, the one first that was declared lost first; and the number for which there is room
 -- for one piece more.
@@ -17,12 +16,6 @@ pub record Lost : Type 0 where
   pub pieces : PacketPieces
   pub order : List ℕ
   pub room : Option ℕ
-
-abbrev pub lost_code : Coded Lost
-lost_code =
-    code_by (PacketPieces × (List ℕ × Option ℕ)) (coded× packet_pieces_code (coded× (coded_list coded_ℕ) (coded_option coded_ℕ))) (λ l. (l.pieces, (l.order, l.room)))
-    (λ p. record { pieces = p.0; order = p.1.0; room = p.1.1 })
-    (λ _. refl)
 
 -- so many lost packets stay
 abbrev pub MOST_LOST : ℕ

@@ -7,9 +7,7 @@
 use Rattle.std.specs.Prelude.{◌≡◌, ℕ, zero, suc, ◌+◌, ◌<◌, ◌≤◌, true, List, [], ◌∷◌, slice_index_or, Option, None, Some, ◌⊎◌, refl}
 use Rattle.std.specs.Ordering.{nat_cmp}
 use Rattle.std.specs.FinMap as fmap
-use Rattle.std.specs.Coded.{Coded, code_by, coded×, coded_ℕ, coded_list}
 use Rattle.qs_send.specs.declared.piece.Piece.{Piece}
-use Rattle.qs_send.specs.PieceCodes.{piece_code}
 
 -- the pieces of packets, by packet number
 abbrev pub PacketPieces : Type 0
@@ -21,15 +19,6 @@ pub record Recorded : Type 0 where
   pub base : ℕ
   pub slots : ℕ
   pub room : ℕ
-
-abbrev pub packet_pieces_code : Coded PacketPieces
-packet_pieces_code = fmap.code coded_ℕ (coded_list piece_code)
-
-abbrev pub recorded_code : Coded Recorded
-recorded_code =
-    code_by (PacketPieces × (ℕ × (ℕ × ℕ))) (coded× packet_pieces_code (coded× coded_ℕ (coded× coded_ℕ coded_ℕ))) (λ r. (r.pieces, (r.base, (r.slots, r.room))))
-    (λ p. record { pieces = p.0; base = p.1.0; slots = p.1.1.0; room = p.1.1.1 })
-    (λ _. refl)
 
 -- the record of a packet without its first piece
 abbrev pub without_first : PacketPieces → ℕ → Option (List Piece) → PacketPieces

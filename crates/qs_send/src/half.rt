@@ -48,7 +48,8 @@ pub struct SendHalf {
 impl Model for SendHalf {
     ghost use Rattle.std.specs.Prelude.{◌&&◌, not};
     ghost use Rattle.std.specs.FinSet as set;
-    ghost use Rattle.qs_send.specs.Lane.{Sending, sending_code};
+    ghost use Rattle.qs_send.specs.Lane.{Sending};
+    ghost use Rattle.qs_send.specs.Codes.{sending_code};
     ghost use Rattle.qs_ranges.specs.Numbers.{AllBelow};
     ghost use Rattle.qs_send.specs.Sound.{IsLawful, CodeFits};
 

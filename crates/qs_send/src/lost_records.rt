@@ -31,7 +31,8 @@ impl Model for LostRecords {
     ghost use Rattle.std.specs.Prelude.{◌<◌, IfSome};
     ghost use Rattle.std.specs.VecDeque.{deque_len, deque_capacity};
     ghost use Rattle.qs_send.specs.ByNumber.{map_of, room_for};
-    ghost use Rattle.qs_send.specs.LostRecords.{Lost, lost_code, IsOrderOf};
+    ghost use Rattle.qs_send.specs.LostRecords.{Lost, IsOrderOf};
+    ghost use Rattle.qs_send.specs.Codes.{lost_code};
 
     ghost Value = { Lost };
 

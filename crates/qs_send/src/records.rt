@@ -23,7 +23,8 @@ pub struct Records {
 impl Model for Records {
     ghost use Rattle.std.specs.Prelude.{◌+◌, ◌≤◌, ◌^◌, length};
     ghost use Rattle.std.specs.VecDeque.{deque_capacity};
-    ghost use Rattle.qs_send.specs.Records.{Recorded, packets_of, recorded_code, room_end};
+    ghost use Rattle.qs_send.specs.Records.{Recorded, packets_of, room_end};
+    ghost use Rattle.qs_send.specs.Codes.{recorded_code};
 
     ghost Value = { Recorded };
 

@@ -2,8 +2,6 @@
 -- Events are played: what two ends have come to, and what happened to them. The whole file is ours:
 -- RFC 9000 has no runs.
 use Rattle.std.specs.Prelude.{◌≡◌, suc, List, [], ◌∷◌, ◌++◌, length, map, reverse, None, Result, Ok, Err, ⊤, refl}
-use Rattle.std.specs.Coded.{Coded, code_by, coded×, coded_list}
-use Rattle.qs_machine.specs.EndCodes.{end_code}
 use Rattle.qs_machine.specs.Ends.{End}
 use Rattle.qs_calls.specs.declared.settings.Settings.{Settings}
 use Rattle.qs_calls.specs.declared.settings.SetupFault.{SetupFault}
@@ -36,13 +34,6 @@ AgreeingRun a b (x ∷ h) w = (v : World) × AgreeingRun a b h v × WorldStep h 
 pub record Played : Type 0 where
   pub log : History
   pub ends : World
-
--- it is stored as the pair of its fields
-abbrev pub played_code : Coded Event → Coded Answer → Coded Played
-played_code event answer =
-    code_by (History × (End × End)) (coded× (coded_list (coded× event answer)) (coded× end_code end_code)) (λ p. (p.log, (p.ends.a, p.ends.b)))
-    (λ p. record { log = p.0; ends = record { a = p.1.0; b = p.1.1 } })
-    (λ _. refl)
 
 -- two ends, of which one stands at that side
 abbrev pub world_by : Side → End → End → World

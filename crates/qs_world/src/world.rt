@@ -37,7 +37,8 @@ pub struct World {
 }
 
 impl Model for World {
-    ghost use Rattle.qs_world.specs.Plays.{Played, HasAgreed, played_code};
+    ghost use Rattle.qs_world.specs.Plays.{Played, HasAgreed};
+    ghost use Rattle.qs_world.specs.Codes.{played_code};
     ghost use Rattle.qs_calls.specs.contracts.event.Event as event;
     ghost use Rattle.qs_calls.specs.contracts.answer.Answer as answer;
 
