@@ -22,9 +22,9 @@ use Rattle.qs_runs.proofs.Runs.{run_keeps, ends_face}
 use Rattle.qs_runs.proofs.Agrees.{prefix}
 use Rattle.qs_rest.specs.Invariant.{RestOk}
 use Rattle.qs_rest.specs.Rest.{AtRest}
-use Rattle.qs_rest.specs.Resting.{AtEachRest, HasRoom, IsReadAtBoth, AllIsDelivered}
+use Rattle.qs_rest.specs.Resting.{AtEachRest, HasRoom, IsReadAtBoth, IsAhead, HasCreditAhead, AllIsDelivered}
 use Rattle.qs_rest.proofs.EveryRun.{every_run_keeps}
-use Rattle.qs_rest.proofs.Lanes.{full, all_or_limit, end_acked}
+use Rattle.qs_rest.proofs.Lanes.{full, ahead, all_or_limit, end_acked}
 use Rattle.qs_rest.proofs.Resting.{limits_known}
 use Rattle.qs_rest.proofs.Streams.{lawful, sender_ok, reader_ok, no_reset_known, acked_sent, end_sent, sent_alone, taken_sent, all_was_taken, is_read}
 
@@ -53,6 +53,29 @@ module _ (a b : Settings) (h : History) (w : World) (ok : WorldOk a b h w) (keep
             let top : MAX_VARINT ≤ (end_of w (other s)).granted = full (end_of w (other s)).granted (end_of w (other s)).settings.conn_window (some_conn_window (end_of w (other s)).settings (ok.sound (other s)).0.settings) settled in
             absurd (omega (arith, room, le, grants, within, top)))
       ]
+
+  -- the sender has credit ahead
+  conn_ahead : IsAhead (all_sent (end_of w s)) (end_of w s).known_data (end_of w (other s)).settings.conn_window
+  conn_ahead =
+      let grants : (end_of w s).known_data ≡ (end_of w (other s)).granted = (limits_known a b h w ok keeps rest s).connection in
+      let paid : all_taken (end_of w (other s)) ≡ all_sent (end_of w s) = all_was_taken a b h w ok keeps rest s in
+      let some : 1 ≤ (end_of w (other s)).settings.conn_window = some_conn_window (end_of w (other s)).settings (ok.sound (other s)).0.settings in
+      elim (ahead (end_of w (other s)).granted (all_taken (end_of w (other s))) (end_of w (other s)).settings.conn_window some (keeps (other s)).limits.connection) [
+        | inl more ↦ inl (omega (arith, more, grants, paid))
+        | inr top ↦ inr (omega (arith, top, grants))
+      ]
+
+  stream_ahead : (n : ℕ) (l : SendLane) (r : RecvLane) → sending w s n ≡ Some l → receiving w s n ≡ Some r → r.final_size ≡ None → IsAhead l.sent_end l.limit r.arrived.window
+  stream_ahead n l r at is e =
+      let known : l.limit ≡ r.limit = (limits_known a b h w ok keeps rest s).streams n l r at is e in
+      let paid : taken r ≡ l.sent_end = taken_sent a b h w ok keeps rest s n l r at is in
+      elim (ahead r.limit (taken r) r.arrived.window (lawful a b h w ok keeps rest s n r is).some_window ((keeps (other s)).limits.streams n r is e)) [
+        | inl more ↦ inl (omega (arith, more, known, paid))
+        | inr top ↦ inr (omega (arith, top, known))
+      ]
+
+  pub credit_ahead : HasCreditAhead h w s
+  credit_ahead = record { connection = conn_ahead; streams = stream_ahead }
 
   module _ (n : ℕ) (l : SendLane) (at : sending w s n ≡ Some l) (none : l.was_reset ≡ None) where
     some_limit : 1 ≤ l.limit
@@ -132,6 +155,9 @@ module _ (a b : Settings) (h : History) (w : World) (ok : WorldOk a b h w) (keep
         is_read = λ going. all_is_read n l at none room going;
         is_ended = λ finished. all_has_ended n l at none room finished;
       }
+
+pub each_credit_ahead : AtEachRest HasCreditAhead
+each_credit_ahead a b h w run rest s = credit_ahead a b h w (run_keeps a b h w run) (every_run_keeps a b h w run) rest s
 
 pub each_delivered : AtEachRest AllIsDelivered
 each_delivered a b h w run rest s = all_is_delivered a b h w (run_keeps a b h w run) (every_run_keeps a b h w run) rest s

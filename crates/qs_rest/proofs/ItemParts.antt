@@ -18,7 +18,8 @@ use Rattle.qs_send.specs.contracts.piece.PiecePartialEq.TheImpl as piece
 use Rattle.qs_send.proofs.PieceEquality.{among_of_any, any_of_among}
 use Rattle.qs_machine.specs.Ends.{End, send_lane}
 use Rattle.qs_machine.specs.Due.{IsAcked}
-use Rattle.qs_rest.specs.Laws.{ItemsAreInOnePart}
+use Rattle.qs_machine.specs.Seen.{Ack, Stream, Control, Close, Plain}
+use Rattle.qs_rest.specs.Laws.{ItemsAreInOnePart, AllButAcksAsk}
 
 -- it holds, or it doesn't
 abbrev pub IsDecided : Type 0 → Type 0
@@ -103,3 +104,10 @@ item_part e i current =
         | inr unacked ↦ inr (inr (current, λ covered. elim covered [ inl o ↦ grounded o | inr a ↦ unacked a ]))
       ]
     ]
+
+pub all_ask : AllButAcksAsk
+all_ask old e (Ack largest ranges) may = inl (largest, ranges, refl)
+all_ask old e (Stream n offset bytes fin) may = inr refl
+all_ask old e (Control item) may = inr refl
+all_ask old e (Close code) may = absurd may
+all_ask old e (Plain asks) may = absurd may

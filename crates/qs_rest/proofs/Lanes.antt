@@ -1,5 +1,5 @@
 -- Halves of a stream of ends at rest, each by itself.
-use Rattle.std.proofs.Common.{◌≡◌, ℕ, ◌+◌, ◌/◌, ◌<◌, ◌≤◌, ◌==◌, ◌&&◌, ◌||◌, min, max, nat_le, nat_lt, Bool, true, false, ◌⊎◌, Option, Some, None, is_some, unwrap_or, refl, sym, ap, ◌∙◌, arith, inl, inr}
+use Rattle.std.proofs.Common.{◌≡◌, ℕ, ◌+◌, ◌/◌, ◌*◌, ◌<◌, ◌≤◌, ◌==◌, ◌&&◌, ◌||◌, min, max, nat_le, nat_lt, Bool, true, false, ◌⊎◌, Option, Some, None, is_some, unwrap_or, refl, sym, ap, ◌∙◌, arith, inl, inr}
 use Rattle.std.specs.Prelude.{cond}
 use Rattle.std.proofs.lemmas.Bool.{cases_lt, eqb-true, true≢false, false≢true}
 use Rattle.std.proofs.lemmas.Bool.Decides.{nat_tests}
@@ -15,6 +15,7 @@ use Rattle.qs_machine.specs.Ends.{End, send_lane}
 use Rattle.qs_machine.specs.Credit.{all_sent}
 use Rattle.qs_machine.specs.Due.{IsDue, IsEndDue}
 use Rattle.qs_rest.specs.Rest.{TellsNoNews, AtRest}
+use Rattle.qs_rest.specs.Resting.{IsAhead}
 
 -- a window's limit that is its own next one with all of it taken is the greatest
 pub full : (l w : ℕ) → 1 ≤ w → next_limit l l w ≡ l → MAX_VARINT ≤ l
@@ -23,6 +24,15 @@ full l w some is = elim (cases_lt l MAX_VARINT) [ inl lt ↦ absurd (go _ refl l
     go : (b : Bool) → (nat_le (l + max 1 (w / 2)) (min MAX_VARINT (l + w)) || (min MAX_VARINT (l + w) == MAX_VARINT && nat_lt l (min MAX_VARINT (l + w)))) ≡ b → l < MAX_VARINT →
         cond b (min MAX_VARINT (l + w)) l ≡ l → ⊥
     go true e lt same = omega arith
+    go false e lt same = grind (arith, nat_tests)
+
+-- a limit that is its own next one is more than half a window past what was taken, or the greatest
+pub ahead : (l t w : ℕ) → 1 ≤ w → next_limit l t w ≡ l → IsAhead t l w
+ahead l t w some is = elim (cases_lt l MAX_VARINT) [ inl lt ↦ inl (go _ refl lt is) | inr le ↦ inr le ]
+  where
+    go : (b : Bool) → (nat_le (l + max 1 (w / 2)) (min MAX_VARINT (t + w)) || (min MAX_VARINT (t + w) == MAX_VARINT && nat_lt l (min MAX_VARINT (t + w)))) ≡ b → l < MAX_VARINT →
+        cond b (min MAX_VARINT (t + w)) l ≡ l → 2 * t + w < 2 * l
+    go true e lt same = grind (arith, nat_tests)
     go false e lt same = grind (arith, nat_tests)
 
 -- The receiving half

@@ -344,6 +344,7 @@ module _ (a b : Settings) (h : History) (w : World) (ok : WorldOk a b h w) (keep
             let high : highest r ≡ l.sent_end = highest_sent a b h w ok keeps rest s n l r at is in
             let paid : taken r ≡ l.sent_end = taken_sent a b h w ok keeps rest s n l r at is in
             (high, paid, omega (arith, high, paid, stored_and_taken r (lawful a b h w ok keeps rest s n r is)));
+        alone = λ n l at none. sent_alone a b h w ok keeps rest s n l at none;
       }
 
   pub resets_are_final : ResetsAreFinal h w s

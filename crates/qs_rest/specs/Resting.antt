@@ -1,6 +1,6 @@
 -- Of laws.
 -- What holds of two ends at rest, in every run.
-use Rattle.std.specs.Prelude.{◌≡◌, ℕ, ◌<◌, true, false, ◌⊎◌, None, Some, is_some}
+use Rattle.std.specs.Prelude.{◌≡◌, ℕ, ◌+◌, ◌*◌, ◌<◌, ◌≤◌, true, false, ◌⊎◌, None, Some, is_some}
 use Rattle.std.specs.FinMap as fmap
 use Rattle.qs_ranges.specs.Numbers.{MAX_VARINT}
 use Rattle.qs_wire.specs.declared.stream_id.Dir.{Dir}
@@ -54,6 +54,20 @@ pub record CreditIsWhole (h : History) (w : World) (s : Side) : Type 0 where
   -- and so of each stream (sections 4.1 and 4.2)
   pub streams : (n : ℕ) (l : SendLane) (r : RecvLane) → sending w s n ≡ Some l → receiving w s n ≡ Some r →
       (highest r ≡ l.sent_end) × (taken r ≡ l.sent_end) × (fmap.len r.arrived.stored ≡ 0)
+  -- a stream on which anything was sent is open at the other end (section 2.1)
+  pub alone : (n : ℕ) (l : SendLane) → sending w s n ≡ Some l → receiving w s n ≡ None → l.sent_end ≡ 0
+
+-- more than half of a window lies between what was sent and the limit, and so a byte at least; or the limit is the greatest one (RFC
+-- 9000, sections 4.1 and 4.2)
+abbrev pub IsAhead : (sent limit window : ℕ) → Type 0
+IsAhead sent limit window = (2 * sent + window < 2 * limit) ⊎ (MAX_VARINT ≤ limit)
+
+-- A sender has credit ahead (RFC 9000, sections 4.1 and 4.2).
+pub record HasCreditAhead (h : History) (w : World) (s : Side) : Type 0 where
+  -- on the connection (section 4.1)
+  pub connection : IsAhead (all_sent (end_of w s)) (end_of w s).known_data (end_of w (other s)).settings.conn_window
+  -- and on each stream of which no final size came (sections 4.1 and 4.5)
+  pub streams : (n : ℕ) (l : SendLane) (r : RecvLane) → sending w s n ≡ Some l → receiving w s n ≡ Some r → r.final_size ≡ None → IsAhead l.sent_end l.limit r.arrived.window
 
 -- the stream is reset: Reset Recvd, and Reset Read, or Data Read where all data had come before (RFC 9000, sections 3.1 and 3.2)
 abbrev pub IsResetAtBoth : World → Side → ℕ → Type 0

@@ -1,13 +1,18 @@
 //! Laws of the definitions alone: each is a function whose contract is the law.
 
-ghost use Rattle.qs_rest.specs.Laws.{ItemsAreInOnePart, StopsGiveBack};
+ghost use Rattle.qs_rest.specs.Laws.{ItemsAreInOnePart, AllButAcksAsk, StopsGiveBack};
 ghost use Rattle.qs_rest.specs.Rest.{EveryRunKeeps, IdleIsRest};
 ghost use Rattle.qs_rest.specs.Exclusions.{Exclusions};
-ghost use Rattle.qs_rest.specs.Resting.{ItemsAreAcked, ToldIsTaken, AtEachRest, KnowsItsLimits, CreditIsWhole, ResetsAreFinal, AllIsDelivered};
+ghost use Rattle.qs_rest.specs.Resting.{ItemsAreAcked, ToldIsTaken, AtEachRest, KnowsItsLimits, CreditIsWhole, HasCreditAhead, ResetsAreFinal, AllIsDelivered};
 
 /// Each item that is to be told is in an outstanding packet, or was acknowledged, or is due.
 pub fn items_are_in_one_part()
     ensures { ItemsAreInOnePart }
+{}
+
+/// Whatever a packet may hold asks for an acknowledgement, but an acknowledgement.
+pub fn all_but_acks_ask()
+    ensures { AllButAcksAsk }
 {}
 
 /// A half whose reader stopped has taken all that came, whatever comes later.
@@ -43,6 +48,11 @@ pub fn limits_are_known()
 /// At rest all credit is paid back, of the connection and of each stream.
 pub fn credit_is_whole()
     ensures { AtEachRest CreditIsWhole }
+{}
+
+/// At rest more than half of each window is left to its sender, and so a byte at least, unless the limit is the greatest one.
+pub fn credit_is_ahead()
+    ensures { AtEachRest HasCreditAhead }
 {}
 
 /// At rest each stream that was reset, or whose reader stopped, has come to its end at both ends.
