@@ -1,11 +1,104 @@
-//! Random scripts, each led to rest by `--drain`, against a plain count of what should have arrived.
+//! Scripts, random and short ones, each led to rest by `--drain`, against a plain count of what should have arrived.
 
 use std::collections::{BTreeMap, BTreeSet};
 use std::fs;
-use std::path::Path;
+use std::path::{Path, PathBuf};
 use std::process::Command;
 
 const SCRIPTS: u64 = 300;
+
+/// The window of a connection in every script.
+const WINDOW: u64 = 4096;
+
+/// Short scripts, each of which one slip would leave stuck or short of credit; parts follow one another, and `KB` stands for 1,024 bytes.
+const SHORT: [(&str, &[&str]); 13] = [
+    (
+        "three readers stop",
+        &[
+            "open A bidi, write A 0 KB, make A 1200, deliver A 0, stop B 0 7",
+            "open A bidi, write A 4 KB, make A 1200, deliver A 1, stop B 4 7",
+            "open A bidi, write A 8 KB, make A 1200, deliver A 2, stop B 8 7",
+        ],
+    ),
+    (
+        "three readers stop who know the size",
+        &[
+            "open A bidi, write A 0 KB, finish A 0, make A 1200, deliver A 0, stop B 0 7",
+            "open A bidi, write A 4 KB, finish A 4, make A 1200, deliver A 1, stop B 4 7",
+            "open A bidi, write A 8 KB, finish A 8, make A 1200, deliver A 2, stop B 8 7",
+        ],
+    ),
+    (
+        "three streams are reset of which nothing was read",
+        &[
+            "open A bidi, write A 0 KB, make A 1200, deliver A 0, reset A 0 7",
+            "open A bidi, write A 4 KB, make A 1200, deliver A 1, reset A 4 7",
+            "open A bidi, write A 8 KB, make A 1200, deliver A 2, reset A 8 7",
+        ],
+    ),
+    (
+        "the packet with a raised limit is lost",
+        &[
+            "open A bidi, write A 0 KB, make A 1200, deliver A 0, read B 0 1024",
+            "make B 128, lose B 0, write A 0 cd",
+        ],
+    ),
+    (
+        "a limit rises again, once the first rise is acknowledged",
+        &[
+            "open A bidi, write A 0 KB, make A 1200, deliver A 0, read B 0 1024",
+            "make B 128, deliver B 0, make A 128, deliver A 1",
+            "write A 0 KB, make A 1200, deliver A 2, read B 0 1024, write A 0 cd",
+        ],
+    ),
+    (
+        "three quarters of a window are read",
+        &[
+            "open A bidi, write A 0 KB, open A bidi, write A 4 KB",
+            "open A bidi, write A 8 KB",
+        ],
+    ),
+    (
+        "a byte more than a window is written",
+        &["open A bidi, write A 0 KB, write A 0 cd"],
+    ),
+    (
+        "all credit is in lost packets",
+        &[
+            "open A bidi, write A 0 KB, make A 1200, open A bidi, write A 4 KB, make A 1200",
+            "open A bidi, write A 8 KB, make A 1200, open A bidi, write A 12 KB, make A 1200",
+        ],
+    ),
+    (
+        "a stream is finished once every byte is acknowledged",
+        &[
+            "open A bidi, write A 0 ab, make A 128, deliver A 0, make B 128, deliver B 0, finish A 0",
+        ],
+    ),
+    (
+        "a stream is reset of which nothing was sent",
+        &["open A bidi, reset A 0 7"],
+    ),
+    (
+        "the packet with a stop is lost",
+        &["open A bidi, write A 0 ab, make A 128, deliver A 0, stop B 0 7, make B 128, lose B 0"],
+    ),
+    (
+        "finished streams use all credit up",
+        &[
+            "open A bidi, write A 0 KB, finish A 0, open A bidi, write A 4 KB, finish A 4",
+            "open A bidi, write A 8 KB, finish A 8, open A bidi, write A 12 KB, finish A 12",
+            "open A bidi, write A 16 cd",
+        ],
+    ),
+    (
+        "the end that came is declared lost, at the stream's limit",
+        &[
+            "open A bidi, write A 0 KB, make A 1200, lose A 0, finish A 0, make A 1200",
+            "deliver A 0, make B 128, deliver A 1, make B 128, lose A 1, deliver B 0, read B 0 1024",
+        ],
+    ),
+];
 
 /// The sender of a stream's direction, and the stream's number.
 type Lane = (String, String);
@@ -24,11 +117,12 @@ fn peer(side: &str) -> &'static str {
     if side == "A" { "B" } else { "A" }
 }
 
-/// What was written and read, in hex, and which directions were reset or stopped, by the lines of the events alone.
+/// What was written and read, in hex, and which directions were finished, or reset or stopped, by the lines of the events alone.
 #[derive(Default)]
 struct Count {
     written: BTreeMap<Lane, String>,
     read: BTreeMap<Lane, String>,
+    finished: BTreeSet<Lane>,
     broken: BTreeSet<Lane>,
 }
 
@@ -61,6 +155,9 @@ impl Count {
                 let all = self.read.entry(own(peer(side), stream)).or_default();
                 all.push_str(hex);
             }
+            ["finish", side, stream] if answer == "ok" => {
+                self.finished.insert(own(side, stream));
+            }
             ["reset", side, stream, _] if answer == "ok" => {
                 self.broken.insert(own(side, stream));
             }
@@ -73,8 +170,7 @@ impl Count {
 }
 
 /// All that was written on a direction that was neither reset nor stopped was read. It answers how many such there were.
-fn arrived(what: &str, events: &[&str]) -> usize {
-    let count = Count::of(events);
+fn arrived(what: &str, count: &Count) -> usize {
     let mut whole = 0;
     for (lane, written) in &count.written {
         let read = count.read.get(lane).map_or("", String::as_str);
@@ -87,33 +183,105 @@ fn arrived(what: &str, events: &[&str]) -> usize {
     whole
 }
 
+/// The number that follows a word of a line.
+fn after(line: &str, name: &str) -> u64 {
+    let mut words = line.split(' ').skip_while(|word| *word != name);
+    words.next().expect("the word");
+    words.next().and_then(|word| word.parse().ok()).expect(name)
+}
+
+/// What that end sent: of each of its directions the size that it declared, or else all that was written.
+fn sent(report: &[&str], side: &str) -> u64 {
+    let lanes = report
+        .iter()
+        .filter(|line| line.starts_with(&format!("lane {side} ")));
+    lanes
+        .map(|line| {
+            let name = if line.contains(" declared none ") {
+                "written"
+            } else {
+                "declared"
+            };
+            after(line, name)
+        })
+        .sum()
+}
+
+/// Both ends know the size of a direction that was finished, reset or stopped, and its sender knows that one which was finished alone
+/// arrived. Each end spent what the other one sent, stores none of it, and has granted more than half of a window beyond it.
+fn nothing_is_left(what: &str, count: &Count, report: &[&str]) {
+    for line in report.iter().filter(|line| line.starts_with("lane ")) {
+        let words: Vec<&str> = line.split(' ').collect();
+        let lane = (words[1].to_owned(), words[2].to_owned());
+        let (_, sizes) = line.split_once(" declared ").expect("a size");
+        let (declared, known) = sizes.split_once(" known ").expect("another one");
+        let (finished, broken) = (count.finished.contains(&lane), count.broken.contains(&lane));
+        assert_eq!(declared, known, "{what}: {line}");
+        assert_eq!(declared != "none", finished || broken, "{what}: {line}");
+        if !broken {
+            assert_eq!(line.contains(" received yes "), finished, "{what}: {line}");
+        }
+    }
+    for side in ["A", "B"] {
+        let line = report
+            .iter()
+            .find(|line| line.starts_with(&format!("end {side} ")))
+            .expect("a line of the end");
+        let spent = after(line, "spent");
+        assert_eq!(spent, sent(report, peer(side)), "{what}: {line}");
+        assert_eq!(after(line, "stored"), 0, "{what}: {line}");
+        assert!(
+            2 * (after(line, "granted") - spent) > WINDOW,
+            "{what}: {line}"
+        );
+    }
+}
+
+/// The script plays as without plain rounds, and they lead it to rest. It answers how many directions arrived whole.
+fn comes_to_rest(folder: &Path, what: &str, script: &str) -> usize {
+    fs::write(folder.join("script"), script).expect("a file");
+    let plain = said(folder, &["play", "script"]);
+    let drained = said(folder, &["play", "script", "--drain"]);
+    let plain: Vec<&str> = plain.lines().collect();
+    let drained: Vec<&str> = drained.lines().collect();
+    let played = script.lines().count();
+    assert_eq!(
+        plain[..played],
+        drained[..played],
+        "{what}: the script played otherwise"
+    );
+    assert_eq!(drained.last(), Some(&"at rest"), "{what}");
+    let events = drained.iter().take_while(|line| line.contains(" -> "));
+    let (events, report) = drained.split_at(events.count());
+    let count = Count::of(events);
+    nothing_is_left(what, &count, report);
+    arrived(what, &count)
+}
+
+fn a_folder(name: &str) -> PathBuf {
+    let folder = std::env::temp_dir().join(format!("qstream-{name}-{}", std::process::id()));
+    fs::create_dir_all(&folder).expect("a folder");
+    folder
+}
+
+#[test]
+fn short_scripts_come_to_rest() {
+    let folder = a_folder("short");
+    for (what, parts) in SHORT {
+        let lines = parts.iter().flat_map(|part| part.split(", "));
+        let script: String = lines.map(|line| format!("{line}\n")).collect();
+        comes_to_rest(&folder, what, &script.replace("KB", &"ab".repeat(1024)));
+    }
+    fs::remove_dir_all(&folder).expect("the folder");
+}
+
 #[test]
 fn random_scripts_come_to_rest() {
-    let folder = std::env::temp_dir().join(format!("qstream-drained-{}", std::process::id()));
-    fs::create_dir_all(&folder).expect("a folder");
+    let folder = a_folder("drained");
     let mut whole = 0;
     for seed in 0..SCRIPTS {
-        let what = format!("seed {seed}");
-        fs::write(
-            folder.join("script"),
-            said(&folder, &["random", &seed.to_string(), "500"]),
-        )
-        .expect("a file");
-        let plain = said(&folder, &["play", "script"]);
-        let drained = said(&folder, &["play", "script", "--drain"]);
-        let plain: Vec<&str> = plain.lines().collect();
-        let drained: Vec<&str> = drained.lines().collect();
-        assert_eq!(
-            plain[..500],
-            drained[..500],
-            "{what}: the script played otherwise"
-        );
-        assert_eq!(drained.last(), Some(&"at rest"), "{what}");
-        let events: Vec<&str> = drained
-            .into_iter()
-            .take_while(|line| line.contains(" -> "))
-            .collect();
-        whole += arrived(&what, &events);
+        let script = said(&folder, &["random", &seed.to_string(), "500"]);
+        whole += comes_to_rest(&folder, &format!("seed {seed}"), &script);
     }
     fs::remove_dir_all(&folder).expect("the folder");
     println!("{whole} directions of streams arrived whole");
