@@ -1,4 +1,4 @@
--- Of laws.
+-- Trusted.
 -- Two ends at rest (the whole file is ours, but that each clause names its section of RFC 9000).
 use Rattle.std.specs.Prelude.{◌≡◌, ℕ, true, ⊤, ◌⊎◌, None, Some}
 use Rattle.qs_recv.specs.Lane.{RecvLane, read_answer}

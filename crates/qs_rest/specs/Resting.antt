@@ -1,5 +1,5 @@
--- Of laws.
--- What holds of two ends at rest, in every run.
+-- Trusted.
+-- What holds of two ends at rest, in every run (the whole file is ours, but that each clause names its section of RFC 9000).
 use Rattle.std.specs.Prelude.{◌≡◌, ℕ, ◌+◌, ◌*◌, ◌<◌, ◌≤◌, true, false, ◌⊎◌, None, Some, is_some}
 use Rattle.std.specs.FinMap as fmap
 use Rattle.qs_ranges.specs.Numbers.{MAX_VARINT}
@@ -11,14 +11,13 @@ use Rattle.qs_send.specs.declared.parts.SendState.TheVariants.{DataRecvd, ResetR
 use Rattle.qs_send.specs.declared.piece.Item.{Item}
 use Rattle.qs_calls.specs.declared.settings.Settings.{Settings}
 use Rattle.qs_calls.specs.declared.event.Side.{Side}
-use Rattle.qs_machine.specs.Ends.{End}
+use Rattle.qs_machine.specs.Ends.{End, send_lane, recv_lane}
 use Rattle.qs_machine.specs.Credit.{spent, all_taken, all_stored, all_sent, next_count}
 use Rattle.qs_machine.specs.Due.{IsCurrent, IsAcked, known_count}
 use Rattle.qs_machine.specs.Seen.{Control}
-use Rattle.qs_runs.specs.Logs.{History, other, written, read}
+use Rattle.qs_runs.specs.Logs.{History, other, own_calls, stopped_in, written, read}
 use Rattle.qs_runs.specs.Worlds.{World, end_of, Run}
 use Rattle.qs_runs.specs.Pasts.{past}
-use Rattle.qs_runs.specs.Clauses.{sending, receiving}
 use Rattle.qs_rest.specs.Invariant.{WasTold, ItemTaken}
 use Rattle.qs_rest.specs.Rest.{AtRest}
 
@@ -39,7 +38,7 @@ pub record KnowsItsLimits (h : History) (w : World) (s : Side) : Type 0 where
   -- the limit on the connection (section 4.1)
   pub connection : (end_of w s).known_data ≡ (end_of w (other s)).granted
   -- the limit of each stream of which no final size came (sections 4.1 and 4.5)
-  pub streams : (n : ℕ) (l : SendLane) (r : RecvLane) → sending w s n ≡ Some l → receiving w s n ≡ Some r → r.final_size ≡ None → l.limit ≡ r.limit
+  pub streams : (n : ℕ) (l : SendLane) (r : RecvLane) → send_lane (end_of w s) n ≡ Some l → recv_lane (end_of w (other s)) n ≡ Some r → r.final_size ≡ None → l.limit ≡ r.limit
   -- the counts of streams: the first, and one more for each stream that ended, up to the lifetime's (section 4.6)
   pub counts : (d : Dir) → known_count (end_of w s) d ≡ next_count (end_of w (other s)) d
 
@@ -52,10 +51,10 @@ pub record CreditIsWhole (h : History) (w : World) (s : Side) : Type 0 where
   -- none of it is stored (section 4.1)
   pub none_stored : all_stored (end_of w (other s)) ≡ 0
   -- and so of each stream (sections 4.1 and 4.2)
-  pub streams : (n : ℕ) (l : SendLane) (r : RecvLane) → sending w s n ≡ Some l → receiving w s n ≡ Some r →
+  pub streams : (n : ℕ) (l : SendLane) (r : RecvLane) → send_lane (end_of w s) n ≡ Some l → recv_lane (end_of w (other s)) n ≡ Some r →
       (highest r ≡ l.sent_end) × (taken r ≡ l.sent_end) × (fmap.len r.arrived.stored ≡ 0)
   -- a stream on which anything was sent is open at the other end (section 2.1)
-  pub alone : (n : ℕ) (l : SendLane) → sending w s n ≡ Some l → receiving w s n ≡ None → l.sent_end ≡ 0
+  pub alone : (n : ℕ) (l : SendLane) → send_lane (end_of w s) n ≡ Some l → recv_lane (end_of w (other s)) n ≡ None → l.sent_end ≡ 0
 
 -- more than half of a window lies between what was sent and the limit, and so a byte at least; or the limit is the greatest one (RFC
 -- 9000, sections 4.1 and 4.2)
@@ -67,25 +66,25 @@ pub record HasCreditAhead (h : History) (w : World) (s : Side) : Type 0 where
   -- on the connection (section 4.1)
   pub connection : IsAhead (all_sent (end_of w s)) (end_of w s).known_data (end_of w (other s)).settings.conn_window
   -- and on each stream of which no final size came (sections 4.1 and 4.5)
-  pub streams : (n : ℕ) (l : SendLane) (r : RecvLane) → sending w s n ≡ Some l → receiving w s n ≡ Some r → r.final_size ≡ None → IsAhead l.sent_end l.limit r.arrived.window
+  pub streams : (n : ℕ) (l : SendLane) (r : RecvLane) → send_lane (end_of w s) n ≡ Some l → recv_lane (end_of w (other s)) n ≡ Some r → r.final_size ≡ None → IsAhead l.sent_end l.limit r.arrived.window
 
 -- the stream is reset: Reset Recvd, and Reset Read, or Data Read where all data had come before (RFC 9000, sections 3.1 and 3.2)
 abbrev pub IsResetAtBoth : World → Side → ℕ → Type 0
 IsResetAtBoth w s n =
-    (l : SendLane) × (r : RecvLane) × (sending w s n ≡ Some l) × (receiving w s n ≡ Some r)
+    (l : SendLane) × (r : RecvLane) × (send_lane (end_of w s) n ≡ Some l) × (recv_lane (end_of w (other s)) n ≡ Some r)
     × (send_state l ≡ ResetRecvd) × ((recv_state r ≡ ResetRead) ⊎ (recv_state r ≡ DataRead))
 
 -- the stream is delivered: Data Recvd, and Data Read (RFC 9000, sections 3.1 and 3.2)
 abbrev pub IsReadAtBoth : World → Side → ℕ → Type 0
 IsReadAtBoth w s n =
-    (l : SendLane) × (r : RecvLane) × (sending w s n ≡ Some l) × (receiving w s n ≡ Some r) × (send_state l ≡ DataRecvd) × (recv_state r ≡ DataRead)
+    (l : SendLane) × (r : RecvLane) × (send_lane (end_of w s) n ≡ Some l) × (recv_lane (end_of w (other s)) n ≡ Some r) × (send_state l ≡ DataRecvd) × (recv_state r ≡ DataRead)
 
 -- Resets and stops come to their end at both ends (RFC 9000, sections 3.1, 3.2 and 3.5).
 pub record ResetsAreFinal (h : History) (w : World) (s : Side) : Type 0 where
   -- a stream that was reset (sections 3.1 and 3.2)
-  pub resets : (n : ℕ) (l : SendLane) → sending w s n ≡ Some l → is_some l.was_reset ≡ true → IsResetAtBoth w s n
+  pub resets : (n : ℕ) (l : SendLane) → send_lane (end_of w s) n ≡ Some l → is_some l.was_reset ≡ true → IsResetAtBoth w s n
   -- a stream whose reader stopped: it is reset, or all of it had come before (section 3.5)
-  pub stops : (n : ℕ) (r : RecvLane) → receiving w s n ≡ Some r → is_some r.stop_code ≡ true → IsResetAtBoth w s n ⊎ IsReadAtBoth w s n
+  pub stops : (n : ℕ) (r : RecvLane) → recv_lane (end_of w (other s)) n ≡ Some r → is_some r.stop_code ≡ true → IsResetAtBoth w s n ⊎ IsReadAtBoth w s n
 
 -- fewer bytes were sent than a limit on the connection can ever allow, 2^62-1 (RFC 9000, sections 4.1 and 16)
 abbrev pub HasRoom : World → Side → Type 0
@@ -96,10 +95,10 @@ pub record IsDelivered (h : History) (w : World) (s : Side) (n : ℕ) (l : SendL
   -- no limit holds it back: all that was written was sent (section 4.1)
   pub is_sent : l.sent_end ≡ l.written
   -- and read, unless the reader stopped (section 2.2)
-  pub is_read : (past (other s) h).stopped n ≡ false → read (other s) n h ≡ written s n h
+  pub is_read : stopped_in n (own_calls (other s) h) ≡ false → read (other s) n h ≡ written s n h
   -- and once its owner finished, the end too was acknowledged, and told to the reader (sections 3.1 and 3.2)
   pub is_ended : l.finished ≡ true → IsReadAtBoth w s n
 
 -- each stream that wasn't reset, unless the connection's credit is used up for good (RFC 9000, section 4.1)
 abbrev pub AllIsDelivered : History → World → Side → Type 0
-AllIsDelivered h w s = HasRoom w s → (n : ℕ) (l : SendLane) → sending w s n ≡ Some l → l.was_reset ≡ None → IsDelivered h w s n l
+AllIsDelivered h w s = HasRoom w s → (n : ℕ) (l : SendLane) → send_lane (end_of w s) n ≡ Some l → l.was_reset ≡ None → IsDelivered h w s n l
