@@ -1,5 +1,5 @@
--- Of laws.
--- Laws of one end: what was wanted is told until the peer knows it, and a stop gives back credit.
+-- Trusted.
+-- Laws of one end: what was wanted is told until the peer knows it, what a packet holds asks for an ACK, and a stop gives back credit.
 use Rattle.std.specs.Prelude.{◌≡◌, ℕ, true, ◌⊎◌, List, Some}
 use Rattle.qs_recv.specs.Lane.{RecvLane, highest, taken}
 use Rattle.qs_send.specs.declared.piece.Item.{Item}
@@ -24,7 +24,7 @@ AllButAcksAsk = (old e : End) (f : Seen) → MayPut old e f → ((largest : ℕ)
 abbrev pub GivesBack : End → ℕ → ℕ → Type 0
 GivesBack e n code = (l : RecvLane) × (recv_lane e n ≡ Some l) × (l.stop_code ≡ Some code) × (taken l ≡ highest l)
 
--- whatever comes later
+-- whatever comes later (RFC 9000, section 3.5)
 abbrev pub StopsGiveBack : Type 0
 StopsGiveBack =
     (old : End) (call : Call) (answer : Answer call) (new : End) (n code : ℕ) (l : RecvLane) → EndStep old call answer new →
