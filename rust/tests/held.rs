@@ -1,4 +1,4 @@
-//! What an end keeps of streams that are over, in bytes that its calls took and haven't given back.
+//! What an end keeps of streams, in bytes that its calls took and haven't given back.
 
 use gotsavena::{Dir, Endpoint, Read, Role, Settings, StreamId};
 use std::alloc::{GlobalAlloc, Layout, System};
@@ -104,15 +104,21 @@ fn send(end: &mut Endpoint, stream: StreamId, bytes: &[u8]) {
     end.finish(stream).expect("a stream that is open");
 }
 
-/// A stream that is over keeps at most 1,280 bytes at both ends together, whatever its windows are and whatever it carried.
-#[test]
-fn streams_that_are_over_keep_no_buffers() {
+/// Ends whose streams have the widest windows, and room for 8 of them at once.
+fn wide() -> Two {
     let settings = Settings::default()
         .conn_window(1 << 20)
         .stream_windows(1 << 20)
         .send_buffer(1 << 20)
-        .streams(8, 1000);
-    let mut two = Two::new(settings);
+        .streams(STREAMS as u64, 1000);
+    Two::new(settings)
+}
+
+const STREAMS: usize = 8;
+
+/// A stream that is over keeps at most 1,280 bytes at both ends together, whatever its windows are and whatever it carried.
+fn streams_that_are_over_keep_no_buffers() {
+    let mut two = wide();
     two.exchange();
     let (before, streams) = (live(), 500);
     for _ in 0..streams {
@@ -123,4 +129,60 @@ fn streams_that_are_over_keep_no_buffers() {
         grown < streams * 1280,
         "{grown} bytes for {streams} streams"
     );
+}
+
+/// A byte takes 4,096 bytes, and at most 512 for what is noted of it at both ends, however wide its stream's window is.
+fn a_byte_takes_no_window() {
+    let mut two = wide();
+    let streams: Vec<_> = (0..STREAMS)
+        .map(|_| two.client.open(Dir::Bidi).expect("a stream"))
+        .collect();
+    // The frame of the last one opens them all.
+    let (last, others) = streams.split_last().expect("some streams");
+    assert_eq!(two.client.write(*last, &[7]), Ok(1));
+    two.settle();
+    let before = live();
+    for stream in others {
+        assert_eq!(two.client.write(*stream, &[7]), Ok(1));
+        two.settle();
+    }
+    let grown = live().saturating_sub(before);
+    assert!(
+        grown <= others.len() * (4096 + 512),
+        "{grown} bytes for {} of a peer",
+        others.len()
+    );
+}
+
+/// A ring that grew keeps the bytes in it, and goes once all are read.
+fn a_ring_follows_its_span() {
+    let mut two = wide();
+    let stream = two.client.open(Dir::Bidi).expect("a stream");
+    let sent: Vec<u8> = (0..300_000u32).map(|n| (n % 251) as u8).collect();
+    let (mut read, mut bytes) = (Vec::with_capacity(sent.len()), [0; 7000]);
+    for piece in sent.chunks(60_000) {
+        assert_eq!(two.client.write(stream, piece), Ok(piece.len()));
+        two.settle();
+        // Some are left each time, so that the ring goes round.
+        for _ in 0..6 {
+            let Read::Bytes(count) = two.server.read(stream, &mut bytes).expect("a stream") else {
+                panic!("bytes are there");
+            };
+            read.extend_from_slice(&bytes[..count]);
+        }
+        two.settle();
+    }
+    let before = live();
+    while let Read::Bytes(count) = two.server.read(stream, &mut bytes).expect("a stream") {
+        read.extend_from_slice(&bytes[..count]);
+    }
+    assert_eq!(read, sent);
+    assert!(live() + (1 << 16) <= before, "a ring stays");
+}
+
+#[test]
+fn what_streams_hold() {
+    streams_that_are_over_keep_no_buffers();
+    a_byte_takes_no_window();
+    a_ring_follows_its_span();
 }

@@ -5,8 +5,8 @@ pub mod LawfulLaws
 pub mod NewsLaws
 pub mod ReadLaws
 pub mod RingCount
-pub mod RingEmpty
 pub mod RingLaws
+pub mod RingMoved
 pub mod RingPlaces
 pub mod SameAgain
 pub mod SameLaws

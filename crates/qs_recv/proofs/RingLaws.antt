@@ -4,8 +4,9 @@
 --     front_next, rest_next       what a read copies out and leaves
 --     IsPut       the ring before a put, with its memory taken, and with the bytes in its gaps
 --     put_stored, put_unseen       what a put stores, and that nothing shows before the offsets are noted
-use Rattle.std.specs.Prelude.{◌≡◌, ℕ, ◌+◌, ◌-◌, ◌%◌, ◌^◌, ◌<◌, ◌≤◌, zero, suc, Bool, true, false, not, cond, if◌then◌else◌, ◌&&◌, ◌||◌, max, min, nat_eq, nat_le, nat_lt, List, [], ◌++◌, length, take, drop, slice_get, slice_index, Option, None, Some, is_some, Result, Ok, Err, OnOk, OnErr, refl}
+use Rattle.std.specs.Prelude.{◌≡◌, ℕ, ◌+◌, ◌-◌, ◌/◌, ◌%◌, ◌^◌, ◌<◌, ◌≤◌, zero, suc, Bool, true, false, not, cond, if◌then◌else◌, ◌&&◌, ◌||◌, max, min, nat_eq, nat_le, nat_lt, List, [], ◌++◌, length, take, drop, slice_get, slice_index, Option, None, Some, is_some, Result, Ok, Err, OnOk, OnErr, refl}
 use Rattle.std.proofs.Common.{sym, ◌∙◌, ap, arith, inl, inr}
+use Rattle.std.specs.Int.{IsPowerOfTwo}
 use Rattle.std.specs.Ordering.{nat_cmp}
 use Rattle.std.specs.Cmp.{nat_cmp_total}
 use Rattle.std.specs.FinMap as map
@@ -17,10 +18,10 @@ use Rattle.std.proofs.lemmas.List.{drop_all, length-take, take_all}
 use Rattle.std.proofs.lemmas.Option.{slice_get-get_or}
 use Rattle.qs_ranges.specs.Numbers.{NumberSet, ContainsRange, IsLeastMissingFrom, covers, is_within}
 use Rattle.qs_ranges.proofs.Algebra.{with_range-covered}
-use Rattle.qs_ranges.proofs.Sets.{covers-is}
+use Rattle.qs_ranges.proofs.Sets.{below-end_of, covers-is, end_of-union}
 use Rattle.qs_recv.specs.Assembled.{Assembled, front, keep_from, put, store, take_front}
 use Rattle.qs_recv.specs.Bytes.{byte_at}
-use Rattle.qs_recv.specs.Ring.{IsFilled, IsRing, missing_count, ring_bytes}
+use Rattle.qs_recv.specs.Ring.{IsFilled, IsRing, IsSized, IsSizeFor, missing_count, ring_bytes, stored_in_ring}
 use Rattle.qs_recv.proofs.AssembledLaws.{is_in_run, with_run, contains-with_run, get-insert_nat, get-keep_from, get-store}
 use Rattle.qs_recv.proofs.ReadLaws.{append_nil, front_none, front_of_bytes, front-more, take_done, take_nothing}
 use Rattle.qs_recv.proofs.RingCount.{missing_all, missing_none, missing_parts, missing_same, missing_small}
@@ -71,23 +72,21 @@ empty_ring ring w from n =
     ∙ ap (λ b. cond b (Some (slice_index ring (q % w))) None) (and_right (is_in_run q from n) (set.contains set.empty q) (set.contains-empty nat_cmp q))
     ∙ sym (map.get-empty nat_cmp q))
 
-pub new_ring : (w : ℕ) → 1 ≤ w → w ≤ 2 ^ 20 → IsRing [] set.empty w 0 0 false
-new_ring w some small =
+pub new_ring : IsRing [] set.empty 0 0 0 false
+new_ring =
     record {
-      some_window = some;
-      small_window = small;
+      small_window = omega arith;
       small_count = omega arith;
       read_came = λ q below. absurd (omega arith);
       came_within = λ _ q came. absurd (both_ways _ (set.contains-empty nat_cmp q) came);
       held = λ _ q past came. absurd (both_ways _ (set.contains-empty nat_cmp q) came);
-      counted = sym (ap map.len (empty_ring [] w 0 w) ∙ map.len-empty nat_cmp ℕ);
+      counted = sym (ap map.len (empty_ring [] 0 0 0) ∙ map.len-empty nat_cmp ℕ);
     }
 
-pub thrown_away : (ring none : List ℕ) (r : NumberSet) (w from stored : ℕ) (off : Bool) → IsRing ring r w from stored off → IsRing none r w from 0 true
-thrown_away ring none r w from stored off h =
+pub thrown_away : (ring none : List ℕ) (r : NumberSet) (w from stored : ℕ) (off : Bool) → IsRing ring r w from stored off → none ≡ [] → IsRing none r (length none) from 0 true
+thrown_away ring none r w from stored off h is =
     record {
-      some_window = h.some_window;
-      small_window = h.small_window;
+      small_window = rw is (omega arith);
       small_count = h.small_count;
       read_came = h.read_came;
       came_within = λ on. absurd (both_ways true on refl);
@@ -122,7 +121,6 @@ pub ring_read : (r : NumberSet) (ring : List ℕ) (w from n stored : ℕ) → Is
 ring_read r ring w from n stored h came small =
     let within = next_within r ring w from n stored h came in
     record {
-      some_window = h.some_window;
       small_window = h.small_window;
       small_count = small;
       read_came = λ q below. elim (cases_lt q from) [ inl old ↦ h.read_came q old | inr new ↦ came q new below ];
@@ -203,12 +201,12 @@ front_next r ring lent into out w from next n stored h least is lent_is same cop
     let stops = front_stops r ring w from n (length into) (omega arith) (ap length out_is ∙ len) (λ more. let e : from + n ≡ next = omega (arith, f) in ap (set.contains r) e ∙ least.missing) in
     (out_is, stops ∙ out_is, len)
 
-pub rest_next : (r : NumberSet) (ring out : List ℕ) (w from room n stored : ℕ) → IsRing ring r w from stored false
+pub rest_next : (r : NumberSet) (ring out : List ℕ) (w window from room n stored : ℕ) → IsRing ring r w from stored false
     → (front (ring_bytes r ring w from w) from n ≡ out) × (front (ring_bytes r ring w from w) from room ≡ out) × (length out ≡ n)
-    → (let a : Assembled = record { stored = ring_bytes r ring w from w; received = r; read_count = from; window = w; discarding = false } in
+    → (let a : Assembled = record { stored = ring_bytes r ring w from w; received = r; read_count = from; window = window; discarding = false } in
     record a { stored = ring_bytes r ring w (from + n) w; read_count = from + n } ≡ take_front a room)
-rest_next r ring out w from room n stored h fronts =
-    let a : Assembled = record { stored = ring_bytes r ring w from w; received = r; read_count = from; window = w; discarding = false } in
+rest_next r ring out w window from room n stored h fronts =
+    let a : Assembled = record { stored = ring_bytes r ring w from w; received = r; read_count = from; window = window; discarding = false } in
     ap (λ m. record a { stored = m; read_count = from + n }) (sym (ring_advanced r ring w from n stored h))
     ∙ take_done a n room (ap length fronts.0 ∙ fronts.2) (fronts.1 ∙ sym fronts.0)
 
@@ -292,17 +290,17 @@ pub record IsPut (r : NumberSet) (w from stored offset first : ℕ) (bytes ring 
   pub same_len : length new ≡ length lent
   pub filled : IsFilled r first (offset + length bytes) offset bytes lent new
 
-pub is_put : (r : NumberSet) (w from stored offset start first : ℕ) (off : Bool) (bytes ring held lent new : List ℕ) → off ≡ false → IsRing ring r w from stored off
-    → start ≡ max offset from → IsLeastMissingFrom r start first → first < offset + length bytes → offset + length bytes ≤ from + w → length held ≡ w → (length ring ≡ w → held ≡ ring)
-    → lent ≡ held → length new ≡ length lent → IsFilled r first (offset + length bytes) offset bytes lent new → IsPut r w from stored offset first bytes ring lent new
-is_put r w from stored offset start first off bytes ring held lent new on was start_is least some fits size kept lent_is same filled =
+pub is_put : (r : NumberSet) (from stored offset start first : ℕ) (bytes ring new : List ℕ) → IsRing ring r (length ring) from stored false
+    → start ≡ max offset from → IsLeastMissingFrom r start first → first < offset + length bytes → offset + length bytes ≤ from + length ring
+    → length new ≡ length ring → IsFilled r first (offset + length bytes) offset bytes ring new → IsPut r (length ring) from stored offset first bytes ring ring new
+is_put r from stored offset start first bytes ring new was start_is least some fits same filled =
     record {
-      was = rw on at was;
+      was = was;
       least = rw start_is at least;
       some = some;
       fits = fits;
-      size = ap length lent_is ∙ size;
-      kept = λ full. lent_is ∙ kept full;
+      size = refl;
+      kept = λ _. refl;
       same_len = same;
       filled = filled;
     }
@@ -425,7 +423,6 @@ ring_put r w from stored offset first count bytes ring lent new p is =
     let s = with_run r offset (length bytes) in
     let fits = p.fits in
     record {
-      some_window = p.was.some_window;
       small_window = p.was.small_window;
       small_count = p.was.small_count;
       read_came = λ q below. contains-with_run r offset (length bytes) q ∙ or_left (set.contains r q) (is_in_run q offset (length bytes)) (p.was.read_came q below);
@@ -446,7 +443,6 @@ ring_put r w from stored offset first count bytes ring lent new p is =
 pub ring_unseen : (r : NumberSet) (w from stored offset first : ℕ) (bytes ring lent new : List ℕ) → IsPut r w from stored offset first bytes ring lent new → IsRing new r w from stored false
 ring_unseen r w from stored offset first bytes ring lent new p =
     record {
-      some_window = p.was.some_window;
       small_window = p.was.small_window;
       small_count = p.was.small_count;
       read_came = p.was.read_came;
@@ -457,6 +453,10 @@ ring_unseen r w from stored offset first bytes ring lent new p =
 
 pub stored_within : (r : NumberSet) (ring : List ℕ) (w from stored : ℕ) → IsRing ring r w from stored false → stored ≤ w
 stored_within r ring w from stored h = let all = len-ring r ring w from w in let counted = h.counted in omega (arith, all, counted)
+
+pub stored_fits : (r : NumberSet) (ring : List ℕ) (w from : ℕ) (off : Bool) → map.len (stored_in_ring r ring w from off) ≤ w
+stored_fits r ring w from true = let none = map.len-empty nat_cmp ℕ in omega (arith, none)
+stored_fits r ring w from false = let all = len-ring r ring w from w in omega (arith, all)
 
 -- a vector whose whole slice was written
 pub vec_written : (n : ℕ) (old new : List ℕ) → length new ≡ length old → length old ≡ n → take n (new ++ drop (length new) old) ≡ new
@@ -470,7 +470,6 @@ pub ring_noted : {T E : Type 0} (res : Result T E) (ring : List ℕ) (old new : 
     → OnOk res (new ≡ with_run old offset n) → OnErr res (new ≡ old) → IsRing ring old w from stored true → IsRing ring new w from stored true
 ring_noted (Ok x) ring old new w from stored offset n ok err h =
     record {
-      some_window = h.some_window;
       small_window = h.small_window;
       small_count = h.small_count;
       read_came = λ q below. ap (λ s. set.contains s q) ok ∙ contains-with_run old offset n q ∙ or_left (set.contains old q) (is_in_run q offset n) (h.read_came q below);
@@ -480,7 +479,101 @@ ring_noted (Ok x) ring old new w from stored offset n ok err h =
     }
 ring_noted (Err e) ring old new w from stored offset n ok err h = rw err h
 
--- the ring is there once an offset came that wasn't read
-pub ring_there : {P : Type 0} (ring : List ℕ) (received : NumberSet) (window read_count stored : ℕ) (discarding : Bool) → discarding ≡ false → IsRing ring received window read_count stored discarding → length ring < window
-    → (q : ℕ) → read_count ≤ q → set.contains received q ≡ true → P
-ring_there ring received window read_count stored discarding keeps h less q ge came = let is = h.held keeps q ge came in absurd (omega (arith, less, is))
+-- a ring in which a byte is stored reaches as far as that
+pub ring_reaches : {P : Type 0} (r : NumberSet) (ring : List ℕ) (w from stored end : ℕ) (off : Bool) → off ≡ false → IsRing ring r w from stored off → w < end - from
+    → (q : ℕ) → from ≤ q → end ≤ q + 1 → set.contains r q ≡ true → P
+ring_reaches r ring w from stored end off on h past q low high came = let near = h.came_within on q came in absurd (omega (arith, near, past))
+
+-- A put that was done, and one that was refused, over the ring as long as it is
+
+pub put_ring : (r : NumberSet) (from stored offset first count : ℕ) (bytes ring new : List ℕ) → IsPut r (length ring) from stored offset first bytes ring ring new
+    → count ≡ missing_count r first (offset + length bytes - first) → IsRing new (with_run r offset (length bytes)) (length new) from (stored + count) false
+put_ring r from stored offset first count bytes ring new p is =
+    rw (p.same_len) (ring_put r (length ring) from stored offset first count bytes ring ring new p is)
+
+pub put_view : (r : NumberSet) (from stored offset first : ℕ) (bytes ring new : List ℕ) → IsPut r (length ring) from stored offset first bytes ring ring new
+    → ring_bytes (with_run r offset (length bytes)) new (length new) from (length new) ≡ store r (ring_bytes r ring (length ring) from (length ring)) offset bytes
+put_view r from stored offset first bytes ring new p = rw (p.same_len) (put_stored r (length ring) from stored offset first bytes ring ring new p)
+
+pub refused_ring : (r : NumberSet) (from stored offset first : ℕ) (bytes ring new : List ℕ) → IsPut r (length ring) from stored offset first bytes ring ring new → IsRing new r (length new) from stored false
+refused_ring r from stored offset first bytes ring new p = rw (p.same_len) (ring_unseen r (length ring) from stored offset first bytes ring ring new p)
+
+pub refused_view : (r : NumberSet) (from stored offset first : ℕ) (bytes ring new : List ℕ) → IsPut r (length ring) from stored offset first bytes ring ring new
+    → ring_bytes r new (length new) from (length new) ≡ ring_bytes r ring (length ring) from (length ring)
+refused_view r from stored offset first bytes ring new p = rw (p.same_len) (put_unseen r (length ring) from stored offset first bytes ring ring new p)
+
+-- How large it is
+
+pub size_fits : (span window power least size : ℕ) → IsPowerOfTwo power → span ≤ power → power / 2 < max 1 span → least ≡ max power 4096 → size ≡ min least window → span ≤ window → IsSizeFor span window size
+size_fits span window power least size two reaches near least_is size_is fits =
+    record {
+      reaches = omega (arith, reaches, least_is, size_is, fits);
+      within = omega (arith, size_is);
+      bound = omega (arith, near, least_is, size_is);
+      power =
+          elim (cases_lt window least) [
+            | inl capped ↦ inr (omega (arith, size_is, capped))
+            | inr whole ↦ elim (cases_lt 4096 power) [
+              | inl more ↦ inl (two.0, (let same : size ≡ power = omega (arith, least_is, size_is, whole, more) in same) ∙ two.1)
+              | inr few ↦ inl (12, (let same : size ≡ 4096 = omega (arith, least_is, size_is, whole, few) in same))
+            ]
+          ];
+    }
+
+pub sized_empty : (r : NumberSet) (stored window : ℕ) → window ≤ 2 ^ 20 → IsSized r 0 stored window
+sized_empty r stored window small = record { small_window = small; within = omega arith; bound = omega arith; idle = λ none. omega arith }
+
+pub sized_same : (r : NumberSet) (size new stored window : ℕ) → IsSized r size stored window → new ≡ size → IsSized r new stored window
+sized_same r size new stored window h is =
+    let bound = h.bound in
+    let within = h.within in
+    record { small_window = h.small_window; within = omega (arith, within, is); bound = omega (arith, bound, is); idle = λ none. (let idle = h.idle none in omega (arith, idle, is)) }
+
+pub sized_more : (r s : NumberSet) (size new stored count window : ℕ) → IsSized r size stored window → new ≡ size → IsSized (set.union r s) new (stored + count) window
+sized_more r s size new stored count window h is =
+    let ends = end_of-union r s in
+    let bound = h.bound in
+    let within = h.within in
+    record {
+      small_window = h.small_window;
+      within = omega (arith, within, is);
+      bound = omega (arith, bound, ends, is);
+      idle = λ none. (let idle = h.idle (omega (arith, none)) in omega (arith, idle, is));
+    }
+
+-- some byte is new
+count_some : (r : NumberSet) (first n : ℕ) → set.contains r first ≡ false → 0 < n → 1 ≤ missing_count r first n
+count_some r first n missing some =
+    let e : n ≡ 1 + (n - 1) = omega (arith, some) in
+    let parts = ap (missing_count r first) e ∙ missing_parts r first 1 (n - 1) in
+    let one = missing_all r first 1 (λ q low high. (let same : q ≡ first = omega arith in ap (set.contains r) same ∙ missing)) in
+    omega (arith, parts, one)
+
+pub sized_grown : (r : NumberSet) (offset n from first size new stored count window : ℕ) → IsSizeFor (offset + n - from) window size → IsLeastMissingFrom r (max offset from) first → first < offset + n → 0 < n → window ≤ 2 ^ 20 → new ≡ size
+    → count ≡ missing_count r first (offset + n - first) → IsSized (with_run r offset n) new (stored + count) window
+sized_grown r offset n from first size new stored count window h least below some small is count_is =
+    let bound = h.bound in
+    let within = h.within in
+    let last : set.contains (with_run r offset n) (offset + n - 1) ≡ true =
+    contains-with_run r offset n (offset + n - 1) ∙ or_right (set.contains r (offset + n - 1)) (is_in_run (offset + n - 1) offset n) (grind (arith, nat_tests)) in
+    let ends = below-end_of (with_run r offset n) (offset + n - 1) last in
+    let new_one = count_some r first (offset + n - first) least.missing (omega (arith, below)) in
+    record {
+      small_window = small;
+      within = omega (arith, within, is);
+      bound = omega (arith, bound, ends, is, some);
+      idle = λ none. absurd (omega (arith, none, new_one, count_is));
+    }
+
+pub sized_noted : {T E : Type 0} (res : Result T E) (old new : NumberSet) (size stored window offset n : ℕ) → OnOk res (new ≡ with_run old offset n) → OnErr res (new ≡ old) → IsSized old size stored window → IsSized new size stored window
+sized_noted (Ok x) old new size stored window offset n ok err h =
+    let same : stored + 0 ≡ stored = omega arith in
+    rw (ok, ← same) (sized_more old _ size size stored 0 window h refl)
+sized_noted (Err e) old new size stored window offset n ok err h = rw err h
+
+-- a ring after a read, which is given back where nothing is left and it is large
+pub sized_read : (r : NumberSet) (size new stored less window : ℕ) → IsSized r size stored window → new ≤ size → (less ≡ 0 → new ≤ 4096) → IsSized r new less window
+sized_read r size new stored less window h fewer idle =
+    let bound = h.bound in
+    let within = h.within in
+    record { small_window = h.small_window; within = omega (arith, within, fewer); bound = omega (arith, bound, fewer); idle = idle }

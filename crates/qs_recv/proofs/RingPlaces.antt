@@ -2,6 +2,7 @@
 --     places       how the places of two offsets lie to each other
 --     written_..   bytes written in one piece, and in two
 --     out_..       bytes copied out in one piece, and in two
+--     moved_whole      a whole ring in a larger one
 --     filled_..    bytes written into the gaps one after another
 use Rattle.std.specs.Prelude.{◌≡◌, ℕ, ◌+◌, ◌-◌, ◌*◌, ◌/◌, ◌%◌, ◌<◌, ◌≤◌, Bool, true, false, not, ◌&&◌, if◌then◌else◌, List, length, take, drop, slice_index, refl, ◌⊎◌}
 use Rattle.std.proofs.Common.{sym, ◌∙◌, ap, arith, inl, inr, length-drop}
@@ -12,7 +13,7 @@ use Rattle.std.specs.FinSet as set
 use Rattle.std.proofs.lemmas.Bool.{cases_lt, cases_order}
 use Rattle.std.proofs.lemmas.Bool.Decides.{nat_tests}
 use Rattle.qs_ranges.specs.Numbers.{NumberSet, is_within}
-use Rattle.qs_recv.specs.Ring.{IsFilled, IsNextRun, IsWritten}
+use Rattle.qs_recv.specs.Ring.{IsFilled, IsMoved, IsNextRun, IsWritten}
 
 -- one turn more, or several
 one_turn : (w a b : ℕ) → a < b → w * a + w ≤ w * b
@@ -167,6 +168,43 @@ out_twice at n room ring into mid out pos fits rest more mid_is out_is k h =
           out_is k
           ∙ ap (λ t. if t then slice_index (take (n - room) ring) (k - room) else slice_index mid k) a
           ∙ get_or-take (n - room) ring (k - room) 0 (omega arith) ∙ ap (slice_index ring) place
+    ]
+
+-- A whole ring, written into a larger one from an offset on
+
+pub moved_whole : (from : ℕ) (ring front back old mid new : List ℕ) → 0 < length ring → length ring ≤ length old
+    → front ≡ take (from % length ring) ring → back ≡ drop (from % length ring) ring → length front ≡ from % length ring → length back + from % length ring ≡ length ring
+    → length mid ≡ length old → length new ≡ length mid → IsWritten from back old mid → IsWritten (from + length back) front mid new → IsMoved from ring new
+moved_whole from ring front back old mid new pos fits front_is back_is front_len back_len same more first second q low high =
+    let p = from % length ring in
+    let i = q - from in
+    let at : from + i ≡ q = omega arith in
+    let turn = place_past from i (length ring) pos (omega arith) in
+    let size : length new ≡ length old = more ∙ same in
+    elim (cases_lt i (length back)) [
+      | inl here ↦
+          let out : is_within (from + length back) (from + length back + length front) q ≡ false = grind (arith, nat_tests) in
+          let within : is_within from (from + length back) q ≡ true = grind (arith, nat_tests) in
+          let place : p + i ≡ (from + i) % length ring =
+          elim turn [ inl plain ↦ sym plain | inr later ↦ absurd (omega (arith, later, back_len, here)) ] in
+          ap (λ n. slice_index new (q % n)) more
+          ∙ second q (omega (arith, front_len, back_len, same, fits)) (omega (arith, same, fits, here))
+          ∙ ap (λ t. if t then slice_index front (q - (from + length back)) else slice_index mid (q % length mid)) out
+          ∙ ap (λ n. slice_index mid (q % n)) same
+          ∙ first q (omega (arith, back_len, fits)) (omega (arith, here, back_len, fits))
+          ∙ ap (λ t. if t then slice_index back (q - from) else slice_index old (q % length old)) within
+          ∙ ap (λ xs. slice_index xs (q - from)) back_is ∙ get_or-drop p ring (q - from) 0
+          ∙ ap (slice_index ring) (place ∙ ap (λ n. n % length ring) at)
+      | inr there ↦
+          let j = q - (from + length back) in
+          let within : is_within (from + length back) (from + length back + length front) q ≡ true = grind (arith, nat_tests) in
+          let place : j ≡ (from + i) % length ring =
+          elim turn [ inl plain ↦ (let b = mod_below (from + i) (length ring) pos in absurd (omega (arith, b, plain, back_len, there))) | inr later ↦ omega (arith, later, back_len, there) ] in
+          ap (λ n. slice_index new (q % n)) more
+          ∙ second q (omega (arith, front_len, back_len, same, fits)) (omega (arith, same, fits, front_len, back_len))
+          ∙ ap (λ t. if t then slice_index front j else slice_index mid (q % length mid)) within
+          ∙ ap (λ xs. slice_index xs j) front_is ∙ get_or-take p ring j 0 (omega (arith, front_len, back_len, there))
+          ∙ ap (slice_index ring) (place ∙ ap (λ n. n % length ring) at)
     ]
 
 -- Gap after gap

@@ -1,16 +1,18 @@
 -- Of private contracts.
 -- Bytes kept in a ring, and the map of bytes that they stand for. The byte of an offset stands at the offset modulo the ring's size.
 --     ring_bytes, stored_in_ring      each byte under its offset
---     IsRing       what holds of a ring assembly's fields at all times
+--     IsRing, IsSized       what holds of a ring assembly's fields at all times
+--     IsSizeFor, IsMoved      a ring that grew
 --     missing_count      how many offsets didn't come
 --     IsNextRun      where the next offsets that came begin, and where they end
 --     IsInRing       bytes that stand at their places, as far as their offsets came
 --     IsWritten, IsFilled       what the places have after bytes were written
-use Rattle.std.specs.Prelude.{◌≡◌, ℕ, ◌+◌, ◌-◌, ◌%◌, ◌^◌, ◌<◌, ◌≤◌, zero, suc, Bool, true, false, not, ◌&&◌, if◌then◌else◌, List, length, slice_index}
+use Rattle.std.specs.Prelude.{◌≡◌, ℕ, ◌+◌, ◌-◌, ◌*◌, ◌%◌, ◌^◌, ◌⊎◌, max, ◌<◌, ◌≤◌, zero, suc, Bool, true, false, not, ◌&&◌, if◌then◌else◌, List, length, slice_index}
+use Rattle.std.specs.Int.{IsPowerOfTwo}
 use Rattle.std.specs.Ordering.{nat_cmp}
 use Rattle.std.specs.FinMap as map
 use Rattle.std.specs.FinSet as set
-use Rattle.qs_ranges.specs.Numbers.{NumberSet, ContainsRange, MissesRange, is_within}
+use Rattle.qs_ranges.specs.Numbers.{NumberSet, ContainsRange, MissesRange, is_within, end_of}
 
 -- the bytes of those of the n offsets from `from` on that came, each at its place in the ring
 unfoldable pub ring_bytes : NumberSet → List ℕ → ℕ → ℕ → ℕ → map.FinMap nat_cmp ℕ
@@ -20,21 +22,38 @@ ring_bytes received ring window from (suc n) =
     then map.insert (ring_bytes received ring window from n) (from + n) (slice_index ring ((from + n) % window))
     else ring_bytes received ring window from n
 
--- the bytes of one window past what was read, and none where bytes are thrown away
+-- the bytes of one ring past what was read, and none where bytes are thrown away
 abbrev pub stored_in_ring : NumberSet → List ℕ → ℕ → ℕ → Bool → map.FinMap nat_cmp ℕ
-stored_in_ring received ring window read_count discarding =
-    if discarding then map.empty else ring_bytes received ring window read_count window
+stored_in_ring received ring size read_count discarding =
+    if discarding then map.empty else ring_bytes received ring size read_count size
 
--- what was read came; until bytes are thrown away, what came lies below the window's end, and the ring has its size where some of it
--- wasn't read; and the stored bytes are counted
-pub record IsRing (ring : List ℕ) (received : NumberSet) (window read_count stored : ℕ) (discarding : Bool) : Type 0 where
-  pub some_window : 1 ≤ window
-  pub small_window : window ≤ 2 ^ 20
+-- what was read came; until bytes are thrown away, what came lies within the ring's size past it, and the ring has that size where
+-- some of it wasn't read; and the stored bytes are counted
+pub record IsRing (ring : List ℕ) (received : NumberSet) (size read_count stored : ℕ) (discarding : Bool) : Type 0 where
+  pub small_window : size ≤ 2 ^ 20
   pub small_count : read_count ≤ 2 ^ 62
   pub read_came : (q : ℕ) → q < read_count → set.contains received q ≡ true
-  pub came_within : discarding ≡ false → (q : ℕ) → set.contains received q ≡ true → q < read_count + window
-  pub held : discarding ≡ false → (q : ℕ) → read_count ≤ q → set.contains received q ≡ true → length ring ≡ window
-  pub counted : stored ≡ map.len (stored_in_ring received ring window read_count discarding)
+  pub came_within : discarding ≡ false → (q : ℕ) → set.contains received q ≡ true → q < read_count + size
+  pub held : discarding ≡ false → (q : ℕ) → read_count ≤ q → set.contains received q ≡ true → length ring ≡ size
+  pub counted : stored ≡ map.len (stored_in_ring received ring size read_count discarding)
+
+-- a ring is no larger than the window, and where it has more than 4,096 bytes, no larger than twice all that came, and some are stored
+pub record IsSized (received : NumberSet) (size stored window : ℕ) : Type 0 where
+  pub small_window : window ≤ 2 ^ 20
+  pub within : size ≤ window
+  pub bound : size ≤ max 4096 (2 * end_of received)
+  pub idle : stored ≡ 0 → size ≤ 4096
+
+-- the size of a ring that reaches so far: a power of two, or the window
+pub record IsSizeFor (span window size : ℕ) : Type 0 where
+  pub reaches : span ≤ size
+  pub within : size ≤ window
+  pub bound : size ≤ max 4096 (2 * span)
+  pub power : IsPowerOfTwo size ⊎ (size ≡ window)
+
+-- a ring of another size has the byte of each offset from `from` on, as far as the old one reaches
+abbrev pub IsMoved : ℕ → List ℕ → List ℕ → Type 0
+IsMoved from old new = (q : ℕ) → from ≤ q → q < from + length old → slice_index new (q % length new) ≡ slice_index old (q % length old)
 
 -- how many of the n offsets from `from` on didn't come
 unfoldable pub missing_count : NumberSet → ℕ → ℕ → ℕ

@@ -1,8 +1,8 @@
 //! What an assembly of arrived bytes promises, however it keeps them (RFC 9000, section 2.2).
-ghost use Rattle.std.specs.Prelude.{◌≡◌, ◌+◌, ◌-◌, ◌≤◌, ◌^◌, ◌++◌, length, drop, true, false, OnOk, OnErr};
+ghost use Rattle.std.specs.Prelude.{◌≡◌, ◌+◌, ◌-◌, ◌*◌, ◌≤◌, ◌^◌, ◌++◌, max, length, drop, true, false, OnOk, OnErr};
 ghost use Rattle.std.specs.FinMap as map;
 ghost use Rattle.qs_recv.specs.Assembled.{Assembled, nothing_yet, put, take_front, front_of, discard, same};
-ghost use Rattle.qs_ranges.specs.Numbers.{MAX_VARINT, MissesRange, covers};
+ghost use Rattle.qs_ranges.specs.Numbers.{MAX_VARINT, MissesRange, covers, end_of};
 
 use qs_ranges::{NoMemory, RangeSet};
 use std::alloc::Global;
@@ -55,6 +55,12 @@ pub trait Assembly: Drop {
     /// How many bytes are stored.
     fn stored(&self) -> u64
         ensures { result ≡ map.len (holds self.now).stored };
+
+    /// How many bytes of memory are taken to store some, as the assembly counts them: no more than 4,096 where none is stored.
+    fn held(&self) -> u64
+        ensures room { map.len (holds self.now).stored ≤ result }
+        ensures bound { result ≤ max 4096 (2 * end_of (holds self.now).received) }
+        ensures idle { map.len (holds self.now).stored ≡ 0 → result ≤ 4096 };
 
     /// Every offset that came.
     fn received(&self) -> &RangeSet

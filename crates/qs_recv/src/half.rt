@@ -1,5 +1,5 @@
 //! The receiving half of a stream (RFC 9000, sections 2.2, 3.2, 3.5 and 4).
-ghost use Rattle.std.specs.Prelude.{if◌then◌else◌, ◌==◌, max, ◌≡◌, ◌+◌, ◌-◌, ◌≤◌, ◌^◌, ◌++◌, length, drop, IsOk, IfOk, OnOk, OnErr, IfErr, IsTrue, is_some, false, None};
+ghost use Rattle.std.specs.Prelude.{if◌then◌else◌, ◌==◌, max, ◌≡◌, ◌+◌, ◌-◌, ◌*◌, ◌≤◌, ◌^◌, ◌++◌, length, drop, IsOk, IfOk, OnOk, OnErr, IfErr, IsTrue, is_some, false, None};
 ghost use Rattle.std.specs.FinMap as map;
 ghost use Rattle.qs_ranges.specs.Numbers.{MAX_VARINT, MissesRange, covers};
 ghost use Rattle.qs_recv.specs.Lawful.{IsLawful};
@@ -346,6 +346,16 @@ impl<A: Assembly> RecvHalf<A> {
         ensures within { result + taken self.now ≤ highest self.now }
     {
         self.assembly.stored()
+    }
+
+    /// How many bytes of memory are taken to store some, as the assembly counts them: at most 4,096, or while some are stored
+    /// twice the highest offset.
+    pub fn held(&self) -> u64
+        ensures room { map.len self.now.arrived.stored ≤ result }
+        ensures bound { result ≤ max 4096 (2 * highest self.now) }
+        ensures idle { map.len self.now.arrived.stored ≡ 0 → result ≤ 4096 }
+    {
+        self.assembly.held()
     }
 
     /// How many bytes were read.

@@ -1,17 +1,22 @@
-//! An assembly that keeps what came in one ring: the byte of an offset stands at the offset modulo the window.
-ghost use Rattle.std.specs.Prelude.{◌≡◌, if◌then◌else◌, ℕ, ◌+◌, ◌-◌, ◌%◌, ◌<◌, ◌≤◌, ◌^◌, length, slice_index, true, false, IsTrue, ◌↔◌, OnOk, OnErr};
+//! An assembly that keeps what came in one ring: the byte of an offset stands at the offset modulo the ring's size.
+ghost use Rattle.std.specs.Prelude.{◌≡◌, if◌then◌else◌, ℕ, ◌+◌, ◌-◌, ◌*◌, ◌%◌, ◌<◌, ◌≤◌, ◌^◌, ◌⊎◌, [], max, length, slice_index, true, false, IsTrue, ◌↔◌, OnOk, OnErr, IfOk};
 ghost use Rattle.std.specs.FinSet as set;
-ghost use Rattle.qs_ranges.specs.Numbers.{MAX_VARINT, MissesRange, covers, is_within};
+ghost use Rattle.qs_ranges.specs.Numbers.{MAX_VARINT, MissesRange, covers, is_within, numbers};
 ghost use Rattle.qs_recv.specs.Assembled.{put};
-ghost use Rattle.qs_recv.specs.Ring.{AreAt, IsFilled, IsInRing, IsNextRun, IsWritten, missing_count};
+ghost use Rattle.qs_recv.specs.Ring.{AreAt, IsFilled, IsInRing, IsMoved, IsNextRun, IsSizeFor, IsWritten, missing_count};
 
 use crate::assembly::Assembly;
 use qs_ranges::{NoMemory, RangeSet};
 use std::alloc::Global;
 use std::marker::Model;
 
-/// A ring of window size, beside the set of every offset that came. Its memory is taken for the first byte that is
-/// stored, and given back where bytes are thrown away, and once all was read if that is asked for.
+// A smaller ring isn't worth a growth.
+const LEAST_SIZE: u64 = 4096;
+
+/// A ring beside the set of every offset that came. As bytes are stored that lie past it, it grows to reach from what was
+/// read to the last of them: to a power of two, less than twice as far or 4,096 bytes, and never past the window. It is given
+/// back where bytes are thrown away, and where nothing is stored: at once if it is larger than 4,096 bytes, else once that is
+/// asked for.
 ///
 /// A put searches the set once, and once more for each gap that it fills, copies the bytes of each gap, and notes the
 /// offsets by one insert. A take is one search and one copy. A copy is made in two pieces where its places wrap.
@@ -27,17 +32,18 @@ pub struct RingAssembly {
 }
 
 impl Model for RingAssembly {
+    ghost use Rattle.std.specs.Prelude.{length};
     ghost use Rattle.qs_recv.specs.Assembled.{Assembled};
     ghost use Rattle.qs_recv.specs.Codes.{assembled_code};
-    ghost use Rattle.qs_recv.specs.Ring.{stored_in_ring, IsRing};
+    ghost use Rattle.qs_recv.specs.Ring.{stored_in_ring, IsRing, IsSized};
 
     ghost Value = { Assembled };
 
     ghost coded = { assembled_code };
 
-    ghost view = { λ a. record { stored = stored_in_ring a.received a.ring.items a.window a.read_count a.discarding; received = a.received; read_count = a.read_count; window = a.window; discarding = a.discarding } };
+    ghost view = { λ a. record { stored = stored_in_ring a.received a.ring.items (length a.ring.items) a.read_count a.discarding; received = a.received; read_count = a.read_count; window = a.window; discarding = a.discarding } };
 
-    ghost invariant = { λ a. IsRing a.ring.items a.received a.window a.read_count a.stored a.discarding };
+    ghost invariant = { λ a. IsRing a.ring.items a.received (length a.ring.items) a.read_count a.stored a.discarding × IsSized a.received (length a.ring.items) a.stored a.window };
 }
 
 impl Assembly for RingAssembly {
@@ -67,8 +73,8 @@ impl Assembly for RingAssembly {
         ensures apart { OnErr result (self.old.discarding ≡ true
             → MissesRange self.old.received (offset - 1) (offset + length bytes.now + 1)) }
 
-        // The ring is there once an offset came that wasn't read.
-        ensures ring { OnErr result ((q : ℕ) → self.old.read_count ≤ q → set.contains self.old.received q ≡ true
+        // A ring in which a byte is stored reaches as far as that.
+        ensures ring { OnErr result ((q : ℕ) → self.old.read_count ≤ q → offset + length bytes.now ≤ q + 1 → set.contains self.old.received q ≡ true
             → MissesRange self.old.received (offset - 1) (offset + length bytes.now + 1)) }
     {
         let end = offset + bytes.len() as u64;
@@ -83,10 +89,17 @@ impl Assembly for RingAssembly {
         if first >= end {
             return Ok(());
         }
-        make_ring(&mut self.ring, self.window)?;
-        let new = fill_gaps(&mut self.ring, &self.received, first, offset, bytes);
-        self.received.insert(offset, end)?;
-        self.stored += new;
+        let span = end - self.read_count;
+        if span <= self.ring.len() as u64 {
+            let count = store(&mut self.ring, &mut self.received, first, offset, bytes)?;
+            self.stored += count;
+        } else {
+            let size = size_for(span, self.window);
+            let mut wider = widened(self.alloc, &self.ring, self.read_count, size)?;
+            let count = store(&mut wider, &mut self.received, first, offset, bytes)?;
+            self.ring = wider;
+            self.stored += count;
+        }
         Ok(())
     }
 
@@ -99,6 +112,7 @@ impl Assembly for RingAssembly {
         copy_out(&self.ring, self.read_count, &mut into[..count]);
         self.read_count += count as u64;
         self.stored -= count as u64;
+        shed(self.alloc, &mut self.ring, self.stored);
         count
     }
 
@@ -126,22 +140,91 @@ impl Assembly for RingAssembly {
         self.stored
     }
 
+    fn held(&self) -> u64 {
+        self.ring.len() as u64
+    }
+
     fn received(&self) -> &RangeSet {
         &self.received
     }
 }
 
-// Takes the memory of the ring, where it isn't there.
-fn make_ring(ring: &mut Vec<u8>, window: u64) -> Result<(), NoMemory>
-    requires { window ≤ 2 ^ 20 }
-    ensures len { OnOk result (length ring.new.items ≡ window) }
-    ensures kept { length ring.old.items ≡ window → ring.new.items ≡ ring.old.items }
-    ensures err { OnErr result (ring.new.items ≡ ring.old.items) }
-    // Memory is taken only where the ring isn't there.
-    ensures full { OnErr result (length ring.old.items < window) }
+// The size of a ring that reaches so far past what was read.
+fn size_for(span: u64, window: u64) -> u64
+    requires small { window ≤ 2 ^ 20 }
+    requires fits { span ≤ window }
+    ensures { IsSizeFor span window result }
 {
-    ring.resize(window as usize, 0)?;
-    Ok(())
+    let power = span.next_power_of_two();
+    let least = power.max(LEAST_SIZE);
+    least.min(window)
+}
+
+// A ring of a larger size, with the byte of each offset from `from` on.
+fn widened(alloc: Global, ring: &[u8], from: u64, size: u64) -> Result<Vec<u8>, NoMemory>
+    requires small { size ≤ 2 ^ 20 }
+    requires from_fits { from ≤ 2 ^ 62 }
+    requires grows { length ring.now ≤ size }
+    ensures len { IfOk result (λ wider. length wider.items ≡ size) }
+    ensures moved { IfOk result (λ wider. IsMoved from ring.now wider.items) }
+{
+    let mut wider = Vec::new(alloc);
+    wider.resize(size as usize, 0)?;
+    move_in(&mut wider, ring, from);
+    Ok(wider)
+}
+
+// Copies a ring into one that is no smaller: the byte of each offset from `from` on goes to its place there.
+fn move_in(into: &mut [u8], ring: &[u8], from: u64)
+    requires fits { length ring.now ≤ length into.old }
+    requires from_fits { from ≤ 2 ^ 62 }
+    ensures same_len { length into.new ≡ length into.old }
+    ensures moved { IsMoved from ring.now into.new }
+{
+    let len = ring.len();
+    if len == 0 {
+        return;
+    }
+    let (front, back) = ring.split_at((from % len as u64) as usize);
+    copy_in(into, from, back);
+    copy_in(into, from + back.len() as u64, front);
+}
+
+// Gives a ring of more than 4,096 bytes back where nothing is stored.
+fn shed(alloc: Global, ring: &mut Vec<u8>, stored: u64)
+    ensures idle { stored ≡ 0 → length ring.new.items ≤ 4096 }
+    ensures other { (ring.new.items ≡ ring.old.items) ⊎ ((stored ≡ 0) × (ring.new.items ≡ [])) }
+{
+    if stored == 0 && ring.len() as u64 > LEAST_SIZE {
+        *ring = Vec::new(alloc);
+    }
+}
+
+// Stores the bytes at offsets that didn't come before, notes the offsets, and answers how many are new. `first` is the first
+// such offset.
+fn store(
+    ring: &mut Vec<u8>,
+    received: &mut RangeSet,
+    first: u64,
+    offset: u64,
+    bytes: &[u8],
+) -> Result<u64, NoMemory>
+    requires in_range { offset + length bytes.now ≤ MAX_VARINT }
+    requires missing { set.contains received.old first ≡ false }
+    requires begins { offset ≤ first }
+    requires some { first < offset + length bytes.now }
+    requires fits { offset + length bytes.now ≤ first + length ring.old.items }
+    ensures same_len { length ring.new.items ≡ length ring.old.items }
+    ensures filled { IsFilled received.old first (offset + length bytes.now) offset bytes.now ring.old.items ring.new.items }
+    ensures count { IfOk result (λ n. n ≡ missing_count received.old first (offset + length bytes.now - first)) }
+    ensures noted { OnOk result (received.new ≡ set.union received.old (numbers offset (offset + length bytes.now))) }
+    ensures err { OnErr result (received.new ≡ received.old) }
+    ensures apart { OnErr result (MissesRange received.old (offset - 1) (offset + length bytes.now + 1)) }
+{
+    let end = offset + bytes.len() as u64;
+    let count = fill_gaps(ring, received, first, offset, bytes);
+    received.insert(offset, end)?;
+    Ok(count)
 }
 
 // Writes the bytes at offsets that didn't come before to their places, and answers how many these are. `first` is the

@@ -28,6 +28,9 @@ pub trait Assembly {
     /// How many bytes are stored.
     fn stored(&self) -> u64;
 
+    /// How many bytes of memory are taken to store some, as the assembly counts them: no more than 4,096 where none is stored.
+    fn held(&self) -> u64;
+
     /// Every offset that came.
     fn received(&self) -> &RangeSet;
 }

@@ -266,6 +266,12 @@ impl<A: Assembly> RecvHalf<A> {
         self.assembly.stored()
     }
 
+    /// How many bytes of memory are taken to store some, as the assembly counts them: at most 4,096, or while some are stored
+    /// twice the highest offset.
+    pub fn held(&self) -> u64 {
+        self.assembly.held()
+    }
+
     /// How many bytes were read.
     pub fn read_count(&self) -> u64 {
         self.read_count

@@ -1,13 +1,18 @@
 // Made from crates/qs_recv/src/ring_assembly.rt by rust/erase; not edited by hand.
-//! An assembly that keeps what came in one ring: the byte of an offset stands at the offset modulo the window.
+//! An assembly that keeps what came in one ring: the byte of an offset stands at the offset modulo the ring's size.
 use crate::shim::Vec;
 
 use crate::proved::qs_recv::assembly::Assembly;
 use crate::proved::qs_ranges::{NoMemory, RangeSet};
 use crate::shim::alloc::Global;
 
-/// A ring of window size, beside the set of every offset that came. Its memory is taken for the first byte that is
-/// stored, and given back where bytes are thrown away, and once all was read if that is asked for.
+// A smaller ring isn't worth a growth.
+const LEAST_SIZE: u64 = 4096;
+
+/// A ring beside the set of every offset that came. As bytes are stored that lie past it, it grows to reach from what was
+/// read to the last of them: to a power of two, less than twice as far or 4,096 bytes, and never past the window. It is given
+/// back where bytes are thrown away, and where nothing is stored: at once if it is larger than 4,096 bytes, else once that is
+/// asked for.
 ///
 /// A put searches the set once, and once more for each gap that it fills, copies the bytes of each gap, and notes the
 /// offsets by one insert. A take is one search and one copy. A copy is made in two pieces where its places wrap.
@@ -47,10 +52,17 @@ impl Assembly for RingAssembly {
         if first >= end {
             return Ok(());
         }
-        make_ring(&mut self.ring, self.window)?;
-        let new = fill_gaps(&mut self.ring, &self.received, first, offset, bytes);
-        self.received.insert(offset, end)?;
-        self.stored += new;
+        let span = end - self.read_count;
+        if span <= self.ring.len() as u64 {
+            let count = store(&mut self.ring, &mut self.received, first, offset, bytes)?;
+            self.stored += count;
+        } else {
+            let size = size_for(span, self.window);
+            let mut wider = widened(self.alloc, &self.ring, self.read_count, size)?;
+            let count = store(&mut wider, &mut self.received, first, offset, bytes)?;
+            self.ring = wider;
+            self.stored += count;
+        }
         Ok(())
     }
 
@@ -63,6 +75,7 @@ impl Assembly for RingAssembly {
         copy_out(&self.ring, self.read_count, &mut into[..count]);
         self.read_count += count as u64;
         self.stored -= count as u64;
+        shed(self.alloc, &mut self.ring, self.stored);
         count
     }
 
@@ -90,16 +103,62 @@ impl Assembly for RingAssembly {
         self.stored
     }
 
+    fn held(&self) -> u64 {
+        self.ring.len() as u64
+    }
+
     fn received(&self) -> &RangeSet {
         &self.received
     }
 }
 
-// Takes the memory of the ring, where it isn't there.
-fn make_ring(ring: &mut Vec<u8>, window: u64) -> Result<(), NoMemory> {
+// The size of a ring that reaches so far past what was read.
+fn size_for(span: u64, window: u64) -> u64 {
     debug_assert!(window <= 1 << 20);
-    ring.resize(window as usize, 0)?;
-    Ok(())
+    debug_assert!(span <= window);
+    let power = span.next_power_of_two();
+    let least = power.max(LEAST_SIZE);
+    least.min(window)
+}
+
+// A ring of a larger size, with the byte of each offset from `from` on.
+fn widened(alloc: Global, ring: &[u8], from: u64, size: u64) -> Result<Vec<u8>, NoMemory> {
+    debug_assert!(size <= 1 << 20);
+    debug_assert!(from <= 1 << 62);
+    let mut wider = Vec::new(alloc);
+    wider.resize(size as usize, 0)?;
+    move_in(&mut wider, ring, from);
+    Ok(wider)
+}
+
+// Copies a ring into one that is no smaller: the byte of each offset from `from` on goes to its place there.
+fn move_in(into: &mut [u8], ring: &[u8], from: u64) {
+    debug_assert!(ring.len() <= into.len());
+    debug_assert!(from <= 1 << 62);
+    let len = ring.len();
+    if len == 0 {
+        return;
+    }
+    let (front, back) = ring.split_at((from % len as u64) as usize);
+    copy_in(into, from, back);
+    copy_in(into, from + back.len() as u64, front);
+}
+
+// Gives a ring of more than 4,096 bytes back where nothing is stored.
+fn shed(alloc: Global, ring: &mut Vec<u8>, stored: u64) {
+    if stored == 0 && ring.len() as u64 > LEAST_SIZE {
+        *ring = Vec::new(alloc);
+    }
+}
+
+// Stores the bytes at offsets that didn't come before, notes the offsets, and answers how many are new. `first` is the first
+// such offset.
+fn store(ring: &mut Vec<u8>, received: &mut RangeSet, first: u64, offset: u64, bytes: &[u8]) -> Result<u64, NoMemory> {
+    debug_assert!(offset <= first);
+    let end = offset + bytes.len() as u64;
+    let count = fill_gaps(ring, received, first, offset, bytes);
+    received.insert(offset, end)?;
+    Ok(count)
 }
 
 // Writes the bytes at offsets that didn't come before to their places, and answers how many these are. `first` is the

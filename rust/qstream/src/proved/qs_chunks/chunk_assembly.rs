@@ -87,6 +87,11 @@ impl Assembly for ChunkAssembly {
         self.stored
     }
 
+    // A chunk's buffer may have room for more.
+    fn held(&self) -> u64 {
+        self.stored
+    }
+
     fn received(&self) -> &RangeSet {
         &self.received
     }

@@ -1,6 +1,10 @@
-use Rattle.qs_recv.proofs.RingLaws.{thrown_away}
+use Rattle.std.proofs.Common.{length}
+use Rattle.qs_recv.proofs.RingLaws.{thrown_away, sized_empty}
 use Rattle.qs_recv.proofs.ring_assembly.RingAssemblyAssembly.discard.Goals as goal
 
 pub invariant_of-self : goal.invariant_of-self
 invariant_of-self c =
-    thrown_away c.self.inside.ring.items c.new.result.items c.self.inside.received c.self.inside.window c.self.inside.read_count c.self.inside.stored c.self.inside.discarding c.self.invariant
+    let s = c.self.inside in (
+      thrown_away s.ring.items c.new.result.items s.received (length s.ring.items) s.read_count s.stored s.discarding c.self.invariant.0 c.new.ensures.items,
+      rw c.new.ensures.items (sized_empty s.received 0 s.window c.self.invariant.1.small_window),
+    )

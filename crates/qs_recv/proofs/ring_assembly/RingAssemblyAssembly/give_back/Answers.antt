@@ -1,11 +1,18 @@
-use Rattle.std.proofs.Common.{sym}
-use Rattle.qs_recv.proofs.RingEmpty.{emptied_ring, emptied_view}
+use Rattle.std.proofs.Common.{arith, length}
+use Rattle.qs_recv.proofs.RingLaws.{sized_empty}
+use Rattle.qs_recv.proofs.RingMoved.{emptied_is, emptied_ring}
 use Rattle.qs_recv.proofs.ring_assembly.RingAssemblyAssembly.give_back.Goals as goal
 
 pub invariant_of-self : goal.invariant_of-self
 invariant_of-self c =
-    emptied_ring c.self.inside.ring.items c.new.result.items c.self.inside.received c.self.inside.window c.self.inside.read_count c.self.inside.stored c.self.inside.discarding c.self.invariant c.if-self-eq0.true
+    let s = c.self.inside in
+    rw c.new.ensures.items (
+      emptied_ring s.received s.ring.items _ (length s.ring.items) 0 s.read_count s.stored s.discarding c.self.invariant.0 c.if-self-eq0.true (omega arith),
+      sized_empty s.received s.stored s.window c.self.invariant.1.small_window,
+    )
 
 pub returns-then-self-eq0 : goal.returns-then-self-eq0
 returns-then-self-eq0 c =
-    rw (sym (emptied_view c.self.inside.ring.items c.new.result.items c.self.inside.received c.self.inside.window c.self.inside.read_count c.self.inside.stored c.self.inside.discarding c.self.invariant c.if-self-eq0.true)) c.self.view_is
+    let s = c.self.inside in
+    let new = c.new.result.items in
+    emptied_is s.received s.ring.items new (length s.ring.items) (length new) s.read_count s.stored s.window s.discarding _ c.self.invariant.0 c.if-self-eq0.true (rw c.new.ensures.items (omega arith)) c.self.view_is

@@ -1,4 +1,4 @@
-use Rattle.std.proofs.Common.{sym, arith}
+use Rattle.std.proofs.Common.{sym, arith, length}
 use Rattle.std.specs.Ordering.{nat_cmp}
 use Rattle.std.specs.FinMap as map
 use Rattle.qs_recv.proofs.SameLaws.{same_none}
@@ -13,11 +13,11 @@ pub is_in_ring-requires-clause-fits : goal.is_in_ring-requires-clause-fits
 is_in_ring-requires-clause-fits c =
     let s = c.self.inside in
     rw c.deref.ensures.value
-    (ring_fits s.received s.ring.items s.window s.read_count s.stored c.max-start.result (rw c.if-self.false at c.self.invariant) (let m = c.max-start.ensures in omega (arith, m)))
+    (ring_fits s.received s.ring.items (length s.ring.items) s.read_count s.stored c.max-start.result (rw c.if-self.false at c.self.invariant.0) (let m = c.max-start.ensures in omega (arith, m)))
 
 pub returns : goal.returns
 returns c =
     let s = c.self.inside in
     rw (← c.self.view_is, c.if-self.false)
-    (same_ring s.received s.ring.items c.args.bytes.now s.window s.read_count s.stored c.max-start.result c.args.offset c.is_in_ring.result (rw c.if-self.false at c.self.invariant) c.max-start.ensures
+    (same_ring s.received s.ring.items c.args.bytes.now (length s.ring.items) s.read_count s.stored c.max-start.result c.args.offset c.is_in_ring.result (rw c.if-self.false at c.self.invariant.0) c.max-start.ensures
     (rw c.deref.ensures.value at c.is_in_ring.ensures))

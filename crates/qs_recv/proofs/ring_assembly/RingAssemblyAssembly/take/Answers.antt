@@ -1,5 +1,6 @@
-use Rattle.std.proofs.Common.{◌∙◌, ◌++◌, sym, ap, arith, length, drop, true}
-use Rattle.qs_recv.proofs.RingLaws.{came_next, empty_front, front_next, next_stored, nothing_taken, rest_next, ring_read}
+use Rattle.std.proofs.Common.{◌∙◌, ◌+◌, ◌-◌, ◌++◌, sym, ap, arith, length, drop, true}
+use Rattle.qs_recv.proofs.RingLaws.{came_next, empty_front, front_next, next_stored, nothing_taken, rest_next, ring_read, sized_read}
+use Rattle.qs_recv.proofs.RingMoved.{shed_len, shed_ring, shed_view}
 use Rattle.qs_recv.proofs.ring_assembly.RingAssemblyAssembly.take.Goals as goal
 
 pub returns-then-self-clause-count : goal.returns-then-self-clause-count
@@ -18,28 +19,31 @@ pub overflow_sub-self : goal.overflow_sub-self
 overflow_sub-self c =
     let s = c.self.inside in
     let n = c.min-count.result in
-    let kept = rw c.if-self.false at c.self.invariant in
-    next_stored s.received s.ring.items s.window s.read_count n s.stored kept
+    let kept = rw c.if-self.false at c.self.invariant.0 in
+    next_stored s.received s.ring.items (length s.ring.items) s.read_count n s.stored kept
     (came_next s.received s.read_count c.first_missing-next.result (length c.args.into.now) n c.first_missing-next.ensures.missing c.min-count.ensures)
 
 pub invariant_of-self : goal.invariant_of-self
 invariant_of-self c =
     let s = c.self.inside in
     let n = c.min-count.result in
-    let kept = rw c.if-self.false at c.self.invariant in
+    let kept = rw c.if-self.false at c.self.invariant.0 in
     let within = c.first_missing-next.ensures.within in
     let small = kept.small_count in
-    rw c.if-self.false
-    (ring_read s.received s.ring.items s.window s.read_count n s.stored kept
-    (came_next s.received s.read_count c.first_missing-next.result (length c.args.into.now) n c.first_missing-next.ensures.missing c.min-count.ensures)
-    (omega (arith, within, small, c.min-count.ensures)))
+    let after = ring_read s.received s.ring.items (length s.ring.items) s.read_count n s.stored kept
+    (came_next s.received s.read_count c.first_missing-next.result (length c.args.into.now) n c.first_missing-next.ensures.missing c.min-count.ensures) (omega (arith, within, small, c.min-count.ensures)) in
+    let new = c.shed.new.ring.items in
+    rw c.if-self.false (
+      shed_ring s.received s.ring.items new (s.read_count + n) (s.stored - n) after c.shed.ensures.other,
+      sized_read s.received (length s.ring.items) (length new) s.stored (s.stored - n) s.window c.self.invariant.1 (shed_len s.ring.items new (s.stored - n) c.shed.ensures.other) c.shed.ensures.idle,
+    )
 
 pub returns-clause-count : goal.returns-clause-count
 returns-clause-count c =
     let s = c.self.inside in
     let n = c.min-count.result in
-    let kept = rw c.if-self.false at c.self.invariant in
-    let fronts = front_next s.received s.ring.items c.deref.result.now c.args.into.now c.copy_out.new.into s.window s.read_count c.first_missing-next.result n s.stored kept
+    let kept = rw c.if-self.false at c.self.invariant.0 in
+    let fronts = front_next s.received s.ring.items c.deref.result.now c.args.into.now c.copy_out.new.into (length s.ring.items) s.read_count c.first_missing-next.result n s.stored kept
     c.first_missing-next.ensures.missing c.min-count.ensures c.deref.ensures.value c.copy_out.auto.into c.copy_out.ensures in
     rw (← c.self.view_is, c.if-self.false) (sym (ap length fronts.1 ∙ fronts.2))
 
@@ -47,8 +51,8 @@ pub returns-clause-bytes : goal.returns-clause-bytes
 returns-clause-bytes c =
     let s = c.self.inside in
     let n = c.min-count.result in
-    let kept = rw c.if-self.false at c.self.invariant in
-    let fronts = front_next s.received s.ring.items c.deref.result.now c.args.into.now c.copy_out.new.into s.window s.read_count c.first_missing-next.result n s.stored kept
+    let kept = rw c.if-self.false at c.self.invariant.0 in
+    let fronts = front_next s.received s.ring.items c.deref.result.now c.args.into.now c.copy_out.new.into (length s.ring.items) s.read_count c.first_missing-next.result n s.stored kept
     c.first_missing-next.ensures.missing c.min-count.ensures c.deref.ensures.value c.copy_out.auto.into c.copy_out.ensures in
     rw (← c.self.view_is, c.if-self.false) (sym (ap (λ xs. xs ++ drop n c.args.into.now) fronts.1))
 
@@ -56,7 +60,12 @@ pub returns-clause-rest : goal.returns-clause-rest
 returns-clause-rest c =
     let s = c.self.inside in
     let n = c.min-count.result in
-    let kept = rw c.if-self.false at c.self.invariant in
-    let fronts = front_next s.received s.ring.items c.deref.result.now c.args.into.now c.copy_out.new.into s.window s.read_count c.first_missing-next.result n s.stored kept
+    let kept = rw c.if-self.false at c.self.invariant.0 in
+    let within = c.first_missing-next.ensures.within in
+    let small = kept.small_count in
+    let after = ring_read s.received s.ring.items (length s.ring.items) s.read_count n s.stored kept
+    (came_next s.received s.read_count c.first_missing-next.result (length c.args.into.now) n c.first_missing-next.ensures.missing c.min-count.ensures) (omega (arith, within, small, c.min-count.ensures)) in
+    let fronts = front_next s.received s.ring.items c.deref.result.now c.args.into.now c.copy_out.new.into (length s.ring.items) s.read_count c.first_missing-next.result n s.stored kept
     c.first_missing-next.ensures.missing c.min-count.ensures c.deref.ensures.value c.copy_out.auto.into c.copy_out.ensures in
-    rw (← c.self.view_is, c.if-self.false) (rest_next s.received s.ring.items c.copy_out.new.into s.window s.read_count (length c.args.into.now) n s.stored kept fronts)
+    rw (← c.self.view_is, c.if-self.false, shed_view s.received s.ring.items c.shed.new.ring.items (s.read_count + n) (s.stored - n) after c.shed.ensures.other)
+    (rest_next s.received s.ring.items c.copy_out.new.into (length s.ring.items) s.window s.read_count (length c.args.into.now) n s.stored kept fronts)
