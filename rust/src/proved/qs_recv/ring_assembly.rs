@@ -153,7 +153,13 @@ fn shed(alloc: Global, ring: &mut Vec<u8>, stored: u64) {
 
 // Stores the bytes at offsets that didn't come before, notes the offsets, and answers how many are new. `first` is the first
 // such offset.
-fn store(ring: &mut Vec<u8>, received: &mut RangeSet, first: u64, offset: u64, bytes: &[u8]) -> Result<u64, NoMemory> {
+fn store(
+    ring: &mut Vec<u8>,
+    received: &mut RangeSet,
+    first: u64,
+    offset: u64,
+    bytes: &[u8],
+) -> Result<u64, NoMemory> {
     debug_assert!(offset <= first);
     let end = offset + bytes.len() as u64;
     let count = fill_gaps(ring, received, first, offset, bytes);
