@@ -10,7 +10,7 @@ pub returns-clause-bound : goal.returns-clause-bound
 returns-clause-bound c =
     let s = c.self.inside in
     let counted = c.self.invariant.counted ∙ sym (len-stored_in s.chunks s.read_count c.self.invariant.ordered) in
-    let within = len_within (end_of s.received) 0 (stored_in s.chunks) (λ q some. (omega arith, below-end_of s.received q (c.self.invariant.came q some))) in
+    let within = len_within (end_of s.received) 0 (stored_in s.chunks) (λ q some. (omega arith, (let below = below-end_of s.received q (c.self.invariant.came q some) in omega (arith, below)))) in
     rw (← c.self.view_is) (omega (arith, counted, within))
 
 pub returns-clause-idle : goal.returns-clause-idle
