@@ -411,6 +411,19 @@ impl Endpoint {
         self.inner.next_outstanding(from)
     }
 
+    /// The least number at or above `from` of a packet that is outstanding and that an ACK of the payload names:
+    /// [`Endpoint::receive`] of that payload takes it as acknowledged (RFC 9000, section 13.3). `None` where there is none.
+    /// Asked before `receive`, and then again from the number after each answer on, it tells all that the payload newly
+    /// acknowledges, from which congestion control goes on (RFC 9002, section 7).
+    ///
+    /// The reading ends at the first bytes that are no frame, and at a CONNECTION_CLOSE, as that of `receive` does. It
+    /// asks nothing else of the payload: not whether its number was processed before, nor whether a frame breaks a rule.
+    ///
+    /// Each answer reads the payload once, and once more for each gap between the ranges that it passes over.
+    pub fn next_newly_acked(&self, payload: &[u8], from: u64) -> Option<u64> {
+        self.inner.next_newly_acked(payload, from)
+    }
+
     /// The code with which the peer closed, `None` where it didn't (RFC 9000, section 10.2).
     pub fn peer_closed(&self) -> Option<u64> {
         self.inner.peer_closed()

@@ -255,6 +255,16 @@ fn outstanding(end: &Endpoint) -> Vec<u64> {
     numbers
 }
 
+fn newly_acked(end: &Endpoint, payload: &[u8]) -> Vec<u64> {
+    let mut numbers = Vec::new();
+    let mut from = 0;
+    while let Some(number) = end.next_newly_acked(payload, from) {
+        numbers.push(number);
+        from = number + 1;
+    }
+    numbers
+}
+
 // What a payload acknowledged for the first time was outstanding before it and isn't after it.
 #[test]
 fn newly_acknowledged_packets_are_told_by_what_is_outstanding() {
@@ -276,6 +286,7 @@ fn newly_acknowledged_packets_are_told_by_what_is_outstanding() {
     let mut ack = [0; 200];
     let made = server.make_packet(&mut ack).expect("open").expect("an ACK");
     let before = outstanding(&client);
+    let told = newly_acked(&client, &ack[..made.len]);
     client.receive(0, &ack[..made.len]).expect("sound");
     let after = outstanding(&client);
     let newly: Vec<u64> = before
@@ -284,7 +295,41 @@ fn newly_acknowledged_packets_are_told_by_what_is_outstanding() {
         .filter(|number| !after.contains(number))
         .collect();
     assert_eq!(newly, [0, 1, 3]);
+    assert_eq!(told, newly);
+    assert_eq!(newly_acked(&client, &ack[..made.len]), []);
     // The same ACK in another packet acknowledges nothing more.
     client.receive(1, &ack[..made.len]).expect("sound");
     assert_eq!(outstanding(&client), after);
+}
+
+// Several ACKs in one payload count together; one behind a CONNECTION_CLOSE or behind bytes that are no frame doesn't.
+#[test]
+fn newly_acknowledged_packets_are_told_of_each_ack_that_is_read() {
+    let (mut client, _) = ends(Settings::default());
+    let stream = client.open(Dir::Bidi).expect("granted");
+    for _ in 0..6 {
+        client.write(stream, b"part").expect("open");
+        client.make_packet(&mut [0; 200]).expect("open");
+    }
+    // The type, the largest number, the delay, no further range, and how many more the first range has.
+    let (low, high, both) = ([2, 1, 0, 0, 1], [2, 4, 0, 0, 0], [2, 5, 0, 1, 0, 2, 0]);
+    let close = [0x1d, 0, 0];
+    assert_eq!(newly_acked(&client, &low), [0, 1]);
+    assert_eq!(newly_acked(&client, &both), [1, 5]);
+    assert_eq!(newly_acked(&client, &[&high[..], &low].concat()), [0, 1, 4]);
+    assert_eq!(newly_acked(&client, &[&low[..], &both].concat()), [0, 1, 5]);
+    assert_eq!(
+        newly_acked(&client, &[&high[..], &close, &low].concat()),
+        [4]
+    );
+    assert_eq!(
+        newly_acked(&client, &[&low[..], &[0x21], &high].concat()),
+        [0, 1]
+    );
+    assert_eq!(newly_acked(&client, &[2, 60, 0, 0, 60]), [0, 1, 2, 3, 4, 5]);
+    assert_eq!(client.next_newly_acked(&both, 6), None);
+    assert_eq!(client.next_newly_acked(&both, u64::MAX), None);
+    assert_eq!(newly_acked(&client, &[]), []);
+    client.declare_lost(1).expect("outstanding");
+    assert_eq!(newly_acked(&client, &low), [0]);
 }

@@ -2,6 +2,7 @@ pub mod AckLaws
 pub mod AckPackets
 pub mod Allowed
 pub mod Asked
+pub mod Named
 pub mod Chunks
 pub mod Counting
 pub mod Counted

@@ -8,3 +8,4 @@ pub mod Tasks
 pub mod RecvTasks
 pub mod Words
 pub mod Sending
+pub mod Named

@@ -26,6 +26,7 @@ mod claiming;
 mod frames;
 mod losing;
 mod making;
+mod newly;
 mod news;
 mod opening;
 mod owner;

@@ -1,6 +1,7 @@
 //! One end of a connection: its streams, its credit, and what its packets carry.
 #![tactic(auto)]
 
+mod ack_names;
 mod bits;
 mod ended;
 mod endpoint;

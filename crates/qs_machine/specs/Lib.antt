@@ -15,6 +15,7 @@ pub mod Making
 pub mod Reports
 pub mod News
 pub mod Asking
+pub mod Newly
 pub mod Raising
 pub mod EndStep
 pub mod Standing

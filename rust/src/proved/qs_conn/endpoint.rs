@@ -18,6 +18,7 @@ mod claiming;
 mod frames;
 mod losing;
 mod making;
+mod newly;
 mod news;
 mod opening;
 mod owner;

@@ -1,0 +1,88 @@
+//! Which packet numbers the ACKs of a payload name.
+ghost use Rattle.std.specs.Prelude.{◌≡◌, ◌<◌, ◌^◌, true, None};
+ghost use Rattle.qs_wire.specs.Varint.{numbers_of};
+ghost use Rattle.qs_wire.specs.Layout.{view, ack_ranges_of};
+ghost use Rattle.qs_wire.specs.Grammar.{Fits, frames_of};
+ghost use Rattle.qs_wire.specs.Reading.{reading_of};
+ghost use Rattle.qs_machine.specs.News.{IsLeast};
+ghost use Rattle.qs_machine.specs.Newly.{payload_acks};
+ghost use Rattle.qs_machine.specs.Seen.{seen, seen_all};
+ghost use Rattle.qs_conn.specs.Named.{is_close, with_range, with_ranges, with_frame, with_frames};
+
+use qs_wire::{AckRanges, Frame, Frames};
+
+/// The least number from one on that an ACK of the payload names. The reading ends at the first fault, and at a CONNECTION_CLOSE.
+pub(crate) fn next_named(payload: &[u8], from: u64) -> Option<u64>
+    ensures { IsLeast (λ n. payload_acks payload.now n ≡ true) from result }
+{
+    least_of_frames(payload, from)
+}
+
+fn least_of_frames(payload: &[u8], from: u64) -> Option<u64>
+    ensures { result ≡ with_frames from (seen_all (frames_of (reading_of payload.now).left)) None }
+{
+    let mut frames = Frames::new(payload);
+    let mut least = None;
+    loop {
+        match frames.next() {
+            Ok(Some(placed)) => {
+                if is_close(&placed.frame) {
+                    return least;
+                }
+                least = with_frame(from, &placed.frame, least);
+            }
+            _ => return least,
+        }
+    }
+}
+
+fn is_close(frame: &Frame<'_>) -> bool
+    ensures { result ≡ is_close (seen (view frame.now)) }
+{
+    matches!(
+        *frame,
+        Frame::ConnectionClose { .. } | Frame::ApplicationClose { .. }
+    )
+}
+
+// With the ranges of a frame, where it is an ACK.
+fn with_frame(from: u64, frame: &Frame<'_>, least: Option<u64>) -> Option<u64>
+    requires { Fits (view frame.now) }
+    ensures { result ≡ with_frame from (seen (view frame.now)) least }
+{
+    match *frame {
+        Frame::Ack {
+            largest,
+            ranges,
+            ..
+        } => with_ranges(from, largest, ranges, least),
+        _ => least,
+    }
+}
+
+// With the ranges of an ACK.
+fn with_ranges(from: u64, largest: u64, ranges: &[u8], least: Option<u64>) -> Option<u64>
+    requires { largest < 2 ^ 62 }
+    ensures { result ≡ with_ranges from (ack_ranges_of largest (numbers_of ranges.now)) least }
+{
+    let mut left = AckRanges::new(largest, ranges);
+    let mut found = least;
+    while let Some((low, high)) = left.next() {
+        found = with_range(from, low, high, found);
+    }
+    found
+}
+
+// With one range.
+fn with_range(from: u64, low: u64, high: u64, least: Option<u64>) -> Option<u64>
+    ensures { result ≡ with_range from (low, high) least }
+{
+    let first = low.max(from);
+    if high < first {
+        return least;
+    }
+    match least {
+        Some(least) => Some(least.min(first)),
+        None => Some(first),
+    }
+}

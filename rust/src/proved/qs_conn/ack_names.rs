@@ -1,0 +1,67 @@
+// Made from crates/qs_conn/src/ack_names.rt by rust/erase; not edited by hand.
+//! Which packet numbers the ACKs of a payload name.
+
+use crate::proved::qs_wire::{AckRanges, Frame, Frames};
+
+/// The least number from one on that an ACK of the payload names. The reading ends at the first fault, and at a CONNECTION_CLOSE.
+pub(crate) fn next_named(payload: &[u8], from: u64) -> Option<u64> {
+    least_of_frames(payload, from)
+}
+
+fn least_of_frames(payload: &[u8], from: u64) -> Option<u64> {
+    let mut frames = Frames::new(payload);
+    let mut least = None;
+    loop {
+        match frames.next() {
+            Ok(Some(placed)) => {
+                if is_close(&placed.frame) {
+                    return least;
+                }
+                least = with_frame(from, &placed.frame, least);
+            }
+            _ => return least,
+        }
+    }
+}
+
+fn is_close(frame: &Frame<'_>) -> bool {
+    matches!(
+        *frame,
+        Frame::ConnectionClose { .. } | Frame::ApplicationClose { .. }
+    )
+}
+
+// With the ranges of a frame, where it is an ACK.
+fn with_frame(from: u64, frame: &Frame<'_>, least: Option<u64>) -> Option<u64> {
+    match *frame {
+        Frame::Ack {
+            largest,
+            ranges,
+            ..
+        } => with_ranges(from, largest, ranges, least),
+        _ => least,
+    }
+}
+
+// With the ranges of an ACK.
+fn with_ranges(from: u64, largest: u64, ranges: &[u8], least: Option<u64>) -> Option<u64> {
+    debug_assert!(largest < 1 << 62);
+    let mut left = AckRanges::new(largest, ranges);
+    let mut found = least;
+    while let Some((low, high)) = left.next() {
+        found = with_range(from, low, high, found);
+    }
+    found
+}
+
+// With one range.
+fn with_range(from: u64, low: u64, high: u64, least: Option<u64>) -> Option<u64> {
+    let first = low.max(from);
+    if high < first {
+        return least;
+    }
+    match least {
+        Some(least) => Some(least.min(first)),
+        None => Some(first),
+    }
+}
