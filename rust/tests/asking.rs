@@ -333,3 +333,49 @@ fn newly_acknowledged_packets_are_told_of_each_ack_that_is_read() {
     client.declare_lost(1).expect("outstanding");
     assert_eq!(newly_acked(&client, &low), [0]);
 }
+
+// The first code that came stays, and is told of a half that was reset before, or that was acknowledged whole.
+#[test]
+fn the_code_of_a_stop_is_told_whatever_became_of_the_half() {
+    let (mut client, mut server) = ends(Settings::default());
+    let streams: Vec<_> = (0..4)
+        .map(|_| client.open(Dir::Bidi).expect("granted"))
+        .collect();
+    for &stream in &streams {
+        client.write(stream, b"some").expect("open");
+    }
+    client.finish(streams[2]).expect("open");
+    pass(&mut client, &mut server).expect("due");
+    pass(&mut server, &mut client).expect("an ACK");
+    client.reset(streams[1], 41).expect("open");
+    for (code, &stream) in (7..).zip(&streams[..3]) {
+        assert_eq!(client.stopped_with(stream), None);
+        server.stop(stream, code).expect("open");
+    }
+    pass(&mut server, &mut client).expect("due");
+    let told: Vec<_> = streams.iter().map(|&s| client.stopped_with(s)).collect();
+    assert_eq!(told, [Some(7), Some(8), None, None]);
+    let reset = |stream| {
+        client
+            .report(stream)
+            .expect("open")
+            .send
+            .expect("bidirectional")
+            .reset_code
+    };
+    assert_eq!((reset(streams[0]), reset(streams[1])), (Some(7), Some(41)));
+    // STOP_SENDING of the third stream and again of the first, with other codes.
+    client.receive(90, &[5, 8, 9, 5, 0, 10]).expect("sound");
+    assert_eq!(client.stopped_with(streams[0]), Some(7));
+    assert_eq!(client.stopped_with(streams[2]), Some(9));
+    assert_eq!(
+        client
+            .report(streams[2])
+            .expect("open")
+            .send
+            .expect("bidirectional")
+            .reset_code,
+        None
+    );
+    assert_eq!(server.stopped_with(streams[0]), None);
+}

@@ -80,7 +80,7 @@ fn told(end: &Endpoint, stream: StreamId) -> String {
     let asked = (
         end.is_sendable(),
         end.is_blocked(stream),
-        end.peer_closed(),
+        (end.stopped_with(stream), end.peer_closed()),
         end.next_outstanding(0),
         end.next_newly_acked(&[2, 9, 0, 0, 9], 0),
         end.streams_left(Dir::Bidi),

@@ -12,7 +12,7 @@ use Rattle.qs_send.specs.Lane.{new_lane as new_send_lane}
 use Rattle.qs_send.specs.declared.parts.SendFault.{SendFault}
 use Rattle.qs_send.specs.declared.parts.SendFault.TheVariants.{Finished, WasReset}
 use Rattle.qs_send.specs.declared.parts.Reset.{Reset}
-use Rattle.qs_send.specs.Lane.{Sending, SendLane, is_whole, unacked_from, answer_of, write_lane, finish_lane, reset_lane, reset_refusal, refusal, allow_lane, blocked_lane, sent_lane, acked_lane, reset_acked_lane}
+use Rattle.qs_send.specs.Lane.{Sending, SendLane, is_whole, unacked_from, answer_of, write_lane, finish_lane, reset_lane, stopped_lane, reset_refusal, refusal, allow_lane, blocked_lane, sent_lane, acked_lane, reset_acked_lane}
 use Rattle.qs_send.specs.declared.piece.Item.TheVariants.{MaxData, MaxStreamData, MaxStreams, ResetStream, StopSending, DataBlocked, StreamDataBlocked, StreamsBlocked}
 use Rattle.qs_send.specs.declared.piece.Piece.{Piece}
 use Rattle.qs_send.specs.declared.piece.Piece.TheVariants.{Data, Told}
@@ -75,6 +75,17 @@ grants_fit s fits = (grind (arith, nat_tests, fits), grind (arith, nat_tests, fi
 -- a new end
 pub fit_new : (role : Role) (s : Settings) (recvs : Tables RecvLane) (sends : Tables SendLane) → are_in_range s ≡ true → recvs ≡ no_streams → CountsFit role s recvs sends (record { bidi = 0; uni = 0 }) s.grant_bidi s.grant_uni
 fit_new role s recvs sends fits none = (let g = grants_fit s fits in record { counted = none_counted role recvs sends none; told = none_told recvs none; bidi = g.0; uni = g.1 })
+
+-- a half that may be broken off isn't at its end
+open_still : (r : Option Reset) (w f a : Bool) → is_some {T = SendFault} (cond (is_some r) (Some WasReset) (cond w (Some Finished) None)) ≡ false → (a || false) ≡ (a || (is_none r && f && w))
+open_still (Some r) w f a is = absurd (both_ways true is refl)
+open_still None true f a is = absurd (both_ways true is refl)
+open_still None false true a is = refl
+open_still None false false a is = refl
+
+ends_as_before : (code : ℕ) (l : SendLane) (t : Bool) → is_some (reset_refusal l) ≡ t → send_ended (cond t l (record l { was_reset = Some (record { code = code; size = cond l.fin_sent l.written l.sent_end }) })) ≡ send_ended l
+ends_as_before code l true is = refl
+ends_as_before code l false is = open_still l.was_reset (is_whole l) l.finished l.reset_acked is
 
 module _ (role : Role) (s : Settings) (recvs : Tables RecvLane) (sends : Tables SendLane) (e : EndedStreams) (b u : ℕ) (h : CountsFit role s recvs sends e b u) where
   pub fit_sends : (now : Tables SendLane) (e' : EndedStreams) → AreAllCounted role recvs now e' → CountsFit role s recvs now e' b u
@@ -155,18 +166,11 @@ module _ (role : Role) (s : Settings) (recvs : Tables RecvLane) (sends : Tables 
 
   -- a half is broken off
   pub fit_reset : (now : Tables SendLane) (n code : ℕ) → now ≡ updated sends n (λ l. reset_lane l code) (lookup sends n) → CountsFit role s recvs now e b u
-  fit_reset now n code is = fit_sends now e (sends_same role recvs sends now n (λ l. reset_lane l code) e h.counted is (λ l there. by_refusal l (is_some (reset_refusal l)) refl))
-    where
-      -- a half that may be broken off isn't at its end
-      open_still : (r : Option Reset) (w f a : Bool) → is_some {T = SendFault} (cond (is_some r) (Some WasReset) (cond w (Some Finished) None)) ≡ false → (a || false) ≡ (a || (is_none r && f && w))
-      open_still (Some r) w f a is = absurd (both_ways true is refl)
-      open_still None true f a is = absurd (both_ways true is refl)
-      open_still None false true a is = refl
-      open_still None false false a is = refl
+  fit_reset now n code is = fit_sends now e (sends_same role recvs sends now n (λ l. reset_lane l code) e h.counted is (λ l there. ends_as_before code l (is_some (reset_refusal l)) refl))
 
-      by_refusal : (l : SendLane) (t : Bool) → is_some (reset_refusal l) ≡ t → send_ended (cond t l (record l { was_reset = Some (record { code = code; size = cond l.fin_sent l.written l.sent_end }) })) ≡ send_ended l
-      by_refusal l true is = refl
-      by_refusal l false is = open_still l.was_reset (is_whole l) l.finished l.reset_acked is
+  -- the peer stops reading
+  pub fit_told_to_stop : (now : Tables SendLane) (n code : ℕ) → now ≡ updated sends n (λ l. stopped_lane l code) (lookup sends n) → CountsFit role s recvs now e b u
+  fit_told_to_stop now n code is = fit_sends now e (sends_same role recvs sends now n (λ l. stopped_lane l code) e h.counted is (λ l there. ends_as_before code l (is_some (reset_refusal l)) refl))
 
   -- streams are opened
   pub fit_opened : (now_r : Tables RecvLane) (now_s : Tables SendLane) (n w limit buffer : ℕ) (no_send no_recv : Bool) → now_s ≡ cond no_send sends (open_to sends n (λ m. new_send_lane m limit buffer))

@@ -11,7 +11,7 @@ use Rattle.qs_wire.specs.Layout.{taken, ack_ranges_of}
 use Rattle.qs_send.specs.declared.piece.Piece.{Piece}
 use Rattle.qs_send.specs.declared.piece.Piece.TheVariants.{Data, Told}
 use Rattle.qs_send.specs.declared.piece.Item.TheVariants.{MaxData, MaxStreamData, MaxStreams, ResetStream, StopSending, DataBlocked, StreamDataBlocked, StreamsBlocked}
-use Rattle.qs_send.specs.Lane.{SendLane, new_lane, write_lane, finish_lane, reset_lane, reset_refusal, allow_lane, acked_lane, reset_acked_lane}
+use Rattle.qs_send.specs.Lane.{SendLane, new_lane, write_lane, finish_lane, reset_lane, stopped_lane, reset_refusal, allow_lane, acked_lane, reset_acked_lane}
 use Rattle.qs_calls.specs.declared.settings.PeerLimits.{PeerLimits}
 use Rattle.qs_calls.specs.Settings.{are_spellable}
 use Rattle.qs_machine.specs.Tables.{Tables, no_streams, lookup, updated, open_to, total}
@@ -68,12 +68,15 @@ funded_written o new n k bytes done due is h = on_lane_same o new n k (λ l. wri
 pub funded_finished : (o new : Outgoing) (n k : ℕ) (done : NumberSet) (due : Bool) → new ≡ on_lane n finish_lane o → IsFunded o.sends k done due → IsFunded new.sends k done due
 funded_finished o new n k done due is h = on_lane_same o new n k finish_lane done due (λ l. refl) is h
 
+reset_sends : (code : ℕ) (l : SendLane) (b : Bool) → (cond b l (record l { was_reset = Some (record { code = code; size = cond l.fin_sent l.written l.sent_end }) })).sent_end ≡ l.sent_end
+reset_sends code l true = refl
+reset_sends code l false = refl
+
 pub funded_reset : (o new : Outgoing) (n k code : ℕ) (done : NumberSet) (due : Bool) → new ≡ on_lane n (λ l. reset_lane l code) o → IsFunded o.sends k done due → IsFunded new.sends k done due
-funded_reset o new n k code done due is h = on_lane_same o new n k (λ l. reset_lane l code) done due (λ l. by_test l (is_some (reset_refusal l))) is h
-  where
-    by_test : (l : SendLane) (b : Bool) → (cond b l (record l { was_reset = Some (record { code = code; size = cond l.fin_sent l.written l.sent_end }) })).sent_end ≡ l.sent_end
-    by_test l true = refl
-    by_test l false = refl
+funded_reset o new n k code done due is h = on_lane_same o new n k (λ l. reset_lane l code) done due (λ l. reset_sends code l (is_some (reset_refusal l))) is h
+
+pub funded_stopped : (o new : Outgoing) (n k code : ℕ) (done : NumberSet) (due : Bool) → new ≡ on_lane n (λ l. stopped_lane l code) o → IsFunded o.sends k done due → IsFunded new.sends k done due
+funded_stopped o new n k code done due is h = on_lane_same o new n k (λ l. stopped_lane l code) done due (λ l. reset_sends code l (is_some (reset_refusal l))) is h
 
 pub funded_allowed : (o new : Outgoing) (n k limit : ℕ) (done : NumberSet) (due : Bool) → new ≡ on_lane n (λ l. allow_lane l limit) o → IsFunded o.sends k done due → IsFunded new.sends k done due
 funded_allowed o new n k limit done due is h = on_lane_same o new n k (λ l. allow_lane l limit) done due (λ l. refl) is h

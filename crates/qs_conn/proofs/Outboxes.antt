@@ -7,7 +7,7 @@ use Rattle.std.specs.Result.{OnOk, OnErr, IfOk, IfErr}
 use Rattle.qs_send.specs.declared.parts.SendFault.{SendFault}
 use Rattle.qs_send.specs.declared.parts.SendFault.TheVariants.{NoMemory}
 use Rattle.qs_send.specs.declared.piece.Piece.{Piece}
-use Rattle.qs_send.specs.Lane.{SendLane, Sending, new_sending, new_lane, accepted, refusal, reset_refusal, answer_of, write_lane, finish_lane, after_write, after_finish, after_reset, after_allow}
+use Rattle.qs_send.specs.Lane.{SendLane, Sending, new_sending, new_lane, accepted, refusal, reset_refusal, answer_of, write_lane, finish_lane, after_write, after_finish, after_reset, after_stopped, after_allow}
 use Rattle.qs_send.specs.Sound.{IsLawful}
 use Rattle.qs_machine.specs.Tables.{Tables, table, with_table, lookup, update, updated, open_to, no_streams, total}
 use Rattle.qs_machine.specs.Ends.{Records}
@@ -17,7 +17,7 @@ use Rattle.qs_machine.specs.Sums.{or_none, or_no_sending}
 use Rattle.qs_machine.specs.Outgoing.{Outgoing, with_sends, on_lane, sent_sum, lanes_of, with_pending, AreOfOpen, AreTied, IsTied, IsOutbox, HasSending}
 use Rattle.qs_machine.proofs.TableLaws.{total_update, total_open}
 use Rattle.qs_machine.proofs.Carried.{some_is}
-use Rattle.qs_machine.proofs.Tied.{tied_write, tied_finish, tied_reset, tied_allow, tied_flight}
+use Rattle.qs_machine.proofs.Tied.{tied_write, tied_finish, tied_reset, tied_stopped, tied_allow, tied_flight}
 use Rattle.qs_machine.proofs.LaneTables.{lookup_lanes, lane_there, lanes_updated, lanes_opened, lanes_closed, update_lanes}
 use Rattle.qs_machine.proofs.Ties.{ties_none, ties_updated, ties_opened, ties_closed}
 
@@ -78,6 +78,14 @@ same_step e now x is sends = ap (λ y. with_sends y e) sends ∙ is
 
 -- What holds
 
+reset_marks : (code : ℕ) (s : Sending) (b : Bool) → is_some s.lane.was_reset ≡ true → is_some (cond b s.lane (record s.lane { was_reset = Some (record { code = code; size = cond s.lane.fin_sent s.lane.written s.lane.sent_end }) })).was_reset ≡ true
+reset_marks code s true x = x
+reset_marks code s false x = refl
+
+reset_ends : (code : ℕ) (s : Sending) (b : Bool) → (cond b s.lane (record s.lane { was_reset = Some (record { code = code; size = cond s.lane.fin_sent s.lane.written s.lane.sent_end }) })).sent_end ≡ s.lane.sent_end
+reset_ends code s true = refl
+reset_ends code s false = refl
+
 module _ (t t' : Tables Sending) (m : Records) (r : Bool) (ps : List Piece) (k sent spare free : ℕ) (h : IsOutbox t m r ps k sent spare free) where
   pub box_same : t' ≡ t → IsOutbox t' m r ps k sent spare free
   box_same is = subst (λ (x : Tables Sending). IsOutbox x m r ps k sent spare free) (sym is) h
@@ -118,15 +126,14 @@ module _ (t t' : Tables Sending) (m : Records) (r : Bool) (ps : List Piece) (k s
       let s = or_no_sending (lookup t n) in
       let at = half_found t n there in
       box_updated n s (after_reset s code) at (is ∙ ap (updated t n (λ s. after_reset s code)) at) (tied_reset (with_pending m k ps) n s (h.tied.lanes n s at) code)
-      (λ x. marks s (is_some (reset_refusal s.lane)) x) (ends s (is_some (reset_refusal s.lane)))
-    where
-      marks : (s : Sending) (b : Bool) → is_some s.lane.was_reset ≡ true → is_some (cond b s.lane (record s.lane { was_reset = Some (record { code = code; size = cond s.lane.fin_sent s.lane.written s.lane.sent_end }) })).was_reset ≡ true
-      marks s true x = x
-      marks s false x = refl
+      (λ x. reset_marks code s (is_some (reset_refusal s.lane)) x) (reset_ends code s (is_some (reset_refusal s.lane)))
 
-      ends : (s : Sending) (b : Bool) → (cond b s.lane (record s.lane { was_reset = Some (record { code = code; size = cond s.lane.fin_sent s.lane.written s.lane.sent_end }) })).sent_end ≡ s.lane.sent_end
-      ends s true = refl
-      ends s false = refl
+  pub box_stopped : (n code : ℕ) → is_some (lookup t n) ≡ true → t' ≡ updated t n (λ s. after_stopped s code) (lookup t n) → IsOutbox t' m r ps k sent spare free
+  box_stopped n code there is =
+      let s = or_no_sending (lookup t n) in
+      let at = half_found t n there in
+      box_updated n s (after_stopped s code) at (is ∙ ap (updated t n (λ s. after_stopped s code)) at) (tied_stopped (with_pending m k ps) n s (h.tied.lanes n s at) code)
+      (λ x. reset_marks code s (is_some (reset_refusal s.lane)) x) (reset_ends code s (is_some (reset_refusal s.lane)))
 
   pub box_written : (n : ℕ) (bytes : List ℕ) (s : Sending) (res : Result ℕ SendFault) → lookup t n ≡ Some s → IsLawful s
       → IfOk res (λ j. (refusal (or_no_sending (lookup t n)).lane ≡ None) × (j ≡ accepted (or_no_sending (lookup t n)).lane (length bytes)) × (t' ≡ updated t n (λ s. after_write s (take j bytes)) (lookup t n)))

@@ -1,8 +1,9 @@
 //! The sending side of an end.
 ghost use Rattle.std.specs.Prelude.{◌≡◌, ◌≤◌, ◌^◌, ◌<◌, length, take, is_some, option_map, unwrap_or, true, OnOk, OnErr, IfOk, IfErr};
 ghost use Rattle.qs_ranges.specs.Numbers.{MAX_VARINT};
-ghost use Rattle.qs_send.specs.Lane.{Sending, new_lane, accepted, refusal, reset_refusal, answer_of, write_lane, finish_lane, reset_lane, allow_lane};
+ghost use Rattle.qs_send.specs.Lane.{Sending, new_lane, accepted, refusal, reset_refusal, answer_of, write_lane, finish_lane, reset_lane, stopped_lane, allow_lane};
 ghost use Rattle.qs_machine.specs.Tables.{table, with_table, lookup, open_to, kind_of};
+ghost use Rattle.qs_machine.specs.Asking.{stop_of};
 ghost use Rattle.qs_machine.specs.Reports.{send_report};
 ghost use Rattle.qs_machine.specs.Sums.{or_none};
 ghost use Rattle.qs_conn.specs.Ended.{send_over};
@@ -238,6 +239,26 @@ impl Outbox {
         ensures err { OnErr result (self.new ≡ self.old) }
     {
         self.sends.reset(stream, code)
+    }
+
+    /// Takes in a STOP_SENDING of an open stream.
+    pub(crate) fn stopped(&mut self, stream: StreamId, code: u64)
+        requires open { is_some (lookup self.old.sends stream) ≡ true }
+        requires fits { code ≤ MAX_VARINT }
+        ensures { self.new ≡ on_lane stream (λ l. stopped_lane l code) self.old }
+    {
+        self.sends.stopped(stream, code);
+    }
+
+    /// The code of the first STOP_SENDING that came of a stream.
+    pub(crate) fn stop_code(&self, stream: StreamId) -> Option<u64>
+        ensures { result ≡ stop_of (lookup self.now.sends stream) }
+    {
+        if !self.sends.is_open(stream) {
+            return None;
+        }
+        let half = self.sends.get(stream);
+        half.stop_code()
     }
 
     /// Takes in that the peer allows the offsets of an open stream below a limit.

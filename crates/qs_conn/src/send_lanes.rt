@@ -1,7 +1,7 @@
 //! The sending halves of the streams of one type.
 ghost use Rattle.std.specs.Prelude.{◌≡◌, ◌+◌, ◌*◌, ◌≤◌, ◌<◌, ◌^◌, [], length, take, slice_get, slice_index_or, unwrap_or, ℕ, false, None, Some, OnOk, OnErr, IfOk, IfErr, IfSome};
 ghost use Rattle.qs_ranges.specs.Numbers.{MAX_VARINT};
-ghost use Rattle.qs_send.specs.Lane.{Sending, new_sending, accepted, refusal, reset_refusal, answer_of, state, after_write, after_finish, after_reset, after_reset_acked, after_blocked, after_allow, after_sent, after_acked, after_lost};
+ghost use Rattle.qs_send.specs.Lane.{Sending, new_sending, accepted, refusal, reset_refusal, answer_of, state, after_write, after_finish, after_reset, after_stopped, after_reset_acked, after_blocked, after_allow, after_sent, after_acked, after_lost};
 ghost use Rattle.qs_send.specs.Chunks.{IsDueChunk, WasSent};
 ghost use Rattle.qs_machine.specs.Tables.{widened};
 ghost use Rattle.qs_machine.specs.Memory.{ChunkMayRunOut};
@@ -159,6 +159,17 @@ impl SendLanes {
         let answer = half.reset(code);
         self.marks.look(index, half);
         answer
+    }
+
+    /// Takes in a STOP_SENDING of an open half.
+    pub(crate) fn stopped(&mut self, index: usize, code: u64)
+        requires there { index < length self.old }
+        requires fits { code ≤ MAX_VARINT }
+        ensures { self.new ≡ changed self.old index (λ s. after_stopped s code) (slice_get self.old index) }
+    {
+        let half = &mut self.halves[index];
+        half.stopped(code);
+        self.marks.look(index, half);
     }
 
     /// Takes in that the peer allows the offsets of an open half below a limit.

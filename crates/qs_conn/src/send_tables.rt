@@ -1,7 +1,7 @@
 //! The sending halves of an end.
 ghost use Rattle.std.specs.Prelude.{◌≡◌, ◌≤◌, ◌<◌, ◌^◌, ℕ, length, take, is_some, unwrap_or, true, Some, None, OnOk, OnErr, IfOk, IfErr, IfSome};
 ghost use Rattle.qs_ranges.specs.Numbers.{MAX_VARINT};
-ghost use Rattle.qs_send.specs.Lane.{Sending, new_sending, accepted, refusal, reset_refusal, answer_of, state, after_write, after_finish, after_reset, after_reset_acked, after_blocked, after_allow, after_sent, after_acked, after_lost};
+ghost use Rattle.qs_send.specs.Lane.{Sending, new_sending, accepted, refusal, reset_refusal, answer_of, state, after_write, after_finish, after_reset, after_stopped, after_reset_acked, after_blocked, after_allow, after_sent, after_acked, after_lost};
 ghost use Rattle.qs_send.specs.Chunks.{IsDueChunk, WasSent};
 ghost use Rattle.qs_machine.specs.Tables.{no_streams, table, with_table, lookup, updated, open_to, kind_of};
 ghost use Rattle.qs_machine.specs.Memory.{ChunkMayRunOut};
@@ -155,6 +155,16 @@ impl SendTables {
     {
         let lanes = &mut self.types[kind_of(stream)];
         lanes.reset(index_of(stream), code)
+    }
+
+    /// Takes in a STOP_SENDING of an open stream.
+    pub(crate) fn stopped(&mut self, stream: StreamId, code: u64)
+        requires there { is_some (lookup self.old stream) ≡ true }
+        requires fits { code ≤ MAX_VARINT }
+        ensures { self.new ≡ updated self.old stream (λ s. after_stopped s code) (lookup self.old stream) }
+    {
+        let lanes = &mut self.types[kind_of(stream)];
+        lanes.stopped(index_of(stream), code);
     }
 
     /// Takes in that the peer allows the offsets of an open stream below a limit.

@@ -10,7 +10,7 @@ use Rattle.qs_wire.specs.declared.stream_id.Dir.TheVariants.{Bidi, Uni}
 use Rattle.qs_recv.specs.Lane.{RecvLane, new_lane as new_recv_lane, highest, check_stream, check_reset, check_bytes, take_stream, take_reset}
 use Rattle.qs_recv.specs.declared.half.Highest.{Highest}
 use Rattle.qs_recv.specs.declared.half.RecvFault.{RecvFault}
-use Rattle.qs_send.specs.Lane.{SendLane, new_lane as new_send_lane, reset_refusal, reset_lane, allow_lane}
+use Rattle.qs_send.specs.Lane.{SendLane, new_lane as new_send_lane, reset_refusal, reset_lane, first_code, stopped_lane, allow_lane}
 use Rattle.qs_send.specs.Records.{Among}
 use Rattle.qs_send.specs.declared.piece.Item.{Item}
 use Rattle.qs_send.specs.declared.piece.Item.TheVariants.{MaxData, MaxStreamData, MaxStreams, ResetStream, StopSending, DataBlocked, StreamDataBlocked, StreamsBlocked}
@@ -30,7 +30,7 @@ use Rattle.qs_machine.proofs.Taken.{out_there, in_there, stream_in, reset_in, st
 use Rattle.qs_machine.proofs.CallsSound.{no_fault_there}
 use Rattle.qs_machine.proofs.LanesAgain.{LaneAfter, HasData, HasReset, data_stays, data_taken, data_again, reset_stays, reset_taken, reset_again}
 use Rattle.qs_machine.proofs.TablesAfter.{still_open, updated_back, open_back}
-use Rattle.qs_machine.proofs.EndsAfter.{HalfAfter, IsAfter, IsBare, after_same, after_twice, after_opened, after_frame, mid_stream, mid_reset, mid_allow, mid_stop, lawful_in, sent_stays}
+use Rattle.qs_machine.proofs.EndsAfter.{HalfAfter, IsAfter, IsBare, after_same, after_twice, after_opened, after_frame, mid_stream, mid_reset, mid_allow, mid_stop, has_code, lawful_in, sent_stays}
 use Rattle.qs_machine.proofs.AcksAgain.{named_bare, named_again}
 
 -- Openings
@@ -162,7 +162,7 @@ ItemDone (MaxStreamData n m) e = (state_fault_out e n ≡ None) × WasOpened e n
 ItemDone (MaxStreams Bidi m) e = m ≤ e.known_bidi
 ItemDone (MaxStreams Uni m) e = m ≤ e.known_uni
 ItemDone (ResetStream n code size) e = (state_fault_in e n ≡ None) × WasOpened e n × (l : RecvLane) × (lookup e.recvs n ≡ Some l) × HasReset l size
-ItemDone (StopSending n code) e = (state_fault_out e n ≡ None) × WasOpened e n × (l : SendLane) × (lookup e.sends n ≡ Some l) × (is_some (reset_refusal l) ≡ true)
+ItemDone (StopSending n code) e = (state_fault_out e n ≡ None) × WasOpened e n × (l : SendLane) × (lookup e.sends n ≡ Some l) × (is_some (reset_refusal l) ≡ true) × (is_some l.stopped ≡ true)
 ItemDone (DataBlocked m) e = ⊤
 ItemDone (StreamDataBlocked n m) e = (state_fault_in e n ≡ None) × WasOpened e n
 ItemDone (StreamsBlocked d m) e = ⊤
@@ -186,9 +186,9 @@ item_stays (MaxStreams Uni m) a b x h = omega (arith, h, x.uni)
 item_stays (ResetStream n code size) a b x (fine, was, l, is, has) =
     let (k, there, r) = x.recvs n l is in
     (in_stays n a b x fine, opened_stays n a b x was, k, there, reset_stays l k size r has)
-item_stays (StopSending n code) a b x (fine, was, l, is, refused) =
+item_stays (StopSending n code) a b x (fine, was, l, is, refused, told) =
     let (k, there, r) = x.sends n l is in
-    (out_stays n a b x fine, opened_stays n a b x was, k, there, r.refused refused)
+    (out_stays n a b x fine, opened_stays n a b x was, k, there, r.refused refused, r.stopped told)
 item_stays (DataBlocked m) a b x h = tt
 item_stays (StreamDataBlocked n m) a b x (fine, was) = (in_stays n a b x fine, opened_stays n a b x was)
 item_stays (StreamsBlocked d m) a b x h = tt
@@ -236,7 +236,7 @@ item_done (StopSending n code) e v sound =
     let mid = opened_by_peer n e in
     let x = mid_stop n code e in
     let (l, is) = the_half (lookup mid.sends n) (out_there e mid n v refl) in
-    (out_stays n e _ (after_twice e mid _ (after_opened n e) x) v, opened_stays n mid _ x (was_opened n e), reset_lane l code, changed mid.sends n (λ k. reset_lane k code) l is, refused_then l code)
+    (out_stays n e _ (after_twice e mid _ (after_opened n e) x) v, opened_stays n mid _ x (was_opened n e), stopped_lane l code, changed mid.sends n (λ k. stopped_lane k code) l is, refused_then l code, has_code l.stopped code)
 item_done (DataBlocked m) e v sound = tt
 item_done (StreamDataBlocked n m) e v sound = (in_stays n e _ (after_opened n e) v, was_opened n e)
 item_done (StreamsBlocked d m) e v sound = tt
@@ -293,6 +293,14 @@ max_known a m le = omega (arith, le)
 refused_back : (l : SendLane) (code : ℕ) → is_some (reset_refusal l) ≡ true → reset_lane l code ≡ l
 refused_back l code is = ap (λ b. cond b l (record l { was_reset = Some (record { code = code; size = cond l.fin_sent l.written l.sent_end }) })) is
 
+first_stays : (o : Option ℕ) (code : ℕ) → is_some o ≡ true → first_code o code ≡ o
+first_stays None code h = absurd (both_ways false refl h)
+first_stays (Some first) code h = refl
+
+stopped_back : (l : SendLane) (code : ℕ) → is_some (reset_refusal l) ≡ true → is_some l.stopped ≡ true → stopped_lane l code ≡ l
+stopped_back l code refused told =
+    ap (λ (k : SendLane). record k { stopped = first_code l.stopped code }) (refused_back l code refused) ∙ ap (λ o. record l { stopped = o }) (first_stays l.stopped code told)
+
 allow_back : (l : SendLane) (m : ℕ) → m ≤ l.limit → allow_lane l m ≡ l
 allow_back l m le = ap (λ k. record l { limit = k }) (max_known l.limit m le)
 
@@ -304,7 +312,7 @@ item_again (MaxStreams Uni m) e le sound = (refl, ap (λ k. record e { known_uni
 item_again (ResetStream n code size) e (fine, was, l, is, has) sound =
     let h = reset_again l code size has in
     (in_again n l e (λ k. check_reset k size) fine is h.0 sound, recv_back n (λ k. take_reset k code size) l e was is h.1)
-item_again (StopSending n code) e (fine, was, l, is, refused) sound = (fine, send_back n (λ k. reset_lane k code) l e was is (refused_back l code refused))
+item_again (StopSending n code) e (fine, was, l, is, refused, told) sound = (fine, send_back n (λ k. stopped_lane k code) l e was is (stopped_back l code refused told))
 item_again (DataBlocked m) e h sound = (refl, refl)
 item_again (StreamDataBlocked n m) e (fine, was) sound = (fine, opened_back n e was)
 item_again (StreamsBlocked d m) e h sound = (refl, refl)

@@ -8,7 +8,7 @@ use Rattle.qs_wire.specs.declared.stream_id.Dir.{Dir}
 use Rattle.qs_wire.specs.declared.stream_id.Dir.TheVariants.{Bidi, Uni}
 use Rattle.qs_recv.specs.Lane.{RecvLane, new_lane as new_recv_lane, check_stream, check_reset, take_stream, take_reset, raise}
 use Rattle.qs_recv.specs.Lawful.{IsLawful}
-use Rattle.qs_send.specs.Lane.{SendLane, new_lane as new_send_lane, reset_refusal, is_whole, acked_lane, reset_lane, reset_acked_lane, allow_lane}
+use Rattle.qs_send.specs.Lane.{SendLane, new_lane as new_send_lane, reset_refusal, is_whole, acked_lane, reset_lane, first_code, stopped_lane, reset_acked_lane, allow_lane}
 use Rattle.qs_send.specs.Records.{Among, IsCarried, without_first}
 use Rattle.qs_send.specs.declared.parts.Chunk.{Chunk}
 use Rattle.qs_send.specs.declared.parts.SendFault.{SendFault}
@@ -42,24 +42,34 @@ pub record HalfAfter (l m : SendLane) : Type 0 where
   pub limit : l.limit ≤ m.limit
   pub written : l.written ≤ m.written
   pub refused : is_some (reset_refusal l) ≡ true → is_some (reset_refusal m) ≡ true
+  pub stopped : is_some l.stopped ≡ true → is_some m.stopped ≡ true
   pub ended : SendStays l m
 
 pub half_same : (l : SendLane) → HalfAfter l l
-half_same l = record { limit = omega arith; written = omega arith; refused = λ is. is; ended = λ is. is }
+half_same l = record { limit = omega arith; written = omega arith; refused = λ is. is; stopped = λ is. is; ended = λ is. is }
 
 pub half_twice : (l m k : SendLane) → HalfAfter l m → HalfAfter m k → HalfAfter l k
-half_twice l m k a b = record { limit = omega (arith, a.limit, b.limit); written = omega (arith, a.written, b.written); refused = λ is. b.refused (a.refused is); ended = λ is. b.ended (a.ended is) }
+half_twice l m k a b = record { limit = omega (arith, a.limit, b.limit); written = omega (arith, a.written, b.written); refused = λ is. b.refused (a.refused is); stopped = λ is. b.stopped (a.stopped is); ended = λ is. b.ended (a.ended is) }
 
 half_allow : (l : SendLane) (m : ℕ) → HalfAfter l (allow_lane l m)
-half_allow l m = record { limit = omega arith; written = omega arith; refused = λ is. is; ended = λ is. is }
+half_allow l m = record { limit = omega arith; written = omega arith; refused = λ is. is; stopped = λ is. is; ended = λ is. is }
 
 half_reset : (l : SendLane) (code : ℕ) → HalfAfter l (reset_lane l code)
 half_reset l code =
     cond_both (is_some (reset_refusal l)) l (reset_by code l) (HalfAfter l) (λ _. half_same l) (λ allowed.
-    record { limit = omega arith; written = omega arith; refused = λ is. refl; ended = new_reset_keeps code l allowed })
+    record { limit = omega arith; written = omega arith; refused = λ is. refl; stopped = λ is. is; ended = new_reset_keeps code l allowed })
+
+pub has_code : (o : Option ℕ) (code : ℕ) → is_some (first_code o code) ≡ true
+has_code None code = refl
+has_code (Some first) code = refl
+
+half_stopped : (l : SendLane) (code : ℕ) → HalfAfter l (stopped_lane l code)
+half_stopped l code =
+    let r = half_reset l code in
+    record { limit = r.limit; written = r.written; refused = r.refused; stopped = λ is. has_code l.stopped code; ended = r.ended }
 
 half_reset_acked : (l : SendLane) → HalfAfter l (reset_acked_lane l)
-half_reset_acked l = record { limit = omega arith; written = omega arith; refused = λ is. is; ended = reset_acked_keeps l }
+half_reset_acked l = record { limit = omega arith; written = omega arith; refused = λ is. is; stopped = λ is. is; ended = reset_acked_keeps l }
 
 refused_more : (a b c : Bool) → (b ≡ true → c ≡ true) → is_some {T = SendFault} (cond a (Some WasReset) (cond b (Some Finished) None)) ≡ true → is_some {T = SendFault} (cond a (Some WasReset) (cond c (Some Finished) None)) ≡ true
 refused_more true b c more is = refl
@@ -73,6 +83,7 @@ half_acked l c within =
       limit = omega arith;
       written = omega arith;
       refused = refused_more (is_some l.was_reset) (is_whole l) (is_whole (acked_lane l c)) (whole_acked l c within);
+      stopped = λ is. is;
       ended = acked_keeps l c within;
     }
 
@@ -365,8 +376,8 @@ mid_reset n code size e v sound =
 pub mid_allow : (n m : ℕ) (e : End) → IsAfter (opened_by_peer n e) (on_send n (λ l. allow_lane l m) (opened_by_peer n e))
 mid_allow n m e = after_send n (λ l. allow_lane l m) (opened_by_peer n e) (λ l is. half_allow l m)
 
-pub mid_stop : (n code : ℕ) (e : End) → IsAfter (opened_by_peer n e) (on_send n (λ l. reset_lane l code) (opened_by_peer n e))
-mid_stop n code e = after_send n (λ l. reset_lane l code) (opened_by_peer n e) (λ l is. half_reset l code)
+pub mid_stop : (n code : ℕ) (e : End) → IsAfter (opened_by_peer n e) (on_send n (λ l. stopped_lane l code) (opened_by_peer n e))
+mid_stop n code e = after_send n (λ l. stopped_lane l code) (opened_by_peer n e) (λ l is. half_stopped l code)
 
 after_item : (i : Item) (e : End) → verdict e (Control i) ≡ None → IsInCredit e → IsAfter e (item_taken i e)
 after_item (MaxData m) e v h = after_known e _ e.known_bidi e.known_uni (omega arith) (omega arith) (omega arith)

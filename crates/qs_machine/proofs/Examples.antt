@@ -9,7 +9,7 @@ use Rattle.qs_recv.specs.Assembled.{front, same, store}
 use Rattle.qs_recv.specs.Bytes.{byte_at}
 use Rattle.qs_recv.proofs.AssembledLaws.{contains-with_run, get-keep_from, get-store, is_in_run}
 use Rattle.qs_recv.proofs.SameLaws.{same_none, same_true}
-use Rattle.qs_send.specs.Lane.{SendLane, new_lane, write_lane, sent_lane, reset_lane, unacked_from, state}
+use Rattle.qs_send.specs.Lane.{SendLane, new_lane, write_lane, sent_lane, reset_lane, stopped_lane, unacked_from, state}
 use Rattle.qs_send.specs.declared.parts.SendFault.TheVariants.{Finished}
 use Rattle.qs_ranges.specs.Numbers.{numbers, end_of}
 use Rattle.qs_ranges.proofs.Sets.{end_of-empty, end_of-with_range}
@@ -180,8 +180,8 @@ stop : StopResets
 unfolding frame_taken lookup update open_to sent_three
 stop =
     record {
-      tells = (reset_lane sent_three 7, refl, ap (λ (l : SendLane). l.was_reset) was_reset);
-      state_is = (reset_lane sent_three 7, refl, ap state was_reset);
+      tells = (stopped_lane sent_three 7, refl, ap (λ (l : SendLane). l.was_reset) was_reset);
+      state_is = (stopped_lane sent_three 7, refl, ap state was_reset);
     }
 
 blocked_stream : BlockedIsTold

@@ -15,7 +15,7 @@ use Rattle.qs_recv.specs.Lane.{RecvLane, new_lane as new_recv_lane, take_stream,
 use Rattle.qs_recv.specs.declared.half.Read.{Read}
 use Rattle.qs_recv.specs.declared.half.Read.TheVariants as reads
 use Rattle.qs_recv.proofs.LawfulLaws.{raised_grows}
-use Rattle.qs_send.specs.Lane.{SendLane, new_lane as new_send_lane, refusal, reset_refusal, accepted, write_lane, finish_lane, reset_lane, acked_lane, allow_lane, reset_acked_lane, blocked_lane, sent_lane}
+use Rattle.qs_send.specs.Lane.{SendLane, new_lane as new_send_lane, refusal, reset_refusal, accepted, write_lane, finish_lane, reset_lane, stopped_lane, acked_lane, allow_lane, reset_acked_lane, blocked_lane, sent_lane}
 use Rattle.qs_send.specs.declared.piece.Item.{Item}
 use Rattle.qs_send.specs.declared.piece.Item.TheVariants.{MaxData, MaxStreamData, MaxStreams, ResetStream, StopSending, DataBlocked, StreamDataBlocked, StreamsBlocked}
 use Rattle.qs_send.specs.declared.piece.Piece.{Piece}
@@ -202,7 +202,7 @@ rises_item (MaxStreamData n m) e = opened_send n (λ l. allow_lane l m) e (λ l.
 rises_item (MaxStreams Bidi m) e = (le_same e.granted, le_same e.known_data, omega arith, le_same e.known_uni, rise_same (λ l. l.limit) e.recvs, rise_same (λ l. l.limit) e.sends)
 rises_item (MaxStreams Uni m) e = (le_same e.granted, le_same e.known_data, le_same e.known_bidi, omega arith, rise_same (λ l. l.limit) e.recvs, rise_same (λ l. l.limit) e.sends)
 rises_item (ResetStream n code size) e = opened_recv n (λ l. take_reset l code size) e (took_reset_limit code size)
-rises_item (StopSending n code) e = opened_send n (λ l. reset_lane l code) e (reset_limit code)
+rises_item (StopSending n code) e = opened_send n (λ l. stopped_lane l code) e (reset_limit code)
 rises_item (DataBlocked m) e = rises_same e
 rises_item (StreamDataBlocked n m) e = rises_opened n e
 rises_item (StreamsBlocked d m) e = rises_same e

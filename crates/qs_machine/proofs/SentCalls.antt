@@ -11,7 +11,7 @@ use Rattle.qs_wire.specs.declared.stream_id.Dir.{Dir}
 use Rattle.qs_wire.specs.declared.stream_id.Dir.TheVariants.{Bidi, Uni}
 use Rattle.qs_recv.specs.Lane.{after_read, stop}
 use Rattle.qs_recv.specs.declared.half.Read.{Read}
-use Rattle.qs_send.specs.Lane.{SendLane, new_lane as new_send_lane, refusal, reset_refusal, accepted, write_lane, finish_lane, reset_lane, acked_lane, allow_lane, reset_acked_lane, blocked_lane, sent_lane}
+use Rattle.qs_send.specs.Lane.{SendLane, new_lane as new_send_lane, refusal, reset_refusal, accepted, write_lane, finish_lane, reset_lane, stopped_lane, acked_lane, allow_lane, reset_acked_lane, blocked_lane, sent_lane}
 use Rattle.qs_send.specs.declared.piece.Item.{Item}
 use Rattle.qs_send.specs.declared.piece.Item.TheVariants.{MaxData, MaxStreamData, MaxStreams, ResetStream, StopSending, DataBlocked, StreamDataBlocked, StreamsBlocked}
 use Rattle.qs_send.specs.declared.piece.Piece.{Piece}
@@ -148,7 +148,7 @@ keeps_item (MaxStreamData n m) e = opened_send n (λ l. allow_lane l m) e longer
 keeps_item (MaxStreams Bidi m) e = keeps_same e
 keeps_item (MaxStreams Uni m) e = keeps_same e
 keeps_item (ResetStream n code size) e = keeps_opened n e
-keeps_item (StopSending n code) e = opened_send n (λ l. reset_lane l code) e (reset_written code)
+keeps_item (StopSending n code) e = opened_send n (λ l. stopped_lane l code) e (reset_written code)
 keeps_item (DataBlocked m) e = keeps_same e
 keeps_item (StreamDataBlocked n m) e = keeps_opened n e
 keeps_item (StreamsBlocked d m) e = keeps_same e

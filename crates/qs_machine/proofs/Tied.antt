@@ -11,7 +11,7 @@ use Rattle.qs_send.specs.declared.parts.SendFault.TheVariants.{Finished, WasRese
 use Rattle.qs_send.specs.declared.piece.Item.{Item}
 use Rattle.qs_send.specs.declared.piece.Piece.{Piece}
 use Rattle.qs_send.specs.declared.piece.Piece.TheVariants.{Data, Told}
-use Rattle.qs_send.specs.Lane.{Sending, new_sending, refusal, reset_refusal, finish_lane, after_write, after_finish, after_reset, after_reset_acked, after_blocked, after_allow, after_sent, after_acked, after_lost, lost_due}
+use Rattle.qs_send.specs.Lane.{Sending, new_sending, refusal, reset_refusal, finish_lane, after_write, after_finish, after_reset, after_stopped, after_reset_acked, after_blocked, after_allow, after_sent, after_acked, after_lost, lost_due}
 use Rattle.qs_send.specs.Chunks.{IsDueChunk}
 use Rattle.qs_send.specs.Parts.{in_flight}
 use Rattle.qs_send.specs.Sound.{IsLawful}
@@ -180,6 +180,18 @@ module _ (m : Records) (n : ℕ) (s : Sending) (t : IsTied m n s) where
 
   pub tied_reset : (code : ℕ) → IsTied m n (after_reset s code)
   tied_reset code = reset_by code (is_some (reset_refusal s.lane))
+
+  pub tied_stopped : (code : ℕ) → IsTied m n (after_stopped s code)
+  tied_stopped code =
+      let r = tied_reset code in
+      record {
+        id = r.id;
+        sent = λ c out. (let w = r.sent c out in record { offsets = w.offsets; end = w.end });
+        not_due = r.not_due;
+        flies = r.flies;
+        end_not_due = r.end_not_due;
+        end_flies = r.end_flies;
+      }
 
 -- A chunk goes out
 

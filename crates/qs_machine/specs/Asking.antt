@@ -42,6 +42,15 @@ waits_for_credit used_up (Some l) = is_none l.was_reset && nat_lt l.sent_end l.w
 abbrev pub is_blocked : End → ℕ → Bool
 is_blocked e n = waits_for_credit (all_sent e == e.known_data) (send_lane e n)
 
+-- the code of the first STOP_SENDING that a sending half took in (RFC 9000, section 3.5)
+abbrev pub stop_of : Option SendLane → Option ℕ
+stop_of None = None
+stop_of (Some l) = l.stopped
+
+-- the same of a stream at this end, None where no STOP_SENDING came (RFC 9000, sections 3.5 and 19.5)
+abbrev pub stopped_with : End → ℕ → Option ℕ
+stopped_with e n = stop_of (send_lane e n)
+
 -- the least number from one on of an outstanding packet (RFC 9000, section 13.3)
 pub record IsLeastFrom (m : Records) (from k : ℕ) : Type 0 where
   pub held : fmap.contains_key m k ≡ true

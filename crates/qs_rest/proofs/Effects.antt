@@ -8,7 +8,7 @@ use Rattle.qs_ranges.proofs.Sets.{covers-is, covers-of}
 use Rattle.qs_wire.specs.declared.stream_id.Dir.TheVariants.{Bidi, Uni}
 use Rattle.qs_recv.specs.Assembled.{discard}
 use Rattle.qs_recv.specs.Lane.{RecvLane, take_reset, is_whole, whole_to}
-use Rattle.qs_send.specs.Lane.{SendLane, allow_lane, reset_lane, unacked_from, is_whole as send_whole}
+use Rattle.qs_send.specs.Lane.{SendLane, allow_lane, reset_lane, stopped_lane, unacked_from, is_whole as send_whole}
 use Rattle.qs_send.specs.declared.parts.SendFault.TheVariants.{Finished, WasReset}
 use Rattle.qs_send.specs.declared.piece.Item.{Item}
 use Rattle.qs_send.specs.declared.piece.Item.TheVariants.{MaxData, MaxStreamData, MaxStreams, ResetStream, StopSending, DataBlocked, StreamDataBlocked, StreamsBlocked}
@@ -132,6 +132,9 @@ module _ (p : Past) (n limit : ℕ) (l : SendLane) (h : SendOk p n limit l) wher
       go false true ea eb = inr (all_acked eb)
       go false false ea eb = inl refl
 
+  stopped_or_acked : (code : ℕ) → (is_some (stopped_lane l code).was_reset ≡ true) ⊎ IsAllAcked (stopped_lane l code)
+  stopped_or_acked code = elim (reset_or_acked code) [ inl reset ↦ inl reset | inr all ↦ inr (record { finished = all.finished; end = all.end; offsets = all.offsets }) ]
+
 module _ (p : Past) (e : End) (ok : EndOk p e) where
   item_done : (i : Item) → Tells p.theirs (Control i) → item_verdict e i ≡ None → Effect p e (item_taken i e) (Control i) → ItemTaken (item_taken i e) (Control i)
   item_done (MaxData m) t fine h = omega arith
@@ -152,7 +155,7 @@ module _ (p : Past) (e : End) (ok : EndOk p e) where
       let (l, is) = send_open e n fine in
       let opened : EndOk p (opened_by_peer n e) = opened_ok p e n ok (named_by p _ n t refl) (is_own e n) refl in
       let half = subst (SendSlot p n (first_send_limit (opened_by_peer n e) n)) is (opened.sends n) in
-      (reset_lane l code, changed_at (opened_by_peer n e).sends n (λ x. reset_lane x code) l is, reset_or_acked p n (first_send_limit (opened_by_peer n e) n) l half code)
+      (stopped_lane l code, changed_at (opened_by_peer n e).sends n (λ x. stopped_lane x code) l is, stopped_or_acked p n (first_send_limit (opened_by_peer n e) n) l half code)
   item_done (DataBlocked m) t fine h = tt
   item_done (StreamDataBlocked n m) t fine h = tt
   item_done (StreamsBlocked d m) t fine h = tt

@@ -5,7 +5,7 @@ use Rattle.std.proofs.lemmas.List.{length-take}
 use Rattle.std.proofs.lemmas.Option.{none-some}
 use Rattle.std.proofs.lemmas.Bool.{cond_both, or_left, false≢true}
 use Rattle.qs_ranges.specs.Numbers.{MAX_VARINT}
-use Rattle.qs_send.specs.Lane.{SendLane, accepted, refusal, reset_refusal, write_lane, finish_lane, reset_lane, sent_lane, blocked_lane, allow_lane, acked_lane, reset_acked_lane}
+use Rattle.qs_send.specs.Lane.{SendLane, accepted, refusal, reset_refusal, write_lane, finish_lane, reset_lane, stopped_lane, sent_lane, blocked_lane, allow_lane, acked_lane, reset_acked_lane}
 use Rattle.qs_send.specs.declared.parts.Chunk.{Chunk}
 use Rattle.qs_send.specs.declared.parts.SendFault.TheVariants.{Finished, WasReset}
 use Rattle.qs_runs.specs.Pasts.{Past}
@@ -43,6 +43,11 @@ pub reset_lasts : (code : ℕ) (l : SendLane) → Lasts l (reset_lane l code)
 reset_lasts code l =
     cond_both (is_some (reset_refusal l)) l (record l { was_reset = Some (record { code = code; size = cond l.fin_sent l.written l.sent_end }) }) (Lasts l) (λ _. lasts_same l) (λ _.
     record { limit = omega arith; reset = λ is. refl; whole = λ h. record { finished = h.finished; end = h.end; offsets = h.offsets } })
+
+pub stopped_lasts : (code : ℕ) (l : SendLane) → Lasts l (stopped_lane l code)
+stopped_lasts code l =
+    let r = reset_lasts code l in
+    record { limit = r.limit; reset = r.reset; whole = λ h. (let all = r.whole h in record { finished = all.finished; end = all.end; offsets = all.offsets }) }
 
 pub sent_lasts : (l : SendLane) (c : Chunk) → Lasts l (sent_lane l c)
 sent_lasts l c = record { limit = omega arith; reset = λ is. is; whole = λ h. record { finished = h.finished; end = h.end; offsets = h.offsets } }
@@ -86,6 +91,9 @@ module _ (p : Past) (n first : ℕ) (l : SendLane) (h : HalfTrue p n first l) wh
   reset_true code =
       cond_both (is_some (reset_refusal l)) l (record l { was_reset = Some (record { code = code; size = cond l.fin_sent l.written l.sent_end }) }) (HalfTrue p n first) (λ _. h) (λ _.
       record { first_limit = h.first_limit; small = h.small; reset_told = h.reset_told })
+
+  pub stopped_true : (code : ℕ) → HalfTrue p n first (stopped_lane l code)
+  stopped_true code = (let r = reset_true code in record { first_limit = r.first_limit; small = r.small; reset_told = r.reset_told })
 
   pub sent_true : (c : Chunk) → HalfTrue p n first (sent_lane l c)
   sent_true c = record { first_limit = h.first_limit; small = h.small; reset_told = h.reset_told }

@@ -7,7 +7,7 @@ use Rattle.std.specs.List.{AllByRecursion}
 use Rattle.std.specs.FinMap as fmap
 use Rattle.qs_wire.specs.declared.stream_id.Dir.{Dir}
 use Rattle.qs_wire.specs.declared.stream_id.Dir.TheVariants.{Bidi, Uni}
-use Rattle.qs_send.specs.Lane.{SendLane, new_lane as new_send_lane, accepted, refusal, write_lane, finish_lane, reset_lane, sent_lane, blocked_lane, allow_lane, acked_lane, reset_acked_lane}
+use Rattle.qs_send.specs.Lane.{SendLane, new_lane as new_send_lane, accepted, refusal, write_lane, finish_lane, reset_lane, stopped_lane, sent_lane, blocked_lane, allow_lane, acked_lane, reset_acked_lane}
 use Rattle.qs_send.specs.declared.piece.Item.{Item}
 use Rattle.qs_send.specs.declared.piece.Item.TheVariants.{MaxData, MaxStreamData, MaxStreams, ResetStream, StopSending, DataBlocked, StreamDataBlocked, StreamsBlocked}
 use Rattle.qs_send.specs.declared.piece.Piece.{Piece}
@@ -25,7 +25,7 @@ use Rattle.qs_runs.specs.Pasts.{Past}
 use Rattle.qs_runs.proofs.Members.{insert-cases, get-inserted}
 use Rattle.qs_runs.proofs.Acking.{WasAcked}
 use Rattle.qs_rest.specs.Invariant.{WasTold, AckedTrue, HalfTrue}
-use Rattle.qs_rest.proofs.Halves.{Lasts, lasts_same, lasts_twice, write_lasts, finish_lasts, reset_lasts, sent_lasts, blocked_lasts, allow_lasts, acked_lasts, reset_acked_lasts, write_true, finish_true, reset_true, sent_true, blocked_true, allow_true, acked_true, reset_acked_true}
+use Rattle.qs_rest.proofs.Halves.{Lasts, lasts_same, lasts_twice, write_lasts, finish_lasts, reset_lasts, stopped_lasts, sent_lasts, blocked_lasts, allow_lasts, acked_lasts, reset_acked_lasts, write_true, finish_true, reset_true, stopped_true, sent_true, blocked_true, allow_true, acked_true, reset_acked_true}
 use Rattle.qs_rest.proofs.EachCall.{Edits}
 
 -- what holds of a sending half that is open
@@ -277,7 +277,7 @@ module _ (p : Past) where
   item_moved (ResetStream n code size) e all acked =
       let h = opened_moved n e all acked in
       record { role = h.role; peer = h.peer; conn = h.conn; bidi = h.bidi; uni = h.uni; sends = h.sends; halves = h.halves; acked = h.acked }
-  item_moved (StopSending n code) e all acked = changed_moved n (λ l. reset_lane l code) e all acked (reset_lasts code) (λ l h. reset_true p n _ l h code)
+  item_moved (StopSending n code) e all acked = changed_moved n (λ l. stopped_lane l code) e all acked (stopped_lasts code) (λ l h. stopped_true p n _ l h code)
   item_moved (DataBlocked m) e all acked = moved_same e all acked
   item_moved (StreamDataBlocked n m) e all acked = opened_moved n e all acked
   item_moved (StreamsBlocked d m) e all acked = moved_same e all acked

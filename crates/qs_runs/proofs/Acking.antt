@@ -7,7 +7,7 @@ use Rattle.std.specs.FinSet as set
 use Rattle.std.specs.List.{AllByRecursion, filter}
 use Rattle.qs_ranges.specs.Numbers.{missing_from}
 use Rattle.qs_wire.specs.declared.stream_id.Dir.TheVariants.{Bidi, Uni}
-use Rattle.qs_send.specs.Lane.{SendLane, allow_lane, reset_lane, reset_refusal, acked_lane, reset_acked_lane, unacked_from, chunk_offsets}
+use Rattle.qs_send.specs.Lane.{SendLane, allow_lane, reset_lane, stopped_lane, reset_refusal, acked_lane, reset_acked_lane, unacked_from, chunk_offsets}
 use Rattle.qs_send.specs.declared.parts.Chunk.{Chunk}
 use Rattle.qs_send.specs.declared.parts.Reset.{Reset}
 use Rattle.qs_send.specs.declared.piece.Item.{Item}
@@ -82,6 +82,24 @@ module _ (p : Past) (n limit : ℕ) (l : SendLane) (h : SendOk p n limit l) wher
   -- a reset tells the sent end, once (RFC 9000, section 4.5)
   pub reset_ok : (code : ℕ) → SendOk p n limit (reset_lane l code)
   reset_ok code = reset_by code (is_some (reset_refusal l)) refl
+
+  -- a STOP_SENDING keeps its code beside that (RFC 9000, section 3.5)
+  pub stopped_ok : (code : ℕ) → SendOk p n limit (stopped_lane l code)
+  stopped_ok code =
+      let r = reset_ok code in
+      record {
+        count = r.count;
+        kept = r.kept;
+        sent_written = r.sent_written;
+        sent_limit = r.sent_limit;
+        end = r.end;
+        reset_size = r.reset_size;
+        told = r.told;
+        told_reset = r.told_reset;
+        acked = r.acked;
+        end_acked = r.end_acked;
+        limit_told = r.limit_told;
+      }
 
   end_by : (code : ℕ) (b : Bool) → (if b then l else record l { was_reset = Some (record { code = code; size = if l.fin_sent then l.written else l.sent_end }) }).sent_end ≡ l.sent_end
   end_by code true = refl

@@ -8,10 +8,10 @@ use Rattle.qs_send.specs.declared.parts.Chunk.{Chunk}
 use Rattle.qs_send.specs.declared.parts.Reset.{Reset}
 use Rattle.qs_send.specs.declared.parts.SendFault.{SendFault}
 use Rattle.qs_send.specs.declared.parts.SendFault.TheVariants.{Finished, WasReset}
-use Rattle.qs_send.specs.Lane.{Sending, SendLane, refusal, reset_refusal, is_whole, size_of, declared_size, finish_lane, lost_due, after_write}
+use Rattle.qs_send.specs.Lane.{Sending, SendLane, refusal, reset_refusal, is_whole, size_of, declared_size, finish_lane, lost_due, after_write, after_reset, after_stopped}
 use Rattle.qs_send.specs.Chunks.{IsDueChunk, WasSent}
 use Rattle.qs_send.specs.Sound.{IsLawful, IsEnded}
-use Rattle.qs_send.specs.Calls.{writes, finishes, resets, acks_reset, blocks, allows, sends, acks, loses}
+use Rattle.qs_send.specs.Calls.{writes, finishes, resets, stops, acks_reset, blocks, allows, sends, acks, loses}
 use Rattle.qs_send.specs.Laws.{CallsKeepLawful, DeclaredSizeIsSentEnd, DeclaredSizeStays, OnlyNewBytesSpend}
 use Rattle.qs_send.proofs.Steps.{lawful_write, lawful_reset, lawful_sent, lawful_acked, lawful_lost, due_within, none_due, reset_size-is}
 
@@ -57,6 +57,11 @@ lost_by : (s : Sending) (c : Chunk) (b : Bool) → is_some s.lane.was_reset ≡ 
 lost_by s c true e sent h = h
 lost_by s c false e sent h = lawful_lost s c e sent h
 
+-- the code of a STOP_SENDING is all that it keeps beside what a reset does
+pub lawful_stopped : (s : Sending) (code : ℕ) → IsLawful (after_reset s code) → IsLawful (after_stopped s code)
+lawful_stopped s code h =
+    record { order = record { small_id = h.order.small_id; small = h.order.small; small_limit = h.order.small_limit; sent_written = h.order.sent_written; sent_limit = h.order.sent_limit; reset_size = h.order.reset_size }; bytes = record { from = h.bytes.from; buffered = h.bytes.buffered }; parts = h.parts; ends = h.ends }
+
 pub calls_keep_lawful : CallsKeepLawful
 calls_keep_lawful s (writes bytes) h may =
     let free = not_refused _ _ may.0 in
@@ -67,6 +72,7 @@ calls_keep_lawful s (writes bytes) h may =
 calls_keep_lawful s finishes h may =
     finish_by s (refusal s.lane) h (λ none. let free = not_refused _ _ none in lawful_finish s h free.0 free.1)
 calls_keep_lawful s (resets code) h may = reset_by s code (is_some (reset_refusal s.lane)) h
+calls_keep_lawful s (stops code) h may = lawful_stopped s code (reset_by s code (is_some (reset_refusal s.lane)) h)
 calls_keep_lawful s acks_reset h may =
     record { order = record { small_id = h.order.small_id; small = h.order.small; small_limit = h.order.small_limit; sent_written = h.order.sent_written; sent_limit = h.order.sent_limit; reset_size = h.order.reset_size }; bytes = record { from = h.bytes.from; buffered = h.bytes.buffered }; parts = h.parts; ends = h.ends }
 calls_keep_lawful s blocks h may =
@@ -144,6 +150,7 @@ pub declared_size_stays : DeclaredSizeStays
 declared_size_stays s (writes bytes) size h may is = write_keeps s bytes size h may.0 is
 declared_size_stays s finishes size h may is = finish_keeps s (is_some (refusal s.lane)) size is
 declared_size_stays s (resets code) size h may is = reset_keeps s.lane code size s.lane.was_reset (is_whole s.lane) refl is
+declared_size_stays s (stops code) size h may is = reset_keeps s.lane code size s.lane.was_reset (is_whole s.lane) refl is
 declared_size_stays s acks_reset size h may is = is
 declared_size_stays s blocks size h may is = is
 declared_size_stays s (allows limit) size h may is = is
@@ -184,6 +191,7 @@ pub only_new_bytes_spend : OnlyNewBytesSpend
 only_new_bytes_spend s (writes bytes) h may = nothing_new _ _ _ refl
 only_new_bytes_spend s finishes h may = nothing_new _ _ _ (finish_sends s (is_some (refusal s.lane)))
 only_new_bytes_spend s (resets code) h may = nothing_new _ _ _ (reset_sends s.lane _ (is_some (reset_refusal s.lane)))
+only_new_bytes_spend s (stops code) h may = nothing_new _ _ _ (reset_sends s.lane _ (is_some (reset_refusal s.lane)))
 only_new_bytes_spend s acks_reset h may = nothing_new _ _ _ refl
 only_new_bytes_spend s blocks h may = nothing_new _ _ _ refl
 only_new_bytes_spend s (allows limit) h may = nothing_new _ _ _ refl

@@ -7,9 +7,9 @@ use Rattle.std.proofs.lemmas.Bool.Decides.{nat_tests}
 use Rattle.qs_ranges.specs.Numbers.{AllBelow, AreDisjoint, NumberSet, numbers, contains-numbers, contains-with_range, contains-without_range, same_numbers, ContainsRange}
 use Rattle.qs_send.specs.declared.parts.Chunk.{Chunk}
 use Rattle.qs_send.specs.declared.parts.Reset.{Reset}
-use Rattle.qs_send.specs.Lane.{Sending, refusal, reset_refusal, finish_lane, lost_due}
+use Rattle.qs_send.specs.Lane.{Sending, after_reset, refusal, reset_refusal, finish_lane, lost_due}
 use Rattle.qs_send.specs.Sound.{IsLawful}
-use Rattle.qs_send.specs.Calls.{writes, finishes, resets, acks_reset, blocks, allows, sends, acks, loses}
+use Rattle.qs_send.specs.Calls.{writes, finishes, resets, stops, acks_reset, blocks, allows, sends, acks, loses}
 use Rattle.qs_send.specs.Parts.{bit, MovesParts}
 use Rattle.qs_send.specs.Laws.{EachOffsetIsInOnePart, InFlightWasSent, CallsMoveParts}
 use Rattle.qs_send.proofs.Runs.{contains-due}
@@ -101,6 +101,9 @@ pub calls_move_parts : CallsMoveParts
 calls_move_parts s (writes bytes) h none may = record { acked = refl; due = refl; in_flight = rest-write s.lane.written (length bytes) s.lane.acked s.due.offsets }
 calls_move_parts s finishes h none may = finish_moves s (is_some (refusal s.lane))
 calls_move_parts s (resets code) h none may = reset_moves s code _ (is_some (reset_refusal s.lane)) h refl
+calls_move_parts s (stops code) h none may =
+    let moved : MovesParts s (resets code) (after_reset s code) = reset_moves s code _ (is_some (reset_refusal s.lane)) h refl in
+    record { acked = moved.acked; due = moved.due; in_flight = moved.in_flight }
 calls_move_parts s acks_reset h none may = record { acked = refl; due = refl; in_flight = refl }
 calls_move_parts s blocks h none may = record { acked = refl; due = refl; in_flight = refl }
 calls_move_parts s (allows limit) h none may = record { acked = refl; due = refl; in_flight = refl }

@@ -12,7 +12,8 @@ use Rattle.qs_send.specs.declared.parts.SendState.TheVariants.{Ready, Send, Data
 
 -- The sending lane (RFC 9000, section 3.1). `kept` are the bytes from the lowest offset not acknowledged on, `sent_end` is the number
 -- after the largest offset sent (0 where none was), `blocked_sent` tells that a STREAM_DATA_BLOCKED was sent, and the offsets that may
--- be sent are those below `limit` (RFC 9000, section 4.1). `fin` is the end.
+-- be sent are those below `limit` (RFC 9000, section 4.1). `fin` is the end, and `stopped` the code of the first STOP_SENDING that came
+-- (section 3.5).
 pub record SendLane : Type 0 where
   pub id : ℕ
   pub written : ℕ
@@ -27,6 +28,7 @@ pub record SendLane : Type 0 where
   pub reset_acked : Bool
   pub limit : ℕ
   pub buffer : ℕ
+  pub stopped : Option ℕ
 
 -- what is to go out, once or again: offsets, and the end (RFC 9000, section 13.3)
 pub record Due : Type 0 where
@@ -45,7 +47,7 @@ unacked_from lane = missing_from lane.acked 0
 -- a lane as it begins: nothing was written (RFC 9000, section 3.1)
 abbrev pub new_lane : ℕ → ℕ → ℕ → SendLane
 new_lane id limit buffer =
-    record { id = id; written = 0; kept = []; acked = set.empty; sent_end = 0; finished = false; fin_sent = false; fin_acked = false; blocked_sent = false; was_reset = None; reset_acked = false; limit = limit; buffer = buffer }
+    record { id = id; written = 0; kept = []; acked = set.empty; sent_end = 0; finished = false; fin_sent = false; fin_acked = false; blocked_sent = false; was_reset = None; reset_acked = false; limit = limit; buffer = buffer; stopped = None }
 
 -- a half as it begins: nothing is due
 abbrev pub new_sending : ℕ → ℕ → ℕ → Sending
@@ -133,6 +135,19 @@ after_reset s code =
       lane = reset_lane s.lane code;
       due = if is_some (reset_refusal s.lane) then s.due else record { offsets = set.empty; fin = false };
     }
+
+-- the first code that came counts (ours: RFC 9000 leaves a second STOP_SENDING open)
+abbrev pub first_code : Option ℕ → ℕ → Option ℕ
+first_code None code = Some code
+first_code (Some first) code = Some first
+
+-- a STOP_SENDING came: its code is kept, and what can be reset is, with that code (RFC 9000, section 3.5)
+abbrev pub stopped_lane : SendLane → ℕ → SendLane
+stopped_lane lane code = record (reset_lane lane code) { stopped = first_code lane.stopped code }
+
+-- what is due then is as after a reset (RFC 9000, section 3.5)
+abbrev pub after_stopped : Sending → ℕ → Sending
+after_stopped s code = record (after_reset s code) { lane = stopped_lane s.lane code }
 
 -- the RESET_STREAM was acknowledged (RFC 9000, section 3.1)
 abbrev pub reset_acked_lane : SendLane → SendLane

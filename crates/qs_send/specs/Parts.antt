@@ -4,7 +4,7 @@ use Rattle.std.specs.Prelude.{◌≡◌, ℕ, ◌+◌, Bool, true, false, if◌t
 use Rattle.std.specs.FinSet as set
 use Rattle.qs_ranges.specs.Numbers.{NumberSet, numbers}
 use Rattle.qs_send.specs.Lane.{Sending, chunk_offsets, reset_refusal}
-use Rattle.qs_send.specs.Calls.{Call, writes, resets, sends, acks, loses}
+use Rattle.qs_send.specs.Calls.{Call, writes, resets, stops, sends, acks, loses}
 
 -- written, and neither acknowledged nor due (RFC 9000, section 13.3)
 abbrev pub in_flight : Sending → NumberSet
@@ -27,6 +27,7 @@ acked_after s _ = s.lane.acked
 abbrev pub due_after : Sending → Call → NumberSet
 due_after s (writes bytes) = set.union s.due.offsets (numbers s.lane.written (s.lane.written + length bytes))
 due_after s (resets code) = if is_some (reset_refusal s.lane) then s.due.offsets else set.empty
+due_after s (stops code) = if is_some (reset_refusal s.lane) then s.due.offsets else set.empty
 due_after s (sends chunk) = set.difference s.due.offsets (chunk_offsets chunk)
 due_after s (acks chunk) = set.difference s.due.offsets (chunk_offsets chunk)
 due_after s (loses chunk) = set.union s.due.offsets (set.difference (chunk_offsets chunk) s.lane.acked)
@@ -35,6 +36,7 @@ due_after s _ = s.due.offsets
 -- the offsets in flight after a call, of a lane that wasn't reset before it
 abbrev pub in_flight_after : Sending → Call → NumberSet
 in_flight_after s (resets code) = if is_some (reset_refusal s.lane) then in_flight s else set.union (in_flight s) s.due.offsets
+in_flight_after s (stops code) = if is_some (reset_refusal s.lane) then in_flight s else set.union (in_flight s) s.due.offsets
 in_flight_after s (sends chunk) = set.union (in_flight s) (chunk_offsets chunk)
 in_flight_after s (acks chunk) = set.difference (in_flight s) (chunk_offsets chunk)
 in_flight_after s (loses chunk) = set.difference (in_flight s) (chunk_offsets chunk)

@@ -5,7 +5,7 @@ ghost use Rattle.qs_ranges.specs.Numbers.{MAX_VARINT, MissesRange};
 ghost use Rattle.qs_send.specs.Chunks.{IsDueChunk, WasSent};
 ghost use Rattle.qs_send.specs.Sound.{IsLawful};
 ghost use Rattle.qs_send.specs.Writable.{is_writable};
-ghost use Rattle.qs_send.specs.Lane.{new_sending, free_room, accepted, refusal, answer_of, reset_refusal, is_whole, state, declared_size, after_write, after_finish, after_reset, after_reset_acked, after_blocked, after_allow, after_sent, after_acked, after_lost};
+ghost use Rattle.qs_send.specs.Lane.{new_sending, free_room, accepted, refusal, answer_of, reset_refusal, is_whole, state, declared_size, after_write, after_finish, after_reset, after_stopped, after_reset_acked, after_blocked, after_allow, after_sent, after_acked, after_lost};
 
 use crate::edits::{add, forget};
 use crate::kept::Kept;
@@ -43,6 +43,8 @@ pub struct SendHalf {
     reset_acked: bool,
     limit: u64,
     buffer: usize,
+    // The code of the first STOP_SENDING that came.
+    stop_code: Option<u64>,
 }
 
 impl Model for SendHalf {
@@ -58,12 +60,12 @@ impl Model for SendHalf {
     ghost coded = { sending_code };
 
     ghost view = { λ h. record {
-      lane = record { id = h.id; written = h.written; kept = h.kept; acked = h.acked; sent_end = h.sent_end; finished = h.finished; fin_sent = h.fin_sent; fin_acked = h.fin_acked; blocked_sent = h.blocked_sent; was_reset = h.was_reset; reset_acked = h.reset_acked; limit = h.limit; buffer = h.buffer };
+      lane = record { id = h.id; written = h.written; kept = h.kept; acked = h.acked; sent_end = h.sent_end; finished = h.finished; fin_sent = h.fin_sent; fin_acked = h.fin_acked; blocked_sent = h.blocked_sent; was_reset = h.was_reset; reset_acked = h.reset_acked; limit = h.limit; buffer = h.buffer; stopped = h.stop_code };
       due = record { offsets = set.difference h.noted h.acked; fin = h.fin_noted && not h.fin_acked };
     } };
 
     ghost invariant = { λ h. IsLawful (record {
-      lane = record { id = h.id; written = h.written; kept = h.kept; acked = h.acked; sent_end = h.sent_end; finished = h.finished; fin_sent = h.fin_sent; fin_acked = h.fin_acked; blocked_sent = h.blocked_sent; was_reset = h.was_reset; reset_acked = h.reset_acked; limit = h.limit; buffer = h.buffer };
+      lane = record { id = h.id; written = h.written; kept = h.kept; acked = h.acked; sent_end = h.sent_end; finished = h.finished; fin_sent = h.fin_sent; fin_acked = h.fin_acked; blocked_sent = h.blocked_sent; was_reset = h.was_reset; reset_acked = h.reset_acked; limit = h.limit; buffer = h.buffer; stopped = h.stop_code };
       due = record { offsets = set.difference h.noted h.acked; fin = h.fin_noted && not h.fin_acked };
     }) × AllBelow h.noted h.written × CodeFits h.was_reset };
 }
@@ -92,6 +94,7 @@ impl SendHalf {
             reset_acked: false,
             limit,
             buffer,
+            stop_code: None,
         }
     }
 
@@ -180,12 +183,22 @@ impl SendHalf {
     }
 
     /// Takes in a STOP_SENDING: a reset with its code, where one can still be made (RFC 9000, section
-    /// 3.5).
+    /// 3.5). The code of the first one is kept.
     pub fn stopped(&mut self, code: u64)
         requires { code ≤ MAX_VARINT }
-        ensures { self.new ≡ after_reset self.old code }
+        ensures { self.new ≡ after_stopped self.old code }
     {
         let _ = self.reset(code);
+        if self.stop_code.is_none() {
+            self.stop_code = Some(code);
+        }
+    }
+
+    /// The code of the first STOP_SENDING that came (RFC 9000, section 3.5).
+    pub fn stop_code(&self) -> Option<u64>
+        ensures { result ≡ self.now.lane.stopped }
+    {
+        self.stop_code
     }
 
     /// Takes in that the peer allows the offsets below `limit`. A limit that is no higher changes nothing

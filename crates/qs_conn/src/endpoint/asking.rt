@@ -1,6 +1,6 @@
 //! What an end's owner, and the layer beneath, may ask of it. Nothing changes.
 ghost use Rattle.std.specs.Prelude.{◌≡◌, ◌↔◌, IsTrue};
-ghost use Rattle.qs_machine.specs.Asking.{GoesBesideAck, peer_closing, streams_left, open_left, is_blocked, IsNextOutstanding};
+ghost use Rattle.qs_machine.specs.Asking.{GoesBesideAck, peer_closing, streams_left, open_left, is_blocked, stopped_with, IsNextOutstanding};
 
 use super::Endpoint;
 use crate::sendable::has_frame;
@@ -58,6 +58,14 @@ impl Endpoint {
     {
         let is_used_up = self.outbox.sent_sum() == self.known_data;
         self.outbox.waits_for_credit(stream, is_used_up)
+    }
+
+    /// The code of the peer's STOP_SENDING for a stream, of the first one that came; `None` where none did. It stays, whatever became of the
+    /// sending half: reset before by its owner, acknowledged whole, or reset by the STOP_SENDING itself (RFC 9000, section 3.5).
+    pub fn stopped_with(&self, stream: StreamId) -> Option<u64>
+        ensures { result ≡ stopped_with self.now stream }
+    {
+        self.outbox.stop_code(stream)
     }
 
     /// The least number from one on of a packet that is outstanding: it was made, asks for an ACK, and is neither acknowledged nor

@@ -122,7 +122,7 @@ impl Endpoint {
         ensures yet { OnErr result (IsYetToOpen self.old stream) }
     {
         self.open_by_peer(stream)?;
-        let _ = self.outbox.reset(stream, code);
+        self.outbox.stopped(stream, code);
         Ok(())
     }
 

@@ -157,6 +157,21 @@ impl Outbox {
         self.sends.reset(stream, code)
     }
 
+    /// Takes in a STOP_SENDING of an open stream.
+    pub(crate) fn stopped(&mut self, stream: StreamId, code: u64) {
+        debug_assert!(code <= 0x3fff_ffff_ffff_ffff);
+        self.sends.stopped(stream, code);
+    }
+
+    /// The code of the first STOP_SENDING that came of a stream.
+    pub(crate) fn stop_code(&self, stream: StreamId) -> Option<u64> {
+        if !self.sends.is_open(stream) {
+            return None;
+        }
+        let half = self.sends.get(stream);
+        half.stop_code()
+    }
+
     /// Takes in that the peer allows the offsets of an open stream below a limit.
     pub(crate) fn allow(&mut self, stream: StreamId, limit: u64) {
         debug_assert!(limit <= 0x3fff_ffff_ffff_ffff);

@@ -104,6 +104,14 @@ impl SendLanes {
         answer
     }
 
+    /// Takes in a STOP_SENDING of an open half.
+    pub(crate) fn stopped(&mut self, index: usize, code: u64) {
+        debug_assert!(code <= 0x3fff_ffff_ffff_ffff);
+        let half = &mut self.halves[index];
+        half.stopped(code);
+        self.marks.look(index, half);
+    }
+
     /// Takes in that the peer allows the offsets of an open half below a limit.
     pub(crate) fn allow(&mut self, index: usize, limit: u64) {
         debug_assert!(limit <= 0x3fff_ffff_ffff_ffff);

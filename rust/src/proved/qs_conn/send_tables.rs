@@ -95,6 +95,13 @@ impl SendTables {
         lanes.reset(index_of(stream), code)
     }
 
+    /// Takes in a STOP_SENDING of an open stream.
+    pub(crate) fn stopped(&mut self, stream: StreamId, code: u64) {
+        debug_assert!(code <= 0x3fff_ffff_ffff_ffff);
+        let lanes = &mut self.types[kind_of(stream)];
+        lanes.stopped(index_of(stream), code);
+    }
+
     /// Takes in that the peer allows the offsets of an open stream below a limit.
     pub(crate) fn allow(&mut self, stream: StreamId, limit: u64) {
         debug_assert!(limit <= 0x3fff_ffff_ffff_ffff);

@@ -35,6 +35,8 @@ pub struct SendHalf {
     reset_acked: bool,
     limit: u64,
     buffer: usize,
+    // The code of the first STOP_SENDING that came.
+    stop_code: Option<u64>,
 }
 
 impl SendHalf {
@@ -59,6 +61,7 @@ impl SendHalf {
             reset_acked: false,
             limit,
             buffer,
+            stop_code: None,
         }
     }
 
@@ -133,10 +136,18 @@ impl SendHalf {
     }
 
     /// Takes in a STOP_SENDING: a reset with its code, where one can still be made (RFC 9000, section
-    /// 3.5).
+    /// 3.5). The code of the first one is kept.
     pub fn stopped(&mut self, code: u64) {
         debug_assert!(code <= 0x3fff_ffff_ffff_ffff);
         let _ = self.reset(code);
+        if self.stop_code.is_none() {
+            self.stop_code = Some(code);
+        }
+    }
+
+    /// The code of the first STOP_SENDING that came (RFC 9000, section 3.5).
+    pub fn stop_code(&self) -> Option<u64> {
+        self.stop_code
     }
 
     /// Takes in that the peer allows the offsets below `limit`. A limit that is no higher changes nothing

@@ -49,6 +49,12 @@ impl Endpoint {
         self.outbox.waits_for_credit(stream, is_used_up)
     }
 
+    /// The code of the peer's STOP_SENDING for a stream, of the first one that came; `None` where none did. It stays, whatever became of the
+    /// sending half: reset before by its owner, acknowledged whole, or reset by the STOP_SENDING itself (RFC 9000, section 3.5).
+    pub fn stopped_with(&self, stream: StreamId) -> Option<u64> {
+        self.outbox.stop_code(stream)
+    }
+
     /// The least number from one on of a packet that is outstanding: it was made, asks for an ACK, and is neither acknowledged nor
     /// declared lost (RFC 9000, section 13.3). It looks at each number on the way there, from the least outstanding one on.
     pub fn next_outstanding(&self, from: u64) -> Option<u64> {

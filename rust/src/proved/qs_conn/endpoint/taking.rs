@@ -88,7 +88,7 @@ impl Endpoint {
     fn stopped(&mut self, stream: StreamId, code: u64) -> Result<(), NoMemory> {
         debug_assert!(code <= 0x3fff_ffff_ffff_ffff);
         self.open_by_peer(stream)?;
-        let _ = self.outbox.reset(stream, code);
+        self.outbox.stopped(stream, code);
         Ok(())
     }
 

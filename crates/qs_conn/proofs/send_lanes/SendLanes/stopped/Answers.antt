@@ -1,0 +1,16 @@
+use Rattle.qs_conn.specs.Tasks.{IsQuiet, marks_of}
+use Rattle.qs_conn.proofs.LaneEdits.{changed_at}
+use Rattle.qs_conn.proofs.Marked.{mark_there}
+use Rattle.qs_conn.proofs.Tasks.{all_looked}
+use Rattle.qs_conn.proofs.send_lanes.SendLanes.stopped.Goals as goal
+
+pub look-requires : goal.look-requires
+look-requires c = λ t. mark_there (IsQuiet t) c.self.inside.halves.items (marks_of c.self.inside.marks t) c.args.index (c.self.invariant.1 t) (rw c.self.view_is c.requires.there)
+
+pub invariant_of-self : goal.invariant_of-self
+invariant_of-self c = all_looked _ _ _ c.args.index c.stopped.new.self c.look.ensures c.self.invariant
+
+pub returns : goal.returns
+returns c =
+    rw (← c.self.view_is)
+    (changed_at c.self.inside.halves.items c.args.index c.index_mut-half.result.now c.stopped.new.self _ (rw c.self.view_is c.requires.there) c.index_mut-half.ensures.value c.stopped.ensures)
