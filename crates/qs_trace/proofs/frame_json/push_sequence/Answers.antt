@@ -1,0 +1,5 @@
+use Rattle.qs_trace.proofs.Appending.{goes_on}
+use Rattle.qs_trace.proofs.frame_json.push_sequence.Goals as goal
+
+pub returns : goal.returns
+returns c = goes_on _ _ _ _ _ _ c.in_ok-push_number.ensures c.push_number-2.ensures

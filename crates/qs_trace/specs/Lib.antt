@@ -1,0 +1,4 @@
+pub mod Items
+pub mod FrameJson
+pub mod Records
+pub mod Laws

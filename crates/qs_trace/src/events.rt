@@ -1,0 +1,311 @@
+//! What an end sees of a log, as its trace.
+
+ghost use Rattle.std.specs.Prelude.{◌≡◌, ◌++◌, OnOk, IfOk};
+ghost use Rattle.std.specs.List.{flat_map};
+ghost use Rattle.std.specs.String.{string_bytes};
+ghost use Rattle.qs_wire.specs.Streams.{dir_of};
+ghost use Rattle.qs_trace.specs.Items.{own_items, peer_items, effect_items, open_items, accept_items, write_items, reset_items, read_items, make_items, claim_items, lose_items, turned, if_bidi};
+ghost use Rattle.qs_trace.specs.Records.{item_text, event_text, heading, heading_end, vantage, trace_text};
+
+use crate::item::{Item, Turn, Why};
+use crate::records::push_item;
+use crate::words::{is_same, push_quoted};
+use qs_calls::{Act, Answer, Event, Received, Side};
+use qs_recv::Read;
+use qs_wire::{Dir, StreamId};
+use std::alloc::{AllocError, Global};
+
+/// The trace of one end over a log that has the oldest first: a JSON text sequence of qlog.
+pub fn trace(alloc: Global, side: Side, log: &[(Event, Answer)]) -> Result<String, AllocError>
+    ensures { IfOk result (λ text. string_bytes text ≡ trace_text side log.now) }
+{
+    let mut text = String::new(alloc);
+    text.push_str(heading())?;
+    push_quoted(&mut text, vantage_name(side))?;
+    text.push_str(heading_end())?;
+    for (time, (event, answer)) in log.iter().enumerate() {
+        push_event(alloc, &mut text, side, time, event, answer)?;
+    }
+    Ok(text)
+}
+
+pub fn vantage_name(side: Side) -> &'static str
+    ensures { result.now ≡ vantage side }
+{
+    match side {
+        Side::A => "client",
+        Side::B => "server",
+    }
+}
+
+/// The trace's own record, up to whose it is.
+#[tactic(auto, unfolding(crate::specs::Records::heading))]
+fn heading() -> &'static str
+    ensures { result.now ≡ heading }
+{
+    "\u{1e}{\"qlog_version\":\"0.4\",\"qlog_format\":\"JSON-SEQ\",\"trace\":{\"common_fields\":{\"time_format\":\"relative_to_epoch\",\"reference_time\":{\"clock_type\":\"monotonic\",\"epoch\":\"unknown\"},\"time_is\":\"place in the log\"},\"vantage_point\":{\"type\":"
+}
+
+#[tactic(auto, unfolding(crate::specs::Records::heading_end))]
+fn heading_end() -> &'static str
+    ensures { result.now ≡ heading_end }
+{
+    "}}}\n"
+}
+
+/// Appends what the end sees of an event.
+fn push_event(
+    alloc: Global,
+    text: &mut String,
+    side: Side,
+    time: usize,
+    event: &Event,
+    answer: &Answer,
+) -> Result<(), AllocError>
+    ensures { OnOk result (string_bytes text.new ≡ string_bytes text.old ++ event_text side time (event.now, answer.now)) }
+{
+    if is_same(side, event.end) {
+        push_own(alloc, text, time, &event.act, answer)
+    } else {
+        push_peers(alloc, text, time, &event.act, answer)
+    }
+}
+
+/// Appends what an end's own call tells.
+fn push_own(
+    alloc: Global,
+    text: &mut String,
+    time: usize,
+    act: &Act,
+    answer: &Answer,
+) -> Result<(), AllocError>
+    ensures { OnOk result (string_bytes text.new ≡ string_bytes text.old ++ flat_map (item_text time) (own_items act.now answer.now)) }
+{
+    match act {
+        Act::OpenStream(_) => push_opened(alloc, text, time, answer),
+        Act::Accept => push_accepted(alloc, text, time, answer),
+        Act::Write(id, _) => push_written(alloc, text, time, *id, answer),
+        Act::Reset(id, _) => push_reset(alloc, text, time, *id, answer),
+        Act::ReadUpTo(id, _) => push_read(alloc, text, time, *id, answer),
+        Act::Make(_) => push_made(alloc, text, time, answer),
+        Act::Lose(number) => push_lost(alloc, text, time, *number, answer),
+        Act::Claim => push_claimed(alloc, text, time, answer),
+        Act::Finish(_) | Act::Stop(_, _) | Act::Deliver(_) => Ok(()),
+    }
+}
+
+/// Appends what a call at the other side tells: a packet of the peer's that arrives.
+fn push_peers(
+    alloc: Global,
+    text: &mut String,
+    time: usize,
+    act: &Act,
+    answer: &Answer,
+) -> Result<(), AllocError>
+    ensures { OnOk result (string_bytes text.new ≡ string_bytes text.old ++ flat_map (item_text time) (peer_items act.now answer.now)) }
+{
+    match act {
+        Act::Deliver(number) => {
+            push_item(alloc, text, time, &Item::Received(*number))?;
+            push_effect(alloc, text, time, *number, answer)
+        }
+        _ => Ok(()),
+    }
+}
+
+/// Appends what comes of a packet that arrived.
+fn push_effect(
+    alloc: Global,
+    text: &mut String,
+    time: usize,
+    number: u64,
+    answer: &Answer,
+) -> Result<(), AllocError>
+    ensures { OnOk result (string_bytes text.new ≡ string_bytes text.old ++ flat_map (item_text time) (effect_items number answer.now)) }
+{
+    let Answer::Deliver(received) = answer else {
+        return Ok(());
+    };
+    let item = match *received {
+        Ok(Received::Done) => return Ok(()),
+        Ok(Received::Duplicate) => Item::Dropped(number, Why::Duplicate),
+        Ok(Received::BelowFloor) => Item::Dropped(number, Why::BelowFloor),
+        Ok(Received::NoMemory) => Item::Dropped(number, Why::NoMemory),
+        Ok(Received::PeerClosed(code)) => Item::PeerClosed(code),
+        Err(closing) => Item::Closed(closing.code),
+    };
+    push_item(alloc, text, time, &item)
+}
+
+/// Appends the halves of a stream that this end opened.
+fn push_opened(
+    alloc: Global,
+    text: &mut String,
+    time: usize,
+    answer: &Answer,
+) -> Result<(), AllocError>
+    ensures { OnOk result (string_bytes text.new ≡ string_bytes text.old ++ flat_map (item_text time) (open_items answer.now)) }
+{
+    match answer {
+        Answer::OpenStream(Ok(id)) => {
+            push_item(alloc, text, time, &Item::Turned(id.value(), Turn::Ready))?;
+            push_if_bidi(alloc, text, time, *id, Turn::Recv)
+        }
+        _ => Ok(()),
+    }
+}
+
+/// Appends the halves of a stream that the peer opened.
+fn push_accepted(
+    alloc: Global,
+    text: &mut String,
+    time: usize,
+    answer: &Answer,
+) -> Result<(), AllocError>
+    ensures { OnOk result (string_bytes text.new ≡ string_bytes text.old ++ flat_map (item_text time) (accept_items answer.now)) }
+{
+    match answer {
+        Answer::Accept(Some(id)) => {
+            push_item(alloc, text, time, &Item::Turned(id.value(), Turn::Recv))?;
+            push_if_bidi(alloc, text, time, *id, Turn::Ready)
+        }
+        _ => Ok(()),
+    }
+}
+
+/// Appends the other half of a stream that has both.
+fn push_if_bidi(
+    alloc: Global,
+    text: &mut String,
+    time: usize,
+    id: StreamId,
+    turn: Turn,
+) -> Result<(), AllocError>
+    ensures { OnOk result (string_bytes text.new ≡ string_bytes text.old ++ flat_map (item_text time) (if_bidi (dir_of id) (turned id turn))) }
+{
+    match id.dir() {
+        Dir::Bidi => push_item(alloc, text, time, &Item::Turned(id.value(), turn)),
+        Dir::Uni => Ok(()),
+    }
+}
+
+/// Appends what was taken from the application.
+fn push_written(
+    alloc: Global,
+    text: &mut String,
+    time: usize,
+    id: StreamId,
+    answer: &Answer,
+) -> Result<(), AllocError>
+    ensures { OnOk result (string_bytes text.new ≡ string_bytes text.old ++ flat_map (item_text time) (write_items id answer.now)) }
+{
+    match answer {
+        Answer::Write(Ok(count)) => push_item(alloc, text, time, &Item::Taken(id.value(), *count)),
+        _ => Ok(()),
+    }
+}
+
+/// Appends that a sending half was broken off.
+fn push_reset(
+    alloc: Global,
+    text: &mut String,
+    time: usize,
+    id: StreamId,
+    answer: &Answer,
+) -> Result<(), AllocError>
+    ensures { OnOk result (string_bytes text.new ≡ string_bytes text.old ++ flat_map (item_text time) (reset_items id answer.now)) }
+{
+    match answer {
+        Answer::Reset(Ok(())) => push_item(
+            alloc,
+            text,
+            time,
+            &Item::Turned(id.value(), Turn::ResetSent),
+        ),
+        _ => Ok(()),
+    }
+}
+
+/// Appends what a read gave.
+fn push_read(
+    alloc: Global,
+    text: &mut String,
+    time: usize,
+    id: StreamId,
+    answer: &Answer,
+) -> Result<(), AllocError>
+    ensures { OnOk result (string_bytes text.new ≡ string_bytes text.old ++ flat_map (item_text time) (read_items id answer.now)) }
+{
+    match answer {
+        Answer::ReadUpTo(Ok(Read::Bytes(count)), _) => push_item(
+            alloc,
+            text,
+            time,
+            &Item::Given(id.value(), *count),
+        ),
+        Answer::ReadUpTo(Ok(Read::End), _) => push_item(
+            alloc,
+            text,
+            time,
+            &Item::Turned(id.value(), Turn::DataRead),
+        ),
+        Answer::ReadUpTo(Ok(Read::Reset(_)), _) => push_item(
+            alloc,
+            text,
+            time,
+            &Item::Turned(id.value(), Turn::ResetRead),
+        ),
+        _ => Ok(()),
+    }
+}
+
+/// Appends a packet that was made.
+fn push_made(
+    alloc: Global,
+    text: &mut String,
+    time: usize,
+    answer: &Answer,
+) -> Result<(), AllocError>
+    ensures { OnOk result (string_bytes text.new ≡ string_bytes text.old ++ flat_map (item_text time) (make_items answer.now)) }
+{
+    match answer {
+        Answer::Make(Ok(Some(made)), payload) => push_item(
+            alloc,
+            text,
+            time,
+            &Item::Sent(made.number, payload),
+        ),
+        _ => Ok(()),
+    }
+}
+
+/// Appends a packet that was declared lost.
+fn push_lost(
+    alloc: Global,
+    text: &mut String,
+    time: usize,
+    number: u64,
+    answer: &Answer,
+) -> Result<(), AllocError>
+    ensures { OnOk result (string_bytes text.new ≡ string_bytes text.old ++ flat_map (item_text time) (lose_items number answer.now)) }
+{
+    match answer {
+        Answer::Lose(Ok(())) => push_item(alloc, text, time, &Item::Lost(number)),
+        _ => Ok(()),
+    }
+}
+
+/// Appends the PING that goes under a number that was claimed.
+fn push_claimed(
+    alloc: Global,
+    text: &mut String,
+    time: usize,
+    answer: &Answer,
+) -> Result<(), AllocError>
+    ensures { OnOk result (string_bytes text.new ≡ string_bytes text.old ++ flat_map (item_text time) (claim_items answer.now)) }
+{
+    match answer {
+        Answer::Claim(Ok(number)) => push_item(alloc, text, time, &Item::Sent(*number, &[1])),
+        _ => Ok(()),
+    }
+}
