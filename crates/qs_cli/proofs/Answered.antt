@@ -21,7 +21,7 @@ use Rattle.qs_world.proofs.ScriptDigits.{decodes, hex_even}
 use Rattle.qs_cli.specs.declared.status.Status.{Status}
 use Rattle.qs_cli.specs.declared.status.Status.TheVariants.{Success, FaultShown, BadUsage, NoMemory, Failed}
 use Rattle.qs_cli.specs.FrameText.{payload_text}
-use Rattle.qs_cli.specs.Runs.{AnswersFrames, AnswersEvents, AnswersPlay, AnswersRandom, IsPayload, IsScriptOf, Shows, ShowsScriptFault, missing_line}
+use Rattle.qs_cli.specs.Runs.{AnswersFrames, AnswersEvents, AnswersPlay, AnswersRandom, IsPayload, IsScriptOf, Shows, ShowsScriptFault, missing_line, written}
 use Rattle.qs_cli.specs.Carrying.{Failings, AnswersCarried, AnswersUdp}
 
 -- What is so of the text that was written, of want of memory and of a writer that failed is so of the answer.
@@ -32,50 +32,53 @@ by_shown text status answer old new P (inr (inl (is, same))) done none failed = 
 by_shown text status answer old new P (inr (inr is)) done none failed = subst P (sym is) failed
 
 -- a script is answered as its events are
-pub events_answer : (status : Status) (s : Settings) (script : List ℕ) (events : List Event) (old new : Option (List ℕ))
-    → IsScriptOf script events → AnswersEvents status s events old new → AnswersPlay status s script old new
-events_answer Success s script events old new is shown = (events, is, shown)
-events_answer FaultShown s script events old new is shown = inl (events, is, shown)
-events_answer BadUsage s script events old new is shown = shown
-events_answer NoMemory s script events old new is shown = shown
-events_answer Failed s script events old new is shown = tt
+pub events_answer : (answer : Result Report Status) (s : Settings) (script : List ℕ) (events : List Event) (old new : Option (List ℕ))
+    → IsScriptOf script events → AnswersEvents answer s events old new → AnswersPlay answer s script old new
+events_answer (Ok report) s script events old new is shown = (events, is, shown)
+events_answer (Err FaultShown) s script events old new is shown = inl (events, is, shown)
+events_answer (Err Success) s script events old new is shown = shown
+events_answer (Err BadUsage) s script events old new is shown = shown
+events_answer (Err NoMemory) s script events old new is shown = shown
+events_answer (Err Failed) s script events old new is shown = tt
 
 -- and so is one over a wire
-pub carried_answer : (status : Status) (script : List ℕ) (events : List Event) (before after : Failings) (old new : Option (List ℕ))
-    → IsScriptOf script events → AnswersCarried status events before after old new → AnswersUdp status script before after old new
-carried_answer Success script events before after old new is shown = (events, is, shown)
-carried_answer FaultShown script events before after old new is shown = inl (events, is, shown)
-carried_answer BadUsage script events before after old new is shown = shown
-carried_answer NoMemory script events before after old new is shown = shown
-carried_answer Failed script events before after old new is shown = tt
+pub carried_answer : (answer : Result Report Status) (script : List ℕ) (events : List Event) (before after : Failings) (old new : Option (List ℕ))
+    → IsScriptOf script events → AnswersCarried answer events before after old new → AnswersUdp answer script before after old new
+carried_answer (Ok report) script events before after old new is shown = (events, is, shown)
+carried_answer (Err FaultShown) script events before after old new is shown = inl (events, is, shown)
+carried_answer (Err Success) script events before after old new is shown = shown
+carried_answer (Err BadUsage) script events before after old new is shown = shown
+carried_answer (Err NoMemory) script events before after old new is shown = shown
+carried_answer (Err Failed) script events before after old new is shown = tt
 
 -- the first line that is no event was named
-pub fault_answer : (answer : Status) (s : Settings) (script : List ℕ) (fault : ScriptFault) (old new : Option (List ℕ))
-    → IsFaultOf script fault → ShowsScriptFault fault old new answer → AnswersPlay answer s script old new
-fault_answer answer s script fault old new (inl is) (inl (other, same, text)) = subst (λ a. AnswersPlay a s script old new) (sym same) (inr (fault, is, text))
-fault_answer answer s script fault old new (inr out) (inl (other, same, text)) = absurd (other out.0)
-fault_answer answer s script fault old new is (inr (inl (same, none))) = subst (λ a. AnswersPlay a s script old new) (sym same) none
-fault_answer answer s script fault old new is (inr (inr same)) = subst (λ a. AnswersPlay a s script old new) (sym same) tt
+pub fault_answer : (status : Status) (s : Settings) (script : List ℕ) (fault : ScriptFault) (old new : Option (List ℕ))
+    → IsFaultOf script fault → ShowsScriptFault fault old new status → AnswersPlay (Err status) s script old new
+fault_answer status s script fault old new (inl is) (inl (other, same, text)) = subst (λ a. AnswersPlay (Err a) s script old new) (sym same) (inr (fault, is, text))
+fault_answer status s script fault old new (inr out) (inl (other, same, text)) = absurd (other out.0)
+fault_answer status s script fault old new is (inr (inl (same, none))) = subst (λ a. AnswersPlay (Err a) s script old new) (sym same) none
+fault_answer status s script fault old new is (inr (inr same)) = subst (λ a. AnswersPlay (Err a) s script old new) (sym same) tt
 
 -- and so it was over a wire, of which no call was made
-pub fault_carried : (answer : Status) (script : List ℕ) (fault : ScriptFault) (before after : Failings) (old new : Option (List ℕ))
-    → IsFaultOf script fault → ShowsScriptFault fault old new answer → AnswersUdp answer script before after old new
-fault_carried answer script fault before after old new (inl is) (inl (other, same, text)) = subst (λ a. AnswersUdp a script before after old new) (sym same) (inr (fault, is, text))
-fault_carried answer script fault before after old new (inr out) (inl (other, same, text)) = absurd (other out.0)
-fault_carried answer script fault before after old new is (inr (inl (same, none))) = subst (λ a. AnswersUdp a script before after old new) (sym same) none
-fault_carried answer script fault before after old new is (inr (inr same)) = subst (λ a. AnswersUdp a script before after old new) (sym same) tt
+pub fault_carried : (status : Status) (script : List ℕ) (fault : ScriptFault) (before after : Failings) (old new : Option (List ℕ))
+    → IsFaultOf script fault → ShowsScriptFault fault old new status → AnswersUdp (Err status) script before after old new
+fault_carried status script fault before after old new (inl is) (inl (other, same, text)) = subst (λ a. AnswersUdp (Err a) script before after old new) (sym same) (inr (fault, is, text))
+fault_carried status script fault before after old new (inr out) (inl (other, same, text)) = absurd (other out.0)
+fault_carried status script fault before after old new is (inr (inl (same, none))) = subst (λ a. AnswersUdp (Err a) script before after old new) (sym same) none
+fault_carried status script fault before after old new is (inr (inr same)) = subst (λ a. AnswersUdp (Err a) script before after old new) (sym same) tt
 
 -- a report of the events was written
-pub answered_report : (answer : Status) (s : Settings) (events : List Event) (report : Report) (old new : Option (List ℕ))
-    → PlayOf s s events (Ok report) → Shows (play_text report) Success old new answer → AnswersEvents answer s events old new
-answered_report answer s events report old new played shown =
-    by_shown (play_text report) Success answer old new (λ a. AnswersEvents a s events old new) shown (λ text. (report, played, text)) (λ same. same) tt
+pub answered_report : (answer : Result Report Status) (status : Status) (s : Settings) (events : List Event) (report : Report) (old new : Option (List ℕ))
+    → PlayOf s s events (Ok report) → Shows (play_text report) Success old new status → answer ≡ written report status → AnswersEvents answer s events old new
+answered_report answer status s events report old new played shown is =
+    subst (λ a. AnswersEvents a s events old new) (sym is)
+    (by_shown (play_text report) Success status old new (λ a. AnswersEvents (written report a) s events old new) shown (λ text. (played, text)) (λ same. same) tt)
 
 -- a packet that wasn't made was named
-pub answered_none : (answer : Status) (s : Settings) (events : List Event) (k : ℕ) (old new : Option (List ℕ))
-    → PlayOf s s events (Err (NoSuchPacket k)) → Shows (missing_line k) FaultShown old new answer → AnswersEvents answer s events old new
-answered_none answer s events k old new stops shown =
-    by_shown (missing_line k) FaultShown answer old new (λ a. AnswersEvents a s events old new) shown (λ text. (k, stops, text)) (λ same. same) tt
+pub answered_none : (status : Status) (s : Settings) (events : List Event) (k : ℕ) (old new : Option (List ℕ))
+    → PlayOf s s events (Err (NoSuchPacket k)) → Shows (missing_line k) FaultShown old new status → AnswersEvents (Err status) s events old new
+answered_none status s events k old new stops shown =
+    by_shown (missing_line k) FaultShown status old new (λ a. AnswersEvents (Err a) s events old new) shown (λ text. (k, stops, text)) (λ same. same) tt
 
 -- random events were written
 pub answered_random : (answer : Status) (seed n : ℕ) (events : List Event) (text : List ℕ) (old new : Option (List ℕ))

@@ -21,7 +21,7 @@ use Rattle.qs_world.proofs.PlayedRuns.{played_none}
 use Rattle.qs_world.proofs.OneMore.{one_more}
 use Rattle.qs_cli.specs.declared.status.Status.{Status}
 use Rattle.qs_cli.specs.declared.status.Status.TheVariants.{Success, FaultShown, BadUsage, NoMemory, Failed}
-use Rattle.qs_cli.specs.Runs.{Shows, missing_line}
+use Rattle.qs_cli.specs.Runs.{Shows, missing_line, written}
 use Rattle.qs_cli.proofs.Answered.{by_shown}
 use Rattle.qs_cli.specs.Carrying.{Failings, Happens, Carried, Carries, StepsBy, CarryStep, CarryOf, HasCarried, ShowsWorld, AnswersCarried, counted, send_failed, wire_line}
 
@@ -169,22 +169,25 @@ carried_all before after events i n p all had = subst (λ es. HasCarried before 
 -- What was written
 
 -- a report of the world was written
-pub shown_world : (answer : Status) (p : Played) (report : Report) (failures strangers : ℕ) (old new : Option (List ℕ)) → IsReportOf p report →
-    Shows (play_text report ++ wire_line failures strangers) Success old new answer → ShowsWorld answer p failures strangers old new
-shown_world answer p report failures strangers old new is shown =
-    by_shown (play_text report ++ wire_line failures strangers) Success answer old new (λ a. ShowsWorld a p failures strangers old new) shown (λ text. (report, is, text)) (λ same. same) tt
+pub shown_world : (answer : Result Report Status) (status : Status) (p : Played) (report : Report) (failures strangers : ℕ) (old new : Option (List ℕ)) → IsReportOf p report →
+    Shows (play_text report ++ wire_line failures strangers) Success old new status → answer ≡ written report status → ShowsWorld answer p failures strangers old new
+shown_world answer status p report failures strangers old new is shown same =
+    subst (λ a. ShowsWorld a p failures strangers old new) (sym same)
+    (by_shown (play_text report ++ wire_line failures strangers) Success status old new (λ a. ShowsWorld (written report a) p failures strangers old new) shown (λ text. (is, text))
+      (λ kept. kept) tt)
 
 -- what took place of the events was shown
-pub answered_world : (answer : Status) (events : List Event) (p : Played) (before after : Failings) (failures strangers : ℕ) (old new : Option (List ℕ)) →
+pub answered_world : (answer : Result Report Status) (events : List Event) (p : Played) (before after : Failings) (failures strangers : ℕ) (old new : Option (List ℕ)) →
     HasCarried before events p after strangers → failures ≡ after.calls - before.calls → ShowsWorld answer p failures strangers old new → AnswersCarried answer events before after old new
-answered_world Success events p before after failures strangers old new carried rise shown = (p, strangers, carried, subst (λ n. ShowsWorld Success p n strangers old new) rise shown)
-answered_world FaultShown events p before after failures strangers old new carried rise shown = absurd (shown)
-answered_world BadUsage events p before after failures strangers old new carried rise shown = shown
-answered_world NoMemory events p before after failures strangers old new carried rise shown = shown
-answered_world Failed events p before after failures strangers old new carried rise shown = tt
+answered_world (Ok report) events p before after failures strangers old new carried rise shown = (p, strangers, carried, subst (λ n. ShowsWorld (Ok report) p n strangers old new) rise shown)
+answered_world (Err Success) events p before after failures strangers old new carried rise shown = shown
+answered_world (Err FaultShown) events p before after failures strangers old new carried rise shown = absurd (shown)
+answered_world (Err BadUsage) events p before after failures strangers old new carried rise shown = shown
+answered_world (Err NoMemory) events p before after failures strangers old new carried rise shown = shown
+answered_world (Err Failed) events p before after failures strangers old new carried rise shown = tt
 
 -- a packet that wasn't made was named
-pub answered_missing : (answer : Status) (events : List Event) (p : Played) (k : ℕ) (before after : Failings) (old new : Option (List ℕ)) →
-    CarryOf before events (Err (faults.NoSuchPacket k)) p after → Shows (missing_line k) FaultShown old new answer → AnswersCarried answer events before after old new
-answered_missing answer events p k before after old new stops shown =
-    by_shown (missing_line k) FaultShown answer old new (λ a. AnswersCarried a events before after old new) shown (λ text. (k, p, stops, text)) (λ same. same) tt
+pub answered_missing : (status : Status) (events : List Event) (p : Played) (k : ℕ) (before after : Failings) (old new : Option (List ℕ)) →
+    CarryOf before events (Err (faults.NoSuchPacket k)) p after → Shows (missing_line k) FaultShown old new status → AnswersCarried (Err status) events before after old new
+answered_missing status events p k before after old new stops shown =
+    by_shown (missing_line k) FaultShown status old new (λ a. AnswersCarried (Err a) events before after old new) shown (λ text. (k, p, stops, text)) (λ same. same) tt

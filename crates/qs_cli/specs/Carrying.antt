@@ -134,32 +134,34 @@ abbrev pub wire_line : ℕ → ℕ → List ℕ
 wire_line failures strangers = codes "wire failures " ++ (decimal failures ++ (codes " strangers " ++ (decimal strangers ++ codes "\n")))
 
 -- the text of a report of a world was written, and the line of the wire; where memory was refused nothing was
-abbrev pub ShowsWorld : Status → Played → ℕ → ℕ → Option (List ℕ) → Option (List ℕ) → Type 0
-ShowsWorld Success p failures strangers old new =
-    (report : Report) × IsReportOf p report × Appends old new (play_text report ++ wire_line failures strangers)
-ShowsWorld FaultShown p failures strangers old new = ⊥
-ShowsWorld BadUsage p failures strangers old new = ⊥
-ShowsWorld NoMemory p failures strangers old new = new ≡ old
-ShowsWorld Failed p failures strangers old new = ⊤
+abbrev pub ShowsWorld : Result Report Status → Played → ℕ → ℕ → Option (List ℕ) → Option (List ℕ) → Type 0
+ShowsWorld (Ok report) p failures strangers old new = IsReportOf p report × Appends old new (play_text report ++ wire_line failures strangers)
+ShowsWorld (Err Success) p failures strangers old new = ⊥
+ShowsWorld (Err FaultShown) p failures strangers old new = ⊥
+ShowsWorld (Err BadUsage) p failures strangers old new = ⊥
+ShowsWorld (Err NoMemory) p failures strangers old new = new ≡ old
+ShowsWorld (Err Failed) p failures strangers old new = ⊤
 
 -- The text of a report of what took place was written, and the line of the wire with the rise of its failures; or the line that names a
 -- packet that wasn't made; where memory was refused nothing was written.
-abbrev pub AnswersCarried : Status → List Event → Failings → Failings → Option (List ℕ) → Option (List ℕ) → Type 0
-AnswersCarried Success events before after old new =
-    (p : Played) × (strangers : ℕ) × HasCarried before events p after strangers × ShowsWorld Success p (after.calls - before.calls) strangers old new
-AnswersCarried FaultShown events before after old new =
+abbrev pub AnswersCarried : Result Report Status → List Event → Failings → Failings → Option (List ℕ) → Option (List ℕ) → Type 0
+AnswersCarried (Ok report) events before after old new =
+    (p : Played) × (strangers : ℕ) × HasCarried before events p after strangers × ShowsWorld (Ok report) p (after.calls - before.calls) strangers old new
+AnswersCarried (Err FaultShown) events before after old new =
     (k : ℕ) × (p : Played) × CarryOf before events (Err (faults.NoSuchPacket k)) p after × Appends old new (missing_line k)
-AnswersCarried BadUsage events before after old new = ⊥
-AnswersCarried NoMemory events before after old new = new ≡ old
-AnswersCarried Failed events before after old new = ⊤
+AnswersCarried (Err Success) events before after old new = ⊥
+AnswersCarried (Err BadUsage) events before after old new = ⊥
+AnswersCarried (Err NoMemory) events before after old new = new ≡ old
+AnswersCarried (Err Failed) events before after old new = ⊤
 
 -- The events of the script were played over a wire, or its first line that is no event was named; where memory was refused nothing was
 -- written.
-abbrev pub AnswersUdp : Status → List ℕ → Failings → Failings → Option (List ℕ) → Option (List ℕ) → Type 0
-AnswersUdp Success script before after old new =
-    (events : List Event) × IsScriptOf script events × AnswersCarried Success events before after old new
-AnswersUdp FaultShown script before after old new =
-    ((events : List Event) × IsScriptOf script events × AnswersCarried FaultShown events before after old new) ⊎ NamesFault script old new
-AnswersUdp BadUsage script before after old new = ⊥
-AnswersUdp NoMemory script before after old new = new ≡ old
-AnswersUdp Failed script before after old new = ⊤
+abbrev pub AnswersUdp : Result Report Status → List ℕ → Failings → Failings → Option (List ℕ) → Option (List ℕ) → Type 0
+AnswersUdp (Ok report) script before after old new =
+    (events : List Event) × IsScriptOf script events × AnswersCarried (Ok report) events before after old new
+AnswersUdp (Err FaultShown) script before after old new =
+    ((events : List Event) × IsScriptOf script events × AnswersCarried (Err FaultShown) events before after old new) ⊎ NamesFault script old new
+AnswersUdp (Err Success) script before after old new = ⊥
+AnswersUdp (Err BadUsage) script before after old new = ⊥
+AnswersUdp (Err NoMemory) script before after old new = new ≡ old
+AnswersUdp (Err Failed) script before after old new = ⊤

@@ -1,6 +1,6 @@
 -- Of public contracts.
 -- A script is played, and then both ends are led to rest: what is written.
-use Rattle.std.specs.Prelude.{◌≡◌, ℕ, List, ◌++◌, codes, Option, Ok, Err, ⊤, ◌⊎◌}
+use Rattle.std.specs.Prelude.{◌≡◌, ℕ, List, ◌++◌, codes, Option, Result, Ok, Err, ⊤, ◌⊎◌}
 use Rattle.std.specs.Io.KnownBytes.{Appends}
 use Rattle.qs_calls.specs.declared.settings.Settings.{Settings}
 use Rattle.qs_calls.specs.declared.event.Event.{Event}
@@ -29,19 +29,22 @@ abbrev pub drained_text : Report × Drained → List ℕ
 drained_text told = play_text told.0 ++ rest_line told.1
 
 -- That text was written, or the line that names a packet that wasn't made; where memory was refused nothing was.
-abbrev pub AnswersDrainedEvents : Status → Settings → List Event → Option (List ℕ) → Option (List ℕ) → Type 0
-AnswersDrainedEvents Success s events old new = (told : Report × Drained) × DrainedPlayOf s s events most_drained (Ok told) × Appends old new (drained_text told)
-AnswersDrainedEvents FaultShown s events old new = (k : ℕ) × PlayOf s s events (Err (NoSuchPacket k)) × Appends old new (missing_line k)
-AnswersDrainedEvents BadUsage s events old new = ⊥
-AnswersDrainedEvents NoMemory s events old new = new ≡ old
-AnswersDrainedEvents Failed s events old new = ⊤
+abbrev pub AnswersDrainedEvents : Result Report Status → Settings → List Event → Option (List ℕ) → Option (List ℕ) → Type 0
+AnswersDrainedEvents (Ok report) s events old new =
+    (drained : Drained) × DrainedPlayOf s s events most_drained (Ok (report, drained)) × Appends old new (drained_text (report, drained))
+AnswersDrainedEvents (Err FaultShown) s events old new = (k : ℕ) × PlayOf s s events (Err (NoSuchPacket k)) × Appends old new (missing_line k)
+AnswersDrainedEvents (Err Success) s events old new = ⊥
+AnswersDrainedEvents (Err BadUsage) s events old new = ⊥
+AnswersDrainedEvents (Err NoMemory) s events old new = new ≡ old
+AnswersDrainedEvents (Err Failed) s events old new = ⊤
 
 -- The events of the script were played and both ends led to rest, or the script's first line that is no event was named; where memory was
 -- refused nothing was written.
-abbrev pub AnswersDrained : Status → Settings → List ℕ → Option (List ℕ) → Option (List ℕ) → Type 0
-AnswersDrained Success s script old new = (events : List Event) × IsScriptOf script events × AnswersDrainedEvents Success s events old new
-AnswersDrained FaultShown s script old new =
-    ((events : List Event) × IsScriptOf script events × AnswersDrainedEvents FaultShown s events old new) ⊎ NamesFault script old new
-AnswersDrained BadUsage s script old new = ⊥
-AnswersDrained NoMemory s script old new = new ≡ old
-AnswersDrained Failed s script old new = ⊤
+abbrev pub AnswersDrained : Result Report Status → Settings → List ℕ → Option (List ℕ) → Option (List ℕ) → Type 0
+AnswersDrained (Ok report) s script old new = (events : List Event) × IsScriptOf script events × AnswersDrainedEvents (Ok report) s events old new
+AnswersDrained (Err FaultShown) s script old new =
+    ((events : List Event) × IsScriptOf script events × AnswersDrainedEvents (Err FaultShown) s events old new) ⊎ NamesFault script old new
+AnswersDrained (Err Success) s script old new = ⊥
+AnswersDrained (Err BadUsage) s script old new = ⊥
+AnswersDrained (Err NoMemory) s script old new = new ≡ old
+AnswersDrained (Err Failed) s script old new = ⊤

@@ -1,6 +1,6 @@
 -- Of public contracts.
 -- What a run of the program answers and writes.
-use Rattle.std.specs.Prelude.{◌≡◌, ℕ, List, ◌++◌, codes, decimal, length, map, ◌≤◌, ◌⊎◌, Option, None, Ok, Err, is_some, true, ⊤}
+use Rattle.std.specs.Prelude.{◌≡◌, ℕ, List, ◌++◌, codes, decimal, length, map, ◌≤◌, ◌⊎◌, Option, None, Result, Ok, Err, is_some, true, ⊤}
 use Rattle.std.specs.Io.KnownBytes.{Appends}
 use Rattle.std.specs.List.{list_all}
 use Rattle.hex.specs.Hex.{decode_of}
@@ -63,14 +63,23 @@ missing_line event = codes "fault: no such packet at event " ++ decimal event ++
 abbrev pub script_fault_line : ScriptFault → List ℕ
 script_fault_line fault = codes "fault: line " ++ decimal fault.line ++ codes " reason " ++ decimal (reason_number fault.reason) ++ codes "\n"
 
+-- a report that was written, or the status that tells why it wasn't
+abbrev pub written : Report → Status → Result Report Status
+written report Success = Ok report
+written report FaultShown = Err FaultShown
+written report BadUsage = Err BadUsage
+written report NoMemory = Err NoMemory
+written report Failed = Err Failed
+
 -- The text of a report of the events that were played was written, or the line that names a packet that wasn't made; where memory was
 -- refused nothing was.
-abbrev pub AnswersEvents : Status → Settings → List Event → Option (List ℕ) → Option (List ℕ) → Type 0
-AnswersEvents Success s events old new = (report : Report) × PlayOf s s events (Ok report) × Appends old new (play_text report)
-AnswersEvents FaultShown s events old new = (k : ℕ) × PlayOf s s events (Err (NoSuchPacket k)) × Appends old new (missing_line k)
-AnswersEvents BadUsage s events old new = ⊥
-AnswersEvents NoMemory s events old new = new ≡ old
-AnswersEvents Failed s events old new = ⊤
+abbrev pub AnswersEvents : Result Report Status → Settings → List Event → Option (List ℕ) → Option (List ℕ) → Type 0
+AnswersEvents (Ok report) s events old new = PlayOf s s events (Ok report) × Appends old new (play_text report)
+AnswersEvents (Err FaultShown) s events old new = (k : ℕ) × PlayOf s s events (Err (NoSuchPacket k)) × Appends old new (missing_line k)
+AnswersEvents (Err Success) s events old new = ⊥
+AnswersEvents (Err BadUsage) s events old new = ⊥
+AnswersEvents (Err NoMemory) s events old new = new ≡ old
+AnswersEvents (Err Failed) s events old new = ⊤
 
 -- the events are those that the script says, and their numbers lie in their ranges
 abbrev pub IsScriptOf : List ℕ → List Event → Type 0
@@ -86,13 +95,14 @@ abbrev pub NamesFault : List ℕ → Option (List ℕ) → Option (List ℕ) →
 NamesFault script old new = (fault : ScriptFault) × (script_of script ≡ Err (fault.line, fault.reason)) × Appends old new (script_fault_line fault)
 
 -- The events of the script were played, or its first line that is no event was named; where memory was refused nothing was written.
-abbrev pub AnswersPlay : Status → Settings → List ℕ → Option (List ℕ) → Option (List ℕ) → Type 0
-AnswersPlay Success s script old new = (events : List Event) × IsScriptOf script events × AnswersEvents Success s events old new
-AnswersPlay FaultShown s script old new =
-    ((events : List Event) × IsScriptOf script events × AnswersEvents FaultShown s events old new) ⊎ NamesFault script old new
-AnswersPlay BadUsage s script old new = ⊥
-AnswersPlay NoMemory s script old new = new ≡ old
-AnswersPlay Failed s script old new = ⊤
+abbrev pub AnswersPlay : Result Report Status → Settings → List ℕ → Option (List ℕ) → Option (List ℕ) → Type 0
+AnswersPlay (Ok report) s script old new = (events : List Event) × IsScriptOf script events × AnswersEvents (Ok report) s events old new
+AnswersPlay (Err FaultShown) s script old new =
+    ((events : List Event) × IsScriptOf script events × AnswersEvents (Err FaultShown) s events old new) ⊎ NamesFault script old new
+AnswersPlay (Err Success) s script old new = ⊥
+AnswersPlay (Err BadUsage) s script old new = ⊥
+AnswersPlay (Err NoMemory) s script old new = new ≡ old
+AnswersPlay (Err Failed) s script old new = ⊤
 
 -- The text of so many random events was written; where memory was refused nothing was.
 abbrev pub AnswersRandom : Status → ℕ → ℕ → Option (List ℕ) → Option (List ℕ) → Type 0

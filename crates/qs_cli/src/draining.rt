@@ -11,7 +11,7 @@ ghost use Rattle.qs_cli.specs.Runs.{Shows};
 ghost use Rattle.qs_cli.specs.Draining.{AnswersDrained, AnswersDrainedEvents, rest_line};
 
 use crate::report_text::play_text;
-use crate::scripts::{show, show_missing, show_script_fault};
+use crate::scripts::{show, show_missing, show_script_fault, written};
 use crate::status::Status;
 use qs_world::{Drained, Event, PlayFault, Report, Settings, parse_script, play_drained};
 use std::alloc::{AllocError, Global};
@@ -21,19 +21,19 @@ use std::io;
 const MOST_DRAINED: u64 = 1_000_000;
 
 /// Plays a script between two ends of these settings, and then plain rounds until both ends are at rest or 1,000,000 events more happened.
-/// It writes the report of it all, as [`crate::run_play_with`] does, and at last the line `at rest` or `not at rest`.
+/// It writes the report of it all, as [`crate::run_play_with`] does, and at last the line `at rest` or `not at rest`. It answers that report.
 pub fn run_drained<W: io::Write>(
     alloc: Global,
     settings: Settings,
     script: &[u8],
     out: &mut W,
-) -> Status
+) -> Result<Report, Status>
     requires range { are_in_range settings ≡ true }
     ensures { AnswersDrained result settings script.now (W.contents out.old) (W.contents out.new) }
 {
     match parse_script(alloc, script) {
         Ok(events) => drained_events(alloc, settings, events, out),
-        Err(fault) => show_script_fault(alloc, fault, out),
+        Err(fault) => Err(show_script_fault(alloc, fault, out)),
     }
 }
 
@@ -42,15 +42,18 @@ fn drained_events<W: io::Write>(
     settings: Settings,
     events: Vec<Event>,
     out: &mut W,
-) -> Status
+) -> Result<Report, Status>
     requires fit { list_all fits events.items ≡ true }
     requires range { are_in_range settings ≡ true }
     ensures { AnswersDrainedEvents result settings events.items (W.contents out.old) (W.contents out.new) }
 {
     match play_drained(alloc, settings, settings, events, MOST_DRAINED) {
-        Ok((report, drained)) => show_drained(alloc, &report, drained, out),
-        Err(PlayFault::NoSuchPacket { event }) => show_missing(alloc, event, out),
-        Err(PlayFault::NoMemory) => Status::NoMemory,
+        Ok((report, drained)) => {
+            let status = show_drained(alloc, &report, drained, out);
+            written(report, status)
+        }
+        Err(PlayFault::NoSuchPacket { event }) => Err(show_missing(alloc, event, out)),
+        Err(PlayFault::NoMemory) => Err(Status::NoMemory),
         Err(PlayFault::Setup(_)) => unreachable!(),
     }
 }

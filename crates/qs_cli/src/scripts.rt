@@ -8,7 +8,7 @@ ghost use Rattle.qs_machine.specs.Examples.{standard};
 ghost use Rattle.qs_calls.specs.Events.{fits};
 ghost use Rattle.qs_world.specs.PlayText.{play_text};
 ghost use Rattle.qs_cli.specs.declared.status.Status.TheVariants.{Success, FaultShown};
-ghost use Rattle.qs_cli.specs.Runs.{AnswersEvents, AnswersPlay, AnswersRandom, Shows, ShowsScriptFault, missing_line, script_fault_line};
+ghost use Rattle.qs_cli.specs.Runs.{AnswersEvents, AnswersPlay, AnswersRandom, Shows, ShowsScriptFault, missing_line, script_fault_line, written};
 
 use crate::report_text::{play_text, script_text};
 use crate::status::Status;
@@ -20,7 +20,7 @@ use std::alloc::{AllocError, Global};
 use std::io;
 
 /// Plays events between two ends of these settings, and writes the report: a line for each event with its answer, for each lane and for
-/// each end. An event that delivers a packet which wasn't made is named in place of it all.
+/// each end. It answers that report. An event that delivers a packet which wasn't made is named in place of it all.
 ///
 /// It is written once the text stands whole: `NoMemory` where memory was refused, and then nothing was written, and `Failed` where
 /// writing failed.
@@ -29,15 +29,18 @@ pub fn run_events<W: io::Write>(
     settings: Settings,
     events: Vec<Event>,
     out: &mut W,
-) -> Status
+) -> Result<Report, Status>
     requires fit { list_all fits events.items ≡ true }
     requires range { are_in_range settings ≡ true }
     ensures { AnswersEvents result settings events.items (W.contents out.old) (W.contents out.new) }
 {
     match play(alloc, settings, settings, events) {
-        Ok(report) => show_report(alloc, &report, out),
-        Err(PlayFault::NoSuchPacket { event }) => show_missing(alloc, event, out),
-        Err(PlayFault::NoMemory) => Status::NoMemory,
+        Ok(report) => {
+            let status = show_report(alloc, &report, out);
+            written(report, status)
+        }
+        Err(PlayFault::NoSuchPacket { event }) => Err(show_missing(alloc, event, out)),
+        Err(PlayFault::NoMemory) => Err(Status::NoMemory),
         Err(PlayFault::Setup(_)) => unreachable!(),
     }
 }
@@ -48,6 +51,16 @@ fn show_report<W: io::Write>(alloc: Global, report: &Report, out: &mut W) -> Sta
     match play_text(alloc, report) {
         Ok(text) => show(&text, Status::Success, out),
         Err(_) => Status::NoMemory,
+    }
+}
+
+/// A report that was written, or the status that tells why it wasn't.
+pub fn written(report: Report, status: Status) -> Result<Report, Status>
+    ensures { result ≡ written report status }
+{
+    match status {
+        Status::Success => Ok(report),
+        _ => Err(status),
     }
 }
 
@@ -72,7 +85,11 @@ pub fn show<W: io::Write>(text: &String, status: Status, out: &mut W) -> Status
 }
 
 /// Plays a script between two ends of the standard settings, as [`run_play_with`] does.
-pub fn run_play<W: io::Write>(alloc: Global, script: &[u8], out: &mut W) -> Status
+pub fn run_play<W: io::Write>(
+    alloc: Global,
+    script: &[u8],
+    out: &mut W,
+) -> Result<Report, Status>
     ensures { AnswersPlay result standard script.now (W.contents out.old) (W.contents out.new) }
 {
     run_play_with(alloc, standard_settings(), script, out)
@@ -85,13 +102,13 @@ pub fn run_play_with<W: io::Write>(
     settings: Settings,
     script: &[u8],
     out: &mut W,
-) -> Status
+) -> Result<Report, Status>
     requires range { are_in_range settings ≡ true }
     ensures { AnswersPlay result settings script.now (W.contents out.old) (W.contents out.new) }
 {
     match parse_script(alloc, script) {
         Ok(events) => run_events(alloc, settings, events, out),
-        Err(fault) => show_script_fault(alloc, fault, out),
+        Err(fault) => Err(show_script_fault(alloc, fault, out)),
     }
 }
 

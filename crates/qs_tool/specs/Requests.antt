@@ -8,6 +8,6 @@ use Rattle.qs_tool.specs.declared.request.Request.TheVariants.{Frames, Play, Udp
 -- an end can be made of the settings between which a script is to be played
 abbrev pub IsPlayable : Request → Type 0
 IsPlayable (Frames hex) = ⊤
-IsPlayable (Play file settings drain) = are_in_range settings ≡ true
-IsPlayable (Udp file) = ⊤
+IsPlayable (Play file settings drain qlog) = are_in_range settings ≡ true
+IsPlayable (Udp file qlog) = ⊤
 IsPlayable (Random seed n) = ⊤

@@ -8,4 +8,4 @@ pub mod laws;
 mod records;
 mod words;
 
-pub use events::trace;
+pub use events::{trace, vantage_name};

@@ -44,6 +44,8 @@ fn other_command_lines_make_no_sense(rt: HostRuntime) -> Result<(), Fail> {
         &["qstream", "udp"],
         &["qstream", "udp", "one", "--grant", "1"],
         &["qstream", "udp", "one", "--drain"],
+        &["qstream", "udp", "one", "--qlog"],
+        &["qstream", "random", "1", "2", "--qlog", "one"],
         &["qstream", "play", "one", "--drain=yes"],
         &["qstream", "random", "1", "2", "--lifetime", "9"],
     ];
@@ -61,10 +63,26 @@ fn the_command_line_names_a_file(rt: HostRuntime) -> Result<(), Fail> {
         file: "a file",
         settings: standard_settings(),
         drain: false,
+        qlog: None,
     };
     assert!(rt; Request::parse(rt.alloc(), &line) == Ok(play));
     let line = words(rt.alloc(), &["qstream", "udp", "a file"])?;
-    assert!(rt; Request::parse(rt.alloc(), &line) == Ok(Request::Udp("a file")));
+    let udp = Request::Udp {
+        file: "a file",
+        qlog: None,
+    };
+    assert!(rt; Request::parse(rt.alloc(), &line) == Ok(udp));
+    Ok(())
+}
+
+#[test]
+fn the_command_line_names_the_traces(rt: HostRuntime) -> Result<(), Fail> {
+    let line = words(rt.alloc(), &["qstream", "udp", "a file", "--qlog", "b"])?;
+    let udp = Request::Udp {
+        file: "a file",
+        qlog: Some("b"),
+    };
+    assert!(rt; Request::parse(rt.alloc(), &line) == Ok(udp));
     Ok(())
 }
 
@@ -75,6 +93,7 @@ fn the_command_line_asks_for_rest(rt: HostRuntime) -> Result<(), Fail> {
         file: "a file",
         settings: standard_settings(),
         drain: true,
+        qlog: None,
     };
     assert!(rt; Request::parse(rt.alloc(), &line) == Ok(play));
     Ok(())

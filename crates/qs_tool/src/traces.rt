@@ -1,0 +1,29 @@
+//! Writes the traces of both ends of a run to files.
+
+use qs_calls::{Answer, Event, Side};
+use qs_cli::Status;
+use qs_trace::{trace, vantage_name};
+use std::fs;
+
+/// Writes what each end saw of a log, the client to NAME.client.sqlog and the server to NAME.server.sqlog. `NoMemory` where memory was
+/// refused, and `Failed` where a file can't be written, which a line on standard error names.
+pub fn write_traces(rt: &HostRuntime, name: &str, log: &[(Event, Answer)]) -> Status {
+    match write_trace(rt, name, Side::A, log) {
+        Status::Success => write_trace(rt, name, Side::B, log),
+        status => status,
+    }
+}
+
+fn write_trace(rt: &HostRuntime, name: &str, side: Side, log: &[(Event, Answer)]) -> Status {
+    let Ok(text) = trace(rt.alloc(), side, log) else {
+        return Status::NoMemory;
+    };
+    let Ok(file) = format!(in rt.alloc(); "{name}.{}.sqlog", vantage_name(side)) else {
+        return Status::NoMemory;
+    };
+    if let Err(_) = fs::write(rt, file.as_str(), text.as_str()) {
+        let _told = eprintln!(rt; "qstream: can't write {file}");
+        return Status::Failed;
+    }
+    Status::Success
+}
