@@ -21,9 +21,18 @@ fn write_trace(rt: &HostRuntime, name: &str, side: Side, log: &[(Event, Answer)]
     let Ok(file) = format!(in rt.alloc(); "{name}.{}.sqlog", vantage_name(side)) else {
         return Status::NoMemory;
     };
-    if let Err(_) = fs::write(rt, file.as_str(), text.as_str()) {
-        let _told = eprintln!(rt; "qstream: can't write {file}");
-        return Status::Failed;
+    match fs::write(rt, file.as_str(), text.as_str()) {
+        Ok(()) => Status::Success,
+        Err(_) => name_unwritable(rt, file.as_str()),
     }
-    Status::Success
+}
+
+/// Names a file that can't be written on standard error.
+fn name_unwritable(rt: &HostRuntime, file: &str) -> Status {
+    let Ok(line) = format!(in rt.alloc(); "qstream: can't write {file}") else {
+        return Status::NoMemory;
+    };
+    match rt.eprintln(line.as_str()) {
+        Ok(()) | Err(_) => Status::Failed,
+    }
 }

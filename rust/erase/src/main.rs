@@ -30,8 +30,9 @@ const LIBRARY: [&str; 7] = [
 const LIBRARY_FOLDER: &str = "rust/src/proved";
 
 /// The crates of the program and of its tests.
-const PROGRAM: [&str; 7] = [
+const PROGRAM: [&str; 8] = [
     "qs_world",
+    "qs_trace",
     "qs_cli",
     "qs_tool",
     "qs_chunks",

@@ -40,6 +40,7 @@ mod qs_ends;
 #[cfg(test)]
 mod qs_tests;
 pub(crate) mod qs_tool;
+pub(crate) mod qs_trace;
 #[cfg(test)]
 mod qs_units;
 pub(crate) mod qs_world;

@@ -4,7 +4,7 @@
 use crate::shim::{String, Vec};
 
 use crate::proved::qs_cli::report_text::play_text;
-use crate::proved::qs_cli::scripts::{show, show_missing, show_script_fault};
+use crate::proved::qs_cli::scripts::{show, show_missing, show_script_fault, written};
 use crate::proved::qs_cli::status::Status;
 use crate::proved::qs_cli::wire::{Wire, one_more, other_side};
 use crate::proved::qs_world::{
@@ -23,15 +23,15 @@ pub fn run_udp<Wi: Wire, W: io::Write>(
     script: &[u8],
     wire: &mut Wi,
     out: &mut W,
-) -> Status {
+) -> Result<Report, Status> {
     match parse_script(alloc, script) {
         Ok(events) => udp_events(alloc, &events, wire, out),
-        Err(fault) => show_script_fault(alloc, fault, out),
+        Err(fault) => Err(show_script_fault(alloc, fault, out)),
     }
 }
 
-/// Plays events between two ends of the standard settings, whose packets go over a wire. It writes the report of what took place, as
-/// [`crate::proved::qs_cli::scripts::run_events`] does, and then how many calls of the wire failed and how many datagrams were a stranger's.
+/// Plays events between two ends of the standard settings, whose packets go over a wire. It writes and answers the report of what took
+/// place, as [`crate::proved::qs_cli::scripts::run_events`] does, and writes then how many calls of the wire failed and how many datagrams were a stranger's.
 ///
 /// To deliver a packet its datagram is sent, which is the number in eight bytes and then the payload, and one datagram is received at the
 /// other end. Where sending fails the packet is declared lost. Where receiving fails nothing happens. A datagram that is no packet which
@@ -41,7 +41,7 @@ pub fn udp_events<Wi: Wire, W: io::Write>(
     events: &[Event],
     wire: &mut Wi,
     out: &mut W,
-) -> Status {
+) -> Result<Report, Status> {
     let Ok(mut world) = World::new(alloc, standard_settings(), standard_settings()) else {
         unreachable!()
     };
@@ -55,30 +55,33 @@ fn carry_and_show<Wi: Wire, W: io::Write>(
     wire: &mut Wi,
     world: &mut World,
     out: &mut W,
-) -> Status {
+) -> Result<Report, Status> {
     let before = wire.failures();
     match carry_events(alloc, events, wire, world) {
         Ok(strangers) => {
             let failures = wire.failures() - before;
             show_world(alloc, world, failures, strangers, out)
         }
-        Err(PlayFault::NoSuchPacket { event }) => show_missing(alloc, event, out),
-        Err(PlayFault::NoMemory) => Status::NoMemory,
+        Err(PlayFault::NoSuchPacket { event }) => Err(show_missing(alloc, event, out)),
+        Err(PlayFault::NoMemory) => Err(Status::NoMemory),
         Err(PlayFault::Setup(_)) => unreachable!(),
     }
 }
 
-/// Writes the report of a world, and the line of the wire.
+/// Writes the report of a world, and the line of the wire. It answers that report.
 fn show_world<W: io::Write>(
     alloc: Global,
     world: &World,
     failures: u64,
     strangers: u64,
     out: &mut W,
-) -> Status {
+) -> Result<Report, Status> {
     match world.report() {
-        Ok(report) => show_report(alloc, &report, failures, strangers, out),
-        Err(_) => Status::NoMemory,
+        Ok(report) => {
+            let status = show_report(alloc, &report, failures, strangers, out);
+            written(report, status)
+        }
+        Err(_) => Err(Status::NoMemory),
     }
 }
 

@@ -4,7 +4,7 @@
 use crate::shim::{String, Vec};
 
 use crate::proved::qs_cli::report_text::play_text;
-use crate::proved::qs_cli::scripts::{show, show_missing, show_script_fault};
+use crate::proved::qs_cli::scripts::{show, show_missing, show_script_fault, written};
 use crate::proved::qs_cli::status::Status;
 use crate::proved::qs_world::{Drained, Event, PlayFault, Report, Settings, parse_script, play_drained};
 use crate::shim::alloc::{AllocError, Global};
@@ -14,16 +14,16 @@ use crate::shim::io;
 const MOST_DRAINED: u64 = 1_000_000;
 
 /// Plays a script between two ends of these settings, and then plain rounds until both ends are at rest or 1,000,000 events more happened.
-/// It writes the report of it all, as [`crate::proved::qs_cli::run_play_with`] does, and at last the line `at rest` or `not at rest`.
+/// It writes the report of it all, as [`crate::proved::qs_cli::run_play_with`] does, and at last the line `at rest` or `not at rest`. It answers that report.
 pub fn run_drained<W: io::Write>(
     alloc: Global,
     settings: Settings,
     script: &[u8],
     out: &mut W,
-) -> Status {
+) -> Result<Report, Status> {
     match parse_script(alloc, script) {
         Ok(events) => drained_events(alloc, settings, events, out),
-        Err(fault) => show_script_fault(alloc, fault, out),
+        Err(fault) => Err(show_script_fault(alloc, fault, out)),
     }
 }
 
@@ -32,11 +32,14 @@ fn drained_events<W: io::Write>(
     settings: Settings,
     events: Vec<Event>,
     out: &mut W,
-) -> Status {
+) -> Result<Report, Status> {
     match play_drained(alloc, settings, settings, events, MOST_DRAINED) {
-        Ok((report, drained)) => show_drained(alloc, &report, drained, out),
-        Err(PlayFault::NoSuchPacket { event }) => show_missing(alloc, event, out),
-        Err(PlayFault::NoMemory) => Status::NoMemory,
+        Ok((report, drained)) => {
+            let status = show_drained(alloc, &report, drained, out);
+            written(report, status)
+        }
+        Err(PlayFault::NoSuchPacket { event }) => Err(show_missing(alloc, event, out)),
+        Err(PlayFault::NoMemory) => Err(Status::NoMemory),
         Err(PlayFault::Setup(_)) => unreachable!(),
     }
 }

@@ -13,7 +13,7 @@ use crate::shim::alloc::{AllocError, Global};
 use crate::shim::io;
 
 /// Plays events between two ends of these settings, and writes the report: a line for each event with its answer, for each lane and for
-/// each end. An event that delivers a packet which wasn't made is named in place of it all.
+/// each end. It answers that report. An event that delivers a packet which wasn't made is named in place of it all.
 ///
 /// It is written once the text stands whole: `NoMemory` where memory was refused, and then nothing was written, and `Failed` where
 /// writing failed.
@@ -22,11 +22,14 @@ pub fn run_events<W: io::Write>(
     settings: Settings,
     events: Vec<Event>,
     out: &mut W,
-) -> Status {
+) -> Result<Report, Status> {
     match play(alloc, settings, settings, events) {
-        Ok(report) => show_report(alloc, &report, out),
-        Err(PlayFault::NoSuchPacket { event }) => show_missing(alloc, event, out),
-        Err(PlayFault::NoMemory) => Status::NoMemory,
+        Ok(report) => {
+            let status = show_report(alloc, &report, out);
+            written(report, status)
+        }
+        Err(PlayFault::NoSuchPacket { event }) => Err(show_missing(alloc, event, out)),
+        Err(PlayFault::NoMemory) => Err(Status::NoMemory),
         Err(PlayFault::Setup(_)) => unreachable!(),
     }
 }
@@ -35,6 +38,14 @@ fn show_report<W: io::Write>(alloc: Global, report: &Report, out: &mut W) -> Sta
     match play_text(alloc, report) {
         Ok(text) => show(&text, Status::Success, out),
         Err(_) => Status::NoMemory,
+    }
+}
+
+/// A report that was written, or the status that tells why it wasn't.
+pub fn written(report: Report, status: Status) -> Result<Report, Status> {
+    match status {
+        Status::Success => Ok(report),
+        _ => Err(status),
     }
 }
 
@@ -55,7 +66,11 @@ pub fn show<W: io::Write>(text: &String, status: Status, out: &mut W) -> Status 
 }
 
 /// Plays a script between two ends of the standard settings, as [`run_play_with`] does.
-pub fn run_play<W: io::Write>(alloc: Global, script: &[u8], out: &mut W) -> Status {
+pub fn run_play<W: io::Write>(
+    alloc: Global,
+    script: &[u8],
+    out: &mut W,
+) -> Result<Report, Status> {
     run_play_with(alloc, standard_settings(), script, out)
 }
 
@@ -66,10 +81,10 @@ pub fn run_play_with<W: io::Write>(
     settings: Settings,
     script: &[u8],
     out: &mut W,
-) -> Status {
+) -> Result<Report, Status> {
     match parse_script(alloc, script) {
         Ok(events) => run_events(alloc, settings, events, out),
-        Err(fault) => show_script_fault(alloc, fault, out),
+        Err(fault) => Err(show_script_fault(alloc, fault, out)),
     }
 }
 

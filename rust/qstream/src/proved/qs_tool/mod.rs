@@ -7,11 +7,13 @@ mod input;
 mod request;
 #[cfg(test)]
 mod tests;
+mod traces;
 
 use crate::proved::qs_tool::input::read_file;
 use crate::proved::qs_tool::request::Request;
+use crate::proved::qs_tool::traces::write_traces;
 use crate::proved::qs_cli::{Status, UdpWire, run_drained, run_frames, run_play_with, run_random, run_udp};
-use crate::proved::qs_world::Settings;
+use crate::proved::qs_world::{Report, Settings};
 use crate::shim::process::ExitCode;
 use crate::shim::{env, io};
 
@@ -47,12 +49,13 @@ fn answer(rt: &HostRuntime, request: Request) -> Status {
             file,
             settings,
             drain,
+            qlog,
         } => match read_file(rt, file) {
-            Ok(script) => play(rt, settings, &script, drain, &mut out),
+            Ok(script) => traced(rt, play(rt, settings, &script, drain, &mut out), qlog),
             Err(status) => status,
         },
-        Request::Udp(name) => match read_file(rt, name) {
-            Ok(script) => over_udp(rt, &script, &mut out),
+        Request::Udp { file, qlog } => match read_file(rt, file) {
+            Ok(script) => traced(rt, over_udp(rt, &script, &mut out), qlog),
             Err(status) => status,
         },
         Request::Random { seed, n } => run_random(rt.alloc(), seed, n, &mut out),
@@ -65,7 +68,7 @@ fn play<W: io::Write>(
     script: &[u8],
     drain: bool,
     out: &mut W,
-) -> Status {
+) -> Result<Report, Status> {
     if drain {
         run_drained(rt.alloc(), settings, script, out)
     } else {
@@ -73,10 +76,23 @@ fn play<W: io::Write>(
     }
 }
 
-fn over_udp<W: io::Write>(rt: &HostRuntime, script: &[u8], out: &mut W) -> Status {
+fn over_udp<W: io::Write>(
+    rt: &HostRuntime,
+    script: &[u8],
+    out: &mut W,
+) -> Result<Report, Status> {
     match UdpWire::bind(rt) {
         Ok(mut wire) => run_udp(rt.alloc(), script, &mut wire, out),
-        Err(_) => Status::Failed,
+        Err(_) => Err(Status::Failed),
+    }
+}
+
+/// The status of a run, whose traces are written where a name for them is given.
+fn traced(rt: &HostRuntime, answer: Result<Report, Status>, qlog: Option<&str>) -> Status {
+    match (answer, qlog) {
+        (Ok(report), Some(name)) => write_traces(rt, name, &report.log),
+        (Ok(_), None) => Status::Success,
+        (Err(status), _) => status,
     }
 }
 

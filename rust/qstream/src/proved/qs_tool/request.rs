@@ -25,14 +25,19 @@ const MAX_LIFETIME: u64 = 65_536;
 pub enum Request<'a> {
     /// Show the frames of the payload that the word spells in hex.
     Frames(&'a str),
-    /// Play the script in the file of that name, between two ends of these settings, and lead them to rest where that is asked for.
+    /// Play the script in the file of that name, between two ends of these settings, and lead them to rest where that is asked for. The
+    /// traces of both ends go to files, where a name is given for these.
     Play {
         file: &'a str,
         settings: Settings,
         drain: bool,
+        qlog: Option<&'a str>,
     },
-    /// Play the script in the file of that name, with its packets over UDP.
-    Udp(&'a str),
+    /// Play the script in the file of that name, with its packets over UDP. The traces of both ends go to files, as above.
+    Udp {
+        file: &'a str,
+        qlog: Option<&'a str>,
+    },
     /// Show a script of `n` random events, at most 10,000, which the seed determines.
     Random {
         seed: u64,
@@ -62,42 +67,38 @@ impl<'a> Request<'a> {
 fn asked_for<'a>(name: &str, found: &ArgMatches<'a>) -> Option<Request<'a>> {
     match name {
         "frames" => Some(Request::Frames(found.get_str("hex")?)),
-        "play" => play(
-            found.get_str("file")?,
-            found.get_str("grant"),
-            found.get_str("lifetime"),
-            found.get_flag("drain"),
-        ),
-        "udp" => Some(Request::Udp(found.get_str("file")?)),
+        "play" => {
+            let settings = settings(found.get_str("grant"), found.get_str("lifetime"))?;
+            Some(Request::Play {
+                file: found.get_str("file")?,
+                settings,
+                drain: found.get_flag("drain"),
+                qlog: found.get_str("qlog"),
+            })
+        }
+        "udp" => Some(Request::Udp {
+            file: found.get_str("file")?,
+            qlog: found.get_str("qlog"),
+        }),
         "random" => random(found.get_str("seed")?, found.get_str("n")?),
         _ => None,
     }
 }
 
-/// To play the file between ends that grant so many streams of each direction at first, and so many in all. Where these aren't named, 8 at
-/// first, and 8 in all or as many as at first.
-fn play<'a>(
-    file: &'a str,
-    grant: Option<&str>,
-    lifetime: Option<&str>,
-    drain: bool,
-) -> Option<Request<'a>> {
+/// Those of ends that grant so many streams of each direction at first, and so many in all. Where these aren't named, 8 at first, and 8 in
+/// all or as many as at first.
+fn settings(grant: Option<&str>, lifetime: Option<&str>) -> Option<Settings> {
     let grant = number_or(grant, USUAL_GRANT)?;
     let lifetime = number_or(lifetime, grant.max(USUAL_GRANT))?;
     if grant > MAX_GRANT || lifetime < grant || lifetime > MAX_LIFETIME {
         return None;
     }
-    let settings = Settings {
+    Some(Settings {
         grant_bidi: grant,
         grant_uni: grant,
         lifetime_bidi: lifetime,
         lifetime_uni: lifetime,
         ..standard_settings()
-    };
-    Some(Request::Play {
-        file,
-        settings,
-        drain,
     })
 }
 
@@ -133,13 +134,15 @@ fn frames_command<'a>(alloc: Global) -> Result<Command<'a>, AllocError> {
     Command::new(alloc, "frames").arg(Arg::new(alloc, "hex").required(true))
 }
 
-/// A subcommand that takes the name of a file.
-fn file_command<'a>(alloc: Global, name: &'a str) -> Result<Command<'a>, AllocError> {
-    Command::new(alloc, name).arg(Arg::new(alloc, "file").required(true))
+/// A subcommand that plays the script in a file.
+fn script_command<'a>(alloc: Global, name: &'a str) -> Result<Command<'a>, AllocError> {
+    Command::new(alloc, name)
+        .arg(Arg::new(alloc, "file").required(true))?
+        .arg(Arg::new(alloc, "qlog").long("qlog"))
 }
 
 fn play_command<'a>(alloc: Global) -> Result<Command<'a>, AllocError> {
-    file_command(alloc, "play")?
+    script_command(alloc, "play")?
         .arg(Arg::new(alloc, "grant").long("grant"))?
         .arg(Arg::new(alloc, "lifetime").long("lifetime"))?
         .arg(
@@ -160,7 +163,7 @@ fn command<'a>(alloc: Global) -> Result<Command<'a>, AllocError> {
         .subcommand_required(true)
         .subcommand(frames_command(alloc)?)?
         .subcommand(play_command(alloc)?)?
-        .subcommand(file_command(alloc, "udp")?)?
+        .subcommand(script_command(alloc, "udp")?)?
         .subcommand(random_command(alloc)?)
 }
 

@@ -48,6 +48,8 @@ fn other_command_lines_make_no_sense() -> Result<(), Fail> {
         &["qstream", "udp"],
         &["qstream", "udp", "one", "--grant", "1"],
         &["qstream", "udp", "one", "--drain"],
+        &["qstream", "udp", "one", "--qlog"],
+        &["qstream", "random", "1", "2", "--qlog", "one"],
         &["qstream", "play", "one", "--drain=yes"],
         &["qstream", "random", "1", "2", "--lifetime", "9"],
     ];
@@ -66,10 +68,27 @@ fn the_command_line_names_a_file() -> Result<(), Fail> {
         file: "a file",
         settings: standard_settings(),
         drain: false,
+        qlog: None,
     };
     assert!(rt; Request::parse(rt.alloc(), &line) == Ok(play));
     let line = words(rt.alloc(), &["qstream", "udp", "a file"])?;
-    assert!(rt; Request::parse(rt.alloc(), &line) == Ok(Request::Udp("a file")));
+    let udp = Request::Udp {
+        file: "a file",
+        qlog: None,
+    };
+    assert!(rt; Request::parse(rt.alloc(), &line) == Ok(udp));
+    Ok(())
+}
+
+#[test]
+fn the_command_line_names_the_traces() -> Result<(), Fail> {
+    let rt = HostRuntime::new();
+    let line = words(rt.alloc(), &["qstream", "udp", "a file", "--qlog", "b"])?;
+    let udp = Request::Udp {
+        file: "a file",
+        qlog: Some("b"),
+    };
+    assert!(rt; Request::parse(rt.alloc(), &line) == Ok(udp));
     Ok(())
 }
 
@@ -81,6 +100,7 @@ fn the_command_line_asks_for_rest() -> Result<(), Fail> {
         file: "a file",
         settings: standard_settings(),
         drain: true,
+        qlog: None,
     };
     assert!(rt; Request::parse(rt.alloc(), &line) == Ok(play));
     Ok(())

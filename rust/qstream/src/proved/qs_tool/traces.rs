@@ -1,0 +1,40 @@
+// Made from crates/qs_tool/src/traces.rt by rust/erase; not edited by hand.
+//! Writes the traces of both ends of a run to files.
+
+use crate::shim::{HostRuntime, format};
+use crate::proved::qs_calls::{Answer, Event, Side};
+use crate::proved::qs_cli::Status;
+use crate::proved::qs_trace::{trace, vantage_name};
+use crate::shim::fs;
+
+/// Writes what each end saw of a log, the client to NAME.client.sqlog and the server to NAME.server.sqlog. `NoMemory` where memory was
+/// refused, and `Failed` where a file can't be written, which a line on standard error names.
+pub fn write_traces(rt: &HostRuntime, name: &str, log: &[(Event, Answer)]) -> Status {
+    match write_trace(rt, name, Side::A, log) {
+        Status::Success => write_trace(rt, name, Side::B, log),
+        status => status,
+    }
+}
+
+fn write_trace(rt: &HostRuntime, name: &str, side: Side, log: &[(Event, Answer)]) -> Status {
+    let Ok(text) = trace(rt.alloc(), side, log) else {
+        return Status::NoMemory;
+    };
+    let Ok(file) = format!(in rt.alloc(); "{name}.{}.sqlog", vantage_name(side)) else {
+        return Status::NoMemory;
+    };
+    match fs::write(rt, file.as_str(), text.as_str()) {
+        Ok(()) => Status::Success,
+        Err(_) => name_unwritable(rt, file.as_str()),
+    }
+}
+
+/// Names a file that can't be written on standard error.
+fn name_unwritable(rt: &HostRuntime, file: &str) -> Status {
+    let Ok(line) = format!(in rt.alloc(); "qstream: can't write {file}") else {
+        return Status::NoMemory;
+    };
+    match rt.eprintln(line.as_str()) {
+        Ok(()) | Err(_) => Status::Failed,
+    }
+}

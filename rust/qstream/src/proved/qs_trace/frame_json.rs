@@ -1,0 +1,257 @@
+// Made from crates/qs_trace/src/frame_json.rt by rust/erase; not edited by hand.
+//! Frames as JSON.
+
+use crate::shim::String;
+
+use crate::proved::qs_trace::words::{
+    dir_name, flag_name, push_bytes, push_empty, push_name, push_number, push_quoted, push_word,
+};
+use crate::proved::qs_wire::{AckRanges, EcnCounts, Frame, Frames};
+use crate::shim::alloc::{AllocError, Global};
+
+/// Appends the frames of a payload, parted by commas, up to its fault where it has one.
+pub fn push_payload(alloc: Global, text: &mut String, payload: &[u8]) -> Result<(), AllocError> {
+    let mut frames = Frames::new(payload);
+    let Ok(Some(first)) = frames.next() else {
+        return Ok(());
+    };
+    push_frame(alloc, text, &first.frame)?;
+    loop {
+        match frames.next() {
+            Ok(Some(placed)) => {
+                text.push_str(",")?;
+                push_frame(alloc, text, &placed.frame)?;
+            }
+            Ok(None) => return Ok(()),
+            Err(_) => return Ok(()),
+        }
+    }
+}
+
+/// Appends a frame.
+fn push_frame(alloc: Global, text: &mut String, frame: &Frame) -> Result<(), AllocError> {
+    push_frame_name(text, frame_name(frame))?;
+    push_stream_members(text, frame)?;
+    push_credit_members(text, frame)?;
+    push_other_members(alloc, text, frame)?;
+    text.push_str("}")
+}
+
+/// Appends the first member of a frame's object.
+fn push_frame_name(text: &mut String, name: &str) -> Result<(), AllocError> {
+    text.push_str("{")?;
+    push_quoted(text, "frame_type")?;
+    text.push_str(":")?;
+    push_quoted(text, name)
+}
+
+/// What a frame is called.
+fn frame_name(frame: &Frame) -> &'static str {
+    match frame {
+        Frame::Padding => "padding",
+        Frame::Ping => "ping",
+        Frame::Ack { .. } => "ack",
+        Frame::ResetStream { .. } => "reset_stream",
+        Frame::StopSending { .. } => "stop_sending",
+        Frame::Crypto { .. } => "crypto",
+        Frame::NewToken { .. } => "new_token",
+        Frame::Stream { .. } => "stream",
+        Frame::MaxData { .. } => "max_data",
+        Frame::MaxStreamData { .. } => "max_stream_data",
+        Frame::MaxStreams { .. } => "max_streams",
+        Frame::DataBlocked { .. } => "data_blocked",
+        Frame::StreamDataBlocked { .. } => "stream_data_blocked",
+        Frame::StreamsBlocked { .. } => "streams_blocked",
+        Frame::NewConnectionId { .. } => "new_connection_id",
+        Frame::RetireConnectionId { .. } => "retire_connection_id",
+        Frame::PathChallenge { .. } => "path_challenge",
+        Frame::PathResponse { .. } => "path_response",
+        Frame::ConnectionClose { .. } | Frame::ApplicationClose { .. } => "connection_close",
+        Frame::HandshakeDone => "handshake_done",
+    }
+}
+
+/// Appends what a frame on packets or on a stream's halves holds; of data the count.
+fn push_stream_members(text: &mut String, frame: &Frame) -> Result<(), AllocError> {
+    match *frame {
+        Frame::Ack {
+            largest,
+            delay,
+            ranges,
+            ecn,
+        } => {
+            push_number(text, "delay_field", delay)?;
+            push_acked(text, AckRanges::new(largest, ranges))?;
+            push_ecn(text, ecn)
+        }
+        Frame::ResetStream {
+            stream,
+            code,
+            final_size,
+        } => {
+            push_number(text, "stream_id", stream.value())?;
+            push_number(text, "error_code", code)?;
+            push_number(text, "final_size", final_size)
+        }
+        Frame::StopSending { stream, code } => {
+            push_number(text, "stream_id", stream.value())?;
+            push_number(text, "error_code", code)
+        }
+        Frame::Stream {
+            stream,
+            offset,
+            fin,
+            bytes,
+        } => push_data(text, stream.value(), offset, fin, bytes),
+        _ => Ok(()),
+    }
+}
+
+/// Appends what a frame on credit holds.
+fn push_credit_members(text: &mut String, frame: &Frame) -> Result<(), AllocError> {
+    match *frame {
+        Frame::MaxData { maximum } => push_number(text, "maximum", maximum),
+        Frame::MaxStreamData { stream, maximum } => {
+            push_number(text, "stream_id", stream.value())?;
+            push_number(text, "maximum", maximum)
+        }
+        Frame::MaxStreams { dir, count } => {
+            push_word(text, "stream_type", dir_name(dir))?;
+            push_number(text, "maximum", count)
+        }
+        Frame::DataBlocked { limit } => push_number(text, "limit", limit),
+        Frame::StreamDataBlocked { stream, limit } => {
+            push_number(text, "stream_id", stream.value())?;
+            push_number(text, "limit", limit)
+        }
+        Frame::StreamsBlocked { dir, count } => {
+            push_word(text, "stream_type", dir_name(dir))?;
+            push_number(text, "limit", count)
+        }
+        _ => Ok(()),
+    }
+}
+
+/// Appends what a STREAM frame holds: of its data the count.
+fn push_data(
+    text: &mut String,
+    id: u64,
+    offset: u64,
+    fin: bool,
+    bytes: &[u8],
+) -> Result<(), AllocError> {
+    push_number(text, "stream_id", id)?;
+    push_number(text, "offset", offset)?;
+    push_number(text, "length", bytes.len() as u64)?;
+    push_name(text, "fin")?;
+    text.push_str(flag_name(fin))
+}
+
+/// Appends the ranges that an ACK names, as a member.
+fn push_acked(text: &mut String, ranges: AckRanges) -> Result<(), AllocError> {
+    push_name(text, "acked_ranges")?;
+    text.push_str("[")?;
+    push_ranges(text, ranges)?;
+    text.push_str("]")
+}
+
+/// Appends what another frame holds.
+fn push_other_members(alloc: Global, text: &mut String, frame: &Frame) -> Result<(), AllocError> {
+    match *frame {
+        Frame::Crypto { offset, bytes } => {
+            push_number(text, "offset", offset)?;
+            push_number(text, "length", bytes.len() as u64)
+        }
+        Frame::NewToken { bytes } => {
+            push_empty(text, "token")?;
+            push_bytes(alloc, text, "token_bytes", bytes)
+        }
+        Frame::NewConnectionId {
+            sequence,
+            retire,
+            identifier,
+            reset_token,
+        } => {
+            push_sequence(text, sequence, retire)?;
+            push_ids(alloc, text, identifier, reset_token)
+        }
+        Frame::RetireConnectionId { sequence } => push_number(text, "sequence_number", sequence),
+        Frame::PathChallenge { bytes } => push_bytes(alloc, text, "data", bytes),
+        Frame::PathResponse { bytes } => push_bytes(alloc, text, "data", bytes),
+        Frame::ConnectionClose {
+            code,
+            frame_type,
+            reason,
+        } => {
+            push_close(text, "transport", code)?;
+            push_fault(alloc, text, frame_type, reason)
+        }
+        Frame::ApplicationClose { code, reason } => {
+            push_close(text, "application", code)?;
+            push_reason(alloc, text, reason)
+        }
+        _ => Ok(()),
+    }
+}
+
+/// Appends who closes, an application or the transport, and with which code.
+fn push_close(text: &mut String, space: &str, code: u64) -> Result<(), AllocError> {
+    push_word(text, "error_space", space)?;
+    push_number(text, "error_code", code)
+}
+
+/// Appends why it closes.
+fn push_reason(alloc: Global, text: &mut String, reason: &[u8]) -> Result<(), AllocError> {
+    push_bytes(alloc, text, "reason_bytes", reason)
+}
+
+/// Appends which type of frame was at fault, and why.
+fn push_fault(
+    alloc: Global,
+    text: &mut String,
+    frame_type: u64,
+    reason: &[u8],
+) -> Result<(), AllocError> {
+    push_number(text, "trigger_frame_type", frame_type)?;
+    push_reason(alloc, text, reason)
+}
+
+/// Appends the number of an identifier, and up to which others retire.
+fn push_sequence(text: &mut String, sequence: u64, retire: u64) -> Result<(), AllocError> {
+    push_number(text, "sequence_number", sequence)?;
+    push_number(text, "retire_prior_to", retire)
+}
+
+/// Appends a connection's identifier and its token.
+fn push_ids(
+    alloc: Global,
+    text: &mut String,
+    identifier: &[u8],
+    token: &[u8],
+) -> Result<(), AllocError> {
+    push_bytes(alloc, text, "connection_id", identifier)?;
+    push_bytes(alloc, text, "stateless_reset_token", token)
+}
+
+/// Appends the counts of ECN, where there are any.
+fn push_ecn(text: &mut String, ecn: Option<EcnCounts>) -> Result<(), AllocError> {
+    let Some(counts) = ecn else {
+        return Ok(());
+    };
+    push_number(text, "ect0", counts.ect0)?;
+    push_number(text, "ect1", counts.ect1)?;
+    push_number(text, "ce", counts.ce)
+}
+
+/// Appends the ranges of an ACK, the highest first.
+fn push_ranges(text: &mut String, ranges: AckRanges) -> Result<(), AllocError> {
+    let mut ranges = ranges;
+    let Some((smallest, largest)) = ranges.next() else {
+        return Ok(());
+    };
+    write!(text, "[{smallest},{largest}]")?;
+    while let Some((smallest, largest)) = ranges.next() {
+        write!(text, ",[{smallest},{largest}]")?;
+    }
+    Ok(())
+}
