@@ -87,7 +87,7 @@ frame_name handshake_done = codes "handshake_done"
 
 -- what a frame on packets or on a stream's halves holds; of data the count
 abbrev pub stream_members : FrameValue → List ℕ
-stream_members (ack largest delay ranges ecn) = number_member (codes "delay_field") delay ++ acked_json (ack_ranges_of largest ranges) ++ ecn_json ecn
+stream_members (ack largest delay ranges ecn) = number_member (codes "gotsavena:delay_field") delay ++ acked_json (ack_ranges_of largest ranges) ++ ecn_json ecn
 stream_members (reset_stream s code size) = number_member (codes "stream_id") s ++ number_member (codes "error_code") code ++ number_member (codes "final_size") size
 stream_members (stop_sending s code) = number_member (codes "stream_id") s ++ number_member (codes "error_code") code
 stream_members (stream s o fin bytes) = number_member (codes "stream_id") s ++ number_member (codes "offset") o ++ number_member (codes "length") (length bytes) ++ naming (codes "fin") ++ flag_json fin
@@ -123,7 +123,7 @@ id_members id token = bytes_member (codes "connection_id") id ++ bytes_member (c
 -- what another frame holds
 abbrev pub other_members : FrameValue → List ℕ
 other_members (crypto o bytes) = number_member (codes "offset") o ++ number_member (codes "length") (length bytes)
-other_members (new_token bytes) = empty_member (codes "token") ++ bytes_member (codes "token_bytes") bytes
+other_members (new_token bytes) = empty_member (codes "token")
 other_members (new_connection_id sequence retire id token) = sequence_members sequence retire ++ id_members id token
 other_members (retire_connection_id sequence) = number_member (codes "sequence_number") sequence
 other_members (path_challenge bytes) = bytes_member (codes "data") bytes

@@ -133,7 +133,7 @@ vantage B = codes "server"
 
 -- the trace's own record, up to whose it is
 unfoldable pub heading : List ℕ
-heading = 30 ∷ codes "{\"qlog_version\":\"0.4\",\"qlog_format\":\"JSON-SEQ\",\"trace\":{\"common_fields\":{\"time_format\":\"relative_to_epoch\",\"reference_time\":{\"clock_type\":\"monotonic\",\"epoch\":\"unknown\"},\"time_is\":\"place in the log\"},\"vantage_point\":{\"type\":"
+heading = 30 ∷ codes "{\"qlog_version\":\"0.4\",\"qlog_format\":\"JSON-SEQ\",\"trace\":{\"common_fields\":{\"protocol_type\":[\"QUIC\"],\"time_format\":\"relative\",\"reference_time\":0,\"gotsavena:time\":\"place in the log\"},\"vantage_point\":{\"type\":"
 
 unfoldable pub heading_end : List ℕ
 heading_end = codes "}}}\n"

@@ -43,7 +43,7 @@ pub fn vantage_name(side: Side) -> &'static str
 fn heading() -> &'static str
     ensures { result.now ≡ heading }
 {
-    "\u{1e}{\"qlog_version\":\"0.4\",\"qlog_format\":\"JSON-SEQ\",\"trace\":{\"common_fields\":{\"time_format\":\"relative_to_epoch\",\"reference_time\":{\"clock_type\":\"monotonic\",\"epoch\":\"unknown\"},\"time_is\":\"place in the log\"},\"vantage_point\":{\"type\":"
+    "\u{1e}{\"qlog_version\":\"0.4\",\"qlog_format\":\"JSON-SEQ\",\"trace\":{\"common_fields\":{\"protocol_type\":[\"QUIC\"],\"time_format\":\"relative\",\"reference_time\":0,\"gotsavena:time\":\"place in the log\"},\"vantage_point\":{\"type\":"
 }
 
 #[tactic(auto, unfolding(crate::specs::Records::heading_end))]

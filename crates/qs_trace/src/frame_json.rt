@@ -96,7 +96,7 @@ fn push_stream_members(text: &mut String, frame: &Frame) -> Result<(), AllocErro
             ranges,
             ecn,
         } => {
-            push_number(text, "delay_field", delay)?;
+            push_number(text, "gotsavena:delay_field", delay)?;
             push_acked(text, AckRanges::new(largest, ranges))?;
             push_ecn(text, ecn)
         }
@@ -187,10 +187,7 @@ fn push_other_members(alloc: Global, text: &mut String, frame: &Frame) -> Result
             push_number(text, "offset", offset)?;
             push_number(text, "length", bytes.len() as u64)
         }
-        Frame::NewToken { bytes } => {
-            push_empty(text, "token")?;
-            push_bytes(alloc, text, "token_bytes", bytes)
-        }
+        Frame::NewToken { .. } => push_empty(text, "token"),
         Frame::NewConnectionId {
             sequence,
             retire,
