@@ -40,7 +40,7 @@ pub drained_report : (answer : Result Report Status) (status : Status) (s : Sett
 drained_report answer status s events report drained old new played shown is =
     subst (λ a. AnswersDrainedEvents a s events old new) (sym is)
     (by_shown (drained_text (report, drained)) Success status old new (λ a. AnswersDrainedEvents (written report a) s events old new) shown (λ text. (drained, played, text))
-      (λ same. same) tt)
+    (λ same. same) tt)
 
 -- a packet that wasn't made was named
 pub drained_none : (status : Status) (s : Settings) (events : List Event) (k : ℕ) (old new : Option (List ℕ))

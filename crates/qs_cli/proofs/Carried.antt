@@ -174,7 +174,7 @@ pub shown_world : (answer : Result Report Status) (status : Status) (p : Played)
 shown_world answer status p report failures strangers old new is shown same =
     subst (λ a. ShowsWorld a p failures strangers old new) (sym same)
     (by_shown (play_text report ++ wire_line failures strangers) Success status old new (λ a. ShowsWorld (written report a) p failures strangers old new) shown (λ text. (is, text))
-      (λ kept. kept) tt)
+    (λ kept. kept) tt)
 
 -- what took place of the events was shown
 pub answered_world : (answer : Result Report Status) (events : List Event) (p : Played) (before after : Failings) (failures strangers : ℕ) (old new : Option (List ℕ)) →

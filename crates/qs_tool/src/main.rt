@@ -82,11 +82,7 @@ fn play<W: io::Write>(
     }
 }
 
-fn over_udp<W: io::Write>(
-    rt: &HostRuntime,
-    script: &[u8],
-    out: &mut W,
-) -> Result<Report, Status> {
+fn over_udp<W: io::Write>(rt: &HostRuntime, script: &[u8], out: &mut W) -> Result<Report, Status> {
     match UdpWire::bind(rt) {
         Ok(mut wire) => run_udp(rt.alloc(), script, &mut wire, out),
         Err(_) => Err(Status::Failed),

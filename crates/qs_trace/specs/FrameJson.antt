@@ -85,9 +85,13 @@ frame_name (connection_close code kind reason) = codes "connection_close"
 frame_name (application_close code reason) = codes "connection_close"
 frame_name handshake_done = codes "handshake_done"
 
+-- the delay that an ACK bears, whose unit the layer beneath knows: a name of our own
+unfoldable pub delay_member : ℕ → List ℕ
+delay_member delay = number_member (codes "gotsavena:delay_field") delay
+
 -- what a frame on packets or on a stream's halves holds; of data the count
 abbrev pub stream_members : FrameValue → List ℕ
-stream_members (ack largest delay ranges ecn) = number_member (codes "gotsavena:delay_field") delay ++ acked_json (ack_ranges_of largest ranges) ++ ecn_json ecn
+stream_members (ack largest delay ranges ecn) = delay_member delay ++ acked_json (ack_ranges_of largest ranges) ++ ecn_json ecn
 stream_members (reset_stream s code size) = number_member (codes "stream_id") s ++ number_member (codes "error_code") code ++ number_member (codes "final_size") size
 stream_members (stop_sending s code) = number_member (codes "stream_id") s ++ number_member (codes "error_code") code
 stream_members (stream s o fin bytes) = number_member (codes "stream_id") s ++ number_member (codes "offset") o ++ number_member (codes "length") (length bytes) ++ naming (codes "fin") ++ flag_json fin

@@ -4,7 +4,7 @@ ghost use Rattle.std.specs.Prelude.{◌≡◌, ◌++◌, ◌^◌, ◌<◌, OnOk}
 ghost use Rattle.std.specs.String.{string_bytes};
 ghost use Rattle.qs_wire.specs.Grammar.{Fits};
 ghost use Rattle.qs_wire.specs.Layout.{view, stream};
-ghost use Rattle.qs_trace.specs.FrameJson.{naming_frame, acked_json, ranges_json, ecn_json, close_members, reason_member, fault_members, sequence_members, id_members, frame_name, stream_members, credit_members, other_members, frame_json, payload_json};
+ghost use Rattle.qs_trace.specs.FrameJson.{naming_frame, acked_json, ranges_json, ecn_json, close_members, reason_member, delay_member, fault_members, sequence_members, id_members, frame_name, stream_members, credit_members, other_members, frame_json, payload_json};
 
 use crate::words::{
     dir_name, flag_name, push_bytes, push_empty, push_name, push_number, push_quoted, push_word,
@@ -96,7 +96,7 @@ fn push_stream_members(text: &mut String, frame: &Frame) -> Result<(), AllocErro
             ranges,
             ecn,
         } => {
-            push_number(text, "gotsavena:delay_field", delay)?;
+            push_delay(text, delay)?;
             push_acked(text, AckRanges::new(largest, ranges))?;
             push_ecn(text, ecn)
         }
@@ -121,6 +121,14 @@ fn push_stream_members(text: &mut String, frame: &Frame) -> Result<(), AllocErro
         } => push_data(text, stream.value(), offset, fin, bytes),
         _ => Ok(()),
     }
+}
+
+/// Appends the delay that an ACK bears.
+#[tactic(auto, unfolding(crate::specs::FrameJson::delay_member))]
+fn push_delay(text: &mut String, delay: u64) -> Result<(), AllocError>
+    ensures { OnOk result (string_bytes text.new ≡ string_bytes text.old ++ delay_member delay) }
+{
+    push_number(text, "gotsavena:delay_field", delay)
 }
 
 /// Appends what a frame on credit holds.

@@ -27,7 +27,7 @@ fn the_command_line_names_a_payload(rt: HostRuntime) -> Result<(), Fail> {
 
 #[test]
 fn other_command_lines_make_no_sense(rt: HostRuntime) -> Result<(), Fail> {
-    let lines: [&[&str]; 18] = [
+    let lines: [&[&str]; 20] = [
         &["qstream"],
         &["qstream", "frames"],
         &["qstream", "frames", "01", "02"],

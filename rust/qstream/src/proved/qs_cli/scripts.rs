@@ -66,11 +66,7 @@ pub fn show<W: io::Write>(text: &String, status: Status, out: &mut W) -> Status 
 }
 
 /// Plays a script between two ends of the standard settings, as [`run_play_with`] does.
-pub fn run_play<W: io::Write>(
-    alloc: Global,
-    script: &[u8],
-    out: &mut W,
-) -> Result<Report, Status> {
+pub fn run_play<W: io::Write>(alloc: Global, script: &[u8], out: &mut W) -> Result<Report, Status> {
     run_play_with(alloc, standard_settings(), script, out)
 }
 

@@ -80,7 +80,7 @@ fn push_stream_members(text: &mut String, frame: &Frame) -> Result<(), AllocErro
             ranges,
             ecn,
         } => {
-            push_number(text, "gotsavena:delay_field", delay)?;
+            push_delay(text, delay)?;
             push_acked(text, AckRanges::new(largest, ranges))?;
             push_ecn(text, ecn)
         }
@@ -105,6 +105,11 @@ fn push_stream_members(text: &mut String, frame: &Frame) -> Result<(), AllocErro
         } => push_data(text, stream.value(), offset, fin, bytes),
         _ => Ok(()),
     }
+}
+
+/// Appends the delay that an ACK bears.
+fn push_delay(text: &mut String, delay: u64) -> Result<(), AllocError> {
+    push_number(text, "gotsavena:delay_field", delay)
 }
 
 /// Appends what a frame on credit holds.
