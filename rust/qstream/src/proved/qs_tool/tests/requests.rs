@@ -31,7 +31,7 @@ fn the_command_line_names_a_payload() -> Result<(), Fail> {
 #[test]
 fn other_command_lines_make_no_sense() -> Result<(), Fail> {
     let rt = HostRuntime::new();
-    let lines: [&[&str]; 18] = [
+    let lines: [&[&str]; 20] = [
         &["qstream"],
         &["qstream", "frames"],
         &["qstream", "frames", "01", "02"],
