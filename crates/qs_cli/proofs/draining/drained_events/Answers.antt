@@ -3,7 +3,7 @@ use Rattle.qs_cli.proofs.draining.drained_events.Goals as goal
 
 pub returns-in-Ok : goal.returns-in-Ok
 returns-in-Ok g c =
-    drained_report _ c.show_drained.result c.args.settings c.args.events.items c.in-Ok.report c.in-Ok.drained _ _ c.in-Ok.ensures c.show_drained.ensures c.written.ensures
+    drained_report _ c.show_drained-status.result c.args.settings c.args.events.items c.in-Ok.report c.in-Ok.drained _ _ c.in-Ok.ensures c.show_drained-status.ensures c.written.ensures
 
 pub returns-in-Err-NoSuchPacket : goal.returns-in-Err-NoSuchPacket
 returns-in-Err-NoSuchPacket g c =
