@@ -1,0 +1,41 @@
+//! A handle that C holds.
+ghost use Rattle.std.specs.Prelude.{◌≡◌, Some, None, MatchOption, is_some};
+
+use crate::cell::Cell;
+use crate::loose::Loose;
+use crate::thing::Thing;
+use std::alloc::Global;
+use std::mem::replace;
+
+/// An endpoint's handle, or none.
+#[repr(C)]
+#[derive(Drop)]
+pub struct Handle {
+    live: bool,
+    pub(crate) cell: Cell,
+    ghost told: { live ≡ is_some cell.value },
+}
+
+impl Handle {
+    pub(crate) fn take(&mut self, alloc: Global) -> Option<Box<Thing>>
+        ensures { MatchOption result ((self.old.cell.value ≡ None) × (self.new ≡ self.old)) (λ b. (self.old.cell.value ≡ Some b.value) × (self.new.cell.value ≡ None)) }
+    {
+        if !self.live {
+            return None;
+        }
+        let Handle { live: _, cell } = replace(self, Handle::none(alloc));
+        Some(cell.into_loose().into_box())
+    }
+
+    pub(crate) fn put(&mut self, value: Box<Thing>)
+        ensures { self.new.cell.value ≡ Some value.value }
+    {
+        *self = Handle { live: true, cell: Cell::of(Loose::of(value)) };
+    }
+
+    fn none(alloc: Global) -> Handle
+        ensures { result.cell.value ≡ None }
+    {
+        Handle { live: false, cell: Cell::empty(alloc) }
+    }
+}
