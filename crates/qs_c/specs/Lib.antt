@@ -1,1 +1,3 @@
-pub mod Cell
+pub mod Kept
+pub mod Statuses
+pub mod Structs

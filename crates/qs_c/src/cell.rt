@@ -1,21 +1,22 @@
-//! A box as its pointer.
-ghost use Rattle.std.specs.Prelude.{◌≡◌, Some, None, Option};
-ghost use Rattle.qs_c.specs.declared.thing.Thing.{Thing};
-ghost use Rattle.qs_c.specs.Cell.{kept};
+//! A box as its address, or none.
+ghost use Rattle.std.specs.Prelude.{◌≡◌, Some, None, Option, is_some, true};
+ghost use Rattle.std.specs.Coded.{coded_option};
+ghost use Rattle.qs_machine.specs.Ends.{End};
+ghost use Rattle.qs_machine.specs.EndCodes.{end_code};
+ghost use Rattle.qs_c.specs.Kept.{kept};
 
 use crate::loose::Loose;
 use crate::thing::Thing;
 use std::alloc::Global;
 use std::marker::Model;
-use std::ptr::null_mut;
 
-/// Room for a box.
+/// Room for a box's address. Where there is one it owns what the box owned.
 #[repr(C)]
 #[derive(Drop)]
-pub(crate) struct Cell {
+pub struct Cell {
     at: *mut u8,
     alloc: Global,
-    pub(crate) ghost value: { Option Thing },
+    pub(crate) ghost value: { Option End } by { coded_option end_code },
 }
 
 impl Model for Cell {
@@ -23,10 +24,9 @@ impl Model for Cell {
 }
 
 impl Cell {
-    pub(crate) fn empty(alloc: Global) -> Cell
+    pub(crate) fn empty(at: *mut u8, alloc: Global) -> Cell
         ensures { result.value ≡ None }
     {
-        let at = null_mut();
         Cell { at, alloc }
     }
 
@@ -41,7 +41,7 @@ impl Cell {
     }
 
     pub(crate) fn into_loose(self) -> Loose<Thing, Global>
-        requires { (x : Thing) × (self.value ≡ Some x) }
+        requires { is_some self.value ≡ true }
         ensures { Some result.value ≡ self.value }
     {
         let Cell { at, alloc } = self;

@@ -6,6 +6,7 @@ use crate::loose::Loose;
 use crate::thing::Thing;
 use std::alloc::Global;
 use std::mem::replace;
+use std::ptr::null_mut;
 
 /// An endpoint's handle, or none.
 #[repr(C)]
@@ -30,12 +31,17 @@ impl Handle {
     pub(crate) fn put(&mut self, value: Box<Thing>)
         ensures { self.new.cell.value ≡ Some value.value }
     {
-        *self = Handle { live: true, cell: Cell::of(Loose::of(value)) };
+        *self = Handle {
+            live: true,
+            cell: Cell::of(Loose::of(value)),
+        };
     }
 
     fn none(alloc: Global) -> Handle
         ensures { result.cell.value ≡ None }
     {
-        Handle { live: false, cell: Cell::empty(alloc) }
+        let at = null_mut();
+        let cell = Cell::empty(at, alloc);
+        Handle { live: false, cell }
     }
 }

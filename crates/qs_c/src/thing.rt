@@ -1,34 +1,22 @@
-//! A thing.
+//! What a handle holds.
 ghost use Rattle.std.specs.Prelude.{◌≡◌};
 
-use std::alloc::{AllocError, Global};
+use qs_conn::Endpoint;
 use std::marker::Model;
 
-/// Items.
+/// An endpoint, as one value of this crate.
 #[derive(Drop)]
 pub struct Thing {
-    items: Vec<u64>,
+    pub(crate) end: Endpoint,
 }
 
 impl Model for Thing {
-    ghost use Rattle.std.specs.Prelude.{List, ℕ};
+    ghost use Rattle.qs_machine.specs.Ends.{End};
+    ghost use Rattle.qs_machine.specs.EndCodes.{end_code};
 
-    ghost Value = { List ℕ };
+    ghost Value = { End };
 
-    ghost view = { λ t. t.items.items };
-}
+    ghost coded = { end_code };
 
-impl Thing {
-    pub fn new(alloc: Global) -> Thing {
-        Thing { items: Vec::new(alloc) }
-    }
-
-    pub fn push(&mut self, value: u64) -> Result<(), AllocError> {
-        self.items.push(value)?;
-        Ok(())
-    }
-
-    pub fn len(&self) -> usize {
-        self.items.len()
-    }
+    ghost view = { λ t. t.end };
 }

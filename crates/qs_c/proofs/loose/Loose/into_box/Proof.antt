@@ -1,20 +1,19 @@
 -- `into_box` hands what is owned to `from_raw`.
 use Rattle.std.proofs.Common.{◌≡◌, List, [], ◌∷◌, ◌++◌, refl, sym, ap, subst}
-use mir.Syntax.{Args, Dicts, Fn, a_type, dcons, dnil}
+use mir.Syntax.{Args, Fn, a_type, dcons, dnil}
 use mir.MapTy.{inst_fn}
 use mir.Val.{Val, vptr, has_ty, WT}
 use lib.Dec.{T}
-use base.Logic.{SProp, ent, id⊢}
+use base.Logic.{id⊢}
 use base.Fml.{ftrue, fsep, flft}
 use prog.Wp.{WpFn}
-use types.Kit.{Item, regoal, prop, ‵, raw, ◌⊛◌, some, later, at_ret, ◌$◌, ◌∵◌, !, qed, by, move, drop, split, split3, join, fsplit, fjoin, pick, suffices, use1, await, rewrite, feq_i, done}
+use types.Kit.{Item, regoal, prop, ‵, raw, ◌⊛◌, some, later, at_ret, ◌$◌, ◌∵◌, !, qed, move, drop, split, split3, join, fsplit, fjoin, pick, suffices, use1, await, rewrite, feq_i, done}
 use types.Run.{stop, fld, of_opd, no_more, and_then, first, blocks, exec, returns, enter}
 use types.ByLocal.{alloc_all, pass_all, free_all, look_at, get, get_in, sets, lands_last, env}
 use types.Part.{sub, whole}
 use contract.Monad.{fact}
 use contract.BorrowLft.{◌⊑◌}
 use contract.Running.{tables}
-use sound.WpLaws.{fm_of}
 use denote.Exit.{no}
 use denote.RattleType.{RattleType}
 use denote.Signature.{plain}
@@ -30,7 +29,7 @@ use Rattle.std.proofs.alloc.Calls.{Goes-blank}
 use Rattle.std.proofs.VecSteps.Shapes.{after}
 use Rattle.std.proofs.BoxSteps.Form as box
 use Rattle.std.proofs.BoxSteps.Steps.{box_out, box_in}
-use Rattle.std.proofs.raw_atomic.Walks.{proved_at, leaves}
+use Rattle.std.proofs.raw_atomic.Walks.{proved_at}
 use Rattle.std.specs.contracts.boxed.Box.from_raw as callee
 use Rattle.std.proofs.boxed.Box.from_raw.Met.{met}
 use Rattle.qs_c.specs.contracts.loose.Loose.{the_row}

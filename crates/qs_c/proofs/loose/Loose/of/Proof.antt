@@ -37,7 +37,6 @@ use Rattle.std.specs.contracts.boxed.Box.into_raw_with_allocator as callee
 use Rattle.std.proofs.boxed.Box.into_raw_with_allocator.Met.{met}
 use Rattle.qs_c.specs.contracts.loose.Loose.of.{ended, clauses}
 use Rattle.qs_c.specs.contracts.loose.Loose.of.Key.{name as key}
-use Rattle.qs_c.specs.declared.loose.Loose.{Loose}
 use Rattle.qs_c.proofs.loose.Loose.of.Statement.{statement}
 use Rattle.qs_c.proofs.loose.Loose.of.Code as code
 

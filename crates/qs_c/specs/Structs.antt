@@ -1,0 +1,22 @@
+-- Of public contracts.
+-- What the structs of C stand for, field by field. All of it is ours.
+use Rattle.qs_c.specs.declared.structs.GvSettings.{GvSettings}
+use Rattle.qs_calls.specs.declared.settings.Settings.{Settings}
+use Rattle.qs_c.specs.declared.structs.GvLimits.{GvLimits}
+use Rattle.qs_calls.specs.declared.settings.PeerLimits.{PeerLimits}
+use Rattle.qs_c.specs.declared.structs.GvMade.{GvMade}
+use Rattle.qs_calls.specs.declared.making.Made.{Made}
+use Rattle.qs_c.specs.declared.structs.GvClosing.{GvClosing}
+use Rattle.qs_calls.specs.declared.closing.Closing.{Closing}
+
+abbrev pub settings_in : GvSettings → Settings
+settings_in s = record { conn_window = s.conn_window; bidi_local = s.bidi_local; bidi_remote = s.bidi_remote; uni = s.uni; send_buffer = s.send_buffer; grant_bidi = s.grant_bidi; grant_uni = s.grant_uni; lifetime_bidi = s.lifetime_bidi; lifetime_uni = s.lifetime_uni }
+
+abbrev pub limits_in : GvLimits → PeerLimits
+limits_in s = record { max_data = s.max_data; bidi_local = s.bidi_local; bidi_remote = s.bidi_remote; uni = s.uni; streams_bidi = s.streams_bidi; streams_uni = s.streams_uni }
+
+abbrev pub made_in : GvMade → Made
+made_in s = record { number = s.number; len = s.len; is_ack_eliciting = s.is_ack_eliciting }
+
+abbrev pub closing_in : GvClosing → Closing
+closing_in s = record { code = s.code; frame_type = s.frame_type; place = s.place }
