@@ -19,3 +19,7 @@ called old new s e f Step was is step =
 pub written : (d e f : End) (m n : ℕ) (bytes : List ℕ) (a b : Result ℕ UseFault) → e ≡ d → m ≡ n → b ≡ a → WriteStep d m bytes a f → WriteStep e n bytes b f
 written d e f m n bytes a b ends streams answers step =
     subst (λ (x : End). WriteStep x n bytes b f) (sym ends) (subst (λ (k : ℕ). WriteStep d k bytes b f) streams (subst (λ (r : Result ℕ UseFault). WriteStep d m bytes r f) (sym answers) step))
+
+-- a fact of an end, of the same end in other words
+pub same_end : (P : End → Type 0) (d e : End) → d ≡ e → P d → P e
+same_end P d e is fact = subst P is fact

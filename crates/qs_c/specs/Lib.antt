@@ -1,3 +1,4 @@
 pub mod Kept
+pub mod Lanes
 pub mod Statuses
 pub mod Structs

@@ -20,6 +20,8 @@ use Rattle.qs_calls.specs.declared.closing.Closing.{Closing}
 use Rattle.qs_calls.specs.declared.closing.Received.{Received}
 use Rattle.qs_calls.specs.declared.closing.Received.TheVariants as received
 use Rattle.qs_calls.specs.declared.settings.SetupFault.{SetupFault}
+use Rattle.qs_calls.specs.declared.settings.RaiseFault.{RaiseFault}
+use Rattle.qs_calls.specs.declared.settings.RaiseFault.TheVariants as raising
 use Rattle.qs_calls.specs.declared.settings.SetupFault.TheVariants.{OutOfRange, TooManyStreams}
 use Rattle.qs_machine.specs.Ends.{End}
 
@@ -95,6 +97,18 @@ made_answer s made =
     if nat_eq s 15 then Ok None else
     if nat_eq s 2 then Err making.NoMemory else
     if nat_eq s 3 then Err making.Closed else Err making.Exhausted
+
+abbrev pub claim_answer : ℕ → ℕ → Result ℕ MakeFault
+claim_answer s n =
+    if nat_eq s 0 then Ok n else
+    if nat_eq s 2 then Err making.NoMemory else
+    if nat_eq s 3 then Err making.Closed else Err making.Exhausted
+
+abbrev pub raise_answer : ℕ → Result (Unit {0}) RaiseFault
+raise_answer s =
+    if nat_eq s 0 then Ok tt else
+    if nat_eq s 3 then Err raising.Closed else
+    if nat_eq s 19 then Err (raising.Refused OutOfRange) else Err (raising.Refused TooManyStreams)
 
 abbrev pub received_answer : ℕ → Closing → Result Received Closing
 received_answer s closing =

@@ -1,10 +1,15 @@
 //! The numbers that the calls answer.
 ghost use Rattle.std.specs.Prelude.{◌≡◌, ℕ, Err};
-ghost use Rattle.qs_c.specs.Statuses.{use_answer, read_answer, open_answer, some_answer, lost_answer, made_answer, received_answer};
+ghost use Rattle.qs_c.specs.Statuses.{use_answer, read_answer, open_answer, some_answer, lost_answer, claim_answer, raise_answer, made_answer, received_answer};
 ghost use Rattle.qs_c.specs.Structs.{made_in, closing_in};
+ghost use Rattle.qs_c.specs.Lanes.{lane_in};
 
+use crate::lane::GvLane;
 use crate::structs::{GvClosing, GvMade};
-use qs_conn::{Closing, LostFault, Made, MakeFault, OpenFault, Received, UseFault};
+use qs_conn::{
+    Closing, LaneReport, LostFault, Made, MakeFault, OpenFault, RaiseFault, Received, SetupFault,
+    UseFault,
+};
 use qs_recv::Read;
 use qs_wire::StreamId;
 
@@ -196,6 +201,55 @@ pub(crate) fn of_closing(answer: Option<Closing>, closing: &mut GvClosing) -> u3
     match answer {
         Some(own) => {
             *closing = GvClosing::of(own);
+            OK
+        }
+        None => NONE,
+    }
+}
+
+pub(crate) fn of_number(answer: Option<u64>, number: &mut u64) -> u32
+    ensures { some_answer result number.new ≡ answer }
+{
+    match answer {
+        Some(found) => {
+            *number = found;
+            OK
+        }
+        None => NONE,
+    }
+}
+
+pub(crate) fn of_claim(answer: Result<u64, MakeFault>, number: &mut u64) -> u32
+    ensures { claim_answer result number.new ≡ answer }
+{
+    match answer {
+        Ok(claimed) => {
+            *number = claimed;
+            OK
+        }
+        Err(MakeFault::Closed) => CLOSED,
+        Err(MakeFault::NoMemory) => NO_MEMORY,
+        Err(MakeFault::Exhausted) => EXHAUSTED,
+    }
+}
+
+pub(crate) fn of_raise(answer: Result<(), RaiseFault>) -> u32
+    ensures { raise_answer result ≡ answer }
+{
+    match answer {
+        Ok(()) => OK,
+        Err(RaiseFault::Closed) => CLOSED,
+        Err(RaiseFault::Refused(SetupFault::OutOfRange)) => OUT_OF_RANGE,
+        Err(RaiseFault::Refused(SetupFault::TooManyStreams)) => TOO_MANY_STREAMS,
+    }
+}
+
+pub(crate) fn of_lane(answer: Option<LaneReport>, lane: &mut GvLane) -> u32
+    ensures { some_answer result (lane_in lane.new) ≡ answer }
+{
+    match answer {
+        Some(report) => {
+            *lane = GvLane::of(report);
             OK
         }
         None => NONE,

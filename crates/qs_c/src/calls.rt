@@ -2,17 +2,18 @@
 ghost use Rattle.std.specs.Prelude.{◌≡◌, ◌++◌, ◌&&◌, List, ℕ, length, drop, Some, None, if◌then◌else◌};
 ghost use Rattle.qs_machine.specs.Owner.{WriteStep, FinishStep, ResetStep, StopStep, ReadStep, OpenStep, AcceptStep};
 ghost use Rattle.qs_machine.specs.Receiving.{ReceiveStep};
-ghost use Rattle.qs_machine.specs.Making.{MakeStep, LoseStep, ClosePayload};
+ghost use Rattle.qs_machine.specs.Making.{MakeStep, MakeAckStep, ClaimStep, LoseStep, ClosePayload};
+ghost use Rattle.qs_machine.specs.Raising.{RaiseStep};
 ghost use Rattle.qs_machine.specs.Reports.{own_closing};
 ghost use Rattle.qs_conn.specs.Filling.{made_text};
-ghost use Rattle.qs_c.specs.Statuses.{Tested, is_small, is_room, is_flag, dir_of, use_answer, read_answer, open_answer, some_answer, lost_answer, made_answer, received_answer};
-ghost use Rattle.qs_c.specs.Structs.{made_in, closing_in};
+ghost use Rattle.qs_c.specs.Statuses.{Tested, is_small, is_room, is_flag, dir_of, use_answer, read_answer, open_answer, some_answer, lost_answer, claim_answer, raise_answer, made_answer, received_answer};
+ghost use Rattle.qs_c.specs.Structs.{made_in, closing_in, limits_in};
 
 use crate::answers::{
-    INVALID, of_closing, of_count, of_len, of_lost, of_made, of_open, of_read, of_received,
-    of_stream, of_use,
+    INVALID, of_claim, of_closing, of_count, of_len, of_lost, of_made, of_open, of_raise, of_read,
+    of_received, of_stream, of_use,
 };
-use crate::structs::{GvClosing, GvMade};
+use crate::structs::{GvClosing, GvLimits, GvMade};
 use crate::thing::Thing;
 use qs_wire::{Dir, StreamId};
 
@@ -122,6 +123,27 @@ impl Thing {
         of_lost(self.end.declare_lost(number))
     }
 
+    pub(crate) fn claim_number(&mut self, number: &mut u64) -> u32
+        ensures { ClaimStep self.old (claim_answer result number.new) self.new }
+    {
+        of_claim(self.end.claim_number(), number)
+    }
+
+    pub(crate) fn make_ack(&mut self, delay: u64, out: &mut [u8], made: &mut GvMade) -> u32
+        ensures { Tested (is_small delay && is_room (length out.old)) result self.old self.new (MakeAckStep self.old delay (length out.old) (made_answer result (made_in made.new)) (made_text (made_answer result (made_in made.new)) out.new) self.new) }
+    {
+        if delay >= LIMIT || out.len() < MIN_ROOM || out.len() > MAX_ROOM {
+            return INVALID;
+        }
+        of_made(self.end.make_ack(delay, out), made)
+    }
+
+    pub(crate) fn raise_limits(&mut self, limits: &GvLimits) -> u32
+        ensures { RaiseStep self.old (limits_in limits.now) (raise_answer result) self.new }
+    {
+        of_raise(self.end.raise_limits(&limits.limits()))
+    }
+
     pub(crate) fn closing(&self, closing: &mut GvClosing) -> u32
         ensures { some_answer result (closing_in closing.new) ≡ own_closing self.now.closed }
     {
@@ -135,7 +157,7 @@ impl Thing {
     }
 }
 
-fn dir_of(dir: u32) -> Option<Dir>
+pub(crate) fn dir_of(dir: u32) -> Option<Dir>
     ensures { result ≡ (if is_flag dir then Some (dir_of dir) else None) }
 {
     match dir {

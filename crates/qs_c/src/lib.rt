@@ -5,27 +5,39 @@
 #![tactic(auto)]
 
 mod answers;
+mod asks;
 mod calls;
 mod cell;
 mod handle;
+mod lane;
 mod loose;
 mod starts;
 mod structs;
 mod thing;
 
-ghost use Rattle.std.specs.Prelude.{◌≡◌, ◌++◌, ◌&&◌, List, ℕ, length, drop, None, MatchBool};
+ghost use Rattle.std.specs.Prelude.{◌≡◌, ◌++◌, ◌&&◌, List, ℕ, length, drop, None, MatchBool, ◌↔◌, IsTrue};
+ghost use Rattle.qs_wire.specs.Grammar.{frames_of};
+ghost use Rattle.qs_wire.specs.Reading.{reading_of};
+ghost use Rattle.qs_wire.specs.LastStream.{last_stream_of};
 ghost use Rattle.qs_machine.specs.Owner.{WriteStep, FinishStep, ResetStep, StopStep, ReadStep, OpenStep, AcceptStep};
 ghost use Rattle.qs_machine.specs.Receiving.{ReceiveStep};
-ghost use Rattle.qs_machine.specs.Making.{MakeStep, LoseStep, ClosePayload};
-ghost use Rattle.qs_machine.specs.Reports.{own_closing};
+ghost use Rattle.qs_machine.specs.Making.{MakeStep, MakeAckStep, ClaimStep, LoseStep, ClosePayload};
+ghost use Rattle.qs_machine.specs.Raising.{RaiseStep};
+ghost use Rattle.qs_machine.specs.News.{IsLeast, IsReadable, IsWritable, IsSendable, IsEnded};
+ghost use Rattle.qs_machine.specs.Asking.{GoesBesideAck, peer_closing, streams_left, open_left, is_blocked, IsNextOutstanding};
+ghost use Rattle.qs_machine.specs.Credit.{spent, all_stored, granted_streams};
+ghost use Rattle.qs_machine.specs.Reports.{own_closing, lane_report};
 ghost use Rattle.qs_conn.specs.Filling.{made_text};
-ghost use Rattle.qs_c.specs.Statuses.{Called, Tested, Starts, role_of, is_small, is_room, is_flag, dir_of, use_answer, read_answer, open_answer, some_answer, lost_answer, made_answer, received_answer};
+ghost use Rattle.qs_c.specs.Statuses.{Called, Tested, Starts, role_of, is_small, is_room, is_flag, dir_of, use_answer, read_answer, open_answer, some_answer, lost_answer, claim_answer, raise_answer, made_answer, received_answer};
 ghost use Rattle.qs_c.specs.Structs.{made_in, closing_in, settings_in, limits_in};
+ghost use Rattle.qs_c.specs.Lanes.{lane_in};
 ghost use Rattle.qs_machine.specs.Ends.{end_made};
 
-use crate::answers::INVALID;
+use crate::answers::{INVALID, of_stream};
 use crate::handle::Handle;
+use crate::lane::GvLane;
 use crate::structs::{GvClosing, GvLimits, GvMade, GvSettings};
+use qs_wire::last_stream;
 use std::alloc::Global;
 
 /// Makes an end. A handle that holds one loses it.
@@ -222,4 +234,303 @@ pub extern "C" fn gvp_close_payload(
     let status = thing.close_payload(out, len);
     end.put(thing);
     status
+}
+
+#[unsafe(no_mangle)]
+pub extern "C" fn gvp_next_readable(
+    alloc: Global,
+    end: &mut Handle,
+    from: u64,
+    stream: &mut u64,
+) -> u32
+    ensures { Called end.old.cell.value result end.new.cell.value (λ e f. (f ≡ e) × MatchBool (is_small from) (IsLeast (IsReadable e) from (some_answer result stream.new)) (result ≡ 1)) }
+{
+    let Some(thing) = end.take(alloc) else {
+        return INVALID;
+    };
+    let status = thing.next_readable(from, stream);
+    end.put(thing);
+    status
+}
+
+#[unsafe(no_mangle)]
+pub extern "C" fn gvp_next_writable(
+    alloc: Global,
+    end: &mut Handle,
+    from: u64,
+    stream: &mut u64,
+) -> u32
+    ensures { Called end.old.cell.value result end.new.cell.value (λ e f. (f ≡ e) × MatchBool (is_small from) (IsLeast (IsWritable e) from (some_answer result stream.new)) (result ≡ 1)) }
+{
+    let Some(thing) = end.take(alloc) else {
+        return INVALID;
+    };
+    let status = thing.next_writable(from, stream);
+    end.put(thing);
+    status
+}
+
+#[unsafe(no_mangle)]
+pub extern "C" fn gvp_next_sendable(
+    alloc: Global,
+    end: &mut Handle,
+    from: u64,
+    stream: &mut u64,
+) -> u32
+    ensures { Called end.old.cell.value result end.new.cell.value (λ e f. (f ≡ e) × MatchBool (is_small from) (IsLeast (IsSendable e) from (some_answer result stream.new)) (result ≡ 1)) }
+{
+    let Some(thing) = end.take(alloc) else {
+        return INVALID;
+    };
+    let status = thing.next_sendable(from, stream);
+    end.put(thing);
+    status
+}
+
+#[unsafe(no_mangle)]
+pub extern "C" fn gvp_next_ended(
+    alloc: Global,
+    end: &mut Handle,
+    from: u64,
+    stream: &mut u64,
+) -> u32
+    ensures { Called end.old.cell.value result end.new.cell.value (λ e f. (f ≡ e) × MatchBool (is_small from) (IsLeast (IsEnded e) from (some_answer result stream.new)) (result ≡ 1)) }
+{
+    let Some(thing) = end.take(alloc) else {
+        return INVALID;
+    };
+    let status = thing.next_ended(from, stream);
+    end.put(thing);
+    status
+}
+
+#[unsafe(no_mangle)]
+pub extern "C" fn gvp_is_sendable(alloc: Global, end: &mut Handle, answer: &mut bool) -> u32
+    ensures { Called end.old.cell.value result end.new.cell.value (λ e f. (f ≡ e) × ((result ≡ 0) × (IsTrue answer.new ↔ GoesBesideAck e))) }
+{
+    let Some(thing) = end.take(alloc) else {
+        return INVALID;
+    };
+    let status = thing.is_sendable(answer);
+    end.put(thing);
+    status
+}
+
+#[unsafe(no_mangle)]
+pub extern "C" fn gvp_is_blocked(
+    alloc: Global,
+    end: &mut Handle,
+    stream: u64,
+    answer: &mut bool,
+) -> u32
+    ensures { Called end.old.cell.value result end.new.cell.value (λ e f. (f ≡ e) × MatchBool (is_small stream) ((result ≡ 0) × (answer.new ≡ is_blocked e stream)) (result ≡ 1)) }
+{
+    let Some(thing) = end.take(alloc) else {
+        return INVALID;
+    };
+    let status = thing.is_blocked(stream, answer);
+    end.put(thing);
+    status
+}
+
+#[unsafe(no_mangle)]
+pub extern "C" fn gvp_ack_is_due(alloc: Global, end: &mut Handle, answer: &mut bool) -> u32
+    ensures { Called end.old.cell.value result end.new.cell.value (λ e f. (f ≡ e) × ((result ≡ 0) × (answer.new ≡ e.ack_due))) }
+{
+    let Some(thing) = end.take(alloc) else {
+        return INVALID;
+    };
+    let status = thing.ack_is_due(answer);
+    end.put(thing);
+    status
+}
+
+#[unsafe(no_mangle)]
+pub extern "C" fn gvp_streams_left(
+    alloc: Global,
+    end: &mut Handle,
+    dir: u32,
+    count: &mut u64,
+) -> u32
+    ensures { Called end.old.cell.value result end.new.cell.value (λ e f. (f ≡ e) × MatchBool (is_flag dir) ((result ≡ 0) × (count.new ≡ streams_left e (dir_of dir))) (result ≡ 1)) }
+{
+    let Some(thing) = end.take(alloc) else {
+        return INVALID;
+    };
+    let status = thing.streams_left(dir, count);
+    end.put(thing);
+    status
+}
+
+#[unsafe(no_mangle)]
+pub extern "C" fn gvp_open_left(alloc: Global, end: &mut Handle, dir: u32, count: &mut u64) -> u32
+    ensures { Called end.old.cell.value result end.new.cell.value (λ e f. (f ≡ e) × MatchBool (is_flag dir) ((result ≡ 0) × (count.new ≡ open_left e (dir_of dir))) (result ≡ 1)) }
+{
+    let Some(thing) = end.take(alloc) else {
+        return INVALID;
+    };
+    let status = thing.open_left(dir, count);
+    end.put(thing);
+    status
+}
+
+#[unsafe(no_mangle)]
+pub extern "C" fn gvp_granted_streams(
+    alloc: Global,
+    end: &mut Handle,
+    dir: u32,
+    count: &mut u64,
+) -> u32
+    ensures { Called end.old.cell.value result end.new.cell.value (λ e f. (f ≡ e) × MatchBool (is_flag dir) ((result ≡ 0) × (count.new ≡ granted_streams e (dir_of dir))) (result ≡ 1)) }
+{
+    let Some(thing) = end.take(alloc) else {
+        return INVALID;
+    };
+    let status = thing.granted_streams(dir, count);
+    end.put(thing);
+    status
+}
+
+#[unsafe(no_mangle)]
+pub extern "C" fn gvp_stored(alloc: Global, end: &mut Handle, count: &mut u64) -> u32
+    ensures { Called end.old.cell.value result end.new.cell.value (λ e f. (f ≡ e) × ((result ≡ 0) × (count.new ≡ all_stored e))) }
+{
+    let Some(thing) = end.take(alloc) else {
+        return INVALID;
+    };
+    let status = thing.stored(count);
+    end.put(thing);
+    status
+}
+
+#[unsafe(no_mangle)]
+pub extern "C" fn gvp_granted(alloc: Global, end: &mut Handle, count: &mut u64) -> u32
+    ensures { Called end.old.cell.value result end.new.cell.value (λ e f. (f ≡ e) × ((result ≡ 0) × (count.new ≡ e.granted))) }
+{
+    let Some(thing) = end.take(alloc) else {
+        return INVALID;
+    };
+    let status = thing.granted(count);
+    end.put(thing);
+    status
+}
+
+#[unsafe(no_mangle)]
+pub extern "C" fn gvp_spent(alloc: Global, end: &mut Handle, count: &mut u64) -> u32
+    ensures { Called end.old.cell.value result end.new.cell.value (λ e f. (f ≡ e) × ((result ≡ 0) × (count.new ≡ spent e))) }
+{
+    let Some(thing) = end.take(alloc) else {
+        return INVALID;
+    };
+    let status = thing.spent(count);
+    end.put(thing);
+    status
+}
+
+#[unsafe(no_mangle)]
+pub extern "C" fn gvp_next_number(alloc: Global, end: &mut Handle, number: &mut u64) -> u32
+    ensures { Called end.old.cell.value result end.new.cell.value (λ e f. (f ≡ e) × ((result ≡ 0) × (number.new ≡ e.next))) }
+{
+    let Some(thing) = end.take(alloc) else {
+        return INVALID;
+    };
+    let status = thing.next_number(number);
+    end.put(thing);
+    status
+}
+
+#[unsafe(no_mangle)]
+pub extern "C" fn gvp_peer_closed(alloc: Global, end: &mut Handle, code: &mut u64) -> u32
+    ensures { Called end.old.cell.value result end.new.cell.value (λ e f. (f ≡ e) × (some_answer result code.new ≡ peer_closing e.closed)) }
+{
+    let Some(thing) = end.take(alloc) else {
+        return INVALID;
+    };
+    let status = thing.peer_closed(code);
+    end.put(thing);
+    status
+}
+
+#[unsafe(no_mangle)]
+pub extern "C" fn gvp_next_outstanding(
+    alloc: Global,
+    end: &mut Handle,
+    from: u64,
+    number: &mut u64,
+) -> u32
+    ensures { Called end.old.cell.value result end.new.cell.value (λ e f. (f ≡ e) × (IsNextOutstanding e.outstanding from (some_answer result number.new))) }
+{
+    let Some(thing) = end.take(alloc) else {
+        return INVALID;
+    };
+    let status = thing.next_outstanding(from, number);
+    end.put(thing);
+    status
+}
+
+#[unsafe(no_mangle)]
+pub extern "C" fn gvp_lane_report(
+    alloc: Global,
+    end: &mut Handle,
+    stream: u64,
+    lane: &mut GvLane,
+) -> u32
+    ensures { Called end.old.cell.value result end.new.cell.value (λ e f. (f ≡ e) × MatchBool (is_small stream) (some_answer result (lane_in lane.new) ≡ lane_report e stream) (result ≡ 1)) }
+{
+    let Some(thing) = end.take(alloc) else {
+        return INVALID;
+    };
+    let status = thing.lane_report(stream, lane);
+    end.put(thing);
+    status
+}
+
+#[unsafe(no_mangle)]
+pub extern "C" fn gvp_claim_number(alloc: Global, end: &mut Handle, number: &mut u64) -> u32
+    ensures { Called end.old.cell.value result end.new.cell.value (λ e f. ClaimStep e (claim_answer result number.new) f) }
+{
+    let Some(mut thing) = end.take(alloc) else {
+        return INVALID;
+    };
+    let status = thing.claim_number(number);
+    end.put(thing);
+    status
+}
+
+#[unsafe(no_mangle)]
+pub extern "C" fn gvp_make_ack(
+    alloc: Global,
+    end: &mut Handle,
+    delay: u64,
+    out: &mut [u8],
+    made: &mut GvMade,
+) -> u32
+    ensures { Called end.old.cell.value result end.new.cell.value (λ e f. Tested (is_small delay && is_room (length out.old)) result e f (MakeAckStep e delay (length out.old) (made_answer result (made_in made.new)) (made_text (made_answer result (made_in made.new)) out.new) f)) }
+{
+    let Some(mut thing) = end.take(alloc) else {
+        return INVALID;
+    };
+    let status = thing.make_ack(delay, out, made);
+    end.put(thing);
+    status
+}
+
+#[unsafe(no_mangle)]
+pub extern "C" fn gvp_raise_limits(alloc: Global, end: &mut Handle, limits: &GvLimits) -> u32
+    ensures { Called end.old.cell.value result end.new.cell.value (λ e f. RaiseStep e (limits_in limits.now) (raise_answer result) f) }
+{
+    let Some(mut thing) = end.take(alloc) else {
+        return INVALID;
+    };
+    let status = thing.raise_limits(limits);
+    end.put(thing);
+    status
+}
+
+/// The stream of the last STREAM frame in a payload.
+#[unsafe(no_mangle)]
+pub extern "C" fn gvp_last_stream(payload: &[u8], stream: &mut u64) -> u32
+    ensures { some_answer result stream.new ≡ last_stream_of None (frames_of (reading_of payload.now).left) }
+{
+    of_stream(last_stream(payload), stream)
 }

@@ -1,0 +1,155 @@
+//! What the calls ask of an end. Nothing changes.
+ghost use Rattle.std.specs.Prelude.{◌≡◌, ◌↔◌, IsTrue, MatchBool};
+ghost use Rattle.qs_machine.specs.News.{IsLeast, IsReadable, IsWritable, IsSendable, IsEnded};
+ghost use Rattle.qs_machine.specs.Asking.{GoesBesideAck, peer_closing, streams_left, open_left, is_blocked, IsNextOutstanding};
+ghost use Rattle.qs_machine.specs.Credit.{spent, all_stored, granted_streams};
+ghost use Rattle.qs_machine.specs.Reports.{lane_report};
+ghost use Rattle.qs_c.specs.Statuses.{is_small, is_flag, dir_of, some_answer};
+ghost use Rattle.qs_c.specs.Lanes.{lane_in};
+
+use crate::answers::{INVALID, OK, of_lane, of_number, of_stream};
+use crate::calls::dir_of;
+use crate::lane::GvLane;
+use crate::thing::Thing;
+use qs_wire::StreamId;
+
+impl Thing {
+    pub(crate) fn next_readable(&self, from: u64, stream: &mut u64) -> u32
+        ensures { MatchBool (is_small from) (IsLeast (IsReadable self.now) from (some_answer result stream.new)) (result ≡ 1) }
+    {
+        let Some(id) = StreamId::new(from) else {
+            return INVALID;
+        };
+        of_stream(self.end.next_readable(id), stream)
+    }
+
+    pub(crate) fn next_writable(&self, from: u64, stream: &mut u64) -> u32
+        ensures { MatchBool (is_small from) (IsLeast (IsWritable self.now) from (some_answer result stream.new)) (result ≡ 1) }
+    {
+        let Some(id) = StreamId::new(from) else {
+            return INVALID;
+        };
+        of_stream(self.end.next_writable(id), stream)
+    }
+
+    pub(crate) fn next_sendable(&self, from: u64, stream: &mut u64) -> u32
+        ensures { MatchBool (is_small from) (IsLeast (IsSendable self.now) from (some_answer result stream.new)) (result ≡ 1) }
+    {
+        let Some(id) = StreamId::new(from) else {
+            return INVALID;
+        };
+        of_stream(self.end.next_sendable(id), stream)
+    }
+
+    pub(crate) fn next_ended(&self, from: u64, stream: &mut u64) -> u32
+        ensures { MatchBool (is_small from) (IsLeast (IsEnded self.now) from (some_answer result stream.new)) (result ≡ 1) }
+    {
+        let Some(id) = StreamId::new(from) else {
+            return INVALID;
+        };
+        of_stream(self.end.next_ended(id), stream)
+    }
+
+    pub(crate) fn is_sendable(&self, answer: &mut bool) -> u32
+        ensures { (result ≡ 0) × (IsTrue answer.new ↔ GoesBesideAck self.now) }
+    {
+        *answer = self.end.is_sendable();
+        OK
+    }
+
+    pub(crate) fn is_blocked(&self, stream: u64, answer: &mut bool) -> u32
+        ensures { MatchBool (is_small stream) ((result ≡ 0) × (answer.new ≡ is_blocked self.now stream)) (result ≡ 1) }
+    {
+        let Some(id) = StreamId::new(stream) else {
+            return INVALID;
+        };
+        *answer = self.end.is_blocked(id);
+        OK
+    }
+
+    pub(crate) fn ack_is_due(&self, answer: &mut bool) -> u32
+        ensures { (result ≡ 0) × (answer.new ≡ self.now.ack_due) }
+    {
+        *answer = self.end.ack_is_due();
+        OK
+    }
+
+    pub(crate) fn streams_left(&self, dir: u32, count: &mut u64) -> u32
+        ensures { MatchBool (is_flag dir) ((result ≡ 0) × (count.new ≡ streams_left self.now (dir_of dir))) (result ≡ 1) }
+    {
+        let Some(way) = dir_of(dir) else {
+            return INVALID;
+        };
+        *count = self.end.streams_left(way);
+        OK
+    }
+
+    pub(crate) fn open_left(&self, dir: u32, count: &mut u64) -> u32
+        ensures { MatchBool (is_flag dir) ((result ≡ 0) × (count.new ≡ open_left self.now (dir_of dir))) (result ≡ 1) }
+    {
+        let Some(way) = dir_of(dir) else {
+            return INVALID;
+        };
+        *count = self.end.open_left(way);
+        OK
+    }
+
+    pub(crate) fn granted_streams(&self, dir: u32, count: &mut u64) -> u32
+        ensures { MatchBool (is_flag dir) ((result ≡ 0) × (count.new ≡ granted_streams self.now (dir_of dir))) (result ≡ 1) }
+    {
+        let Some(way) = dir_of(dir) else {
+            return INVALID;
+        };
+        *count = self.end.granted_streams(way);
+        OK
+    }
+
+    pub(crate) fn stored(&self, count: &mut u64) -> u32
+        ensures { (result ≡ 0) × (count.new ≡ all_stored self.now) }
+    {
+        *count = self.end.stored();
+        OK
+    }
+
+    pub(crate) fn granted(&self, count: &mut u64) -> u32
+        ensures { (result ≡ 0) × (count.new ≡ self.now.granted) }
+    {
+        *count = self.end.granted();
+        OK
+    }
+
+    pub(crate) fn spent(&self, count: &mut u64) -> u32
+        ensures { (result ≡ 0) × (count.new ≡ spent self.now) }
+    {
+        *count = self.end.spent();
+        OK
+    }
+
+    pub(crate) fn next_number(&self, number: &mut u64) -> u32
+        ensures { (result ≡ 0) × (number.new ≡ self.now.next) }
+    {
+        *number = self.end.next_number();
+        OK
+    }
+
+    pub(crate) fn peer_closed(&self, code: &mut u64) -> u32
+        ensures { some_answer result code.new ≡ peer_closing self.now.closed }
+    {
+        of_number(self.end.peer_closed(), code)
+    }
+
+    pub(crate) fn next_outstanding(&self, from: u64, number: &mut u64) -> u32
+        ensures { IsNextOutstanding self.now.outstanding from (some_answer result number.new) }
+    {
+        of_number(self.end.next_outstanding(from), number)
+    }
+
+    pub(crate) fn lane_report(&self, stream: u64, lane: &mut GvLane) -> u32
+        ensures { MatchBool (is_small stream) (some_answer result (lane_in lane.new) ≡ lane_report self.now stream) (result ≡ 1) }
+    {
+        let Some(id) = StreamId::new(stream) else {
+            return INVALID;
+        };
+        of_lane(self.end.lane_report(id), lane)
+    }
+}
