@@ -40,10 +40,14 @@ crates() {
     END { visit(top) }' "$root/crates.txt"
 }
 
-# Whether the program stands and no source that it is made of is newer, nor a folder of theirs, which is
-# newer where a file came or went.
+# Whether the program stands and no source that it is made of is newer.
 is_built() {
-  [ -x "$program" ] || return 1
+  [ -x "$program" ] && is_fresh "$program"
+}
+
+# Whether no source of the tool is newer than a file, nor a folder of theirs, which is newer where a file came or went.
+is_fresh() {
+  made=$1
   set -- "$root/crates.txt"
   for name in $(crates | cut -d ' ' -f 1); do
     for part in src specs proofs; do
@@ -52,7 +56,7 @@ is_built() {
       fi
     done
   done
-  newer=$(find "$@" -newer "$program" -print) || return 1
+  newer=$(find "$@" -newer "$made" -print) || return 1
   [ -z "$newer" ]
 }
 

@@ -1,0 +1,137 @@
+/* An endpoint is fed what an input says: payloads, numbers, losses and calls of its owner. After each it must stand as it was promised
+ * to: no more is stored than was granted, nor than the window; and an end that closed stays so.
+ *
+ * By libFuzzer: clang -g -O1 -fsanitize=fuzzer,address,undefined -DLIBFUZZER .. The plain program replays the files that it is given. */
+#include <stdio.h>
+#include <stdlib.h>
+
+#include "gotsavena.h"
+
+enum { CONN_WINDOW = 4096, STREAM_WINDOW = 1024, MOST = 1500 };
+
+typedef struct input {
+  const uint8_t *at;
+  size_t len;
+} input;
+
+static unsigned next_byte(input *in) {
+  if (in->len == 0) return 0;
+  in->len--;
+  return *in->at++;
+}
+
+static uint64_t next_number(input *in) {
+  uint64_t number = next_byte(in);
+  if (number < 0xf0) return number;
+  for (int i = 0; i < 8; i++) number = number << 8 | next_byte(in);
+  return number;
+}
+
+static void check(bool holds, const char *what) {
+  if (holds) return;
+  fprintf(stderr, "%s\n", what);
+  abort();
+}
+
+static bool is_closed(gv_endpoint *end) {
+  gv_closing_info closing;
+  uint64_t code;
+  return gv_closing(end, &closing) == GV_OK || gv_peer_closed(end, &code) == GV_OK;
+}
+
+static void receive(gv_endpoint *end, input *in) {
+  gv_closing_info closing;
+  uint64_t number = next_number(in);
+  size_t len = 8 * (size_t)next_byte(in);
+  if (len > in->len) len = in->len;
+  gv_status status = gv_receive(end, number, in->at, len, &closing);
+  check(status != GV_INVALID || number >> 62 != 0, "a payload is refused");
+  in->at += len;
+  in->len -= len;
+}
+
+static void make(gv_endpoint *end, input *in) {
+  uint8_t out[MOST];
+  gv_made made;
+  size_t room = 128 + 4 * (size_t)next_byte(in);
+  gv_status status = gv_make_packet_from(end, next_byte(in), next_byte(in), out, room, &made);
+  check(status == GV_OK || status == GV_NONE || status == GV_CLOSED || status == GV_EXHAUSTED, "a packet");
+  check(status != GV_OK || (made.len > 0 && made.len <= room), "its length");
+}
+
+static void close_text(gv_endpoint *end) {
+  uint8_t out[MOST];
+  size_t len = 0;
+  gv_status status = gv_close_payload(end, out, sizeof out, &len);
+  check(status != GV_OK || (len > 0 && len <= 64), "the text of a closing");
+}
+
+static void use(gv_endpoint *end, unsigned call, input *in) {
+  static const uint8_t zeros[MOST];
+  uint8_t into[MOST];
+  uint64_t number, stream = next_number(in);
+  size_t count = 0;
+  switch (call) {
+    case 0: (void)gv_open(end, next_byte(in) % 3, &number); break;
+    case 1: (void)gv_accept(end, &number); break;
+    case 2: (void)gv_write(end, stream, zeros, 4 * (size_t)next_byte(in), &count); break;
+    case 3: (void)gv_finish(end, stream); break;
+    case 4: (void)gv_reset(end, stream, next_number(in)); break;
+    case 5: (void)gv_stop(end, stream, next_number(in)); break;
+    case 6: (void)gv_read(end, stream, into, 4 * (size_t)next_byte(in), &number); break;
+    case 7: (void)gv_declare_lost(end, stream); break;
+    case 8: (void)gv_claim_number(end, &number); break;
+    default: close_text(end); break;
+  }
+}
+
+static void look(gv_endpoint *end, bool *was_closed) {
+  uint64_t stored = 0, granted = 0, spent = 0;
+  bool closed = is_closed(end);
+  check(gv_stored(end, &stored) == GV_OK, "stored");
+  check(gv_granted(end, &granted) == GV_OK, "granted");
+  check(gv_spent(end, &spent) == GV_OK, "spent");
+  check(stored <= CONN_WINDOW && stored <= spent && spent <= granted, "stored is within granted");
+  check(closed || !*was_closed, "a closed end stays closed");
+  *was_closed = closed;
+}
+
+static int run(const uint8_t *bytes, size_t len) {
+  gv_settings settings = {CONN_WINDOW, STREAM_WINDOW, STREAM_WINDOW, STREAM_WINDOW, 2048, 8, 8, 16, 16};
+  gv_limits limits = {4096, 1024, 1024, 1024, 8, 8};
+  input in = {bytes, len};
+  gv_endpoint *end;
+  bool was_closed = false;
+  check(gv_endpoint_new(next_byte(&in) % 2, &settings, &limits, &end) == GV_OK, "new");
+  while (in.len > 0) {
+    unsigned call = next_byte(&in);
+    if (call % 16 < 5) {
+      receive(end, &in);
+    } else if (call % 16 < 7) {
+      make(end, &in);
+    } else {
+      use(end, call / 16 % 10, &in);
+    }
+    look(end, &was_closed);
+  }
+  gv_endpoint_free(end);
+  return 0;
+}
+
+#ifdef LIBFUZZER
+int LLVMFuzzerTestOneInput(const uint8_t *bytes, size_t len);
+int LLVMFuzzerTestOneInput(const uint8_t *bytes, size_t len) { return run(bytes, len); }
+#else
+int main(int count, char **names) {
+  static uint8_t bytes[1 << 16];
+  for (int i = 1; i < count; i++) {
+    FILE *file = fopen(names[i], "rb");
+    if (file == NULL) return 1;
+    size_t len = fread(bytes, 1, sizeof bytes, file);
+    (void)fclose(file);
+    (void)run(bytes, len);
+  }
+  printf("%d inputs\n", count - 1);
+  return 0;
+}
+#endif

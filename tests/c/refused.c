@@ -1,0 +1,126 @@
+/* Each allocation of a transfer between two ends is refused, one after the other: a call that wants memory answers GV_NO_MEMORY, may
+ * be made again, and every byte comes out right. It is linked with --wrap=malloc and --wrap=realloc. */
+#include <stdio.h>
+#include <stdlib.h>
+
+#include "gotsavena.h"
+
+enum { TOTAL = 20000, ROOM = 600 };
+
+void *__real_malloc(size_t size);
+void *__real_realloc(void *at, size_t size);
+void *__wrap_malloc(size_t size);
+void *__wrap_realloc(void *at, size_t size);
+
+static unsigned long asked, refused_one, refusals;
+
+static bool is_refused(void) {
+  asked++;
+  if (asked != refused_one) return false;
+  refusals++;
+  return true;
+}
+
+void *__wrap_malloc(size_t size) { return is_refused() ? NULL : __real_malloc(size); }
+
+void *__wrap_realloc(void *at, size_t size) { return is_refused() ? NULL : __real_realloc(at, size); }
+
+static unsigned long answered;
+
+/* Makes a call, and once more where memory was refused. */
+#define AGAIN(status, call)                             \
+  do {                                                  \
+    status = (call);                                    \
+    if (status == GV_NO_MEMORY) answered++;             \
+  } while (status == GV_NO_MEMORY)
+
+static void want(gv_status status, gv_status wanted, const char *what) {
+  if (status == wanted) return;
+  fprintf(stderr, "allocation %lu refused: %s: status %d\n", refused_one, what, (int)status);
+  exit(1);
+}
+
+static uint8_t byte_at(size_t offset) { return (uint8_t)(offset * 31 + (offset >> 8)); }
+
+static gv_endpoint *new_end(uint32_t role) {
+  gv_settings settings = {8192, 4096, 4096, 4096, 4096, 8, 8, 8, 8};
+  gv_limits limits = {8192, 4096, 4096, 4096, 8, 8};
+  gv_endpoint *end = NULL;
+  gv_status status;
+  AGAIN(status, gv_endpoint_new(role, &settings, &limits, &end));
+  want(status, GV_OK, "new");
+  return end;
+}
+
+/* Each third packet is lost. */
+static bool carry(gv_endpoint *from, gv_endpoint *to) {
+  uint8_t payload[ROOM];
+  gv_made made;
+  gv_closing_info closing;
+  gv_status status;
+  AGAIN(status, gv_make_packet(from, payload, sizeof payload, &made));
+  if (status == GV_NONE) return false;
+  want(status, GV_OK, "make");
+  if (made.number % 3 != 1) {
+    AGAIN(status, gv_receive(to, made.number, payload, made.len, &closing));
+    want(status, GV_OK, "receive");
+  } else if (made.is_ack_eliciting) {
+    AGAIN(status, gv_declare_lost(from, made.number));
+    want(status, GV_OK, "lose");
+  }
+  return true;
+}
+
+static size_t write_some(gv_endpoint *end, uint64_t stream, size_t sent) {
+  uint8_t bytes[1000];
+  size_t count = 0, len = TOTAL - sent < sizeof bytes ? TOTAL - sent : sizeof bytes;
+  gv_status status;
+  for (size_t i = 0; i < len; i++) bytes[i] = byte_at(sent + i);
+  AGAIN(status, gv_write(end, stream, bytes, len, &count));
+  want(status, GV_OK, "write");
+  if (sent < TOTAL && sent + count == TOTAL) want(gv_finish(end, stream), GV_OK, "finish");
+  return sent + count;
+}
+
+static bool read_some(gv_endpoint *end, uint64_t stream, size_t *got) {
+  uint8_t bytes[700];
+  uint64_t count;
+  gv_status status;
+  for (;;) {
+    AGAIN(status, gv_read(end, stream, bytes, sizeof bytes, &count));
+    if (status != GV_OK) break;
+    for (uint64_t i = 0; i < count; i++)
+      if (bytes[i] != byte_at((*got)++)) want(GV_INVALID, GV_OK, "byte");
+  }
+  if (status != GV_WAIT) want(status, GV_END, "read");
+  return status == GV_END;
+}
+
+static void transfer(void) {
+  gv_endpoint *client = new_end(GV_CLIENT), *server = new_end(GV_SERVER);
+  uint64_t stream, other = 0;
+  size_t sent = 0, got = 0;
+  gv_status status;
+  AGAIN(status, gv_open(client, GV_BIDI, &stream));
+  want(status, GV_OK, "open");
+  for (bool is_open = false, is_over = false; !is_over;) {
+    if (sent < TOTAL) sent = write_some(client, stream, sent);
+    while (carry(client, server) || carry(server, client)) {}
+    if (!is_open) is_open = gv_accept(server, &other) == GV_OK;
+    if (is_open) is_over = read_some(server, other, &got);
+  }
+  want(got == TOTAL ? GV_OK : GV_INVALID, GV_OK, "length");
+  gv_endpoint_free(client);
+  gv_endpoint_free(server);
+}
+
+int main(void) {
+  transfer();
+  unsigned long all = asked;
+  for (refused_one = 1; refused_one <= all; refused_one++) {
+    asked = 0;
+    transfer();
+  }
+  printf("%lu allocations, each refused once: %lu refusals, %lu calls without memory\n", all, refusals, answered);
+  return refusals == all ? 0 : 1;
+}
