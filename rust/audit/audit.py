@@ -21,8 +21,8 @@ AUDIT = Path(__file__).resolve().parent
 ROOT = AUDIT.parent.parent
 FOLDERS = ("rust/src/proved", "rust/qstream/src/proved")
 KINDS = AUDIT / "kinds.txt"
-# Crates of which nothing is made in Rust: an example of a use from Rattle.
-RATTLE_ALONE = {"qs_example"}
+# Crates of which nothing is made in Rust: the calls for C, and an example of a use from Rattle.
+RATTLE_ALONE = {"qs_c", "qs_example"}
 # Crates that only tests use.
 FOR_TESTS = {"qs_chunks", "qs_ends", "qs_tests", "qs_units"}
 
