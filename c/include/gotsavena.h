@@ -206,6 +206,10 @@ gv_status gv_next_ended(gv_endpoint *end, uint64_t from, uint64_t *stream);
 /* How the halves of a stream stand. GV_NONE: the stream isn't open (sections 3.1 and 3.2). */
 gv_status gv_lane_report(gv_endpoint *end, uint64_t stream, gv_lane *lane);
 
+/* The code of the first STOP_SENDING that came of a stream, whatever became of its sending half since. GV_NONE: none came
+ * (section 3.5). */
+gv_status gv_stopped_with(gv_endpoint *end, uint64_t stream, uint64_t *code);
+
 /* Whether a packet would carry more than an ACK (sections 4.1 and 13.3). */
 gv_status gv_is_sendable(gv_endpoint *end, bool *answer);
 
@@ -252,6 +256,12 @@ gv_status gv_claim_number(gv_endpoint *end, uint64_t *number);
 /* The least number from one on of a packet that is outstanding: it was made, asks for an ACK, and is neither acknowledged nor declared
  * lost. GV_NONE: there is none (section 13.3). */
 gv_status gv_next_outstanding(gv_endpoint *end, uint64_t from, uint64_t *number);
+
+/* The least number from one on of a packet that is outstanding and that an ACK of this payload names. Asked before gv_receive takes
+ * the payload in, and again from the number after each answer on, it tells all that the payload newly acknowledges. It reads as far
+ * as the first fault or the first CONNECTION_CLOSE, and doesn't ask whether gv_receive would take the payload. GV_NONE: there is none
+ * (section 13.3; RFC 9002, section 7). */
+gv_status gv_next_newly_acked(gv_endpoint *end, const uint8_t *payload, size_t len, uint64_t from, uint64_t *number);
 
 /* The stream of the last STREAM frame in a payload, up to its end or its first fault. Where streams send by turns, the next packet is
  * gv_make_packet_from that one + 1 (section 2.3). GV_NONE: there is none. */

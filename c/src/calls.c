@@ -132,6 +132,11 @@ gv_status gv_lane_report(gv_endpoint *end, uint64_t stream, gv_lane *lane) {
   return status;
 }
 
+gv_status gv_stopped_with(gv_endpoint *end, uint64_t stream, uint64_t *code) {
+  if (end == NULL || code == NULL) return GV_INVALID;
+  return (gv_status)gvp_stopped_with(end, stream, code);
+}
+
 gv_status gv_is_sendable(gv_endpoint *end, bool *answer) {
   if (end == NULL || answer == NULL) return GV_INVALID;
   bool got = false;
@@ -212,6 +217,11 @@ gv_status gv_claim_number(gv_endpoint *end, uint64_t *number) {
 gv_status gv_next_outstanding(gv_endpoint *end, uint64_t from, uint64_t *number) {
   if (end == NULL || number == NULL) return GV_INVALID;
   return (gv_status)gvp_next_outstanding(end, from, number);
+}
+
+gv_status gv_next_newly_acked(gv_endpoint *end, const uint8_t *payload, size_t len, uint64_t from, uint64_t *number) {
+  if (end == NULL || number == NULL || !is_slice(payload, len)) return GV_INVALID;
+  return (gv_status)gvp_next_newly_acked(end, len == 0 ? none : payload, len, from, number);
 }
 
 gv_status gv_last_stream(const uint8_t *payload, size_t len, uint64_t *stream) {

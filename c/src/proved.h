@@ -30,6 +30,7 @@ uint32_t gvp_next_writable(gv_endpoint *end, uint64_t from, uint64_t *stream);
 uint32_t gvp_next_sendable(gv_endpoint *end, uint64_t from, uint64_t *stream);
 uint32_t gvp_next_ended(gv_endpoint *end, uint64_t from, uint64_t *stream);
 uint32_t gvp_lane_report(gv_endpoint *end, uint64_t stream, gv_lane *lane);
+uint32_t gvp_stopped_with(gv_endpoint *end, uint64_t stream, uint64_t *code);
 uint32_t gvp_is_sendable(gv_endpoint *end, bool *answer);
 uint32_t gvp_is_blocked(gv_endpoint *end, uint64_t stream, bool *answer);
 uint32_t gvp_streams_left(gv_endpoint *end, uint32_t dir, uint64_t *count);
@@ -44,6 +45,7 @@ uint32_t gvp_make_ack(gv_endpoint *end, uint64_t delay, uint8_t *out, size_t roo
 uint32_t gvp_next_number(gv_endpoint *end, uint64_t *number);
 uint32_t gvp_claim_number(gv_endpoint *end, uint64_t *number);
 uint32_t gvp_next_outstanding(gv_endpoint *end, uint64_t from, uint64_t *number);
+uint32_t gvp_next_newly_acked(gv_endpoint *end, const uint8_t *payload, size_t len, uint64_t from, uint64_t *number);
 uint32_t gvp_last_stream(const uint8_t *payload, size_t len, uint64_t *stream);
 
 #endif

@@ -210,13 +210,30 @@ static void print_closing(gv_closing_info closing) {
   print("closing 0x%02" PRIx64 " 0x%02" PRIx64 " %zu", closing.code, closing.frame_type, closing.place);
 }
 
+/* Which packets of an end stay outstanding if it takes a payload in. */
+static bool *left_by(int side, const uint8_t *payload, size_t len) {
+  uint64_t count = made_count[side], acked;
+  bool *left = more(NULL, (size_t)count + 1);
+  for (uint64_t i = 0; i < count; i++) left[i] = names(gv_next_outstanding, ends[side], i);
+  for (uint64_t from = 0; gv_next_newly_acked(ends[side], payload, len, from, &acked) == GV_OK; from = acked + 1) {
+    check(from <= acked && acked < count && left[acked], "what is newly acknowledged is outstanding");
+    left[acked] = false;
+  }
+  return left;
+}
+
 static void deliver(int side, uint64_t number) {
   static const uint8_t ping = 0x01;
   const packet *it = &made[side][number];
+  const uint8_t *payload = it->bytes == NULL ? &ping : it->bytes;
   gv_endpoint *end = ends[1 - side];
   gv_closing_info closing;
   uint64_t code = 0;
-  gv_status status = gv_receive(end, number, it->bytes == NULL ? &ping : it->bytes, it->len, &closing);
+  bool *left = left_by(1 - side, payload, it->len);
+  gv_status status = gv_receive(end, number, payload, it->len, &closing);
+  for (uint64_t i = 0; status == GV_OK && i < made_count[1 - side]; i++)
+    check(names(gv_next_outstanding, end, i) == left[i], "what a payload newly acknowledges is outstanding no more");
+  free(left);
   check((status == GV_PEER_CLOSED) == (gv_peer_closed(end, &code) == GV_OK), "the peer closed");
   if (status == GV_OK) {
     print("done");
@@ -231,7 +248,11 @@ static void deliver(int side, uint64_t number) {
 }
 
 static bool report_of(int side, uint64_t stream, gv_lane *lane) {
+  uint64_t code;
   gv_status status = gv_lane_report(ends[side], stream, lane);
+  bool is_stopped = gv_stopped_with(ends[side], stream, &code) == GV_OK;
+  check(!is_stopped || (status == GV_OK && lane->has_sending), "what was stopped has a sending half");
+  check(!is_stopped || lane->sending.was_reset || lane->sending.state == GV_DATA_RECVD, "and sends no more");
   check(status == GV_OK || status == GV_NONE, "a report");
   if (status == GV_OK) {
     bool sent = !lane->has_sending || lane->sending.state == GV_DATA_RECVD || lane->sending.state == GV_RESET_RECVD;

@@ -1,7 +1,8 @@
 //! What the calls ask of an end. Nothing changes.
 ghost use Rattle.std.specs.Prelude.{◌≡◌, ◌↔◌, IsTrue, MatchBool};
 ghost use Rattle.qs_machine.specs.News.{IsLeast, IsReadable, IsWritable, IsSendable, IsEnded};
-ghost use Rattle.qs_machine.specs.Asking.{GoesBesideAck, peer_closing, streams_left, open_left, is_blocked, IsNextOutstanding};
+ghost use Rattle.qs_machine.specs.Asking.{GoesBesideAck, peer_closing, streams_left, open_left, is_blocked, stopped_with, IsNextOutstanding};
+ghost use Rattle.qs_machine.specs.Newly.{IsNewlyAcked};
 ghost use Rattle.qs_machine.specs.Credit.{spent, all_stored, granted_streams};
 ghost use Rattle.qs_machine.specs.Reports.{lane_report};
 ghost use Rattle.qs_c.specs.Statuses.{is_small, is_flag, dir_of, some_answer};
@@ -138,10 +139,25 @@ impl Thing {
         of_number(self.end.peer_closed(), code)
     }
 
+    pub(crate) fn stopped_with(&self, stream: u64, code: &mut u64) -> u32
+        ensures { MatchBool (is_small stream) (some_answer result code.new ≡ stopped_with self.now stream) (result ≡ 1) }
+    {
+        let Some(id) = StreamId::new(stream) else {
+            return INVALID;
+        };
+        of_number(self.end.stopped_with(id), code)
+    }
+
     pub(crate) fn next_outstanding(&self, from: u64, number: &mut u64) -> u32
         ensures { IsNextOutstanding self.now.outstanding from (some_answer result number.new) }
     {
         of_number(self.end.next_outstanding(from), number)
+    }
+
+    pub(crate) fn next_newly_acked(&self, payload: &[u8], from: u64, number: &mut u64) -> u32
+        ensures { IsLeast (IsNewlyAcked self.now payload.now) from (some_answer result number.new) }
+    {
+        of_number(self.end.next_newly_acked(payload, from), number)
     }
 
     pub(crate) fn lane_report(&self, stream: u64, lane: &mut GvLane) -> u32

@@ -24,7 +24,8 @@ ghost use Rattle.qs_machine.specs.Receiving.{ReceiveStep};
 ghost use Rattle.qs_machine.specs.Making.{MakeStep, MakeAckStep, ClaimStep, LoseStep, ClosePayload};
 ghost use Rattle.qs_machine.specs.Raising.{RaiseStep};
 ghost use Rattle.qs_machine.specs.News.{IsLeast, IsReadable, IsWritable, IsSendable, IsEnded};
-ghost use Rattle.qs_machine.specs.Asking.{GoesBesideAck, peer_closing, streams_left, open_left, is_blocked, IsNextOutstanding};
+ghost use Rattle.qs_machine.specs.Asking.{GoesBesideAck, peer_closing, streams_left, open_left, is_blocked, stopped_with, IsNextOutstanding};
+ghost use Rattle.qs_machine.specs.Newly.{IsNewlyAcked};
 ghost use Rattle.qs_machine.specs.Credit.{spent, all_stored, granted_streams};
 ghost use Rattle.qs_machine.specs.Reports.{own_closing, lane_report};
 ghost use Rattle.qs_conn.specs.Filling.{made_text};
@@ -452,6 +453,23 @@ pub extern "C" fn gvp_peer_closed(alloc: Global, end: &mut Handle, code: &mut u6
 }
 
 #[unsafe(no_mangle)]
+pub extern "C" fn gvp_stopped_with(
+    alloc: Global,
+    end: &mut Handle,
+    stream: u64,
+    code: &mut u64,
+) -> u32
+    ensures { Called end.old.cell.value result end.new.cell.value (λ e f. (f ≡ e) × MatchBool (is_small stream) (some_answer result code.new ≡ stopped_with e stream) (result ≡ 1)) }
+{
+    let Some(thing) = end.take(alloc) else {
+        return INVALID;
+    };
+    let status = thing.stopped_with(stream, code);
+    end.put(thing);
+    status
+}
+
+#[unsafe(no_mangle)]
 pub extern "C" fn gvp_next_outstanding(
     alloc: Global,
     end: &mut Handle,
@@ -464,6 +482,24 @@ pub extern "C" fn gvp_next_outstanding(
         return INVALID;
     };
     let status = thing.next_outstanding(from, number);
+    end.put(thing);
+    status
+}
+
+#[unsafe(no_mangle)]
+pub extern "C" fn gvp_next_newly_acked(
+    alloc: Global,
+    end: &mut Handle,
+    payload: &[u8],
+    from: u64,
+    number: &mut u64,
+) -> u32
+    ensures { Called end.old.cell.value result end.new.cell.value (λ e f. (f ≡ e) × (IsLeast (IsNewlyAcked e payload.now) from (some_answer result number.new))) }
+{
+    let Some(thing) = end.take(alloc) else {
+        return INVALID;
+    };
+    let status = thing.next_newly_acked(payload, from, number);
     end.put(thing);
     status
 }
