@@ -1,7 +1,7 @@
 #!/usr/bin/env python3
 """Shows that the Rust files say what the Rattle files say: `audit.py [-v]`.
 
-Each `.rt` file of the crates is held against the `.rs` file that was made from it, token by token. Each difference
+Each file of the crates, and of those in tests/units, is held against the `.rs` file that was made from it, token by token. Each difference
 has to be of a kind of kinds.txt; the first one that isn't is told with its file, its lines and both tokens. With -v
 each difference is told. The exit status is 0 where all is well, else 1.
 """
@@ -23,8 +23,10 @@ FOLDERS = ("rust/src/proved", "rust/qstream/src/proved")
 KINDS = AUDIT / "kinds.txt"
 # Crates of which nothing is made in Rust: the calls for C, and an example of a use from Rattle.
 RATTLE_ALONE = {"qs_c", "qs_example"}
+# Crates that are nothing but tests: they aren't proved, and stand elsewhere, in files of another suffix.
+TESTS = {"qs_ends", "qs_tests", "qs_units"}
 # Crates that only tests use.
-FOR_TESTS = {"qs_chunks", "qs_ends", "qs_tests", "qs_units"}
+FOR_TESTS = {"qs_chunks", *TESTS}
 
 
 class Refused(Exception):
@@ -34,10 +36,16 @@ class Refused(Exception):
 def source_of(made, folder):
     """The Rattle file from which a Rust file is made."""
     crate, *inner = made.relative_to(folder).with_suffix("").parts
-    src = ROOT / "crates" / crate / "src"
+    place, suffix = (ROOT / "tests" / "units", ".rattle") if crate in TESTS else (ROOT / "crates", ".rt")
+    src = place / crate / "src"
     if inner == ["mod"]:
-        inner = ["lib" if (src / "lib.rt").is_file() else "main"]
-    return src.joinpath(*inner).with_suffix(".rt")
+        inner = ["lib" if (src / f"lib{suffix}").is_file() else "main"]
+    return src.joinpath(*inner).with_suffix(suffix)
+
+
+def all_sources():
+    """Each Rattle file: those of the crates, and those of their tests."""
+    return {*(ROOT / "crates").glob("*/src/**/*.rt"), *(ROOT / "tests" / "units").glob("*/src/**/*.rattle")}
 
 
 def _words(tokens):
@@ -196,8 +204,8 @@ def main(arguments):
             tally.add(*audit_file(made.read_text(encoding="utf-8"), made, folder, listed), made.relative_to(ROOT))
         except Refused as refused:
             tally.faults.append(str(refused))
-    for source in sorted(set((ROOT / "crates").glob("*/src/**/*.rt")) - sources):
-        if source.relative_to(ROOT / "crates").parts[0] in RATTLE_ALONE:
+    for source in sorted(all_sources() - sources):
+        if source.relative_to(ROOT).parts[1] in RATTLE_ALONE:
             continue
         try:
             audit_unmade(source, listed)

@@ -1,7 +1,7 @@
 //! Makes the Rust sources of gotsavena from the proved ones, with their ghosts erased.
 //!
-//! It reads `crates/*/src/**/*.rt` and writes `rust/src/proved` and `rust/qstream/src/proved`. With the word `--check` it writes nothing,
-//! and fails where a file isn't what it would write.
+//! It reads `crates/*/src/**/*.rt`, and of the tests that aren't proved `tests/units/*/src/**/*.rattle`, and writes `rust/src/proved` and
+//! `rust/qstream/src/proved`. With the word `--check` it writes nothing, and fails where a file isn't what it would write.
 
 mod display;
 mod erase;
@@ -29,19 +29,29 @@ const LIBRARY: [&str; 7] = [
 
 const LIBRARY_FOLDER: &str = "rust/src/proved";
 
-/// The crates of the program and of its tests.
-const PROGRAM: [&str; 8] = [
-    "qs_world",
-    "qs_trace",
-    "qs_cli",
-    "qs_tool",
-    "qs_chunks",
-    "qs_units",
-    "qs_ends",
-    "qs_tests",
-];
+/// The crates of the program, and one that tests use.
+const PROGRAM: [&str; 5] = ["qs_world", "qs_trace", "qs_cli", "qs_tool", "qs_chunks"];
+
+/// The crates that are nothing but tests, and aren't proved.
+const TESTS: [&str; 3] = ["qs_units", "qs_ends", "qs_tests"];
 
 const PROGRAM_FOLDER: &str = "rust/qstream/src/proved";
+
+/// Where crates stand, and how their files end.
+struct Sources {
+    folder: &'static str,
+    kind: &'static str,
+}
+
+const PROVED: Sources = Sources {
+    folder: "crates",
+    kind: "rt",
+};
+
+const TRIED: Sources = Sources {
+    folder: "tests/units",
+    kind: "rattle",
+};
 
 fn main() -> ExitCode {
     let top = Path::new(env!("CARGO_MANIFEST_DIR")).join("../..");
@@ -59,13 +69,17 @@ fn main() -> ExitCode {
 }
 
 fn run(top: &Path, is_check: bool) -> Result<usize, String> {
-    let erased: Vec<&str> = LIBRARY.iter().chain(&PROGRAM).copied().collect();
+    let sets: [(&[&str], &Sources, &str); 3] = [
+        (&LIBRARY, &PROVED, LIBRARY_FOLDER),
+        (&PROGRAM, &PROVED, PROGRAM_FOLDER),
+        (&TESTS, &TRIED, PROGRAM_FOLDER),
+    ];
+    let erased: Vec<&str> = sets.iter().flat_map(|set| set.0).copied().collect();
     let mut made = BTreeMap::new();
-    for krate in &LIBRARY {
-        make(top, krate, &erased, LIBRARY_FOLDER, &mut made)?;
-    }
-    for krate in &PROGRAM {
-        make(top, krate, &erased, PROGRAM_FOLDER, &mut made)?;
+    for (crates, sources, folder) in sets {
+        for krate in crates {
+            make(top, krate, sources, &erased, folder, &mut made)?;
+        }
     }
     for folder in [LIBRARY_FOLDER, PROGRAM_FOLDER] {
         keep_only(top, Path::new(folder), &made, is_check)?;
@@ -80,28 +94,30 @@ fn run(top: &Path, is_check: bool) -> Result<usize, String> {
 fn make(
     top: &Path,
     krate: &str,
+    sources: &Sources,
     erased: &[&str],
     folder: &str,
     made: &mut BTreeMap<PathBuf, String>,
 ) -> Result<(), String> {
-    let source = Path::new("crates").join(krate).join("src");
-    for path in files(&top.join(&source), "rt")? {
+    let source = Path::new(sources.folder).join(krate).join("src");
+    for path in files(&top.join(&source), sources.kind)? {
         let inner = path
             .strip_prefix(top.join(&source))
             .map_err(|e| e.to_string())?;
         let from = source.join(inner);
+        let stem = inner.with_extension("");
         let text = fs::read_to_string(&path).map_err(|e| format!("{}: {e}", from.display()))?;
         let place = Place {
             krate,
             erased,
-            laws: inner == Path::new("laws.rt"),
-            program: inner == Path::new("main.rt"),
+            laws: stem == Path::new("laws"),
+            program: stem == Path::new("main"),
         };
         let rust = erase(&place, &text).map_err(|unknown| {
             let line = text[..unknown.at].matches('\n').count() + 1;
             format!("{}:{line}: {}", from.display(), unknown.what)
         })?;
-        let to = if inner == Path::new("lib.rt") || inner == Path::new("main.rt") {
+        let to = if stem == Path::new("lib") || stem == Path::new("main") {
             PathBuf::from("mod.rs")
         } else {
             inner.with_extension("rs")

@@ -1,5 +1,5 @@
-//! The proved source with its ghosts erased. The modules are made by `rust/erase`, a module for each crate; this list is made by hand.
-//! The library's are the very files that it has.
+//! The proved source with its ghosts erased, and the tests of `tests/units`, which aren't proved. The modules are made by `rust/erase`, a
+//! module for each crate; this list is made by hand. The library's are the very files that it has.
 
 // What only the library's users need is dead in the program, and imports of what it doesn't use are unused.
 #![allow(dead_code, unused_imports)]

@@ -1,4 +1,4 @@
-// Made from crates/qs_ends/src/counts.rt by rust/erase; not edited by hand.
+// Made from tests/units/qs_ends/src/counts.rattle by rust/erase; not edited by hand.
 //! Counts of streams that grow as the peer's streams come to their end (RFC 9000, sections 3, 4.6 and 13.3).
 
 use crate::shim::HostRuntime;

@@ -1,4 +1,4 @@
-// Made from crates/qs_ends/src/ends.rt by rust/erase; not edited by hand.
+// Made from tests/units/qs_ends/src/ends.rattle by rust/erase; not edited by hand.
 //! Ends to begin with, and calls of them. A call that found no memory is made once more, so that the tests pass with each allocation
 //! refused in turn.
 

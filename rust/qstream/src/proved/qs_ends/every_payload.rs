@@ -1,4 +1,4 @@
-// Made from crates/qs_ends/src/every_payload.rt by rust/erase; not edited by hand.
+// Made from tests/units/qs_ends/src/every_payload.rattle by rust/erase; not edited by hand.
 //! Every payload of one byte and of two bytes that comes to a new server. What is expected is read off the table of frames and the rules
 //! on streams, by hand.
 use crate::shim::{HostRuntime, assert};

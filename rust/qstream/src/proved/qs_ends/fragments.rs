@@ -1,4 +1,4 @@
-// Made from crates/qs_ends/src/fragments.rt by rust/erase; not edited by hand.
+// Made from tests/units/qs_ends/src/fragments.rattle by rust/erase; not edited by hand.
 //! A stream that comes in packets of one byte each, out of order.
 use crate::shim::{HostRuntime, assert};
 use super::ends::{USUAL, receive, server};

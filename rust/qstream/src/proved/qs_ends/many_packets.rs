@@ -1,4 +1,4 @@
-// Made from crates/qs_ends/src/many_packets.rt by rust/erase; not edited by hand.
+// Made from tests/units/qs_ends/src/many_packets.rattle by rust/erase; not edited by hand.
 //! A thousand packets are acknowledged by one range; and of many lost packets the oldest is forgotten.
 use crate::shim::{HostRuntime, assert};
 use super::ends::{NewEnd, lose, made, make, new_client, open, receive, write};

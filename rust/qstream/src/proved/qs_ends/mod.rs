@@ -1,6 +1,5 @@
-// Made from crates/qs_ends/src/lib.rt by rust/erase; not edited by hand.
-//! Tests of what no clause says of an endpoint, through its public calls. They stand in a crate of their own, since a crate with tests is proved
-//! once more with them, and wait for no world.
+// Made from tests/units/qs_ends/src/lib.rattle by rust/erase; not edited by hand.
+//! Tests of what no clause says of an endpoint, through its public calls.
 
 #[cfg(test)]
 mod counts;

@@ -1,4 +1,4 @@
-// Made from crates/qs_ends/src/owners.rt by rust/erase; not edited by hand.
+// Made from tests/units/qs_ends/src/owners.rattle by rust/erase; not edited by hand.
 //! What an end's owner does with its streams.
 use crate::shim::HostRuntime;
 use super::rows::play_rows;

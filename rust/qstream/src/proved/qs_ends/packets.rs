@@ -1,4 +1,4 @@
-// Made from crates/qs_ends/src/packets.rt by rust/erase; not edited by hand.
+// Made from tests/units/qs_ends/src/packets.rattle by rust/erase; not edited by hand.
 //! Packets that an end makes.
 use crate::shim::HostRuntime;
 use super::rows::play_rows;

@@ -1,4 +1,4 @@
-// Made from crates/qs_ends/src/payloads.rt by rust/erase; not edited by hand.
+// Made from tests/units/qs_ends/src/payloads.rattle by rust/erase; not edited by hand.
 //! Payloads that come to a server.
 use crate::shim::HostRuntime;
 use super::rows::play_rows;

@@ -1,4 +1,4 @@
-// Made from crates/qs_ends/src/rows.rt by rust/erase; not edited by hand.
+// Made from tests/units/qs_ends/src/rows.rattle by rust/erase; not edited by hand.
 //! One end's calls as rows of text, each with what it answers. A test is such a text, so no test's proof follows the end's value.
 //!
 //! The first row makes the end: `client` or `server`, then the settings that differ from the usual ones, as `conn_window=10`, and the

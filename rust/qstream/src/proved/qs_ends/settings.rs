@@ -1,4 +1,4 @@
-// Made from crates/qs_ends/src/settings.rt by rust/erase; not edited by hand.
+// Made from tests/units/qs_ends/src/settings.rattle by rust/erase; not edited by hand.
 //! Settings as limits told to the peer, and the code of each fault of setting up.
 use crate::shim::{HostRuntime, assert_eq};
 use crate::proved::qs_conn::{PeerLimits, Settings, SetupFault};

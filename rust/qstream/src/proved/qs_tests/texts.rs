@@ -1,4 +1,4 @@
-// Made from crates/qs_tests/src/texts.rt by rust/erase; not edited by hand.
+// Made from tests/units/qs_tests/src/texts.rattle by rust/erase; not edited by hand.
 //! The text of each error: what went wrong, with the numbers that it names.
 use crate::shim::{HostRuntime, format};
 use crate::proved::qs_wire::{FaultKind, Full, WireFault};

@@ -1,4 +1,4 @@
-// Made from crates/qs_tests/src/world.rt by rust/erase; not edited by hand.
+// Made from tests/units/qs_tests/src/world.rattle by rust/erase; not edited by hand.
 //! Which events fit, and what worlds do.
 
 use crate::shim::{HostRuntime, Vec, assert, assert_eq};

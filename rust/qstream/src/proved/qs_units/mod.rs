@@ -1,6 +1,6 @@
-// Made from crates/qs_units/src/lib.rt by rust/erase; not edited by hand.
+// Made from tests/units/qs_units/src/lib.rattle by rust/erase; not edited by hand.
 //! Tests of what no clause says, through the public calls of the parts of an endpoint: frames, sets of numbers and the halves of streams. They
-//! stand on those alone, so that they are proved while the endpoint is.
+//! stand on those alone.
 
 #[cfg(test)]
 mod lost;

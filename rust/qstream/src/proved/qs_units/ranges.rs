@@ -1,4 +1,4 @@
-// Made from crates/qs_units/src/ranges.rt by rust/erase; not edited by hand.
+// Made from tests/units/qs_units/src/ranges.rattle by rust/erase; not edited by hand.
 //! Most tests are lists of steps, played by one function: so their proofs don't follow the set's value.
 use crate::shim::{HostRuntime, assert_eq};
 use crate::proved::qs_ranges::{NoMemory, RangeSet};

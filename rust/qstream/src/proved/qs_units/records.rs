@@ -1,4 +1,4 @@
-// Made from crates/qs_units/src/records.rt by rust/erase; not edited by hand.
+// Made from tests/units/qs_units/src/records.rattle by rust/erase; not edited by hand.
 //! Each test is a list of steps, played by one function: so no test's proof follows the records' value.
 use crate::shim::{HostRuntime, SliceCalls, Vec, assert, assert_eq};
 use crate::proved::qs_ranges::NoMemory;

@@ -1,4 +1,4 @@
-// Made from crates/qs_units/src/recv.rt by rust/erase; not edited by hand.
+// Made from tests/units/qs_units/src/recv.rattle by rust/erase; not edited by hand.
 //! Each test is a list of steps, played by one function: so no test's proof follows the half's value.
 use crate::shim::{HostRuntime, assert_eq};
 

@@ -1,4 +1,4 @@
-// Made from crates/qs_units/src/replay.rt by rust/erase; not edited by hand.
+// Made from tests/units/qs_units/src/replay.rattle by rust/erase; not edited by hand.
 //! Steps that are played on an assembly of each kind. A test is a list of steps with what they show.
 use crate::shim::{HostRuntime, Vec, assert_eq};
 

@@ -1,4 +1,4 @@
-// Made from crates/qs_units/src/wire.rt by rust/erase; not edited by hand.
+// Made from tests/units/qs_units/src/wire.rattle by rust/erase; not edited by hand.
 //! Tests of what no contract says: that each call succeeds, on payloads whose reading is known.
 
 mod acks;

@@ -1,4 +1,4 @@
-// Made from crates/qs_ends/src/rows/calls.rt by rust/erase; not edited by hand.
+// Made from tests/units/qs_ends/src/rows/calls.rattle by rust/erase; not edited by hand.
 //! A call for each kind of row. Each tells its answer.
 
 use crate::shim::String;

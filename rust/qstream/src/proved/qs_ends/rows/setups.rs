@@ -1,4 +1,4 @@
-// Made from crates/qs_ends/src/rows/setups.rt by rust/erase; not edited by hand.
+// Made from tests/units/qs_ends/src/rows/setups.rattle by rust/erase; not edited by hand.
 //! The row that makes an end.
 
 use super::RowFault;

@@ -1,4 +1,4 @@
-// Made from crates/qs_ends/src/rows/told.rt by rust/erase; not edited by hand.
+// Made from tests/units/qs_ends/src/rows/told.rattle by rust/erase; not edited by hand.
 //! How answers are spelled.
 
 use crate::shim::String;

@@ -1,4 +1,4 @@
-// Made from crates/qs_ends/src/rows/words.rt by rust/erase; not edited by hand.
+// Made from tests/units/qs_ends/src/rows/words.rattle by rust/erase; not edited by hand.
 //! The words of a row.
 
 use super::RowFault;

@@ -1,4 +1,4 @@
-// Made from crates/qs_tests/src/world/draws.rt by rust/erase; not edited by hand.
+// Made from tests/units/qs_tests/src/world/draws.rattle by rust/erase; not edited by hand.
 //! Events drawn at random.
 use crate::shim::{HostRuntime, assert, panic};
 use crate::proved::qs_world::{Act, Event, Side, parse_script, random_script};

@@ -1,4 +1,4 @@
-// Made from crates/qs_tests/src/world/memory.rt by rust/erase; not edited by hand.
+// Made from tests/units/qs_tests/src/world/memory.rattle by rust/erase; not edited by hand.
 //! Where no allocation is refused, no call answers that memory was. A run that ran short is made once more, since a test may be run with one
 //! allocation refused.
 use crate::shim::{HostRuntime, String, assert, format};

@@ -1,4 +1,4 @@
-// Made from crates/qs_tests/src/world/plays.rt by rust/erase; not edited by hand.
+// Made from tests/units/qs_tests/src/world/plays.rattle by rust/erase; not edited by hand.
 //! Scripts that are played, and what comes of them. Where memory was refused, a script that should succeed is played once more.
 use crate::shim::{HostRuntime, Vec, assert};
 use crate::proved::qs_world::{

@@ -1,4 +1,4 @@
-// Made from crates/qs_tests/src/world/refusals.rt by rust/erase; not edited by hand.
+// Made from tests/units/qs_tests/src/world/refusals.rattle by rust/erase; not edited by hand.
 //! Two ends where memory is refused: nothing is lost, and the call that is made again succeeds. With each allocation refused in turn, these
 //! tests meet every refusal of a run.
 use crate::shim::{HostRuntime, assert};

@@ -1,4 +1,4 @@
-// Made from crates/qs_tests/src/world/runs.rt by rust/erase; not edited by hand.
+// Made from tests/units/qs_tests/src/world/runs.rattle by rust/erase; not edited by hand.
 //! Long runs of two ends: random scripts, and busy ones that use up every limit.
 use crate::shim::{HostRuntime, assert, vec};
 

@@ -1,4 +1,4 @@
-// Made from crates/qs_tests/src/world/script.rt by rust/erase; not edited by hand.
+// Made from tests/units/qs_tests/src/world/script.rattle by rust/erase; not edited by hand.
 //! Which events a script means, and where it is faulty.
 use crate::shim::{HostRuntime, Vec, assert, panic};
 use crate::proved::qs_world::{Act, Dir, Event, Reason, ScriptFault, Side, StreamId, parse_script};

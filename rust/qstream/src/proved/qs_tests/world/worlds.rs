@@ -1,4 +1,4 @@
-// Made from crates/qs_tests/src/world/worlds.rt by rust/erase; not edited by hand.
+// Made from tests/units/qs_tests/src/world/worlds.rattle by rust/erase; not edited by hand.
 //! A world to begin with.
 
 use crate::proved::qs_world::{SetupFault, World, standard_settings};

@@ -1,4 +1,4 @@
-// Made from crates/qs_units/src/wire/acks.rt by rust/erase; not edited by hand.
+// Made from tests/units/qs_units/src/wire/acks.rattle by rust/erase; not edited by hand.
 use crate::shim::{HostRuntime, assert, assert_eq};
 use super::is_one;
 use crate::proved::qs_wire::*;

@@ -1,4 +1,4 @@
-// Made from crates/qs_units/src/wire/faults.rt by rust/erase; not edited by hand.
+// Made from tests/units/qs_units/src/wire/faults.rattle by rust/erase; not edited by hand.
 use crate::shim::{HostRuntime, assert, assert_eq};
 use super::{fails, wire_fault};
 use crate::proved::qs_wire::*;

@@ -1,4 +1,4 @@
-// Made from crates/qs_units/src/wire/prefixes.rt by rust/erase; not edited by hand.
+// Made from tests/units/qs_units/src/wire/prefixes.rattle by rust/erase; not edited by hand.
 //! Each prefix of a payload is read as the grammar says: the frames that end by then, and a fault where it ends within one.
 use crate::shim::{HostRuntime, assert};
 use super::{first_stream, is_one, wire_fault};

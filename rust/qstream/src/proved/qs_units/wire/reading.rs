@@ -1,4 +1,4 @@
-// Made from crates/qs_units/src/wire/reading.rt by rust/erase; not edited by hand.
+// Made from tests/units/qs_units/src/wire/reading.rattle by rust/erase; not edited by hand.
 use crate::shim::{HostRuntime, assert};
 use super::{first_stream, is_one};
 use crate::proved::qs_wire::*;

@@ -1,4 +1,4 @@
-// Made from crates/qs_units/src/wire/writing.rt by rust/erase; not edited by hand.
+// Made from tests/units/qs_units/src/wire/writing.rattle by rust/erase; not edited by hand.
 use crate::shim::{HostRuntime, assert, assert_eq};
 use crate::proved::qs_wire::*;
 use crate::shim::test::*;
