@@ -3,6 +3,7 @@
 ghost use Rattle.std.specs.Prelude.{◌≡◌};
 ghost use Rattle.qs_calls.specs.Events.{fits};
 
+use qs_send::MAX_VARINT;
 use qs_wire::{Dir, StreamId};
 
 /// The client is A, the server B.
@@ -64,6 +65,3 @@ pub const MIN_ROOM: usize = 128;
 
 /// The most room of a payload.
 pub const MAX_ROOM: usize = 16_383;
-
-/// The greatest number that a frame can hold (RFC 9000, section 16).
-pub const MAX_VARINT: u64 = (1 << 62) - 1;

@@ -13,7 +13,7 @@ use crate::outbox::Outbox;
 use crate::places::kind_of;
 use crate::recv_tables::RecvTables;
 use crate::setup::setup_fault;
-use qs_calls::{Closed, Closing, PeerLimits, Settings, SetupFault};
+use qs_calls::{Closed, Closing, MAX_VARINT, PeerLimits, Settings, SetupFault};
 use qs_ranges::RangeSet;
 use qs_wire::{Dir, Frame, Role, StreamId, put};
 use std::alloc::Global;
@@ -269,9 +269,9 @@ fn next_limit(limit: u64, taken: u64, window: u64) -> u64
     ensures value { result ≡ next_limit limit taken window }
     ensures in_range { result ≤ MAX_VARINT }
 {
-    let next = (taken + window).min((1 << 62) - 1);
+    let next = (taken + window).min(MAX_VARINT);
     let step = (window / 2).max(1);
-    if limit + step <= next || (next == (1 << 62) - 1 && limit < next) {
+    if limit + step <= next || (next == MAX_VARINT && limit < next) {
         next
     } else {
         limit

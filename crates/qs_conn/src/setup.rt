@@ -2,9 +2,7 @@
 ghost use Rattle.std.specs.Prelude.{◌≡◌};
 ghost use Rattle.qs_calls.specs.Settings.{is_between, are_in_range, are_spellable, are_countable, limits_fault, setup_fault};
 
-use qs_calls::{PeerLimits, Settings, SetupFault};
-
-const MAX_VARINT: u64 = (1 << 62) - 1;
+use qs_calls::{MAX_VARINT, PeerLimits, Settings, SetupFault};
 
 /// Why no end can be made of these settings.
 pub(crate) fn setup_fault(settings: &Settings, peer: &PeerLimits) -> Option<SetupFault>

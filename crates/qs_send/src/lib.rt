@@ -17,7 +17,7 @@ mod piece;
 mod records;
 
 pub use ack_pass::AckPass;
-pub use half::SendHalf;
+pub use half::{MAX_VARINT, SendHalf};
 pub use lost_pass::LostPass;
 pub use lost_records::LostRecords;
 pub use parts::{Chunk, Reset, SendFault, SendState};

@@ -3,6 +3,7 @@
 
 use crate::shim::Vec;
 
+use crate::proved::qs_send::MAX_VARINT;
 use crate::proved::qs_wire::{Dir, StreamId};
 
 /// The client is A, the server B.
@@ -62,6 +63,3 @@ pub const MIN_ROOM: usize = 128;
 
 /// The most room of a payload.
 pub const MAX_ROOM: usize = 16_383;
-
-/// The greatest number that a frame can hold (RFC 9000, section 16).
-pub const MAX_VARINT: u64 = (1 << 62) - 1;

@@ -11,8 +11,9 @@ mod uses;
 
 pub use answer::Answer;
 pub use closing::{Closed, Closing, Received};
-pub use event::{Act, Event, MAX_BYTES, MAX_ROOM, MAX_VARINT, MIN_ROOM, Side};
+pub use event::{Act, Event, MAX_BYTES, MAX_ROOM, MIN_ROOM, Side};
 pub use making::{LostFault, Made, MakeFault};
+pub use crate::proved::qs_send::MAX_VARINT;
 pub use report::{LaneReport, RecvReport, SendReport};
 pub use settings::{PeerLimits, RaiseFault, Settings, SetupFault};
 pub use uses::{OpenFault, UseFault};

@@ -6,7 +6,7 @@ use crate::proved::qs_conn::outbox::Outbox;
 use crate::proved::qs_conn::places::kind_of;
 use crate::proved::qs_conn::recv_tables::RecvTables;
 use crate::proved::qs_conn::setup::setup_fault;
-use crate::proved::qs_calls::{Closed, Closing, PeerLimits, Settings, SetupFault};
+use crate::proved::qs_calls::{Closed, Closing, MAX_VARINT, PeerLimits, Settings, SetupFault};
 use crate::proved::qs_ranges::RangeSet;
 use crate::proved::qs_wire::{Dir, Frame, Role, StreamId, put};
 use crate::shim::alloc::Global;
@@ -186,9 +186,9 @@ fn next_limit(limit: u64, taken: u64, window: u64) -> u64 {
     debug_assert!(limit <= 0x3fff_ffff_ffff_ffff);
     debug_assert!(taken <= 0x3fff_ffff_ffff_ffff);
     debug_assert!(window <= 1 << 24);
-    let next = (taken + window).min((1 << 62) - 1);
+    let next = (taken + window).min(MAX_VARINT);
     let step = (window / 2).max(1);
-    if limit + step <= next || (next == (1 << 62) - 1 && limit < next) {
+    if limit + step <= next || (next == MAX_VARINT && limit < next) {
         next
     } else {
         limit

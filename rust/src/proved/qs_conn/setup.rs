@@ -1,9 +1,7 @@
 // Made from crates/qs_conn/src/setup.rt by rust/erase; not edited by hand.
 //! Whether an end can be made.
 
-use crate::proved::qs_calls::{PeerLimits, Settings, SetupFault};
-
-const MAX_VARINT: u64 = (1 << 62) - 1;
+use crate::proved::qs_calls::{MAX_VARINT, PeerLimits, Settings, SetupFault};
 
 /// Why no end can be made of these settings.
 pub(crate) fn setup_fault(settings: &Settings, peer: &PeerLimits) -> Option<SetupFault> {
