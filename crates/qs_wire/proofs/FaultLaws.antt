@@ -13,7 +13,7 @@ use Rattle.qs_wire.specs.Reading.{◌>>=◌, split_number, number_at, plain_at, 
 use Rattle.qs_wire.proofs.Numbers.{IsBytes, varint_takes, varint_again, length-short}
 use Rattle.qs_wire.proofs.Types.{number_back, by_test, above_all}
 use Rattle.qs_wire.proofs.FieldLaws.{field_takes, field_again}
-use Rattle.qs_wire.proofs.Shapes.{TakesType, type_takes, body_takes, shape_again, frame_again}
+use Rattle.qs_wire.proofs.Shapes.{TakesType, type_takes, body_takes, shape_again, frame_again, typed_ok, known_ok}
 
 -- a chain fails in its first step, or after it
 bind_err : {A B E : Type 0} (r : Result A E) (f : A → Result B E) (d : E) → (r >>= f) ≡ Err d → (r ≡ Err d) ⊎ ((x : A) × (r ≡ Ok x) × (f x ≡ Err d))
@@ -29,9 +29,6 @@ number_fails bytes k e = at (varint_at bytes) e
     at : (o : Option (ℕ × ℕ)) → split_number o bytes ≡ Err k → k ≡ Truncated
     at None e = cc
     at (Some p) e = absurd cc
-
-failing : {A : Type 0} → FaultKind → Result A FaultKind
-failing k = Err k
 
 guard_err : {A : Type 0} (b : Bool) (k d : FaultKind) (x : A) → cond b (Err k) (Ok x) ≡ Err d → d ≡ k
 guard_err true k d x e = cc
@@ -173,17 +170,9 @@ typed_err t (Err k) b e =
     let is : b ≡ record { kind = k; frame_type = t } = cc in
     (ap (λ (x : Broken). Err x.kind) (sym is), ap (λ (x : Broken). x.frame_type) is)
 
-typed_ok : {A : Type 0} (t : ℕ) (r : Result A FaultKind) (x : A) → typed t r ≡ Ok x → r ≡ Ok x
-typed_ok t (Ok y) x e = cc
-typed_ok t (Err k) x e = absurd cc
-
 known_err : (t : ℕ) (o : Option FrameType) (b : Broken) → known_type t o ≡ Err b → (o ≡ None) × (b ≡ record { kind = UnknownType; frame_type = t })
 known_err t None b e = (refl, cc)
 known_err t (Some s) b e = absurd cc
-
-known_ok : (t : ℕ) (o : Option FrameType) (type : FrameType) → known_type t o ≡ Ok type → o ≡ Some type
-known_ok t None type e = absurd cc
-known_ok t (Some s) type e = cc
 
 pub checked_err : (t : ℕ) (x : FrameValue × List ℕ) (o : Option FaultKind) (b : Broken) → checked t x o ≡ Err b → (o ≡ Some b.kind) × (b.frame_type ≡ t)
 checked_err t x None b e = absurd cc

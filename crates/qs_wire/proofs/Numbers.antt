@@ -71,12 +71,6 @@ some_is : {A : Type 0} (b : Bool) (x y : A) → cond b None (Some x) ≡ Some y 
 some_is true x y e = absurd cc
 some_is false x y e = (refl, cc)
 
-room_positive : (s : Size) → 0 < room s
-room_positive one = omega arith
-room_positive two = omega arith
-room_positive four = omega arith
-room_positive eight = omega arith
-
 mod_room : (s : Size) (n : ℕ) → n % room s < room s
 mod_room one n = omega arith
 mod_room two n = omega arith

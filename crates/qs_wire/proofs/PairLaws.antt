@@ -150,10 +150,6 @@ length-first_text delay p others few =
       length-append l [],
     )
 
-pub length-ack : (delay : ℕ) (p : ℕ × ℕ) (ps : List (ℕ × ℕ)) → length ps < 64
-    → length (canonical (ack_of delay (p ∷ ps))) ≡ length (short (p.1 - 1)) + length (short ((p.1 - 1) - p.0)) + length (short delay) + 2 + length (text_below p.0 ps)
-length-ack delay p ps few = omega (arith, ap length (ack_text delay p ps), length-append (first_text delay p (length ps)) (text_below p.0 ps), length-first_text delay p (length ps) few)
-
 -- ---- the ACK of the first ranges, as a call finds it
 
 -- the highest range

@@ -1,14 +1,14 @@
 -- The numbers of an ACK, one after the other.
 use Rattle.std.proofs.Common.{◌≡◌, ℕ, zero, suc, ◌+◌, ◌-◌, ◌<◌, ◌≤◌, List, [], ◌∷◌, ◌++◌, length, take, drop, Option, Some, None, Result, Ok, Err, refl, sym, ap, ◌∙◌, append_assoc, arith}
 use Rattle.std.specs.List.{flat_map}
-use Rattle.std.proofs.lemmas.List.{append-nil, length-append, length-drop, length-take-le, take_at, drop_at}
+use Rattle.std.proofs.lemmas.List.{append-nil, length-append, length-drop, take_at, drop_at}
 use Rattle.std.proofs.lemmas.List.Concat.{flat_map-cons}
 use Rattle.qs_wire.specs.declared.fault.FaultKind.{FaultKind}
 use Rattle.qs_wire.specs.Varint.{short, varint_at, next_number, numbers_within, numbers_of}
 use Rattle.qs_wire.specs.Layout.{taken, ack_ranges_of}
 use Rattle.qs_wire.specs.Grammar.{NumbersText}
 use Rattle.qs_wire.specs.Reading.{◌>>=◌, number_at, numbers_at}
-use Rattle.qs_wire.proofs.Numbers.{IsBytes, varint_takes, varint_within, varint_again, short_least}
+use Rattle.qs_wire.proofs.Numbers.{IsBytes, varint_within, varint_again}
 use Rattle.qs_wire.proofs.FieldLaws.{numbers_take}
 
 -- the bound on how many does not matter
@@ -74,10 +74,6 @@ regroup : (front : List ℕ) (v : ℕ) (read : Result (List ℕ × List ℕ) Fau
 regroup front v (Ok x) = ap (λ (vs : List ℕ). Ok (vs, x.1)) (simp append_assoc)
 regroup front v (Err k) = refl
 
-pub starts : (read : Result (List ℕ × List ℕ) FaultKind) → with_front [] read ≡ read
-starts (Ok x) = refl
-starts (Err k) = refl
-
 pub goes_on : (front : List ℕ) (count i : ℕ) (bytes : List ℕ) (v : ℕ) (after : List ℕ) (total : Result (List ℕ × List ℕ) FaultKind) → i < count → number_at bytes ≡ Ok (v, after)
     → with_front front (numbers_at (count - i) bytes) ≡ total → with_front (front ++ v ∷ []) (numbers_at (count - (i + 1)) after) ≡ total
 unfolding numbers_at
@@ -129,12 +125,6 @@ shortest_none bytes e = ap (flat_map short) (numbers_of-none bytes e)
 
 pub shortest_len : (bytes : List ℕ) (x : ℕ × ℕ) → varint_at bytes ≡ Some x → length (flat_map short (numbers_of bytes)) ≡ length (short x.0) + length (flat_map short (numbers_of (drop x.1 bytes)))
 shortest_len bytes x e = ap length (shortest_next bytes x e) ∙ length-append (short x.0) (flat_map short (numbers_of (drop x.1 bytes)))
-
-pub shortest_within : (bytes : List ℕ) (x : ℕ × ℕ) → IsBytes bytes → varint_at bytes ≡ Some x → (length (short x.0) ≤ x.1) × (length (drop x.1 bytes) + x.1 ≡ length bytes)
-shortest_within bytes x fits e =
-    let t = varint_takes bytes x fits e in
-    let within : x.1 ≤ length bytes = t.within in
-    (omega (arith, short_least x.0 (take x.1 bytes) t.spelled, length-take-le x.1 bytes t.within), omega (arith, length-drop x.1 bytes))
 
 -- ---- the ranges that the numbers name, one after the other
 

@@ -20,11 +20,11 @@ whole x = Ok x
 whole_is : {A : Type 0} (x y : A) → whole x ≡ whole y → x ≡ y
 whole_is x y e = cc
 
-typed_ok : {A : Type 0} (t : ℕ) (r : Result A FaultKind) (x : A) → typed t r ≡ Ok x → r ≡ Ok x
+pub typed_ok : {A : Type 0} (t : ℕ) (r : Result A FaultKind) (x : A) → typed t r ≡ Ok x → r ≡ Ok x
 typed_ok t (Ok y) x e = cc
 typed_ok t (Err k) x e = absurd cc
 
-known_ok : (t : ℕ) (o : Option FrameType) (type : FrameType) → known_type t o ≡ Ok type → o ≡ Some type
+pub known_ok : (t : ℕ) (o : Option FrameType) (type : FrameType) → known_type t o ≡ Ok type → o ≡ Some type
 known_ok t None type e = absurd cc
 known_ok t (Some s) type e = cc
 

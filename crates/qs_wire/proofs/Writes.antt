@@ -1,17 +1,13 @@
 -- One write after another.
-use Rattle.std.proofs.Common.{◌≡◌, ℕ, zero, suc, get_or, ◌+◌, ◌<◌, ◌≤◌, List, [], ◌∷◌, ◌++◌, length, take, drop, sym, ap, ◌∙◌, append_assoc, arith}
-use Rattle.std.specs.List.{flat_map, AllByRecursion}
+use Rattle.std.proofs.Common.{◌≡◌, ℕ, get_or, ◌+◌, ◌<◌, ◌≤◌, List, [], ◌∷◌, ◌++◌, length, take, drop, sym, ap, ◌∙◌, append_assoc, arith}
+use Rattle.std.specs.List.{flat_map}
 use Rattle.std.proofs.lemmas.List.Concat.{flat_map-append}
-use Rattle.std.proofs.lemmas.List.{take_more, take_all, append-nil, length-append, length-take-le, length-drop, take-append-drop, take_at, drop_at, drop-drop}
+use Rattle.std.proofs.lemmas.List.{take_more, append-nil, length-append, length-take-le, length-drop, take-append-drop, take_at, drop_at, drop-drop}
 use Rattle.qs_wire.specs.declared.writing.Part.{Part}
 use Rattle.qs_wire.specs.Varint.{short}
 use Rattle.qs_wire.specs.Grammar.{IsIdentifierLength}
 use Rattle.qs_wire.proofs.Numbers.{short_byte}
-use Rattle.qs_wire.specs.Writing.{Puts, PartFits, part_text}
-
--- nothing is written
-pub Puts-none : (at : ℕ) (old : List ℕ) → at ≤ length old → Puts at [] old old
-Puts-none at old le = record { room = omega arith; is = sym (take-append-drop at old) ∙ ap (λ (n : ℕ). take at old ++ drop n old) (omega arith) }
+use Rattle.qs_wire.specs.Writing.{Puts, part_text}
 
 pub Puts-then : (at next : ℕ) (a b old mid new : List ℕ) → Puts at a old mid → next ≡ at + length a → Puts next b mid new → Puts at (a ++ b) old new
 Puts-then at next a b old mid new p e q =
@@ -46,17 +42,9 @@ identifier_text v h = ap (λ (t : List ℕ). t ++ v) (short_byte (length v) (ome
 pub text_more : (ps : List Part) (i : ℕ) (d : Part) → i < length ps → flat_map part_text (take (i + 1) ps) ≡ flat_map part_text (take i ps) ++ part_text (get_or ps i d)
 text_more ps i d lt = ap (flat_map part_text) (take_more ps i d lt) ∙ flat_map-append part_text (take i ps) (get_or ps i d ∷ []) ∙ ap (λ (t : List ℕ). flat_map part_text (take i ps) ++ t) (append-nil (part_text (get_or ps i d)))
 
-pub text_all : (ps : List Part) (i : ℕ) → length ps ≤ i → flat_map part_text (take i ps) ≡ flat_map part_text ps
-text_all ps i le = ap (flat_map part_text) (take_all i ps le)
-
 -- the parts up to one are no longer than all of them
 pub text_within : (ps : List Part) (i : ℕ) → length (flat_map part_text (take i ps)) ≤ length (flat_map part_text ps)
 text_within ps i = omega (arith, ap (λ (qs : List Part). length (flat_map part_text qs)) (sym (take-append-drop i ps)), ap length (flat_map-append part_text (take i ps) (drop i ps)), length-append (flat_map part_text (take i ps)) (flat_map part_text (drop i ps)))
-
-pub part_fits : (ps : List Part) (i : ℕ) (d : Part) → AllByRecursion PartFits ps → i < length ps → PartFits (get_or ps i d)
-part_fits [] i d h lt = absurd (omega arith)
-part_fits (p ∷ ps) zero d h lt = h.0
-part_fits (p ∷ ps) (suc i) d h lt = part_fits ps i d h.1 (omega arith)
 
 pub length_more : (ps : List Part) (i : ℕ) (d : Part) → i < length ps → length (flat_map part_text (take (i + 1) ps)) ≡ length (flat_map part_text (take i ps)) + length (part_text (get_or ps i d))
 length_more ps i d lt = ap length (text_more ps i d lt) ∙ length-append (flat_map part_text (take i ps)) (part_text (get_or ps i d))
