@@ -63,10 +63,6 @@ empty_is_end s c is empty =
     let f = fin_of c.fin s.due.fin _ _ is.fin is.some (not_some c.len empty) in
     (f.0, grind (arith, nat_tests, f.1))
 
-pub end_not_due : (s : Sending) (room fresh : ℕ) → EndsBefore s.due.offsets 0 → s.due.fin ≡ false → HasNoChunk s room fresh
-end_not_due s room fresh none not_due c ok =
-    both_ways _ not_due (empty_is_end s c ok.chunk (no_bytes _ _ _ none ok.chunk.due)).0
-
 pub end_too_long : (s : Sending) (room fresh : ℕ) → EndsBefore s.due.offsets 0 → room ≤ 1 + short_len s.lane.id + offset_len s.lane.written → HasNoChunk s room fresh
 end_too_long s room fresh none short c ok =
     let empty = no_bytes _ _ _ none ok.chunk.due in

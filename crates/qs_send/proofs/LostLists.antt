@@ -14,6 +14,7 @@ use Rattle.qs_send.specs.declared.piece.Piece.{Piece}
 use Rattle.qs_send.specs.Records.{PacketPieces, IsGreatestBelow, without_first}
 use Rattle.qs_send.specs.ByNumber.{Numbered, lookup, map_of, AreRising, IsAt, IsGapAt, IsCut, Listed, room_for, spare_in}
 use Rattle.qs_send.proofs.Outstanding.{get-insert_packet, get-remove_packet}
+use Rattle.qs_send.proofs.Carrying.{at_same, at_other}
 
 -- The list as a map
 
@@ -43,15 +44,9 @@ map_of-is rs m same = same_map nat_cmp_total nat_cmp-IsAntisymmetric _ _ (λ n. 
 
 -- Numbers in the list
 
-here : {A : Type 0} (n k : ℕ) (x y : A) → n ≡ k → cond (nat_eq n k) x y ≡ x
-here n k x y same = let t : nat_eq n k ≡ true = grind (arith, nat_tests) in ap (λ b. cond b x y) t
-
-other : {A : Type 0} (n k : ℕ) (x y : A) → (n ≡ k → ⊥) → cond (nat_eq n k) x y ≡ y
-other n k x y apart = let f : nat_eq n k ≡ false = grind (arith, nat_tests) in ap (λ b. cond b x y) f
-
 pub lookup_below : (n low : ℕ) (rs : List Numbered) → AreRising low rs → n < low → lookup n rs ≡ None
 lookup_below n low [] h lt = refl
-lookup_below n low (r ∷ rs) h lt = other n r.number (Some r) (lookup n rs) (λ e. omega (arith, h.0, lt)) ∙ lookup_below n (r.number + 1) rs h.2 (omega (arith, h.0, lt))
+lookup_below n low (r ∷ rs) h lt = at_other n r.number (Some r) (lookup n rs) (λ e. omega (arith, h.0, lt)) ∙ lookup_below n (r.number + 1) rs h.2 (omega (arith, h.0, lt))
 
 found_from : (n low : ℕ) (rs : List Numbered) → AreRising low rs → is_some (lookup n rs) ≡ true → low ≤ n
 found_from n low rs h some = elim (cases_lt n low) [ inl lt ↦ absurd (both_ways _ (ap is_some (lookup_below n low rs h lt)) some) | inr ge ↦ ge ]
@@ -62,17 +57,6 @@ lower low high (r ∷ rs) le h = (omega (arith, h.0), h.1, h.2)
 
 -- Places
 
-pub at_within : (n : ℕ) (rs : List Numbered) (k : ℕ) → IsAt n rs k → k < length rs
-at_within n [] k at = absurd at
-at_within n (r ∷ rs) zero at = omega arith
-at_within n (r ∷ rs) (suc k) at = let lt = at_within n rs k at.1 in omega (arith, lt)
-
-pub gap_within : (n : ℕ) (rs : List Numbered) (k : ℕ) → IsGapAt n rs k → k ≤ length rs
-gap_within n [] zero gap = omega arith
-gap_within n [] (suc k) gap = absurd gap
-gap_within n (r ∷ rs) zero gap = omega arith
-gap_within n (r ∷ rs) (suc k) gap = let le = gap_within n rs k gap.1 in omega (arith, le)
-
 -- what stands at a place
 pub record IsItem (n : ℕ) (rs : List Numbered) (x : Numbered) : Type 0 where
   pub found : lookup n rs ≡ Some x
@@ -82,18 +66,18 @@ pub record IsItem (n : ℕ) (rs : List Numbered) (x : Numbered) : Type 0 where
 pub item_at : (n low : ℕ) (rs : List Numbered) (k : ℕ) (x : Numbered) → AreRising low rs → IsAt n rs k → x ≡ slice_index_or rs k x → IsItem n rs x
 item_at n low [] k x h at is = absurd at
 item_at n low (r ∷ rs) zero x h at is = record {
-  found = here n r.number (Some r) (lookup n rs) at ∙ ap Some (sym is);
+  found = at_same n r.number (Some r) (lookup n rs) at ∙ ap Some (sym is);
   number = ap (λ y. y.number) is ∙ sym at;
   some = subst (λ y. 0 < length y.pieces) (sym is) h.1;
 }
 item_at n low (r ∷ rs) (suc k) x h at is =
     let i = item_at n (r.number + 1) rs k x h.2 at.1 is in
-    record { found = other n r.number (Some r) (lookup n rs) (λ e. let lt = at.0 in omega arith) ∙ i.found; number = i.number; some = i.some }
+    record { found = at_other n r.number (Some r) (lookup n rs) (λ e. let lt = at.0 in omega arith) ∙ i.found; number = i.number; some = i.some }
 
 pub gap_none : (n low : ℕ) (rs : List Numbered) (k : ℕ) → AreRising low rs → IsGapAt n rs k → lookup n rs ≡ None
 gap_none n low [] k h gap = refl
-gap_none n low (r ∷ rs) zero h gap = other n r.number (Some r) (lookup n rs) (λ e. omega arith) ∙ lookup_below n (r.number + 1) rs h.2 (omega (arith, gap))
-gap_none n low (r ∷ rs) (suc k) h gap = other n r.number (Some r) (lookup n rs) (λ e. let lt = gap.0 in omega arith) ∙ gap_none n (r.number + 1) rs k h.2 gap.1
+gap_none n low (r ∷ rs) zero h gap = at_other n r.number (Some r) (lookup n rs) (λ e. omega arith) ∙ lookup_below n (r.number + 1) rs h.2 (omega (arith, gap))
+gap_none n low (r ∷ rs) (suc k) h gap = at_other n r.number (Some r) (lookup n rs) (λ e. let lt = gap.0 in omega arith) ∙ gap_none n (r.number + 1) rs k h.2 gap.1
 
 -- Edits
 
@@ -135,7 +119,7 @@ lookup-remove q n low (r ∷ rs) zero h at = go (nat_eq q n) refl
   where
     go : (b : Bool) → nat_eq q n ≡ b → lookup q rs ≡ cond b None (lookup q (r ∷ rs))
     go true same = let e : q ≡ n = grind (arith, nat_tests) in lookup_below q (r.number + 1) rs h.2 (omega (arith, e, at))
-    go false apart = sym (other q r.number (Some r) (lookup q rs) (λ e. let f : q ≡ n = omega (arith, e, at) in both_ways _ apart (let t : nat_eq q n ≡ true = grind (arith, nat_tests) in t)))
+    go false apart = sym (at_other q r.number (Some r) (lookup q rs) (λ e. let f : q ≡ n = omega (arith, e, at) in both_ways _ apart (let t : nat_eq q n ≡ true = grind (arith, nat_tests) in t)))
 lookup-remove q n low (r ∷ rs) (suc k) h at = ap (cond (nat_eq q r.number) (Some r)) (lookup-remove q n (r.number + 1) rs k h.2 at.1) ∙ swapped q r.number n (Some r) None (lookup q rs) at.0
 
 pub rising-remove : (n low : ℕ) (rs : List Numbered) (k : ℕ) → AreRising low rs → IsAt n rs k → AreRising low (remove rs k)
@@ -230,7 +214,7 @@ last_below n low [] k x h cut is = absurd cut
 last_below n low (r ∷ rs) zero x h cut is =
     let e : x.number ≡ r.number = ap (λ y. y.number) is in
     record {
-      held = here x.number r.number (Some r) (lookup x.number rs) e ∙ ap Some (sym is);
+      held = at_same x.number r.number (Some r) (lookup x.number rs) e ∙ ap Some (sym is);
       below = let lt = cut.0 in omega (arith, lt, e);
       greatest = λ j some lt. elim (either j r.number r (lookup j rs) some) [
         | inl same ↦ omega (arith, same, e)
@@ -241,7 +225,7 @@ last_below n low (r ∷ rs) (suc k) x h cut is =
     let later = last_below n (r.number + 1) rs k x h.2 cut.1 is in
     let up = found_from x.number (r.number + 1) rs h.2 (ap is_some later.held) in
     record {
-      held = other x.number r.number (Some r) (lookup x.number rs) (λ e. omega (arith, up, e)) ∙ later.held;
+      held = at_other x.number r.number (Some r) (lookup x.number rs) (λ e. omega (arith, up, e)) ∙ later.held;
       below = later.below;
       greatest = λ j some lt. elim (either j r.number r (lookup j rs) some) [ inl same ↦ omega (arith, same, up) | inr further ↦ later.greatest j further lt ];
     }
@@ -269,8 +253,8 @@ held_by n rs (Ok k) h at gap = sym (held-map_of rs n ∙ ap is_some (found_at n 
   where
     found_at : (n low : ℕ) (rs : List Numbered) (k : ℕ) → AreRising low rs → IsAt n rs k → lookup n rs ≡ Some (slice_index_or rs k (record { number = 0; pieces = []; spare = 0 }))
     found_at n low [] k h at = absurd at
-    found_at n low (r ∷ rs) zero h at = here n r.number (Some r) (lookup n rs) at
-    found_at n low (r ∷ rs) (suc k) h at = other n r.number (Some r) (lookup n rs) (λ e. let lt = at.0 in omega arith) ∙ found_at n (r.number + 1) rs k h.2 at.1
+    found_at n low (r ∷ rs) zero h at = at_same n r.number (Some r) (lookup n rs) at
+    found_at n low (r ∷ rs) (suc k) h at = at_other n r.number (Some r) (lookup n rs) (λ e. let lt = at.0 in omega arith) ∙ found_at n (r.number + 1) rs k h.2 at.1
 held_by n rs (Err k) h at gap = sym (held-map_of rs n ∙ ap is_some (gap_none n 0 rs k h gap))
 
 pub none_by : (n : ℕ) (rs : List Numbered) (r : Result ℕ ℕ) → AreRising 0 rs → IfErr r (IsGapAt n rs) → IfErr r (λ _. lookup n rs ≡ None)
@@ -344,7 +328,7 @@ one_more ps qs p is = subst (λ xs. 0 < length xs) (sym is) (go ps)
 -- Room
 
 pub reserved_at : {E : Type 0} (res : Result (Unit {0}) E) (n spare : ℕ) (rs : List Numbered) (k : ℕ) (x : Numbered) → IsAt n rs k → x.number ≡ n → OnOk res (0 < x.spare) → OnOk res (0 < spare_in spare (lookup n (slice_set rs k x)))
-reserved_at res n spare rs k x at is ok = subst (λ o. OnOk res (0 < spare_in spare o)) (sym (lookup-set n n rs k x at is ∙ here n n (Some x) (lookup n rs) refl)) ok
+reserved_at res n spare rs k x at is ok = subst (λ o. OnOk res (0 < spare_in spare o)) (sym (lookup-set n n rs k x at is ∙ at_same n n (Some x) (lookup n rs) refl)) ok
 
 pub reserved_new : {E : Type 0} (res : Result (Unit {0}) E) (l : Listed) (n : ℕ) → lookup n l.records ≡ None → OnOk res (0 < l.spare) → OnOk res (0 < room_for l n)
 reserved_new res l n none ok = subst (λ o. OnOk res (0 < spare_in l.spare o)) (sym none) ok

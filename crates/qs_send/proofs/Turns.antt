@@ -2,7 +2,7 @@
 use Rattle.std.proofs.Common.{◌≡◌, ◌∙◌, ℕ, ◌+◌, ◌-◌, ◌≤◌, List, [], ◌∷◌, length, min, refl, ap, subst, arith}
 use Rattle.qs_wire.specs.Acks.{FallBelow}
 use Rattle.qs_send.specs.Records.{Recorded}
-use Rattle.qs_send.specs.AckPass.{Passing, Falls, HasRead, slots_within, slots_named, turns_left, more_turns, PAST_NUMBERS}
+use Rattle.qs_send.specs.AckPass.{Passing, Falls, HasRead, slots_within, slots_named, turns_left, more_turns}
 
 -- from p to q the turns went up by those that were left
 abbrev pub HasTaken : Recorded → Passing → Passing → Type 0
@@ -15,12 +15,6 @@ then_taken a b c x y z less fewer first second = omega (arith, less, fewer, firs
 pub taken_then : (r : Recorded) (p q s : Passing) → HasTaken r p q → HasTaken r q s → HasTaken r p s
 taken_then r p q s first second =
     (let a = first.0 in let b = second.0 in omega (arith, a, b), then_taken p.turns q.turns s.turns (turns_left p r) (turns_left q r) (turns_left s r) second.0 first.0 first.1 second.1)
-
-pub taken_none : (r : Recorded) (p : Passing) → p.turns ≤ PAST_NUMBERS → HasTaken r p p
-taken_none r p small = (omega arith, stays p.turns (turns_left p r) small)
-  where
-    stays : (a x : ℕ) → a ≤ PAST_NUMBERS → a ≡ more_turns a (x - x)
-    stays a x le = omega (arith, le)
 
 -- what ranges below `low` name stays the same while the pass looks above
 slots_same : (r : Recorded) (low a b : ℕ) (rs : List (ℕ × ℕ)) → FallBelow low rs → b ≤ a → min (min a (r.base + r.slots)) low ≤ b → slots_named r b rs ≡ slots_named r a rs
@@ -66,10 +60,3 @@ range_taken r cut after range falls none read =
 
     moves : (h w n n' m l l' z t s : ℕ) → h ≡ w → n ≡ n' → m ≡ w + n' → l' ≡ l + 1 → z ≡ 0 → t ≡ more_turns s 1 → t ≡ more_turns s (((z + m) + l') - ((h + n) + l))
     moves h w n n' m l l' z t s a b c d e f = omega (arith, a, b, c, d, e, f)
-
--- nothing is left at the end
-pub none_left : (r : Recorded) (q : Passing) → slots_within r q.low q.below ≡ 0 → q.unread ≡ [] → turns_left q r ≡ 0
-none_left r q none unread =
-    let named : slots_named r q.below q.unread ≡ 0 = ap (slots_named r q.below) unread in
-    let len : length q.unread ≡ 0 = ap length unread in
-    omega (arith, none, named, len)

@@ -1,6 +1,6 @@
 -- Trusted.
 -- The sending lane of a stream, what of it is due, and what each call leaves.
-use Rattle.std.specs.Prelude.{ℕ, ◌+◌, ◌-◌, Bool, true, false, not, if◌then◌else◌, ◌&&◌, ◌||◌, ◌==◌, nat_lt, max, min, List, [], ◌++◌, length, take, drop, Option, None, Some, is_some, Result, Ok, Err, refl}
+use Rattle.std.specs.Prelude.{ℕ, ◌+◌, ◌-◌, Bool, true, false, not, if◌then◌else◌, ◌&&◌, ◌||◌, ◌==◌, nat_lt, max, min, List, [], ◌++◌, length, take, drop, Option, None, Some, is_some, Result, Ok, Err}
 use Rattle.std.specs.FinSet as set
 use Rattle.qs_ranges.specs.Numbers.{MAX_VARINT, NumberSet, numbers, missing_from}
 use Rattle.qs_send.specs.declared.parts.Chunk.{Chunk}
@@ -171,10 +171,6 @@ abbrev pub after_allow : Sending → ℕ → Sending
 after_allow s limit = record s { lane = allow_lane s.lane limit }
 
 -- Chunks
-
--- one more than the last offset of a chunk
-abbrev pub chunk_end : Chunk → ℕ
-chunk_end c = c.offset + c.len
 
 -- the offsets of a chunk (RFC 9000, section 19.8)
 abbrev pub chunk_offsets : Chunk → NumberSet
