@@ -1,6 +1,6 @@
 -- What holds of a chunk assembly's fields still holds after each call.
-use Rattle.std.specs.Prelude.{◌≡◌, ℕ, ◌+◌, ◌-◌, ◌<◌, ◌≤◌, Bool, true, false, cond, List, [], ◌∷◌, length, take, Option, None, Some, is_some, Result, Ok, Err, OnOk, OnErr, refl}
-use Rattle.std.proofs.Common.{sym, ◌∙◌, ap, arith, inl, inr, get_or, length-drop}
+use Rattle.std.specs.Prelude.{◌≡◌, ℕ, ◌+◌, ◌-◌, ◌<◌, ◌≤◌, Bool, true, false, cond, List, [], ◌∷◌, length, take, None, is_some, Result, Ok, Err, OnOk, OnErr, refl}
+use Rattle.std.proofs.Common.{sym, ◌∙◌, ap, arith, inl, inr, length-drop}
 use Rattle.std.specs.Ordering.{nat_cmp}
 use Rattle.std.specs.Cmp.{nat_cmp_total}
 use Rattle.std.specs.FinMap as map
@@ -18,10 +18,6 @@ use Rattle.qs_chunks.specs.Kept.{IsKept}
 pub IsOrdered-lower : (cs : List Piece) (low low' : ℕ) → low' ≤ low → IsOrdered low cs → IsOrdered low' cs
 IsOrdered-lower [] low low' h o = tt
 IsOrdered-lower (c ∷ cs) low low' h o = (let l = o.0 in omega arith, o.1, o.2)
-
-none_of_not_some : (o : Option ℕ) → is_some o ≡ false → o ≡ None
-none_of_not_some None h = refl
-none_of_not_some (Some x) h = absurd (both_ways _ h refl)
 
 -- what is stored under the first offset of the first piece
 first_stored : (c : Piece) (cs : List Piece) (q : ℕ) → c.offset ≤ q → q < end_of_piece c → map.contains_key (stored_in (c ∷ cs)) q ≡ true
@@ -165,7 +161,3 @@ pub kept_either : {T E : Type 0} (r : Result T E) (old new : NumberSet) (offset 
     → OnOk r (new ≡ with_run old offset k) → OnErr r (new ≡ old) → IsKept cs old n stored true → IsKept cs new n stored true
 kept_either (Ok x) old new offset k n cs stored ok err h = rw ok (kept_note old offset k n cs stored h)
 kept_either (Err e) old new offset k n cs stored ok err h = rw err h
-
-pub first_is : (cs : List Piece) (x : Piece) → 0 < length cs → x ≡ get_or cs 0 x → first_offset cs ≡ x.offset
-first_is [] x h is = absurd (omega arith)
-first_is (c ∷ cs) x h is = ap (λ p. p.offset) (sym is)

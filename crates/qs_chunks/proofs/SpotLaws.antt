@@ -8,7 +8,7 @@ use Rattle.std.specs.FinMap as map
 use Rattle.std.proofs.lemmas.Bool.{both_ways, cases_lt, cases_Bool, and_parts, ltb-true}
 use Rattle.qs_chunks.specs.Chunks.{Piece, IsOrdered, IsSpot, IsStored, between, end_of_piece, or_else, piece_at, pieces_end, stored_in, total}
 use Rattle.qs_recv.proofs.ReadLaws.{append_nil}
-use Rattle.qs_chunks.proofs.ChunkLaws.{get-stored_in, get-stored_in_none, is_in, byte_of, is_some-byte_of, is_in_from, none_below}
+use Rattle.qs_chunks.proofs.ChunkLaws.{get-stored_in, get-stored_in_none, is_in, byte_of, is_some-byte_of, is_in_from, none_below, low_end}
 
 -- Lists of pieces, cut at a place
 
@@ -79,10 +79,6 @@ stored_by_drop [] (suc k) q is = is
 stored_by_drop (c ∷ cs) (suc k) q is = stored_later c cs q (stored_by_drop cs k q is)
 
 -- The spot
-
-pub low_ends : (cs : List Piece) (low : ℕ) → IsOrdered low cs → low ≤ pieces_end low cs
-low_ends [] low o = omega arith
-low_ends (c ∷ cs) low o = let e = low_ends cs (end_of_piece c) o.2 in let l = o.0 in omega (arith, low_ends cs (end_of_piece c) o.2)
 
 -- a piece ends no later than the next begins
 pub end_before_next : (cs : List Piece) (low k : ℕ) → IsOrdered low cs → suc k < length cs → end_of_piece (piece_at cs k) ≤ (piece_at cs (suc k)).offset
@@ -203,7 +199,7 @@ first_within cs from place after n low high o ends =
     let is = between_first cs place after low high in
     let o' : IsOrdered from (piece_at cs place ∷ between cs (place + 1) after) = subst (IsOrdered from) is o in
     let e' : pieces_end from (piece_at cs place ∷ between cs (place + 1) after) ≤ n = subst (λ xs. pieces_end from xs ≤ n) is ends in
-    let m = low_ends (between cs (place + 1) after) (end_of_piece (piece_at cs place)) o'.2 in
+    let m = low_end (between cs (place + 1) after) (end_of_piece (piece_at cs place)) o'.2 in
     (o'.0, omega arith)
 
 pub rest_ordered : (cs : List Piece) (from place after : ℕ) → place < after → after ≤ length cs → IsOrdered from (between cs place after)
