@@ -20,7 +20,7 @@ use Rattle.qs_machine.proofs.EndsAfter.{IsBare, bare_without}
 
 -- Lists of numbers
 
-among_any : (k : ℕ) (xs : List ℕ) → list_any (eq_by_cmp nat_cmp k) xs ≡ true → Among k xs
+pub among_any : (k : ℕ) (xs : List ℕ) → list_any (eq_by_cmp nat_cmp k) xs ≡ true → Among k xs
 among_any k [] h = absurd (both_ways false refl h)
 among_any k (x ∷ xs) h =
     elim (or_cases _ _ h) [

@@ -204,7 +204,7 @@ done_stays (Plain asks) a b x h = tt
 
 -- and it is so once the frame took effect
 
-changed : {X : Type 0} (t : Tables X) (n : ℕ) (f : X → X) (x : X) → lookup t n ≡ Some x → lookup (updated t n f (lookup t n)) n ≡ Some (f x)
+pub changed : {X : Type 0} (t : Tables X) (n : ℕ) (f : X → X) (x : X) → lookup t n ≡ Some x → lookup (updated t n f (lookup t n)) n ≡ Some (f x)
 changed t n f x is = ap (λ o. lookup (updated t n f o) n) is ∙ lookup_same t n x (f x) is
 
 the_half : (o : Option SendLane) → is_some o ≡ true → (l : SendLane) × (o ≡ Some l)
@@ -338,7 +338,7 @@ first_goes e (Control i) fs h = h
 first_goes e (Close code) fs h = absurd h
 first_goes e (Plain asks) fs h = h
 
-one_more : (e : End) (f : Seen) (fs : List Seen) → GoesOn e f → NoFault (frame_taken f e) fs → NoFault e (f ∷ fs)
+pub one_more : (e : End) (f : Seen) (fs : List Seen) → GoesOn e f → NoFault (frame_taken f e) fs → NoFault e (f ∷ fs)
 one_more e (Ack largest ranges) fs goes rest = (goes, rest)
 one_more e (Stream n offset bytes fin) fs goes rest = (goes, rest)
 one_more e (Control i) fs goes rest = (goes, rest)

@@ -72,7 +72,7 @@ within_credit e h =
 
 -- A new end
 
-no_table : {X : Type 0} (k : ℕ) → table (no_streams {X = X}) k ≡ []
+pub no_table : {X : Type 0} (k : ℕ) → table (no_streams {X = X}) k ≡ []
 no_table zero = refl
 no_table (suc zero) = refl
 no_table (suc (suc zero)) = refl

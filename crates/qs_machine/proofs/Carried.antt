@@ -10,7 +10,7 @@ use Rattle.qs_machine.specs.Due.{Among}
 use Rattle.qs_machine.specs.FrameStep.{without_first}
 use Rattle.qs_machine.specs.Outgoing.{IsCarried, pieces_in, first_piece}
 
-tied_itself : (k : ℕ) → eq_by_cmp nat_cmp k k ≡ true
+pub tied_itself : (k : ℕ) → eq_by_cmp nat_cmp k k ≡ true
 tied_itself k = unsigned_tied k k ∙ eq-eqb k k refl
 
 not_tied : (q k : ℕ) (b : Bool) → q ≢ k → eq_by_cmp nat_cmp q k ≡ b → eq_by_cmp nat_cmp q k ≡ false
@@ -120,7 +120,7 @@ module _ (m m' : Records) (k : ℕ) (p : Piece) (h : IsShorter m k p m') where
 abbrev pub with_piece : Records → ℕ → Piece → Records
 with_piece m k p = fmap.insert m k (pieces_in m k ++ p ∷ [])
 
-so_far : (o : Option (List Piece)) (x : Piece) → Among x (elim o [ None ↦ [] | Some ps ↦ ps ]) → (ps : List Piece) × (o ≡ Some ps) × Among x ps
+pub so_far : (o : Option (List Piece)) (x : Piece) → Among x (elim o [ None ↦ [] | Some ps ↦ ps ]) → (ps : List Piece) × (o ≡ Some ps) × Among x ps
 so_far None x a = absurd a
 so_far (Some ps) x a = (ps, refl, a)
 

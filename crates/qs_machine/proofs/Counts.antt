@@ -55,7 +55,7 @@ both_grow (r ∷ rs) (t ∷ ts) (x ∷ xs) (y ∷ ys) a b =
     (λ h. (let (p, q) = and_parts (recv_ended r) (send_ended x) h in and_from (recv_ended t) (send_ended y) (first_kept RecvStays r t rs ts a p) (first_kept SendStays x y xs ys b q)))
     (both_grow rs ts xs ys (λ i. a (suc i)) (λ i. b (suc i)))
 
-recvs_raised : (xs : List RecvLane) → length (filter recv_ended (map raise xs)) ≡ length (filter recv_ended xs)
+pub recvs_raised : (xs : List RecvLane) → length (filter recv_ended (map raise xs)) ≡ length (filter recv_ended xs)
 recvs_raised [] = refl
 recvs_raised (x ∷ xs) = same_more (recv_ended x) (raise x) x (filter recv_ended (map raise xs)) (filter recv_ended xs) (recvs_raised xs)
 

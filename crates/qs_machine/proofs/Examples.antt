@@ -27,6 +27,7 @@ use Rattle.qs_machine.specs.Lawful.{frame_put}
 use Rattle.qs_machine.specs.FrameStep.{AckedPiece, acked_at, or_zero, is_named, pieces_of, named_in, named}
 use Rattle.qs_machine.proofs.Named.{filter_nothing}
 use Rattle.qs_machine.proofs.Choices.{not_chosen}
+use Rattle.qs_machine.proofs.SmallEndsLaws.{none_in}
 use Rattle.qs_send.specs.declared.parts.SendState.TheVariants.{DataRecvd, DataSent}
 use Rattle.qs_send.specs.declared.piece.Piece.{Piece}
 use Rattle.qs_send.specs.declared.piece.Piece.TheVariants.{Data}
@@ -109,7 +110,7 @@ connection_limit =
       reset = rw end_of-empty (rw six refl);
     }
 
-five : end_of (set.union set.empty (numbers 0 5)) ≡ 5
+pub five : end_of (set.union set.empty (numbers 0 5)) ≡ 5
 five = came_to 5 (omega arith)
 
 one : end_of (set.union set.empty (numbers 0 1)) ≡ 1
@@ -217,14 +218,11 @@ afterwards =
       granted = refl;
     }
 
-none_outstanding : {X : Type 0} (k : ℕ) (ps : X) → fmap.get (fmap.empty {X = X} {R = nat_cmp}) k ≡ Some ps → ⊥
-none_outstanding k ps is = none-some ps (sym (fmap.get-empty nat_cmp k) ∙ is)
-
 new_limit : NewLimitIsTold
 unfolding frame_taken lookup update open_to each total
 new_limit =
     record {
-      tells = ((_, refl, refl, omega arith, refl), λ covered. elim covered [ inl flies ↦ none_outstanding flies.0 flies.1 flies.2 | inr acked ↦ none_outstanding 0 15 acked ]);
+      tells = ((_, refl, refl, omega arith, refl), λ covered. elim covered [ inl flies ↦ none_in flies.0 flies.1 flies.2 | inr acked ↦ none_in 0 15 acked ]);
       once = λ due. due.1 (inr (fmap.get-insert nat_cmp_total fmap.empty 0 _ 0 ∙ ap (λ o. Some (max (or_zero o) 15)) (fmap.get-empty nat_cmp 0)));
     }
 
@@ -233,7 +231,7 @@ unfolding verdict frame_taken lookup update open_to each total
 counts =
     record {
       uni = refl;
-      tells = ((refl, omega arith), λ covered. elim covered [ inl flies ↦ none_outstanding flies.0 flies.1 flies.2 | inr acked ↦ none-some 2 acked ]);
+      tells = ((refl, omega arith), λ covered. elim covered [ inl flies ↦ none_in flies.0 flies.1 flies.2 | inr acked ↦ none-some 2 acked ]);
       once = λ due. due.1 (inr refl);
       within = rw end_of-empty refl;
       past = refl;
@@ -268,7 +266,7 @@ empty_stream =
                 told = refl;
                 inside = omega arith;
                 within = omega arith;
-                end = λ _. (record { no_reset = refl; finished = refl; not_acked = refl; not_sent = λ offset len flies. none_outstanding flies.0 flies.1 flies.2 }, refl, omega arith);
+                end = λ _. (record { no_reset = refl; finished = refl; not_acked = refl; not_sent = λ offset len flies. none_in flies.0 flies.1 flies.2 }, refl, omega arith);
               },
             ),
             refl,

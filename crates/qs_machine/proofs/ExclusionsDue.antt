@@ -17,11 +17,12 @@ use Rattle.qs_send.specs.declared.parts.Reset.{Reset}
 use Rattle.qs_send.specs.declared.piece.Item.TheVariants.{MaxData}
 use Rattle.qs_send.specs.declared.piece.Piece.{Piece}
 use Rattle.qs_send.specs.declared.piece.Piece.TheVariants.{Data, Told}
+use Rattle.qs_send.proofs.Carrying.{carried-empty}
 use Rattle.qs_machine.specs.Tables.{lookup, total}
 use Rattle.qs_machine.specs.Due.{IsDue}
 use Rattle.qs_machine.specs.SmallEnds.{client_with, chunk, wrote, all_came}
 use Rattle.qs_machine.specs.ExclusionsDue.{NoOffsetIsDue, NoEndIsDue, NoLimitIsTold, NoAbortIsTold, NothingIsBlocked, ToldIsNotDue, NoneIsNoAnswer, NotDue, held_back, two_of_three}
-use Rattle.qs_machine.proofs.SmallEndsLaws.{none_carried, one_carried, only_carried, only_open}
+use Rattle.qs_machine.proofs.SmallEndsLaws.{one_carried, only_carried, only_open}
 
 abbrev data_of : (p : Piece) → Chunk
 data_of (Data n c) = c
@@ -127,7 +128,7 @@ told =
       acked = λ due. due.1 (inr refl);
       newer = (
         (refl, omega arith),
-        λ covered. elim covered [ inl flies ↦ none_carried _ flies | inr acked ↦ (let e : 4500 ≡ 5000 = same_Some 4500 5000 acked in omega arith) ],
+        λ covered. elim covered [ inl flies ↦ carried-empty _ flies | inr acked ↦ (let e : 4500 ≡ 5000 = same_Some 4500 5000 acked in omega arith) ],
       );
       newer_in_flight = (
         (refl, omega arith),
@@ -139,13 +140,13 @@ told =
       newer_of_stream = (
         (_, refl, refl, omega arith, refl),
         λ covered. elim covered [
-          | inl flies ↦ none_carried _ flies
+          | inl flies ↦ carried-empty _ flies
           | inr acked ↦ (let e : 1500 ≡ 2000 = same_Some 1500 2000 (sym (fmap.get-insert nat_cmp_total fmap.empty 0 1500 0) ∙ acked) in omega arith)
         ],
       );
       newer_count = (
         (refl, omega arith),
-        λ covered. elim covered [ inl flies ↦ none_carried _ flies | inr acked ↦ (let e : 9 ≡ 10 = same_Some 9 10 acked in omega arith) ],
+        λ covered. elim covered [ inl flies ↦ carried-empty _ flies | inr acked ↦ (let e : 9 ≡ 10 = same_Some 9 10 acked in omega arith) ],
       );
       acked_stop = λ due. due.1 (inr (set.contains-insert nat_cmp_total set.empty 0 0));
       acked_reset = λ due. due.1 (inr (_, refl, refl));
@@ -158,11 +159,11 @@ none =
       ack = λ step. step.0 (inl refl);
       item = λ step. step.0 (inr (inl (
         MaxData 5000,
-        ((refl, omega arith), λ covered. elim covered [ inl flies ↦ none_carried _ flies | inr acked ↦ none-some 5000 acked ]),
+        ((refl, omega arith), λ covered. elim covered [ inl flies ↦ carried-empty _ flies | inr acked ↦ none-some 5000 acked ]),
       )));
       new_byte = λ step. step.0 (inr (inr (0, (_, refl, inl (0, first_due wrote refl (omega arith) refl, omega arith, inr (refl, omega arith))))));
       lost_byte = λ step. step.0 (inr (inr (0, (_, refl, inl (0, lost_due, omega arith, inl (omega arith))))));
-      end = λ step. step.0 (inr (inr (0, (_, refl, inr (record { no_reset = refl; finished = refl; not_acked = refl; not_sent = λ offset len flies. none_carried _ flies }, refl)))));
+      end = λ step. step.0 (inr (inr (0, (_, refl, inr (record { no_reset = refl; finished = refl; not_acked = refl; not_sent = λ offset len flies. carried-empty _ flies }, refl)))));
     }
   where
     first_due : (l : SendLane) → l.was_reset ≡ None → 0 < l.written → l.acked ≡ set.empty → IsDue (client_with l) 0 l 0
@@ -171,12 +172,12 @@ none =
           no_reset = fine;
           written = some;
           not_acked = ap (λ (s : NumberSet). set.contains s 0) none ∙ set.contains-empty nat_cmp 0;
-          not_sent = λ (c, is, low, high). none_carried _ is;
+          not_sent = λ (c, is, low, high). carried-empty _ is;
         }
 
     lost_due : IsDue (held_back (record two_of_three { written = 2 })) 0 (record two_of_three { written = 2 }) 0
     lost_due =
-        record { no_reset = refl; written = omega arith; not_acked = set.contains-empty nat_cmp 0; not_sent = λ (c, is, low, high). none_carried _ is }
+        record { no_reset = refl; written = omega arith; not_acked = set.contains-empty nat_cmp 0; not_sent = λ (c, is, low, high). carried-empty _ is }
 
 pub not_due : NotDue
 not_due = record { offsets = offsets; ends = ends; limits = limits; aborts = aborts; blocked = blocked; told = told; none = none }

@@ -23,6 +23,7 @@ use Rattle.qs_send.specs.declared.piece.Item.{Item}
 use Rattle.qs_send.specs.declared.piece.Item.TheVariants.{MaxData, MaxStreamData, MaxStreams, ResetStream, StopSending, DataBlocked, StreamDataBlocked, StreamsBlocked}
 use Rattle.qs_send.specs.declared.piece.Piece.{Piece}
 use Rattle.qs_send.specs.declared.piece.Piece.TheVariants.{Data, Told}
+use Rattle.qs_send.proofs.Carrying.{carried-empty}
 use Rattle.qs_calls.specs.declared.making.Made.{Made}
 use Rattle.qs_calls.specs.declared.making.MakeFault.{MakeFault}
 use Rattle.qs_calls.specs.declared.making.LostFault.{LostFault}
@@ -41,7 +42,8 @@ use Rattle.qs_machine.specs.Examples.{standard, server}
 use Rattle.qs_machine.specs.SmallEnds.{chunk, abc, wrote, owing}
 use Rattle.qs_machine.specs.ExclusionsMaking.{NoSuchStreamFrame, NoSuchAck, NoSuchFrame, NoSuchPacket, NothingIsLeftOut, NothingIsOutOfTurn, NoSuchText, NoSuchAnswer, NoSuchAckAlone, NoSuchClaim, NoSuchLoss, NotMade, writer, two_due, two_writers, one_flying, two_flying}
 use Rattle.qs_machine.proofs.Ties.{nowhere}
-use Rattle.qs_machine.proofs.SmallEndsLaws.{none_in, none_carried, only_carried}
+use Rattle.qs_machine.proofs.SmallEndsLaws.{none_in, only_carried}
+use Rattle.qs_machine.proofs.Carried.{among_last}
 
 -- the first byte that was written is due
 first_due : (l : SendLane) → wrote ≡ l → IsDue writer 0 l 0
@@ -49,14 +51,10 @@ first_due l is = subst (λ k. IsDue writer 0 k 0) is (record {
   no_reset = refl;
   written = omega arith;
   not_acked = set.contains-empty nat_cmp 0;
-  not_sent = λ (c, carried, low, high). none_carried _ carried;
+  not_sent = λ (c, carried, low, high). carried-empty _ carried;
 })
 
 -- Pieces of the packet in the making
-
-last_among : {X : Type 0} (xs : List X) (x : X) → Among x (xs ++ x ∷ [])
-last_among [] x = inl refl
-last_among (y ∷ xs) x = inr (last_among xs x)
 
 found_there : (o : Option (List Piece)) (ps : List Piece) (p : Piece) → o ≡ Some ps → Among p ps → Among p (elim o [ None ↦ [] | Some qs ↦ qs ])
 found_there None ps p is a = absurd (none-some ps is)
@@ -85,7 +83,7 @@ stream =
       nothing = λ (l, may). elim may.something [ inl some ↦ omega arith | inr end ↦ false≢true end ];
       undue = λ (l, may). both_ways _ (may.due 1 (omega arith) (omega arith)).not_acked (ap (λ (k : SendLane). set.contains k.acked 1) (sym (same_Some _ l may.lane)) ∙ contains-numbers 1 2 1);
       not_lowest = λ (l, may). (let le : 1 ≤ 0 = may.lowest 0 (first_due l (same_Some _ l may.lane)) in omega arith);
-      in_two = λ (l, may). may.whole_run (chunk 0 1 false) (found_there _ _ (Data 0 (chunk 0 1 false)) (got _) (last_among _ (Data 0 (chunk 0 1 false)))) refl;
+      in_two = λ (l, may). may.whole_run (chunk 0 1 false) (found_there _ _ (Data 0 (chunk 0 1 false)) (got _) (among_last _ (Data 0 (chunk 0 1 false)))) refl;
       other_bytes = λ (l, may). (let e : 100 ≡ 99 = ap (λ bs. slice_index_or bs 2 0) (other_told l (same_Some _ l may.lane) may.told) in omega arith);
       past_limit = λ (l, may). (let le : 3 ≤ 2 = subst (λ (k : SendLane). 3 ≤ k.limit) (sym (same_Some _ l may.lane)) may.within in omega arith);
       unasked_end = λ (l, may). false≢true (ap (λ (k : SendLane). k.finished) (same_Some _ l may.lane) ∙ (may.end refl).0.finished);
@@ -121,7 +119,7 @@ unfolding lookup update total frame_put
 others =
     record {
       undue = λ may. (let lt : 4096 < 4096 = may.0.0.1 in omega arith);
-      twice = λ may. may.1.1 (inl (0, _, got _, last_among _ (Told (MaxData 5000))));
+      twice = λ may. may.1.1 (inl (0, _, got _, among_last _ (Told (MaxData 5000))));
       since = λ may. (let e : 0 ≡ 2 = may.0.0.1 in omega arith);
       close = λ may. may;
       plain = λ may. may;
@@ -137,7 +135,7 @@ packets =
       empty = λ left h. h.some refl;
       past_limit = λ left h. (let le : 3 ≤ 2 = subst (λ (e : End). all_sent e ≤ e.known_data) (left_is _ _ left h) h.within in omega arith);
       same_number = λ left h zero. (let e : 1 ≡ 0 = ap (λ (e : End). e.next) (sym (left_is _ _ left h)) ∙ zero in omega arith);
-      forgotten = λ left h no. no (subst (λ (e : End). IsCarried e.outstanding (Data 0 (chunk 0 3 false))) (sym (left_is _ _ left h)) (0, _, got _, last_among _ (Data 0 (chunk 0 3 false))));
+      forgotten = λ left h no. no (subst (λ (e : End). IsCarried e.outstanding (Data 0 (chunk 0 3 false))) (sym (left_is _ _ left h)) (0, _, got _, among_last _ (Data 0 (chunk 0 3 false))));
       ack_still_due = λ left h due. false≢true (ap (λ (e : End). e.ack_due) (sym (left_is _ _ left h)) ∙ due);
     }
 
@@ -181,7 +179,7 @@ unfolding lookup update total frame_put
 left_out =
     record {
       bytes = λ whole. (whole (omega arith)).no_stream 0 (_, refl, inl (0, still_due, omega arith, inr (refl, omega arith)));
-      item = λ left whole. no_control ((whole (omega arith)).items (MaxData 5000) ((refl, omega arith), λ covered. elim covered [ inl flies ↦ none_carried _ flies | inr acked ↦ none-some 5000 acked ]));
+      item = λ left whole. no_control ((whole (omega arith)).items (MaxData 5000) ((refl, omega arith), λ covered. elim covered [ inl flies ↦ carried-empty _ flies | inr acked ↦ none-some 5000 acked ]));
       no_ack = λ left whole. (let (largest, ranges, among, names) = (whole (omega arith)).ack refl in no_ack_in largest ranges among);
       number = λ left whole. (let (largest, ranges, among, names) = (whole (omega arith)).ack refl in too_few largest ranges among (names 1 kept_1));
       ack_after = λ whole. true≢false (whole (omega arith)).no_ack;
@@ -199,7 +197,7 @@ both_go n l reset written acked limit sent there = (
       no_reset = reset;
       written = omega (arith, written);
       not_acked = ap (λ s. set.contains s 0) acked ∙ set.contains-empty nat_cmp 0;
-      not_sent = λ (c, carried, low, high). none_carried _ carried;
+      not_sent = λ (c, carried, low, high). carried-empty _ carried;
     },
     omega (arith, limit),
     inr (sym sent, credit),
@@ -323,7 +321,7 @@ acked_alone =
       asks = λ text new m. true≢false m.asks;
       number = λ text new m. (let e : 1 ≡ 0 = m.number in omega arith);
       bytes = λ made text new m three. (let e : 0 ≡ 3 = ap all_sent (sym (alone_is made text new m)) ∙ three in omega arith);
-      recorded = λ made text new m carried. none_carried _ (subst (λ (e : End). IsCarried e.outstanding (Data 0 (chunk 0 3 false))) (alone_is made text new m) carried);
+      recorded = λ made text new m carried. carried-empty _ (subst (λ (e : End). IsCarried e.outstanding (Data 0 (chunk 0 3 false))) (alone_is made text new m) carried);
       still_due = λ made text new m due. false≢true (ap (λ (e : End). e.ack_due) (sym (alone_is made text new m)) ∙ due);
       same_number = λ made text new m zero. (let e : 1 ≡ 0 = ap (λ (e : End). e.next) (sym (alone_is made text new m)) ∙ zero in omega arith);
       largest_alone = λ made text new m frame. largest_alone (subst (NamesMost owing 0 29) frame m.most);
@@ -344,7 +342,7 @@ claims =
       number = λ new step. (let e : 3 ≡ 4 = ap number_in step.0 in omega arith);
       again = λ number new step same. (let e : 5 ≡ 4 = ap (λ (e : End). e.next) (sym step.1) ∙ same in omega arith);
       unknown = λ number new step closes. none-some _ (ap (λ (e : End). verdict e (Ack 4 ((4, 4) ∷ []))) (sym step.1) ∙ closes);
-      recorded = λ number new step carried. none_carried _ (subst (λ (e : End). IsCarried e.outstanding (Told (MaxData 5000))) step.1 carried);
+      recorded = λ number new step carried. carried-empty _ (subst (λ (e : End). IsCarried e.outstanding (Told (MaxData 5000))) step.1 carried);
       exhausted = λ number new step. ok_is_no_err _ _ step.0;
       last_number = λ new step. ok_is_no_err _ _ (sym step.0);
       closed = λ new step. ok_is_no_err _ _ (sym step.0);

@@ -7,7 +7,7 @@ use Rattle.std.specs.Ordering.{nat_cmp, eq_by_cmp}
 use Rattle.std.specs.Cmp.{nat_cmp_total, unsigned_tied}
 use Rattle.std.proofs.lemmas.Option.{same_Some, none-some}
 use Rattle.std.proofs.lemmas.Bool.{true≢false, both_ways, and_right, or_cases, eqb-true, eq-eqb, cases_lt}
-use Rattle.qs_ranges.specs.Numbers.{end_of, NumberSet, numbers, is_within, has_predecessor, run_starts, contains-without_range, same_numbers}
+use Rattle.qs_ranges.specs.Numbers.{NumberSet, numbers, is_within, has_predecessor, run_starts, contains-without_range, same_numbers}
 use Rattle.qs_ranges.proofs.Sets.{end_of-empty, end_of-with_range}
 use Rattle.qs_wire.specs.Layout.{PlacedValue}
 use Rattle.qs_wire.specs.declared.fault.WireFault.{WireFault}
@@ -34,7 +34,7 @@ use Rattle.qs_machine.specs.Examples.{letters}
 use Rattle.qs_machine.specs.SmallEnds.{chunk, all_came}
 use Rattle.qs_machine.specs.ExclusionsReceiving.{CodesAreThese, NoSuchStop, NothingTookEffect, NoSuchEnd, NoSuchReceipt, AcksAskNothing, RunsAreFew, RepeatsNeedSoundness, AbortsCount, ReportIsOfHighest, NotReceived, ten, flying, evens, closing}
 use Rattle.qs_machine.proofs.Choices.{not_chosen, by_test}
-use Rattle.qs_machine.proofs.Examples.{none_differs}
+use Rattle.qs_machine.proofs.Examples.{none_differs, five}
 use Rattle.qs_machine.proofs.Named.{filter_nothing}
 use Rattle.qs_machine.proofs.RunLaws.{lowest_end_is}
 use Rattle.qs_machine.proofs.SmallEndsLaws.{no_member}
@@ -283,9 +283,6 @@ report i =
   where
     ready : send_state (new_send_lane 0 1024 2048) ≡ sends.Ready
     ready = not_chosen (_ && false) sends.DataRecvd sends.Ready (and_right _ false refl)
-
-five : end_of (set.union set.empty (numbers 0 5)) ≡ 5
-five = end_of-with_range set.empty 0 5 (omega arith) ∙ ap (λ k. max k 5) end_of-empty ∙ omega arith
 
 repeats : RepeatsNeedSoundness
 unfolding verdict frame_taken frames_taken lookup update open_to total

@@ -32,15 +32,15 @@ use Rattle.qs_machine.proofs.Sound.{keeps_open, keeps_updated}
 
 -- Checks that were passed
 
-first_passed : (a b : Option ℕ) → or_else a b ≡ None → a ≡ None
+pub first_passed : (a b : Option ℕ) → or_else a b ≡ None → a ≡ None
 first_passed None b e = refl
 first_passed (Some code) b e = absurd (none-some code (sym e))
 
-second_passed : (a b : Option ℕ) → or_else a b ≡ None → b ≡ None
+pub second_passed : (a b : Option ℕ) → or_else a b ≡ None → b ≡ None
 second_passed None b e = e
 second_passed (Some code) b e = absurd (none-some code (sym e))
 
-no_fault : (b : Bool) (code : ℕ) → fault_if b code ≡ None → b ≡ false
+pub no_fault : (b : Bool) (code : ℕ) → fault_if b code ≡ None → b ≡ false
 no_fault true code e = absurd (none-some code (sym e))
 no_fault false code e = refl
 

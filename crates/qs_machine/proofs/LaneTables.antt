@@ -1,7 +1,6 @@
 -- The lanes of halves in tables: what a change of a half is to its lane.
 use Rattle.std.proofs.Common.{◌≡◌, ℕ, zero, suc, ◌+◌, ◌-◌, ◌*◌, ◌/◌, ◌%◌, List, [], ◌∷◌, ◌++◌, length, map, take, Option, Some, None, is_some, option_map, refl, sym, ap, ◌∙◌, true}
-use Rattle.std.specs.List.{slice_get, slice_set, range_with_len, sum_by}
-use Rattle.std.proofs.lemmas.List.Sums.{sum_by-cons}
+use Rattle.std.specs.List.{slice_get, slice_set, range_with_len}
 use Rattle.qs_send.specs.Lane.{SendLane, Sending}
 use Rattle.qs_machine.specs.Tables.{Tables, table, with_table, lookup, update, updated, open_to, widened}
 use Rattle.qs_machine.specs.Outgoing.{lanes_of}
@@ -47,10 +46,6 @@ pub take_lanes : (n : ℕ) (xs : List Sending) → map lane (take n xs) ≡ take
 take_lanes zero xs = refl
 take_lanes (suc n) [] = refl
 take_lanes (suc n) (x ∷ xs) = ap (λ ys. x.lane ∷ ys) (take_lanes n xs)
-
-sum_lanes : (f : SendLane → ℕ) (xs : List Sending) → sum_by f (map lane xs) ≡ sum_by (λ s. f s.lane) xs
-sum_lanes f [] = refl
-sum_lanes f (x ∷ xs) = sum_by-cons f x.lane (map lane xs) ∙ ap (λ k. f x.lane + k) (sum_lanes f xs) ∙ sym (sum_by-cons (λ (s : Sending). f s.lane) x xs)
 
 pub lookup_lanes : (t : Tables Sending) (n : ℕ) → lookup (lanes_of t) n ≡ option_map lane (lookup t n)
 unfolding lookup

@@ -7,10 +7,11 @@ use Rattle.std.specs.declared.cmp.Ordering.TheVariants.{Less, Equal, Greater}
 use Rattle.std.specs.Cmp.{unsigned_tied}
 use Rattle.std.specs.FinMap as fmap
 use Rattle.std.specs.FinMap.Entries.{below_all}
-use Rattle.std.proofs.lemmas.Bool.{both_ways, or_cases, eqb-true, eq-eqb}
+use Rattle.std.proofs.lemmas.Bool.{both_ways, eq-eqb}
 use Rattle.std.proofs.lemmas.Bool.Decides.{nat_tests}
 use Rattle.std.proofs.lemmas.List.{reverse-append}
 use Rattle.qs_send.specs.Records.{Among}
+use Rattle.qs_machine.proofs.AcksAgain.{among_any}
 
 -- Rising lists
 
@@ -91,14 +92,6 @@ module _ {X : Type 0} where
 
   keys_rise : (m : fmap.FinMap nat_cmp X) → Rises 0 (fmap.keys m)
   keys_rise m = rise (fmap.entries m) (fmap.entries_sorted m)
-
-among_any : (k : ℕ) (xs : List ℕ) → list_any (eq_by_cmp nat_cmp k) xs ≡ true → Among k xs
-among_any k [] h = absurd (both_ways false refl h)
-among_any k (x ∷ xs) h =
-    elim (or_cases _ _ h) [
-      | inl here ↦ inl (eqb-true k x (sym (unsigned_tied k x) ∙ here))
-      | inr later ↦ inr (among_any k xs later)
-    ]
 
 any_among : (k : ℕ) (xs : List ℕ) → list_any (eq_by_cmp nat_cmp k) xs ≡ false → Among k xs → ⊥
 any_among k [] h a = a

@@ -1,9 +1,8 @@
 -- A payload whose processing ended, and that comes again, goes on where it ended.
-use Rattle.std.proofs.Common.{◌≡◌, ℕ, zero, suc, Bool, true, false, ◌||◌, List, [], ◌∷◌, ◌++◌, take, Option, Some, None, refl, sym, ap, ◌∙◌, subst, inl, inr}
+use Rattle.std.proofs.Common.{◌≡◌, ℕ, zero, suc, Bool, false, ◌||◌, List, [], ◌∷◌, ◌++◌, take, Option, Some, None, refl, sym, ap, ◌∙◌, subst, inl, inr}
 use Rattle.std.specs.Prelude.{Result, Ok, Err}
 use Rattle.std.proofs.lemmas.Option.{none-some}
 use Rattle.qs_wire.specs.Layout.{PlacedValue}
-use Rattle.qs_wire.specs.Grammar.{frames_of}
 use Rattle.qs_wire.specs.Reading.{reading_of}
 use Rattle.qs_wire.specs.declared.fault.WireFault.{WireFault}
 use Rattle.qs_send.specs.Records.{Among}
@@ -14,7 +13,7 @@ use Rattle.qs_calls.specs.declared.closing.Received.{Received}
 use Rattle.qs_calls.specs.declared.closing.Received.TheVariants as received
 use Rattle.qs_machine.specs.Ends.{End, closes}
 use Rattle.qs_machine.specs.Credit.{settle}
-use Rattle.qs_machine.specs.Seen.{Seen, Ack, Stream, Control, Close, Plain, seen, seen_all, asks_ack, any_asks}
+use Rattle.qs_machine.specs.Seen.{Seen, Ack, Stream, Control, Close, Plain, seen, asks_ack, any_asks}
 use Rattle.qs_machine.specs.FrameStep.{frames_taken, named, acks}
 use Rattle.qs_machine.specs.Recording.{recorded}
 use Rattle.qs_machine.specs.Receiving.{AtEnd, RunsOut, Stops, EndsBy, GoesOn, Takes, TakesPayload}
@@ -22,7 +21,7 @@ use Rattle.qs_machine.specs.Standing.{IsInCredit, IsSound}
 use Rattle.qs_machine.specs.Repeats.{SentWasWritten, Resumes}
 use Rattle.qs_machine.proofs.FramesSound.{sound_acks}
 use Rattle.qs_machine.proofs.CallsSound.{sound_settle}
-use Rattle.qs_machine.proofs.Prefix.{takes_prefix}
+use Rattle.qs_machine.proofs.Prefix.{takes_prefix, or_twice, or_false, seen_in}
 use Rattle.qs_machine.proofs.EndsAfter.{IsAfter, after_same, after_twice, after_closes, after_recorded, after_settle, after_acks, all_take, named_written, sent_stays}
 use Rattle.qs_machine.proofs.AcksAgain.{named_nothing}
 use Rattle.qs_machine.proofs.Again.{IsDone, IsLeft, all_left, all_done, done_stays, frame_again}
@@ -118,17 +117,6 @@ out_again (Stream n offset bytes fin) e new done after = after.0
 out_again (Control i) e new done after = after.0
 out_again (Close code) e new done after = after.0
 out_again (Plain asks) e new done after = after.0
-
-abbrev seen_in : List PlacedValue → List Seen
-seen_in ps = seen_all (frames_of ps)
-
-or_false : (a : Bool) → a ≡ (a || false)
-or_false true = refl
-or_false false = refl
-
-or_twice : (a b c : Bool) → ((a || b) || c) ≡ (a || (b || c))
-or_twice true b c = refl
-or_twice false b c = refl
 
 takes_again : (number : ℕ) (fault : Option WireFault) (asks : Bool) (e : End) (taken left : List PlacedValue) (result : Result Received Closing) (new : End)
     → IsInCredit e → ((f : Seen) → Among f (seen_in taken) → IsDone f e) → Takes number fault asks e (taken ++ left) result new → Resumes number fault (asks || any_asks (seen_in taken)) e left result new

@@ -7,26 +7,20 @@ use Rattle.qs_wire.specs.declared.fault.WireFault.{WireFault}
 use Rattle.qs_calls.specs.declared.closing.Closing.{Closing}
 use Rattle.qs_calls.specs.declared.closing.Received.{Received}
 use Rattle.qs_machine.specs.Ends.{End}
-use Rattle.qs_machine.specs.Seen.{Seen, Ack, Stream, Control, Close, Plain, seen, seen_all, asks_ack, any_asks}
+use Rattle.qs_machine.specs.Seen.{Seen, seen, seen_all, asks_ack, any_asks}
 use Rattle.qs_machine.specs.FrameStep.{NoFault, frame_taken, frames_taken}
-use Rattle.qs_machine.specs.Receiving.{Takes, GoesOn, EndsBy}
+use Rattle.qs_machine.specs.Receiving.{Takes, EndsBy}
+use Rattle.qs_machine.proofs.Again.{one_more}
 
-or_false : (a : Bool) → a ≡ (a || false)
+pub or_false : (a : Bool) → a ≡ (a || false)
 or_false true = refl
 or_false false = refl
 
-or_twice : (a b c : Bool) → ((a || b) || c) ≡ (a || (b || c))
+pub or_twice : (a b c : Bool) → ((a || b) || c) ≡ (a || (b || c))
 or_twice true b c = refl
 or_twice false b c = refl
 
-one_more : (e : End) (f : Seen) (fs : List Seen) → GoesOn e f → NoFault (frame_taken f e) fs → NoFault e (f ∷ fs)
-one_more e (Ack largest ranges) fs goes rest = (goes, rest)
-one_more e (Stream n offset bytes fin) fs goes rest = (goes, rest)
-one_more e (Control i) fs goes rest = (goes, rest)
-one_more e (Close code) fs goes rest = absurd goes
-one_more e (Plain asks) fs goes rest = (goes, rest)
-
-abbrev seen_in : List PlacedValue → List Seen
+abbrev pub seen_in : List PlacedValue → List Seen
 seen_in ps = seen_all (frames_of ps)
 
 pub takes_prefix : (number : ℕ) (fault : Option WireFault) (asks : Bool) (e : End) (ps : List PlacedValue) (result : Result Received Closing) (new : End) → Takes number fault asks e ps result new

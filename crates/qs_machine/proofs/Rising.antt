@@ -136,7 +136,7 @@ rises_opens n e = (
 rises_opened : (n : ℕ) (e : End) → LimitsRise e (opened_by_peer n e)
 rises_opened n e = cond_both (is_own e n) e (opens n e) (LimitsRise e) (λ _. rises_same e) (λ _. rises_opens n e)
 
-next_limit_grows : (l t w : ℕ) → l ≤ next_limit l t w
+pub next_limit_grows : (l t w : ℕ) → l ≤ next_limit l t w
 next_limit_grows l t w = grind (arith, nat_tests)
 
 rises_settle : (e : End) → LimitsRise e (settle e)

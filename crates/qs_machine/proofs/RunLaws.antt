@@ -5,14 +5,12 @@ use Rattle.std.specs.List.{list_any}
 use Rattle.std.specs.Ordering.{nat_cmp, eq_by_cmp}
 use Rattle.std.specs.Cmp.{nat_cmp_total, unsigned_tied}
 use Rattle.std.specs.FinSet as set
-use Rattle.std.proofs.lemmas.Bool.{both_ways, cases_lt, or_cases, or_left, or_right, eqb-true, eq-eqb}
+use Rattle.std.proofs.lemmas.Bool.{both_ways, cases_lt, or_cases, or_left, or_right, eqb-true}
 use Rattle.std.proofs.lemmas.Bool.Decides.{nat_tests}
 use Rattle.qs_ranges.specs.Numbers.{NumberSet, numbers, is_within, missing_from, IsLeastFrom, IsRunFrom, contains-with_range, same_numbers}
 use Rattle.qs_ranges.proofs.Sets.{missing_from-is, missing_from-of}
 use Rattle.qs_machine.specs.Recording.{least_of, least_in, lowest_end}
-
-is_itself : (x : ℕ) → eq_by_cmp nat_cmp x x ≡ true
-is_itself x = unsigned_tied x x ∙ eq-eqb x x refl
+use Rattle.qs_machine.proofs.Carried.{tied_itself}
 
 least_le : (k : ℕ) (ks : List ℕ) → least_of k ks ≤ k
 least_le k [] = omega arith
@@ -32,7 +30,7 @@ least_is_one k (j ∷ ks) =
     elim (least_is_one (min k j) ks) [
       | inl first ↦ elim (cases_lt k j) [
         | inl lt ↦ inl (omega (arith, first))
-        | inr ge ↦ (let e : least_of (min k j) ks ≡ j = omega (arith, first) in inr (or_left _ _ (ap (λ x. eq_by_cmp nat_cmp x j) e ∙ is_itself j)))
+        | inr ge ↦ (let e : least_of (min k j) ks ≡ j = omega (arith, first) in inr (or_left _ _ (ap (λ x. eq_by_cmp nat_cmp x j) e ∙ tied_itself j)))
       ]
       | inr later ↦ inr (or_right _ _ later)
     ]
@@ -47,7 +45,7 @@ least_among (k ∷ ks) m is none =
     ] in
     let one : list_any (eq_by_cmp nat_cmp (least_of k ks)) (k ∷ ks) ≡ true =
     elim (least_is_one k ks) [
-      | inl first ↦ or_left _ _ (ap (λ x. eq_by_cmp nat_cmp x k) first ∙ is_itself k)
+      | inl first ↦ or_left _ _ (ap (λ x. eq_by_cmp nat_cmp x k) first ∙ tied_itself k)
       | inr later ↦ or_right _ _ later
     ] in
     elim (cases_lt (least_of k ks) m) [
@@ -64,7 +62,7 @@ least_listed : (n : ℕ) (ks : List ℕ) → list_any (eq_by_cmp nat_cmp n) ks �
 least_listed n [] has = absurd (both_ways false refl has)
 least_listed n (k ∷ ks) has = (
   elim (least_is_one k ks) [
-    | inl first ↦ or_left _ _ (ap (λ x. eq_by_cmp nat_cmp x k) first ∙ is_itself k)
+    | inl first ↦ or_left _ _ (ap (λ x. eq_by_cmp nat_cmp x k) first ∙ tied_itself k)
     | inr later ↦ or_right _ _ later
   ],
   λ q lt. go q lt (list_any (eq_by_cmp nat_cmp q) (k ∷ ks)) refl,
@@ -106,6 +104,6 @@ pub least_above : (floor : ℕ) (ks : List ℕ) → ((q : ℕ) → list_any (eq_
 least_above floor [] all x h = absurd (both_ways false refl h)
 least_above floor (k ∷ ks) all x h =
     all (least_of k ks) (elim (least_is_one k ks) [
-      | inl first ↦ or_left _ _ (ap (λ y. eq_by_cmp nat_cmp y k) first ∙ is_itself k)
+      | inl first ↦ or_left _ _ (ap (λ y. eq_by_cmp nat_cmp y k) first ∙ tied_itself k)
       | inr later ↦ or_right _ _ later
     ])

@@ -14,10 +14,6 @@ use Rattle.qs_machine.specs.SmallEnds.{only}
 pub none_in : {X : Type 0} (k : ℕ) (x : X) → fmap.get (fmap.empty {X = X} {R = nat_cmp}) k ≡ Some x → ⊥
 none_in k x is = none-some x (sym (fmap.get-empty nat_cmp k) ∙ is)
 
--- nothing is carried where nothing is outstanding
-pub none_carried : (p : Piece) → IsCarried fmap.empty p → ⊥
-none_carried p (k, ps, is, a) = none_in k ps is
-
 -- one packet with one piece carries it
 pub one_carried : (k : ℕ) (p : Piece) → IsCarried (fmap.insert fmap.empty k (p ∷ [])) p
 one_carried k p = (k, p ∷ [], fmap.get-insert nat_cmp_total fmap.empty k (p ∷ []) k ∙ ap (λ b. cond b (Some (p ∷ [])) (fmap.get {R = nat_cmp} fmap.empty k)) (itself k), inl refl)

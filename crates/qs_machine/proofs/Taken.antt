@@ -11,13 +11,13 @@ use Rattle.qs_machine.specs.Tables.{Tables, table, with_table, lookup, updated, 
 use Rattle.qs_machine.specs.Outgoing.{Outgoing, with_outgoing, with_sends, sent_sum, AreOfOpen}
 use Rattle.qs_machine.specs.Ends.{End, Records, LostPackets, window, opens, is_own, is_uni, send_lane, opened_by_peer, first_send_limit}
 use Rattle.qs_machine.specs.Seen.{Stream, Control}
-use Rattle.qs_machine.specs.Verdicts.{verdict, state_fault_in, state_fault_out, credit_fault, bytes_fault, fault_of, or_else, or_new, lane_of, fault_if, STREAM_LIMIT_ERROR}
+use Rattle.qs_machine.specs.Verdicts.{verdict, state_fault_in, state_fault_out, credit_fault, bytes_fault, fault_of, or_new, lane_of, fault_if, STREAM_LIMIT_ERROR}
 use Rattle.qs_machine.specs.FrameStep.{frame_taken}
 use Rattle.qs_machine.specs.Standing.{KeepsCredit, IsInCredit}
 use Rattle.qs_machine.specs.Sums.{tally_on}
 use Rattle.qs_machine.proofs.TableEdits.{opened_closed, same_tally}
 use Rattle.qs_machine.proofs.TableLaws.{open_at, total_open}
-use Rattle.qs_machine.proofs.FramesSound.{opened_lane, sound_frame}
+use Rattle.qs_machine.proofs.FramesSound.{opened_lane, sound_frame, first_passed, second_passed}
 
 sends_of : (e o : End) (a : Bool) → (cond a e o).sends ≡ cond a e.sends o.sends
 sends_of e o true = refl
@@ -44,14 +44,6 @@ out_there e mid n none is =
 pub in_there : (e mid : End) (n : ℕ) → state_fault_in e n ≡ None → mid ≡ opened_by_peer n e → lookup mid.recvs n ≡ Some (lane_of e n)
 in_there e mid n none is = ap (λ (k : End). lookup k.recvs n) is ∙ opened_lane n e none
 
-first_none : (a b : Option ℕ) → or_else a b ≡ None → a ≡ None
-first_none (Some code) b h = absurd (search (rules, h))
-first_none None b h = refl
-
-second_none : (a b : Option ℕ) → or_else a b ≡ None → b ≡ None
-second_none (Some code) b h = absurd (search (rules, h))
-second_none None b h = h
-
 checked : (e : End) (r : Result Highest RecvFault) → credit_fault e r ≡ None → IsOk r
 checked e (Ok x) h = search rules
 checked e (Err f) h = absurd (search (rules, h))
@@ -62,31 +54,31 @@ unchanged (Err f) h = absurd (search (rules, h))
 
 pub reset_in : (e : End) (n code size : ℕ) → verdict e (Control (ResetStream n code size)) ≡ None → state_fault_in e n ≡ None
 unfolding verdict
-reset_in e n code size h = first_none _ _ h
+reset_in e n code size h = first_passed _ _ h
 
 pub stream_in : (e : End) (n offset : ℕ) (bytes : List ℕ) (fin : Bool) → verdict e (Stream n offset bytes fin) ≡ None → state_fault_in e n ≡ None
 unfolding verdict
-stream_in e n offset bytes fin h = first_none _ _ h
+stream_in e n offset bytes fin h = first_passed _ _ h
 
 pub reset_checked : (e mid : End) (n code size : ℕ) → verdict e (Control (ResetStream n code size)) ≡ None → mid ≡ opened_by_peer n e → IsOk (check_reset (or_new (lookup mid.recvs n) 0) size)
 unfolding verdict
 reset_checked e mid n code size h is =
-    subst (λ o. IsOk (check_reset (or_new o 0) size)) (sym (in_there e mid n (first_none _ _ h) is)) (checked e (check_reset (lane_of e n) size) (second_none (state_fault_in e n) _ h))
+    subst (λ o. IsOk (check_reset (or_new o 0) size)) (sym (in_there e mid n (first_passed _ _ h) is)) (checked e (check_reset (lane_of e n) size) (second_passed (state_fault_in e n) _ h))
 
 pub stream_checked : (e mid : End) (n offset : ℕ) (bytes : List ℕ) (fin : Bool) → verdict e (Stream n offset bytes fin) ≡ None → mid ≡ opened_by_peer n e
     → IsOk (check_stream (or_new (lookup mid.recvs n) 0) offset (length bytes) fin)
 unfolding verdict
 stream_checked e mid n offset bytes fin h is =
-    subst (λ o. IsOk (check_stream (or_new o 0) offset (length bytes) fin)) (sym (in_there e mid n (first_none _ _ h) is))
-    (checked e (check_stream (lane_of e n) offset (length bytes) fin) (first_none _ (bytes_fault e n offset bytes) (second_none (state_fault_in e n) _ h)))
+    subst (λ o. IsOk (check_stream (or_new o 0) offset (length bytes) fin)) (sym (in_there e mid n (first_passed _ _ h) is))
+    (checked e (check_stream (lane_of e n) offset (length bytes) fin) (first_passed _ (bytes_fault e n offset bytes) (second_passed (state_fault_in e n) _ h)))
 
 pub stream_unchanged : (e mid : End) (n offset : ℕ) (bytes : List ℕ) (fin : Bool) → verdict e (Stream n offset bytes fin) ≡ None → mid ≡ opened_by_peer n e
     → IsOk (check_bytes (or_new (lookup mid.recvs n) 0) offset bytes)
 unfolding verdict
 stream_unchanged e mid n offset bytes fin h is =
-    subst (λ o. IsOk (check_bytes (or_new o 0) offset bytes)) (sym (in_there e mid n (first_none _ _ h) is))
+    subst (λ o. IsOk (check_bytes (or_new o 0) offset bytes)) (sym (in_there e mid n (first_passed _ _ h) is))
     (unchanged (check_bytes (lane_of e n) offset bytes)
-    (second_none (credit_fault e (check_stream (lane_of e n) offset (length bytes) fin)) _ (second_none (state_fault_in e n) _ h)))
+    (second_passed (credit_fault e (check_stream (lane_of e n) offset (length bytes) fin)) _ (second_passed (state_fault_in e n) _ h)))
 
 -- the credit is kept
 

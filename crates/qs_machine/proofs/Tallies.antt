@@ -1,35 +1,17 @@
 -- The sums over the receiving lanes of one type of stream, where one of them changes, and where some are opened.
-use Rattle.std.proofs.Common.{◌≡◌, ℕ, zero, suc, ◌+◌, ◌-◌, ◌<◌, ◌≤◌, ◌^◌, ◌||◌, Bool, true, false, List, [], ◌∷◌, ◌++◌, length, get_or, map, take, is_some, refl, ap, sym, ◌∙◌, arith, cond}
+use Rattle.std.proofs.Common.{◌≡◌, ℕ, zero, suc, ◌+◌, ◌-◌, ◌<◌, ◌≤◌, ◌^◌, List, [], ◌∷◌, ◌++◌, length, get_or, map, take, refl, ap, sym, ◌∙◌, arith}
 use Rattle.std.specs.List.{sum_by}
 use Rattle.std.specs.Ordering.{nat_cmp}
 use Rattle.std.specs.FinMap as fmap
 use Rattle.std.proofs.lemmas.List.Sums.{sum_by-set, sum_by-cons, sum_by-append, get_or-le-sum_by}
 use Rattle.std.proofs.Math.ListN.{set}
-use Rattle.qs_ranges.proofs.Sets.{below-end_of, end_of-empty}
+use Rattle.qs_ranges.proofs.Sets.{end_of-empty}
 use Rattle.qs_recv.specs.Lane.{RecvLane, new_lane, highest, taken, raise}
 use Rattle.qs_recv.specs.Lawful.{IsLawful}
-use Rattle.qs_recv.proofs.LaneLaws.{len_within}
-use Rattle.qs_recv.proofs.LawfulLaws.{lawful_new, lawful_raise, read_within}
+use Rattle.qs_recv.proofs.LawfulLaws.{lawful_new, lawful_raise}
 use Rattle.qs_machine.specs.declared.tally.Tally.{Tally}
 use Rattle.qs_machine.specs.Sums.{stored_on, tally_of, tally_on, moved, IsPaid, EachLawful}
-
--- what is stored and what was taken is at most the highest offset
-pub lane_paid : (lane : RecvLane) → IsLawful lane → fmap.len lane.arrived.stored + taken lane ≤ highest lane
-lane_paid lane h = by_use (is_some lane.reset_code) (is_some lane.stop_code) h.discards
-  where
-    by_use : (b c : Bool) → lane.arrived.discarding ≡ (b || c) → fmap.len lane.arrived.stored + cond (b || c) (highest lane) lane.arrived.read_count ≤ highest lane
-    by_use true c is =
-        let none : fmap.len lane.arrived.stored ≡ 0 = ap fmap.len (h.thrown_away is) ∙ fmap.len-empty nat_cmp ℕ in
-        omega arith
-    by_use false true is =
-        let none : fmap.len lane.arrived.stored ≡ 0 = ap fmap.len (h.thrown_away is) ∙ fmap.len-empty nat_cmp ℕ in
-        omega arith
-    by_use false false is =
-        let within = len_within (highest lane - lane.arrived.read_count) lane.arrived.read_count lane.arrived.stored (λ q some.
-        let p = h.stored_received q some in
-        let below = below-end_of lane.arrived.received q p.1 in
-        (p.0, omega (arith, below, h.received_within, p.0))) in
-        omega (arith, within, read_within lane h, h.received_within)
+use Rattle.qs_machine.proofs.Bounds.{stored_and_taken}
 
 -- One lane among all
 
@@ -59,7 +41,7 @@ pub each_paid : (xs : List RecvLane) → EachLawful xs → IsPaid (tally_on xs)
 each_paid [] each = omega arith
 each_paid (x ∷ xs) each =
     let rest = each_paid xs each.1 in
-    let one = lane_paid x each.0 in
+    let one = stored_and_taken x each.0 in
     omega (arith, rest, one, sum_by-cons taken x xs, sum_by-cons highest x xs, sum_by-cons stored_on x xs)
 
 -- Each lane is lawful

@@ -1,5 +1,5 @@
 -- What ties all halves to the records: each call keeps it.
-use Rattle.std.proofs.Common.{◌≡◌, ◌≢◌, ℕ, zero, suc, ◌/◌, ◌%◌, Bool, true, false, List, [], ◌∷◌, take, slice_get, Option, Some, None, is_some, option_map, refl, sym, ap, ◌∙◌, subst, inl, inr, nat_cmp}
+use Rattle.std.proofs.Common.{◌≡◌, ◌≢◌, ℕ, zero, suc, ◌/◌, ◌%◌, Bool, true, false, List, [], ◌∷◌, take, slice_get, Option, Some, None, is_some, option_map, refl, sym, ap, ◌∙◌, subst, inl, inr}
 use Rattle.std.proofs.lemmas.Bool.{both_ways, cases_eq}
 use Rattle.std.specs.FinMap as fmap
 use Rattle.qs_send.specs.declared.parts.Chunk.{Chunk}
@@ -10,6 +10,7 @@ use Rattle.qs_send.specs.declared.piece.Piece.TheVariants.{Data, Told}
 use Rattle.qs_send.specs.Lane.{SendLane, Sending, new_sending, after_sent, after_acked, after_lost}
 use Rattle.qs_send.specs.Chunks.{IsDueChunk}
 use Rattle.qs_send.specs.Sound.{IsLawful}
+use Rattle.qs_send.proofs.Carrying.{carried-empty}
 use Rattle.qs_machine.specs.Tables.{Tables, table, with_table, lookup, update, open_to, no_streams}
 use Rattle.qs_machine.specs.Ends.{Records}
 use Rattle.qs_machine.specs.Outgoing.{IsCarried, IsTied, AreTied, AreApartIn, AreOfOpen, IsOfOpen, IsOfReset, lanes_of}
@@ -18,9 +19,6 @@ use Rattle.qs_machine.proofs.Carried.{none_some, some_is, IsShorter, with_piece,
 use Rattle.qs_machine.proofs.Tied.{CarriesSame, tied_same, tied_new, tied_sent, tied_acked, tied_lost, other_put, other_gone, same_stream, not_told}
 use Rattle.qs_machine.proofs.Apart.{apart_none, apart_shorter, apart_put, gone_apart, due_apart, told_apart}
 use Rattle.qs_machine.proofs.LaneTables.{lookup_lanes, lane_there, update_lanes, lanes_opened, lanes_closed}
-
-nothing_carried : (p : Piece) → IsCarried fmap.empty p → ⊥
-nothing_carried p (k, ps, there, a) = none_some ps (sym (fmap.get-empty nat_cmp k) ∙ there)
 
 pub nowhere : {X : Type 0} (n : ℕ) → lookup (no_streams {X = X}) n ≡ None
 unfolding lookup
@@ -37,7 +35,7 @@ ties_none =
     record {
       lanes = λ n s there. absurd (none_some s (sym (nowhere n) ∙ there));
       apart = apart_none;
-      of_open = λ p out. absurd (nothing_carried p out);
+      of_open = λ p out. absurd (carried-empty p out);
     }
 
 -- Streams stay open, and reset

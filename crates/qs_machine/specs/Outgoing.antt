@@ -5,11 +5,11 @@ use Rattle.std.specs.FinMap as fmap
 use Rattle.std.specs.FinSet as set
 use Rattle.qs_wire.specs.declared.stream_id.Dir.TheVariants.{Bidi, Uni}
 use Rattle.qs_ranges.specs.Numbers.{MAX_VARINT}
-use Rattle.qs_send.specs.Lane.{SendLane, Sending, sent_lane, acked_lane, blocked_lane, reset_acked_lane, after_acked, after_lost, after_sent, after_blocked, after_reset_acked}
+use Rattle.qs_send.specs.Lane.{SendLane, Sending, sent_lane, acked_lane, blocked_lane, reset_acked_lane, after_acked, after_lost, after_blocked, after_reset_acked}
 use Rattle.qs_send.specs.Chunks.{IsNextChunk, HasNoChunk, HasBytes, WasSent}
 use Rattle.qs_send.specs.Parts.{in_flight}
 use Rattle.qs_send.specs.Sound.{IsLawful}
-use Rattle.qs_send.specs.Records.{IsCarried, first_piece}
+use Rattle.qs_send.specs.Records.{IsCarried}
 use Rattle.qs_send.specs.declared.parts.Chunk.{Chunk}
 use Rattle.qs_send.specs.declared.parts.Reset.{Reset}
 use Rattle.qs_send.specs.declared.piece.Item.{Item}
@@ -236,10 +236,6 @@ items_acked (Told item) a = item_noted item a
 abbrev pub halves_lost : Piece → Tables Sending → Tables Sending
 halves_lost (Data n c) t = updated t n (λ s. after_lost s c) (lookup t n)
 halves_lost (Told item) t = t
-
--- the halves once a chunk was sent
-abbrev pub halves_sent : ℕ → Chunk → Tables Sending → Tables Sending
-halves_sent n c t = updated t n (λ s. after_sent s c) (lookup t n)
 
 abbrev pub halves_told : Item → Tables Sending → Tables Sending
 halves_told (StreamDataBlocked n m) t = updated t n after_blocked (lookup t n)

@@ -12,18 +12,19 @@ use Rattle.qs_send.specs.Lane.{SendLane, allow_lane, reset_lane, stopped_lane, u
 use Rattle.qs_send.specs.declared.parts.SendFault.TheVariants.{Finished, WasReset}
 use Rattle.qs_send.specs.declared.piece.Item.{Item}
 use Rattle.qs_send.specs.declared.piece.Item.TheVariants.{MaxData, MaxStreamData, MaxStreams, ResetStream, StopSending, DataBlocked, StreamDataBlocked, StreamsBlocked}
-use Rattle.qs_machine.specs.Tables.{Tables, lookup, updated, open_to}
+use Rattle.qs_machine.specs.Tables.{lookup, updated, open_to}
 use Rattle.qs_machine.specs.Ends.{End, is_own, is_uni, opens, opened_by_peer, first_send_limit}
 use Rattle.qs_machine.specs.Seen.{Seen, Ack, Stream, Control, Close, Plain}
 use Rattle.qs_machine.specs.Verdicts.{verdict, item_verdict, state_fault_out}
 use Rattle.qs_machine.specs.FrameStep.{frame_taken, item_taken}
-use Rattle.qs_machine.proofs.TableLaws.{lookup_same, open_at}
+use Rattle.qs_machine.proofs.TableLaws.{open_at}
 use Rattle.qs_machine.proofs.TablesAfter.{KeptIn}
+use Rattle.qs_machine.proofs.FramesSound.{no_fault}
+use Rattle.qs_machine.proofs.Again.{changed}
 use Rattle.qs_runs.specs.Pasts.{Past, Tells}
 use Rattle.qs_runs.specs.Invariant.{EndOk, SendOk, SendSlot}
 use Rattle.qs_runs.proofs.Base.{before-missing}
 use Rattle.qs_runs.proofs.Changes.{Grows, AllGrow}
-use Rattle.qs_runs.proofs.Taking.{no_fault}
 use Rattle.qs_runs.proofs.Opening.{named_by, opened_ok, new_sends}
 use Rattle.qs_runs.proofs.Frames.{Effect, frame_keeps}
 use Rattle.qs_rest.specs.Invariant.{IsAllAcked, ItemTaken}
@@ -73,12 +74,9 @@ module _ (a b : End) (conn : a.known_data ≤ b.known_data) (bidi : a.known_bidi
 
 -- It takes effect
 
-some_of : {X : Type 0} (o : Option X) → is_some o ≡ true → (x : X) × (o ≡ Some x)
+pub some_of : {X : Type 0} (o : Option X) → is_some o ≡ true → (x : X) × (o ≡ Some x)
 some_of None is = absurd (false≢true is)
 some_of (Some x) is = (x, refl)
-
-changed_at : {X : Type 0} (t : Tables X) (n : ℕ) (f : X → X) (x : X) → lookup t n ≡ Some x → lookup (updated t n f (lookup t n)) n ≡ Some (f x)
-changed_at t n f x is = ap (λ o. lookup (updated t n f o) n) is ∙ lookup_same t n x (f x) is
 
 -- a frame on what this end sends comes to a half that is open then
 send_open : (e : End) (n : ℕ) → state_fault_out e n ≡ None → (l : SendLane) × (lookup (opened_by_peer n e).sends n ≡ Some l)
@@ -140,13 +138,13 @@ module _ (p : Past) (e : End) (ok : EndOk p e) where
   item_done (MaxData m) t fine h = omega arith
   item_done (MaxStreamData n m) t fine h =
       let (l, is) = send_open e n fine in
-      (allow_lane l m, changed_at (opened_by_peer n e).sends n (λ x. allow_lane x m) l is, omega arith)
+      (allow_lane l m, changed (opened_by_peer n e).sends n (λ x. allow_lane x m) l is, omega arith)
   item_done (MaxStreams Bidi m) t fine h = omega arith
   item_done (MaxStreams Uni m) t fine h = omega arith
   item_done (ResetStream n code size) t fine h =
       let (r, at, final) = h.taken in
       let (l, is) = some_of (lookup (opened_by_peer n e).recvs n) (was_open (lookup (opened_by_peer n e).recvs n) refl at) in
-      (take_reset l code size, changed_at (opened_by_peer n e).recvs n (λ x. take_reset x code size) l is, reset_or_whole code size l)
+      (take_reset l code size, changed (opened_by_peer n e).recvs n (λ x. take_reset x code size) l is, reset_or_whole code size l)
     where
       was_open : (o : Option RecvLane) → lookup (opened_by_peer n e).recvs n ≡ o → {r : RecvLane} → lookup (updated (opened_by_peer n e).recvs n (λ x. take_reset x code size) (lookup (opened_by_peer n e).recvs n)) n ≡ Some r → is_some o ≡ true
       was_open (Some l) is at = refl
@@ -155,7 +153,7 @@ module _ (p : Past) (e : End) (ok : EndOk p e) where
       let (l, is) = send_open e n fine in
       let opened : EndOk p (opened_by_peer n e) = opened_ok p e n ok (named_by p _ n t refl) (is_own e n) refl in
       let half = subst (SendSlot p n (first_send_limit (opened_by_peer n e) n)) is (opened.sends n) in
-      (stopped_lane l code, changed_at (opened_by_peer n e).sends n (λ x. stopped_lane x code) l is, stopped_or_acked p n (first_send_limit (opened_by_peer n e) n) l half code)
+      (stopped_lane l code, changed (opened_by_peer n e).sends n (λ x. stopped_lane x code) l is, stopped_or_acked p n (first_send_limit (opened_by_peer n e) n) l half code)
   item_done (DataBlocked m) t fine h = tt
   item_done (StreamDataBlocked n m) t fine h = tt
   item_done (StreamsBlocked d m) t fine h = tt

@@ -26,7 +26,7 @@ use Rattle.qs_runs.specs.Pasts.{Past, past, seen_by}
 use Rattle.qs_runs.specs.Invariant.{WorldOk}
 use Rattle.qs_runs.proofs.Histories.{past_own, past_peer, past_sender, past_receiver, does, theirs_mine, payload_seen}
 use Rattle.qs_runs.proofs.NewEnds.{first_world, made_first, ends_made}
-use Rattle.qs_runs.proofs.Runs.{two_sides, run_keeps}
+use Rattle.qs_runs.proofs.Runs.{two_sides, run_keeps, moved}
 use Rattle.qs_rest.specs.Invariant.{RestOk}
 use Rattle.qs_rest.specs.Rest.{EveryRunKeeps}
 use Rattle.qs_rest.proofs.Runs.{own_rests, receive_rests, peer_rests}
@@ -60,9 +60,6 @@ first_rests role s peer p none made =
       limits = new_ends_settled role s peer (new_end role s peer) made;
       counts = new_counts_settled role s peer (new_end role s peer) made;
     }
-
-moved : {X : Type 0} (P : X → Type 0) (x y : X) → y ≡ x → P x → P y
-moved P x y e h = subst P (sym e) h
 
 first_ends : (a b : Settings) → world_made a b ≡ Ok (first_world a b) → (s : Side) → RestOk (past s []) (end_of (first_world a b) s)
 unfolding own_calls processed

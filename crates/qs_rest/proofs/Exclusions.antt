@@ -15,6 +15,7 @@ use Rattle.qs_send.specs.Lane.{SendLane}
 use Rattle.qs_send.specs.declared.piece.Item.{Item}
 use Rattle.qs_send.specs.declared.piece.Item.TheVariants.{MaxData, MaxStreamData, MaxStreams, ResetStream, StopSending, DataBlocked, StreamDataBlocked, StreamsBlocked}
 use Rattle.qs_send.specs.declared.piece.Piece.TheVariants.{Told}
+use Rattle.qs_send.proofs.Carrying.{carried-empty}
 use Rattle.qs_calls.specs.Settings.{limits_of}
 use Rattle.qs_machine.specs.Tables.{lookup, total}
 use Rattle.qs_machine.specs.Ends.{End, recv_lane, window, is_uni, is_own, new_end}
@@ -22,7 +23,7 @@ use Rattle.qs_machine.specs.Due.{IsDue, IsEndDue, IsCurrent, Sendable}
 use Rattle.qs_machine.specs.Examples.{standard, client_of}
 use Rattle.qs_machine.specs.SmallEnds.{client_with, wrote, finished, fresh, three_came}
 use Rattle.qs_machine.proofs.Bounds.{no_lane}
-use Rattle.qs_machine.proofs.SmallEndsLaws.{none_carried, one_carried, only_open}
+use Rattle.qs_machine.proofs.SmallEndsLaws.{one_carried, only_open}
 use Rattle.qs_rest.specs.Rest.{TellsNoNews, HasMore, AtRest}
 use Rattle.qs_rest.specs.Exclusions.{reads_by, IsAtRest, IsNotAtRest, Exclusions}
 use Rattle.qs_rest.proofs.EveryRun.{no_half}
@@ -96,7 +97,7 @@ reads_at_rest : (r : RecvLane) → r.limit ≡ 1024 → r.stop_code ≡ None →
 reads_at_rest r limit stop told =
     record {
       quiet = silent (reads_by r) (reads_silent r limit stop);
-      landed = λ p flies. none_carried p flies;
+      landed = λ p flies. carried-empty p flies;
       told = λ n l at. (let same : l ≡ r = only_open r l n at in rw same told);
     }
 
@@ -116,10 +117,10 @@ first_came = contains-with_range set.empty 0 3 0 ∙ go
 rests : IsAtRest
 rests =
     record {
-      new = λ role. record { quiet = silent (new_end role standard (limits_of standard)) (new_silent role); landed = λ p flies. none_carried p flies; told = λ n l at. absurd (none-some l (sym (no_lane n) ∙ at)) };
+      new = λ role. record { quiet = silent (new_end role standard (limits_of standard)) (new_silent role); landed = λ p flies. carried-empty p flies; told = λ n l at. absurd (none-some l (sym (no_lane n) ∙ at)) };
       ack = record {
         quiet = silent _ (record { sends = (new_silent Client).sends; granted = omega arith; bidi = omega arith; uni = omega arith; recvs = (new_silent Client).recvs; wants_bidi = refl; wants_uni = refl });
-        landed = λ p flies. none_carried p flies;
+        landed = λ p flies. carried-empty p flies;
         told = λ n l at. absurd (none-some l (sym (no_lane n) ∙ at));
       };
       waits = reads_at_rest fresh refl refl waiting;
@@ -130,13 +131,13 @@ rests =
 byte_due : AtRest (client_with wrote) → ⊥
 unfolding lookup total
 byte_due rest =
-    let due : IsDue (client_with wrote) 0 wrote 0 = record { no_reset = refl; written = omega arith; not_acked = set.contains-empty nat_cmp 0; not_sent = λ (c, flies, low, high). none_carried _ flies } in
+    let due : IsDue (client_with wrote) 0 wrote 0 = record { no_reset = refl; written = omega arith; not_acked = set.contains-empty nat_cmp 0; not_sent = λ (c, flies, low, high). carried-empty _ flies } in
     rest.quiet (inr (0, (wrote, refl, inl (0, due, omega arith, inr (refl, omega arith)))))
 
 end_due : AtRest (client_with finished) → ⊥
 unfolding lookup
 end_due rest =
-    let due : IsEndDue (client_with finished) 0 finished = record { no_reset = refl; finished = refl; not_acked = refl; not_sent = λ offset len flies. none_carried _ flies } in
+    let due : IsEndDue (client_with finished) 0 finished = record { no_reset = refl; finished = refl; not_acked = refl; not_sent = λ offset len flies. carried-empty _ flies } in
     rest.quiet (inr (0, (finished, refl, inr (due, refl))))
 
 unread : AtRest (reads_by three_came) → ⊥
@@ -145,7 +146,7 @@ unread rest = subst (λ b. TellsNoNews (if b then Bytes (length (front_of three_
 others : IsNotAtRest
 others =
     record {
-      limit = λ rest. rest.quiet (inl (MaxData 5000, ((refl, omega arith), λ covered. elim covered [ inl flies ↦ none_carried _ flies | inr acked ↦ none-some 5000 acked ])));
+      limit = λ rest. rest.quiet (inl (MaxData 5000, ((refl, omega arith), λ covered. elim covered [ inl flies ↦ carried-empty _ flies | inr acked ↦ none-some 5000 acked ])));
       byte = byte_due;
       end = end_due;
       in_flight = (

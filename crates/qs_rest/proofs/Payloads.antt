@@ -16,6 +16,7 @@ use Rattle.qs_machine.specs.Seen.{Seen, Ack, Stream, Control, Close, Plain, seen
 use Rattle.qs_machine.specs.FrameStep.{named, frame_taken}
 use Rattle.qs_machine.specs.Recording.{recorded}
 use Rattle.qs_machine.specs.Receiving.{Takes, Stops, AtEnd}
+use Rattle.qs_machine.proofs.CallsSound.{no_fault_there}
 use Rattle.qs_runs.specs.Logs.{is_done}
 use Rattle.qs_runs.specs.Pasts.{Past, Tells}
 use Rattle.qs_runs.specs.Invariant.{EndOk}
@@ -23,7 +24,6 @@ use Rattle.qs_runs.proofs.Lists.{All_append, All_take, Among_right}
 use Rattle.qs_runs.proofs.Changes.{AllGrow, all_grow_refl, grow_trans}
 use Rattle.qs_runs.proofs.Acking.{named_pieces_ok}
 use Rattle.qs_runs.proofs.Frames.{Effect, frame_keeps}
-use Rattle.qs_runs.proofs.Receives.{goes_on}
 use Rattle.qs_rest.specs.Invariant.{ItemTaken}
 use Rattle.qs_rest.proofs.Untouched.{ends_recvs}
 use Rattle.qs_rest.proofs.Moves.{Moved, moved_same, moved_twice, frame_moved, acks_moved}
@@ -85,11 +85,11 @@ module _ (p : Past) (k : ℕ) (all : List Seen) (is : slice_get p.theirs k ≡ S
   takes (v ∷ left) before asks fault e result new split ok m g taken (inr (goes, rest)) =
       let f : Seen = seen v.frame in
       let told : Tells p.theirs f = (k, (all, is, rw split (Among_right before _ _ (inl refl)))) in
-      let one : Effect p e (frame_taken f e) f = frame_keeps p e f ok told (goes_on e f goes) in
+      let one : Effect p e (frame_taken f e) f = frame_keeps p e f ok told (no_fault_there e f goes) in
       let m2 : Moved p e (frame_taken f e) = frame_moved p f e (λ largest ranges same. named_pieces_ok p e ok ranges (λ j a. (largest, ranges, subst (Tells p.theirs) same told, a))) m.halves m.acked in
       takes left (before ++ f ∷ []) (asks || asks_ack f) fault (frame_taken f e) result new (split ∙ sym (append_assoc before (f ∷ []) (seen_all (frames_of left)))) one.ok
       (moved_twice p old e (frame_taken f e) m m2) (grow_trans old.recvs e.recvs _ g one.grow)
-      (All_append (ItemTaken (frame_taken f e)) before (f ∷ []) (items_stay e (frame_taken f e) m2.conn m2.bidi m2.uni m2.sends one.grow before taken) (frame_done p e ok f told (goes_on e f goes), tt)) rest
+      (All_append (ItemTaken (frame_taken f e)) before (f ∷ []) (items_stay e (frame_taken f e) m2.conn m2.bidi m2.uni m2.sends one.grow before taken) (frame_done p e ok f told (no_fault_there e f goes), tt)) rest
 
   -- as the call ends the limits move
   pub settled : (result : Result Received Closing) (mid new : End) → AllGrow mid.recvs (settle mid).recvs → new ≡ settle mid → After p all old result mid → After p all old result new

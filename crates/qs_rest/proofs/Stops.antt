@@ -23,8 +23,9 @@ use Rattle.qs_machine.specs.Receiving.{Takes}
 use Rattle.qs_machine.specs.EndStep.{Call, Answer, EndStep}
 use Rattle.qs_machine.proofs.TablesAfter.{KeptIn, kept_same, kept_twice, kept_updated, kept_open, kept_each}
 use Rattle.qs_runs.proofs.Frames.{acks_recvs}
+use Rattle.qs_runs.proofs.Lasting.{fills_recvs, wanted_recvs, losses_recvs}
 use Rattle.qs_rest.specs.Laws.{StopsGiveBack}
-use Rattle.qs_rest.proofs.Untouched.{fills_recvs, wanted_recvs, losses_recvs, ends_recvs, at_end_recvs}
+use Rattle.qs_rest.proofs.Untouched.{ends_recvs, at_end_recvs}
 use Rattle.qs_rest.proofs.EachCall.{Edits, each_call}
 
 -- the code of a stop stays

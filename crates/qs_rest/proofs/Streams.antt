@@ -37,6 +37,7 @@ use Rattle.qs_rest.specs.Resting.{AtEachRest, CreditIsWhole, IsResetAtBoth, IsRe
 use Rattle.qs_rest.proofs.EveryRun.{every_run_keeps}
 use Rattle.qs_rest.proofs.Lanes.{caught_up, end_told, reset_told, sent_acked, end_acked}
 use Rattle.qs_rest.proofs.Resting.{items_acked, was_processed, holds_there, taken as item_taken, taken_here}
+use Rattle.qs_rest.proofs.Effects.{some_of}
 
 missing_is : (t : NumberSet) (k : ℕ) → ((q : ℕ) → q < k → set.contains t q ≡ true) → ((q : ℕ) → set.contains t q ≡ true → q < k) → missing_from t 0 ≡ k
 missing_is t k all below = sym (missing_from-of t 0 k (record { from = omega arith; missing = go (set.contains t k) refl; all_before = λ q from lt. all q lt }))
@@ -44,10 +45,6 @@ missing_is t k all below = sym (missing_from-of t 0 k (record { from = omega ari
     go : (b : Bool) → set.contains t k ≡ b → set.contains t k ≡ false
     go true is = (let lt : k < k = below k is in absurd (omega arith))
     go false is = is
-
-some_of : {X : Type 0} (o : Option X) → is_some o ≡ true → (x : X) × (o ≡ Some x)
-some_of None is = absurd (false≢true is)
-some_of (Some x) is = (x, refl)
 
 module _ (a b : Settings) (h : History) (w : World) (ok : WorldOk a b h w) (keeps : (s : Side) → RestOk (past s h) (end_of w s)) (rest : (s : Side) → AtRest (end_of w s)) (s : Side) (n : ℕ) where
   pub lawful : (r : RecvLane) → receiving w s n ≡ Some r → IsLawful r

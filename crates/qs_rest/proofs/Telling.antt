@@ -35,9 +35,10 @@ use Rattle.qs_machine.proofs.TableLaws.{slots_updated, slots_opened, slots_each}
 use Rattle.qs_runs.specs.Worlds.{OwnStep}
 use Rattle.qs_runs.proofs.Changes.{Grows, AllGrow}
 use Rattle.qs_runs.proofs.Frames.{acks_recvs}
+use Rattle.qs_runs.proofs.Lasting.{fills_recvs, wanted_recvs, losses_recvs}
 use Rattle.qs_rest.specs.Invariant.{IsToldOf, ToldTrue}
 use Rattle.qs_rest.specs.Rest.{TellsNoNews}
-use Rattle.qs_rest.proofs.Untouched.{fills_recvs, wanted_recvs, losses_recvs, ends_recvs, at_end_recvs}
+use Rattle.qs_rest.proofs.Untouched.{ends_recvs, at_end_recvs}
 use Rattle.qs_rest.proofs.EachCall.{Edits, each_own}
 
 -- One half

@@ -19,6 +19,7 @@ use Rattle.qs_machine.specs.Verdicts.{verdict}
 use Rattle.qs_machine.specs.FrameStep.{named, frame_taken}
 use Rattle.qs_send.specs.Records.{Among}
 use Rattle.qs_machine.specs.Receiving.{ReceiveStep, ReceiveBy, TakesPayload, Takes, Stops, AtEnd}
+use Rattle.qs_machine.proofs.CallsSound.{no_fault_there}
 use Rattle.qs_runs.specs.Agree.{frames_in}
 use Rattle.qs_runs.specs.Pasts.{Past, Tells}
 use Rattle.qs_runs.specs.Invariant.{EndOk}
@@ -26,7 +27,6 @@ use Rattle.qs_runs.proofs.Unharmed.{Facing, told_fine}
 use Rattle.qs_runs.specs.Invariant.{standing}
 use Rattle.qs_runs.proofs.Standing.{acks_stand, frame_taken_stands}
 use Rattle.qs_runs.proofs.Frames.{Effect, frame_keeps}
-use Rattle.qs_runs.proofs.Receives.{goes_on}
 
 -- two roles that face each other
 opposite_bits : (x : ℕ) → x < 2 → ((x == 1) ≡ not (x == 0)) × ((x == 0) ≡ not (x == 1))
@@ -90,7 +90,7 @@ module _ (p q : Past) (e f : End) (their : EndOk q f) (from : p.theirs ≡ q.min
   takes_stand (v ∷ left) k asks fault mid result new none ok same told (inl stops) = stops_stand v (seen v.frame) mid result new ok same (told (seen v.frame) (inl refl)) stops
   takes_stand (v ∷ left) k asks fault mid result new none ok same told (inr (goes, rest)) =
       let g : Seen = seen v.frame in
-      let one : Effect p mid (frame_taken g mid) g = frame_keeps p mid g ok (told g (inl refl)) (goes_on mid g goes) in
+      let one : Effect p mid (frame_taken g mid) g = frame_keeps p mid g ok (told g (inl refl)) (no_fault_there mid g goes) in
       let still = frame_taken_stands g mid in
       takes_stand left k (asks || asks_ack g) fault (frame_taken g mid) result new none one.ok (ap (λ x. x.0) still ∙ same.0, ap (λ x. x.2) still ∙ same.1, ap (λ x. x.3) still ∙ same.2) (λ x a. told x (inr a)) rest
 

@@ -14,11 +14,12 @@ use Rattle.qs_machine.specs.Seen.{Seen, Ack, Stream, Control, Close, Plain}
 use Rattle.qs_machine.specs.Verdicts.{verdict, item_verdict, credit_fault, lane_of, state_fault_in}
 use Rattle.qs_machine.specs.FrameStep.{AckedPiece, piece_acked, item_acked, acks, named, frame_taken, item_taken}
 use Rattle.qs_machine.proofs.TableLaws.{lookup_same, open_at}
+use Rattle.qs_machine.proofs.FramesSound.{no_fault}
 use Rattle.qs_runs.specs.Pasts.{Past, Tells}
 use Rattle.qs_runs.specs.Invariant.{EndOk, RecvOk, RecvSlot, FrameTaken}
 use Rattle.qs_runs.proofs.Changes.{AllGrow, all_grow_refl, grow_trans, grows_update, recv_changed, send_kept}
 use Rattle.qs_runs.proofs.Opening.{new_recvs, named_by, opened_ok, opened_grows, lane_opened}
-use Rattle.qs_runs.proofs.Taking.{no_fault, or_else_none, stream_passed, fin_fits, reset_fits, take_stream_ok, take_stream_grows, take_stream_taken, take_reset_ok, take_reset_grows, take_reset_taken}
+use Rattle.qs_runs.proofs.Taking.{or_else_none, stream_passed, fin_fits, reset_fits, take_stream_ok, take_stream_grows, take_stream_taken, take_reset_ok, take_reset_grows, take_reset_taken}
 use Rattle.qs_runs.proofs.Acking.{allow_ok, stopped_ok, reset_end, acks_ok, named_pieces_ok}
 
 -- What a frame that takes effect leaves: the invariant, every half grown, and the frame's own effect for good.

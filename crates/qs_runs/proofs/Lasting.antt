@@ -38,6 +38,7 @@ use Rattle.qs_machine.specs.Lawful.{Fills, frame_put, item_put}
 use Rattle.qs_machine.specs.Owner.{refuse_if, send_refusal, recv_refusal, peer_kind, next_stream, with_wanted, OpenStep, IsBlocked, IsOpened, AcceptStep, GivesNone, GivesBidi, GivesUni, AcceptOpen, WriteStep, FinishStep, ResetStep, StopStep, ReadStep, ReadBy}
 use Rattle.qs_machine.specs.Making.{MakeStep, MakeAt, make_refusal, ClaimStep, claim_refusal, LoseStep, lose_refusal, first_lost, losses}
 use Rattle.qs_machine.specs.Receiving.{ReceiveStep, ReceiveBy, ClosedReceive, TakesPayload, Takes, Stops, AtEnd}
+use Rattle.qs_machine.proofs.CallsSound.{no_fault_there}
 use Rattle.qs_calls.specs.declared.event.Act.{Act}
 use Rattle.qs_calls.specs.declared.event.Act.TheVariants as acts
 use Rattle.qs_calls.specs.declared.answer.Answer.{Answer}
@@ -52,7 +53,6 @@ use Rattle.qs_runs.proofs.Opening.{grow_by}
 use Rattle.qs_runs.proofs.Reading.{stop_grows}
 use Rattle.qs_runs.proofs.Standing.{certain_cases, uncertain_cases}
 use Rattle.qs_runs.proofs.Frames.{Effect, frame_keeps, acks_recvs}
-use Rattle.qs_runs.proofs.Receives.{goes_on}
 
 -- what a call that ends leaves of halves that grew
 settled : (t : Tables RecvLane) (e new : End) → AllGrow t e.recvs → new ≡ settle e → AllGrow t new.recvs
@@ -66,7 +66,7 @@ same_recvs t u is = subst (AllGrow t) (sym is) (all_grow_refl t)
 
 -- Owners' calls
 
-item_put_recvs : (i : Item) (e : End) → (item_put i e).recvs ≡ e.recvs
+pub item_put_recvs : (i : Item) (e : End) → (item_put i e).recvs ≡ e.recvs
 item_put_recvs (MaxData m) e = refl
 item_put_recvs (MaxStreamData n m) e = refl
 item_put_recvs (MaxStreams d m) e = refl
@@ -76,7 +76,7 @@ item_put_recvs (DataBlocked m) e = refl
 item_put_recvs (StreamDataBlocked n m) e = refl
 item_put_recvs (StreamsBlocked d m) e = refl
 
-frame_put_recvs : (f : Seen) (e : End) → (frame_put f e).recvs ≡ e.recvs
+pub frame_put_recvs : (f : Seen) (e : End) → (frame_put f e).recvs ≡ e.recvs
 unfolding frame_put
 frame_put_recvs (Ack largest ranges) e = refl
 frame_put_recvs (Stream n offset bytes fin) e = refl
@@ -84,15 +84,15 @@ frame_put_recvs (Control i) e = item_put_recvs i e
 frame_put_recvs (Close c) e = refl
 frame_put_recvs (Plain asks) e = refl
 
-fills_recvs : (old : End) (fs : List Seen) (e mid : End) → Fills old e fs mid → mid.recvs ≡ e.recvs
+pub fills_recvs : (old : End) (fs : List Seen) (e mid : End) → Fills old e fs mid → mid.recvs ≡ e.recvs
 fills_recvs old [] e mid is = ap (λ x. x.recvs) is
 fills_recvs old (f ∷ fs) e mid (may, rest) = fills_recvs old fs (frame_put f e) mid rest ∙ frame_put_recvs f e
 
-wanted_recvs : (d : Dir) (count : ℕ) (e : End) → (with_wanted d count e).recvs ≡ e.recvs
+pub wanted_recvs : (d : Dir) (count : ℕ) (e : End) → (with_wanted d count e).recvs ≡ e.recvs
 wanted_recvs Bidi count e = refl
 wanted_recvs Uni count e = refl
 
-losses_recvs : (k : ℕ) (ps : List Piece) (e : End) → (losses k ps e).recvs ≡ e.recvs
+pub losses_recvs : (k : ℕ) (ps : List Piece) (e : End) → (losses k ps e).recvs ≡ e.recvs
 unfolding losses
 losses_recvs k [] e = refl
 losses_recvs k (p ∷ ps) e = losses_recvs k ps (first_lost k p e)
@@ -234,7 +234,7 @@ takes_grow [] p k asks fault e result new ok told h = same_recvs e.recvs new.rec
 takes_grow (v ∷ left) p k asks fault e result new ok told (inl stops) = same_recvs e.recvs new.recvs (stops_grow v (seen v.frame) e result new stops)
 takes_grow (v ∷ left) p k asks fault e result new ok told (inr (goes, rest)) =
     let f : Seen = seen v.frame in
-    let one : Effect p e (frame_taken f e) f = frame_keeps p e f ok (told f (inl refl)) (goes_on e f goes) in
+    let one : Effect p e (frame_taken f e) f = frame_keeps p e f ok (told f (inl refl)) (no_fault_there e f goes) in
     grow_trans e.recvs (frame_taken f e).recvs new.recvs one.grow (takes_grow left p k (asks || asks_ack f) fault (frame_taken f e) result new one.ok (λ g a. told g (inr a)) rest)
 
 pub receive_grows : (p : Past) (e new : End) (k : ℕ) (text : List ℕ) (result : Result Received Closing) → EndOk p e → slice_get p.theirs k ≡ Some (frames_in text) → ReceiveStep e k text result new → AllGrow e.recvs new.recvs

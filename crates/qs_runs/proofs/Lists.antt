@@ -79,11 +79,6 @@ module _ {X : Type 0} where
   Among_right [] ys x a = a
   Among_right (z ∷ xs) ys x a = inr (Among_right xs ys x a)
 
-  pub Among_joined : (xs ys : List X) (x : X) → Among x (xs ++ ys) → Among x xs ⊎ Among x ys
-  Among_joined [] ys x a = inr a
-  Among_joined (z ∷ xs) ys x (inl e) = inl (inl e)
-  Among_joined (z ∷ xs) ys x (inr a) = elim (Among_joined xs ys x a) [ inl b ↦ inl (inr b) | inr b ↦ inr b ]
-
   pub Among_push : (xs : List X) (y x : X) → Among x (xs ++ y ∷ []) → Among x xs ⊎ (x ≡ y)
   Among_push [] y x (inl e) = inr e
   Among_push [] y x (inr a) = absurd a
@@ -114,10 +109,6 @@ module _ {X : Type 0} where
   All_at P [] x all a = absurd a
   All_at P (y ∷ xs) x all (inl e) = rw e all.0
   All_at P (y ∷ xs) x all (inr a) = All_at P xs x all.1 a
-
-  pub All_left : (P : X → Type 0) (xs ys : List X) → AllByRecursion P (xs ++ ys) → AllByRecursion P xs
-  All_left P [] ys all = tt
-  All_left P (x ∷ xs) ys all = (all.0, All_left P xs ys all.1)
 
   pub All_filter : (p : X → Bool) (xs : List X) → AllByRecursion (λ x. p x ≡ true) (filter p xs)
   All_filter p [] = tt

@@ -61,9 +61,6 @@ module _ (p : Past) (more : Packets) (e : End) (sent : ℕ) (f : Seen)
     (up : (k : ℕ) (g : Seen) → Holds p.mine k g → Holds more k g)
     (down : (g : Seen) → Tells more g → Tells p.mine g ⊎ (g ≡ f))
     (is_true : FrameTrue p e f) where
-  after : Past
-  after = record p { mine = more }
-
   true_of : (g : Seen) → g ≡ f → FrameTrue p e g
   true_of g is = subst (FrameTrue p e) (sym is) is_true
 

@@ -1,5 +1,5 @@
 -- A new end meets the invariant: nothing was made, written or read.
-use Rattle.std.proofs.Common.{◌≡◌, ℕ, zero, suc, ◌%◌, ◌/◌, true, false, [], length, Option, None, Some, Result, Ok, Err, is_some, slice_get, refl, sym, ap, ◌∙◌, subst, arith, inl, nat_cmp}
+use Rattle.std.proofs.Common.{◌≡◌, ℕ, true, false, [], length, Option, None, Some, Result, Ok, Err, is_some, refl, sym, ap, ◌∙◌, subst, arith, inl, nat_cmp}
 use Rattle.std.proofs.lemmas.Option.{none-some}
 use Rattle.std.proofs.lemmas.Bool.{false≢true}
 use Rattle.std.specs.FinSet as set
@@ -11,22 +11,13 @@ use Rattle.qs_send.specs.Lane.{SendLane}
 use Rattle.qs_calls.specs.declared.settings.Settings.{Settings}
 use Rattle.qs_calls.specs.declared.settings.SetupFault.{SetupFault}
 use Rattle.qs_calls.specs.Settings.{limits_of, setup_fault}
-use Rattle.qs_machine.specs.Tables.{table, lookup, total, no_streams}
+use Rattle.qs_machine.specs.Tables.{total, no_streams}
 use Rattle.qs_machine.specs.Ends.{End, first_send_limit, window, new_end, end_made, end_unless}
 use Rattle.qs_machine.specs.Seen.{Seen}
+use Rattle.qs_machine.proofs.Ties.{nowhere}
 use Rattle.qs_runs.specs.Worlds.{World, world_made, both_made}
 use Rattle.qs_runs.specs.Pasts.{Packets, Past, Tells}
 use Rattle.qs_runs.specs.Invariant.{EndOk, SendSlot, RecvSlot, is_open}
-
-no_table : {X : Type 0} (k : ℕ) → table (no_streams {X = X}) k ≡ []
-no_table zero = refl
-no_table (suc zero) = refl
-no_table (suc (suc zero)) = refl
-no_table (suc (suc (suc k))) = refl
-
-no_stream : {X : Type 0} (n : ℕ) → lookup (no_streams {X = X}) n ≡ None
-unfolding lookup
-no_stream n = ap (λ xs. slice_get xs (n / 4)) (no_table (n % 4))
 
 pub tells_nothing : (ms : Packets) (f : Seen) → ms ≡ [] → Tells ms f → ⊥
 tells_nothing ms f none (k, (fs, at, a)) = none-some fs (rw none at at)
@@ -52,14 +43,14 @@ module _ (role : Role) (own theirs : Settings) (p : Past) (made : p.mine ≡ [])
       }
 
   not_open : (X : Type 0) (n : ℕ) → is_open (no_streams {X = X}) n ≡ true → ⊥
-  not_open X n is = false≢true (sym (ap is_some (no_stream {X = X} n)) ∙ is)
+  not_open X n is = false≢true (sym (ap is_some (nowhere {X = X} n)) ∙ is)
 
   pub new_ok : EndOk p (new_end role own (limits_of theirs))
   unfolding total
   new_ok =
       record {
-        sends = λ n. subst (SendSlot p n (first_send_limit (new_end role own (limits_of theirs)) n)) (sym (no_stream n)) (new_send n (first_send_limit (new_end role own (limits_of theirs)) n));
-        recvs = λ n. subst (RecvSlot p n (window (new_end role own (limits_of theirs)) n)) (sym (no_stream n)) (new_recv n (window (new_end role own (limits_of theirs)) n));
+        sends = λ n. subst (SendSlot p n (first_send_limit (new_end role own (limits_of theirs)) n)) (sym (nowhere n)) (new_send n (first_send_limit (new_end role own (limits_of theirs)) n));
+        recvs = λ n. subst (RecvSlot p n (window (new_end role own (limits_of theirs)) n)) (sym (nowhere n)) (new_recv n (window (new_end role own (limits_of theirs)) n));
         packets = record {
           count = sym (ap length made);
           records = λ k ps x is a. absurd (none-some ps (sym (fmap.get-empty nat_cmp k) ∙ is));

@@ -93,7 +93,7 @@ wanted_ok : (p : Past) (e : End) (d : Dir) (count : ℕ) → EndOk p e → EndOk
 wanted_ok p e Bidi count ok = rest_ok p e e.accepted_bidi e.accepted_uni (Some count) e.wanted_uni ok
 wanted_ok p e Uni count ok = rest_ok p e e.accepted_bidi e.accepted_uni e.wanted_bidi (Some count) ok
 
-ended_by : (p : Past) (e new : End) → new ≡ e → EndOk p e → EndOk p new
+pub ended_by : (p : Past) (e new : End) → new ≡ e → EndOk p e → EndOk p new
 ended_by p e new is ok = subst (EndOk p) (sym is) ok
 
 module _ (p : Past) (e new : End) (ok : EndOk p e) where

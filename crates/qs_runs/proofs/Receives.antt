@@ -17,11 +17,11 @@ use Rattle.qs_calls.specs.declared.closing.Received.TheVariants.{Done, Duplicate
 use Rattle.qs_machine.specs.Ends.{End, closes}
 use Rattle.qs_machine.specs.Credit.{settle}
 use Rattle.qs_machine.specs.Seen.{Seen, Ack, Stream, Control, Close, Plain, seen, seen_all, asks_ack}
-use Rattle.qs_machine.specs.Verdicts.{verdict}
 use Rattle.qs_machine.specs.FrameStep.{named, frame_taken}
 use Rattle.qs_machine.specs.Recording.{recorded, has_too_many, lowest_end, least_in}
 use Rattle.qs_machine.proofs.RunLaws.{least_above}
-use Rattle.qs_machine.specs.Receiving.{ReceiveStep, ReceiveBy, ClosedReceive, TakesPayload, Takes, Stops, AtEnd, GoesOn}
+use Rattle.qs_machine.specs.Receiving.{ReceiveStep, ReceiveBy, ClosedReceive, TakesPayload, Takes, Stops, AtEnd}
+use Rattle.qs_machine.proofs.CallsSound.{no_fault_there}
 use Rattle.qs_calls.specs.declared.answer.Answer.TheVariants as answers
 use Rattle.qs_runs.specs.Logs.{is_done}
 use Rattle.qs_runs.specs.Agree.{frames_in}
@@ -34,6 +34,7 @@ use Rattle.qs_runs.proofs.Settling.{settle_ok}
 use Rattle.qs_runs.proofs.Acking.{acks_ok, named_pieces_ok}
 use Rattle.qs_runs.proofs.Standing.{frame_taken_stands}
 use Rattle.qs_runs.proofs.Frames.{Effect, frame_keeps}
+use Rattle.qs_runs.proofs.OwnMoves.{ended_by}
 
 -- packet k was processed now, or it was not
 abbrev pub with_done : Past → ℕ → Bool → Past
@@ -144,34 +145,24 @@ module _ (k : ℕ) where
 closed_ok : (p : Past) (e : End) (c : Closed) → EndOk p e → EndOk p (closes c e)
 closed_ok p e c ok = record { sends = ok.sends; recvs = ok.recvs; packets = ok.packets; taken = ok.taken; credit = ok.credit; streams = ok.streams }
 
-moved_to : (p : Past) (e new : End) → new ≡ e → EndOk p e → EndOk p new
-moved_to p e new is ok = subst (EndOk p) (sym is) ok
-
-pub goes_on : (e : End) (f : Seen) → GoesOn e f → verdict e f ≡ None
-goes_on e (Ack largest ranges) h = h
-goes_on e (Stream n offset bytes fin) h = h
-goes_on e (Control i) h = h
-goes_on e (Close code) h = absurd h
-goes_on e (Plain asks) h = h
-
 module _ (p : Past) (k : ℕ) (all : List Seen) (is : slice_get p.theirs k ≡ Some all) where
   at_end_ok : (asks : Bool) (fault : Option WireFault) (e : End) (result : Result Received Closing) (new : End) → EndOk p e → e.floor ≤ k → AllByRecursion (FrameTaken e.recvs) all → AtEnd k asks fault e result new → EndOk (with_received p k result) new
-  at_end_ok asks None e (Ok Done) new ok low taken h = moved_to _ _ _ h (recorded_ok k p asks e all low ok is taken)
-  at_end_ok asks None e (Ok NoMemory) new ok low taken h = unchanged p k new _ refl (moved_to p _ _ h.0 ok)
-  at_end_ok asks (Some fault) e (Err closing) new ok low taken h = unchanged p k new _ refl (moved_to p _ _ h.1 (closed_ok p e _ ok))
+  at_end_ok asks None e (Ok Done) new ok low taken h = ended_by _ _ _ h (recorded_ok k p asks e all low ok is taken)
+  at_end_ok asks None e (Ok NoMemory) new ok low taken h = unchanged p k new _ refl (ended_by p _ _ h.0 ok)
+  at_end_ok asks (Some fault) e (Err closing) new ok low taken h = unchanged p k new _ refl (ended_by p _ _ h.1 (closed_ok p e _ ok))
   at_end_ok asks fault e result new ok low taken h = absurd h
 
   stops_ok : (v : PlacedValue) (f : Seen) (e : End) (result : Result Received Closing) (new : End) → EndOk p e → Tells p.theirs f → Stops v f e result new → EndOk (with_received p k result) new
-  stops_ok v (Close code) e (Ok (PeerClosed told)) new ok t h = unchanged p k new _ refl (moved_to p _ _ h.1 (closed_ok p e _ ok))
+  stops_ok v (Close code) e (Ok (PeerClosed told)) new ok t h = unchanged p k new _ refl (ended_by p _ _ h.1 (closed_ok p e _ ok))
   stops_ok v (Ack largest ranges) e (Ok NoMemory) new ok t (fine, (m, h, asks)) =
-      unchanged p k new _ refl (moved_to p _ _ h (acks_ok p (take m (named e ranges)) e (All_take _ m _ (named_pieces_ok p e ok ranges (λ j a. (largest, ranges, t, a)))) ok))
-  stops_ok v (Stream n offset bytes fin) e (Ok NoMemory) new ok t h = unchanged p k new _ refl (moved_to p _ _ h.1.0 ok)
-  stops_ok v (Control i) e (Ok NoMemory) new ok t h = unchanged p k new _ refl (moved_to p _ _ h.1.0 ok)
-  stops_ok v (Plain asks) e (Ok NoMemory) new ok t h = unchanged p k new _ refl (moved_to p _ _ h.1.0 ok)
-  stops_ok v (Ack largest ranges) e (Err closing) new ok t h = unchanged p k new _ refl (moved_to p _ _ h.2 (closed_ok p e _ ok))
-  stops_ok v (Stream n offset bytes fin) e (Err closing) new ok t h = unchanged p k new _ refl (moved_to p _ _ h.2 (closed_ok p e _ ok))
-  stops_ok v (Control i) e (Err closing) new ok t h = unchanged p k new _ refl (moved_to p _ _ h.2 (closed_ok p e _ ok))
-  stops_ok v (Plain asks) e (Err closing) new ok t h = unchanged p k new _ refl (moved_to p _ _ h.2 (closed_ok p e _ ok))
+      unchanged p k new _ refl (ended_by p _ _ h (acks_ok p (take m (named e ranges)) e (All_take _ m _ (named_pieces_ok p e ok ranges (λ j a. (largest, ranges, t, a)))) ok))
+  stops_ok v (Stream n offset bytes fin) e (Ok NoMemory) new ok t h = unchanged p k new _ refl (ended_by p _ _ h.1.0 ok)
+  stops_ok v (Control i) e (Ok NoMemory) new ok t h = unchanged p k new _ refl (ended_by p _ _ h.1.0 ok)
+  stops_ok v (Plain asks) e (Ok NoMemory) new ok t h = unchanged p k new _ refl (ended_by p _ _ h.1.0 ok)
+  stops_ok v (Ack largest ranges) e (Err closing) new ok t h = unchanged p k new _ refl (ended_by p _ _ h.2 (closed_ok p e _ ok))
+  stops_ok v (Stream n offset bytes fin) e (Err closing) new ok t h = unchanged p k new _ refl (ended_by p _ _ h.2 (closed_ok p e _ ok))
+  stops_ok v (Control i) e (Err closing) new ok t h = unchanged p k new _ refl (ended_by p _ _ h.2 (closed_ok p e _ ok))
+  stops_ok v (Plain asks) e (Err closing) new ok t h = unchanged p k new _ refl (ended_by p _ _ h.2 (closed_ok p e _ ok))
   stops_ok v f e result new ok t h = absurd h
 
   -- the frames before have taken effect; what is left are these
@@ -183,7 +174,7 @@ module _ (p : Past) (k : ℕ) (all : List Seen) (is : slice_get p.theirs k ≡ S
       stops_ok v (seen v.frame) e result new ok (k, (all, is, rw split (Among_right before _ _ (inl refl)))) stops
   takes_ok (v ∷ left) before asks fault e result new split ok low taken (inr (goes, rest)) =
       let f : Seen = seen v.frame in
-      let one : Effect p e (frame_taken f e) f = frame_keeps p e f ok (k, (all, is, rw split (Among_right before _ _ (inl refl)))) (goes_on e f goes) in
+      let one : Effect p e (frame_taken f e) f = frame_keeps p e f ok (k, (all, is, rw split (Among_right before _ _ (inl refl)))) (no_fault_there e f goes) in
       takes_ok left (before ++ f ∷ []) (asks || asks_ack f) fault (frame_taken f e) result new (split ∙ sym (append_assoc before (f ∷ []) (seen_all (frames_of left)))) one.ok
       (rw (ap (λ x. x.1) (frame_taken_stands f e)) low)
       (All_append (FrameTaken (frame_taken f e).recvs) before (f ∷ []) (every_stays e.recvs (frame_taken f e).recvs one.grow before taken) (one.taken, tt)) rest
@@ -192,19 +183,19 @@ pub receives : (p : Past) (e new : End) (k : ℕ) (text : List ℕ) (result : Re
 receives p e new k text result ok is step = by_closed e.closed step
   where
     settled : (mid : End) → EndOk (with_received p k result) mid → new ≡ settle mid → EndOk (with_received p k result) new
-    settled mid h same = moved_to _ _ _ same (settle_ok _ mid h)
+    settled mid h same = ended_by _ _ _ same (settle_ok _ mid h)
 
     by_kept : (b : Bool) → e.floor ≤ k → MatchBool b ((result ≡ Ok Duplicate) × (new ≡ e)) ((mid : End) × TakesPayload k text e result mid × (new ≡ settle mid)) → EndOk (with_received p k result) new
-    by_kept true low h = unchanged p k new _ (ap (λ r. is_done (answers.Deliver r)) h.0) (moved_to p e new h.1 ok)
+    by_kept true low h = unchanged p k new _ (ap (λ r. is_done (answers.Deliver r)) h.0) (ended_by p e new h.1 ok)
     by_kept false low (mid, takes, same) = settled mid (takes_ok p k (frames_in text) is (reading_of text).left [] false (reading_of text).fault e result mid refl ok low tt takes) same
 
     by_floor : (b : Bool) → nat_lt k e.floor ≡ b → MatchBool b ((result ≡ Ok BelowFloor) × (new ≡ e)) (MatchBool (set.contains e.done k) ((result ≡ Ok Duplicate) × (new ≡ e)) ((mid : End) × TakesPayload k text e result mid × (new ≡ settle mid))) → EndOk (with_received p k result) new
-    by_floor true low h = unchanged p k new _ (ap (λ r. is_done (answers.Deliver r)) h.0) (moved_to p e new h.1 ok)
+    by_floor true low h = unchanged p k new _ (ap (λ r. is_done (answers.Deliver r)) h.0) (ended_by p e new h.1 ok)
     by_floor false low h = by_kept (set.contains e.done k) (ltb-false k e.floor low) h
 
     by_reason : (c : Closed) → ClosedReceive c e result new → EndOk (with_received p k result) new
-    by_reason (ByUs closing) h = unchanged p k new _ (ap (λ r. is_done (answers.Deliver r)) h.0) (moved_to p e new h.1 ok)
-    by_reason (ByPeer code) h = unchanged p k new _ (ap (λ r. is_done (answers.Deliver r)) h.0) (moved_to p e new h.1 ok)
+    by_reason (ByUs closing) h = unchanged p k new _ (ap (λ r. is_done (answers.Deliver r)) h.0) (ended_by p e new h.1 ok)
+    by_reason (ByPeer code) h = unchanged p k new _ (ap (λ r. is_done (answers.Deliver r)) h.0) (ended_by p e new h.1 ok)
 
     by_closed : (o : Option Closed) → ReceiveBy o k text e result new → EndOk (with_received p k result) new
     by_closed (Some c) h = by_reason c h

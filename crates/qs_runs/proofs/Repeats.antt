@@ -27,13 +27,13 @@ use Rattle.qs_machine.specs.Receiving.{ReceiveStep, ReceiveBy, TakesPayload, Tak
 use Rattle.qs_runs.specs.Agree.{IsOld, frames_in}
 use Rattle.qs_runs.proofs.Members.{run-cases, run-old, below-end, end-le}
 use Rattle.qs_machine.proofs.TableLaws.{lookup_open, total_update, total_each}
+use Rattle.qs_machine.proofs.CallsSound.{no_fault_there}
 use Rattle.qs_runs.specs.Pasts.{Past, Tells}
 use Rattle.qs_runs.specs.Invariant.{EndOk}
 use Rattle.qs_runs.proofs.Changes.{AllGrow, Grows}
 use Rattle.qs_runs.proofs.Opening.{new_recvs, lane_opened}
 use Rattle.qs_runs.proofs.Taking.{or_else_none, stream_passed, fin_fits, reset_fits}
 use Rattle.qs_runs.proofs.Frames.{Effect, frame_keeps, acks_recvs}
-use Rattle.qs_runs.proofs.Receives.{goes_on}
 use Rattle.qs_runs.proofs.Unharmed.{spent_opened}
 
 -- a packet that was processed
@@ -210,9 +210,9 @@ takes_spend [] p k asks fault e result new ok told all h = at_end_spends k asks 
 takes_spend (v ∷ left) p k asks fault e result new ok told all (inl stops) = stops_spend v (seen v.frame) e result new stops
 takes_spend (v ∷ left) p k asks fault e result new ok told all (inr (goes, rest)) =
     let f : Seen = seen v.frame in
-    let one : Effect p e (frame_taken f e) f = frame_keeps p e f ok (told f (inl refl)) (goes_on e f goes) in
+    let one : Effect p e (frame_taken f e) f = frame_keeps p e f ok (told f (inl refl)) (no_fault_there e f goes) in
     takes_spend left p k (asks || asks_ack f) fault (frame_taken f e) result new one.ok (λ g a. told g (inr a)) (all_old e (frame_taken f e) one.grow (seen_all (frames_of left)) all.1) rest
-    ∙ frame_spends e f all.0 (goes_on e f goes)
+    ∙ frame_spends e f all.0 (no_fault_there e f goes)
 
 -- a payload that tells nothing new spends nothing
 pub spends_nothing : (p : Past) (e new : End) (k : ℕ) (text : List ℕ) (result : Result Received Closing) → EndOk p e → slice_get p.theirs k ≡ Some (frames_in text) → e.closed ≡ None → ReceiveStep e k text result new →

@@ -71,7 +71,7 @@ module _ (a b : Settings) (h : History) (w : World) (ok : WorldOk a b h w) where
   pub ends_face : (s : Side) → Facing (end_of w (other s)) (end_of w s)
   ends_face s = facing (end_of w (other s)) (end_of w s) (opposite s) (told_limits s) (known_counts s).0 (known_counts s).1
 
-moved : {X : Type 0} (P : X → Type 0) (x y : X) → y ≡ x → P x → P y
+pub moved : {X : Type 0} (P : X → Type 0) (x y : X) → y ≡ x → P x → P y
 moved P x y e h = subst P (sym e) h
 
 -- the two ends begin in agreement

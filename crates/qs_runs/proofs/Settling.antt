@@ -1,7 +1,5 @@
 -- As a call ends the limits rise.
-use Rattle.std.proofs.Common.{◌≡◌, ℕ, ◌+◌, ◌/◌, ◌<◌, ◌≤◌, min, max, Bool, true, false, ◌||◌, ◌&&◌, Option, Some, None, is_some, option_map, refl, sym, ap, ◌∙◌, subst, arith, inl, inr, ◌==◌, nat_lt, nat_le, if◌then◌else◌}
-use Rattle.std.proofs.lemmas.Bool.{or_cases, and_parts, leb-true, ltb-true}
-use Rattle.qs_ranges.specs.Numbers.{MAX_VARINT}
+use Rattle.std.proofs.Common.{◌≡◌, ℕ, ◌≤◌, Bool, true, false, Option, Some, None, is_some, option_map, refl, sym, ap, ◌∙◌, subst, arith, if◌then◌else◌}
 use Rattle.qs_recv.specs.Lane.{RecvLane, raise, next_limit, taken}
 use Rattle.qs_machine.specs.Tables.{Tables, lookup, each}
 use Rattle.qs_machine.specs.Ends.{End, window}
@@ -9,19 +7,8 @@ use Rattle.qs_machine.specs.Credit.{settle, all_taken}
 use Rattle.qs_runs.specs.Pasts.{Past}
 use Rattle.qs_runs.specs.Invariant.{EndOk, RecvOk, RecvSlot, OpenOk, is_open}
 use Rattle.qs_machine.proofs.TableLaws.{lookup_each, slots_each}
+use Rattle.qs_machine.proofs.Rising.{next_limit_grows}
 use Rattle.qs_runs.proofs.Changes.{Grows, AllGrow, taken_stays}
-
-rises : (limit step most : ℕ) → (b : Bool) → (nat_le (limit + step) most || (most == MAX_VARINT && nat_lt limit most)) ≡ b → limit ≤ (if b then most else limit)
-rises limit step most false e = omega arith
-rises limit step most true e =
-    elim (or_cases _ _ e) [
-      | inl a ↦ (let le : limit + step ≤ most = leb-true (limit + step) most a in omega arith)
-      | inr b ↦ (let lt : limit < most = ltb-true limit most (and_parts (most == MAX_VARINT) (nat_lt limit most) b).1 in omega arith)
-    ]
-
--- no limit falls
-pub limit_rises : (limit t w : ℕ) → limit ≤ next_limit limit t w
-limit_rises limit t w = rises limit (max 1 (w / 2)) (min MAX_VARINT (t + w)) _ refl
 
 raised_by : (p : Past) (n window w : ℕ) (l : RecvLane) → RecvOk p n window l → (b : Bool) → RecvOk p n window (record l { limit = if b then l.limit else next_limit l.limit (taken l) w })
 raised_by p n window w l h b =
@@ -40,7 +27,7 @@ raised_by p n window w l h b =
   where
     risen : (b : Bool) → l.limit ≤ (if b then l.limit else next_limit l.limit (taken l) w)
     risen true = omega arith
-    risen false = limit_rises l.limit (taken l) w
+    risen false = next_limit_grows l.limit (taken l) w
 
 pub raise_grows : (l : RecvLane) → Grows l (raise l)
 raise_grows l = record { received = λ q h. h; final = λ s h. h; reset = λ h. h }
@@ -76,8 +63,8 @@ module _ (p : Past) (e : End) (ok : EndOk p e) where
         credit = record {
           sent_known = ok.credit.sent_known;
           known_told = ok.credit.known_told;
-          window_granted = omega (arith, ok.credit.window_granted, limit_rises e.granted (all_taken e) e.settings.conn_window);
-          granted_told = λ limit t. omega (arith, ok.credit.granted_told limit t, limit_rises e.granted (all_taken e) e.settings.conn_window);
+          window_granted = omega (arith, ok.credit.window_granted, next_limit_grows e.granted (all_taken e) e.settings.conn_window);
+          granted_told = λ limit t. omega (arith, ok.credit.granted_told limit t, next_limit_grows e.granted (all_taken e) e.settings.conn_window);
         };
         streams = subst (λ r. OpenOk p e.role e.peer.streams_bidi e.peer.streams_uni e.known_bidi e.known_uni (is_open e.sends) r) (sym (open_each raise e.recvs)) ok.streams;
       }

@@ -9,17 +9,13 @@ use Rattle.qs_recv.specs.Assembled.{put, discard, store}
 use Rattle.qs_recv.specs.Lane.{RecvLane, take_stream, is_whole, breaks_final_size, check_stream, check_reset}
 use Rattle.qs_machine.specs.Ends.{End}
 use Rattle.qs_machine.specs.Seen.{Stream}
-use Rattle.qs_machine.specs.Verdicts.{fault_if, or_else, state_fault_in, credit_fault, bytes_fault, lane_of}
+use Rattle.qs_machine.specs.Verdicts.{or_else, state_fault_in, credit_fault, bytes_fault, lane_of}
 use Rattle.qs_runs.specs.Pasts.{Past, Tells, TellsOffset, TellsByte, TellsEnd, TellsReset}
 use Rattle.qs_runs.specs.Invariant.{RecvOk, StreamTaken}
 use Rattle.qs_runs.proofs.Members.{run-cases, run-old, run-new, get-stored}
 use Rattle.qs_runs.proofs.Changes.{Grows, Grows_refl}
 
 -- What a check that found nothing says
-
-pub no_fault : (b : Bool) (code : ℕ) → fault_if b code ≡ None → b ≡ false
-no_fault true code e = absurd (none-some code (sym e))
-no_fault false code e = refl
 
 pub or_else_none : (a b : Option ℕ) → or_else a b ≡ None → (a ≡ None) × (b ≡ None)
 or_else_none None b e = (refl, e)
