@@ -28,6 +28,7 @@ use Rattle.qs_machine.specs.Outgoing.{Outgoing, with_outgoing, piece_acked_out, 
 use Rattle.qs_conn.specs.Runs.{held_out, pieces_left, acks_out, AcksBy, AcksPacket, AreSameBelow, named_out, AcksNamed, AcksRanges, is_ahead, ahead_pieces, AcksAhead}
 use Rattle.qs_machine.proofs.Carried.{none_some, some_is, get_new, get_removed}
 use Rattle.qs_conn.proofs.Runs.{less_left}
+use Rattle.qs_conn.proofs.Chunks.{same_truth}
 use Rattle.qs_machine.proofs.Named.{filter_first, filter_nothing, filter_alike}
 
 -- Lists of pieces
@@ -194,11 +195,6 @@ not_ahead p k not = go (is_ahead p k) refl
     go true is = absurd (not (as_ahead p k is))
     go false is = is
 
-both_say : (a b : Bool) → (a ≡ true → b ≡ true) → (b ≡ true → a ≡ true) → a ≡ b
-both_say true b to from = sym (to refl)
-both_say false true to from = absurd (both_ways false refl (from refl))
-both_say false false to from = refl
-
 -- The pass over an ACK
 
 module _ (late : Bool) (p q : Passing) (k : ℕ) (o : Outgoing) (m : Records) (given : GivesNumber (held_out late o) p k q) (same : AreSameBelow p.below m (held_out late o)) where
@@ -207,7 +203,7 @@ module _ (late : Bool) (p q : Passing) (k : ℕ) (o : Outgoing) (m : Records) (g
   first_ahead =
       ap (flat_map (pieces_of late m)) (filter_first m (is_ahead p) (is_ahead q) k (ap is_some (same k given.named.0) ∙ given.held) (ahead_as p k given.named)
       (λ j ge. not_ahead q j (λ ahead. let lt = ((given.left j).0 ahead).0 in omega (arith, ge, lt)))
-      (λ j lt. both_say (is_ahead p j) (is_ahead q j) (λ is. ahead_as q j ((given.left j).1 (lt, as_ahead p j is))) (λ is. ahead_as p j ((given.left j).0 (as_ahead q j is)).1))
+      (λ j lt. same_truth (is_ahead p j) (is_ahead q j) (λ is. ahead_as q j ((given.left j).1 (lt, as_ahead p j is))) (λ is. ahead_as p j ((given.left j).0 (as_ahead q j is)).1))
       (λ j gt held. not_ahead p j (λ ahead. let le = given.greatest j ahead (ap is_some (sym (same j ahead.0)) ∙ held) in omega (arith, gt, le))))
       ∙ ap (λ (x : Option (List Piece)). (elim x [ None ↦ [] | Some ps ↦ map (acked_at late k) ps ]) ++ ahead_pieces late m q) (same k given.named.0)
 
@@ -246,7 +242,7 @@ begun late p ranges o new result begins acked = λ falls.
     let by_pass = acked (held_out late o) start (λ k lt. refl) in
     subst (λ ks. AcksBy (flat_map (pieces_of late (held_out late o)) (reverse ks)) o result new)
     (ap (λ (x : Passing). filter (is_ahead x) (fmap.keys (held_out late o))) begins
-    ∙ filter_alike (held_out late o) (is_ahead (pass_over ranges)) (is_named ranges) (λ j. both_say (is_ahead (pass_over ranges) j) (is_named ranges j) (to j) (from falls j))) by_pass
+    ∙ filter_alike (held_out late o) (is_ahead (pass_over ranges)) (is_named ranges) (λ j. same_truth (is_ahead (pass_over ranges) j) (is_named ranges j) (to j) (from falls j))) by_pass
   where
     to : (j : ℕ) → is_ahead (pass_over ranges) j ≡ true → is_named ranges j ≡ true
     to j is = let ahead = as_ahead (pass_over ranges) j is in named j ahead.0 ahead.1

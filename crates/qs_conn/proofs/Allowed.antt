@@ -13,12 +13,6 @@ module _ {X : Type 0} where
   with_twice t (suc (suc zero)) xs ys = refl
   with_twice t (suc (suc (suc k))) xs ys = refl
 
-  with_own : (t : Tables X) (k : ℕ) → with_table t k (table t k) ≡ t
-  with_own t zero = refl
-  with_own t (suc zero) = refl
-  with_own t (suc (suc zero)) = refl
-  with_own t (suc (suc (suc k))) = refl
-
   update_with : (t : Tables X) (n : ℕ) (xs : List X) (y : X) → update (with_table t (n % 4) xs) n y ≡ with_table t (n % 4) (slice_set xs (n / 4) y)
   unfolding update
   update_with t n xs y = ap (λ ys. with_table (with_table t (n % 4) xs) (n % 4) (slice_set ys (n / 4) y)) (table_same t (n % 4) xs) ∙ with_twice t (n % 4) xs _
@@ -67,9 +61,6 @@ module _ {X : Type 0} where
 -- the end whose first halves of a type are changed
 abbrev pub first_halves : (SendLane → SendLane) → ℕ → ℕ → End → End
 first_halves f k i e = record e { sends = with_table e.sends k (first_changed f i (table e.sends k)) }
-
-pub halves_begin : (f : SendLane → SendLane) (k : ℕ) (e : End) → e ≡ first_halves f k 0 e
-halves_begin f k e = ap (λ (t : Tables SendLane). record e { sends = t }) (sym (ap (with_table e.sends k) (none_changed f (table e.sends k)) ∙ with_own e.sends k))
 
 pub halves_all : (f : SendLane → SendLane) (k i : ℕ) (e now : End) → now ≡ first_halves f k i e → length (table e.sends k) ≤ i → now ≡ record e { sends = with_table e.sends k (map f (table e.sends k)) }
 halves_all f k i e now is all = is ∙ ap (λ (xs : List SendLane). record e { sends = with_table e.sends k xs }) (all_changed f i (table e.sends k) all)

@@ -10,6 +10,7 @@ use Rattle.qs_machine.specs.Tables.{Tables, table, with_table, lookup, update, u
 use Rattle.qs_machine.specs.Ends.{is_uni, role_bit}
 use Rattle.qs_machine.proofs.TableLaws.{lookup_same}
 use Rattle.qs_machine.specs.Credit.{recv_ended, send_ended, both_ended}
+use Rattle.qs_machine.proofs.Counts.{recvs_raised}
 use Rattle.qs_conn.specs.declared.ended.EndedStreams.{EndedStreams}
 use Rattle.qs_conn.specs.Ended.{one_if, recv_over, send_over, over, is_over, recounted, AreAllCounted}
 
@@ -90,10 +91,6 @@ pairs_raised : (rs : List RecvLane) (ss : List SendLane) → pairs (map raise rs
 pairs_raised [] ss = refl
 pairs_raised (r ∷ rs) [] = refl
 pairs_raised (r ∷ rs) (s ∷ ss) = omega (arith, pairs_step r rs s ss, pairs_step (raise r) (map raise rs) s ss, pairs_raised rs ss)
-
-count_raised : (rs : List RecvLane) → length (filter recv_ended (map raise rs)) ≡ length (filter recv_ended rs)
-count_raised [] = refl
-count_raised (r ∷ rs) = omega (arith, len_cond (recv_ended r) r (filter recv_ended rs), len_cond (recv_ended r) (raise r) (filter recv_ended (map raise rs)), count_raised rs)
 
 bit_le : (b : Bool) → one_if b ≤ 1
 bit_le true = omega arith
@@ -312,9 +309,9 @@ sends_opened role recvs sends now e n limit buffer false h is =
 pub counted_raised : (role : Role) (recvs now : Tables RecvLane) (sends : Tables SendLane) (e : EndedStreams) → AreAllCounted role recvs sends e → now ≡ each raise recvs → AreAllCounted role now sends e
 unfolding each
 counted_raised Client recvs now sends e h is =
-    subst (λ (t : Tables RecvLane). AreAllCounted Client t sends e) (sym is) (record { bidi = h.bidi ∙ sym (pairs_raised recvs.server_bidi sends.server_bidi); uni = h.uni ∙ sym (count_raised recvs.server_uni) })
+    subst (λ (t : Tables RecvLane). AreAllCounted Client t sends e) (sym is) (record { bidi = h.bidi ∙ sym (pairs_raised recvs.server_bidi sends.server_bidi); uni = h.uni ∙ sym (recvs_raised recvs.server_uni) })
 counted_raised Server recvs now sends e h is =
-    subst (λ (t : Tables RecvLane). AreAllCounted Server t sends e) (sym is) (record { bidi = h.bidi ∙ sym (pairs_raised recvs.client_bidi sends.client_bidi); uni = h.uni ∙ sym (count_raised recvs.client_uni) })
+    subst (λ (t : Tables RecvLane). AreAllCounted Server t sends e) (sym is) (record { bidi = h.bidi ∙ sym (pairs_raised recvs.client_bidi sends.client_bidi); uni = h.uni ∙ sym (recvs_raised recvs.client_uni) })
 
 pub none_counted : (role : Role) (recvs : Tables RecvLane) (sends : Tables SendLane) → recvs ≡ no_streams → AreAllCounted role recvs sends (record { bidi = 0; uni = 0 })
 none_counted Client recvs sends none = subst (λ (t : Tables RecvLane). AreAllCounted Client t sends (record { bidi = 0; uni = 0 })) (sym none) (record { bidi = refl; uni = refl })

@@ -32,8 +32,8 @@ use Rattle.qs_machine.specs.Seen.{Seen, Ack, Stream, Control, seen_all}
 use Rattle.qs_machine.specs.Due.{Among, IsDueItem, IsDue, IsEndDue, StreamGoes}
 use Rattle.qs_machine.specs.Lawful.{Fills, AcksAll, AreInTurn, ComesBefore, frame_put}
 use Rattle.qs_machine.specs.Making.{IsText, NamesMost}
-use Rattle.qs_conn.specs.Filling.{end_by, MayGo, stream_frame, InPacket, slot_of, IsPassed, all_items, Turn, turn_at, HadTurn, IsOnWay, start_of, way_end, Flowing, Flow, Packed, Stage}
-use Rattle.qs_conn.proofs.Pieces.{among_more}
+use Rattle.qs_machine.proofs.Carried.{among_more}
+use Rattle.qs_conn.specs.Filling.{end_by, MayGo, stream_frame, InPacket, slot_of, IsPassed, all_items, turn_at, HadTurn, IsOnWay, start_of, way_end, Flowing, Flow, Packed, Stage}
 use Rattle.qs_conn.proofs.Items.{fills_push, sum_by_base, known_by_base}
 use Rattle.qs_conn.proofs.Texts.{all_push, text_push, seen_push}
 use Rattle.qs_conn.proofs.Stages.{no_ack, turn_push}
@@ -184,9 +184,6 @@ module _ (delay room : ℕ) (old : End) (text : List ℕ) (e : End) (around : Bo
 
     room_is : frame_len s.lane.id c.offset c.len ≡ frame_len n c.offset c.len
     room_is = ap (λ m. frame_len m c.offset c.len) t.id
-
-    pub chunk_inside : length (canonical frame) ≤ room - length text
-    chunk_inside = omega (arith, chunk_len, room_is, next.allowed.fits)
 
     len' : length text' ≡ length text + frame_len n c.offset c.len
     len' = omega (arith, length-append text (canonical frame), chunk_len)
@@ -416,20 +413,13 @@ pub flow_begins : (delay room : ℕ) (old : End) (text : List ℕ) (e : End) (b 
 flow_begins delay room old text e true around first n is on f = absurd (true≢false is)
 flow_begins delay room old text e false around first n is on f = chunking_begins delay room old text e around first n on f
 
-pub flow_full : (delay room : ℕ) (old : End) (text : List ℕ) (e : End) (b : Bool) (around : Bool) (first n m : ℕ) → b ≡ true → Flow delay room old text e b (turn_at around first n) → Flow delay room old text e b (turn_at around first m)
-flow_full delay room old text e true around first n m is f = f
-flow_full delay room old text e false around first n m is f = absurd (true≢false (sym is))
-
-two : (t v : ℕ) (rest : List ℕ) → 2 ≤ length (short t ++ (short v ++ rest))
+pub two : (t v : ℕ) (rest : List ℕ) → 2 ≤ length (short t ++ (short v ++ rest))
 two t v rest = omega (arith, length-append (short t) (short v ++ rest), length-append (short v) rest, short_positive t, short_positive v)
 
 -- a STREAM frame has two bytes or more
 pub stream_some : (n offset : ℕ) (fin : Bool) (bytes : List ℕ) → 2 ≤ length (canonical (stream n offset fin bytes))
 unfolding canonical
 stream_some n offset fin bytes = two _ n _
-
-pub frame_some : (n offset : ℕ) (bytes : List ℕ) → 2 ≤ frame_len n offset (length bytes)
-frame_some n offset bytes = omega (arith, stream_some n offset false bytes, frame_len_is_canonical n offset false bytes)
 
 -- the frame of a chunk that may go, as it is written
 pub frame_size : (n : ℕ) (c : Chunk) (bytes : List ℕ) → length bytes ≡ c.len → length (canonical (stream n c.offset c.fin bytes)) ≡ frame_len n c.offset c.len

@@ -1,5 +1,5 @@
 -- Items have one key each, and keys are ordered.
-use Rattle.std.proofs.Common.{◌≡◌, ℕ, zero, suc, ◌⊎◌, ◌↔◌, false, cond, IsTrue, List, length, Result, Ok, Err, IsOk, IfOk, IfErr, refl, sym, ap, ◌∙◌, subst, inl, inr, arith}
+use Rattle.std.proofs.Common.{◌≡◌, ℕ, zero, suc, ◌⊎◌, ◌↔◌, false, IsTrue, List, length, Result, Ok, Err, IfOk, IfErr, refl, sym, ap, ◌∙◌, subst, inl, inr, arith}
 use Rattle.std.specs.Result.{is_ok}
 use Rattle.std.proofs.lemmas.Bool.{both_ways}
 use Rattle.qs_send.specs.Records.{Among}
@@ -88,10 +88,6 @@ gap_by xs i (Err k) h within parted =
 pub has_item : (xs : List Item) (i : Item) (r : Result ℕ ℕ) → IfOk r (IsPlaceOf xs i) → IfErr r (IsGapFor item_cmp xs i) → IsTrue (is_ok r) ↔ Among i xs
 has_item xs i (Ok k) at gap = (λ h. among_place xs i k at, λ a. refl)
 has_item xs i (Err k) at gap = (λ h. absurd (both_ways false refl h), λ a. absurd (not_among_gap item_cmp item_total xs i k gap a))
-
-pub inserted : {E X : Type 0} (r : Result (Unit {0}) E) (xs ys zs : List X) → IsOk r → zs ≡ cond (is_ok r) xs ys → zs ≡ xs
-inserted (Ok u) xs ys zs ok is = is
-inserted (Err e) xs ys zs ok is = absurd (both_ways false refl ok)
 
 -- an item that is there comes once more
 pub there_already : (xs : List Item) (i : Item) (r : Result ℕ ℕ) → IfOk r (IsPlaceOf xs i) → ((k : ℕ) → r ≡ Err k → ⊥) → (j : Item) → Among j xs ↔ (Among j xs ⊎ (j ≡ i))

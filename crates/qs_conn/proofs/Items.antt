@@ -113,10 +113,6 @@ base_item (DataBlocked m) e = refl
 base_item (StreamDataBlocked n m) e = ap (λ t. record (base e) { sends = t }) (mark_base e.sends n (send_lane e n) refl)
 base_item (StreamsBlocked d m) e = refl
 
-pub base_ack : (largest : ℕ) (ranges : List (ℕ × ℕ)) (e : End) → base (frame_put (Ack largest ranges) e) ≡ base e
-unfolding frame_put
-base_ack largest ranges e = refl
-
 -- Over several frames
 
 pub fills_push : (old e mid : End) (fs : List Seen) (f : Seen) → Fills old e fs mid → MayPut old mid f → Fills old e (fs ++ f ∷ []) (frame_put f mid)

@@ -1,5 +1,5 @@
 -- What holds of an endpoint beside its value.
-use Rattle.std.proofs.Common.{◌≡◌, ℕ, Bool, true, false, not, ◌&&◌, Option, Some, None, max, refl, ap, sym, ◌∙◌, arith, rules, subst, cond}
+use Rattle.std.proofs.Common.{◌≡◌, ℕ, Bool, true, false, not, ◌&&◌, Option, Some, None, refl, ap, sym, ◌∙◌, arith, rules, subst, cond}
 use Rattle.std.proofs.lemmas.Bool.Decides.{nat_tests}
 use Rattle.qs_wire.specs.declared.stream_id.Role.{Role}
 use Rattle.qs_recv.specs.Lane.{RecvLane, new_lane, after_read, stop}
@@ -7,10 +7,9 @@ use Rattle.qs_calls.specs.declared.settings.Settings.{Settings}
 use Rattle.qs_calls.specs.declared.settings.PeerLimits.{PeerLimits}
 use Rattle.qs_calls.specs.declared.settings.SetupFault.TheVariants.{OutOfRange, TooManyStreams}
 use Rattle.qs_calls.specs.declared.closing.Closed.{Closed}
-use Rattle.qs_calls.specs.Settings.{are_in_range, are_spellable, are_countable, limits_fault, setup_fault}
+use Rattle.qs_calls.specs.Settings.{are_in_range, are_spellable, are_countable, setup_fault}
 use Rattle.qs_machine.specs.Tables.{Tables, no_streams, lookup, updated, open_to}
 use Rattle.qs_machine.specs.Ends.{End, new_end, end_unless, window_by}
-use Rattle.qs_machine.specs.Raising.{greater_limits}
 use Rattle.qs_machine.specs.Standing.{KeepsCredit}
 use Rattle.qs_conn.specs.Layers.{IsKept}
 use Rattle.qs_machine.proofs.Sound.{keeps_open}
@@ -69,32 +68,3 @@ kept_opened role s p recvs now g b u n w true c k window is = kept_recvs role s 
 kept_opened role s p recvs now g b u n w false c k window is =
     kept_recvs role s p recvs now g b u c k
     (subst (λ (t : Tables RecvLane). KeepsCredit role s t g) (sym (is ∙ ap (λ v. open_to recvs n (λ m. new_lane v)) window)) (keeps_open role s recvs g k.sound n))
-
--- greater limits of the peer
-
-both_true : (a b : Bool) → cond (not a) (Some OutOfRange) (cond (not b) (Some TooManyStreams) None) ≡ None → (a ≡ true) × (b ≡ true)
-both_true true true h = (refl, refl)
-both_true true false h = absurd (search (rules, h))
-both_true false b h = absurd (search (rules, h))
-
-pub spelled_of : (p : PeerLimits) → limits_fault p ≡ None → are_spellable p ≡ true
-spelled_of p h = (both_true (are_spellable p) (are_countable p) h).0
-
-greater_spelled : (p q : PeerLimits) → are_spellable p ≡ true → are_spellable q ≡ true → are_spellable (greater_limits p q) ≡ true
-greater_spelled p q a b = grind (arith, nat_tests, a, b)
-
-pub kept_known : (role : Role) (s : Settings) (p q : PeerLimits) (recvs : Tables RecvLane) (granted bidi uni : ℕ) (closed : Option Closed) → limits_fault q ≡ None
-    → IsKept role s p recvs granted bidi uni closed → IsKept role s (greater_limits p q) recvs granted (max bidi q.streams_bidi) (max uni q.streams_uni) closed
-kept_known role s p q recvs granted bidi uni closed fine h =
-    let h2 = both_true (are_spellable q) (are_countable q) fine in
-    let countable = h2.1 in
-    let b = h.bidi_fits in
-    let u = h.uni_fits in
-    record {
-      sound = h.sound;
-      granted_fits = h.granted_fits;
-      peer_fits = greater_spelled p q h.peer_fits h2.0;
-      bidi_fits = grind (arith, nat_tests, countable, b);
-      uni_fits = grind (arith, nat_tests, countable, u);
-      closing_fits = h.closing_fits;
-    }

@@ -2,7 +2,7 @@
 use Rattle.std.proofs.Common.{◌≡◌, ℕ, zero, suc, ◌+◌, ◌-◌, ◌<◌, ◌≤◌, ◌^◌, Bool, false, List, [], ◌++◌, ◌∷◌, length, map, max, take, drop, get_or, replicate, Option, None, Some, slice_get, refl, sym, ap, ◌∙◌, arith}
 use Rattle.std.specs.List.{range_with_len}
 use Rattle.std.proofs.lemmas.List.Edits.{map_over_more}
-use Rattle.std.proofs.lemmas.Option.{none-some, same_Some, slice_get_past}
+use Rattle.std.proofs.lemmas.Option.{none-some, same_Some}
 use Rattle.qs_recv.specs.Lane.{RecvLane, new_lane, raise}
 use Rattle.qs_machine.specs.declared.tally.Tally.{Tally}
 use Rattle.qs_conn.specs.declared.recv_lanes.Touched.{Touched}
@@ -46,9 +46,6 @@ raised_more xs ys now i lt same is at = go (slice_get ys i) refl
         read [] k y e = refl
         read (z ∷ zs) zero y e = sym (same_Some z y e)
         read (z ∷ zs) (suc k) y e = read zs k y e
-
-pub past_changed : (xs : List RecvLane) (i : ℕ) (f : RecvLane → RecvLane) → length xs ≤ i → xs ≡ changed xs i f (slice_get xs i)
-past_changed xs i f le = ap (changed xs i f) (sym (slice_get_past xs i le))
 
 -- what was opened is taken back
 pub lanes_undone : (xs now : List RecvLane) (ms now_ms : List Bool) (t now_t : Tally) (touched now_touched : Touched) (first now_first : ℕ) → now ≡ xs → now_ms ≡ ms → now_t ≡ t → now_touched ≡ touched → now_first ≡ first

@@ -153,6 +153,3 @@ small_two a b p q = least_has (λ n. n < 2 ^ 62) a b p q
 
 pub least_given : (A : Type 0) (P : ℕ → Type 0) (from : ℕ) (r : Option ℕ) → A → IsLeast P from r → IsLeast (λ n. A × P n) from r
 least_given A P from r a h = record { found = λ n is. (let f = h.found n is in (f.0, (a, f.1))); least = λ n ge p. h.least n ge p.1 }
-
-pub least_never : (A : Type 0) (P : ℕ → Type 0) (from : ℕ) → (A → ⊥) → IsLeast (λ n. A × P n) from None
-least_never A P from never = record { found = λ n none. absurd (none-some n none); least = λ n ge p. absurd (never p.0) }

@@ -33,12 +33,10 @@ pub mod Settling
 pub mod Slots
 pub mod Sendables
 pub mod Stages
-pub mod Stops
 pub mod Telling
 pub mod Texts
 pub mod ToldEnds
 pub mod ToldLaws
-pub mod Undone
 pub mod Marked
 pub mod Words
 pub mod Summed

@@ -2,7 +2,7 @@
 use Rattle.std.proofs.Common.{◌≡◌, ℕ, zero, suc, ◌+◌, ◌-◌, ◌*◌, ◌/◌, ◌%◌, min, ◌<◌, ◌≤◌, ◌^◌, Bool, true, false, List, [], ◌∷◌, ◌++◌, map, length, get_or, take, replicate, Option, None, Some, slice_get, refl, sym, ap, ◌∙◌, subst, arith, inl, inr}
 use Rattle.std.specs.List.{range_with_len}
 use Rattle.std.specs.Option.{IfSome, IfNone}
-use Rattle.std.proofs.Math.ListN.{set, length-set}
+use Rattle.std.proofs.Math.ListN.{set}
 use Rattle.std.proofs.lemmas.Bool.{cases_lt, both_ways, true≢false}
 use Rattle.std.proofs.lemmas.List.{length-append, length-take}
 use Rattle.std.proofs.lemmas.List.FromFn.{length-map-range_with_len}
@@ -31,14 +31,6 @@ module _ {X : Type 0} (Q : X → Type 0) where
   marked_set (x ∷ xs) [] i y m q h = absurd h
   marked_set (x ∷ xs) (k ∷ ms) zero y m q h = (q, h.1)
   marked_set (x ∷ xs) (k ∷ ms) (suc i) y m q h = (h.0, marked_set xs ms i y m q h.1)
-
-  -- one part becomes another that has the property if the first one has it
-  pub marked_kept : (xs : List X) (ms : List Bool) (i : ℕ) (x y : X) → x ≡ get_or xs i x → (Q x → Q y) → AreMarked Q xs ms → AreMarked Q (set xs i y) ms
-  marked_kept [] [] i x y at q h = h
-  marked_kept [] (k ∷ ms) i x y at q h = absurd h
-  marked_kept (z ∷ xs) [] i x y at q h = absurd h
-  marked_kept (z ∷ xs) (k ∷ ms) zero x y at q h = (λ is. q (subst Q (sym at) (h.0 is)), h.1)
-  marked_kept (z ∷ xs) (k ∷ ms) (suc i) x y at q h = (h.0, marked_kept xs ms i x y at q h.1)
 
   pub marked_take : (n : ℕ) (xs : List X) (ms : List Bool) → AreMarked Q xs ms → AreMarked Q (take n xs) (take n ms)
   marked_take zero xs ms h = tt
@@ -71,14 +63,6 @@ module _ {X : Type 0} (Q : X → Type 0) where
 
   pub mark_there : (xs : List X) (ms : List Bool) (i : ℕ) → AreMarked Q xs ms → i < length xs → i < length ms
   mark_there xs ms i h there = omega (arith, marked_len xs ms h, there)
-
-  -- a part was changed and then looked at
-  pub looked_at : (xs : List X) (ms now : List Bool) (i : ℕ) (y : X) (m : Bool) → (m ≡ false → Q y) → now ≡ set ms i m → (length xs ≤ 2 ^ 60) × AreMarked Q xs ms → (length (set xs i y) ≤ 2 ^ 60) × AreMarked Q (set xs i y) now
-  looked_at xs ms now i y m q is h = (rw length-set h.0, subst (AreMarked Q (set xs i y)) (sym is) (marked_set xs ms i y m q h.1))
-
-  -- a part was changed that stays quiet if it was
-  pub stays_quiet : (xs : List X) (ms : List Bool) (i : ℕ) (x y : X) (f : X → X) → x ≡ get_or xs i x → y ≡ f x → ((z : X) → Q z → Q (f z)) → (length xs ≤ 2 ^ 60) × AreMarked Q xs ms → (length (set xs i y) ≤ 2 ^ 60) × AreMarked Q (set xs i y) ms
-  stays_quiet xs ms i x y f at is q h = (rw length-set h.0, marked_kept xs ms i x y at (λ was. subst Q (sym is) (q x was)) h.1)
 
   -- a search jumps over parts that aren't marked
   pub quiet_between : (xs : List X) (ms : List Bool) (from : ℕ) (answer : Option ℕ) → AreMarked Q xs ms → IsNextMark ms from answer → (i : ℕ) (x : X) → from ≤ i → IsBefore i answer → slice_get xs i ≡ Some x → Q x

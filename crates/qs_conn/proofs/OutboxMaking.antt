@@ -2,7 +2,6 @@
 use Rattle.std.proofs.Common.{◌≡◌, ℕ, ◌+◌, ◌-◌, ◌<◌, ◌≤◌, Bool, true, false, List, [], ◌∷◌, ◌++◌, length, Option, Some, None, is_some, nat_lt, refl, sym, ap, ◌∙◌, subst, inl, inr, arith, nat_cmp}
 use Rattle.std.proofs.lemmas.Bool.{both_ways, cases_eq}
 use Rattle.std.proofs.lemmas.Bool.Decides.{nat_tests}
-use Rattle.std.proofs.lemmas.List.{length-append}
 use Rattle.std.specs.FinMap as fmap
 use Rattle.std.specs.FinMap.{nat_cmp-IsAntisymmetric}
 use Rattle.std.specs.FinSet as set
@@ -28,6 +27,7 @@ use Rattle.qs_machine.proofs.Tied.{tied_blocked}
 use Rattle.qs_machine.proofs.LaneTables.{lane_there, lanes_updated, update_lanes}
 use Rattle.qs_machine.proofs.Ties.{ties_updated, ties_chunk_put, ties_item_put}
 use Rattle.qs_conn.proofs.OutboxAcks.{none_above}
+use Rattle.qs_conn.proofs.Chunks.{same_truth}
 
 pub chunk_found : (s : Sending) (room fresh : ℕ) (r : Option Chunk) → IfSome r (IsNextChunk s room fresh) → IfNone r (HasNoChunk s room fresh) → IfSome r (HasBytes s.lane) → ChunkFound s room fresh r
 chunk_found s room fresh None found none kept = none
@@ -78,16 +78,11 @@ end_also m n s x law t u same has = by_test x.due.fin refl
         (let f = u.end_flies (ap (λ (l : SendLane). l.was_reset) (sym same) ∙ unreset s.lane.was_reset open_end) (ap (λ (l : SendLane). l.finished) (sym same) ∙ law.ends.due_asked has) (ap (λ (l : SendLane). l.fin_acked) (sym same) ∙ law.ends.due_open has) e in
         absurd (both_ways s.due.fin (t.end_not_due f.0 f.1 f.2) has))
 
-both_imply : (a b : Bool) → (a ≡ true → b ≡ true) → (b ≡ true → a ≡ true) → a ≡ b
-both_imply true b f g = sym (f refl)
-both_imply false true f g = g refl
-both_imply false false f g = refl
-
 pub same_sending : (o : Outgoing) (n : ℕ) (s x : Sending) → HasSending o n s → HasSending o n x → s ≡ x
 same_sending o n s x h g =
     let lanes : s.lane ≡ x.lane = some_is (lookup o.sends n) s.lane x.lane h.lane g.lane in
-    let offsets : s.due.offsets ≡ x.due.offsets = same_numbers s.due.offsets x.due.offsets (λ q. both_imply _ _ (due_also o.outstanding n s x h.lawful h.tied g.tied lanes q) (due_also o.outstanding n x s g.lawful g.tied h.tied (sym lanes) q)) in
-    let ends : s.due.fin ≡ x.due.fin = both_imply _ _ (end_also o.outstanding n s x h.lawful h.tied g.tied lanes) (end_also o.outstanding n x s g.lawful g.tied h.tied (sym lanes)) in
+    let offsets : s.due.offsets ≡ x.due.offsets = same_numbers s.due.offsets x.due.offsets (λ q. same_truth _ _ (due_also o.outstanding n s x h.lawful h.tied g.tied lanes q) (due_also o.outstanding n x s g.lawful g.tied h.tied (sym lanes) q)) in
+    let ends : s.due.fin ≡ x.due.fin = same_truth _ _ (end_also o.outstanding n s x h.lawful h.tied g.tied lanes) (end_also o.outstanding n x s g.lawful g.tied h.tied (sym lanes)) in
     ap (λ l. sending_of l s.due.offsets s.due.fin) lanes ∙ ap (λ d. sending_of x.lane d s.due.fin) offsets ∙ ap (λ b. sending_of x.lane x.due.offsets b) ends
   where
     sending_of : SendLane → NumberSet → Bool → Sending
@@ -110,9 +105,6 @@ pub one_more : (m : Records) (k : ℕ) (ps : List Piece) (p : Piece) → AreBelo
 unfolding so_far_in
 one_more m k [] p below = sym (ap (λ o. fmap.insert m k (so_far_in o ++ p ∷ [])) (none_above m k below))
 one_more m k (q ∷ qs) p below = sym (ap (λ o. fmap.insert (fmap.insert m k (q ∷ qs)) k (so_far_in o ++ p ∷ [])) (get_new m k (q ∷ qs)) ∙ insert_twice m k (q ∷ qs) (q ∷ qs ++ p ∷ []))
-
-longer : (xs : List Piece) (p : Piece) → length (xs ++ p ∷ []) ≡ length xs + 1
-longer xs p = length-append xs (p ∷ [])
 
 -- What holds
 
@@ -268,12 +260,6 @@ still_open t t' n s c there is = ap is_some (ap (λ y. lookup y n) (is ∙ ap (u
 pub end_within : (t : Tables Sending) (n : ℕ) (s : Sending) → lookup t n ≡ Some s → s.lane.sent_end ≤ sent_sum (lanes_of t)
 end_within t n s there = (let low = total_update (λ (l : SendLane). l.sent_end) (lanes_of t) n s.lane (record s.lane { sent_end = 0 }) (lane_there t n s there) in omega (arith, low))
 
-pub sum_after : (t t' : Tables Sending) (n : ℕ) (s : Sending) (c : Chunk) → lookup t n ≡ Some s → t' ≡ updated t n (λ y. after_sent y c) (lookup t n) → sent_sum (lanes_of t') + s.lane.sent_end ≡ sent_sum (lanes_of t) + (after_sent s c).lane.sent_end
-sum_after t t' n s c there halves =
-    let at : t' ≡ update t n (after_sent s c) = halves ∙ ap (updated t n (λ x. after_sent x c)) there in
-    let now : sent_sum (lanes_of t') ≡ sent_sum (update (lanes_of t) n (sent_lane s.lane c)) = ap (λ x. sent_sum (lanes_of x)) at ∙ ap sent_sum (update_lanes t n (after_sent s c)) in
-    omega (arith, now, total_update (λ (l : SendLane). l.sent_end) (lanes_of t) n s.lane (sent_lane s.lane c) (lane_there t n s there))
-
 pub sum_now : (e now : Outgoing) (t t' : Tables Sending) (n : ℕ) (c : Chunk) → e ≡ now → e.sends ≡ lanes_of t → t' ≡ updated t n (λ y. after_sent y c) (lookup t n) → sent_sum (on_lane n (λ l. sent_lane l c) now).sends ≡ sent_sum (lanes_of t')
 sum_now e now t t' n c is sends halves =
     ap (λ (o : Outgoing). sent_sum (on_lane n (λ l. sent_lane l c) o).sends) (sym is) ∙ ap (λ x. sent_sum (updated x n (λ l. sent_lane l c) (lookup x n))) sends
@@ -281,13 +267,6 @@ sum_now e now t t' n c is sends halves =
 
 pub idle_committed : (t : Tables Sending) (m' : Records) (r' : Bool) (qs : List Piece) (k sent free' : ℕ) → IsOutbox t m' r' qs k sent 0 free' → qs ≡ [] → fmap.get (with_pending m' k qs) k ≡ None
 idle_committed t m' r' qs k sent free' h none = subst (λ x. fmap.get (with_pending m' k x) k ≡ None) (sym none) (none_above m' k h.below)
-
-pub committed_value : (e now : Outgoing) (m m' : Records) (ps qs : List Piece) → e ≡ now → e.outstanding ≡ with_pending m e.next ps → m' ≡ with_pending m e.next ps → qs ≡ []
-    → ◌≡◌ {A = Outgoing} (record e { next = e.next + 1; outstanding = with_pending m' (e.next + 1) qs; spare = 0 }) (record now { next = now.next + 1; spare = 0 })
-committed_value e now m m' ps qs is out put none =
-    ap (λ x. record e { next = e.next + 1; outstanding = with_pending m' (e.next + 1) x; spare = 0 }) none
-    ∙ ap (λ x. record e { next = e.next + 1; outstanding = x; spare = 0 }) (put ∙ sym out)
-    ∙ ap (λ (o : Outgoing). record o { next = o.next + 1; spare = 0 }) is
 
 pub told_now : (e now : Outgoing) (t : Tables Sending) (i : Item) → e ≡ now → e.sends ≡ lanes_of t → MayTell now.sends i → MayTell (lanes_of t) i
 told_now e now t i is sends h = subst (λ x. MayTell x i) sends (subst (λ (o : Outgoing). MayTell o.sends i) (sym is) h)

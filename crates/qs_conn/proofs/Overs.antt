@@ -8,6 +8,7 @@ use Rattle.qs_machine.specs.Tables.{Tables, kind_of, lookup}
 use Rattle.qs_machine.specs.Ends.{End, role_bit, is_uni, is_own}
 use Rattle.qs_machine.specs.News.{IsLeast}
 use Rattle.qs_machine.specs.Outgoing.{Outgoing, lanes_of}
+use Rattle.qs_machine.proofs.LaneTables.{lane_there}
 use Rattle.qs_conn.specs.Marks.{IsHeldOf, IsEndedOf}
 use Rattle.qs_conn.specs.RecvTasks.{HasOne}
 use Rattle.qs_conn.specs.declared.recv_marks.RecvTask.TheVariants as recv_tasks
@@ -15,7 +16,7 @@ use Rattle.qs_conn.specs.Sending.{HasSent}
 use Rattle.qs_conn.specs.Tasks.{HasTask}
 use Rattle.qs_conn.specs.declared.send_marks.Task.TheVariants as tasks
 use Rattle.qs_conn.proofs.Least.{least_by, none_before, IsClear}
-use Rattle.qs_conn.proofs.Sought.{half_of_lane, lane_of_half}
+use Rattle.qs_conn.proofs.Sought.{half_of_lane}
 
 -- an answer about halves of a type is one about their lanes
 pub sent_least : (v o : Outgoing) (t : Tables Sending) (k from : ℕ) (r : Option ℕ) → v ≡ o → lanes_of t ≡ v.sends → IsLeast (IsHeldOf (HasTask tasks.Ended) t k) from r → IsLeast (IsHeldOf HasSent o.sends k) from r
@@ -25,7 +26,7 @@ sent_least v o t k from r same lanes h = subst (λ (x : Outgoing). IsLeast (IsHe
     found n is =
         let f = h.found n is in
         let s = f.1.1.0 in
-        (f.0, (f.1.0, (s.lane, ap (λ x. lookup x n) (sym lanes) ∙ lane_of_half t n s f.1.1.1, f.1.1.2)))
+        (f.0, (f.1.0, (s.lane, ap (λ x. lookup x n) (sym lanes) ∙ lane_there t n s f.1.1.1, f.1.1.2)))
 
     least : (n : ℕ) → from ≤ n → IsHeldOf HasSent v.sends k n → (m : ℕ) × (r ≡ Some m) × (m ≤ n)
     least n ge (kind, (l, at, over)) =
@@ -54,12 +55,6 @@ not_both false c is = refl
 -- Bidirectional streams
 
 module _ (e : End) (k : ℕ) (small : k < 2) where
-  Recv : ℕ → Type 0
-  Recv = IsHeldOf (HasOne recv_tasks.Ended) e.recvs k
-
-  Sent : ℕ → Type 0
-  Sent = IsHeldOf HasSent e.sends k
-
   recv_of : (n : ℕ) → IsEndedOf e k n → IsHeldOf (HasOne recv_tasks.Ended) e.recvs k n
   recv_of n (kind, over) = (kind, over.receiving (not_both (is_uni n) (is_own e n) (uni_is n k false kind (bidi_below k small))))
 

@@ -3,23 +3,19 @@ use Rattle.std.proofs.Common.{◌≡◌, ℕ, ◌<◌, Bool, true, false, List, 
 use Rattle.std.specs.Prelude.{is_none}
 use Rattle.qs_recv.specs.Lane.{RecvLane, read_answer, bytes_read, after_read, stop}
 use Rattle.qs_recv.specs.declared.half.Read.{Read}
-use Rattle.qs_send.specs.Lane.{SendLane, accepted, refusal, reset_refusal, answer_of, write_lane, finish_lane, reset_lane}
+use Rattle.qs_send.specs.Lane.{SendLane, accepted, refusal, write_lane}
 use Rattle.qs_send.specs.declared.parts.SendFault.{SendFault}
 use Rattle.qs_send.specs.declared.parts.SendFault.TheVariants as sends
-use Rattle.qs_calls.specs.declared.uses.UseFault.{UseFault}
 use Rattle.qs_calls.specs.declared.uses.UseFault.TheVariants.{Closed, NoMemory}
 use Rattle.qs_machine.specs.Tables.{Tables, updated}
 use Rattle.qs_machine.specs.Ends.{End, send_lane, recv_lane, on_send}
 use Rattle.qs_machine.specs.Credit.{settle}
 use Rattle.qs_machine.specs.Verdicts.{or_new}
-use Rattle.qs_machine.specs.Owner.{Certain, Uncertain, first_refusal, refuse_if, no_half, half_refusal, use_fault, send_refusal, recv_refusal, AsksToKeep, WriteStep, FinishStep, ResetStep, StopStep, ReadStep}
+use Rattle.qs_machine.specs.Owner.{Certain, Uncertain, first_refusal, refuse_if, no_half, half_refusal, use_fault, send_refusal, recv_refusal, AsksToKeep, WriteStep, StopStep, ReadStep}
 use Rattle.qs_machine.specs.Sums.{or_none}
 use Rattle.qs_conn.specs.Layers.{no_sender, no_receiver}
 
 -- A refusal, and no refusal
-
-refused : {A F : Type 0} (o : Option F) (f : F) (old new : End) (answer : Result A F) (Effect : Type 0) → o ≡ Some f → answer ≡ Err f → new ≡ old → Certain o old answer new Effect
-refused o f old new answer Effect is told same = rw is (told, same)
 
 passed : {A F : Type 0} (o : Option F) (old new : End) (answer : Result A F) (Effect : Type 0) → o ≡ None → Effect → Certain o old answer new Effect
 passed o old new answer Effect is effect = rw is effect
@@ -36,9 +32,6 @@ refusal_parts false c (Some l) says = refl
 refusal_is : (e : End) (n : ℕ) (says : SendLane → Option SendFault) → send_refusal e n says ≡ first_refusal (no_sender e n) (half_refusal (says (or_none (send_lane e n))))
 refusal_is e n says = refusal_parts (is_some e.closed) (is_some (recv_lane e n)) (send_lane e n) says
 
-refusal_none : (e : End) (n : ℕ) (says : SendLane → Option SendFault) (f : UseFault) → no_sender e n ≡ Some f → send_refusal e n says ≡ Some f
-refusal_none e n says f is = refusal_is e n says ∙ ap (λ o. first_refusal o (half_refusal (says (or_none (send_lane e n))))) is
-
 refusal_half : (e : End) (n : ℕ) (says : SendLane → Option SendFault) → no_sender e n ≡ None → send_refusal e n says ≡ half_refusal (says (or_none (send_lane e n)))
 refusal_half e n says is = refusal_is e n says ∙ ap (λ o. first_refusal o (half_refusal (says (or_none (send_lane e n))))) is
 
@@ -50,15 +43,6 @@ there_by false c (Some l) h = refl
 -- the half is there
 pub sender_there : (e : End) (n : ℕ) → no_sender e n ≡ None → send_lane e n ≡ Some (or_none (send_lane e n))
 sender_there e n is = there_by (is_some e.closed) (is_some (recv_lane e n)) (send_lane e n) is
-
-pub write_none : (e : End) (n : ℕ) (bytes : List ℕ) (f : UseFault) → no_sender e n ≡ Some f → WriteStep e n bytes (Err f) e
-write_none e n bytes f is = refused _ f e e (Err f) _ (refusal_none e n refusal f is) refl refl
-
-pub finish_none : (e : End) (n : ℕ) (f : UseFault) → no_sender e n ≡ Some f → FinishStep e n (Err f) e
-finish_none e n f is = refused _ f e e (Err f) _ (refusal_none e n refusal f is) refl refl
-
-pub reset_none : (e : End) (n code : ℕ) (f : UseFault) → no_sender e n ≡ Some f → ResetStep e n code (Err f) e
-reset_none e n code f is = refused _ f e e (Err f) _ (refusal_none e n reset_refusal f is) refl refl
 
 pub write_done : (e : End) (n : ℕ) (bytes : List ℕ) (count : ℕ) (sends : Tables SendLane) (new : End) → no_sender e n ≡ None → refusal (or_none (send_lane e n)) ≡ None
     → count ≡ accepted (or_none (send_lane e n)) (length bytes) → sends ≡ updated e.sends n (λ l. write_lane l (take count bytes)) (send_lane e n)
@@ -81,32 +65,6 @@ pub write_refused : (e : End) (n : ℕ) (bytes : List ℕ) (fault : SendFault) �
 write_refused e n bytes fault is told asks =
     rw (refusal_half e n refusal is) (by_fault e fault (refusal (or_none (send_lane e n))) (AsksToKeep e n bytes) _ told (λ none. (or_none (send_lane e n), sender_there e n is, asks (ap (λ f. Err f) none))))
 
--- an answer without a value
-
-done_by : (o : Option SendFault) → Ok tt ≡ answer_of o → o ≡ None
-done_by None h = refl
-done_by (Some f) h = absurd (search (rules, h))
-
-fault_by : (o : Option SendFault) (f : SendFault) → Err f ≡ answer_of o → o ≡ Some f
-fault_by None f h = absurd (search (rules, h))
-fault_by (Some g) f h = cc
-
-pub finish_done : (e : End) (n : ℕ) (sends : Tables SendLane) (new : End) → no_sender e n ≡ None → Ok tt ≡ answer_of (refusal (or_none (send_lane e n)))
-    → sends ≡ updated e.sends n finish_lane (send_lane e n) → new ≡ settle (record e { sends = sends }) → FinishStep e n (Ok tt) new
-finish_done e n sends new is free after settled =
-    passed _ e new (Ok tt) _ (refusal_half e n refusal is ∙ ap half_refusal (done_by _ free)) (refl, settled ∙ ap (λ t. settle (record e { sends = t })) after)
-
-pub finish_refused : (e : End) (n : ℕ) (fault : SendFault) → no_sender e n ≡ None → Err fault ≡ answer_of (refusal (or_none (send_lane e n))) → FinishStep e n (Err (use_fault fault)) e
-finish_refused e n fault is told = refused _ (use_fault fault) e e _ _ (refusal_half e n refusal is ∙ ap half_refusal (fault_by _ fault told)) refl refl
-
-pub reset_done : (e : End) (n code : ℕ) (sends : Tables SendLane) (new : End) → no_sender e n ≡ None → Ok tt ≡ answer_of (reset_refusal (or_none (send_lane e n)))
-    → sends ≡ updated e.sends n (λ l. reset_lane l code) (send_lane e n) → new ≡ settle (record e { sends = sends }) → ResetStep e n code (Ok tt) new
-reset_done e n code sends new is free after settled =
-    passed _ e new (Ok tt) _ (refusal_half e n reset_refusal is ∙ ap half_refusal (done_by _ free)) (refl, settled ∙ ap (λ t. settle (record e { sends = t })) after)
-
-pub reset_refused : (e : End) (n code : ℕ) (fault : SendFault) → no_sender e n ≡ None → Err fault ≡ answer_of (reset_refusal (or_none (send_lane e n))) → ResetStep e n code (Err (use_fault fault)) e
-reset_refused e n code fault is told = refused _ (use_fault fault) e e _ _ (refusal_half e n reset_refusal is ∙ ap half_refusal (fault_by _ fault told)) refl refl
-
 -- Receiving halves
 
 recv_parts : (b c : Bool) (o : Option RecvLane)
@@ -126,16 +84,10 @@ received_by false c (Some l) h = refl
 pub receiver_there : (e : End) (n : ℕ) → no_receiver e n ≡ None → recv_lane e n ≡ Some (or_new (recv_lane e n) 0)
 receiver_there e n is = received_by (is_some e.closed) (is_some (send_lane e n)) (recv_lane e n) is
 
-pub stop_none : (e : End) (n code : ℕ) (f : UseFault) → no_receiver e n ≡ Some f → StopStep e n code (Err f) e
-stop_none e n code f is = refused _ f e e (Err f) _ (recv_refusal_is e n ∙ is) refl refl
-
 pub stop_done : (e : End) (n code : ℕ) (recvs : Tables RecvLane) (new : End) → no_receiver e n ≡ None → recvs ≡ updated e.recvs n (λ l. stop l code) (recv_lane e n)
     → new ≡ settle (record e { recvs = recvs }) → StopStep e n code (Ok tt) new
 stop_done e n code recvs new is after settled =
     passed _ e new (Ok tt) _ (recv_refusal_is e n ∙ is) (refl, settled ∙ ap (λ t. settle (record e { recvs = t })) after)
-
-pub read_none : (e : End) (n size : ℕ) (f : UseFault) → no_receiver e n ≡ Some f → ReadStep e n size (Err f) [] e
-read_none e n size f is = rw (recv_refusal_is e n ∙ is) (refl, refl, refl)
 
 pub read_done : (e : End) (n size : ℕ) (answer : Read) (recvs : Tables RecvLane) (new : End) → no_receiver e n ≡ None → answer ≡ read_answer (or_new (recv_lane e n) 0) size
     → recvs ≡ updated e.recvs n (λ l. after_read l size) (recv_lane e n) → new ≡ settle (record e { recvs = recvs })

@@ -1,6 +1,6 @@
 -- What is outstanding, in flight, due and covered once a frame was put.
-use Rattle.std.proofs.Common.{◌≡◌, ◌≢◌, ℕ, Bool, true, false, List, [], ◌∷◌, ◌++◌, ◌⊎◌, refl, sym, ap, ◌∙◌, subst, inl, inr, Option, None, Some, cond, nat_cmp}
-use Rattle.std.proofs.lemmas.Bool.{cases_eq, eqb-true, eq-eqb, true≢false}
+use Rattle.std.proofs.Common.{◌≡◌, ℕ, Bool, true, false, [], ◌∷◌, ◌++◌, ◌⊎◌, refl, sym, ap, ◌∙◌, subst, inl, inr, None, Some, cond, nat_cmp}
+use Rattle.std.proofs.lemmas.Bool.{cases_eq, eqb-true}
 use Rattle.std.proofs.lemmas.Option.{same_Some}
 use Rattle.std.specs.FinMap as fmap
 use Rattle.std.specs.Cmp.{nat_cmp_total, unsigned_tied}
@@ -15,6 +15,7 @@ use Rattle.qs_machine.specs.Ends.{End, on_send}
 use Rattle.qs_machine.specs.Seen.{Seen, Ack, Stream, Control, Close, Plain}
 use Rattle.qs_machine.specs.Due.{Among, IsOutstanding, IsDue, IsEndDue}
 use Rattle.qs_machine.specs.Lawful.{frame_put, item_put, noted, pieces_so_far, chunk_of}
+use Rattle.qs_machine.proofs.Carried.{get_new, get_other, among_push, among_more, among_last, so_far}
 use Rattle.qs_conn.specs.Filling.{InPacket}
 
 -- Where less is outstanding, more is due.
@@ -48,42 +49,7 @@ get_inserted m k v q b h = go (eq_by_cmp nat_cmp q k) refl
     go true e = inr (tied q k e, same_Some v b (sym (fmap.get-insert nat_cmp_total m k v q ∙ ap (λ x. cond x (Some v) (fmap.get m q)) e) ∙ h))
     go false e = inl (sym (fmap.get-insert nat_cmp_total m k v q ∙ ap (λ x. cond x (Some v) (fmap.get m q)) e) ∙ h)
 
-pub get_new : {X : Type 0} (m : fmap.FinMap nat_cmp X) (k : ℕ) (v : X) → fmap.get (fmap.insert m k v) k ≡ Some v
-get_new m k v = fmap.get-insert nat_cmp_total m k v k ∙ ap (λ x. cond x (Some v) (fmap.get m k)) (itself (eq_by_cmp nat_cmp k k) refl)
-  where
-    itself : (b : Bool) → eq_by_cmp nat_cmp k k ≡ b → eq_by_cmp nat_cmp k k ≡ true
-    itself true e = e
-    itself false e = absurd (true≢false (sym (eq-eqb k k refl) ∙ sym (unsigned_tied k k) ∙ e))
-
-pub get_other : {X : Type 0} (m : fmap.FinMap nat_cmp X) (k : ℕ) (v : X) (q : ℕ) → q ≢ k → fmap.get (fmap.insert m k v) q ≡ fmap.get m q
-get_other m k v q ne = fmap.get-insert nat_cmp_total m k v q ∙ ap (λ x. cond x (Some v) (fmap.get m q)) (not_tied (eq_by_cmp nat_cmp q k) refl)
-  where
-    not_tied : (b : Bool) → eq_by_cmp nat_cmp q k ≡ b → eq_by_cmp nat_cmp q k ≡ false
-    not_tied false e = e
-    not_tied true e = absurd (ne (tied q k e))
-
--- Lists
-
-pub among_push : {X : Type 0} (xs : List X) (y x : X) → Among x (xs ++ y ∷ []) → Among x xs ⊎ (x ≡ y)
-among_push [] y x (inl e) = inr e
-among_push [] y x (inr a) = absurd a
-among_push (z ∷ xs) y x (inl e) = inl (inl e)
-among_push (z ∷ xs) y x (inr a) = elim (among_push xs y x a) [ inl b ↦ inl (inr b) | inr e ↦ inr e ]
-
-pub among_more : {X : Type 0} (xs ys : List X) (x : X) → Among x xs → Among x (xs ++ ys)
-among_more [] ys x a = absurd a
-among_more (z ∷ xs) ys x (inl e) = inl e
-among_more (z ∷ xs) ys x (inr a) = inr (among_more xs ys x a)
-
-pub among_last : {X : Type 0} (xs : List X) (x : X) → Among x (xs ++ x ∷ [])
-among_last [] x = inl refl
-among_last (z ∷ xs) x = inr (among_last xs x)
-
 -- The record of the packet in the making
-
-so_far : (o : Option (List Piece)) (x : Piece) → Among x (elim o [ None ↦ [] | Some ps ↦ ps ]) → (ps : List Piece) × (o ≡ Some ps) × Among x ps
-so_far None x a = absurd a
-so_far (Some ps) x a = (ps, refl, a)
 
 pub noted_old : (p : Piece) (e : End) (x : Piece) → IsOutstanding e x → IsOutstanding (noted p e) x
 noted_old p e x (k, ps, there, a) =
@@ -134,16 +100,6 @@ item_next (StopSending n code) e = refl
 item_next (DataBlocked m) e = refl
 item_next (StreamDataBlocked n m) e = refl
 item_next (StreamsBlocked d m) e = refl
-
-pub item_acked : (i : Item) (e : End) → (item_put i e).acked ≡ e.acked
-item_acked (MaxData m) e = refl
-item_acked (MaxStreamData n m) e = refl
-item_acked (MaxStreams d m) e = refl
-item_acked (ResetStream n code size) e = refl
-item_acked (StopSending n code) e = refl
-item_acked (DataBlocked m) e = refl
-item_acked (StreamDataBlocked n m) e = refl
-item_acked (StreamsBlocked d m) e = refl
 
 pub item_ack_due : (i : Item) (e : End) → (item_put i e).ack_due ≡ e.ack_due
 item_ack_due (MaxData m) e = refl
@@ -201,11 +157,3 @@ put_next (Stream n offset bytes fin) e = refl
 put_next (Control i) e = item_next i e
 put_next (Close code) e = refl
 put_next (Plain asks) e = refl
-
-pub put_acked : (f : Seen) (e : End) → (frame_put f e).acked ≡ e.acked
-unfolding frame_put
-put_acked (Ack largest ranges) e = refl
-put_acked (Stream n offset bytes fin) e = refl
-put_acked (Control i) e = item_acked i e
-put_acked (Close code) e = refl
-put_acked (Plain asks) e = refl

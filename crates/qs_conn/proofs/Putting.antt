@@ -1,10 +1,8 @@
 -- Items are put into a packet that is in a slice.
 use Rattle.std.proofs.Common.{◌≡◌, ℕ, ◌+◌, ◌<◌, ◌≤◌, Bool, true, false, List, ◌++◌, ◌⊎◌, length, take, refl, sym, ap, ◌∙◌, arith, inl, inr, Option, None, Some}
 use Rattle.std.proofs.lemmas.Bool.{true≢false, cases_lt}
-use Rattle.std.proofs.lemmas.List.{length-append, length-take-le}
-use Rattle.qs_wire.specs.Varint.{short}
+use Rattle.std.proofs.lemmas.List.{length-take-le}
 use Rattle.qs_wire.specs.Grammar.{Fits, canonical}
-use Rattle.qs_wire.proofs.Numbers.{short_positive}
 use Rattle.qs_recv.specs.Lane.{RecvLane}
 use Rattle.qs_send.specs.declared.piece.Item.{Item}
 use Rattle.qs_send.specs.declared.piece.Item.TheVariants.{MaxData, MaxStreamData, MaxStreams, ResetStream, StopSending, DataBlocked, StreamDataBlocked, StreamsBlocked}
@@ -23,11 +21,7 @@ use Rattle.qs_conn.specs.Filling.{slot_of, slot_at, frame_of_item, end_by, IsCur
 use Rattle.qs_conn.specs.Marks.{IsIdle}
 use Rattle.qs_conn.proofs.Stages.{begun_idle, begun_fewer, begun_absent, begun_covered, begun_item, begun_too_long}
 use Rattle.qs_conn.proofs.Slots.{end_put}
-
--- a packet that is full stays so
-pub stage_full : (delay room : ℕ) (old : End) (text : List ℕ) (e : End) (b : Bool) (P Q : Passed) → b ≡ true → Stage delay room old text e b P → Stage delay room old text e b Q
-stage_full delay room old text e true P Q is s = s
-stage_full delay room old text e false P Q is s = absurd (true≢false (sym is))
+use Rattle.qs_conn.proofs.Flows.{two}
 
 pub stage_fewer : (delay room : ℕ) (old : End) (text : List ℕ) (e : End) (b : Bool) (P Q : Passed) → ((s : Slot) → IsPassed Q s → IsPassed P s) → Stage delay room old text e b P → Stage delay room old text e b Q
 stage_fewer delay room old text e true P Q fewer s = s
@@ -90,9 +84,6 @@ below_next P kind n m slot s is next (inr (k, lt, at)) =
     elim (cases_lt k n) [ inl below ↦ inl (inr (k, below, at)) | inr ge ↦ (let same : k ≡ n = omega (arith, lt, ge, next) in inr (at ∙ ap (slot_at kind) same ∙ sym is)) ]
 
 -- A text of two bytes or more
-
-two : (t v : ℕ) (rest : List ℕ) → 2 ≤ length (short t ++ (short v ++ rest))
-two t v rest = omega (arith, length-append (short t) (short v ++ rest), length-append (short v) rest, short_positive t, short_positive v)
 
 pub item_some : (i : Item) → 2 ≤ length (canonical (frame_of_item i))
 unfolding canonical

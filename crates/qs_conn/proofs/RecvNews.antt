@@ -16,10 +16,6 @@ use Rattle.qs_conn.specs.declared.recv_marks.RecvTask.TheVariants as tasks
 use Rattle.qs_conn.specs.declared.recv_marks.RecvMarks.{RecvMarks}
 use Rattle.qs_conn.proofs.Marked.{look_again, marked_take, mark_there, more_opened}
 
-pub by_task : (P : RecvTask → Type 0) → P tasks.Readable → P tasks.Ended → (t : RecvTask) → P t
-by_task P a b tasks.Readable = a
-by_task P a b tasks.Ended = b
-
 -- an index has a mark for each task
 pub noted_there : (xs : List RecvLane) (marks : RecvMarks) (i : ℕ) → AreNoted xs marks → i < length xs → (t : RecvTask) → i < length (marks_of marks t)
 noted_there xs marks i h there t = mark_there (HasNone t) xs (marks_of marks t) i (h t) there

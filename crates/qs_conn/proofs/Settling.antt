@@ -6,11 +6,12 @@ use Rattle.std.proofs.Math.ListN.{set}
 use Rattle.std.specs.List.{slice_get}
 use Rattle.qs_ranges.specs.Numbers.{MAX_VARINT}
 use Rattle.qs_recv.specs.Assembled.{discard}
-use Rattle.qs_recv.specs.Lane.{RecvLane, new_lane, raise, next_limit, take_stream, take_reset, is_whole}
+use Rattle.qs_recv.specs.Lane.{RecvLane, new_lane, raise, take_stream, take_reset, is_whole}
 use Rattle.qs_recv.specs.Lawful.{IsLawful}
 use Rattle.qs_conn.specs.declared.recv_lanes.Touched.{Touched}
 use Rattle.qs_conn.specs.declared.recv_lanes.Touched.TheVariants.{Nothing, Lane, Several}
 use Rattle.qs_machine.specs.Sums.{changed}
+use Rattle.qs_machine.proofs.ProcessedAgain.{next_twice}
 use Rattle.qs_conn.specs.Layers.{IsSettled, EachSettled, SettledBut, AreSettled, touch}
 
 -- One lane
@@ -21,18 +22,6 @@ most t w = min MAX_VARINT (t + w)
 -- whether the limit moves
 abbrev moves : ℕ → ℕ → ℕ → Bool
 moves l t w = nat_le (l + max 1 (w / 2)) (most t w) || (eqb (most t w) MAX_VARINT && nat_lt l (most t w))
-
-same_both : (b : Bool) (x : ℕ) → cond b x x ≡ x
-same_both true x = refl
-same_both false x = refl
-
-once_moved : (l t w : ℕ) (b : Bool) → moves l t w ≡ b → next_limit (cond b (most t w) l) t w ≡ cond b (most t w) l
-once_moved l t w true is = same_both (moves (most t w) t w) (most t w)
-once_moved l t w false is = ap (λ c. cond c (most t w) l) is
-
--- what is raised is settled
-next_twice : (l t w : ℕ) → next_limit (next_limit l t w) t w ≡ next_limit l t w
-next_twice l t w = once_moved l t w (moves l t w) refl
 
 pub raised_twice : (l : RecvLane) → IsSettled (raise l)
 raised_twice l = by_final l.final_size

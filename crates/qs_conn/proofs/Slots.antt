@@ -1,5 +1,5 @@
 -- The current item of each slot.
-use Rattle.std.proofs.Common.{◌≡◌, ℕ, zero, suc, ◌*◌, ◌/◌, ◌%◌, ◌<◌, ◌≤◌, Bool, true, false, List, [], ◌∷◌, refl, sym, ap, ◌∙◌, subst, arith, Option, None, Some, is_some, slice_get, length, cond}
+use Rattle.std.proofs.Common.{◌≡◌, ℕ, ◌<◌, ◌≤◌, Bool, true, false, [], refl, sym, ap, ◌∙◌, subst, arith, Option, None, Some, is_some, cond}
 use Rattle.std.proofs.lemmas.Option.{same_Some, none-some}
 use Rattle.qs_wire.specs.declared.stream_id.Dir.{Dir}
 use Rattle.qs_wire.specs.declared.stream_id.Dir.TheVariants.{Bidi, Uni}
@@ -8,32 +8,20 @@ use Rattle.qs_send.specs.Lane.{SendLane}
 use Rattle.qs_send.specs.declared.parts.Reset.{Reset}
 use Rattle.qs_send.specs.declared.piece.Item.{Item}
 use Rattle.qs_send.specs.declared.piece.Item.TheVariants.{MaxData, MaxStreamData, MaxStreams, ResetStream, StopSending, DataBlocked, StreamDataBlocked, StreamsBlocked}
-use Rattle.qs_conn.specs.declared.slot.Kind.{Kind}
-use Rattle.qs_conn.specs.declared.slot.Kind.TheVariants as kinds
 use Rattle.qs_conn.specs.declared.terms.Terms.{Terms}
 use Rattle.qs_machine.specs.Seen.{Control}
 use Rattle.qs_machine.specs.Lawful.{frame_put}
 use Rattle.qs_conn.specs.declared.slot.Slot.TheVariants as slots
-use Rattle.qs_machine.specs.Tables.{Tables, lookup, table}
+use Rattle.qs_machine.specs.Tables.{Tables, lookup}
 use Rattle.qs_machine.specs.Ends.{End, send_lane, recv_lane, window}
 use Rattle.qs_machine.specs.Credit.{all_sent, granted_streams, first_grant}
 use Rattle.qs_machine.specs.Due.{IsCurrent, IsAcked, WantsCredit, wanted, known_count}
 use Rattle.qs_machine.specs.Sums.{or_none}
 use Rattle.qs_conn.specs.Layers.{limit_to_tell, stop_to_tell}
 use Rattle.qs_machine.specs.Outgoing.{Outgoing, IsBlockedAt, WantsMore, MayTell, IsOfReset, IsAckedOut, IsAckedReset, item_put_out}
-use Rattle.qs_conn.specs.Filling.{slot_of, slot_at, end_by, IsCurrentIn, AnyWantsMore}
+use Rattle.qs_conn.specs.Filling.{slot_of, end_by, IsCurrentIn, AnyWantsMore}
 
 -- What is of a slot
-
-of_max_data : (P : Item → Type 0) → ((m : ℕ) → P (MaxData m)) → (j : Item) → slot_of j ≡ slots.MaxData → P j
-of_max_data P p (MaxData m) is = p m
-of_max_data P p (MaxStreamData n2 m2) is = absurd (cc is)
-of_max_data P p (MaxStreams d2 m2) is = absurd (cc is)
-of_max_data P p (ResetStream n2 code2 size2) is = absurd (cc is)
-of_max_data P p (StopSending n2 code2) is = absurd (cc is)
-of_max_data P p (DataBlocked m2) is = absurd (cc is)
-of_max_data P p (StreamDataBlocked n2 m2) is = absurd (cc is)
-of_max_data P p (StreamsBlocked d2 m2) is = absurd (cc is)
 
 pub of_max_stream_data : (P : Item → Type 0) (n : ℕ) → ((m : ℕ) → P (MaxStreamData n m)) → (j : Item) → slot_of j ≡ slots.MaxStreamData n → P j
 of_max_stream_data P n p (MaxData m2) is = absurd (cc is)
@@ -106,12 +94,6 @@ of_max_streams P d p (StreamDataBlocked n2 m2) is = absurd (cc is)
 of_max_streams P d p (StreamsBlocked d2 m2) is = absurd (cc is)
 
 -- The current item, or that there is none
-
-pub max_data_there : (e : End) (m : ℕ) → m ≡ e.granted → e.settings.conn_window < m → IsCurrentIn e slots.MaxData (Some (MaxData m))
-max_data_there e m is lt = ((is, lt), refl, of_max_data (λ j. IsCurrent e j → j ≡ MaxData m) (λ k c. ap MaxData (c.0 ∙ sym is)))
-
-pub max_data_none : (e : End) → e.granted ≤ e.settings.conn_window → IsCurrentIn e slots.MaxData None
-max_data_none e le = of_max_data (λ j. IsCurrent e j → ⊥) (λ k c. omega (arith, c.0, c.1, le))
 
 pub max_streams_there : (e : End) (d : Dir) (m : ℕ) → m ≡ granted_streams e d → first_grant e.settings d < m → IsCurrentIn e (slots.MaxStreams d) (Some (MaxStreams d m))
 max_streams_there e d m is lt = ((is, lt), refl, of_max_streams (λ j. IsCurrent e j → j ≡ MaxStreams d m) d (λ k c. ap (MaxStreams d) (c.0 ∙ sym is)))
@@ -218,28 +200,6 @@ pub streams_blocked_none : (e : End) (d : Dir) → ((m : ℕ) → wanted e d ≡
 streams_blocked_none e d none = of_streams_blocked (λ j. IsCurrent e j → ⊥) d (λ k c. none k c.0 c.1)
 
 -- Past the last stream
-
-past_get : {X : Type 0} (xs : List X) (i : ℕ) → length xs ≤ i → slice_get xs i ≡ None
-past_get [] i le = refl
-past_get (x ∷ xs) zero le = absurd (omega arith)
-past_get (x ∷ xs) (suc i) le = past_get xs i (omega arith)
-
-past_in : {X : Type 0} (t : Tables X) (k i : ℕ) → length (table t 0) ≤ i → length (table t 1) ≤ i → length (table t 2) ≤ i → length (table t 3) ≤ i → slice_get (table t k) i ≡ None
-past_in t zero i a b c d = past_get t.client_bidi i a
-past_in t (suc zero) i a b c d = past_get t.server_bidi i b
-past_in t (suc (suc zero)) i a b c d = past_get t.client_uni i c
-past_in t (suc (suc (suc k))) i a b c d = past_get t.server_uni i d
-
-pub past_all : {X : Type 0} (t : Tables X) (n : ℕ) → length (table t 0) * 4 ≤ n → length (table t 1) * 4 ≤ n → length (table t 2) * 4 ≤ n → length (table t 3) * 4 ≤ n → lookup t n ≡ None
-unfolding lookup
-past_all t n a b c d = past_in t (n % 4) (n / 4) (omega (arith, a)) (omega (arith, b)) (omega (arith, c)) (omega (arith, d))
-
--- no item of a stream is current that isn't open
-pub past_current : (e : End) (kind : Kind) (n : ℕ) → lookup e.sends n ≡ None → lookup e.recvs n ≡ None → (i : Item) → slot_of i ≡ slot_at kind n → IsCurrent e i → ⊥
-past_current e kinds.ResetStream n sends recvs = of_reset_stream (λ j. IsCurrent e j → ⊥) n (λ code size (l, there, is). none-some l (sym sends ∙ there))
-past_current e kinds.StopSending n sends recvs = of_stop_sending (λ j. IsCurrent e j → ⊥) n (λ code (l, there, is, reset, whole). none-some l (sym recvs ∙ there))
-past_current e kinds.MaxStreamData n sends recvs = of_max_stream_data (λ j. IsCurrent e j → ⊥) n (λ m (l, there, is, lt, none). none-some l (sym recvs ∙ there))
-past_current e kinds.StreamDataBlocked n sends recvs = of_stream_data_blocked (λ j. IsCurrent e j → ⊥) n (λ m (l, there, none, is, more, at). none-some l (sym sends ∙ there))
 
 -- a RESET_STREAM that is current tells of a half that was reset
 pub may_tell : (e : End) (i : Item) → IsCurrent e i → MayTell e.sends i

@@ -11,7 +11,7 @@ use Rattle.qs_machine.specs.Tables.{Tables, lookup}
 use Rattle.qs_machine.specs.Ends.{End}
 use Rattle.qs_machine.specs.News.{IsLeast, IsHeld, HasForPacket, IsReadable, IsSendable, IsWritable}
 use Rattle.qs_machine.specs.Outgoing.{Outgoing, IsTied, lanes_of, with_outgoing}
-use Rattle.qs_machine.proofs.LaneTables.{lookup_lanes}
+use Rattle.qs_machine.proofs.LaneTables.{lookup_lanes, lane_there}
 use Rattle.qs_conn.specs.Sending.{IsDueOf, MayWrite}
 use Rattle.qs_conn.specs.RecvTasks.{HasOne}
 use Rattle.qs_conn.specs.declared.recv_marks.RecvTask.TheVariants as recv_tasks
@@ -47,9 +47,6 @@ half_of_lane t n l at = go (lookup t n) refl (sym (lookup_lanes t n) ∙ at)
     go None e is = absurd (none-some l is)
     go (Some s) e is = (s, e, same_Some s.lane l is)
 
-pub lane_of_half : (t : Tables Sending) (n : ℕ) (s : Sending) → lookup t n ≡ Some s → lookup (lanes_of t) n ≡ Some s.lane
-lane_of_half t n s at = lookup_lanes t n ∙ ap (option_map (λ (x : Sending). x.lane)) at
-
 -- an answer about halves is one about what of their streams is due
 pub due_least : (v o : Outgoing) (t : Tables Sending) (from : ℕ) (r : Option ℕ) → v ≡ o → lanes_of t ≡ v.sends → ((n : ℕ) (s : Sending) → lookup t n ≡ Some s → IsTied v.outstanding n s) → ((n : ℕ) (s : Sending) → r ≡ Some n → lookup t n ≡ Some s → IsLawful s) → IsLeast (IsHeld (HasTask tasks.Bytes) t) from r
     → (e : End) → IsLeast (IsDueOf (with_outgoing o e)) from r
@@ -60,7 +57,7 @@ due_least v o t from r same lanes tied lawful h e = subst (λ x. IsLeast (IsDueO
         let f = h.found n is in
         let s = f.1.0 in
         let at = f.1.1 in
-        (f.0, (s.lane, ap (λ x. lookup x n) (sym lanes) ∙ lane_of_half t n s at, packet_has (with_outgoing v e) n s (tied n s at) (lawful n s is at) f.1.2))
+        (f.0, (s.lane, ap (λ x. lookup x n) (sym lanes) ∙ lane_there t n s at, packet_has (with_outgoing v e) n s (tied n s at) (lawful n s is at) f.1.2))
 
     least : (n : ℕ) → from ≤ n → IsDueOf (with_outgoing v e) n → (m : ℕ) × (r ≡ Some m) × (m ≤ n)
     least n ge (l, at, due) =
@@ -92,7 +89,7 @@ lanes_least P Q to back v o t from r same lanes h = subst (λ (x : Outgoing). Is
     found n is =
         let f = h.found n is in
         let s = f.1.0 in
-        (f.0, (s.lane, ap (λ x. lookup x n) (sym lanes) ∙ lane_of_half t n s f.1.1, to s f.1.2))
+        (f.0, (s.lane, ap (λ x. lookup x n) (sym lanes) ∙ lane_there t n s f.1.1, to s f.1.2))
 
     least : (n : ℕ) → from ≤ n → IsHeld Q v.sends n → (m : ℕ) × (r ≡ Some m) × (m ≤ n)
     least n ge (l, at, q) =

@@ -17,8 +17,9 @@ use Rattle.qs_machine.specs.Seen.{Seen, Ack, Stream, Control, Close, Plain, seen
 use Rattle.qs_machine.specs.Due.{Among, IsCurrent, IsCovered, IsDueItem, StreamGoes, Sendable}
 use Rattle.qs_machine.specs.Lawful.{MayPut, Fills, AcksAll, IsWhole, IsInTurn, AreInTurn, frame_put}
 use Rattle.qs_machine.specs.Making.{IsMade, NamesMost}
+use Rattle.qs_machine.proofs.Carried.{get_new, among_more, among_last}
 use Rattle.qs_conn.specs.Filling.{InPacket, slot_of, frame_of_item, no_slot, IsPassed, Begun, Packed}
-use Rattle.qs_conn.proofs.Pieces.{get_new, put_packet, among_more, among_last, due_more, end_due_more, item_ack_due}
+use Rattle.qs_conn.proofs.Pieces.{put_packet, due_more, end_due_more, item_ack_due}
 use Rattle.qs_conn.proofs.Items.{current_by_base, acked_by_base, sum_by_base, known_by_base, base_item, fills_push, out_old, out_is}
 use Rattle.qs_conn.proofs.Texts.{all_push, no_text, no_frames, text_push, seen_push, seen_item, item_most, plain_item, control_item}
 

@@ -1,11 +1,11 @@
 -- Marks and the flags that sum them up by words.
-use Rattle.std.proofs.Common.{◌≡◌, ◌≢◌, ℕ, ◌+◌, ◌-◌, ◌*◌, ◌/◌, ◌^◌, ◌<◌, ◌≤◌, Bool, true, false, List, [], ◌++◌, length, set, take, replicate, Result, Ok, Err, None, Some, sym, ap, ◌∙◌, subst, refl, inl, inr, arith}
+use Rattle.std.proofs.Common.{◌≡◌, ℕ, ◌+◌, ◌-◌, ◌*◌, ◌/◌, ◌^◌, ◌<◌, ◌≤◌, Bool, true, false, List, [], ◌++◌, length, replicate, Result, Ok, Err, None, Some, sym, ap, ◌∙◌, subst, refl, inl, inr, arith}
 use Rattle.std.specs.Result.{OnOk, OnErr}
-use Rattle.std.proofs.lemmas.Bool.{cases_lt, cases_eq, both_ways}
-use Rattle.std.proofs.lemmas.List.{length-append, length-replicate, length-set, length-take, get_or-set_same, get_or-set_other, get_or-take, get_or_past}
+use Rattle.std.proofs.lemmas.Bool.{cases_lt, both_ways}
+use Rattle.std.proofs.lemmas.List.{length-append, length-replicate, get_or_past}
 use Rattle.std.proofs.lemmas.Option.{none-some, same_Some}
 use Rattle.qs_conn.proofs.Words.{padded}
-use Rattle.qs_conn.specs.Marks.{is_marked, IsNextMark, IsNextInWord, HasNoMark, AreSummed}
+use Rattle.qs_conn.specs.Marks.{is_marked, IsNextMark, IsNextInWord, AreSummed}
 
 -- a flag that is set stands within the flags
 pub marked_below : (marks : List Bool) (i : ℕ) → is_marked marks i ≡ true → i < length marks
@@ -15,31 +15,7 @@ marked_below marks i is =
       | inr ge ↦ absurd (both_ways (is_marked marks i) (get_or_past marks i false ge) is)
     ]
 
-pub none_summed : AreSummed [] []
-none_summed = record { room = omega arith; fits = omega arith; none = λ word unmarked i at. refl }
-
--- The marks of one index
-
-module _ (marks words : List Bool) (index : ℕ) (is_set has : Bool) (are : AreSummed marks words) (here : has ≡ false → HasNoMark (set marks index is_set) (index / 64)) where
-  word_unmarked : (word : ℕ) → is_marked (set words (index / 64) has) word ≡ false → (there : index / 64 < length words) → HasNoMark (set marks index is_set) word
-  word_unmarked word unmarked there i at =
-      elim (cases_eq word (index / 64)) [
-        | inl same ↦ here (sym (get_or-set_same words (index / 64) has false there) ∙ ap (λ w. is_marked (set words (index / 64) has) w) (sym same) ∙ unmarked) i (at ∙ same)
-        | inr apart ↦
-            let before : is_marked words word ≡ false = sym (get_or-set_other words (index / 64) word has false apart) ∙ unmarked in
-            let differs : i ≢ index = λ same. apart (sym at ∙ ap (λ n. n / 64) same) in
-            get_or-set_other marks index i is_set false differs ∙ are.none word before i at
-      ]
-
-  pub summed_set : index < length marks → AreSummed (set marks index is_set) (set words (index / 64) has)
-  summed_set lt =
-      record {
-        room = omega (arith, are.room, length-set marks index is_set, length-set words (index / 64) has);
-        fits = omega (arith, are.fits, length-set words (index / 64) has);
-        none = λ word unmarked. word_unmarked word unmarked (omega (arith, lt, are.room));
-      }
-
--- Opening and closing
+-- Opening
 
 module _ (marks words : List Bool) (are : AreSummed marks words) where
   -- more flags than there are words of marks
@@ -57,21 +33,6 @@ module _ (marks words : List Bool) (are : AreSummed marks words) where
         room = omega (arith, room, length-append marks (replicate n false), length-replicate n false);
         fits = are.fits;
         none = λ word unmarked i at. padded marks n i false ∙ are.none word unmarked i at;
-      }
-
-  taken : (n i : ℕ) → is_marked marks i ≡ false → is_marked (take n marks) i ≡ false
-  taken n i unmarked =
-      elim (cases_lt i n) [
-        | inl lt ↦ get_or-take n marks i false lt ∙ unmarked
-        | inr ge ↦ get_or_past (take n marks) i false (omega (arith, ge, length-take n marks))
-      ]
-
-  pub summed_closed : (n : ℕ) → AreSummed (take n marks) words
-  summed_closed n =
-      record {
-        room = omega (arith, are.room, length-take n marks);
-        fits = are.fits;
-        none = λ word unmarked i at. taken n i (are.none word unmarked i at);
       }
 
 -- A search

@@ -25,13 +25,6 @@ module _ (old new : SendMarks) (index : ℕ) (s : Sending) (b r k w e : Bool) wh
 pub all_looked : (xs : List Sending) (old new : SendMarks) (i : ℕ) (y : Sending) → ((t : Task) → IsLooked t i y (marks_of old t) (marks_of new t)) → (length xs ≤ 2 ^ 60) × AreAllMarked xs old → (length (set xs i y) ≤ 2 ^ 60) × AreAllMarked (set xs i y) new
 all_looked xs old new i y looked h = (rw length-set h.0, λ t. let l = looked t in look_again (IsQuiet t) xs (marks_of old t) (marks_of new t) i y l.0 l.1 l.2 (h.1 t))
 
-pub by_task : (P : Task → Type 0) → P tasks.Bytes → P tasks.Reset → P tasks.Blocked → P tasks.Writable → P tasks.Ended → (t : Task) → P t
-by_task P a b c d e tasks.Bytes = a
-by_task P a b c d e tasks.Reset = b
-by_task P a b c d e tasks.Blocked = c
-by_task P a b c d e tasks.Writable = d
-by_task P a b c d e tasks.Ended = e
-
 -- some halves leave
 pub all_fewer : (xs now : List Sending) (old new : SendMarks) (n : ℕ) → now ≡ take n xs → ((t : Task) → marks_of new t ≡ take n (marks_of old t)) → (length xs ≤ 2 ^ 60) × AreAllMarked xs old → (length now ≤ 2 ^ 60) × AreAllMarked now new
 all_fewer xs now old new n is at h =

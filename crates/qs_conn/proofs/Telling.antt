@@ -1,19 +1,15 @@
 -- What an end has to tell of its sending side.
-use Rattle.std.proofs.Common.{◌≡◌, ℕ, ◌<◌, ◌≤◌, ◌↔◌, Bool, true, false, IsTrue, min, nat_lt, ◌&&◌, ◌||◌, ◌==◌, Option, Some, None, is_some, is_none, option_map, cond, refl, sym, ap, ◌∙◌, arith}
+use Rattle.std.proofs.Common.{◌≡◌, ℕ, ◌<◌, ◌≤◌, Bool, true, false, IsTrue, min, nat_lt, ◌&&◌, ◌||◌, ◌==◌, Option, Some, None, is_some, is_none, option_map, cond, refl, sym, ap, ◌∙◌, arith}
 use Rattle.std.proofs.lemmas.Bool.{both_ways}
 use Rattle.std.proofs.lemmas.Bool.Decides.{nat_tests}
-use Rattle.qs_wire.specs.declared.stream_id.Dir.TheVariants.{Bidi, Uni}
 use Rattle.qs_send.specs.declared.parts.Reset.{Reset}
 use Rattle.qs_send.specs.declared.parts.SendState.TheVariants.{Ready, Send, DataSent, DataRecvd, ResetSent, ResetRecvd}
-use Rattle.qs_send.specs.declared.piece.Item.{Item}
-use Rattle.qs_send.specs.declared.piece.Item.TheVariants.{MaxData, MaxStreamData, MaxStreams, ResetStream, StopSending, DataBlocked, StreamDataBlocked, StreamsBlocked}
 use Rattle.qs_send.specs.Lane.{SendLane, Sending, state, declared_size, size_of}
 use Rattle.qs_machine.specs.Tables.{Tables, lookup}
 use Rattle.qs_machine.specs.Sums.{or_none}
-use Rattle.qs_machine.specs.Told.{IsNoted}
 use Rattle.qs_machine.specs.Asking.{waits_for_credit}
-use Rattle.qs_machine.specs.Outgoing.{Outgoing, lanes_of, IsAckedOut, IsAckedReset, IsBlockedAt, WantsMore, reset_by}
-use Rattle.qs_machine.proofs.Carried.{none_some, some_is}
+use Rattle.qs_machine.specs.Outgoing.{Outgoing, lanes_of, IsAckedReset, IsBlockedAt, WantsMore, reset_by}
+use Rattle.qs_machine.proofs.Carried.{none_some}
 use Rattle.qs_machine.proofs.LaneTables.{lane_there}
 use Rattle.qs_conn.proofs.Outboxes.{open_now}
 
@@ -53,36 +49,6 @@ no_code l e = go l.was_reset e
     go : (o : Option Reset) → option_map (λ (r : Reset). r.code) o ≡ None → o ≡ None
     go None h = refl
     go (Some r) h = absurd (none_some r.code (sym h))
-
-pub reset_is : (l : SendLane) (code size : ℕ) → option_map (λ (r : Reset). r.code) l.was_reset ≡ Some code → declared_size l ≡ Some size → l.was_reset ≡ Some (record { code = code; size = size })
-reset_is l code size e f = go l.was_reset _ e f
-  where
-    go : (o : Option Reset) (other : Option ℕ) → option_map (λ (r : Reset). r.code) o ≡ Some code → size_of o other ≡ Some size → o ≡ Some (record { code = code; size = size })
-    go None other h g = absurd (none_some code h)
-    go (Some r) other h g =
-        (let a : r.code ≡ code = some_is (Some r.code) r.code code refl h in
-        let b : r.size ≡ size = some_is (Some r.size) r.size size refl g in
-        ap (λ x. Some (record { code = x; size = r.size })) a ∙ ap (λ x. Some (record { code = code; size = x })) b)
-
-pub has_size : (l : SendLane) (code : ℕ) → option_map (λ (r : Reset). r.code) l.was_reset ≡ Some code → declared_size l ≡ None → ⊥
-has_size l code e f = go l.was_reset _ e f
-  where
-    go : (o : Option Reset) (other : Option ℕ) → option_map (λ (r : Reset). r.code) o ≡ Some code → size_of o other ≡ None → ⊥
-    go None other h g = none_some code h
-    go (Some r) other h g = none_some r.size (sym g)
-
--- an item but a reset is acknowledged where its value is known
-pub noted_out : (o : Outgoing) (i : Item) → ((n code size : ℕ) → i ≡ ResetStream n code size → ⊥) → IsNoted o.acked i ↔ IsAckedOut o i
-noted_out o (MaxData m) other = ((λ h. h), (λ h. h))
-noted_out o (MaxStreamData n m) other = ((λ h. h), (λ h. h))
-noted_out o (MaxStreams Bidi m) other = ((λ h. h), (λ h. h))
-noted_out o (MaxStreams Uni m) other = ((λ h. h), (λ h. h))
-noted_out o (ResetStream n code size) other = absurd (other n code size refl)
-noted_out o (StopSending n code) other = ((λ h. h), (λ h. h))
-noted_out o (DataBlocked m) other = ((λ h. h), (λ h. h))
-noted_out o (StreamDataBlocked n m) other = ((λ h. h), (λ h. h))
-noted_out o (StreamsBlocked Bidi m) other = ((λ h. h), (λ h. h))
-noted_out o (StreamsBlocked Uni m) other = ((λ h. h), (λ h. h))
 
 -- Answers
 

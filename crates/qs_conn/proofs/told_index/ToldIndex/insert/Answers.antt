@@ -2,8 +2,9 @@ use Rattle.std.proofs.Common.{◌≡◌, arith}
 use Rattle.std.specs.List.{insert}
 use Rattle.qs_conn.specs.ItemOrder.{item_cmp, IsGapFor}
 use Rattle.qs_conn.proofs.Ordered.{among_insert, ordered_insert}
-use Rattle.qs_conn.proofs.ItemOrders.{item_total, inserted, there_already}
+use Rattle.qs_conn.proofs.ItemOrders.{item_total, there_already}
 use Rattle.qs_conn.proofs.told_index.ToldIndex.insert.Goals as goal
+use Rattle.qs_send.proofs.LostLists.{inserted}
 
 items : (c : goal.After-insert) → c.insert.new.self.items ≡ insert c.self.inside.items.items c.in-Err.place c.args.item
 items c = inserted c.insert.result _ _ _ (c.insert.ensures.succeeds (let spare = rw (← c.self.view_is) at c.requires in omega (arith, spare))) c.insert.ensures.items
