@@ -14,30 +14,17 @@ use Rattle.qs_world.specs.declared.report.PlayFault.{PlayFault}
 use Rattle.qs_world.specs.declared.report.PlayFault.TheVariants as faults
 use Rattle.qs_calls.specs.Events.{fits}
 use Rattle.qs_runs.specs.Logs.{History}
-use Rattle.qs_runs.specs.Worlds.{World, world_made, WorldStep, Run}
-use Rattle.qs_runs.specs.Invariant.{WorldOk}
+use Rattle.qs_runs.specs.Worlds.{World, world_made}
 use Rattle.qs_world.specs.Reports.{IsReport}
 use Rattle.qs_world.specs.Plays.{events_of, AgreeingRun, Played, HasPlayed, begun, PlayStep, PlayOf}
-use Rattle.qs_runs.proofs.Runs.{run_keeps, step_keeps}
-use Rattle.qs_runs.proofs.Agrees.{agrees, step_agrees}
+use Rattle.qs_world.proofs.OneMore.{one_more}
+use Rattle.qs_runs.proofs.Runs.{run_keeps}
+use Rattle.qs_runs.proofs.Agrees.{agrees}
 
 -- Runs
 
-run_of : (a b : Settings) (h : History) (w : World) → AgreeingRun a b h w → Run a b h w
-run_of a b [] w run = run.0
-run_of a b (x ∷ h) w (v, run, step, agrees_at, agrees_after) = (v, run_of a b h v run, step)
-
-stands : (a b : Settings) (h : History) (w : World) → AgreeingRun a b h w → WorldOk a b h w
-stands a b h w run = run_keeps a b h w (run_of a b h w run)
-
 agreeing_start : (a b : Settings) (w : World) → world_made a b ≡ Ok w → AgreeingRun a b [] w
 agreeing_start a b w is = (is, agrees a b [] w (run_keeps a b [] w is))
-
-agreeing_step : (a b : Settings) (h : History) (v w : World) (event : Event) (answer : Answer) →
-    AgreeingRun a b h v → WorldStep h v event answer w → AgreeingRun a b ((event, answer) ∷ h) w
-agreeing_step a b h v w event answer run step =
-    let ok : WorldOk a b h v = stands a b h v run in
-    (v, run, step, step_agrees a b h v ok event answer w step, agrees a b ((event, answer) ∷ h) w (step_keeps a b h v w event answer ok step))
 
 -- Events
 
@@ -71,7 +58,7 @@ played_none a b p is = go (world_made a b) refl is
 pub played_more : (a b : Settings) (events : List Event) (event : Event) (old new : Played) →
     HasPlayed a b events old → PlayStep {X = ⊤} old event (Ok tt) new → HasPlayed a b (events ++ event ∷ []) new
 played_more a b events event old new played (answer, log, step) =
-    let run : AgreeingRun a b ((event, answer) ∷ old.log) new.ends = agreeing_step a b old.log old.ends new.ends event answer played.run step in
+    let run : AgreeingRun a b ((event, answer) ∷ old.log) new.ends = one_more a b old.log old.ends new.ends event answer played.run step in
     let are = are_more old.log events event answer played.are in
     record { run = subst (λ h. AgreeingRun a b h new.ends) (sym log) run; are = subst (λ h. events_of (reverse h) ≡ events ++ event ∷ []) (sym log) are }
 

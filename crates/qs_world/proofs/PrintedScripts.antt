@@ -1,14 +1,12 @@
 -- A script that is printed says the events that were printed.
-use Rattle.std.proofs.Common.{◌≡◌, ℕ, suc, ◌+◌, ◌^◌, ◌<◌, ◌≤◌, Bool, true, false, List, [], ◌∷◌, ◌++◌, length, map, Some, Ok, refl, ◌∙◌, ap, arith, rules, append_assoc}
+use Rattle.std.proofs.Common.{◌≡◌, ℕ, suc, ◌+◌, ◌^◌, ◌<◌, ◌≤◌, Bool, true, false, List, [], ◌∷◌, ◌++◌, length, map, Some, Ok, refl, ◌∙◌, ap, arith, append_assoc}
 use Rattle.std.specs.Prelude.{◌==◌, ◌&&◌, not, filter, nat_le, codes, decimal}
 use Rattle.std.specs.List.{list_all, slice_split, AllByRecursion}
 use Rattle.std.specs.Char.{is_ascii_digit}
-use Rattle.std.specs.Str.Parse.{digits_value}
 use Rattle.std.proofs.lemmas.Bool.{eqb-true, eq-eqb}
 use Rattle.std.proofs.lemmas.Bool.Decides.{nat_tests}
 use Rattle.std.proofs.lemmas.Fmt.{digits_decimal, digits_value-decimal, decimal_nonempty, length-decimal-le}
 use Rattle.std.proofs.lemmas.List.Sums.{list_all-from_AllPass}
-use Rattle.std.proofs.lemmas.Str.Parse.{IsNumeralModel, numerals_by_value}
 use Rattle.hex.specs.Hex.{IsBytes, encode_with, encode_lower, is_hex_digit}
 use Rattle.hex.proofs.HexLemmas.{decode_of-encode_lower, decode_of-ok}
 use Rattle.qs_ranges.specs.Numbers.{MAX_VARINT}
@@ -25,6 +23,7 @@ use Rattle.qs_world.specs.Scripts.{Kind, dir_word, number_word, hex_word, Value,
 use Rattle.qs_world.specs.PlayText.{line, side_text, dir_text, hex_text, event_text, script_text}
 use Rattle.qs_calls.specs.Events.{act_fits}
 use Rattle.qs_world.specs.ScriptLaws.{IsTyped, MayBePlayed, PrintedScriptsParse}
+use Rattle.qs_world.proofs.ScriptDigits.{own}
 
 -- Bytes
 
@@ -152,9 +151,6 @@ IsShort hex_word = Unit {0}
 abbrev AllShort : List Kind → Type 0
 AllShort [] = Unit {0}
 AllShort (kind ∷ kinds) = IsShort kind × AllShort kinds
-
-own : IsNumeralModel (λ ds. list_all is_ascii_digit ds ≡ true) (digits_value 10)
-own = numerals_by_value _ (search rules)
 
 number_is : (least most n : ℕ) → most ≤ MAX_VARINT → least ≤ n → n ≤ most → number_of least most (decimal n) ≡ Ok n
 number_is least most n short low high =

@@ -1,10 +1,9 @@
 -- Digits, decimal and hex.
-use Rattle.std.proofs.Common.{◌≡◌, ℕ, suc, ◌+◌, ◌-◌, ◌*◌, ◌/◌, ◌%◌, ◌^◌, ◌<◌, ◌≤◌, Bool, true, false, List, [], ◌∷◌, length, drop, get_or, Result, Ok, Err, refl, sym, ◌∙◌, ap, arith, rules}
+use Rattle.std.proofs.Common.{◌≡◌, ℕ, suc, ◌+◌, ◌-◌, ◌*◌, ◌/◌, ◌%◌, ◌^◌, ◌<◌, ◌≤◌, Bool, true, false, List, [], ◌∷◌, length, drop, get_or, Result, Ok, Err, refl, arith, rules}
 use Rattle.std.specs.Prelude.{◌&&◌, is_ok, IsOk, codes}
-use Rattle.std.specs.List.{list_all, AllPass}
+use Rattle.std.specs.List.{list_all}
 use Rattle.std.specs.Char.{is_ascii_digit, digit_value}
 use Rattle.std.specs.Str.Parse.{digits_value, digits_value_after}
-use Rattle.std.proofs.lemmas.Grind.{common_steps}
 use Rattle.std.proofs.lemmas.List.Sums.{AllPass-from_list_all, list_all-from_AllPass}
 use Rattle.std.proofs.lemmas.Bool.Decides.{nat_tests}
 use Rattle.std.proofs.lemmas.Str.Parse.{IsNumeralModel, numerals_by_value, digits_value_short}
@@ -12,11 +11,10 @@ use Rattle.std.proofs.Math.Seq.{drop-cons}
 use Rattle.hex.specs.declared.error.FromHexError.{FromHexError}
 use Rattle.hex.specs.Hex.{decode_of, is_hex_digit}
 use Rattle.hex.proofs.HexLemmas.{decode_of-digits, decode_of-ok}
-use Rattle.qs_world.specs.declared.script.Reason.{Reason}
-use Rattle.qs_world.specs.declared.script.Reason.TheVariants.{BadHex, LongWrite}
-use Rattle.qs_world.specs.Scripts.{written, bytes_of, same}
+use Rattle.qs_world.specs.declared.script.Reason.TheVariants.{LongWrite}
+use Rattle.qs_world.specs.Scripts.{bytes_of, same}
 
-own : IsNumeralModel (λ ds. list_all is_ascii_digit ds ≡ true) (digits_value 10)
+pub own : IsNumeralModel (λ ds. list_all is_ascii_digit ds ≡ true) (digits_value 10)
 own = numerals_by_value _ (search rules)
 
 -- 19 digits write a number of 64 bits
@@ -50,12 +48,6 @@ decodes w ok = go (decode_of w) refl ok where
   go (Ok bytes) e ok = (bytes, e, (decode_of-ok w bytes e).2)
   go (Err error) e ok = absurd (cc (ok))
 
-pub no_hex : (w : List ℕ) → same w (codes "-") ≡ false → is_ok (decode_of w) ≡ false → bytes_of w ≡ Err BadHex
-no_hex w dash bad = rw dash (go (decode_of w) bad) where
-  go : (r : Result (List ℕ) FromHexError) → is_ok r ≡ false → written r ≡ Err BadHex
-  go (Ok bytes) bad = absurd (cc (bad))
-  go (Err error) bad = refl
-
 pub long_hex : (w : List ℕ) → same w (codes "-") ≡ false → is_ok (decode_of w) ≡ true → 65535 < length w / 2 → bytes_of w ≡ Err LongWrite
 long_hex w dash ok long =
     let d = decodes w ok in
@@ -75,9 +67,3 @@ hex_even w even = go (list_all is_hex_digit w) refl where
     none : (r : Result (List ℕ) FromHexError) → decode_of w ≡ r → false ≡ is_ok r
     none (Ok bytes) d = absurd (cc (e, list_all-from_AllPass is_hex_digit w (decode_of-ok w bytes d).1))
     none (Err error) d = refl
-
-pub hex_odd : (w : List ℕ) → (length w % 2 ≡ 0 → ⊥) → false ≡ is_ok (decode_of w)
-hex_odd w odd = none (decode_of w) refl where
-  none : (r : Result (List ℕ) FromHexError) → decode_of w ≡ r → false ≡ is_ok r
-  none (Ok bytes) d = absurd (odd (decode_of-ok w bytes d).0)
-  none (Err error) d = refl

@@ -1,11 +1,12 @@
 -- The lines of a script.
-use Rattle.std.proofs.Common.{◌≡◌, ℕ, zero, suc, ◌+◌, ◌<◌, ◌≤◌, Bool, true, false, List, [], ◌∷◌, ◌++◌, length, take, drop, Option, Some, None, Result, Ok, Err, get_or, ◌-◌, refl, sym, ap, ◌∙◌, add-one, inl, inr, arith}
+use Rattle.std.proofs.Common.{◌≡◌, ℕ, suc, ◌+◌, ◌<◌, ◌≤◌, Bool, true, false, List, [], ◌∷◌, ◌++◌, length, take, drop, Option, Some, None, Result, Ok, Err, get_or, ◌-◌, refl, sym, ap, ◌∙◌, inl, inr, arith}
 use Rattle.std.specs.Prelude.{◌==◌, ◌&&◌, position, IsOk, ◌⊎◌, if◌then◌else◌}
 use Rattle.std.specs.List.{position_or_len, onto_first}
 use Rattle.std.proofs.lemmas.Grind.{common_steps}
 use Rattle.std.proofs.lemmas.Bool.Decides.{nat_tests}
 use Rattle.qs_world.specs.declared.script.Reason.{Reason}
 use Rattle.qs_world.specs.Scripts.{Said, feeds, bare, lines_of, line_says, lines_say, one_says, follows, script_of, RanOut, IsFaultOf}
+use Rattle.qs_world.proofs.ScriptWords.{drop_one, take_one}
 
 -- the events of some lines in front of those that follow
 abbrev pub prepend : List Said → Result (List Said) (ℕ × Reason) → Result (List Said) (ℕ × Reason)
@@ -84,12 +85,6 @@ bare_whole (x ∷ y ∷ ys) other =
 pub lines_whole : (x : ℕ) (xs : List ℕ) → length (x ∷ xs) ≤ feed (x ∷ xs) → lines_of (x ∷ xs) ≡ (x ∷ xs) ∷ []
 lines_whole x [] h = grind (arith, common_steps, nat_tests, h)
 lines_whole x (y ∷ ys) h = grind (arith, common_steps, nat_tests, h, lines_whole y ys)
-
-drop_one : {X : Type 0} (k : ℕ) (x : X) (xs : List X) → drop (1 + k) (x ∷ xs) ≡ drop k xs
-drop_one k x xs = let e : 1 + k ≡ suc k = omega arith in rw e refl
-
-take_one : {X : Type 0} (k : ℕ) (x : X) (xs : List X) → take (1 + k) (x ∷ xs) ≡ x ∷ take k xs
-take_one k x xs = let e : 1 + k ≡ suc k = omega arith in rw e refl
 
 -- one byte more in front of the first line
 join : (x : ℕ) (xs : List ℕ) (ls : List (List ℕ)) → feed xs < length xs

@@ -1,10 +1,9 @@
 -- The words of a line.
-use Rattle.std.proofs.Common.{◌≡◌, ℕ, zero, suc, ◌+◌, ◌<◌, ◌≤◌, Bool, true, false, List, [], ◌∷◌, length, take, drop, get_or, refl, sym, ap, ◌∙◌, add-one, inl, inr, arith}
-use Rattle.std.specs.Prelude.{◌==◌, not, filter, nat_eq, Option, Some, None, position, unwrap_or, option_map, Result, Ok, Err, IsOk, if◌then◌else◌}
+use Rattle.std.proofs.Common.{◌≡◌, ℕ, suc, ◌+◌, ◌<◌, ◌≤◌, Bool, true, false, List, [], ◌∷◌, length, take, drop, get_or, refl, ◌∙◌, add-one, inl, inr, arith}
+use Rattle.std.specs.Prelude.{◌==◌, not, filter, nat_eq, Some, None, position, unwrap_or, option_map, Result, Ok, Err, IsOk, if◌then◌else◌}
 use Rattle.std.specs.Cmp.Lexicographic.{pointwise}
-use Rattle.std.specs.List.{slice_split, onto_first, position_or_len}
+use Rattle.std.specs.List.{slice_split, position_or_len}
 use Rattle.std.proofs.Math.Seq.{drop-cons}
-use Rattle.std.proofs.lemmas.Grind.{common_steps}
 use Rattle.std.proofs.lemmas.Bool.Decides.{nat_tests}
 use Rattle.qs_world.specs.declared.script.Reason.{Reason}
 use Rattle.qs_world.specs.declared.script.line.Verb.{Verb}
@@ -17,10 +16,10 @@ next_verb vs i d w n lt is other =
     let not_it : pointwise nat_eq w (name_of (get_or vs i d)) ≡ false = rw is at other in
     rw (add-one, drop-cons vs i d) (rw not_it refl)
 
-drop_one : {X : Type 0} (k : ℕ) (x : X) (xs : List X) → drop (1 + k) (x ∷ xs) ≡ drop k xs
+pub drop_one : {X : Type 0} (k : ℕ) (x : X) (xs : List X) → drop (1 + k) (x ∷ xs) ≡ drop k xs
 drop_one k x xs = let e : 1 + k ≡ suc k = omega arith in rw e refl
 
-take_one : {X : Type 0} (k : ℕ) (x : X) (xs : List X) → take (1 + k) (x ∷ xs) ≡ x ∷ take k xs
+pub take_one : {X : Type 0} (k : ℕ) (x : X) (xs : List X) → take (1 + k) (x ∷ xs) ≡ x ∷ take k xs
 take_one k x xs = let e : 1 + k ≡ suc k = omega arith in rw e refl
 
 abbrev pub is_space : ℕ → Bool
