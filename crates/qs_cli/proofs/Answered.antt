@@ -1,27 +1,23 @@
 -- What runs answer.
-use Rattle.std.proofs.Common.{◌≡◌, ℕ, ◌/◌, ◌%◌, ◌<◌, ◌≤◌, List, length, map, Option, Some, None, Result, Ok, Err, true, false, Bool, inl, inr, ◌⊎◌, refl, sym, ap, ◌∙◌, subst, arith}
-use Rattle.std.specs.Prelude.{is_some}
+use Rattle.std.proofs.Common.{◌≡◌, ℕ, ◌/◌, ◌%◌, ◌<◌, ◌≤◌, List, length, Option, Result, Ok, Err, true, false, inl, inr, sym, ◌∙◌, subst, arith}
 use Rattle.std.specs.Io.KnownBytes.{Appends}
 use Rattle.std.specs.List.{list_all}
 use Rattle.std.proofs.lemmas.List.Sums.{list_all-from_AllPass}
-use Rattle.hex.specs.Hex.{is_hex_digit, decode_of}
+use Rattle.hex.specs.Hex.{is_hex_digit}
 use Rattle.hex.proofs.HexLemmas.{decode_of-ok}
-use Rattle.qs_wire.specs.Reading.{reading_of}
 use Rattle.qs_calls.specs.declared.settings.Settings.{Settings}
 use Rattle.qs_calls.specs.declared.event.Event.{Event}
 use Rattle.qs_world.specs.declared.report.Report.{Report}
 use Rattle.qs_world.specs.declared.report.PlayFault.TheVariants.{NoSuchPacket}
 use Rattle.qs_world.specs.declared.script.ScriptFault.{ScriptFault}
-use Rattle.qs_calls.specs.Events.{fits}
-use Rattle.qs_world.specs.Scripts.{script_of, said, IsFaultOf}
+use Rattle.qs_world.specs.Scripts.{IsFaultOf}
 use Rattle.qs_world.specs.Plays.{PlayOf}
 use Rattle.qs_world.specs.PlayText.{play_text, script_text}
 use Rattle.qs_world.specs.Randoms.{IsRandomScript, seeded}
 use Rattle.qs_world.proofs.ScriptDigits.{decodes, hex_even}
 use Rattle.qs_cli.specs.declared.status.Status.{Status}
 use Rattle.qs_cli.specs.declared.status.Status.TheVariants.{Success, FaultShown, BadUsage, NoMemory, Failed}
-use Rattle.qs_cli.specs.FrameText.{payload_text}
-use Rattle.qs_cli.specs.Runs.{AnswersFrames, AnswersEvents, AnswersPlay, AnswersRandom, IsPayload, IsScriptOf, Shows, ShowsScriptFault, missing_line, written}
+use Rattle.qs_cli.specs.Runs.{AnswersEvents, AnswersPlay, AnswersRandom, IsPayload, IsScriptOf, Shows, ShowsScriptFault, missing_line, written}
 use Rattle.qs_cli.specs.Carrying.{Failings, AnswersCarried, AnswersUdp}
 
 -- What is so of the text that was written, of want of memory and of a writer that failed is so of the answer.
@@ -102,26 +98,3 @@ long_spells_none w long (payload, (is, short)) = omega (arith, long, short, (dec
 
 pub other_spells_none : (w : List ℕ) → list_all is_hex_digit w ≡ false → IsPayload w → ⊥
 other_spells_none w other (payload, (is, short)) = absurd (cc (other, list_all-from_AllPass is_hex_digit w (decode_of-ok w payload is).1))
-
--- the payload's text was written
-pub answered_payload : (status answer : Status) (word payload : List ℕ) (fault : Bool) (old new : Option (List ℕ)) → decode_of word ≡ Ok payload → IsPayload word
-    → fault ≡ is_some (reading_of payload).fault → (fault ≡ true → status ≡ FaultShown) → (fault ≡ false → status ≡ Success)
-    → Shows (payload_text payload) status old new answer → AnswersFrames answer word old new
-answered_payload status answer word payload true old new is (other, (same, short)) found shows none shown =
-    by_shown (payload_text payload) status answer old new (λ a. AnswersFrames a word old new) shown
-    (λ text. subst (λ a. AnswersFrames a word old new) (sym (shows refl)) (payload, (is, fits), sym found, text))
-    (λ kept. ((other, (same, short)), kept)) (other, (same, short))
-  where
-    fits : length payload ≤ 65535
-    fits = (let e : other ≡ payload = cc (same, is) in rw (sym e) short)
-answered_payload status answer word payload false old new is (other, (same, short)) found shows none shown =
-    by_shown (payload_text payload) status answer old new (λ a. AnswersFrames a word old new) shown
-    (λ text. subst (λ a. AnswersFrames a word old new) (sym (none refl)) (payload, (is, fits), no_fault (reading_of payload).fault (sym found), text))
-    (λ kept. ((other, (same, short)), kept)) (other, (same, short))
-  where
-    fits : length payload ≤ 65535
-    fits = (let e : other ≡ payload = cc (same, is) in rw (sym e) short)
-
-    no_fault : {X : Type 0} (o : Option X) → is_some o ≡ false → o ≡ None
-    no_fault None e = refl
-    no_fault (Some x) e = absurd (cc (e))

@@ -1,7 +1,6 @@
 -- What takes place of events over a wire.
-use Rattle.std.proofs.Common.{◌≡◌, ℕ, zero, suc, ◌+◌, ◌<◌, ◌≤◌, List, [], ◌∷◌, ◌++◌, length, take, drop, get_or, reverse, ◌-◌, Bool, true, false, Option, Some, Result, Ok, Err, refl, sym, ap, ◌∙◌, subst, inl, inr, arith}
-use Rattle.std.specs.Prelude.{⊤}
-use Rattle.std.proofs.lemmas.List.{take_more, take_all, reverse-append}
+use Rattle.std.proofs.Common.{◌≡◌, ℕ, zero, suc, ◌+◌, ◌<◌, List, [], ◌∷◌, ◌++◌, length, take, drop, get_or, reverse, ◌-◌, Bool, Option, Result, Ok, Err, refl, sym, ap, ◌∙◌, subst, inl, inr, arith}
+use Rattle.std.proofs.lemmas.List.{take_more, reverse-append}
 use Rattle.qs_machine.specs.Examples.{standard}
 use Rattle.qs_calls.specs.declared.settings.SetupFault.{SetupFault}
 use Rattle.qs_calls.specs.declared.event.Side.{Side}
@@ -12,10 +11,9 @@ use Rattle.qs_calls.specs.declared.event.Event.{Event}
 use Rattle.qs_world.specs.declared.report.Report.{Report}
 use Rattle.qs_world.specs.declared.report.PlayFault.{PlayFault}
 use Rattle.qs_world.specs.declared.report.PlayFault.TheVariants as faults
-use Rattle.qs_runs.specs.Logs.{History, payload}
 use Rattle.qs_runs.specs.Worlds.{World, world_made}
-use Rattle.qs_world.specs.Copies.{SameEvent, SameAct, IsReportOf}
-use Rattle.qs_world.specs.Plays.{AgreeingRun, Played, IsMissingBy, begun}
+use Rattle.qs_world.specs.Copies.{IsReportOf}
+use Rattle.qs_world.specs.Plays.{AgreeingRun, Played, begun}
 use Rattle.qs_world.specs.PlayText.{play_text}
 use Rattle.qs_world.proofs.PlayedRuns.{played_none}
 use Rattle.qs_world.proofs.OneMore.{one_more}
@@ -23,78 +21,9 @@ use Rattle.qs_cli.specs.declared.status.Status.{Status}
 use Rattle.qs_cli.specs.declared.status.Status.TheVariants.{Success, FaultShown, BadUsage, NoMemory, Failed}
 use Rattle.qs_cli.specs.Runs.{Shows, missing_line, written}
 use Rattle.qs_cli.proofs.Answered.{by_shown}
-use Rattle.qs_cli.specs.Carrying.{Failings, Happens, Carried, Carries, StepsBy, CarryStep, CarryOf, HasCarried, ShowsWorld, AnswersCarried, counted, send_failed, wire_line}
+use Rattle.qs_cli.specs.Carrying.{Failings, Happens, Carried, Carries, CarryStep, CarryOf, HasCarried, ShowsWorld, AnswersCarried, counted, wire_line}
 
--- Deliveries
-
--- a packet arrives, perhaps in the place of another
-pub arrives : (old new : Played) (f : Failings) (s : Side) (k j : ℕ) (text : List ℕ) (result : Result Bool PlayFault)
-    → payload s j old.log ≡ Some text → StepsBy old (record { end = s; act = Deliver j }) result new → CarryStep old f (record { end = s; act = Deliver k }) result new f
-arrives old new f s k j text (Ok stranger) made step = inr (inr (inr (refl, step.0, j, step.1)))
-arrives old new f s k j text (Err (faults.NoSuchPacket n)) made (same, missing, place) = absurd (cc (made, missing))
-arrives old new f s k j text (Err faults.NoMemory) made step = tt
-arrives old new f s k j text (Err (faults.Setup fault)) made step = step
-
--- the packet itself is to be delivered, and may be missing
-pub asked_for : (old new : Played) (f : Failings) (s : Side) (k : ℕ) (result : Result Bool PlayFault)
-    → StepsBy old (record { end = s; act = Deliver k }) result new → CarryStep old f (record { end = s; act = Deliver k }) result new f
-asked_for old new f s k (Ok stranger) step = inr (inr (inr (refl, step.0, k, step.1)))
-asked_for old new f s k (Err (faults.NoSuchPacket n)) (same, missing, place) = (same, refl, missing, place)
-asked_for old new f s k (Err faults.NoMemory) step = tt
-asked_for old new f s k (Err (faults.Setup fault)) step = step
-
--- the send failed, and the packet is lost
-pub is_lost : (old new : Played) (f g : Failings) (s : Side) (k : ℕ) (result : Result Bool PlayFault)
-    → g ≡ send_failed f → StepsBy old (record { end = s; act = Lose k }) result new → CarryStep old f (record { end = s; act = Deliver k }) result new g
-is_lost old new f g s k (Ok stranger) failed step = inl (failed, step.0, step.1)
-is_lost old new f g s k (Err (faults.NoSuchPacket n)) failed (same, missing, place) = absurd (missing)
-is_lost old new f g s k (Err faults.NoMemory) failed step = tt
-is_lost old new f g s k (Err (faults.Setup fault)) failed step = step
-
--- Any other event
-
--- an act that is no delivery
-abbrev pub IsOther : Act → Type 0
-IsOther (Deliver k) = ⊥
-IsOther act = ⊤
-
-other_step : (s : Side) (act : Act) (old new : Played) (f : Failings) (placed : Event) (stranger : Bool)
-    → IsOther act → SameEvent placed (record { end = s; act = act }) → stranger ≡ false → Happens old placed new → Carries s act old f stranger new f
-other_step s (Deliver k) old new f placed stranger other same none happens = absurd (other)
-other_step s (acts.OpenStream d) old new f placed stranger other same none happens = (refl, none, placed, same, happens)
-other_step s acts.Accept old new f placed stranger other same none happens = (refl, none, placed, same, happens)
-other_step s acts.Claim old new f placed stranger other same none happens = (refl, none, placed, same, happens)
-other_step s (acts.Write n bytes) old new f placed stranger other same none happens = (refl, none, placed, same, happens)
-other_step s (acts.Finish n) old new f placed stranger other same none happens = (refl, none, placed, same, happens)
-other_step s (acts.Reset n code) old new f placed stranger other same none happens = (refl, none, placed, same, happens)
-other_step s (acts.Stop n code) old new f placed stranger other same none happens = (refl, none, placed, same, happens)
-other_step s (acts.ReadUpTo n size) old new f placed stranger other same none happens = (refl, none, placed, same, happens)
-other_step s (acts.Make room) old new f placed stranger other same none happens = (refl, none, placed, same, happens)
-other_step s (acts.Lose k) old new f placed stranger other same none happens = (refl, none, placed, same, happens)
-
--- no event but a delivery has a packet that wasn't made
-none_missing : (h : History) (s : Side) (act more : Act) → IsOther act → SameAct more act → IsMissingBy h s more → ⊥
-none_missing h s act (Deliver j) other same missing = go act other same where
-  go : (a : Act) → IsOther a → SameAct (Deliver j) a → ⊥
-  go a other is = subst IsOther (sym is) other
-none_missing h s act (acts.OpenStream d) other same missing = missing
-none_missing h s act acts.Accept other same missing = missing
-none_missing h s act acts.Claim other same missing = missing
-none_missing h s act (acts.Write n bytes) other same missing = missing
-none_missing h s act (acts.Finish n) other same missing = missing
-none_missing h s act (acts.Reset n code) other same missing = missing
-none_missing h s act (acts.Stop n code) other same missing = missing
-none_missing h s act (acts.ReadUpTo n size) other same missing = missing
-none_missing h s act (acts.Make room) other same missing = missing
-none_missing h s act (acts.Lose k) other same missing = missing
-
--- an event other than a delivery happens as it was handed in
-pub happens_so : (old new : Played) (f : Failings) (placed event : Event) (result : Result Bool PlayFault)
-    → IsOther event.act → SameEvent placed event → StepsBy old placed result new → CarryStep old f event result new f
-happens_so old new f placed event (Ok stranger) other same step = other_step event.end event.act old new f placed stranger other same step.0 step.1
-happens_so old new f placed event (Err (faults.NoSuchPacket n)) other same (still, missing, place) = absurd (none_missing old.log placed.end event.act placed.act other same.1 missing)
-happens_so old new f placed event (Err faults.NoMemory) other same step = tt
-happens_so old new f placed event (Err (faults.Setup fault)) other same step = step
+-- Events that were handed in
 
 -- nothing happened yet
 pub carried_none : (f : Failings) (p : Played) → Ok p ≡ begun (world_made standard standard) → HasCarried f [] p f 0
@@ -161,10 +90,6 @@ carrying_stops before mid after events i event n (faults.NoSuchPacket k) old new
     subst (CarryOf before events (Err (faults.NoSuchPacket k)) new) (sym still) (subst (λ q. CarryOf before events (Err (faults.NoSuchPacket k)) q mid) (sym same) stops)
 carrying_stops before mid after events i event n faults.NoMemory old new lt is had step = tt
 carrying_stops before mid after events i event n (faults.Setup fault) old new lt is had step = step
-
--- all events were handed in
-pub carried_all : (before after : Failings) (events : List Event) (i n : ℕ) (p : Played) → length events ≤ i → HasCarried before (take i events) p after n → HasCarried before events p after n
-carried_all before after events i n p all had = subst (λ es. HasCarried before es p after n) (take_all i events all) had
 
 -- What was written
 
