@@ -381,6 +381,9 @@ fn put_way(
     ensures spare { HasSpare (length out.new) result.len outbox.new.spare }
     ensures room { length out.new ≡ length out.old }
 {
+    if packet.is_full {
+        return packet;
+    }
     let mut packet = packet;
     let mut from = way_start(around, first);
     while let Some(stream) = outbox.next_marked(Task::Bytes, from) {

@@ -5,6 +5,10 @@ use Rattle.qs_conn.proofs.Flows.{flow_idle, flow_way, flow_whole, off_way}
 use Rattle.qs_conn.proofs.Quiets.{no_goes}
 use Rattle.qs_conn.proofs.filling.put_way.Goals as goal
 
+pub returns-then-packet-clause-flow : goal.returns-then-packet-clause-flow
+returns-then-packet-clause-flow c = λ recvs delay room old e at start.
+    flow_whole delay room old (take c.args.packet.len c.args.out.now) (end_by c.args.terms.now recvs c.args.outbox.now e) c.args.packet.is_full c.args.around c.args.first (start_of c.args.around c.args.first) c.if-packet.true start
+
 pub loop-stream-init : goal.loop-stream-init
 loop-stream-init c =
     let start = c.way_start-from.ensures.value in
@@ -44,8 +48,8 @@ returns-then-not-is_on_way-clause-flow c = λ recvs delay room old e at start.
     (λ n le on. no_goes c.loop-stream.outbox n (c.in-Some.ensures.quiet n le (off_way c.args.around c.args.first c.loop-stream.from c.in-Some.stream n c.loop-stream.invariant.begun c.in-Some.ensures.from (λ is. true≢false (sym (c.is_on_way.ensures.1 is) ∙ c.if-not-is_on_way.true)) on)) c.args.terms.now recvs e)
     (c.loop-stream.invariant.flow recvs delay room old e at start)
 
-pub returns-then-packet-clause-flow : goal.returns-then-packet-clause-flow
-returns-then-packet-clause-flow c = λ recvs delay room old e at start. (
+pub returns-then-packet-2-clause-flow : goal.returns-then-packet-2-clause-flow
+returns-then-packet-2-clause-flow c = λ recvs delay room old e at start. (
     let stream = c.in-Some.stream in
     let around = c.args.around in
     let first = c.args.first in
@@ -53,7 +57,7 @@ returns-then-packet-clause-flow c = λ recvs delay room old e at start. (
     let here = flow_idle delay room old (take c.loop-stream.packet.len c.loop-stream.out) (end_by c.args.terms.now recvs c.loop-stream.outbox e) c.loop-stream.packet.is_full around first c.loop-stream.from stream c.in-Some.ensures.from
     (λ n ge lt. no_goes c.loop-stream.outbox n (c.in-Some.ensures.quiet n ge lt) c.args.terms.now recvs e) before in
     let after = c.put_stream-packet.ensures.flow around first recvs delay room old e (at ∙ sym c.loop-stream.invariant.room) (c.is_on_way.ensures.0 c.if-not-is_on_way.false) here in
-    flow_whole delay room old (take c.put_stream-packet.result.len c.put_stream-packet.new.out) (end_by c.args.terms.now recvs c.put_stream-packet.new.outbox e) c.put_stream-packet.result.is_full around first (stream + 1) c.if-packet.true after)
+    flow_whole delay room old (take c.put_stream-packet.result.len c.put_stream-packet.new.out) (end_by c.args.terms.now recvs c.put_stream-packet.new.outbox e) c.put_stream-packet.result.is_full around first (stream + 1) c.if-packet-2.true after)
 
 pub returns-clause-flow : goal.returns-clause-flow
 returns-clause-flow c = λ recvs delay room old e at start.
