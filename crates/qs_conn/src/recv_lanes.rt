@@ -382,6 +382,9 @@ impl RecvLanes {
         ensures small { IfSome result (λ n. n < 2 ^ 60) }
         ensures quiet { (i : ℕ) (l : RecvLane) → from ≤ i → IsBefore i result → slice_get self.now i ≡ Some l → IsQuietLane window l }
     {
+        if from >= self.halves.len() {
+            return None;
+        }
         if window < self.first {
             // Some lanes began with more, so each of them may have a limit to tell.
             return self.next_open(from);

@@ -248,6 +248,9 @@ impl SendLanes {
         ensures small { IfSome result (λ n. n < 2 ^ 60) }
         ensures quiet { (i : ℕ) (s : Sending) → from ≤ i → IsBefore i result → slice_get self.now i ≡ Some s → IsQuiet task s }
     {
+        if from >= self.halves.len() {
+            return None;
+        }
         self.marks.next(task, from)
     }
 
