@@ -244,6 +244,9 @@ fn put_way(
     packet: Packet,
 ) -> Packet {
     debug_assert!(first < 1 << 62);
+    if packet.is_full {
+        return packet;
+    }
     let mut packet = packet;
     let mut from = way_start(around, first);
     while let Some(stream) = outbox.next_marked(Task::Bytes, from) {

@@ -275,6 +275,9 @@ impl RecvLanes {
 
     /// The least index from one on whose lane may have a stop or a limit above `window` to tell.
     pub(crate) fn next_marked(&self, from: usize, window: u64) -> Option<usize> {
+        if from >= self.halves.len() {
+            return None;
+        }
         if window < self.first {
             // Some lanes began with more, so each of them may have a limit to tell.
             return self.next_open(from);

@@ -159,6 +159,9 @@ impl SendLanes {
 
     /// The least index from one on whose half may have a task. The halves between are quiet of it.
     pub(crate) fn next_marked(&self, task: Task, from: usize) -> Option<usize> {
+        if from >= self.halves.len() {
+            return None;
+        }
         self.marks.next(task, from)
     }
 

@@ -124,13 +124,14 @@ pub(crate) fn has(task: Task, half: &SendHalf) -> bool {
 // Whether bytes or the end may go: a byte below the limit is due, or the end is and every byte was sent.
 fn may_send(half: &SendHalf) -> bool {
     half.is_lawful();
+    // Bytes that were never sent come first: they need no search of what was sent and what of it is acknowledged.
+    if half.reset_code().is_none() && half.sent_end() < half.written().min(half.limit()) {
+        return true;
+    }
     if half.end_due() && half.sent_end() == half.written() {
         return true;
     }
-    if matches!(half.lowest_due(), Some(offset) if offset < half.limit()) {
-        return true;
-    }
-    half.reset_code().is_none() && half.sent_end() < half.written().min(half.limit())
+    matches!(half.lowest_due(), Some(offset) if offset < half.limit())
 }
 
 // Whether a reset is to be told, or is under way.
