@@ -180,9 +180,32 @@ fn a_ring_follows_its_span() {
     assert!(live() + (1 << 16) <= before, "a ring stays");
 }
 
+/// Of 400,000 bytes that came 10,000 aren't read: the ring, which held them all, is of four times as many at most.
+fn a_ring_shrinks_as_it_is_read() {
+    let mut two = wide();
+    let stream = two.client.open(Dir::Bidi).expect("a stream");
+    let sent: Vec<u8> = (0..400_000u32).map(|n| (n % 251) as u8).collect();
+    assert_eq!(two.client.write(stream, &sent), Ok(sent.len()));
+    two.settle();
+    let (mut read, mut bytes) = (Vec::with_capacity(sent.len()), [0; 1300]);
+    let before = live();
+    while read.len() < 390_000 {
+        let Read::Bytes(count) = two.server.read(stream, &mut bytes).expect("a stream") else {
+            panic!("bytes are there");
+        };
+        read.extend_from_slice(&bytes[..count]);
+    }
+    assert!(live() + 400_000 <= before + 4 * 10_000, "a wide ring stays");
+    while let Read::Bytes(count) = two.server.read(stream, &mut bytes).expect("a stream") {
+        read.extend_from_slice(&bytes[..count]);
+    }
+    assert_eq!(read, sent);
+}
+
 #[test]
 fn what_streams_hold() {
     streams_that_are_over_keep_no_buffers();
     a_byte_takes_no_window();
     a_ring_follows_its_span();
+    a_ring_shrinks_as_it_is_read();
 }

@@ -62,6 +62,8 @@ impl ChunkAssembly {
 impl Assembly for ChunkAssembly {
     ghost holds = { λ a. a };
 
+    ghost size = { λ a. map.len a.stored };
+
     fn new(alloc: Global, window: u64) -> Self {
         ChunkAssembly {
             chunks: ChunkList::new(alloc),

@@ -117,6 +117,14 @@ pub record IsRunAbove (s : NumberSet) (n : ℕ) (run : ℕ × ℕ) : Type 0 wher
   pub nonempty : run.0 < run.1
   pub members : (k : ℕ) → n ≤ k → k ≤ run.1 → set.contains s k ≡ is_within run.0 run.1 k
 
+-- the gap goes from the least missing number at or above lo to the next member, or to hi where none comes before
+pub record IsFirstGap (s : NumberSet) (lo hi : ℕ) (gap : ℕ × ℕ) : Type 0 where
+  pub starts : IsLeastMissingFrom s lo gap.0
+  pub nonempty : gap.0 < gap.1
+  pub within : gap.1 ≤ hi
+  pub missing : MissesRange s gap.0 gap.1
+  pub ends : gap.1 < hi → IsTrue (set.contains s gap.1)
+
 -- whether the number before n is a member
 abbrev pub has_predecessor : NumberSet → ℕ → Bool
 has_predecessor s zero = false

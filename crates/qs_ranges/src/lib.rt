@@ -14,6 +14,7 @@ ghost use Rattle.qs_ranges.specs.Numbers.{
   IsLeastMissingFrom,
   IsRunFrom,
   IsRunAbove,
+  IsFirstGap,
   run_starts,
 };
 ghost use Rattle.qs_ranges.specs.Runs.{AreApart, AreRunsOf, IsSpan};
@@ -199,6 +200,21 @@ impl RangeSet {
         match self.run_above(n) {
             Some((start, end)) if start <= n => end,
             _ => n,
+        }
+    }
+
+    /// The first gap from `lo` on and below `hi`: its first missing number, and the next member or `hi`. `None` where no number is missing.
+    pub fn first_gap(&self, lo: u64, hi: u64) -> Option<(u64, u64)>
+        ensures found { IfSome result (IsFirstGap self.now lo hi) }
+        ensures full { IfNone result (ContainsRange self.now lo hi) }
+    {
+        let from = self.first_missing(lo);
+        if from >= hi {
+            return None;
+        }
+        match self.run_above(from) {
+            Some((start, _)) if start < hi => Some((from, start)),
+            _ => Some((from, hi)),
         }
     }
 

@@ -35,7 +35,7 @@ nothing_changes lane =
     }
 
 -- a known final size is named again
-same_size : (f : Option ℕ) (end n size : ℕ) (fin : Bool) (before : ℕ) → breaks_known f end n fin before ≡ false → f ≡ Some size → cond fin (Some end) f ≡ Some size
+pub same_size : (f : Option ℕ) (end n size : ℕ) (fin : Bool) (before : ℕ) → breaks_known f end n fin before ≡ false → f ≡ Some size → cond fin (Some end) f ≡ Some size
 same_size None end n size fin before h is = cc
 same_size (Some s) end n size true before h is = let e : end ≡ s = grind (arith, nat_tests) in ap Some e ∙ is
 same_size (Some s) end n size false before h is = is

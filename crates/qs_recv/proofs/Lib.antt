@@ -2,12 +2,14 @@ pub mod AssembledLaws
 pub mod GrowthLaws
 pub mod LaneLaws
 pub mod LawfulLaws
+pub mod LetGoLaws
 pub mod NewsLaws
 pub mod ReadLaws
 pub mod RingCount
 pub mod RingLaws
 pub mod RingMoved
 pub mod RingPlaces
+pub mod RingShrunk
 pub mod SameAgain
 pub mod SameLaws
 pub mod SameRing

@@ -2,12 +2,13 @@
 --     missing_parts      of two ranges, one behind the other
 --     missing_all, missing_none      where none came, and where all did
 --     missing_same       in two sets that agree there
+--     run_behind, least_of       what a search for the next gap tells
 use Rattle.std.specs.Prelude.{◌≡◌, ℕ, ◌+◌, ◌-◌, ◌<◌, ◌≤◌, zero, suc, Bool, true, false, cond, refl}
 use Rattle.std.proofs.Common.{◌∙◌, ap, arith, inl, inr}
 use Rattle.std.specs.FinSet as set
 use Rattle.std.proofs.lemmas.Bool.{both_ways, cases_lt}
-use Rattle.qs_ranges.specs.Numbers.{NumberSet, ContainsRange, MissesRange}
-use Rattle.qs_recv.specs.Ring.{IsNextRun, missing_count}
+use Rattle.qs_ranges.specs.Numbers.{NumberSet, ContainsRange, IsLeastMissingFrom, MissesRange}
+use Rattle.qs_recv.specs.Ring.{IsNextGap, IsNextRun, missing_count}
 
 pub missing_zero : (r : NumberSet) (from : ℕ) → missing_count r from 0 ≡ 0
 unfolding missing_count
@@ -58,6 +59,25 @@ missing_same r s from zero is = refl
 missing_same r s from (suc n) is =
     ap (λ b. cond b (missing_count r from n) (missing_count r from n + 1)) (is (from + n) (omega arith) (omega arith))
     ∙ ap (λ k. cond (set.contains s (from + n)) k (k + 1)) (missing_same r s from n (λ q low high. is q low (omega arith)))
+
+-- a gap, and what came up to the next one
+pub run_behind : (r : NumberSet) (at end stop next after : ℕ) → at < stop → stop ≤ end → MissesRange r at stop → IsNextGap r stop end next after → IsNextRun r at end stop next
+run_behind r at end stop next after some within none g =
+    let begins = g.begins in
+    let stays = g.stays in
+    record {
+      begins = omega (arith, some);
+      some = omega (arith, some, begins);
+      ordered = begins;
+      ends = omega (arith, stays, within);
+      missing = none;
+      came = g.came;
+      next_missing = λ below. g.missing next (omega arith) (g.some below);
+    }
+
+-- the first offset that didn't come
+pub least_of : (r : NumberSet) (at end from to : ℕ) → IsNextGap r at end from to → from < end → IsLeastMissingFrom r at from
+least_of r at end from to g below = record { from = g.begins; missing = g.missing from (omega arith) (g.some below); all_before = g.came }
 
 -- there is a gap at an offset that didn't come
 pub gap_some : (r : NumberSet) (at end stop next : ℕ) → set.contains r at ≡ false → IsNextRun r at end stop next → at < stop

@@ -16,9 +16,9 @@ use Rattle.std.proofs.lemmas.Bool.{both_ways, cases_lt, cases_order, cases_Bool,
 use Rattle.std.proofs.lemmas.Bool.Decides.{nat_tests}
 use Rattle.std.proofs.lemmas.List.{drop_all, length-take, take_all}
 use Rattle.std.proofs.lemmas.Option.{slice_get-get_or}
-use Rattle.qs_ranges.specs.Numbers.{NumberSet, ContainsRange, IsLeastMissingFrom, covers, is_within}
+use Rattle.qs_ranges.specs.Numbers.{NumberSet, ContainsRange, IsLeastMissingFrom, covers, end_of, is_within}
 use Rattle.qs_ranges.proofs.Algebra.{with_range-covered}
-use Rattle.qs_ranges.proofs.Sets.{below-end_of, covers-is, end_of-union}
+use Rattle.qs_ranges.proofs.Sets.{covers-is, end_of-union, end_of-with_range}
 use Rattle.qs_recv.specs.Assembled.{Assembled, front, keep_from, put, store, take_front}
 use Rattle.qs_recv.specs.Bytes.{byte_at}
 use Rattle.qs_recv.specs.Ring.{IsFilled, IsRing, IsSized, IsSizeFor, missing_count, ring_bytes, stored_in_ring}
@@ -258,11 +258,11 @@ put_known a offset bytes all =
     either false = sym (store_known a.received a.stored offset bytes all)
 
 -- where nothing is missing before an offset that is read or came
-pub all_known : (r : NumberSet) (ring : List ℕ) (w from stored offset end first : ℕ) (off : Bool) → IsRing ring r w from stored off → IsLeastMissingFrom r (max offset from) first → end ≤ first → ContainsRange r offset end
-all_known r ring w from stored offset end first off h least past q low high =
+pub all_known : (r : NumberSet) (ring : List ℕ) (w from stored offset end first : ℕ) (off : Bool) → IsRing ring r w from stored off → ContainsRange r (max offset from) first → end ≤ first → ContainsRange r offset end
+all_known r ring w from stored offset end first off h came past q low high =
     elim (cases_lt q from) [
       | inl read ↦ h.read_came q read
-      | inr left ↦ least.all_before q (omega arith) (omega arith)
+      | inr left ↦ came q (omega arith) (omega arith)
     ]
 
 -- A put where one byte is new
@@ -520,25 +520,34 @@ size_fits span window power least size two reaches near least_is size_is fits =
           ];
     }
 
-pub sized_empty : (r : NumberSet) (stored window : ℕ) → window ≤ 2 ^ 20 → IsSized r 0 stored window
-sized_empty r stored window small = record { small_window = small; within = omega arith; bound = omega arith; idle = λ none. omega arith }
+pub sized_empty : (r : NumberSet) (from end stored window : ℕ) (off : Bool) → window ≤ 2 ^ 20 → (off ≡ false → end ≡ end_of r) → IsSized r 0 from end stored window off
+sized_empty r from end stored window off small ends = record { small_window = small; within = omega arith; bound = omega arith; idle = λ none. omega arith; ends = ends }
 
-pub sized_same : (r : NumberSet) (size new stored window : ℕ) → IsSized r size stored window → new ≡ size → IsSized r new stored window
-sized_same r size new stored window h is =
-    let bound = h.bound in
-    let within = h.within in
-    record { small_window = h.small_window; within = omega (arith, within, is); bound = omega (arith, bound, is); idle = λ none. (let idle = h.idle none in omega (arith, idle, is)) }
-
-pub sized_more : (r s : NumberSet) (size new stored count window : ℕ) → IsSized r size stored window → new ≡ size → IsSized (set.union r s) new (stored + count) window
-sized_more r s size new stored count window h is =
-    let ends = end_of-union r s in
+pub sized_same : (r : NumberSet) (size new from end stored window : ℕ) (off : Bool) → IsSized r size from end stored window off → new ≡ size → IsSized r new from end stored window off
+sized_same r size new from end stored window off h is =
     let bound = h.bound in
     let within = h.within in
     record {
       small_window = h.small_window;
       within = omega (arith, within, is);
-      bound = omega (arith, bound, ends, is);
+      bound = omega (arith, bound, is);
+      idle = λ none. (let idle = h.idle none in omega (arith, idle, is));
+      ends = h.ends;
+    }
+
+-- more came, and is noted at the end
+pub sized_more : (r s : NumberSet) (size new from end last stored count window : ℕ) (off : Bool) → IsSized r size from end stored window off → new ≡ size → (off ≡ false → last ≡ end_of (set.union r s))
+    → IsSized (set.union r s) new from last (stored + count) window off
+sized_more r s size new from end last stored count window off h is ends =
+    let more = end_of-union r s in
+    let bound = h.bound in
+    let within = h.within in
+    record {
+      small_window = h.small_window;
+      within = omega (arith, within, is);
+      bound = omega (arith, bound, more, is);
       idle = λ none. (let idle = h.idle (omega (arith, none)) in omega (arith, idle, is));
+      ends = ends;
     }
 
 -- some byte is new
@@ -549,31 +558,27 @@ count_some r first n missing some =
     let one = missing_all r first 1 (λ q low high. (let same : q ≡ first = omega arith in ap (set.contains r) same ∙ missing)) in
     omega (arith, parts, one)
 
-pub sized_grown : (r : NumberSet) (offset n from first size new stored count window : ℕ) → IsSizeFor (offset + n - from) window size → IsLeastMissingFrom r (max offset from) first → first < offset + n → 0 < n → window ≤ 2 ^ 20 → new ≡ size
-    → count ≡ missing_count r first (offset + n - first) → IsSized (with_run r offset n) new (stored + count) window
-sized_grown r offset n from first size new stored count window h least below some small is count_is =
+-- the end of what came, with a run of some more
+pub end_more : (r : NumberSet) (offset n end last : ℕ) → end ≡ end_of r → 0 < n → last ≡ max end (offset + n) → last ≡ end_of (with_run r offset n)
+end_more r offset n end last is some last_is = let ends = end_of-with_range r offset (offset + n) (omega arith) in omega (arith, is, last_is, ends)
+
+pub sized_grown : (r : NumberSet) (offset n from first size new last stored count window : ℕ) → IsSizeFor (offset + n - from) window size → IsLeastMissingFrom r (max offset from) first → first < offset + n → 0 < n → window ≤ 2 ^ 20
+    → new ≡ size → count ≡ missing_count r first (offset + n - first) → last ≡ end_of (with_run r offset n) → IsSized (with_run r offset n) new from last (stored + count) window false
+sized_grown r offset n from first size new last stored count window h least below some small is count_is ends =
     let bound = h.bound in
     let within = h.within in
-    let last : set.contains (with_run r offset n) (offset + n - 1) ≡ true =
-    contains-with_run r offset n (offset + n - 1) ∙ or_right (set.contains r (offset + n - 1)) (is_in_run (offset + n - 1) offset n) (grind (arith, nat_tests)) in
-    let ends = below-end_of (with_run r offset n) (offset + n - 1) last in
+    let more = end_of-with_range r offset (offset + n) (omega (arith, some)) in
     let new_one = count_some r first (offset + n - first) least.missing (omega (arith, below)) in
     record {
       small_window = small;
       within = omega (arith, within, is);
-      bound = omega (arith, bound, ends, is, some);
+      bound = omega (arith, bound, more, is);
       idle = λ none. absurd (omega (arith, none, new_one, count_is));
+      ends = λ _. ends;
     }
 
-pub sized_noted : {T E : Type 0} (res : Result T E) (old new : NumberSet) (size stored window offset n : ℕ) → OnOk res (new ≡ with_run old offset n) → OnErr res (new ≡ old) → IsSized old size stored window → IsSized new size stored window
-sized_noted (Ok x) old new size stored window offset n ok err h =
+pub sized_noted : {T E : Type 0} (res : Result T E) (old new : NumberSet) (size from end stored window offset n : ℕ) → OnOk res (new ≡ with_run old offset n) → OnErr res (new ≡ old) → IsSized old size from end stored window true → IsSized new size from end stored window true
+sized_noted (Ok x) old new size from end stored window offset n ok err h =
     let same : stored + 0 ≡ stored = omega arith in
-    rw (ok, ← same) (sized_more old _ size size stored 0 window h refl)
-sized_noted (Err e) old new size stored window offset n ok err h = rw err h
-
--- a ring after a read, which is given back where nothing is left and it is large
-pub sized_read : (r : NumberSet) (size new stored less window : ℕ) → IsSized r size stored window → new ≤ size → (less ≡ 0 → new ≤ 4096) → IsSized r new less window
-sized_read r size new stored less window h fewer idle =
-    let bound = h.bound in
-    let within = h.within in
-    record { small_window = h.small_window; within = omega (arith, within, fewer); bound = omega (arith, bound, fewer); idle = idle }
+    rw (ok, ← same) (sized_more old _ size size from end end stored 0 window true h refl (λ on. absurd (both_ways true on refl)))
+sized_noted (Err e) old new size from end stored window offset n ok err h = rw err h

@@ -2,7 +2,7 @@
 --     IsOther      it has each byte that is stored at its place
 --     other_view, other_ring      it stands for the same bytes, and what holds of the fields still holds
 --     grown, emptied      a ring that grew, and one in which nothing is stored
-use Rattle.std.specs.Prelude.{◌≡◌, ℕ, ◌+◌, ◌%◌, ◌^◌, ◌<◌, ◌≤◌, ◌⊎◌, Bool, true, false, cond, ◌&&◌, List, [], length, slice_index, Some, None, is_some, refl}
+use Rattle.std.specs.Prelude.{◌≡◌, ℕ, ◌+◌, ◌%◌, ◌^◌, ◌<◌, ◌≤◌, Bool, true, false, cond, ◌&&◌, List, length, slice_index, Some, None, is_some, refl}
 use Rattle.std.proofs.Common.{sym, ◌∙◌, ap, subst, arith, inl, inr}
 use Rattle.std.specs.Ordering.{nat_cmp}
 use Rattle.std.specs.Cmp.{nat_cmp_total}
@@ -72,7 +72,7 @@ grown r old new w v from stored h more small len moved =
     }
 
 -- nothing came that wasn't read where nothing is stored
-none_left : (r : NumberSet) (ring : List ℕ) (w from stored q : ℕ) → IsRing ring r w from stored false → stored ≡ 0 → from ≤ q → set.contains r q ≡ true → is_some (map.get (ring_bytes r ring w from w) q) ≡ false
+pub none_left : (r : NumberSet) (ring : List ℕ) (w from stored q : ℕ) → IsRing ring r w from stored false → stored ≡ 0 → from ≤ q → set.contains r q ≡ true → is_some (map.get (ring_bytes r ring w from w) q) ≡ false
 none_left r ring w from stored q h is low came =
     ap (λ m. is_some (map.get m q)) (map.empty_of_len (ring_bytes r ring w from w) (sym h.counted ∙ is)) ∙ ap is_some (map.get-empty nat_cmp q)
 
@@ -108,17 +108,3 @@ pub emptied_is : (r : NumberSet) (old new : List ℕ) (w v from stored window : 
     → (let a : Assembled = record { stored = stored_in_ring r new v from off; received = r; read_count = from; window = window; discarding = off } in a ≡ whole)
 emptied_is r old new w v from stored window off whole h is small view_is =
     subst (λ m. (let a : Assembled = record { stored = m; received = r; read_count = from; window = window; discarding = off } in a ≡ whole)) (emptied_view r old new w v from stored off h is small) view_is
-
--- a ring that was kept, or given back where nothing is stored
-pub shed_ring : (r : NumberSet) (old new : List ℕ) (from stored : ℕ) → IsRing old r (length old) from stored false → (new ≡ old) ⊎ ((stored ≡ 0) × (new ≡ [])) → IsRing new r (length new) from stored false
-shed_ring r old new from stored h (inl same) = subst (λ xs. IsRing xs r (length xs) from stored false) (sym same) h
-shed_ring r old new from stored h (inr none) = other_ring r old new (length old) (length new) from stored h (emptied r old new (length old) (length new) from stored h none.0 (rw none.1 (omega arith)))
-
-pub shed_view : (r : NumberSet) (old new : List ℕ) (from stored : ℕ) → IsRing old r (length old) from stored false → (new ≡ old) ⊎ ((stored ≡ 0) × (new ≡ []))
-    → ring_bytes r new (length new) from (length new) ≡ ring_bytes r old (length old) from (length old)
-shed_view r old new from stored h (inl same) = ap (λ xs. ring_bytes r xs (length xs) from (length xs)) same
-shed_view r old new from stored h (inr none) = other_view r old new (length old) (length new) from stored h (emptied r old new (length old) (length new) from stored h none.0 (rw none.1 (omega arith)))
-
-pub shed_len : (old new : List ℕ) (stored : ℕ) → (new ≡ old) ⊎ ((stored ≡ 0) × (new ≡ [])) → length new ≤ length old
-shed_len old new stored (inl same) = rw same (omega arith)
-shed_len old new stored (inr none) = rw none.1 (omega arith)

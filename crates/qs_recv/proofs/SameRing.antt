@@ -96,28 +96,28 @@ at_twice at room ring bytes front back r s pos fits rest more front_is back_is f
 -- Run after run
 
 -- a run of offsets that came has its bytes in the ring, and they fit
-pub run_fits : (r : NumberSet) (ring bytes : List ℕ) (start offset at from to : ℕ) → offset ≤ start → start ≤ at → ((q : ℕ) → start ≤ q → set.contains r q ≡ true → q < start + length ring)
-    → IsNextRun r at (offset + length bytes) from to → length (part offset bytes from to) ≤ length ring
-run_fits r ring bytes start offset at from to low begun fits run =
+pub run_fits : (r : NumberSet) (ring bytes : List ℕ) (start offset end at from to : ℕ) → offset ≤ start → end ≤ offset + length bytes → start ≤ at → ((q : ℕ) → start ≤ q → set.contains r q ≡ true → q < start + length ring)
+    → IsNextRun r at end from to → length (part offset bytes from to) ≤ length ring
+run_fits r ring bytes start offset end at from to low short begun fits run =
     let b = run.begins in
     let o = run.ordered in
     let e = run.ends in
-    let len = length_part offset bytes from to (omega (arith, b)) o e in
+    let len = length_part offset bytes from to (omega (arith, b)) o (omega (arith, e, short)) in
     elim (cases_lt from to) [
       | inl some ↦ (let last = fits (to - 1) (omega (arith, b)) (run.came (to - 1) (omega arith) (omega arith)) in omega (arith, len, last, b))
       | inr none ↦ omega (arith, len)
     ]
 
 -- the offsets below the end of a run, where those below its beginning are settled
-pub run_more : (r : NumberSet) (ring bytes : List ℕ) (start offset at from to : ℕ) → offset ≤ start → start ≤ at → IsNextRun r at (offset + length bytes) from to
+pub run_more : (r : NumberSet) (ring bytes : List ℕ) (start offset end at from to : ℕ) → offset ≤ start → end ≤ offset + length bytes → start ≤ at → IsNextRun r at end from to
     → ((q : ℕ) → start ≤ q → q < at → set.contains r q ≡ true → slice_index bytes (q - offset) ≡ slice_index ring (q % length ring))
     → AreAt ring from (part offset bytes from to)
     → (q : ℕ) → start ≤ q → q < to → set.contains r q ≡ true → slice_index bytes (q - offset) ≡ slice_index ring (q % length ring)
-run_more r ring bytes start offset at from to low begun run before there q past below came =
+run_more r ring bytes start offset end at from to low short begun run before there q past below came =
     let b = run.begins in
     let o = run.ordered in
     let e = run.ends in
-    let len = length_part offset bytes from to (omega (arith, b)) o e in
+    let len = length_part offset bytes from to (omega (arith, b)) o (omega (arith, e, short)) in
     elim (cases_lt q at) [
       | inl early ↦ before q past early came
       | inr later ↦ elim (cases_lt q from) [
@@ -129,6 +129,16 @@ run_more r ring bytes start offset at from to low begun run before there q past 
             ∙ there (q - from) (omega (arith, len)) ∙ ap (λ i. slice_index ring (i % length ring)) back
       ]
     ]
+
+-- a run whose bytes aren't there tells it of the whole
+pub run_there : (r : NumberSet) (ring bytes : List ℕ) (start offset end at from to : ℕ) → offset ≤ start → end ≤ offset + length bytes → start ≤ at → IsNextRun r at end from to
+    → IsInRing r ring start offset bytes → AreAt ring from (part offset bytes from to)
+run_there r ring bytes start offset end at from to low short begun run all k below =
+    let b = run.begins in
+    let e = run.ends in
+    let len = length_part offset bytes from to (omega (arith, b)) run.ordered (omega (arith, e, short)) in
+    part_at offset bytes from to k (omega (arith, b)) (omega (arith, below, len))
+    ∙ all (from + k) (omega (arith, b)) (omega (arith, below, len, e, short)) (run.came (from + k) (omega arith) (omega (arith, below, len)))
 
 -- The map that the ring stands for
 

@@ -1,14 +1,16 @@
 -- What holds of the fields of a receiving half still holds after each call.
-use Rattle.std.specs.Prelude.{◌≡◌, ℕ, ◌+◌, ◌≤◌, ◌^◌, Bool, true, false, cond, ◌||◌, nat_eq, max, List, length, Option, Some, is_some, unwrap_or, refl, IsOk, IsTrue, ◌↔◌}
+use Rattle.std.specs.Prelude.{◌≡◌, ℕ, ◌+◌, ◌-◌, ◌*◌, ◌≤◌, ◌^◌, Bool, true, false, cond, if◌then◌else◌, ◌||◌, nat_eq, max, List, length, Option, Some, is_some, unwrap_or, refl, IsOk, IsTrue, ◌↔◌}
 use Rattle.std.proofs.Common.{sym, ◌∙◌, ap, subst, arith}
+use Rattle.std.specs.Ordering.{nat_cmp}
+use Rattle.std.specs.FinMap as map
 use Rattle.qs_ranges.specs.Numbers.{NumberSet, MAX_VARINT, ContainsRange, covers, end_of}
 use Rattle.qs_ranges.proofs.Sets.{end_of-empty, covers-is, covers-of}
 use Rattle.qs_recv.specs.Assembled.{put, take_front, discard, front_of}
-use Rattle.qs_recv.specs.Lane.{RecvLane, new_lane, check_stream, check_reset, is_whole}
+use Rattle.qs_recv.specs.Lane.{RecvLane, new_lane, check_stream, check_reset, highest, is_whole, taken}
 use Rattle.qs_recv.specs.Lawful.{IsLawful}
 use Rattle.qs_recv.specs.Sound.{IsSound}
 use Rattle.qs_recv.proofs.AssembledLaws.{with_run, end_of-with_run}
-use Rattle.qs_recv.proofs.LawfulLaws.{lawful_new, lawful_take_stream, lawful_take_reset, lawful_front, lawful_stop, read_within, highest_noted}
+use Rattle.qs_recv.proofs.LawfulLaws.{lawful_new, lawful_take_stream, lawful_take_reset, lawful_front, lawful_stop, lawful_told, read_within, highest_noted}
 
 pub sound_new : (window : ℕ) → 1 ≤ window → window ≤ 2 ^ 20 → IsSound (new_lane window) window 0 0
 sound_new window some small = record { lawful = lawful_new window some small; window_is = refl; count_is = refl; end_is = end_of-empty; stop_fits = tt }
@@ -79,6 +81,16 @@ sound_front lane w n e room h =
       stop_fits = h.stop_fits;
     }
 
+pub sound_told : (lane : RecvLane) (w n e : ℕ) → IsSound lane w n e → IsSound (record lane { told = true }) w n e
+sound_told lane w n e h =
+    record {
+      lawful = lawful_told lane h.lawful;
+      window_is = h.window_is;
+      count_is = h.count_is;
+      end_is = h.end_is;
+      stop_fits = h.stop_fits;
+    }
+
 pub sound_stop : (lane : RecvLane) (w n e code : ℕ) → is_some lane.stop_code ≡ false → code ≤ MAX_VARINT → IsSound lane w n e → IsSound (record lane { arrived = discard lane.arrived; stop_code = Some code }) w n e
 sound_stop lane w n e code no_stop fits h =
     record {
@@ -102,3 +114,14 @@ covered_is b s lo hi h = same_tests b (covers s lo hi) (λ t. covers-of s lo hi 
     same_tests true c f g = sym (f refl)
     same_tests false true f g = g refl
     same_tests false false f g = refl
+
+-- the memory that an assembly takes, seen from the half: once bytes are thrown away none is stored
+pub held_within : (lane : RecvLane) (w n e held : ℕ) → IsSound lane w n e → (map.len lane.arrived.stored ≡ 0 → held ≤ 4096) → held ≤ max 4096 (4 * (end_of lane.arrived.received - lane.arrived.read_count)) → held ≤ max 4096 (4 * (highest lane - taken lane))
+held_within lane w n e held h idle bound = go (is_some lane.reset_code || is_some lane.stop_code) h.lawful.discards
+  where
+    within : end_of lane.arrived.received ≤ highest lane
+    within = h.lawful.received_within
+
+    go : (off : Bool) → lane.arrived.discarding ≡ off → held ≤ max 4096 (4 * (highest lane - (if off then highest lane else lane.arrived.read_count)))
+    go true is = (let few = idle (ap map.len (h.lawful.thrown_away is) ∙ map.len-empty nat_cmp ℕ) in omega (arith, few))
+    go false is = omega (arith, bound, within)

@@ -2,9 +2,9 @@
 -- Bytes kept in a ring, and the map of bytes that they stand for. The byte of an offset stands at the offset modulo the ring's size.
 --     ring_bytes, stored_in_ring      each byte under its offset
 --     IsRing, IsSized       what holds of a ring assembly's fields at all times
---     IsSizeFor, IsMoved      a ring that grew
+--     IsSizeFor, IsMoved      a ring of another size
 --     missing_count      how many offsets didn't come
---     IsNextRun      where the next offsets that came begin, and where they end
+--     IsNextRun, IsNextGap      where the next offsets that came begin, and where they end, and the same for those that didn't
 --     IsInRing       bytes that stand at their places, as far as their offsets came
 --     IsWritten, IsFilled       what the places have after bytes were written
 use Rattle.std.specs.Prelude.{◌≡◌, ℕ, ◌+◌, ◌-◌, ◌*◌, ◌%◌, ◌^◌, ◌⊎◌, max, ◌<◌, ◌≤◌, zero, suc, Bool, true, false, not, ◌&&◌, if◌then◌else◌, List, length, slice_index}
@@ -37,12 +37,14 @@ pub record IsRing (ring : List ℕ) (received : NumberSet) (size read_count stor
   pub held : discarding ≡ false → (q : ℕ) → read_count ≤ q → set.contains received q ≡ true → length ring ≡ size
   pub counted : stored ≡ map.len (stored_in_ring received ring size read_count discarding)
 
--- a ring is no larger than the window, and where it has more than 4,096 bytes, no larger than twice all that came, and some are stored
-pub record IsSized (received : NumberSet) (size stored window : ℕ) : Type 0 where
+-- a ring is no larger than the window, and where it has more than 4,096 bytes, no larger than four times the span from what was read to the
+-- end of what came, and some are stored; until bytes are thrown away, that end is kept
+pub record IsSized (received : NumberSet) (size read_count end stored window : ℕ) (discarding : Bool) : Type 0 where
   pub small_window : window ≤ 2 ^ 20
   pub within : size ≤ window
-  pub bound : size ≤ max 4096 (2 * end_of received)
+  pub bound : size ≤ max 4096 (4 * (end_of received - read_count))
   pub idle : stored ≡ 0 → size ≤ 4096
+  pub ends : discarding ≡ false → end ≡ end_of received
 
 -- the size of a ring that reaches so far: a power of two, or the window
 pub record IsSizeFor (span window size : ℕ) : Type 0 where
@@ -70,6 +72,16 @@ pub record IsNextRun (received : NumberSet) (at end stop next : ℕ) : Type 0 wh
   pub missing : MissesRange received at stop
   pub came : ContainsRange received stop next
   pub next_missing : next < end → set.contains received next ≡ false
+
+-- all offsets from `at` on and below `from` came, and none of those from there on and below `to`; where `from` isn't at the end or past it,
+-- there is one
+pub record IsNextGap (received : NumberSet) (at end from to : ℕ) : Type 0 where
+  pub begins : at ≤ from
+  pub some : from < end → from < to
+  pub ends : to ≤ max at end
+  pub stays : from ≤ max at end
+  pub came : ContainsRange received at from
+  pub missing : MissesRange received from to
 
 -- the places of the offsets from `at` on have these bytes, and those of others less than the ring's size away what they had
 abbrev pub IsWritten : ℕ → List ℕ → List ℕ → List ℕ → Type 0

@@ -1,6 +1,6 @@
 -- Of public contracts.
 -- What holds of the fields of a receiving half at all times.
-use Rattle.std.specs.Prelude.{◌≡◌, ℕ, ◌≤◌, Option, IfSome}
+use Rattle.std.specs.Prelude.{◌≡◌, ℕ, ◌≤◌, true, false, Option, Some, IfSome}
 use Rattle.qs_ranges.specs.Numbers.{MAX_VARINT, end_of}
 use Rattle.qs_recv.specs.Lane.{RecvLane}
 use Rattle.qs_recv.specs.Lawful.{IsLawful}
@@ -16,3 +16,10 @@ pub record IsSound (lane : RecvLane) (window read_count received_end : ℕ) : Ty
   pub count_is : lane.arrived.read_count ≡ read_count
   pub end_is : end_of lane.arrived.received ≡ received_end
   pub stop_fits : CodeFits lane.stop_code
+
+-- no memory is taken where bytes are thrown away, and none once the end was told: then what was read is all of the stream
+-- (RFC 9000, sections 3.2 and 3.5)
+pub record IsLetGo (lane : RecvLane) (size : ℕ) : Type 0 where
+  pub gone : lane.arrived.discarding ≡ true → size ≡ 0
+  pub over : lane.told ≡ true → size ≡ 0
+  pub ended : lane.told ≡ true → lane.arrived.discarding ≡ false → lane.final_size ≡ Some lane.arrived.read_count

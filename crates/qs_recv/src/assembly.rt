@@ -1,5 +1,5 @@
 //! What an assembly of arrived bytes promises, however it keeps them (RFC 9000, section 2.2).
-ghost use Rattle.std.specs.Prelude.{◌≡◌, ◌+◌, ◌-◌, ◌*◌, ◌≤◌, ◌^◌, ◌++◌, max, length, drop, true, false, OnOk, OnErr};
+ghost use Rattle.std.specs.Prelude.{◌≡◌, ℕ, ◌+◌, ◌-◌, ◌*◌, ◌≤◌, ◌^◌, ◌⊎◌, ◌++◌, max, length, drop, true, false, OnOk, OnErr};
 ghost use Rattle.std.specs.FinMap as map;
 ghost use Rattle.qs_recv.specs.Assembled.{Assembled, nothing_yet, put, take_front, front_of, discard, same};
 ghost use Rattle.qs_ranges.specs.Numbers.{MAX_VARINT, MissesRange, covers, end_of};
@@ -12,11 +12,15 @@ pub trait Assembly: Drop {
     /// What it holds, however it is kept.
     ghost holds: { Self → Assembled };
 
+    /// How many bytes of memory are taken to store some, as the assembly counts them.
+    ghost size: { Self → ℕ };
+
     /// An assembly of which at most `window` bytes past those that were read are stored. It takes no memory.
     fn new(alloc: Global, window: u64) -> Self
         requires some { 1 ≤ window }
         requires small { window ≤ 2 ^ 20 }
-        ensures { holds result ≡ nothing_yet window };
+        ensures empty { holds result ≡ nothing_yet window }
+        ensures small { size result ≡ 0 };
 
     /// Stores the bytes at offsets that didn't come before, and notes the offsets. NoMemory where a growth was refused.
     fn put(&mut self, offset: u64, bytes: &[u8]) -> Result<(), NoMemory>
@@ -30,7 +34,11 @@ pub trait Assembly: Drop {
         // or beside it.
         ensures news { OnErr result (covers (holds self.old).received offset (offset + length bytes.now) ≡ false) }
         ensures apart { OnErr result ((holds self.old).discarding ≡ true
-            → MissesRange (holds self.old).received (offset - 1) (offset + length bytes.now + 1)) };
+            → MissesRange (holds self.old).received (offset - 1) (offset + length bytes.now + 1)) }
+
+        // What is taken to store some changes only for a byte that is new and stored.
+        ensures still { (size self.new ≡ size self.old) ⊎ (((holds self.old).discarding ≡ false)
+            × (covers (holds self.old).received offset (offset + length bytes.now) ≡ false)) };
 
     /// Moves the bytes that are next to be read into the slice's front, and answers how many.
     fn take(&mut self, into: &mut [u8]) -> usize
@@ -40,11 +48,13 @@ pub trait Assembly: Drop {
 
     /// Throws the stored bytes away, and those that come from now on.
     fn discard(&mut self)
-        ensures { holds self.new ≡ discard (holds self.old) };
+        ensures after { holds self.new ≡ discard (holds self.old) }
+        ensures gone { size self.new ≡ 0 };
 
     /// Gives back memory in which nothing is stored.
     fn give_back(&mut self)
-        ensures { holds self.new ≡ holds self.old };
+        ensures same { holds self.new ≡ holds self.old }
+        ensures gone { map.len (holds self.old).stored ≡ 0 → size self.new ≡ 0 };
 
     /// Whether bytes are those that are stored at their offsets. Offsets where no byte is stored don't count: those that
     /// didn't come, were read, or are thrown away.
@@ -56,10 +66,12 @@ pub trait Assembly: Drop {
     fn stored(&self) -> u64
         ensures { result ≡ map.len (holds self.now).stored };
 
-    /// How many bytes of memory are taken to store some, as the assembly counts them: no more than 4,096 where none is stored.
+    /// How many bytes of memory are taken to store some, as the assembly counts them: no more than 4,096, or where some are
+    /// stored four times as many as lie between what was read and the end of what came.
     fn held(&self) -> u64
+        ensures value { result ≡ size self.now }
         ensures room { map.len (holds self.now).stored ≤ result }
-        ensures bound { result ≤ max 4096 (2 * end_of (holds self.now).received) }
+        ensures bound { result ≤ max 4096 (4 * (end_of (holds self.now).received - (holds self.now).read_count)) }
         ensures idle { map.len (holds self.now).stored ≡ 0 → result ≤ 4096 };
 
     /// Every offset that came.

@@ -73,7 +73,7 @@ pub struct RecvHalf<A: Assembly> {
 impl<A: Assembly> Model for RecvHalf<A> {
     ghost use Rattle.qs_recv.specs.Lane.{RecvLane};
     ghost use Rattle.qs_recv.specs.Codes.{lane_code};
-    ghost use Rattle.qs_recv.specs.Sound.{IsSound};
+    ghost use Rattle.qs_recv.specs.Sound.{IsLetGo, IsSound};
 
     ghost Value = { RecvLane };
 
@@ -81,7 +81,7 @@ impl<A: Assembly> Model for RecvHalf<A> {
 
     ghost view = { λ h. record { arrived = A.holds h.assembly; final_size = h.final_size; reset_code = h.reset_code; stop_code = h.stop_code; told = h.told; limit = h.limit } };
 
-    ghost invariant = { λ h. IsSound (record { arrived = A.holds h.assembly; final_size = h.final_size; reset_code = h.reset_code; stop_code = h.stop_code; told = h.told; limit = h.limit }) h.window h.read_count h.received_end };
+    ghost invariant = { λ h. IsSound (record { arrived = A.holds h.assembly; final_size = h.final_size; reset_code = h.reset_code; stop_code = h.stop_code; told = h.told; limit = h.limit }) h.window h.read_count h.received_end × IsLetGo (record { arrived = A.holds h.assembly; final_size = h.final_size; reset_code = h.reset_code; stop_code = h.stop_code; told = h.told; limit = h.limit }) (A.size h.assembly) };
 }
 
 impl<A: Assembly> RecvHalf<A> {
@@ -349,11 +349,13 @@ impl<A: Assembly> RecvHalf<A> {
     }
 
     /// How many bytes of memory are taken to store some, as the assembly counts them: at most 4,096, or while some are stored
-    /// twice the highest offset.
+    /// four times the highest offset less what was taken; none once the end was told, or where bytes are thrown away.
     pub fn held(&self) -> u64
         ensures room { map.len self.now.arrived.stored ≤ result }
-        ensures bound { result ≤ max 4096 (2 * highest self.now) }
+        ensures bound { result ≤ max 4096 (4 * (highest self.now - taken self.now)) }
         ensures idle { map.len self.now.arrived.stored ≡ 0 → result ≤ 4096 }
+        ensures over { IsTrue self.now.told → result ≡ 0 }
+        ensures gone { IsTrue self.now.arrived.discarding → result ≡ 0 }
     {
         self.assembly.held()
     }

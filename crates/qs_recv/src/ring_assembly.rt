@@ -1,9 +1,9 @@
 //! An assembly that keeps what came in one ring: the byte of an offset stands at the offset modulo the ring's size.
-ghost use Rattle.std.specs.Prelude.{◌≡◌, if◌then◌else◌, ℕ, ◌+◌, ◌-◌, ◌*◌, ◌%◌, ◌<◌, ◌≤◌, ◌^◌, ◌⊎◌, [], max, length, slice_index, true, false, IsTrue, ◌↔◌, OnOk, OnErr, IfOk};
+ghost use Rattle.std.specs.Prelude.{◌≡◌, if◌then◌else◌, ℕ, ◌+◌, ◌-◌, ◌*◌, ◌%◌, ◌<◌, ◌≤◌, ◌^◌, ◌⊎◌, max, length, slice_index, true, false, IsTrue, ◌↔◌, OnOk, OnErr, IfOk};
 ghost use Rattle.std.specs.FinSet as set;
-ghost use Rattle.qs_ranges.specs.Numbers.{MAX_VARINT, MissesRange, covers, is_within, numbers};
+ghost use Rattle.qs_ranges.specs.Numbers.{EndsBefore, MAX_VARINT, MissesRange, covers, is_within, numbers};
 ghost use Rattle.qs_recv.specs.Assembled.{put};
-ghost use Rattle.qs_recv.specs.Ring.{AreAt, IsFilled, IsInRing, IsMoved, IsNextRun, IsSizeFor, IsWritten, missing_count};
+ghost use Rattle.qs_recv.specs.Ring.{AreAt, IsFilled, IsInRing, IsMoved, IsNextGap, IsNextRun, IsSizeFor, IsWritten, missing_count};
 
 use crate::assembly::Assembly;
 use qs_ranges::{NoMemory, RangeSet};
@@ -14,40 +14,49 @@ use std::marker::Model;
 const LEAST_SIZE: u64 = 4096;
 
 /// A ring beside the set of every offset that came. As bytes are stored that lie past it, it grows to reach from what was
-/// read to the last of them: to a power of two, less than twice as far or 4,096 bytes, and never past the window. It is given
-/// back where bytes are thrown away, and where nothing is stored: at once if it is larger than 4,096 bytes, else once that is
-/// asked for.
+/// read to the last of them: to a power of two, less than twice as far or 4,096 bytes, and never past the window. As bytes are
+/// read and it is larger than 4,096 bytes and than four times as far, it shrinks in place, to twice as far at least. It is
+/// given back where bytes are thrown away, and where nothing is stored: at once if it is larger than 4,096 bytes, else once
+/// that is asked for.
 ///
-/// A put searches the set once, and once more for each gap that it fills, copies the bytes of each gap, and notes the
-/// offsets by one insert. A take is one search and one copy. A copy is made in two pieces where its places wrap.
+/// A put searches the set once for each gap that it fills, and once behind the last if more came there, but not for bytes past
+/// all that came; it copies the bytes of each gap, and notes the offsets by one insert. A take is one search and one copy. A
+/// copy is made in two pieces where its places wrap. What shrinking moves between two growths is a few times the ring at most,
+/// and a quarter of the ring at least was read before.
 #[derive(Drop)]
 pub struct RingAssembly {
     alloc: Global,
     ring: Vec<u8>,
     received: RangeSet,
     read_count: u64,
+    // One more than the largest offset that came, until bytes are thrown away.
+    end: u64,
     stored: u64,
     window: u64,
     discarding: bool,
 }
 
 impl Model for RingAssembly {
-    ghost use Rattle.std.specs.Prelude.{length};
+    ghost use Rattle.std.specs.Prelude.{ℕ, length};
+    ghost use Rattle.std.specs.Coded.{coded×, coded_ℕ};
     ghost use Rattle.qs_recv.specs.Assembled.{Assembled};
     ghost use Rattle.qs_recv.specs.Codes.{assembled_code};
     ghost use Rattle.qs_recv.specs.Ring.{stored_in_ring, IsRing, IsSized};
 
-    ghost Value = { Assembled };
+    // What it holds, and how long the ring is.
+    ghost Value = { Assembled × ℕ };
 
-    ghost coded = { assembled_code };
+    ghost coded = { coded× assembled_code coded_ℕ };
 
-    ghost view = { λ a. record { stored = stored_in_ring a.received a.ring.items (length a.ring.items) a.read_count a.discarding; received = a.received; read_count = a.read_count; window = a.window; discarding = a.discarding } };
+    ghost view = { λ a. (record { stored = stored_in_ring a.received a.ring.items (length a.ring.items) a.read_count a.discarding; received = a.received; read_count = a.read_count; window = a.window; discarding = a.discarding }, length a.ring.items) };
 
-    ghost invariant = { λ a. IsRing a.ring.items a.received (length a.ring.items) a.read_count a.stored a.discarding × IsSized a.received (length a.ring.items) a.stored a.window };
+    ghost invariant = { λ a. IsRing a.ring.items a.received (length a.ring.items) a.read_count a.stored a.discarding × IsSized a.received (length a.ring.items) a.read_count a.end a.stored a.window a.discarding };
 }
 
 impl Assembly for RingAssembly {
-    ghost holds = { λ a. a };
+    ghost holds = { λ a. a.0 };
+
+    ghost size = { λ a. a.1 };
 
     fn new(alloc: Global, window: u64) -> Self {
         RingAssembly {
@@ -55,6 +64,7 @@ impl Assembly for RingAssembly {
             ring: Vec::new(alloc),
             received: RangeSet::new(alloc),
             read_count: 0,
+            end: 0,
             stored: 0,
             window,
             discarding: false,
@@ -63,19 +73,23 @@ impl Assembly for RingAssembly {
 
     fn put(&mut self, offset: u64, bytes: &[u8]) -> Result<(), NoMemory>
         requires in_range { offset + length bytes.now ≤ MAX_VARINT }
-        requires in_window { self.old.discarding ≡ false → offset + length bytes.now ≤ self.old.read_count + self.old.window }
-        ensures ok { OnOk result (self.new ≡ put self.old offset bytes.now) }
-        ensures err { OnErr result (self.new ≡ self.old) }
+        requires in_window { self.old.0.discarding ≡ false → offset + length bytes.now ≤ self.old.0.read_count + self.old.0.window }
+        ensures ok { OnOk result (self.new.0 ≡ put self.old.0 offset bytes.now) }
+        ensures err { OnErr result (self.new.0 ≡ self.old.0) }
 
         // Memory is taken only for bytes of which one is new, and while bytes are thrown away only where no offset came
         // or beside it.
-        ensures news { OnErr result (covers self.old.received offset (offset + length bytes.now) ≡ false) }
-        ensures apart { OnErr result (self.old.discarding ≡ true
-            → MissesRange self.old.received (offset - 1) (offset + length bytes.now + 1)) }
+        ensures news { OnErr result (covers self.old.0.received offset (offset + length bytes.now) ≡ false) }
+        ensures apart { OnErr result (self.old.0.discarding ≡ true
+            → MissesRange self.old.0.received (offset - 1) (offset + length bytes.now + 1)) }
+
+        // What is taken to store some changes only for a byte that is new and stored.
+        ensures still { (self.new.1 ≡ self.old.1) ⊎ ((self.old.0.discarding ≡ false)
+            × (covers self.old.0.received offset (offset + length bytes.now) ≡ false)) }
 
         // A ring in which a byte is stored reaches as far as that.
-        ensures ring { OnErr result ((q : ℕ) → self.old.read_count ≤ q → offset + length bytes.now ≤ q + 1 → set.contains self.old.received q ≡ true
-            → MissesRange self.old.received (offset - 1) (offset + length bytes.now + 1)) }
+        ensures ring { OnErr result ((q : ℕ) → self.old.0.read_count ≤ q → offset + length bytes.now ≤ q + 1 → set.contains self.old.0.received q ≡ true
+            → MissesRange self.old.0.received (offset - 1) (offset + length bytes.now + 1)) }
     {
         let end = offset + bytes.len() as u64;
         if offset == end {
@@ -85,20 +99,29 @@ impl Assembly for RingAssembly {
             return self.received.insert(offset, end);
         }
         let start = offset.max(self.read_count);
-        let first = self.received.first_missing(start);
+        let (first, stop) = first_gap(&self.received, self.end, start, end);
         if first >= end {
             return Ok(());
         }
         let span = end - self.read_count;
         if span <= self.ring.len() as u64 {
-            let count = store(&mut self.ring, &mut self.received, first, offset, bytes)?;
+            let count = store(
+                &mut self.ring,
+                &mut self.received,
+                first,
+                stop,
+                offset,
+                bytes,
+            )?;
             self.stored += count;
+            self.end = self.end.max(end);
         } else {
             let size = size_for(span, self.window);
             let mut wider = widened(self.alloc, &self.ring, self.read_count, size)?;
-            let count = store(&mut wider, &mut self.received, first, offset, bytes)?;
+            let count = store(&mut wider, &mut self.received, first, stop, offset, bytes)?;
             self.ring = wider;
             self.stored += count;
+            self.end = self.end.max(end);
         }
         Ok(())
     }
@@ -112,7 +135,14 @@ impl Assembly for RingAssembly {
         copy_out(&self.ring, self.read_count, &mut into[..count]);
         self.read_count += count as u64;
         self.stored -= count as u64;
-        shed(self.alloc, &mut self.ring, self.stored);
+        let span = self.end - self.read_count;
+        shed(
+            self.alloc,
+            &mut self.ring,
+            self.read_count,
+            span,
+            self.window,
+        );
         count
     }
 
@@ -133,7 +163,7 @@ impl Assembly for RingAssembly {
             return true;
         }
         let start = offset.max(self.read_count);
-        is_in_ring(&self.ring, &self.received, start, offset, bytes)
+        is_in_ring(&self.ring, &self.received, start, self.end, offset, bytes)
     }
 
     fn stored(&self) -> u64 {
@@ -190,29 +220,58 @@ fn move_in(into: &mut [u8], ring: &[u8], from: u64)
     copy_in(into, from + back.len() as u64, front);
 }
 
-// Gives a ring of more than 4,096 bytes back where nothing is stored.
-fn shed(alloc: Global, ring: &mut Vec<u8>, stored: u64)
-    ensures idle { stored ≡ 0 → length ring.new.items ≤ 4096 }
-    ensures other { (ring.new.items ≡ ring.old.items) ⊎ ((stored ≡ 0) × (ring.new.items ≡ [])) }
+// Lets go of what a ring of more than 4,096 bytes has too much: all of it where nothing is stored, and where it is larger than
+// four times the span from `from` to the end of what is, what lies past the least power of two that is twice that or more.
+fn shed(alloc: Global, ring: &mut Vec<u8>, from: u64, span: u64, window: u64)
+    requires small { window ≤ 2 ^ 20 }
+    requires within { length ring.old.items ≤ window }
+    requires reaches { span ≤ length ring.old.items }
+    ensures bound { length ring.new.items ≤ max 4096 (4 * span) }
+    ensures fewer { length ring.new.items ≤ length ring.old.items }
+    ensures reaches { span ≤ length ring.new.items }
+    ensures moved { IsMoved from ring.new.items ring.old.items }
 {
-    if stored == 0 && ring.len() as u64 > LEAST_SIZE {
-        *ring = Vec::new(alloc);
+    let len = ring.len() as u64;
+    if len <= LEAST_SIZE.max(4 * span) {
+        return;
     }
+    if span == 0 {
+        *ring = Vec::new(alloc);
+        return;
+    }
+    let size = size_for(2 * span, window);
+    narrow(ring, from, size);
 }
 
-// Stores the bytes at offsets that didn't come before, notes the offsets, and answers how many are new. `first` is the first
-// such offset.
+// Brings a ring to a smaller size in place: what it has then is what it had, the byte of each offset from `from` on.
+fn narrow(ring: &mut Vec<u8>, from: u64, size: u64)
+    requires some { 0 < size }
+    requires fewer { size ≤ length ring.old.items }
+    ensures len { length ring.new.items ≡ size }
+    ensures moved { IsMoved from ring.new.items ring.old.items }
+{
+    let place = (from % ring.len() as u64) as usize;
+    ring.rotate_left(place);
+    ring.truncate(size as usize);
+    ring.rotate_right((from % size) as usize);
+    ring.shrink_to_fit();
+}
+
+// Stores the bytes at offsets that didn't come before, notes the offsets, and answers how many are new. The first such
+// offsets are those from `first` on and below `stop`.
 fn store(
     ring: &mut Vec<u8>,
     received: &mut RangeSet,
     first: u64,
+    stop: u64,
     offset: u64,
     bytes: &[u8],
 ) -> Result<u64, NoMemory>
     requires in_range { offset + length bytes.now ≤ MAX_VARINT }
-    requires missing { set.contains received.old first ≡ false }
+    requires missing { MissesRange received.old first stop }
     requires begins { offset ≤ first }
-    requires some { first < offset + length bytes.now }
+    requires some { first < stop }
+    requires ends { stop ≤ offset + length bytes.now }
     requires fits { offset + length bytes.now ≤ first + length ring.old.items }
     ensures same_len { length ring.new.items ≡ length ring.old.items }
     ensures filled { IsFilled received.old first (offset + length bytes.now) offset bytes.now ring.old.items ring.new.items }
@@ -222,36 +281,71 @@ fn store(
     ensures apart { OnErr result (MissesRange received.old (offset - 1) (offset + length bytes.now + 1)) }
 {
     let end = offset + bytes.len() as u64;
-    let count = fill_gaps(ring, received, first, offset, bytes);
+    let count = fill_gaps(ring, received, first, stop, offset, bytes);
     received.insert(offset, end)?;
     Ok(count)
 }
 
-// Writes the bytes at offsets that didn't come before to their places, and answers how many these are. `first` is the
-// first such offset.
-fn fill_gaps(ring: &mut [u8], received: &RangeSet, first: u64, offset: u64, bytes: &[u8]) -> u64
+// Writes the bytes at offsets that didn't come before to their places, and answers how many these are. The first such
+// offsets are those from `first` on and below `stop`.
+fn fill_gaps(
+    ring: &mut [u8],
+    received: &RangeSet,
+    first: u64,
+    stop: u64,
+    offset: u64,
+    bytes: &[u8],
+) -> u64
     requires in_range { offset + length bytes.now ≤ MAX_VARINT }
-    requires missing { set.contains received.now first ≡ false }
+    requires missing { MissesRange received.now first stop }
     requires begins { offset ≤ first }
-    requires some { first < offset + length bytes.now }
+    requires some { first < stop }
+    requires ends { stop ≤ offset + length bytes.now }
     requires fits { offset + length bytes.now ≤ first + length ring.old }
     ensures count { result ≡ missing_count received.now first (offset + length bytes.now - first) }
     ensures filled { IsFilled received.now first (offset + length bytes.now) offset bytes.now ring.old ring.new }
 {
     let end = offset + bytes.len() as u64;
     let mut at = first;
+    let mut to = stop;
     let mut count = 0;
     while at < end {
-        let (stop, next) = next_run(received, at, end);
         copy_in(
             ring,
             at,
-            &bytes[(at - offset) as usize..(stop - offset) as usize],
+            &bytes[(at - offset) as usize..(to - offset) as usize],
         );
-        count += stop - at;
+        count += to - at;
+        let (next, after) = next_gap(received, to, end);
         at = next;
+        to = after;
     }
     count
+}
+
+// Where the next offsets from `at` on and below the end begin that didn't come, and where what came does behind them, or the
+// end is. Where there are none, the first is no less than the end.
+fn next_gap(received: &RangeSet, at: u64, end: u64) -> (u64, u64)
+    ensures { IsNextGap received.now at end result.0 result.1 }
+{
+    if at >= end {
+        return (at, at);
+    }
+    match received.first_gap(at, end) {
+        Some((from, to)) => (from, to),
+        None => (end, end),
+    }
+}
+
+// The same, without a search where none came from `at` on, as none did from `last` on.
+fn first_gap(received: &RangeSet, last: u64, at: u64, end: u64) -> (u64, u64)
+    requires { EndsBefore received.now last }
+    ensures { IsNextGap received.now at end result.0 result.1 }
+{
+    if last <= at && at < end {
+        return (at, end);
+    }
+    next_gap(received, at, end)
 }
 
 // Where the next offsets from `at` on that came begin, and where the gap behind them does: both at most at the end.
@@ -312,14 +406,22 @@ fn copy_out(ring: &[u8], at: u64, into: &mut [u8])
     }
 }
 
-// Whether the bytes at those offsets from `start` on that came are the ones at their places.
-fn is_in_ring(ring: &[u8], received: &RangeSet, start: u64, offset: u64, bytes: &[u8]) -> bool
+// Whether the bytes at those offsets from `start` on that came are the ones at their places. From `last` on none came.
+fn is_in_ring(
+    ring: &[u8],
+    received: &RangeSet,
+    start: u64,
+    last: u64,
+    offset: u64,
+    bytes: &[u8],
+) -> bool
     requires in_range { offset + length bytes.now ≤ MAX_VARINT }
     requires begins { offset ≤ start }
+    requires ends { EndsBefore received.now last }
     requires fits { (q : ℕ) → start ≤ q → set.contains received.now q ≡ true → q < start + length ring.now }
     ensures { IsTrue result ↔ IsInRing received.now ring.now start offset bytes.now }
 {
-    let end = offset + bytes.len() as u64;
+    let end = last.min(offset + bytes.len() as u64);
     let mut at = start;
     while at < end {
         let (from, to) = next_run(received, at, end);

@@ -135,6 +135,18 @@ impl RangeSet {
         }
     }
 
+    /// The first gap from `lo` on and below `hi`: its first missing number, and the next member or `hi`. `None` where no number is missing.
+    pub fn first_gap(&self, lo: u64, hi: u64) -> Option<(u64, u64)> {
+        let from = self.first_missing(lo);
+        if from >= hi {
+            return None;
+        }
+        match self.run_above(from) {
+            Some((start, _)) if start < hi => Some((from, start)),
+            _ => Some((from, hi)),
+        }
+    }
+
     /// How many runs there are: the members whose predecessor is not a member.
     pub fn count(&self) -> usize {
         self.runs.len()

@@ -28,7 +28,8 @@ pub trait Assembly {
     /// How many bytes are stored.
     fn stored(&self) -> u64;
 
-    /// How many bytes of memory are taken to store some, as the assembly counts them: no more than 4,096 where none is stored.
+    /// How many bytes of memory are taken to store some, as the assembly counts them: no more than 4,096, or where some are
+    /// stored four times as many as lie between what was read and the end of what came.
     fn held(&self) -> u64;
 
     /// Every offset that came.

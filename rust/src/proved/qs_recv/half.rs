@@ -267,7 +267,7 @@ impl<A: Assembly> RecvHalf<A> {
     }
 
     /// How many bytes of memory are taken to store some, as the assembly counts them: at most 4,096, or while some are stored
-    /// twice the highest offset.
+    /// four times the highest offset less what was taken; none once the end was told, or where bytes are thrown away.
     pub fn held(&self) -> u64 {
         self.assembly.held()
     }

@@ -10,17 +10,22 @@ use crate::shim::alloc::Global;
 const LEAST_SIZE: u64 = 4096;
 
 /// A ring beside the set of every offset that came. As bytes are stored that lie past it, it grows to reach from what was
-/// read to the last of them: to a power of two, less than twice as far or 4,096 bytes, and never past the window. It is given
-/// back where bytes are thrown away, and where nothing is stored: at once if it is larger than 4,096 bytes, else once that is
-/// asked for.
+/// read to the last of them: to a power of two, less than twice as far or 4,096 bytes, and never past the window. As bytes are
+/// read and it is larger than 4,096 bytes and than four times as far, it shrinks in place, to twice as far at least. It is
+/// given back where bytes are thrown away, and where nothing is stored: at once if it is larger than 4,096 bytes, else once
+/// that is asked for.
 ///
-/// A put searches the set once, and once more for each gap that it fills, copies the bytes of each gap, and notes the
-/// offsets by one insert. A take is one search and one copy. A copy is made in two pieces where its places wrap.
+/// A put searches the set once for each gap that it fills, and once behind the last if more came there, but not for bytes past
+/// all that came; it copies the bytes of each gap, and notes the offsets by one insert. A take is one search and one copy. A
+/// copy is made in two pieces where its places wrap. What shrinking moves between two growths is a few times the ring at most,
+/// and a quarter of the ring at least was read before.
 pub struct RingAssembly {
     alloc: Global,
     ring: Vec<u8>,
     received: RangeSet,
     read_count: u64,
+    // One more than the largest offset that came, until bytes are thrown away.
+    end: u64,
     stored: u64,
     window: u64,
     discarding: bool,
@@ -33,6 +38,7 @@ impl Assembly for RingAssembly {
             ring: Vec::new(alloc),
             received: RangeSet::new(alloc),
             read_count: 0,
+            end: 0,
             stored: 0,
             window,
             discarding: false,
@@ -48,20 +54,29 @@ impl Assembly for RingAssembly {
             return self.received.insert(offset, end);
         }
         let start = offset.max(self.read_count);
-        let first = self.received.first_missing(start);
+        let (first, stop) = first_gap(&self.received, self.end, start, end);
         if first >= end {
             return Ok(());
         }
         let span = end - self.read_count;
         if span <= self.ring.len() as u64 {
-            let count = store(&mut self.ring, &mut self.received, first, offset, bytes)?;
+            let count = store(
+                &mut self.ring,
+                &mut self.received,
+                first,
+                stop,
+                offset,
+                bytes,
+            )?;
             self.stored += count;
+            self.end = self.end.max(end);
         } else {
             let size = size_for(span, self.window);
             let mut wider = widened(self.alloc, &self.ring, self.read_count, size)?;
-            let count = store(&mut wider, &mut self.received, first, offset, bytes)?;
+            let count = store(&mut wider, &mut self.received, first, stop, offset, bytes)?;
             self.ring = wider;
             self.stored += count;
+            self.end = self.end.max(end);
         }
         Ok(())
     }
@@ -75,7 +90,14 @@ impl Assembly for RingAssembly {
         copy_out(&self.ring, self.read_count, &mut into[..count]);
         self.read_count += count as u64;
         self.stored -= count as u64;
-        shed(self.alloc, &mut self.ring, self.stored);
+        let span = self.end - self.read_count;
+        shed(
+            self.alloc,
+            &mut self.ring,
+            self.read_count,
+            span,
+            self.window,
+        );
         count
     }
 
@@ -96,7 +118,7 @@ impl Assembly for RingAssembly {
             return true;
         }
         let start = offset.max(self.read_count);
-        is_in_ring(&self.ring, &self.received, start, offset, bytes)
+        is_in_ring(&self.ring, &self.received, start, self.end, offset, bytes)
     }
 
     fn stored(&self) -> u64 {
@@ -144,47 +166,98 @@ fn move_in(into: &mut [u8], ring: &[u8], from: u64) {
     copy_in(into, from + back.len() as u64, front);
 }
 
-// Gives a ring of more than 4,096 bytes back where nothing is stored.
-fn shed(alloc: Global, ring: &mut Vec<u8>, stored: u64) {
-    if stored == 0 && ring.len() as u64 > LEAST_SIZE {
-        *ring = Vec::new(alloc);
+// Lets go of what a ring of more than 4,096 bytes has too much: all of it where nothing is stored, and where it is larger than
+// four times the span from `from` to the end of what is, what lies past the least power of two that is twice that or more.
+fn shed(alloc: Global, ring: &mut Vec<u8>, from: u64, span: u64, window: u64) {
+    debug_assert!(window <= 1 << 20);
+    let len = ring.len() as u64;
+    if len <= LEAST_SIZE.max(4 * span) {
+        return;
     }
+    if span == 0 {
+        *ring = Vec::new(alloc);
+        return;
+    }
+    let size = size_for(2 * span, window);
+    narrow(ring, from, size);
 }
 
-// Stores the bytes at offsets that didn't come before, notes the offsets, and answers how many are new. `first` is the first
-// such offset.
+// Brings a ring to a smaller size in place: what it has then is what it had, the byte of each offset from `from` on.
+fn narrow(ring: &mut Vec<u8>, from: u64, size: u64) {
+    debug_assert!(0 < size);
+    let place = (from % ring.len() as u64) as usize;
+    ring.rotate_left(place);
+    ring.truncate(size as usize);
+    ring.rotate_right((from % size) as usize);
+    ring.shrink_to_fit();
+}
+
+// Stores the bytes at offsets that didn't come before, notes the offsets, and answers how many are new. The first such
+// offsets are those from `first` on and below `stop`.
 fn store(
     ring: &mut Vec<u8>,
     received: &mut RangeSet,
     first: u64,
+    stop: u64,
     offset: u64,
     bytes: &[u8],
 ) -> Result<u64, NoMemory> {
     debug_assert!(offset <= first);
+    debug_assert!(first < stop);
     let end = offset + bytes.len() as u64;
-    let count = fill_gaps(ring, received, first, offset, bytes);
+    let count = fill_gaps(ring, received, first, stop, offset, bytes);
     received.insert(offset, end)?;
     Ok(count)
 }
 
-// Writes the bytes at offsets that didn't come before to their places, and answers how many these are. `first` is the
-// first such offset.
-fn fill_gaps(ring: &mut [u8], received: &RangeSet, first: u64, offset: u64, bytes: &[u8]) -> u64 {
+// Writes the bytes at offsets that didn't come before to their places, and answers how many these are. The first such
+// offsets are those from `first` on and below `stop`.
+fn fill_gaps(
+    ring: &mut [u8],
+    received: &RangeSet,
+    first: u64,
+    stop: u64,
+    offset: u64,
+    bytes: &[u8],
+) -> u64 {
     debug_assert!(offset <= first);
+    debug_assert!(first < stop);
     let end = offset + bytes.len() as u64;
     let mut at = first;
+    let mut to = stop;
     let mut count = 0;
     while at < end {
-        let (stop, next) = next_run(received, at, end);
         copy_in(
             ring,
             at,
-            &bytes[(at - offset) as usize..(stop - offset) as usize],
+            &bytes[(at - offset) as usize..(to - offset) as usize],
         );
-        count += stop - at;
+        count += to - at;
+        let (next, after) = next_gap(received, to, end);
         at = next;
+        to = after;
     }
     count
+}
+
+// Where the next offsets from `at` on and below the end begin that didn't come, and where what came does behind them, or the
+// end is. Where there are none, the first is no less than the end.
+fn next_gap(received: &RangeSet, at: u64, end: u64) -> (u64, u64) {
+    if at >= end {
+        return (at, at);
+    }
+    match received.first_gap(at, end) {
+        Some((from, to)) => (from, to),
+        None => (end, end),
+    }
+}
+
+// The same, without a search where none came from `at` on, as none did from `last` on.
+fn first_gap(received: &RangeSet, last: u64, at: u64, end: u64) -> (u64, u64) {
+    if last <= at && at < end {
+        return (at, end);
+    }
+    next_gap(received, at, end)
 }
 
 // Where the next offsets from `at` on that came begin, and where the gap behind them does: both at most at the end.
@@ -233,10 +306,17 @@ fn copy_out(ring: &[u8], at: u64, into: &mut [u8]) {
     }
 }
 
-// Whether the bytes at those offsets from `start` on that came are the ones at their places.
-fn is_in_ring(ring: &[u8], received: &RangeSet, start: u64, offset: u64, bytes: &[u8]) -> bool {
+// Whether the bytes at those offsets from `start` on that came are the ones at their places. From `last` on none came.
+fn is_in_ring(
+    ring: &[u8],
+    received: &RangeSet,
+    start: u64,
+    last: u64,
+    offset: u64,
+    bytes: &[u8],
+) -> bool {
     debug_assert!(offset <= start);
-    let end = offset + bytes.len() as u64;
+    let end = last.min(offset + bytes.len() as u64);
     let mut at = start;
     while at < end {
         let (from, to) = next_run(received, at, end);

@@ -1,6 +1,6 @@
 use Rattle.std.proofs.Common.{◌≡◌, ◌∙◌, ◌+◌, ◌-◌, sym, ap, arith, length}
 use Rattle.qs_recv.specs.Ring.{missing_count}
-use Rattle.qs_recv.proofs.RingCount.{gap_some, missing_zero, missing_gap}
+use Rattle.qs_recv.proofs.RingCount.{missing_gap, missing_zero, run_behind}
 use Rattle.qs_recv.proofs.RingPlaces.{filled_none, filled_gap}
 use Rattle.qs_recv.proofs.ring_assembly.fill_gaps.Goals as goal
 
@@ -9,8 +9,10 @@ loop-at-init c =
     let none : c.args.first - c.args.first ≡ 0 = omega arith in
     record {
       begins = omega arith;
-      ends = omega (arith, c.requires.some);
-      missing = λ _. c.requires.missing;
+      ends = omega (arith, c.requires.some, c.requires.ends);
+      some = λ _. c.requires.some;
+      within = c.requires.ends;
+      missing = c.requires.missing;
       counted = sym (ap (missing_count c.args.received.now c.args.first) none ∙ missing_zero c.args.received.now c.args.first);
       small = omega arith;
       filled = filled_none c.args.received.now c.args.first c.args.offset c.args.bytes.now c.args.ring.now;
@@ -19,17 +21,22 @@ loop-at-init c =
 pub loop-at-preserved : goal.loop-at-preserved
 loop-at-preserved c =
     let inv = c.loop-at.invariant in
-    let g = c.next_run-stop.ensures in
+    let gap = c.next_gap-next.ensures in
     let at = c.loop-at.at in
-    let stop = c.next_run-stop.result.0 in
-    let next = c.next_run-stop.result.1 in
+    let stop = c.loop-at.to in
+    let next = c.next_gap-next.result.0 in
     let end = c.args.offset + length c.args.bytes.now in
-    let none = inv.missing c.loop-at-test.true in
-    let some = gap_some c.args.received.now at end stop next none g in
+    let some = inv.some c.loop-at-test.true in
+    let stays = gap.stays in
+    let within = inv.within in
+    let none = inv.missing at (omega arith) some in
+    let g = run_behind c.args.received.now at end stop next c.next_gap-next.result.1 some within inv.missing gap in
     record {
       begins = omega (arith, inv.begins, g.some);
       ends = g.ends;
-      missing = g.next_missing;
+      some = gap.some;
+      within = (let e = gap.ends in omega (arith, e, within));
+      missing = gap.missing;
       counted = ap (λ k. k + (stop - at)) inv.counted ∙ missing_gap c.args.received.now c.args.first at end stop next inv.begins none g;
       small = omega (arith, inv.begins, inv.small, some, g.ordered);
       filled = filled_gap c.args.received.now c.args.first at end stop next c.args.offset c.args.bytes.now c.args.ring.now c.loop-at.ring c.copy_in.new.ring c.requires.begins inv.begins (omega arith) some g

@@ -1,5 +1,5 @@
-use Rattle.std.proofs.Common.{◌≡◌, ◌≤◌, ◌<◌, ◌-◌, false}
-use Rattle.std.specs.FinSet as set
+use Rattle.std.proofs.Common.{◌≡◌, ◌≤◌, ◌<◌, ◌-◌}
+use Rattle.qs_ranges.specs.Numbers.{MissesRange}
 use Rattle.qs_recv.specs.Ring.{IsFilled, missing_count}
 use Rattle.qs_recv.proofs.ring_assembly.fill_gaps.Given as goal
 
@@ -8,7 +8,9 @@ invariant-loop-at l =
     record {
       begins : l.first ≤ l.at;
       ends : l.at ≤ l.end;
-      missing : l.at < l.end → set.contains l.received l.at ≡ false;
+      some : l.at < l.end → l.at < l.to;
+      within : l.to ≤ l.end;
+      missing : MissesRange l.received l.at l.to;
       counted : l.count ≡ missing_count l.received l.first (l.at - l.first);
       small : l.count ≤ l.at - l.first;
       filled : IsFilled l.received l.first l.at l.offset l.bytes l.initial.ring l.ring;

@@ -1,4 +1,6 @@
-use Rattle.std.proofs.Common.{refl, arith, false}
+use Rattle.std.proofs.Common.{ℕ, refl, arith, false}
+use Rattle.std.specs.Ordering.{nat_cmp}
+use Rattle.std.specs.FinMap as map
 use Rattle.std.specs.FinSet as set
 use Rattle.qs_chunks.proofs.KeptLaws.{kept_none, nothing_stored_in}
 use Rattle.qs_chunks.proofs.chunk_assembly.ChunkAssemblyAssembly.new.Goals as goal
@@ -6,5 +8,8 @@ use Rattle.qs_chunks.proofs.chunk_assembly.ChunkAssemblyAssembly.new.Goals as go
 pub invariant_of-result : goal.invariant_of-result
 invariant_of-result c = rw (c.new.ensures, c.new-2.ensures) (kept_none set.empty 0 false (λ q below. absurd (omega arith)) (λ _. refl))
 
-pub returns : goal.returns
-returns c = rw (c.new.ensures, c.new-2.ensures, nothing_stored_in) refl
+pub returns-clause-empty : goal.returns-clause-empty
+returns-clause-empty c = rw (c.new.ensures, c.new-2.ensures, nothing_stored_in) refl
+
+pub returns-clause-small : goal.returns-clause-small
+returns-clause-small c = rw (c.new.ensures, nothing_stored_in) (map.len-empty nat_cmp ℕ)

@@ -1,4 +1,4 @@
-use Rattle.std.proofs.Common.{◌∙◌, ◌+◌, ap, arith, length, max}
+use Rattle.std.proofs.Common.{◌∙◌, ◌+◌, ap, arith, length, max, inr}
 use Rattle.qs_recv.specs.Assembled.{Assembled, put}
 use Rattle.qs_chunks.specs.Chunks.{IsStored, stored_in}
 use Rattle.qs_chunks.proofs.KeptLaws.{IsOrdered-lower, kept_either, stored_small}
@@ -67,3 +67,15 @@ returns-clause-ok c =
     let stored = placed_stored c.self.inside.received cs c.place.new.chunks spot.joins c.self.inside.read_count c.self.inside.stored spot.first spot.after spot.from spot.to
     c.args.offset c.args.bytes.now (rw c.if-self.false at c.self.invariant) (rw c.max-start.ensures at c.in-Some.ensures.found) c.in-Some.ensures.joins c.in_ok-place.ensures.ok in
     put_is before c.args.offset c.args.bytes.now (stored_in c.place.new.chunks) c.place.new.received c.if-self.false stored c.in_ok-place.ensures.noted ∙ ap (λ a. put a c.args.offset c.args.bytes.now) c.self.view_is
+
+pub returns-clause-still : goal.returns-clause-still
+returns-clause-still c =
+    let spot = c.in-Some.spot in
+    let some = c.in-Some.ensures.some in
+    let held = c.in-Some.ensures.held in
+    rw (← c.self.view_is)
+    (inr (
+      c.if-self.false,
+      spot_news c.self.inside.received c.self.inside.chunks c.self.inside.read_count c.self.inside.stored c.args.offset (c.args.offset + length c.args.bytes.now) spot.first spot.after spot.from spot.to
+          (rw c.if-self.false at c.self.invariant) (rw c.max-start.ensures at c.in-Some.ensures.found) (omega (arith, some, held)),
+    ))

@@ -1,4 +1,4 @@
 use Rattle.qs_recv.proofs.half.RecvHalf.is_lawful.Goals as goal
 
 pub returns : goal.returns
-returns g c = rw (← c.self.view_is) c.self.invariant.lawful
+returns g c = rw (← c.self.view_is) c.self.invariant.0.lawful

@@ -1,4 +1,5 @@
-use Rattle.std.proofs.Common.{length}
+use Rattle.std.proofs.Common.{length, refl, true}
+use Rattle.std.proofs.lemmas.Bool.{both_ways}
 use Rattle.qs_recv.proofs.RingLaws.{thrown_away, sized_empty}
 use Rattle.qs_recv.proofs.ring_assembly.RingAssemblyAssembly.discard.Goals as goal
 
@@ -6,5 +7,5 @@ pub invariant_of-self : goal.invariant_of-self
 invariant_of-self c =
     let s = c.self.inside in (
       thrown_away s.ring.items c.new.result.items s.received (length s.ring.items) s.read_count s.stored s.discarding c.self.invariant.0 c.new.ensures.items,
-      rw c.new.ensures.items (sized_empty s.received 0 s.window c.self.invariant.1.small_window),
+      rw c.new.ensures.items (sized_empty s.received s.read_count s.end 0 s.window true c.self.invariant.1.small_window (λ on. absurd (both_ways true on refl))),
     )

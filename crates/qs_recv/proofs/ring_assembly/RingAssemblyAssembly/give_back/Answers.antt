@@ -1,4 +1,4 @@
-use Rattle.std.proofs.Common.{arith, length}
+use Rattle.std.proofs.Common.{ap, arith, length}
 use Rattle.qs_recv.proofs.RingLaws.{sized_empty}
 use Rattle.qs_recv.proofs.RingMoved.{emptied_is, emptied_ring}
 use Rattle.qs_recv.proofs.ring_assembly.RingAssemblyAssembly.give_back.Goals as goal
@@ -8,11 +8,11 @@ invariant_of-self c =
     let s = c.self.inside in
     rw c.new.ensures.items (
       emptied_ring s.received s.ring.items _ (length s.ring.items) 0 s.read_count s.stored s.discarding c.self.invariant.0 c.if-self-eq0.true (omega arith),
-      sized_empty s.received s.stored s.window c.self.invariant.1.small_window,
+      sized_empty s.received s.read_count s.end s.stored s.window s.discarding c.self.invariant.1.small_window c.self.invariant.1.ends,
     )
 
-pub returns-then-self-eq0 : goal.returns-then-self-eq0
-returns-then-self-eq0 c =
+pub returns-then-self-eq0-clause-same : goal.returns-then-self-eq0-clause-same
+returns-then-self-eq0-clause-same c =
     let s = c.self.inside in
     let new = c.new.result.items in
-    emptied_is s.received s.ring.items new (length s.ring.items) (length new) s.read_count s.stored s.window s.discarding _ c.self.invariant.0 c.if-self-eq0.true (rw c.new.ensures.items (omega arith)) c.self.view_is
+    emptied_is s.received s.ring.items new (length s.ring.items) (length new) s.read_count s.stored s.window s.discarding _ c.self.invariant.0 c.if-self-eq0.true (rw c.new.ensures.items (omega arith)) (ap (λ v. v.0) c.self.view_is)

@@ -1,6 +1,7 @@
-use Rattle.std.proofs.Common.{sym, arith, length}
+use Rattle.std.proofs.Common.{sym, refl, arith, length}
 use Rattle.std.specs.Ordering.{nat_cmp}
 use Rattle.std.specs.FinMap as map
+use Rattle.qs_ranges.proofs.Sets.{end_of-ends}
 use Rattle.qs_recv.proofs.SameLaws.{same_none}
 use Rattle.qs_recv.proofs.SameRing.{ring_fits, same_ring}
 use Rattle.qs_recv.proofs.ring_assembly.RingAssemblyAssembly.same.Goals as goal
@@ -14,6 +15,9 @@ is_in_ring-requires-clause-fits c =
     let s = c.self.inside in
     rw c.deref.ensures.value
     (ring_fits s.received s.ring.items (length s.ring.items) s.read_count s.stored c.max-start.result (rw c.if-self.false at c.self.invariant.0) (let m = c.max-start.ensures in omega (arith, m)))
+
+pub is_in_ring-requires-clause-ends : goal.is_in_ring-requires-clause-ends
+is_in_ring-requires-clause-ends c = rw ((rw c.if-self.false at c.self.invariant.1).ends refl) (end_of-ends c.self.inside.received)
 
 pub returns : goal.returns
 returns c =

@@ -1,6 +1,7 @@
-use Rattle.std.proofs.Common.{◌∙◌, ◌+◌, ◌-◌, ◌++◌, sym, ap, arith, length, drop, true}
-use Rattle.qs_recv.proofs.RingLaws.{came_next, empty_front, front_next, next_stored, nothing_taken, rest_next, ring_read, sized_read}
-use Rattle.qs_recv.proofs.RingMoved.{shed_len, shed_ring, shed_view}
+use Rattle.std.proofs.Common.{◌∙◌, ◌+◌, ◌-◌, ◌++◌, sym, ap, arith, length, drop, refl, true}
+use Rattle.qs_recv.proofs.RingLaws.{came_next, empty_front, front_next, next_stored, nothing_taken, rest_next, ring_read}
+use Rattle.qs_recv.proofs.RingMoved.{other_ring, other_view}
+use Rattle.qs_recv.proofs.RingShrunk.{shed_is, sized_shed, span_fits, span_starts}
 use Rattle.qs_recv.proofs.ring_assembly.RingAssemblyAssembly.take.Goals as goal
 
 pub returns-then-self-clause-count : goal.returns-then-self-clause-count
@@ -23,6 +24,32 @@ overflow_sub-self c =
     next_stored s.received s.ring.items (length s.ring.items) s.read_count n s.stored kept
     (came_next s.received s.read_count c.first_missing-next.result (length c.args.into.now) n c.first_missing-next.ensures.missing c.min-count.ensures)
 
+pub overflow_sub-span : goal.overflow_sub-span
+overflow_sub-span c =
+    let s = c.self.inside in
+    let n = c.min-count.result in
+    let kept = rw c.if-self.false at c.self.invariant.0 in
+    let within = c.first_missing-next.ensures.within in
+    let small = kept.small_count in
+    let after = ring_read s.received s.ring.items (length s.ring.items) s.read_count n s.stored kept
+    (came_next s.received s.read_count c.first_missing-next.result (length c.args.into.now) n c.first_missing-next.ensures.missing c.min-count.ensures) (omega (arith, within, small, c.min-count.ensures)) in
+    let ends = (rw c.if-self.false at c.self.invariant.1).ends refl in
+    let starts = span_starts s.received s.ring.items (length s.ring.items) (s.read_count + n) (s.stored - n) after in
+    omega (arith, ends, starts)
+
+pub shed-requires-clause-reaches : goal.shed-requires-clause-reaches
+shed-requires-clause-reaches c =
+    let s = c.self.inside in
+    let n = c.min-count.result in
+    let kept = rw c.if-self.false at c.self.invariant.0 in
+    let within = c.first_missing-next.ensures.within in
+    let small = kept.small_count in
+    let after = ring_read s.received s.ring.items (length s.ring.items) s.read_count n s.stored kept
+    (came_next s.received s.read_count c.first_missing-next.result (length c.args.into.now) n c.first_missing-next.ensures.missing c.min-count.ensures) (omega (arith, within, small, c.min-count.ensures)) in
+    let ends = (rw c.if-self.false at c.self.invariant.1).ends refl in
+    let fits = span_fits s.received s.ring.items (length s.ring.items) (s.read_count + n) (s.stored - n) after in
+    omega (arith, ends, fits)
+
 pub invariant_of-self : goal.invariant_of-self
 invariant_of-self c =
     let s = c.self.inside in
@@ -33,9 +60,12 @@ invariant_of-self c =
     let after = ring_read s.received s.ring.items (length s.ring.items) s.read_count n s.stored kept
     (came_next s.received s.read_count c.first_missing-next.result (length c.args.into.now) n c.first_missing-next.ensures.missing c.min-count.ensures) (omega (arith, within, small, c.min-count.ensures)) in
     let new = c.shed.new.ring.items in
+    let sized = rw c.if-self.false at c.self.invariant.1 in
+    let now = other_ring s.received s.ring.items new (length s.ring.items) (length new) (s.read_count + n) (s.stored - n) after
+    (shed_is s.received s.ring.items new (s.read_count + n) (s.stored - n) (s.end - (s.read_count + n)) after (ap (λ e. e - (s.read_count + n)) (sized.ends refl)) c.shed.ensures.fewer c.shed.ensures.reaches c.shed.ensures.moved) in
     rw c.if-self.false (
-      shed_ring s.received s.ring.items new (s.read_count + n) (s.stored - n) after c.shed.ensures.other,
-      sized_read s.received (length s.ring.items) (length new) s.stored (s.stored - n) s.window c.self.invariant.1 (shed_len s.ring.items new (s.stored - n) c.shed.ensures.other) c.shed.ensures.idle,
+      now,
+      sized_shed s.received new (length s.ring.items) (length new) s.read_count (s.read_count + n) s.end s.stored (s.stored - n) s.window sized now c.shed.ensures.fewer c.shed.ensures.bound,
     )
 
 pub returns-clause-count : goal.returns-clause-count
@@ -67,5 +97,9 @@ returns-clause-rest c =
     (came_next s.received s.read_count c.first_missing-next.result (length c.args.into.now) n c.first_missing-next.ensures.missing c.min-count.ensures) (omega (arith, within, small, c.min-count.ensures)) in
     let fronts = front_next s.received s.ring.items c.deref.result.now c.args.into.now c.copy_out.new.into (length s.ring.items) s.read_count c.first_missing-next.result n s.stored kept
     c.first_missing-next.ensures.missing c.min-count.ensures c.deref.ensures.value c.copy_out.auto.into c.copy_out.ensures in
-    rw (← c.self.view_is, c.if-self.false, shed_view s.received s.ring.items c.shed.new.ring.items (s.read_count + n) (s.stored - n) after c.shed.ensures.other)
+    let new = c.shed.new.ring.items in
+    let sized = rw c.if-self.false at c.self.invariant.1 in
+    let same = other_view s.received s.ring.items new (length s.ring.items) (length new) (s.read_count + n) (s.stored - n) after
+    (shed_is s.received s.ring.items new (s.read_count + n) (s.stored - n) (s.end - (s.read_count + n)) after (ap (λ e. e - (s.read_count + n)) (sized.ends refl)) c.shed.ensures.fewer c.shed.ensures.reaches c.shed.ensures.moved) in
+    rw (← c.self.view_is, c.if-self.false, same)
     (rest_next s.received s.ring.items c.copy_out.new.into (length s.ring.items) s.window s.read_count (length c.args.into.now) n s.stored kept fronts)
