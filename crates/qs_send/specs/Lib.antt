@@ -12,3 +12,4 @@ pub mod ByNumber
 pub mod LostRecords
 pub mod Codes
 pub mod LostPass
+pub mod KeptBytes

@@ -1,5 +1,5 @@
 //! The sending half of a stream (RFC 9000, sections 2.2, 3.1 and 13.3).
-ghost use Rattle.std.specs.Prelude.{if◌then◌else◌, ◌==◌, ◌≡◌, ◌+◌, ◌-◌, ◌≤◌, ◌<◌, ◌⊎◌, ◌^◌, ◌↔◌, IsTrue, ◌&&◌, ℕ, Bool, true, false, not, length, take, drop, is_some, unwrap_or, option_map, None, Some, Err, OnOk, OnErr, IfOk, IfErr, IfSome, IfNone};
+ghost use Rattle.std.specs.Prelude.{if◌then◌else◌, ◌==◌, ◌≡◌, ◌+◌, ◌-◌, ◌*◌, ◌≤◌, ◌<◌, ◌⊎◌, ◌^◌, ◌↔◌, IsTrue, ◌&&◌, ℕ, Bool, true, false, not, length, take, drop, is_some, unwrap_or, option_map, None, Some, Err, OnOk, OnErr, IfOk, IfErr, IfSome, IfNone};
 ghost use Rattle.std.specs.FinSet as set;
 ghost use Rattle.qs_ranges.specs.Numbers.{MAX_VARINT, MissesRange};
 ghost use Rattle.qs_send.specs.Chunks.{IsDueChunk, WasSent};
@@ -48,7 +48,7 @@ pub struct SendHalf {
 }
 
 impl Model for SendHalf {
-    ghost use Rattle.std.specs.Prelude.{◌&&◌, not};
+    ghost use Rattle.std.specs.Prelude.{◌*◌, ◌≤◌, ◌&&◌, not};
     ghost use Rattle.std.specs.FinSet as set;
     ghost use Rattle.qs_send.specs.Lane.{Sending};
     ghost use Rattle.qs_send.specs.Codes.{sending_code};
@@ -60,14 +60,14 @@ impl Model for SendHalf {
     ghost coded = { sending_code };
 
     ghost view = { λ h. record {
-      lane = record { id = h.id; written = h.written; kept = h.kept; acked = h.acked; sent_end = h.sent_end; finished = h.finished; fin_sent = h.fin_sent; fin_acked = h.fin_acked; blocked_sent = h.blocked_sent; was_reset = h.was_reset; reset_acked = h.reset_acked; limit = h.limit; buffer = h.buffer; stopped = h.stop_code };
+      lane = record { id = h.id; written = h.written; kept = h.kept.bytes; acked = h.acked; sent_end = h.sent_end; finished = h.finished; fin_sent = h.fin_sent; fin_acked = h.fin_acked; blocked_sent = h.blocked_sent; was_reset = h.was_reset; reset_acked = h.reset_acked; limit = h.limit; buffer = h.buffer; stopped = h.stop_code };
       due = record { offsets = set.difference h.noted h.acked; fin = h.fin_noted && not h.fin_acked };
     } };
 
     ghost invariant = { λ h. IsLawful (record {
-      lane = record { id = h.id; written = h.written; kept = h.kept; acked = h.acked; sent_end = h.sent_end; finished = h.finished; fin_sent = h.fin_sent; fin_acked = h.fin_acked; blocked_sent = h.blocked_sent; was_reset = h.was_reset; reset_acked = h.reset_acked; limit = h.limit; buffer = h.buffer; stopped = h.stop_code };
+      lane = record { id = h.id; written = h.written; kept = h.kept.bytes; acked = h.acked; sent_end = h.sent_end; finished = h.finished; fin_sent = h.fin_sent; fin_acked = h.fin_acked; blocked_sent = h.blocked_sent; was_reset = h.was_reset; reset_acked = h.reset_acked; limit = h.limit; buffer = h.buffer; stopped = h.stop_code };
       due = record { offsets = set.difference h.noted h.acked; fin = h.fin_noted && not h.fin_acked };
-    }) × AllBelow h.noted h.written × CodeFits h.was_reset };
+    }) × AllBelow h.noted h.written × CodeFits h.was_reset × (h.kept.room ≤ 2 * h.buffer) };
 }
 
 impl SendHalf {
@@ -352,6 +352,16 @@ impl SendHalf {
         ensures { result ≡ free_room self.now.lane }
     {
         self.buffer - self.kept.len()
+    }
+
+    /// How many bytes of memory the buffer takes: at least those that are kept. While some are it takes up to twice what it is
+    /// set to, since it grows by doubling; else no more than 4,096.
+    pub fn held(&self) -> u64
+        ensures kept { length self.now.lane.kept ≤ result }
+        ensures bound { result ≤ 2 * self.now.lane.buffer }
+        ensures idle { length self.now.lane.kept ≡ 0 → result ≤ 4096 }
+    {
+        self.kept.held() as u64
     }
 
     /// Whether a write of one byte would be accepted, if there is memory for it: neither the end was asked for nor a reset made, and there

@@ -257,6 +257,12 @@ impl SendHalf {
         self.buffer - self.kept.len()
     }
 
+    /// How many bytes of memory the buffer takes: at least those that are kept. While some are it takes up to twice what it is
+    /// set to, since it grows by doubling; else no more than 4,096.
+    pub fn held(&self) -> u64 {
+        self.kept.held() as u64
+    }
+
     /// Whether a write of one byte would be accepted, if there is memory for it: neither the end was asked for nor a reset made, and there
     /// is room (RFC 9000, sections 2.2, 2.4 and 3.1).
     pub fn is_writable(&self) -> bool {

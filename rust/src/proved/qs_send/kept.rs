@@ -13,6 +13,8 @@ pub struct Kept {
     alloc: Global,
     bytes: Vec<u8>,
     start: usize,
+    // How many bytes of memory were asked for.
+    room: usize,
 }
 
 impl Kept {
@@ -21,6 +23,7 @@ impl Kept {
             alloc,
             bytes: Vec::new(alloc),
             start: 0,
+            room: 0,
         }
     }
 
@@ -28,15 +31,20 @@ impl Kept {
         self.bytes.len() - self.start
     }
 
+    /// How many bytes of memory are taken: at least those that are kept, and no more than 4,096 where none is.
+    pub fn held(&self) -> usize {
+        self.room
+    }
+
     /// Appends the bytes. Where `most` bytes at most are ever kept, no more than twice as many are
     /// allocated, and while these are there nothing is.
     pub fn append(&mut self, bytes: &[u8], most: usize) -> Result<(), NoMemory> {
         let len = self.bytes.len();
-        let capacity = self.bytes.capacity();
-        if capacity - len < bytes.len() {
-            let grown = capacity.min(most).saturating_mul(2);
-            self.bytes
-                .reserve_exact(grown.saturating_sub(len).max(bytes.len()))?;
+        if self.room - len < bytes.len() {
+            let grown = self.room.min(most).saturating_mul(2);
+            let more = grown.saturating_sub(len).max(bytes.len());
+            self.bytes.reserve_exact(more)?;
+            self.room = len + more;
         }
         self.bytes.extend_from_slice(bytes)?;
         Ok(())
@@ -44,7 +52,11 @@ impl Kept {
 
     /// Leaves the first `n` bytes.
     pub fn truncate(&mut self, n: usize) {
-        self.bytes.truncate(self.start + n);
+        if n == 0 && self.room > IDLE_ROOM {
+            self.give_back();
+        } else {
+            self.bytes.truncate(self.start + n);
+        }
     }
 
     /// Lets the first `n` bytes go. What is left is moved only once it is no more than what was let go before it. Where
@@ -52,9 +64,8 @@ impl Kept {
     pub fn let_go(&mut self, n: usize) {
         let start = self.start + n;
         let left = self.bytes.len() - start;
-        if left == 0 && self.bytes.capacity() > IDLE_ROOM {
-            self.bytes = Vec::new(self.alloc);
-            self.start = 0;
+        if left == 0 && self.room > IDLE_ROOM {
+            self.give_back();
         } else if left <= start {
             self.bytes.copy_within(start.., 0);
             self.bytes.truncate(left);
@@ -68,5 +79,12 @@ impl Kept {
     pub fn part(&self, from: usize, len: usize) -> &[u8] {
         let first = self.start + from;
         &self.bytes[first..first + len]
+    }
+
+    // Keeps nothing, and takes no memory.
+    fn give_back(&mut self) {
+        self.bytes = Vec::new(self.alloc);
+        self.start = 0;
+        self.room = 0;
     }
 }

@@ -41,8 +41,8 @@ invariant_of-self-2 c =
     let parts = c.self.invariant.0.parts in
     let missing = rw c.in_ok-add.ensures.ok at c.first_missing-low.ensures.missing in
     let found = unacked_found _ c.args.chunk _ sent parts.acked_sent order.sent_written missing in
-    rw (c.let_go.ensures, before c, ← found, c.in_ok-add.ensures.ok, due-acked c.self.inside.noted _ c.self.inside.acked c.args.chunk.offset (c.args.chunk.offset + c.args.chunk.len) c.forget.ensures.others, fin-acked c.self.inside.fin_noted c.self.inside.fin_acked c.args.chunk.fin)
-    (lawful_acked _ c.args.chunk sent c.self.invariant.0, λ n has. c.self.invariant.1 n (c.forget.ensures.fewer n has), c.self.invariant.2)
+    rw (c.let_go.ensures.bytes, before c, ← found, c.in_ok-add.ensures.ok, due-acked c.self.inside.noted _ c.self.inside.acked c.args.chunk.offset (c.args.chunk.offset + c.args.chunk.len) c.forget.ensures.others, fin-acked c.self.inside.fin_noted c.self.inside.fin_acked c.args.chunk.fin)
+    (lawful_acked _ c.args.chunk sent c.self.invariant.0, λ n has. c.self.invariant.1 n (c.forget.ensures.fewer n has), c.self.invariant.2, omega (arith, c.let_go.ensures.room, c.self.invariant.3))
 
 pub returns-clause-ok : goal.returns-clause-ok
 returns-clause-ok c =
@@ -51,4 +51,4 @@ returns-clause-ok c =
     let parts = c.self.invariant.0.parts in
     let missing = rw c.in_ok-add.ensures.ok at c.first_missing-low.ensures.missing in
     let found = unacked_found _ c.args.chunk _ sent parts.acked_sent order.sent_written missing in
-    rw (← c.self.view_is, c.let_go.ensures, before c, ← found, c.in_ok-add.ensures.ok, due-acked c.self.inside.noted _ c.self.inside.acked c.args.chunk.offset (c.args.chunk.offset + c.args.chunk.len) c.forget.ensures.others, fin-acked c.self.inside.fin_noted c.self.inside.fin_acked c.args.chunk.fin) refl
+    rw (← c.self.view_is, c.let_go.ensures.bytes, before c, ← found, c.in_ok-add.ensures.ok, due-acked c.self.inside.noted _ c.self.inside.acked c.args.chunk.offset (c.args.chunk.offset + c.args.chunk.len) c.forget.ensures.others, fin-acked c.self.inside.fin_noted c.self.inside.fin_acked c.args.chunk.fin) refl

@@ -10,7 +10,7 @@ invariant_of-self-2 c =
     let offsets = sent.offsets in
     let written = c.self.invariant.0.order.sent_written in
     rw (c.in_ok-add.ensures.ok, due-lost c.self.inside.noted c.self.inside.acked c.args.chunk.offset (c.args.chunk.offset + c.args.chunk.len), fin-lost c.self.inside.fin_noted c.self.inside.fin_acked c.args.chunk.fin)
-    (lawful_lost _ c.args.chunk (sym c.if-is_some.ensures) sent c.self.invariant.0, below_more _ _ _ _ _ (omega arith) (omega (arith, offsets, written)) c.self.invariant.1, c.self.invariant.2)
+    (lawful_lost _ c.args.chunk (sym c.if-is_some.ensures) sent c.self.invariant.0, below_more _ _ _ _ _ (omega arith) (omega (arith, offsets, written)) c.self.invariant.1, c.self.invariant.2, c.self.invariant.3)
 
 pub returns-clause-ok : goal.returns-clause-ok
 returns-clause-ok c =

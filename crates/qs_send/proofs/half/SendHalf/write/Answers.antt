@@ -13,7 +13,7 @@ invariant_of-self-2 c =
     let small = h.order.small in
     let buffered = h.bytes.buffered in
     rw (c.in_default.ensures.ok, c.in_default-insert.ensures.ok, due-write c.self.inside.noted c.self.inside.acked c.self.inside.written c.min-len.result (acked_written _ h), ← taken)
-    (lawful_write _ _ (sym c.if-is_some.ensures) c.if-self.false (omega (arith, taken, len, most, small)) (omega (arith, taken, len, most, room, buffered)) h, below_more _ _ _ _ _ (omega arith) (omega arith) c.self.invariant.1, c.self.invariant.2)
+    (lawful_write _ _ (sym c.if-is_some.ensures) c.if-self.false (omega (arith, taken, len, most, small)) (omega (arith, taken, len, most, room, buffered)) h, below_more _ _ _ _ _ (omega arith) (omega arith) c.self.invariant.1, c.self.invariant.2, c.in_default.ensures.room (omega (arith, taken, len, most, room, buffered)) c.self.invariant.3)
 
 pub returns-clause-accepted : goal.returns-clause-accepted
 returns-clause-accepted c =

@@ -1,0 +1,20 @@
+-- Of private contracts.
+-- The buffer of a sending half: the bytes that are kept in it, and how many bytes of memory it takes.
+use Rattle.std.specs.Prelude.{◌≡◌, ℕ, ◌+◌, ◌*◌, ◌≤◌, List, length, refl}
+use Rattle.std.specs.Coded.{Coded, code_by, coded×, coded_ℕ, coded_list}
+
+pub record KeptBytes : Type 0 where
+  pub bytes : List ℕ
+  pub room : ℕ
+
+abbrev pub kept_code : Coded KeptBytes
+kept_code = code_by (List ℕ × ℕ) (coded× (coded_list coded_ℕ) coded_ℕ) (λ k. (k.bytes, k.room)) (λ p. record { bytes = p.0; room = p.1 }) (λ _. refl)
+
+-- of a row of so many bytes, of which those before `start` were let go: they take no more than half of the room, there is memory for all
+-- of it, and where nothing is kept it is small
+pub record IsRoom (start len room capacity : ℕ) : Type 0 where
+  pub begins : start ≤ len
+  pub let_go : 2 * start ≤ room
+  pub within : len ≤ room
+  pub taken : room ≤ capacity
+  pub idle : len ≤ start → room ≤ 4096
