@@ -1,6 +1,6 @@
 //! What the calls of an end answer.
 
-use crate::proved::{qs_calls as calls, qs_recv as recv, qs_send as send};
+use crate::proved::{qs_calls as calls, qs_conn as conn, qs_recv as recv, qs_send as send};
 use core::error::Error;
 use core::fmt;
 
@@ -57,6 +57,15 @@ pub struct Made {
     /// Whether it asks for an ACK: it holds a frame other than an ACK (RFC 9000, section 13.2.1). One that doesn't isn't in
     /// flight for congestion control (RFC 9002, section 2), and can't be declared lost.
     pub is_ack_eliciting: bool,
+}
+
+/// How much memory an end takes for the bytes of its streams, in bytes.
+#[derive(Clone, Copy, Debug, PartialEq, Eq)]
+pub struct Held {
+    /// What the rings take in which bytes wait to be read.
+    pub receiving: u64,
+    /// What the buffers take in which bytes wait to be acknowledged.
+    pub sending: u64,
 }
 
 /// How the halves of a stream stand at an end.
@@ -185,6 +194,15 @@ impl Made {
             number: made.number,
             len: made.len,
             is_ack_eliciting: made.is_ack_eliciting,
+        }
+    }
+}
+
+impl Held {
+    pub(crate) fn of(held: conn::Held) -> Held {
+        Held {
+            receiving: held.receiving,
+            sending: held.sending,
         }
     }
 }

@@ -1,6 +1,6 @@
 //! One end of a connection.
 
-use crate::answers::{Closing, Made, Read, Received, StreamReport};
+use crate::answers::{Closing, Held, Made, Read, Received, StreamReport};
 use crate::faults::{
     LostFault, MakeFault, OpenFault, RaiseFault, ReceiveFault, SetupFault, UseFault,
 };
@@ -319,6 +319,29 @@ impl Endpoint {
     /// window (RFC 9000, section 4.1).
     pub fn stored(&self) -> u64 {
         self.inner.stored()
+    }
+
+    /// How much memory the rings and the buffers of streams take, by a walk over all streams that were opened: for a look now
+    /// and then, and not for each packet.
+    ///
+    /// The rings take at least what is [`stored`](Self::stored). A peer can't make them take more than four times the
+    /// connection's window, and 4,096 bytes for each receiving half that wasn't read to its end, reset or stopped. A buffer takes
+    /// at most twice the settings' `send_buffer`, and no more than 4,096 bytes where all of it is acknowledged.
+    ///
+    /// ```
+    /// use gotsavena::{Dir, Endpoint, Held, Role, Settings};
+    ///
+    /// let settings = Settings::default();
+    /// let mut end = Endpoint::new(Role::Client, settings, settings.limits())?;
+    /// assert_eq!(end.held(), Held { receiving: 0, sending: 0 });
+    ///
+    /// let stream = end.open(Dir::Bidi)?;
+    /// end.write(stream, b"hello")?;
+    /// assert!(end.held().sending >= 5);
+    /// # Ok::<(), Box<dyn std::error::Error>>(())
+    /// ```
+    pub fn held(&self) -> Held {
+        Held::of(self.inner.held())
     }
 
     /// The connection's limit in bytes that the peer was granted (RFC 9000, section 4.1).

@@ -81,7 +81,7 @@ pub(crate) mod shim;
 mod streams;
 
 pub use answers::{
-    Closing, Made, Read, Received, RecvReport, RecvState, SendReport, SendState, StreamReport,
+    Closing, Held, Made, Read, Received, RecvReport, RecvState, SendReport, SendState, StreamReport,
 };
 pub use endpoint::{Endpoint, MAX_PAYLOAD, MAX_ROOM, MIN_ROOM};
 pub use faults::{

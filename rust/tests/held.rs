@@ -1,6 +1,6 @@
 //! What an end keeps of streams, in bytes that its calls took and haven't given back.
 
-use gotsavena::{Dir, Endpoint, Read, Role, Settings, StreamId};
+use gotsavena::{Dir, Endpoint, Held, Read, Role, Settings, StreamId};
 use std::alloc::{GlobalAlloc, Layout, System};
 use std::sync::atomic::{AtomicUsize, Ordering};
 
@@ -202,8 +202,46 @@ fn a_ring_shrinks_as_it_is_read() {
     assert_eq!(read, sent);
 }
 
+/// What an end tells that it holds is what its calls took, beside what is noted of a stream: nothing at first, 4,096 bytes for
+/// a byte, and nothing once the stream was read to its end and all is acknowledged.
+fn what_is_held_is_told() {
+    const NOTED: u64 = 1024;
+    let nothing = Held {
+        receiving: 0,
+        sending: 0,
+    };
+    let mut two = wide();
+    assert_eq!((two.client.held(), two.server.held()), (nothing, nothing));
+    let stream = two.client.open(Dir::Bidi).expect("a stream");
+    assert_eq!(two.client.write(stream, &[7]), Ok(1));
+    two.settle();
+    assert_eq!(two.server.held().receiving, 4096);
+    assert!(two.client.held().sending <= 4096);
+
+    let (before, told) = (live() as u64, two.client.held().sending);
+    assert_eq!(two.client.write(stream, &[8; ANSWER]), Ok(ANSWER));
+    let (grown, sending) = (live() as u64 - before, two.client.held().sending);
+    assert!(ANSWER as u64 <= sending && sending <= 2 << 20);
+    assert!(sending - told <= grown && grown <= sending - told + NOTED);
+
+    two.client.finish(stream).expect("a stream that is open");
+    two.settle();
+    let before = live() as u64;
+    let receiving = two.server.held().receiving;
+    assert!(two.server.stored() <= receiving);
+    assert!(receiving <= 4 * two.server.spent() + 4096);
+    let mut bytes = [0; 4096];
+    while let Read::Bytes(_) = two.server.read(stream, &mut bytes).expect("a stream") {}
+    assert_eq!(two.server.held().receiving, 0);
+    let given = before - live() as u64;
+    assert!(receiving <= given && given <= receiving + NOTED);
+    two.settle();
+    assert!(two.client.held().sending <= 4096 && two.server.held().sending <= 4096);
+}
+
 #[test]
 fn what_streams_hold() {
+    what_is_held_is_told();
     streams_that_are_over_keep_no_buffers();
     a_byte_takes_no_window();
     a_ring_follows_its_span();

@@ -13,6 +13,7 @@ pub mod Items
 pub mod Kept
 pub mod LaneEdits
 pub mod MadePackets
+pub mod Helds
 pub mod Indexed
 pub mod ItemOrders
 pub mod Ordered

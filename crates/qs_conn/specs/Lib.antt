@@ -9,3 +9,4 @@ pub mod RecvTasks
 pub mod Words
 pub mod Sending
 pub mod Named
+pub mod Held

@@ -6,9 +6,11 @@ ghost use Rattle.qs_machine.specs.Ends.{end_made, role_bit, is_uni, is_own, wind
 ghost use Rattle.qs_machine.specs.Credit.{spent, all_stored, granted_streams, settle};
 ghost use Rattle.qs_machine.specs.Making.{ClosePayload, ClosePayloadBy, close_text_of};
 ghost use Rattle.qs_conn.specs.Layers.{ClosingFits};
+ghost use Rattle.qs_conn.specs.Held.{IsHeldBy};
 ghost use Rattle.qs_machine.specs.Standing.{IsSound, IsWithinCredit};
 
 use crate::ended::EndedStreams;
+use crate::held::Held;
 use crate::outbox::Outbox;
 use crate::places::kind_of;
 use crate::recv_tables::RecvTables;
@@ -150,6 +152,19 @@ impl Endpoint {
     {
         let _granted = self.granted;
         self.recvs.tally().stored
+    }
+
+    /// How much memory the rings of receiving halves take and the buffers of sending halves, by a walk over all streams that were
+    /// opened: for a look now and then, and not for each packet. A peer within its credit can't make the rings take more than four
+    /// times the connection's window, and 4,096 bytes for each receiving half that keeps bytes still.
+    pub fn held(&self) -> Held
+        ensures { IsHeldBy self.now result }
+    {
+        let _granted = self.granted;
+        Held {
+            receiving: self.recvs.held(),
+            sending: self.outbox.held(),
+        }
     }
 
     /// The connection limit granted to the peer (RFC 9000, section 4.1).

@@ -1,12 +1,13 @@
 //! The sending side of an end.
-ghost use Rattle.std.specs.Prelude.{◌≡◌, ◌≤◌, ◌^◌, ◌<◌, length, take, is_some, option_map, unwrap_or, true, OnOk, OnErr, IfOk, IfErr};
+ghost use Rattle.std.specs.Prelude.{◌≡◌, ◌-◌, ◌≤◌, ◌^◌, ◌<◌, length, min, take, is_some, option_map, unwrap_or, true, OnOk, OnErr, IfOk, IfErr};
 ghost use Rattle.qs_ranges.specs.Numbers.{MAX_VARINT};
 ghost use Rattle.qs_send.specs.Lane.{Sending, new_lane, accepted, refusal, reset_refusal, answer_of, write_lane, finish_lane, reset_lane, stopped_lane, allow_lane};
-ghost use Rattle.qs_machine.specs.Tables.{table, with_table, lookup, open_to, kind_of};
+ghost use Rattle.qs_machine.specs.Tables.{table, with_table, lookup, open_to, total, kind_of};
 ghost use Rattle.qs_machine.specs.Asking.{stop_of};
 ghost use Rattle.qs_machine.specs.Reports.{send_report};
 ghost use Rattle.qs_machine.specs.Sums.{or_none};
 ghost use Rattle.qs_conn.specs.Ended.{send_over};
+ghost use Rattle.qs_conn.specs.Held.{kept_on, most_buffered};
 ghost use Rattle.qs_machine.specs.Outgoing.{no_packets, with_sends, on_lane, sent_sum, HasSending, AreOfOpen};
 
 use crate::send_tables::SendTables;
@@ -172,6 +173,15 @@ impl Outbox {
         ensures small { result ≤ MAX_VARINT }
     {
         self.sent
+    }
+
+    /// What the buffers of all streams take, in bytes, by a walk over them. A sum that is no u64 is the greatest one.
+    pub(crate) fn held(&self) -> u64
+        ensures kept { min (total kept_on self.now.sends) (2 ^ 64 - 1) ≤ result }
+        ensures most { result ≤ total most_buffered self.now.sends }
+    {
+        let _next = self.next;
+        self.sends.held()
     }
 
     /// Opens a stream and all lower ones of its type.

@@ -1,5 +1,5 @@
 //! The receiving halves of the streams of one type.
-ghost use Rattle.std.specs.Prelude.{◌≡◌, ◌+◌, ◌≤◌, ◌<◌, ◌^◌, ◌++◌, [], length, drop, map, take, slice_get, slice_index_or, option_map, ℕ, false, None, Some, IfSome, OnOk, OnErr, IsOk, IfOk, Ok};
+ghost use Rattle.std.specs.Prelude.{◌≡◌, ◌+◌, ◌-◌, ◌≤◌, ◌<◌, ◌^◌, ◌++◌, [], length, drop, map, min, take, slice_get, slice_index_or, option_map, ℕ, false, None, Some, IfSome, OnOk, OnErr, IsOk, IfOk, Ok};
 ghost use Rattle.std.specs.List.{sum_by};
 ghost use Rattle.qs_ranges.specs.Numbers.{MAX_VARINT};
 ghost use Rattle.qs_recv.specs.Lane.{RecvLane, new_lane, check_stream, check_reset, check_bytes, highest, highest_after, take_stream, take_reset, read_answer, bytes_read, after_read, raise, stop};
@@ -8,8 +8,9 @@ ghost use Rattle.qs_machine.specs.Tables.{widened};
 ghost use Rattle.qs_machine.specs.Memory.{HasNews};
 ghost use Rattle.qs_machine.specs.Reports.{recv_report};
 ghost use Rattle.qs_machine.specs.Verdicts.{or_new};
-ghost use Rattle.qs_machine.specs.Sums.{changed, tally_of, tally_on, moved, IsPart, IsPaid, EachLawful};
+ghost use Rattle.qs_machine.specs.Sums.{changed, tally_of, tally_on, stored_on, moved, IsPart, IsPaid, EachLawful};
 ghost use Rattle.qs_conn.specs.Ended.{recv_over};
+ghost use Rattle.qs_conn.specs.Held.{most_held};
 ghost use Rattle.qs_conn.specs.Layers.{limit_to_tell, stop_to_tell, AreSettled, touch};
 ghost use Rattle.qs_machine.specs.News.{IsLeast};
 ghost use Rattle.qs_conn.specs.Marks.{IsBefore, IsAt, AreMarked, IsQuietLane};
@@ -102,6 +103,15 @@ impl RecvLanes {
         ensures lawful { EachLawful self.now }
     {
         self.tally
+    }
+
+    /// What the rings of all lanes take, in bytes, by a walk over them.
+    pub(crate) fn held(&self) -> u64
+        ensures stored { sum_by stored_on self.now ≤ result }
+        ensures most { result ≤ sum_by most_held self.now }
+    {
+        let _stored = self.tally.stored;
+        held_of(&self.halves)
     }
 
     /// Whether a frame may be taken at an index, whose lane may have yet to be opened.
@@ -446,6 +456,19 @@ fn measure(half: &Half) -> Tally
         taken: half.taken(),
         stored: half.stored(),
     }
+}
+
+// What the rings of some halves take. A sum that is no u64 is the greatest one.
+fn held_of(halves: &[Half]) -> u64
+    ensures stored { min (sum_by stored_on halves.now) (2 ^ 64 - 1) ≤ result }
+    ensures most { result ≤ sum_by most_held halves.now }
+{
+    let mut held: u64 = 0;
+    for index in 0..halves.len() {
+        let half = &halves[index];
+        held = held.saturating_add(half.held());
+    }
+    held
 }
 
 // The sums once a lane's part became another.

@@ -8,6 +8,7 @@ ghost use Rattle.qs_machine.specs.Reports.{recv_report};
 ghost use Rattle.qs_machine.specs.Verdicts.{or_new};
 ghost use Rattle.qs_machine.specs.Sums.{stored_on, tally_on, IsPaid};
 ghost use Rattle.qs_conn.specs.Ended.{recv_over};
+ghost use Rattle.qs_conn.specs.Held.{most_held};
 ghost use Rattle.qs_conn.specs.Layers.{limit_to_tell, stop_to_tell};
 ghost use Rattle.qs_machine.specs.News.{IsLeast, IsHeld};
 ghost use Rattle.qs_conn.specs.Marks.{HaveTo, IsHeldOf, IsQuietLane};
@@ -326,6 +327,18 @@ impl RecvTables {
         let bidi = sum(self.types[0].tally(), self.types[1].tally());
         let uni = sum(self.types[2].tally(), self.types[3].tally());
         sum(bidi, uni)
+    }
+
+    /// What the rings of all streams take, in bytes, by a walk over them.
+    pub(crate) fn held(&self) -> u64
+        requires { total highest self.now < 2 ^ 62 }
+        ensures stored { total stored_on self.now ≤ result }
+        ensures most { result ≤ total most_held self.now }
+    {
+        let _tally = self.tally();
+        let bidi = self.types[0].held().saturating_add(self.types[1].held());
+        let uni = self.types[2].held().saturating_add(self.types[3].held());
+        bidi.saturating_add(uni)
     }
 
     /// Each limit becomes the next one.

@@ -1,5 +1,6 @@
 //! The sending halves of the streams of one type.
-ghost use Rattle.std.specs.Prelude.{◌≡◌, ◌+◌, ◌*◌, ◌≤◌, ◌<◌, ◌^◌, [], length, take, slice_get, slice_index_or, unwrap_or, ℕ, false, None, Some, OnOk, OnErr, IfOk, IfErr, IfSome};
+ghost use Rattle.std.specs.Prelude.{◌≡◌, ◌+◌, ◌-◌, ◌*◌, ◌≤◌, ◌<◌, ◌^◌, [], length, min, take, slice_get, slice_index_or, unwrap_or, ℕ, false, None, Some, OnOk, OnErr, IfOk, IfErr, IfSome};
+ghost use Rattle.std.specs.List.{sum_by};
 ghost use Rattle.qs_ranges.specs.Numbers.{MAX_VARINT};
 ghost use Rattle.qs_send.specs.Lane.{Sending, new_sending, accepted, refusal, reset_refusal, answer_of, state, after_write, after_finish, after_reset, after_stopped, after_reset_acked, after_blocked, after_allow, after_sent, after_acked, after_lost};
 ghost use Rattle.qs_send.specs.Chunks.{IsDueChunk, WasSent};
@@ -7,6 +8,7 @@ ghost use Rattle.qs_machine.specs.Tables.{widened};
 ghost use Rattle.qs_machine.specs.Memory.{ChunkMayRunOut};
 ghost use Rattle.qs_machine.specs.Sums.{changed, no_sending};
 ghost use Rattle.qs_machine.specs.News.{IsLeast};
+ghost use Rattle.qs_conn.specs.Held.{kept_on, most_buffered};
 ghost use Rattle.qs_conn.specs.Marks.{IsBefore, IsAt};
 ghost use Rattle.qs_conn.specs.Tasks.{IsQuiet, HasTask};
 
@@ -60,6 +62,19 @@ impl SendLanes {
         ensures small { result ≤ 2 ^ 60 }
     {
         self.halves.len()
+    }
+
+    /// What the buffers of all halves take, in bytes, by a walk over them. A sum that is no u64 is the greatest one.
+    pub(crate) fn held(&self) -> u64
+        ensures kept { min (sum_by (λ s. kept_on s.lane) self.now) (2 ^ 64 - 1) ≤ result }
+        ensures most { result ≤ sum_by (λ s. most_buffered s.lane) self.now }
+    {
+        let mut held: u64 = 0;
+        for index in 0..self.halves.len() {
+            let half = &self.halves[index];
+            held = held.saturating_add(half.held());
+        }
+        held
     }
 
     /// An open half.

@@ -1,12 +1,13 @@
 //! The sending halves of an end.
-ghost use Rattle.std.specs.Prelude.{◌≡◌, ◌≤◌, ◌<◌, ◌^◌, ℕ, length, take, is_some, unwrap_or, true, Some, None, OnOk, OnErr, IfOk, IfErr, IfSome};
+ghost use Rattle.std.specs.Prelude.{◌≡◌, ◌-◌, ◌≤◌, ◌<◌, ◌^◌, ℕ, length, min, take, is_some, unwrap_or, true, Some, None, OnOk, OnErr, IfOk, IfErr, IfSome};
 ghost use Rattle.qs_ranges.specs.Numbers.{MAX_VARINT};
 ghost use Rattle.qs_send.specs.Lane.{Sending, new_sending, accepted, refusal, reset_refusal, answer_of, state, after_write, after_finish, after_reset, after_stopped, after_reset_acked, after_blocked, after_allow, after_sent, after_acked, after_lost};
 ghost use Rattle.qs_send.specs.Chunks.{IsDueChunk, WasSent};
-ghost use Rattle.qs_machine.specs.Tables.{no_streams, table, with_table, lookup, updated, open_to, kind_of};
+ghost use Rattle.qs_machine.specs.Tables.{no_streams, table, with_table, lookup, updated, open_to, total, kind_of};
 ghost use Rattle.qs_machine.specs.Memory.{ChunkMayRunOut};
 ghost use Rattle.qs_machine.specs.Sums.{or_no_sending};
 ghost use Rattle.qs_machine.specs.News.{IsLeast, IsHeld};
+ghost use Rattle.qs_conn.specs.Held.{kept_on, most_buffered};
 ghost use Rattle.qs_conn.specs.Marks.{IsBefore, HaveTo, IsHeldOf};
 ghost use Rattle.qs_conn.specs.Tasks.{IsQuiet, HasTask};
 
@@ -73,6 +74,16 @@ impl SendTables {
     {
         let lanes = &self.types[kind_of(stream)];
         lanes.get(index_of(stream))
+    }
+
+    /// What the buffers of all streams take, in bytes, by a walk over them. A sum that is no u64 is the greatest one.
+    pub(crate) fn held(&self) -> u64
+        ensures kept { min (total (λ s. kept_on s.lane) self.now) (2 ^ 64 - 1) ≤ result }
+        ensures most { result ≤ total (λ s. most_buffered s.lane) self.now }
+    {
+        let bidi = self.types[0].held().saturating_add(self.types[1].held());
+        let uni = self.types[2].held().saturating_add(self.types[3].held());
+        bidi.saturating_add(uni)
     }
 
     /// How many streams of the type of this one are open.

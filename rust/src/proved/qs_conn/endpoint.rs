@@ -2,6 +2,7 @@
 //! One end of a connection.
 
 use crate::proved::qs_conn::ended::EndedStreams;
+use crate::proved::qs_conn::held::Held;
 use crate::proved::qs_conn::outbox::Outbox;
 use crate::proved::qs_conn::places::kind_of;
 use crate::proved::qs_conn::recv_tables::RecvTables;
@@ -94,6 +95,17 @@ impl Endpoint {
     pub fn stored(&self) -> u64 {
         let _granted = self.granted;
         self.recvs.tally().stored
+    }
+
+    /// How much memory the rings of receiving halves take and the buffers of sending halves, by a walk over all streams that were
+    /// opened: for a look now and then, and not for each packet. A peer within its credit can't make the rings take more than four
+    /// times the connection's window, and 4,096 bytes for each receiving half that keeps bytes still.
+    pub fn held(&self) -> Held {
+        let _granted = self.granted;
+        Held {
+            receiving: self.recvs.held(),
+            sending: self.outbox.held(),
+        }
     }
 
     /// The connection limit granted to the peer (RFC 9000, section 4.1).

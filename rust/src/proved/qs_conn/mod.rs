@@ -6,6 +6,7 @@ mod bits;
 mod ended;
 mod endpoint;
 mod filling;
+mod held;
 mod marks;
 mod outbox;
 mod places;
@@ -24,6 +25,7 @@ mod told;
 mod told_index;
 
 pub use endpoint::Endpoint;
+pub use held::Held;
 pub use crate::proved::qs_calls::{
     Closed, Closing, LaneReport, LostFault, Made, MakeFault, OpenFault, PeerLimits, RaiseFault,
     Received, RecvReport, SendReport, Settings, SetupFault, UseFault,

@@ -117,6 +117,12 @@ impl Outbox {
         self.sent
     }
 
+    /// What the buffers of all streams take, in bytes, by a walk over them. A sum that is no u64 is the greatest one.
+    pub(crate) fn held(&self) -> u64 {
+        let _next = self.next;
+        self.sends.held()
+    }
+
     /// Opens a stream and all lower ones of its type.
     pub(crate) fn open_to(
         &mut self,

@@ -61,6 +61,12 @@ impl RecvLanes {
         self.tally
     }
 
+    /// What the rings of all lanes take, in bytes, by a walk over them.
+    pub(crate) fn held(&self) -> u64 {
+        let _stored = self.tally.stored;
+        held_of(&self.halves)
+    }
+
     /// Whether a frame may be taken at an index, whose lane may have yet to be opened.
     pub(crate) fn check_stream(
         &self,
@@ -325,6 +331,16 @@ fn measure(half: &Half) -> Tally {
         taken: half.taken(),
         stored: half.stored(),
     }
+}
+
+// What the rings of some halves take. A sum that is no u64 is the greatest one.
+fn held_of(halves: &[Half]) -> u64 {
+    let mut held: u64 = 0;
+    for index in 0..halves.len() {
+        let half = &halves[index];
+        held = held.saturating_add(half.held());
+    }
+    held
 }
 
 // The sums once a lane's part became another.

@@ -221,6 +221,14 @@ impl RecvTables {
         sum(bidi, uni)
     }
 
+    /// What the rings of all streams take, in bytes, by a walk over them.
+    pub(crate) fn held(&self) -> u64 {
+        let _tally = self.tally();
+        let bidi = self.types[0].held().saturating_add(self.types[1].held());
+        let uni = self.types[2].held().saturating_add(self.types[3].held());
+        bidi.saturating_add(uni)
+    }
+
     /// Each limit becomes the next one.
     pub(crate) fn raise_all(&mut self) {
         self.types[0].raise_all();

@@ -30,6 +30,16 @@ impl SendLanes {
         self.halves.len()
     }
 
+    /// What the buffers of all halves take, in bytes, by a walk over them. A sum that is no u64 is the greatest one.
+    pub(crate) fn held(&self) -> u64 {
+        let mut held: u64 = 0;
+        for index in 0..self.halves.len() {
+            let half = &self.halves[index];
+            held = held.saturating_add(half.held());
+        }
+        held
+    }
+
     /// An open half.
     pub(crate) fn get(&self, index: usize) -> &SendHalf {
         &self.halves[index]

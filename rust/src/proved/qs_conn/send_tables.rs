@@ -40,6 +40,13 @@ impl SendTables {
         lanes.get(index_of(stream))
     }
 
+    /// What the buffers of all streams take, in bytes, by a walk over them. A sum that is no u64 is the greatest one.
+    pub(crate) fn held(&self) -> u64 {
+        let bidi = self.types[0].held().saturating_add(self.types[1].held());
+        let uni = self.types[2].held().saturating_add(self.types[3].held());
+        bidi.saturating_add(uni)
+    }
+
     /// How many streams of the type of this one are open.
     pub(crate) fn count(&self, stream: StreamId) -> usize {
         self.count_of(kind_of(stream))

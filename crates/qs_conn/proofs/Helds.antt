@@ -1,0 +1,77 @@
+-- What the rings and the buffers of an end take, all together.
+use Rattle.std.proofs.Common.{◌≡◌, ℕ, ◌+◌, ◌-◌, ◌*◌, ◌^◌, ◌≤◌, ◌==◌, Bool, true, false, not, cond, min, max, List, [], ◌∷◌, map, Option, None, Some, refl, arith}
+use Rattle.std.specs.List.{sum_by}
+use Rattle.std.proofs.lemmas.List.Sums.{sum_by-cons}
+use Rattle.qs_wire.specs.declared.stream_id.Role.{Role}
+use Rattle.qs_recv.specs.Lane.{RecvLane, highest, taken}
+use Rattle.qs_recv.proofs.LawfulLaws.{taken_within}
+use Rattle.qs_send.specs.Lane.{SendLane, Sending}
+use Rattle.qs_calls.specs.declared.settings.Settings.{Settings}
+use Rattle.qs_machine.specs.Tables.{Tables, lookup, total}
+use Rattle.qs_machine.specs.Ends.{End}
+use Rattle.qs_machine.specs.Credit.{spent, all_taken}
+use Rattle.qs_machine.specs.Outgoing.{lanes_of}
+use Rattle.qs_machine.specs.Standing.{HasLawfulLane, IsInCredit}
+use Rattle.qs_machine.specs.Sums.{stored_on}
+use Rattle.qs_machine.proofs.TableLaws.{value, total_le, total_both}
+use Rattle.qs_conn.specs.declared.held.Held.{Held}
+use Rattle.qs_conn.specs.Held.{keeps, most_held, most_buffered, kept_on, half_count, IsHeldBy}
+
+module _ {X : Type 0} (f : X → ℕ) where
+  -- a page for each that counts
+  pages : (xs : List X) → sum_by (λ x. 4096 * f x) xs ≡ 4096 * sum_by f xs
+  pages [] = refl
+  pages (x ∷ xs) = rw (sum_by-cons (λ y. 4096 * f y) x xs, sum_by-cons f x xs) (omega (arith, pages xs))
+
+  total_pages : (t : Tables X) → total (λ x. 4096 * f x) t ≡ 4096 * total f t
+  unfolding total
+  total_pages t = omega (arith, pages t.client_bidi, pages t.server_bidi, pages t.client_uni, pages t.server_uni)
+
+total_fourfold : (f : RecvLane → ℕ) (t : Tables RecvLane) → total (λ l. (f l + f l) + (f l + f l)) t ≡ 4 * total f t
+total_fourfold f t = omega (arith, total_both (λ l. f l + f l) (λ l. f l + f l) t, total_both f f t)
+
+of_one : (role : Role) (s : Settings) (n : ℕ) (o : Option RecvLane) → HasLawfulLane role s n o
+    → value (λ l. most_held l + ((taken l + taken l) + (taken l + taken l))) o ≤ value (λ l. ((highest l + highest l) + (highest l + highest l)) + 4096 * cond (keeps l) 1 0) o
+of_one role s n None h = omega arith
+of_one role s n (Some l) h = by_test (keeps l) (stored_on l == 0) (highest l) (taken l) (taken_within l h.0)
+  where
+    by_test : (b none : Bool) (high low : ℕ) → low ≤ high
+        → cond (not b) 0 (cond none 4096 (max 4096 (4 * (high - low)))) + ((low + low) + (low + low)) ≤ ((high + high) + (high + high)) + 4096 * cond b 1 0
+    by_test false none high low le = omega (arith, le)
+    by_test true true high low le = omega (arith, le)
+    by_test true false high low le = omega (arith, le)
+
+-- four times what was spent beyond what was taken, and a page for each half that keeps bytes
+most_of_all : (e : End) → IsInCredit e → total most_held e.recvs + 4 * all_taken e ≤ 4 * spent e + 4096 * half_count e
+most_of_all e h =
+    omega (
+      arith,
+      total_le (λ l. most_held l + ((taken l + taken l) + (taken l + taken l))) (λ l. ((highest l + highest l) + (highest l + highest l)) + 4096 * cond (keeps l) 1 0) e.recvs e.recvs (λ n. of_one e.role e.settings n (lookup e.recvs n) (h.lanes n)),
+      total_both most_held (λ l. (taken l + taken l) + (taken l + taken l)) e.recvs,
+      total_both (λ l. (highest l + highest l) + (highest l + highest l)) (λ l. 4096 * cond (keeps l) 1 0) e.recvs,
+      total_fourfold taken e.recvs,
+      total_fourfold highest e.recvs,
+      total_pages (λ l. cond (keeps l) 1 0) e.recvs,
+    )
+
+pub is_held : (e : End) (held : Held) → IsInCredit e → total stored_on e.recvs ≤ held.receiving → held.receiving ≤ total most_held e.recvs
+    → min (total kept_on e.sends) (2 ^ 64 - 1) ≤ held.sending → held.sending ≤ total most_buffered e.sends → IsHeldBy e held
+is_held e held h stored most kept buffers =
+    let all = most_of_all e h in
+    record {
+      stored = stored;
+      rings = most;
+      spent = omega (arith, most, all);
+      window = omega (arith, most, all, h.spent, h.in_window);
+      kept = kept;
+      buffers = buffers;
+    }
+
+-- what is asked of lanes, asked of halves
+pub total_lanes : (f : SendLane → ℕ) (t : Tables Sending) → total f (lanes_of t) ≡ total (λ s. f s.lane) t
+unfolding total
+total_lanes f t = omega (arith, sums t.client_bidi, sums t.server_bidi, sums t.client_uni, sums t.server_uni)
+  where
+    sums : (xs : List Sending) → sum_by f (map (λ (s : Sending). s.lane) xs) ≡ sum_by (λ (s : Sending). f s.lane) xs
+    sums [] = refl
+    sums (x ∷ xs) = rw (sum_by-cons f x.lane (map (λ (s : Sending). s.lane) xs), sum_by-cons (λ (s : Sending). f s.lane) x xs) (omega (arith, sums xs))
