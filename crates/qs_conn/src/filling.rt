@@ -437,10 +437,9 @@ pub(crate) fn put_kept(done: &RangeSet, delay: u64, out: &mut [u8]) -> usize
     ensures within { result ≤ length out.new }
     ensures room { length out.new ≡ length out.old }
 {
-    let runs = done.pairs();
     let mut pairs = [(0, 0); 32];
-    let highest = &mut pairs[..runs.len()];
-    highest.copy_from_slice(runs);
+    let count = done.copy_pairs(&mut pairs);
+    let highest = &mut pairs[..count];
     highest.reverse();
     match put_ack(highest, delay, out) {
         Ok((_count, len)) => len,

@@ -9,3 +9,7 @@ pub mod Longest
 pub mod Sets
 pub mod Algebra
 pub mod Starts
+pub mod Places
+pub mod Pieces
+pub mod Found
+pub mod Sides

@@ -4,6 +4,7 @@ use Rattle.std.specs.List.Sorted.{IsPartitionPoint}
 use Rattle.std.proofs.lemmas.Bool.{cases_lt, ltb-true, ltb-false}
 use Rattle.std.proofs.lemmas.List.{get_or_read}
 use Rattle.qs_ranges.specs.Runs.{Runs, AreApart, IsSpan, start_at, end_at}
+use Rattle.qs_ranges.specs.Blocks.{IsFirstFrom}
 use Rattle.std.specs.Prelude.{slice_get}
 use Rattle.std.proofs.lemmas.Option.{get_or_from_slice_get, slice_get_within}
 use Rattle.qs_ranges.proofs.Splice.{start_before_end, end_before_start}
@@ -127,3 +128,46 @@ module _ (runs : Runs) (low high start end : ℕ) (apart : AreApart runs) (le : 
       end_from : (k : ℕ) → k < length runs → At runs 0 (start, end) → low ≤ end_at runs k
       end_from zero lt here = omega (arith, here.end)
       end_from (suc k) lt here = omega (arith, after_first runs (start, end) (suc k) apart here (omega arith) lt, start_before_end 0 runs (suc k) apart lt)
+
+-- from what is so at the two places to what is so of all others
+pub span_from_edges : (runs : Runs) (low high from to : ℕ) → AreApart runs → low ≤ high → from ≤ to → to ≤ length runs
+    → (0 < from → end_at runs (from - 1) < low) → (from < length runs → low ≤ end_at runs from)
+    → (0 < to → start_at runs (to - 1) < high) → (to < length runs → high ≤ start_at runs to) → IsSpan runs low high from to
+span_from_edges runs low high from to apart le ordered in_bounds before behind starts_before starts_behind = record {
+  ordered = ordered;
+  in_bounds = in_bounds;
+  ends_below = ends_below;
+  ends_from = ends_from;
+  starts_below = starts_below;
+  starts_from = starts_from;
+}
+  where
+    ends_below : (k : ℕ) → k < from → end_at runs k < low
+    ends_below k lt = elim (cases_lt k (from - 1)) [
+      | inl less ↦ omega (arith, before (omega arith), end_before_start 0 runs k (from - 1) apart less (omega arith), start_before_end 0 runs (from - 1) apart (omega arith))
+      | inr ge ↦ let same : from - 1 ≡ k = omega arith in subst (λ j. end_at runs j < low) same (before (omega arith))
+    ]
+
+    ends_from : (k : ℕ) → from ≤ k → k < length runs → low ≤ end_at runs k
+    ends_from k ge lt = elim (cases_lt from k) [
+      | inl less ↦ omega (arith, behind (omega arith), end_before_start 0 runs from k apart less lt, start_before_end 0 runs k apart lt)
+      | inr le ↦ let same : from ≡ k = omega arith in subst (λ j. low ≤ end_at runs j) same (behind (omega arith))
+    ]
+
+    starts_below : (k : ℕ) → k < to → start_at runs k < high
+    starts_below k lt = elim (cases_lt k (to - 1)) [
+      | inl less ↦ omega (arith, starts_before (omega arith), end_before_start 0 runs k (to - 1) apart less (omega arith), start_before_end 0 runs k apart (omega arith))
+      | inr ge ↦ let same : to - 1 ≡ k = omega arith in subst (λ j. start_at runs j < high) same (starts_before (omega arith))
+    ]
+
+    starts_from : (k : ℕ) → to ≤ k → k < length runs → high ≤ start_at runs k
+    starts_from k ge lt = elim (cases_lt to k) [
+      | inl less ↦ omega (arith, starts_behind (omega arith), end_before_start 0 runs to k apart less lt, start_before_end 0 runs to apart (omega arith))
+      | inr le ↦ let same : to ≡ k = omega arith in subst (λ j. high ≤ start_at runs j) same (starts_behind (omega arith))
+    ]
+
+-- where the run at a place starts at high or later, or there is none, the span has none
+pub span_empty : (runs : Runs) (low high at : ℕ) → AreApart runs → low ≤ high → IsFirstFrom runs low at → (at < length runs → high ≤ start_at runs at) → IsSpan runs low high at at
+span_empty runs low high at apart le first later = span_from_edges runs low high at at apart le (omega arith) first.in_bounds first.before first.behind
+    (λ some. omega (arith, first.before some, start_before_end 0 runs (at - 1) apart (omega (arith, first.in_bounds))))
+    later

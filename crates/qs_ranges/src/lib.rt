@@ -1,7 +1,8 @@
 //! Sets of numbers, kept as the longest runs of their members.
 #![tactic(auto)]
 
-ghost use Rattle.std.specs.Prelude.{◌≡◌, ◌+◌, ◌-◌, ◌≤◌, ◌<◌, ◌^◌, ◌↔◌, All, OnOk, OnErr, IsTrue, IfSome, IfNone, ◌∷◌, ◌++◌, take, drop, vec_len, max};
+ghost use Rattle.std.specs.Prelude.{◌≡◌, ℕ, ◌+◌, ◌-◌, ◌≤◌, ◌<◌, ◌^◌, ◌↔◌, All, Option, OnOk, OnErr, IsTrue, IfSome, IfNone, [], ◌∷◌, false, length, take, max};
+ghost use Rattle.std.specs.Option.{option_to_list};
 ghost use Rattle.std.specs.FinSet as set;
 ghost use Rattle.qs_ranges.specs.Numbers.{
   NumberSet,
@@ -17,11 +18,21 @@ ghost use Rattle.qs_ranges.specs.Numbers.{
   IsFirstGap,
   run_starts,
 };
-ghost use Rattle.qs_ranges.specs.Runs.{AreApart, AreRunsOf, IsSpan};
+ghost use Rattle.qs_ranges.specs.Runs.{AreApart, AreRunsOf, has_number};
+ghost use Rattle.qs_ranges.specs.Blocks.{IsEdit, all_runs, runs_of, with_range, without_range};
 
+use crate::block::Block;
+use crate::blocks::{first_from, two_above};
+use crate::changes::{
+    copy_one, copy_runs, count_one, count_runs, insert_few, insert_many, one_above, remove_few,
+    remove_many,
+};
 use std::alloc::{AllocError, AllocFailed, Global};
 use std::marker::Model;
 
+mod block;
+mod blocks;
+mod changes;
 pub mod laws;
 
 /// No memory was left.
@@ -40,10 +51,12 @@ impl<T: Drop> From<AllocFailed<T>> for NoMemory {
     }
 }
 
-/// A set of numbers below 2^62, kept as its longest runs in rising order.
+/// A set of numbers below 2^62, kept as its longest runs in rising order: none or one in the value itself, and more in blocks. After a
+/// removal one may stay in a block.
 #[derive(Drop)]
 pub struct RangeSet {
-    runs: Vec<(u64, u64)>,
+    one: Option<(u64, u64)>,
+    blocks: Vec<Block>,
 }
 
 impl Model for RangeSet {
@@ -52,14 +65,15 @@ impl Model for RangeSet {
     ghost use Rattle.std.specs.Coded.{coded_ℕ};
     ghost use Rattle.qs_ranges.specs.Numbers.{NumberSet};
     ghost use Rattle.qs_ranges.specs.Runs.{AreApart, set_of};
+    ghost use Rattle.qs_ranges.specs.Blocks.{runs_of};
 
     ghost Value = { NumberSet };
 
     ghost coded = { set.code coded_ℕ };
 
-    ghost view = { λ a. set_of a.runs.items };
+    ghost view = { λ a. set_of (runs_of a.blocks.items a.one) };
 
-    ghost invariant = { λ a. AreApart a.runs.items × All (λ run. run.1 ≤ 2 ^ 62) a.runs.items };
+    ghost invariant = { λ a. AreApart (runs_of a.blocks.items a.one) × All (λ run. run.1 ≤ 2 ^ 62) (runs_of a.blocks.items a.one) };
 }
 
 impl RangeSet {
@@ -68,13 +82,14 @@ impl RangeSet {
         ensures { result ≡ set.empty }
     {
         Self {
-            runs: Vec::new(alloc),
+            one: None,
+            blocks: Vec::new(alloc),
         }
     }
 
     /// Adds the numbers from `lo` on and below `hi`; an empty range changes nothing. `NoMemory` leaves the set as it was.
     ///
-    /// It takes constant time at or past the end of the set, and elsewhere a search and one move of the runs behind.
+    /// It takes constant time at or past the end of the set, and elsewhere two searches and moves within blocks.
     pub fn insert(&mut self, lo: u64, hi: u64) -> Result<(), NoMemory>
         requires ordered { lo ≤ hi }
         requires within { hi ≤ 2 ^ 62 }
@@ -87,15 +102,10 @@ impl RangeSet {
         if lo == hi {
             return Ok(());
         }
-        let (from, to) = span_of(&self.runs, lo, hi + 1);
-        if from == to {
-            self.runs.insert(from, (lo, hi))?;
-        } else {
-            let start = lo.min(self.runs[from].0);
-            let end = hi.max(self.runs[to - 1].1);
-            replace(&mut self.runs, from, to, (start, end));
+        if self.blocks.is_empty() {
+            return insert_few(&mut self.one, &mut self.blocks, lo, hi);
         }
-        Ok(())
+        insert_many(&mut self.one, &mut self.blocks, lo, hi)
     }
 
     /// Takes out the numbers from `lo` on and below `hi`; an empty range changes nothing. `NoMemory` leaves the set as it was.
@@ -111,48 +121,33 @@ impl RangeSet {
         if lo == hi {
             return Ok(());
         }
-        let (from, to) = span_of(&self.runs, lo + 1, hi);
-        if from == to {
-            return Ok(());
+        if self.blocks.is_empty() {
+            return remove_few(&mut self.one, &mut self.blocks, lo, hi);
         }
-        let start = self.runs[from].0;
-        let end = self.runs[to - 1].1;
-        match (start < lo, hi < end) {
-            (false, false) => {
-                take_out(&mut self.runs, from, to);
-            }
-            (true, false) => replace(&mut self.runs, from, to, (start, lo)),
-            (false, true) => replace(&mut self.runs, from, to, (hi, end)),
-            (true, true) => split(&mut self.runs, from, to, (start, lo), (hi, end))?,
-        }
-        Ok(())
+        remove_many(&mut self.one, &mut self.blocks, lo, hi)
     }
 
     /// Takes out the numbers below `n`. It takes constant time up to the end of the first run.
     pub fn drop_below(&mut self, n: u64)
         ensures { self.new ≡ set.difference self.old (numbers 0 n) }
     {
-        if n == 0 {
-            return;
-        }
-        let (from, to) = span_of(&self.runs, 1, n);
-        if from == to {
-            return;
-        }
-        let end = self.runs[to - 1].1;
-        if n < end {
-            replace(&mut self.runs, from, to, (n, end));
-        } else {
-            take_out(&mut self.runs, from, to);
-        }
+        self.members_fit();
+        let _never = self.remove(0, n.min(1 << 62));
     }
 
-    /// The longest runs of members, each a first number and the number after the last.
-    pub fn pairs(&self) -> &[(u64, u64)]
-        ensures runs { AreRunsOf self.now result.now }
-        ensures within { All (λ run. run.1 ≤ 2 ^ 62) result.now }
+    /// Copies the longest runs of members to the slice's front, each a first number and the number after the last, and answers how many
+    /// there are.
+    pub fn copy_pairs(&self, into: &mut [(u64, u64)]) -> usize
+        requires room { set.len (run_starts self.now) ≤ length into.old }
+        ensures count { result ≡ set.len (run_starts self.now) }
+        ensures runs { AreRunsOf self.now (take result into.new) }
+        ensures within { All (λ run. run.1 ≤ 2 ^ 62) (take result into.new) }
+        ensures len { length into.new ≡ length into.old }
     {
-        &self.runs
+        if self.blocks.is_empty() {
+            return copy_one(self.one, into);
+        }
+        copy_runs(&self.blocks, into)
     }
 
     /// Whether `n` is a member.
@@ -208,13 +203,22 @@ impl RangeSet {
         ensures found { IfSome result (IsFirstGap self.now lo hi) }
         ensures full { IfNone result (ContainsRange self.now lo hi) }
     {
-        let from = self.first_missing(lo);
-        if from >= hi {
+        if lo >= hi {
             return None;
         }
-        match self.run_above(from) {
-            Some((start, _)) if start < hi => Some((from, start)),
-            _ => Some((from, hi)),
+        let (first, next) = self.runs_above(lo);
+        let Some((start, end)) = first else {
+            return Some((lo, hi));
+        };
+        if lo < start {
+            return Some((lo, start.min(hi)));
+        }
+        if hi <= end {
+            return None;
+        }
+        match next {
+            Some((start, _)) if start < hi => Some((end, start)),
+            _ => Some((end, hi)),
         }
     }
 
@@ -222,14 +226,17 @@ impl RangeSet {
     pub fn count(&self) -> usize
         ensures { result ≡ set.len (run_starts self.now) }
     {
-        self.runs.len()
+        if self.blocks.is_empty() {
+            return count_one(self.one);
+        }
+        count_runs(&self.blocks)
     }
 
     /// Every member is below 2^62. It does nothing: a proof calls it for what it ensures.
     pub fn members_fit(&self)
         ensures { AllBelow self.now (2 ^ 62) }
     {
-        let _runs = &self.runs;
+        let _one = &self.one;
     }
 
     // The first run that ends above `n`.
@@ -238,89 +245,32 @@ impl RangeSet {
         ensures none { IfNone result (EndsBefore self.now n) }
         ensures within { IfSome result (λ run. run.1 ≤ 2 ^ 62) }
     {
-        let at = self.runs.partition_point(|run| run.1 <= n);
-        self.runs.get(at).copied()
-    }
-}
-
-// The places of the runs that end at `low` or later and start below `high`: with no search where the last run or the first decides.
-fn span_of(runs: &[(u64, u64)], low: u64, high: u64) -> (usize, usize)
-    requires apart { AreApart runs.now }
-    requires ordered { low ≤ high }
-    ensures { IsSpan runs.now low high result.0 result.1 }
-{
-    if let Some(&(start, end)) = runs.last() {
-        if end < low {
-            return (runs.len(), runs.len());
+        if self.blocks.is_empty() {
+            return one_above(self.one, n);
         }
-        if start < low {
-            return (runs.len() - 1, runs.len());
+        if n >= 1 << 62 {
+            return None;
         }
-    }
-    if let Some(&(start, end)) = runs.first() {
-        if high <= start {
-            return (0, 0);
+        let (block, at) = first_from(&self.blocks, n + 1);
+        if block == self.blocks.len() {
+            return None;
         }
-        if high <= end {
-            return (0, 1);
+        Some(self.blocks[block].run(at))
+    }
+
+    // The first run that ends above `n`, and the one behind it.
+    fn runs_above(&self, n: u64) -> (Option<(u64, u64)>, Option<(u64, u64)>)
+        ensures found { IfSome result.0 (IsRunAbove self.now n) }
+        ensures none { IfNone result.0 (EndsBefore self.now n) }
+        ensures next { IfSome result.0 (λ run. IfSome result.1 (IsRunAbove self.now run.1)) }
+        ensures last { IfSome result.0 (λ run. IfNone result.1 (EndsBefore self.now run.1)) }
+    {
+        if self.blocks.is_empty() {
+            return (one_above(self.one, n), None);
         }
+        if n >= 1 << 62 {
+            return (None, None);
+        }
+        two_above(&self.blocks, n)
     }
-    search_span(runs, low, high)
-}
-
-fn search_span(runs: &[(u64, u64)], low: u64, high: u64) -> (usize, usize)
-    requires apart { AreApart runs.now }
-    requires ordered { low ≤ high }
-    ensures { IsSpan runs.now low high result.0 result.1 }
-{
-    let from = runs.partition_point(|run| run.1 < low);
-    let to = runs.partition_point(|run| run.0 < high);
-    (from, to)
-}
-
-// Puts `run` in the place of the runs from `from` on and before `to`.
-fn replace(runs: &mut Vec<(u64, u64)>, from: usize, to: usize, run: (u64, u64))
-    requires nonempty { from < to }
-    requires in_bounds { to ≤ vec_len runs.old }
-    ensures { runs.new.items ≡ take from runs.old.items ++ run ∷ drop to runs.old.items }
-{
-    runs[from] = run;
-    take_out(runs, from + 1, to);
-}
-
-// Takes out the runs from `from` on and before `to`, by one move of those behind.
-fn take_out(runs: &mut Vec<(u64, u64)>, from: usize, to: usize)
-    requires ordered { from ≤ to }
-    requires in_bounds { to ≤ vec_len runs.old }
-    ensures { runs.new.items ≡ take from runs.old.items ++ drop to runs.old.items }
-{
-    if from < to {
-        let kept = runs.len() - (to - from);
-        runs.copy_within(to.., from);
-        runs.truncate(kept);
-    }
-}
-
-// Puts `left` and `right` in the place of the runs from `from` on and before `to`.
-fn split(
-    runs: &mut Vec<(u64, u64)>,
-    from: usize,
-    to: usize,
-    left: (u64, u64),
-    right: (u64, u64),
-) -> Result<(), NoMemory>
-    requires nonempty { from < to }
-    requires in_bounds { to ≤ vec_len runs.old }
-    ensures ok { OnOk result (runs.new.items ≡ take from runs.old.items ++ left ∷ right ∷ drop to runs.old.items) }
-    ensures err { OnErr result (runs.new.items ≡ runs.old.items) }
-    ensures one { OnErr result (from + 1 ≡ to) }
-{
-    if from + 1 == to {
-        runs.insert(to, right)?;
-        runs[from] = left;
-    } else {
-        runs[to - 1] = right;
-        replace(runs, from, to - 1, left);
-    }
-    Ok(())
 }

@@ -98,6 +98,11 @@ impl<T> Vec<T> {
         }
     }
 
+    /// The allocator that it was made with.
+    pub fn allocator(&self) -> &Global {
+        &Global
+    }
+
     pub fn capacity(&self) -> usize {
         self.items.capacity()
     }

@@ -12,8 +12,10 @@
     clippy::manual_unwrap_or,
     clippy::manual_unwrap_or_default,
     clippy::match_like_matches_macro,
+    clippy::needless_range_loop,
     clippy::question_mark,
     clippy::redundant_pattern_matching,
+    clippy::type_complexity,
     clippy::write_with_newline
 )]
 

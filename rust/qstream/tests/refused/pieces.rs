@@ -39,7 +39,10 @@ fn each_refused(run: impl Fn() -> usize) -> u64 {
 }
 
 fn pairs(set: &RangeSet) -> Vec<(u64, u64)> {
-    set.pairs().to_vec()
+    let mut runs = vec![(0, 0); set.count()];
+    let count = set.copy_pairs(&mut runs);
+    assert_eq!(count, runs.len());
+    runs
 }
 
 /// Ranges come apart, and then one that spans them all is cut between them.

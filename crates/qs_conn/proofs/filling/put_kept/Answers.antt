@@ -7,61 +7,53 @@ use Rattle.qs_conn.proofs.Texts.{ack_one}
 use Rattle.qs_conn.proofs.AckLaws.{count_runs, pairs_ok, ack_alone, begun_ack}
 use Rattle.qs_conn.proofs.filling.put_kept.Goals as goal
 
-pub slice_bounds-pairs-end : goal.slice_bounds-pairs-end
-slice_bounds-pairs-end c = omega (arith, count_runs c.args.done.now c.pairs-runs.result.now c.pairs-runs.ensures.runs, c.requires.few)
-
 pub slice_bounds-highest-end : goal.slice_bounds-highest-end
 slice_bounds-highest-end c =
-    let few : length c.pairs-runs.result.now ≤ 32 = omega (arith, count_runs c.args.done.now c.pairs-runs.result.now c.pairs-runs.ensures.runs, c.requires.few) in
-    sym (length-take-le (length c.pairs-runs.result.now) _ few)
-
-pub copy_from_slice-requires : goal.copy_from_slice-requires
-copy_from_slice-requires c =
-    let few : length c.pairs-runs.result.now ≤ 32 = omega (arith, count_runs c.args.done.now c.pairs-runs.result.now c.pairs-runs.ensures.runs, c.requires.few) in
-    length-take-le (length c.pairs-runs.result.now) _ few
+    let few : c.copy_pairs-count.result ≤ length c.copy_pairs-count.new.into = omega (arith, c.copy_pairs-count.ensures.count, c.copy_pairs-count.ensures.len, c.requires.few) in
+    sym (length-take-le c.copy_pairs-count.result c.copy_pairs-count.new.into few)
 
 pub put_ack-requires-clause-pairs : goal.put_ack-requires-clause-pairs
 put_ack-requires-clause-pairs c =
-    let runs = c.pairs-runs.result.now in
-    let count = count_runs c.args.done.now runs c.pairs-runs.ensures.runs in
-    subst AreAckPairs (sym (c.reverse.ensures.after ∙ ap reverse c.copy_from_slice.ensures.after)) (pairs_ok c.args.done.now runs c.pairs-runs.ensures.runs c.pairs-runs.ensures.within (omega (arith, count, c.requires.some)) (omega (arith, count, c.requires.few)))
+    let runs = take c.copy_pairs-count.result c.copy_pairs-count.new.into in
+    let count = count_runs c.args.done.now runs c.copy_pairs-count.ensures.runs in
+    subst AreAckPairs (sym (c.reverse.ensures.after)) (pairs_ok c.args.done.now runs c.copy_pairs-count.ensures.runs c.copy_pairs-count.ensures.within (omega (arith, count, c.requires.some)) (omega (arith, count, c.requires.few)))
 
 pub returns-in-Ok-clause-begun : goal.returns-in-Ok-clause-begun
 returns-in-Ok-clause-begun c = λ old same due sent fresh.
-    let runs = c.pairs-runs.result.now in
+    let runs = take c.copy_pairs-count.result c.copy_pairs-count.new.into in
     let pairs = c.reverse.new.self in
-    let count = count_runs c.args.done.now runs c.pairs-runs.ensures.runs in
-    let highest : pairs ≡ reverse runs = c.reverse.ensures.after ∙ ap reverse c.copy_from_slice.ensures.after in
-    let ok : AreAckPairs pairs = subst AreAckPairs (sym highest) (pairs_ok c.args.done.now runs c.pairs-runs.ensures.runs c.pairs-runs.ensures.within (omega (arith, count, c.requires.some)) (omega (arith, count, c.requires.few))) in
+    let count = count_runs c.args.done.now runs c.copy_pairs-count.ensures.runs in
+    let highest : pairs ≡ reverse runs = c.reverse.ensures.after in
+    let ok : AreAckPairs pairs = subst AreAckPairs (sym highest) (pairs_ok c.args.done.now runs c.copy_pairs-count.ensures.runs c.copy_pairs-count.ensures.within (omega (arith, count, c.requires.some)) (omega (arith, count, c.requires.few))) in
     let text : take c.in-Ok.len c.put_ack.new.out ≡ canonical (ack_of c.args.delay (take c.in-Ok._count pairs)) =
     ap (take c.in-Ok.len) c.in-Ok.ensures.written.2 ∙ take_at (canonical (ack_of c.args.delay (take c.in-Ok._count pairs))) (drop c.in-Ok.len c.args.out.now) c.in-Ok.len (sym c.in-Ok.ensures.written.0) in
-    begun_ack c.args.delay old runs pairs (subst (λ s. AreRunsOf s runs) (sym same) c.pairs-runs.ensures.runs) highest ok due c.in-Ok._count c.in-Ok.ensures.some.0 c.in-Ok.ensures.some.1 c.requires.delay (length c.args.out.now) (take c.in-Ok.len c.put_ack.new.out) text c.in-Ok.ensures.most sent fresh
+    begun_ack c.args.delay old runs pairs (subst (λ s. AreRunsOf s runs) (sym same) c.copy_pairs-count.ensures.runs) highest ok due c.in-Ok._count c.in-Ok.ensures.some.0 c.in-Ok.ensures.some.1 c.requires.delay (length c.args.out.now) (take c.in-Ok.len c.put_ack.new.out) text c.in-Ok.ensures.most sent fresh
 
 pub returns-in-Err-clause-begun : goal.returns-in-Err-clause-begun
 returns-in-Err-clause-begun c = λ old same due sent fresh.
-    let runs = c.pairs-runs.result.now in
+    let runs = take c.copy_pairs-count.result c.copy_pairs-count.new.into in
     let pairs = c.reverse.new.self in
-    let count = count_runs c.args.done.now runs c.pairs-runs.ensures.runs in
-    let highest : pairs ≡ reverse runs = c.reverse.ensures.after ∙ ap reverse c.copy_from_slice.ensures.after in
-    let ok : AreAckPairs pairs = subst AreAckPairs (sym highest) (pairs_ok c.args.done.now runs c.pairs-runs.ensures.runs c.pairs-runs.ensures.within (omega (arith, count, c.requires.some)) (omega (arith, count, c.requires.few))) in
+    let count = count_runs c.args.done.now runs c.copy_pairs-count.ensures.runs in
+    let highest : pairs ≡ reverse runs = c.reverse.ensures.after in
+    let ok : AreAckPairs pairs = subst AreAckPairs (sym highest) (pairs_ok c.args.done.now runs c.copy_pairs-count.ensures.runs c.copy_pairs-count.ensures.within (omega (arith, count, c.requires.some)) (omega (arith, count, c.requires.few))) in
     absurd (omega (arith, c.in-Err.ensures.full.0, ack_one c.args.delay pairs c.requires.delay ok, c.requires.space))
 
 pub returns-in-Ok-clause-alone : goal.returns-in-Ok-clause-alone
 returns-in-Ok-clause-alone c = λ old same due.
-    let runs = c.pairs-runs.result.now in
+    let runs = take c.copy_pairs-count.result c.copy_pairs-count.new.into in
     let pairs = c.reverse.new.self in
-    let count = count_runs c.args.done.now runs c.pairs-runs.ensures.runs in
-    let highest : pairs ≡ reverse runs = c.reverse.ensures.after ∙ ap reverse c.copy_from_slice.ensures.after in
-    let ok : AreAckPairs pairs = subst AreAckPairs (sym highest) (pairs_ok c.args.done.now runs c.pairs-runs.ensures.runs c.pairs-runs.ensures.within (omega (arith, count, c.requires.some)) (omega (arith, count, c.requires.few))) in
+    let count = count_runs c.args.done.now runs c.copy_pairs-count.ensures.runs in
+    let highest : pairs ≡ reverse runs = c.reverse.ensures.after in
+    let ok : AreAckPairs pairs = subst AreAckPairs (sym highest) (pairs_ok c.args.done.now runs c.copy_pairs-count.ensures.runs c.copy_pairs-count.ensures.within (omega (arith, count, c.requires.some)) (omega (arith, count, c.requires.few))) in
     let text : take c.in-Ok.len c.put_ack.new.out ≡ canonical (ack_of c.args.delay (take c.in-Ok._count pairs)) =
     ap (take c.in-Ok.len) c.in-Ok.ensures.written.2 ∙ take_at (canonical (ack_of c.args.delay (take c.in-Ok._count pairs))) (drop c.in-Ok.len c.args.out.now) c.in-Ok.len (sym c.in-Ok.ensures.written.0) in
-    ack_alone c.args.delay old runs pairs (subst (λ s. AreRunsOf s runs) (sym same) c.pairs-runs.ensures.runs) highest ok due c.in-Ok._count c.in-Ok.ensures.some.0 c.in-Ok.ensures.some.1 c.requires.delay (length c.args.out.now) (take c.in-Ok.len c.put_ack.new.out) text c.in-Ok.ensures.most
+    ack_alone c.args.delay old runs pairs (subst (λ s. AreRunsOf s runs) (sym same) c.copy_pairs-count.ensures.runs) highest ok due c.in-Ok._count c.in-Ok.ensures.some.0 c.in-Ok.ensures.some.1 c.requires.delay (length c.args.out.now) (take c.in-Ok.len c.put_ack.new.out) text c.in-Ok.ensures.most
 
 pub returns-in-Err-clause-alone : goal.returns-in-Err-clause-alone
 returns-in-Err-clause-alone c = λ old same due.
-    let runs = c.pairs-runs.result.now in
+    let runs = take c.copy_pairs-count.result c.copy_pairs-count.new.into in
     let pairs = c.reverse.new.self in
-    let count = count_runs c.args.done.now runs c.pairs-runs.ensures.runs in
-    let highest : pairs ≡ reverse runs = c.reverse.ensures.after ∙ ap reverse c.copy_from_slice.ensures.after in
-    let ok : AreAckPairs pairs = subst AreAckPairs (sym highest) (pairs_ok c.args.done.now runs c.pairs-runs.ensures.runs c.pairs-runs.ensures.within (omega (arith, count, c.requires.some)) (omega (arith, count, c.requires.few))) in
+    let count = count_runs c.args.done.now runs c.copy_pairs-count.ensures.runs in
+    let highest : pairs ≡ reverse runs = c.reverse.ensures.after in
+    let ok : AreAckPairs pairs = subst AreAckPairs (sym highest) (pairs_ok c.args.done.now runs c.copy_pairs-count.ensures.runs c.copy_pairs-count.ensures.within (omega (arith, count, c.requires.some)) (omega (arith, count, c.requires.few))) in
     absurd (omega (arith, c.in-Err.ensures.full.0, ack_one c.args.delay pairs c.requires.delay ok, c.requires.space))

@@ -1,6 +1,6 @@
 // Made from tests/units/qs_units/src/ranges.rattle by rust/erase; not edited by hand.
 //! Most tests are lists of steps, played by one function: so their proofs don't follow the set's value.
-use crate::shim::{HostRuntime, assert_eq};
+use crate::shim::{HostRuntime, assert, assert_eq};
 use crate::proved::qs_ranges::{NoMemory, RangeSet};
 use crate::shim::alloc::Global;
 use crate::shim::test::Fail;
@@ -46,7 +46,12 @@ fn remove(set: &mut RangeSet, lo: u64, hi: u64) -> Result<bool, NoMemory> {
 }
 
 fn has_pairs(set: &RangeSet, pairs: &[(u64, u64)]) -> bool {
-    set.pairs() == pairs && set.count() == pairs.len()
+    let mut found = [(0, 0); 32];
+    if set.count() > found.len() {
+        return false;
+    }
+    let count = set.copy_pairs(&mut found);
+    &found[..count] == pairs && set.count() == pairs.len()
 }
 
 // Whether the step answers what it says.
@@ -234,10 +239,10 @@ fn refused_inserts_change_nothing() -> Result<(), Fail> {
     let mut set = RangeSet::new(rt.alloc());
     for (k, &(lo, hi)) in pairs.iter().enumerate() {
         if set.insert(lo, hi).is_err() {
-            assert_eq!(rt; set.pairs(), &pairs[..k]);
+            assert!(rt; has_pairs(&set, &pairs[..k]));
             set.insert(lo, hi)?;
         }
-        assert_eq!(rt; set.pairs(), &pairs[..k + 1]);
+        assert!(rt; has_pairs(&set, &pairs[..k + 1]));
     }
     Ok(())
 }
@@ -259,10 +264,10 @@ fn refused_removals_change_nothing() -> Result<(), Fail> {
     for k in 0..4 {
         let at = k as u64 * 2 + 1;
         if set.remove(at, at + 1).is_err() {
-            assert_eq!(rt; set.pairs(), states[k]);
+            assert!(rt; has_pairs(&set, states[k]));
             set.remove(at, at + 1)?;
         }
-        assert_eq!(rt; set.pairs(), states[k + 1]);
+        assert!(rt; has_pairs(&set, states[k + 1]));
     }
     Ok(())
 }

@@ -1,0 +1,112 @@
+-- The runs of a set, none or one beside no block or those of blocks, and what edits of them make of the set.
+use Rattle.std.proofs.Common.{Option, None, Result, Ok, Err, OnOk, OnErr, ◌≡◌, ℕ, ◌+◌, ◌-◌, ◌<◌, ◌≤◌, Bool, true, false, not, ◌&&◌, [], ◌∷◌, ◌++◌, length, take, drop, min, max, All, refl, sym, ap, ◌∙◌, arith}
+use Rattle.std.specs.Option.{option_to_list}
+use Rattle.std.specs.FinSet as set
+use Rattle.std.proofs.lemmas.List.Elements.{All-head, All-tail}
+use Rattle.std.proofs.lemmas.Bool.Decides.{nat_tests}
+use Rattle.qs_ranges.specs.Numbers.{NumberSet, numbers, is_within, contains-without_range, same_numbers, run_starts, AllBelow, MissesRange, ContainsRange}
+use Rattle.qs_ranges.specs.Runs.{Runs, AreApart, AreApartFrom, AreRunsOf, IsSpan, has_number, set_of, start_at, end_at}
+use Rattle.qs_ranges.specs.Blocks.{Blocks, all_runs, runs_of, IsEdit, with_range, without_range}
+use Rattle.qs_ranges.proofs.Members.{contains-set_of, set_of-with_range, set_of-without_range}
+use Rattle.qs_ranges.proofs.Count.{len-run_starts}
+use Rattle.qs_ranges.proofs.Edits.{inserted_apart, inserted_over, misses_around, removed_nothing, removed_all, removed_end, removed_start, removed_inside, contains_around}
+
+pub no_block : (bs : Blocks) (one : Option (ℕ × ℕ)) → length bs ≡ 0 → runs_of bs one ≡ option_to_list one
+no_block [] one is = refl
+no_block (b ∷ bs) one is = absurd (omega arith)
+
+pub some_block : (bs : Blocks) (one : Option (ℕ × ℕ)) → 0 < length bs → runs_of bs one ≡ all_runs bs
+some_block [] one some = absurd (omega arith)
+some_block (b ∷ bs) one some = refl
+
+pub no_one : (bs : Blocks) → runs_of bs None ≡ all_runs bs
+no_one [] = refl
+no_one (b ∷ bs) = refl
+
+-- the set after an insert, and what it misses where it was refused
+module _ (s : NumberSet) (old runs : Runs) (lo hi : ℕ) (of_old : set_of old ≡ s) (same : old ≡ runs) where
+  pub added : {T E : Type 0} (r : Result T E) (new : Runs) (limit : ℕ) → OnOk r (IsEdit new limit (with_range runs lo hi)) → OnOk r (set_of new ≡ set.union s (numbers lo hi))
+  added (Ok t) new limit edit = set_of-with_range runs new lo hi edit.members ∙ ap (λ u. set.union u (numbers lo hi)) (ap set_of (sym same) ∙ of_old)
+  added (Err e) new limit edit = tt
+
+  pub taken : {T E : Type 0} (r : Result T E) (new : Runs) (limit : ℕ) → OnOk r (IsEdit new limit (without_range runs lo hi)) → OnOk r (set_of new ≡ set.difference s (numbers lo hi))
+  taken (Ok t) new limit edit = set_of-without_range runs new lo hi edit.members ∙ ap (λ u. set.difference u (numbers lo hi)) (ap set_of (sym same) ∙ of_old)
+  taken (Err e) new limit edit = tt
+
+  has : (n : ℕ) → set.contains s n ≡ has_number runs n
+  has n = ap (λ u. set.contains u n) (sym of_old) ∙ contains-set_of old n ∙ ap (λ l. has_number l n) same
+
+  pub missed : {T E : Type 0} (r : Result T E) → OnErr r ((n : ℕ) → lo - 1 ≤ n → n < hi + 1 → has_number runs n ≡ false) → OnErr r (MissesRange s (lo - 1) (hi + 1))
+  missed (Ok t) none = tt
+  missed (Err e) none = λ n ge lt. has n ∙ none n ge lt
+
+  pub enclosed : {T E : Type 0} (r : Result T E) → OnErr r ((0 < lo) × ((n : ℕ) → lo - 1 ≤ n → n < hi + 1 → has_number runs n ≡ true)) → OnErr r ((0 < lo) × ContainsRange s (lo - 1) (hi + 1))
+  enclosed (Ok t) all = tt
+  enclosed (Err e) all = (all.0, λ n ge lt. has n ∙ all.1 n ge lt)
+
+-- a removal up to a number, where every member is below a limit
+pub dropped : {T E : Type 0} (r : Result T E) (old new : NumberSet) (n limit most : ℕ) (P : Type 0) → most ≡ min n limit → AllBelow old limit → OnOk r (new ≡ set.difference old (numbers 0 most)) → OnErr r ((0 < 0) × P) → new ≡ set.difference old (numbers 0 n)
+dropped (Ok t) old new n limit most P least below is never =
+    is ∙ same_numbers _ _ (λ q. contains-without_range old 0 most q ∙ go q (set.contains old q) refl ∙ sym (contains-without_range old 0 n q))
+  where
+    go : (q : ℕ) (b : Bool) → set.contains old q ≡ b → (set.contains old q && not (is_within 0 most q)) ≡ (set.contains old q && not (is_within 0 n q))
+    go q false has = grind (arith, has)
+    go q true has =
+        let lt : q < limit = below q has in
+        let same : is_within 0 most q ≡ is_within 0 n q = within q lt in
+        grind (arith, same)
+      where
+        within : (q : ℕ) → q < limit → is_within 0 most q ≡ is_within 0 n q
+        within q lt = grind (arith, nat_tests)
+dropped (Err e) old new n limit most P least below is never = absurd (omega (arith, never.0))
+
+-- the edits of blocks, by what the calls answer
+module _ (runs : Runs) (new : Blocks) (lo hi limit from to : ℕ) (apart : AreApart runs) (all : All (λ run. run.1 ≤ limit) runs) (some : lo < hi) where
+  pub put_apart : {T E : Type 0} (r : Result T E) → hi ≤ limit → IsSpan runs lo (hi + 1) from to → from ≡ to
+      → OnOk r (all_runs new ≡ take from runs ++ (lo, hi) ∷ drop from runs) → OnOk r (IsEdit (runs_of new None) limit (with_range runs lo hi))
+  put_apart (Ok t) fits span same is = rw (no_one new, is) (inserted_apart runs lo hi limit from to apart all some fits span same)
+  put_apart (Err e) fits span same is = tt
+
+  pub put_nowhere : {T E : Type 0} (r : Result T E) → hi ≤ limit → IsSpan runs lo (hi + 1) from to → from ≡ to → OnErr r ((n : ℕ) → lo - 1 ≤ n → n < hi + 1 → has_number runs n ≡ false)
+  put_nowhere (Ok t) fits span same = tt
+  put_nowhere (Err e) fits span same = λ n ge lt. misses_around runs lo hi limit from to apart all some fits span same n ge lt
+
+  pub put_over : (start end : ℕ) → hi ≤ limit → IsSpan runs lo (hi + 1) from to → from < to → start ≡ min lo (start_at runs from) → end ≡ max hi (end_at runs (to - 1))
+      → all_runs new ≡ take from runs ++ (start, end) ∷ drop to runs → IsEdit (runs_of new None) limit (with_range runs lo hi)
+  put_over start end fits span found starts ends is = rw (no_one new, is, starts, ends) (inserted_over runs lo hi limit from to apart all some fits span found)
+
+  pub kept_all : IsSpan runs (lo + 1) hi from to → from ≡ to → all_runs new ≡ runs → IsEdit (runs_of new None) limit (without_range runs lo hi)
+  kept_all span same is = rw (no_one new, is) record { apart = apart; within = all; members = removed_nothing runs lo hi limit from to apart all some span same }
+
+  module _ (start end : ℕ) (span : IsSpan runs (lo + 1) hi from to) (found : from < to) (starts : start ≡ start_at runs from) (ends : end ≡ end_at runs (to - 1)) where
+    pub cut_all : lo ≤ start → end ≤ hi → all_runs new ≡ take from runs ++ drop to runs → IsEdit (runs_of new None) limit (without_range runs lo hi)
+    cut_all ge le is = rw (no_one new, is) (removed_all runs lo hi limit from to apart all some span found (omega arith) (omega arith))
+
+    pub cut_end : start < lo → end ≤ hi → all_runs new ≡ take from runs ++ (start, lo) ∷ drop to runs → IsEdit (runs_of new None) limit (without_range runs lo hi)
+    cut_end lt le is = rw (no_one new, is, starts) (removed_end runs lo hi limit from to apart all some span found (omega arith) (omega arith))
+
+    pub cut_start : lo ≤ start → hi < end → all_runs new ≡ take from runs ++ (hi, end) ∷ drop to runs → IsEdit (runs_of new None) limit (without_range runs lo hi)
+    cut_start ge lt is = rw (no_one new, is, ends) (removed_start runs lo hi limit from to apart all some span found (omega arith) (omega arith))
+
+    pub cut_inside : {T E : Type 0} (r : Result T E) → start < lo → hi < end → OnOk r (all_runs new ≡ take from runs ++ (start, lo) ∷ (hi, end) ∷ drop to runs) → OnOk r (IsEdit (runs_of new None) limit (without_range runs lo hi))
+    cut_inside (Ok t) lt gt is = rw (no_one new, is, starts, ends) (removed_inside runs lo hi limit from to apart all some span found (omega arith) (omega arith))
+    cut_inside (Err e) lt gt is = tt
+
+    pub cut_nowhere : {T E : Type 0} (r : Result T E) → start < lo → hi < end → OnErr r (from + 1 ≡ to) → OnErr r ((0 < lo) × ((n : ℕ) → lo - 1 ≤ n → n < hi + 1 → has_number runs n ≡ true))
+    cut_nowhere (Ok t) lt gt one = tt
+    cut_nowhere (Err e) lt gt one = (omega arith, λ n ge less. contains_around runs lo hi limit from to apart all some span found one (omega arith) (omega arith) n ge less)
+
+-- a list of runs within a limit has no more runs than the limit
+pub few_runs : (low limit : ℕ) (runs : Runs) → AreApartFrom low runs → All (λ run. run.1 ≤ limit) runs → low ≤ limit + 1 → low + length runs ≤ limit + 1
+few_runs low limit [] apart all le = omega arith
+few_runs low limit (run ∷ rest) apart all le =
+    let first : run.1 ≤ limit = All-head (λ r. r.1 ≤ limit) run rest all in
+    omega (arith, apart.0, apart.1, few_runs (run.1 + 1) limit rest apart.2 (All-tail (λ r. r.1 ≤ limit) run rest all) (omega arith))
+
+-- how many runs a set has, and which
+module _ (s : NumberSet) (bs : Blocks) (one : Option (ℕ × ℕ)) (apart : AreApart (runs_of bs one)) (of_runs : set_of (runs_of bs one) ≡ s) where
+  pub counted : set.len (run_starts s) ≡ length (runs_of bs one)
+  counted = ap (λ u. set.len (run_starts u)) (sym of_runs) ∙ len-run_starts (runs_of bs one) apart
+
+  pub runs_are : (xs : Runs) → xs ≡ runs_of bs one → AreRunsOf s xs
+  runs_are xs is = rw is record { apart = apart; members = λ n. ap (λ u. set.contains u n) (sym of_runs) ∙ contains-set_of (runs_of bs one) n }
