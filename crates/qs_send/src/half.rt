@@ -255,7 +255,8 @@ impl SendHalf {
         // What is acknowledged need not stay noted.
         forget(&mut self.noted, chunk.offset, end);
         let low = self.acked.first_missing(0);
-        self.kept.let_go((low - before) as usize);
+        let is_over = self.fin_acked || chunk.fin;
+        self.kept.let_go((low - before) as usize, is_over);
         self.fin_acked |= chunk.fin;
         Ok(())
     }

@@ -91,15 +91,15 @@ impl Kept {
     }
 
     /// Lets the first `n` bytes go. What is left is moved only once it is no more than what was let go before it. Where
-    /// nothing is left a room of more than 4,096 bytes is given back.
-    pub fn let_go(&mut self, n: usize)
+    /// nothing is left a room of more than 4,096 bytes is given back, and any where nothing more comes.
+    pub fn let_go(&mut self, n: usize, is_over: bool)
         requires { n ≤ length self.old.bytes }
         ensures bytes { self.new.bytes ≡ drop n self.old.bytes }
         ensures room { self.new.room ≤ self.old.room }
     {
         let start = self.start + n;
         let left = self.bytes.len() - start;
-        if left == 0 && self.room > IDLE_ROOM {
+        if left == 0 && (is_over || self.room > IDLE_ROOM) {
             self.give_back();
         } else if left <= start {
             self.bytes.copy_within(start.., 0);
