@@ -1,5 +1,6 @@
 //! Two ends in one process, and what the rows do with them.
 
+use crate::pattern::{self, Source};
 use gotsavena::{Dir, Endpoint, Made, Read, Role, Settings, StreamId};
 
 /// What a row of the whole loop asks for.
@@ -21,6 +22,8 @@ pub struct Load {
     pub total: u64,
     /// The room of a packet, in bytes.
     pub room: usize,
+    /// How many bytes are written in all before each burst, about.
+    pub fill: usize,
 }
 
 pub const PLAIN: Load = Load {
@@ -32,6 +35,7 @@ pub const PLAIN: Load = Load {
     lose: 0,
     total: 128 << 20,
     room: 1200,
+    fill: 256 << 10,
 };
 
 /// The connection's window of every row, in bytes.
@@ -42,7 +46,10 @@ pub struct Pair {
     pub reader: Endpoint,
     pub streams: Vec<StreamId>,
     load: Load,
-    source: Vec<u8>,
+    source: Source,
+    // How many bytes each active stream was given, and how many were read of it.
+    given: Vec<u64>,
+    taken: Vec<u64>,
     out: Vec<u8>,
     packets: Vec<(Made, Vec<u8>)>,
     spare: Vec<Vec<u8>>,
@@ -75,7 +82,9 @@ impl Pair {
             reader,
             streams: ids,
             load,
-            source: (0..load.write).map(|i| i as u8).collect(),
+            source: Source::new(load.write),
+            given: vec![0; load.active as usize],
+            taken: vec![0; load.active as usize],
             out: vec![0; 64 << 10],
             packets: Vec::new(),
             spare: Vec::new(),
@@ -85,14 +94,16 @@ impl Pair {
         }
     }
 
-    /// Fills the sending buffers of the active streams, up to 256 KiB in all.
+    /// Fills the sending buffers of the active streams, up to what the load says.
     pub fn write(&mut self) {
-        let times = (256 << 10) / self.source.len() / self.streams.len() + 1;
-        for &stream in &self.streams {
+        let times = self.load.fill / self.source.each() / self.streams.len() + 1;
+        for (&stream, given) in self.streams.iter().zip(&mut self.given) {
             for _ in 0..times {
-                let count = self.sender.write(stream, &self.source).unwrap_or(0);
+                let bytes = self.source.at(*given);
+                let count = self.sender.write(stream, bytes).unwrap_or(0);
+                *given += count as u64;
                 self.written += count as u64;
-                if count < self.source.len() {
+                if count < bytes.len() {
                     break;
                 }
             }
@@ -126,8 +137,10 @@ impl Pair {
     pub fn read(&mut self) -> u64 {
         while self.reader.accept().is_some() {}
         let mut count = 0;
-        for &stream in &self.streams {
+        for (&stream, taken) in self.streams.iter().zip(&mut self.taken) {
             while let Ok(Read::Bytes(some)) = self.reader.read(stream, &mut self.out) {
+                pattern::check(*taken, &self.out[..some]);
+                *taken += some as u64;
                 count += some as u64;
             }
         }

@@ -1,6 +1,7 @@
 //! The parts by themselves: frames read, bytes put in order, bytes sent and acknowledged, sets of numbers.
 
 use crate::clock::time;
+use crate::pattern::{self, Source};
 use crate::proved::qs_ranges::RangeSet;
 use crate::proved::qs_recv::{Assembly, Read, RecvHalf, RingAssembly};
 use crate::proved::qs_send::{Chunk, SendHalf};
@@ -72,15 +73,18 @@ fn id(value: u64) -> wire::StreamId {
     wire::StreamId::new(value).expect("it is below 2^62")
 }
 
-/// Reads the frames of the payload, one after the other.
-pub fn read_once(payload: &[u8]) {
-    let mut rest = Frames::new(black_box(payload));
+/// Reads the frames of the payload, one after the other, and answers how many.
+pub fn read_once(payload: &[u8]) -> u64 {
+    let (mut rest, mut count) = (Frames::new(black_box(payload)), 0);
     while let Ok(Some(placed)) = rest.next() {
         black_box(&placed);
+        count += 1;
     }
+    count
 }
 
 fn read_frames(payload: &[u8], frames: u64, times: u64) -> Run {
+    assert_eq!(read_once(payload), frames);
     let time = time(|| {
         for _ in 0..times {
             read_once(payload);
@@ -127,24 +131,28 @@ fn put(half: &mut RecvHalf<RingAssembly>, offset: u64, bytes: &[u8]) {
         .expect("there is memory");
 }
 
-fn read_all(half: &mut RecvHalf<RingAssembly>, out: &mut [u8]) {
+// Reads what came: the bytes from this offset on, so many.
+fn read_all(half: &mut RecvHalf<RingAssembly>, out: &mut [u8], from: u64, len: usize) {
+    let mut read = 0;
     while let Read::Bytes(count) = half.read(out) {
         black_box(&out[..count]);
+        pattern::check(from + read as u64, &out[..count]);
+        read += count;
     }
+    assert_eq!(read, len);
     half.raise();
 }
 
 /// Takes the next chunk of a stream and reads it, at each call.
 pub fn half_takes_in_order() -> impl FnMut() {
-    let data = vec![9; 64 << 10];
+    let source = Source::new(CHUNK);
     let mut out = vec![0; 64 << 10];
     let mut half = RecvHalf::new(Global, 1 << 20);
     let mut next = 0;
     move || {
-        let from = next as usize % 50 * CHUNK;
-        put(&mut half, next * CHUNK as u64, &data[from..from + CHUNK]);
-        read_all(&mut half, &mut out);
-        next += 1;
+        put(&mut half, next, source.at(next));
+        read_all(&mut half, &mut out, next, CHUNK);
+        next += CHUNK as u64;
     }
 }
 
@@ -160,16 +168,17 @@ fn half_in_order() -> Run {
 }
 
 fn half_in_reverse() -> Run {
-    let data = vec![9; 64 << 10];
+    let source = Source::new(CHUNK);
     let mut out = vec![0; 64 << 10];
     let mut half = RecvHalf::new(Global, 1 << 17);
     let rounds = 20_000;
     let time = time(|| {
         for round in 0..rounds {
             for k in (0..54).rev() {
-                put(&mut half, (round * 54 + k) * CHUNK as u64, &data[..CHUNK]);
+                let offset = (round * 54 + k) * CHUNK as u64;
+                put(&mut half, offset, source.at(offset));
             }
-            read_all(&mut half, &mut out);
+            read_all(&mut half, &mut out, round * 54 * CHUNK as u64, 54 * CHUNK);
         }
     });
     Run {
@@ -180,20 +189,17 @@ fn half_in_reverse() -> Run {
 
 // 64 KiB that come byte by byte, in this order.
 fn half_by_bytes(order: impl Fn() -> Vec<u64>) -> Run {
-    let data = vec![9; 64 << 10];
+    let source = Source::new(1);
     let mut out = vec![0; 64 << 10];
     let mut half = RecvHalf::new(Global, 1 << 17);
     let (rounds, order) = (10, order());
     let time = time(|| {
         for round in 0..rounds {
             for &k in &order {
-                put(
-                    &mut half,
-                    (round << 16) + k,
-                    &data[k as usize..k as usize + 1],
-                );
+                let offset = (round << 16) + k;
+                put(&mut half, offset, source.at(offset));
             }
-            read_all(&mut half, &mut out);
+            read_all(&mut half, &mut out, round << 16, 1 << 16);
         }
     });
     Run {
@@ -203,17 +209,19 @@ fn half_by_bytes(order: impl Fn() -> Vec<u64>) -> Run {
 }
 
 fn ring_even_then_odd() -> Run {
-    let data = vec![9; 64 << 10];
+    let source = Source::new(1);
     let mut out = vec![0; 64 << 10];
     let mut ring = RingAssembly::new(Global, 1 << 17);
     let rounds = 10;
     let time = time(|| {
         for round in 0..rounds {
             for k in even_then_odd() {
-                ring.put((round << 16) + k, &data[k as usize..k as usize + 1])
+                let offset = (round << 16) + k;
+                ring.put(offset, source.at(offset))
                     .expect("there is memory");
             }
-            black_box(ring.take(&mut out));
+            assert_eq!(black_box(ring.take(&mut out)), 1 << 16);
+            pattern::check(round << 16, &out);
         }
     });
     Run {
@@ -231,7 +239,8 @@ fn even_then_odd() -> Vec<u64> {
 
 // Bytes are written, sent chunk by chunk, and acknowledged, with so many chunks under way.
 fn send(flight: u64) -> Run {
-    let source = vec![3; CHUNK];
+    let source = Source::new(CHUNK);
+    let mut written = 0;
     let mut packet = vec![0; 1500];
     let mut half = SendHalf::new(Global, id(2), (1 << 62) - 1, 1 << 21);
     let mut sent: Vec<Chunk> = Vec::new();
@@ -239,11 +248,13 @@ fn send(flight: u64) -> Run {
     let time = time(|| {
         for _ in 0..rounds {
             for _ in 0..flight {
-                half.write(black_box(&source)).expect("there is memory");
+                let bytes = black_box(source.at(written));
+                written += half.write(bytes).expect("there is memory") as u64;
             }
             while let Some(chunk) = half.next_chunk(CHUNK + 12, u64::MAX) {
                 packet[..chunk.len].copy_from_slice(half.bytes(chunk));
                 black_box(&packet);
+                pattern::check(chunk.offset, &packet[..chunk.len]);
                 half.sent(chunk);
                 sent.push(chunk);
             }
@@ -258,7 +269,8 @@ fn send(flight: u64) -> Run {
     }
 }
 
-fn insert(numbers: impl Iterator<Item = u64>) -> Run {
+// So many numbers go in, and stand as so many runs.
+fn insert(numbers: impl Iterator<Item = u64>, runs: usize) -> Run {
     let mut set = RangeSet::new(Global);
     let mut units = 0;
     let time = time(|| {
@@ -267,7 +279,9 @@ fn insert(numbers: impl Iterator<Item = u64>) -> Run {
             units += 1;
         }
     });
-    black_box(&set);
+    assert_eq!(set.count(), runs);
+    let members = set.pairs().iter().map(|&(lo, hi)| hi - lo);
+    assert_eq!(members.sum::<u64>(), units);
     Run { time, units }
 }
 
@@ -286,22 +300,29 @@ fn hostile() -> Run {
                 .expect("within the credit");
         }
     });
+    let mut out = vec![0; 1 << 16];
+    let read = end.read(hostile_stream(), &mut out);
+    assert_eq!(read, Ok(gotsavena::Read::Bytes(1 << 16)));
+    pattern::check(0, &out);
     Run {
         time,
         units: packets.len() as u64,
     }
 }
 
+fn hostile_stream() -> gotsavena::StreamId {
+    gotsavena::StreamId::from_parts(Role::Client, Dir::Uni, 0).expect("it is below 2^62")
+}
+
 fn hostile_packets() -> Vec<Vec<u8>> {
-    let stream =
-        gotsavena::StreamId::from_parts(Role::Client, Dir::Uni, 0).expect("it is below 2^62");
+    let (stream, source) = (hostile_stream(), Source::new(1));
     let mut packets = vec![Vec::new()];
     for offset in even_then_odd() {
         let frame = gotsavena::Frame::Stream {
             stream,
             offset,
             fin: false,
-            bytes: &[offset as u8],
+            bytes: source.at(offset),
         };
         let mut text = [0; 16];
         let len = gotsavena::put(&frame, &mut text).expect("it fits");
@@ -333,12 +354,12 @@ pub fn rows() -> Vec<Row> {
         row("send-1-under-way", "chunk", || send(1)),
         row("send-54-under-way", "chunk", || send(54)),
         row("send-870-under-way", "chunk", || send(870)),
-        row("set-in-order", "number", || insert(0..1_000_000)),
+        row("set-in-order", "number", || insert(0..1_000_000, 1)),
         row("set-every-other-up", "number", || {
-            insert((0..1_000_000).map(|n| 2 * n))
+            insert((0..1_000_000).map(|n| 2 * n), 1_000_000)
         }),
         row("set-every-other-down-65536", "number", || {
-            insert((0..65_536).rev().map(|n| 2 * n))
+            insert((0..65_536).rev().map(|n| 2 * n), 65_536)
         }),
         row("hostile-bytes-64k", "packet", hostile),
     ]

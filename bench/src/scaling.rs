@@ -2,10 +2,12 @@
 
 use crate::clock::time;
 use crate::ends::{Load, PLAIN, Pair};
+use crate::pattern::{self, Source};
 use crate::whole::transfer;
 use crate::{Row, Run};
 use gotsavena::{Dir, Endpoint, Read, Role, Settings};
-use std::time::Duration;
+use std::sync::Barrier;
+use std::time::{Duration, Instant};
 
 fn open(streams: u64) -> Run {
     transfer(Load {
@@ -88,6 +90,44 @@ fn raised(streams: u64) -> Run {
     }
 }
 
+// So many packets of 128 bytes are under way before any of them comes and is acknowledged.
+fn outstanding(packets: usize) -> Run {
+    transfer(Load {
+        active: 16,
+        open: 16,
+        write: 1200,
+        burst: packets,
+        total: 64 << 20,
+        room: 128,
+        fill: packets * 128 + (256 << 10),
+        ..PLAIN
+    })
+}
+
+// So many threads, each with two ends of its own: the time of the clock on the wall for a packet of any of them.
+fn threads(count: usize) -> Run {
+    let load = Load {
+        total: 256 << 20,
+        ..PLAIN
+    };
+    let start = Barrier::new(count + 1);
+    std::thread::scope(|scope| {
+        let run = || {
+            start.wait();
+            transfer(load).units
+        };
+        let runs: Vec<_> = (0..count).map(|_| scope.spawn(run)).collect();
+        start.wait();
+        let began = Instant::now();
+        let made = runs.into_iter().map(|run| run.join().expect("it ends"));
+        let units = made.sum();
+        Run {
+            time: began.elapsed(),
+            units,
+        }
+    })
+}
+
 /// So many packets are under way; then an ACK of 32 ranges comes again and again, which names nothing new.
 fn same_ack(packets: u64) -> Run {
     let mut pair = Pair::new(Load {
@@ -138,9 +178,10 @@ fn request_after(ended: u64) -> Run {
     let mut server = Endpoint::new(Role::Server, settings, settings.limits())
         .expect("the settings are in range");
     let mut spent = Duration::ZERO;
+    let answer = Source::new(1024);
     let timed = 1_000;
     for number in 0..ended + timed {
-        let took = time(|| request(&mut client, &mut server));
+        let took = time(|| request(&mut client, &mut server, answer.at(0)));
         if number >= ended {
             spent += took;
         }
@@ -151,7 +192,7 @@ fn request_after(ended: u64) -> Run {
     }
 }
 
-fn request(client: &mut Endpoint, server: &mut Endpoint) {
+fn request(client: &mut Endpoint, server: &mut Endpoint, answer: &[u8]) {
     let stream = client
         .open(Dir::Bidi)
         .expect("the count grew as streams ended");
@@ -160,11 +201,15 @@ fn request(client: &mut Endpoint, server: &mut Endpoint) {
     hand_on(client, server);
     let mut bytes = [0; 2048];
     let asked = server.accept().expect("the request came");
-    while let Ok(Read::Bytes(_)) = server.read(asked, &mut bytes) {}
-    server.write(asked, &bytes[..1024]).expect("it is open");
+    assert_eq!(server.read(asked, &mut bytes), Ok(Read::Bytes(1)));
+    assert_eq!(server.read(asked, &mut bytes), Ok(Read::End));
+    let count = server.write(asked, answer).expect("it is open");
+    assert_eq!(count, answer.len());
     server.finish(asked).expect("it is open");
     hand_on(server, client);
-    while let Ok(Read::Bytes(_)) = client.read(stream, &mut bytes) {}
+    assert_eq!(client.read(stream, &mut bytes), Ok(Read::Bytes(count)));
+    pattern::check(0, &bytes[..count]);
+    assert_eq!(client.read(stream, &mut bytes), Ok(Read::End));
     hand_on(client, server);
 }
 
@@ -197,6 +242,14 @@ pub fn rows() -> Vec<Row> {
         row("raised-64", "packet", || raised(64)),
         row("raised-1000", "packet", || raised(1000)),
         row("raised-4096", "packet", || raised(4096)),
+        row("outstanding-10", "packet", || outstanding(10)),
+        row("outstanding-100", "packet", || outstanding(100)),
+        row("outstanding-1000", "packet", || outstanding(1_000)),
+        row("outstanding-10000", "packet", || outstanding(10_000)),
+        row("outstanding-100000", "packet", || outstanding(100_000)),
+        row("threads-1", "packet", || threads(1)),
+        row("threads-2", "packet", || threads(2)),
+        row("threads-4", "packet", || threads(4)),
         row("same-ack-32-ranges-of-10000", "ACK", || same_ack(10_000)),
         row("request", "request", || request_after(0)),
         row("request-after-60000", "request", || request_after(60_000)),

@@ -1,0 +1,135 @@
+#include "ends.h"
+
+#include <stdlib.h>
+
+/* There are at most 4,096 streams of a direction: half of more than that are bidirectional. */
+enum { MOST_OF_A_DIRECTION = 4096, OUT = 1 << 16 };
+
+struct load plain(void) {
+  struct load load = {1, 1, 1 << 20, 16 << 10, 10, 0, 128 << 20, 1200, 256 << 10};
+  return load;
+}
+
+gv_settings settings_of(uint64_t conn_window, uint64_t window, size_t send_buffer, uint64_t streams) {
+  gv_settings settings = {conn_window, window, window, window, send_buffer, streams, streams, 1 << 16, 1 << 16};
+  return settings;
+}
+
+gv_limits limits_of(const gv_settings *settings) {
+  gv_limits limits = {settings->conn_window, settings->bidi_local, settings->bidi_remote,
+                      settings->uni,         settings->grant_bidi, settings->grant_uni};
+  return limits;
+}
+
+gv_endpoint *end_of(uint32_t role, const gv_settings *settings) {
+  gv_limits limits = limits_of(settings);
+  gv_endpoint *end = NULL;
+  want(gv_endpoint_new(role, settings, &limits, &end) == GV_OK, "an end can't be made");
+  return end;
+}
+
+struct pair *pair_new(struct load load) {
+  struct pair *pair = room_of(1, sizeof *pair);
+  gv_settings settings = settings_of(16 << 20, load.window, (size_t)load.window, MOST_OF_A_DIRECTION);
+  pair->load = load;
+  pair->sender = end_of(GV_CLIENT, &settings);
+  pair->reader = end_of(GV_SERVER, &settings);
+  pair->streams = room_of(load.active, sizeof *pair->streams);
+  pair->given = room_of(load.active, sizeof *pair->given);
+  pair->taken = room_of(load.active, sizeof *pair->taken);
+  pair->packets = room_of(load.burst, sizeof *pair->packets);
+  pair->payloads = room_of(load.burst, load.room);
+  pair->lost = room_of(load.burst, sizeof *pair->lost);
+  pair->out = room_of(OUT, 1);
+  for (size_t i = 0; i < load.burst; ++i) pair->packets[i].bytes = pair->payloads + i * load.room;
+  for (size_t i = 0; i < load.open; ++i) {
+    uint64_t stream = 0;
+    want(gv_open(pair->sender, i < MOST_OF_A_DIRECTION ? GV_UNI : GV_BIDI, &stream) == GV_OK, "a stream can't be opened");
+    if (i < load.active) pair->streams[i] = stream;
+  }
+  return pair;
+}
+
+void pair_free(struct pair *pair) {
+  gv_endpoint_free(pair->sender);
+  gv_endpoint_free(pair->reader);
+  free(pair->streams);
+  free(pair->given);
+  free(pair->taken);
+  free(pair->packets);
+  free(pair->payloads);
+  free(pair->lost);
+  free(pair->out);
+  free(pair);
+}
+
+/* Fills the sending buffers of the active streams, up to what the load says. */
+void pair_write(struct pair *pair) {
+  size_t each = pair->load.write, times = pair->load.fill / each / pair->load.active + 1;
+  for (size_t i = 0; i < pair->load.active; ++i) {
+    for (size_t k = 0; k < times; ++k) {
+      size_t count = 0;
+      gv_write(pair->sender, pair->streams[i], source_at(pair->given[i]), each, &count);
+      pair->given[i] += count;
+      pair->written += count;
+      if (count < each) break;
+    }
+  }
+}
+
+void receive(gv_endpoint *end, uint64_t number, const uint8_t *payload, size_t len) {
+  gv_closing_info closing;
+  want(gv_receive(end, number, payload, len, &closing) == GV_OK, "an honest packet is refused");
+}
+
+/* Makes a burst of packets, loses some, and delivers the others. */
+void pair_carry(struct pair *pair) {
+  size_t count = 0;
+  while (count < pair->load.burst) {
+    struct packet *packet = &pair->packets[count];
+    if (gv_make_packet(pair->sender, packet->bytes, pair->load.room, &packet->made) != GV_OK) break;
+    ++count;
+  }
+  for (size_t i = 0; i < count; ++i) {
+    const struct packet *packet = &pair->packets[i];
+    ++pair->made;
+    if (pair->load.lose > 0 && pair->made % pair->load.lose == 0) {
+      pair->lost[pair->lost_count++] = packet->made.number;
+    } else {
+      receive(pair->reader, packet->made.number, packet->bytes, packet->made.len);
+    }
+  }
+}
+
+/* Reads what came on each active stream, and answers how many bytes. */
+uint64_t pair_read(struct pair *pair) {
+  uint64_t stream = 0, count = 0;
+  while (gv_accept(pair->reader, &stream) == GV_OK) {
+  }
+  for (size_t i = 0; i < pair->load.active; ++i) {
+    uint64_t some = 0;
+    while (gv_read(pair->reader, pair->streams[i], pair->out, OUT, &some) == GV_OK) {
+      check(pair->taken[i], pair->out, (size_t)some);
+      pair->taken[i] += some;
+      count += some;
+    }
+  }
+  return count;
+}
+
+/* The reader's next packet comes to the sender, and then the losses are declared. */
+void pair_answer(struct pair *pair) {
+  gv_made made;
+  if (gv_make_packet(pair->reader, pair->payloads, pair->load.room, &made) == GV_OK) {
+    receive(pair->sender, made.number, pair->payloads, made.len);
+  }
+  /* An ACK may have come first where the packet was made again. */
+  for (size_t i = 0; i < pair->lost_count; ++i) gv_declare_lost(pair->sender, pair->lost[i]);
+  pair->lost_count = 0;
+}
+
+void hand_on(gv_endpoint *from, gv_endpoint *to) {
+  uint8_t payload[1200];
+  gv_made made;
+  while (gv_make_packet(from, payload, sizeof payload, &made) == GV_OK) receive(to, made.number, payload, made.len);
+}

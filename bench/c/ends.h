@@ -1,0 +1,63 @@
+/* Two ends in one process, and what the rows do with them. */
+#ifndef BENCH_ENDS_H
+#define BENCH_ENDS_H
+
+#include <gotsavena.h>
+
+#include "rows.h"
+
+/* What a row of the whole loop asks for. */
+struct load {
+  size_t active;   /* how many streams carry bytes */
+  size_t open;     /* how many are open: those above the active ones carry nothing */
+  uint64_t window; /* of each stream, in bytes */
+  size_t write;    /* how many bytes a call of gv_write is given */
+  size_t burst;    /* how many packets are made before the other end acknowledges */
+  uint64_t lose;   /* each so manyth packet is lost; none where it is 0 */
+  uint64_t total;  /* how many bytes are read in all */
+  size_t room;     /* of a packet, in bytes */
+  size_t fill;     /* how many bytes are written in all before each burst, about */
+};
+
+struct load plain(void);
+
+/* A packet's payload. */
+struct packet {
+  gv_made made;
+  uint8_t *bytes;
+};
+
+struct pair {
+  struct load load;
+  gv_endpoint *sender;
+  gv_endpoint *reader;
+  uint64_t *streams; /* the active ones */
+  uint64_t *given;   /* how many bytes each was given */
+  uint64_t *taken;   /* how many were read of it */
+  struct packet *packets;
+  uint8_t *payloads;
+  uint8_t *out; /* where bytes are read to */
+  uint64_t *lost;
+  size_t lost_count;
+  uint64_t made;
+  uint64_t written;
+};
+
+gv_settings settings_of(uint64_t conn_window, uint64_t window, size_t send_buffer, uint64_t streams);
+gv_limits limits_of(const gv_settings *settings);
+gv_endpoint *end_of(uint32_t role, const gv_settings *settings);
+
+struct pair *pair_new(struct load load);
+void pair_free(struct pair *pair);
+void pair_write(struct pair *pair);
+void pair_carry(struct pair *pair);
+uint64_t pair_read(struct pair *pair);
+void pair_answer(struct pair *pair);
+
+/* Takes a payload in, which has to be honest. */
+void receive(gv_endpoint *end, uint64_t number, const uint8_t *payload, size_t len);
+
+/* All that an end has for packets comes to the other one. */
+void hand_on(gv_endpoint *from, gv_endpoint *to);
+
+#endif

@@ -1,0 +1,322 @@
+// The whole loop: written, put in packets, read from them, read by the owner, acknowledged, with the credit told back. And what it
+// costs as there are more streams, packets under way and ends.
+use std::sync::Barrier;
+use std::time::{Duration, Instant};
+
+use bytes::Bytes;
+
+use super::super::streams::{RecvStream, SendStream, Streams};
+use super::ends::{End, Load, PLAIN, Pair};
+use super::parts::even_then_odd;
+use super::{CHUNK, PERIOD, Run, check, pattern, time};
+use crate::frame::StreamMeta;
+use crate::{Dir, Side, StreamId};
+
+pub fn transfer(load: Load) -> Run {
+    let mut pair = Pair::new(load);
+    let mut read = 0;
+    let time = time(|| {
+        while read < load.total {
+            pair.write();
+            pair.carry();
+            read += pair.read();
+            pair.answer();
+        }
+    });
+    Run {
+        time,
+        units: pair.made,
+    }
+}
+
+pub fn open(streams: u32) -> Run {
+    transfer(Load {
+        open: streams,
+        total: 32 << 20,
+        ..PLAIN
+    })
+}
+
+pub fn active(streams: u32) -> Run {
+    transfer(Load {
+        active: streams,
+        open: streams,
+        window: 16 << 10,
+        write: 1200,
+        total: 32 << 20,
+        ..PLAIN
+    })
+}
+
+pub fn carried(streams: u32) -> Run {
+    let load = Load {
+        active: streams,
+        open: streams,
+        window: 16 << 10,
+        write: 1200,
+        total: 32 << 20,
+        ..PLAIN
+    };
+    let mut pair = Pair::new(load);
+    let (mut read, mut spent) = (0, Duration::ZERO);
+    while read < load.total {
+        pair.write();
+        spent += time(|| pair.carry());
+        read += pair.read();
+        spent += time(|| pair.answer());
+    }
+    Run {
+        time: spent,
+        units: pair.made,
+    }
+}
+
+pub fn raised(streams: u32) -> Run {
+    let mut pair = Pair::new(Load {
+        active: streams,
+        open: streams,
+        window: 16 << 10,
+        write: 1200,
+        ..PLAIN
+    });
+    let mut read = 0;
+    while read < u64::from(streams) * (12 << 10) {
+        pair.write();
+        pair.carry();
+        read += pair.read();
+        pair.answer();
+    }
+    while read < pair.written {
+        pair.carry();
+        read += pair.read();
+        pair.answer();
+    }
+    pair.ids.truncate(1);
+    let (before, until) = (pair.made, read + (16 << 20));
+    let time = time(|| {
+        while read < until {
+            pair.write();
+            pair.carry();
+            read += pair.read();
+            pair.answer();
+        }
+    });
+    Run {
+        time,
+        units: pair.made - before,
+    }
+}
+
+pub fn outstanding(packets: usize) -> Run {
+    transfer(Load {
+        active: 16,
+        open: 16,
+        write: 1200,
+        burst: packets,
+        total: 64 << 20,
+        room: 128,
+        fill: packets * 128 + (256 << 10),
+        ..PLAIN
+    })
+}
+
+// The time of the clock on the wall for a packet of any of the threads.
+pub fn threads(count: usize) -> Run {
+    let load = Load {
+        total: 256 << 20,
+        ..PLAIN
+    };
+    let start = Barrier::new(count + 1);
+    std::thread::scope(|scope| {
+        let run = || {
+            start.wait();
+            transfer(load).units
+        };
+        let runs: Vec<_> = (0..count).map(|_| scope.spawn(run)).collect();
+        start.wait();
+        let began = Instant::now();
+        let units = runs.into_iter().map(|run| run.join().unwrap()).sum();
+        Run {
+            time: began.elapsed(),
+            units,
+        }
+    })
+}
+
+// What glibc tells of the heap: ten numbers, of which the fifth is what is mapped for large pieces, and the eighth what is given out.
+#[repr(C)]
+struct Mallinfo2 {
+    told: [usize; 10],
+}
+
+extern "C" {
+    fn mallinfo2() -> Mallinfo2;
+}
+
+fn held() -> usize {
+    // SAFETY: the struct has the layout of glibc's since 2.33.
+    let told = unsafe { mallinfo2() }.told;
+    told[4] + told[7]
+}
+
+// Ends that grant 100 streams of each direction, with windows of 1 MiB and of 64 KiB.
+pub fn idle(count: usize) -> f64 {
+    let mut ends: Vec<Box<End>> = Vec::with_capacity(count);
+    let before = held();
+    for _ in 0..count {
+        let end = End::with(Side::Server, 100, 1 << 16, 1 << 20, 1 << 16);
+        ends.push(Box::new(end));
+    }
+    let taken = held() - before;
+    assert!(ends.iter().all(|end| end.next == 0));
+    taken as f64 / count as f64
+}
+
+// Requests of one byte and answers of 1 KiB, one stream after the other: what the last thousand cost of so many.
+pub fn request_after(ended: u64) -> Run {
+    let mut client = End::with(Side::Client, 100, 1 << 20, 1 << 20, 4096);
+    let mut server = End::with(Side::Server, 100, 1 << 20, 1 << 20, 4096);
+    let answer = pattern(1024);
+    let (mut spent, timed) = (Duration::ZERO, 1_000);
+    for number in 0..ended + timed {
+        let took = time(|| request(&mut client, &mut server, &answer[..1024]));
+        if number >= ended {
+            spent += took;
+        }
+    }
+    Run {
+        time: spent,
+        units: timed,
+    }
+}
+
+fn request(client: &mut End, server: &mut End, answer: &[u8]) {
+    let mut streams = Streams {
+        state: &mut client.streams,
+        conn_state: &client.state,
+    };
+    let id = streams.open(Dir::Bi).unwrap();
+    write_and_finish(client, id, &answer[..1]);
+    hand_on(client, server);
+    while server.streams.poll().is_some() {}
+    let mut streams = Streams {
+        state: &mut server.streams,
+        conn_state: &server.state,
+    };
+    assert_eq!(streams.accept(Dir::Bi), Some(id));
+    read_to_end(server, id, 1);
+    write_and_finish(server, id, answer);
+    hand_on(server, client);
+    read_to_end(client, id, 1024);
+    hand_on(client, server);
+    while client.streams.poll().is_some() {}
+}
+
+fn write_and_finish(end: &mut End, id: StreamId, bytes: &[u8]) {
+    let mut stream = SendStream {
+        id,
+        state: &mut end.streams,
+        pending: &mut end.pending,
+        conn_state: &end.state,
+    };
+    assert_eq!(stream.write(bytes), Ok(bytes.len()));
+    stream.finish().unwrap();
+}
+
+// Copies the bytes out, as the others do.
+fn read_to_end(end: &mut End, id: StreamId, len: usize) {
+    let (mut out, mut count) = ([0; 2048], 0);
+    let mut stream = RecvStream {
+        id,
+        state: &mut end.streams,
+        pending: &mut end.pending,
+    };
+    let mut chunks = stream.read(true).unwrap();
+    while let Some(chunk) = chunks.next(2048).unwrap() {
+        out[count..count + chunk.bytes.len()].copy_from_slice(&chunk.bytes);
+        count += chunk.bytes.len();
+    }
+    let _ = chunks.finalize();
+    assert_eq!(count, len);
+    check(0, &out[..len]);
+}
+
+// All that an end has for packets comes to the other one.
+fn hand_on(from: &mut End, to: &mut End) {
+    while let Some((number, payload)) = from.make(1200) {
+        to.receive(number, Bytes::from(payload));
+    }
+}
+
+pub fn same_ack(packets: u64) -> Run {
+    let mut pair = Pair::new(Load {
+        active: 16,
+        open: 16,
+        ..PLAIN
+    });
+    for number in 0..packets {
+        pair.write();
+        let (made, payload) = pair.sender.make(1200).unwrap();
+        if number + 9_600 < packets || number % 300 != 0 {
+            pair.reader.receive(made, Bytes::from(payload));
+        }
+        pair.read();
+    }
+    let (_, ack) = pair.reader.make(1200).unwrap();
+    let ack = Bytes::from(ack);
+    pair.sender.receive(0, ack.clone());
+    let times = 2_000;
+    let time = time(|| {
+        for number in 1..=times {
+            pair.sender.receive(number, ack.clone());
+        }
+    });
+    Run { time, units: times }
+}
+
+pub fn hostile() -> Run {
+    let load = Load {
+        window: 1 << 16,
+        ..PLAIN
+    };
+    let mut packets = vec![Vec::new()];
+    let id = StreamId::new(Side::Client, Dir::Uni, 0);
+    for offset in even_then_odd() {
+        let last = packets.last_mut().unwrap();
+        if last.len() + 9 > CHUNK {
+            packets.push(Vec::new());
+        }
+        let last = packets.last_mut().unwrap();
+        StreamMeta {
+            id,
+            offsets: offset..offset + 1,
+            fin: false,
+        }
+        .encode(true, last);
+        last.push((offset % PERIOD) as u8);
+    }
+    let packets: Vec<Bytes> = packets.into_iter().map(Bytes::from).collect();
+    let mut end = End::new(Side::Server, &load);
+    let time = time(|| {
+        for (number, payload) in packets.iter().enumerate() {
+            end.receive(number as u64, payload.clone());
+        }
+    });
+    let mut stream = RecvStream {
+        id,
+        state: &mut end.streams,
+        pending: &mut end.pending,
+    };
+    let mut chunks = stream.read(true).unwrap();
+    let mut read = 0;
+    while let Ok(Some(chunk)) = chunks.next(1 << 16) {
+        check(read, &chunk.bytes);
+        read += chunk.bytes.len() as u64;
+    }
+    let _ = chunks.finalize();
+    assert_eq!(read, 1 << 16);
+    Run {
+        time,
+        units: packets.len() as u64,
+    }
+}

@@ -1,0 +1,303 @@
+//! How much memory ends take, by a measure's name: `gotsavena-memory MEASURE` prints it, `gotsavena-memory` alone lists the measures,
+//! each with its unit. Each byte that comes out is compared. `bench/memory` runs them all.
+
+mod heap;
+#[path = "../pattern.rs"]
+mod pattern;
+mod refused;
+
+use gotsavena::{Dir, Endpoint, Frame, Read, Received, Role, Settings, StreamId};
+use heap::live;
+use pattern::Source;
+use std::process::ExitCode;
+use std::time::Instant;
+
+#[global_allocator]
+static ALLOCATOR: heap::Watched = heap::Watched;
+
+const KIB: u64 = 1 << 10;
+const MIB: u64 = 1 << 20;
+
+/// Two ends, and where what one hands on is kept meanwhile.
+struct Two {
+    client: Endpoint,
+    server: Endpoint,
+}
+
+fn end_of(role: Role, settings: Settings) -> Endpoint {
+    Endpoint::new(role, settings, settings.limits()).expect("the settings are in range")
+}
+
+impl Two {
+    fn new(settings: Settings) -> Two {
+        Two {
+            client: end_of(Role::Client, settings),
+            server: end_of(Role::Server, settings),
+        }
+    }
+}
+
+/// All that an end has for packets comes to the other one.
+fn hand_on(from: &mut Endpoint, to: &mut Endpoint) {
+    let mut payload = [0; 1200];
+    while let Ok(Some(made)) = from.make_packet(&mut payload) {
+        to.receive(made.number, &payload[..made.len])
+            .expect("an honest packet");
+    }
+}
+
+fn stream_of(dir: Dir, index: u64) -> StreamId {
+    StreamId::from_parts(Role::Client, dir, index).expect("it is below 2^62")
+}
+
+// What the kernel tells of this process, in bytes.
+fn told(field: &str) -> f64 {
+    let status = std::fs::read_to_string("/proc/self/status").expect("Linux tells it");
+    let line = status.lines().find(|line| line.starts_with(field));
+    let words = line.expect("the field is there").split_whitespace();
+    let kib: f64 = words
+        .rev()
+        .nth(1)
+        .expect("a number")
+        .parse()
+        .expect("a number");
+    kib * 1024.0
+}
+
+fn resident() -> f64 {
+    told("VmRSS:")
+}
+
+// So many streams get one byte each, at this offset; what the process holds then, in MiB.
+fn far_bytes(streams: u64, offset: u64) -> f64 {
+    let settings = Settings::default()
+        .conn_window(16 * MIB)
+        .stream_windows(MIB)
+        .streams(4096, 4096);
+    let (mut end, source) = (end_of(Role::Server, settings), Source::new(1));
+    let mut payload = [0; 64];
+    for index in 0..streams {
+        let frame = Frame::Stream {
+            stream: stream_of(Dir::Uni, index),
+            offset,
+            fin: false,
+            bytes: source.at(offset),
+        };
+        let len = gotsavena::put(&frame, &mut payload).expect("it fits");
+        end.receive(index, &payload[..len])
+            .expect("within the credit");
+    }
+    assert_eq!(end.spent(), streams * (offset + 1));
+    assert_eq!(end.stored(), streams);
+    resident() / MIB as f64
+}
+
+// Reads so many bytes and then the end.
+fn read_to_end(end: &mut Endpoint, stream: StreamId, len: usize) {
+    let mut bytes = [0; 2048];
+    assert_eq!(end.read(stream, &mut bytes), Ok(Read::Bytes(len)));
+    pattern::check(0, &bytes[..len]);
+    assert_eq!(end.read(stream, &mut bytes), Ok(Read::End));
+}
+
+// Opens a stream, and sends so many bytes there and so many back, with the end behind.
+fn ask(two: &mut Two, there: &Source, back: &Source) {
+    let stream = two.client.open(Dir::Bidi).expect("others ended");
+    for (source, forwards) in [(there, true), (back, false)] {
+        let (from, to) = if forwards {
+            (&mut two.client, &mut two.server)
+        } else {
+            (&mut two.server, &mut two.client)
+        };
+        assert_eq!(from.write(stream, source.at(0)), Ok(source.each()));
+        from.finish(stream).expect("it is open");
+        hand_on(from, to);
+        assert_eq!(to.accept(), forwards.then_some(stream));
+        read_to_end(to, stream, source.each());
+    }
+    hand_on(&mut two.client, &mut two.server);
+    hand_on(&mut two.server, &mut two.client);
+}
+
+fn asking(window: u64) -> Two {
+    let settings = Settings::default()
+        .conn_window(MIB)
+        .stream_windows(window)
+        .send_buffer(window as usize)
+        .streams(100, 1 << 16);
+    Two::new(settings)
+}
+
+/// Which of two ends: the one that opens streams, or the one where they are opened.
+enum Side {
+    Opener,
+    Other,
+}
+
+// What 65,536 streams that were opened, used for 1 KiB each way and ended leave at an end, in bytes of the heap each.
+fn ended(side: Side) -> f64 {
+    let (streams, source) = (1 << 16, Source::new(1024));
+    let empty = live();
+    let mut two = asking(4 * KIB);
+    let mut before = live() - empty;
+    for _ in 0..streams {
+        ask(&mut two, &source, &source);
+    }
+    let all = live() - empty;
+    let Two { client, server } = two;
+    let (one, _other) = match side {
+        Side::Opener => (client, server),
+        Side::Other => (server, client),
+    };
+    // What goes as the one is dropped is its own: both were as large before.
+    let with = live();
+    drop(one);
+    before /= 2;
+    assert!(all > before);
+    ((with - live()) - before) as f64 / streams as f64
+}
+
+// The most that a server's process ever held over so many requests of one byte and answers of 1 KiB, in MB. The client is payloads alone.
+fn requests() -> f64 {
+    let (count, there, back) = (65_500, Source::new(1), Source::new(1024));
+    let settings = Settings::default()
+        .conn_window(MIB)
+        .stream_windows(MIB)
+        .send_buffer(MIB as usize)
+        .streams(100, 1 << 16);
+    let mut server = end_of(Role::Server, settings);
+    let (mut payload, mut answer, mut made_next) = ([0; 64], [0; 1200], 0);
+    for number in 0..count {
+        let stream = stream_of(Dir::Bidi, number);
+        let len = request(stream, &there, made_next, &mut payload);
+        assert_eq!(server.receive(number, &payload[..len]), Ok(Received::Done));
+        assert_eq!(server.accept(), Some(stream));
+        read_to_end(&mut server, stream, 1);
+        assert_eq!(server.write(stream, back.at(0)), Ok(back.each()));
+        server.finish(stream).expect("it is open");
+        while let Ok(Some(made)) = server.make_packet(&mut answer) {
+            made_next = made.number + 1;
+        }
+    }
+    told("VmHWM:") / 1e6
+}
+
+// A payload that acknowledges all that the server made, lets it send on, and asks on this stream.
+fn request(stream: StreamId, source: &Source, made_next: u64, payload: &mut [u8]) -> usize {
+    let mut len = 0;
+    if made_next > 0 {
+        let all = 0..made_next;
+        let runs = std::slice::from_ref(&all);
+        (_, len) = gotsavena::put_ack(runs, payload).expect("it fits");
+    }
+    let asked = Frame::Stream {
+        stream,
+        offset: 0,
+        fin: true,
+        bytes: source.at(0),
+    };
+    for frame in [Frame::MaxData { maximum: 1 << 40 }, asked] {
+        len += gotsavena::put(&frame, &mut payload[len..]).expect("it fits");
+    }
+    len
+}
+
+// The first byte of a stream with such a window: the nanoseconds that taking it in costs, the least of ten rounds of 400 streams.
+fn first_byte(window: u64) -> f64 {
+    let settings = Settings::default()
+        .conn_window(16 * MIB)
+        .stream_windows(window)
+        .streams(4096, 4096);
+    let (mut end, source) = (end_of(Role::Server, settings), Source::new(1));
+    let mut least = f64::INFINITY;
+    // Nothing is read.
+    pattern::check_no_more();
+    for round in 0..10 {
+        let payloads: Vec<_> = (0..400)
+            .map(|i| {
+                let frame = Frame::Stream {
+                    stream: stream_of(Dir::Uni, round * 400 + i),
+                    offset: 0,
+                    fin: false,
+                    bytes: source.at(0),
+                };
+                let mut payload = [0; 16];
+                let len = gotsavena::put(&frame, &mut payload).expect("it fits");
+                (round * 400 + i, payload, len)
+            })
+            .collect();
+        let began = Instant::now();
+        for (number, payload, len) in &payloads {
+            end.receive(*number, &payload[..*len])
+                .expect("within the credit");
+        }
+        least = least.min(began.elapsed().as_nanos() as f64 / 400.0);
+    }
+    assert_eq!(end.stored(), 4_000);
+    least
+}
+
+// 10,000 open streams that never carried a byte, 8,192 of its own and 1,808 of the peer's: the bytes of the heap that an end takes for each.
+fn idle() -> f64 {
+    let settings = Settings::default()
+        .conn_window(16 * MIB)
+        .stream_windows(MIB)
+        .streams(4096, 4096);
+    let mut end = end_of(Role::Server, settings);
+    let before = live();
+    for dir in [Dir::Uni, Dir::Bidi] {
+        for _ in 0..4096 {
+            end.open(dir).expect("the peer grants as many");
+        }
+    }
+    // A frame of the last one opens all below it too (RFC 9000, section 3.2).
+    let frame = Frame::StreamDataBlocked {
+        stream: stream_of(Dir::Bidi, 1807),
+        limit: 0,
+    };
+    let mut payload = [0; 16];
+    let len = gotsavena::put(&frame, &mut payload).expect("it fits");
+    end.receive(0, &payload[..len]).expect("an honest packet");
+    assert_eq!(std::iter::from_fn(|| end.accept()).count(), 1808);
+    (live() - before) as f64 / 10_000.0
+}
+
+struct Measure {
+    name: &'static str,
+    unit: &'static str,
+    run: fn() -> f64,
+}
+
+fn measures() -> Vec<Measure> {
+    let measure = |name, unit, run| Measure { name, unit, run };
+    vec![
+        measure("far-bytes-of-4096", "MiB", || far_bytes(4096, 4095)),
+        measure("far-bytes-of-16", "MiB", || far_bytes(16, MIB - 1)),
+        measure("ended-at-opener", "B", || ended(Side::Opener)),
+        measure("ended-at-other", "B", || ended(Side::Other)),
+        measure("requests-65500", "MB", requests),
+        measure("first-byte-of-1m", "ns", || first_byte(MIB)),
+        measure("first-byte-of-64k", "ns", || first_byte(64 * KIB)),
+        measure("idle-10000", "B", idle),
+        measure("refused", "runs", refused::runs),
+    ]
+}
+
+fn main() -> ExitCode {
+    let Some(name) = std::env::args().nth(1) else {
+        for measure in measures() {
+            println!("{} {}", measure.name, measure.unit);
+        }
+        return ExitCode::SUCCESS;
+    };
+    match measures().iter().find(|measure| measure.name == name) {
+        Some(measure) => {
+            println!("{:.1}", (measure.run)());
+            ExitCode::SUCCESS
+        }
+        None => {
+            eprintln!("gotsavena-memory: there is no measure {name}");
+            ExitCode::from(2)
+        }
+    }
+}

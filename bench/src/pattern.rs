@@ -1,0 +1,61 @@
+//! What the rows move: the byte at an offset of a stream is the offset's rest by 251. A row's first run, which warms up, compares each
+//! byte that came out; the second one is timed, and compares none.
+
+use std::sync::LazyLock;
+use std::sync::atomic::{AtomicBool, Ordering};
+
+const PERIOD: u64 = 251;
+
+/// How many bytes are compared at once.
+const AT_ONCE: usize = 1 << 16;
+
+static IS_CHECKED: AtomicBool = AtomicBool::new(true);
+
+/// From here on nothing is compared.
+pub fn check_no_more() {
+    IS_CHECKED.store(false, Ordering::Relaxed);
+}
+
+/// Bytes of which a piece of so many begins at each offset.
+pub struct Source {
+    bytes: Vec<u8>,
+    each: usize,
+}
+
+impl Source {
+    pub fn new(each: usize) -> Source {
+        let bytes = (0..each as u64 + PERIOD).map(|i| (i % PERIOD) as u8);
+        Source {
+            bytes: bytes.collect(),
+            each,
+        }
+    }
+
+    pub fn each(&self) -> usize {
+        self.each
+    }
+
+    /// The piece that stands at this offset of a stream.
+    pub fn at(&self, offset: u64) -> &[u8] {
+        let from = (offset % PERIOD) as usize;
+        &self.bytes[from..from + self.each]
+    }
+}
+
+/// Where the run is checked, that these are the bytes at this offset of a stream.
+#[inline]
+pub fn check(offset: u64, bytes: &[u8]) {
+    if IS_CHECKED.load(Ordering::Relaxed) {
+        compare(offset, bytes);
+    }
+}
+
+#[cold]
+#[inline(never)]
+fn compare(offset: u64, bytes: &[u8]) {
+    static WANTED: LazyLock<Source> = LazyLock::new(|| Source::new(AT_ONCE));
+    for (place, some) in bytes.chunks(AT_ONCE).enumerate() {
+        let wanted = WANTED.at(offset + (place * AT_ONCE) as u64);
+        assert!(some == &wanted[..some.len()], "the bytes differ");
+    }
+}
