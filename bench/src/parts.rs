@@ -280,7 +280,9 @@ fn insert(numbers: impl Iterator<Item = u64>, runs: usize) -> Run {
         }
     });
     assert_eq!(set.count(), runs);
-    let members = set.pairs().iter().map(|&(lo, hi)| hi - lo);
+    let mut pairs = vec![(0, 0); runs];
+    assert_eq!(set.copy_pairs(&mut pairs), runs);
+    let members = pairs.iter().map(|&(lo, hi)| hi - lo);
     assert_eq!(members.sum::<u64>(), units);
     Run { time, units }
 }

@@ -9,8 +9,10 @@
     clippy::manual_ok_err,
     clippy::manual_unwrap_or,
     clippy::manual_unwrap_or_default,
+    clippy::needless_range_loop,
     clippy::question_mark,
-    clippy::redundant_pattern_matching
+    clippy::redundant_pattern_matching,
+    clippy::type_complexity
 )]
 
 pub(crate) mod qs_calls;
