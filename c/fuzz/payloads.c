@@ -1,9 +1,11 @@
 /* An endpoint is fed what an input says: payloads, numbers, losses and calls of its owner. After each it must stand as it was promised
- * to: no more is stored than was granted, nor than the window; and an end that closed stays so.
+ * to: no more is stored than was granted, nor than the window; and an end that closed stays so. The frames of each payload are read
+ * one by one, too, and each is written, and read again as the same.
  *
  * By libFuzzer: clang -g -O1 -fsanitize=fuzzer,address,undefined -DLIBFUZZER .. The plain program replays the files that it is given. */
 #include <stdio.h>
 #include <stdlib.h>
+#include <string.h>
 
 #include "gotsavena.h"
 
@@ -39,11 +41,72 @@ static bool is_closed(gv_endpoint *end) {
   return gv_closing(end, &closing) == GV_OK || gv_peer_closed(end, &code) == GV_OK;
 }
 
+static bool is_within(const uint8_t *part, size_t part_len, const uint8_t *all, size_t len) {
+  return part_len == 0 || (part >= all && part_len <= len && (size_t)(part - all) <= len - part_len);
+}
+
+static bool is_same(const gv_frame *a, const gv_frame *b) {
+  bool numbers = a->kind == b->kind && a->dir == b->dir && a->fin == b->fin && a->has_ecn == b->has_ecn && a->stream == b->stream
+    && a->offset == b->offset && a->code == b->code && a->final_size == b->final_size && a->limit == b->limit;
+  bool others = a->largest == b->largest && a->delay == b->delay && a->ect0 == b->ect0 && a->ect1 == b->ect1 && a->ce == b->ce
+    && a->sequence == b->sequence && a->retire == b->retire && a->at_fault == b->at_fault;
+  bool bytes = a->kind == GV_FRAME_ACK || (a->len == b->len && memcmp(a->bytes, b->bytes, a->len) == 0);
+  return numbers && others && bytes && (a->token == NULL || memcmp(a->token, b->token, 16) == 0);
+}
+
+/* The ranges of an ACK fall, and those at its front, written, are read again. */
+static void check_ack(const gv_frame *frame) {
+  enum { SOME = 32 };
+  gv_acked left = {frame->bytes, frame->len, frame->largest};
+  gv_range ranges[SOME], range;
+  size_t count = 0, all = 0, written = 0, len = 0;
+  uint64_t above = UINT64_C(1) << 62;
+  while (gv_ack_next(&left, &range) == GV_OK) {
+    check(range.smallest <= range.largest && (all == 0 ? range.largest == frame->largest : range.largest + 1 < above), "a range");
+    above = range.smallest;
+    all++;
+    if (count < SOME) ranges[count++] = range;
+  }
+  uint8_t out[32 * SOME];
+  gv_fault fault;
+  check(gv_put_ack(ranges, count, frame->delay, out, 4 * frame->len + 24 < sizeof out ? 4 * frame->len + 24 : sizeof out, &written, &len)
+          == GV_OK && written > 0 && written <= count, "an ACK is written");
+  gv_frames again = {out, len, 0};
+  gv_frame second;
+  check(gv_frames_next(&again, &second, &fault) == GV_OK && again.place == len && second.delay == frame->delay, "it is read");
+  gv_acked own = {second.bytes, second.len, second.largest};
+  for (size_t i = 0; i < written; i++)
+    check(gv_ack_next(&own, &range) == GV_OK && range.smallest == ranges[i].smallest && range.largest == ranges[i].largest, "its range");
+  check(gv_ack_next(&own, &range) == GV_NONE, "its ranges");
+}
+
+static void check_frames(const uint8_t *payload, size_t len) {
+  static uint8_t out[4 * MOST];
+  gv_frames frames = {payload, len, 0};
+  gv_frame frame, second;
+  gv_fault fault;
+  gv_status status;
+  size_t before = 0, size = 0;
+  while ((status = gv_frames_next(&frames, &frame, &fault)) == GV_OK) {
+    check(frame.place == before && frames.place > before && frames.place <= len, "a frame's place");
+    check(is_within(frame.bytes, frame.len, payload, len) && is_within(frame.token, frame.token ? 16 : 0, payload, len), "its bytes");
+    before = frames.place;
+    check(gv_put(&frame, out, sizeof out, &size) == GV_OK && size > 0, "a frame is written");
+    gv_frames again = {out, size, 0};
+    check(gv_frames_next(&again, &second, &fault) == GV_OK && again.place == size && is_same(&frame, &second), "it is read as the same");
+    check(gv_put(&frame, out, size - 1, &size) == GV_FULL, "a frame doesn't fit");
+    if (frame.kind == GV_FRAME_ACK) check_ack(&frame);
+  }
+  check(frames.place == before, "the place stays");
+  check(status == GV_NONE ? before == len && len > 0 : status == GV_FAULT && fault.place == before && fault.kind > 0, "the end");
+}
+
 static void receive(gv_endpoint *end, input *in) {
   gv_closing_info closing;
   uint64_t number = next_number(in);
   size_t len = 8 * (size_t)next_byte(in);
   if (len > in->len) len = in->len;
+  check_frames(in->at, len);
   gv_status status = gv_receive(end, number, in->at, len, &closing);
   check(status != GV_INVALID || number >> 62 != 0, "a payload is refused");
   in->at += len;

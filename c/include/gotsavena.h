@@ -44,7 +44,9 @@ typedef enum gv_status {
   GV_END = 17,             /* all was read (section 3.2) */
   GV_RESET = 18,           /* the peer broke the stream off (section 3.2) */
   GV_OUT_OF_RANGE = 19,    /* a setting is out of its range */
-  GV_TOO_MANY_STREAMS = 20 /* the peer allows too many streams (section 4.6) */
+  GV_TOO_MANY_STREAMS = 20, /* the peer allows too many streams (section 4.6) */
+  GV_FAULT = 21,            /* no frame stands there (section 12.4) */
+  GV_FULL = 22              /* there is no room for it; nothing was written */
 } gv_status;
 
 enum { GV_CLIENT = 0, GV_SERVER = 1 }; /* roles */
@@ -126,6 +128,105 @@ typedef struct gv_closing_info {
   uint64_t frame_type;
   size_t place;
 } gv_closing_info;
+
+/* Kinds of frames, in the order of section 19. */
+enum {
+  GV_FRAME_PADDING,
+  GV_FRAME_PING,
+  GV_FRAME_ACK,
+  GV_FRAME_RESET_STREAM,
+  GV_FRAME_STOP_SENDING,
+  GV_FRAME_CRYPTO,
+  GV_FRAME_NEW_TOKEN,
+  GV_FRAME_STREAM,
+  GV_FRAME_MAX_DATA,
+  GV_FRAME_MAX_STREAM_DATA,
+  GV_FRAME_MAX_STREAMS,
+  GV_FRAME_DATA_BLOCKED,
+  GV_FRAME_STREAM_DATA_BLOCKED,
+  GV_FRAME_STREAMS_BLOCKED,
+  GV_FRAME_NEW_CONNECTION_ID,
+  GV_FRAME_RETIRE_CONNECTION_ID,
+  GV_FRAME_PATH_CHALLENGE,
+  GV_FRAME_PATH_RESPONSE,
+  GV_FRAME_CONNECTION_CLOSE,  /* of type 0x1c, with which QUIC itself closes */
+  GV_FRAME_APPLICATION_CLOSE, /* of type 0x1d, with which an application closes */
+  GV_FRAME_HANDSHAKE_DONE
+};
+
+/* A frame. kind tells which fields it has (section 19); where it was read the others are 0, and where it is written they don't matter,
+ * but for dir. Offsets and sizes are in bytes. */
+typedef struct gv_frame {
+  uint32_t kind;       /* GV_FRAME_PADDING to GV_FRAME_HANDSHAKE_DONE */
+  uint32_t dir;        /* MAX_STREAMS, STREAMS_BLOCKED: GV_BIDI or GV_UNI; of the others 0 or 1 */
+  bool fin;            /* STREAM: the stream ends behind the bytes (section 19.8) */
+  bool has_ecn;        /* ACK: it has the three counts (section 19.3.2) */
+  size_t place;        /* where its first byte stands in the payload; not written */
+  uint64_t type;       /* the number of its type, as it was read; not written (section 12.4) */
+  uint64_t stream;     /* RESET_STREAM, STOP_SENDING, STREAM, MAX_STREAM_DATA, STREAM_DATA_BLOCKED */
+  uint64_t offset;     /* CRYPTO, STREAM: of the first byte (sections 19.6 and 19.8) */
+  uint64_t code;       /* RESET_STREAM, STOP_SENDING, CONNECTION_CLOSE, APPLICATION_CLOSE (section 20) */
+  uint64_t final_size; /* RESET_STREAM (section 19.4) */
+  uint64_t limit;      /* MAX_DATA, MAX_STREAM_DATA, DATA_BLOCKED, STREAM_DATA_BLOCKED: bytes; MAX_STREAMS, STREAMS_BLOCKED: streams,
+                          at most 2^60 (sections 19.9 to 19.14) */
+  uint64_t largest;    /* ACK: the largest number that is acknowledged (section 19.3) */
+  uint64_t delay;      /* ACK: as it is spelled, in the unit that its sender told (section 18.2) */
+  uint64_t ect0;       /* ACK, where has_ecn: how many packets came with each mark */
+  uint64_t ect1;
+  uint64_t ce;
+  uint64_t sequence; /* NEW_CONNECTION_ID, RETIRE_CONNECTION_ID (sections 19.15 and 19.16) */
+  uint64_t retire;   /* NEW_CONNECTION_ID: identifiers of lower numbers are to be retired */
+  uint64_t at_fault; /* CONNECTION_CLOSE: the type of the frame that was at fault, 0 where none was (section 19.19) */
+  size_t bytes_at;   /* where the bytes stand in the payload; not written */
+  size_t len;        /* how many bytes there are, 0 where the frame has none */
+  size_t token_at;   /* where the token stands in the payload; not written */
+  /* CRYPTO, NEW_TOKEN, STREAM, CONNECTION_CLOSE, APPLICATION_CLOSE: the bytes that it carries. PATH_CHALLENGE, PATH_RESPONSE: 8 bytes.
+   * NEW_CONNECTION_ID: the identifier, 1 to 20 bytes. ACK: its ranges as they are spelled, from First ACK Range on, which gv_ack_next
+   * reads. Of a frame that was read they are a part of the payload. */
+  const uint8_t *bytes;
+  const uint8_t *token; /* NEW_CONNECTION_ID: the stateless reset token, 16 bytes; else null (section 19.15) */
+} gv_frame;
+
+/* Kinds of faults. */
+enum {
+  GV_FAULT_EMPTY = 1,        /* the payload has no frame (section 12.4) */
+  GV_FAULT_LONG_TYPE,        /* the type has a shorter spelling (section 12.4) */
+  GV_FAULT_UNKNOWN_TYPE,     /* no frame has this type (section 12.4) */
+  GV_FAULT_TRUNCATED,        /* a field, or the bytes that it counts, end past the payload */
+  GV_FAULT_OFFSET_TOO_LARGE, /* an offset plus a length is above 2^62-1 (sections 19.6 and 19.8) */
+  GV_FAULT_COUNT_TOO_LARGE,  /* a count of streams is above 2^60 (sections 19.11 and 19.14) */
+  GV_FAULT_BELOW_ZERO,       /* an ACK names a number below zero (section 19.3.1) */
+  GV_FAULT_IDENTIFIER        /* a connection identifier has no byte or more than 20 (section 19.15) */
+};
+
+/* What stands in a payload in place of a frame: why it is none, the code that QUIC closes with (section 20.1), the type, 0 where none
+ * was read, and the place. */
+typedef struct gv_fault {
+  uint64_t kind;
+  uint64_t code;
+  uint64_t type;
+  size_t place;
+} gv_fault;
+
+/* A walk over the frames of a payload: it begins at place 0. */
+typedef struct gv_frames {
+  const uint8_t *payload;
+  size_t len;
+  size_t place;
+} gv_frames;
+
+/* The packet numbers from one to another, both among them. */
+typedef struct gv_range {
+  uint64_t smallest;
+  uint64_t largest;
+} gv_range;
+
+/* A walk over the ranges of an ACK frame: it begins with the frame's bytes, len and largest. */
+typedef struct gv_acked {
+  const uint8_t *bytes;
+  size_t len;
+  uint64_t largest;
+} gv_acked;
 
 /* Makes an end, and writes its handle to *out. role is GV_CLIENT or GV_SERVER.
  * GV_OUT_OF_RANGE, GV_TOO_MANY_STREAMS, GV_NO_MEMORY: no end was made. (Sections 4 and 18.2.) */
@@ -266,6 +367,27 @@ gv_status gv_next_newly_acked(gv_endpoint *end, const uint8_t *payload, size_t l
 /* The stream of the last STREAM frame in a payload, up to its end or its first fault. Where streams send by turns, the next packet is
  * gv_make_packet_from that one + 1 (section 2.3). GV_NONE: there is none. */
 gv_status gv_last_stream(const uint8_t *payload, size_t len, uint64_t *stream);
+
+/* Frames without an endpoint: of the handshake's packets, say, or for a layer beneath that reads what comes before the endpoint does. */
+
+/* Gives the frame that stands at frames->place, and moves the place on behind it (sections 12.4 and 19). GV_NONE: the payload is at its
+ * end. GV_FAULT: no frame stands there, and *fault tells why; a payload without a frame is one, too. Then the place stays, and the
+ * next call answers the same. GV_INVALID, too, where the place lies past the payload's end. */
+gv_status gv_frames_next(gv_frames *frames, gv_frame *frame, gv_fault *fault);
+
+/* Gives the next range of an ACK, the highest first, and moves on behind it (section 19.3.1). GV_NONE: there is none. */
+gv_status gv_ack_next(gv_acked *ranges, gv_range *range);
+
+/* Writes the frame at the front of out, and its length to *len: each number in its shortest spelling; a STREAM frame always with its
+ * length, and with its offset where that isn't 0 (sections 16 and 19). What gv_frames_next gave may be written as it is.
+ * GV_INVALID: no frame has these fields, as a number that isn't below 2^62, or a PATH_CHALLENGE that hasn't 8 bytes. GV_FULL: there is no
+ * room. */
+gv_status gv_put(const gv_frame *frame, uint8_t *out, size_t room, size_t *len);
+
+/* Writes an ACK frame without ECN counts at the front of out, of as many of the ranges as fit, from the first on; tells in *written how
+ * many these are, and in *len the frame's length (section 19.3). There are 1 to 32 ranges, the highest first, of numbers below 2^62,
+ * and between two a number that is in neither; delay is below 2^62. GV_FULL: not even the first fits. */
+gv_status gv_put_ack(const gv_range *ranges, size_t count, uint64_t delay, uint8_t *out, size_t room, size_t *written, size_t *len);
 
 #ifdef __cplusplus
 }

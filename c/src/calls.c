@@ -228,3 +228,40 @@ gv_status gv_last_stream(const uint8_t *payload, size_t len, uint64_t *stream) {
   if (stream == NULL || !is_slice(payload, len)) return GV_INVALID;
   return (gv_status)gvp_last_stream(len == 0 ? none : payload, len, stream);
 }
+
+gv_status gv_frames_next(gv_frames *frames, gv_frame *frame, gv_fault *fault) {
+  static const gv_frame nothing;
+  if (frames == NULL || frame == NULL || fault == NULL || !is_slice(frames->payload, frames->len)) return GV_INVALID;
+  const uint8_t *payload = frames->len == 0 ? none : frames->payload;
+  gv_frame got = nothing;
+  gv_status status = (gv_status)gvp_frames_next(payload, frames->len, &frames->place, &got, fault);
+  if (status != GV_OK) return status;
+  got.bytes = payload + got.bytes_at;
+  got.token = got.kind == GV_FRAME_NEW_CONNECTION_ID ? payload + got.token_at : NULL;
+  *frame = got;
+  return GV_OK;
+}
+
+gv_status gv_ack_next(gv_acked *ranges, gv_range *range) {
+  if (ranges == NULL || range == NULL || !is_slice(ranges->bytes, ranges->len)) return GV_INVALID;
+  const uint8_t *bytes = ranges->len == 0 ? none : ranges->bytes;
+  size_t used = 0;
+  gv_status status = (gv_status)gvp_ack_next(bytes, ranges->len, &ranges->largest, &used, range);
+  if (status != GV_OK) return status;
+  ranges->bytes = bytes + used;
+  ranges->len -= used;
+  return GV_OK;
+}
+
+gv_status gv_put(const gv_frame *frame, uint8_t *out, size_t room, size_t *len) {
+  if (frame == NULL || len == NULL || !is_slice(out, room) || !is_slice(frame->bytes, frame->len)) return GV_INVALID;
+  const uint8_t *bytes = frame->len == 0 ? none : frame->bytes, *token = frame->token == NULL ? none : frame->token;
+  size_t token_len = frame->token == NULL ? 0 : 16;
+  return (gv_status)gvp_put(frame, bytes, frame->len, token, token_len, room == 0 ? none : out, room, len);
+}
+
+gv_status gv_put_ack(const gv_range *ranges, size_t count, uint64_t delay, uint8_t *out, size_t room, size_t *written, size_t *len) {
+  if (written == NULL || len == NULL || !is_slice(out, room)) return GV_INVALID;
+  if (ranges == NULL || count > (size_t)PTRDIFF_MAX / sizeof *ranges) return GV_INVALID;
+  return (gv_status)gvp_put_ack(ranges, count, delay, room == 0 ? none : out, room, written, len);
+}

@@ -47,5 +47,11 @@ uint32_t gvp_claim_number(gv_endpoint *end, uint64_t *number);
 uint32_t gvp_next_outstanding(gv_endpoint *end, uint64_t from, uint64_t *number);
 uint32_t gvp_next_newly_acked(gv_endpoint *end, const uint8_t *payload, size_t len, uint64_t from, uint64_t *number);
 uint32_t gvp_last_stream(const uint8_t *payload, size_t len, uint64_t *stream);
+/* Of a gv_frame the library knows all but the two pointers, which stand last. */
+uint32_t gvp_frames_next(const uint8_t *payload, size_t len, size_t *place, gv_frame *frame, gv_fault *fault);
+uint32_t gvp_ack_next(const uint8_t *bytes, size_t len, uint64_t *largest, size_t *used, gv_range *range);
+uint32_t gvp_put(const gv_frame *frame, const uint8_t *bytes, size_t bytes_len, const uint8_t *token, size_t token_len, uint8_t *out,
+                 size_t room, size_t *len);
+uint32_t gvp_put_ack(const gv_range *ranges, size_t count, uint64_t delay, uint8_t *out, size_t room, size_t *written, size_t *len);
 
 #endif

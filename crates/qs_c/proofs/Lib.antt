@@ -1,2 +1,5 @@
+pub mod Laid
+pub mod Ranges
 pub mod Steps
+pub mod Told
 pub mod Words

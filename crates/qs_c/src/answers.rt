@@ -55,6 +55,10 @@ pub(crate) const OUT_OF_RANGE: u32 = 19;
 
 pub(crate) const TOO_MANY_STREAMS: u32 = 20;
 
+pub(crate) const FAULT: u32 = 21;
+
+pub(crate) const FULL: u32 = 22;
+
 fn of_fault(fault: UseFault) -> u32
     ensures unit { (u : Unit {0}) → use_answer result u ≡ Err fault }
     ensures count { (n : ℕ) → use_answer result n ≡ Err fault }

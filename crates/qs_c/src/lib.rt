@@ -4,18 +4,22 @@
 //! of the endpoint's call, with that number in place of the answer.
 #![tactic(auto)]
 
+mod acks;
 mod answers;
 mod asks;
 mod calls;
 mod cell;
+mod frame;
 mod handle;
 mod lane;
 mod loose;
+mod puts;
+mod reads;
 mod starts;
 mod structs;
 mod thing;
 
-ghost use Rattle.std.specs.Prelude.{◌≡◌, ◌++◌, ◌&&◌, List, ℕ, length, drop, None, MatchBool, ◌↔◌, IsTrue};
+ghost use Rattle.std.specs.Prelude.{◌≡◌, ◌++◌, ◌&&◌, List, ℕ, length, map, drop, None, MatchBool, ◌↔◌, IsTrue};
 ghost use Rattle.qs_wire.specs.Grammar.{frames_of};
 ghost use Rattle.qs_wire.specs.Reading.{reading_of};
 ghost use Rattle.qs_wire.specs.LastStream.{last_stream_of};
@@ -32,9 +36,13 @@ ghost use Rattle.qs_conn.specs.Filling.{made_text};
 ghost use Rattle.qs_c.specs.Statuses.{Called, Tested, Starts, role_of, is_small, is_room, is_flag, dir_of, use_answer, read_answer, open_answer, some_answer, lost_answer, claim_answer, raise_answer, made_answer, received_answer};
 ghost use Rattle.qs_c.specs.Structs.{made_in, closing_in, settings_in, limits_in};
 ghost use Rattle.qs_c.specs.Lanes.{lane_in};
+ghost use Rattle.qs_c.specs.Frames.{NextAnswer, GivenAnswer};
+ghost use Rattle.qs_c.specs.Acks.{pair_of, are_ranges, AckAnswer, RangeAnswer};
 ghost use Rattle.qs_machine.specs.Ends.{end_made};
 
+use crate::acks::GvRange;
 use crate::answers::{INVALID, of_stream};
+use crate::frame::{GvFault, GvFrame};
 use crate::handle::Handle;
 use crate::lane::GvLane;
 use crate::structs::{GvClosing, GvLimits, GvMade, GvSettings};
@@ -569,4 +577,58 @@ pub extern "C" fn gvp_last_stream(payload: &[u8], stream: &mut u64) -> u32
     ensures { some_answer result stream.new ≡ last_stream_of None (frames_of (reading_of payload.now).left) }
 {
     of_stream(last_stream(payload), stream)
+}
+
+/// The frame that stands in a payload at a place, and the place behind it.
+#[unsafe(no_mangle)]
+pub extern "C" fn gvp_frames_next(
+    payload: &[u8],
+    place: &mut usize,
+    frame: &mut GvFrame,
+    fault: &mut GvFault,
+) -> u32
+    ensures { NextAnswer payload.now place.old result frame.new fault.new place.new }
+{
+    reads::next(payload, place, frame, fault)
+}
+
+/// Writes a frame of these bytes and this token.
+#[unsafe(no_mangle)]
+pub extern "C" fn gvp_put(
+    frame: &GvFrame,
+    bytes: &[u8],
+    token: &[u8],
+    out: &mut [u8],
+    len: &mut usize,
+) -> u32
+    ensures { GivenAnswer frame.now bytes.now token.now result len.new out.old out.new }
+{
+    puts::put_frame(frame, bytes, token, out, len)
+}
+
+/// Writes an ACK frame of as many of the ranges as fit.
+#[unsafe(no_mangle)]
+pub extern "C" fn gvp_put_ack(
+    ranges: &[GvRange],
+    delay: u64,
+    out: &mut [u8],
+    count: &mut usize,
+    len: &mut usize,
+) -> u32
+    ensures { MatchBool (are_ranges ranges.now && is_small delay) (AckAnswer (map pair_of ranges.now) delay result count.new len.new out.old out.new) ((result ≡ 1) × (out.new ≡ out.old)) }
+{
+    acks::put(ranges, delay, out, count, len)
+}
+
+/// The next range that the bytes of an ACK frame spell below a number.
+#[unsafe(no_mangle)]
+pub extern "C" fn gvp_ack_next(
+    bytes: &[u8],
+    largest: &mut u64,
+    used: &mut usize,
+    range: &mut GvRange,
+) -> u32
+    ensures { RangeAnswer bytes.now largest.old result largest.new used.new range.new }
+{
+    acks::next_range(bytes, largest, used, range)
 }

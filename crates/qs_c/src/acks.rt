@@ -1,0 +1,100 @@
+//! The ranges of an ACK frame.
+ghost use Rattle.std.specs.Prelude.{◌≡◌, ◌+◌, ◌^◌, ◌<◌, ◌&&◌, ◌≤◌, true, length, take, map, MatchBool};
+ghost use Rattle.qs_c.specs.Statuses.{is_small};
+ghost use Rattle.qs_c.specs.Acks.{pair_of, are_apart, are_ranges, AckAnswer, RangeAnswer};
+
+use crate::answers::{FULL, INVALID, NONE, OK};
+use crate::reads::skip;
+use qs_wire::{AckRanges, put_ack};
+
+/// The packet numbers from one to another, both among them.
+#[repr(C)]
+#[derive(Clone, Copy, Drop)]
+pub struct GvRange {
+    pub smallest: u64,
+    pub largest: u64,
+}
+
+const LIMIT: u64 = 1 << 62;
+
+const MOST: usize = 32;
+
+/// Writes an ACK of as many of the ranges as fit.
+pub(crate) fn put(
+    ranges: &[GvRange],
+    delay: u64,
+    out: &mut [u8],
+    count: &mut usize,
+    len: &mut usize,
+) -> u32
+    ensures { MatchBool (are_ranges ranges.now && is_small delay) (AckAnswer (map pair_of ranges.now) delay result count.new len.new out.old out.new) ((result ≡ 1) × (out.new ≡ out.old)) }
+{
+    if delay >= LIMIT || ranges.is_empty() || ranges.len() > MOST || !is_apart(ranges) {
+        return INVALID;
+    }
+    let pairs = pairs_of(ranges);
+    match put_ack(&pairs[..ranges.len()], delay, out) {
+        Ok((taken, written)) => {
+            *count = taken;
+            *len = written;
+            OK
+        }
+        Err(_) => FULL,
+    }
+}
+
+/// Whether each range has a number, and lies below those before it with a number between.
+fn is_apart(ranges: &[GvRange]) -> bool
+    ensures { result ≡ are_apart (2 ^ 62 + 1) ranges.now }
+{
+    let mut above = LIMIT + 1;
+    for range in ranges {
+        if range.smallest > range.largest || above < 2 || range.largest > above - 2 {
+            return false;
+        }
+        above = range.smallest;
+    }
+    true
+}
+
+fn pairs_of(ranges: &[GvRange]) -> [(u64, u64); 32]
+    requires few { length ranges.now ≤ 32 }
+    requires apart { are_apart (2 ^ 62 + 1) ranges.now ≡ true }
+    ensures { take (length ranges.now) result ≡ map pair_of ranges.now }
+{
+    let mut pairs = [(0, 0); 32];
+    for i in 0..ranges.len() {
+        let range = ranges[i];
+        pairs[i] = (range.smallest, range.largest + 1);
+    }
+    pairs
+}
+
+/// Gives the next range that the front of the bytes spells below a number, how many bytes it takes, and the largest number of the
+/// range behind it.
+pub(crate) fn next_range(
+    bytes: &[u8],
+    largest: &mut u64,
+    used: &mut usize,
+    range: &mut GvRange,
+) -> u32
+    ensures { RangeAnswer bytes.now largest.old result largest.new used.new range.new }
+{
+    if *largest >= LIMIT {
+        return INVALID;
+    }
+    let mut ranges = AckRanges::new(*largest, bytes);
+    let Some((smallest, top)) = ranges.next() else {
+        return NONE;
+    };
+    *range = GvRange {
+        smallest,
+        largest: top,
+    };
+    *used = skip(2, bytes);
+    *largest = match ranges.next() {
+        Some((_, below)) => below,
+        None => 0,
+    };
+    OK
+}

@@ -1,0 +1,255 @@
+//! A frame is written.
+ghost use Rattle.std.specs.Prelude.{◌≡◌, ◌+◌, ◌^◌, ◌<◌, ◌≤◌, true, false, length, nat_lt, IfSome, IfNone};
+ghost use Rattle.qs_wire.specs.Varint.{numbers_of};
+ghost use Rattle.qs_wire.specs.Layout.{view, taken};
+ghost use Rattle.qs_wire.specs.Grammar.{Fits, AreRanges, CountsFit};
+ghost use Rattle.qs_c.specs.Statuses.{dir_of};
+ghost use Rattle.qs_c.specs.Lanes.{some_if};
+ghost use Rattle.qs_c.specs.Frames.{frame_in, counts_in, GivenAnswer};
+
+use crate::answers::{FULL, INVALID, OK};
+use crate::frame::GvFrame;
+use crate::reads::numbers_in;
+use qs_wire::{Dir, EcnCounts, Frame, StreamId, put, read_varint};
+
+const LIMIT: u64 = 1 << 62;
+
+const MOST_STREAMS: u64 = 1 << 60;
+
+const HANDSHAKE_DONE: u32 = 20;
+
+/// Writes a frame of these bytes and this token at the front.
+pub(crate) fn put_frame(
+    frame: &GvFrame,
+    bytes: &[u8],
+    token: &[u8],
+    out: &mut [u8],
+    len: &mut usize,
+) -> u32
+    ensures { GivenAnswer frame.now bytes.now token.now result len.new out.old out.new }
+{
+    if frame.kind > HANDSHAKE_DONE || frame.dir > 1 {
+        return INVALID;
+    }
+    let Some(given) = frame_of(frame, bytes, token) else {
+        return INVALID;
+    };
+    if !fits(&given) {
+        return INVALID;
+    }
+    let Ok(written) = put(&given, out) else {
+        return FULL;
+    };
+    *len = written;
+    OK
+}
+
+/// The frame that C gives, whose kind and direction are known; `None` where its stream has no number.
+fn frame_of<'a>(frame: &GvFrame, bytes: &'a [u8], token: &'a [u8]) -> Option<Frame<'a>>
+    requires kind { frame.now.kind < 21 }
+    ensures some { IfSome result (λ x. view x ≡ frame_in frame.now bytes.now token.now) }
+    ensures none { IfNone result (Fits (frame_in frame.now bytes.now token.now) → ⊥) }
+{
+    let stream = StreamId::new(frame.stream);
+    Some(match frame.kind {
+        0 => Frame::Padding,
+        1 => Frame::Ping,
+        2 => Frame::Ack {
+            largest: frame.largest,
+            delay: frame.delay,
+            ranges: bytes,
+            ecn: counts_of(frame),
+        },
+        3 => Frame::ResetStream {
+            stream: stream?,
+            code: frame.code,
+            final_size: frame.final_size,
+        },
+        4 => Frame::StopSending {
+            stream: stream?,
+            code: frame.code,
+        },
+        5 => Frame::Crypto {
+            offset: frame.offset,
+            bytes,
+        },
+        6 => Frame::NewToken { bytes },
+        7 => Frame::Stream {
+            stream: stream?,
+            offset: frame.offset,
+            fin: frame.fin,
+            bytes,
+        },
+        8 => Frame::MaxData {
+            maximum: frame.limit,
+        },
+        9 => Frame::MaxStreamData {
+            stream: stream?,
+            maximum: frame.limit,
+        },
+        10 => Frame::MaxStreams {
+            dir: dir_in(frame.dir),
+            count: frame.limit,
+        },
+        11 => Frame::DataBlocked { limit: frame.limit },
+        12 => Frame::StreamDataBlocked {
+            stream: stream?,
+            limit: frame.limit,
+        },
+        13 => Frame::StreamsBlocked {
+            dir: dir_in(frame.dir),
+            count: frame.limit,
+        },
+        14 => Frame::NewConnectionId {
+            sequence: frame.sequence,
+            retire: frame.retire,
+            identifier: bytes,
+            reset_token: token,
+        },
+        15 => Frame::RetireConnectionId {
+            sequence: frame.sequence,
+        },
+        16 => Frame::PathChallenge { bytes },
+        17 => Frame::PathResponse { bytes },
+        18 => Frame::ConnectionClose {
+            code: frame.code,
+            frame_type: frame.at_fault,
+            reason: bytes,
+        },
+        19 => Frame::ApplicationClose {
+            code: frame.code,
+            reason: bytes,
+        },
+        _ => Frame::HandshakeDone,
+    })
+}
+
+fn dir_in(dir: u32) -> Dir
+    ensures { result ≡ dir_of dir }
+{
+    match dir {
+        0 => Dir::Bidi,
+        _ => Dir::Uni,
+    }
+}
+
+fn counts_of(frame: &GvFrame) -> Option<EcnCounts>
+    ensures { result ≡ some_if frame.now.has_ecn (counts_in frame.now) }
+{
+    if frame.has_ecn {
+        Some(EcnCounts {
+            ect0: frame.ect0,
+            ect1: frame.ect1,
+            ce: frame.ce,
+        })
+    } else {
+        None
+    }
+}
+
+/// Whether a frame has a text.
+fn fits(frame: &Frame) -> bool
+    ensures yes { result ≡ true → Fits (view frame.now) }
+    ensures no { result ≡ false → Fits (view frame.now) → ⊥ }
+{
+    match *frame {
+        Frame::Padding => true,
+        Frame::Ping => true,
+        Frame::Ack {
+            largest,
+            delay,
+            ranges,
+            ecn,
+        } => delay < LIMIT && are_ranges(largest, ranges) && counts_fit(ecn),
+        Frame::ResetStream {
+            stream,
+            code,
+            final_size,
+        } => stream.value() < LIMIT && code < LIMIT && final_size < LIMIT,
+        Frame::StopSending { stream, code } => stream.value() < LIMIT && code < LIMIT,
+        Frame::Crypto { offset, bytes } => end_fits(offset, bytes),
+        Frame::NewToken { bytes } => end_fits(0, bytes),
+        Frame::Stream {
+            stream,
+            offset,
+            bytes,
+            ..
+        } => stream.value() < LIMIT && end_fits(offset, bytes),
+        Frame::MaxData { maximum } => maximum < LIMIT,
+        Frame::MaxStreamData { stream, maximum } => stream.value() < LIMIT && maximum < LIMIT,
+        Frame::MaxStreams { count, .. } => count <= MOST_STREAMS,
+        Frame::DataBlocked { limit } => limit < LIMIT,
+        Frame::StreamDataBlocked { stream, limit } => stream.value() < LIMIT && limit < LIMIT,
+        Frame::StreamsBlocked { count, .. } => count <= MOST_STREAMS,
+        Frame::NewConnectionId {
+            sequence,
+            retire,
+            identifier,
+            reset_token,
+        } => {
+            let len = identifier.len();
+            sequence < LIMIT && retire < LIMIT && len >= 1 && len <= 20 && reset_token.len() == 16
+        }
+        Frame::RetireConnectionId { sequence } => sequence < LIMIT,
+        Frame::PathChallenge { bytes } => bytes.len() == 8,
+        Frame::PathResponse { bytes } => bytes.len() == 8,
+        Frame::ConnectionClose {
+            code,
+            frame_type,
+            reason,
+        } => code < LIMIT && frame_type < LIMIT && end_fits(0, reason),
+        Frame::ApplicationClose { code, reason } => code < LIMIT && end_fits(0, reason),
+        Frame::HandshakeDone => true,
+    }
+}
+
+fn end_fits(offset: u64, bytes: &[u8]) -> bool
+    ensures yes { result ≡ true → offset + length bytes.now < 2 ^ 62 }
+    ensures no { result ≡ false → 2 ^ 62 ≤ offset + length bytes.now }
+{
+    let len = bytes.len() as u64;
+    len < LIMIT && offset < LIMIT - len
+}
+
+fn counts_fit(ecn: Option<EcnCounts>) -> bool
+    ensures yes { result ≡ true → CountsFit ecn }
+    ensures no { result ≡ false → CountsFit ecn → ⊥ }
+{
+    match ecn {
+        Some(counts) => counts.ect0 < LIMIT && counts.ect1 < LIMIT && counts.ce < LIMIT,
+        None => true,
+    }
+}
+
+/// Whether the bytes spell ranges below a number.
+fn are_ranges(largest: u64, bytes: &[u8]) -> bool
+    ensures yes { result ≡ true → (largest < 2 ^ 62) × AreRanges (numbers_of bytes.now) × (taken (numbers_of bytes.now) ≤ largest + 1) }
+    ensures no { result ≡ false → largest < 2 ^ 62 → AreRanges (numbers_of bytes.now) → taken (numbers_of bytes.now) ≤ largest + 1 → ⊥ }
+{
+    if largest >= LIMIT {
+        return false;
+    }
+    let count = numbers_in(bytes);
+    if count % 2 == 0 {
+        return false;
+    }
+    !falls_below_zero(largest, bytes)
+}
+
+/// Whether ranges that begin at a number fall below zero.
+fn falls_below_zero(largest: u64, numbers: &[u8]) -> bool
+    requires { largest < 2 ^ 62 }
+    ensures { result ≡ nat_lt (largest + 1) (taken (numbers_of numbers.now)) }
+{
+    let mut left = largest + 1;
+    let mut rest = numbers;
+    while let Some((value, len)) = read_varint(rest) {
+        if value >= left {
+            return true;
+        }
+        left -= value + 1;
+        let (_, after) = rest.split_at(len);
+        rest = after;
+    }
+    false
+}

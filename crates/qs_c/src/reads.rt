@@ -1,0 +1,168 @@
+//! The next frame of a payload.
+ghost use Rattle.std.specs.Prelude.{◌≡◌, ℕ, ◌+◌, ◌^◌, ◌<◌, ◌≤◌, List, length, drop, IfSome};
+ghost use Rattle.qs_wire.specs.Varint.{numbers_of};
+ghost use Rattle.qs_wire.specs.Layout.{view};
+ghost use Rattle.qs_wire.specs.Reading.{Reading, reading_of, with_first, view_placed};
+ghost use Rattle.qs_c.specs.Frames.{placed_in, reading_at, NextAnswer};
+ghost use Rattle.qs_c.specs.Places.{skip_of, lead_of, laid_of, sizes_of, as_sizes};
+
+use crate::answers::{FAULT, INVALID, NONE, OK};
+use crate::frame::{GvFault, GvFrame, NOTHING};
+use qs_wire::{Frame, Frames, Placed, read_varint};
+
+/// Gives the frame that stands in a payload at a place, and moves on behind it.
+pub(crate) fn next(
+    payload: &[u8],
+    place: &mut usize,
+    frame: &mut GvFrame,
+    fault: &mut GvFault,
+) -> u32
+    ensures { NextAnswer payload.now place.old result frame.new fault.new place.new }
+{
+    let at = *place;
+    if at > payload.len() {
+        return INVALID;
+    }
+    if at == payload.len() && at > 0 {
+        return NONE;
+    }
+    let bytes = &payload[at..];
+    match Frames::new(bytes).next() {
+        Ok(Some(placed)) => {
+            let (told, end) = told_of(&placed, at, bytes);
+            *frame = told;
+            *place = end;
+            OK
+        }
+        Ok(None) => NONE,
+        Err(wire) => {
+            *fault = GvFault::of(wire, at);
+            FAULT
+        }
+    }
+}
+
+/// The first frame of the bytes, which stand at a place, as C is told it, and the place behind it.
+fn told_of(placed: &Placed, at: usize, bytes: &[u8]) -> (GvFrame, usize)
+    requires first { (r : Reading) × (reading_of bytes.now ≡ with_first (view_placed placed.now) r) }
+    requires room { at + length bytes.now < 2 ^ 63 }
+    ensures { (payload : List ℕ) → drop at payload ≡ bytes.now → reading_at payload at ≡ with_first (placed_in result.0 payload) (reading_at payload result.1) }
+{
+    let (mid, len, token, trail) = sizes(&placed.frame);
+    let numbers = lead(placed.frame_type);
+    let Some((start, ranges, end)) = laid(numbers, mid, len, token, trail, bytes) else {
+        return (NOTHING, at);
+    };
+    let told = GvFrame {
+        place: at,
+        frame_type: placed.frame_type,
+        bytes_at: at + start,
+        len: ranges + len,
+        token_at: at + start + ranges + len,
+        ..GvFrame::of(&placed.frame)
+    };
+    (told, at + end)
+}
+
+fn lead(frame_type: u64) -> usize
+    ensures { result ≡ lead_of frame_type }
+{
+    match frame_type {
+        0..=0x01 => 1,
+        0x02..=0x04 => 4,
+        0x05..=0x06 => 3,
+        0x07..=0x09 => 2,
+        0x0a..=0x0d => 3,
+        0x0e..=0x0f => 4,
+        0x10 => 2,
+        0x11 => 3,
+        0x12..=0x14 => 2,
+        0x15 => 3,
+        0x16..=0x17 => 2,
+        0x18 => 4,
+        0x19 => 2,
+        0x1a..=0x1b => 1,
+        0x1c => 4,
+        0x1d => 3,
+        _ => 1,
+    }
+}
+
+/// How many numbers of ranges a frame has, how many bytes, how many of a token, and how many numbers behind them.
+fn sizes(frame: &Frame) -> (usize, usize, usize, usize)
+    ensures { as_sizes result ≡ sizes_of (view frame.now) }
+{
+    match *frame {
+        Frame::Ack { ranges, ecn, .. } => {
+            (numbers_in(ranges), 0, 0, if ecn.is_some() { 3 } else { 0 })
+        }
+        Frame::Crypto { bytes, .. } => (0, bytes.len(), 0, 0),
+        Frame::NewToken { bytes } => (0, bytes.len(), 0, 0),
+        Frame::Stream { bytes, .. } => (0, bytes.len(), 0, 0),
+        Frame::NewConnectionId {
+            identifier,
+            reset_token,
+            ..
+        } => (0, identifier.len(), reset_token.len(), 0),
+        Frame::PathChallenge { bytes } => (0, bytes.len(), 0, 0),
+        Frame::PathResponse { bytes } => (0, bytes.len(), 0, 0),
+        Frame::ConnectionClose { reason, .. } => (0, reason.len(), 0, 0),
+        Frame::ApplicationClose { reason, .. } => (0, reason.len(), 0, 0),
+        _ => (0, 0, 0, 0),
+    }
+}
+
+/// Where the bytes of a frame stand, how many of them are numbers of ranges, and where the frame ends.
+fn laid(
+    lead: usize,
+    mid: usize,
+    len: usize,
+    token: usize,
+    trail: usize,
+    bytes: &[u8],
+) -> Option<(usize, usize, usize)>
+    ensures exact { result ≡ laid_of lead mid (len + token) trail bytes.now }
+    ensures within { IfSome result (λ x. (x.0 + x.1 + len ≤ length bytes.now) × (x.2 ≤ length bytes.now)) }
+{
+    let at = skip(lead, bytes);
+    let ranges = skip(mid, &bytes[at..]);
+    let start = at + ranges;
+    let left = bytes.len() - start;
+    if left < len || left - len < token {
+        return None;
+    }
+    let next = start + (len + token);
+    Some((at, ranges, next + skip(trail, &bytes[next..])))
+}
+
+/// How many bytes so many numbers take at the front.
+pub(crate) fn skip(count: usize, bytes: &[u8]) -> usize
+    ensures exact { result ≡ skip_of count bytes.now }
+    ensures within { result ≤ length bytes.now }
+{
+    let mut at = 0;
+    let mut rest = bytes;
+    for _ in 0..count {
+        let Some((_, len)) = read_varint(rest) else {
+            return at;
+        };
+        let (_, after) = rest.split_at(len);
+        at += len;
+        rest = after;
+    }
+    at
+}
+
+/// How many numbers the bytes spell.
+pub(crate) fn numbers_in(bytes: &[u8]) -> usize
+    ensures { result ≡ length (numbers_of bytes.now) }
+{
+    let mut count = 0;
+    let mut rest = bytes;
+    while let Some((_, len)) = read_varint(rest) {
+        count += 1;
+        let (_, after) = rest.split_at(len);
+        rest = after;
+    }
+    count
+}
