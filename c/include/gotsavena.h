@@ -330,6 +330,11 @@ gv_status gv_granted_streams(gv_endpoint *end, uint32_t dir, uint64_t *count);
 /* How many bytes are stored and wait to be read: never more than were granted and aren't taken (section 4.1). */
 gv_status gv_stored(gv_endpoint *end, uint64_t *count);
 
+/* How many bytes of memory the rings take in which bytes wait to be read, and the buffers in which bytes wait to be acknowledged, by
+ * a walk over all streams that were opened: for a look now and then. A peer can't make the rings take more than four times the
+ * connection's window, and 4,096 bytes for each receiving half that wasn't read to its end, reset or stopped (ours). */
+gv_status gv_held(gv_endpoint *end, uint64_t *receiving, uint64_t *sending);
+
 /* The limit that the peer was granted on the sum of all streams' highest offsets (section 4.1). */
 gv_status gv_granted(gv_endpoint *end, uint64_t *count);
 

@@ -181,6 +181,11 @@ gv_status gv_stored(gv_endpoint *end, uint64_t *count) {
   return (gv_status)gvp_stored(end, count);
 }
 
+gv_status gv_held(gv_endpoint *end, uint64_t *receiving, uint64_t *sending) {
+  if (end == NULL || receiving == NULL || sending == NULL) return GV_INVALID;
+  return (gv_status)gvp_held(end, receiving, sending);
+}
+
 gv_status gv_granted(gv_endpoint *end, uint64_t *count) {
   if (end == NULL || count == NULL) return GV_INVALID;
   return (gv_status)gvp_granted(end, count);

@@ -37,6 +37,7 @@ uint32_t gvp_streams_left(gv_endpoint *end, uint32_t dir, uint64_t *count);
 uint32_t gvp_open_left(gv_endpoint *end, uint32_t dir, uint64_t *count);
 uint32_t gvp_granted_streams(gv_endpoint *end, uint32_t dir, uint64_t *count);
 uint32_t gvp_stored(gv_endpoint *end, uint64_t *count);
+uint32_t gvp_held(gv_endpoint *end, uint64_t *receiving, uint64_t *sending);
 uint32_t gvp_granted(gv_endpoint *end, uint64_t *count);
 uint32_t gvp_spent(gv_endpoint *end, uint64_t *count);
 uint32_t gvp_raise_limits(gv_endpoint *end, const gv_limits *limits);

@@ -81,6 +81,10 @@ int main(void) {
   want(number == 7 ? GV_OK : GV_INVALID, GV_OK, "seven are left");
   want(gv_granted_streams(end, GV_UNI, &number), GV_OK, "granted_streams");
   want(number == 8 ? GV_OK : GV_INVALID, GV_OK, "eight are granted");
+  want(gv_held(end, &number, NULL), GV_INVALID, "held to null");
+  uint64_t sending;
+  want(gv_held(end, &number, &sending), GV_OK, "held");
+  want(number == 0 ? GV_OK : GV_INVALID, GV_OK, "nothing came");
   want(gv_lane_report(end, big, &lane), GV_INVALID, "lane");
   want(gv_lane_report(end, 3, &lane), GV_NONE, "no lane");
   want(gv_lane_report(end, 2, &lane), GV_OK, "lane");

@@ -5,6 +5,7 @@ ghost use Rattle.qs_machine.specs.Asking.{GoesBesideAck, peer_closing, streams_l
 ghost use Rattle.qs_machine.specs.Newly.{IsNewlyAcked};
 ghost use Rattle.qs_machine.specs.Credit.{spent, all_stored, granted_streams};
 ghost use Rattle.qs_machine.specs.Reports.{lane_report};
+ghost use Rattle.qs_conn.specs.Held.{IsHeldBy};
 ghost use Rattle.qs_c.specs.Statuses.{is_small, is_flag, dir_of, some_answer};
 ghost use Rattle.qs_c.specs.Lanes.{lane_in};
 
@@ -109,6 +110,15 @@ impl Thing {
         ensures { (result ≡ 0) × (count.new ≡ all_stored self.now) }
     {
         *count = self.end.stored();
+        OK
+    }
+
+    pub(crate) fn held(&self, receiving: &mut u64, sending: &mut u64) -> u32
+        ensures { (result ≡ 0) × IsHeldBy self.now (record { receiving = receiving.new; sending = sending.new }) }
+    {
+        let held = self.end.held();
+        *receiving = held.receiving;
+        *sending = held.sending;
         OK
     }
 

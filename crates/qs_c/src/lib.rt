@@ -33,6 +33,7 @@ ghost use Rattle.qs_machine.specs.Newly.{IsNewlyAcked};
 ghost use Rattle.qs_machine.specs.Credit.{spent, all_stored, granted_streams};
 ghost use Rattle.qs_machine.specs.Reports.{own_closing, lane_report};
 ghost use Rattle.qs_conn.specs.Filling.{made_text};
+ghost use Rattle.qs_conn.specs.Held.{IsHeldBy};
 ghost use Rattle.qs_c.specs.Statuses.{Called, Tested, Starts, role_of, is_small, is_room, is_flag, dir_of, use_answer, read_answer, open_answer, some_answer, lost_answer, claim_answer, raise_answer, made_answer, received_answer};
 ghost use Rattle.qs_c.specs.Structs.{made_in, closing_in, settings_in, limits_in};
 ghost use Rattle.qs_c.specs.Lanes.{lane_in};
@@ -408,6 +409,23 @@ pub extern "C" fn gvp_stored(alloc: Global, end: &mut Handle, count: &mut u64) -
         return INVALID;
     };
     let status = thing.stored(count);
+    end.put(thing);
+    status
+}
+
+#[unsafe(no_mangle)]
+pub extern "C" fn gvp_held(
+    alloc: Global,
+    end: &mut Handle,
+    receiving: &mut u64,
+    sending: &mut u64,
+) -> u32
+    ensures { Called end.old.cell.value result end.new.cell.value (λ e f. (f ≡ e) × ((result ≡ 0) × IsHeldBy e (record { receiving = receiving.new; sending = sending.new }))) }
+{
+    let Some(thing) = end.take(alloc) else {
+        return INVALID;
+    };
+    let status = thing.held(receiving, sending);
     end.put(thing);
     status
 }
