@@ -118,6 +118,9 @@ const ROWS: &[Row<Run>] = &[
     ("set-every-other-down-65536", || {
         insert((0..65_536).rev().map(|n| 2 * n), 65_536)
     }),
+    ("set-every-other-down-1000000", || {
+        insert((0..1_000_000).rev().map(|n| 2 * n), 1_000_000)
+    }),
     ("hostile-bytes-64k", hostile),
     ("loop", || transfer(PLAIN)),
     ("loop-ack-each-2", || transfer(Load { burst: 2, ..PLAIN })),

@@ -363,6 +363,9 @@ pub fn rows() -> Vec<Row> {
         row("set-every-other-down-65536", "number", || {
             insert((0..65_536).rev().map(|n| 2 * n), 65_536)
         }),
+        row("set-every-other-down-1000000", "number", || {
+            insert((0..1_000_000).rev().map(|n| 2 * n), 1_000_000)
+        }),
         row("hostile-bytes-64k", "packet", hostile),
     ]
 }
