@@ -1,27 +1,28 @@
--- The runs of a set, none or one beside no block or those of blocks, and what edits of them make of the set.
-use Rattle.std.proofs.Common.{Option, None, Result, Ok, Err, OnOk, OnErr, ◌≡◌, ℕ, ◌+◌, ◌-◌, ◌<◌, ◌≤◌, Bool, true, false, not, ◌&&◌, [], ◌∷◌, ◌++◌, length, take, drop, min, max, All, refl, sym, ap, ◌∙◌, arith}
-use Rattle.std.specs.Option.{option_to_list}
+-- The runs of a set, two at most beside no block or those of blocks, and what edits of them make of the set.
+use Rattle.std.proofs.Common.{Result, Ok, Err, OnOk, OnErr, ◌≡◌, ℕ, ◌+◌, ◌-◌, ◌<◌, ◌≤◌, Bool, true, false, not, ◌&&◌, [], ◌∷◌, ◌++◌, length, take, drop, min, max, All, refl, sym, ap, ◌∙◌, arith}
 use Rattle.std.specs.FinSet as set
 use Rattle.std.proofs.lemmas.List.Elements.{All-head, All-tail}
 use Rattle.std.proofs.lemmas.Bool.Decides.{nat_tests}
 use Rattle.qs_ranges.specs.Numbers.{NumberSet, numbers, is_within, contains-without_range, same_numbers, run_starts, AllBelow, MissesRange, ContainsRange}
 use Rattle.qs_ranges.specs.Runs.{Runs, AreApart, AreApartFrom, AreRunsOf, IsSpan, has_number, set_of, start_at, end_at}
-use Rattle.qs_ranges.specs.Blocks.{Blocks, all_runs, runs_of, IsEdit, with_range, without_range}
+use Rattle.qs_ranges.specs.declared.few.Few.{Few}
+use Rattle.qs_ranges.specs.declared.few.Few.TheVariants as few
+use Rattle.qs_ranges.specs.Blocks.{Blocks, all_runs, few_runs, runs_of, IsEdit, with_range, without_range}
 use Rattle.qs_ranges.proofs.Members.{contains-set_of, set_of-with_range, set_of-without_range}
 use Rattle.qs_ranges.proofs.Count.{len-run_starts}
 use Rattle.qs_ranges.proofs.Edits.{inserted_apart, inserted_over, misses_around, removed_nothing, removed_all, removed_end, removed_start, removed_inside, contains_around}
 
-pub no_block : (bs : Blocks) (one : Option (ℕ × ℕ)) → length bs ≡ 0 → runs_of bs one ≡ option_to_list one
-no_block [] one is = refl
-no_block (b ∷ bs) one is = absurd (omega arith)
+pub no_block : (bs : Blocks) (value : Few) → length bs ≡ 0 → runs_of bs value ≡ few_runs value
+no_block [] value is = refl
+no_block (b ∷ bs) value is = absurd (omega arith)
 
-pub some_block : (bs : Blocks) (one : Option (ℕ × ℕ)) → 0 < length bs → runs_of bs one ≡ all_runs bs
-some_block [] one some = absurd (omega arith)
-some_block (b ∷ bs) one some = refl
+pub some_block : (bs : Blocks) (value : Few) → 0 < length bs → runs_of bs value ≡ all_runs bs
+some_block [] value some = absurd (omega arith)
+some_block (b ∷ bs) value some = refl
 
-pub no_one : (bs : Blocks) → runs_of bs None ≡ all_runs bs
-no_one [] = refl
-no_one (b ∷ bs) = refl
+pub no_value : (bs : Blocks) → runs_of bs few.Empty ≡ all_runs bs
+no_value [] = refl
+no_value (b ∷ bs) = refl
 
 -- the set after an insert, and what it misses where it was refused
 module _ (s : NumberSet) (old runs : Runs) (lo hi : ℕ) (of_old : set_of old ≡ s) (same : old ≡ runs) where
@@ -63,8 +64,8 @@ dropped (Err e) old new n limit most P least below is never = absurd (omega (ari
 -- the edits of blocks, by what the calls answer
 module _ (runs : Runs) (new : Blocks) (lo hi limit from to : ℕ) (apart : AreApart runs) (all : All (λ run. run.1 ≤ limit) runs) (some : lo < hi) where
   pub put_apart : {T E : Type 0} (r : Result T E) → hi ≤ limit → IsSpan runs lo (hi + 1) from to → from ≡ to
-      → OnOk r (all_runs new ≡ take from runs ++ (lo, hi) ∷ drop from runs) → OnOk r (IsEdit (runs_of new None) limit (with_range runs lo hi))
-  put_apart (Ok t) fits span same is = rw (no_one new, is) (inserted_apart runs lo hi limit from to apart all some fits span same)
+      → OnOk r (all_runs new ≡ take from runs ++ (lo, hi) ∷ drop from runs) → OnOk r (IsEdit (all_runs new) limit (with_range runs lo hi))
+  put_apart (Ok t) fits span same is = rw is (inserted_apart runs lo hi limit from to apart all some fits span same)
   put_apart (Err e) fits span same is = tt
 
   pub put_nowhere : {T E : Type 0} (r : Result T E) → hi ≤ limit → IsSpan runs lo (hi + 1) from to → from ≡ to → OnErr r ((n : ℕ) → lo - 1 ≤ n → n < hi + 1 → has_number runs n ≡ false)
@@ -72,24 +73,24 @@ module _ (runs : Runs) (new : Blocks) (lo hi limit from to : ℕ) (apart : AreAp
   put_nowhere (Err e) fits span same = λ n ge lt. misses_around runs lo hi limit from to apart all some fits span same n ge lt
 
   pub put_over : (start end : ℕ) → hi ≤ limit → IsSpan runs lo (hi + 1) from to → from < to → start ≡ min lo (start_at runs from) → end ≡ max hi (end_at runs (to - 1))
-      → all_runs new ≡ take from runs ++ (start, end) ∷ drop to runs → IsEdit (runs_of new None) limit (with_range runs lo hi)
-  put_over start end fits span found starts ends is = rw (no_one new, is, starts, ends) (inserted_over runs lo hi limit from to apart all some fits span found)
+      → all_runs new ≡ take from runs ++ (start, end) ∷ drop to runs → IsEdit (all_runs new) limit (with_range runs lo hi)
+  put_over start end fits span found starts ends is = rw (is, starts, ends) (inserted_over runs lo hi limit from to apart all some fits span found)
 
-  pub kept_all : IsSpan runs (lo + 1) hi from to → from ≡ to → all_runs new ≡ runs → IsEdit (runs_of new None) limit (without_range runs lo hi)
-  kept_all span same is = rw (no_one new, is) record { apart = apart; within = all; members = removed_nothing runs lo hi limit from to apart all some span same }
+  pub kept_all : IsSpan runs (lo + 1) hi from to → from ≡ to → all_runs new ≡ runs → IsEdit (all_runs new) limit (without_range runs lo hi)
+  kept_all span same is = rw is record { apart = apart; within = all; members = removed_nothing runs lo hi limit from to apart all some span same }
 
   module _ (start end : ℕ) (span : IsSpan runs (lo + 1) hi from to) (found : from < to) (starts : start ≡ start_at runs from) (ends : end ≡ end_at runs (to - 1)) where
-    pub cut_all : lo ≤ start → end ≤ hi → all_runs new ≡ take from runs ++ drop to runs → IsEdit (runs_of new None) limit (without_range runs lo hi)
-    cut_all ge le is = rw (no_one new, is) (removed_all runs lo hi limit from to apart all some span found (omega arith) (omega arith))
+    pub cut_all : lo ≤ start → end ≤ hi → all_runs new ≡ take from runs ++ drop to runs → IsEdit (all_runs new) limit (without_range runs lo hi)
+    cut_all ge le is = rw is (removed_all runs lo hi limit from to apart all some span found (omega arith) (omega arith))
 
-    pub cut_end : start < lo → end ≤ hi → all_runs new ≡ take from runs ++ (start, lo) ∷ drop to runs → IsEdit (runs_of new None) limit (without_range runs lo hi)
-    cut_end lt le is = rw (no_one new, is, starts) (removed_end runs lo hi limit from to apart all some span found (omega arith) (omega arith))
+    pub cut_end : start < lo → end ≤ hi → all_runs new ≡ take from runs ++ (start, lo) ∷ drop to runs → IsEdit (all_runs new) limit (without_range runs lo hi)
+    cut_end lt le is = rw (is, starts) (removed_end runs lo hi limit from to apart all some span found (omega arith) (omega arith))
 
-    pub cut_start : lo ≤ start → hi < end → all_runs new ≡ take from runs ++ (hi, end) ∷ drop to runs → IsEdit (runs_of new None) limit (without_range runs lo hi)
-    cut_start ge lt is = rw (no_one new, is, ends) (removed_start runs lo hi limit from to apart all some span found (omega arith) (omega arith))
+    pub cut_start : lo ≤ start → hi < end → all_runs new ≡ take from runs ++ (hi, end) ∷ drop to runs → IsEdit (all_runs new) limit (without_range runs lo hi)
+    cut_start ge lt is = rw (is, ends) (removed_start runs lo hi limit from to apart all some span found (omega arith) (omega arith))
 
-    pub cut_inside : {T E : Type 0} (r : Result T E) → start < lo → hi < end → OnOk r (all_runs new ≡ take from runs ++ (start, lo) ∷ (hi, end) ∷ drop to runs) → OnOk r (IsEdit (runs_of new None) limit (without_range runs lo hi))
-    cut_inside (Ok t) lt gt is = rw (no_one new, is, starts, ends) (removed_inside runs lo hi limit from to apart all some span found (omega arith) (omega arith))
+    pub cut_inside : {T E : Type 0} (r : Result T E) → start < lo → hi < end → OnOk r (all_runs new ≡ take from runs ++ (start, lo) ∷ (hi, end) ∷ drop to runs) → OnOk r (IsEdit (all_runs new) limit (without_range runs lo hi))
+    cut_inside (Ok t) lt gt is = rw (is, starts, ends) (removed_inside runs lo hi limit from to apart all some span found (omega arith) (omega arith))
     cut_inside (Err e) lt gt is = tt
 
     pub cut_nowhere : {T E : Type 0} (r : Result T E) → start < lo → hi < end → OnErr r (from + 1 ≡ to) → OnErr r ((0 < lo) × ((n : ℕ) → lo - 1 ≤ n → n < hi + 1 → has_number runs n ≡ true))
@@ -97,16 +98,16 @@ module _ (runs : Runs) (new : Blocks) (lo hi limit from to : ℕ) (apart : AreAp
     cut_nowhere (Err e) lt gt one = (omega arith, λ n ge less. contains_around runs lo hi limit from to apart all some span found one (omega arith) (omega arith) n ge less)
 
 -- a list of runs within a limit has no more runs than the limit
-pub few_runs : (low limit : ℕ) (runs : Runs) → AreApartFrom low runs → All (λ run. run.1 ≤ limit) runs → low ≤ limit + 1 → low + length runs ≤ limit + 1
-few_runs low limit [] apart all le = omega arith
-few_runs low limit (run ∷ rest) apart all le =
+pub runs_fit : (low limit : ℕ) (runs : Runs) → AreApartFrom low runs → All (λ run. run.1 ≤ limit) runs → low ≤ limit + 1 → low + length runs ≤ limit + 1
+runs_fit low limit [] apart all le = omega arith
+runs_fit low limit (run ∷ rest) apart all le =
     let first : run.1 ≤ limit = All-head (λ r. r.1 ≤ limit) run rest all in
-    omega (arith, apart.0, apart.1, few_runs (run.1 + 1) limit rest apart.2 (All-tail (λ r. r.1 ≤ limit) run rest all) (omega arith))
+    omega (arith, apart.0, apart.1, runs_fit (run.1 + 1) limit rest apart.2 (All-tail (λ r. r.1 ≤ limit) run rest all) (omega arith))
 
 -- how many runs a set has, and which
-module _ (s : NumberSet) (bs : Blocks) (one : Option (ℕ × ℕ)) (apart : AreApart (runs_of bs one)) (of_runs : set_of (runs_of bs one) ≡ s) where
-  pub counted : set.len (run_starts s) ≡ length (runs_of bs one)
-  counted = ap (λ u. set.len (run_starts u)) (sym of_runs) ∙ len-run_starts (runs_of bs one) apart
+module _ (s : NumberSet) (bs : Blocks) (value : Few) (apart : AreApart (runs_of bs value)) (of_runs : set_of (runs_of bs value) ≡ s) where
+  pub counted : set.len (run_starts s) ≡ length (runs_of bs value)
+  counted = ap (λ u. set.len (run_starts u)) (sym of_runs) ∙ len-run_starts (runs_of bs value) apart
 
-  pub runs_are : (xs : Runs) → xs ≡ runs_of bs one → AreRunsOf s xs
-  runs_are xs is = rw is record { apart = apart; members = λ n. ap (λ u. set.contains u n) (sym of_runs) ∙ contains-set_of (runs_of bs one) n }
+  pub runs_are : (xs : Runs) → xs ≡ runs_of bs value → AreRunsOf s xs
+  runs_are xs is = rw is record { apart = apart; members = λ n. ap (λ u. set.contains u n) (sym of_runs) ∙ contains-set_of (runs_of bs value) n }

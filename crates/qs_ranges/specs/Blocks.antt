@@ -1,9 +1,10 @@
 -- Of private contracts.
 -- Runs in blocks: lists of neighbouring runs, one after another.
 use Rattle.std.specs.Prelude.{◌≡◌, ℕ, ◌+◌, ◌-◌, ◌<◌, ◌≤◌, Bool, not, ◌&&◌, ◌||◌, nat_lt, if◌then◌else◌, List, [], ◌∷◌, ◌++◌, length, take, All, Option, None, Some, slice_index_or}
-use Rattle.std.specs.Option.{option_to_list}
 use Rattle.qs_ranges.specs.Numbers.{is_within}
 use Rattle.qs_ranges.specs.Runs.{Runs, AreApart, has_number, end_at}
+use Rattle.qs_ranges.specs.declared.few.Few.{Few}
+use Rattle.qs_ranges.specs.declared.few.Few.TheVariants as few
 
 abbrev pub Blocks : Type 0
 Blocks = List Runs
@@ -13,10 +14,16 @@ abbrev pub all_runs : Blocks → Runs
 all_runs [] = []
 all_runs (b ∷ bs) = b ++ all_runs bs
 
--- the runs of a set: those of the blocks, and where there is no block the one run of the value, if it has one
-abbrev pub runs_of : Blocks → Option (ℕ × ℕ) → Runs
-runs_of [] one = option_to_list one
-runs_of (b ∷ bs) one = all_runs (b ∷ bs)
+-- the runs of a value
+abbrev pub few_runs : Few → Runs
+few_runs few.Empty = []
+few_runs (few.One run) = run ∷ []
+few_runs (few.Two low high) = low ∷ high ∷ []
+
+-- the runs of a set: those of the blocks, and where there is no block those of the value
+abbrev pub runs_of : Blocks → Few → Runs
+runs_of [] value = few_runs value
+runs_of (b ∷ bs) value = all_runs (b ∷ bs)
 
 -- the runs of the block with a number
 abbrev pub block_at : Blocks → ℕ → Runs

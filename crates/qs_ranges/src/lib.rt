@@ -2,7 +2,6 @@
 #![tactic(auto)]
 
 ghost use Rattle.std.specs.Prelude.{◌≡◌, ℕ, ◌+◌, ◌-◌, ◌≤◌, ◌<◌, ◌^◌, ◌↔◌, All, Option, OnOk, OnErr, IsTrue, IfSome, IfNone, [], ◌∷◌, false, length, take, max};
-ghost use Rattle.std.specs.Option.{option_to_list};
 ghost use Rattle.std.specs.FinSet as set;
 ghost use Rattle.qs_ranges.specs.Numbers.{
   NumberSet,
@@ -22,18 +21,20 @@ ghost use Rattle.qs_ranges.specs.Runs.{AreApart, AreRunsOf, has_number};
 ghost use Rattle.qs_ranges.specs.Blocks.{IsEdit, all_runs, runs_of, with_range, without_range};
 
 use crate::block::Block;
-use crate::blocks::{first_from, two_above};
-use crate::changes::{
-    copy_one, copy_runs, count_one, count_runs, insert_few, insert_many, one_above, remove_few,
-    remove_many,
-};
+use crate::blocks::two_above;
+use crate::changes::{copy_runs, count_runs, insert_many, remove_many};
+use crate::few::{Few, copy_few, count_few, few_above, few_above_two, insert_few, remove_few};
 use std::alloc::{AllocError, AllocFailed, Global};
 use std::marker::Model;
 
 mod block;
 mod blocks;
 mod changes;
+mod few;
 pub mod laws;
+mod maybe_number;
+
+pub use maybe_number::MaybeNumber;
 
 /// No memory was left.
 #[derive(Clone, Copy, Debug, PartialEq, Eq)]
@@ -51,11 +52,10 @@ impl<T: Drop> From<AllocFailed<T>> for NoMemory {
     }
 }
 
-/// A set of numbers below 2^62, kept as its longest runs in rising order: none or one in the value itself, and more in blocks. After a
-/// removal one may stay in a block.
+/// A set of numbers below 2^62, kept as its longest runs in rising order: two at most in the value itself, and more in blocks.
 #[derive(Drop)]
 pub struct RangeSet {
-    one: Option<(u64, u64)>,
+    few: Few,
     blocks: Vec<Block>,
 }
 
@@ -71,9 +71,9 @@ impl Model for RangeSet {
 
     ghost coded = { set.code coded_ℕ };
 
-    ghost view = { λ a. set_of (runs_of a.blocks.items a.one) };
+    ghost view = { λ a. set_of (runs_of a.blocks.items a.few) };
 
-    ghost invariant = { λ a. AreApart (runs_of a.blocks.items a.one) × All (λ run. run.1 ≤ 2 ^ 62) (runs_of a.blocks.items a.one) };
+    ghost invariant = { λ a. AreApart (runs_of a.blocks.items a.few) × All (λ run. run.1 ≤ 2 ^ 62) (runs_of a.blocks.items a.few) };
 }
 
 impl RangeSet {
@@ -82,7 +82,19 @@ impl RangeSet {
         ensures { result ≡ set.empty }
     {
         Self {
-            one: None,
+            few: Few::Empty,
+            blocks: Vec::new(alloc),
+        }
+    }
+
+    /// The set of all numbers below `n`. It takes no memory.
+    pub fn below(alloc: Global, n: u64) -> Self
+        requires { n ≤ 2 ^ 62 }
+        ensures { result ≡ numbers 0 n }
+    {
+        let few = if n > 0 { Few::One((0, n)) } else { Few::Empty };
+        Self {
+            few,
             blocks: Vec::new(alloc),
         }
     }
@@ -103,9 +115,9 @@ impl RangeSet {
             return Ok(());
         }
         if self.blocks.is_empty() {
-            return insert_few(&mut self.one, &mut self.blocks, lo, hi);
+            return insert_few(&mut self.few, &mut self.blocks, lo, hi);
         }
-        insert_many(&mut self.one, &mut self.blocks, lo, hi)
+        insert_many(&mut self.few, &mut self.blocks, lo, hi)
     }
 
     /// Takes out the numbers from `lo` on and below `hi`; an empty range changes nothing. `NoMemory` leaves the set as it was.
@@ -122,9 +134,9 @@ impl RangeSet {
             return Ok(());
         }
         if self.blocks.is_empty() {
-            return remove_few(&mut self.one, &mut self.blocks, lo, hi);
+            return remove_few(&mut self.few, &mut self.blocks, lo, hi);
         }
-        remove_many(&mut self.one, &mut self.blocks, lo, hi)
+        remove_many(&mut self.few, &mut self.blocks, lo, hi)
     }
 
     /// Takes out the numbers below `n`. It takes constant time up to the end of the first run.
@@ -145,7 +157,7 @@ impl RangeSet {
         ensures len { length into.new ≡ length into.old }
     {
         if self.blocks.is_empty() {
-            return copy_one(self.one, into);
+            return copy_few(self.few, into);
         }
         copy_runs(&self.blocks, into)
     }
@@ -227,7 +239,7 @@ impl RangeSet {
         ensures { result ≡ set.len (run_starts self.now) }
     {
         if self.blocks.is_empty() {
-            return count_one(self.one);
+            return count_few(self.few);
         }
         count_runs(&self.blocks)
     }
@@ -236,7 +248,7 @@ impl RangeSet {
     pub fn members_fit(&self)
         ensures { AllBelow self.now (2 ^ 62) }
     {
-        let _one = &self.one;
+        let _few = &self.few;
     }
 
     // The first run that ends above `n`.
@@ -246,16 +258,13 @@ impl RangeSet {
         ensures within { IfSome result (λ run. run.1 ≤ 2 ^ 62) }
     {
         if self.blocks.is_empty() {
-            return one_above(self.one, n);
+            return few_above(self.few, n);
         }
         if n >= 1 << 62 {
             return None;
         }
-        let (block, at) = first_from(&self.blocks, n + 1);
-        if block == self.blocks.len() {
-            return None;
-        }
-        Some(self.blocks[block].run(at))
+        let (first, _) = two_above(&self.blocks, n);
+        first
     }
 
     // The first run that ends above `n`, and the one behind it.
@@ -266,7 +275,7 @@ impl RangeSet {
         ensures last { IfSome result.0 (λ run. IfNone result.1 (EndsBefore self.now run.1)) }
     {
         if self.blocks.is_empty() {
-            return (one_above(self.one, n), None);
+            return few_above_two(self.few, n);
         }
         if n >= 1 << 62 {
             return (None, None);

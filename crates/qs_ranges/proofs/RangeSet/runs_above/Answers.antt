@@ -1,20 +1,19 @@
-use Rattle.std.proofs.Common.{◌≡◌, ◌<◌, ◌^◌, None, length, subst, ap, ◌∙◌, sym, arith}
+use Rattle.std.proofs.Common.{◌≡◌, ◌<◌, ◌^◌, length, subst, ap, ◌∙◌, sym, arith}
 use Rattle.std.specs.Prelude.{IfSome}
-use Rattle.std.specs.Option.{option_to_list}
-use Rattle.qs_ranges.specs.Blocks.{all_runs, runs_of, first_run_above}
+use Rattle.qs_ranges.specs.Blocks.{all_runs, runs_of, first_run_above, few_runs}
 use Rattle.qs_ranges.proofs.Algebra.{EndsBefore-from_AllBelow}
 use Rattle.qs_ranges.proofs.Members.{AllBelow-set_of}
-use Rattle.qs_ranges.proofs.Lookups.{IsTwoAbove, two_answers, none_behind}
+use Rattle.qs_ranges.proofs.Lookups.{IsTwoAbove, two_answers}
 use Rattle.qs_ranges.proofs.Sides.{no_block, some_block}
 use Rattle.qs_ranges.proofs.RangeSet.runs_above.Goals as goal
 
-few : (c : goal.After-one_above) → IsTwoAbove c.args.self.now c.args.n c.one_above.result None
+few : (c : goal.After-few_above_two) → IsTwoAbove c.args.self.now c.args.n c.few_above_two.result.0 c.few_above_two.result.1
 few c =
     let bs = c.self.inside.blocks.items in
-    let one = c.self.inside.one in
+    let value = c.self.inside.few in
     let none : length bs ≡ 0 = grind (arith, c.if-is_empty.true, c.is_empty.ensures) in
-    let same : option_to_list one ≡ runs_of bs one = sym (no_block bs one none) in
-    two_answers (runs_of bs one) c.args.self.now c.args.n c.one_above.result None c.self.view_is c.self.invariant.0 (c.one_above.ensures ∙ ap (first_run_above c.args.n) same) (subst (λ l. IfSome c.one_above.result (λ run. None ≡ first_run_above run.1 l)) same (none_behind one c.args.n c.one_above.result c.one_above.ensures))
+    let same : few_runs value ≡ runs_of bs value = sym (no_block bs value none) in
+    two_answers (runs_of bs value) c.args.self.now c.args.n c.few_above_two.result.0 c.few_above_two.result.1 c.self.view_is c.self.invariant.0 (c.few_above_two.ensures.first ∙ ap (first_run_above c.args.n) same) (subst (λ l. IfSome c.few_above_two.result.0 (λ run. c.few_above_two.result.1 ≡ first_run_above run.1 l)) same c.few_above_two.ensures.next)
 
 pub returns-then-is_empty-clause-found : goal.returns-then-is_empty-clause-found
 returns-then-is_empty-clause-found c = (few c).found
@@ -22,24 +21,27 @@ returns-then-is_empty-clause-found c = (few c).found
 pub returns-then-is_empty-clause-none : goal.returns-then-is_empty-clause-none
 returns-then-is_empty-clause-none c = (few c).none
 
+pub returns-then-is_empty-clause-next : goal.returns-then-is_empty-clause-next
+returns-then-is_empty-clause-next c = (few c).next
+
 pub returns-then-is_empty-clause-last : goal.returns-then-is_empty-clause-last
 returns-then-is_empty-clause-last c = (few c).last
 
 pub returns-then-n-clause-none : goal.returns-then-n-clause-none
 returns-then-n-clause-none c =
     let bs = c.self.inside.blocks.items in
-    let one = c.self.inside.one in
-    rw (← c.self.view_is) (λ m ge. EndsBefore-from_AllBelow _ (2 ^ 62) (AllBelow-set_of (2 ^ 62) (runs_of bs one) c.self.invariant.1) m (omega (arith, c.if-n.true)))
+    let value = c.self.inside.few in
+    rw (← c.self.view_is) (λ m ge. EndsBefore-from_AllBelow _ (2 ^ 62) (AllBelow-set_of (2 ^ 62) (runs_of bs value) c.self.invariant.1) m (omega (arith, c.if-n.true)))
 
 many : (c : goal.After-two_above) → IsTwoAbove c.args.self.now c.args.n c.two_above.result.0 c.two_above.result.1
 many c =
     let bs = c.self.inside.blocks.items in
-    let one = c.self.inside.one in
+    let value = c.self.inside.few in
     let some : 0 < length bs = grind (arith, c.if-is_empty.false, c.is_empty.ensures) in
-    let same : all_runs bs ≡ runs_of bs one = sym (some_block bs one some) in
+    let same : all_runs bs ≡ runs_of bs value = sym (some_block bs value some) in
     let first : c.two_above.result.0 ≡ first_run_above c.args.n (all_runs bs) = rw c.deref.ensures.value at c.two_above.ensures.first in
     let next : IfSome c.two_above.result.0 (λ run. c.two_above.result.1 ≡ first_run_above run.1 (all_runs bs)) = rw c.deref.ensures.value at c.two_above.ensures.next in
-    two_answers (runs_of bs one) c.args.self.now c.args.n c.two_above.result.0 c.two_above.result.1 c.self.view_is c.self.invariant.0 (first ∙ ap (first_run_above c.args.n) same) (subst (λ l. IfSome c.two_above.result.0 (λ run. c.two_above.result.1 ≡ first_run_above run.1 l)) same next)
+    two_answers (runs_of bs value) c.args.self.now c.args.n c.two_above.result.0 c.two_above.result.1 c.self.view_is c.self.invariant.0 (first ∙ ap (first_run_above c.args.n) same) (subst (λ l. IfSome c.two_above.result.0 (λ run. c.two_above.result.1 ≡ first_run_above run.1 l)) same next)
 
 pub returns-clause-found : goal.returns-clause-found
 returns-clause-found c = (many c).found
