@@ -1,12 +1,15 @@
 -- One write after another.
-use Rattle.std.proofs.Common.{◌≡◌, ℕ, get_or, ◌+◌, ◌<◌, ◌≤◌, List, [], ◌∷◌, ◌++◌, length, take, drop, sym, ap, ◌∙◌, append_assoc, arith}
+use Rattle.std.proofs.Common.{◌≡◌, ℕ, Bool, true, get_or, refl, ◌+◌, ◌<◌, ◌≤◌, List, [], ◌∷◌, ◌++◌, length, take, drop, sym, ap, subst, ◌∙◌, append_assoc, arith}
 use Rattle.std.specs.List.{flat_map}
 use Rattle.std.proofs.lemmas.List.Concat.{flat_map-append}
 use Rattle.std.proofs.lemmas.List.{take_more, append-nil, length-append, length-take-le, length-drop, take-append-drop, take_at, drop_at, drop-drop}
 use Rattle.qs_wire.specs.declared.writing.Part.{Part}
-use Rattle.qs_wire.specs.Varint.{short}
-use Rattle.qs_wire.specs.Grammar.{IsIdentifierLength}
-use Rattle.qs_wire.proofs.Numbers.{short_byte}
+use Rattle.std.specs.Prelude.{nat_lt, if◌then◌else◌}
+use Rattle.qs_wire.specs.declared.frame_type.FrameType.TheVariants.{Stream}
+use Rattle.qs_wire.specs.Layout.{number_of_type, stream}
+use Rattle.qs_wire.specs.Varint.{short, short_len}
+use Rattle.qs_wire.specs.Grammar.{IsIdentifierLength, canonical}
+use Rattle.qs_wire.proofs.Numbers.{short_byte, length-short}
 use Rattle.qs_wire.specs.Writing.{Puts, part_text}
 
 pub Puts-then : (at next : ℕ) (a b old mid new : List ℕ) → Puts at a old mid → next ≡ at + length a → Puts next b mid new → Puts at (a ++ b) old new
@@ -24,6 +27,15 @@ Puts-then at next a b old mid new p e q =
       is = q.is ∙ ap (λ (t : List ℕ). t ++ (b ++ drop (next + length b) mid)) begins ∙ ap (λ (t : List ℕ). front ++ (b ++ t)) ends
           ∙ append_assoc (take at old) a (b ++ drop (at + length (a ++ b)) old) ∙ ap (λ (t : List ℕ). take at old ++ t) (sym (append_assoc a b (drop (at + length (a ++ b)) old)));
     }
+
+-- four texts one after the other, from the front on
+pub Puts-four : (a b c d old one two three new : List ℕ) (i j k : ℕ) → Puts 0 a old one → i ≡ 0 + length a → Puts i b one two → j ≡ i + length b → Puts j c two three → k ≡ j + length c → Puts k d three new → Puts 0 (a ++ (b ++ (c ++ (d ++ [])))) old new
+Puts-four a b c d old one two three new i j k p at_i q at_j r at_k s =
+    let pq = Puts-then 0 i a b old one two p at_i q in
+    let pqr = Puts-then 0 j (a ++ b) c old two three pq (omega (arith, at_i, at_j, length-append a b)) r in
+    let all = Puts-then 0 k ((a ++ b) ++ c) d old three new pqr (omega (arith, at_i, at_j, at_k, length-append a b, length-append (a ++ b) c)) s in
+    let is : ((a ++ b) ++ c) ++ d ≡ a ++ (b ++ (c ++ (d ++ []))) = append_assoc (a ++ b) c d ∙ append_assoc a b (c ++ d) ∙ ap (λ (t : List ℕ). a ++ (b ++ (c ++ t))) (sym (append-nil d)) in
+    subst (λ (t : List ℕ). Puts 0 t old new) is all
 
 -- what is written at the front
 pub Puts-front : (text old new : List ℕ) → Puts 0 text old new → new ≡ text ++ drop (length text) old
@@ -48,3 +60,18 @@ text_within ps i = omega (arith, ap (λ (qs : List Part). length (flat_map part_
 
 pub length_more : (ps : List Part) (i : ℕ) (d : Part) → i < length ps → length (flat_map part_text (take (i + 1) ps)) ≡ length (flat_map part_text (take i ps)) + length (part_text (get_or ps i d))
 length_more ps i d lt = ap length (text_more ps i d lt) ∙ length-append (flat_map part_text (take i ps)) (part_text (get_or ps i d))
+
+-- ---- the text of a STREAM frame
+
+pub stream_text : (id offset : ℕ) (fin : Bool) (bytes : List ℕ) → canonical (stream id offset fin bytes)
+    ≡ short (number_of_type (Stream (nat_lt 0 offset) true fin)) ++ (short id ++ ((if nat_lt 0 offset then short offset else []) ++ ((short (length bytes) ++ bytes) ++ [])))
+unfolding canonical
+stream_text id offset fin bytes = refl
+
+pub stream_len : (id offset : ℕ) (fin : Bool) (bytes : List ℕ) → number_of_type (Stream (nat_lt 0 offset) true fin) < 64
+    → length (canonical (stream id offset fin bytes)) ≡ 1 + short_len id + length (if nat_lt 0 offset then short offset else []) + short_len (length bytes) + length bytes
+stream_len id offset fin bytes small =
+    let type = short (number_of_type (Stream (nat_lt 0 offset) true fin)) in
+    let at : List ℕ = if nat_lt 0 offset then short offset else [] in
+    let rest = (short (length bytes) ++ bytes) ++ [] in
+    omega (arith, ap length (stream_text id offset fin bytes), ap length (short_byte (number_of_type (Stream (nat_lt 0 offset) true fin)) small), length-short id, length-short (length bytes), length-append type (short id ++ (at ++ rest)), length-append (short id) (at ++ rest), length-append at rest, length-append (short (length bytes) ++ bytes) [], length-append (short (length bytes)) bytes)

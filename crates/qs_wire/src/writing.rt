@@ -3,13 +3,14 @@
 ghost use Rattle.std.specs.Prelude.{◌≡◌, ℕ, ◌+◌, ◌^◌, ◌<◌, ◌≤◌, [], ◌++◌, length, drop, Some, if◌then◌else◌, IfSome, IfNone, IfOk, IfErr};
 ghost use Rattle.std.specs.List.{flat_map, AllByRecursion};
 ghost use Rattle.qs_wire.specs.Varint.{short, short_len, numbers_of};
-ghost use Rattle.qs_wire.specs.Layout.{view, number_of_type};
+ghost use Rattle.qs_wire.specs.Layout.{view, number_of_type, stream};
 ghost use Rattle.qs_wire.specs.Grammar.{canonical, counts_of, CountsFit, Fits};
 ghost use Rattle.qs_wire.specs.Writing.{Puts, part_text, PartFits};
 
 use crate::fault::Full;
 use crate::frame::{EcnCounts, Frame};
 use crate::frame_type::FrameType;
+use crate::stream_id::StreamId;
 use crate::varint::{read_varint, spell, varint_len};
 use Part::{Counted, Counts, Identifier, Number, Plain, Ranges};
 
@@ -349,10 +350,61 @@ pub(crate) fn put_parts(parts: &[Part], out: &mut [u8])
     }
 }
 
-/// Writes the canonical text of a frame at the slice's front and answers its length in bytes: each number
-/// in its shortest spelling; of a STREAM frame the length always, and the offset where it is not 0. Where
-/// the text does not fit, nothing is written.
-pub fn put(frame: &Frame, out: &mut [u8]) -> Result<usize, Full>
+/// How many bytes a number takes, if it is there.
+fn len_if(there: bool, value: u64) -> usize
+    requires { value < 2 ^ 62 }
+    ensures exact { result ≡ length (if there then short value else []) }
+    ensures small { result ≤ 8 }
+{
+    if there { varint_len(value) } else { 0 }
+}
+
+/// Writes a number at a place, if it is there, and answers the place after it.
+fn put_number_if(there: bool, value: u64, at: usize, out: &mut [u8]) -> usize
+    requires below { value < 2 ^ 62 }
+    requires room { at + length (if there then short value else []) ≤ length out.old }
+    ensures puts { Puts at (if there then short value else []) out.old out.new }
+    ensures next { result ≡ at + length (if there then short value else []) }
+{
+    if there {
+        put_number(value, at, out)
+    } else {
+        at
+    }
+}
+
+/// Writes a STREAM frame, as `put` does: most bytes go in such a frame, so it is written without a list of parts.
+fn put_stream(
+    id: StreamId,
+    offset: u64,
+    fin: bool,
+    bytes: &[u8],
+    out: &mut [u8],
+) -> Result<usize, Full>
+    requires { Fits (stream id offset fin bytes.now) }
+    ensures written { IfOk result (λ n. (n ≡ length (canonical (stream id offset fin bytes.now))) × (n ≤ length out.old)
+        × (out.new ≡ canonical (stream id offset fin bytes.now) ++ drop n out.old)) }
+    ensures full { IfErr result (λ _. (length out.old < length (canonical (stream id offset fin bytes.now))) × (out.new ≡ out.old)) }
+{
+    let off = offset > 0;
+    let frame_type = FrameType::Stream {
+        off,
+        len: true,
+        fin,
+    };
+    let head = 1 + varint_len(id.value()) + len_if(off, offset);
+    let len = head + varint_len(bytes.len() as u64) + bytes.len();
+    if len > out.len() {
+        return Err(Full);
+    }
+    let next = put_number(frame_type.number(), 0, out);
+    let next = put_number(id.value(), next, out);
+    let next = put_number_if(off, offset, next, out);
+    Ok(put_counted(bytes, next, out))
+}
+
+/// Writes a frame part by part, as `put` does.
+fn put_any(frame: &Frame, out: &mut [u8]) -> Result<usize, Full>
     requires { Fits (view frame.now) }
     ensures written { IfOk result (λ n. (n ≡ length (canonical (view frame.now))) × (n ≤ length out.old)
         × (out.new ≡ canonical (view frame.now) ++ drop n out.old)) }
@@ -362,4 +414,24 @@ pub fn put(frame: &Frame, out: &mut [u8]) -> Result<usize, Full>
     let len = len_within(&parts, out.len()).ok_or(Full)?;
     put_parts(&parts, out);
     Ok(len)
+}
+
+/// Writes the canonical text of a frame at the slice's front and answers its length in bytes: each number
+/// in its shortest spelling; of a STREAM frame the length always, and the offset where it is not 0. Where
+/// the text does not fit, nothing is written.
+pub fn put(frame: &Frame, out: &mut [u8]) -> Result<usize, Full>
+    requires { Fits (view frame.now) }
+    ensures written { IfOk result (λ n. (n ≡ length (canonical (view frame.now))) × (n ≤ length out.old)
+        × (out.new ≡ canonical (view frame.now) ++ drop n out.old)) }
+    ensures full { IfErr result (λ _. (length out.old < length (canonical (view frame.now))) × (out.new ≡ out.old)) }
+{
+    match *frame {
+        Frame::Stream {
+            stream,
+            offset,
+            fin,
+            bytes,
+        } => put_stream(stream, offset, fin, bytes, out),
+        _ => put_any(frame, out),
+    }
 }
