@@ -48,13 +48,13 @@ kept_note r offset k n cs stored h =
 nothing_in : (q : ℕ) → map.contains_key (stored_in []) q ≡ true → ⊥
 nothing_in q some = not_some _ (get-stored_in_none q) some
 
-pub kept_none : (r : NumberSet) (n : ℕ) (discarding : Bool) → ((q : ℕ) → q < n → set.contains r q ≡ true) → (discarding ≡ false → r ≡ set.empty) → IsKept [] r n 0 discarding
-kept_none r n discarding read empty =
+pub kept_none : (r : NumberSet) (n : ℕ) (discarding : Bool) → ((q : ℕ) → q < n → set.contains r q ≡ true) → (discarding ≡ false → (q : ℕ) → set.contains r q ≡ true → q < n) → IsKept [] r n 0 discarding
+kept_none r n discarding read all =
     record {
       ordered = tt;
       came = λ q some. absurd (nothing_in q some);
       read_came = read;
-      kept = λ on q past some. absurd (both_ways _ (ap (λ s. set.contains s q) (empty on) ∙ set.contains-empty nat_cmp q) some);
+      kept = λ on q past some. let below = all on q some in absurd (omega (arith, below));
       small = λ q some. absurd (nothing_in q some);
       counted = refl;
     }

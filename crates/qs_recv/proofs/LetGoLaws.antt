@@ -1,6 +1,6 @@
 -- What a receiving half lets go stays so.
---     let_go_new, let_go_noted, ..      each call keeps it
-use Rattle.std.specs.Prelude.{◌≡◌, ℕ, ◌+◌, ◌<◌, ◌≤◌, ◌⊎◌, Bool, true, false, cond, ◌||◌, nat_eq, List, length, Option, None, Some, is_some, unwrap_or, refl, IsOk}
+--     let_go_noted, let_go_read, ..      each call keeps it
+use Rattle.std.specs.Prelude.{◌≡◌, ℕ, ◌+◌, ◌<◌, ◌≤◌, ◌⊎◌, Bool, true, false, cond, ◌||◌, nat_eq, List, length, Option, None, Some, is_some, unwrap_or, IsOk}
 use Rattle.std.proofs.Common.{◌∙◌, ap, arith, inl, inr}
 use Rattle.std.specs.FinMap as map
 use Rattle.std.specs.Option.{option_eq}
@@ -9,15 +9,12 @@ use Rattle.std.proofs.lemmas.Bool.Decides.{nat_tests}
 use Rattle.qs_ranges.specs.Numbers.{covers, end_of}
 use Rattle.qs_ranges.proofs.Sets.{below-end_of, covers-of}
 use Rattle.qs_recv.specs.Assembled.{put, take_front}
-use Rattle.qs_recv.specs.Lane.{RecvLane, new_lane, check_stream, breaks_known, highest}
+use Rattle.qs_recv.specs.Lane.{RecvLane, check_stream, breaks_known, highest}
 use Rattle.qs_recv.specs.Lawful.{IsLawful}
 use Rattle.qs_recv.specs.Sound.{IsLetGo}
 use Rattle.qs_recv.proofs.GrowthLaws.{same_size}
 use Rattle.qs_recv.proofs.LaneLaws.{len_within}
 use Rattle.qs_recv.proofs.LawfulLaws.{unbroken}
-
-pub let_go_new : (window size : ℕ) → size ≡ 0 → IsLetGo (new_lane window) size
-let_go_new window size none = record { gone = λ _. none; over = λ _. none; ended = λ told. absurd (both_ways false refl told) }
 
 -- where bytes are thrown away
 pub let_go_gone : (lane : RecvLane) (size : ℕ) → lane.arrived.discarding ≡ true → size ≡ 0 → IsLetGo lane size
@@ -77,7 +74,7 @@ pub let_go_told : (lane : RecvLane) (size : ℕ) → (is_some lane.reset_code ||
 let_go_told lane size off lawful h = let thrown = lawful.discards ∙ off in let_go_gone (record lane { told = true }) size thrown (h.gone thrown)
 
 -- nothing is stored once all of the stream was read
-none_left : (lane : RecvLane) → IsLawful lane → lane.final_size ≡ Some lane.arrived.read_count → map.len lane.arrived.stored ≡ 0
+pub none_left : (lane : RecvLane) → IsLawful lane → lane.final_size ≡ Some lane.arrived.read_count → map.len lane.arrived.stored ≡ 0
 none_left lane lawful all =
     let most = len_within 0 lane.arrived.read_count lane.arrived.stored (λ q some.
     let there = lawful.stored_received q some in

@@ -5,6 +5,7 @@ pub mod LawfulLaws
 pub mod LetGoLaws
 pub mod NewsLaws
 pub mod ReadLaws
+pub mod RestLaws
 pub mod RingCount
 pub mod RingLaws
 pub mod RingMoved

@@ -1,6 +1,6 @@
 -- What a ring answers, offset by offset, and that a put and a read do to it what they do to the map.
 --     get-ring, len-ring       the map that a ring stands for
---     new_ring, ring_read, ring_put, ..       what holds of the fields still holds
+--     new_ring, ring_at_rest, ring_read, ring_put, ..       what holds of the fields still holds
 --     front_next, rest_next       what a read copies out and leaves
 --     IsPut       the ring before a put, with its memory taken, and with the bytes in its gaps
 --     put_stored, put_unseen       what a put stores, and that nothing shows before the offsets are noted
@@ -16,7 +16,7 @@ use Rattle.std.proofs.lemmas.Bool.{both_ways, cases_lt, cases_order, cases_Bool,
 use Rattle.std.proofs.lemmas.Bool.Decides.{nat_tests}
 use Rattle.std.proofs.lemmas.List.{drop_all, length-take, take_all}
 use Rattle.std.proofs.lemmas.Option.{slice_get-get_or}
-use Rattle.qs_ranges.specs.Numbers.{NumberSet, ContainsRange, IsLeastMissingFrom, covers, end_of, is_within}
+use Rattle.qs_ranges.specs.Numbers.{NumberSet, MAX_VARINT, ContainsRange, IsLeastMissingFrom, contains-numbers, covers, end_of, is_within, numbers}
 use Rattle.qs_ranges.proofs.Algebra.{with_range-covered}
 use Rattle.qs_ranges.proofs.Sets.{covers-is, end_of-union, end_of-with_range}
 use Rattle.qs_recv.specs.Assembled.{Assembled, front, keep_from, put, store, take_front}
@@ -92,6 +92,24 @@ thrown_away ring none r w from stored off h is =
       came_within = λ on. absurd (both_ways true on refl);
       held = λ on. absurd (both_ways true on refl);
       counted = sym (map.len-empty nat_cmp ℕ);
+    }
+
+-- A ring at rest
+
+pub nothing_in_ring : (r : NumberSet) (ring : List ℕ) (from : ℕ) (off : Bool) → stored_in_ring r ring 0 from off ≡ map.empty
+unfolding ring_bytes
+nothing_in_ring r ring from true = refl
+nothing_in_ring r ring from false = refl
+
+pub ring_at_rest : (from end : ℕ) (off : Bool) → end ≤ MAX_VARINT → from ≤ end → (off ≡ false → from ≡ end) → IsRing [] (numbers 0 end) 0 from 0 off
+ring_at_rest from end off small came all_read =
+    record {
+      small_window = omega arith;
+      small_count = omega arith;
+      read_came = λ q below. contains-numbers 0 end q ∙ grind (arith, nat_tests);
+      came_within = λ on q is. let all = all_read on in let within : is_within 0 end q ≡ true = sym (contains-numbers 0 end q) ∙ is in grind (arith, nat_tests);
+      held = λ on q past is. let all = all_read on in let within : is_within 0 end q ≡ true = sym (contains-numbers 0 end q) ∙ is in absurd (grind (arith, nat_tests));
+      counted = sym (ap map.len (nothing_in_ring (numbers 0 end) [] from off) ∙ map.len-empty nat_cmp ℕ);
     }
 
 -- A read

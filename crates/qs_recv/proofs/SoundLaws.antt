@@ -1,19 +1,16 @@
 -- What holds of the fields of a receiving half still holds after each call.
-use Rattle.std.specs.Prelude.{◌≡◌, ℕ, ◌+◌, ◌-◌, ◌*◌, ◌≤◌, ◌^◌, Bool, true, false, cond, if◌then◌else◌, ◌||◌, nat_eq, max, List, length, Option, Some, is_some, unwrap_or, refl, IsOk, IsTrue, ◌↔◌}
+use Rattle.std.specs.Prelude.{◌≡◌, ℕ, ◌+◌, ◌-◌, ◌*◌, ◌≤◌, Bool, true, false, cond, if◌then◌else◌, ◌||◌, nat_eq, max, List, length, Option, Some, is_some, unwrap_or, refl, IsOk, IsTrue, ◌↔◌}
 use Rattle.std.proofs.Common.{sym, ◌∙◌, ap, subst, arith}
 use Rattle.std.specs.Ordering.{nat_cmp}
 use Rattle.std.specs.FinMap as map
 use Rattle.qs_ranges.specs.Numbers.{NumberSet, MAX_VARINT, ContainsRange, covers, end_of}
-use Rattle.qs_ranges.proofs.Sets.{end_of-empty, covers-is, covers-of}
+use Rattle.qs_ranges.proofs.Sets.{covers-is, covers-of}
 use Rattle.qs_recv.specs.Assembled.{put, take_front, discard, front_of}
-use Rattle.qs_recv.specs.Lane.{RecvLane, new_lane, check_stream, check_reset, highest, is_whole, taken}
+use Rattle.qs_recv.specs.Lane.{RecvLane, check_stream, check_reset, highest, is_whole, taken}
 use Rattle.qs_recv.specs.Lawful.{IsLawful}
 use Rattle.qs_recv.specs.Sound.{IsSound}
 use Rattle.qs_recv.proofs.AssembledLaws.{with_run, end_of-with_run}
-use Rattle.qs_recv.proofs.LawfulLaws.{lawful_new, lawful_take_stream, lawful_take_reset, lawful_front, lawful_stop, lawful_told, read_within, highest_noted}
-
-pub sound_new : (window : ℕ) → 1 ≤ window → window ≤ 2 ^ 20 → IsSound (new_lane window) window 0 0
-sound_new window some small = record { lawful = lawful_new window some small; window_is = refl; count_is = refl; end_is = end_of-empty; stop_fits = tt }
+use Rattle.qs_recv.proofs.LawfulLaws.{lawful_take_stream, lawful_take_reset, lawful_front, lawful_stop, lawful_told, read_within, highest_noted}
 
 -- the counts are small enough to be added
 pub small_highest : (lane : RecvLane) (w n e : ℕ) → IsSound lane w n e → unwrap_or lane.final_size e ≤ MAX_VARINT
@@ -106,14 +103,15 @@ pub grown_noted : (f : Option ℕ) (r : NumberSet) (offset : ℕ) (bytes : List 
     → unwrap_or f (end_of (with_run r offset (length bytes))) ≡ cond (is_some f || nat_eq (length bytes) 0) (unwrap_or f (end_of r)) (max (unwrap_or f (end_of r)) (offset + length bytes))
 grown_noted f r offset bytes = ap (unwrap_or f) (end_of-with_run r offset (length bytes)) ∙ highest_noted f (end_of r) (offset + length bytes) (length bytes) false
 
+-- two tests that are true of the same
+pub same_tests : (b c : Bool) → (b ≡ true → c ≡ true) → (c ≡ true → b ≡ true) → b ≡ c
+same_tests true c f g = sym (f refl)
+same_tests false true f g = g refl
+same_tests false false f g = refl
+
 -- a test that says whether a range is covered is the computed one
 pub covered_is : (b : Bool) (s : NumberSet) (lo hi : ℕ) → IsTrue b ↔ ContainsRange s lo hi → b ≡ covers s lo hi
 covered_is b s lo hi h = same_tests b (covers s lo hi) (λ t. covers-of s lo hi (h.0 t)) (λ t. h.1 (covers-is s lo hi t))
-  where
-    same_tests : (b c : Bool) → (b ≡ true → c ≡ true) → (c ≡ true → b ≡ true) → b ≡ c
-    same_tests true c f g = sym (f refl)
-    same_tests false true f g = g refl
-    same_tests false false f g = refl
 
 -- the memory that an assembly takes, seen from the half: once bytes are thrown away none is stored
 pub held_within : (lane : RecvLane) (w n e held : ℕ) → IsSound lane w n e → (map.len lane.arrived.stored ≡ 0 → held ≤ 4096) → held ≤ max 4096 (4 * (end_of lane.arrived.received - lane.arrived.read_count)) → held ≤ max 4096 (4 * (highest lane - taken lane))

@@ -2,7 +2,7 @@
 -- What an assembly holds of a stream, however it keeps it (RFC 9000, section 2.2, for the whole file).
 --     Assembled      the bytes that are still to be read, by offset; every offset that came; how many bytes were read; how far past
 --                    these the next ones may lie; and whether bytes are thrown away
---     nothing_yet, put, take_front, discard      what the calls of an assembly leave
+--     nothing_yet, at_rest, put, take_front, discard      what the calls of an assembly leave
 --     front m at size      the bytes of m from an offset on, up to the first offset that isn't in m, and at most size
 --     same m at bytes      whether bytes from an offset on are those that m has there
 use Rattle.std.specs.Prelude.{ℕ, ◌+◌, zero, suc, Bool, true, false, if◌then◌else◌, ◌==◌, ◌&&◌, nat_le, List, [], ◌∷◌, length, Option, None, Some, refl}
@@ -21,6 +21,11 @@ pub record Assembled : Type 0 where
 -- nothing came, and bytes within one window may (RFC 9000, section 4.1)
 abbrev pub nothing_yet : ℕ → Assembled
 nothing_yet window = record { stored = map.empty; received = set.empty; read_count = 0; window = window; discarding = false }
+
+-- the offsets below `end` came, and nothing is stored: what came was read or thrown away (RFC 9000, sections 2.2 and 3.5)
+abbrev pub at_rest : ℕ → ℕ → ℕ → Bool → Assembled
+at_rest window read_count end discarding =
+    record { stored = map.empty; received = numbers 0 end; read_count = read_count; window = window; discarding = discarding }
 
 -- m, and under each offset from `at` on that didn't come before, the byte that comes there
 unfoldable pub store : NumberSet → map.FinMap nat_cmp ℕ → ℕ → List ℕ → map.FinMap nat_cmp ℕ

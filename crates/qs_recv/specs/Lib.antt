@@ -5,5 +5,7 @@ pub mod Codes
 pub mod Lawful
 pub mod Laws
 pub mod News
+pub mod Parts
+pub mod Rest
 pub mod Ring
 pub mod Sound

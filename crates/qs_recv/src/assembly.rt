@@ -1,7 +1,7 @@
 //! What an assembly of arrived bytes promises, however it keeps them (RFC 9000, section 2.2).
 ghost use Rattle.std.specs.Prelude.{◌≡◌, ℕ, ◌+◌, ◌-◌, ◌*◌, ◌≤◌, ◌^◌, ◌⊎◌, ◌++◌, max, length, drop, true, false, OnOk, OnErr};
 ghost use Rattle.std.specs.FinMap as map;
-ghost use Rattle.qs_recv.specs.Assembled.{Assembled, nothing_yet, put, take_front, front_of, discard, same};
+ghost use Rattle.qs_recv.specs.Assembled.{Assembled, nothing_yet, at_rest, put, take_front, front_of, discard, same};
 ghost use Rattle.qs_ranges.specs.Numbers.{MAX_VARINT, MissesRange, covers, end_of};
 
 use qs_ranges::{NoMemory, RangeSet};
@@ -20,6 +20,16 @@ pub trait Assembly: Drop {
         requires some { 1 ≤ window }
         requires small { window ≤ 2 ^ 20 }
         ensures empty { holds result ≡ nothing_yet window }
+        ensures small { size result ≡ 0 };
+
+    /// An assembly that stores nothing, and of which the offsets that came are those below `end`: all of them were read, or
+    /// bytes are thrown away. It takes no memory.
+    fn at_rest(alloc: Global, window: u64, read_count: u64, end: u64, discarding: bool) -> Self
+        requires small { window ≤ 2 ^ 20 }
+        requires in_range { end ≤ MAX_VARINT }
+        requires came { read_count ≤ end }
+        requires all_read { discarding ≡ false → read_count ≡ end }
+        ensures nothing { holds result ≡ at_rest window read_count end discarding }
         ensures small { size result ≡ 0 };
 
     /// Stores the bytes at offsets that didn't come before, and notes the offsets. NoMemory where a growth was refused.

@@ -8,11 +8,10 @@ ghost use Rattle.qs_recv.specs.News.{is_readable, tells_something};
 ghost use Rattle.qs_recv.specs.Lane.{new_lane, highest, highest_after, taken, state, check_stream, check_bytes, take_stream, check_reset, take_reset, is_whole, breaks_final_size, read_answer, bytes_read, after_read, stop, raise, raise_answer};
 
 use crate::assembly::Assembly;
+use crate::live::LiveHalf;
+use crate::rest::Rest;
 use std::alloc::Global;
 use std::marker::Model;
-
-// The largest value of a variable-length integer.
-const MAX_VARINT: u64 = (1 << 62) - 1;
 
 /// Why data or a reset is refused. The half is left as it was. Each but NoMemory is an error of the peer, and the last is
 /// told by `check_bytes` alone.
@@ -57,31 +56,31 @@ pub enum RecvState {
 }
 
 /// The receiving half of a stream, over any assembly. Offsets and sizes count bytes from the start of the stream.
+///
+/// One that never carried a byte, and one of which a reader was told the end or a reset, is a record of 56 bytes; the first
+/// byte that is stored takes the box.
 #[derive(Drop)]
 pub struct RecvHalf<A: Assembly> {
-    assembly: A,
-    window: u64,
-    read_count: u64,
-    received_end: u64,
-    limit: u64,
-    final_size: Option<u64>,
-    reset_code: Option<u64>,
-    stop_code: Option<u64>,
-    told: bool,
+    alloc: Global,
+    parts: Parts<A>,
+}
+
+#[derive(Drop)]
+enum Parts<A: Assembly> {
+    Resting(Rest),
+    Live(Box<LiveHalf<A>>),
 }
 
 impl<A: Assembly> Model for RecvHalf<A> {
     ghost use Rattle.qs_recv.specs.Lane.{RecvLane};
     ghost use Rattle.qs_recv.specs.Codes.{lane_code};
-    ghost use Rattle.qs_recv.specs.Sound.{IsLetGo, IsSound};
+    ghost use Rattle.qs_recv.specs.Parts.{lane_of};
 
     ghost Value = { RecvLane };
 
     ghost coded = { lane_code };
 
-    ghost view = { λ h. record { arrived = A.holds h.assembly; final_size = h.final_size; reset_code = h.reset_code; stop_code = h.stop_code; told = h.told; limit = h.limit } };
-
-    ghost invariant = { λ h. IsSound (record { arrived = A.holds h.assembly; final_size = h.final_size; reset_code = h.reset_code; stop_code = h.stop_code; told = h.told; limit = h.limit }) h.window h.read_count h.received_end × IsLetGo (record { arrived = A.holds h.assembly; final_size = h.final_size; reset_code = h.reset_code; stop_code = h.stop_code; told = h.told; limit = h.limit }) (A.size h.assembly) };
+    ghost view = { λ h. lane_of h.parts };
 }
 
 impl<A: Assembly> RecvHalf<A> {
@@ -92,15 +91,8 @@ impl<A: Assembly> RecvHalf<A> {
         ensures { result ≡ new_lane window }
     {
         RecvHalf {
-            assembly: A::new(alloc, window),
-            window,
-            read_count: 0,
-            received_end: 0,
-            limit: window,
-            final_size: None,
-            reset_code: None,
-            stop_code: None,
-            told: false,
+            alloc,
+            parts: Parts::Resting(Rest::new(window)),
         }
     }
 
@@ -111,22 +103,10 @@ impl<A: Assembly> RecvHalf<A> {
         ensures value { result ≡ check_stream self.now offset len fin }
         ensures in_range { IfOk result (λ h. h.after ≤ MAX_VARINT) }
     {
-        if self.breaks_final_size(offset, len, fin) {
-            return Err(RecvFault::FinalSize);
+        match &self.parts {
+            Parts::Resting(rest) => self.revived(rest).check_stream(offset, len, fin),
+            Parts::Live(live) => live.check_stream(offset, len, fin),
         }
-        let end = offset + len;
-        let before = self.highest();
-        if before.max(end) > self.limit {
-            return Err(RecvFault::StreamCredit);
-        }
-        let after = if fin {
-            end
-        } else if self.final_size.is_some() || len == 0 {
-            before
-        } else {
-            before.max(end)
-        };
-        Ok(Highest { before, after })
     }
 
     /// Whether a STREAM frame's bytes are those that are stored at their offsets, where some are still stored. It takes no
@@ -135,10 +115,12 @@ impl<A: Assembly> RecvHalf<A> {
         requires { offset + length bytes.now ≤ MAX_VARINT }
         ensures { result ≡ check_bytes self.now offset bytes.now }
     {
-        if self.assembly.same(offset, bytes) {
-            Ok(())
-        } else {
-            Err(RecvFault::ChangedByte)
+        match &self.parts {
+            Parts::Resting(rest) => {
+                let _none = rest.stored();
+                Ok(())
+            }
+            Parts::Live(live) => live.check_bytes(offset, bytes),
         }
     }
 
@@ -159,17 +141,21 @@ impl<A: Assembly> RecvHalf<A> {
         ensures apart { OnErr result (IsTrue (is_some self.old.stop_code)
             → MissesRange self.old.arrived.received (offset - 1) (offset + length bytes.now + 1)) }
     {
-        let end = offset + bytes.len() as u64;
-        if self.reset_code.is_none() {
-            if self.assembly.put(offset, bytes).is_err() {
-                return Err(RecvFault::NoMemory);
+        match &mut self.parts {
+            Parts::Resting(rest) => {
+                if rest.takes(offset, bytes, fin) {
+                    return Ok(());
+                }
+                let mut live: LiveHalf<A> = LiveHalf::revived(self.alloc, rest);
+                live.take_stream(offset, bytes, fin)?;
+                let Ok(boxed) = Box::new(self.alloc, live) else {
+                    return Err(RecvFault::NoMemory);
+                };
+                self.parts = Parts::Live(boxed);
+                Ok(())
             }
-            self.received_end = end_with(self.received_end, offset, bytes.len() as u64);
+            Parts::Live(live) => live.take_stream(offset, bytes, fin),
         }
-        if fin {
-            self.final_size = Some(end);
-        }
-        Ok(())
     }
 
     /// Whether a RESET_STREAM frame that names this final size may be taken.
@@ -177,16 +163,10 @@ impl<A: Assembly> RecvHalf<A> {
         requires { size ≤ MAX_VARINT }
         ensures { result ≡ check_reset self.now size }
     {
-        if self.breaks_final_size(size, 0, true) {
-            return Err(RecvFault::FinalSize);
+        match &self.parts {
+            Parts::Resting(rest) => self.revived(rest).check_reset(size),
+            Parts::Live(live) => live.check_reset(size),
         }
-        if size > self.limit {
-            return Err(RecvFault::StreamCredit);
-        }
-        Ok(Highest {
-            before: self.highest(),
-            after: size,
-        })
     }
 
     /// Takes a RESET_STREAM frame that passed the check: what is stored is thrown away. Once all data came, or after
@@ -197,12 +177,10 @@ impl<A: Assembly> RecvHalf<A> {
         ensures after { self.new ≡ take_reset self.old code size }
         ensures grown { highest self.new ≡ size }
     {
-        if self.reset_code.is_some() || self.is_whole() {
-            return;
+        match &mut self.parts {
+            Parts::Resting(rest) => rest.take_reset(code, size),
+            Parts::Live(live) => live.take_reset(code, size),
         }
-        self.assembly.discard();
-        self.final_size = Some(size);
-        self.reset_code = Some(code);
     }
 
     /// Reads the bytes that are next into the slice's front, or tells how the stream stands. The rest of the slice stays.
@@ -212,28 +190,14 @@ impl<A: Assembly> RecvHalf<A> {
         ensures after { self.new ≡ after_read self.old (length into.old) }
         ensures same_highest { highest self.new ≡ highest self.old }
     {
-        if let Some(code) = self.reset_code {
-            self.told = true;
-            return Read::Reset(code);
+        let answer = match &mut self.parts {
+            Parts::Resting(rest) => rest.read(),
+            Parts::Live(live) => live.read(into),
+        };
+        if matches!(answer, Read::End | Read::Reset(_)) {
+            self.settle();
         }
-        if self.stop_code.is_some() {
-            if self.is_whole() {
-                self.told = true;
-                return Read::End;
-            }
-            return Read::Wait;
-        }
-        if self.final_size == Some(self.read_count) {
-            self.assembly.give_back();
-            self.told = true;
-            return Read::End;
-        }
-        if !self.assembly.received().has(self.read_count) {
-            return Read::Wait;
-        }
-        let count = self.assembly.take(into);
-        self.read_count += count as u64;
-        Read::Bytes(count)
+        answer
     }
 
     /// Throws the stored bytes away, and those that come from now on (section 3.5). The first code stays;
@@ -243,9 +207,9 @@ impl<A: Assembly> RecvHalf<A> {
         ensures after { self.new ≡ stop self.old code }
         ensures same_highest { highest self.new ≡ highest self.old }
     {
-        if self.stop_code.is_none() {
-            self.assembly.discard();
-            self.stop_code = Some(code);
+        match &mut self.parts {
+            Parts::Resting(rest) => rest.stop(code),
+            Parts::Live(live) => live.stop(code),
         }
     }
 
@@ -255,30 +219,30 @@ impl<A: Assembly> RecvHalf<A> {
         ensures answer { result ≡ raise_answer self.old }
         ensures after { self.new ≡ raise self.old }
     {
-        if self.final_size.is_some() {
-            return None;
+        match &mut self.parts {
+            Parts::Resting(rest) => rest.raise(),
+            Parts::Live(live) => live.raise(),
         }
-        let next = (self.taken() + self.window).min(MAX_VARINT);
-        let step = (self.window / 2).max(1);
-        if self.limit + step <= next || (next == MAX_VARINT && self.limit < next) {
-            self.limit = next;
-            return Some(next);
-        }
-        None
     }
 
     /// What holds of the half at all times.
     pub fn is_lawful(&self)
         ensures { IsLawful self.now }
     {
-        let _ = &self.assembly;
+        match &self.parts {
+            Parts::Resting(rest) => rest.is_lawful(),
+            Parts::Live(live) => live.is_lawful(),
+        }
     }
 
     /// The limit on the highest offset that was granted (section 4.1).
     pub fn limit(&self) -> u64
         ensures { result ≡ self.now.limit }
     {
-        self.limit
+        match &self.parts {
+            Parts::Resting(rest) => rest.limit(),
+            Parts::Live(live) => live.limit(),
+        }
     }
 
     /// What credit is paid back for: the final size after a reset, the highest offset after a stop, else the bytes read.
@@ -287,10 +251,9 @@ impl<A: Assembly> RecvHalf<A> {
         ensures in_range { result ≤ MAX_VARINT }
         ensures within { result ≤ highest self.now }
     {
-        if self.reset_code.is_some() || self.stop_code.is_some() {
-            self.highest()
-        } else {
-            self.read_count
+        match &self.parts {
+            Parts::Resting(rest) => rest.taken(),
+            Parts::Live(live) => live.taken(),
         }
     }
 
@@ -299,36 +262,29 @@ impl<A: Assembly> RecvHalf<A> {
         ensures value { result ≡ highest self.now }
         ensures in_range { result ≤ MAX_VARINT }
     {
-        self.final_size.unwrap_or(self.received_end)
+        match &self.parts {
+            Parts::Resting(rest) => rest.highest(),
+            Parts::Live(live) => live.highest(),
+        }
     }
 
     /// How long the stream is, where that is known (section 4.5).
     pub fn final_size(&self) -> Option<u64>
         ensures { result ≡ self.now.final_size }
     {
-        self.final_size
+        match &self.parts {
+            Parts::Resting(rest) => rest.final_size(),
+            Parts::Live(live) => live.final_size(),
+        }
     }
 
     /// The state by what came and what a reader was told (section 3.2).
     pub fn state(&self) -> RecvState
         ensures { result ≡ state self.now }
     {
-        if self.reset_code.is_some() {
-            if self.told {
-                RecvState::ResetRead
-            } else {
-                RecvState::ResetRecvd
-            }
-        } else if self.is_whole() {
-            if self.told {
-                RecvState::DataRead
-            } else {
-                RecvState::DataRecvd
-            }
-        } else if self.final_size.is_some() {
-            RecvState::SizeKnown
-        } else {
-            RecvState::Recv
+        match &self.parts {
+            Parts::Resting(rest) => self.revived(rest).state(),
+            Parts::Live(live) => live.state(),
         }
     }
 
@@ -337,7 +293,10 @@ impl<A: Assembly> RecvHalf<A> {
     pub fn is_readable(&self) -> bool
         ensures { result ≡ is_readable self.now }
     {
-        !self.told && self.tells_something()
+        match &self.parts {
+            Parts::Resting(rest) => self.revived(rest).is_readable(),
+            Parts::Live(live) => live.is_readable(),
+        }
     }
 
     /// How many bytes are stored and not read.
@@ -345,7 +304,10 @@ impl<A: Assembly> RecvHalf<A> {
         ensures value { result ≡ map.len self.now.arrived.stored }
         ensures within { result + taken self.now ≤ highest self.now }
     {
-        self.assembly.stored()
+        match &self.parts {
+            Parts::Resting(rest) => rest.stored(),
+            Parts::Live(live) => live.stored(),
+        }
     }
 
     /// How many bytes of memory are taken to store some, as the assembly counts them: at most 4,096, or while some are stored
@@ -357,14 +319,20 @@ impl<A: Assembly> RecvHalf<A> {
         ensures over { IsTrue self.now.told → result ≡ 0 }
         ensures gone { IsTrue self.now.arrived.discarding → result ≡ 0 }
     {
-        self.assembly.held()
+        match &self.parts {
+            Parts::Resting(rest) => rest.stored(),
+            Parts::Live(live) => live.held(),
+        }
     }
 
     /// How many bytes were read.
     pub fn read_count(&self) -> u64
         ensures { result ≡ self.now.arrived.read_count }
     {
-        self.read_count
+        match &self.parts {
+            Parts::Resting(rest) => rest.read_count(),
+            Parts::Live(live) => live.read_count(),
+        }
     }
 
     /// The code of the first stop, if there was one: at most 2^62 - 1.
@@ -372,63 +340,38 @@ impl<A: Assembly> RecvHalf<A> {
         ensures value { result ≡ self.now.stop_code }
         ensures small { CodeFits result }
     {
-        self.stop_code
+        match &self.parts {
+            Parts::Resting(rest) => rest.stop_code(),
+            Parts::Live(live) => live.stop_code(),
+        }
     }
 
     /// The code of the reset that was taken, if there was one.
     pub fn reset_code(&self) -> Option<u64>
         ensures { result ≡ self.now.reset_code }
     {
-        self.reset_code
+        match &self.parts {
+            Parts::Resting(rest) => rest.reset_code(),
+            Parts::Live(live) => live.reset_code(),
+        }
     }
 
-    // Whether a read of one byte would tell something, be it new or not.
-    fn tells_something(&self) -> bool
-        ensures { result ≡ tells_something (read_answer self.now 1) }
+    // A half that is over is kept by its numbers alone from now on.
+    fn settle(&mut self)
+        ensures { self.new ≡ self.old }
     {
-        if let Some(_code) = self.reset_code {
-            return true;
+        let Parts::Live(live) = &self.parts else {
+            return;
+        };
+        if let Some(rest) = live.rested() {
+            self.parts = Parts::Resting(rest);
         }
-        if self.stop_code.is_some() {
-            return self.is_whole();
-        }
-        if Some(self.read_count) == self.final_size {
-            return true;
-        }
-        self.assembly.received().has(self.read_count)
     }
 
-    // Whether the final size is known and every offset below it came.
-    fn is_whole(&self) -> bool
-        ensures { result ≡ is_whole self.now }
+    // A half at rest, with an assembly that stores nothing.
+    fn revived(&self, rest: &Rest) -> LiveHalf<A>
+        ensures { result ≡ rest.now }
     {
-        match self.final_size {
-            Some(size) => self.assembly.received().covers(0, size),
-            None => false,
-        }
-    }
-
-    // Whether a frame with len bytes at offset names another final size, or lies outside the known one.
-    fn breaks_final_size(&self, offset: u64, len: u64, fin: bool) -> bool
-        requires { offset + len ≤ MAX_VARINT }
-        ensures { result ≡ breaks_final_size self.now offset len fin }
-    {
-        let end = offset + len;
-        match self.final_size {
-            Some(size) => (len > 0 && size < end) || (fin && end != size),
-            None => fin && end < self.highest(),
-        }
-    }
-}
-
-// One more than the largest offset, once the len offsets from another one on came too.
-fn end_with(before: u64, offset: u64, len: u64) -> u64
-    requires { offset + len ≤ MAX_VARINT }
-    ensures { result ≡ (if len == 0 then before else max before (offset + len)) }
-{
-    if len == 0 {
-        before
-    } else {
-        before.max(offset + len)
+        LiveHalf::revived(self.alloc, rest)
     }
 }

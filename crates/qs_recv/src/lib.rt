@@ -2,8 +2,11 @@
 #![tactic(auto)]
 
 mod assembly;
+mod credit;
 mod half;
 pub mod laws;
+mod live;
+mod rest;
 mod ring_assembly;
 
 pub use assembly::Assembly;

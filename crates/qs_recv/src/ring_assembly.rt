@@ -71,6 +71,19 @@ impl Assembly for RingAssembly {
         }
     }
 
+    fn at_rest(alloc: Global, window: u64, read_count: u64, end: u64, discarding: bool) -> Self {
+        RingAssembly {
+            alloc,
+            ring: Vec::new(alloc),
+            received: RangeSet::below(alloc, end),
+            read_count,
+            end,
+            stored: 0,
+            window,
+            discarding,
+        }
+    }
+
     fn put(&mut self, offset: u64, bytes: &[u8]) -> Result<(), NoMemory>
         requires in_range { offset + length bytes.now ≤ MAX_VARINT }
         requires in_window { self.old.0.discarding ≡ false → offset + length bytes.now ≤ self.old.0.read_count + self.old.0.window }
@@ -306,6 +319,14 @@ fn fill_gaps(
     ensures filled { IsFilled received.now first (offset + length bytes.now) offset bytes.now ring.old ring.new }
 {
     let end = offset + bytes.len() as u64;
+    if stop == end {
+        copy_in(
+            ring,
+            first,
+            &bytes[(first - offset) as usize..(stop - offset) as usize],
+        );
+        return end - first;
+    }
     let mut at = first;
     let mut to = stop;
     let mut count = 0;
@@ -425,6 +446,9 @@ fn is_in_ring(
     let mut at = start;
     while at < end {
         let (from, to) = next_run(received, at, end);
+        if from == end {
+            return true;
+        }
         let run = &bytes[(from - offset) as usize..(to - offset) as usize];
         if !are_at(ring, from, run) {
             return false;

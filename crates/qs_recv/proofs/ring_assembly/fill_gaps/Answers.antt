@@ -1,8 +1,13 @@
 use Rattle.std.proofs.Common.{◌≡◌, ◌∙◌, ◌+◌, ◌-◌, sym, ap, arith, length}
 use Rattle.qs_recv.specs.Ring.{missing_count}
-use Rattle.qs_recv.proofs.RingCount.{missing_gap, missing_zero, run_behind}
+use Rattle.qs_recv.proofs.RingCount.{missing_all, missing_gap, missing_zero, run_behind}
 use Rattle.qs_recv.proofs.RingPlaces.{filled_none, filled_gap}
 use Rattle.qs_recv.proofs.ring_assembly.fill_gaps.Goals as goal
+
+pub returns-then-stop-end-clause-count : goal.returns-then-stop-end-clause-count
+returns-then-stop-end-clause-count c =
+    let end = c.args.offset + length c.args.bytes.now in
+    sym (missing_all c.args.received.now c.args.first (end - c.args.first) (λ q low high. c.requires.missing q low (omega (arith, c.requires.some, c.requires.ends, c.if-stop-end.true))))
 
 pub loop-at-init : goal.loop-at-init
 loop-at-init c =
@@ -39,6 +44,6 @@ loop-at-preserved c =
       missing = gap.missing;
       counted = ap (λ k. k + (stop - at)) inv.counted ∙ missing_gap c.args.received.now c.args.first at end stop next inv.begins none g;
       small = omega (arith, inv.begins, inv.small, some, g.ordered);
-      filled = filled_gap c.args.received.now c.args.first at end stop next c.args.offset c.args.bytes.now c.args.ring.now c.loop-at.ring c.copy_in.new.ring c.requires.begins inv.begins (omega arith) some g
-          c.loop-at.auto.ring inv.filled c.copy_in.ensures.written;
+      filled = filled_gap c.args.received.now c.args.first at end stop next c.args.offset c.args.bytes.now c.args.ring.now c.loop-at.ring c.copy_in-in-loop-at.new.ring c.requires.begins inv.begins (omega arith) some g
+          c.loop-at.auto.ring inv.filled c.copy_in-in-loop-at.ensures.written;
     }

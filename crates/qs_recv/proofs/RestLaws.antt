@@ -1,0 +1,263 @@
+-- A receiving half at rest stays so, and is what it says.
+--     end_of-below, covers-below      the numbers below one
+--     sound_at_rest, let_go_at_rest      what holds of a half that was made of it
+--     at_rest_new, at_rest_told, ..      each call keeps it
+use Rattle.std.specs.Prelude.{◌≡◌, ℕ, ◌+◌, ◌-◌, ◌<◌, ◌≤◌, ◌^◌, ◌⊎◌, Bool, true, false, cond, ◌||◌, nat_le, List, length, Option, None, Some, is_some, refl, IsOk, unwrap_or}
+use Rattle.std.proofs.Common.{sym, ◌∙◌, ap, subst, arith, inl, inr}
+use Rattle.std.specs.FinMap as map
+use Rattle.std.specs.FinSet as set
+use Rattle.std.proofs.lemmas.Bool.{both_ways, cases_lt, or_right, false_from_ne_true, leb-true, le-leb}
+use Rattle.std.proofs.lemmas.Bool.Decides.{nat_tests}
+use Rattle.qs_ranges.specs.Numbers.{MAX_VARINT, ContainsRange, MissesRange, numbers, contains-numbers, same_numbers, contains-with_range, covers, end_of, is_within}
+use Rattle.qs_ranges.proofs.Sets.{below-end_of, covers-is, covers-of, end_of-empty, end_of-numbers, numbers-none}
+use Rattle.qs_recv.specs.Assembled.{at_rest, put, front_of, discard}
+use Rattle.qs_recv.specs.Lane.{RecvLane, new_lane, highest, highest_after, is_whole, at_final_size, check_stream, take_stream, check_reset, read_answer, raise}
+use Rattle.qs_recv.specs.declared.half.Read.TheVariants.{Bytes, End, Wait}
+use Rattle.qs_recv.specs.Lawful.{IsLawful}
+use Rattle.qs_recv.specs.Sound.{IsSound, IsLetGo, CodeFits}
+use Rattle.qs_recv.specs.Rest.{given, lane_at_rest, IsAtRest, EndsAt}
+use Rattle.qs_recv.proofs.GrowthLaws.{same_size}
+use Rattle.qs_recv.proofs.LawfulLaws.{highest-take_stream, lawful_new, lawful_take_stream, lawful_raise, lawful_told, read_within, unbroken}
+use Rattle.qs_recv.proofs.LetGoLaws.{none_left}
+use Rattle.qs_recv.proofs.RingLaws.{put_known}
+use Rattle.qs_recv.proofs.SoundLaws.{same_tests, sound_reset, sound_stop}
+
+-- The numbers below one
+
+pub end_of-below : (n : ℕ) → end_of (numbers 0 n) ≡ n
+end_of-below n =
+    elim (cases_lt 0 n) [
+      | inl some ↦ end_of-numbers 0 n some
+      | inr none ↦ let zero : 0 ≡ n = omega (arith, none) in ap end_of (numbers-none 0 n none) ∙ end_of-empty ∙ zero
+    ]
+
+pub contains-below : (n q : ℕ) → set.contains (numbers 0 n) q ≡ is_within 0 n q
+contains-below n q = contains-numbers 0 n q
+
+pub news_below : (e offset end : ℕ) → offset < end → e < end → covers (numbers 0 e) offset end ≡ false
+news_below e offset end some new =
+    false_from_ne_true (covers (numbers 0 e) offset end) (λ all.
+    let last : is_within 0 e (end - 1) ≡ true = sym (contains-below e (end - 1)) ∙ covers-is (numbers 0 e) offset end all (end - 1) (omega arith) (omega arith) in
+    grind (arith, nat_tests))
+
+pub known_below : (e offset end : ℕ) → (end ≤ offset) ⊎ (end ≤ e) → ContainsRange (numbers 0 e) offset end
+known_below e offset end known q low high = contains-below e q ∙ elim known [
+  | inl none ↦ absurd (omega arith)
+  | inr old ↦ grind (arith, nat_tests)
+]
+
+-- What holds of a half that is made of one at rest
+
+pub sound_at_rest : (w n e limit : ℕ) (f r s : Option ℕ) (told : Bool) → IsAtRest (lane_at_rest w n e limit f r s told) n e → IsSound (lane_at_rest w n e limit f r s told) w n e
+sound_at_rest w n e limit f r s told h = record { lawful = h.lawful; window_is = refl; count_is = refl; end_is = end_of-below e; stop_fits = h.stop_fits }
+
+pub let_go_at_rest : (lane : RecvLane) (n e size : ℕ) → lane.arrived.read_count ≡ n → size ≡ 0 → IsAtRest lane n e → IsLetGo lane size
+let_go_at_rest lane n e size count none h = record { gone = λ _. none; over = λ _. none; ended = λ told on. h.ended told on ∙ ap Some (sym count) }
+
+-- The counts are small, and a size below what came is all of it
+
+pub read_below : (lane : RecvLane) (n e : ℕ) → IsAtRest lane n e → lane.arrived.read_count ≤ highest lane
+read_below lane n e h = let read = read_within lane h.lawful in omega (arith, read, h.lawful.received_within)
+
+pub read_at_rest : (w n e limit : ℕ) (f r s : Option ℕ) (told : Bool) → IsAtRest (lane_at_rest w n e limit f r s told) n e → n ≤ MAX_VARINT
+read_at_rest w n e limit f r s told h =
+    let read = read_below (lane_at_rest w n e limit f r s told) n e h in
+    omega (arith, read, h.lawful.granted, h.lawful.small_limit)
+
+pub came_at_rest : (w n e limit : ℕ) (f r s : Option ℕ) (told : Bool) → IsAtRest (lane_at_rest w n e limit f r s told) n e → n ≤ e
+came_at_rest w n e limit f r s told h =
+    let read = read_within (lane_at_rest w n e limit f r s told) h.lawful in
+    let end = end_of-below e in
+    omega (arith, read, end)
+
+pub end_at_rest : (w n e limit : ℕ) (f r s : Option ℕ) (told : Bool) → IsAtRest (lane_at_rest w n e limit f r s told) n e → e ≤ MAX_VARINT
+end_at_rest w n e limit f r s told h =
+    let end = end_of-below e in
+    omega (arith, end, h.lawful.received_within, h.lawful.granted, h.lawful.small_limit)
+
+pub whole_below : (e size : ℕ) → nat_le size e ≡ covers (numbers 0 e) 0 size
+whole_below e size =
+    same_tests _ _ (λ fits. covers-of (numbers 0 e) 0 size (known_below e 0 size (inr (leb-true size e fits))))
+    (λ all. elim (cases_lt e size) [
+      | inl more ↦ absurd (both_ways _ (news_below e 0 size (omega arith) more) all)
+      | inr fits ↦ le-leb size e fits
+    ])
+
+-- A new half
+
+pub new_at_rest : (w : ℕ) → lane_at_rest w 0 0 w None None None false ≡ new_lane w
+new_at_rest w = ap (λ r. record (new_lane w) { arrived = record { stored = map.empty; received = r; read_count = 0; window = w; discarding = false } }) (numbers-none 0 0 (omega arith))
+
+pub at_rest_new : (w : ℕ) → 1 ≤ w → w ≤ 2 ^ 20 → IsAtRest (lane_at_rest w 0 0 w None None None false) 0 0
+at_rest_new w some small =
+    record {
+      lawful = subst IsLawful (sym (new_at_rest w)) (lawful_new w some small);
+      stop_fits = tt;
+      all_read = λ _. refl;
+      ended = λ told. absurd (both_ways false refl told);
+    }
+
+-- Where bytes are thrown away
+
+at_rest_thrown : (lane : RecvLane) (n e : ℕ) → lane.arrived.discarding ≡ true → IsLawful lane → CodeFits lane.stop_code → IsAtRest lane n e
+at_rest_thrown lane n e off lawful fits =
+    record {
+      lawful = lawful;
+      stop_fits = fits;
+      all_read = λ on. absurd (both_ways _ on off);
+      ended = λ _ on. absurd (both_ways _ on off);
+    }
+
+pub at_rest_reset : (w n e limit code size : ℕ) (f s : Option ℕ) (told : Bool) → is_whole (lane_at_rest w n e limit f None s told) ≡ false → IsOk (check_reset (lane_at_rest w n e limit f None s told) size)
+    → IsAtRest (lane_at_rest w n e limit f None s told) n e → IsAtRest (lane_at_rest w n e limit (Some size) (Some code) s told) n e
+at_rest_reset w n e limit code size f s told not_whole ok h =
+    at_rest_thrown (lane_at_rest w n e limit (Some size) (Some code) s told) n e refl
+    (sound_reset (lane_at_rest w n e limit f None s told) w n e code size refl not_whole ok (sound_at_rest w n e limit f None s told h)).lawful h.stop_fits
+
+-- what a stop leaves
+pub stopped_at_rest : (w n e limit code : ℕ) (f r : Option ℕ) (told : Bool)
+    → (let lane : RecvLane = lane_at_rest w n e limit f r None told in lane_at_rest w n e limit f r (Some code) told ≡ record lane { arrived = discard lane.arrived; stop_code = Some code })
+stopped_at_rest w n e limit code f r told =
+    let lane : RecvLane = lane_at_rest w n e limit f r None told in
+    ap (λ off. record lane { arrived = at_rest w n e off; stop_code = Some code }) (or_right (is_some r) true refl)
+
+pub at_rest_stopped : (w n e limit code : ℕ) (f r : Option ℕ) (told : Bool) → code ≤ MAX_VARINT
+    → IsAtRest (lane_at_rest w n e limit f r None told) n e → IsAtRest (lane_at_rest w n e limit f r (Some code) told) n e
+at_rest_stopped w n e limit code f r told fits h =
+    at_rest_thrown (lane_at_rest w n e limit f r (Some code) told) n e (or_right (is_some r) true refl)
+    (subst IsLawful (sym (stopped_at_rest w n e limit code f r told)) (sound_stop (lane_at_rest w n e limit f r None told) w n e code refl fits (sound_at_rest w n e limit f r None told h)).lawful) fits
+
+-- What a reader is told
+
+pub at_rest_told : (lane : RecvLane) (n e : ℕ) → (lane.arrived.discarding ≡ true) ⊎ (lane.final_size ≡ Some n) → IsAtRest lane n e → IsAtRest (record lane { told = true }) n e
+at_rest_told lane n e why h =
+    record {
+      lawful = lawful_told lane h.lawful;
+      stop_fits = h.stop_fits;
+      all_read = h.all_read;
+      ended = λ _ on. elim why [
+        | inl off ↦ absurd (both_ways _ on off)
+        | inr all ↦ all
+      ];
+    }
+
+-- nothing is told where it isn't over
+pub wait_at_rest : (w n e limit room : ℕ) (f s : Option ℕ) (told : Bool) → (is_some s ≡ true → is_whole (lane_at_rest w n e limit f None s told) ≡ false) → (is_some s ≡ false → at_final_size n f ≡ false)
+    → IsAtRest (lane_at_rest w n e limit f None s told) n e → read_answer (lane_at_rest w n e limit f None s told) room ≡ Wait
+wait_at_rest w n e limit room f None told not_whole more h =
+    let lane : RecvLane = lane_at_rest w n e limit f None None told in
+    let none : set.contains (numbers 0 e) n ≡ false = let all = h.all_read refl in contains-below e n ∙ grind (arith, nat_tests) in
+    ap (λ b. cond b End (cond (set.contains (numbers 0 e) n) (Bytes (length (front_of lane.arrived room))) Wait)) (more refl)
+    ∙ ap (λ b. cond b (Bytes (length (front_of lane.arrived room))) Wait) none
+wait_at_rest w n e limit room f (Some code) told not_whole more h = ap (λ b. cond b End Wait) (not_whole refl)
+
+-- A raise
+
+pub at_rest_raised : (lane : RecvLane) (n e limit : ℕ) → record lane { limit = limit } ≡ raise lane → IsAtRest lane n e → IsAtRest (record lane { limit = limit }) n e
+at_rest_raised lane n e limit is h =
+    record {
+      lawful = subst IsLawful (sym is) (lawful_raise lane h.lawful);
+      stop_fits = h.stop_fits;
+      all_read = h.all_read;
+      ended = h.ended;
+    }
+
+-- A frame
+
+pub taken_at_rest : (w n e e' limit offset : ℕ) (f r s : Option ℕ) (told : Bool) (bytes : List ℕ) (fin : Bool) → EndsAt (lane_at_rest w n e limit f r s told) offset bytes e'
+    → lane_at_rest w n e' limit (cond fin (Some (offset + length bytes)) f) r s told ≡ take_stream (lane_at_rest w n e limit f r s told) offset bytes fin
+taken_at_rest w n e e' limit offset f r s told bytes fin h =
+    let lane : RecvLane = lane_at_rest w n e limit f r s told in
+    ap (λ a. record lane { arrived = a; final_size = cond fin (Some (offset + length bytes)) f }) (sym h.arrived)
+
+pub at_rest_taken : (w n e e' limit offset : ℕ) (f r s : Option ℕ) (told : Bool) (bytes : List ℕ) (fin : Bool) → EndsAt (lane_at_rest w n e limit f r s told) offset bytes e'
+    → IsOk (check_stream (lane_at_rest w n e limit f r s told) offset (length bytes) fin)
+    → IsAtRest (lane_at_rest w n e limit f r s told) n e → IsAtRest (lane_at_rest w n e' limit (cond fin (Some (offset + length bytes)) f) r s told) n e'
+at_rest_taken w n e e' limit offset f r s told bytes fin ends ok h =
+    let lane : RecvLane = lane_at_rest w n e limit f r s told in
+    record {
+      lawful = subst IsLawful (sym (taken_at_rest w n e e' limit offset f r s told bytes fin ends)) (lawful_take_stream lane offset bytes fin h.lawful ok);
+      stop_fits = h.stop_fits;
+      all_read = ends.all_read;
+      ended = λ is_told on. same_size f (offset + length bytes) (length bytes) n fin (highest lane) (unbroken lane offset (length bytes) fin ok) (h.ended is_told on);
+    }
+
+pub grown_at_rest : (w n e e' limit offset : ℕ) (f r s : Option ℕ) (told : Bool) (bytes : List ℕ) (fin : Bool) → EndsAt (lane_at_rest w n e limit f r s told) offset bytes e'
+    → IsAtRest (lane_at_rest w n e limit f r s told) n e
+    → highest (lane_at_rest w n e' limit (cond fin (Some (offset + length bytes)) f) r s told) ≡ highest_after (lane_at_rest w n e limit f r s told) offset (length bytes) fin
+grown_at_rest w n e e' limit offset f r s told bytes fin ends h =
+    ap highest (taken_at_rest w n e e' limit offset f r s told bytes fin ends) ∙ highest-take_stream (lane_at_rest w n e limit f r s told) offset bytes fin h.lawful
+
+-- where nothing new comes
+pub ends_known : (w n e limit offset : ℕ) (f r s : Option ℕ) (told : Bool) (bytes : List ℕ) → ContainsRange (numbers 0 e) offset (offset + length bytes)
+    → IsAtRest (lane_at_rest w n e limit f r s told) n e → EndsAt (lane_at_rest w n e limit f r s told) offset bytes e
+ends_known w n e limit offset f r s told bytes known h =
+    record { arrived = either (is_some r); all_read = h.all_read }
+  where
+    either : (b : Bool) → cond b (at_rest w n e (is_some r || is_some s)) (put (at_rest w n e (is_some r || is_some s)) offset bytes) ≡ at_rest w n e (is_some r || is_some s)
+    either true = refl
+    either false = sym (put_known (at_rest w n e (is_some r || is_some s)) offset bytes known)
+
+-- after a reset
+pub ends_passed : (w n e limit offset code : ℕ) (f s : Option ℕ) (told : Bool) (bytes : List ℕ) → EndsAt (lane_at_rest w n e limit f (Some code) s told) offset bytes e
+ends_passed w n e limit offset code f s told bytes = record { arrived = refl; all_read = λ on. absurd (both_ways true on refl) }
+
+-- after a stop, where it touches what came
+union_below : (e lo hi : ℕ) → lo ≤ e → e ≤ hi → set.union (numbers 0 e) (numbers lo hi) ≡ numbers 0 hi
+union_below e lo hi touches ends =
+    same_numbers _ _ (λ q.
+    let old = contains-below e q in
+    let new = contains-below hi q in
+    contains-with_range (numbers 0 e) lo hi q ∙ grind (arith, nat_tests))
+
+pub ends_more : (w n e limit offset code : ℕ) (f : Option ℕ) (told : Bool) (bytes : List ℕ) → offset ≤ e → e ≤ offset + length bytes
+    → EndsAt (lane_at_rest w n e limit f None (Some code) told) offset bytes (offset + length bytes)
+ends_more w n e limit offset code f told bytes touches ends =
+    record {
+      arrived = ap (λ r. record (at_rest w n e true) { received = r }) (union_below e offset (offset + length bytes) touches ends);
+      all_read = λ on. absurd (both_ways true on refl);
+    }
+
+-- where memory may be taken
+
+pub apart_below : (e offset end : ℕ) → e < offset → MissesRange (numbers 0 e) (offset - 1) end
+apart_below e offset end new q low high = contains-below e q ∙ grind (arith, nat_tests)
+
+-- A half of which the end, or a reset, was told
+
+pub given_is : (o : Option ℕ) → given (is_some o) (unwrap_or o 0) ≡ o
+given_is None = refl
+given_is (Some n) = refl
+
+pub told_at_rest : (lane : RecvLane) (w n e size : ℕ) → lane.told ≡ true → IsSound lane w n e → IsLetGo lane size → IsAtRest lane n e
+told_at_rest lane w n e size told h let_go =
+    record {
+      lawful = h.lawful;
+      stop_fits = h.stop_fits;
+      all_read = λ on.
+          let all : highest lane ≡ lane.arrived.read_count = ap (λ f. unwrap_or f (end_of lane.arrived.received)) (let_go.ended told on) in
+          omega (arith, all, h.lawful.received_within, read_within lane h.lawful, h.count_is, h.end_is);
+      ended = λ is on. let_go.ended is on ∙ ap Some h.count_is;
+    }
+
+nothing_left : (lane : RecvLane) (size : ℕ) → lane.told ≡ true → IsLawful lane → IsLetGo lane size → lane.arrived.stored ≡ map.empty
+nothing_left lane size told h let_go = go lane.arrived.discarding refl
+  where
+    go : (b : Bool) → lane.arrived.discarding ≡ b → lane.arrived.stored ≡ map.empty
+    go true off = h.thrown_away off
+    go false on = map.empty_of_len lane.arrived.stored (none_left lane h (let_go.ended told on))
+
+pub rested_is : (lane : RecvLane) (w n e size : ℕ) → lane.told ≡ true → ContainsRange lane.arrived.received 0 e → IsSound lane w n e → IsLetGo lane size
+    → lane_at_rest w n e lane.limit lane.final_size lane.reset_code lane.stop_code lane.told ≡ lane
+rested_is lane w n e size told all h let_go =
+    let stored = nothing_left lane size told h.lawful let_go in
+    let received : lane.arrived.received ≡ numbers 0 e =
+    same_numbers _ _ (λ q. same_tests _ _ (λ is. contains-below e q ∙ (let below = below-end_of lane.arrived.received q is in let ends = h.end_is in grind (arith, nat_tests)))
+    (λ is. let within : is_within 0 e q ≡ true = sym (contains-below e q) ∙ is in all q (omega arith) (grind (arith, nat_tests)))) in
+    ap (λ a. record lane { arrived = a }) (sym (
+    ap (λ m. record lane.arrived { stored = m }) stored
+    ∙ ap (λ r. record lane.arrived { stored = map.empty; received = r }) received
+    ∙ ap (λ k. record lane.arrived { stored = map.empty; received = numbers 0 e; read_count = k }) h.count_is
+    ∙ ap (λ k. record lane.arrived { stored = map.empty; received = numbers 0 e; read_count = n; window = k }) h.window_is
+    ∙ ap (λ off. record lane.arrived { stored = map.empty; received = numbers 0 e; read_count = n; window = w; discarding = off }) h.lawful.discards
+    ))

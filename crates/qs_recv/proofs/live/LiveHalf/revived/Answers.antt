@@ -1,0 +1,17 @@
+use Rattle.std.proofs.Common.{refl}
+use Rattle.qs_recv.proofs.RestLaws.{came_at_rest, end_at_rest, let_go_at_rest, sound_at_rest}
+use Rattle.qs_recv.proofs.live.LiveHalf.revived.Goals as goal
+
+pub at_rest-requires-clause-in_range : goal.at_rest-requires-clause-in_range
+at_rest-requires-clause-in_range g c = end_at_rest _ _ _ _ _ _ _ _ c.rest.invariant
+
+pub at_rest-requires-clause-came : goal.at_rest-requires-clause-came
+at_rest-requires-clause-came g c = came_at_rest _ _ _ _ _ _ _ _ c.rest.invariant
+
+pub invariant_of-result : goal.invariant_of-result
+invariant_of-result g c =
+    rw (c.at_rest.ensures.nothing, c.is_either-is_over.ensures, c.given-reset_code.ensures, c.given-stop_code.ensures, c.given.ensures)
+    (sound_at_rest _ _ _ _ _ _ _ _ c.rest.invariant, let_go_at_rest _ _ _ _ refl c.at_rest.ensures.small c.rest.invariant)
+
+pub returns : goal.returns
+returns g c = rw (← c.rest.view_is, c.at_rest.ensures.nothing, c.is_either-is_over.ensures, c.given-reset_code.ensures, c.given-stop_code.ensures, c.given.ensures) refl

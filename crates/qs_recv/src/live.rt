@@ -1,0 +1,402 @@
+//! A receiving half that may store bytes.
+ghost use Rattle.std.specs.Prelude.{if◌then◌else◌, ◌==◌, max, ◌≡◌, ◌+◌, ◌-◌, ◌*◌, ◌≤◌, ◌^◌, ◌++◌, ◌||◌, length, drop, IsOk, IfOk, IfSome, OnOk, OnErr, IfErr, IsTrue, is_some, false, None};
+ghost use Rattle.std.specs.FinMap as map;
+ghost use Rattle.qs_ranges.specs.Numbers.{MAX_VARINT, MissesRange, covers};
+ghost use Rattle.qs_recv.specs.Lawful.{IsLawful};
+ghost use Rattle.qs_recv.specs.Sound.{CodeFits};
+ghost use Rattle.qs_recv.specs.News.{is_readable, tells_something};
+ghost use Rattle.qs_recv.specs.Lane.{highest, highest_after, taken, state, check_stream, check_bytes, take_stream, check_reset, take_reset, is_whole, breaks_final_size, read_answer, bytes_read, after_read, stop, raise, raise_answer};
+
+use crate::assembly::Assembly;
+use crate::credit::next_limit;
+use crate::half::{Highest, Read, RecvFault, RecvState};
+use crate::rest::{Rest, given};
+use std::alloc::Global;
+use std::marker::Model;
+
+/// A receiving half with its assembly. `RecvHalf` tells what the calls do.
+#[derive(Drop)]
+pub(crate) struct LiveHalf<A: Assembly> {
+    assembly: A,
+    window: u64,
+    read_count: u64,
+    received_end: u64,
+    limit: u64,
+    final_size: Option<u64>,
+    reset_code: Option<u64>,
+    stop_code: Option<u64>,
+    told: bool,
+}
+
+impl<A: Assembly> Model for LiveHalf<A> {
+    ghost use Rattle.qs_recv.specs.Lane.{RecvLane};
+    ghost use Rattle.qs_recv.specs.Codes.{lane_code};
+    ghost use Rattle.qs_recv.specs.Sound.{IsLetGo, IsSound};
+
+    ghost Value = { RecvLane };
+
+    ghost coded = { lane_code };
+
+    ghost view = { λ h. record { arrived = A.holds h.assembly; final_size = h.final_size; reset_code = h.reset_code; stop_code = h.stop_code; told = h.told; limit = h.limit } };
+
+    ghost invariant = { λ h. IsSound (record { arrived = A.holds h.assembly; final_size = h.final_size; reset_code = h.reset_code; stop_code = h.stop_code; told = h.told; limit = h.limit }) h.window h.read_count h.received_end × IsLetGo (record { arrived = A.holds h.assembly; final_size = h.final_size; reset_code = h.reset_code; stop_code = h.stop_code; told = h.told; limit = h.limit }) (A.size h.assembly) };
+}
+
+impl<A: Assembly> LiveHalf<A> {
+    /// The same half as one at rest. It takes no memory.
+    pub(crate) fn revived(alloc: Global, rest: &Rest) -> Self
+        ensures { result ≡ rest.now }
+    {
+        let window = rest.window as u64;
+        let reset_code = given(rest.is_reset, rest.reset);
+        let stop_code = given(rest.is_stopped, rest.stop);
+        let is_over = is_either(reset_code, stop_code);
+        LiveHalf {
+            assembly: A::at_rest(alloc, window, rest.read_count, rest.received_end, is_over),
+            window,
+            read_count: rest.read_count,
+            received_end: rest.received_end,
+            limit: rest.limit,
+            final_size: given(rest.is_sized, rest.size),
+            reset_code,
+            stop_code,
+            told: rest.told,
+        }
+    }
+
+    /// The same half at rest, where a reader was told of its end or of a reset and every offset below the largest that came
+    /// came.
+    pub(crate) fn rested(&self) -> Option<Rest>
+        ensures { IfSome result (λ rest. rest ≡ self.now) }
+    {
+        if !self.told || !self.assembly.received().covers(0, self.received_end) {
+            return None;
+        }
+        Some(Rest {
+            read_count: self.read_count,
+            received_end: self.received_end,
+            limit: self.limit,
+            size: self.final_size.unwrap_or(0),
+            reset: self.reset_code.unwrap_or(0),
+            stop: self.stop_code.unwrap_or(0),
+            window: self.window as u32,
+            is_sized: self.final_size.is_some(),
+            is_reset: self.reset_code.is_some(),
+            is_stopped: self.stop_code.is_some(),
+            told: self.told,
+        })
+    }
+
+    pub(crate) fn check_stream(
+        &self,
+        offset: u64,
+        len: u64,
+        fin: bool,
+    ) -> Result<Highest, RecvFault>
+        requires { offset + len ≤ MAX_VARINT }
+        ensures value { result ≡ check_stream self.now offset len fin }
+        ensures in_range { IfOk result (λ h. h.after ≤ MAX_VARINT) }
+    {
+        if self.breaks_final_size(offset, len, fin) {
+            return Err(RecvFault::FinalSize);
+        }
+        let end = offset + len;
+        let before = self.highest();
+        if before.max(end) > self.limit {
+            return Err(RecvFault::StreamCredit);
+        }
+        let after = if fin {
+            end
+        } else if self.final_size.is_some() || len == 0 {
+            before
+        } else {
+            before.max(end)
+        };
+        Ok(Highest { before, after })
+    }
+
+    pub(crate) fn check_bytes(&self, offset: u64, bytes: &[u8]) -> Result<(), RecvFault>
+        requires { offset + length bytes.now ≤ MAX_VARINT }
+        ensures { result ≡ check_bytes self.now offset bytes.now }
+    {
+        if self.assembly.same(offset, bytes) {
+            Ok(())
+        } else {
+            Err(RecvFault::ChangedByte)
+        }
+    }
+
+    pub(crate) fn take_stream(
+        &mut self,
+        offset: u64,
+        bytes: &[u8],
+        fin: bool,
+    ) -> Result<(), RecvFault>
+        requires in_range { offset + length bytes.now ≤ MAX_VARINT }
+        requires passed { IsOk (check_stream self.old offset (length bytes.now) fin) }
+        requires unchanged { IsOk (check_bytes self.old offset bytes.now) }
+        ensures taken { OnOk result (self.new ≡ take_stream self.old offset bytes.now fin) }
+        ensures grown { OnOk result (highest self.new ≡ highest_after self.old offset (length bytes.now) fin) }
+        ensures refused { IfErr result (λ fault. (fault ≡ RecvFault.NoMemory) × (self.new ≡ self.old)) }
+
+        // Memory is taken only for bytes of which one is new, after a stop only where no offset came or beside it, and
+        // after a reset never.
+        ensures open { OnErr result (self.old.reset_code ≡ None) }
+        ensures news { OnErr result (covers self.old.arrived.received offset (offset + length bytes.now) ≡ false) }
+        ensures apart { OnErr result (IsTrue (is_some self.old.stop_code)
+            → MissesRange self.old.arrived.received (offset - 1) (offset + length bytes.now + 1)) }
+    {
+        let end = offset + bytes.len() as u64;
+        if self.reset_code.is_none() {
+            if self.assembly.put(offset, bytes).is_err() {
+                return Err(RecvFault::NoMemory);
+            }
+            self.received_end = end_with(self.received_end, offset, bytes.len() as u64);
+        }
+        if fin {
+            self.final_size = Some(end);
+        }
+        Ok(())
+    }
+
+    pub(crate) fn check_reset(&self, size: u64) -> Result<Highest, RecvFault>
+        requires { size ≤ MAX_VARINT }
+        ensures { result ≡ check_reset self.now size }
+    {
+        if self.breaks_final_size(size, 0, true) {
+            return Err(RecvFault::FinalSize);
+        }
+        if size > self.limit {
+            return Err(RecvFault::StreamCredit);
+        }
+        Ok(Highest {
+            before: self.highest(),
+            after: size,
+        })
+    }
+
+    pub(crate) fn take_reset(&mut self, code: u64, size: u64)
+        requires in_range { size ≤ MAX_VARINT }
+        requires passed { IsOk (check_reset self.old size) }
+        ensures after { self.new ≡ take_reset self.old code size }
+        ensures grown { highest self.new ≡ size }
+    {
+        if self.reset_code.is_some() || self.is_whole() {
+            return;
+        }
+        self.assembly.discard();
+        self.final_size = Some(size);
+        self.reset_code = Some(code);
+    }
+
+    pub(crate) fn read(&mut self, into: &mut [u8]) -> Read
+        ensures answer { result ≡ read_answer self.old (length into.old) }
+        ensures bytes { let bytes = bytes_read self.old (length into.old) in into.new ≡ bytes ++ drop (length bytes) into.old }
+        ensures after { self.new ≡ after_read self.old (length into.old) }
+        ensures same_highest { highest self.new ≡ highest self.old }
+    {
+        if let Some(code) = self.reset_code {
+            self.told = true;
+            return Read::Reset(code);
+        }
+        if self.stop_code.is_some() {
+            if self.is_whole() {
+                self.told = true;
+                return Read::End;
+            }
+            return Read::Wait;
+        }
+        if self.final_size == Some(self.read_count) {
+            self.assembly.give_back();
+            self.told = true;
+            return Read::End;
+        }
+        if !self.assembly.received().has(self.read_count) {
+            return Read::Wait;
+        }
+        let count = self.assembly.take(into);
+        self.read_count += count as u64;
+        Read::Bytes(count)
+    }
+
+    pub(crate) fn stop(&mut self, code: u64)
+        requires { code ≤ MAX_VARINT }
+        ensures after { self.new ≡ stop self.old code }
+        ensures same_highest { highest self.new ≡ highest self.old }
+    {
+        if self.stop_code.is_none() {
+            self.assembly.discard();
+            self.stop_code = Some(code);
+        }
+    }
+
+    pub(crate) fn raise(&mut self) -> Option<u64>
+        ensures answer { result ≡ raise_answer self.old }
+        ensures after { self.new ≡ raise self.old }
+    {
+        if self.final_size.is_some() {
+            return None;
+        }
+        let next = next_limit(self.limit, self.taken(), self.window)?;
+        self.limit = next;
+        Some(next)
+    }
+
+    pub(crate) fn is_lawful(&self)
+        ensures { IsLawful self.now }
+    {
+        let _ = &self.assembly;
+    }
+
+    pub(crate) fn limit(&self) -> u64
+        ensures { result ≡ self.now.limit }
+    {
+        self.limit
+    }
+
+    pub(crate) fn taken(&self) -> u64
+        ensures value { result ≡ taken self.now }
+        ensures in_range { result ≤ MAX_VARINT }
+        ensures within { result ≤ highest self.now }
+    {
+        if self.reset_code.is_some() || self.stop_code.is_some() {
+            self.highest()
+        } else {
+            self.read_count
+        }
+    }
+
+    pub(crate) fn highest(&self) -> u64
+        ensures value { result ≡ highest self.now }
+        ensures in_range { result ≤ MAX_VARINT }
+    {
+        self.final_size.unwrap_or(self.received_end)
+    }
+
+    pub(crate) fn final_size(&self) -> Option<u64>
+        ensures { result ≡ self.now.final_size }
+    {
+        self.final_size
+    }
+
+    pub(crate) fn state(&self) -> RecvState
+        ensures { result ≡ state self.now }
+    {
+        if self.reset_code.is_some() {
+            if self.told {
+                RecvState::ResetRead
+            } else {
+                RecvState::ResetRecvd
+            }
+        } else if self.is_whole() {
+            if self.told {
+                RecvState::DataRead
+            } else {
+                RecvState::DataRecvd
+            }
+        } else if self.final_size.is_some() {
+            RecvState::SizeKnown
+        } else {
+            RecvState::Recv
+        }
+    }
+
+    pub(crate) fn is_readable(&self) -> bool
+        ensures { result ≡ is_readable self.now }
+    {
+        !self.told && self.tells_something()
+    }
+
+    pub(crate) fn stored(&self) -> u64
+        ensures value { result ≡ map.len self.now.arrived.stored }
+        ensures within { result + taken self.now ≤ highest self.now }
+    {
+        self.assembly.stored()
+    }
+
+    pub(crate) fn held(&self) -> u64
+        ensures room { map.len self.now.arrived.stored ≤ result }
+        ensures bound { result ≤ max 4096 (4 * (highest self.now - taken self.now)) }
+        ensures idle { map.len self.now.arrived.stored ≡ 0 → result ≤ 4096 }
+        ensures over { IsTrue self.now.told → result ≡ 0 }
+        ensures gone { IsTrue self.now.arrived.discarding → result ≡ 0 }
+    {
+        self.assembly.held()
+    }
+
+    pub(crate) fn read_count(&self) -> u64
+        ensures { result ≡ self.now.arrived.read_count }
+    {
+        self.read_count
+    }
+
+    pub(crate) fn stop_code(&self) -> Option<u64>
+        ensures value { result ≡ self.now.stop_code }
+        ensures small { CodeFits result }
+    {
+        self.stop_code
+    }
+
+    pub(crate) fn reset_code(&self) -> Option<u64>
+        ensures { result ≡ self.now.reset_code }
+    {
+        self.reset_code
+    }
+
+    // Whether a read of one byte would tell something, be it new or not.
+    fn tells_something(&self) -> bool
+        ensures { result ≡ tells_something (read_answer self.now 1) }
+    {
+        if let Some(_code) = self.reset_code {
+            return true;
+        }
+        if self.stop_code.is_some() {
+            return self.is_whole();
+        }
+        if Some(self.read_count) == self.final_size {
+            return true;
+        }
+        self.assembly.received().has(self.read_count)
+    }
+
+    // Whether the final size is known and every offset below it came.
+    fn is_whole(&self) -> bool
+        ensures { result ≡ is_whole self.now }
+    {
+        match self.final_size {
+            Some(size) => self.assembly.received().covers(0, size),
+            None => false,
+        }
+    }
+
+    // Whether a frame with len bytes at offset names another final size, or lies outside the known one.
+    fn breaks_final_size(&self, offset: u64, len: u64, fin: bool) -> bool
+        requires { offset + len ≤ MAX_VARINT }
+        ensures { result ≡ breaks_final_size self.now offset len fin }
+    {
+        let end = offset + len;
+        match self.final_size {
+            Some(size) => (len > 0 && size < end) || (fin && end != size),
+            None => fin && end < self.highest(),
+        }
+    }
+}
+
+// Whether there is one of two codes.
+fn is_either(one: Option<u64>, other: Option<u64>) -> bool
+    ensures { result ≡ (is_some one || is_some other) }
+{
+    one.is_some() || other.is_some()
+}
+
+// One more than the largest offset, once the len offsets from another one on came too.
+fn end_with(before: u64, offset: u64, len: u64) -> u64
+    requires { offset + len ≤ MAX_VARINT }
+    ensures { result ≡ (if len == 0 then before else max before (offset + len)) }
+{
+    if len == 0 {
+        before
+    } else {
+        before.max(offset + len)
+    }
+}

@@ -1,0 +1,267 @@
+//! A receiving half that stores nothing, in few bytes.
+ghost use Rattle.std.specs.Prelude.{◌≡◌, ℕ, ◌+◌, ◌-◌, ◌≤◌, ◌^◌, [], length, true, false, None, IsOk, IsTrue, IfSome, IfNone, is_some};
+ghost use Rattle.std.specs.FinMap as map;
+ghost use Rattle.qs_ranges.specs.Numbers.{MAX_VARINT, MissesRange, covers};
+ghost use Rattle.qs_recv.specs.Lawful.{IsLawful};
+ghost use Rattle.qs_recv.specs.Rest.{EndsAt, given};
+ghost use Rattle.qs_recv.specs.Sound.{CodeFits};
+ghost use Rattle.qs_recv.specs.Lane.{new_lane, highest, highest_after, taken, is_whole, check_stream, check_reset, take_stream, take_reset, read_answer, bytes_read, after_read, stop, raise, raise_answer};
+
+use crate::credit::next_limit;
+use crate::half::Read;
+use std::marker::Model;
+
+/// A receiving half that stores nothing, and of which the offsets that came are those below `received_end`: one that never
+/// carried a byte, or that is over. An `Option<u64>` would take twice the bytes of its number.
+#[derive(Drop)]
+pub(crate) struct Rest {
+    pub(crate) read_count: u64,
+    pub(crate) received_end: u64,
+    pub(crate) limit: u64,
+    pub(crate) size: u64,
+    pub(crate) reset: u64,
+    pub(crate) stop: u64,
+    pub(crate) window: u32,
+    pub(crate) is_sized: bool,
+    pub(crate) is_reset: bool,
+    pub(crate) is_stopped: bool,
+    pub(crate) told: bool,
+}
+
+impl Model for Rest {
+    ghost use Rattle.qs_recv.specs.Lane.{RecvLane};
+    ghost use Rattle.qs_recv.specs.Codes.{lane_code};
+    ghost use Rattle.qs_recv.specs.Rest.{IsAtRest, given, lane_at_rest};
+
+    ghost Value = { RecvLane };
+
+    ghost coded = { lane_code };
+
+    ghost view = { λ r. lane_at_rest r.window r.read_count r.received_end r.limit (given r.is_sized r.size) (given r.is_reset r.reset) (given r.is_stopped r.stop) r.told };
+
+    ghost invariant = { λ r. IsAtRest (lane_at_rest r.window r.read_count r.received_end r.limit (given r.is_sized r.size) (given r.is_reset r.reset) (given r.is_stopped r.stop) r.told) r.read_count r.received_end };
+}
+
+impl Rest {
+    /// A half for which nothing came.
+    pub(crate) fn new(window: u64) -> Self
+        requires some { 1 ≤ window }
+        requires small { window ≤ 2 ^ 20 }
+        ensures { result ≡ new_lane window }
+    {
+        Rest {
+            read_count: 0,
+            received_end: 0,
+            limit: window,
+            size: 0,
+            reset: 0,
+            stop: 0,
+            window: window as u32,
+            is_sized: false,
+            is_reset: false,
+            is_stopped: false,
+            told: false,
+        }
+    }
+
+    /// Takes a frame that passed its check, where that stores no byte and the offsets that came stay those below a number.
+    /// Else it answers false, and changes nothing.
+    pub(crate) fn takes(&mut self, offset: u64, bytes: &[u8], fin: bool) -> bool
+        requires in_range { offset + length bytes.now ≤ MAX_VARINT }
+        requires passed { IsOk (check_stream self.old offset (length bytes.now) fin) }
+        ensures taken { result ≡ true → self.new ≡ take_stream self.old offset bytes.now fin }
+        ensures grown { result ≡ true → highest self.new ≡ highest_after self.old offset (length bytes.now) fin }
+        ensures same { result ≡ false → self.new ≡ self.old }
+        ensures open { result ≡ false → self.old.reset_code ≡ None }
+        ensures news { result ≡ false → covers self.old.arrived.received offset (offset + length bytes.now) ≡ false }
+        ensures apart { result ≡ false → IsTrue (is_some self.old.stop_code)
+            → MissesRange self.old.arrived.received (offset - 1) (offset + length bytes.now + 1) }
+    {
+        let Some(received_end) = self.end_with(offset, bytes) else {
+            return false;
+        };
+        self.received_end = received_end;
+        if fin {
+            self.is_sized = true;
+            self.size = offset + bytes.len() as u64;
+        }
+        true
+    }
+
+    /// Takes a reset that passed its check.
+    pub(crate) fn take_reset(&mut self, code: u64, size: u64)
+        requires in_range { size ≤ MAX_VARINT }
+        requires passed { IsOk (check_reset self.old size) }
+        ensures after { self.new ≡ take_reset self.old code size }
+        ensures grown { highest self.new ≡ size }
+    {
+        if self.is_reset || self.is_whole() {
+            return;
+        }
+        self.is_sized = true;
+        self.size = size;
+        self.is_reset = true;
+        self.reset = code;
+    }
+
+    /// What a reader is told: bytes never are.
+    pub(crate) fn read(&mut self) -> Read
+        ensures answer { (room : ℕ) → result ≡ read_answer self.old room }
+        ensures bytes { (room : ℕ) → bytes_read self.old room ≡ [] }
+        ensures after { (room : ℕ) → self.new ≡ after_read self.old room }
+        ensures same_highest { highest self.new ≡ highest self.old }
+    {
+        if self.is_reset {
+            self.told = true;
+            return Read::Reset(self.reset);
+        }
+        let is_over = if self.is_stopped {
+            self.is_whole()
+        } else {
+            self.is_sized && self.size == self.read_count
+        };
+        if is_over {
+            self.told = true;
+            return Read::End;
+        }
+        Read::Wait
+    }
+
+    /// Notes a stop: the first code stays.
+    pub(crate) fn stop(&mut self, code: u64)
+        requires { code ≤ MAX_VARINT }
+        ensures after { self.new ≡ stop self.old code }
+        ensures same_highest { highest self.new ≡ highest self.old }
+    {
+        if !self.is_stopped {
+            self.is_stopped = true;
+            self.stop = code;
+        }
+    }
+
+    /// Raises the limit, and answers the new one where it rose.
+    pub(crate) fn raise(&mut self) -> Option<u64>
+        ensures answer { result ≡ raise_answer self.old }
+        ensures after { self.new ≡ raise self.old }
+    {
+        if self.is_sized {
+            return None;
+        }
+        let next = next_limit(self.limit, self.taken(), self.window as u64)?;
+        self.limit = next;
+        Some(next)
+    }
+
+    /// What holds of the half at all times.
+    pub(crate) fn is_lawful(&self)
+        ensures { IsLawful self.now }
+    {
+        let _ = &self.limit;
+    }
+
+    /// The limit on the highest offset that was granted.
+    pub(crate) fn limit(&self) -> u64
+        ensures { result ≡ self.now.limit }
+    {
+        self.limit
+    }
+
+    /// What credit is paid back for.
+    pub(crate) fn taken(&self) -> u64
+        ensures value { result ≡ taken self.now }
+        ensures in_range { result ≤ MAX_VARINT }
+        ensures within { result ≤ highest self.now }
+    {
+        if self.is_reset || self.is_stopped {
+            self.highest()
+        } else {
+            self.read_count
+        }
+    }
+
+    /// The final size if known, else one more than the largest offset that came, or 0.
+    pub(crate) fn highest(&self) -> u64
+        ensures value { result ≡ highest self.now }
+        ensures in_range { result ≤ MAX_VARINT }
+    {
+        if self.is_sized {
+            self.size
+        } else {
+            self.received_end
+        }
+    }
+
+    /// How long the stream is, where that is known.
+    pub(crate) fn final_size(&self) -> Option<u64>
+        ensures { result ≡ self.now.final_size }
+    {
+        given(self.is_sized, self.size)
+    }
+
+    /// How many bytes are stored: none.
+    pub(crate) fn stored(&self) -> u64
+        ensures value { result ≡ map.len self.now.arrived.stored }
+        ensures none { result ≡ 0 }
+        ensures empty { self.now.arrived.stored ≡ map.empty }
+        ensures within { taken self.now ≤ highest self.now }
+    {
+        let _ = &self.limit;
+        0
+    }
+
+    /// How many bytes were read.
+    pub(crate) fn read_count(&self) -> u64
+        ensures { result ≡ self.now.arrived.read_count }
+    {
+        self.read_count
+    }
+
+    /// The code of the first stop, if there was one.
+    pub(crate) fn stop_code(&self) -> Option<u64>
+        ensures value { result ≡ self.now.stop_code }
+        ensures small { CodeFits result }
+    {
+        given(self.is_stopped, self.stop)
+    }
+
+    /// The code of the reset that was taken, if there was one.
+    pub(crate) fn reset_code(&self) -> Option<u64>
+        ensures { result ≡ self.now.reset_code }
+    {
+        given(self.is_reset, self.reset)
+    }
+
+    // The number below which the offsets are that came, once a frame's did. None where one of its bytes would be stored, or
+    // offsets lie apart.
+    fn end_with(&self, offset: u64, bytes: &[u8]) -> Option<u64>
+        requires in_range { offset + length bytes.now ≤ MAX_VARINT }
+        ensures ends { IfSome result (EndsAt self.now offset bytes.now) }
+        ensures open { IfNone result (self.now.reset_code ≡ None) }
+        ensures news { IfNone result (covers self.now.arrived.received offset (offset + length bytes.now) ≡ false) }
+        ensures apart { IfNone result (IsTrue (is_some self.now.stop_code)
+            → MissesRange self.now.arrived.received (offset - 1) (offset + length bytes.now + 1)) }
+    {
+        let end = offset + bytes.len() as u64;
+        if self.is_reset || end <= offset || end <= self.received_end {
+            return Some(self.received_end);
+        }
+        if self.is_stopped && offset <= self.received_end {
+            return Some(end);
+        }
+        None
+    }
+
+    // Whether the final size is known and every offset below it came.
+    fn is_whole(&self) -> bool
+        ensures { result ≡ is_whole self.now }
+    {
+        self.is_sized && self.size <= self.received_end
+    }
+}
+
+/// The number, where there is one.
+pub(crate) fn given(is_there: bool, number: u64) -> Option<u64>
+    ensures { result ≡ given is_there number }
+{
+    if is_there { Some(number) } else { None }
+}
