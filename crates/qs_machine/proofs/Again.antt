@@ -213,7 +213,7 @@ the_half (Some l) h = (l, refl)
 
 refused_then : (l : SendLane) (code : ℕ) → is_some (reset_refusal (reset_lane l code)) ≡ true
 refused_then l code =
-    cond_both (is_some (reset_refusal l)) l (record l { was_reset = Some (record { code = code; size = cond l.fin_sent l.written l.sent_end }) }) (λ m. is_some (reset_refusal m) ≡ true) (λ is. is) (λ _. refl)
+    cond_both (is_some (reset_refusal l)) l (record l { kept = []; was_reset = Some (record { code = code; size = cond l.fin_sent l.written l.sent_end }) }) (λ m. is_some (reset_refusal m) ≡ true) (λ is. is) (λ _. refl)
 
 item_done : (i : Item) (e : End) → verdict e (Control i) ≡ None → IsInCredit e → ItemDone i (item_taken i e)
 unfolding verdict
@@ -291,7 +291,7 @@ max_known : (a m : ℕ) → m ≤ a → max a m ≡ a
 max_known a m le = omega (arith, le)
 
 refused_back : (l : SendLane) (code : ℕ) → is_some (reset_refusal l) ≡ true → reset_lane l code ≡ l
-refused_back l code is = ap (λ b. cond b l (record l { was_reset = Some (record { code = code; size = cond l.fin_sent l.written l.sent_end }) })) is
+refused_back l code is = ap (λ b. cond b l (record l { kept = []; was_reset = Some (record { code = code; size = cond l.fin_sent l.written l.sent_end }) })) is
 
 first_stays : (o : Option ℕ) (code : ℕ) → is_some o ≡ true → first_code o code ≡ o
 first_stays None code h = absurd (both_ways false refl h)

@@ -1,5 +1,5 @@
 -- A half of a stream that ended stays so.
-use Rattle.std.proofs.Common.{◌≡◌, ℕ, ◌+◌, ◌≤◌, Bool, true, false, ◌&&◌, ◌||◌, cond, Option, Some, None, is_some, refl, sym, ap, ◌∙◌, arith, inl, inr}
+use Rattle.std.proofs.Common.{◌≡◌, ℕ, ◌+◌, ◌≤◌, Bool, true, false, ◌&&◌, ◌||◌, [], cond, Option, Some, None, is_some, refl, sym, ap, ◌∙◌, arith, inl, inr}
 use Rattle.std.specs.Prelude.{is_none, ◌==◌}
 use Rattle.std.specs.FinSet as set
 use Rattle.std.proofs.lemmas.Option.{none-some}
@@ -117,7 +117,7 @@ never_refused false false h e = both_ways false refl h
 
 -- the half as a reset leaves it
 abbrev pub reset_by : ℕ → SendLane → SendLane
-reset_by code l = record l { was_reset = Some (record { code = code; size = cond l.fin_sent l.written l.sent_end }) }
+reset_by code l = record l { kept = []; was_reset = Some (record { code = code; size = cond l.fin_sent l.written l.sent_end }) }
 
 pub new_reset_keeps : (code : ℕ) (l : SendLane) → is_some (reset_refusal l) ≡ false → SendStays l (reset_by code l)
 new_reset_keeps code l allowed =

@@ -173,9 +173,9 @@ not_whole false l m = refl
 sent_three : SendLane
 sent_three = sent_lane (write_lane (new_lane 0 1024 2048) (letters 3)) (record { offset = 0; len = 3; fin = false })
 
-was_reset : reset_lane sent_three 7 ≡ record sent_three { was_reset = Some (record { code = 7; size = 3 }) }
+was_reset : reset_lane sent_three 7 ≡ record sent_three { kept = []; was_reset = Some (record { code = 7; size = 3 }) }
 unfolding sent_three
-was_reset = not_whole (unacked_from sent_three == 3) sent_three (record sent_three { was_reset = Some (record { code = 7; size = 3 }) })
+was_reset = not_whole (unacked_from sent_three == 3) sent_three (record sent_three { kept = []; was_reset = Some (record { code = 7; size = 3 }) })
 
 stop : StopResets
 unfolding frame_taken lookup update open_to sent_three

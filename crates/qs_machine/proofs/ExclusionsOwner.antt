@@ -96,7 +96,10 @@ size_of None = 0
 size_of (Some r) = r.size
 
 reset_size : size_of (reset_lane wrote 7).was_reset ≡ 0
-reset_size = ap (λ (o : Option SendFault). size_of (cond (is_some o) wrote (record wrote { was_reset = Some (record { code = 7; size = 0 }) })).was_reset) not_whole
+reset_size = ap (λ (o : Option SendFault). size_of (cond (is_some o) wrote (record wrote { kept = []; was_reset = Some (record { code = 7; size = 0 }) })).was_reset) not_whole
+
+reset_kept : length (reset_lane wrote 7).kept ≡ 0
+reset_kept = ap (λ (o : Option SendFault). length (cond (is_some o) wrote (record wrote { kept = []; was_reset = Some (record { code = 7; size = 0 }) })).kept) not_whole
 
 sendings : NoSuchSending
 unfolding lookup update
@@ -134,6 +137,10 @@ sendings =
       other_size = λ new h same. (
           let done = effect (send_refusal (client_with wrote) 0 reset_refusal) (client_with wrote) tt new _ h in
           let e : 3 ≡ 0 = ap (λ (k : SendLane). size_of k.was_reset) (same_Some _ _ (sym same ∙ ap (λ (x : End). send_lane x 0) done.1)) ∙ reset_size in omega arith
+          );
+      still_kept = λ new h same. (
+          let done = effect (send_refusal (client_with wrote) 0 reset_refusal) (client_with wrote) tt new _ h in
+          let e : 3 ≡ 0 = ap (λ (k : SendLane). length k.kept) (same_Some _ _ (sym same ∙ ap (λ (x : End). send_lane x 0) done.1)) ∙ reset_kept in omega arith
           );
     }
 

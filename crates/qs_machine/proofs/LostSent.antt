@@ -78,7 +78,7 @@ lasts_reset code s = go (is_some (reset_refusal s.lane))
     go : (b : Bool)
         → Lasts s
         (record {
-          lane = cond b s.lane (record s.lane { was_reset = Some (record { code = code; size = cond s.lane.fin_sent s.lane.written s.lane.sent_end }) });
+          lane = cond b s.lane (record s.lane { kept = []; was_reset = Some (record { code = code; size = cond s.lane.fin_sent s.lane.written s.lane.sent_end }) });
           due = cond b s.due (record { offsets = set.empty; fin = false });
         })
     go true = record { sent = omega arith; ended = λ x. x; reset = λ x. x }

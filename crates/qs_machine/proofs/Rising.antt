@@ -184,7 +184,7 @@ kept_send_limit true l m same = le_same l.limit
 kept_send_limit false l m same = omega (arith, same)
 
 reset_limit : (code : ℕ) (l : SendLane) → l.limit ≤ (reset_lane l code).limit
-reset_limit code l = kept_send_limit (is_some (reset_refusal l)) l (record l { was_reset = Some (record { code = code; size = cond l.fin_sent l.written l.sent_end }) }) refl
+reset_limit code l = kept_send_limit (is_some (reset_refusal l)) l (record l { kept = []; was_reset = Some (record { code = code; size = cond l.fin_sent l.written l.sent_end }) }) refl
 
 took_reset_limit : (code size : ℕ) (l : RecvLane) → l.limit ≤ (take_reset l code size).limit
 took_reset_limit code size l = kept_limit (is_some l.reset_code || is_whole l) l (record l { arrived = discard l.arrived; final_size = Some size; reset_code = Some code }) refl

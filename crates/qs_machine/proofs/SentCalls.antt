@@ -136,7 +136,7 @@ keeps_acks [] e = keeps_same e
 keeps_acks (p ∷ ps) e = keeps_twice e (first_acked p e) (acks ps (first_acked p e)) (keeps_first p e) (keeps_acks ps (first_acked p e))
 
 reset_written : (code : ℕ) (l : SendLane) → l.written ≤ (reset_lane l code).written
-reset_written code l = cond_both (is_some (reset_refusal l)) l (record l { was_reset = Some (record { code = code; size = cond l.fin_sent l.written l.sent_end }) }) (λ m. l.written ≤ m.written) (λ _. omega arith) (λ _. omega arith)
+reset_written code l = cond_both (is_some (reset_refusal l)) l (record l { kept = []; was_reset = Some (record { code = code; size = cond l.fin_sent l.written l.sent_end }) }) (λ m. l.written ≤ m.written) (λ _. omega arith) (λ _. omega arith)
 
 -- after an opening a half changes
 opened_send : (n : ℕ) (f : SendLane → SendLane) (e : End) → ((l : SendLane) → l.written ≤ (f l).written) → Keeps e (on_send n f (opened_by_peer n e))

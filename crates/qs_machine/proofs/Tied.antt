@@ -1,5 +1,5 @@
 -- What of a half is due is what isn't outstanding: each call keeps it.
-use Rattle.std.proofs.Common.{◌≡◌, ℕ, ◌+◌, ◌<◌, ◌≤◌, Bool, true, false, not, ◌&&◌, ◌||◌, IsTrue, List, refl, sym, ap, ◌∙◌, subst, inl, inr, Option, None, Some, is_some, cond, length, arith, max}
+use Rattle.std.proofs.Common.{◌≡◌, ℕ, ◌+◌, ◌<◌, ◌≤◌, Bool, true, false, not, ◌&&◌, ◌||◌, IsTrue, List, [], refl, sym, ap, ◌∙◌, subst, inl, inr, Option, None, Some, is_some, cond, length, arith, max}
 use Rattle.std.proofs.lemmas.Bool.{both_ways, or_left, or_right}
 use Rattle.std.proofs.lemmas.Bool.Decides.{nat_tests}
 use Rattle.std.specs.FinSet as set
@@ -164,7 +164,7 @@ module _ (m : Records) (n : ℕ) (s : Sending) (t : IsTied m n s) where
 
   reset_by : (code : ℕ) (b : Bool)
       → IsTied m n (record {
-        lane = cond b s.lane (record s.lane { was_reset = Some (record { code = code; size = cond s.lane.fin_sent s.lane.written s.lane.sent_end }) });
+        lane = cond b s.lane (record s.lane { kept = []; was_reset = Some (record { code = code; size = cond s.lane.fin_sent s.lane.written s.lane.sent_end }) });
         due = cond b s.due (record { offsets = set.empty; fin = false });
       })
   reset_by code true = t

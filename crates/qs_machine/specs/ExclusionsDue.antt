@@ -93,7 +93,7 @@ pub record NothingIsBlocked : Type 0 where
   -- where the stream's own limit holds its bytes back
   pub own_limit : IsCurrent (held_back (record two_of_three { limit = 2 })) (DataBlocked 2) → ⊥
   -- after a reset
-  pub after_reset : IsCurrent (held_back (record two_of_three { was_reset = Some (record { code = 7; size = 2 }) })) (DataBlocked 2) → ⊥
+  pub after_reset : IsCurrent (held_back (record two_of_three { kept = []; was_reset = Some (record { code = 7; size = 2 }) })) (DataBlocked 2) → ⊥
   -- on a stream: at another limit
   pub other_stream : IsCurrent (client_with (record two_of_three { limit = 2 })) (StreamDataBlocked 0 3) → ⊥
   -- where all that was written lies below the limit
@@ -101,7 +101,7 @@ pub record NothingIsBlocked : Type 0 where
   -- while bytes below the limit weren't sent
   pub stream_unsent : IsCurrent (client_with (record two_of_three { limit = 2; sent_end = 1 })) (StreamDataBlocked 0 2) → ⊥
   -- after a reset
-  pub stream_after_reset : IsCurrent (client_with (record two_of_three { limit = 2; was_reset = Some (record { code = 7; size = 2 }) })) (StreamDataBlocked 0 2) → ⊥
+  pub stream_after_reset : IsCurrent (client_with (record two_of_three { kept = []; limit = 2; was_reset = Some (record { code = 7; size = 2 }) })) (StreamDataBlocked 0 2) → ⊥
   -- of streams: where none was wanted (section 4.6)
   pub none_wanted : IsCurrent (client_of standard) (StreamsBlocked Bidi 8) → ⊥
   -- once the peer allows more

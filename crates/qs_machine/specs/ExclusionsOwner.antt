@@ -82,7 +82,9 @@ pub record NoSuchSending : Type 0 where
   -- reset twice
   pub reset_twice : (new : End) → ResetStep (client_with reset_half) 0 8 (Ok tt) new → ⊥
   -- reset with another final size than what was sent (section 4.5)
-  pub other_size : (new : End) → ResetStep (client_with wrote) 0 7 (Ok tt) new → send_lane new 0 ≡ Some (record wrote { was_reset = Some (record { code = 7; size = 3 }) }) → ⊥
+  pub other_size : (new : End) → ResetStep (client_with wrote) 0 7 (Ok tt) new → send_lane new 0 ≡ Some (record wrote { kept = []; was_reset = Some (record { code = 7; size = 3 }) }) → ⊥
+  -- reset, and its bytes kept still (section 13.3)
+  pub still_kept : (new : End) → ResetStep (client_with wrote) 0 7 (Ok tt) new → send_lane new 0 ≡ Some (record wrote { was_reset = Some (record { code = 7; size = 0 }) }) → ⊥
 
 -- `read` and `stop` don't answer so (sections 2.2, 3.2 and 3.5)
 pub record NoSuchReading : Type 0 where

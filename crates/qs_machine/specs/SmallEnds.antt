@@ -57,7 +57,7 @@ finished = finish_lane begun
 
 -- reset before anything was sent, with code 7
 abbrev pub reset_half : SendLane
-reset_half = record wrote { was_reset = Some (record { code = 7; size = 0 }) }
+reset_half = record wrote { kept = []; was_reset = Some (record { code = 7; size = 0 }) }
 
 -- Receiving halves
 

@@ -110,7 +110,7 @@ reset_or_whole code size l = go (is_some l.reset_code || is_whole l) refl
 
 abbrev stopped_by : Bool → Bool → ℕ → SendLane → SendLane
 stopped_by a b code l =
-    cond (is_some (cond a (Some WasReset) (cond b (Some Finished) None))) l (record l { was_reset = Some (record { code = code; size = cond l.fin_sent l.written l.sent_end }) })
+    cond (is_some (cond a (Some WasReset) (cond b (Some Finished) None))) l (record l { kept = []; was_reset = Some (record { code = code; size = cond l.fin_sent l.written l.sent_end }) })
 
 module _ (p : Past) (n limit : ℕ) (l : SendLane) (h : SendOk p n limit l) where
   -- all of a half was acknowledged

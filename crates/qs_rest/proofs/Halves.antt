@@ -1,5 +1,5 @@
 -- A sending half keeps what holds of it.
-use Rattle.std.proofs.Common.{◌≡◌, ℕ, ◌+◌, ◌-◌, ◌≤◌, max, Bool, true, false, List, length, take, Some, None, is_some, refl, sym, ◌∙◌, subst, arith}
+use Rattle.std.proofs.Common.{◌≡◌, ℕ, ◌+◌, ◌-◌, ◌≤◌, max, Bool, true, false, List, [], length, take, Some, None, is_some, refl, sym, ◌∙◌, subst, arith}
 use Rattle.std.specs.Prelude.{cond}
 use Rattle.std.proofs.lemmas.List.{length-take}
 use Rattle.std.proofs.lemmas.Option.{none-some}
@@ -41,7 +41,7 @@ finish_lasts l = record { limit = omega arith; reset = λ is. is; whole = λ h. 
 
 pub reset_lasts : (code : ℕ) (l : SendLane) → Lasts l (reset_lane l code)
 reset_lasts code l =
-    cond_both (is_some (reset_refusal l)) l (record l { was_reset = Some (record { code = code; size = cond l.fin_sent l.written l.sent_end }) }) (Lasts l) (λ _. lasts_same l) (λ _.
+    cond_both (is_some (reset_refusal l)) l (record l { kept = []; was_reset = Some (record { code = code; size = cond l.fin_sent l.written l.sent_end }) }) (Lasts l) (λ _. lasts_same l) (λ _.
     record { limit = omega arith; reset = λ is. refl; whole = λ h. record { finished = h.finished; end = h.end; offsets = h.offsets } })
 
 pub stopped_lasts : (code : ℕ) (l : SendLane) → Lasts l (stopped_lane l code)
@@ -89,7 +89,7 @@ module _ (p : Past) (n first : ℕ) (l : SendLane) (h : HalfTrue p n first l) wh
 
   pub reset_true : (code : ℕ) → HalfTrue p n first (reset_lane l code)
   reset_true code =
-      cond_both (is_some (reset_refusal l)) l (record l { was_reset = Some (record { code = code; size = cond l.fin_sent l.written l.sent_end }) }) (HalfTrue p n first) (λ _. h) (λ _.
+      cond_both (is_some (reset_refusal l)) l (record l { kept = []; was_reset = Some (record { code = code; size = cond l.fin_sent l.written l.sent_end }) }) (HalfTrue p n first) (λ _. h) (λ _.
       record { first_limit = h.first_limit; small = h.small; reset_told = h.reset_told })
 
   pub stopped_true : (code : ℕ) → HalfTrue p n first (stopped_lane l code)

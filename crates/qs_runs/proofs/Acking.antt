@@ -61,13 +61,13 @@ module _ (p : Past) (n limit : ℕ) (l : SendLane) (h : SendOk p n limit l) wher
   size_is_end false e = refl
 
   reset_by : (code : ℕ) (b : Bool) → is_some (reset_refusal l) ≡ b →
-      SendOk p n limit (if b then l else record l { was_reset = Some (record { code = code; size = if l.fin_sent then l.written else l.sent_end }) })
+      SendOk p n limit (if b then l else record l { kept = []; was_reset = Some (record { code = code; size = if l.fin_sent then l.written else l.sent_end }) })
   reset_by code true refused = h
   reset_by code false allowed =
       let none : l.was_reset ≡ None = not_reset l allowed in
       record {
         count = h.count;
-        kept = h.kept;
+        kept = λ open_half. absurd (none-some _ (sym open_half));
         sent_written = h.sent_written;
         sent_limit = h.sent_limit;
         end = h.end;
@@ -101,7 +101,7 @@ module _ (p : Past) (n limit : ℕ) (l : SendLane) (h : SendOk p n limit l) wher
         limit_told = r.limit_told;
       }
 
-  end_by : (code : ℕ) (b : Bool) → (if b then l else record l { was_reset = Some (record { code = code; size = if l.fin_sent then l.written else l.sent_end }) }).sent_end ≡ l.sent_end
+  end_by : (code : ℕ) (b : Bool) → (if b then l else record l { kept = []; was_reset = Some (record { code = code; size = if l.fin_sent then l.written else l.sent_end }) }).sent_end ≡ l.sent_end
   end_by code true = refl
   end_by code false = refl
 
@@ -116,7 +116,7 @@ module _ (p : Past) (n limit : ℕ) (l : SendLane) (h : SendOk p n limit l) wher
       let moved : unacked_from l + (now - unacked_from l) ≡ now = omega arith in
       record {
         count = h.count;
-        kept = ap (drop (now - unacked_from l)) h.kept ∙ drop-drop (now - unacked_from l) (unacked_from l) (p.bytes n) ∙ ap (λ x. drop x (p.bytes n)) moved;
+        kept = λ none. ap (drop (now - unacked_from l)) (h.kept none) ∙ drop-drop (now - unacked_from l) (unacked_from l) (p.bytes n) ∙ ap (λ x. drop x (p.bytes n)) moved;
         sent_written = h.sent_written;
         sent_limit = h.sent_limit;
         end = h.end;

@@ -205,7 +205,7 @@ module _ (mine theirs : Packets) (all : List ℕ) (n limit : ℕ) (l : SendLane)
               | inr ge ↦ ge
             ] in
             let in_kept : slice_get l.kept ((c.offset - unacked_from l) + i) ≡ Some b = slice_get-drop (c.offset - unacked_from l) l.kept i b (slice_get-take c.len _ i b (subst (λ x. slice_get x i ≡ Some b) told is)) in
-            let in_all = slice_get-drop (unacked_from l) all ((c.offset - unacked_from l) + i) b (subst (λ x. slice_get x ((c.offset - unacked_from l) + i) ≡ Some b) h.kept in_kept) in
+            let in_all = slice_get-drop (unacked_from l) all ((c.offset - unacked_from l) + i) b (subst (λ x. slice_get x ((c.offset - unacked_from l) + i) ≡ Some b) (h.kept none) in_kept) in
             let same : unacked_from l + ((c.offset - unacked_from l) + i) ≡ c.offset + i = omega arith in
             subst (λ x. slice_get all x ≡ Some b) same in_all;
         below = omega arith;

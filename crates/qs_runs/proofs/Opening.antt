@@ -22,7 +22,7 @@ new_send_ok : (p : Past) (n id limit buffer : ℕ) → NotSent p n → SendOk p 
 new_send_ok p n id limit buffer h =
     record {
       count = ap length h.no_bytes;
-      kept = sym (ap (drop (unacked_from (new_send_lane id limit buffer))) h.no_bytes ∙ drop-none (unacked_from (new_send_lane id limit buffer)));
+      kept = λ _. sym (ap (drop (unacked_from (new_send_lane id limit buffer))) h.no_bytes ∙ drop-none (unacked_from (new_send_lane id limit buffer)));
       sent_written = omega arith;
       sent_limit = omega arith;
       end = λ is. absurd (false≢true is);

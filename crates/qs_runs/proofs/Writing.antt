@@ -55,7 +55,7 @@ write_ok mine theirs all bytes n limit l h none open_end =
     let low : unacked_from l ≤ l.written = missing-le l.acked l.written (acked_written mine theirs all n limit l h) in
     record {
       count = omega (arith, length-append all bytes, h.count);
-      kept = ap (λ x. x ++ bytes) h.kept ∙ sym (drop-joined (unacked_from l) all bytes (omega (arith, h.count)));
+      kept = λ _. ap (λ x. x ++ bytes) (h.kept none) ∙ sym (drop-joined (unacked_from l) all bytes (omega (arith, h.count)));
       sent_written = omega (arith, h.sent_written);
       sent_limit = h.sent_limit;
       end = λ is. absurd (not_sent is);

@@ -58,9 +58,9 @@ pub record SizesDiffer : Type 0 where
   -- that declared none
   pub undeclared : FinalSizesAgree (both (client_with sent) (server_with all_came)) A 0 → ⊥
   -- that declared another one
-  pub other_size : FinalSizesAgree (both (client_with (record sent { was_reset = Some (record { code = 7; size = 2 }) })) (server_with all_came)) A 0 → ⊥
+  pub other_size : FinalSizesAgree (both (client_with (record sent { kept = []; was_reset = Some (record { code = 7; size = 2 }) })) (server_with all_came)) A 0 → ⊥
   -- nor does a known reset's code with another one
-  pub other_code : FinalSizesAgree (both (client_with (record sent { was_reset = Some (record { code = 7; size = 3 }) })) (server_with (record all_came { reset_code = Some 8 }))) A 0 → ⊥
+  pub other_code : FinalSizesAgree (both (client_with (record sent { kept = []; was_reset = Some (record { code = 7; size = 3 }) })) (server_with (record all_came { reset_code = Some 8 }))) A 0 → ⊥
 
 -- A world doesn't agree
 pub record WorldsDiffer : Type 0 where

@@ -45,7 +45,7 @@ pub record ChunkTrue (all : List ℕ) (count sent_end : ℕ) (fin_sent : Bool) (
 -- A sending half, against what was written to it and what was sent of it.
 pub record SendTrue (mine theirs : Packets) (all : List ℕ) (n limit : ℕ) (l : SendLane) : Type 0 where
   pub count : length all ≡ l.written
-  pub kept : l.kept ≡ drop (unacked_from l) all
+  pub kept : l.was_reset ≡ None → l.kept ≡ drop (unacked_from l) all
   pub sent_written : l.sent_end ≤ l.written
   pub sent_limit : l.sent_end ≤ l.limit
   pub end : l.fin_sent ≡ true → (l.finished ≡ true) × (l.sent_end ≡ l.written)

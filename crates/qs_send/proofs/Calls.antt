@@ -1,5 +1,5 @@
 -- Each call keeps what holds of a half, and the final size; only new bytes move the sent end.
-use Rattle.std.proofs.Common.{◌≡◌, ℕ, ◌+◌, ◌≤◌, Bool, true, false, ◌||◌, max, if◌then◌else◌, is_some, Option, Some, None, List, inl, inr, refl, sym, ◌∙◌, arith}
+use Rattle.std.proofs.Common.{◌≡◌, ℕ, ◌+◌, ◌≤◌, Bool, true, false, ◌||◌, max, if◌then◌else◌, is_some, Option, Some, None, List, [], inl, inr, refl, sym, ◌∙◌, arith}
 use Rattle.std.specs.FinSet as set
 use Rattle.std.proofs.lemmas.Bool.{both_ways, cases_lt}
 use Rattle.std.proofs.lemmas.Bool.Decides.{nat_tests}
@@ -40,14 +40,14 @@ lawful_finish : (s : Sending) → IsLawful s → is_some s.lane.was_reset ≡ fa
 lawful_finish s h open_lane not_yet =
     let ends : IsEnded s.lane.written s.lane.sent_end true s.lane.fin_sent s.lane.fin_acked true (is_some s.lane.was_reset) =
     rw open_lane (ends_finish _ _ _ _ _ _ not_yet (rw open_lane at h.ends)) in
-    record { order = record { small_id = h.order.small_id; small = h.order.small; small_limit = h.order.small_limit; sent_written = h.order.sent_written; sent_limit = h.order.sent_limit; reset_size = h.order.reset_size }; bytes = record { from = h.bytes.from; buffered = h.bytes.buffered }; parts = h.parts; ends = ends }
+    record { order = record { small_id = h.order.small_id; small = h.order.small; small_limit = h.order.small_limit; sent_written = h.order.sent_written; sent_limit = h.order.sent_limit; reset_size = h.order.reset_size }; bytes = record { from = h.bytes.from; let_go = h.bytes.let_go; buffered = h.bytes.buffered }; parts = h.parts; ends = ends }
 
 finish_by : (s : Sending) (r : Option SendFault) → IsLawful s → (r ≡ None → IsLawful (record { lane = finish_lane s.lane; due = record { offsets = s.due.offsets; fin = true } })) → IsLawful (if is_some r then s else record { lane = finish_lane s.lane; due = record { offsets = s.due.offsets; fin = true } })
 finish_by s None h then_ok = then_ok refl
 finish_by s (Some fault) h then_ok = h
 
 reset_by : (s : Sending) (code : ℕ) (b : Bool) → IsLawful s → IsLawful (record {
-  lane = if b then s.lane else record s.lane { was_reset = Some (record { code = code; size = if s.lane.fin_sent then s.lane.written else s.lane.sent_end }) };
+  lane = if b then s.lane else record s.lane { kept = []; was_reset = Some (record { code = code; size = if s.lane.fin_sent then s.lane.written else s.lane.sent_end }) };
   due = if b then s.due else record { offsets = set.empty; fin = false };
 })
 reset_by s code true h = h
@@ -60,7 +60,7 @@ lost_by s c false e sent h = lawful_lost s c e sent h
 -- the code of a STOP_SENDING is all that it keeps beside what a reset does
 pub lawful_stopped : (s : Sending) (code : ℕ) → IsLawful (after_reset s code) → IsLawful (after_stopped s code)
 lawful_stopped s code h =
-    record { order = record { small_id = h.order.small_id; small = h.order.small; small_limit = h.order.small_limit; sent_written = h.order.sent_written; sent_limit = h.order.sent_limit; reset_size = h.order.reset_size }; bytes = record { from = h.bytes.from; buffered = h.bytes.buffered }; parts = h.parts; ends = h.ends }
+    record { order = record { small_id = h.order.small_id; small = h.order.small; small_limit = h.order.small_limit; sent_written = h.order.sent_written; sent_limit = h.order.sent_limit; reset_size = h.order.reset_size }; bytes = record { from = h.bytes.from; let_go = h.bytes.let_go; buffered = h.bytes.buffered }; parts = h.parts; ends = h.ends }
 
 pub calls_keep_lawful : CallsKeepLawful
 calls_keep_lawful s (writes bytes) h may =
@@ -74,13 +74,13 @@ calls_keep_lawful s finishes h may =
 calls_keep_lawful s (resets code) h may = reset_by s code (is_some (reset_refusal s.lane)) h
 calls_keep_lawful s (stops code) h may = lawful_stopped s code (reset_by s code (is_some (reset_refusal s.lane)) h)
 calls_keep_lawful s acks_reset h may =
-    record { order = record { small_id = h.order.small_id; small = h.order.small; small_limit = h.order.small_limit; sent_written = h.order.sent_written; sent_limit = h.order.sent_limit; reset_size = h.order.reset_size }; bytes = record { from = h.bytes.from; buffered = h.bytes.buffered }; parts = h.parts; ends = h.ends }
+    record { order = record { small_id = h.order.small_id; small = h.order.small; small_limit = h.order.small_limit; sent_written = h.order.sent_written; sent_limit = h.order.sent_limit; reset_size = h.order.reset_size }; bytes = record { from = h.bytes.from; let_go = h.bytes.let_go; buffered = h.bytes.buffered }; parts = h.parts; ends = h.ends }
 calls_keep_lawful s blocks h may =
-    record { order = record { small_id = h.order.small_id; small = h.order.small; small_limit = h.order.small_limit; sent_written = h.order.sent_written; sent_limit = h.order.sent_limit; reset_size = h.order.reset_size }; bytes = record { from = h.bytes.from; buffered = h.bytes.buffered }; parts = h.parts; ends = h.ends }
+    record { order = record { small_id = h.order.small_id; small = h.order.small; small_limit = h.order.small_limit; sent_written = h.order.sent_written; sent_limit = h.order.sent_limit; reset_size = h.order.reset_size }; bytes = record { from = h.bytes.from; let_go = h.bytes.let_go; buffered = h.bytes.buffered }; parts = h.parts; ends = h.ends }
 calls_keep_lawful s (allows limit) h may =
     let small = h.order.small_limit in
     let sent = h.order.sent_limit in
-    record { order = record { small_id = h.order.small_id; small = h.order.small; small_limit = omega (arith, small, may); sent_written = h.order.sent_written; sent_limit = omega (arith, sent); reset_size = h.order.reset_size }; bytes = record { from = h.bytes.from; buffered = h.bytes.buffered }; parts = h.parts; ends = h.ends }
+    record { order = record { small_id = h.order.small_id; small = h.order.small; small_limit = omega (arith, small, may); sent_written = h.order.sent_written; sent_limit = omega (arith, sent); reset_size = h.order.reset_size }; bytes = record { from = h.bytes.from; let_go = h.bytes.let_go; buffered = h.bytes.buffered }; parts = h.parts; ends = h.ends }
 calls_keep_lawful s (sends chunk) h may = lawful_sent s chunk may h
 calls_keep_lawful s (acks chunk) h may = lawful_acked s chunk may h
 calls_keep_lawful s (loses chunk) h may = lost_by s chunk (is_some s.lane.was_reset) refl may h
@@ -123,7 +123,7 @@ finish_keeps s true size is = is
 finish_keeps s false size is = is
 
 reset_keeps : (l : SendLane) (code size : ℕ) (r : Option Reset) (whole : Bool) → l.was_reset ≡ r → declared_size l ≡ Some size
-    → declared_size (if is_some (if is_some r then Some WasReset else (if whole then Some Finished else None)) then l else record l { was_reset = Some (record { code = code; size = if l.fin_sent then l.written else l.sent_end }) }) ≡ Some size
+    → declared_size (if is_some (if is_some r then Some WasReset else (if whole then Some Finished else None)) then l else record l { kept = []; was_reset = Some (record { code = code; size = if l.fin_sent then l.written else l.sent_end }) }) ≡ Some size
 reset_keeps l code size (Some t) whole e is = is
 reset_keeps l code size None true e is = is
 reset_keeps l code size None false e is =
@@ -179,7 +179,7 @@ finish_sends : (s : Sending) (b : Bool) → (let new : Sending = if b then s els
 finish_sends s true = refl
 finish_sends s false = refl
 
-reset_sends : (l : SendLane) (r : Reset) (b : Bool) → (let new : SendLane = if b then l else record l { was_reset = Some r } in new.sent_end ≡ l.sent_end)
+reset_sends : (l : SendLane) (r : Reset) (b : Bool) → (let new : SendLane = if b then l else record l { kept = []; was_reset = Some r } in new.sent_end ≡ l.sent_end)
 reset_sends l r true = refl
 reset_sends l r false = refl
 

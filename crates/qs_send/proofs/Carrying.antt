@@ -45,6 +45,18 @@ get_same-without_first m k = get-without_first m k k ∙ at_same k k _ _ refl
 pub get_other-without_first : (m : PacketPieces) (k n : ℕ) → (n ≡ k → ⊥) → fmap.get (without_first m k (fmap.get m k)) n ≡ fmap.get m n
 get_other-without_first m k n apart = get-without_first m k n ∙ at_other n k _ _ apart
 
+-- a packet that has no piece has none once the first is gone
+pub unheld-without_first : (m : PacketPieces) (k n : ℕ) → fmap.contains_key m n ≡ false → fmap.contains_key (without_first m k (fmap.get m k)) n ≡ false
+unheld-without_first m k n none = ap is_some (get-without_first m k n) ∙ go (nat_eq n k) refl
+  where
+    rest : (o : Option (List Piece)) → is_some o ≡ false → is_some (rest_of o) ≡ false
+    rest None is = refl
+    rest (Some ps) is = absurd cc
+
+    go : (b : Bool) → nat_eq n k ≡ b → is_some (cond b (rest_of (fmap.get m k)) (fmap.get m n)) ≡ false
+    go true here = let same : n ≡ k = grind (arith, nat_tests) in rest (fmap.get m k) (subst (λ j. fmap.contains_key m j ≡ false) same none)
+    go false other = none
+
 -- Which pieces some packet has
 
 pub carried-empty : (p : Piece) → IsCarried fmap.empty p → ⊥

@@ -4,8 +4,10 @@ pub mod Choose
 pub mod Sets
 pub mod Missing
 pub mod Steps
+pub mod AtRest
 pub mod Keeps
 pub mod Packets
+pub mod Freed
 pub mod Held
 pub mod Canonical
 pub mod Wholes
@@ -14,7 +16,7 @@ pub mod Parting
 pub mod PieceEquality
 pub mod Outstanding
 pub mod Carrying
-pub mod Turns
+pub mod Noted
 pub mod Passing
 pub mod LostLists
 pub mod LostOrders

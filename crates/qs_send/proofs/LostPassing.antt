@@ -147,6 +147,15 @@ none_ahead m p q so_far none ended j ahead = elim (so_far.passed j ahead) [
   | inr went ↦ went.0
 ]
 
+-- no number is lost
+pub none_held : (l : Lost) → ((k : ℕ) → Among k l.order ↔ (fmap.contains_key l.pieces k ≡ true)) → length l.order ≡ 0 → (k : ℕ) → fmap.contains_key l.pieces k ≡ false
+none_held l same none k = go l.order none (same k) (fmap.contains_key l.pieces k) refl
+  where
+    go : (ks : List ℕ) → length ks ≡ 0 → Among k ks ↔ (fmap.contains_key l.pieces k ≡ true) → (b : Bool) → fmap.contains_key l.pieces k ≡ b → fmap.contains_key l.pieces k ≡ false
+    go [] empty is true held = absurd (is.1 held)
+    go [] empty is false held = held
+    go (x ∷ xs) empty is b held = absurd (omega arith)
+
 -- Whole passes
 
 -- the numbers of a pass from p on

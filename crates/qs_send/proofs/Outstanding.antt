@@ -1,5 +1,5 @@
 -- Slots of consecutive numbers as a map of packets, and what each edit of them makes of it.
-use Rattle.std.proofs.Common.{◌≡◌, ◌∙◌, ℕ, zero, suc, ◌+◌, ◌-◌, ◌<◌, ◌≤◌, Bool, true, false, cond, nat_eq, List, [], ◌∷◌, ◌++◌, length, drop, take, IsTrue, min, Option, None, Some, refl, sym, ap, arith, inl, inr, subst, slice_set}
+use Rattle.std.proofs.Common.{◌≡◌, ◌∙◌, ℕ, zero, suc, ◌+◌, ◌-◌, ◌<◌, ◌≤◌, Bool, true, false, cond, nat_eq, nat_lt, List, [], ◌∷◌, ◌++◌, length, drop, take, IsTrue, min, Option, None, Some, refl, sym, ap, arith, inl, inr, subst, slice_set}
 use Rattle.std.specs.Option.{is_some, IfSome, IfNone}
 use Rattle.std.specs.Cmp.{nat_cmp_total, unsigned_tied}
 use Rattle.std.specs.Ordering.{nat_cmp}
@@ -95,20 +95,20 @@ none_empty n base (s ∷ ss) is = go (none_empty n (base + 1) ss) (nat_eq n base
 pub nothing_is_empty : (base : ℕ) (ss : List (List Piece)) → NoneEmpty (packets_of base ss)
 nothing_is_empty base ss n is = none_empty n base ss (sym (get-packets_of base ss n) ∙ is)
 
-pub first_some : (m : PacketPieces) (n : ℕ) → NoneEmpty m → is_some (first_piece (fmap.get m n)) ≡ fmap.contains_key m n
-first_some m n none = go (fmap.get m n) refl
-  where
-    go : (o : Option (List Piece)) → fmap.get m n ≡ o → is_some (first_piece o) ≡ is_some o
-    go None is = refl
-    go (Some []) is = absurd (none n is)
-    go (Some (p ∷ ps)) is = refl
-
 first_kept : (s : List Piece) → first_piece (Some s) ≡ first_piece (kept s)
 first_kept [] = refl
 first_kept (p ∷ ps) = refl
 
 pub first-slot : (base k n : ℕ) (ss : List (List Piece)) → base + k ≡ n → first_piece (Some (slot_at ss k)) ≡ first_piece (fmap.get (packets_of base ss) n)
 first-slot base k n ss is = first_kept (slot_at ss k) ∙ ap first_piece (sym (get-slot base k n ss is))
+
+-- a slot has pieces exactly if its number is held
+pub filled_slot : (base k len : ℕ) (ss : List (List Piece)) → len ≡ length (slot_at ss k) → nat_lt 0 len ≡ fmap.contains_key (packets_of base ss) (base + k)
+filled_slot base k len ss long = go (slot_at ss k) long ∙ sym (ap is_some (get-slot base k (base + k) ss refl))
+  where
+    go : (s : List Piece) → len ≡ length s → nat_lt 0 len ≡ is_some (kept s)
+    go [] is = grind (arith, nat_tests)
+    go (p ∷ ps) is = grind (arith, nat_tests)
 
 -- a slot is empty exactly if its number isn't held
 pub empty_slot : (base k n len : ℕ) (ss : List (List Piece)) → base + k ≡ n → k < length ss → len ≡ length (slot_at ss k)
@@ -205,11 +205,38 @@ found_set n base q (suc k) (t ∷ ss) s is lt = ap (cond (nat_eq n base) (kept t
 
 -- The greatest number, as the first slots tell it
 
-pub none_before : (base bound : ℕ) (ss : List (List Piece)) → ((k : ℕ) → base ≤ k → k < bound → fmap.contains_key (packets_of base ss) k ≡ false) → (k : ℕ) → k < bound → fmap.contains_key (packets_of base ss) k ≡ false
+none_before : (base bound : ℕ) (ss : List (List Piece)) → ((k : ℕ) → base ≤ k → k < bound → fmap.contains_key (packets_of base ss) k ≡ false) → (k : ℕ) → k < bound → fmap.contains_key (packets_of base ss) k ≡ false
 none_before base bound ss none k lt = elim (cases_lt k base) [ inl less ↦ not_below base k ss less | inr ge ↦ none k ge lt ]
 
 below_in : (base n count k : ℕ) (ss : List (List Piece)) → count ≡ min (n - base) (length ss) → k < n → fmap.contains_key (packets_of base ss) k ≡ true → k < base + count
 below_in base n count k ss is lt held = let at = held_slot base k ss held in omega (arith, at.0, at.1)
+
+-- the greatest of a part of the first slots
+pub greatest_from : (m : PacketPieces) (low bound : ℕ) (r : Option ℕ) → IfSome r (λ k. (low ≤ k) × (k < bound) × (fmap.contains_key m k ≡ true)) → IfSome r (λ k. (j : ℕ) → k < j → j < bound → fmap.contains_key m j ≡ false) → IfSome r (IsGreatestBelow m bound)
+greatest_from m low bound None at above = tt
+greatest_from m low bound (Some k) at above =
+    record { held = at.2; below = at.1; greatest = λ j held lt. elim (cases_lt k j) [ inl more ↦ absurd (both_ways _ (above j more lt) held) | inr le ↦ le ] }
+
+-- behind the first slots that lie below a number, up to it
+past_first : (base below count : ℕ) (ss : List (List Piece)) → count ≡ min (below - base) (length ss) → (j : ℕ) → base + count ≤ j → j < below → fmap.contains_key (packets_of base ss) j ≡ false
+past_first base below count ss is j ge lt = not_past base j ss (omega (arith, is, ge, lt))
+
+pub above_within : (base below count : ℕ) (ss : List (List Piece)) (r : Option ℕ) → count ≡ min (below - base) (length ss) → IfSome r (λ k. (j : ℕ) → k < j → j < base + count → fmap.contains_key (packets_of base ss) j ≡ false)
+    → IfSome r (λ k. (j : ℕ) → k < j → j < below → fmap.contains_key (packets_of base ss) j ≡ false)
+above_within base below count ss None is h = tt
+above_within base below count ss (Some k) is h = λ j more lt. elim (cases_lt j (base + count)) [ inl less ↦ h j more less | inr ge ↦ past_first base below count ss is j ge lt ]
+
+pub none_within : (base low below from count : ℕ) (ss : List (List Piece)) (r : Option ℕ) → from ≡ low - base → count ≡ min (below - base) (length ss)
+    → IfNone r ((j : ℕ) → base + from ≤ j → j < base + count → fmap.contains_key (packets_of base ss) j ≡ false) → IfNone r ((j : ℕ) → low ≤ j → j < below → fmap.contains_key (packets_of base ss) j ≡ false)
+none_within base low below from count ss None starts is h = λ j ge lt. elim (cases_lt j base) [
+  | inl less ↦ not_below base j ss less
+  | inr there ↦ elim (cases_lt j (base + count)) [ inl less ↦ h j (omega (arith, ge, there, starts)) less | inr past ↦ past_first base below count ss is j past lt ]
+]
+none_within base low below from count ss (Some k) starts is h = tt
+
+pub none_of : (base count : ℕ) (ss : List (List Piece)) (r : Option ℕ) → IfNone r ((j : ℕ) → base + 0 ≤ j → j < base + count → fmap.contains_key (packets_of base ss) j ≡ false) → IfNone r ((k : ℕ) → k < base + count → fmap.contains_key (packets_of base ss) k ≡ false)
+none_of base count ss None h = none_before base (base + count) ss (λ k ge lt. h k (omega (arith, ge)) lt)
+none_of base count ss (Some k) h = tt
 
 pub greatest_below : (base n count : ℕ) (ss : List (List Piece)) (r : Option ℕ) → count ≡ min (n - base) (length ss) → IfSome r (IsGreatestBelow (packets_of base ss) (base + count)) → IfSome r (IsGreatestBelow (packets_of base ss) n)
 greatest_below base n count ss None is h = tt

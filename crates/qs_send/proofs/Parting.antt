@@ -1,5 +1,5 @@
 -- Each written offset is acknowledged, due or in flight, and what each call moves.
-use Rattle.std.proofs.Common.{◌≡◌, ℕ, ◌+◌, ◌<◌, Bool, true, false, not, ◌&&◌, nat_lt, if◌then◌else◌, IsTrue, is_some, Option, Some, None, length, inl, inr, refl, arith}
+use Rattle.std.proofs.Common.{◌≡◌, ℕ, ◌+◌, ◌<◌, Bool, true, false, not, ◌&&◌, nat_lt, if◌then◌else◌, IsTrue, is_some, Option, Some, None, [], length, inl, inr, refl, arith}
 use Rattle.std.specs.FinSet as set
 use Rattle.std.specs.Ordering.{nat_cmp}
 use Rattle.std.proofs.lemmas.Bool.{cases_lt}
@@ -89,7 +89,7 @@ finish_moves s true = record { acked = refl; due = refl; in_flight = refl }
 finish_moves s false = record { acked = refl; due = refl; in_flight = refl }
 
 reset_moves : (s : Sending) (code : ℕ) (r : Reset) (b : Bool) → IsLawful s → is_some (reset_refusal s.lane) ≡ b
-    → MovesParts s (resets code) (record { lane = if b then s.lane else record s.lane { was_reset = Some r }; due = if b then s.due else record { offsets = set.empty; fin = false } })
+    → MovesParts s (resets code) (record { lane = if b then s.lane else record s.lane { kept = []; was_reset = Some r }; due = if b then s.due else record { offsets = set.empty; fin = false } })
 reset_moves s code r true h e = record { acked = refl; due = rw e refl; in_flight = rw e refl }
 reset_moves s code r false h e = record { acked = refl; due = rw e refl; in_flight = rw e (rest-reset s.lane.written s.lane.acked s.due.offsets h.parts.due_written h.parts.apart) }
 

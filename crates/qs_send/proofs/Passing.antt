@@ -1,11 +1,10 @@
 -- The pass over an ACK: what it passes without an answer, and what its answers say.
-use Rattle.std.proofs.Common.{◌≡◌, ◌∙◌, ℕ, ◌+◌, ◌-◌, ◌<◌, ◌≤◌, true, false, Some, List, [], ◌∷◌, length, min, refl, sym, ap, subst, arith, inl, inr, ◌⊎◌}
+use Rattle.std.proofs.Common.{◌≡◌, ◌∙◌, ℕ, suc, ◌+◌, ◌-◌, ◌<◌, ◌≤◌, true, false, Some, List, [], ◌∷◌, length, min, refl, sym, ap, subst, arith, inl, inr, ◌⊎◌}
 use Rattle.std.specs.FinMap as fmap
 use Rattle.std.proofs.lemmas.Bool.{both_ways, cases_lt}
 use Rattle.qs_wire.specs.Acks.{FallBelow}
 use Rattle.qs_send.specs.Records.{PacketPieces, Recorded, Among}
-use Rattle.qs_send.specs.AckPass.{PAST_NUMBERS, GivesNumber, IsNext, MayEmpty, PassGives, AreFalling, PassGivesAllNamed, pass_over, Passing, IsNamed, IsAhead, Falls, HasRead, HasPassed, turns_ahead, turns_left, slots_within, slots_named}
-use Rattle.qs_send.proofs.Turns.{HasTaken, taken_then}
+use Rattle.qs_send.specs.AckPass.{PAST_NUMBERS, GivesNumber, IsNext, MayEmpty, PassGives, AreFalling, PassGivesAllNamed, pass_over, Passing, IsNamed, IsAhead, Falls, HasRead, HasPassed, turns_ahead, more_turns}
 
 -- each number that falling ranges name lies below
 pub named_below : (high : ℕ) (rs : List (ℕ × ℕ)) (j : ℕ) → FallBelow high rs → IsNamed rs j → j + 1 < high
@@ -113,16 +112,14 @@ record FromHere (r : Recorded) (p : Passing) (ks : List ℕ) (q : Passing) : Typ
   given : (j : ℕ) → Among j ks → IsAhead p j × (fmap.contains_key r.pieces j ≡ true)
   all : (j : ℕ) → IsAhead p j → fmap.contains_key r.pieces j ≡ true → Among j ks
   turns : q.turns + turns_ahead q r ≤ p.turns + turns_ahead p r
-  each : HasTaken r p q × (turns_left q r ≡ 0)
+  each : q.turns ≡ more_turns p.turns (length ks + length p.unread)
 
 same_turns : (p : Passing) (r s : Recorded) → s.base ≡ r.base → s.slots ≡ r.slots → turns_ahead p s ≡ turns_ahead p r
 same_turns p r s base slots = ap (λ x. min (p.below - x) s.slots + length p.unread) base ∙ ap (λ x. min (p.below - r.base) x + length p.unread) slots
 
-same_taken : (r s : Recorded) (p q : Passing) → s.base ≡ r.base → s.slots ≡ r.slots → HasTaken s p q × (turns_left q s ≡ 0) → HasTaken r p q × (turns_left q r ≡ 0)
-same_taken r s p q base slots taken = taken_of s.base s.slots base slots taken
-  where
-    taken_of : (b n : ℕ) → b ≡ r.base → n ≡ r.slots → HasTaken (record r { base = b; slots = n }) p q × (turns_left q (record r { base = b; slots = n }) ≡ 0) → HasTaken r p q × (turns_left q r ≡ 0)
-    taken_of b n eb en h = subst (λ x. HasTaken (record r { slots = x }) p q × (turns_left q (record r { slots = x }) ≡ 0)) en (subst (λ x. HasTaken (record r { base = x; slots = n }) p q × (turns_left q (record r { base = x; slots = n }) ≡ 0)) eb h)
+-- a number is given, after some ranges were read, and then the rest
+turns_then : (a b c given left later : ℕ) → later ≤ left → b ≡ more_turns a (1 + (left - later)) → c ≡ more_turns b (given + later) → c ≡ more_turns a (suc given + left)
+turns_then a b c given left later le first second = omega (arith, le, first, second)
 
 one_given : (r s : Recorded) (p next q : Passing) (k : ℕ) (ks : List ℕ) → Falls p → IsNext r p (Some k) next → MayEmpty r k s → FromHere s next ks q → FromHere r p (k ∷ ks) q
 one_given r s p next q k ks falls is gone later =
@@ -146,7 +143,7 @@ one_given r s p next q k ks falls is gone later =
           let same = same_turns next r s gone.base gone.slots in
           let end = same_turns q r s gone.base gone.slots in
           omega (arith, now, rest, same, end);
-      each = let later_on = same_taken r s next q gone.base gone.slots later.each in (taken_then r p next q (is.each falls) later_on.0, later_on.1);
+      each = turns_then p.turns next.turns q.turns (length ks) (length p.unread) (length next.unread) is.reads is.each later.each;
     }
 
 from_here : (r : Recorded) (p : Passing) (ks : List ℕ) (q : Passing) → Falls p → PassGives r p ks q → FromHere r p ks q
@@ -155,7 +152,7 @@ from_here r p [] q falls is = record {
   given = λ j among. absurd among;
   all = λ j ahead held. absurd (both_ways _ (is.answer falls j ahead) held);
   turns = is.turns;
-  each = (is.each falls, is.ended refl);
+  each = let all = ap length (is.ended refl) in let now = is.each in omega (arith, all, now);
 }
 from_here r p (k ∷ ks) q falls is =
     one_given r is.0 p is.1 q k ks falls is.2 is.3 (from_here is.0 is.1 ks q (is.2.falls falls) is.4)
@@ -170,12 +167,5 @@ pass_gives_all_named r ranges ks q falls is =
         (λ both. let lt = named_below PAST_NUMBERS ranges k falls both.0 in all.all k (omega (arith, lt), inr both.0) both.1),
       );
       turns = let t = all.turns in omega (arith, t);
-      each =
-          let taken = all.each.0.1 in
-          let none = all.each.1 in
-          let begins : turns_left (pass_over ranges) r ≡ slots_named r PAST_NUMBERS ranges + length ranges = none_before (slots_named r PAST_NUMBERS ranges) (length ranges) in
-          omega (arith, taken, none, begins);
+      each = all.each;
     }
-  where
-    none_before : (n l : ℕ) → (slots_within r PAST_NUMBERS PAST_NUMBERS + n) + l ≡ n + l
-    none_before n l = omega arith

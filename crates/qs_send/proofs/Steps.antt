@@ -1,11 +1,11 @@
 -- Each call keeps what holds of a lane.
-use Rattle.std.proofs.Common.{◌≡◌, ℕ, zero, suc, ◌+◌, ◌-◌, ◌≤◌, Bool, true, false, not, ◌&&◌, ◌||◌, ◌==◌, nat_lt, max, IsTrue, is_some, Option, Some, List, [], length, append-nil, length-append, length-drop, if◌then◌else◌, refl, sym, arith}
+use Rattle.std.proofs.Common.{◌≡◌, ℕ, zero, suc, ◌+◌, ◌-◌, ◌≤◌, Bool, true, false, not, ◌&&◌, ◌||◌, ◌==◌, nat_lt, max, IsTrue, is_some, Option, Some, List, [], length, append-nil, length-append, length-drop, if◌then◌else◌, refl, sym, ap, arith}
 use Rattle.std.specs.FinSet as set
 use Rattle.std.specs.Ordering.{nat_cmp}
 use Rattle.std.proofs.lemmas.Bool.{both_ways}
 use Rattle.std.proofs.lemmas.Bool.Decides.{nat_tests}
-use Rattle.qs_ranges.specs.Numbers.{MAX_VARINT, missing_from, AllBelow, NumberSet, numbers, contains-with_range, contains-without_range, contains-numbers, same_numbers, ContainsRange, MissesRange, IsLeastMissingFrom}
-use Rattle.qs_ranges.proofs.Sets.{missing_from-of}
+use Rattle.std.proofs.lemmas.List.{drop_all}
+use Rattle.qs_ranges.specs.Numbers.{MAX_VARINT, missing_from, AllBelow, NumberSet, numbers, contains-with_range, contains-without_range, contains-numbers, same_numbers, ContainsRange, MissesRange}
 use Rattle.qs_send.specs.declared.parts.Chunk.{Chunk}
 use Rattle.qs_send.specs.declared.parts.Reset.{Reset}
 use Rattle.qs_send.specs.Lane.{Sending, SendLane, unacked_from, new_sending, after_write, after_sent, after_acked, lost_due}
@@ -22,7 +22,7 @@ pub lawful_new : (id limit buffer : ℕ) → id ≤ MAX_VARINT → limit ≤ MAX
 lawful_new id limit buffer small_id small_limit =
     record {
       order = record { small_id = small_id; small = omega arith; small_limit = small_limit; sent_written = omega arith; sent_limit = omega arith; reset_size = λ r e. absurd (cc) };
-      bytes = record { from = omega (arith, unacked-empty); buffered = omega arith };
+      bytes = record { from = λ _. omega (arith, unacked-empty); let_go = λ _. refl; buffered = omega arith };
       parts = record {
         acked_sent = empty_below 0;
         due_written = empty_below 0;
@@ -48,12 +48,6 @@ below_less noted t w below q has = grind (arith, nat_tests, contains-due noted t
 
 pub below_more : (noted : NumberSet) (w from end w' : ℕ) → w ≤ w' → end ≤ w' → AllBelow noted w → AllBelow (set.union noted (numbers from end)) w'
 below_more noted w from end w' le fits below q has = grind (arith, nat_tests, contains-with_range noted from end q, below q)
-
-pub acked_written : (s : Sending) → IsLawful s → AllBelow s.lane.acked s.lane.written
-acked_written s h q has =
-    let below = h.parts.acked_sent q has in
-    let sent = h.order.sent_written in
-    omega (arith, below, sent)
 
 -- Writing
 
@@ -88,11 +82,11 @@ write_nothing s =
 pub lawful_write : (s : Sending) (bytes : List ℕ) → is_some s.lane.was_reset ≡ false → s.lane.finished ≡ false → s.lane.written + length bytes ≤ MAX_VARINT → length s.lane.kept + length bytes ≤ s.lane.buffer → IsLawful s → IsLawful (after_write s bytes)
 lawful_write s bytes open_lane not_yet small fits h =
     let sent = h.order.sent_written in
-    let from = h.bytes.from in
+    let from = h.bytes.from open_lane in
     let len = length-append s.lane.kept bytes in
     record {
       order = record { small_id = h.order.small_id; small = small; small_limit = h.order.small_limit; sent_written = omega (arith, sent); sent_limit = h.order.sent_limit; reset_size = h.order.reset_size };
-      bytes = record { from = omega (arith, len, from); buffered = omega (arith, len, fits) };
+      bytes = record { from = λ _. omega (arith, len, from); let_go = λ is. absurd (both_ways _ open_lane is); buffered = omega (arith, len, fits) };
       parts = parts_write _ _ _ _ _ _ open_lane sent h.parts;
       ends = ends_write _ _ _ _ _ _ _ _ not_yet h.ends;
     }
@@ -110,11 +104,11 @@ reset_size-is s h = by_end s.lane.fin_sent s.lane.written s.lane.sent_end h.ends
 one_reset : (r t : Reset) → Some r ≡ Some t → r ≡ t
 one_reset r t e = cc
 
-pub lawful_reset : (s : Sending) (r : Reset) → r.size ≡ s.lane.sent_end → IsLawful s → IsLawful (record { lane = record s.lane { was_reset = Some r }; due = record { offsets = set.empty; fin = false } })
+pub lawful_reset : (s : Sending) (r : Reset) → r.size ≡ s.lane.sent_end → IsLawful s → IsLawful (record { lane = record s.lane { kept = []; was_reset = Some r }; due = record { offsets = set.empty; fin = false } })
 lawful_reset s r size h =
     record {
       order = record { small_id = h.order.small_id; small = h.order.small; small_limit = h.order.small_limit; sent_written = h.order.sent_written; sent_limit = h.order.sent_limit; reset_size = λ t e. rw (← one_reset r t e) size };
-      bytes = record { from = h.bytes.from; buffered = h.bytes.buffered };
+      bytes = record { from = λ is. absurd (both_ways true is refl); let_go = λ _. refl; buffered = omega arith };
       parts = record {
         acked_sent = h.parts.acked_sent;
         due_written = empty_below s.lane.written;
@@ -211,7 +205,7 @@ lawful_sent s c due h =
     let within = due_within s c due h in
     record {
       order = record { small_id = h.order.small_id; small = h.order.small; small_limit = h.order.small_limit; sent_written = omega (arith, sent, within); sent_limit = omega (arith, limit, fits); reset_size = λ t e. absurd (reset_then _ t (none_due s c due h) e) };
-      bytes = record { from = h.bytes.from; buffered = h.bytes.buffered };
+      bytes = record { from = h.bytes.from; let_go = h.bytes.let_go; buffered = h.bytes.buffered };
       parts = parts_sent _ _ _ _ _ _ _ sent within due.lowest h.parts;
       ends = ends_sent _ _ _ _ _ _ _ _ _ due.fin within sent h.ends;
     }
@@ -251,10 +245,10 @@ ends_acked w e f s a d r false sent h =
       none_due = λ e. grind (arith, h.none_due e);
     }
 
-more_acked : (acked : NumberSet) (from end q : ℕ) → IsTrue (set.contains acked q) → IsTrue (set.contains (set.union acked (numbers from end)) q)
+pub more_acked : (acked : NumberSet) (from end q : ℕ) → IsTrue (set.contains acked q) → IsTrue (set.contains (set.union acked (numbers from end)) q)
 more_acked acked from end q has = grind (arith, nat_tests, contains-with_range acked from end q, has)
 
-all_more : (acked : NumberSet) (from end limit : ℕ) → AllBelow acked limit → end ≤ limit → AllBelow (set.union acked (numbers from end)) limit
+pub all_more : (acked : NumberSet) (from end limit : ℕ) → AllBelow acked limit → end ≤ limit → AllBelow (set.union acked (numbers from end)) limit
 all_more acked from end limit below le q has = grind (arith, nat_tests, contains-with_range acked from end q, below q)
 
 -- the lowest offset not acknowledged moves up, within what was written
@@ -264,22 +258,22 @@ unacked_moves l c sent below le =
     let second = unacked-least (set.union l.acked (numbers c.offset (c.offset + c.len))) l.sent_end l.written (all_more _ _ _ _ below sent.offsets) le in
     (unacked-more _ _ _ _ first.0 second.0 (more_acked l.acked c.offset (c.offset + c.len)), second.1)
 
--- which is what a look-up in the new set finds
-pub unacked_found : (l : SendLane) (c : Chunk) (low : ℕ) → WasSent l c → AllBelow l.acked l.sent_end → l.sent_end ≤ l.written → IsLeastMissingFrom (set.union l.acked (numbers c.offset (c.offset + c.len))) 0 low → missing_from (set.union l.acked (numbers c.offset (c.offset + c.len))) 0 ≡ low
-unacked_found l c low sent below le is =
-    sym (missing_from-of (set.union l.acked (numbers c.offset (c.offset + c.len))) 0 low is)
-
 pub lawful_acked : (s : Sending) (c : Chunk) → WasSent s.lane c → IsLawful s → IsLawful (after_acked s c)
 lawful_acked s c sent h =
     let moves = unacked_moves s.lane c sent h.parts.acked_sent h.order.sent_written in
     let up = moves.0 in
     let within = moves.1 in
-    let from = h.bytes.from in
     let fits = h.bytes.buffered in
     let len = length-drop (missing_from (set.union s.lane.acked (numbers c.offset (c.offset + c.len))) 0 - unacked_from s.lane) s.lane.kept in
     record {
       order = record { small_id = h.order.small_id; small = h.order.small; small_limit = h.order.small_limit; sent_written = h.order.sent_written; sent_limit = h.order.sent_limit; reset_size = h.order.reset_size };
-      bytes = record { from = omega (arith, len, up, within, from); buffered = omega (arith, len, fits) };
+      bytes = record {
+        from = λ is. let from = h.bytes.from is in omega (arith, len, up, within, from);
+        let_go = λ is.
+            let none : length s.lane.kept ≡ 0 = ap length (h.bytes.let_go is) in
+            drop_all (missing_from (set.union s.lane.acked (numbers c.offset (c.offset + c.len))) 0 - unacked_from s.lane) s.lane.kept (omega (arith, none));
+        buffered = omega (arith, len, fits);
+      };
       parts = parts_acked _ _ _ _ _ _ _ sent.offsets h.parts;
       ends = ends_acked _ _ _ _ _ _ _ _ sent.end h.ends;
     }

@@ -1,5 +1,5 @@
 -- The lowest offset not acknowledged, and when each is.
-use Rattle.std.proofs.Common.{◌≡◌, ℕ, ◌≤◌, Bool, ◌&&◌, ◌==◌, IsTrue, inl, inr, arith}
+use Rattle.std.proofs.Common.{◌≡◌, ℕ, ◌≤◌, Bool, ◌&&◌, ◌==◌, IsTrue, is_some, inl, inr, ap, arith}
 use Rattle.std.proofs.lemmas.Bool.{both_ways, cases_lt}
 use Rattle.std.proofs.lemmas.Bool.Decides.{nat_tests}
 use Rattle.qs_ranges.specs.Numbers.{NumberSet, ContainsRange, IsLeastMissingFrom}
@@ -8,9 +8,13 @@ use Rattle.qs_send.specs.Laws.{KeptFromUnacked, WholeIsAllAcked}
 use Rattle.qs_send.proofs.Missing.{unacked-least}
 
 pub kept_from_unacked : KeptFromUnacked
-kept_from_unacked s h = ((unacked-least s.lane.acked s.lane.sent_end s.lane.written h.parts.acked_sent h.order.sent_written).0, h.bytes.from)
+kept_from_unacked s h = (
+  (unacked-least s.lane.acked s.lane.sent_end s.lane.written h.parts.acked_sent h.order.sent_written).0,
+  λ none. h.bytes.from (ap is_some none),
+  h.bytes.let_go,
+)
 
-both_from : (m w : ℕ) (fin : Bool) → IsTrue ((m == w) && fin) → (m ≡ w) × IsTrue fin
+pub both_from : (m w : ℕ) (fin : Bool) → IsTrue ((m == w) && fin) → (m ≡ w) × IsTrue fin
 both_from m w fin e = (grind (arith, nat_tests, e), grind (arith, nat_tests, e))
 
 both_to : (m w : ℕ) (fin : Bool) → m ≡ w → IsTrue fin → IsTrue ((m == w) && fin)

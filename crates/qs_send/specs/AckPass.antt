@@ -6,8 +6,7 @@
 --     IsNext r p answer q           that, and that no turn is lost
 --     PassGivesAllNamed             what follows for a whole pass
 --     turns_ahead p r    how many turns the pass may still take at most
---     turns_left p r     how many it takes if it goes on to its end
-use Rattle.std.specs.Prelude.{◌≡◌, ℕ, ◌+◌, ◌-◌, ◌^◌, ◌<◌, ◌≤◌, ◌↔◌, true, false, List, [], ◌∷◌, length, max, min, Option, None, Some, ◌⊎◌, refl}
+use Rattle.std.specs.Prelude.{◌≡◌, ℕ, ◌+◌, ◌-◌, ◌^◌, ◌<◌, ◌≤◌, ◌↔◌, true, false, List, [], ◌∷◌, length, min, Option, None, Some, ◌⊎◌, refl}
 use Rattle.std.specs.Coded.{Coded, code_by, coded×, coded_ℕ, coded_list}
 use Rattle.std.specs.FinMap as fmap
 use Rattle.qs_wire.specs.Acks.{FallBelow}
@@ -63,33 +62,26 @@ IsNextNamed m p (Some k) q = GivesNumber m p k q
 abbrev pub turns_ahead : Passing → Recorded → ℕ
 turns_ahead p r = min (p.below - r.base) r.slots + length p.unread
 
--- how many numbers from `low` on and below `below` have slots
-abbrev pub slots_within : Recorded → ℕ → ℕ → ℕ
-slots_within r low below = min below (r.base + r.slots) - max low r.base
-
--- how many slots below `below` the ranges name
-abbrev pub slots_named : Recorded → ℕ → List (ℕ × ℕ) → ℕ
-slots_named r below [] = 0
-slots_named r below (range ∷ rs) = slots_within r range.0 (min below (range.1 + 1)) + slots_named r below rs
-
--- the slots ahead that the ranges name, and the ranges that were not read
-abbrev pub turns_left : Passing → Recorded → ℕ
-turns_left p r = (slots_within r p.low p.below + slots_named r p.below p.unread) + length p.unread
-
 -- so many turns more; the count stays at its greatest value
 abbrev pub more_turns : ℕ → ℕ → ℕ
 more_turns turns more = min (turns + more) PAST_NUMBERS
 
--- What one answer says of the records and of the pass before and after it. A turn is one slot or one range less that is ahead, and each
--- is counted.
+-- a number that is given takes a turn
+abbrev pub turns_given : Option ℕ → ℕ
+turns_given None = 0
+turns_given (Some k) = 1
+
+-- What one answer says of the records and of the pass before and after it. A turn is one slot or one range less that is ahead; the
+-- number that is given and each range that was read take one.
 pub record IsNext (r : Recorded) (p : Passing) (given : Option ℕ) (q : Passing) : Type 0 where
   pub answer : Falls p → IsNextNamed r.pieces p given q
   pub falls : Falls p → Falls q
   pub below : IfSome given (λ k. (q.below ≡ k) × (k < p.below))
   pub turns : q.turns + turns_ahead q r ≤ p.turns + turns_ahead p r
   pub counted : p.turns ≤ q.turns
-  pub each : Falls p → (turns_left q r ≤ turns_left p r) × (q.turns ≡ more_turns p.turns (turns_left p r - turns_left q r))
-  pub ended : given ≡ None → turns_left q r ≡ 0
+  pub each : q.turns ≡ more_turns p.turns (turns_given given + (length p.unread - length q.unread))
+  pub reads : length q.unread ≤ length p.unread
+  pub ended : given ≡ None → q.unread ≡ []
 
 -- the next range was read
 pub record HasRead (p : Passing) (range : ℕ × ℕ) (q : Passing) : Type 0 where
@@ -116,13 +108,13 @@ abbrev pub AreFalling : ℕ → List ℕ → Type 0
 AreFalling bound [] = Unit {0}
 AreFalling bound (k ∷ ks) = (k < bound) × AreFalling k ks
 
--- A pass gives the outstanding numbers that the ranges name, each once and the highest first, in no more turns than there are slots
--- and ranges: one for each slot that the ranges name, and one for each range.
+-- A pass gives the outstanding numbers that the ranges name, each once and the highest first, in one turn for each of them and one for
+-- each range: in no more turns than there are slots and ranges.
 pub record GivesAllNamed (r : Recorded) (ranges : List (ℕ × ℕ)) (ks : List ℕ) (q : Passing) : Type 0 where
   pub falling : AreFalling PAST_NUMBERS ks
   pub all_named : (k : ℕ) → Among k ks ↔ (IsNamed ranges k × (fmap.contains_key r.pieces k ≡ true))
   pub turns : q.turns ≤ r.slots + length ranges
-  pub each : q.turns ≡ more_turns 0 (slots_named r PAST_NUMBERS ranges + length ranges)
+  pub each : q.turns ≡ more_turns 0 (length ks + length ranges)
 
 abbrev pub PassGivesAllNamed : Type 0
 PassGivesAllNamed =

@@ -1,6 +1,6 @@
 -- Of public contracts.
 -- Which chunks a lane may send (RFC 9000, sections 2.2 and 19.8).
-use Rattle.std.specs.Prelude.{◌≡◌, ℕ, ◌+◌, ◌≤◌, ◌<◌, true, IsTrue, if◌then◌else◌, ◌&&◌, ◌||◌, ◌==◌, nat_lt}
+use Rattle.std.specs.Prelude.{◌≡◌, ℕ, ◌+◌, ◌≤◌, ◌<◌, true, false, is_some, IsTrue, if◌then◌else◌, ◌&&◌, ◌||◌, ◌==◌, nat_lt}
 use Rattle.qs_ranges.specs.Numbers.{ContainsRange, MissesRange}
 use Rattle.qs_send.specs.declared.parts.Chunk.{Chunk}
 use Rattle.qs_wire.specs.Varint.{short_len}
@@ -54,7 +54,8 @@ pub record WasSent (lane : SendLane) (c : Chunk) : Type 0 where
   pub offsets : c.offset + c.len ≤ lane.sent_end
   pub end : c.fin ≡ true → lane.fin_sent ≡ true
 
--- the chunk's bytes are still kept
+-- the chunk's bytes are still kept: neither acknowledged nor let go by a reset (RFC 9000, section 13.3)
 pub record HasBytes (lane : SendLane) (c : Chunk) : Type 0 where
+  pub no_reset : is_some lane.was_reset ≡ false
   pub from : unacked_from lane ≤ c.offset
   pub end : c.offset + c.len ≤ lane.written

@@ -1,7 +1,8 @@
 -- Of private contracts.
 -- The buffer of a sending half: the bytes that are kept in it, and how many bytes of memory it takes.
-use Rattle.std.specs.Prelude.{◌≡◌, ℕ, ◌+◌, ◌*◌, ◌≤◌, List, length, refl}
+use Rattle.std.specs.Prelude.{◌≡◌, ℕ, ◌*◌, ◌≤◌, Bool, true, List, length, Option, is_some, refl}
 use Rattle.std.specs.Coded.{Coded, code_by, coded×, coded_ℕ, coded_list}
+use Rattle.qs_send.specs.declared.parts.Reset.{Reset}
 
 pub record KeptBytes : Type 0 where
   pub bytes : List ℕ
@@ -18,3 +19,9 @@ pub record IsRoom (start len room capacity : ℕ) : Type 0 where
   pub within : len ≤ room
   pub taken : room ≤ capacity
   pub idle : len ≤ start → room ≤ 4096
+
+-- a buffer out of which nothing is sent any more takes no memory: after a reset, and once all that was written and the end were
+-- acknowledged
+pub record IsFreed (was_reset : Option Reset) (fin_acked : Bool) (kept : List ℕ) (room : ℕ) : Type 0 where
+  pub reset : is_some was_reset ≡ true → room ≡ 0
+  pub whole : fin_acked ≡ true → length kept ≡ 0 → room ≡ 0

@@ -10,10 +10,10 @@ use Rattle.qs_send.specs.declared.parts.SendFault.TheVariants.{Finished, WasRese
 use Rattle.qs_send.specs.declared.parts.SendState.{SendState}
 use Rattle.qs_send.specs.declared.parts.SendState.TheVariants.{Ready, Send, DataSent, DataRecvd, ResetSent, ResetRecvd}
 
--- The sending lane (RFC 9000, section 3.1). `kept` are the bytes from the lowest offset not acknowledged on, `sent_end` is the number
--- after the largest offset sent (0 where none was), `blocked_sent` tells that a STREAM_DATA_BLOCKED was sent, and the offsets that may
--- be sent are those below `limit` (RFC 9000, section 4.1). `fin` is the end, and `stopped` the code of the first STOP_SENDING that came
--- (section 3.5).
+-- The sending lane (RFC 9000, section 3.1). `kept` are the bytes from the lowest offset not acknowledged on, and none after a reset;
+-- `sent_end` is the number after the largest offset sent (0 where none was), `blocked_sent` tells that a STREAM_DATA_BLOCKED was sent, and
+-- the offsets that may be sent are those below `limit` (RFC 9000, section 4.1). `fin` is the end, and `stopped` the code of the first
+-- STOP_SENDING that came (section 3.5).
 pub record SendLane : Type 0 where
   pub id : ℕ
   pub written : ℕ
@@ -122,11 +122,11 @@ after_finish s =
 abbrev pub reset_refusal : SendLane → Option SendFault
 reset_refusal lane = if is_some lane.was_reset then Some WasReset else (if is_whole lane then Some Finished else None)
 
--- the reset's final size counts the offsets that went out (RFC 9000, section 4.5)
+-- the reset's final size counts the offsets that went out (RFC 9000, section 4.5); no byte is sent any more, so none is kept (section 13.3)
 abbrev pub reset_lane : SendLane → ℕ → SendLane
 reset_lane lane code =
     if is_some (reset_refusal lane) then lane
-    else record lane { was_reset = Some (record { code = code; size = if lane.fin_sent then lane.written else lane.sent_end }) }
+    else record lane { kept = []; was_reset = Some (record { code = code; size = if lane.fin_sent then lane.written else lane.sent_end }) }
 
 -- after a reset nothing of the lane is due (RFC 9000, section 3.1)
 abbrev pub after_reset : Sending → ℕ → Sending

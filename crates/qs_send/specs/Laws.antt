@@ -1,6 +1,6 @@
 -- Of laws.
 -- Laws on halves and chunks.
-use Rattle.std.specs.Prelude.{◌≡◌, ℕ, ◌+◌, ◌-◌, ◌≤◌, ◌<◌, ◌⊎◌, ◌↔◌, Bool, true, IsTrue, if◌then◌else◌, nat_lt, max, List, length, Some, None}
+use Rattle.std.specs.Prelude.{◌≡◌, ℕ, ◌+◌, ◌-◌, ◌≤◌, ◌<◌, ◌⊎◌, ◌↔◌, Bool, true, IsTrue, if◌then◌else◌, nat_lt, max, List, [], length, is_some, Some, None}
 use Rattle.std.specs.FinSet as set
 use Rattle.qs_wire.specs.Layout.{stream}
 use Rattle.qs_wire.specs.Grammar.{canonical}
@@ -27,9 +27,12 @@ NewIsLawful = (id limit buffer : ℕ) → id ≤ MAX_VARINT → limit ≤ MAX_VA
 abbrev pub CallsKeepLawful : Type 0
 CallsKeepLawful = (s : Sending) (call : Call) → IsLawful s → MayCall s call → IsLawful (after_call s call)
 
--- the bytes that are kept begin at the lowest offset that isn't acknowledged
+-- the bytes that are kept begin at the lowest offset that isn't acknowledged, and reach to the last one written; after a reset none is
 abbrev pub KeptFromUnacked : Type 0
-KeptFromUnacked = (s : Sending) → IsLawful s → IsLeastMissingFrom s.lane.acked 0 (unacked_from s.lane) × (unacked_from s.lane + length s.lane.kept ≡ s.lane.written)
+KeptFromUnacked =
+    (s : Sending) → IsLawful s
+    → IsLeastMissingFrom s.lane.acked 0 (unacked_from s.lane) × (s.lane.was_reset ≡ None → unacked_from s.lane + length s.lane.kept ≡ s.lane.written)
+    × (is_some s.lane.was_reset ≡ true → s.lane.kept ≡ [])
 
 -- Data Recvd is told by the offsets: each written one and the end were acknowledged (RFC 9000, section 3.1)
 abbrev pub WholeIsAllAcked : Type 0

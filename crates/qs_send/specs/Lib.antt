@@ -13,3 +13,5 @@ pub mod LostRecords
 pub mod Codes
 pub mod LostPass
 pub mod KeptBytes
+pub mod Offsets
+pub mod Gone

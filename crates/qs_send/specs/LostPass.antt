@@ -9,7 +9,7 @@ use Rattle.std.specs.FinMap as fmap
 use Rattle.std.specs.Option.{IfSome}
 use Rattle.qs_wire.specs.Acks.{FallBelow}
 use Rattle.qs_send.specs.Records.{PacketPieces, Among}
-use Rattle.qs_send.specs.AckPass.{Passing, PAST_NUMBERS, pass_over, IsNamed, Falls, IsNextNamed, AreFalling, more_turns}
+use Rattle.qs_send.specs.AckPass.{Passing, PAST_NUMBERS, pass_over, IsNamed, Falls, IsNextNamed, AreFalling, more_turns, turns_given}
 use Rattle.qs_send.specs.LostRecords.{Lost, without_number}
 
 -- how many numbers of the order are below n
@@ -28,11 +28,6 @@ IsSeen m below n = n < below → (fmap.contains_key m n ≡ true) × ((j : ℕ) 
 -- 1 where the number that was looked at is still ahead, so that its turn was counted before
 abbrev pub seen_below : ℕ → ℕ → ℕ
 seen_below n below = if nat_lt n below then 1 else 0
-
--- a number that was given took a turn
-abbrev pub turns_given : Option ℕ → ℕ
-turns_given None = 0
-turns_given (Some k) = 1
 
 -- What one answer says of the lost records and of the pass before and after it. A turn is one record or one range less that is ahead;
 -- the record that is given and each range that was read are counted.

@@ -1,14 +1,10 @@
 -- Of public contracts.
 -- What holds of a sending lane at all times.
-use Rattle.std.specs.Prelude.{◌≡◌, ℕ, ◌+◌, ◌≤◌, Bool, true, false, length, Option, Some, is_some, IfSome}
+use Rattle.std.specs.Prelude.{◌≡◌, ℕ, ◌+◌, ◌≤◌, Bool, true, false, [], length, Some, is_some}
 use Rattle.std.specs.FinSet as set
 use Rattle.qs_ranges.specs.Numbers.{MAX_VARINT, NumberSet, ContainsRange, AllBelow, AreDisjoint}
 use Rattle.qs_send.specs.declared.parts.Reset.{Reset}
 use Rattle.qs_send.specs.Lane.{SendLane, Sending, unacked_from}
-
--- the code of a reset, where there was one, can be told in a frame (RFC 9000, sections 16 and 19.4)
-abbrev pub CodeFits : Option Reset → Type 0
-CodeFits reset = IfSome reset (λ r. r.code ≤ MAX_VARINT)
 
 -- what was sent lies below what was written and below the limit, and a reset has it as its final size
 pub record AreInOrder (l : SendLane) : Type 0 where
@@ -19,9 +15,10 @@ pub record AreInOrder (l : SendLane) : Type 0 where
   pub sent_limit : l.sent_end ≤ l.limit
   pub reset_size : (r : Reset) → l.was_reset ≡ Some r → r.size ≡ l.sent_end
 
--- the bytes from the lowest offset not acknowledged on are kept, and they fit
+-- the bytes from the lowest offset not acknowledged on are kept, but after a reset none is (RFC 9000, section 13.3); and they fit
 pub record IsKept (l : SendLane) : Type 0 where
-  pub from : unacked_from l + length l.kept ≡ l.written
+  pub from : is_some l.was_reset ≡ false → unacked_from l + length l.kept ≡ l.written
+  pub let_go : is_some l.was_reset ≡ true → l.kept ≡ []
   pub buffered : length l.kept ≤ l.buffer
 
 -- no offset is due and acknowledged; the acknowledged ones were sent; those that weren't are due

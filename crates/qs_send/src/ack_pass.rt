@@ -1,14 +1,14 @@
 //! Which outstanding packets an ACK names.
-ghost use Rattle.std.specs.Prelude.{◌≡◌, ℕ, ◌+◌, ◌-◌, ◌<◌, ◌≤◌, ◌↔◌, [], min, IsTrue, IfSome, IfNone, MatchOption, true, false};
+ghost use Rattle.std.specs.Prelude.{◌≡◌, ℕ, ◌+◌, ◌-◌, ◌<◌, ◌≤◌, [], min, IfSome, IfNone, true, false};
 ghost use Rattle.std.specs.FinMap as fmap;
-ghost use Rattle.qs_send.specs.AckPass.{HasRead, IsNext, more_turns, pass_over, slots_within};
+ghost use Rattle.qs_send.specs.AckPass.{HasRead, IsNext, more_turns, pass_over};
 
 use crate::records::Records;
 use qs_wire::AckRanges;
 use std::marker::Model;
 
 /// One pass over the records from the highest number that an ACK's ranges name down to the lowest (RFC 9000, section 13.3). Each
-/// slot that it looks at and each range that it reads takes one turn.
+/// number that it gives and each range that it reads takes one turn, and after each turn comes one search.
 #[derive(Drop)]
 pub struct AckPass<'a> {
     // Of the range that was read last, the numbers from `low` on and below `below` are left.
@@ -59,7 +59,7 @@ impl<'a> AckPass<'a> {
         }
     }
 
-    /// How many turns it took: slots that it looked at, and ranges that it read.
+    /// How many turns it took: numbers that it gave, and ranges that it read.
     pub fn turns(&self) -> u64
         ensures { result ≡ self.now.turns }
     {
@@ -81,49 +81,21 @@ impl<'a> AckPass<'a> {
         true
     }
 
-    // The greatest outstanding number of the range that was read last, below the one given last.
+    // The greatest outstanding number of the range that was read last, below the one given last. One that is found takes a turn.
     fn in_range(&mut self, records: &Records) -> Option<u64>
         ensures same { (self.new.low ≡ self.old.low) × (self.new.unread ≡ self.old.unread) }
         ensures below { self.new.below ≤ self.old.below }
         ensures found { IfSome result (λ k. (self.new.below ≡ k) × (k < self.old.below) × (self.old.low ≤ k) × (fmap.contains_key records.now.pieces k ≡ true)) }
         ensures above { IfSome result (λ k. (j : ℕ) → k < j → j < self.old.below → fmap.contains_key records.now.pieces j ≡ false) }
         ensures none { IfNone result ((j : ℕ) → self.old.low ≤ j → j < self.old.below → fmap.contains_key records.now.pieces j ≡ false) }
-        ensures past { IfNone result ((j : ℕ) → self.new.below ≤ j → j < self.old.below → fmap.contains_key records.now.pieces j ≡ false) }
+        ensures stays { IfNone result (self.new ≡ self.old) }
         ensures turns { self.new.turns + min (self.new.below - records.now.base) records.now.slots ≤ self.old.turns + min (self.old.below - records.now.base) records.now.slots }
-        ensures counted { self.old.turns ≤ self.new.turns }
-        ensures floor { min (min self.old.below (records.now.base + records.now.slots)) self.old.low ≤ self.new.below }
-        ensures fewer { slots_within records.now self.old.low self.new.below ≤ slots_within records.now self.old.low self.old.below }
-        ensures each { self.new.turns ≡ more_turns self.old.turns (slots_within records.now self.old.low self.old.below - slots_within records.now self.old.low self.new.below) }
-        ensures done { IfNone result (slots_within records.now self.old.low self.new.below ≡ 0) }
+        ensures each { IfSome result (λ _. self.new.turns ≡ more_turns self.old.turns 1) }
     {
-        self.below = records.cut(self.below);
-        while self.has_slot(records.base()) {
-            if self.look(records) {
-                return Some(self.below);
-            }
-        }
-        None
-    }
-
-    // Whether a number of the range that was read last is left, from `base` on.
-    fn has_slot(&self, base: u64) -> bool
-        ensures { IsTrue result ↔ ((base < self.now.below) × (self.now.low < self.now.below)) }
-    {
-        base < self.below && self.low < self.below
-    }
-
-    // Whether the next number below is outstanding.
-    fn look(&mut self, records: &Records) -> bool
-        requires { 0 < self.old.below }
-        ensures held { result ≡ fmap.contains_key records.now.pieces self.new.below }
-        ensures same { (self.new.low ≡ self.old.low) × (self.new.unread ≡ self.old.unread) }
-        ensures below { self.new.below + 1 ≡ self.old.below }
-        ensures turns { self.new.turns ≡ more_turns self.old.turns 1 }
-        ensures counted { self.old.turns ≤ self.new.turns }
-    {
+        let number = records.within(self.low, self.below)?;
         self.turns = one_more(self.turns);
-        self.below -= 1;
-        records.is_held(self.below)
+        self.below = number;
+        Some(number)
     }
 }
 

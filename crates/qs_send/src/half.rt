@@ -1,16 +1,15 @@
 //! The sending half of a stream (RFC 9000, sections 2.2, 3.1 and 13.3).
 ghost use Rattle.std.specs.Prelude.{if◌then◌else◌, ◌==◌, ◌≡◌, ◌+◌, ◌-◌, ◌*◌, ◌≤◌, ◌<◌, ◌⊎◌, ◌^◌, ◌↔◌, IsTrue, ◌&&◌, ℕ, Bool, true, false, not, length, take, drop, is_some, unwrap_or, option_map, None, Some, Err, OnOk, OnErr, IfOk, IfErr, IfSome, IfNone};
-ghost use Rattle.std.specs.FinSet as set;
 ghost use Rattle.qs_ranges.specs.Numbers.{MAX_VARINT, MissesRange};
 ghost use Rattle.qs_send.specs.Chunks.{IsDueChunk, WasSent};
 ghost use Rattle.qs_send.specs.Sound.{IsLawful};
+ghost use Rattle.qs_send.specs.declared.parts.Reset.{Reset};
 ghost use Rattle.qs_send.specs.Writable.{is_writable};
 ghost use Rattle.qs_send.specs.Lane.{new_sending, free_room, accepted, refusal, answer_of, reset_refusal, is_whole, state, declared_size, after_write, after_finish, after_reset, after_stopped, after_reset_acked, after_blocked, after_allow, after_sent, after_acked, after_lost};
 
-use crate::edits::{add, forget};
-use crate::kept::Kept;
-use crate::parts::{Chunk, Reset, SendFault, SendState};
-use qs_ranges::{NoMemory, RangeSet};
+use crate::offsets::Offsets;
+use crate::parts::{Chunk, SendFault, SendState};
+use qs_ranges::{MaybeNumber, NoMemory};
 use qs_wire::StreamId;
 use std::alloc::Global;
 use std::marker::Model;
@@ -21,53 +20,49 @@ mod chunks;
 pub const MAX_VARINT: u64 = (1 << 62) - 1;
 
 /// The sending half of a stream: bytes are written once, go out in chunks, and stay until they are
-/// acknowledged. What is lost goes out again, and a reset ends it (RFC 9000, sections 3.1 and 13.3).
+/// acknowledged. What is lost goes out again, and a reset ends it and lets all bytes go (RFC 9000,
+/// sections 3.1 and 13.3).
 ///
 /// Contracts see the sending lane and what of it is due.
 #[derive(Drop)]
 pub struct SendHalf {
     id: StreamId,
-    written: u64,
-    // From the lowest offset not acknowledged on.
-    kept: Kept,
-    acked: RangeSet,
-    // The offsets that were noted as due; the due ones are those not acknowledged.
-    noted: RangeSet,
-    sent_end: u64,
+    offsets: Offsets,
+    limit: u64,
+    buffer: usize,
+    // The code of the reset, whose size is the sent end.
+    reset_code: MaybeNumber,
+    // The code of the first STOP_SENDING that came.
+    stop_code: MaybeNumber,
     finished: bool,
     fin_sent: bool,
     fin_acked: bool,
     fin_noted: bool,
     blocked_sent: bool,
-    was_reset: Option<Reset>,
     reset_acked: bool,
-    limit: u64,
-    buffer: usize,
-    // The code of the first STOP_SENDING that came.
-    stop_code: Option<u64>,
 }
 
 impl Model for SendHalf {
     ghost use Rattle.std.specs.Prelude.{◌*◌, ◌≤◌, ◌&&◌, not};
-    ghost use Rattle.std.specs.FinSet as set;
     ghost use Rattle.qs_send.specs.Lane.{Sending};
     ghost use Rattle.qs_send.specs.Codes.{sending_code};
-    ghost use Rattle.qs_ranges.specs.Numbers.{AllBelow};
-    ghost use Rattle.qs_send.specs.Sound.{IsLawful, CodeFits};
+    ghost use Rattle.qs_send.specs.Offsets.{reset_at};
+    ghost use Rattle.qs_send.specs.Sound.{IsLawful};
+    ghost use Rattle.qs_send.specs.KeptBytes.{IsFreed};
 
     ghost Value = { Sending };
 
     ghost coded = { sending_code };
 
     ghost view = { λ h. record {
-      lane = record { id = h.id; written = h.written; kept = h.kept.bytes; acked = h.acked; sent_end = h.sent_end; finished = h.finished; fin_sent = h.fin_sent; fin_acked = h.fin_acked; blocked_sent = h.blocked_sent; was_reset = h.was_reset; reset_acked = h.reset_acked; limit = h.limit; buffer = h.buffer; stopped = h.stop_code };
-      due = record { offsets = set.difference h.noted h.acked; fin = h.fin_noted && not h.fin_acked };
+      lane = record { id = h.id; written = h.offsets.parts.written; kept = h.offsets.parts.kept; acked = h.offsets.parts.acked; sent_end = h.offsets.parts.sent_end; finished = h.finished; fin_sent = h.fin_sent; fin_acked = h.fin_acked; blocked_sent = h.blocked_sent; was_reset = reset_at h.offsets.parts.sent_end h.reset_code; reset_acked = h.reset_acked; limit = h.limit; buffer = h.buffer; stopped = h.stop_code };
+      due = record { offsets = h.offsets.parts.due; fin = h.fin_noted && not h.fin_acked };
     } };
 
     ghost invariant = { λ h. IsLawful (record {
-      lane = record { id = h.id; written = h.written; kept = h.kept.bytes; acked = h.acked; sent_end = h.sent_end; finished = h.finished; fin_sent = h.fin_sent; fin_acked = h.fin_acked; blocked_sent = h.blocked_sent; was_reset = h.was_reset; reset_acked = h.reset_acked; limit = h.limit; buffer = h.buffer; stopped = h.stop_code };
-      due = record { offsets = set.difference h.noted h.acked; fin = h.fin_noted && not h.fin_acked };
-    }) × AllBelow h.noted h.written × CodeFits h.was_reset × (h.kept.room ≤ 2 * h.buffer) };
+      lane = record { id = h.id; written = h.offsets.parts.written; kept = h.offsets.parts.kept; acked = h.offsets.parts.acked; sent_end = h.offsets.parts.sent_end; finished = h.finished; fin_sent = h.fin_sent; fin_acked = h.fin_acked; blocked_sent = h.blocked_sent; was_reset = reset_at h.offsets.parts.sent_end h.reset_code; reset_acked = h.reset_acked; limit = h.limit; buffer = h.buffer; stopped = h.stop_code };
+      due = record { offsets = h.offsets.parts.due; fin = h.fin_noted && not h.fin_acked };
+    }) × (h.offsets.room ≤ 2 * h.buffer) × IsFreed (reset_at h.offsets.parts.sent_end h.reset_code) h.fin_acked h.offsets.parts.kept h.offsets.room };
 }
 
 impl SendHalf {
@@ -80,21 +75,17 @@ impl SendHalf {
         let _number = id.value();
         Self {
             id,
-            written: 0,
-            kept: Kept::new(alloc),
-            acked: RangeSet::new(alloc),
-            noted: RangeSet::new(alloc),
-            sent_end: 0,
+            offsets: Offsets::new(alloc),
+            limit,
+            buffer,
+            reset_code: MaybeNumber::none(),
+            stop_code: MaybeNumber::none(),
             finished: false,
             fin_sent: false,
             fin_acked: false,
             fin_noted: false,
             blocked_sent: false,
-            was_reset: None,
             reset_acked: false,
-            limit,
-            buffer,
-            stop_code: None,
         }
     }
 
@@ -102,7 +93,7 @@ impl SendHalf {
     pub fn is_lawful(&self)
         ensures { IsLawful self.now }
     {
-        let _written = self.written;
+        let _limit = self.limit;
     }
 
     /// Accepts the front of the bytes, as many as there is room for, and answers how many. They are due.
@@ -116,28 +107,21 @@ impl SendHalf {
         // Memory is taken only for bytes that are accepted.
         ensures grows { result ≡ Err SendFault.NoMemory → 0 < accepted self.old.lane (length bytes.now) }
     {
-        if self.was_reset.is_some() {
+        if self.was_reset() {
             return Err(SendFault::WasReset);
         }
         if self.finished {
             return Err(SendFault::Finished);
         }
-        let most = (self.room() as u64).min(MAX_VARINT - self.written);
+        let most = (self.room() as u64).min(MAX_VARINT - self.offsets.written());
         let len = bytes.len().min(most as usize);
         if len == 0 {
             return Ok(0);
         }
         let (taken, _) = bytes.split_at(len);
-        let before = self.kept.len();
-        if let Err(_) = self.kept.append(taken, self.buffer) {
+        if let Err(_) = self.offsets.write(taken, self.buffer) {
             return Err(SendFault::NoMemory);
         }
-        let end = self.written + len as u64;
-        if let Err(_) = self.noted.insert(self.written, end) {
-            self.kept.truncate(before);
-            return Err(SendFault::NoMemory);
-        }
-        self.written = end;
         Ok(len)
     }
 
@@ -148,7 +132,7 @@ impl SendHalf {
         ensures answer { result ≡ answer_of (refusal self.old.lane) }
         ensures after { self.new ≡ after_finish self.old }
     {
-        if self.was_reset.is_some() {
+        if self.was_reset() {
             return Err(SendFault::WasReset);
         }
         if self.finished {
@@ -160,8 +144,8 @@ impl SendHalf {
     }
 
     /// Breaks the stream off in Ready, Send or Data Sent, with the count of offsets that went out as its
-    /// final size. From then on only the RESET_STREAM is to be sent (RFC 9000, sections 3.1 and 4.5). The
-    /// code is at most 2^62 - 1, so that the frame can tell it.
+    /// final size. From then on only the RESET_STREAM is to be sent (RFC 9000, sections 3.1 and 4.5), so the
+    /// buffer is given back. The code is at most 2^62 - 1, so that the frame can tell it.
     ///
     /// Refused, and then unchanged: `WasReset` after another reset, else `Finished` in Data Recvd.
     pub fn reset(&mut self, code: u64) -> Result<(), SendFault>
@@ -169,15 +153,14 @@ impl SendHalf {
         ensures answer { result ≡ answer_of (reset_refusal self.old.lane) }
         ensures after { self.new ≡ after_reset self.old code }
     {
-        if self.was_reset.is_some() {
+        if self.was_reset() {
             return Err(SendFault::WasReset);
         }
         if self.is_whole() {
             return Err(SendFault::Finished);
         }
-        let size = self.sent_end;
-        self.was_reset = Some(Reset { code, size });
-        self.noted.drop_below(self.written);
+        self.reset_code = MaybeNumber::some(code);
+        self.offsets.let_all_go();
         self.fin_noted = false;
         Ok(())
     }
@@ -189,8 +172,8 @@ impl SendHalf {
         ensures { self.new ≡ after_stopped self.old code }
     {
         let _ = self.reset(code);
-        if self.stop_code.is_none() {
-            self.stop_code = Some(code);
+        if self.stop_code.get().is_none() {
+            self.stop_code = MaybeNumber::some(code);
         }
     }
 
@@ -198,7 +181,7 @@ impl SendHalf {
     pub fn stop_code(&self) -> Option<u64>
         ensures { result ≡ self.now.lane.stopped }
     {
-        self.stop_code
+        self.stop_code.get()
     }
 
     /// Takes in that the peer allows the offsets below `limit`. A limit that is no higher changes nothing
@@ -230,10 +213,7 @@ impl SendHalf {
         requires { IsDueChunk self.old chunk }
         ensures { self.new ≡ after_sent self.old chunk }
     {
-        let before = self.sent_end;
-        let end = chunk.offset + chunk.len as u64;
-        self.noted.drop_below(end);
-        self.sent_end = before.max(end);
+        self.offsets.sent(chunk.offset + chunk.len as u64);
         self.fin_sent |= chunk.fin;
         self.fin_noted &= !chunk.fin;
     }
@@ -249,15 +229,10 @@ impl SendHalf {
         ensures some { OnErr result (0 < chunk.len) }
         ensures grows { OnErr result (MissesRange self.old.lane.acked (chunk.offset - 1) (chunk.offset + chunk.len + 1)) }
     {
-        let before = self.written - self.kept.len() as u64;
+        let fin_acked = self.fin_acked | chunk.fin;
         let end = chunk.offset + chunk.len as u64;
-        add(&mut self.acked, chunk.offset, end)?;
-        // What is acknowledged need not stay noted.
-        forget(&mut self.noted, chunk.offset, end);
-        let low = self.acked.first_missing(0);
-        let is_over = self.fin_acked || chunk.fin;
-        self.kept.let_go((low - before) as usize, is_over);
-        self.fin_acked |= chunk.fin;
+        self.offsets.acked(chunk.offset, end, fin_acked)?;
+        self.fin_acked = fin_acked;
         Ok(())
     }
 
@@ -273,11 +248,11 @@ impl SendHalf {
         ensures open { OnErr result (self.old.lane.was_reset ≡ None) }
         ensures grows { OnErr result (MissesRange self.old.due.offsets (chunk.offset - 1) (chunk.offset + chunk.len + 1)) }
     {
-        if self.was_reset.is_some() {
+        if self.was_reset() {
             return Ok(());
         }
         let end = chunk.offset + chunk.len as u64;
-        add(&mut self.noted, chunk.offset, end)?;
+        self.offsets.lost(chunk.offset, end)?;
         self.fin_noted |= chunk.fin;
         Ok(())
     }
@@ -288,13 +263,13 @@ impl SendHalf {
     {
         if self.reset_acked {
             SendState::ResetRecvd
-        } else if self.was_reset.is_some() {
+        } else if self.was_reset() {
             SendState::ResetSent
         } else if self.is_whole() {
             SendState::DataRecvd
         } else if self.fin_sent {
             SendState::DataSent
-        } else if self.sent_end > 0 || self.blocked_sent {
+        } else if self.offsets.sent_end() > 0 || self.blocked_sent {
             SendState::Send
         } else {
             SendState::Ready
@@ -306,9 +281,9 @@ impl SendHalf {
         ensures value { result ≡ declared_size self.now.lane }
         ensures small { IfSome result (λ size. size ≤ MAX_VARINT) }
     {
-        match self.was_reset {
-            Some(reset) => Some(reset.size),
-            None if self.fin_sent => Some(self.written),
+        match self.reset_code.get() {
+            Some(_) => Some(self.offsets.sent_end()),
+            None if self.fin_sent => Some(self.offsets.written()),
             None => None,
         }
     }
@@ -318,10 +293,7 @@ impl SendHalf {
         ensures value { result ≡ option_map (λ (r : Reset). r.code) self.now.lane.was_reset }
         ensures small { IfSome result (λ code. code ≤ MAX_VARINT) }
     {
-        match self.was_reset {
-            Some(reset) => Some(reset.code),
-            None => None,
-        }
+        self.reset_code.get()
     }
 
     /// How many bytes were written.
@@ -329,7 +301,7 @@ impl SendHalf {
         ensures exact { result ≡ self.now.lane.written }
         ensures small { result ≤ MAX_VARINT }
     {
-        self.written
+        self.offsets.written()
     }
 
     /// The number after the largest offset that was sent; 0 where none was.
@@ -337,7 +309,7 @@ impl SendHalf {
         ensures exact { result ≡ self.now.lane.sent_end }
         ensures small { result ≤ MAX_VARINT }
     {
-        self.sent_end
+        self.offsets.sent_end()
     }
 
     /// The offsets below it may be sent.
@@ -352,17 +324,19 @@ impl SendHalf {
     pub fn room(&self) -> usize
         ensures { result ≡ free_room self.now.lane }
     {
-        self.buffer - self.kept.len()
+        self.buffer - self.offsets.kept_len()
     }
 
     /// How many bytes of memory the buffer takes: at least those that are kept. While some are it takes up to twice what it is
-    /// set to, since it grows by doubling; else no more than 4,096.
+    /// set to, since it grows by doubling; else no more than 4,096, and nothing after a reset and in Data Recvd.
     pub fn held(&self) -> u64
         ensures kept { length self.now.lane.kept ≤ result }
         ensures bound { result ≤ 2 * self.now.lane.buffer }
         ensures idle { length self.now.lane.kept ≡ 0 → result ≤ 4096 }
+        ensures reset { is_some self.now.lane.was_reset ≡ true → result ≡ 0 }
+        ensures whole { is_whole self.now.lane ≡ true → result ≡ 0 }
     {
-        self.kept.held() as u64
+        self.offsets.held() as u64
     }
 
     /// Whether a write of one byte would be accepted, if there is memory for it: neither the end was asked for nor a reset made, and there
@@ -370,19 +344,26 @@ impl SendHalf {
     pub fn is_writable(&self) -> bool
         ensures { result ≡ is_writable self.now.lane }
     {
-        if self.was_reset.is_some() {
+        if self.was_reset() {
             return false;
         }
         if self.finished {
             return false;
         }
-        (self.room() as u64).min(MAX_VARINT - self.written) > 0
+        self.offsets.kept_len() < self.buffer && self.offsets.written() < MAX_VARINT
     }
 
-    // Whether every written offset and the end were acknowledged.
+    fn was_reset(&self) -> bool
+        ensures { result ≡ is_some self.now.lane.was_reset }
+    {
+        self.reset_code.get().is_some()
+    }
+
+    // Whether every written offset and the end were acknowledged, where no reset let bytes go before.
     fn is_whole(&self) -> bool
+        requires { is_some self.now.lane.was_reset ≡ false }
         ensures { result ≡ is_whole self.now.lane }
     {
-        self.kept.len() == 0 && self.fin_acked
+        self.fin_acked && self.offsets.kept_len() == 0
     }
 }

@@ -1,5 +1,5 @@
 //! Bytes that come in at the back and are let go at the front.
-ghost use Rattle.std.specs.Prelude.{◌≡◌, ◌+◌, ◌*◌, ◌≤◌, [], ◌++◌, length, take, drop, OnOk, OnErr};
+ghost use Rattle.std.specs.Prelude.{◌≡◌, ◌+◌, ◌*◌, ◌≤◌, true, [], ◌++◌, length, take, drop, OnOk, OnErr};
 
 use qs_ranges::NoMemory;
 use std::alloc::Global;
@@ -96,6 +96,7 @@ impl Kept {
         requires { n ≤ length self.old.bytes }
         ensures bytes { self.new.bytes ≡ drop n self.old.bytes }
         ensures room { self.new.room ≤ self.old.room }
+        ensures over { is_over ≡ true → length self.new.bytes ≡ 0 → self.new.room ≡ 0 }
     {
         let start = self.start + n;
         let left = self.bytes.len() - start;

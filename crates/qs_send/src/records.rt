@@ -4,6 +4,7 @@ ghost use Rattle.std.specs.FinMap as fmap;
 ghost use Rattle.qs_send.specs.Records.{Among, AreBelow, IsCarried, IsGreatest, IsGreatestBelow, IsSlotOf, NoneEmpty, first_piece, slot_at, with_record, without_first};
 
 use crate::carried::Carried;
+use crate::gone;
 use crate::piece::Piece;
 use qs_ranges::NoMemory;
 use std::alloc::Global;
@@ -18,6 +19,10 @@ pub struct Records {
     alloc: Global,
     base: u64,
     slots: VecDeque<Carried>,
+    // Which slots are empty, as bits, of which the first is that of number `first`: a search looks at one word for 64 of them. Where
+    // there was no memory for its bit, an empty slot is looked at itself.
+    first: u64,
+    gone: VecDeque<u64>,
 }
 
 impl Model for Records {
@@ -25,6 +30,7 @@ impl Model for Records {
     ghost use Rattle.std.specs.VecDeque.{deque_capacity};
     ghost use Rattle.qs_send.specs.Records.{Recorded, packets_of, room_end};
     ghost use Rattle.qs_send.specs.Codes.{recorded_code};
+    ghost use Rattle.qs_send.specs.Gone.{AreGone};
 
     ghost Value = { Recorded };
 
@@ -37,7 +43,7 @@ impl Model for Records {
       room = room_end r.base (deque_capacity r.slots);
     } };
 
-    ghost invariant = { λ r. r.base + length r.slots.items ≤ 2 ^ 64 };
+    ghost invariant = { λ r. (r.base + length r.slots.items ≤ 2 ^ 64) × (r.first ≤ r.base) × AreGone r.gone.items r.first (packets_of r.base r.slots.items) };
 }
 
 impl Records {
@@ -50,6 +56,8 @@ impl Records {
             alloc,
             base: 0,
             slots: VecDeque::new(alloc),
+            first: 0,
+            gone: VecDeque::new(alloc),
         }
     }
 
@@ -66,6 +74,9 @@ impl Records {
         if self.slots.is_empty() {
             self.slots.reserve(1)?;
             self.base = number;
+            self.first = number;
+            self.gone.clear();
+            gone::make_room(&mut self.gone, 0);
             return Ok(());
         }
         let place = number.saturating_sub(self.base) as usize;
@@ -74,6 +85,7 @@ impl Records {
         }
         let more = place - self.slots.len() + 1;
         self.slots.reserve(more)?;
+        gone::make_room(&mut self.gone, (number - self.first) as usize);
         Ok(())
     }
 
@@ -110,6 +122,7 @@ impl Records {
     {
         if let Some(place) = self.slot_of(number) {
             self.slots[place].drop_first();
+            self.note(place);
         }
     }
 
@@ -122,6 +135,7 @@ impl Records {
     {
         while self.starts_empty() {
             self.drop_front();
+            self.drop_word();
         }
     }
 
@@ -136,8 +150,10 @@ impl Records {
     pub fn is_held(&self, number: u64) -> bool
         ensures { result ≡ fmap.contains_key self.now.pieces number }
     {
-        self.none_is_empty();
-        self.first(number).is_some()
+        match self.slot_of(number) {
+            Some(place) => self.is_filled(place),
+            None => false,
+        }
     }
 
     /// The greatest number that is held.
@@ -172,12 +188,20 @@ impl Records {
         self.base
     }
 
-    // The number, or where that is lower the one behind the last slot. Between the two none is held.
-    pub(crate) fn cut(&self, number: u64) -> u64
-        ensures value { result ≡ min number (self.now.base + self.now.slots) }
-        ensures past { (k : ℕ) → result ≤ k → k < number → fmap.contains_key self.now.pieces k ≡ false }
+    /// The greatest number from `low` on and below `below` that is held.
+    pub(crate) fn within(&self, low: u64, below: u64) -> Option<u64>
+        ensures found { IfSome result (λ k. (low ≤ k) × (k < below) × (fmap.contains_key self.now.pieces k ≡ true)) }
+        ensures slot { IfSome result (λ k. (self.now.base ≤ k) × (k < self.now.base + self.now.slots)) }
+        ensures above { IfSome result (λ k. (j : ℕ) → k < j → j < below → fmap.contains_key self.now.pieces j ≡ false) }
+        ensures none { IfNone result ((j : ℕ) → low ≤ j → j < below → fmap.contains_key self.now.pieces j ≡ false) }
     {
-        number.min(self.base.saturating_add(self.slots.len() as u64))
+        let from = low.saturating_sub(self.base) as usize;
+        let below = below.saturating_sub(self.base) as usize;
+        let count = below.min(self.slots.len());
+        if self.slots.len() < gone::PER_WORD {
+            return self.last_looked_at(from, count);
+        }
+        self.last_from(from, count)
     }
 
     // The place of a number's slot. A number without one isn't held.
@@ -202,15 +226,91 @@ impl Records {
         ensures found { IfSome result (IsGreatestBelow self.now.pieces (self.now.base + count)) }
         ensures none { IfNone result ((k : ℕ) → k < self.now.base + count → fmap.contains_key self.now.pieces k ≡ false) }
     {
+        let _slots = &self.slots;
+        self.last_from(0, count)
+    }
+
+    // The greatest number that is held in the first slots, from one of them on.
+    fn last_from(&self, from: usize, count: usize) -> Option<u64>
+        requires { count ≤ self.now.slots }
+        ensures found { IfSome result (λ k. (self.now.base + from ≤ k) × (k < self.now.base + count) × (fmap.contains_key self.now.pieces k ≡ true)) }
+        ensures above { IfSome result (λ k. (j : ℕ) → k < j → j < self.now.base + count → fmap.contains_key self.now.pieces j ≡ false) }
+        ensures none { IfNone result ((j : ℕ) → self.now.base + from ≤ j → j < self.now.base + count → fmap.contains_key self.now.pieces j ≡ false) }
+    {
         let mut place = count;
-        while place > 0 {
-            place -= 1;
-            let number = self.base + place as u64;
-            if self.is_held(number) {
-                return Some(number);
+        while place > from {
+            let end = self.end_of_left(from, place);
+            if end <= from {
+                return None;
+            }
+            place = end - 1;
+            if self.is_filled(place) {
+                return Some(self.base + place as u64);
             }
         }
         None
+    }
+
+    // The same by a look at each slot.
+    fn last_looked_at(&self, from: usize, count: usize) -> Option<u64>
+        requires { count ≤ self.now.slots }
+        ensures found { IfSome result (λ k. (self.now.base + from ≤ k) × (k < self.now.base + count) × (fmap.contains_key self.now.pieces k ≡ true)) }
+        ensures above { IfSome result (λ k. (j : ℕ) → k < j → j < self.now.base + count → fmap.contains_key self.now.pieces j ≡ false) }
+        ensures none { IfNone result ((j : ℕ) → self.now.base + from ≤ j → j < self.now.base + count → fmap.contains_key self.now.pieces j ≡ false) }
+    {
+        let mut place = count;
+        while place > from {
+            place -= 1;
+            if self.is_filled(place) {
+                return Some(self.base + place as u64);
+            }
+        }
+        None
+    }
+
+    // An end of the first slots behind which none that is below `count` has a record, as low as the bits tell, down to `from`.
+    fn end_of_left(&self, from: usize, count: usize) -> usize
+        requires { count ≤ self.now.slots }
+        ensures below { result ≤ count }
+        ensures gone { (k : ℕ) → self.now.base + result ≤ k → k < self.now.base + count → fmap.contains_key self.now.pieces k ≡ false }
+    {
+        if count <= from {
+            return count;
+        }
+        let skew = (self.base - self.first) as usize;
+        match skew.checked_add(count) {
+            Some(end) => gone::end_of_left(&self.gone, skew + from, end).saturating_sub(skew),
+            None => count,
+        }
+    }
+
+    // It is noted that a slot is empty, where it is. No clause sees it. Of few slots each is looked at itself.
+    fn note(&mut self, place: usize)
+        requires { place < self.old.slots }
+        ensures { self.new ≡ self.old }
+    {
+        if self.slots.len() >= gone::PER_WORD && !self.is_filled(place) {
+            let skew = (self.base - self.first) as usize;
+            gone::note(&mut self.gone, skew + place);
+        }
+    }
+
+    // Whether a slot has a record.
+    fn is_filled(&self, place: usize) -> bool
+        requires { place < self.now.slots }
+        ensures { result ≡ fmap.contains_key self.now.pieces (self.now.base + place) }
+    {
+        self.slots[place].len() > 0
+    }
+
+    // The bits of slots that went all go. No clause sees it.
+    fn drop_word(&mut self)
+        ensures { self.new ≡ self.old }
+    {
+        if self.base - self.first >= gone::PER_WORD as u64 {
+            let _ = self.gone.pop_front();
+            self.first += gone::PER_WORD as u64;
+        }
     }
 
     // Whether the first slot is an empty one.
@@ -280,6 +380,8 @@ impl Records {
     {
         if self.slots.is_empty() {
             self.base = number;
+            self.first = number;
+            self.gone.clear();
         }
     }
 
@@ -292,7 +394,9 @@ impl Records {
         ensures end { self.new.base + self.new.slots ≡ number }
     {
         while self.ends_before(number) {
+            let place = self.slots.len();
             self.push_slot(Carried::empty(self.alloc));
+            self.note(place);
         }
     }
 
@@ -313,6 +417,8 @@ impl Records {
         ensures slots { self.new.slots ≡ self.old.slots + 1 }
         ensures room { self.new.room ≡ self.old.room }
     {
+        let index = (self.base - self.first) as usize + self.slots.len();
+        gone::begin(&mut self.gone, index);
         self.slots.push_back_reserved(slot);
     }
 }

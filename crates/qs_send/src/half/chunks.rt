@@ -79,8 +79,9 @@ impl SendHalf {
         ensures bytes { result.now ≡ bytes_of self.now.lane chunk }
         ensures len { length result.now ≡ chunk.len }
     {
-        let first = self.written - self.kept.len() as u64;
-        self.kept.part((chunk.offset - first) as usize, chunk.len)
+        let first = self.offsets.written() - self.offsets.kept_len() as u64;
+        self.offsets
+            .part((chunk.offset - first) as usize, chunk.len)
     }
 
     /// Writes the bytes of a chunk that is still in the buffer into the slice.
@@ -94,11 +95,11 @@ impl SendHalf {
 
     /// How many bytes the chunk's STREAM frame takes (RFC 9000, section 19.8).
     pub fn frame_len(&self, chunk: Chunk) -> usize
-        requires { HasBytes self.now.lane chunk }
+        requires { chunk.offset + chunk.len ≤ self.now.lane.written }
         ensures exact { result ≡ frame_len self.now.lane.id chunk.offset chunk.len }
         ensures some { chunk.len < result }
     {
-        let _written = self.written;
+        let _limit = self.limit;
         self.head_len(chunk.offset) + varint_len(chunk.len as u64) + chunk.len
     }
 
@@ -106,8 +107,9 @@ impl SendHalf {
     pub fn has_sent(&self, chunk: Chunk) -> bool
         ensures { IsTrue result ↔ WasSent self.now.lane chunk }
     {
-        chunk.offset <= self.sent_end
-            && chunk.len as u64 <= self.sent_end - chunk.offset
+        let sent_end = self.offsets.sent_end();
+        chunk.offset <= sent_end
+            && chunk.len as u64 <= sent_end - chunk.offset
             && (!chunk.fin || self.fin_sent)
     }
 
@@ -117,19 +119,7 @@ impl SendHalf {
         ensures none { IfNone result (EndsBefore self.now.due.offsets 0) }
         ensures within { IfSome result (λ run. run.1 ≤ self.now.lane.written) }
     {
-        let mut from = 0;
-        while let Some((start, end)) = self.noted.run_from(from) {
-            let low = self.acked.first_missing(start);
-            if low < end {
-                let high = match self.acked.run_from(low) {
-                    Some((next, _)) => next.min(end),
-                    None => end,
-                };
-                return Some((low, high));
-            }
-            from = low;
-        }
-        None
+        self.offsets.due_run()
     }
 
     // A frame without bytes, where no byte is due.

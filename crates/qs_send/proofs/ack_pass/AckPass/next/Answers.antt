@@ -1,8 +1,6 @@
-use Rattle.std.proofs.Common.{◌≡◌, ◌∙◌, length, sym, ap, subst, arith}
-use Rattle.qs_wire.specs.Acks.{FallBelow}
+use Rattle.std.proofs.Common.{◌≡◌, ◌∷◌, length, ap, arith}
+use Rattle.qs_send.specs.AckPass.{Passing}
 use Rattle.qs_send.proofs.Passing.{passed_range, turns_read, given_number, passed_falls}
-use Rattle.qs_send.specs.AckPass.{slots_within}
-use Rattle.qs_send.proofs.Turns.{taken_then, slots_taken, range_taken}
 use Rattle.qs_send.proofs.ack_pass.AckPass.next.Goals as goal
 
 pub returns-in-Some : goal.returns-in-Some
@@ -21,15 +19,18 @@ returns-in-Some c =
     let turns_now = was.turns in
     let turns_before = so_far.turns in
     let len : length cut.unread ≡ length q.unread = ap length was.same.1 in
-    let rise = was.counted in
+    let one = was.each in
     let until = so_far.counted in
+    let each = so_far.each in
+    let reads = so_far.reads in
     record {
       answer = λ falls. given_number m.pieces start q cut k (so_far.passed falls) was.same.0 was.same.1 at was.above;
       falls = passed_falls m.pieces start q cut was.same.0 was.same.1 so_far.passed;
       below = (is, omega (arith, lt, lower));
       turns = omega (arith, turns_now, turns_before, len);
-      counted = omega (arith, rise, until);
-      each = λ falls. taken_then m start q cut (so_far.each falls) (slots_taken m q cut (so_far.passed falls).falls was.same.0 was.same.1 was.below was.floor was.fewer was.each);
+      counted = omega (arith, one, each, until);
+      each = omega (arith, one, each, len, reads);
+      reads = omega (arith, reads, len);
       ended = λ none. absurd cc;
     }
 
@@ -44,19 +45,21 @@ loop-number-preserved c =
     let read = c.read_range.ensures.read c.if-not-read_range.false in
     let bound = read.1.below in
     let less = was.below in
-    let so_far = c.loop-number.invariant.below in
-    let rise = was.counted in
-    let one = c.read_range.ensures.counted in
-    let until = c.loop-number.invariant.counted in
+    let so_far = c.loop-number.invariant in
+    let lower = so_far.below in
+    let same : cut.below ≡ q.below = ap (λ (p : Passing). p.below) was.stays in
+    let same_turns : cut.turns ≡ q.turns = ap (λ (p : Passing). p.turns) was.stays in
+    let len : length cut.unread ≡ length q.unread = ap length was.same.1 in
+    let left : length cut.unread ≡ length (read.0 ∷ after.unread) = ap length read.1.unread in
+    let one = read.1.turns in
+    let until = so_far.counted in
+    let each = so_far.each in
+    let reads = so_far.reads in
     record {
-      passed = λ falls. passed_range m.pieces start q cut was.same.0 was.same.1 was.below was.none was.past read.0 after read.1 (c.loop-number.invariant.passed falls);
-      below = omega (arith, bound, less, so_far);
-      turns = turns_read start q cut after m read.0 was.same.1 was.turns read.1 c.loop-number.invariant.turns;
-      counted = omega (arith, rise, one, until);
-      each = λ falls.
-          let on = (c.loop-number.invariant.passed falls).falls in
-          let looked = slots_taken m q cut on was.same.0 was.same.1 was.below was.floor was.fewer was.each in
-          let falls_still = subst (λ x. FallBelow x cut.unread) (sym was.same.0) (subst (FallBelow q.low) (sym was.same.1) on) in
-          let none : slots_within m cut.low cut.below ≡ 0 = ap (λ x. slots_within m x cut.below) was.same.0 ∙ was.done in
-          taken_then m start cut after (taken_then m start q cut (c.loop-number.invariant.each falls) looked) (range_taken m cut after read.0 falls_still none read.1);
+      passed = λ falls. passed_range m.pieces start q cut was.same.0 was.same.1 was.below was.none (λ j ge lt. absurd (omega (arith, ge, lt, same))) read.0 after read.1 (so_far.passed falls);
+      below = omega (arith, bound, less, lower);
+      turns = turns_read start q cut after m read.0 was.same.1 was.turns read.1 so_far.turns;
+      counted = omega (arith, one, same_turns, until, each);
+      each = omega (arith, one, same_turns, each, len, left, reads);
+      reads = omega (arith, reads, len, left);
     }

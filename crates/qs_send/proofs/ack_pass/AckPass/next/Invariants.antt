@@ -1,6 +1,5 @@
-use Rattle.std.proofs.Common.{◌≤◌, ◌+◌, length}
-use Rattle.qs_send.specs.AckPass.{Falls, HasPassed, turns_ahead}
-use Rattle.qs_send.proofs.Turns.{HasTaken}
+use Rattle.std.proofs.Common.{◌≡◌, ◌≤◌, ◌+◌, ◌-◌, length}
+use Rattle.qs_send.specs.AckPass.{Falls, HasPassed, turns_ahead, more_turns}
 use Rattle.qs_send.proofs.ack_pass.AckPass.next.Given as goal
 
 abbrev pub invariant-loop-number : goal.invariant-loop-number
@@ -9,7 +8,8 @@ invariant-loop-number l = record {
   below : l.self.below ≤ l.fn.self.below;
   turns : l.self.turns + turns_ahead l.self l.records ≤ l.fn.self.turns + turns_ahead l.fn.self l.records;
   counted : l.fn.self.turns ≤ l.self.turns;
-  each : Falls l.fn.self → HasTaken l.records l.fn.self l.self;
+  each : l.self.turns ≡ more_turns l.fn.self.turns (length l.fn.self.unread - length l.self.unread);
+  reads : length l.self.unread ≤ length l.fn.self.unread;
 }
 
 abbrev pub decreases-loop-number : goal.decreases-loop-number

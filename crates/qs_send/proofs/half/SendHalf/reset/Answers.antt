@@ -1,13 +1,14 @@
-use Rattle.std.proofs.Common.{refl}
-use Rattle.qs_send.proofs.Sets.{due-none}
-use Rattle.qs_send.proofs.Steps.{lawful_reset, below_less, reset_size-is}
+use Rattle.std.proofs.Common.{refl, arith}
+use Rattle.qs_send.proofs.Steps.{lawful_reset, reset_size-is}
 use Rattle.qs_send.proofs.half.SendHalf.reset.Goals as goal
 
 pub invariant_of-self : goal.invariant_of-self
 invariant_of-self c =
-    rw (c.drop_below.ensures, due-none c.self.inside.noted c.self.inside.acked c.self.inside.written c.self.invariant.1) (lawful_reset _ _ refl c.self.invariant.0, below_less _ _ _ c.self.invariant.1, c.requires, c.self.invariant.3)
+    let none = c.let_all_go.ensures.room in
+    rw (c.some-self-inside.ensures, c.let_all_go.ensures.parts) (lawful_reset _ _ refl c.self.invariant.0, omega (arith, none), record { reset = λ _. none; whole = λ _ _. none })
 
 pub returns-clause-after : goal.returns-clause-after
 returns-clause-after c =
     let part = rw (← c.self.view_is) at c.if-is_whole.ensures in
-    rw (← c.self.view_is, c.drop_below.ensures, due-none c.self.inside.noted c.self.inside.acked c.self.inside.written c.self.invariant.1, ← part, ← c.if-is_some.ensures, reset_size-is _ c.self.invariant.0) refl
+    let open_lane = rw (← c.self.view_is) at c.if-was_reset.ensures in
+    rw (← c.self.view_is, c.some-self-inside.ensures, c.let_all_go.ensures.parts, ← part, ← open_lane, reset_size-is _ c.self.invariant.0) refl

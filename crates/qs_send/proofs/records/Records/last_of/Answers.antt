@@ -1,13 +1,11 @@
-use Rattle.std.proofs.Common.{◌≡◌, ℕ, ◌+◌, ◌<◌, ◌≤◌, false, arith}
-use Rattle.std.specs.FinMap as fmap
-use Rattle.qs_send.specs.Records.{packets_of}
-use Rattle.qs_send.proofs.Outstanding.{none_before}
+use Rattle.std.proofs.Common.{◌+◌}
+use Rattle.qs_send.proofs.Outstanding.{none_of, greatest_from}
 use Rattle.qs_send.proofs.records.Records.last_of.Goals as goal
+
+pub returns-clause-found : goal.returns-clause-found
+returns-clause-found c = greatest_from c.args.self.now.pieces (c.args.self.now.base + 0) (c.args.self.now.base + c.args.count) c.last_from.result c.last_from.ensures.found c.last_from.ensures.above
 
 pub returns-clause-none : goal.returns-clause-none
 returns-clause-none c =
-    let base = c.self.inside.base in
-    let slots = c.self.inside.slots.items in
-    let seen = rw (← c.self.view_is) at c.loop-place.invariant.1 in
-    let from : (k : ℕ) → base ≤ k → k < base + c.args.count → fmap.contains_key (packets_of base slots) k ≡ false = λ k ge lt. seen k (omega (arith, ge, c.loop-place-test.false)) lt in
-    rw (← c.self.view_is) (none_before base (base + c.args.count) slots from)
+    let none = rw (← c.self.view_is) at c.last_from.ensures.none in
+    rw (← c.self.view_is) (none_of c.self.inside.base c.args.count c.self.inside.slots.items c.last_from.result none)

@@ -1,0 +1,145 @@
+-- Bits that note which slots are empty: one word, a list of words, and what they say of the records.
+use Rattle.std.proofs.Common.{◌≡◌, ◌≢◌, ◌∙◌, ℕ, suc, ◌+◌, ◌-◌, ◌*◌, ◌/◌, ◌%◌, ◌^◌, ◌<◌, ◌≤◌, true, false, List, [], ◌∷◌, ◌++◌, length, get_or, drop, None, Some, bit_and, bit_or, w64, sym, ap, subst, refl, inl, inr, arith}
+use Rattle.std.specs.Int.{bit_at, bit_not, trailing_zeros}
+use Rattle.std.specs.FinMap as fmap
+use Rattle.std.proofs.lemmas.Bool.{cases_lt, cases_eq, eq-eqb, both_ways}
+use Rattle.std.proofs.lemmas.List.{get_or_read}
+use Rattle.std.proofs.lemmas.Nat.{shr-shr, shr_le}
+use Rattle.std.proofs.lemmas.Nat.Bits.{bit_at-zero, bit_at_above, bit_at-lt, bit_at_not, bit_at-trailing_zeros, bit_at_set_same, bit_at_set_other, bit_at_clear_same, bit_at_clear_other}
+use Rattle.std.proofs.lemmas.Option.{none-some, same_Some}
+use Rattle.qs_send.specs.Gone.{is_gone, AreGone, HasBit, IsLowestBit}
+use Rattle.std.specs.Option.{is_some}
+use Rattle.qs_send.specs.declared.piece.Piece.{Piece}
+use Rattle.qs_send.specs.Records.{PacketPieces, packets_of}
+use Rattle.qs_send.proofs.Outstanding.{kept, found, found_pushed, get-packets_of}
+use Rattle.qs_send.proofs.Carrying.{at_other}
+
+-- One word
+
+pub bit_set : (word bit : ℕ) → bit < 64 → HasBit word bit true (bit_or word (1 * 2 ^ bit % 2 ^ 64))
+bit_set word bit small =
+    record {
+      here = eq-eqb _ 1 (bit_at_set_same w64 word bit small);
+      others = λ i lt differs. bit_at_set_other w64 word bit small i differs;
+    }
+
+pub bit_cleared : (word bit : ℕ) → bit < 64 → HasBit word bit false (bit_and word (bit_not w64 (1 * 2 ^ bit % 2 ^ 64)))
+bit_cleared word bit small =
+    record {
+      here = rw (bit_at_clear_same w64 word bit small) refl;
+      others = λ i lt differs. bit_at_clear_other w64 word bit small i lt differs;
+    }
+
+-- bits of a word that was shifted
+bit_at_shifted : (word from i : ℕ) → bit_at (word / 2 ^ from) i ≡ bit_at word (from + i)
+bit_at_shifted word from i = ap (λ n. n % 2) (shr-shr word from i)
+
+pub no_bit_from : (word from : ℕ) → word / 2 ^ from ≡ 0 → IsLowestBit word from None
+no_bit_from word from none =
+    record {
+      found = λ n is. absurd (none-some n is);
+      clear = λ i le lt before.
+          let at : from + (i - from) ≡ i = omega (arith, le) in
+          let zero_at : bit_at (word / 2 ^ from) (i - from) ≡ 0 = rw none (bit_at-zero (i - from)) in
+          rw at at (sym (bit_at_shifted word from (i - from)) ∙ zero_at);
+    }
+
+module _ (word from : ℕ) (fits : word < 2 ^ 64) (some : 0 < word / 2 ^ from) where
+  lowest : (trailing_zeros w64 (word / 2 ^ from) < 64) × (bit_at (word / 2 ^ from) (trailing_zeros w64 (word / 2 ^ from)) ≡ 1) × ((i : ℕ) → i < trailing_zeros w64 (word / 2 ^ from) → bit_at (word / 2 ^ from) i ≡ 0)
+  lowest = bit_at-trailing_zeros w64 (word / 2 ^ from) some (omega (arith, fits, shr_le word from))
+
+  lowest_is_set : bit_at word (from + trailing_zeros w64 (word / 2 ^ from)) ≡ 1
+  lowest_is_set = sym (bit_at_shifted word from (trailing_zeros w64 (word / 2 ^ from))) ∙ lowest.1
+
+  lowest_below : from + trailing_zeros w64 (word / 2 ^ from) < 64
+  lowest_below =
+      elim (cases_lt (from + trailing_zeros w64 (word / 2 ^ from)) 64) [
+        | inl lt ↦ lt
+        | inr ge ↦ absurd (omega (arith, lowest_is_set, bit_at_above word 64 (from + trailing_zeros w64 (word / 2 ^ from)) fits ge))
+      ]
+
+  pub lowest_from : IsLowestBit word from (Some (from + trailing_zeros w64 (word / 2 ^ from)))
+  lowest_from =
+      record {
+        found = λ n is. subst (λ m. (from ≤ m) × (m < 64) × (bit_at word m ≡ 1)) (same_Some _ n is) (omega arith, lowest_below, lowest_is_set);
+        clear = λ i le lt before.
+            let at : from + (i - from) ≡ i = omega (arith, le) in
+            rw at at (sym (bit_at_shifted word from (i - from)) ∙ lowest.2 (i - from) (omega (arith, le, before)));
+      }
+
+-- Words
+
+-- the first word goes
+gone_shifted : (ws : List ℕ) (i : ℕ) → is_gone (drop 1 ws) i ≡ is_gone ws (i + 64)
+gone_shifted ws i = go ws (omega arith) (omega arith)
+  where
+    go : (ws : List ℕ) → (i + 64) / 64 ≡ suc (i / 64) → (i + 64) % 64 ≡ i % 64 → is_gone (drop 1 ws) i ≡ is_gone ws (i + 64)
+    go [] quotient rest = rw rest refl
+    go (w ∷ ws) quotient rest = rw (quotient, rest) refl
+
+-- A search
+
+-- from an index on all are noted as empty, below an end
+abbrev pub IsGoneFrom : List ℕ → ℕ → ℕ → Type 0
+IsGoneFrom ws left end = (left ≤ end) × ((i : ℕ) → left ≤ i → i < end → is_gone ws i ≡ true)
+
+module _ (ws : List ℕ) (end left word from : ℕ) (so_far : IsGoneFrom ws left end) (some : 0 < left) (there : (left - 1) / 64 < length ws) (read : word ≡ get_or ws ((left - 1) / 64) word) (fits : word < 2 ^ 64) (is : from ≡ 63 - (left - 1) % 64) where
+  bit_gone : (i : ℕ) → i / 64 ≡ (left - 1) / 64 → bit_at (bit_not w64 word) (63 - i % 64) ≡ 0 → is_gone ws i ≡ true
+  bit_gone i at clear =
+      let word_at : word ≡ get_or ws ((left - 1) / 64) 0 = get_or_read ws ((left - 1) / 64) word there read 0 in
+      let other = bit_at_not w64 word (63 - i % 64) fits (omega arith) in
+      let small = bit_at-lt word (63 - i % 64) in
+      let one : bit_at word (63 - i % 64) ≡ 1 = omega (arith, other, clear, small) in
+      rw (at, ← word_at, one) refl
+
+  pub found_end : (bit : ℕ) → IsLowestBit (bit_not w64 word) from (Some bit) → IsGoneFrom ws ((left - 1) / 64 * 64 + (64 - bit)) end
+  found_end bit lowest =
+      let f = lowest.found bit refl in
+      let from_on = f.0 in
+      let small = f.1 in
+      let le = so_far.0 in (
+        omega (arith, from_on, small, le, some, is),
+        λ i ge lt. elim (cases_lt i left) [
+          | inl less ↦ bit_gone i (omega (arith, ge, less, small)) (lowest.clear (63 - i % 64) (omega (arith, ge, less, small, is)) (omega arith) (omega (arith, ge, less, small)))
+          | inr past ↦ so_far.1 i past lt
+        ],
+      )
+
+  pub none_end : IsLowestBit (bit_not w64 word) from None → IsGoneFrom ws ((left - 1) / 64 * 64) end
+  none_end lowest =
+      let le = so_far.0 in (
+        omega (arith, le, some),
+        λ i ge lt. elim (cases_lt i left) [
+          | inl less ↦ bit_gone i (omega (arith, ge, less)) (lowest.clear (63 - i % 64) (omega (arith, ge, less, is)) (omega arith) tt)
+          | inr past ↦ so_far.1 i past lt
+        ],
+      )
+
+-- What they say of the records
+
+-- the first word goes
+pub gone_less : (ws : List ℕ) (first : ℕ) (m : PacketPieces) → AreGone ws first m → AreGone (drop 1 ws) (first + 64) m
+gone_less ws first m are i gone =
+    let at : first + (i + 64) ≡ first + 64 + i = omega arith in
+    subst (λ k. fmap.contains_key m k ≡ false) at (are (i + 64) (sym (gone_shifted ws i) ∙ gone))
+
+-- one record came, whose slot is not noted
+pub gone_beside : (ws vs : List ℕ) (first index : ℕ) (m n : PacketPieces) → AreGone ws first m → is_gone vs index ≡ false → ((i : ℕ) → i ≢ index → is_gone vs i ≡ is_gone ws i) → ((k : ℕ) → k ≢ first + index → fmap.contains_key n k ≡ fmap.contains_key m k)
+    → AreGone vs first n
+gone_beside ws vs first index m n are here others beside i gone =
+    elim (cases_eq i index) [
+      | inl same ↦ absurd (both_ways (is_gone vs index) here (subst (λ j. is_gone vs j ≡ true) same gone))
+      | inr differs ↦ beside (first + i) (λ at. differs (omega (arith, at))) ∙ are i (sym (others i differs) ∙ gone)
+    ]
+
+-- numbers of slots that are noted have no record
+pub gone_below : (ws : List ℕ) (first base count left : ℕ) (m : PacketPieces) → AreGone ws first m → first ≤ base → ((i : ℕ) → left ≤ i → i < base - first + count → is_gone ws i ≡ true)
+    → (k : ℕ) → base + (left - (base - first)) ≤ k → k < base + count → fmap.contains_key m k ≡ false
+gone_below ws first base count left m are le gone k ge lt =
+    let at : first + (k - first) ≡ k = omega (arith, le, ge) in
+    subst (λ n. fmap.contains_key m n ≡ false) at (are (k - first) (gone (k - first) (omega (arith, le, ge)) (omega (arith, le, lt, ge))))
+
+-- a slot was pushed, which changes nothing of the others
+pub pushed_beside : (base n : ℕ) (ss : List (List Piece)) (s : List Piece) → n ≡ base + length ss → (k : ℕ) → k ≢ n → fmap.contains_key (packets_of base (ss ++ s ∷ [])) k ≡ fmap.contains_key (packets_of base ss) k
+pushed_beside base n ss s is k differs =
+    ap is_some (get-packets_of base (ss ++ s ∷ []) k ∙ found_pushed k base n ss s (sym is) ∙ at_other k n (kept s) (found k base ss) differs ∙ sym (get-packets_of base ss k))

@@ -1,0 +1,205 @@
+//! The written offsets of a half. Those that are at rest take no memory.
+ghost use Rattle.std.specs.Prelude.{◌≡◌, ℕ, ◌+◌, ◌-◌, ◌*◌, ◌≤◌, ◌<◌, true, length, take, drop, OnOk, OnErr, IfSome, IfNone};
+ghost use Rattle.qs_ranges.specs.Numbers.{MAX_VARINT, missing_from, MissesRange, IsRunFrom, EndsBefore};
+ghost use Rattle.qs_send.specs.Offsets.{at_rest, with_written, with_sent, with_acked, with_lost, with_none};
+
+use crate::live_offsets::LiveOffsets;
+use qs_ranges::NoMemory;
+use std::alloc::Global;
+use std::marker::Model;
+
+/// Offsets that were written. They are at rest as a half begins, and again once the acknowledgement has come with which it is over.
+#[derive(Drop)]
+pub(crate) struct Offsets {
+    alloc: Global,
+    written: u64,
+    // None at rest: each is acknowledged, and nothing is kept or due.
+    live: Option<Box<LiveOffsets>>,
+}
+
+impl Model for Offsets {
+    ghost use Rattle.std.specs.Prelude.{◌≤◌, option_map};
+    ghost use Rattle.qs_ranges.specs.Numbers.{MAX_VARINT};
+    ghost use Rattle.qs_send.specs.Offsets.{HeldParts, held_parts_code, held_in, AgreesOn};
+
+    ghost Value = { HeldParts };
+
+    ghost coded = { held_parts_code };
+
+    ghost view = { λ o. held_in o.written (option_map (λ b. b.value) o.live) };
+
+    ghost invariant = { λ o. (o.written ≤ MAX_VARINT) × AgreesOn o.written (option_map (λ b. b.value) o.live) };
+}
+
+impl Offsets {
+    /// None was written. They take no memory.
+    pub(crate) fn new(alloc: Global) -> Self
+        ensures { result ≡ at_rest 0 }
+    {
+        Self {
+            alloc,
+            written: 0,
+            live: None,
+        }
+    }
+
+    pub(crate) fn written(&self) -> u64
+        ensures exact { result ≡ self.now.parts.written }
+        ensures small { result ≤ MAX_VARINT }
+    {
+        self.written
+    }
+
+    /// The number after the largest offset that was sent; 0 where none was.
+    pub(crate) fn sent_end(&self) -> u64
+        ensures { result ≡ self.now.parts.sent_end }
+    {
+        match &self.live {
+            None => self.written,
+            Some(live) => live.sent_end(),
+        }
+    }
+
+    pub(crate) fn kept_len(&self) -> usize
+        ensures { result ≡ length self.now.parts.kept }
+    {
+        match &self.live {
+            None => 0,
+            Some(live) => live.kept_len(),
+        }
+    }
+
+    /// How many bytes of memory those take that are kept.
+    pub(crate) fn held(&self) -> usize
+        ensures value { result ≡ self.now.room }
+        ensures kept { length self.now.parts.kept ≤ result }
+        ensures idle { length self.now.parts.kept ≡ 0 → result ≤ 4096 }
+    {
+        match &self.live {
+            None => 0,
+            Some(live) => live.held(),
+        }
+    }
+
+    /// The bytes that are kept, so many from a place on.
+    pub(crate) fn part(&self, from: usize, len: usize) -> &[u8]
+        requires { from + len ≤ length self.now.parts.kept }
+        ensures { result.now ≡ take len (drop from self.now.parts.kept) }
+    {
+        match &self.live {
+            None => &[],
+            Some(live) => live.part(from, len),
+        }
+    }
+
+    /// Takes bytes in behind those that were written. Where `most` are ever kept, they take no more memory than for twice as many.
+    pub(crate) fn write(&mut self, bytes: &[u8], most: usize) -> Result<(), NoMemory>
+        requires from { missing_from self.old.parts.acked 0 + length self.old.parts.kept ≡ self.old.parts.written }
+        requires small { self.old.parts.written + length bytes.now ≤ MAX_VARINT }
+        ensures ok { OnOk result (self.new.parts ≡ with_written self.old.parts bytes.now) }
+        ensures err { OnErr result (self.new.parts ≡ self.old.parts) }
+        ensures room { length self.old.parts.kept + length bytes.now ≤ most → self.old.room ≤ 2 * most → self.new.room ≤ 2 * most }
+    {
+        let Some(live) = &mut self.live else {
+            return self.begin(bytes, most);
+        };
+        live.write(bytes, most)?;
+        self.written += bytes.len() as u64;
+        Ok(())
+    }
+
+    // The first bytes behind those that are at rest: they take a box.
+    fn begin(&mut self, bytes: &[u8], most: usize) -> Result<(), NoMemory>
+        requires rest { self.old ≡ at_rest self.old.parts.written }
+        requires from { missing_from self.old.parts.acked 0 + length self.old.parts.kept ≡ self.old.parts.written }
+        requires small { self.old.parts.written + length bytes.now ≤ MAX_VARINT }
+        ensures ok { OnOk result (self.new.parts ≡ with_written self.old.parts bytes.now) }
+        ensures err { OnErr result (self.new.parts ≡ self.old.parts) }
+        ensures room { length self.old.parts.kept + length bytes.now ≤ most → self.old.room ≤ 2 * most → self.new.room ≤ 2 * most }
+    {
+        let mut live = Box::new(self.alloc, LiveOffsets::at_rest(self.alloc, self.written))?;
+        live.write(bytes, most)?;
+        self.written += bytes.len() as u64;
+        self.live = Some(live);
+        Ok(())
+    }
+
+    /// Takes in that the offsets below `end` were sent.
+    pub(crate) fn sent(&mut self, end: u64)
+        requires { end ≤ self.old.parts.written }
+        ensures parts { self.new.parts ≡ with_sent self.old.parts end }
+        ensures room { self.new.room ≡ self.old.room }
+    {
+        let Some(live) = &mut self.live else {
+            return;
+        };
+        live.sent(end);
+    }
+
+    /// Takes in that the offsets from `lo` on and below `hi` are acknowledged, and whether with this nothing more comes. Where each
+    /// offset is then acknowledged, they are at rest. Unchanged where memory was refused.
+    pub(crate) fn acked(&mut self, lo: u64, hi: u64, is_over: bool) -> Result<(), NoMemory>
+        requires ordered { lo ≤ hi }
+        requires sent { hi ≤ self.old.parts.sent_end }
+        ensures ok { OnOk result (self.new.parts ≡ with_acked self.old.parts lo hi) }
+        ensures err { OnErr result (self.new ≡ self.old) }
+        ensures room { self.new.room ≤ self.old.room }
+        ensures over { OnOk result (is_over ≡ true → length self.new.parts.kept ≡ 0 → self.new.room ≡ 0) }
+
+        // Memory is taken only for offsets beside which none is acknowledged.
+        ensures some { OnErr result (lo < hi) }
+        ensures grows { OnErr result (MissesRange self.old.parts.acked (lo - 1) (hi + 1)) }
+    {
+        let Some(live) = &mut self.live else {
+            return Ok(());
+        };
+        live.acked(lo, hi, is_over)?;
+        if is_over && live.rests() {
+            self.live = None;
+        }
+        Ok(())
+    }
+
+    /// Takes in that the offsets from `lo` on and below `hi` are lost: what isn't acknowledged is due again. Unchanged where memory
+    /// was refused.
+    pub(crate) fn lost(&mut self, lo: u64, hi: u64) -> Result<(), NoMemory>
+        requires ordered { lo ≤ hi }
+        requires sent { hi ≤ self.old.parts.sent_end }
+        ensures ok { OnOk result (self.new.parts ≡ with_lost self.old.parts lo hi) }
+        ensures err { OnErr result (self.new ≡ self.old) }
+        ensures room { self.new.room ≡ self.old.room }
+
+        // Memory is taken only for offsets beside which none is due.
+        ensures some { OnErr result (lo < hi) }
+        ensures grows { OnErr result (MissesRange self.old.parts.due (lo - 1) (hi + 1)) }
+    {
+        let Some(live) = &mut self.live else {
+            return Ok(());
+        };
+        live.lost(lo, hi)?;
+        Ok(())
+    }
+
+    /// Nothing is to be sent any more, so nothing is kept, and the buffer's memory goes.
+    pub(crate) fn let_all_go(&mut self)
+        ensures parts { self.new.parts ≡ with_none self.old.parts }
+        ensures room { self.new.room ≡ 0 }
+    {
+        let Some(live) = &mut self.live else {
+            return;
+        };
+        live.let_all_go();
+    }
+
+    /// The lowest due offsets that stand in a row.
+    pub(crate) fn due_run(&self) -> Option<(u64, u64)>
+        ensures found { IfSome result (IsRunFrom self.now.parts.due 0) }
+        ensures none { IfNone result (EndsBefore self.now.parts.due 0) }
+        ensures within { IfSome result (λ run. run.1 ≤ self.now.parts.written) }
+    {
+        match &self.live {
+            None => None,
+            Some(live) => live.due_run(),
+        }
+    }
+}
