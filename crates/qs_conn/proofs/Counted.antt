@@ -83,7 +83,7 @@ open_still None true f a is = absurd (both_ways true is refl)
 open_still None false true a is = refl
 open_still None false false a is = refl
 
-ends_as_before : (code : ℕ) (l : SendLane) (t : Bool) → is_some (reset_refusal l) ≡ t → send_ended (cond t l (record l { was_reset = Some (record { code = code; size = cond l.fin_sent l.written l.sent_end }) })) ≡ send_ended l
+ends_as_before : (code : ℕ) (l : SendLane) (t : Bool) → is_some (reset_refusal l) ≡ t → send_ended (cond t l (record l { kept = []; was_reset = Some (record { code = code; size = cond l.fin_sent l.written l.sent_end }) })) ≡ send_ended l
 ends_as_before code l true is = refl
 ends_as_before code l false is = open_still l.was_reset (is_whole l) l.finished l.reset_acked is
 

@@ -394,6 +394,12 @@ flow_ends around first t recvs o e delay room old before len n left fresh s s' f
     go true is = chunking_full delay room old (take len before) there around first n k s tied fits now (held_now (held.0 is))
     go false is = chunking_ends delay room old (take len before) there around first n k s tied fits ((held_by_room_or_limits s (room - length (take len before)) (there.known_data - all_sent there) tied.lawful now).1 (λ x. true≢false (sym (held.1 (held_then x)) ∙ is)) 25)
 
+-- the packet is full, as no frame of a stream fits any more
+pub flow_few : (around : Bool) (first next : ℕ) (e : End) (delay room : ℕ) (old : End) (before : List ℕ) (len n : ℕ) → len ≤ length before → room ≡ length before → length before - len < 25 →
+    Chunking delay room old (take len before) e around first n → Flow delay room old (take len before) e true (turn_at around first next)
+flow_few around first next e delay room old before len n within at few k =
+    record { frames = k.frames; fills = k.fills; spells = k.spells; acks = k.acks; turns = k.turns; within = k.within; whole = λ left. absurd (omega (arith, few, left, at, length-take-le len before within)) }
+
 -- a stream's chunk opens no stream
 pub none_stays : (o : Outgoing) (n m : ℕ) (c : Chunk) → lookup o.sends m ≡ None → lookup (chunk_put n c o).sends m ≡ None
 none_stays o n m c none = go (lookup o.sends n) refl

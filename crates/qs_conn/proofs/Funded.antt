@@ -68,7 +68,7 @@ funded_written o new n k bytes done due is h = on_lane_same o new n k (λ l. wri
 pub funded_finished : (o new : Outgoing) (n k : ℕ) (done : NumberSet) (due : Bool) → new ≡ on_lane n finish_lane o → IsFunded o.sends k done due → IsFunded new.sends k done due
 funded_finished o new n k done due is h = on_lane_same o new n k finish_lane done due (λ l. refl) is h
 
-reset_sends : (code : ℕ) (l : SendLane) (b : Bool) → (cond b l (record l { was_reset = Some (record { code = code; size = cond l.fin_sent l.written l.sent_end }) })).sent_end ≡ l.sent_end
+reset_sends : (code : ℕ) (l : SendLane) (b : Bool) → (cond b l (record l { kept = []; was_reset = Some (record { code = code; size = cond l.fin_sent l.written l.sent_end }) })).sent_end ≡ l.sent_end
 reset_sends code l true = refl
 reset_sends code l false = refl
 

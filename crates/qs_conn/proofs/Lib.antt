@@ -3,6 +3,7 @@ pub mod AckPackets
 pub mod Allowed
 pub mod Asked
 pub mod Named
+pub mod Calm
 pub mod Chunks
 pub mod Counting
 pub mod Counted
@@ -38,6 +39,7 @@ pub mod Telling
 pub mod Texts
 pub mod ToldEnds
 pub mod ToldLaws
+pub mod Untolds
 pub mod Marked
 pub mod Words
 pub mod Summed

@@ -19,6 +19,9 @@ use Rattle.qs_conn.specs.Filling.{InPacket, end_by, Packed}
 use Rattle.qs_wire.specs.declared.stream_id.Role.{Role}
 use Rattle.qs_conn.specs.declared.ended.EndedStreams.{EndedStreams}
 use Rattle.qs_conn.specs.Ended.{AreAllCounted}
+use Rattle.qs_machine.specs.Tables.{Tables}
+use Rattle.qs_conn.specs.Untold.{AreTold, IsTold}
+use Rattle.qs_conn.proofs.Untolds.{fills_told}
 use Rattle.qs_conn.proofs.Counted.{fills_counted}
 use Rattle.qs_conn.proofs.Pieces.{put_next}
 use Rattle.qs_conn.proofs.Stages.{packed_none, packed_some}
@@ -50,12 +53,13 @@ outgoing_of spare v = record { sends = v.sends; next = v.next; outstanding = v.o
 
 -- the call filled a packet
 module _ (v old : End) (same : v ≡ old) (t : Terms) (o o' : Outgoing) (spare first delay room len : ℕ) (out : List ℕ) (idle : fmap.get v.outstanding v.next ≡ None) (t_is : t ≡ terms_of v) (o_is : o ≡ outgoing_of spare v)
-    (fills : (x : End) → end_by t v.recvs o x ≡ x → x.done ≡ v.done → x.ack_due ≡ v.ack_due → ((p : Piece) → InPacket x p → ⊥) → Packed first delay room x (take len out) (end_by t v.recvs o' (record x { ack_due = false }))) where
+    (marks : Tables Bool) (told : IsTold v marks)
+    (fills : (x : End) → end_by t v.recvs o x ≡ x → x.done ≡ v.done → x.ack_due ≡ v.ack_due → ((p : Piece) → InPacket x p → ⊥) → IsTold x marks → Packed first delay room x (take len out) (end_by t v.recvs o' (record x { ack_due = false }))) where
   abbrev pub filled : End
   filled = end_by t v.recvs o' (record v { ack_due = false })
 
   packed : Packed first delay room v (take len out) filled
-  packed = fills v parts refl refl (fresh_of v idle)
+  packed = fills v parts refl refl (fresh_of v idle) told
     where
       parts : end_by t v.recvs o v ≡ v
       parts = rw (t_is, o_is) refl
@@ -68,6 +72,11 @@ module _ (v old : End) (same : v ≡ old) (t : Terms) (o o' : Outgoing) (spare f
 
   pub filled_counted : (role : Role) (c : EndedStreams) → AreAllCounted role v.recvs v.sends c → AreAllCounted role v.recvs o'.sends c
   filled_counted role c h = fills_counted role v v filled (seen_all packed.frames) c packed.fills h
+
+  -- what was told before stays so, whichever marks go then
+  pub filled_told : (marks' : Tables Bool) → ((e : End) → IsTold (end_by t v.recvs o' e) marks → IsTold (end_by t v.recvs o' e) marks') → AreTold v.role v.settings v.recvs o'.outstanding o'.acked marks'
+  filled_told marks' unmarks =
+      subst (λ (x : Terms). AreTold x.role x.settings v.recvs o'.outstanding o'.acked marks') t_is (unmarks (record v { ack_due = false }) (fills_told v v filled (seen_all packed.frames) marks packed.fills told))
 
   none_is : 25 ≤ room → len ≡ 0 → (Sendable v → ⊥) × (filled ≡ v)
   none_is enough none = packed_none first delay room v (take len out) filled packed enough (ap (λ k. take k out) none)

@@ -4,18 +4,27 @@ use Rattle.std.specs.List.{range_with_len}
 use Rattle.std.specs.Option.{IfSome, IfNone}
 use Rattle.std.proofs.Math.ListN.{set}
 use Rattle.std.proofs.lemmas.Bool.{cases_lt, both_ways, true≢false}
-use Rattle.std.proofs.lemmas.List.{length-append, length-take}
+use Rattle.std.proofs.lemmas.List.{length-append, length-take, length-replicate}
 use Rattle.std.proofs.lemmas.List.FromFn.{length-map-range_with_len}
 use Rattle.std.proofs.lemmas.Option.{none-some, same_Some}
+use Rattle.std.specs.Prelude.{Result, Ok, Err, is_none}
+use Rattle.std.specs.Result.{OnOk, OnErr}
+use Rattle.qs_conn.specs.Untold.{IsClear}
 use Rattle.qs_conn.specs.Marks.{is_marked, AreMarked, IsBefore, IsNextMark, HaveTo, least_of}
 use Rattle.qs_machine.specs.Sums.{tables_of}
-use Rattle.qs_machine.specs.Tables.{Tables, kind_of, lookup}
+use Rattle.qs_machine.specs.Tables.{Tables, kind_of, lookup, widened}
 use Rattle.qs_machine.proofs.TableEdits.{lookup_is}
 
 pub mark_past : (ms : List Bool) (i : ℕ) → length ms ≤ i → is_marked ms i ≡ false
 mark_past [] i le = refl
 mark_past (m ∷ ms) zero le = absurd (omega (arith, le))
 mark_past (m ∷ ms) (suc i) le = mark_past ms i (omega (arith, le))
+
+-- a mark that is put where it stands already
+pub mark_kept : (ms : List Bool) (i : ℕ) → ms ≡ set ms i (is_marked ms i)
+mark_kept [] i = refl
+mark_kept (m ∷ ms) zero = refl
+mark_kept (m ∷ ms) (suc i) = ap (λ x. m ∷ x) (mark_kept ms i)
 
 module _ {X : Type 0} (Q : X → Type 0) where
   pub marked_len : (xs : List X) (ms : List Bool) → AreMarked Q xs ms → length ms ≡ length xs
@@ -138,12 +147,69 @@ take_opened xs ys n is = rw is (take_front xs ys)
     take_front [] vs = refl
     take_front (u ∷ us) vs = ap (λ ws. u ∷ ws) (take_front us vs)
 
--- of a weaker property
-pub weaker : {X : Type 0} (P Q : X → Type 0) → ((x : X) → P x → Q x) → (xs : List X) (ms : List Bool) → AreMarked P xs ms → AreMarked Q xs ms
-weaker P Q f [] [] h = h
-weaker P Q f [] (m ∷ ms) h = absurd h
-weaker P Q f (x ∷ xs) [] h = absurd h
-weaker P Q f (x ∷ xs) (m ∷ ms) h = (λ is. f x (h.0 is), weaker P Q f xs ms h.1)
+-- Marks alone
+
+pub next_small : (ms : List Bool) (from : ℕ) (answer : Option ℕ) → length ms ≤ 2 ^ 60 → IsNextMark ms from answer → IfSome answer (λ n. n < 2 ^ 60)
+next_small ms from None few next = tt
+next_small ms from (Some n) few next =
+    elim (cases_lt n (length ms)) [ inl lt ↦ omega (arith, lt, few) | inr ge ↦ absurd (both_ways (is_marked ms n) (mark_past ms n ge) (next.found n refl).1) ]
+
+mark_at : (ms : List Bool) (i : ℕ) (b : Bool) → slice_get ms i ≡ Some b → is_marked ms i ≡ b
+mark_at [] i b at = absurd (none-some b at)
+mark_at (m ∷ ms) zero b at = same_Some m b at
+mark_at (m ∷ ms) (suc i) b at = mark_at ms i b at
+
+-- a search jumps over indexes without a mark
+pub unmarked_passed : (ms : List Bool) (from : ℕ) (answer : Option ℕ) → IsNextMark ms from answer → (i : ℕ) (b : Bool) → from ≤ i → IsBefore i answer → slice_get ms i ≡ Some b → b ≡ false
+unmarked_passed ms from answer next i b le before at = sym (mark_at ms i b at) ∙ next.unmarked i le before
+
+-- no index has a mark
+
+pub clear_new : (ms : List Bool) → ms ≡ [] → IsClear ms
+clear_new ms is i = subst (λ xs. is_marked xs i ≡ false) (sym is) (mark_past [] i (omega arith))
+
+pub clear_opened : {E : Type 0} (r : Result (Unit {0}) E) (ms now : List Bool) (n : ℕ) → OnOk r (now ≡ ms ++ replicate n false) → OnErr r (now ≡ ms) → IsClear ms → IsClear now
+clear_opened (Ok done) ms now n ok err h i = subst (λ xs. is_marked xs i ≡ false) (sym ok) (more ms i h)
+  where
+    begun : (k j : ℕ) → is_marked (replicate k false) j ≡ false
+    begun zero j = mark_past [] j (omega arith)
+    begun (suc k) zero = refl
+    begun (suc k) (suc j) = begun k j
+
+    more : (xs : List Bool) (j : ℕ) → IsClear xs → is_marked (xs ++ replicate n false) j ≡ false
+    more [] j clear = begun n j
+    more (x ∷ xs) zero clear = clear 0
+    more (x ∷ xs) (suc j) clear = more xs j (λ k. clear (suc k))
+clear_opened (Err e) ms now n ok err h i = subst (λ xs. is_marked xs i ≡ false) (sym err) (h i)
+
+pub short_opened : {E : Type 0} (r : Result (Unit {0}) E) (ms now : List Bool) (count : ℕ) → count ≤ 2 ^ 60 → length ms ≤ 2 ^ 60 → OnOk r (now ≡ ms ++ replicate (count - length ms) false) → OnErr r (now ≡ ms) → length now ≤ 2 ^ 60
+short_opened (Ok done) ms now count small few ok err = let len = ap length ok in omega (arith, len, small, few, length-append ms (replicate (count - length ms) false), length-replicate (count - length ms) false)
+short_opened (Err e) ms now count small few ok err = let len = ap length err in omega (arith, len, few)
+
+pub clear_set : (ms now : List Bool) (i : ℕ) (b : Bool) → now ≡ set ms i b → b ≡ false → IsClear ms → IsClear now
+clear_set ms now i b is none h = rw (is, none) (go ms i h)
+  where
+    go : (xs : List Bool) (k : ℕ) → IsClear xs → IsClear (set xs k false)
+    go [] k clear j = clear j
+    go (x ∷ xs) zero clear zero = refl
+    go (x ∷ xs) zero clear (suc j) = clear (suc j)
+    go (x ∷ xs) (suc k) clear zero = clear 0
+    go (x ∷ xs) (suc k) clear (suc j) = go xs k (λ q. clear (suc q)) j
+
+pub clear_seen : (ms : List Bool) (answer : Option ℕ) → IsNextMark ms 0 answer → is_none answer ≡ true → IsClear ms
+clear_seen ms None next none i = next.unmarked i (omega arith) tt
+clear_seen ms (Some n) next none i = absurd (true≢false (sym none))
+
+pub clear_next : (ms : List Bool) (from : ℕ) → IsClear ms → IsNextMark ms from None
+clear_next ms from h = record { found = λ n is. absurd (none-some n is); unmarked = λ i le before. h i }
+
+-- new indexes without a mark
+pub widened_is : (xs ys : List Bool) (count : ℕ) → ys ≡ xs ++ replicate (count - length xs) false → ys ≡ widened xs count (λ i. false)
+widened_is xs ys count is = is ∙ ap (λ zs. xs ++ zs) (all_false (length xs) (count - length xs))
+  where
+    all_false : (lo n : ℕ) → replicate n false ≡ map (λ (i : ℕ). false) (range_with_len lo n)
+    all_false lo zero = refl
+    all_false lo (suc n) = ap (λ xs. false ∷ xs) (all_false (lo + 1) n)
 
 -- Answers of several types of streams
 

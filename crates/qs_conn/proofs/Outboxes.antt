@@ -78,11 +78,11 @@ same_step e now x is sends = ap (λ y. with_sends y e) sends ∙ is
 
 -- What holds
 
-reset_marks : (code : ℕ) (s : Sending) (b : Bool) → is_some s.lane.was_reset ≡ true → is_some (cond b s.lane (record s.lane { was_reset = Some (record { code = code; size = cond s.lane.fin_sent s.lane.written s.lane.sent_end }) })).was_reset ≡ true
+reset_marks : (code : ℕ) (s : Sending) (b : Bool) → is_some s.lane.was_reset ≡ true → is_some (cond b s.lane (record s.lane { kept = []; was_reset = Some (record { code = code; size = cond s.lane.fin_sent s.lane.written s.lane.sent_end }) })).was_reset ≡ true
 reset_marks code s true x = x
 reset_marks code s false x = refl
 
-reset_ends : (code : ℕ) (s : Sending) (b : Bool) → (cond b s.lane (record s.lane { was_reset = Some (record { code = code; size = cond s.lane.fin_sent s.lane.written s.lane.sent_end }) })).sent_end ≡ s.lane.sent_end
+reset_ends : (code : ℕ) (s : Sending) (b : Bool) → (cond b s.lane (record s.lane { kept = []; was_reset = Some (record { code = code; size = cond s.lane.fin_sent s.lane.written s.lane.sent_end }) })).sent_end ≡ s.lane.sent_end
 reset_ends code s true = refl
 reset_ends code s false = refl
 
@@ -205,7 +205,7 @@ reset_err t t' n code r there is answer =
     unreset : (s : Sending) (b : Bool) → b ≡ true
         → ◌≡◌ {A = Sending}
         (record {
-          lane = cond b s.lane (record s.lane { was_reset = Some (record { code = code; size = cond s.lane.fin_sent s.lane.written s.lane.sent_end }) });
+          lane = cond b s.lane (record s.lane { kept = []; was_reset = Some (record { code = code; size = cond s.lane.fin_sent s.lane.written s.lane.sent_end }) });
           due = cond b s.due (record { offsets = set.empty; fin = false });
         }) s
     unreset s true e = refl

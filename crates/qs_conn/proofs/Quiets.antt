@@ -19,12 +19,11 @@ use Rattle.qs_machine.specs.Outgoing.{Outgoing, IsTied, IsBlockedAt, WantsMore, 
 use Rattle.qs_conn.specs.Filling.{end_by, slot_at, AnyWantsMore}
 use Rattle.qs_conn.specs.declared.send_marks.Task.{Task}
 use Rattle.qs_conn.specs.declared.send_marks.Task.TheVariants as tasks
-use Rattle.qs_conn.specs.Marks.{IsIdle, IsQuietLane, IsBefore, HaveTo, least_of}
+use Rattle.qs_conn.specs.Marks.{IsIdle}
 use Rattle.qs_conn.specs.Tasks.{IsQuiet, IsQuietAt}
 use Rattle.qs_conn.proofs.DueTied.{is_due, is_end_due}
 use Rattle.qs_machine.proofs.LaneTables.{lookup_lanes}
-use Rattle.qs_conn.proofs.Slots.{of_reset_stream, of_stream_data_blocked, of_stop_sending, of_max_stream_data, stop_of}
-use Rattle.qs_conn.proofs.Marked.{by_kinds}
+use Rattle.qs_conn.proofs.Slots.{of_reset_stream, of_stream_data_blocked}
 
 -- of a quiet half among the halves
 pub quiet_at : (task : Task) (v o : Outgoing) (t : Tables Sending) (n : ℕ) → v ≡ o → lanes_of t ≡ v.sends → ((s : Sending) → lookup t n ≡ Some s → IsTied v.outstanding n s) → ((s : Sending) → lookup t n ≡ Some s → IsQuiet task s) → IsQuietAt task o n
@@ -94,19 +93,3 @@ none_wants o from below quiet (n, w) = elim (cases_lt n from) [ inl before ↦ b
 -- the window is that of the type
 pub window_same : (r : Role) (s : Settings) (n k : ℕ) → kind_of n ≡ k → k < 4 → window_by r s k ≡ window_by r s n
 window_same r s n k is small = let same : kind_of k ≡ kind_of n = omega (arith, is, small) in ap (λ j. if nat_le 2 j then s.uni else (if j % 2 == role_bit r then s.bidi_local else s.bidi_remote)) same
-
-pub lanes_of_all : (r : Role) (s : Settings) (t : Tables RecvLane) (from : ℕ) (a b c d answer : Option ℕ) → HaveTo (IsQuietLane (window_by r s 0)) t from a 0 → HaveTo (IsQuietLane (window_by r s 1)) t from b 1 → HaveTo (IsQuietLane (window_by r s 2)) t from c 2
-    → HaveTo (IsQuietLane (window_by r s 3)) t from d 3 → answer ≡ least_of (least_of a b) (least_of c d) → (n : ℕ) (l : RecvLane) → from ≤ n → IsBefore n answer → lookup t n ≡ Some l → IsQuietLane (window_by r s n) l
-lanes_of_all r s t from a b c d answer qa qb qc qd is = by_kinds (λ n l. IsQuietLane (window_by r s n) l) t from a b c d answer (here 0 a (omega arith) qa) (here 1 b (omega arith) qb) (here 2 c (omega arith) qc) (here 3 d (omega arith) qd) is
-  where
-    here : (k : ℕ) (o : Option ℕ) → k < 4 → HaveTo (IsQuietLane (window_by r s k)) t from o k → (n : ℕ) (l : RecvLane) → kind_of n ≡ k → from ≤ n → IsBefore n o → lookup t n ≡ Some l → IsQuietLane (window_by r s n) l
-    here k o small q n l kind ge earlier there = subst (λ w. IsQuietLane w l) (window_same r s n k kind small) (q n l kind ge earlier there)
-
--- of a kind that the receiving half tells
-pub recvs_idle : (t : Terms) (recvs : Tables RecvLane) (o : Outgoing) (e : End) (n : ℕ) (kind : Kind) → (kind ≡ kinds.StopSending) ⊎ (kind ≡ kinds.MaxStreamData) → ((l : RecvLane) → lookup recvs n ≡ Some l → IsQuietLane (window_by t.role t.settings n) l) → IsIdle (end_by t recvs o e) (slot_at kind n)
-recvs_idle t recvs o e n kinds.StopSending is quiet =
-    of_stop_sending (λ i. IsCurrent (end_by t recvs o e) i → IsCovered (end_by t recvs o e) i) n (λ code (l, at, stop, reset, whole). absurd (none-some code (sym (quiet l at).no_stop ∙ stop_of (Some l) l code refl stop reset whole)))
-recvs_idle t recvs o e n kinds.MaxStreamData is quiet =
-    of_max_stream_data (λ i. IsCurrent (end_by t recvs o e) i → IsCovered (end_by t recvs o e) i) n (λ m (l, at, limit, more, none). absurd (omega (arith, limit, more, (quiet l at).limit none)))
-recvs_idle t recvs o e n kinds.ResetStream is quiet = absurd (elim is [ inl a ↦ (cc a) | inr b ↦ (cc b) ])
-recvs_idle t recvs o e n kinds.StreamDataBlocked is quiet = absurd (elim is [ inl a ↦ (cc a) | inr b ↦ (cc b) ])

@@ -1,8 +1,8 @@
 -- Sending halves are opened and edited.
-use Rattle.std.proofs.Common.{◌≡◌, ℕ, false, ◌+◌, ◌-◌, subst, ◌<◌, ◌^◌, List, length, take, get_or, Option, Some, None, slice_get, Result, Ok, Err, refl, sym, ap, ◌∙◌, arith}
+use Rattle.std.proofs.Common.{◌≡◌, ℕ, Bool, true, false, ◌&&◌, ◌||◌, cond, is_some, is_none, unwrap_or, ◌+◌, ◌-◌, subst, ◌<◌, ◌^◌, List, length, take, get_or, Option, Some, None, slice_get, Result, Ok, Err, refl, sym, ap, ◌∙◌, arith}
 use Rattle.std.specs.Option.{IfSome}
 use Rattle.std.specs.Ordering.{nat_cmp}
-use Rattle.std.specs.Result.{OnOk, OnErr, IfOk}
+use Rattle.std.specs.Result.{OnOk, OnErr, IfOk, IfErr}
 use Rattle.qs_ranges.specs.Numbers.{MissesRange}
 use Rattle.qs_send.specs.declared.parts.Chunk.{Chunk}
 use Rattle.qs_machine.specs.Memory.{ChunkMayRunOut}
@@ -11,7 +11,10 @@ use Rattle.std.specs.FinSet as set
 use Rattle.std.proofs.lemmas.Bool.{true≢false}
 use Rattle.std.proofs.lemmas.List.{get_or_default}
 use Rattle.qs_send.specs.declared.parts.SendFault.{SendFault}
-use Rattle.qs_send.specs.Lane.{Sending, new_sending, accepted, refusal, after_write}
+use Rattle.qs_send.specs.declared.parts.SendFault.TheVariants.{WasReset, Finished}
+use Rattle.qs_send.specs.declared.parts.SendFault.TheVariants as SendFaults
+use Rattle.std.proofs.lemmas.Option.{none-some}
+use Rattle.qs_send.specs.Lane.{Sending, new_sending, accepted, refusal, is_whole, write_lane, after_write, after_acked}
 use Rattle.qs_machine.specs.Sums.{changed, no_sending}
 use Rattle.qs_conn.specs.declared.send_marks.Task.{Task}
 use Rattle.qs_conn.specs.declared.send_marks.Task.TheVariants as tasks
@@ -48,3 +51,29 @@ begins_quiet tasks.Reset unmarked id limit buffer = λ is. absurd (true≢false 
 begins_quiet tasks.Blocked unmarked id limit buffer = λ m (none, is, more, at). omega (arith, more)
 begins_quiet tasks.Writable unmarked id limit buffer = absurd (true≢false unmarked)
 begins_quiet tasks.Ended unmarked id limit buffer = refl
+
+-- a half of which a chunk was acknowledged, or which was refused memory
+pub acked_keeps : {A E : Type 0} (r : Result A E) (t : Task) (x y : Sending) (c : Chunk) → (IsQuiet t x → IsQuiet t (after_acked x c)) → OnOk r (y ≡ after_acked x c) → OnErr r (y ≡ x) → IsQuiet t x → IsQuiet t y
+acked_keeps (Ok a) t x y c keep ok err q = subst (IsQuiet t) (sym ok) (keep q)
+acked_keeps (Err e) t x y c keep ok err q = subst (IsQuiet t) (sym err) q
+
+-- bytes are accepted only before the end was asked for
+not_asked : (reset asked : Bool) → cond reset (Some WasReset) (cond asked (Some Finished) None) ≡ None → asked ≡ false
+not_asked true asked is = absurd (none-some WasReset (sym is))
+not_asked false true is = absurd (none-some Finished (sym is))
+not_asked false false is = refl
+
+no_end : (acked kept asked was is : Bool) → asked ≡ false → (acked || (kept && asked && was)) ≡ false → (acked || (kept && asked && is)) ≡ false
+no_end true kept asked was is not_yet before = before
+no_end false true true was is not_yet before = absurd (true≢false not_yet)
+no_end false true false was is not_yet before = refl
+no_end false false asked was is not_yet before = refl
+
+-- a half that took bytes, or refused them, has its reset and its end as far as before
+pub wrote_keeps : (r : Result ℕ SendFault) (x y : Sending) (bytes : List ℕ) → IfOk r (λ n. (refusal x.lane ≡ None) × (n ≡ accepted x.lane (length bytes)) × (y ≡ after_write x (take n bytes))) → IfErr r (λ fault. (y ≡ x) × (fault ≡ unwrap_or (refusal x.lane) SendFaults.NoMemory))
+    → (IsQuiet tasks.Reset x → IsQuiet tasks.Reset y) × (IsQuiet tasks.Ended x → IsQuiet tasks.Ended y)
+wrote_keeps (Ok n) x y bytes ok err = (
+  λ q. subst (IsQuiet tasks.Reset) (sym ok.2) q,
+  λ q. subst (IsQuiet tasks.Ended) (sym ok.2) (no_end x.lane.reset_acked (is_none x.lane.was_reset) x.lane.finished (is_whole x.lane) (is_whole (write_lane x.lane (take n bytes))) (not_asked (is_some x.lane.was_reset) x.lane.finished ok.0) q),
+)
+wrote_keeps (Err e) x y bytes ok err = (λ q. subst (IsQuiet tasks.Reset) (sym err.0) q, λ q. subst (IsQuiet tasks.Ended) (sym err.0) q)

@@ -8,6 +8,7 @@ use Rattle.qs_send.specs.Chunks.{HasNoChunk}
 use Rattle.qs_send.specs.declared.parts.Chunk.{Chunk}
 use Rattle.qs_send.specs.declared.piece.Item.{Item}
 use Rattle.qs_send.specs.declared.piece.Item.TheVariants.{MaxData, MaxStreamData, MaxStreams, ResetStream, StopSending, DataBlocked, StreamDataBlocked, StreamsBlocked}
+use Rattle.qs_conn.specs.Untold.{IsTold}
 use Rattle.qs_conn.specs.declared.slot.Slot.{Slot}
 use Rattle.qs_conn.specs.declared.slot.Kind.{Kind}
 use Rattle.qs_conn.specs.declared.terms.Terms.{Terms}
@@ -127,8 +128,8 @@ frame_stream e false false is none goes = λ some. elim some [ inl (i, due) ↦ 
 pub sendable_due : (v old : End) → v ≡ old → v.ack_due ≡ true → IsTrue true ↔ Sendable old
 sendable_due v old same due = ((λ h. inl (ap (λ (e : End). e.ack_due) (sym same) ∙ due)), (λ h. refl))
 
-pub sendable_frame : (v old : End) (t : Terms) (o : Outgoing) (b : Bool) → v ≡ old → v.ack_due ≡ false → t ≡ terms_of old → with_outgoing o v ≡ v → ((e : End) → TellsFrame b (end_by t v.recvs o e)) → IsTrue b ↔ Sendable old
-sendable_frame v old t o b same due is out tells = subst (λ e. IsTrue b ↔ Sendable e) same (go b (subst (TellsFrame b) parts (tells v)))
+pub sendable_frame : (v old : End) (t : Terms) (o : Outgoing) (b : Bool) (marks : Tables Bool) → v ≡ old → v.ack_due ≡ false → t ≡ terms_of old → with_outgoing o v ≡ v → IsTold v marks → ((e : End) → IsTold (end_by t v.recvs o e) marks → TellsFrame b (end_by t v.recvs o e)) → IsTrue b ↔ Sendable old
+sendable_frame v old t o b marks same due is out told tells = subst (λ e. IsTrue b ↔ Sendable e) same (go b (subst (TellsFrame b) parts (tells v (subst (λ (e : End). IsTold e marks) (sym parts) told))))
   where
     parts : end_by t v.recvs o v ≡ v
     parts = ap (λ (x : Terms). end_by x v.recvs o v) (is ∙ ap terms_of (sym same)) ∙ out
@@ -142,8 +143,8 @@ sendable_frame v old t o b same due is out tells = subst (λ e. IsTrue b ↔ Sen
 pub beside_closed : (v old : End) → v ≡ old → is_some v.closed ≡ true → IsTrue false ↔ GoesBesideAck old
 beside_closed v old same closed = ((λ h. absurd (both_ways false refl h)), (λ goes. absurd (true≢false (sym closed ∙ ap (λ (e : End). is_some e.closed) same ∙ ap is_some goes.0))))
 
-pub beside_frame : (v old : End) (t : Terms) (o : Outgoing) (b : Bool) → v ≡ old → is_some v.closed ≡ false → t ≡ terms_of old → with_outgoing o v ≡ v → ((e : End) → TellsFrame b (end_by t v.recvs o e)) → IsTrue b ↔ GoesBesideAck old
-beside_frame v old t o b same open_still is out tells = subst (λ e. IsTrue b ↔ GoesBesideAck e) same (go b (subst (TellsFrame b) parts (tells v)))
+pub beside_frame : (v old : End) (t : Terms) (o : Outgoing) (b : Bool) (marks : Tables Bool) → v ≡ old → is_some v.closed ≡ false → t ≡ terms_of old → with_outgoing o v ≡ v → IsTold v marks → ((e : End) → IsTold (end_by t v.recvs o e) marks → TellsFrame b (end_by t v.recvs o e)) → IsTrue b ↔ GoesBesideAck old
+beside_frame v old t o b marks same open_still is out told tells = subst (λ e. IsTrue b ↔ GoesBesideAck e) same (go b (subst (TellsFrame b) parts (tells v (subst (λ (e : End). IsTold e marks) (sym parts) told))))
   where
     parts : end_by t v.recvs o v ≡ v
     parts = ap (λ (x : Terms). end_by x v.recvs o v) (is ∙ ap terms_of (sym same)) ∙ out

@@ -60,7 +60,7 @@ pub all_settled : (xs : List RecvLane) → EachSettled (map raise xs)
 all_settled [] = tt
 all_settled (x ∷ xs) = (raised_twice x, all_settled xs)
 
-settled_raise : (x : RecvLane) → IsSettled x → raise x ≡ x
+pub settled_raise : (x : RecvLane) → IsSettled x → raise x ≡ x
 settled_raise x is = ap (λ k. record x { limit = k }) is
 
 pub nothing_raised : (xs : List RecvLane) → EachSettled xs → map raise xs ≡ xs

@@ -1,15 +1,16 @@
 -- Marks of sending halves, for each task.
-use Rattle.std.proofs.Common.{◌≡◌, ℕ, ◌+◌, ◌-◌, ◌*◌, ◌≤◌, ◌^◌, Bool, false, List, ◌++◌, length, map, take, replicate}
+use Rattle.std.proofs.Common.{◌≡◌, ℕ, ◌+◌, ◌-◌, ◌*◌, ◌<◌, ◌≤◌, ◌^◌, Bool, false, List, ◌++◌, length, map, take, get_or, replicate}
 use Rattle.std.specs.List.{range_with_len}
 use Rattle.std.specs.Prelude.{slice_set}
 use Rattle.std.proofs.Math.ListN.{set, length-set}
 use Rattle.qs_send.specs.Lane.{Sending, new_sending}
 use Rattle.qs_conn.specs.Marks.{AreMarked}
-use Rattle.qs_conn.specs.Tasks.{IsQuiet, IsLooked, AreAllMarked, begins, marks_of}
+use Rattle.qs_conn.specs.Tasks.{IsQuiet, IsLooked, IsStill, AreAllMarked, begins, marks_of}
 use Rattle.qs_conn.specs.declared.send_marks.Task.{Task}
 use Rattle.qs_conn.specs.declared.send_marks.Task.TheVariants as tasks
 use Rattle.qs_conn.specs.declared.send_marks.SendMarks.{SendMarks}
-use Rattle.qs_conn.proofs.Marked.{look_again, undone, more_begun, fewer}
+use Rattle.qs_conn.proofs.Marked.{look_again, undone, more_begun, fewer, unmarked_at}
+use Rattle.qs_conn.proofs.Least.{part_at}
 use Rattle.qs_conn.proofs.SendEdits.{begins_quiet}
 
 module _ (old new : SendMarks) (index : ℕ) (s : Sending) (b r k w e : Bool) where
@@ -24,6 +25,10 @@ module _ (old new : SendMarks) (index : ℕ) (s : Sending) (b r k w e : Bool) wh
 -- a half was changed and then looked at
 pub all_looked : (xs : List Sending) (old new : SendMarks) (i : ℕ) (y : Sending) → ((t : Task) → IsLooked t i y (marks_of old t) (marks_of new t)) → (length xs ≤ 2 ^ 60) × AreAllMarked xs old → (length (set xs i y) ≤ 2 ^ 60) × AreAllMarked (set xs i y) new
 all_looked xs old new i y looked h = (rw length-set h.0, λ t. let l = looked t in look_again (IsQuiet t) xs (marks_of old t) (marks_of new t) i y l.0 l.1 l.2 (h.1 t))
+
+-- a half without a mark was quiet, so it is quiet still where its change keeps that
+pub still_quiet : (t : Task) (xs : List Sending) (marks : SendMarks) (i : ℕ) (x y : Sending) → AreAllMarked xs marks → i < length xs → x ≡ get_or xs i x → (IsQuiet t x → IsQuiet t y) → IsStill t i y marks
+still_quiet t xs marks i x y all there at keep no_mark = keep (unmarked_at (IsQuiet t) xs (marks_of marks t) i x (all t) (part_at xs i x there at) no_mark)
 
 -- some halves leave
 pub all_fewer : (xs now : List Sending) (old new : SendMarks) (n : ℕ) → now ≡ take n xs → ((t : Task) → marks_of new t ≡ take n (marks_of old t)) → (length xs ≤ 2 ^ 60) × AreAllMarked xs old → (length now ≤ 2 ^ 60) × AreAllMarked now new

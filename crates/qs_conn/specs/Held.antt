@@ -1,8 +1,8 @@
 -- Of public contracts.
 -- How much memory an end takes for the bytes of its streams (ours, for the whole file: RFC 9000, section 4, bounds the bytes alone).
-use Rattle.std.specs.Prelude.{ℕ, ◌+◌, ◌-◌, ◌*◌, ◌^◌, ◌≤◌, Bool, not, ◌&&◌, if◌then◌else◌, ◌==◌, min, max, length}
+use Rattle.std.specs.Prelude.{ℕ, ◌+◌, ◌-◌, ◌*◌, ◌^◌, ◌≤◌, Bool, not, ◌&&◌, ◌||◌, if◌then◌else◌, ◌==◌, min, max, length, is_some}
 use Rattle.qs_recv.specs.Lane.{RecvLane, highest, taken}
-use Rattle.qs_send.specs.Lane.{SendLane}
+use Rattle.qs_send.specs.Lane.{SendLane, is_whole}
 use Rattle.qs_conn.specs.declared.held.Held.{Held}
 use Rattle.qs_machine.specs.Tables.{total}
 use Rattle.qs_machine.specs.Ends.{End}
@@ -20,9 +20,12 @@ most_held lane =
     if not (keeps lane) then 0
     else (if stored_on lane == 0 then 4096 else max 4096 (4 * (highest lane - taken lane)))
 
--- the most that the buffer of a sending half takes: 4,096 bytes, or while some are kept twice what it is set to
+-- the most that the buffer of a sending half takes: nothing after a reset, and once all that was written and the end were acknowledged;
+-- else 4,096 bytes, or while some are kept twice what it is set to
 abbrev pub most_buffered : SendLane → ℕ
-most_buffered lane = if length lane.kept == 0 then 4096 else 2 * lane.buffer
+most_buffered lane =
+    if is_some lane.was_reset || is_whole lane then 0
+    else (if length lane.kept == 0 then 4096 else 2 * lane.buffer)
 
 -- how many bytes a sending half keeps
 abbrev pub kept_on : SendLane → ℕ

@@ -8,5 +8,6 @@ pub mod Tasks
 pub mod RecvTasks
 pub mod Words
 pub mod Sending
+pub mod Untold
 pub mod Named
 pub mod Held

@@ -1,7 +1,6 @@
 -- Of private contracts.
 -- Which streams may have something to send or to tell: a mark for each index, and streams that have nothing.
 use Rattle.std.specs.Prelude.{◌≡◌, ℕ, ◌+◌, ◌*◌, ◌/◌, ◌^◌, ◌≤◌, ◌<◌, length, Bool, true, false, List, [], ◌∷◌, slice_index_or, slice_get, min, Option, None, Some, ⊤}
-use Rattle.qs_recv.specs.Lane.{RecvLane}
 use Rattle.qs_machine.specs.Tables.{Tables, kind_of, lookup}
 use Rattle.qs_send.specs.declared.piece.Item.{Item}
 use Rattle.qs_conn.specs.declared.slot.Slot.{Slot}
@@ -9,7 +8,6 @@ use Rattle.qs_machine.specs.Ends.{End}
 use Rattle.qs_machine.specs.News.{IsHeld, IsEnded}
 use Rattle.qs_machine.specs.Due.{IsCurrent, IsCovered}
 use Rattle.qs_conn.specs.Filling.{slot_of}
-use Rattle.qs_conn.specs.Layers.{stop_to_tell}
 
 -- whether an index is marked
 abbrev pub is_marked : List Bool → ℕ → Bool
@@ -72,8 +70,3 @@ pub record AreSummed (marks words : List Bool) : Type 0 where
 -- what is current of the slot was told already
 abbrev pub IsIdle : End → Slot → Type 0
 IsIdle e slot = (i : Item) → slot_of i ≡ slot → IsCurrent e i → IsCovered e i
-
--- A lane that has nothing to tell: no stop, and no limit above the window that lanes begin with (RFC 9000, sections 3.5 and 4.1).
-pub record IsQuietLane (window : ℕ) (l : RecvLane) : Type 0 where
-  pub no_stop : stop_to_tell (Some l) ≡ None
-  pub limit : l.final_size ≡ None → l.limit ≤ window

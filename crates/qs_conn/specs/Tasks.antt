@@ -10,7 +10,7 @@ use Rattle.qs_machine.specs.Outgoing.{Outgoing, IsTied, IsBlockedAt}
 use Rattle.qs_conn.specs.declared.send_marks.Task.{Task}
 use Rattle.qs_conn.specs.declared.send_marks.Task.TheVariants as tasks
 use Rattle.qs_conn.specs.declared.send_marks.SendMarks.{SendMarks}
-use Rattle.qs_conn.specs.Marks.{AreMarked}
+use Rattle.qs_conn.specs.Marks.{AreMarked, is_marked}
 
 -- A half of which no byte and no end may go: none that is due is below its limit, and no end is due with every byte sent (RFC 9000,
 -- sections 3.1, 4.1 and 13.3).
@@ -54,6 +54,10 @@ marks_of marks tasks.Ended = marks.ended
 -- a half was looked at, and has no mark only where it is quiet
 abbrev pub IsLooked : Task → ℕ → Sending → List Bool → List Bool → Type 0
 IsLooked t index s before after = (m : Bool) × (m ≡ false → IsQuiet t s) × (after ≡ slice_set before index m)
+
+-- a half that changed is quiet still, where it has no mark
+abbrev pub IsStill : Task → ℕ → Sending → SendMarks → Type 0
+IsStill t index s marks = is_marked (marks_of marks t) index ≡ false → IsQuiet t s
 
 -- each half without a mark for a task is quiet
 abbrev pub AreAllMarked : List Sending → SendMarks → Type 0

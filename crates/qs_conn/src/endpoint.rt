@@ -15,6 +15,7 @@ use crate::outbox::Outbox;
 use crate::places::kind_of;
 use crate::recv_tables::RecvTables;
 use crate::setup::setup_fault;
+use crate::untold::Untold;
 use qs_calls::{Closed, Closing, MAX_VARINT, PeerLimits, Settings, SetupFault};
 use qs_ranges::RangeSet;
 use qs_wire::{Dir, Frame, Role, StreamId, put};
@@ -48,6 +49,7 @@ pub struct Endpoint {
     peer: PeerLimits,
     outbox: Outbox,
     recvs: RecvTables,
+    untold: Untold,
     granted: u64,
     granted_bidi: u64,
     granted_uni: u64,
@@ -72,6 +74,7 @@ impl Model for Endpoint {
     ghost use Rattle.qs_machine.specs.Outgoing.{IsIdle};
     ghost use Rattle.qs_conn.specs.Filling.{IsFunded};
     ghost use Rattle.qs_conn.specs.Ended.{CountsFit};
+    ghost use Rattle.qs_conn.specs.Untold.{AreTold};
 
     ghost Value = { End };
 
@@ -103,8 +106,9 @@ impl Model for Endpoint {
       closed = e.closed;
     } };
 
-    // Between calls no packet is in the making, and one may be made; the counts of streams are right.
-    ghost invariant = { λ e. IsKept e.role e.settings e.peer e.recvs e.granted e.known_bidi e.known_uni e.closed × IsIdle e.outbox × IsFunded e.outbox.sends e.known_data e.done e.ack_due × CountsFit e.role e.settings e.recvs e.outbox.sends e.ended e.granted_bidi e.granted_uni };
+    // Between calls no packet is in the making, and one may be made; the counts of streams are right; and of a stream without a mark
+    // nothing is to be told that wasn't.
+    ghost invariant = { λ e. IsKept e.role e.settings e.peer e.recvs e.granted e.known_bidi e.known_uni e.closed × IsIdle e.outbox × IsFunded e.outbox.sends e.known_data e.done e.ack_due × CountsFit e.role e.settings e.recvs e.outbox.sends e.ended e.granted_bidi e.granted_uni × AreTold e.role e.settings e.recvs e.outbox.outstanding e.outbox.acked e.untold };
 }
 
 impl Endpoint {
@@ -127,6 +131,7 @@ impl Endpoint {
             peer,
             outbox: Outbox::new(alloc),
             recvs: RecvTables::new(alloc),
+            untold: Untold::new(alloc),
             granted: settings.conn_window,
             granted_bidi: settings.grant_bidi,
             granted_uni: settings.grant_uni,
@@ -156,7 +161,8 @@ impl Endpoint {
 
     /// How much memory the rings of receiving halves take and the buffers of sending halves, by a walk over all streams that were
     /// opened: for a look now and then, and not for each packet. A peer within its credit can't make the rings take more than four
-    /// times the connection's window, and 4,096 bytes for each receiving half that keeps bytes still.
+    /// times the connection's window, and 4,096 bytes for each receiving half that keeps bytes still. A sending half that was reset,
+    /// or of which all that was written and the end were acknowledged, takes nothing.
     pub fn held(&self) -> Held
         ensures { IsHeldBy self.now result }
     {
@@ -209,7 +215,7 @@ impl Endpoint {
         ensures { self.new ≡ settle self.old }
     {
         let _granted = self.granted;
-        self.recvs.raise_all();
+        self.recvs.raise_all(&mut self.untold);
         let taken = self.recvs.tally().taken;
         let settings = &self.settings;
         self.granted = next_limit(self.granted, taken, settings.conn_window);
@@ -298,7 +304,7 @@ fn next_count(grant: u64, lifetime: u64, ended: u64) -> u64
     requires { grant ≤ lifetime }
     ensures { result ≡ min lifetime (grant + ended) }
 {
-    grant + ended.min(lifetime - grant)
+    grant.saturating_add(ended).min(lifetime)
 }
 
 fn put_close(closing: Closing, out: &mut [u8]) -> Option<usize>

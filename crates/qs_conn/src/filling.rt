@@ -17,6 +17,7 @@ ghost use Rattle.qs_machine.specs.Due.{IsCovered};
 ghost use Rattle.qs_machine.specs.Outgoing.{IsCarried, MayTell, sent_sum, on_lane, chunk_put};
 ghost use Rattle.qs_machine.specs.Sums.{or_none};
 ghost use Rattle.qs_conn.specs.Marks.{IsBefore, IsIdle};
+ghost use Rattle.qs_conn.specs.Untold.{IsTold};
 ghost use Rattle.qs_conn.specs.Filling.{frame_of_item, slot_at, end_by, TermsFit, HasSpare, PutsItem, Passed, no_slot, and_slot, and_kind, all_items, Stage, Flow, Packed, InPacket, Begun, IsAckText, IsPassed, MayGo, stream_frame, turn_at, start_of, way_end, IsOnWay};
 
 use crate::outbox::Outbox;
@@ -24,9 +25,13 @@ use crate::recv_tables::RecvTables;
 use crate::send_marks::Task;
 use crate::slot::{Kind, Slot};
 use crate::terms::Terms;
+use crate::untold::Untold;
 use qs_ranges::RangeSet;
 use qs_send::{Chunk, Item};
 use qs_wire::{Dir, Frame, StreamId, put, put_ack};
+
+/// No STREAM frame with a length is shorter: its type, its stream and its length take a byte each (RFC 9000, section 19.8).
+const LEAST_STREAM_FRAME: usize = 3;
 
 /// How far a packet is.
 #[derive(Clone, Copy, Drop)]
@@ -153,22 +158,48 @@ pub(crate) fn put_slot(
     put_item(outbox, &item, out, packet)
 }
 
-/// The least number from one on of a stream that may have an item of a kind. Of the streams between none is due.
-pub(crate) fn next_of_kind(
+// Puts the item of a slot of the connection into the packet, if it is due. Mostly a look at two numbers tells that there is none.
+fn put_own_slot(
     terms: &Terms,
     recvs: &RecvTables,
+    outbox: &mut Outbox,
+    slot: Slot,
+    out: &mut [u8],
+    packet: Packet,
+) -> Packet
+    requires terms { TermsFit terms.now }
+    requires within { packet.len ≤ length out.old }
+    requires spare { HasSpare (length out.old) packet.len outbox.old.spare }
+    ensures stage { (delay room : ℕ) (old e : End) (passed : Passed) → room ≡ length out.old
+        → Stage delay room old (take packet.len out.old) (end_by terms.now recvs.now outbox.old e) packet.is_full passed
+        → Stage delay room old (take result.len out.new) (end_by terms.now recvs.now outbox.new e) result.is_full (and_slot passed slot) }
+    ensures sum { sent_sum outbox.new.sends ≡ sent_sum outbox.old.sends }
+    ensures within { result.len ≤ length out.new }
+    ensures spare { HasSpare (length out.new) result.len outbox.new.spare }
+    ensures room { length out.new ≡ length out.old }
+{
+    if terms.has_none(outbox, &slot) {
+        return packet;
+    }
+    put_slot(terms, recvs, outbox, slot, out, packet)
+}
+
+/// The least number from one on of a stream that may have an item of a kind. Of the streams between none is due.
+pub(crate) fn next_of_kind(
     outbox: &Outbox,
+    untold: &Untold,
     kind: Kind,
     from: u64,
 ) -> Option<StreamId>
     requires { from ≤ 2 ^ 62 }
     ensures from { IfSome result (λ n. from ≤ n) }
-    ensures idle { (n : ℕ) (e : End) → from ≤ n → IsBefore n result → IsIdle (end_by terms.now recvs.now outbox.now e) (slot_at kind n) }
+    ensures idle { (t : Terms) (recvs : Tables RecvLane) (n : ℕ) (e : End) → IsTold (end_by t recvs outbox.now e) untold.now
+        → from ≤ n → IsBefore n result → IsIdle (end_by t recvs outbox.now e) (slot_at kind n) }
 {
     match kind {
         Kind::ResetStream => outbox.next_marked(Task::Reset, from),
         Kind::StreamDataBlocked => outbox.next_marked(Task::Blocked, from),
-        Kind::StopSending | Kind::MaxStreamData => terms.next_receiving(recvs, from),
+        Kind::StopSending | Kind::MaxStreamData => untold.next(from),
     }
 }
 
@@ -176,6 +207,7 @@ pub(crate) fn next_of_kind(
 pub(crate) fn put_kind(
     terms: &Terms,
     recvs: &RecvTables,
+    untold: &Untold,
     outbox: &mut Outbox,
     kind: Kind,
     out: &mut [u8],
@@ -184,7 +216,7 @@ pub(crate) fn put_kind(
     requires terms { TermsFit terms.now }
     requires within { packet.len ≤ length out.old }
     requires spare { HasSpare (length out.old) packet.len outbox.old.spare }
-    ensures stage { (delay room : ℕ) (old e : End) (passed : Passed) → room ≡ length out.old
+    ensures stage { (delay room : ℕ) (old e : End) (passed : Passed) → room ≡ length out.old → IsTold old untold.now
         → Stage delay room old (take packet.len out.old) (end_by terms.now recvs.now outbox.old e) packet.is_full passed
         → Stage delay room old (take result.len out.new) (end_by terms.now recvs.now outbox.new e) result.is_full (and_kind passed kind) }
     ensures sum { sent_sum outbox.new.sends ≡ sent_sum outbox.old.sends }
@@ -197,7 +229,7 @@ pub(crate) fn put_kind(
     }
     let mut packet = packet;
     let mut from = 0;
-    while let Some(stream) = next_of_kind(terms, recvs, outbox, kind, from) {
+    while let Some(stream) = next_of_kind(outbox, untold, kind, from) {
         packet = put_slot(terms, recvs, outbox, kind.at(stream), out, packet);
         if packet.is_full {
             return packet;
@@ -211,6 +243,7 @@ pub(crate) fn put_kind(
 pub(crate) fn put_items(
     terms: &Terms,
     recvs: &RecvTables,
+    untold: &Untold,
     outbox: &mut Outbox,
     out: &mut [u8],
     packet: Packet,
@@ -218,7 +251,7 @@ pub(crate) fn put_items(
     requires terms { TermsFit terms.now }
     requires within { packet.len ≤ length out.old }
     requires spare { HasSpare (length out.old) packet.len outbox.old.spare }
-    ensures stage { (delay room : ℕ) (old e : End) → room ≡ length out.old
+    ensures stage { (delay room : ℕ) (old e : End) → room ≡ length out.old → IsTold old untold.now
         → Stage delay room old (take packet.len out.old) (end_by terms.now recvs.now outbox.old e) packet.is_full no_slot
         → Stage delay room old (take result.len out.new) (end_by terms.now recvs.now outbox.new e) result.is_full all_items }
     ensures sum { sent_sum outbox.new.sends ≡ sent_sum outbox.old.sends }
@@ -226,20 +259,36 @@ pub(crate) fn put_items(
     ensures spare { HasSpare (length out.new) result.len outbox.new.spare }
     ensures room { length out.new ≡ length out.old }
 {
-    let packet = put_slot(terms, recvs, outbox, Slot::MaxData, out, packet);
+    let packet = put_own_slot(terms, recvs, outbox, Slot::MaxData, out, packet);
     let bidi_streams = Slot::MaxStreams(Dir::Bidi);
-    let packet = put_slot(terms, recvs, outbox, bidi_streams, out, packet);
+    let packet = put_own_slot(terms, recvs, outbox, bidi_streams, out, packet);
     let uni_streams = Slot::MaxStreams(Dir::Uni);
-    let packet = put_slot(terms, recvs, outbox, uni_streams, out, packet);
-    let packet = put_kind(terms, recvs, outbox, Kind::ResetStream, out, packet);
-    let packet = put_kind(terms, recvs, outbox, Kind::StopSending, out, packet);
-    let packet = put_kind(terms, recvs, outbox, Kind::MaxStreamData, out, packet);
-    let packet = put_slot(terms, recvs, outbox, Slot::DataBlocked, out, packet);
-    let packet = put_kind(terms, recvs, outbox, Kind::StreamDataBlocked, out, packet);
+    let packet = put_own_slot(terms, recvs, outbox, uni_streams, out, packet);
+    let packet = put_kind(terms, recvs, untold, outbox, Kind::ResetStream, out, packet);
+    let packet = put_kind(terms, recvs, untold, outbox, Kind::StopSending, out, packet);
+    let packet = put_kind(
+        terms,
+        recvs,
+        untold,
+        outbox,
+        Kind::MaxStreamData,
+        out,
+        packet,
+    );
+    let packet = put_own_slot(terms, recvs, outbox, Slot::DataBlocked, out, packet);
+    let packet = put_kind(
+        terms,
+        recvs,
+        untold,
+        outbox,
+        Kind::StreamDataBlocked,
+        out,
+        packet,
+    );
     let bidi_blocked = Slot::StreamsBlocked(Dir::Bidi);
-    let packet = put_slot(terms, recvs, outbox, bidi_blocked, out, packet);
+    let packet = put_own_slot(terms, recvs, outbox, bidi_blocked, out, packet);
     let uni_blocked = Slot::StreamsBlocked(Dir::Uni);
-    put_slot(terms, recvs, outbox, uni_blocked, out, packet)
+    put_own_slot(terms, recvs, outbox, uni_blocked, out, packet)
 }
 
 /// Puts a chunk into the packet that is known to fit, and answers how many bytes there are then.
@@ -307,6 +356,9 @@ pub(crate) fn put_chunks(
     let mut fresh = terms.known_data - outbox.sent_sum();
     while let Some(chunk) = outbox.next_chunk(stream, out.len() - len, fresh) {
         len = put_chunk(outbox, stream, chunk, out, len);
+        if out.len() - len < LEAST_STREAM_FRAME {
+            return Packet { len, is_full: true };
+        }
         fresh = terms.known_data - outbox.sent_sum();
     }
     let is_full = outbox.is_held_by_room(stream, out.len() - len, fresh);
@@ -421,6 +473,9 @@ pub(crate) fn put_streams(
     ensures room { length out.new ≡ length out.old }
 {
     let packet = put_way(terms, outbox, first, false, out, packet);
+    if packet.is_full {
+        return packet;
+    }
     put_way(terms, outbox, first, true, out, packet)
 }
 
@@ -464,11 +519,12 @@ fn put_ack_if(done: &RangeSet, ack_due: bool, delay: u64, out: &mut [u8]) -> usi
     0
 }
 
-/// What a packet is to hold beside what is due: from which stream on bytes go in, and the delay that an ACK tells.
+/// What a packet is to hold beside what is due: from which stream on bytes go in, and whether an ACK, and the delay that it tells.
 #[derive(Clone, Copy, Drop)]
 pub(crate) struct Wish {
     pub first: u64,
     pub delay: u64,
+    pub ack_due: bool,
 }
 
 /// Fills a packet from its first byte on, and answers how many bytes it has: the ACK if one is due, control items, and the bytes of
@@ -476,8 +532,8 @@ pub(crate) struct Wish {
 pub(crate) fn fill(
     terms: &Terms,
     recvs: &RecvTables,
+    untold: &Untold,
     done: &RangeSet,
-    ack_due: bool,
     outbox: &mut Outbox,
     wish: Wish,
     out: &mut [u8],
@@ -486,22 +542,22 @@ pub(crate) fn fill(
     requires delay { wish.delay < 2 ^ 62 }
     requires terms { TermsFit terms.now }
     requires credit { sent_sum outbox.old.sends ≤ terms.now.known_data }
-    requires acks { ack_due ≡ true → 0 < set.len (run_starts done.now) }
+    requires acks { wish.ack_due ≡ true → 0 < set.len (run_starts done.now) }
     requires few { set.len (run_starts done.now) ≤ 32 }
     requires space { 26 ≤ length out.old }
     requires spare { HasSpare (length out.old) 0 outbox.old.spare }
-    ensures packed { (old : End) → end_by terms.now recvs.now outbox.old old ≡ old → old.done ≡ done.now → old.ack_due ≡ ack_due
-        → ((x : Piece) → InPacket old x → ⊥)
+    ensures packed { (old : End) → end_by terms.now recvs.now outbox.old old ≡ old → old.done ≡ done.now → old.ack_due ≡ wish.ack_due
+        → ((x : Piece) → InPacket old x → ⊥) → IsTold old untold.now
         → Packed wish.first wish.delay (length out.old) old (take result out.new) (end_by terms.now recvs.now outbox.new (record old { ack_due = false })) }
     ensures within { result ≤ length out.new }
     ensures room { length out.new ≡ length out.old }
 {
-    let len = put_ack_if(done, ack_due, wish.delay, out);
+    let len = put_ack_if(done, wish.ack_due, wish.delay, out);
     let start = Packet {
         len,
         is_full: false,
     };
-    let packet = put_items(terms, recvs, outbox, out, start);
+    let packet = put_items(terms, recvs, untold, outbox, out, start);
     let packet = put_streams(terms, outbox, wish.first, out, packet);
     packet.len
 }

@@ -13,15 +13,17 @@ ghost use Rattle.qs_conn.specs.Ended.{recv_over};
 ghost use Rattle.qs_conn.specs.Held.{most_held};
 ghost use Rattle.qs_conn.specs.Layers.{limit_to_tell, stop_to_tell, AreSettled, touch};
 ghost use Rattle.qs_machine.specs.News.{IsLeast};
-ghost use Rattle.qs_conn.specs.Marks.{IsBefore, IsAt, AreMarked, IsQuietLane};
+ghost use Rattle.qs_conn.specs.Marks.{IsAt};
+ghost use Rattle.qs_conn.specs.Untold.{HasMore, IsRaisedMarked, AreRaisedMarked};
 ghost use Rattle.qs_conn.specs.RecvTasks.{HasOne};
 
-use crate::marks::Marks;
 use crate::recv_marks::{RecvMarks, RecvTask, has};
+use crate::untold::Untold;
 use qs_calls::RecvReport;
 use qs_machine::Tally;
 use qs_ranges::NoMemory;
 use qs_recv::{Highest, Read, RecvFault, RecvHalf, RecvState, RingAssembly};
+use qs_wire::StreamId;
 use std::alloc::Global;
 use std::marker::Model;
 
@@ -42,10 +44,6 @@ pub(crate) struct RecvLanes {
     halves: Vec<Half>,
     tally: Tally,
     touched: Touched,
-    // The greatest window that a lane began with.
-    first: u64,
-    // A lane without a mark has nothing to tell.
-    marks: Marks,
     // A lane without a mark has no answer for its owner.
     news: RecvMarks,
 }
@@ -57,7 +55,6 @@ impl Model for RecvLanes {
     ghost use Rattle.qs_recv.specs.Lane.{RecvLane};
     ghost use Rattle.qs_recv.specs.Codes.{lane_code};
     ghost use Rattle.qs_conn.specs.Layers.{AreCounted};
-    ghost use Rattle.qs_conn.specs.Marks.{AreMarked, IsQuietLane};
     ghost use Rattle.qs_conn.specs.RecvTasks.{AreNoted};
 
     ghost Value = { List RecvLane };
@@ -66,7 +63,7 @@ impl Model for RecvLanes {
 
     ghost view = { λ l. l.halves.items };
 
-    ghost invariant = { λ l. AreCounted l.halves.items l.tally l.touched × AreMarked (IsQuietLane l.first) l.halves.items l.marks × AreNoted l.halves.items l.news };
+    ghost invariant = { λ l. AreCounted l.halves.items l.tally l.touched × AreNoted l.halves.items l.news };
 }
 
 impl RecvLanes {
@@ -82,8 +79,6 @@ impl RecvLanes {
                 stored: 0,
             },
             touched: Touched::Nothing,
-            first: 0,
-            marks: Marks::new(alloc),
             news: RecvMarks::new(alloc),
         }
     }
@@ -195,16 +190,10 @@ impl RecvLanes {
                 return Err(NoMemory);
             }
         }
-        if let Err(_refused) = self.marks.open_to(count) {
-            self.halves.truncate(before);
-            return Err(NoMemory);
-        }
         if let Err(_refused) = self.news.open_to(count) {
             self.halves.truncate(before);
-            self.marks.close_to(before);
             return Err(NoMemory);
         }
-        self.first = self.first.max(window);
         Ok(())
     }
 
@@ -214,17 +203,9 @@ impl RecvLanes {
     {
         let missing = count.saturating_sub(self.halves.len());
         match self.halves.reserve(missing) {
-            Ok(()) => self.reserve_marks(count),
+            Ok(()) => self.news.reserve(count),
             Err(_refused) => Err(NoMemory),
         }
-    }
-
-    // Takes the memory for the marks of all indexes below a count.
-    fn reserve_marks(&mut self, count: usize) -> Result<(), NoMemory>
-        ensures { self.new ≡ self.old }
-    {
-        self.marks.reserve(count)?;
-        self.news.reserve(count)
     }
 
     /// Takes the lanes from a count on away, which nothing came for.
@@ -233,7 +214,6 @@ impl RecvLanes {
         ensures { self.new ≡ take count self.old }
     {
         self.halves.truncate(count);
-        self.marks.close_to(count);
         self.news.close_to(count);
     }
 
@@ -263,7 +243,6 @@ impl RecvLanes {
             return Err(NoMemory);
         }
         let is = measure(half);
-        self.marks.set(index, is_busy(half, self.first));
         self.news.look(index, half);
         self.tally = moved(self.tally, was, is);
         if stopped {
@@ -285,7 +264,6 @@ impl RecvLanes {
         let was = measure(half);
         half.take_reset(code, size);
         let is = measure(half);
-        self.marks.set(index, is_busy(half, self.first));
         self.news.look(index, half);
         self.tally = moved(self.tally, was, is);
     }
@@ -303,7 +281,6 @@ impl RecvLanes {
         let was = measure(half);
         let answer = half.read(into);
         let is = measure(half);
-        self.marks.set(index, is_busy(half, self.first));
         self.news.look(index, half);
         self.tally = moved(self.tally, was, is);
         self.touched = touch(self.touched, index);
@@ -322,7 +299,6 @@ impl RecvLanes {
         let was = measure(half);
         half.stop(code);
         let is = measure(half);
-        self.marks.set(index, true);
         self.news.look(index, half);
         self.tally = moved(self.tally, was, is);
         self.touched = touch(self.touched, index);
@@ -378,28 +354,16 @@ impl RecvLanes {
         }
     }
 
-    /// Each limit becomes the next one. Only lanes that were touched are looked at.
-    pub(crate) fn raise_all(&mut self)
-        ensures { self.new ≡ map raise self.old }
+    /// Each limit becomes the next one, and a stream whose limit rises is marked. Only lanes that were touched are looked at; `kind` is
+    /// the type of their streams.
+    pub(crate) fn raise_all(&mut self, kind: usize, untold: &mut Untold)
+        requires { kind < 4 }
+        ensures after { self.new ≡ map raise self.old }
+        ensures marks { HasMore untold.old untold.new }
+        ensures marked { AreRaisedMarked kind self.old untold.new }
     {
-        raise_touched(&mut self.halves, &mut self.marks, self.first, self.touched);
+        raise_touched(&mut self.halves, self.touched, kind, untold);
         self.touched = Touched::Nothing;
-    }
-
-    /// The least index from one on whose lane may have a stop or a limit above `window` to tell.
-    pub(crate) fn next_marked(&self, from: usize, window: u64) -> Option<usize>
-        ensures from { IfSome result (λ n. from ≤ n) }
-        ensures small { IfSome result (λ n. n < 2 ^ 60) }
-        ensures quiet { (i : ℕ) (l : RecvLane) → from ≤ i → IsBefore i result → slice_get self.now i ≡ Some l → IsQuietLane window l }
-    {
-        if from >= self.halves.len() {
-            return None;
-        }
-        if window < self.first {
-            // Some lanes began with more, so each of them may have a limit to tell.
-            return self.next_open(from);
-        }
-        self.marks.next(from)
     }
 
     /// The least index from one on whose lane has an answer for its owner.
@@ -415,31 +379,6 @@ impl RecvLanes {
             next = index + 1;
         }
         None
-    }
-
-    // An index from one on, where a lane is open there.
-    fn next_open(&self, from: usize) -> Option<usize>
-        ensures from { IfSome result (λ n. from ≤ n) }
-        ensures small { IfSome result (λ n. n < 2 ^ 60) }
-        ensures none { (i : ℕ) → from ≤ i → IsBefore i result → slice_get self.now i ≡ None }
-    {
-        if from < self.halves.len() {
-            return Some(from);
-        }
-        None
-    }
-}
-
-// Whether a lane has a stop to tell, or a limit above the window that lanes began with.
-fn is_busy(half: &Half, first: u64) -> bool
-    ensures { result ≡ false → IsQuietLane first half.now }
-{
-    if first < half.limit() && half.final_size().is_none() {
-        return true;
-    }
-    match half.state() {
-        RecvState::Recv | RecvState::SizeKnown => half.stop_code().is_some(),
-        _ => false,
     }
 }
 
@@ -498,47 +437,59 @@ fn touch(touched: Touched, index: usize) -> Touched
     }
 }
 
-fn raise_touched(halves: &mut Vec<Half>, marks: &mut Marks, first: u64, touched: Touched)
+fn raise_touched(halves: &mut Vec<Half>, touched: Touched, kind: usize, untold: &mut Untold)
+    requires kind { kind < 4 }
+    requires few { length halves.old.items ≤ 2 ^ 60 }
     requires settled { AreSettled touched halves.old.items }
-    requires marked { AreMarked (IsQuietLane first) halves.old.items marks.old }
     ensures after { halves.new.items ≡ map raise halves.old.items }
-    ensures marked { AreMarked (IsQuietLane first) halves.new.items marks.new }
+    ensures marks { HasMore untold.old untold.new }
+    ensures marked { AreRaisedMarked kind halves.old.items untold.new }
 {
     match touched {
         Touched::Nothing => {}
-        Touched::Lane(index) => raise_one(halves, marks, first, index),
-        Touched::Several => raise_each(halves, marks, first),
+        Touched::Lane(index) => raise_one(halves, index, kind, untold),
+        Touched::Several => raise_each(halves, kind, untold),
     }
 }
 
-fn raise_one(halves: &mut Vec<Half>, marks: &mut Marks, first: u64, index: usize)
-    requires { AreMarked (IsQuietLane first) halves.old.items marks.old }
+#[tactic(auto, using(crate::proofs::Untolds::has_same, crate::proofs::LaneMarks::raised_past))]
+fn raise_one(halves: &mut Vec<Half>, index: usize, kind: usize, untold: &mut Untold)
+    requires kind { kind < 4 }
+    requires few { length halves.old.items ≤ 2 ^ 60 }
     ensures after { halves.new.items ≡ changed halves.old.items index raise (slice_get halves.old.items index) }
-    ensures marked { AreMarked (IsQuietLane first) halves.new.items marks.new }
+    ensures marks { HasMore untold.old untold.new }
+    ensures marked { IsRaisedMarked kind halves.old.items untold.new index }
 {
     if index < halves.len() {
-        raise_at(halves, marks, first, index);
+        raise_at(halves, index, kind, untold);
     }
 }
 
-fn raise_each(halves: &mut Vec<Half>, marks: &mut Marks, first: u64)
-    requires { AreMarked (IsQuietLane first) halves.old.items marks.old }
+fn raise_each(halves: &mut Vec<Half>, kind: usize, untold: &mut Untold)
+    requires kind { kind < 4 }
+    requires few { length halves.old.items ≤ 2 ^ 60 }
     ensures after { halves.new.items ≡ map raise halves.old.items }
-    ensures marked { AreMarked (IsQuietLane first) halves.new.items marks.new }
+    ensures marks { HasMore untold.old untold.new }
+    ensures marked { AreRaisedMarked kind halves.old.items untold.new }
 {
     for index in 0..halves.len() {
-        raise_at(halves, marks, first, index);
+        raise_at(halves, index, kind, untold);
     }
 }
 
-fn raise_at(halves: &mut Vec<Half>, marks: &mut Marks, first: u64, index: usize)
+#[tactic(auto, using(crate::proofs::Untolds::has_same, crate::proofs::Untolds::has_marked, crate::proofs::LaneMarks::raised_none, crate::proofs::LaneMarks::raised_some, crate::proofs::LaneEdits::changed_at))]
+fn raise_at(halves: &mut Vec<Half>, index: usize, kind: usize, untold: &mut Untold)
     requires there { index < length halves.old.items }
-    requires marked { AreMarked (IsQuietLane first) halves.old.items marks.old }
+    requires kind { kind < 4 }
+    requires few { length halves.old.items ≤ 2 ^ 60 }
     ensures after { halves.new.items ≡ changed halves.old.items index raise (slice_get halves.old.items index) }
     ensures len { length halves.new.items ≡ length halves.old.items }
-    ensures marked { AreMarked (IsQuietLane first) halves.new.items marks.new }
+    ensures marks { HasMore untold.old untold.new }
+    ensures marked { IsRaisedMarked kind halves.old.items untold.new index }
 {
     let half = &mut halves[index];
-    let _ = half.raise();
-    marks.set(index, is_busy(half, first));
+    if let Some(_limit) = half.raise() {
+        let stream = StreamId::new((index * 4 + kind) as u64).unwrap();
+        untold.set(stream, true);
+    }
 }

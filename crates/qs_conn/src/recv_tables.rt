@@ -1,7 +1,7 @@
 //! The receiving halves of an end.
-ghost use Rattle.std.specs.Prelude.{◌≡◌, ◌+◌, ◌≤◌, ◌<◌, ◌^◌, ◌++◌, ℕ, length, drop, take, is_some, option_map, true, OnOk, OnErr, IsOk, IfOk, IfSome};
+ghost use Rattle.std.specs.Prelude.{◌≡◌, ◌+◌, ◌≤◌, ◌<◌, ◌^◌, ◌++◌, ℕ, length, drop, take, is_some, option_map, true, false, Some, OnOk, OnErr, IsOk, IfOk, IfSome};
 ghost use Rattle.qs_ranges.specs.Numbers.{MAX_VARINT};
-ghost use Rattle.qs_recv.specs.Lane.{new_lane, check_stream, check_reset, check_bytes, highest, taken, take_stream, take_reset, read_answer, bytes_read, after_read, raise, stop};
+ghost use Rattle.qs_recv.specs.Lane.{RecvLane, new_lane, check_stream, check_reset, check_bytes, highest, taken, take_stream, take_reset, read_answer, bytes_read, after_read, raise, stop};
 ghost use Rattle.qs_machine.specs.Tables.{no_streams, table, with_table, lookup, updated, open_to, each, total, kind_of};
 ghost use Rattle.qs_machine.specs.Memory.{HasNews};
 ghost use Rattle.qs_machine.specs.Reports.{recv_report};
@@ -11,13 +11,15 @@ ghost use Rattle.qs_conn.specs.Ended.{recv_over};
 ghost use Rattle.qs_conn.specs.Held.{most_held};
 ghost use Rattle.qs_conn.specs.Layers.{limit_to_tell, stop_to_tell};
 ghost use Rattle.qs_machine.specs.News.{IsLeast, IsHeld};
-ghost use Rattle.qs_conn.specs.Marks.{HaveTo, IsHeldOf, IsQuietLane};
+ghost use Rattle.qs_conn.specs.Marks.{IsHeldOf};
+ghost use Rattle.qs_conn.specs.Untold.{HasMore};
 ghost use Rattle.qs_conn.specs.RecvTasks.{HasOne};
 
 use crate::marks::least;
 use crate::places::{index_of, kind_of};
 use crate::recv_lanes::RecvLanes;
 use crate::recv_marks::RecvTask;
+use crate::untold::Untold;
 use qs_calls::RecvReport;
 use qs_machine::Tally;
 use qs_ranges::NoMemory;
@@ -269,19 +271,6 @@ impl RecvTables {
         lanes.stop_to_tell(index_of(stream))
     }
 
-    /// The least number from one on of a stream of a type that may have a stop or a limit above `window` to tell.
-    pub(crate) fn next_of(&self, kind: usize, window: u64, from: u64) -> Option<u64>
-        requires kind { kind < 4 }
-        requires from { from ≤ 2 ^ 62 }
-        ensures found { IfSome result (λ n. (from ≤ n) × (n < 2 ^ 62)) }
-        ensures quiet { HaveTo (IsQuietLane window) self.now from result kind }
-    {
-        let lanes = &self.types[kind];
-        let first = (from + 3 - kind as u64) / 4;
-        let index = lanes.next_marked(first as usize, window)?;
-        Some((index * 4 + kind) as u64)
-    }
-
     /// The least number from one on of a stream whose receiving half has an answer for its owner.
     pub(crate) fn next_with(&self, task: RecvTask, from: u64) -> Option<StreamId>
         requires { from ≤ 2 ^ 62 }
@@ -341,14 +330,16 @@ impl RecvTables {
         bidi.saturating_add(uni)
     }
 
-    /// Each limit becomes the next one.
-    pub(crate) fn raise_all(&mut self)
-        ensures { self.new ≡ each raise self.old }
+    /// Each limit becomes the next one, and a stream whose limit rises is marked.
+    pub(crate) fn raise_all(&mut self, untold: &mut Untold)
+        ensures after { self.new ≡ each raise self.old }
+        ensures marks { HasMore untold.old untold.new }
+        ensures marked { (n : ℕ) (l : RecvLane) → lookup self.old n ≡ Some l → lookup untold.new n ≡ Some false → raise l ≡ l }
     {
-        self.types[0].raise_all();
-        self.types[1].raise_all();
-        self.types[2].raise_all();
-        self.types[3].raise_all();
+        self.types[0].raise_all(0, untold);
+        self.types[1].raise_all(1, untold);
+        self.types[2].raise_all(2, untold);
+        self.types[3].raise_all(3, untold);
     }
 }
 

@@ -147,7 +147,7 @@ impl SendLanes {
     {
         let half = &mut self.halves[index];
         let answer = half.write(bytes);
-        self.marks.look(index, half);
+        self.marks.look_written(index, half);
         answer
     }
 
@@ -227,7 +227,7 @@ impl SendLanes {
     {
         let half = &mut self.halves[index];
         half.sent(chunk);
-        self.marks.look(index, half);
+        self.marks.look_sent(index, half);
     }
 
     /// Takes in that a chunk is acknowledged, or changes nothing.
@@ -240,7 +240,7 @@ impl SendLanes {
     {
         let half = &mut self.halves[index];
         let answer = half.acked(chunk);
-        self.marks.look(index, half);
+        self.marks.look_acked(index, half);
         answer
     }
 

@@ -2,7 +2,7 @@
 ghost use Rattle.std.specs.Prelude.{◌≡◌, ◌++◌, ◌-◌, ◌<◌, [], true, false, length, take, replicate, OnOk, OnErr};
 ghost use Rattle.qs_machine.specs.Credit.{send_ended};
 ghost use Rattle.qs_conn.specs.Marks.{IsNextMark};
-ghost use Rattle.qs_conn.specs.Tasks.{IsQuiet, IsLooked, HasTask, begins, marks_of};
+ghost use Rattle.qs_conn.specs.Tasks.{IsQuiet, IsLooked, IsStill, HasTask, begins, marks_of};
 ghost use Rattle.qs_conn.specs.declared.send_marks.Task.TheVariants as tasks;
 
 use crate::marks::Marks;
@@ -111,6 +111,42 @@ impl SendMarks {
         self.bytes.set(index, may_send(half));
         self.resets.set(index, may_reset(half));
         self.blocks.set(index, may_be_blocked(half));
+        self.writable.set(index, half.is_writable());
+        self.ended.set(index, has_ended(half));
+    }
+
+    /// Looks again at a half that was given bytes: that moves neither its reset nor its end.
+    pub(crate) fn look_written(&mut self, index: usize, half: &SendHalf)
+        requires there { (t : Task) → index < length (marks_of self.old t) }
+        requires reset { IsStill tasks.Reset index half.now self.old }
+        requires end { IsStill tasks.Ended index half.now self.old }
+        ensures { (t : Task) → IsLooked t index half.now (marks_of self.old t) (marks_of self.new t) }
+    {
+        self.bytes.set(index, may_send(half));
+        self.blocks.set(index, may_be_blocked(half));
+        self.writable.set(index, half.is_writable());
+    }
+
+    /// Looks again at a half of which a chunk was sent: that moves neither its reset nor its room nor its end.
+    pub(crate) fn look_sent(&mut self, index: usize, half: &SendHalf)
+        requires there { (t : Task) → index < length (marks_of self.old t) }
+        requires reset { IsStill tasks.Reset index half.now self.old }
+        requires room { IsStill tasks.Writable index half.now self.old }
+        requires end { IsStill tasks.Ended index half.now self.old }
+        ensures { (t : Task) → IsLooked t index half.now (marks_of self.old t) (marks_of self.new t) }
+    {
+        self.bytes.set(index, may_send(half));
+        self.blocks.set(index, may_be_blocked(half));
+    }
+
+    /// Looks again at a half of which a chunk was acknowledged: that moves neither its reset nor what its limit holds back.
+    pub(crate) fn look_acked(&mut self, index: usize, half: &SendHalf)
+        requires there { (t : Task) → index < length (marks_of self.old t) }
+        requires reset { IsStill tasks.Reset index half.now self.old }
+        requires block { IsStill tasks.Blocked index half.now self.old }
+        ensures { (t : Task) → IsLooked t index half.now (marks_of self.old t) (marks_of self.new t) }
+    {
+        self.bytes.set(index, may_send(half));
         self.writable.set(index, half.is_writable());
         self.ended.set(index, has_ended(half));
     }

@@ -7,6 +7,7 @@ ghost use Rattle.qs_machine.specs.Ends.{End};
 ghost use Rattle.qs_machine.specs.Due.{IsDueItem, StreamGoes};
 ghost use Rattle.qs_machine.specs.Outgoing.{sent_sum};
 ghost use Rattle.qs_conn.specs.Filling.{end_by, TermsFit, Passed, no_slot, and_slot, and_kind, all_items};
+ghost use Rattle.qs_conn.specs.Untold.{IsTold};
 ghost use Rattle.qs_conn.specs.Sending.{TellsDue, TellsGoing, TellsAnyGoing, TellsFrame};
 
 use crate::filling::{is_covered, next_of_kind};
@@ -15,6 +16,7 @@ use crate::recv_tables::RecvTables;
 use crate::send_marks::Task;
 use crate::slot::{Kind, Slot};
 use crate::terms::Terms;
+use crate::untold::Untold;
 use qs_wire::{Dir, StreamId};
 
 // The item of a slot is due, or one was found before.
@@ -32,13 +34,20 @@ fn has_slot(terms: &Terms, recvs: &RecvTables, outbox: &Outbox, slot: Slot, is_f
 }
 
 // An item of a kind is due, or one was found before.
-fn has_kind(terms: &Terms, recvs: &RecvTables, outbox: &Outbox, kind: Kind, is_found: bool) -> bool
+fn has_kind(
+    terms: &Terms,
+    recvs: &RecvTables,
+    untold: &Untold,
+    outbox: &Outbox,
+    kind: Kind,
+    is_found: bool,
+) -> bool
     requires { TermsFit terms.now }
-    ensures { (e : End) (passed : Passed) → TellsDue is_found (end_by terms.now recvs.now outbox.now e) passed → TellsDue result (end_by terms.now recvs.now outbox.now e) (and_kind passed kind) }
+    ensures { (e : End) (passed : Passed) → IsTold (end_by terms.now recvs.now outbox.now e) untold.now → TellsDue is_found (end_by terms.now recvs.now outbox.now e) passed → TellsDue result (end_by terms.now recvs.now outbox.now e) (and_kind passed kind) }
 {
     let mut is_found = is_found;
     let mut from = 0;
-    while let Some(stream) = next_of_kind(terms, recvs, outbox, kind, from) {
+    while let Some(stream) = next_of_kind(outbox, untold, kind, from) {
         is_found = has_slot(terms, recvs, outbox, kind.at(stream), is_found);
         if is_found {
             return true;
@@ -49,18 +58,18 @@ fn has_kind(terms: &Terms, recvs: &RecvTables, outbox: &Outbox, kind: Kind, is_f
 }
 
 // A control item is due.
-fn has_item(terms: &Terms, recvs: &RecvTables, outbox: &Outbox) -> bool
+fn has_item(terms: &Terms, recvs: &RecvTables, untold: &Untold, outbox: &Outbox) -> bool
     requires { TermsFit terms.now }
-    ensures { (e : End) → TellsDue result (end_by terms.now recvs.now outbox.now e) all_items }
+    ensures { (e : End) → IsTold (end_by terms.now recvs.now outbox.now e) untold.now → TellsDue result (end_by terms.now recvs.now outbox.now e) all_items }
 {
     let found = has_slot(terms, recvs, outbox, Slot::MaxData, false);
     let found = has_slot(terms, recvs, outbox, Slot::MaxStreams(Dir::Bidi), found);
     let found = has_slot(terms, recvs, outbox, Slot::MaxStreams(Dir::Uni), found);
-    let found = has_kind(terms, recvs, outbox, Kind::ResetStream, found);
-    let found = has_kind(terms, recvs, outbox, Kind::StopSending, found);
-    let found = has_kind(terms, recvs, outbox, Kind::MaxStreamData, found);
+    let found = has_kind(terms, recvs, untold, outbox, Kind::ResetStream, found);
+    let found = has_kind(terms, recvs, untold, outbox, Kind::StopSending, found);
+    let found = has_kind(terms, recvs, untold, outbox, Kind::MaxStreamData, found);
     let found = has_slot(terms, recvs, outbox, Slot::DataBlocked, found);
-    let found = has_kind(terms, recvs, outbox, Kind::StreamDataBlocked, found);
+    let found = has_kind(terms, recvs, untold, outbox, Kind::StreamDataBlocked, found);
     let found = has_slot(terms, recvs, outbox, Slot::StreamsBlocked(Dir::Bidi), found);
     has_slot(terms, recvs, outbox, Slot::StreamsBlocked(Dir::Uni), found)
 }
@@ -95,12 +104,12 @@ fn has_stream(terms: &Terms, outbox: &Outbox) -> bool
 }
 
 /// Whether a control item is due, or bytes of a stream or its end may go (RFC 9000, sections 3.1, 3.3 and 4.1).
-pub(crate) fn has_frame(terms: &Terms, recvs: &RecvTables, outbox: &Outbox) -> bool
+pub(crate) fn has_frame(terms: &Terms, recvs: &RecvTables, untold: &Untold, outbox: &Outbox) -> bool
     requires terms { TermsFit terms.now }
     requires credit { sent_sum outbox.now.sends ≤ terms.now.known_data }
-    ensures { (e : End) → TellsFrame result (end_by terms.now recvs.now outbox.now e) }
+    ensures { (e : End) → IsTold (end_by terms.now recvs.now outbox.now e) untold.now → TellsFrame result (end_by terms.now recvs.now outbox.now e) }
 {
-    if has_item(terms, recvs, outbox) {
+    if has_item(terms, recvs, untold, outbox) {
         return true;
     }
     has_stream(terms, outbox)

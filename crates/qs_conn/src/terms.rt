@@ -1,16 +1,14 @@
 //! Which control items an end has to tell.
-ghost use Rattle.std.specs.Prelude.{◌≡◌, ◌≤◌, ◌<◌, ◌↔◌, ◌^◌, IsTrue, ℕ, Some, IfSome};
+ghost use Rattle.std.specs.Prelude.{◌≡◌, ◌≤◌, ◌<◌, ◌↔◌, ◌^◌, IsTrue, ℕ, true, None, Some, IfSome};
 ghost use Rattle.qs_recv.specs.Lane.{RecvLane};
 ghost use Rattle.qs_conn.specs.declared.slot.Slot.TheVariants as slots;
 ghost use Rattle.qs_machine.specs.Tables.{Tables, lookup};
 ghost use Rattle.qs_machine.specs.Ends.{End, window_by};
 ghost use Rattle.qs_conn.specs.declared.terms.Terms.{Terms};
 ghost use Rattle.qs_machine.specs.Outgoing.{Outgoing};
-ghost use Rattle.qs_conn.specs.Marks.{HaveTo, IsBefore, IsQuietLane};
 ghost use Rattle.qs_conn.specs.Filling.{end_by, IsCurrentIn, ItemFits, TermsFit, AnyWantsMore};
 
 use crate::endpoint::{is_uni, role_bit};
-use crate::marks::least;
 use crate::outbox::Outbox;
 use crate::places::kind_of;
 use crate::recv_tables::RecvTables;
@@ -51,6 +49,20 @@ impl Terms {
             Slot::DataBlocked => self.data_blocked(outbox),
             Slot::StreamDataBlocked(stream) => stream_data_blocked(outbox, stream),
             Slot::StreamsBlocked(dir) => self.streams_blocked(dir),
+        }
+    }
+
+    /// Whether a look at few numbers tells that a slot of the connection has no item.
+    pub(crate) fn has_none(&self, outbox: &Outbox, slot: &Slot) -> bool
+        requires { TermsFit self.now }
+        ensures { result ≡ true → (recvs : Tables RecvLane) (e : End) → IsCurrentIn (end_by self.now recvs outbox.now e) slot.now None }
+    {
+        match *slot {
+            Slot::MaxData => self.max_data().is_none(),
+            Slot::MaxStreams(dir) => self.max_streams(dir).is_none(),
+            Slot::DataBlocked => outbox.sent_sum() < self.known_data,
+            Slot::StreamsBlocked(dir) => self.streams_blocked(dir).is_none(),
+            _ => false,
         }
     }
 
@@ -110,28 +122,6 @@ impl Terms {
         } else {
             self.settings.bidi_remote
         }
-    }
-
-    /// The least number from one on of a stream that may have a stop or a raised limit to tell.
-    pub(crate) fn next_receiving(&self, recvs: &RecvTables, from: u64) -> Option<StreamId>
-        requires { from ≤ 2 ^ 62 }
-        ensures from { IfSome result (λ n. from ≤ n) }
-        ensures quiet { (n : ℕ) (l : RecvLane) → from ≤ n → IsBefore n result → lookup recvs.now n ≡ Some l → IsQuietLane (window_by self.now.role self.now.settings n) l }
-    {
-        let bidi = least(self.next_of(recvs, 0, from), self.next_of(recvs, 1, from));
-        let uni = least(self.next_of(recvs, 2, from), self.next_of(recvs, 3, from));
-        StreamId::new(least(bidi, uni)?)
-    }
-
-    // The least such number among the streams of a type.
-    fn next_of(&self, recvs: &RecvTables, kind: usize, from: u64) -> Option<u64>
-        requires kind { kind < 4 }
-        requires from { from ≤ 2 ^ 62 }
-        ensures found { IfSome result (λ n. (from ≤ n) × (n < 2 ^ 62)) }
-        ensures quiet { HaveTo (IsQuietLane (window_by self.now.role self.now.settings kind)) recvs.now from result kind }
-    {
-        let any_of_the_type = StreamId::new(kind as u64).unwrap();
-        recvs.next_of(kind, self.window(any_of_the_type), from)
     }
 
     // The connection's limit, where it holds bytes of a stream back.

@@ -6,11 +6,13 @@ ghost use Rattle.qs_wire.specs.Layout.{ack_ranges_of};
 ghost use Rattle.qs_machine.specs.Memory.{PieceMayRunOut};
 ghost use Rattle.qs_machine.specs.Outgoing.{IsIdle, first_piece, first_acked_out, acked_at};
 ghost use Rattle.qs_conn.specs.Ended.{AreAllCounted, half_of};
+ghost use Rattle.qs_conn.specs.Untold.{StayTold};
 ghost use Rattle.qs_conn.specs.Runs.{AcksAhead, AcksNamed, AcksPacket, AcksRanges};
 
 use crate::ended::{EndedStreams, is_over};
 use crate::outbox::Outbox;
 use crate::recv_tables::RecvTables;
+use crate::untold::Untold;
 use qs_ranges::NoMemory;
 use qs_send::{AckPass, Item, LostPass, Piece};
 use qs_wire::{AckRanges, Role, StreamId};
@@ -22,6 +24,7 @@ pub(super) fn ack_ranges(
     role: Role,
     recvs: &RecvTables,
     ended: &mut EndedStreams,
+    untold: &mut Untold,
     largest: u64,
     ranges: &[u8],
 ) -> Result<(), NoMemory>
@@ -30,10 +33,25 @@ pub(super) fn ack_ranges(
     requires small { largest < 2 ^ 62 }
     ensures idle { IsIdle outbox.new }
     ensures counted { AreAllCounted role recvs.now outbox.new.sends ended.new }
+    ensures told { StayTold outbox.old untold.old outbox.new untold.new }
     ensures step { AcksRanges (ack_ranges_of largest (numbers_of ranges.now)) outbox.old result outbox.new }
 {
-    ack_outstanding(outbox, role, recvs, ended, AckRanges::new(largest, ranges))?;
-    ack_lost(outbox, role, recvs, ended, AckRanges::new(largest, ranges))
+    ack_outstanding(
+        outbox,
+        role,
+        recvs,
+        ended,
+        untold,
+        AckRanges::new(largest, ranges),
+    )?;
+    ack_lost(
+        outbox,
+        role,
+        recvs,
+        ended,
+        untold,
+        AckRanges::new(largest, ranges),
+    )
 }
 
 // The outstanding packets that the ranges name are acknowledged, in one pass.
@@ -43,16 +61,18 @@ fn ack_outstanding(
     role: Role,
     recvs: &RecvTables,
     ended: &mut EndedStreams,
+    untold: &mut Untold,
     ranges: AckRanges<'_>,
 ) -> Result<(), NoMemory>
     requires idle { IsIdle outbox.old }
     requires counted { AreAllCounted role recvs.now outbox.old.sends ended.old }
     ensures idle { IsIdle outbox.new }
     ensures counted { AreAllCounted role recvs.now outbox.new.sends ended.new }
+    ensures told { StayTold outbox.old untold.old outbox.new untold.new }
     ensures step { AcksNamed false ranges.entry outbox.old result outbox.new }
 {
     let mut pass = AckPass::new(ranges);
-    let result = ack_named(outbox, role, recvs, ended, &mut pass);
+    let result = ack_named(outbox, role, recvs, ended, untold, &mut pass);
     outbox.trim();
     result
 }
@@ -64,106 +84,120 @@ fn ack_lost(
     role: Role,
     recvs: &RecvTables,
     ended: &mut EndedStreams,
+    untold: &mut Untold,
     ranges: AckRanges<'_>,
 ) -> Result<(), NoMemory>
     requires idle { IsIdle outbox.old }
     requires counted { AreAllCounted role recvs.now outbox.old.sends ended.old }
     ensures idle { IsIdle outbox.new }
     ensures counted { AreAllCounted role recvs.now outbox.new.sends ended.new }
+    ensures told { StayTold outbox.old untold.old outbox.new untold.new }
     ensures step { AcksNamed true ranges.entry outbox.old result outbox.new }
 {
     let mut pass = LostPass::new(ranges);
-    ack_late(outbox, role, recvs, ended, &mut pass)
+    ack_late(outbox, role, recvs, ended, untold, &mut pass)
 }
 
 // The outstanding packets that a pass has ahead are acknowledged.
+#[tactic(auto, using(crate::proofs::Untolds::stay_same))]
 fn ack_named(
     outbox: &mut Outbox,
     role: Role,
     recvs: &RecvTables,
     ended: &mut EndedStreams,
+    untold: &mut Untold,
     pass: &mut AckPass<'_>,
 ) -> Result<(), NoMemory>
     requires idle { IsIdle outbox.old }
     requires counted { AreAllCounted role recvs.now outbox.old.sends ended.old }
     ensures idle { IsIdle outbox.new }
     ensures counted { AreAllCounted role recvs.now outbox.new.sends ended.new }
+    ensures told { StayTold outbox.old untold.old outbox.new untold.new }
     ensures step { AcksAhead false pass.old outbox.old result outbox.new }
 {
     while let Some(number) = outbox.next_named(pass) {
-        ack_packet(outbox, role, recvs, ended, number)?;
+        ack_packet(outbox, role, recvs, ended, untold, number)?;
     }
     Ok(())
 }
 
 // The lost packets that a pass has ahead are acknowledged.
+#[tactic(auto, using(crate::proofs::Untolds::stay_same))]
 fn ack_late(
     outbox: &mut Outbox,
     role: Role,
     recvs: &RecvTables,
     ended: &mut EndedStreams,
+    untold: &mut Untold,
     pass: &mut LostPass<'_>,
 ) -> Result<(), NoMemory>
     requires idle { IsIdle outbox.old }
     requires counted { AreAllCounted role recvs.now outbox.old.sends ended.old }
     ensures idle { IsIdle outbox.new }
     ensures counted { AreAllCounted role recvs.now outbox.new.sends ended.new }
+    ensures told { StayTold outbox.old untold.old outbox.new untold.new }
     ensures step { AcksAhead true pass.old outbox.old result outbox.new }
 {
     while let Some(number) = outbox.next_lost(pass) {
-        ack_lost_packet(outbox, role, recvs, ended, number)?;
+        ack_lost_packet(outbox, role, recvs, ended, untold, number)?;
     }
     Ok(())
 }
 
 // The pieces of an outstanding packet are acknowledged, from the first on.
-#[tactic(auto, using(crate::proofs::AckRuns::packet_end, crate::proofs::AckRuns::packet_stop, crate::proofs::AckRuns::packet_more, crate::proofs::AckRuns::packet_less))]
+#[tactic(auto, using(crate::proofs::AckRuns::packet_end, crate::proofs::AckRuns::packet_stop, crate::proofs::AckRuns::packet_more, crate::proofs::AckRuns::packet_less, crate::proofs::Untolds::stay_twice, crate::proofs::Untolds::stay_same))]
 fn ack_packet(
     outbox: &mut Outbox,
     role: Role,
     recvs: &RecvTables,
     ended: &mut EndedStreams,
+    untold: &mut Untold,
     number: u64,
 ) -> Result<(), NoMemory>
     requires idle { IsIdle outbox.old }
     requires counted { AreAllCounted role recvs.now outbox.old.sends ended.old }
     ensures idle { IsIdle outbox.new }
     ensures counted { AreAllCounted role recvs.now outbox.new.sends ended.new }
+    ensures told { StayTold outbox.old untold.old outbox.new untold.new }
     ensures step { AcksPacket false number outbox.old result outbox.new }
 {
     while let Some(piece) = outbox.first(number) {
-        ack_piece(outbox, role, recvs, ended, number, piece)?;
+        ack_piece(outbox, role, recvs, ended, untold, number, piece)?;
     }
     Ok(())
 }
 
 // The pieces of a lost packet are acknowledged, from the first on.
-#[tactic(auto, using(crate::proofs::AckRuns::late_end, crate::proofs::AckRuns::late_stop, crate::proofs::AckRuns::late_more, crate::proofs::AckRuns::late_less))]
+#[tactic(auto, using(crate::proofs::AckRuns::late_end, crate::proofs::AckRuns::late_stop, crate::proofs::AckRuns::late_more, crate::proofs::AckRuns::late_less, crate::proofs::Untolds::stay_twice, crate::proofs::Untolds::stay_same))]
 fn ack_lost_packet(
     outbox: &mut Outbox,
     role: Role,
     recvs: &RecvTables,
     ended: &mut EndedStreams,
+    untold: &mut Untold,
     number: u64,
 ) -> Result<(), NoMemory>
     requires idle { IsIdle outbox.old }
     requires counted { AreAllCounted role recvs.now outbox.old.sends ended.old }
     ensures idle { IsIdle outbox.new }
     ensures counted { AreAllCounted role recvs.now outbox.new.sends ended.new }
+    ensures told { StayTold outbox.old untold.old outbox.new untold.new }
     ensures step { AcksPacket true number outbox.old result outbox.new }
 {
     while let Some(piece) = outbox.first_lost(number) {
-        ack_lost_piece(outbox, role, recvs, ended, number, piece)?;
+        ack_lost_piece(outbox, role, recvs, ended, untold, number, piece)?;
     }
     Ok(())
 }
 
 // The first piece of an outstanding packet is acknowledged, or nothing changes.
+#[tactic(auto, using(crate::proofs::Untolds::marks_stay))]
 fn ack_piece(
     outbox: &mut Outbox,
     role: Role,
     recvs: &RecvTables,
     ended: &mut EndedStreams,
+    untold: &mut Untold,
     number: u64,
     piece: Piece,
 ) -> Result<(), NoMemory>
@@ -175,7 +209,9 @@ fn ack_piece(
     ensures asks { OnErr result (PieceMayRunOut outbox.old.sends outbox.old.acked piece) }
     ensures idle { IsIdle outbox.new }
     ensures counted { AreAllCounted role recvs.now outbox.new.sends ended.new }
+    ensures told { StayTold outbox.old untold.old outbox.new untold.new }
 {
+    untold.look_again(&piece);
     let Some(stream) = half_of(&piece) else {
         return outbox.ack_first(number, piece);
     };
@@ -186,11 +222,13 @@ fn ack_piece(
 }
 
 // The first piece of a lost packet is acknowledged, late, or nothing changes.
+#[tactic(auto, using(crate::proofs::Untolds::marks_stay))]
 fn ack_lost_piece(
     outbox: &mut Outbox,
     role: Role,
     recvs: &RecvTables,
     ended: &mut EndedStreams,
+    untold: &mut Untold,
     number: u64,
     piece: Piece,
 ) -> Result<(), NoMemory>
@@ -202,7 +240,9 @@ fn ack_lost_piece(
     ensures asks { OnErr result (PieceMayRunOut outbox.old.sends outbox.old.acked piece) }
     ensures idle { IsIdle outbox.new }
     ensures counted { AreAllCounted role recvs.now outbox.new.sends ended.new }
+    ensures told { StayTold outbox.old untold.old outbox.new untold.new }
 {
+    untold.look_again(&piece);
     let Some(stream) = half_of(&piece) else {
         return outbox.ack_lost_first(number, piece);
     };

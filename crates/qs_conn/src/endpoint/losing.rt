@@ -2,10 +2,12 @@
 ghost use Rattle.std.specs.Prelude.{◌≡◌};
 ghost use Rattle.qs_machine.specs.Making.{LoseStep, lose_refusal};
 ghost use Rattle.qs_machine.specs.Outgoing.{IsIdle, NoneEmpty};
+ghost use Rattle.qs_conn.specs.Untold.{StayTold};
 ghost use Rattle.qs_conn.specs.Runs.{Loses};
 
 use super::Endpoint;
 use crate::outbox::Outbox;
+use crate::untold::Untold;
 use qs_calls::LostFault;
 use qs_ranges::NoMemory;
 
@@ -23,7 +25,7 @@ impl Endpoint {
             return Err(fault);
         }
         self.outbox.none_is_empty();
-        match lose_packet(&mut self.outbox, number) {
+        match lose_packet(&mut self.outbox, &mut self.untold, number) {
             Ok(()) => Ok(()),
             Err(_refused) => Err(LostFault::NoMemory),
         }
@@ -46,24 +48,27 @@ impl Endpoint {
 }
 
 // The pieces of a packet are lost, and the packet is outstanding no more.
-fn lose_packet(outbox: &mut Outbox, number: u64) -> Result<(), NoMemory>
+fn lose_packet(outbox: &mut Outbox, untold: &mut Untold, number: u64) -> Result<(), NoMemory>
     requires { IsIdle outbox.old }
     ensures idle { IsIdle outbox.new }
     ensures step { Loses number outbox.old result outbox.new }
+    ensures told { StayTold outbox.old untold.old outbox.new untold.new }
 {
-    let result = lose_pieces(outbox, number);
+    let result = lose_pieces(outbox, untold, number);
     outbox.trim();
     result
 }
 
 // The pieces of a packet are lost, from the first on.
-#[tactic(auto, using(crate::proofs::Runs::loses_end, crate::proofs::Runs::loses_stop, crate::proofs::Runs::loses_more, crate::proofs::Runs::loses_less))]
-fn lose_pieces(outbox: &mut Outbox, number: u64) -> Result<(), NoMemory>
+#[tactic(auto, using(crate::proofs::Runs::loses_end, crate::proofs::Runs::loses_stop, crate::proofs::Runs::loses_more, crate::proofs::Runs::loses_less, crate::proofs::Untolds::stay_same, crate::proofs::Untolds::lost_more, crate::proofs::Untolds::lost_stop))]
+fn lose_pieces(outbox: &mut Outbox, untold: &mut Untold, number: u64) -> Result<(), NoMemory>
     requires { IsIdle outbox.old }
     ensures idle { IsIdle outbox.new }
     ensures step { Loses number outbox.old result outbox.new }
+    ensures told { StayTold outbox.old untold.old outbox.new untold.new }
 {
     while let Some(piece) = outbox.first(number) {
+        untold.look_again(&piece);
         outbox.lose_first(number, piece)?;
     }
     Ok(())

@@ -8,6 +8,7 @@ use super::Endpoint;
 use crate::filling::{Wish, fill};
 use crate::sendable::has_frame;
 use crate::terms::Terms;
+use crate::unmarking::unmark_told;
 use qs_calls::{Made, MakeFault};
 use qs_wire::StreamId;
 
@@ -26,7 +27,7 @@ impl Endpoint {
         requires most { length out.old ≤ 16383 }
         ensures { MakeStep self.old 0 0 (length out.old) result (made_text result out.new) self.new }
     {
-        self.make(Wish { first: 0, delay: 0 }, out)
+        self.make(0, 0, out)
     }
 
     /// Makes the next packet, as `make_packet` does, but for two things: bytes go in from stream `first` on, lower streams first, and
@@ -43,19 +44,15 @@ impl Endpoint {
         requires most { length out.old ≤ 16383 }
         ensures { MakeStep self.old first delay (length out.old) result (made_text result out.new) self.new }
     {
-        let wish = Wish {
-            first: first.value(),
-            delay,
-        };
-        self.make(wish, out)
+        self.make(first.value(), delay, out)
     }
 
-    // Makes the next packet as it is wished.
-    fn make(&mut self, wish: Wish, out: &mut [u8]) -> Result<Option<Made>, MakeFault>
-        requires first { wish.first < 2 ^ 62 }
-        requires delay { wish.delay < 2 ^ 62 }
+    // Makes the next packet: bytes go in from stream `first` on, and an ACK tells the delay.
+    fn make(&mut self, first: u64, delay: u64, out: &mut [u8]) -> Result<Option<Made>, MakeFault>
+        requires first { first < 2 ^ 62 }
+        requires delay { delay < 2 ^ 62 }
         requires least { 128 ≤ length out.old }
-        ensures { MakeStep self.old wish.first wish.delay (length out.old) result (made_text result out.new) self.new }
+        ensures { MakeStep self.old first delay (length out.old) result (made_text result out.new) self.new }
     {
         if self.closed.is_some() {
             return Err(MakeFault::Closed);
@@ -68,15 +65,22 @@ impl Endpoint {
             return self.without_memory();
         }
         let terms = self.terms();
+        let wish = Wish {
+            first,
+            delay,
+            ack_due: self.ack_due,
+        };
+        let (recvs, untold) = (&self.recvs, &self.untold);
         let len = fill(
             &terms,
-            &self.recvs,
+            recvs,
+            untold,
             &self.done,
-            self.ack_due,
             &mut self.outbox,
             wish,
             out,
         );
+        unmark_told(&terms, &self.recvs, &self.outbox, &mut self.untold);
         if len == 0 {
             return Ok(None);
         }
@@ -110,7 +114,7 @@ impl Endpoint {
             return true;
         }
         let terms = self.terms();
-        has_frame(&terms, &self.recvs, &self.outbox)
+        has_frame(&terms, &self.recvs, &self.untold, &self.outbox)
     }
 
     // What is to be told beside what the streams have.

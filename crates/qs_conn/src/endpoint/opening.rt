@@ -4,16 +4,20 @@ ghost use Rattle.qs_ranges.specs.Numbers.{MAX_VARINT};
 ghost use Rattle.qs_recv.specs.Lane.{new_lane as new_recv_lane};
 ghost use Rattle.qs_send.specs.Lane.{new_lane as new_send_lane};
 ghost use Rattle.qs_machine.specs.Tables.{open_to};
-ghost use Rattle.qs_machine.specs.Ends.{opens, opened_by_peer};
+ghost use Rattle.qs_machine.specs.Ends.{opens, opened_by_peer, window_by};
+ghost use Rattle.qs_wire.specs.declared.stream_id.Role.{Role};
+ghost use Rattle.qs_calls.specs.declared.settings.Settings.{Settings};
+ghost use Rattle.qs_conn.specs.Untold.{AreTold};
 ghost use Rattle.qs_machine.specs.Credit.{settle};
 ghost use Rattle.qs_machine.specs.Due.{known_count};
 ghost use Rattle.qs_machine.specs.Memory.{IsYetToOpen};
-ghost use Rattle.qs_machine.specs.Outgoing.{with_sends};
+ghost use Rattle.qs_machine.specs.Outgoing.{Outgoing, with_sends};
 ghost use Rattle.qs_machine.specs.Owner.{OpenStep, AcceptStep, own_kind, peer_kind, opened_count, with_wanted};
 
 use super::{Endpoint, is_uni, role_bit};
 use crate::outbox::Outbox;
 use crate::recv_tables::RecvTables;
+use crate::untold::Untold;
 use qs_calls::OpenFault;
 use qs_ranges::NoMemory;
 use qs_wire::{Dir, StreamId};
@@ -119,7 +123,13 @@ impl Endpoint {
         let before = self.outbox.count(stream);
         self.outbox.are_of_open();
         open_sends(&mut self.outbox, both(uni, !own), limit, buffer, stream)?;
-        if let Err(refused) = open_recvs(&mut self.recvs, both(uni, own), window, stream) {
+        if let Err(refused) = open_recvs(
+            &mut self.recvs,
+            &mut self.untold,
+            both(uni, own),
+            window,
+            stream,
+        ) {
             self.outbox.close_to(stream, before);
             return Err(refused);
         }
@@ -132,7 +142,8 @@ impl Endpoint {
     {
         let (uni, own) = (is_uni(stream), self.is_own(stream));
         let (sends, receives) = (!both(uni, !own), !both(uni, own));
-        reserve_halves(&mut self.outbox, &mut self.recvs, stream, sends, receives)
+        reserve_halves(&mut self.outbox, &mut self.recvs, stream, sends, receives)?;
+        self.untold.reserve(stream)
     }
 
     // That another stream was wanted is noted.
@@ -205,8 +216,10 @@ fn open_sends(
     outbox.open_to(limit, buffer, stream)
 }
 
+#[tactic(auto, using(crate::proofs::Untolds::told_same))]
 fn open_recvs(
     recvs: &mut RecvTables,
+    untold: &mut Untold,
     absent: bool,
     window: u64,
     stream: StreamId,
@@ -215,10 +228,12 @@ fn open_recvs(
     requires small { window ≤ 2 ^ 20 }
     ensures ok { OnOk result (recvs.new ≡ (if absent then recvs.old else open_to recvs.old stream (λ m. new_recv_lane window))) }
     ensures err { OnErr result (recvs.new ≡ recvs.old) }
+    ensures told { (role : Role) (s : Settings) (o : Outgoing) → window ≡ window_by role s stream → AreTold role s recvs.old o.outstanding o.acked untold.old → AreTold role s recvs.new o.outstanding o.acked untold.new }
 {
     if absent {
         return Ok(());
     }
+    untold.open_to(stream)?;
     recvs.open_to(window, stream)
 }
 

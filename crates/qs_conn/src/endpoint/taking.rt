@@ -82,6 +82,7 @@ impl Endpoint {
             role,
             recvs,
             &mut self.ended,
+            &mut self.untold,
             largest,
             ranges,
         )

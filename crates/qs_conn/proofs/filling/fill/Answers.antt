@@ -7,7 +7,7 @@ use Rattle.qs_conn.proofs.Flows.{flow_first}
 use Rattle.qs_conn.proofs.filling.fill.Goals as goal
 
 pub returns-clause-packed : goal.returns-clause-packed
-returns-clause-packed c = λ old parts same due fresh.
+returns-clause-packed c = λ old parts same due fresh told.
     let t = c.args.terms.now in
     let recvs = c.args.recvs.now in
     let room = length c.args.out.now in
@@ -21,6 +21,6 @@ returns-clause-packed c = λ old parts same due fresh.
     let at : end_by t recvs c.args.outbox.now begins ≡ begins = ap (λ (e : End). record e { ack_due = false }) parts in
     let stage : Begun delay room old (take c.put_ack_if-len.result c.put_ack_if-len.new.out) (end_by t recvs c.args.outbox.now begins) (IsPassed no_slot) =
     subst (λ e. Begun delay room old (take c.put_ack_if-len.result c.put_ack_if-len.new.out) e (IsPassed no_slot)) (sym at) begun in
-    let items = c.put_items-packet.ensures.stage delay room old begins (sym c.put_ack_if-len.ensures.room) stage in
+    let items = c.put_items-packet.ensures.stage delay room old begins (sym c.put_ack_if-len.ensures.room) told stage in
     let flow = flow_first first delay room old (take c.put_items-packet.result.len c.put_items-packet.new.out) (end_by t recvs c.put_items-packet.new.outbox begins) c.put_items-packet.result.is_full items in
     c.put_streams-packet.ensures.packed recvs delay room old begins (sym (c.put_items-packet.ensures.room ∙ c.put_ack_if-len.ensures.room)) flow

@@ -1,8 +1,8 @@
-use Rattle.std.proofs.Common.{◌≡◌, ◌≤◌, ◌-◌, true, None, is_some, length, take, arith, refl, sym, ap, subst, ◌∙◌}
+use Rattle.std.proofs.Common.{◌≡◌, ◌+◌, ◌≤◌, ◌-◌, true, None, is_some, length, take, arith, refl, sym, ap, subst, ◌∙◌}
 use Rattle.qs_machine.specs.Tables.{lookup}
 use Rattle.qs_machine.specs.Outgoing.{sent_sum}
 use Rattle.qs_conn.specs.Filling.{end_by}
-use Rattle.qs_conn.proofs.Flows.{Chunking, flow_begins, may_go, sum_within, sum_small, chunking_put, still_open, none_stays, flow_ends}
+use Rattle.qs_conn.proofs.Flows.{Chunking, flow_begins, may_go, sum_within, sum_small, chunking_put, still_open, none_stays, flow_few, flow_ends}
 use Rattle.qs_conn.proofs.filling.put_chunks.Goals as goal
 
 pub loop-chunk-init : goal.loop-chunk-init
@@ -53,6 +53,25 @@ loop-chunk-preserved c =
       spare = c.put_chunk-len.ensures.spare;
       room = c.put_chunk-len.ensures.room ∙ c.loop-chunk.invariant.room;
     }
+
+pub returns-then-out-len-lt-LEAST_STREAM_FRAME-clause-flow : goal.returns-then-out-len-lt-LEAST_STREAM_FRAME-clause-flow
+returns-then-out-len-lt-LEAST_STREAM_FRAME-clause-flow c = λ around first recvs delay room old e at on f.
+    let o = c.loop-chunk.outbox in
+    let n = c.args.stream in
+    let t = c.args.terms.now in
+    let left = length c.loop-chunk.out - c.loop-chunk.len in
+    let more = subst (λ x. Chunking delay room old (take c.put_chunk-len.result c.put_chunk-len.new.out) (end_by t recvs x e) around first n) (sym c.put_chunk-len.ensures.outbox)
+    (chunking_put around first t recvs o e delay room old c.loop-chunk.out c.put_chunk-len.new.out c.loop-chunk.len c.put_chunk-len.result n c.in-Some.chunk left c.loop-chunk.fresh c.in-Some.ensures.0 c.in-Some.ensures.1 c.in-Some.ensures.2.0 c.in-Some.ensures.2.1 c.loop-chunk.invariant.within (at ∙ sym c.loop-chunk.invariant.room) refl c.loop-chunk.invariant.fresh c.put_chunk-len.ensures.count c.put_chunk-len.ensures.text (c.loop-chunk.invariant.chunking around first recvs delay room old e at on f)) in
+    flow_few around first (n + 1) (end_by t recvs c.put_chunk-len.new.outbox e) delay room old c.put_chunk-len.new.out c.put_chunk-len.result n c.put_chunk-len.ensures.within (at ∙ sym c.loop-chunk.invariant.room ∙ sym c.put_chunk-len.ensures.room) (omega (arith, c.if-out-len-lt-LEAST_STREAM_FRAME.true)) more
+
+pub returns-then-out-len-lt-LEAST_STREAM_FRAME-clause-lanes : goal.returns-then-out-len-lt-LEAST_STREAM_FRAME-clause-lanes
+returns-then-out-len-lt-LEAST_STREAM_FRAME-clause-lanes c = λ m none. subst (λ x. lookup x.sends m ≡ None) (sym c.put_chunk-len.ensures.outbox) (none_stays c.loop-chunk.outbox c.args.stream m c.in-Some.chunk (c.loop-chunk.invariant.lanes m none))
+
+pub returns-then-out-len-lt-LEAST_STREAM_FRAME-clause-credit : goal.returns-then-out-len-lt-LEAST_STREAM_FRAME-clause-credit
+returns-then-out-len-lt-LEAST_STREAM_FRAME-clause-credit c =
+    let left = length c.loop-chunk.out - c.loop-chunk.len in
+    let now = sum_within c.loop-chunk.outbox c.args.stream c.in-Some.ensures.0 c.in-Some.chunk left c.loop-chunk.fresh c.args.terms.now.known_data c.in-Some.ensures.1 c.in-Some.ensures.2.0 c.loop-chunk.invariant.fresh c.loop-chunk.invariant.credit in
+    subst (λ x. sent_sum x.sends ≤ c.args.terms.now.known_data) (sym c.put_chunk-len.ensures.outbox) now
 
 pub returns-clause-flow : goal.returns-clause-flow
 returns-clause-flow c = λ around first recvs delay room old e at on f.

@@ -1,6 +1,6 @@
 use Rattle.std.proofs.Common.{◌+◌, ◌∙◌, arith, sym, ap, take}
 use Rattle.qs_conn.specs.Filling.{end_by, and_slot, and_below}
-use Rattle.qs_conn.proofs.Putting.{stage_fewer, stage_idle, stage_kind, below_next}
+use Rattle.qs_conn.proofs.Putting.{stage_fewer, stage_idle_told, stage_kind_told, below_next}
 use Rattle.qs_conn.proofs.filling.put_kind.Goals as goal
 
 pub loop-stream-preserved : goal.loop-stream-preserved
@@ -8,9 +8,9 @@ loop-stream-preserved c =
     let stream = c.in-Some.stream in
     record {
       small = omega (arith, c.value-from.ensures.in_range);
-      stage = λ delay room old e passed at start. (
-          let before = c.loop-stream.invariant.stage delay room old e passed at start in
-          let here = stage_idle delay room old (take c.loop-stream.packet.len c.loop-stream.out) (end_by c.args.terms.now c.args.recvs.now c.loop-stream.outbox e) c.loop-stream.packet.is_full passed c.args.kind c.loop-stream.from stream (λ n. c.in-Some.ensures.idle n e) before in
+      stage = λ delay room old e passed at told start. (
+          let before = c.loop-stream.invariant.stage delay room old e passed at told start in
+          let here = stage_idle_told c.args.untold.now delay room old (take c.loop-stream.packet.len c.loop-stream.out) (end_by c.args.terms.now c.args.recvs.now c.loop-stream.outbox e) c.loop-stream.packet.is_full passed c.args.kind c.loop-stream.from stream told (λ now n. c.in-Some.ensures.idle c.args.terms.now c.args.recvs.now n e now) before in
           let after = c.put_slot-packet.ensures.stage delay room old e (and_below passed c.args.kind stream) (at ∙ sym c.loop-stream.invariant.room) here in
           stage_fewer delay room old (take c.put_slot-packet.result.len c.put_slot-packet.new.out) (end_by c.args.terms.now c.args.recvs.now c.put_slot-packet.new.outbox e) c.put_slot-packet.result.is_full
           (and_slot (and_below passed c.args.kind stream) c.at.result) (and_below passed c.args.kind (c.value-from.result + 1))
@@ -22,6 +22,6 @@ loop-stream-preserved c =
     }
 
 pub returns-clause-stage : goal.returns-clause-stage
-returns-clause-stage c = λ delay room old e passed at start.
-    stage_kind delay room old (take c.loop-stream.packet.len c.loop-stream.out) (end_by c.args.terms.now c.args.recvs.now c.loop-stream.outbox e) c.loop-stream.packet.is_full passed c.args.kind c.loop-stream.from
-    (λ n le. c.in_default.ensures.idle n e le tt) (c.loop-stream.invariant.stage delay room old e passed at start)
+returns-clause-stage c = λ delay room old e passed at told start.
+    stage_kind_told c.args.untold.now delay room old (take c.loop-stream.packet.len c.loop-stream.out) (end_by c.args.terms.now c.args.recvs.now c.loop-stream.outbox e) c.loop-stream.packet.is_full passed c.args.kind c.loop-stream.from told
+    (λ now n le. c.in_default.ensures.idle c.args.terms.now c.args.recvs.now n e now le tt) (c.loop-stream.invariant.stage delay room old e passed at told start)

@@ -2,13 +2,14 @@ use Rattle.std.proofs.Common.{◌≡◌, ℕ, ◌-◌, ◌≤◌, ◌^◌, lengt
 use Rattle.qs_machine.specs.Ends.{End}
 use Rattle.qs_machine.specs.Outgoing.{sent_sum}
 use Rattle.qs_conn.specs.Filling.{end_by, HasSpare, Passed, and_below, Stage}
+use Rattle.qs_conn.specs.Untold.{IsTold}
 use Rattle.qs_conn.proofs.filling.put_kind.Given as goal
 
 abbrev pub invariant-loop-stream : goal.invariant-loop-stream
 invariant-loop-stream l =
     record {
       small : l.from ≤ 2 ^ 62;
-      stage : (delay room : ℕ) (old e : End) (passed : Passed) → room ≡ length l.fn.out
+      stage : (delay room : ℕ) (old e : End) (passed : Passed) → room ≡ length l.fn.out → IsTold old l.fn.untold
           → Stage delay room old (take l.fn.packet.len l.fn.out) (end_by l.fn.terms l.fn.recvs l.fn.outbox e) l.fn.packet.is_full passed
           → Stage delay room old (take l.packet.len l.out) (end_by l.fn.terms l.fn.recvs l.outbox e) l.packet.is_full (and_below passed l.fn.kind l.from);
       within : l.packet.len ≤ length l.out;

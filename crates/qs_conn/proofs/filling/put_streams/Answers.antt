@@ -1,7 +1,14 @@
-use Rattle.std.proofs.Common.{◌∙◌, sym, take}
+use Rattle.std.proofs.Common.{◌∙◌, sym, true, take}
 use Rattle.qs_conn.specs.Filling.{end_by}
-use Rattle.qs_conn.proofs.Flows.{flow_packed}
+use Rattle.qs_conn.proofs.Flows.{flow_packed, flow_whole}
 use Rattle.qs_conn.proofs.filling.put_streams.Goals as goal
+
+pub returns-then-packet-clause-packed : goal.returns-then-packet-clause-packed
+returns-then-packet-clause-packed c = λ recvs delay room old e at start.
+    let text = take c.put_way-packet.result.len c.put_way-packet.new.out in
+    let there = end_by c.args.terms.now recvs c.put_way-packet.new.outbox e in
+    let full = c.put_way-packet.result.is_full in
+    flow_packed c.args.first delay room old text there full (flow_whole delay room old text there full true c.args.first 0 c.if-packet.true (c.put_way-packet.ensures.flow recvs delay room old e at start))
 
 pub returns-clause-packed : goal.returns-clause-packed
 returns-clause-packed c = λ recvs delay room old e at start.

@@ -1,13 +1,14 @@
-use Rattle.qs_conn.specs.Marks.{IsQuietLane}
-use Rattle.qs_conn.proofs.LaneEdits.{changed_at}
-use Rattle.qs_conn.proofs.Marked.{mark_there, look_again}
+use Rattle.std.proofs.Common.{◌≡◌, ◌+◌, ◌*◌, Bool, true, false, subst, sym}
+use Rattle.qs_machine.specs.Tables.{Tables, lookup, updated}
+use Rattle.qs_conn.specs.Untold.{HasMore}
+use Rattle.qs_conn.proofs.LaneMarks.{raised_some}
+use Rattle.qs_conn.proofs.SendEdits.{id_is}
+use Rattle.qs_conn.proofs.Untolds.{has_marked}
 use Rattle.qs_conn.proofs.recv_lanes.raise_at.Goals as goal
 
-pub set-requires : goal.set-requires
-set-requires c = mark_there (IsQuietLane c.args.first) c.args.halves.now.items c.args.marks.now c.args.index c.requires.marked c.requires.there
+pub returns-in-Some-clause-marks : goal.returns-in-Some-clause-marks
+returns-in-Some-clause-marks c = subst (HasMore c.args.untold.now) (sym c.set.ensures) (has_marked c.args.untold.now c.unwrap-stream.result)
 
-pub returns-clause-after : goal.returns-clause-after
-returns-clause-after c = changed_at c.args.halves.now.items c.args.index _ _ _ c.requires.there c.index_mut-half.ensures.value c.raise.ensures.after
-
-pub returns-clause-marked : goal.returns-clause-marked
-returns-clause-marked c = look_again (IsQuietLane c.args.first) c.args.halves.now.items c.args.marks.now _ c.args.index c.raise.new.self c.is_busy.result c.is_busy.ensures c.set.ensures c.requires.marked
+pub returns-in-Some-clause-marked : goal.returns-in-Some-clause-marked
+returns-in-Some-clause-marked c =
+    raised_some c.args.kind c.args.halves.now.items c.args.untold.now c.set.new.self c.args.index c.unwrap-stream.result (id_is c.new.result c.unwrap-stream.result (c.args.index * 4 + c.args.kind) c.unwrap-stream.ensures c.new.ensures.some) c.set.ensures

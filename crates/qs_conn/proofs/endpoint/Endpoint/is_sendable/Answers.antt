@@ -6,4 +6,4 @@ pub returns-then-is_some : goal.returns-then-is_some
 returns-then-is_some c = beside_closed _ c.args.self.now c.self.view_is (sym c.is_some.ensures ∙ c.if-is_some.true)
 
 pub returns : goal.returns
-returns c = beside_frame _ c.args.self.now c.terms-terms.result c.self.inside.outbox c.has_frame.result c.self.view_is (sym c.is_some.ensures ∙ c.if-is_some.false) c.terms-terms.ensures refl c.has_frame.ensures
+returns c = beside_frame _ c.args.self.now c.terms-terms.result c.self.inside.outbox c.has_frame.result c.self.inside.untold c.self.view_is (sym c.is_some.ensures ∙ c.if-is_some.false) c.terms-terms.ensures refl c.self.invariant.4 c.has_frame.ensures

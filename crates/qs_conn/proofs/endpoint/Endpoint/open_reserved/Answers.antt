@@ -8,6 +8,8 @@ use Rattle.qs_conn.proofs.Counted.{fit_opened}
 use Rattle.qs_conn.proofs.Kept.{kept_opened}
 use Rattle.qs_conn.proofs.Runs.{idle_with}
 use Rattle.qs_conn.proofs.Funded.{funded_opened}
+use Rattle.qs_conn.specs.Untold.{AreTold}
+use Rattle.qs_conn.proofs.Untolds.{told_with}
 use Rattle.qs_conn.proofs.endpoint.Endpoint.open_reserved.Goals as goal
 
 pub returns-in-Err-clause-err : goal.returns-in-Err-clause-err
@@ -21,6 +23,8 @@ invariant_of-self-in_default c = (
   idle_with c.self.inside.outbox _ _ c.in_ok-open_sends.ensures.ok c.self.invariant.1,
   funded_opened c.self.inside.outbox _ _ _ _ _ _ _ _ c.in_ok-open_sends.ensures.ok c.self.invariant.2,
   fit_opened _ _ _ _ _ _ _ c.self.invariant.3 _ _ c.args.stream _ _ _ _ _ (ap (λ (o : Outgoing). o.sends) c.in_ok-open_sends.ensures.ok) c.in_default.ensures.ok,
+  told_with c.self.inside.role c.self.inside.settings c.open_recvs.new.recvs c.self.inside.outbox _ _ c.open_recvs.new.untold c.in_ok-open_sends.ensures.ok
+      (c.in_default.ensures.told c.self.inside.role c.self.inside.settings c.self.inside.outbox (c.window-window.ensures.value ∙ ap (λ (e : End). window e c.args.stream) (sym c.self.view_is)) c.self.invariant.4),
 )
 
 pub close_to-requires-clause-none : goal.close_to-requires-clause-none
@@ -39,4 +43,6 @@ invariant_of-self-in-Err c =
       subst (λ (o : Outgoing). IsIdle o) (sym back) c.self.invariant.1,
       subst (λ (o : Outgoing). IsFunded o.sends c.self.inside.known_data c.self.inside.done c.self.inside.ack_due) (sym back) c.self.invariant.2,
       rw c.in-Err.ensures.err (subst (λ (o : Outgoing). CountsFit c.self.inside.role c.self.inside.settings c.self.inside.recvs o.sends c.self.inside.ended c.self.inside.granted_bidi c.self.inside.granted_uni) (sym back) c.self.invariant.3),
+      subst (λ (o : Outgoing). AreTold c.self.inside.role c.self.inside.settings c.open_recvs.new.recvs o.outstanding o.acked c.open_recvs.new.untold) (sym back)
+          (c.in-Err.ensures.told c.self.inside.role c.self.inside.settings c.self.inside.outbox (c.window-window.ensures.value ∙ ap (λ (e : End). window e c.args.stream) (sym c.self.view_is)) c.self.invariant.4),
     )

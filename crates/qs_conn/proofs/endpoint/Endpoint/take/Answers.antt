@@ -13,4 +13,4 @@ stopped-requires-clause-passed c = rw c.in-StopSending.is at c.requires.passed
 
 pub invariant_of-self : goal.invariant_of-self
 invariant_of-self c =
-    (let fits = rw c.in-MaxData.is at c.requires.fits in (c.self.invariant.0, c.self.invariant.1, funded_raised _ _ _ _ _ _ c.max-self-inside.ensures (omega (arith, fits)) c.self.invariant.2, c.self.invariant.3))
+    (let fits = rw c.in-MaxData.is at c.requires.fits in (c.self.invariant.0, c.self.invariant.1, funded_raised _ _ _ _ _ _ c.max-self-inside.ensures (omega (arith, fits)) c.self.invariant.2, c.self.invariant.3, c.self.invariant.4))

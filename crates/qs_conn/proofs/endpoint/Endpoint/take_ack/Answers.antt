@@ -3,6 +3,7 @@ use Rattle.qs_wire.specs.Varint.{numbers_of}
 use Rattle.qs_conn.proofs.AckRuns.{ack_ok, ack_err}
 use Rattle.qs_conn.proofs.Counted.{fit_sends}
 use Rattle.qs_conn.proofs.Funded.{funded_acked}
+use Rattle.qs_conn.proofs.Untolds.{stays}
 use Rattle.qs_conn.proofs.endpoint.Endpoint.take_ack.Goals as goal
 
 pub returns-clause-ok : goal.returns-clause-ok
@@ -19,4 +20,5 @@ invariant_of-self c = (
   c.ack_ranges.ensures.idle,
   funded_acked c.args.largest (numbers_of c.args.ranges.now) _ c.self.inside.outbox c.ack_ranges.new.outbox c.ack_ranges.result _ _ _ c.requires.small c.requires.above refl c.ack_ranges.ensures.step c.self.invariant.2,
   fit_sends _ _ _ _ _ _ _ c.self.invariant.3 _ _ c.ack_ranges.ensures.counted,
+  stays c.self.inside.outbox c.ack_ranges.new.outbox c.self.inside.untold c.ack_ranges.new.untold c.ack_ranges.ensures.told c.self.inside.role c.self.inside.settings c.self.inside.recvs c.self.invariant.4,
 )

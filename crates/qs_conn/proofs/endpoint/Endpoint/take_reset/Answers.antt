@@ -4,6 +4,7 @@ use Rattle.qs_machine.specs.Standing.{IsInCredit}
 use Rattle.qs_conn.proofs.Counted.{fit_broken}
 use Rattle.qs_conn.proofs.Kept.{kept_recvs}
 use Rattle.qs_machine.proofs.Taken.{in_there, reset_in, reset_checked, reset_sound}
+use Rattle.qs_conn.proofs.Calm.{told_broken}
 use Rattle.qs_conn.proofs.endpoint.Endpoint.take_reset.Goals as goal
 
 pub take_reset-requires-clause-open : goal.take_reset-requires-clause-open
@@ -22,4 +23,5 @@ invariant_of-self c =
       c.self-2.invariant.1,
       c.self-2.invariant.2,
       fit_broken _ _ _ _ _ _ _ c.self-2.invariant.3 _ c.args.stream _ _ c.take_reset.ensures,
+      told_broken c.self-2.inside.role c.self-2.inside.settings c.self-2.inside.recvs c.self-2.inside.outbox.outstanding c.self-2.inside.outbox.acked c.self-2.inside.untold c.self-2.invariant.4 c.take_reset.new.self c.args.stream c.args.code c.args.size c.take_reset.ensures,
     )

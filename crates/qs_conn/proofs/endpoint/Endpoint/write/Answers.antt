@@ -4,6 +4,7 @@ use Rattle.qs_conn.proofs.Counted.{fit_written}
 use Rattle.qs_conn.proofs.OwnerSteps.{write_err}
 use Rattle.qs_conn.proofs.Runs.{idle_with}
 use Rattle.qs_conn.proofs.Funded.{funded_written}
+use Rattle.qs_conn.proofs.Untolds.{told_with}
 use Rattle.qs_conn.proofs.endpoint.Endpoint.write.Goals as goal
 
 pub invariant_of-self : goal.invariant_of-self
@@ -12,6 +13,7 @@ invariant_of-self c = (
   idle_with c.self.inside.outbox _ _ c.in-Ok.ensures.accepted.2 c.self.invariant.1,
   funded_written c.self.inside.outbox _ _ _ _ _ _ c.in-Ok.ensures.accepted.2 c.self.invariant.2,
   fit_written _ _ _ _ _ _ _ c.self.invariant.3 _ c.args.stream _ c.in-Ok.ensures.accepted.0 (ap (λ (o : Outgoing). o.sends) c.in-Ok.ensures.accepted.2),
+  told_with c.self.inside.role c.self.inside.settings c.self.inside.recvs c.self.inside.outbox _ _ c.self.inside.untold c.in-Ok.ensures.accepted.2 c.self.invariant.4,
 )
 
 pub returns-in-Err : goal.returns-in-Err

@@ -2,12 +2,14 @@ use Rattle.std.proofs.Common.{Ok, Err, true, rules}
 use Rattle.qs_ranges.specs.declared.NoMemory.{NoMemory}
 use Rattle.qs_conn.specs.Runs.{AcksAhead}
 use Rattle.qs_conn.proofs.AckRuns.{pass_end, pass_stop, pass_more}
+use Rattle.qs_conn.proofs.Untolds.{stay_twice}
 use Rattle.qs_conn.proofs.endpoint.acking.ack_late.Goals as goal
 
 pub loop-number-preserved : goal.loop-number-preserved
 loop-number-preserved c =
     record {
       idle = c.in_ok-ack_lost_packet.ensures.idle;
+      told = stay_twice _ _ _ _ _ _ c.loop-number.invariant.told c.in_ok-ack_lost_packet.ensures.told;
       counted = c.in_ok-ack_lost_packet.ensures.counted;
       rest = λ result new h. c.loop-number.invariant.rest result new
           (pass_more true c.loop-number.pass c.next_lost.new.pass c.in-Some.number c.loop-number.outbox c.ack_lost_packet.new.outbox new c.next_lost.result result c.in-Some.is c.next_lost.ensures.answer c.next_lost.ensures.falls c.next_lost.ensures.below
@@ -24,3 +26,6 @@ returns-in_err-ack_lost_packet-clause-step c =
 pub returns-clause-step : goal.returns-clause-step
 returns-clause-step c =
     c.loop-number.invariant.rest (Ok tt) c.loop-number.outbox (pass_end true c.loop-number.pass c.next_lost.new.pass c.loop-number.outbox c.next_lost.result c.in_default.is c.next_lost.ensures.answer)
+
+pub returns-in_err-ack_lost_packet-clause-told : goal.returns-in_err-ack_lost_packet-clause-told
+returns-in_err-ack_lost_packet-clause-told c = stay_twice _ _ _ _ _ _ c.loop-number.invariant.told c.in_err-ack_lost_packet.ensures.told

@@ -3,6 +3,7 @@ use Rattle.qs_ranges.specs.declared.NoMemory.{NoMemory}
 use Rattle.qs_machine.specs.Outgoing.{Outgoing, IsIdle}
 use Rattle.qs_conn.specs.Ended.{AreAllCounted}
 use Rattle.qs_conn.specs.Runs.{AcksPacket, pieces_left}
+use Rattle.qs_conn.specs.Untold.{StayTold}
 use Rattle.qs_conn.proofs.endpoint.acking.ack_lost_packet.Given as goal
 
 -- What is so from here on is so of the whole packet.
@@ -10,6 +11,7 @@ abbrev pub invariant-loop-piece : goal.invariant-loop-piece
 invariant-loop-piece l =
     record {
       idle : IsIdle l.outbox;
+      told : StayTold l.initial.outbox l.initial.untold l.outbox l.untold;
       counted : AreAllCounted l.role l.recvs l.outbox.sends l.ended;
       rest : (result : Result (Unit {0}) NoMemory) (new : Outgoing) → AcksPacket true l.number l.outbox result new → AcksPacket true l.number l.initial.outbox result new;
     }

@@ -3,6 +3,7 @@ use Rattle.qs_ranges.specs.declared.NoMemory.{NoMemory}
 use Rattle.qs_machine.specs.Outgoing.{Outgoing, IsIdle}
 use Rattle.qs_conn.specs.Ended.{AreAllCounted}
 use Rattle.qs_conn.specs.Runs.{AcksAhead}
+use Rattle.qs_conn.specs.Untold.{StayTold}
 use Rattle.qs_conn.proofs.endpoint.acking.ack_named.Given as goal
 
 -- What is so of what the pass has ahead is so of all.
@@ -10,6 +11,7 @@ abbrev pub invariant-loop-number : goal.invariant-loop-number
 invariant-loop-number l =
     record {
       idle : IsIdle l.outbox;
+      told : StayTold l.initial.outbox l.initial.untold l.outbox l.untold;
       counted : AreAllCounted l.role l.recvs l.outbox.sends l.ended;
       rest : (result : Result (Unit {0}) NoMemory) (new : Outgoing) → AcksAhead false l.pass l.outbox result new → AcksAhead false l.initial.pass l.initial.outbox result new;
     }

@@ -1,7 +1,5 @@
 use Rattle.std.proofs.Common.{arith, ◌∙◌}
 use Rattle.std.proofs.lemmas.List.{length-take}
-use Rattle.qs_conn.specs.Marks.{IsQuietLane}
-use Rattle.qs_conn.proofs.Marked.{marked_take}
 use Rattle.qs_machine.proofs.Tallies.{lawful_take}
 use Rattle.qs_conn.proofs.RecvNews.{noted_fewer}
 use Rattle.qs_conn.proofs.Settling.{are_taken}
@@ -10,13 +8,12 @@ use Rattle.qs_conn.proofs.recv_lanes.RecvLanes.close_to.Goals as goal
 pub invariant_of-self : goal.invariant_of-self
 invariant_of-self c =
     let items = c.self.inside.halves.items in
-    rw (c.truncate.ensures.items, c.close_to.ensures) (
+    rw c.truncate.ensures.items (
       record {
         counted = (rw (← c.self.view_is) at c.requires) ∙ c.self.invariant.0.counted;
         lawful = lawful_take c.args.count items c.self.invariant.0.lawful;
         settled = are_taken c.self.inside.touched c.args.count items c.self.invariant.0.settled;
         few = omega (arith, c.self.invariant.0.few, length-take c.args.count items);
       },
-      marked_take (IsQuietLane c.self.inside.first) c.args.count items c.self.inside.marks c.self.invariant.1,
-      noted_fewer c.args.count items c.self.inside.news _ c.close_to-2.ensures c.self.invariant.2,
+      noted_fewer c.args.count items c.self.inside.news _ c.close_to.ensures c.self.invariant.1,
     )

@@ -10,7 +10,5 @@ invariant-loop-opened l =
       items : l.self-inside.halves.items ≡ before ++ map (λ (i : ℕ). new_lane l.window) (range_with_len (length before) l._opened);
       tally : l.self-inside.tally ≡ l.initial.self-inside.tally;
       touched : l.self-inside.touched ≡ l.initial.self-inside.touched;
-      marks : l.self-inside.marks ≡ l.initial.self-inside.marks;
       news : l.self-inside.news ≡ l.initial.self-inside.news;
-      first : l.self-inside.first ≡ l.initial.self-inside.first;
     }

@@ -1,4 +1,4 @@
-use Rattle.std.proofs.Common.{◌∙◌}
+use Rattle.std.proofs.Common.{sym, ◌∙◌}
 use Rattle.std.proofs.lemmas.List.{length-map}
 use Rattle.qs_machine.proofs.Tallies.{tally_raised, lawful_raised}
 use Rattle.qs_conn.proofs.RecvNews.{noted_raised}
@@ -15,6 +15,11 @@ invariant_of-self c =
             settled = all_settled items;
             few = rw length-map c.self.invariant.0.few;
           }),
-      c.raise_touched.ensures.marked,
-      noted_raised items _ c.self.inside.news c.raise_touched.ensures.after c.self.invariant.2,
+      noted_raised items _ c.self.inside.news c.raise_touched.ensures.after c.self.invariant.1,
     )
+
+pub raise_touched-requires-clause-few : goal.raise_touched-requires-clause-few
+raise_touched-requires-clause-few c = c.self.invariant.0.few
+
+pub returns-clause-marked : goal.returns-clause-marked
+returns-clause-marked c = rw (← c.self.view_is) c.raise_touched.ensures.marked

@@ -1,16 +1,11 @@
 use Rattle.std.proofs.Common.{◌<◌, length}
-use Rattle.qs_conn.specs.Marks.{IsQuietLane}
-use Rattle.qs_conn.proofs.Marked.{mark_there, look_again}
 use Rattle.qs_conn.proofs.RecvNews.{noted_there, noted_again}
 use Rattle.qs_conn.proofs.LaneEdits.{paid_of, edited, changed_at}
 use Rattle.qs_conn.proofs.Settling.{are_touched}
 use Rattle.qs_conn.proofs.recv_lanes.RecvLanes.read.Goals as goal
 
-pub set-requires : goal.set-requires
-set-requires c = mark_there (IsQuietLane c.self.inside.first) c.self.inside.halves.items c.self.inside.marks c.args.index c.self.invariant.1 (rw c.self.view_is c.requires.there)
-
 pub look-requires : goal.look-requires
-look-requires c = noted_there c.self.inside.halves.items c.self.inside.news c.args.index c.self.invariant.2 (rw c.self.view_is c.requires.there)
+look-requires c = noted_there c.self.inside.halves.items c.self.inside.news c.args.index c.self.invariant.1 (rw c.self.view_is c.requires.there)
 
 pub moved-self-inside-requires-clause-paid : goal.moved-self-inside-requires-clause-paid
 moved-self-inside-requires-clause-paid c = paid_of _ _ _ c.self.invariant.0
@@ -20,8 +15,7 @@ invariant_of-self c =
     let there : c.args.index < length c.self.inside.halves.items = rw c.self.view_is c.requires.there in (
       edited _ _ _ _ _ _ _ _ _ _ there c.index_mut-half.ensures.value c.self.invariant.0 c.measure-was.ensures.value c.measure-is.ensures.value c.moved-self-inside.ensures c.measure-is.ensures.lawful
           (rw c.touch-self-inside.ensures (are_touched c.self.inside.touched c.self.inside.halves.items c.args.index c.read-answer.new.self c.self.invariant.0.settled)),
-      look_again (IsQuietLane c.self.inside.first) c.self.inside.halves.items c.self.inside.marks _ c.args.index c.read-answer.new.self c.is_busy.result c.is_busy.ensures c.set.ensures c.self.invariant.1,
-      noted_again c.self.inside.halves.items c.self.inside.news _ c.args.index c.read-answer.new.self c.look.ensures c.self.invariant.2,
+      noted_again c.self.inside.halves.items c.self.inside.news _ c.args.index c.read-answer.new.self c.look.ensures c.self.invariant.1,
     )
 
 pub returns-clause-after : goal.returns-clause-after

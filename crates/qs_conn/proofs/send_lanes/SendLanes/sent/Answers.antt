@@ -1,14 +1,28 @@
+use Rattle.std.proofs.Common.{sym, subst}
+use Rattle.qs_conn.specs.declared.send_marks.Task.TheVariants as tasks
 use Rattle.qs_conn.specs.Tasks.{IsQuiet, marks_of}
 use Rattle.qs_conn.proofs.LaneEdits.{changed_at}
 use Rattle.qs_conn.proofs.Marked.{mark_there}
-use Rattle.qs_conn.proofs.Tasks.{all_looked}
+use Rattle.qs_conn.proofs.Tasks.{all_looked, still_quiet}
 use Rattle.qs_conn.proofs.send_lanes.SendLanes.sent.Goals as goal
 
-pub look-requires : goal.look-requires
-look-requires c = λ t. mark_there (IsQuiet t) c.self.inside.halves.items (marks_of c.self.inside.marks t) c.args.index (c.self.invariant.1 t) (rw c.self.view_is c.requires.there)
+pub look_sent-requires-clause-there : goal.look_sent-requires-clause-there
+look_sent-requires-clause-there c = λ t. mark_there (IsQuiet t) c.self.inside.halves.items (marks_of c.self.inside.marks t) c.args.index (c.self.invariant.1 t) (rw c.self.view_is c.requires.there)
+
+pub look_sent-requires-clause-reset : goal.look_sent-requires-clause-reset
+look_sent-requires-clause-reset c =
+    still_quiet tasks.Reset c.self.inside.halves.items c.self.inside.marks c.args.index c.index_mut-half.result.now c.sent.new.self c.self.invariant.1 (rw c.self.view_is c.requires.there) c.index_mut-half.ensures.value (λ q. subst (IsQuiet tasks.Reset) (sym c.sent.ensures) q)
+
+pub look_sent-requires-clause-room : goal.look_sent-requires-clause-room
+look_sent-requires-clause-room c =
+    still_quiet tasks.Writable c.self.inside.halves.items c.self.inside.marks c.args.index c.index_mut-half.result.now c.sent.new.self c.self.invariant.1 (rw c.self.view_is c.requires.there) c.index_mut-half.ensures.value (λ q. subst (IsQuiet tasks.Writable) (sym c.sent.ensures) q)
+
+pub look_sent-requires-clause-end : goal.look_sent-requires-clause-end
+look_sent-requires-clause-end c =
+    still_quiet tasks.Ended c.self.inside.halves.items c.self.inside.marks c.args.index c.index_mut-half.result.now c.sent.new.self c.self.invariant.1 (rw c.self.view_is c.requires.there) c.index_mut-half.ensures.value (λ q. subst (IsQuiet tasks.Ended) (sym c.sent.ensures) q)
 
 pub invariant_of-self : goal.invariant_of-self
-invariant_of-self c = all_looked _ _ _ c.args.index c.sent.new.self c.look.ensures c.self.invariant
+invariant_of-self c = all_looked _ _ _ c.args.index c.sent.new.self c.look_sent.ensures c.self.invariant
 
 pub returns : goal.returns
 returns c =

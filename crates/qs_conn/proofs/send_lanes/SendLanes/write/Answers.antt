@@ -2,17 +2,26 @@ use Rattle.std.proofs.Common.{◌<◌, length, ◌∙◌, subst}
 use Rattle.std.proofs.lemmas.List.{get_or_default}
 use Rattle.qs_send.specs.Lane.{Sending, accepted}
 use Rattle.qs_machine.specs.Sums.{no_sending}
+use Rattle.qs_conn.specs.declared.send_marks.Task.TheVariants as tasks
 use Rattle.qs_conn.specs.Tasks.{IsQuiet, marks_of}
-use Rattle.qs_conn.proofs.SendEdits.{wrote_at}
+use Rattle.qs_conn.proofs.SendEdits.{wrote_at, wrote_keeps}
 use Rattle.qs_conn.proofs.Marked.{mark_there}
-use Rattle.qs_conn.proofs.Tasks.{all_looked}
+use Rattle.qs_conn.proofs.Tasks.{all_looked, still_quiet}
 use Rattle.qs_conn.proofs.send_lanes.SendLanes.write.Goals as goal
 
-pub look-requires : goal.look-requires
-look-requires c = λ t. mark_there (IsQuiet t) c.self.inside.halves.items (marks_of c.self.inside.marks t) c.args.index (c.self.invariant.1 t) (rw c.self.view_is c.requires)
+pub look_written-requires-clause-there : goal.look_written-requires-clause-there
+look_written-requires-clause-there c = λ t. mark_there (IsQuiet t) c.self.inside.halves.items (marks_of c.self.inside.marks t) c.args.index (c.self.invariant.1 t) (rw c.self.view_is c.requires)
+
+pub look_written-requires-clause-reset : goal.look_written-requires-clause-reset
+look_written-requires-clause-reset c =
+    still_quiet tasks.Reset c.self.inside.halves.items c.self.inside.marks c.args.index c.index_mut-half.result.now c.write-answer.new.self c.self.invariant.1 (rw c.self.view_is c.requires) c.index_mut-half.ensures.value (wrote_keeps c.write-answer.result c.index_mut-half.result.now c.write-answer.new.self c.args.bytes.now c.write-answer.ensures.accepted c.write-answer.ensures.refused).0
+
+pub look_written-requires-clause-end : goal.look_written-requires-clause-end
+look_written-requires-clause-end c =
+    still_quiet tasks.Ended c.self.inside.halves.items c.self.inside.marks c.args.index c.index_mut-half.result.now c.write-answer.new.self c.self.invariant.1 (rw c.self.view_is c.requires) c.index_mut-half.ensures.value (wrote_keeps c.write-answer.result c.index_mut-half.result.now c.write-answer.new.self c.args.bytes.now c.write-answer.ensures.accepted c.write-answer.ensures.refused).1
 
 pub invariant_of-self : goal.invariant_of-self
-invariant_of-self c = all_looked _ _ _ c.args.index c.write-answer.new.self c.look.ensures c.self.invariant
+invariant_of-self c = all_looked _ _ _ c.args.index c.write-answer.new.self c.look_written.ensures c.self.invariant
 
 pub returns-clause-accepted : goal.returns-clause-accepted
 returns-clause-accepted c =

@@ -1,0 +1,203 @@
+//! Of which streams a stop or a limit may still have to be told.
+ghost use Rattle.std.specs.Prelude.{◌≡◌, ◌+◌, ◌-◌, ◌++◌, ◌≤◌, ◌<◌, ◌^◌, [], ℕ, Bool, true, false, length, slice_get, replicate, IfSome, OnOk, OnErr};
+ghost use Rattle.qs_machine.specs.Tables.{no_streams, lookup, updated, open_to};
+ghost use Rattle.qs_machine.specs.Sums.{changed};
+ghost use Rattle.qs_conn.specs.Marks.{IsBefore, IsNextMark, HaveTo};
+ghost use Rattle.qs_conn.specs.Untold.{IsUnmarked, marked_for};
+
+use crate::marks::{Marks, least};
+use crate::places::{index_of, kind_of};
+use qs_ranges::NoMemory;
+use qs_send::{Item, Piece};
+use qs_wire::StreamId;
+use std::alloc::Global;
+use std::marker::Model;
+
+/// A mark for each stream of one type, by its index.
+#[derive(Drop)]
+struct UntoldLanes {
+    marks: Marks,
+    // Without it none is marked, as mostly none is.
+    may_have: bool,
+}
+
+impl Model for UntoldLanes {
+    ghost use Rattle.std.specs.Prelude.{◌≡◌, ◌≤◌, ◌^◌, List, Bool, false, length};
+    ghost use Rattle.std.specs.Coded.{coded_list, coded_bool};
+    ghost use Rattle.qs_conn.specs.Untold.{IsClear};
+
+    ghost Value = { List Bool };
+
+    ghost coded = { coded_list coded_bool };
+
+    ghost view = { λ u. u.marks };
+
+    ghost invariant = { λ u. length u.marks ≤ 2 ^ 60 × (u.may_have ≡ false → IsClear u.marks) };
+}
+
+impl UntoldLanes {
+    #[tactic(auto, using(crate::proofs::Marked::clear_new))]
+    fn new(alloc: Global) -> Self
+        ensures { result ≡ [] }
+    {
+        UntoldLanes {
+            marks: Marks::new(alloc),
+            may_have: false,
+        }
+    }
+
+    fn reserve(&mut self, count: usize) -> Result<(), NoMemory>
+        ensures { self.new ≡ self.old }
+    {
+        self.marks.reserve(count)
+    }
+
+    fn open_to(&mut self, count: usize) -> Result<(), NoMemory>
+        requires { count ≤ 2 ^ 60 }
+        ensures ok { OnOk result (self.new ≡ self.old ++ replicate (count - length self.old) false) }
+        ensures err { OnErr result (self.new ≡ self.old) }
+    {
+        self.marks.open_to(count)
+    }
+
+    #[tactic(auto, using(crate::proofs::Marked::clear_set))]
+    fn set(&mut self, index: usize, is_marked: bool)
+        ensures { self.new ≡ changed self.old index (λ b. is_marked) (slice_get self.old index) }
+    {
+        if index >= self.marks.len() {
+            return;
+        }
+        self.marks.set(index, is_marked);
+        if is_marked {
+            self.may_have = true;
+        }
+    }
+
+    // Whether any is marked still is looked at. No clause sees it.
+    #[tactic(auto, using(crate::proofs::Marked::clear_seen))]
+    fn look(&mut self)
+        ensures { self.new ≡ self.old }
+    {
+        if self.may_have && self.marks.next(0).is_none() {
+            self.may_have = false;
+        }
+    }
+
+    fn next(&self, from: usize) -> Option<usize>
+        ensures next { IsNextMark self.now from result }
+        ensures small { IfSome result (λ n. n < 2 ^ 60) }
+    {
+        if !self.may_have {
+            return None;
+        }
+        self.marks.next(from)
+    }
+}
+
+/// A mark for each receiving half, by the type of the stream and by its index. Of a half without a mark all was told.
+#[derive(Drop)]
+pub(crate) struct Untold {
+    // Of each of the four types, in the order of their bits.
+    types: [UntoldLanes; 4],
+}
+
+impl Model for Untold {
+    ghost use Rattle.std.specs.Prelude.{◌≡◌, length, Bool};
+    ghost use Rattle.std.specs.Coded.{coded_bool};
+    ghost use Rattle.qs_machine.specs.Tables.{Tables};
+    ghost use Rattle.qs_machine.specs.EndCodes.{tables_code};
+    ghost use Rattle.qs_machine.specs.Sums.{tables_of};
+
+    ghost Value = { Tables Bool };
+
+    ghost coded = { tables_code coded_bool };
+
+    ghost view = { λ u. tables_of u.types };
+
+    ghost invariant = { λ u. length u.types ≡ 4 };
+}
+
+impl Untold {
+    pub(crate) fn new(alloc: Global) -> Self
+        ensures { result ≡ no_streams }
+    {
+        Untold {
+            types: [
+                UntoldLanes::new(alloc),
+                UntoldLanes::new(alloc),
+                UntoldLanes::new(alloc),
+                UntoldLanes::new(alloc),
+            ],
+        }
+    }
+
+    /// Takes the memory for a stream and all lower ones of its type, and opens none.
+    pub(crate) fn reserve(&mut self, stream: StreamId) -> Result<(), NoMemory>
+        ensures { self.new ≡ self.old }
+    {
+        let lanes = &mut self.types[kind_of(stream)];
+        lanes.reserve(index_of(stream) + 1)
+    }
+
+    /// Makes room for a stream and all lower ones of its type: the new ones aren't marked.
+    pub(crate) fn open_to(&mut self, stream: StreamId) -> Result<(), NoMemory>
+        ensures ok { OnOk result (self.new ≡ open_to self.old stream (λ n. false)) }
+        ensures err { OnErr result (self.new ≡ self.old) }
+    {
+        let lanes = &mut self.types[kind_of(stream)];
+        lanes.open_to(index_of(stream) + 1)
+    }
+
+    /// Marks a stream that has a place, or takes its mark away.
+    pub(crate) fn set(&mut self, stream: StreamId, is_marked: bool)
+        ensures { self.new ≡ updated self.old stream (λ b. is_marked) (lookup self.old stream) }
+    {
+        let lanes = &mut self.types[kind_of(stream)];
+        lanes.set(index_of(stream), is_marked);
+    }
+
+    /// Looks whether any stream is marked still. No clause sees it.
+    pub(crate) fn look(&mut self)
+        ensures { self.new ≡ self.old }
+    {
+        self.types[0].look();
+        self.types[1].look();
+        self.types[2].look();
+        self.types[3].look();
+    }
+
+    /// A piece leaves its packet: the stream whose limit or stop it told is marked.
+    pub(crate) fn look_again(&mut self, piece: &Piece)
+        ensures { self.new ≡ marked_for piece.now self.old }
+    {
+        match *piece {
+            Piece::Told(Item::MaxStreamData { stream, .. }) => self.set(stream, true),
+            Piece::Told(Item::StopSending { stream, .. }) => self.set(stream, true),
+            _ => {}
+        }
+    }
+
+    /// The least number from one on of a marked stream.
+    pub(crate) fn next(&self, from: u64) -> Option<StreamId>
+        requires { from ≤ 2 ^ 62 }
+        ensures from { IfSome result (λ n. from ≤ n) }
+        ensures unmarked { (n : ℕ) (b : Bool) → from ≤ n → IsBefore n result → lookup self.now n ≡ Some b → b ≡ false }
+    {
+        let bidi = least(self.next_of(0, from), self.next_of(1, from));
+        let uni = least(self.next_of(2, from), self.next_of(3, from));
+        StreamId::new(least(bidi, uni)?)
+    }
+
+    // The least such number among the streams of a type.
+    fn next_of(&self, kind: usize, from: u64) -> Option<u64>
+        requires kind { kind < 4 }
+        requires from { from ≤ 2 ^ 62 }
+        ensures found { IfSome result (λ n. (from ≤ n) × (n < 2 ^ 62)) }
+        ensures unmarked { HaveTo IsUnmarked self.now from result kind }
+    {
+        let lanes = &self.types[kind];
+        let first = (from + 3 - kind as u64) / 4;
+        let index = lanes.next(first as usize)?;
+        Some((index * 4 + kind) as u64)
+    }
+}
