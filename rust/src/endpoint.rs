@@ -326,7 +326,8 @@ impl Endpoint {
     ///
     /// The rings take at least what is [`stored`](Self::stored). A peer can't make them take more than four times the
     /// connection's window, and 4,096 bytes for each receiving half that wasn't read to its end, reset or stopped. A buffer takes
-    /// at most twice the settings' `send_buffer`, and no more than 4,096 bytes where all of it is acknowledged.
+    /// at most twice the settings' `send_buffer`, no more than 4,096 bytes where all of it is acknowledged, and nothing where the
+    /// end is too, or the stream was reset.
     ///
     /// ```
     /// use gotsavena::{Dir, Endpoint, Held, Role, Settings};

@@ -203,7 +203,7 @@ fn a_ring_shrinks_as_it_is_read() {
 }
 
 /// What an end tells that it holds is what its calls took, beside what is noted of a stream: nothing at first, 4,096 bytes for
-/// a byte, and nothing once the stream was read to its end and all is acknowledged.
+/// a byte, and nothing once the stream was read to its end and all is acknowledged, or as the stream is reset.
 fn what_is_held_is_told() {
     const NOTED: u64 = 1024;
     let nothing = Held {
@@ -236,7 +236,14 @@ fn what_is_held_is_told() {
     let given = before - live() as u64;
     assert!(receiving <= given && given <= receiving + NOTED);
     two.settle();
-    assert!(two.client.held().sending <= 4096 && two.server.held().sending <= 4096);
+    assert_eq!((two.client.held(), two.server.held()), (nothing, nothing));
+
+    let stream = two.client.open(Dir::Bidi).expect("a stream");
+    let before = live() as u64;
+    assert_eq!(two.client.write(stream, &[9; ANSWER]), Ok(ANSWER));
+    two.client.reset(stream, 7).expect("a stream that is open");
+    assert_eq!(two.client.held(), nothing);
+    assert!(live() as u64 <= before + NOTED);
 }
 
 #[test]

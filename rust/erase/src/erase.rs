@@ -46,7 +46,7 @@ pub fn erase(place: &Place<'_>, text: &str) -> Erased<String> {
 }
 
 /// Names of Rattle's prelude that Rust's has not, or has with another meaning. A macro is named with its sign.
-const PRELUDE: &str = "HostRuntime String Vec assert! assert_eq! format! panic! vec!";
+const PRELUDE: &str = "Box HostRuntime String Vec assert! assert_eq! format! panic! vec!";
 
 /// Crates for which a module of the shim stands.
 const SHIMMED: [&str; 6] = ["std", "byteorder", "hex", "rand_core", "rand_pcg", "clap"];

@@ -45,6 +45,14 @@ impl<T> VecDeque<T> {
         }
     }
 
+    pub fn capacity(&self) -> usize {
+        self.items.capacity()
+    }
+
+    pub fn clear(&mut self) {
+        self.items.clear();
+    }
+
     pub fn insert(&mut self, place: usize, value: T) -> Result<(), AllocFailed<T>> {
         match self.reserve(1) {
             Ok(()) => {

@@ -9,10 +9,12 @@
 extern crate alloc as heap;
 
 pub mod alloc;
+mod boxed;
 pub mod byteorder;
 pub mod collections;
 mod vec;
 
 // Modules in which nothing takes memory.
+pub use boxed::Box;
 pub use core::{array, cmp, fmt, iter, mem, num, ops, str};
 pub use vec::{SliceCalls, Vec};

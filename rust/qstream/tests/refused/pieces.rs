@@ -110,7 +110,13 @@ fn sending_half_goes_on() -> usize {
 
 #[test]
 fn a_sending_half_survives_refusals() {
-    assert!(each_refused(sending_half_goes_on) >= 6);
+    assert!(each_refused(sending_half_goes_on) >= 7);
+}
+
+/// What an end keeps of each stream that is over, or never carried a byte; what is live stands in a box.
+#[test]
+fn a_sending_half_takes_64_bytes() {
+    assert!(size_of::<SendHalf>() <= 64);
 }
 
 fn look_at_recv<A: Assembly>(half: &RecvHalf<A>) -> impl Debug + PartialEq + use<A> {
@@ -142,6 +148,12 @@ fn receiving_half_goes_on<A: Assembly>() -> usize {
 
 #[test]
 fn a_receiving_half_survives_refusals() {
-    assert!(each_refused(receiving_half_goes_on::<RingAssembly>) >= 2);
+    assert!(each_refused(receiving_half_goes_on::<RingAssembly>) >= 3);
     assert!(each_refused(receiving_half_goes_on::<ChunkAssembly>) >= 4);
+}
+
+/// What an end keeps of each stream that is over, or never carried a byte.
+#[test]
+fn a_receiving_half_takes_56_bytes() {
+    assert!(size_of::<RecvHalf<RingAssembly>>() <= 56);
 }

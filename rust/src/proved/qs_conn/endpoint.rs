@@ -7,6 +7,7 @@ use crate::proved::qs_conn::outbox::Outbox;
 use crate::proved::qs_conn::places::kind_of;
 use crate::proved::qs_conn::recv_tables::RecvTables;
 use crate::proved::qs_conn::setup::setup_fault;
+use crate::proved::qs_conn::untold::Untold;
 use crate::proved::qs_calls::{Closed, Closing, MAX_VARINT, PeerLimits, Settings, SetupFault};
 use crate::proved::qs_ranges::RangeSet;
 use crate::proved::qs_wire::{Dir, Frame, Role, StreamId, put};
@@ -38,6 +39,7 @@ pub struct Endpoint {
     peer: PeerLimits,
     outbox: Outbox,
     recvs: RecvTables,
+    untold: Untold,
     granted: u64,
     granted_bidi: u64,
     granted_uni: u64,
@@ -73,6 +75,7 @@ impl Endpoint {
             peer,
             outbox: Outbox::new(alloc),
             recvs: RecvTables::new(alloc),
+            untold: Untold::new(alloc),
             granted: settings.conn_window,
             granted_bidi: settings.grant_bidi,
             granted_uni: settings.grant_uni,
@@ -99,7 +102,8 @@ impl Endpoint {
 
     /// How much memory the rings of receiving halves take and the buffers of sending halves, by a walk over all streams that were
     /// opened: for a look now and then, and not for each packet. A peer within its credit can't make the rings take more than four
-    /// times the connection's window, and 4,096 bytes for each receiving half that keeps bytes still.
+    /// times the connection's window, and 4,096 bytes for each receiving half that keeps bytes still. A sending half that was reset,
+    /// or of which all that was written and the end were acknowledged, takes nothing.
     pub fn held(&self) -> Held {
         let _granted = self.granted;
         Held {
@@ -140,7 +144,7 @@ impl Endpoint {
     // Each limit becomes the next one, and each granted count of streams.
     fn settle(&mut self) {
         let _granted = self.granted;
-        self.recvs.raise_all();
+        self.recvs.raise_all(&mut self.untold);
         let taken = self.recvs.tally().taken;
         let settings = &self.settings;
         self.granted = next_limit(self.granted, taken, settings.conn_window);
@@ -210,7 +214,7 @@ fn next_limit(limit: u64, taken: u64, window: u64) -> u64 {
 // How many streams may be opened, where so many came to their end (RFC 9000, section 4.6).
 fn next_count(grant: u64, lifetime: u64, ended: u64) -> u64 {
     debug_assert!(grant <= lifetime);
-    grant + ended.min(lifetime - grant)
+    grant.saturating_add(ended).min(lifetime)
 }
 
 fn put_close(closing: Closing, out: &mut [u8]) -> Option<usize> {

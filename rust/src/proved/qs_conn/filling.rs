@@ -6,9 +6,13 @@ use crate::proved::qs_conn::recv_tables::RecvTables;
 use crate::proved::qs_conn::send_marks::Task;
 use crate::proved::qs_conn::slot::{Kind, Slot};
 use crate::proved::qs_conn::terms::Terms;
+use crate::proved::qs_conn::untold::Untold;
 use crate::proved::qs_ranges::RangeSet;
 use crate::proved::qs_send::{Chunk, Item};
 use crate::proved::qs_wire::{Dir, Frame, StreamId, put, put_ack};
+
+/// No STREAM frame with a length is shorter: its type, its stream and its length take a byte each (RFC 9000, section 19.8).
+const LEAST_STREAM_FRAME: usize = 3;
 
 /// How far a packet is.
 #[derive(Clone, Copy)]
@@ -97,11 +101,25 @@ pub(crate) fn put_slot(
     put_item(outbox, &item, out, packet)
 }
 
-/// The least number from one on of a stream that may have an item of a kind. Of the streams between none is due.
-pub(crate) fn next_of_kind(
+// Puts the item of a slot of the connection into the packet, if it is due. Mostly a look at two numbers tells that there is none.
+fn put_own_slot(
     terms: &Terms,
     recvs: &RecvTables,
+    outbox: &mut Outbox,
+    slot: Slot,
+    out: &mut [u8],
+    packet: Packet,
+) -> Packet {
+    if terms.has_none(outbox, &slot) {
+        return packet;
+    }
+    put_slot(terms, recvs, outbox, slot, out, packet)
+}
+
+/// The least number from one on of a stream that may have an item of a kind. Of the streams between none is due.
+pub(crate) fn next_of_kind(
     outbox: &Outbox,
+    untold: &Untold,
     kind: Kind,
     from: u64,
 ) -> Option<StreamId> {
@@ -109,7 +127,7 @@ pub(crate) fn next_of_kind(
     match kind {
         Kind::ResetStream => outbox.next_marked(Task::Reset, from),
         Kind::StreamDataBlocked => outbox.next_marked(Task::Blocked, from),
-        Kind::StopSending | Kind::MaxStreamData => terms.next_receiving(recvs, from),
+        Kind::StopSending | Kind::MaxStreamData => untold.next(from),
     }
 }
 
@@ -117,6 +135,7 @@ pub(crate) fn next_of_kind(
 pub(crate) fn put_kind(
     terms: &Terms,
     recvs: &RecvTables,
+    untold: &Untold,
     outbox: &mut Outbox,
     kind: Kind,
     out: &mut [u8],
@@ -127,7 +146,7 @@ pub(crate) fn put_kind(
     }
     let mut packet = packet;
     let mut from = 0;
-    while let Some(stream) = next_of_kind(terms, recvs, outbox, kind, from) {
+    while let Some(stream) = next_of_kind(outbox, untold, kind, from) {
         packet = put_slot(terms, recvs, outbox, kind.at(stream), out, packet);
         if packet.is_full {
             return packet;
@@ -141,24 +160,41 @@ pub(crate) fn put_kind(
 pub(crate) fn put_items(
     terms: &Terms,
     recvs: &RecvTables,
+    untold: &Untold,
     outbox: &mut Outbox,
     out: &mut [u8],
     packet: Packet,
 ) -> Packet {
-    let packet = put_slot(terms, recvs, outbox, Slot::MaxData, out, packet);
+    let packet = put_own_slot(terms, recvs, outbox, Slot::MaxData, out, packet);
     let bidi_streams = Slot::MaxStreams(Dir::Bidi);
-    let packet = put_slot(terms, recvs, outbox, bidi_streams, out, packet);
+    let packet = put_own_slot(terms, recvs, outbox, bidi_streams, out, packet);
     let uni_streams = Slot::MaxStreams(Dir::Uni);
-    let packet = put_slot(terms, recvs, outbox, uni_streams, out, packet);
-    let packet = put_kind(terms, recvs, outbox, Kind::ResetStream, out, packet);
-    let packet = put_kind(terms, recvs, outbox, Kind::StopSending, out, packet);
-    let packet = put_kind(terms, recvs, outbox, Kind::MaxStreamData, out, packet);
-    let packet = put_slot(terms, recvs, outbox, Slot::DataBlocked, out, packet);
-    let packet = put_kind(terms, recvs, outbox, Kind::StreamDataBlocked, out, packet);
+    let packet = put_own_slot(terms, recvs, outbox, uni_streams, out, packet);
+    let packet = put_kind(terms, recvs, untold, outbox, Kind::ResetStream, out, packet);
+    let packet = put_kind(terms, recvs, untold, outbox, Kind::StopSending, out, packet);
+    let packet = put_kind(
+        terms,
+        recvs,
+        untold,
+        outbox,
+        Kind::MaxStreamData,
+        out,
+        packet,
+    );
+    let packet = put_own_slot(terms, recvs, outbox, Slot::DataBlocked, out, packet);
+    let packet = put_kind(
+        terms,
+        recvs,
+        untold,
+        outbox,
+        Kind::StreamDataBlocked,
+        out,
+        packet,
+    );
     let bidi_blocked = Slot::StreamsBlocked(Dir::Bidi);
-    let packet = put_slot(terms, recvs, outbox, bidi_blocked, out, packet);
+    let packet = put_own_slot(terms, recvs, outbox, bidi_blocked, out, packet);
     let uni_blocked = Slot::StreamsBlocked(Dir::Uni);
-    put_slot(terms, recvs, outbox, uni_blocked, out, packet)
+    put_own_slot(terms, recvs, outbox, uni_blocked, out, packet)
 }
 
 /// Puts a chunk into the packet that is known to fit, and answers how many bytes there are then.
@@ -200,6 +236,9 @@ pub(crate) fn put_chunks(
     let mut fresh = terms.known_data - outbox.sent_sum();
     while let Some(chunk) = outbox.next_chunk(stream, out.len() - len, fresh) {
         len = put_chunk(outbox, stream, chunk, out, len);
+        if out.len() - len < LEAST_STREAM_FRAME {
+            return Packet { len, is_full: true };
+        }
         fresh = terms.known_data - outbox.sent_sum();
     }
     let is_full = outbox.is_held_by_room(stream, out.len() - len, fresh);
@@ -273,6 +312,9 @@ pub(crate) fn put_streams(
 ) -> Packet {
     debug_assert!(first < 1 << 62);
     let packet = put_way(terms, outbox, first, false, out, packet);
+    if packet.is_full {
+        return packet;
+    }
     put_way(terms, outbox, first, true, out, packet)
 }
 
@@ -301,11 +343,12 @@ fn put_ack_if(done: &RangeSet, ack_due: bool, delay: u64, out: &mut [u8]) -> usi
     0
 }
 
-/// What a packet is to hold beside what is due: from which stream on bytes go in, and the delay that an ACK tells.
+/// What a packet is to hold beside what is due: from which stream on bytes go in, and whether an ACK, and the delay that it tells.
 #[derive(Clone, Copy)]
 pub(crate) struct Wish {
     pub first: u64,
     pub delay: u64,
+    pub ack_due: bool,
 }
 
 /// Fills a packet from its first byte on, and answers how many bytes it has: the ACK if one is due, control items, and the bytes of
@@ -313,19 +356,19 @@ pub(crate) struct Wish {
 pub(crate) fn fill(
     terms: &Terms,
     recvs: &RecvTables,
+    untold: &Untold,
     done: &RangeSet,
-    ack_due: bool,
     outbox: &mut Outbox,
     wish: Wish,
     out: &mut [u8],
 ) -> usize {
     debug_assert!(26 <= out.len());
-    let len = put_ack_if(done, ack_due, wish.delay, out);
+    let len = put_ack_if(done, wish.ack_due, wish.delay, out);
     let start = Packet {
         len,
         is_full: false,
     };
-    let packet = put_items(terms, recvs, outbox, out, start);
+    let packet = put_items(terms, recvs, untold, outbox, out, start);
     let packet = put_streams(terms, outbox, wish.first, out, packet);
     packet.len
 }

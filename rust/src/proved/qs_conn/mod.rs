@@ -23,6 +23,8 @@ mod stream_values;
 mod terms;
 mod told;
 mod told_index;
+mod unmarking;
+mod untold;
 
 pub use endpoint::Endpoint;
 pub use held::Held;

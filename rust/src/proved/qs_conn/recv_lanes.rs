@@ -2,12 +2,13 @@
 //! The receiving halves of the streams of one type.
 use crate::shim::Vec;
 
-use crate::proved::qs_conn::marks::Marks;
 use crate::proved::qs_conn::recv_marks::{RecvMarks, RecvTask, has};
+use crate::proved::qs_conn::untold::Untold;
 use crate::proved::qs_calls::RecvReport;
 use crate::proved::qs_machine::Tally;
 use crate::proved::qs_ranges::NoMemory;
 use crate::proved::qs_recv::{Highest, Read, RecvFault, RecvHalf, RecvState, RingAssembly};
+use crate::proved::qs_wire::StreamId;
 use crate::shim::alloc::Global;
 
 type Half = RecvHalf<RingAssembly>;
@@ -26,10 +27,6 @@ pub(crate) struct RecvLanes {
     halves: Vec<Half>,
     tally: Tally,
     touched: Touched,
-    // The greatest window that a lane began with.
-    first: u64,
-    // A lane without a mark has nothing to tell.
-    marks: Marks,
     // A lane without a mark has no answer for its owner.
     news: RecvMarks,
 }
@@ -45,8 +42,6 @@ impl RecvLanes {
                 stored: 0,
             },
             touched: Touched::Nothing,
-            first: 0,
-            marks: Marks::new(alloc),
             news: RecvMarks::new(alloc),
         }
     }
@@ -136,16 +131,10 @@ impl RecvLanes {
                 return Err(NoMemory);
             }
         }
-        if let Err(_refused) = self.marks.open_to(count) {
-            self.halves.truncate(before);
-            return Err(NoMemory);
-        }
         if let Err(_refused) = self.news.open_to(count) {
             self.halves.truncate(before);
-            self.marks.close_to(before);
             return Err(NoMemory);
         }
-        self.first = self.first.max(window);
         Ok(())
     }
 
@@ -153,21 +142,14 @@ impl RecvLanes {
     pub(crate) fn reserve_to(&mut self, count: usize) -> Result<(), NoMemory> {
         let missing = count.saturating_sub(self.halves.len());
         match self.halves.reserve(missing) {
-            Ok(()) => self.reserve_marks(count),
+            Ok(()) => self.news.reserve(count),
             Err(_refused) => Err(NoMemory),
         }
-    }
-
-    // Takes the memory for the marks of all indexes below a count.
-    fn reserve_marks(&mut self, count: usize) -> Result<(), NoMemory> {
-        self.marks.reserve(count)?;
-        self.news.reserve(count)
     }
 
     /// Takes the lanes from a count on away, which nothing came for.
     pub(crate) fn close_to(&mut self, count: usize) {
         self.halves.truncate(count);
-        self.marks.close_to(count);
         self.news.close_to(count);
     }
 
@@ -186,7 +168,6 @@ impl RecvLanes {
             return Err(NoMemory);
         }
         let is = measure(half);
-        self.marks.set(index, is_busy(half, self.first));
         self.news.look(index, half);
         self.tally = moved(self.tally, was, is);
         if stopped {
@@ -202,7 +183,6 @@ impl RecvLanes {
         let was = measure(half);
         half.take_reset(code, size);
         let is = measure(half);
-        self.marks.set(index, is_busy(half, self.first));
         self.news.look(index, half);
         self.tally = moved(self.tally, was, is);
     }
@@ -213,7 +193,6 @@ impl RecvLanes {
         let was = measure(half);
         let answer = half.read(into);
         let is = measure(half);
-        self.marks.set(index, is_busy(half, self.first));
         self.news.look(index, half);
         self.tally = moved(self.tally, was, is);
         self.touched = touch(self.touched, index);
@@ -227,7 +206,6 @@ impl RecvLanes {
         let was = measure(half);
         half.stop(code);
         let is = measure(half);
-        self.marks.set(index, true);
         self.news.look(index, half);
         self.tally = moved(self.tally, was, is);
         self.touched = touch(self.touched, index);
@@ -273,22 +251,12 @@ impl RecvLanes {
         }
     }
 
-    /// Each limit becomes the next one. Only lanes that were touched are looked at.
-    pub(crate) fn raise_all(&mut self) {
-        raise_touched(&mut self.halves, &mut self.marks, self.first, self.touched);
+    /// Each limit becomes the next one, and a stream whose limit rises is marked. Only lanes that were touched are looked at; `kind` is
+    /// the type of their streams.
+    pub(crate) fn raise_all(&mut self, kind: usize, untold: &mut Untold) {
+        debug_assert!(kind < 4);
+        raise_touched(&mut self.halves, self.touched, kind, untold);
         self.touched = Touched::Nothing;
-    }
-
-    /// The least index from one on whose lane may have a stop or a limit above `window` to tell.
-    pub(crate) fn next_marked(&self, from: usize, window: u64) -> Option<usize> {
-        if from >= self.halves.len() {
-            return None;
-        }
-        if window < self.first {
-            // Some lanes began with more, so each of them may have a limit to tell.
-            return self.next_open(from);
-        }
-        self.marks.next(from)
     }
 
     /// The least index from one on whose lane has an answer for its owner.
@@ -301,25 +269,6 @@ impl RecvLanes {
             next = index + 1;
         }
         None
-    }
-
-    // An index from one on, where a lane is open there.
-    fn next_open(&self, from: usize) -> Option<usize> {
-        if from < self.halves.len() {
-            return Some(from);
-        }
-        None
-    }
-}
-
-// Whether a lane has a stop to tell, or a limit above the window that lanes began with.
-fn is_busy(half: &Half, first: u64) -> bool {
-    if first < half.limit() && half.final_size().is_none() {
-        return true;
-    }
-    match half.state() {
-        RecvState::Recv | RecvState::SizeKnown => half.stop_code().is_some(),
-        _ => false,
     }
 }
 
@@ -361,28 +310,34 @@ fn touch(touched: Touched, index: usize) -> Touched {
     }
 }
 
-fn raise_touched(halves: &mut Vec<Half>, marks: &mut Marks, first: u64, touched: Touched) {
+fn raise_touched(halves: &mut Vec<Half>, touched: Touched, kind: usize, untold: &mut Untold) {
+    debug_assert!(kind < 4);
     match touched {
         Touched::Nothing => {}
-        Touched::Lane(index) => raise_one(halves, marks, first, index),
-        Touched::Several => raise_each(halves, marks, first),
+        Touched::Lane(index) => raise_one(halves, index, kind, untold),
+        Touched::Several => raise_each(halves, kind, untold),
     }
 }
 
-fn raise_one(halves: &mut Vec<Half>, marks: &mut Marks, first: u64, index: usize) {
+fn raise_one(halves: &mut Vec<Half>, index: usize, kind: usize, untold: &mut Untold) {
+    debug_assert!(kind < 4);
     if index < halves.len() {
-        raise_at(halves, marks, first, index);
+        raise_at(halves, index, kind, untold);
     }
 }
 
-fn raise_each(halves: &mut Vec<Half>, marks: &mut Marks, first: u64) {
+fn raise_each(halves: &mut Vec<Half>, kind: usize, untold: &mut Untold) {
+    debug_assert!(kind < 4);
     for index in 0..halves.len() {
-        raise_at(halves, marks, first, index);
+        raise_at(halves, index, kind, untold);
     }
 }
 
-fn raise_at(halves: &mut Vec<Half>, marks: &mut Marks, first: u64, index: usize) {
+fn raise_at(halves: &mut Vec<Half>, index: usize, kind: usize, untold: &mut Untold) {
+    debug_assert!(kind < 4);
     let half = &mut halves[index];
-    let _ = half.raise();
-    marks.set(index, is_busy(half, first));
+    if let Some(_limit) = half.raise() {
+        let stream = StreamId::new((index * 4 + kind) as u64).unwrap();
+        untold.set(stream, true);
+    }
 }

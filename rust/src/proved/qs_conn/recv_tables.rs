@@ -5,6 +5,7 @@ use crate::proved::qs_conn::marks::least;
 use crate::proved::qs_conn::places::{index_of, kind_of};
 use crate::proved::qs_conn::recv_lanes::RecvLanes;
 use crate::proved::qs_conn::recv_marks::RecvTask;
+use crate::proved::qs_conn::untold::Untold;
 use crate::proved::qs_calls::RecvReport;
 use crate::proved::qs_machine::Tally;
 use crate::proved::qs_ranges::NoMemory;
@@ -175,16 +176,6 @@ impl RecvTables {
         lanes.stop_to_tell(index_of(stream))
     }
 
-    /// The least number from one on of a stream of a type that may have a stop or a limit above `window` to tell.
-    pub(crate) fn next_of(&self, kind: usize, window: u64, from: u64) -> Option<u64> {
-        debug_assert!(kind < 4);
-        debug_assert!(from <= 1 << 62);
-        let lanes = &self.types[kind];
-        let first = (from + 3 - kind as u64) / 4;
-        let index = lanes.next_marked(first as usize, window)?;
-        Some((index * 4 + kind) as u64)
-    }
-
     /// The least number from one on of a stream whose receiving half has an answer for its owner.
     pub(crate) fn next_with(&self, task: RecvTask, from: u64) -> Option<StreamId> {
         debug_assert!(from <= 1 << 62);
@@ -229,12 +220,12 @@ impl RecvTables {
         bidi.saturating_add(uni)
     }
 
-    /// Each limit becomes the next one.
-    pub(crate) fn raise_all(&mut self) {
-        self.types[0].raise_all();
-        self.types[1].raise_all();
-        self.types[2].raise_all();
-        self.types[3].raise_all();
+    /// Each limit becomes the next one, and a stream whose limit rises is marked.
+    pub(crate) fn raise_all(&mut self, untold: &mut Untold) {
+        self.types[0].raise_all(0, untold);
+        self.types[1].raise_all(1, untold);
+        self.types[2].raise_all(2, untold);
+        self.types[3].raise_all(3, untold);
     }
 }
 

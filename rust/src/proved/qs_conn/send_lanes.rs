@@ -93,7 +93,7 @@ impl SendLanes {
     pub(crate) fn write(&mut self, index: usize, bytes: &[u8]) -> Result<usize, SendFault> {
         let half = &mut self.halves[index];
         let answer = half.write(bytes);
-        self.marks.look(index, half);
+        self.marks.look_written(index, half);
         answer
     }
 
@@ -148,14 +148,14 @@ impl SendLanes {
     pub(crate) fn sent(&mut self, index: usize, chunk: Chunk) {
         let half = &mut self.halves[index];
         half.sent(chunk);
-        self.marks.look(index, half);
+        self.marks.look_sent(index, half);
     }
 
     /// Takes in that a chunk is acknowledged, or changes nothing.
     pub(crate) fn acked(&mut self, index: usize, chunk: Chunk) -> Result<(), NoMemory> {
         let half = &mut self.halves[index];
         let answer = half.acked(chunk);
-        self.marks.look(index, half);
+        self.marks.look_acked(index, half);
         answer
     }
 

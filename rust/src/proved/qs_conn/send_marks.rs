@@ -98,6 +98,26 @@ impl SendMarks {
         self.ended.set(index, has_ended(half));
     }
 
+    /// Looks again at a half that was given bytes: that moves neither its reset nor its end.
+    pub(crate) fn look_written(&mut self, index: usize, half: &SendHalf) {
+        self.bytes.set(index, may_send(half));
+        self.blocks.set(index, may_be_blocked(half));
+        self.writable.set(index, half.is_writable());
+    }
+
+    /// Looks again at a half of which a chunk was sent: that moves neither its reset nor its room nor its end.
+    pub(crate) fn look_sent(&mut self, index: usize, half: &SendHalf) {
+        self.bytes.set(index, may_send(half));
+        self.blocks.set(index, may_be_blocked(half));
+    }
+
+    /// Looks again at a half of which a chunk was acknowledged: that moves neither its reset nor what its limit holds back.
+    pub(crate) fn look_acked(&mut self, index: usize, half: &SendHalf) {
+        self.bytes.set(index, may_send(half));
+        self.writable.set(index, half.is_writable());
+        self.ended.set(index, has_ended(half));
+    }
+
     /// The least marked index from one on.
     pub(crate) fn next(&self, task: Task, from: usize) -> Option<usize> {
         match task {

@@ -7,6 +7,7 @@ use crate::proved::qs_conn::recv_tables::RecvTables;
 use crate::proved::qs_conn::send_marks::Task;
 use crate::proved::qs_conn::slot::{Kind, Slot};
 use crate::proved::qs_conn::terms::Terms;
+use crate::proved::qs_conn::untold::Untold;
 use crate::proved::qs_wire::{Dir, StreamId};
 
 // The item of a slot is due, or one was found before.
@@ -21,10 +22,17 @@ fn has_slot(terms: &Terms, recvs: &RecvTables, outbox: &Outbox, slot: Slot, is_f
 }
 
 // An item of a kind is due, or one was found before.
-fn has_kind(terms: &Terms, recvs: &RecvTables, outbox: &Outbox, kind: Kind, is_found: bool) -> bool {
+fn has_kind(
+    terms: &Terms,
+    recvs: &RecvTables,
+    untold: &Untold,
+    outbox: &Outbox,
+    kind: Kind,
+    is_found: bool,
+) -> bool {
     let mut is_found = is_found;
     let mut from = 0;
-    while let Some(stream) = next_of_kind(terms, recvs, outbox, kind, from) {
+    while let Some(stream) = next_of_kind(outbox, untold, kind, from) {
         is_found = has_slot(terms, recvs, outbox, kind.at(stream), is_found);
         if is_found {
             return true;
@@ -35,15 +43,15 @@ fn has_kind(terms: &Terms, recvs: &RecvTables, outbox: &Outbox, kind: Kind, is_f
 }
 
 // A control item is due.
-fn has_item(terms: &Terms, recvs: &RecvTables, outbox: &Outbox) -> bool {
+fn has_item(terms: &Terms, recvs: &RecvTables, untold: &Untold, outbox: &Outbox) -> bool {
     let found = has_slot(terms, recvs, outbox, Slot::MaxData, false);
     let found = has_slot(terms, recvs, outbox, Slot::MaxStreams(Dir::Bidi), found);
     let found = has_slot(terms, recvs, outbox, Slot::MaxStreams(Dir::Uni), found);
-    let found = has_kind(terms, recvs, outbox, Kind::ResetStream, found);
-    let found = has_kind(terms, recvs, outbox, Kind::StopSending, found);
-    let found = has_kind(terms, recvs, outbox, Kind::MaxStreamData, found);
+    let found = has_kind(terms, recvs, untold, outbox, Kind::ResetStream, found);
+    let found = has_kind(terms, recvs, untold, outbox, Kind::StopSending, found);
+    let found = has_kind(terms, recvs, untold, outbox, Kind::MaxStreamData, found);
     let found = has_slot(terms, recvs, outbox, Slot::DataBlocked, found);
-    let found = has_kind(terms, recvs, outbox, Kind::StreamDataBlocked, found);
+    let found = has_kind(terms, recvs, untold, outbox, Kind::StreamDataBlocked, found);
     let found = has_slot(terms, recvs, outbox, Slot::StreamsBlocked(Dir::Bidi), found);
     has_slot(terms, recvs, outbox, Slot::StreamsBlocked(Dir::Uni), found)
 }
@@ -72,8 +80,8 @@ fn has_stream(terms: &Terms, outbox: &Outbox) -> bool {
 }
 
 /// Whether a control item is due, or bytes of a stream or its end may go (RFC 9000, sections 3.1, 3.3 and 4.1).
-pub(crate) fn has_frame(terms: &Terms, recvs: &RecvTables, outbox: &Outbox) -> bool {
-    if has_item(terms, recvs, outbox) {
+pub(crate) fn has_frame(terms: &Terms, recvs: &RecvTables, untold: &Untold, outbox: &Outbox) -> bool {
+    if has_item(terms, recvs, untold, outbox) {
         return true;
     }
     has_stream(terms, outbox)

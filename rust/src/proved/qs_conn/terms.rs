@@ -2,7 +2,6 @@
 //! Which control items an end has to tell.
 
 use crate::proved::qs_conn::endpoint::{is_uni, role_bit};
-use crate::proved::qs_conn::marks::least;
 use crate::proved::qs_conn::outbox::Outbox;
 use crate::proved::qs_conn::places::kind_of;
 use crate::proved::qs_conn::recv_tables::RecvTables;
@@ -39,6 +38,17 @@ impl Terms {
             Slot::DataBlocked => self.data_blocked(outbox),
             Slot::StreamDataBlocked(stream) => stream_data_blocked(outbox, stream),
             Slot::StreamsBlocked(dir) => self.streams_blocked(dir),
+        }
+    }
+
+    /// Whether a look at few numbers tells that a slot of the connection has no item.
+    pub(crate) fn has_none(&self, outbox: &Outbox, slot: &Slot) -> bool {
+        match *slot {
+            Slot::MaxData => self.max_data().is_none(),
+            Slot::MaxStreams(dir) => self.max_streams(dir).is_none(),
+            Slot::DataBlocked => outbox.sent_sum() < self.known_data,
+            Slot::StreamsBlocked(dir) => self.streams_blocked(dir).is_none(),
+            _ => false,
         }
     }
 
@@ -83,22 +93,6 @@ impl Terms {
         } else {
             self.settings.bidi_remote
         }
-    }
-
-    /// The least number from one on of a stream that may have a stop or a raised limit to tell.
-    pub(crate) fn next_receiving(&self, recvs: &RecvTables, from: u64) -> Option<StreamId> {
-        debug_assert!(from <= 1 << 62);
-        let bidi = least(self.next_of(recvs, 0, from), self.next_of(recvs, 1, from));
-        let uni = least(self.next_of(recvs, 2, from), self.next_of(recvs, 3, from));
-        StreamId::new(least(bidi, uni)?)
-    }
-
-    // The least such number among the streams of a type.
-    fn next_of(&self, recvs: &RecvTables, kind: usize, from: u64) -> Option<u64> {
-        debug_assert!(kind < 4);
-        debug_assert!(from <= 1 << 62);
-        let any_of_the_type = StreamId::new(kind as u64).unwrap();
-        recvs.next_of(kind, self.window(any_of_the_type), from)
     }
 
     // The connection's limit, where it holds bytes of a stream back.

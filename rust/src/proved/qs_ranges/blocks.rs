@@ -222,10 +222,6 @@ pub(crate) fn first_from(blocks: &[Block], low: u64) -> (usize, usize) {
     if low <= blocks[0].first().1 {
         return (0, 0);
     }
-    // Two runs, as of a stream with one gap, need no search.
-    if count == 1 && blocks[0].len() == 2 {
-        return (0, 1);
-    }
     search_from(blocks, low)
 }
 

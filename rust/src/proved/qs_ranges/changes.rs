@@ -1,44 +1,22 @@
 // Made from crates/qs_ranges/src/changes.rt by rust/erase; not edited by hand.
-//! The runs of a set: none or one beside no block, or those of blocks.
+//! The runs of a set that are more than two, in blocks.
 use crate::shim::Vec;
 
 use crate::proved::qs_ranges::NoMemory;
 use crate::proved::qs_ranges::block::Block;
 use crate::proved::qs_ranges::blocks::{insert_at, replace, span_of, split, take_out};
-
-/// Adds a range to none or one run.
-pub(crate) fn insert_few(
-    one: &mut Option<(u64, u64)>,
-    blocks: &mut Vec<Block>,
-    lo: u64,
-    hi: u64,
-) -> Result<(), NoMemory> {
-    debug_assert!(lo < hi);
-    debug_assert!(hi <= 1 << 62);
-    let Some((start, end)) = *one else {
-        *one = Some((lo, hi));
-        return Ok(());
-    };
-    if hi < start {
-        return put_two(blocks, (lo, hi), (start, end));
-    }
-    if end < lo {
-        return put_two(blocks, (start, end), (lo, hi));
-    }
-    *one = Some((start.min(lo), end.max(hi)));
-    Ok(())
-}
+use crate::proved::qs_ranges::few::{Few, few_of};
 
 /// Adds a range to the runs of blocks.
 pub(crate) fn insert_many(
-    one: &mut Option<(u64, u64)>,
+    few: &mut Few,
     blocks: &mut Vec<Block>,
     lo: u64,
     hi: u64,
 ) -> Result<(), NoMemory> {
     debug_assert!(lo < hi);
     debug_assert!(hi <= 1 << 62);
-    *one = None;
+    *few = Few::Empty;
     let span = span_of(blocks, lo, hi + 1);
     if !span.some {
         return insert_at(blocks, span.block, span.from, (lo, hi));
@@ -46,43 +24,29 @@ pub(crate) fn insert_many(
     let start = blocks[span.block].run(span.from).0;
     let end = blocks[span.last].run(span.to - 1).1;
     replace(blocks, span, (lo.min(start), hi.max(end)));
-    Ok(())
-}
-
-/// Takes a range out of none or one run.
-pub(crate) fn remove_few(
-    one: &mut Option<(u64, u64)>,
-    blocks: &mut Vec<Block>,
-    lo: u64,
-    hi: u64,
-) -> Result<(), NoMemory> {
-    debug_assert!(lo < hi);
-    debug_assert!(hi <= 1 << 62);
-    let Some((start, end)) = *one else {
-        return Ok(());
-    };
-    if end <= lo || hi <= start {
-        return Ok(());
-    }
-    match (start < lo, hi < end) {
-        (false, false) => *one = None,
-        (true, false) => *one = Some((start, lo)),
-        (false, true) => *one = Some((hi, end)),
-        (true, true) => return put_two(blocks, (start, lo), (hi, end)),
-    }
+    settle(few, blocks);
     Ok(())
 }
 
 /// Takes a range out of the runs of blocks.
 pub(crate) fn remove_many(
-    one: &mut Option<(u64, u64)>,
+    few: &mut Few,
     blocks: &mut Vec<Block>,
     lo: u64,
     hi: u64,
 ) -> Result<(), NoMemory> {
     debug_assert!(lo < hi);
     debug_assert!(hi <= 1 << 62);
-    *one = None;
+    *few = Few::Empty;
+    let done = cut_blocks(blocks, lo, hi);
+    settle(few, blocks);
+    done
+}
+
+// Takes a range out of the runs of blocks, however few are left.
+fn cut_blocks(blocks: &mut Vec<Block>, lo: u64, hi: u64) -> Result<(), NoMemory> {
+    debug_assert!(lo < hi);
+    debug_assert!(hi <= 1 << 62);
     let span = span_of(blocks, lo + 1, hi);
     if !span.some {
         return Ok(());
@@ -98,30 +62,15 @@ pub(crate) fn remove_many(
     Ok(())
 }
 
-// Puts two runs into a block.
-fn put_two(blocks: &mut Vec<Block>, left: (u64, u64), right: (u64, u64)) -> Result<(), NoMemory> {
-    let mut block = Block::of(*blocks.allocator(), left)?;
-    block.insert(1, right)?;
-    blocks.push(block)?;
-    Ok(())
-}
-
-/// The run, where it ends above `n`.
-pub(crate) fn one_above(one: Option<(u64, u64)>, n: u64) -> Option<(u64, u64)> {
-    let (start, end) = one?;
-    if n < end {
-        return Some((start, end));
+// Two runs, or one, come back into the value, and their block goes.
+fn settle(few: &mut Few, blocks: &mut Vec<Block>) {
+    if blocks.len() != 1 {
+        return;
     }
-    None
-}
-
-/// Copies the run to the slice's front.
-pub(crate) fn copy_one(one: Option<(u64, u64)>, into: &mut [(u64, u64)]) -> usize {
-    let Some(run) = one else {
-        return 0;
-    };
-    into[0] = run;
-    1
+    if let Some(runs) = few_of(&blocks[0]) {
+        *few = runs;
+        *blocks = Vec::new(*blocks.allocator());
+    }
 }
 
 /// Copies the runs of blocks to the slice's front.
@@ -138,11 +87,6 @@ pub(crate) fn copy_runs(blocks: &[Block], into: &mut [(u64, u64)]) -> usize {
 fn copy_block(block: &Block, into: &mut [(u64, u64)], at: usize) {
     let end = at + block.len();
     block.copy_to(&mut into[at..end]);
-}
-
-/// Whether there is a run, as a number.
-pub(crate) fn count_one(one: Option<(u64, u64)>) -> usize {
-    if one.is_some() { 1 } else { 0 }
 }
 
 /// How many runs the blocks have.

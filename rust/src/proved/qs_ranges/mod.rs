@@ -4,17 +4,19 @@
 use crate::shim::Vec;
 
 use crate::proved::qs_ranges::block::Block;
-use crate::proved::qs_ranges::blocks::{first_from, two_above};
-use crate::proved::qs_ranges::changes::{
-    copy_one, copy_runs, count_one, count_runs, insert_few, insert_many, one_above, remove_few,
-    remove_many,
-};
+use crate::proved::qs_ranges::blocks::two_above;
+use crate::proved::qs_ranges::changes::{copy_runs, count_runs, insert_many, remove_many};
+use crate::proved::qs_ranges::few::{Few, copy_few, count_few, few_above, few_above_two, insert_few, remove_few};
 use crate::shim::alloc::{AllocError, AllocFailed, Global};
 
 mod block;
 mod blocks;
 mod changes;
+mod few;
 pub mod laws;
+mod maybe_number;
+
+pub use maybe_number::MaybeNumber;
 
 /// No memory was left.
 #[derive(Clone, Copy, Debug, PartialEq, Eq)]
@@ -32,10 +34,9 @@ impl<T> From<AllocFailed<T>> for NoMemory {
     }
 }
 
-/// A set of numbers below 2^62, kept as its longest runs in rising order: none or one in the value itself, and more in blocks. After a
-/// removal one may stay in a block.
+/// A set of numbers below 2^62, kept as its longest runs in rising order: two at most in the value itself, and more in blocks.
 pub struct RangeSet {
-    one: Option<(u64, u64)>,
+    few: Few,
     blocks: Vec<Block>,
 }
 
@@ -43,7 +44,17 @@ impl RangeSet {
     /// The empty set. It takes no memory.
     pub fn new(alloc: Global) -> Self {
         Self {
-            one: None,
+            few: Few::Empty,
+            blocks: Vec::new(alloc),
+        }
+    }
+
+    /// The set of all numbers below `n`. It takes no memory.
+    pub fn below(alloc: Global, n: u64) -> Self {
+        debug_assert!(n <= 1 << 62);
+        let few = if n > 0 { Few::One((0, n)) } else { Few::Empty };
+        Self {
+            few,
             blocks: Vec::new(alloc),
         }
     }
@@ -58,9 +69,9 @@ impl RangeSet {
             return Ok(());
         }
         if self.blocks.is_empty() {
-            return insert_few(&mut self.one, &mut self.blocks, lo, hi);
+            return insert_few(&mut self.few, &mut self.blocks, lo, hi);
         }
-        insert_many(&mut self.one, &mut self.blocks, lo, hi)
+        insert_many(&mut self.few, &mut self.blocks, lo, hi)
     }
 
     /// Takes out the numbers from `lo` on and below `hi`; an empty range changes nothing. `NoMemory` leaves the set as it was.
@@ -71,9 +82,9 @@ impl RangeSet {
             return Ok(());
         }
         if self.blocks.is_empty() {
-            return remove_few(&mut self.one, &mut self.blocks, lo, hi);
+            return remove_few(&mut self.few, &mut self.blocks, lo, hi);
         }
-        remove_many(&mut self.one, &mut self.blocks, lo, hi)
+        remove_many(&mut self.few, &mut self.blocks, lo, hi)
     }
 
     /// Takes out the numbers below `n`. It takes constant time up to the end of the first run.
@@ -86,7 +97,7 @@ impl RangeSet {
     /// there are.
     pub fn copy_pairs(&self, into: &mut [(u64, u64)]) -> usize {
         if self.blocks.is_empty() {
-            return copy_one(self.one, into);
+            return copy_few(self.few, into);
         }
         copy_runs(&self.blocks, into)
     }
@@ -148,35 +159,32 @@ impl RangeSet {
     /// How many runs there are: the members whose predecessor is not a member.
     pub fn count(&self) -> usize {
         if self.blocks.is_empty() {
-            return count_one(self.one);
+            return count_few(self.few);
         }
         count_runs(&self.blocks)
     }
 
     /// Every member is below 2^62. It does nothing: a proof calls it for what it ensures.
     pub fn members_fit(&self) {
-        let _one = &self.one;
+        let _few = &self.few;
     }
 
     // The first run that ends above `n`.
     fn run_above(&self, n: u64) -> Option<(u64, u64)> {
         if self.blocks.is_empty() {
-            return one_above(self.one, n);
+            return few_above(self.few, n);
         }
         if n >= 1 << 62 {
             return None;
         }
-        let (block, at) = first_from(&self.blocks, n + 1);
-        if block == self.blocks.len() {
-            return None;
-        }
-        Some(self.blocks[block].run(at))
+        let (first, _) = two_above(&self.blocks, n);
+        first
     }
 
     // The first run that ends above `n`, and the one behind it.
     fn runs_above(&self, n: u64) -> (Option<(u64, u64)>, Option<(u64, u64)>) {
         if self.blocks.is_empty() {
-            return (one_above(self.one, n), None);
+            return few_above_two(self.few, n);
         }
         if n >= 1 << 62 {
             return (None, None);

@@ -9,6 +9,10 @@ pub trait Assembly {
     /// An assembly of which at most `window` bytes past those that were read are stored. It takes no memory.
     fn new(alloc: Global, window: u64) -> Self;
 
+    /// An assembly that stores nothing, and of which the offsets that came are those below `end`: all of them were read, or
+    /// bytes are thrown away. It takes no memory.
+    fn at_rest(alloc: Global, window: u64, read_count: u64, end: u64, discarding: bool) -> Self;
+
     /// Stores the bytes at offsets that didn't come before, and notes the offsets. NoMemory where a growth was refused.
     fn put(&mut self, offset: u64, bytes: &[u8]) -> Result<(), NoMemory>;
 

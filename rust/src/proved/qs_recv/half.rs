@@ -1,11 +1,11 @@
 // Made from crates/qs_recv/src/half.rt by rust/erase; not edited by hand.
 //! The receiving half of a stream (RFC 9000, sections 2.2, 3.2, 3.5 and 4).
+use crate::shim::Box;
 
 use crate::proved::qs_recv::assembly::Assembly;
+use crate::proved::qs_recv::live::LiveHalf;
+use crate::proved::qs_recv::rest::Rest;
 use crate::shim::alloc::Global;
-
-// The largest value of a variable-length integer.
-const MAX_VARINT: u64 = (1 << 62) - 1;
 
 /// Why data or a reset is refused. The half is left as it was. Each but NoMemory is an error of the peer, and the last is
 /// told by `check_bytes` alone.
@@ -50,16 +50,17 @@ pub enum RecvState {
 }
 
 /// The receiving half of a stream, over any assembly. Offsets and sizes count bytes from the start of the stream.
+///
+/// One that never carried a byte, and one of which a reader was told the end or a reset, is a record of 56 bytes; the first
+/// byte that is stored takes the box.
 pub struct RecvHalf<A: Assembly> {
-    assembly: A,
-    window: u64,
-    read_count: u64,
-    received_end: u64,
-    limit: u64,
-    final_size: Option<u64>,
-    reset_code: Option<u64>,
-    stop_code: Option<u64>,
-    told: bool,
+    alloc: Global,
+    parts: Parts<A>,
+}
+
+enum Parts<A: Assembly> {
+    Resting(Rest),
+    Live(Box<LiveHalf<A>>),
 }
 
 impl<A: Assembly> RecvHalf<A> {
@@ -68,262 +69,212 @@ impl<A: Assembly> RecvHalf<A> {
         debug_assert!(1 <= window);
         debug_assert!(window <= 1 << 20);
         RecvHalf {
-            assembly: A::new(alloc, window),
-            window,
-            read_count: 0,
-            received_end: 0,
-            limit: window,
-            final_size: None,
-            reset_code: None,
-            stop_code: None,
-            told: false,
+            alloc,
+            parts: Parts::Resting(Rest::new(window)),
         }
     }
 
     /// Whether a STREAM frame may be taken, and what it does to the highest offset. The final size is tested before the
     /// credit.
     pub fn check_stream(&self, offset: u64, len: u64, fin: bool) -> Result<Highest, RecvFault> {
-        if self.breaks_final_size(offset, len, fin) {
-            return Err(RecvFault::FinalSize);
+        match &self.parts {
+            Parts::Resting(rest) => self.revived(rest).check_stream(offset, len, fin),
+            Parts::Live(live) => live.check_stream(offset, len, fin),
         }
-        let end = offset + len;
-        let before = self.highest();
-        if before.max(end) > self.limit {
-            return Err(RecvFault::StreamCredit);
-        }
-        let after = if fin {
-            end
-        } else if self.final_size.is_some() || len == 0 {
-            before
-        } else {
-            before.max(end)
-        };
-        Ok(Highest { before, after })
     }
 
     /// Whether a STREAM frame's bytes are those that are stored at their offsets, where some are still stored. It takes no
     /// memory.
     pub fn check_bytes(&self, offset: u64, bytes: &[u8]) -> Result<(), RecvFault> {
-        if self.assembly.same(offset, bytes) {
-            Ok(())
-        } else {
-            Err(RecvFault::ChangedByte)
+        match &self.parts {
+            Parts::Resting(rest) => {
+                let _none = rest.stored();
+                Ok(())
+            }
+            Parts::Live(live) => live.check_bytes(offset, bytes),
         }
     }
 
     /// Takes a STREAM frame that passed both checks. The only error is NoMemory, where a growth was refused. After a reset
     /// or a stop its bytes are counted and thrown away.
     pub fn take_stream(&mut self, offset: u64, bytes: &[u8], fin: bool) -> Result<(), RecvFault> {
-        let end = offset + bytes.len() as u64;
-        if self.reset_code.is_none() {
-            if self.assembly.put(offset, bytes).is_err() {
-                return Err(RecvFault::NoMemory);
+        match &mut self.parts {
+            Parts::Resting(rest) => {
+                if rest.takes(offset, bytes, fin) {
+                    return Ok(());
+                }
+                let mut live: LiveHalf<A> = LiveHalf::revived(self.alloc, rest);
+                live.take_stream(offset, bytes, fin)?;
+                let Ok(boxed) = Box::new(self.alloc, live) else {
+                    return Err(RecvFault::NoMemory);
+                };
+                self.parts = Parts::Live(boxed);
+                Ok(())
             }
-            self.received_end = end_with(self.received_end, offset, bytes.len() as u64);
+            Parts::Live(live) => live.take_stream(offset, bytes, fin),
         }
-        if fin {
-            self.final_size = Some(end);
-        }
-        Ok(())
     }
 
     /// Whether a RESET_STREAM frame that names this final size may be taken.
     pub fn check_reset(&self, size: u64) -> Result<Highest, RecvFault> {
         debug_assert!(size <= 0x3fff_ffff_ffff_ffff);
-        if self.breaks_final_size(size, 0, true) {
-            return Err(RecvFault::FinalSize);
+        match &self.parts {
+            Parts::Resting(rest) => self.revived(rest).check_reset(size),
+            Parts::Live(live) => live.check_reset(size),
         }
-        if size > self.limit {
-            return Err(RecvFault::StreamCredit);
-        }
-        Ok(Highest {
-            before: self.highest(),
-            after: size,
-        })
     }
 
     /// Takes a RESET_STREAM frame that passed the check: what is stored is thrown away. Once all data came, or after
     /// another reset, nothing changes.
     pub fn take_reset(&mut self, code: u64, size: u64) {
         debug_assert!(size <= 0x3fff_ffff_ffff_ffff);
-        if self.reset_code.is_some() || self.is_whole() {
-            return;
+        match &mut self.parts {
+            Parts::Resting(rest) => rest.take_reset(code, size),
+            Parts::Live(live) => live.take_reset(code, size),
         }
-        self.assembly.discard();
-        self.final_size = Some(size);
-        self.reset_code = Some(code);
     }
 
     /// Reads the bytes that are next into the slice's front, or tells how the stream stands. The rest of the slice stays.
     pub fn read(&mut self, into: &mut [u8]) -> Read {
-        if let Some(code) = self.reset_code {
-            self.told = true;
-            return Read::Reset(code);
+        let answer = match &mut self.parts {
+            Parts::Resting(rest) => rest.read(),
+            Parts::Live(live) => live.read(into),
+        };
+        if matches!(answer, Read::End | Read::Reset(_)) {
+            self.settle();
         }
-        if self.stop_code.is_some() {
-            if self.is_whole() {
-                self.told = true;
-                return Read::End;
-            }
-            return Read::Wait;
-        }
-        if self.final_size == Some(self.read_count) {
-            self.assembly.give_back();
-            self.told = true;
-            return Read::End;
-        }
-        if !self.assembly.received().has(self.read_count) {
-            return Read::Wait;
-        }
-        let count = self.assembly.take(into);
-        self.read_count += count as u64;
-        Read::Bytes(count)
+        answer
     }
 
     /// Throws the stored bytes away, and those that come from now on (section 3.5). The first code stays;
     /// a code is at most 2^62 - 1, so that a frame can tell it.
     pub fn stop(&mut self, code: u64) {
         debug_assert!(code <= 0x3fff_ffff_ffff_ffff);
-        if self.stop_code.is_none() {
-            self.assembly.discard();
-            self.stop_code = Some(code);
+        match &mut self.parts {
+            Parts::Resting(rest) => rest.stop(code),
+            Parts::Live(live) => live.stop(code),
         }
     }
 
     /// Raises the limit by what was taken, once that is half a window or more, and answers the new one where it rose
     /// (section 4.2). Once the final size is known it stays.
     pub fn raise(&mut self) -> Option<u64> {
-        if self.final_size.is_some() {
-            return None;
+        match &mut self.parts {
+            Parts::Resting(rest) => rest.raise(),
+            Parts::Live(live) => live.raise(),
         }
-        let next = (self.taken() + self.window).min(MAX_VARINT);
-        let step = (self.window / 2).max(1);
-        if self.limit + step <= next || (next == MAX_VARINT && self.limit < next) {
-            self.limit = next;
-            return Some(next);
-        }
-        None
     }
 
     /// What holds of the half at all times.
     pub fn is_lawful(&self) {
-        let _ = &self.assembly;
+        match &self.parts {
+            Parts::Resting(rest) => rest.is_lawful(),
+            Parts::Live(live) => live.is_lawful(),
+        }
     }
 
     /// The limit on the highest offset that was granted (section 4.1).
     pub fn limit(&self) -> u64 {
-        self.limit
+        match &self.parts {
+            Parts::Resting(rest) => rest.limit(),
+            Parts::Live(live) => live.limit(),
+        }
     }
 
     /// What credit is paid back for: the final size after a reset, the highest offset after a stop, else the bytes read.
     pub fn taken(&self) -> u64 {
-        if self.reset_code.is_some() || self.stop_code.is_some() {
-            self.highest()
-        } else {
-            self.read_count
+        match &self.parts {
+            Parts::Resting(rest) => rest.taken(),
+            Parts::Live(live) => live.taken(),
         }
     }
 
     /// The final size if known, else one more than the largest offset that came, or 0.
     pub fn highest(&self) -> u64 {
-        self.final_size.unwrap_or(self.received_end)
+        match &self.parts {
+            Parts::Resting(rest) => rest.highest(),
+            Parts::Live(live) => live.highest(),
+        }
     }
 
     /// How long the stream is, where that is known (section 4.5).
     pub fn final_size(&self) -> Option<u64> {
-        self.final_size
+        match &self.parts {
+            Parts::Resting(rest) => rest.final_size(),
+            Parts::Live(live) => live.final_size(),
+        }
     }
 
     /// The state by what came and what a reader was told (section 3.2).
     pub fn state(&self) -> RecvState {
-        if self.reset_code.is_some() {
-            if self.told {
-                RecvState::ResetRead
-            } else {
-                RecvState::ResetRecvd
-            }
-        } else if self.is_whole() {
-            if self.told {
-                RecvState::DataRead
-            } else {
-                RecvState::DataRecvd
-            }
-        } else if self.final_size.is_some() {
-            RecvState::SizeKnown
-        } else {
-            RecvState::Recv
+        match &self.parts {
+            Parts::Resting(rest) => self.revived(rest).state(),
+            Parts::Live(live) => live.state(),
         }
     }
 
     /// Whether a read of one byte would tell something new: bytes, or an end or a reset that wasn't told yet. Of a stopped half only the
     /// end and a reset are told (sections 2.2, 3.2 and 3.5).
     pub fn is_readable(&self) -> bool {
-        !self.told && self.tells_something()
+        match &self.parts {
+            Parts::Resting(rest) => self.revived(rest).is_readable(),
+            Parts::Live(live) => live.is_readable(),
+        }
     }
 
     /// How many bytes are stored and not read.
     pub fn stored(&self) -> u64 {
-        self.assembly.stored()
+        match &self.parts {
+            Parts::Resting(rest) => rest.stored(),
+            Parts::Live(live) => live.stored(),
+        }
     }
 
     /// How many bytes of memory are taken to store some, as the assembly counts them: at most 4,096, or while some are stored
     /// four times the highest offset less what was taken; none once the end was told, or where bytes are thrown away.
     pub fn held(&self) -> u64 {
-        self.assembly.held()
+        match &self.parts {
+            Parts::Resting(rest) => rest.stored(),
+            Parts::Live(live) => live.held(),
+        }
     }
 
     /// How many bytes were read.
     pub fn read_count(&self) -> u64 {
-        self.read_count
+        match &self.parts {
+            Parts::Resting(rest) => rest.read_count(),
+            Parts::Live(live) => live.read_count(),
+        }
     }
 
     /// The code of the first stop, if there was one: at most 2^62 - 1.
     pub fn stop_code(&self) -> Option<u64> {
-        self.stop_code
+        match &self.parts {
+            Parts::Resting(rest) => rest.stop_code(),
+            Parts::Live(live) => live.stop_code(),
+        }
     }
 
     /// The code of the reset that was taken, if there was one.
     pub fn reset_code(&self) -> Option<u64> {
-        self.reset_code
-    }
-
-    // Whether a read of one byte would tell something, be it new or not.
-    fn tells_something(&self) -> bool {
-        if let Some(_code) = self.reset_code {
-            return true;
-        }
-        if self.stop_code.is_some() {
-            return self.is_whole();
-        }
-        if Some(self.read_count) == self.final_size {
-            return true;
-        }
-        self.assembly.received().has(self.read_count)
-    }
-
-    // Whether the final size is known and every offset below it came.
-    fn is_whole(&self) -> bool {
-        match self.final_size {
-            Some(size) => self.assembly.received().covers(0, size),
-            None => false,
+        match &self.parts {
+            Parts::Resting(rest) => rest.reset_code(),
+            Parts::Live(live) => live.reset_code(),
         }
     }
 
-    // Whether a frame with len bytes at offset names another final size, or lies outside the known one.
-    fn breaks_final_size(&self, offset: u64, len: u64, fin: bool) -> bool {
-        let end = offset + len;
-        match self.final_size {
-            Some(size) => (len > 0 && size < end) || (fin && end != size),
-            None => fin && end < self.highest(),
+    // A half that is over is kept by its numbers alone from now on.
+    fn settle(&mut self) {
+        let Parts::Live(live) = &self.parts else {
+            return;
+        };
+        if let Some(rest) = live.rested() {
+            self.parts = Parts::Resting(rest);
         }
     }
-}
 
-// One more than the largest offset, once the len offsets from another one on came too.
-fn end_with(before: u64, offset: u64, len: u64) -> u64 {
-    if len == 0 {
-        before
-    } else {
-        before.max(offset + len)
+    // A half at rest, with an assembly that stores nothing.
+    fn revived(&self, rest: &Rest) -> LiveHalf<A> {
+        LiveHalf::revived(self.alloc, rest)
     }
 }

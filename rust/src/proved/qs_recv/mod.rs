@@ -2,8 +2,11 @@
 //! The receiving half of a stream: what arrived is put in order, read once, and paid back as credit.
 
 mod assembly;
+mod credit;
 mod half;
 pub mod laws;
+mod live;
+mod rest;
 mod ring_assembly;
 
 pub use assembly::Assembly;

@@ -45,6 +45,19 @@ impl Assembly for RingAssembly {
         }
     }
 
+    fn at_rest(alloc: Global, window: u64, read_count: u64, end: u64, discarding: bool) -> Self {
+        RingAssembly {
+            alloc,
+            ring: Vec::new(alloc),
+            received: RangeSet::below(alloc, end),
+            read_count,
+            end,
+            stored: 0,
+            window,
+            discarding,
+        }
+    }
+
     fn put(&mut self, offset: u64, bytes: &[u8]) -> Result<(), NoMemory> {
         let end = offset + bytes.len() as u64;
         if offset == end {
@@ -223,6 +236,14 @@ fn fill_gaps(
     debug_assert!(offset <= first);
     debug_assert!(first < stop);
     let end = offset + bytes.len() as u64;
+    if stop == end {
+        copy_in(
+            ring,
+            first,
+            &bytes[(first - offset) as usize..(stop - offset) as usize],
+        );
+        return end - first;
+    }
     let mut at = first;
     let mut to = stop;
     let mut count = 0;
@@ -320,6 +341,9 @@ fn is_in_ring(
     let mut at = start;
     while at < end {
         let (from, to) = next_run(received, at, end);
+        if from == end {
+            return true;
+        }
         let run = &bytes[(from - offset) as usize..(to - offset) as usize];
         if !are_at(ring, from, run) {
             return false;

@@ -5,7 +5,7 @@ use crate::proved::qs_send::records::Records;
 use crate::proved::qs_wire::AckRanges;
 
 /// One pass over the records from the highest number that an ACK's ranges name down to the lowest (RFC 9000, section 13.3). Each
-/// slot that it looks at and each range that it reads takes one turn.
+/// number that it gives and each range that it reads takes one turn, and after each turn comes one search.
 pub struct AckPass<'a> {
     // Of the range that was read last, the numbers from `low` on and below `below` are left.
     low: u64,
@@ -38,7 +38,7 @@ impl<'a> AckPass<'a> {
         }
     }
 
-    /// How many turns it took: slots that it looked at, and ranges that it read.
+    /// How many turns it took: numbers that it gave, and ranges that it read.
     pub fn turns(&self) -> u64 {
         self.turns
     }
@@ -54,27 +54,12 @@ impl<'a> AckPass<'a> {
         true
     }
 
-    // The greatest outstanding number of the range that was read last, below the one given last.
+    // The greatest outstanding number of the range that was read last, below the one given last. One that is found takes a turn.
     fn in_range(&mut self, records: &Records) -> Option<u64> {
-        self.below = records.cut(self.below);
-        while self.has_slot(records.base()) {
-            if self.look(records) {
-                return Some(self.below);
-            }
-        }
-        None
-    }
-
-    // Whether a number of the range that was read last is left, from `base` on.
-    fn has_slot(&self, base: u64) -> bool {
-        base < self.below && self.low < self.below
-    }
-
-    // Whether the next number below is outstanding.
-    fn look(&mut self, records: &Records) -> bool {
+        let number = records.within(self.low, self.below)?;
         self.turns = one_more(self.turns);
-        self.below -= 1;
-        records.is_held(self.below)
+        self.below = number;
+        Some(number)
     }
 }
 

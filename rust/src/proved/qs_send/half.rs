@@ -1,10 +1,9 @@
 // Made from crates/qs_send/src/half.rt by rust/erase; not edited by hand.
 //! The sending half of a stream (RFC 9000, sections 2.2, 3.1 and 13.3).
 
-use crate::proved::qs_send::edits::{add, forget};
-use crate::proved::qs_send::kept::Kept;
-use crate::proved::qs_send::parts::{Chunk, Reset, SendFault, SendState};
-use crate::proved::qs_ranges::{NoMemory, RangeSet};
+use crate::proved::qs_send::offsets::Offsets;
+use crate::proved::qs_send::parts::{Chunk, SendFault, SendState};
+use crate::proved::qs_ranges::{MaybeNumber, NoMemory};
 use crate::proved::qs_wire::StreamId;
 use crate::shim::alloc::Global;
 
@@ -14,29 +13,25 @@ mod chunks;
 pub const MAX_VARINT: u64 = (1 << 62) - 1;
 
 /// The sending half of a stream: bytes are written once, go out in chunks, and stay until they are
-/// acknowledged. What is lost goes out again, and a reset ends it (RFC 9000, sections 3.1 and 13.3).
+/// acknowledged. What is lost goes out again, and a reset ends it and lets all bytes go (RFC 9000,
+/// sections 3.1 and 13.3).
 ///
 /// Contracts see the sending lane and what of it is due.
 pub struct SendHalf {
     id: StreamId,
-    written: u64,
-    // From the lowest offset not acknowledged on.
-    kept: Kept,
-    acked: RangeSet,
-    // The offsets that were noted as due; the due ones are those not acknowledged.
-    noted: RangeSet,
-    sent_end: u64,
+    offsets: Offsets,
+    limit: u64,
+    buffer: usize,
+    // The code of the reset, whose size is the sent end.
+    reset_code: MaybeNumber,
+    // The code of the first STOP_SENDING that came.
+    stop_code: MaybeNumber,
     finished: bool,
     fin_sent: bool,
     fin_acked: bool,
     fin_noted: bool,
     blocked_sent: bool,
-    was_reset: Option<Reset>,
     reset_acked: bool,
-    limit: u64,
-    buffer: usize,
-    // The code of the first STOP_SENDING that came.
-    stop_code: Option<u64>,
 }
 
 impl SendHalf {
@@ -47,27 +42,23 @@ impl SendHalf {
         let _number = id.value();
         Self {
             id,
-            written: 0,
-            kept: Kept::new(alloc),
-            acked: RangeSet::new(alloc),
-            noted: RangeSet::new(alloc),
-            sent_end: 0,
+            offsets: Offsets::new(alloc),
+            limit,
+            buffer,
+            reset_code: MaybeNumber::none(),
+            stop_code: MaybeNumber::none(),
             finished: false,
             fin_sent: false,
             fin_acked: false,
             fin_noted: false,
             blocked_sent: false,
-            was_reset: None,
             reset_acked: false,
-            limit,
-            buffer,
-            stop_code: None,
         }
     }
 
     /// What holds of every half. It does nothing: a caller learns the clause.
     pub fn is_lawful(&self) {
-        let _written = self.written;
+        let _limit = self.limit;
     }
 
     /// Accepts the front of the bytes, as many as there is room for, and answers how many. They are due.
@@ -75,28 +66,21 @@ impl SendHalf {
     /// Refused, and then unchanged: `WasReset` after a reset, else `Finished` after `finish`, else
     /// `NoMemory` where memory was refused.
     pub fn write(&mut self, bytes: &[u8]) -> Result<usize, SendFault> {
-        if self.was_reset.is_some() {
+        if self.was_reset() {
             return Err(SendFault::WasReset);
         }
         if self.finished {
             return Err(SendFault::Finished);
         }
-        let most = (self.room() as u64).min(MAX_VARINT - self.written);
+        let most = (self.room() as u64).min(MAX_VARINT - self.offsets.written());
         let len = bytes.len().min(most as usize);
         if len == 0 {
             return Ok(0);
         }
         let (taken, _) = bytes.split_at(len);
-        let before = self.kept.len();
-        if let Err(_) = self.kept.append(taken, self.buffer) {
+        if let Err(_) = self.offsets.write(taken, self.buffer) {
             return Err(SendFault::NoMemory);
         }
-        let end = self.written + len as u64;
-        if let Err(_) = self.noted.insert(self.written, end) {
-            self.kept.truncate(before);
-            return Err(SendFault::NoMemory);
-        }
-        self.written = end;
         Ok(len)
     }
 
@@ -104,7 +88,7 @@ impl SendHalf {
     ///
     /// Refused, and then unchanged: `WasReset` after a reset, else `Finished` after another `finish`.
     pub fn finish(&mut self) -> Result<(), SendFault> {
-        if self.was_reset.is_some() {
+        if self.was_reset() {
             return Err(SendFault::WasReset);
         }
         if self.finished {
@@ -116,21 +100,20 @@ impl SendHalf {
     }
 
     /// Breaks the stream off in Ready, Send or Data Sent, with the count of offsets that went out as its
-    /// final size. From then on only the RESET_STREAM is to be sent (RFC 9000, sections 3.1 and 4.5). The
-    /// code is at most 2^62 - 1, so that the frame can tell it.
+    /// final size. From then on only the RESET_STREAM is to be sent (RFC 9000, sections 3.1 and 4.5), so the
+    /// buffer is given back. The code is at most 2^62 - 1, so that the frame can tell it.
     ///
     /// Refused, and then unchanged: `WasReset` after another reset, else `Finished` in Data Recvd.
     pub fn reset(&mut self, code: u64) -> Result<(), SendFault> {
         debug_assert!(code <= 0x3fff_ffff_ffff_ffff);
-        if self.was_reset.is_some() {
+        if self.was_reset() {
             return Err(SendFault::WasReset);
         }
         if self.is_whole() {
             return Err(SendFault::Finished);
         }
-        let size = self.sent_end;
-        self.was_reset = Some(Reset { code, size });
-        self.noted.drop_below(self.written);
+        self.reset_code = MaybeNumber::some(code);
+        self.offsets.let_all_go();
         self.fin_noted = false;
         Ok(())
     }
@@ -140,14 +123,14 @@ impl SendHalf {
     pub fn stopped(&mut self, code: u64) {
         debug_assert!(code <= 0x3fff_ffff_ffff_ffff);
         let _ = self.reset(code);
-        if self.stop_code.is_none() {
-            self.stop_code = Some(code);
+        if self.stop_code.get().is_none() {
+            self.stop_code = MaybeNumber::some(code);
         }
     }
 
     /// The code of the first STOP_SENDING that came (RFC 9000, section 3.5).
     pub fn stop_code(&self) -> Option<u64> {
-        self.stop_code
+        self.stop_code.get()
     }
 
     /// Takes in that the peer allows the offsets below `limit`. A limit that is no higher changes nothing
@@ -169,10 +152,7 @@ impl SendHalf {
 
     /// Takes in that the chunk was sent: it is in flight.
     pub fn sent(&mut self, chunk: Chunk) {
-        let before = self.sent_end;
-        let end = chunk.offset + chunk.len as u64;
-        self.noted.drop_below(end);
-        self.sent_end = before.max(end);
+        self.offsets.sent(chunk.offset + chunk.len as u64);
         self.fin_sent |= chunk.fin;
         self.fin_noted &= !chunk.fin;
     }
@@ -180,26 +160,21 @@ impl SendHalf {
     /// Takes in that a chunk which was sent is acknowledged, also where it was lost before. The bytes
     /// below the lowest offset not acknowledged are let go. Unchanged where memory was refused.
     pub fn acked(&mut self, chunk: Chunk) -> Result<(), NoMemory> {
-        let before = self.written - self.kept.len() as u64;
+        let fin_acked = self.fin_acked | chunk.fin;
         let end = chunk.offset + chunk.len as u64;
-        add(&mut self.acked, chunk.offset, end)?;
-        // What is acknowledged need not stay noted.
-        forget(&mut self.noted, chunk.offset, end);
-        let low = self.acked.first_missing(0);
-        let is_over = self.fin_acked || chunk.fin;
-        self.kept.let_go((low - before) as usize, is_over);
-        self.fin_acked |= chunk.fin;
+        self.offsets.acked(chunk.offset, end, fin_acked)?;
+        self.fin_acked = fin_acked;
         Ok(())
     }
 
     /// Takes in that a chunk which was sent is lost: what of it isn't acknowledged is due again, but
     /// after a reset nothing is (RFC 9000, section 13.3). Unchanged where memory was refused.
     pub fn lost(&mut self, chunk: Chunk) -> Result<(), NoMemory> {
-        if self.was_reset.is_some() {
+        if self.was_reset() {
             return Ok(());
         }
         let end = chunk.offset + chunk.len as u64;
-        add(&mut self.noted, chunk.offset, end)?;
+        self.offsets.lost(chunk.offset, end)?;
         self.fin_noted |= chunk.fin;
         Ok(())
     }
@@ -208,13 +183,13 @@ impl SendHalf {
     pub fn state(&self) -> SendState {
         if self.reset_acked {
             SendState::ResetRecvd
-        } else if self.was_reset.is_some() {
+        } else if self.was_reset() {
             SendState::ResetSent
         } else if self.is_whole() {
             SendState::DataRecvd
         } else if self.fin_sent {
             SendState::DataSent
-        } else if self.sent_end > 0 || self.blocked_sent {
+        } else if self.offsets.sent_end() > 0 || self.blocked_sent {
             SendState::Send
         } else {
             SendState::Ready
@@ -223,29 +198,26 @@ impl SendHalf {
 
     /// The final size that was declared, by a reset or by the end that was sent (RFC 9000, section 4.5).
     pub fn final_size(&self) -> Option<u64> {
-        match self.was_reset {
-            Some(reset) => Some(reset.size),
-            None if self.fin_sent => Some(self.written),
+        match self.reset_code.get() {
+            Some(_) => Some(self.offsets.sent_end()),
+            None if self.fin_sent => Some(self.offsets.written()),
             None => None,
         }
     }
 
     /// The application's code of the reset: at most 2^62 - 1.
     pub fn reset_code(&self) -> Option<u64> {
-        match self.was_reset {
-            Some(reset) => Some(reset.code),
-            None => None,
-        }
+        self.reset_code.get()
     }
 
     /// How many bytes were written.
     pub fn written(&self) -> u64 {
-        self.written
+        self.offsets.written()
     }
 
     /// The number after the largest offset that was sent; 0 where none was.
     pub fn sent_end(&self) -> u64 {
-        self.sent_end
+        self.offsets.sent_end()
     }
 
     /// The offsets below it may be sent.
@@ -255,29 +227,33 @@ impl SendHalf {
 
     /// How many bytes the buffer can take.
     pub fn room(&self) -> usize {
-        self.buffer - self.kept.len()
+        self.buffer - self.offsets.kept_len()
     }
 
     /// How many bytes of memory the buffer takes: at least those that are kept. While some are it takes up to twice what it is
-    /// set to, since it grows by doubling; else no more than 4,096.
+    /// set to, since it grows by doubling; else no more than 4,096, and nothing after a reset and in Data Recvd.
     pub fn held(&self) -> u64 {
-        self.kept.held() as u64
+        self.offsets.held() as u64
     }
 
     /// Whether a write of one byte would be accepted, if there is memory for it: neither the end was asked for nor a reset made, and there
     /// is room (RFC 9000, sections 2.2, 2.4 and 3.1).
     pub fn is_writable(&self) -> bool {
-        if self.was_reset.is_some() {
+        if self.was_reset() {
             return false;
         }
         if self.finished {
             return false;
         }
-        (self.room() as u64).min(MAX_VARINT - self.written) > 0
+        self.offsets.kept_len() < self.buffer && self.offsets.written() < MAX_VARINT
     }
 
-    // Whether every written offset and the end were acknowledged.
+    fn was_reset(&self) -> bool {
+        self.reset_code.get().is_some()
+    }
+
+    // Whether every written offset and the end were acknowledged, where no reset let bytes go before.
     fn is_whole(&self) -> bool {
-        self.kept.len() == 0 && self.fin_acked
+        self.fin_acked && self.offsets.kept_len() == 0
     }
 }

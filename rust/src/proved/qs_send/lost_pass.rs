@@ -26,11 +26,15 @@ impl<'a> LostPass<'a> {
         }
     }
 
-    /// The greatest lost number that the ranges name below the one given last, `None` where there is none.
+    /// The greatest lost number that the ranges name below the one given last, `None` where there is none. Where no packet is lost, it
+    /// reads no range.
     pub fn next(&mut self, records: &LostRecords) -> Option<u64> {
+        records.is_in_order();
+        if records.len() == 0 {
+            return None;
+        }
         // The number of the record that was looked at last; before the first look the bound itself.
         let mut seen = self.below;
-        records.is_in_order();
         loop {
             if let Some(number) = self.in_range(records, &mut seen) {
                 return Some(number);

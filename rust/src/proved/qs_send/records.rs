@@ -3,6 +3,7 @@
 use crate::shim::Vec;
 
 use crate::proved::qs_send::carried::Carried;
+use crate::proved::qs_send::gone;
 use crate::proved::qs_send::piece::Piece;
 use crate::proved::qs_ranges::NoMemory;
 use crate::shim::alloc::Global;
@@ -15,6 +16,10 @@ pub struct Records {
     alloc: Global,
     base: u64,
     slots: VecDeque<Carried>,
+    // Which slots are empty, as bits, of which the first is that of number `first`: a search looks at one word for 64 of them. Where
+    // there was no memory for its bit, an empty slot is looked at itself.
+    first: u64,
+    gone: VecDeque<u64>,
 }
 
 impl Records {
@@ -24,6 +29,8 @@ impl Records {
             alloc,
             base: 0,
             slots: VecDeque::new(alloc),
+            first: 0,
+            gone: VecDeque::new(alloc),
         }
     }
 
@@ -32,6 +39,9 @@ impl Records {
         if self.slots.is_empty() {
             self.slots.reserve(1)?;
             self.base = number;
+            self.first = number;
+            self.gone.clear();
+            gone::make_room(&mut self.gone, 0);
             return Ok(());
         }
         let place = number.saturating_sub(self.base) as usize;
@@ -40,6 +50,7 @@ impl Records {
         }
         let more = place - self.slots.len() + 1;
         self.slots.reserve(more)?;
+        gone::make_room(&mut self.gone, (number - self.first) as usize);
         Ok(())
     }
 
@@ -63,6 +74,7 @@ impl Records {
     pub fn drop_first(&mut self, number: u64) {
         if let Some(place) = self.slot_of(number) {
             self.slots[place].drop_first();
+            self.note(place);
         }
     }
 
@@ -70,6 +82,7 @@ impl Records {
     pub fn trim(&mut self) {
         while self.starts_empty() {
             self.drop_front();
+            self.drop_word();
         }
     }
 
@@ -80,8 +93,10 @@ impl Records {
 
     /// Whether the packet has a piece here.
     pub fn is_held(&self, number: u64) -> bool {
-        self.none_is_empty();
-        self.first(number).is_some()
+        match self.slot_of(number) {
+            Some(place) => self.is_filled(place),
+            None => false,
+        }
     }
 
     /// The greatest number that is held.
@@ -105,9 +120,15 @@ impl Records {
         self.base
     }
 
-    // The number, or where that is lower the one behind the last slot. Between the two none is held.
-    pub(crate) fn cut(&self, number: u64) -> u64 {
-        number.min(self.base.saturating_add(self.slots.len() as u64))
+    /// The greatest number from `low` on and below `below` that is held.
+    pub(crate) fn within(&self, low: u64, below: u64) -> Option<u64> {
+        let from = low.saturating_sub(self.base) as usize;
+        let below = below.saturating_sub(self.base) as usize;
+        let count = below.min(self.slots.len());
+        if self.slots.len() < gone::PER_WORD {
+            return self.last_looked_at(from, count);
+        }
+        self.last_from(from, count)
     }
 
     // The place of a number's slot. A number without one isn't held.
@@ -125,15 +146,69 @@ impl Records {
 
     // The greatest number that is held in the first slots.
     fn last_of(&self, count: usize) -> Option<u64> {
+        let _slots = &self.slots;
+        self.last_from(0, count)
+    }
+
+    // The greatest number that is held in the first slots, from one of them on.
+    fn last_from(&self, from: usize, count: usize) -> Option<u64> {
         let mut place = count;
-        while place > 0 {
-            place -= 1;
-            let number = self.base + place as u64;
-            if self.is_held(number) {
-                return Some(number);
+        while place > from {
+            let end = self.end_of_left(from, place);
+            if end <= from {
+                return None;
+            }
+            place = end - 1;
+            if self.is_filled(place) {
+                return Some(self.base + place as u64);
             }
         }
         None
+    }
+
+    // The same by a look at each slot.
+    fn last_looked_at(&self, from: usize, count: usize) -> Option<u64> {
+        let mut place = count;
+        while place > from {
+            place -= 1;
+            if self.is_filled(place) {
+                return Some(self.base + place as u64);
+            }
+        }
+        None
+    }
+
+    // An end of the first slots behind which none that is below `count` has a record, as low as the bits tell, down to `from`.
+    fn end_of_left(&self, from: usize, count: usize) -> usize {
+        if count <= from {
+            return count;
+        }
+        let skew = (self.base - self.first) as usize;
+        match skew.checked_add(count) {
+            Some(end) => gone::end_of_left(&self.gone, skew + from, end).saturating_sub(skew),
+            None => count,
+        }
+    }
+
+    // It is noted that a slot is empty, where it is. No clause sees it. Of few slots each is looked at itself.
+    fn note(&mut self, place: usize) {
+        if self.slots.len() >= gone::PER_WORD && !self.is_filled(place) {
+            let skew = (self.base - self.first) as usize;
+            gone::note(&mut self.gone, skew + place);
+        }
+    }
+
+    // Whether a slot has a record.
+    fn is_filled(&self, place: usize) -> bool {
+        self.slots[place].len() > 0
+    }
+
+    // The bits of slots that went all go. No clause sees it.
+    fn drop_word(&mut self) {
+        if self.base - self.first >= gone::PER_WORD as u64 {
+            let _ = self.gone.pop_front();
+            self.first += gone::PER_WORD as u64;
+        }
     }
 
     // Whether the first slot is an empty one.
@@ -176,13 +251,17 @@ impl Records {
     fn start_at(&mut self, number: u64) {
         if self.slots.is_empty() {
             self.base = number;
+            self.first = number;
+            self.gone.clear();
         }
     }
 
     // Empty slots for the numbers below `number`, so that the next slot is that number's.
     fn fill_to(&mut self, number: u64) {
         while self.ends_before(number) {
+            let place = self.slots.len();
             self.push_slot(Carried::empty(self.alloc));
+            self.note(place);
         }
     }
 
@@ -193,6 +272,8 @@ impl Records {
 
     // One slot more.
     fn push_slot(&mut self, slot: Carried) {
+        let index = (self.base - self.first) as usize + self.slots.len();
+        gone::begin(&mut self.gone, index);
         self.slots.push_back_reserved(slot);
     }
 }

@@ -4,6 +4,7 @@
 use crate::proved::qs_wire::fault::Full;
 use crate::proved::qs_wire::frame::{EcnCounts, Frame};
 use crate::proved::qs_wire::frame_type::FrameType;
+use crate::proved::qs_wire::stream_id::StreamId;
 use crate::proved::qs_wire::varint::{read_varint, spell, varint_len};
 use Part::{Counted, Counts, Identifier, Number, Plain, Ranges};
 
@@ -283,12 +284,66 @@ pub(crate) fn put_parts(parts: &[Part], out: &mut [u8]) {
     }
 }
 
-/// Writes the canonical text of a frame at the slice's front and answers its length in bytes: each number
-/// in its shortest spelling; of a STREAM frame the length always, and the offset where it is not 0. Where
-/// the text does not fit, nothing is written.
-pub fn put(frame: &Frame, out: &mut [u8]) -> Result<usize, Full> {
+/// How many bytes a number takes, if it is there.
+fn len_if(there: bool, value: u64) -> usize {
+    debug_assert!(value < 1 << 62);
+    if there { varint_len(value) } else { 0 }
+}
+
+/// Writes a number at a place, if it is there, and answers the place after it.
+fn put_number_if(there: bool, value: u64, at: usize, out: &mut [u8]) -> usize {
+    debug_assert!(value < 1 << 62);
+    if there {
+        put_number(value, at, out)
+    } else {
+        at
+    }
+}
+
+/// Writes a STREAM frame, as `put` does: most bytes go in such a frame, so it is written without a list of parts.
+fn put_stream(
+    id: StreamId,
+    offset: u64,
+    fin: bool,
+    bytes: &[u8],
+    out: &mut [u8],
+) -> Result<usize, Full> {
+    let off = offset > 0;
+    let frame_type = FrameType::Stream {
+        off,
+        len: true,
+        fin,
+    };
+    let head = 1 + varint_len(id.value()) + len_if(off, offset);
+    let len = head + varint_len(bytes.len() as u64) + bytes.len();
+    if len > out.len() {
+        return Err(Full);
+    }
+    let next = put_number(frame_type.number(), 0, out);
+    let next = put_number(id.value(), next, out);
+    let next = put_number_if(off, offset, next, out);
+    Ok(put_counted(bytes, next, out))
+}
+
+/// Writes a frame part by part, as `put` does.
+fn put_any(frame: &Frame, out: &mut [u8]) -> Result<usize, Full> {
     let parts = parts_of(frame);
     let len = len_within(&parts, out.len()).ok_or(Full)?;
     put_parts(&parts, out);
     Ok(len)
+}
+
+/// Writes the canonical text of a frame at the slice's front and answers its length in bytes: each number
+/// in its shortest spelling; of a STREAM frame the length always, and the offset where it is not 0. Where
+/// the text does not fit, nothing is written.
+pub fn put(frame: &Frame, out: &mut [u8]) -> Result<usize, Full> {
+    match *frame {
+        Frame::Stream {
+            stream,
+            offset,
+            fin,
+            bytes,
+        } => put_stream(stream, offset, fin, bytes, out),
+        _ => put_any(frame, out),
+    }
 }

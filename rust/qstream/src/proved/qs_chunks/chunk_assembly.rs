@@ -42,6 +42,17 @@ impl Assembly for ChunkAssembly {
         }
     }
 
+    fn at_rest(alloc: Global, window: u64, read_count: u64, end: u64, discarding: bool) -> Self {
+        ChunkAssembly {
+            chunks: ChunkList::new(alloc),
+            received: RangeSet::below(alloc, end),
+            read_count,
+            stored: 0,
+            window,
+            discarding,
+        }
+    }
+
     fn put(&mut self, offset: u64, bytes: &[u8]) -> Result<(), NoMemory> {
         let end = offset + bytes.len() as u64;
         if self.discarding {

@@ -221,6 +221,39 @@ fn every_number_fits() -> Result<(), Fail> {
     Ok(())
 }
 
+// A third run, and two again, each time at another place.
+#[test]
+fn three_runs_become_two_again() -> Result<(), Fail> {
+    let rt = HostRuntime::new();
+    let steps = [
+        Step::Insert(20, 30),
+        Step::Insert(0, 10),
+        Step::Pairs(&[(0, 10), (20, 30)]),
+        Step::Insert(40, 50),
+        Step::Pairs(&[(0, 10), (20, 30), (40, 50)]),
+        Step::Insert(10, 20),
+        Step::Pairs(&[(0, 30), (40, 50)]),
+        Step::Remove(44, 46),
+        Step::Pairs(&[(0, 30), (40, 44), (46, 50)]),
+        Step::Remove(40, 44),
+        Step::Pairs(&[(0, 30), (46, 50)]),
+        Step::Remove(10, 20),
+        Step::Pairs(&[(0, 10), (20, 30), (46, 50)]),
+        Step::Remove(5, 48),
+        Step::Pairs(&[(0, 5), (48, 50)]),
+        Step::FirstMissing(1, 5),
+        Step::Covers(48, 50, true),
+        Step::Covers(4, 6, false),
+        Step::Insert(30, 31),
+        Step::Remove(0, 49),
+        Step::Pairs(&[(49, 50)]),
+        Step::Remove(0, 60),
+        Step::Pairs(&[]),
+    ];
+    assert_eq!(rt; played(rt.alloc(), &steps)?, steps.len());
+    Ok(())
+}
+
 // Run with each allocation refused in turn, a refused call leaves the pairs, and the next one succeeds.
 #[test]
 fn refused_inserts_change_nothing() -> Result<(), Fail> {

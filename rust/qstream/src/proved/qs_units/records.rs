@@ -259,9 +259,22 @@ fn taken_from(records: &mut Records, pass: &mut AckPass<'_>, count: u64) -> u64 
     count
 }
 
-// A thousand packets and one range: a turn for each slot, and one for the range.
+// Each number that the pass gives loses its record. How many it gives.
+fn taken_all(records: &mut Records, pass: &mut AckPass<'_>) -> u64 {
+    let mut count = 0;
+    for _ in 0..1000 {
+        match pass.next(records) {
+            Some(number) => records.drop_first(number),
+            None => return count,
+        }
+        count += 1;
+    }
+    count
+}
+
+// A thousand packets and one range: a turn for each packet, and one for the range.
 #[test]
-fn a_pass_takes_a_turn_for_each_slot() -> Result<(), Fail> {
+fn a_pass_takes_a_turn_for_each_packet() -> Result<(), Fail> {
     let rt = HostRuntime::new();
     let mut records = Records::new(rt.alloc());
     assert!(rt; fill(rt.alloc(), &mut records, 1000)?);
@@ -280,7 +293,7 @@ fn next_three(pass: &mut AckPass<'_>, records: &Records) -> [Option<u64>; 3] {
     [pass.next(records), pass.next(records), pass.next(records)]
 }
 
-// The ranges 8 to 9 and 2 to 4, of which 3 and 9 are outstanding, and 0 and 6 beside: a turn for each slot and each range.
+// The ranges 8 to 9 and 2 to 4, of which 3 and 9 are outstanding, and 0 and 6 beside: a turn for each of the two and each range.
 #[test]
 fn a_pass_gives_what_the_ranges_name() -> Result<(), Fail> {
     let rt = HostRuntime::new();
@@ -295,6 +308,59 @@ fn a_pass_gives_what_the_ranges_name() -> Result<(), Fail> {
     let ranges = [1, 2, 2];
     let mut pass = AckPass::new(AckRanges::new(9, &ranges));
     assert!(rt; next_three(&mut pass, &records) == [Some(9), Some(3), None]);
-    assert!(rt; pass.turns() == 7);
+    assert!(rt; pass.turns() == 4);
+    Ok(())
+}
+
+// Of 300 packets those from 1 on, up to the one before the last, lose their record. The slots of several words are empty.
+#[test]
+fn a_search_passes_empty_slots() -> Result<(), Fail> {
+    let rt = HostRuntime::new();
+    let mut records = Records::new(rt.alloc());
+    assert!(rt; fill(rt.alloc(), &mut records, 300)?);
+    for number in 1..299 {
+        records.drop_first(number);
+    }
+    let steps = [
+        Step::Below(300, Some(299)),
+        Step::Below(299, Some(0)),
+        Step::Below(64, Some(0)),
+        Step::DropFirst(0),
+        Step::Below(299, None),
+        Step::Trim,
+        Step::Below(300, Some(299)),
+        Step::Below(299, None),
+        Step::Put(700, 1, 0),
+        Step::Below(700, Some(299)),
+        Step::DropFirst(299),
+        Step::Trim,
+        Step::Below(700, None),
+        Step::Put(701, 2, 0),
+        Step::DropFirst(701),
+        Step::Put(701, 3, 0),
+        Step::Below(702, Some(701)),
+        Step::Below(701, Some(700)),
+        Step::Greatest(Some(701)),
+    ];
+    assert_eq!(rt; played(rt.alloc(), &mut records, &steps)?, steps.len());
+    Ok(())
+}
+
+// The ranges 250 to 299, 130 to 199 and 3 to 9, after all of them are acknowledged: nothing is given, in a turn for each range.
+#[test]
+fn a_pass_again_takes_a_turn_for_each_range() -> Result<(), Fail> {
+    let rt = HostRuntime::new();
+    let mut records = Records::new(rt.alloc());
+    assert!(rt; fill(rt.alloc(), &mut records, 300)?);
+    // Lengths and gaps from 64 on take two bytes (RFC 9000, section 16).
+    let ranges = [49, 49, 0x40, 69, 0x40, 119, 6];
+    let mut pass = AckPass::new(AckRanges::new(299, &ranges));
+    assert!(rt; taken_all(&mut records, &mut pass) == 127);
+    let mut again = AckPass::new(AckRanges::new(299, &ranges));
+    assert!(rt; again.next(&records).is_none());
+    assert!(rt; again.turns() == 3);
+    assert!(rt; records.below(250) == Some(249));
+    assert!(rt; records.below(200) == Some(129));
+    assert!(rt; records.below(10) == Some(2));
     Ok(())
 }

@@ -433,3 +433,93 @@ fn refused_frames_change_nothing() {
     ];
     assert_eq!(rt; played(rt.alloc(), 64, &steps), steps.len());
 }
+
+// A half that stores nothing any more answers as before.
+#[test]
+fn a_half_that_was_read_to_its_end_answers_still() {
+    let rt = HostRuntime::new();
+    let steps = [
+        Step::Take(0, b"abc", true),
+        Step::Read(8, Read::Bytes(3), b"abc"),
+        Step::Read(8, Read::End, b""),
+        Step::State(RecvState::DataRead),
+        Step::Counts(0, 3, 3),
+        Step::Credit(3, 10),
+        Step::Refuse(3, 1, false, RecvFault::FinalSize),
+        Step::Refuse(0, 2, true, RecvFault::FinalSize),
+        Step::Pass(1, 2, false, highest(3, 3)),
+        Step::Keep(0, b"XYZ"),
+        Step::Take(1, b"XX", true),
+        Step::RefuseReset(4, RecvFault::FinalSize),
+        Step::Reset(9, 3),
+        Step::Known(Some(3), None, None),
+        Step::Raise(None),
+        Step::Stop(7),
+        Step::Stop(8),
+        Step::Known(Some(3), None, Some(7)),
+        Step::Read(8, Read::End, b""),
+        Step::State(RecvState::DataRead),
+        Step::Counts(0, 3, 3),
+    ];
+    assert_eq!(rt; played(rt.alloc(), 10, &steps), steps.len());
+}
+
+// Offsets are noted without their bytes, first one after the other, then with a hole.
+#[test]
+fn a_stopped_half_counts_what_comes() {
+    let rt = HostRuntime::new();
+    let steps = [
+        Step::Stop(7),
+        Step::Take(0, b"abcd", false),
+        Step::Counts(0, 4, 4),
+        Step::Raise(None),
+        Step::Take(2, b"cdef", false),
+        Step::Counts(0, 6, 6),
+        Step::Raise(Some(16)),
+        Step::Take(8, b"ij", true),
+        Step::Counts(0, 10, 10),
+        Step::State(RecvState::SizeKnown),
+        Step::Read(4, Read::Wait, b""),
+        Step::Take(6, b"gh", false),
+        Step::State(RecvState::DataRecvd),
+        Step::Read(4, Read::End, b""),
+        Step::Known(Some(10), None, Some(7)),
+        Step::Credit(0, 16),
+        Step::Take(6, b"gh", false),
+        Step::State(RecvState::DataRead),
+    ];
+    assert_eq!(rt; played(rt.alloc(), 10, &steps), steps.len());
+}
+
+#[test]
+fn a_half_whose_reset_was_told_keeps_its_code() {
+    let rt = HostRuntime::new();
+    let steps = [
+        Step::Take(0, b"ab", false),
+        Step::Reset(9, 5),
+        Step::State(RecvState::ResetRecvd),
+        Step::Read(4, Read::Reset(9), b""),
+        Step::State(RecvState::ResetRead),
+        Step::Take(2, b"cd", false),
+        Step::Refuse(4, 2, false, RecvFault::FinalSize),
+        Step::Reset(8, 5),
+        Step::Known(Some(5), Some(9), None),
+        Step::Counts(0, 5, 5),
+        Step::Read(4, Read::Reset(9), b""),
+    ];
+    assert_eq!(rt; played(rt.alloc(), 10, &steps), steps.len());
+}
+
+#[test]
+fn a_reset_may_come_alone() {
+    let rt = HostRuntime::new();
+    let steps = [
+        Step::RefuseReset(11, RecvFault::StreamCredit),
+        Step::Reset(9, 6),
+        Step::Counts(0, 6, 6),
+        Step::Read(4, Read::Reset(9), b""),
+        Step::Known(Some(6), Some(9), None),
+        Step::State(RecvState::ResetRead),
+    ];
+    assert_eq!(rt; played(rt.alloc(), 10, &steps), steps.len());
+}

@@ -35,6 +35,8 @@ enum Step<'a> {
     Counts(u64, u64, usize),
     /// The lowest due offset, and whether the end is due.
     Due(Option<u64>, bool),
+    /// Whether the buffer takes memory.
+    TakesMemory(bool),
 }
 
 fn half(alloc: Global, number: u32, limit: u32, buffer: usize) -> SendHalf {
@@ -162,6 +164,7 @@ fn take(half: &mut SendHalf, step: Step) -> Result<bool, Fail> {
             return Ok((half.written(), half.sent_end(), half.room()) == (written, sent_end, room));
         }
         Step::Due(offset, end) => return Ok((half.lowest_due(), half.end_due()) == (offset, end)),
+        Step::TakesMemory(some) => return Ok((half.held() > 0) == some),
     }
     Ok(true)
 }
@@ -198,8 +201,10 @@ fn lost_bytes_go_out_again() -> Result<(), Fail> {
         Step::State(SendState::DataSent),
         Step::Size(Some(10), None),
         Step::Ack(chunk(8, 1, false)),
+        Step::TakesMemory(true),
         Step::Ack(chunk(9, 1, true)),
         Step::State(SendState::DataRecvd),
+        Step::TakesMemory(false),
         Step::Refuse(SendFault::Finished),
         Step::Reset(7, Err(SendFault::Finished)),
     ];
@@ -263,16 +268,21 @@ fn a_reset_ends_the_stream() -> Result<(), Fail> {
         Step::Send(4, 100, chunk(0, 1, false)),
         Step::Send(128, 100, chunk(1, 2, false)),
         Step::Size(None, None),
+        Step::Counts(6, 3, 94),
+        Step::TakesMemory(true),
         Step::Reset(7, Ok(())),
         Step::State(SendState::ResetSent),
         Step::Size(Some(3), Some(7)),
-        Step::Counts(6, 3, 94),
+        Step::Counts(6, 3, 100),
+        Step::TakesMemory(false),
         Step::Refuse(SendFault::WasReset),
         Step::Reset(9, Err(SendFault::WasReset)),
         Step::Stop(9),
         Step::Size(Some(3), Some(7)),
         Step::Lose(chunk(0, 1, false)),
         Step::Ack(chunk(1, 2, false)),
+        Step::Ack(chunk(0, 1, false)),
+        Step::Counts(6, 3, 100),
         Step::Due(None, false),
         Step::Hold(128, 100, false),
         Step::AckReset,
@@ -294,6 +304,56 @@ fn a_stream_is_reset_before_it_sends() -> Result<(), Fail> {
         Step::State(SendState::ResetSent),
         Step::Size(Some(0), Some(5)),
         Step::Due(None, false),
+    ];
+    assert_eq!(rt; played(&mut half, &steps)?, steps.len());
+    Ok(())
+}
+
+// A small room stays while the end may be asked for still, and goes with the end's acknowledgement, whichever comes last.
+#[test]
+fn a_whole_stream_takes_no_memory() -> Result<(), Fail> {
+    let rt = HostRuntime::new();
+    let mut half = half(rt.alloc(), 0, 100, 100);
+    let steps = [
+        Step::TakesMemory(false),
+        Step::Write(b"abc", 3),
+        Step::Send(128, 100, chunk(0, 3, false)),
+        Step::Ack(chunk(0, 3, false)),
+        Step::TakesMemory(true),
+        Step::Write(b"de", 2),
+        Step::Finish,
+        Step::Send(5, 100, chunk(3, 1, false)),
+        Step::Send(128, 100, chunk(4, 1, true)),
+        Step::Ack(chunk(4, 1, true)),
+        Step::TakesMemory(true),
+        Step::Ack(chunk(3, 1, false)),
+        Step::State(SendState::DataRecvd),
+        Step::TakesMemory(false),
+    ];
+    assert_eq!(rt; played(&mut half, &steps)?, steps.len());
+    Ok(())
+}
+
+// The reset lets the bytes go, and acknowledgements that come later find none.
+#[test]
+fn a_reset_gives_the_buffer_back() -> Result<(), Fail> {
+    let rt = HostRuntime::new();
+    let mut half = half(rt.alloc(), 0, 100, 100);
+    let steps = [
+        Step::Write(b"abcdef", 6),
+        Step::Send(128, 100, chunk(0, 6, false)),
+        Step::Ack(chunk(0, 2, false)),
+        Step::Counts(6, 6, 96),
+        Step::Stop(5),
+        Step::Counts(6, 6, 100),
+        Step::TakesMemory(false),
+        Step::Lose(chunk(2, 4, false)),
+        Step::Hold(128, 100, false),
+        Step::Ack(chunk(2, 4, false)),
+        Step::Counts(6, 6, 100),
+        Step::State(SendState::ResetSent),
+        Step::Refuse(SendFault::WasReset),
+        Step::TakesMemory(false),
     ];
     assert_eq!(rt; played(&mut half, &steps)?, steps.len());
     Ok(())

@@ -4,6 +4,7 @@
 use crate::proved::qs_conn::ended::{EndedStreams, is_over};
 use crate::proved::qs_conn::outbox::Outbox;
 use crate::proved::qs_conn::recv_tables::RecvTables;
+use crate::proved::qs_conn::untold::Untold;
 use crate::proved::qs_ranges::NoMemory;
 use crate::proved::qs_send::{AckPass, Item, LostPass, Piece};
 use crate::proved::qs_wire::{AckRanges, Role, StreamId};
@@ -14,12 +15,27 @@ pub(super) fn ack_ranges(
     role: Role,
     recvs: &RecvTables,
     ended: &mut EndedStreams,
+    untold: &mut Untold,
     largest: u64,
     ranges: &[u8],
 ) -> Result<(), NoMemory> {
     debug_assert!(largest < 1 << 62);
-    ack_outstanding(outbox, role, recvs, ended, AckRanges::new(largest, ranges))?;
-    ack_lost(outbox, role, recvs, ended, AckRanges::new(largest, ranges))
+    ack_outstanding(
+        outbox,
+        role,
+        recvs,
+        ended,
+        untold,
+        AckRanges::new(largest, ranges),
+    )?;
+    ack_lost(
+        outbox,
+        role,
+        recvs,
+        ended,
+        untold,
+        AckRanges::new(largest, ranges),
+    )
 }
 
 // The outstanding packets that the ranges name are acknowledged, in one pass.
@@ -28,10 +44,11 @@ fn ack_outstanding(
     role: Role,
     recvs: &RecvTables,
     ended: &mut EndedStreams,
+    untold: &mut Untold,
     ranges: AckRanges<'_>,
 ) -> Result<(), NoMemory> {
     let mut pass = AckPass::new(ranges);
-    let result = ack_named(outbox, role, recvs, ended, &mut pass);
+    let result = ack_named(outbox, role, recvs, ended, untold, &mut pass);
     outbox.trim();
     result
 }
@@ -42,10 +59,11 @@ fn ack_lost(
     role: Role,
     recvs: &RecvTables,
     ended: &mut EndedStreams,
+    untold: &mut Untold,
     ranges: AckRanges<'_>,
 ) -> Result<(), NoMemory> {
     let mut pass = LostPass::new(ranges);
-    ack_late(outbox, role, recvs, ended, &mut pass)
+    ack_late(outbox, role, recvs, ended, untold, &mut pass)
 }
 
 // The outstanding packets that a pass has ahead are acknowledged.
@@ -54,10 +72,11 @@ fn ack_named(
     role: Role,
     recvs: &RecvTables,
     ended: &mut EndedStreams,
+    untold: &mut Untold,
     pass: &mut AckPass<'_>,
 ) -> Result<(), NoMemory> {
     while let Some(number) = outbox.next_named(pass) {
-        ack_packet(outbox, role, recvs, ended, number)?;
+        ack_packet(outbox, role, recvs, ended, untold, number)?;
     }
     Ok(())
 }
@@ -68,10 +87,11 @@ fn ack_late(
     role: Role,
     recvs: &RecvTables,
     ended: &mut EndedStreams,
+    untold: &mut Untold,
     pass: &mut LostPass<'_>,
 ) -> Result<(), NoMemory> {
     while let Some(number) = outbox.next_lost(pass) {
-        ack_lost_packet(outbox, role, recvs, ended, number)?;
+        ack_lost_packet(outbox, role, recvs, ended, untold, number)?;
     }
     Ok(())
 }
@@ -82,10 +102,11 @@ fn ack_packet(
     role: Role,
     recvs: &RecvTables,
     ended: &mut EndedStreams,
+    untold: &mut Untold,
     number: u64,
 ) -> Result<(), NoMemory> {
     while let Some(piece) = outbox.first(number) {
-        ack_piece(outbox, role, recvs, ended, number, piece)?;
+        ack_piece(outbox, role, recvs, ended, untold, number, piece)?;
     }
     Ok(())
 }
@@ -96,10 +117,11 @@ fn ack_lost_packet(
     role: Role,
     recvs: &RecvTables,
     ended: &mut EndedStreams,
+    untold: &mut Untold,
     number: u64,
 ) -> Result<(), NoMemory> {
     while let Some(piece) = outbox.first_lost(number) {
-        ack_lost_piece(outbox, role, recvs, ended, number, piece)?;
+        ack_lost_piece(outbox, role, recvs, ended, untold, number, piece)?;
     }
     Ok(())
 }
@@ -110,9 +132,11 @@ fn ack_piece(
     role: Role,
     recvs: &RecvTables,
     ended: &mut EndedStreams,
+    untold: &mut Untold,
     number: u64,
     piece: Piece,
 ) -> Result<(), NoMemory> {
+    untold.look_again(&piece);
     let Some(stream) = half_of(&piece) else {
         return outbox.ack_first(number, piece);
     };
@@ -128,9 +152,11 @@ fn ack_lost_piece(
     role: Role,
     recvs: &RecvTables,
     ended: &mut EndedStreams,
+    untold: &mut Untold,
     number: u64,
     piece: Piece,
 ) -> Result<(), NoMemory> {
+    untold.look_again(&piece);
     let Some(stream) = half_of(&piece) else {
         return outbox.ack_lost_first(number, piece);
     };

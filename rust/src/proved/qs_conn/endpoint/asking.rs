@@ -14,7 +14,7 @@ impl Endpoint {
             return false;
         }
         let terms = self.terms();
-        has_frame(&terms, &self.recvs, &self.outbox)
+        has_frame(&terms, &self.recvs, &self.untold, &self.outbox)
     }
 
     /// The code with which the peer closed, `None` where it didn't (RFC 9000, section 10.2).

@@ -3,6 +3,7 @@
 
 use super::Endpoint;
 use crate::proved::qs_conn::outbox::Outbox;
+use crate::proved::qs_conn::untold::Untold;
 use crate::proved::qs_calls::LostFault;
 use crate::proved::qs_ranges::NoMemory;
 
@@ -17,7 +18,7 @@ impl Endpoint {
             return Err(fault);
         }
         self.outbox.none_is_empty();
-        match lose_packet(&mut self.outbox, number) {
+        match lose_packet(&mut self.outbox, &mut self.untold, number) {
             Ok(()) => Ok(()),
             Err(_refused) => Err(LostFault::NoMemory),
         }
@@ -37,15 +38,16 @@ impl Endpoint {
 }
 
 // The pieces of a packet are lost, and the packet is outstanding no more.
-fn lose_packet(outbox: &mut Outbox, number: u64) -> Result<(), NoMemory> {
-    let result = lose_pieces(outbox, number);
+fn lose_packet(outbox: &mut Outbox, untold: &mut Untold, number: u64) -> Result<(), NoMemory> {
+    let result = lose_pieces(outbox, untold, number);
     outbox.trim();
     result
 }
 
 // The pieces of a packet are lost, from the first on.
-fn lose_pieces(outbox: &mut Outbox, number: u64) -> Result<(), NoMemory> {
+fn lose_pieces(outbox: &mut Outbox, untold: &mut Untold, number: u64) -> Result<(), NoMemory> {
     while let Some(piece) = outbox.first(number) {
+        untold.look_again(&piece);
         outbox.lose_first(number, piece)?;
     }
     Ok(())

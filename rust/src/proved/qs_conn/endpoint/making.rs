@@ -5,6 +5,7 @@ use super::Endpoint;
 use crate::proved::qs_conn::filling::{Wish, fill};
 use crate::proved::qs_conn::sendable::has_frame;
 use crate::proved::qs_conn::terms::Terms;
+use crate::proved::qs_conn::unmarking::unmark_told;
 use crate::proved::qs_calls::{Made, MakeFault};
 use crate::proved::qs_wire::StreamId;
 
@@ -21,7 +22,7 @@ impl Endpoint {
     pub fn make_packet(&mut self, out: &mut [u8]) -> Result<Option<Made>, MakeFault> {
         debug_assert!(128 <= out.len());
         debug_assert!(out.len() <= 16383);
-        self.make(Wish { first: 0, delay: 0 }, out)
+        self.make(0, 0, out)
     }
 
     /// Makes the next packet, as `make_packet` does, but for two things: bytes go in from stream `first` on, lower streams first, and
@@ -36,15 +37,13 @@ impl Endpoint {
         debug_assert!(delay < 1 << 62);
         debug_assert!(128 <= out.len());
         debug_assert!(out.len() <= 16383);
-        let wish = Wish {
-            first: first.value(),
-            delay,
-        };
-        self.make(wish, out)
+        self.make(first.value(), delay, out)
     }
 
-    // Makes the next packet as it is wished.
-    fn make(&mut self, wish: Wish, out: &mut [u8]) -> Result<Option<Made>, MakeFault> {
+    // Makes the next packet: bytes go in from stream `first` on, and an ACK tells the delay.
+    fn make(&mut self, first: u64, delay: u64, out: &mut [u8]) -> Result<Option<Made>, MakeFault> {
+        debug_assert!(first < 1 << 62);
+        debug_assert!(delay < 1 << 62);
         debug_assert!(128 <= out.len());
         if self.closed.is_some() {
             return Err(MakeFault::Closed);
@@ -57,15 +56,22 @@ impl Endpoint {
             return self.without_memory();
         }
         let terms = self.terms();
+        let wish = Wish {
+            first,
+            delay,
+            ack_due: self.ack_due,
+        };
+        let (recvs, untold) = (&self.recvs, &self.untold);
         let len = fill(
             &terms,
-            &self.recvs,
+            recvs,
+            untold,
             &self.done,
-            self.ack_due,
             &mut self.outbox,
             wish,
             out,
         );
+        unmark_told(&terms, &self.recvs, &self.outbox, &mut self.untold);
         if len == 0 {
             return Ok(None);
         }
@@ -94,7 +100,7 @@ impl Endpoint {
             return true;
         }
         let terms = self.terms();
-        has_frame(&terms, &self.recvs, &self.outbox)
+        has_frame(&terms, &self.recvs, &self.untold, &self.outbox)
     }
 
     // What is to be told beside what the streams have.

@@ -4,6 +4,7 @@
 use super::{Endpoint, is_uni, role_bit};
 use crate::proved::qs_conn::outbox::Outbox;
 use crate::proved::qs_conn::recv_tables::RecvTables;
+use crate::proved::qs_conn::untold::Untold;
 use crate::proved::qs_calls::OpenFault;
 use crate::proved::qs_ranges::NoMemory;
 use crate::proved::qs_wire::{Dir, StreamId};
@@ -90,7 +91,13 @@ impl Endpoint {
         let before = self.outbox.count(stream);
         self.outbox.are_of_open();
         open_sends(&mut self.outbox, both(uni, !own), limit, buffer, stream)?;
-        if let Err(refused) = open_recvs(&mut self.recvs, both(uni, own), window, stream) {
+        if let Err(refused) = open_recvs(
+            &mut self.recvs,
+            &mut self.untold,
+            both(uni, own),
+            window,
+            stream,
+        ) {
             self.outbox.close_to(stream, before);
             return Err(refused);
         }
@@ -101,7 +108,8 @@ impl Endpoint {
     fn reserve(&mut self, stream: StreamId) -> Result<(), NoMemory> {
         let (uni, own) = (is_uni(stream), self.is_own(stream));
         let (sends, receives) = (!both(uni, !own), !both(uni, own));
-        reserve_halves(&mut self.outbox, &mut self.recvs, stream, sends, receives)
+        reserve_halves(&mut self.outbox, &mut self.recvs, stream, sends, receives)?;
+        self.untold.reserve(stream)
     }
 
     // That another stream was wanted is noted.
@@ -159,6 +167,7 @@ fn open_sends(
 
 fn open_recvs(
     recvs: &mut RecvTables,
+    untold: &mut Untold,
     absent: bool,
     window: u64,
     stream: StreamId,
@@ -168,6 +177,7 @@ fn open_recvs(
     if absent {
         return Ok(());
     }
+    untold.open_to(stream)?;
     recvs.open_to(window, stream)
 }
 

@@ -85,6 +85,7 @@ impl Endpoint {
             return Err(fault);
         }
         self.recvs.stop(stream, code);
+        self.untold.set(stream, true);
         self.settle();
         Ok(())
     }

@@ -62,6 +62,7 @@ impl Endpoint {
             role,
             recvs,
             &mut self.ended,
+            &mut self.untold,
             largest,
             ranges,
         )

@@ -60,8 +60,9 @@ impl SendHalf {
 
     /// The bytes of a chunk that is still in the buffer.
     pub fn bytes(&self, chunk: Chunk) -> &[u8] {
-        let first = self.written - self.kept.len() as u64;
-        self.kept.part((chunk.offset - first) as usize, chunk.len)
+        let first = self.offsets.written() - self.offsets.kept_len() as u64;
+        self.offsets
+            .part((chunk.offset - first) as usize, chunk.len)
     }
 
     /// Writes the bytes of a chunk that is still in the buffer into the slice.
@@ -71,32 +72,21 @@ impl SendHalf {
 
     /// How many bytes the chunk's STREAM frame takes (RFC 9000, section 19.8).
     pub fn frame_len(&self, chunk: Chunk) -> usize {
-        let _written = self.written;
+        let _limit = self.limit;
         self.head_len(chunk.offset) + varint_len(chunk.len as u64) + chunk.len
     }
 
     /// Whether the chunk was sent at some time.
     pub fn has_sent(&self, chunk: Chunk) -> bool {
-        chunk.offset <= self.sent_end
-            && chunk.len as u64 <= self.sent_end - chunk.offset
+        let sent_end = self.offsets.sent_end();
+        chunk.offset <= sent_end
+            && chunk.len as u64 <= sent_end - chunk.offset
             && (!chunk.fin || self.fin_sent)
     }
 
     // The lowest due offsets that stand in a row.
     fn due_run(&self) -> Option<(u64, u64)> {
-        let mut from = 0;
-        while let Some((start, end)) = self.noted.run_from(from) {
-            let low = self.acked.first_missing(start);
-            if low < end {
-                let high = match self.acked.run_from(low) {
-                    Some((next, _)) => next.min(end),
-                    None => end,
-                };
-                return Some((low, high));
-            }
-            from = low;
-        }
-        None
+        self.offsets.due_run()
     }
 
     // A frame without bytes, where no byte is due.

@@ -1,0 +1,130 @@
+// Made from crates/qs_conn/src/untold.rt by rust/erase; not edited by hand.
+//! Of which streams a stop or a limit may still have to be told.
+
+use crate::proved::qs_conn::marks::{Marks, least};
+use crate::proved::qs_conn::places::{index_of, kind_of};
+use crate::proved::qs_ranges::NoMemory;
+use crate::proved::qs_send::{Item, Piece};
+use crate::proved::qs_wire::StreamId;
+use crate::shim::alloc::Global;
+
+/// A mark for each stream of one type, by its index.
+struct UntoldLanes {
+    marks: Marks,
+    // Without it none is marked, as mostly none is.
+    may_have: bool,
+}
+
+impl UntoldLanes {
+    fn new(alloc: Global) -> Self {
+        UntoldLanes {
+            marks: Marks::new(alloc),
+            may_have: false,
+        }
+    }
+
+    fn reserve(&mut self, count: usize) -> Result<(), NoMemory> {
+        self.marks.reserve(count)
+    }
+
+    fn open_to(&mut self, count: usize) -> Result<(), NoMemory> {
+        debug_assert!(count <= 1 << 60);
+        self.marks.open_to(count)
+    }
+
+    fn set(&mut self, index: usize, is_marked: bool) {
+        if index >= self.marks.len() {
+            return;
+        }
+        self.marks.set(index, is_marked);
+        if is_marked {
+            self.may_have = true;
+        }
+    }
+
+    // Whether any is marked still is looked at. No clause sees it.
+    fn look(&mut self) {
+        if self.may_have && self.marks.next(0).is_none() {
+            self.may_have = false;
+        }
+    }
+
+    fn next(&self, from: usize) -> Option<usize> {
+        if !self.may_have {
+            return None;
+        }
+        self.marks.next(from)
+    }
+}
+
+/// A mark for each receiving half, by the type of the stream and by its index. Of a half without a mark all was told.
+pub(crate) struct Untold {
+    // Of each of the four types, in the order of their bits.
+    types: [UntoldLanes; 4],
+}
+
+impl Untold {
+    pub(crate) fn new(alloc: Global) -> Self {
+        Untold {
+            types: [
+                UntoldLanes::new(alloc),
+                UntoldLanes::new(alloc),
+                UntoldLanes::new(alloc),
+                UntoldLanes::new(alloc),
+            ],
+        }
+    }
+
+    /// Takes the memory for a stream and all lower ones of its type, and opens none.
+    pub(crate) fn reserve(&mut self, stream: StreamId) -> Result<(), NoMemory> {
+        let lanes = &mut self.types[kind_of(stream)];
+        lanes.reserve(index_of(stream) + 1)
+    }
+
+    /// Makes room for a stream and all lower ones of its type: the new ones aren't marked.
+    pub(crate) fn open_to(&mut self, stream: StreamId) -> Result<(), NoMemory> {
+        let lanes = &mut self.types[kind_of(stream)];
+        lanes.open_to(index_of(stream) + 1)
+    }
+
+    /// Marks a stream that has a place, or takes its mark away.
+    pub(crate) fn set(&mut self, stream: StreamId, is_marked: bool) {
+        let lanes = &mut self.types[kind_of(stream)];
+        lanes.set(index_of(stream), is_marked);
+    }
+
+    /// Looks whether any stream is marked still. No clause sees it.
+    pub(crate) fn look(&mut self) {
+        self.types[0].look();
+        self.types[1].look();
+        self.types[2].look();
+        self.types[3].look();
+    }
+
+    /// A piece leaves its packet: the stream whose limit or stop it told is marked.
+    pub(crate) fn look_again(&mut self, piece: &Piece) {
+        match *piece {
+            Piece::Told(Item::MaxStreamData { stream, .. }) => self.set(stream, true),
+            Piece::Told(Item::StopSending { stream, .. }) => self.set(stream, true),
+            _ => {}
+        }
+    }
+
+    /// The least number from one on of a marked stream.
+    pub(crate) fn next(&self, from: u64) -> Option<StreamId> {
+        debug_assert!(from <= 1 << 62);
+        let bidi = least(self.next_of(0, from), self.next_of(1, from));
+        let uni = least(self.next_of(2, from), self.next_of(3, from));
+        StreamId::new(least(bidi, uni)?)
+    }
+
+    // The least such number among the streams of a type.
+    fn next_of(&self, kind: usize, from: u64) -> Option<u64> {
+        debug_assert!(kind < 4);
+        debug_assert!(from <= 1 << 62);
+        let lanes = &self.types[kind];
+        let first = (from + 3 - kind as u64) / 4;
+        let index = lanes.next(first as usize)?;
+        Some((index * 4 + kind) as u64)
+    }
+}

@@ -1,0 +1,257 @@
+// Made from crates/qs_ranges/src/few.rt by rust/erase; not edited by hand.
+//! A set of two runs at most, in a value.
+use crate::shim::Vec;
+
+use crate::proved::qs_ranges::NoMemory;
+use crate::proved::qs_ranges::block::Block;
+
+/// Two runs at most, in rising order.
+#[derive(Clone, Copy)]
+pub(crate) enum Few {
+    Empty,
+    One((u64, u64)),
+    Two((u64, u64), (u64, u64)),
+}
+
+/// Adds a range. A third run takes a block.
+pub(crate) fn insert_few(
+    few: &mut Few,
+    blocks: &mut Vec<Block>,
+    lo: u64,
+    hi: u64,
+) -> Result<(), NoMemory> {
+    debug_assert!(lo < hi);
+    debug_assert!(hi <= 1 << 62);
+    match *few {
+        Few::Empty => *few = Few::One((lo, hi)),
+        Few::One(run) => add_to_one(few, run, lo, hi),
+        Few::Two(low, high) => return add_to_two(few, blocks, low, high, lo, hi),
+    }
+    Ok(())
+}
+
+// Adds a range to one run.
+fn add_to_one(few: &mut Few, run: (u64, u64), lo: u64, hi: u64) {
+    debug_assert!(lo < hi);
+    debug_assert!(hi <= 1 << 62);
+    let (start, end) = run;
+    if end < lo {
+        *few = Few::Two(run, (lo, hi));
+        return;
+    }
+    if hi < start {
+        *few = Few::Two((lo, hi), run);
+        return;
+    }
+    *few = Few::One((start.min(lo), end.max(hi)));
+}
+
+// Adds a range to two runs.
+fn add_to_two(
+    few: &mut Few,
+    blocks: &mut Vec<Block>,
+    low: (u64, u64),
+    high: (u64, u64),
+    lo: u64,
+    hi: u64,
+) -> Result<(), NoMemory> {
+    debug_assert!(lo < hi);
+    debug_assert!(hi <= 1 << 62);
+    if low.1 < lo {
+        if high.1 < lo {
+            return put_three(blocks, low, high, (lo, hi));
+        }
+        if hi < high.0 {
+            return put_three(blocks, low, (lo, hi), high);
+        }
+        *few = Few::Two(low, (high.0.min(lo), high.1.max(hi)));
+        return Ok(());
+    }
+    if hi < low.0 {
+        return put_three(blocks, (lo, hi), low, high);
+    }
+    if hi < high.0 {
+        *few = Few::Two((low.0.min(lo), low.1.max(hi)), high);
+        return Ok(());
+    }
+    *few = Few::One((low.0.min(lo), high.1.max(hi)));
+    Ok(())
+}
+
+/// Takes a range out. A third run takes a block.
+pub(crate) fn remove_few(
+    few: &mut Few,
+    blocks: &mut Vec<Block>,
+    lo: u64,
+    hi: u64,
+) -> Result<(), NoMemory> {
+    debug_assert!(lo < hi);
+    debug_assert!(hi <= 1 << 62);
+    match *few {
+        Few::Empty => {}
+        Few::One(run) => *few = without_range_of(run, lo, hi),
+        Few::Two(low, high) => return take_from_two(few, blocks, low, high, lo, hi),
+    }
+    Ok(())
+}
+
+// What is left of a run.
+fn without_range_of(run: (u64, u64), lo: u64, hi: u64) -> Few {
+    debug_assert!(lo < hi);
+    let (start, end) = run;
+    if end <= lo || hi <= start {
+        return Few::One(run);
+    }
+    match (start < lo, hi < end) {
+        (false, false) => Few::Empty,
+        (true, false) => Few::One((start, lo)),
+        (false, true) => Few::One((hi, end)),
+        (true, true) => Few::Two((start, lo), (hi, end)),
+    }
+}
+
+// Takes a range out of two runs.
+fn take_from_two(
+    few: &mut Few,
+    blocks: &mut Vec<Block>,
+    low: (u64, u64),
+    high: (u64, u64),
+    lo: u64,
+    hi: u64,
+) -> Result<(), NoMemory> {
+    debug_assert!(lo < hi);
+    if hi <= high.0 {
+        return take_from_low(few, blocks, low, high, lo, hi);
+    }
+    if low.1 <= lo {
+        return take_from_high(few, blocks, low, high, lo, hi);
+    }
+    match (low.0 < lo, hi < high.1) {
+        (false, false) => *few = Few::Empty,
+        (true, false) => *few = Few::One((low.0, lo)),
+        (false, true) => *few = Few::One((hi, high.1)),
+        (true, true) => *few = Few::Two((low.0, lo), (hi, high.1)),
+    }
+    Ok(())
+}
+
+// Takes a range out that doesn't meet the higher of two runs.
+fn take_from_low(
+    few: &mut Few,
+    blocks: &mut Vec<Block>,
+    low: (u64, u64),
+    high: (u64, u64),
+    lo: u64,
+    hi: u64,
+) -> Result<(), NoMemory> {
+    debug_assert!(lo < hi);
+    if hi <= low.0 || low.1 <= lo {
+        return Ok(());
+    }
+    match (low.0 < lo, hi < low.1) {
+        (false, false) => *few = Few::One(high),
+        (true, false) => *few = Few::Two((low.0, lo), high),
+        (false, true) => *few = Few::Two((hi, low.1), high),
+        (true, true) => return put_three(blocks, (low.0, lo), (hi, low.1), high),
+    }
+    Ok(())
+}
+
+// Takes a range out that doesn't meet the lower of two runs.
+fn take_from_high(
+    few: &mut Few,
+    blocks: &mut Vec<Block>,
+    low: (u64, u64),
+    high: (u64, u64),
+    lo: u64,
+    hi: u64,
+) -> Result<(), NoMemory> {
+    debug_assert!(lo < hi);
+    if hi <= high.0 || high.1 <= lo {
+        return Ok(());
+    }
+    match (high.0 < lo, hi < high.1) {
+        (false, false) => *few = Few::One(low),
+        (true, false) => *few = Few::Two(low, (high.0, lo)),
+        (false, true) => *few = Few::Two(low, (hi, high.1)),
+        (true, true) => return put_three(blocks, low, (high.0, lo), (hi, high.1)),
+    }
+    Ok(())
+}
+
+// Puts three runs into a block.
+fn put_three(
+    blocks: &mut Vec<Block>,
+    low: (u64, u64),
+    middle: (u64, u64),
+    high: (u64, u64),
+) -> Result<(), NoMemory> {
+    let mut block = Block::of(*blocks.allocator(), low)?;
+    block.insert(1, middle)?;
+    block.insert(2, high)?;
+    blocks.push(block)?;
+    Ok(())
+}
+
+/// The runs of a block, where they are few.
+pub(crate) fn few_of(block: &Block) -> Option<Few> {
+    match block.len() {
+        1 => Some(Few::One(block.run(0))),
+        2 => Some(Few::Two(block.run(0), block.run(1))),
+        _ => None,
+    }
+}
+
+/// The first run that ends above `n`.
+pub(crate) fn few_above(few: Few, n: u64) -> Option<(u64, u64)> {
+    let run = match few {
+        Few::Empty => return None,
+        Few::One(run) => run,
+        Few::Two(low, high) => { if n < low.1 { low } else { high } }
+    };
+    one_above(run, n)
+}
+
+// The run, where it ends above `n`.
+fn one_above(run: (u64, u64), n: u64) -> Option<(u64, u64)> {
+    if n < run.1 { Some(run) } else { None }
+}
+
+/// The first run that ends above `n`, and the one behind it.
+pub(crate) fn few_above_two(few: Few, n: u64) -> (Option<(u64, u64)>, Option<(u64, u64)>) {
+    match few {
+        Few::Empty => (None, None),
+        Few::One(run) => (one_above(run, n), None),
+        Few::Two(low, high) => {
+            if n < low.1 {
+                return (Some(low), Some(high));
+            }
+            (one_above(high, n), None)
+        }
+    }
+}
+
+/// Copies the runs to the slice's front.
+pub(crate) fn copy_few(few: Few, into: &mut [(u64, u64)]) -> usize {
+    match few {
+        Few::Empty => 0,
+        Few::One(run) => {
+            into[0] = run;
+            1
+        }
+        Few::Two(low, high) => {
+            into[0] = low;
+            into[1] = high;
+            2
+        }
+    }
+}
+
+/// How many runs there are.
+pub(crate) fn count_few(few: Few) -> usize {
+    match few {
+        Few::Empty => 0,
+        Few::One(_) => 1,
+        Few::Two(_, _) => 2,
+    }
+}

@@ -1,0 +1,30 @@
+// Made from crates/qs_ranges/src/maybe_number.rt by rust/erase; not edited by hand.
+//! A number below 2^62, or none, in eight bytes.
+
+// The word of no number: above each that there may be.
+const NO_NUMBER: u64 = u64::MAX;
+
+/// No number, or one below 2^62, in eight bytes: an `Option<u64>` takes sixteen.
+#[derive(Clone, Copy)]
+pub struct MaybeNumber {
+    word: u64,
+}
+
+impl MaybeNumber {
+    pub fn none() -> Self {
+        MaybeNumber { word: NO_NUMBER }
+    }
+
+    pub fn some(n: u64) -> Self {
+        debug_assert!(n <= 0x3fff_ffff_ffff_ffff);
+        MaybeNumber { word: n }
+    }
+
+    pub fn get(self) -> Option<u64> {
+        if self.word == NO_NUMBER {
+            None
+        } else {
+            Some(self.word)
+        }
+    }
+}

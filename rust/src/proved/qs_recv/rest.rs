@@ -1,0 +1,182 @@
+// Made from crates/qs_recv/src/rest.rt by rust/erase; not edited by hand.
+//! A receiving half that stores nothing, in few bytes.
+
+use crate::proved::qs_recv::credit::next_limit;
+use crate::proved::qs_recv::half::Read;
+
+/// A receiving half that stores nothing, and of which the offsets that came are those below `received_end`: one that never
+/// carried a byte, or that is over. An `Option<u64>` would take twice the bytes of its number.
+pub(crate) struct Rest {
+    pub(crate) read_count: u64,
+    pub(crate) received_end: u64,
+    pub(crate) limit: u64,
+    pub(crate) size: u64,
+    pub(crate) reset: u64,
+    pub(crate) stop: u64,
+    pub(crate) window: u32,
+    pub(crate) is_sized: bool,
+    pub(crate) is_reset: bool,
+    pub(crate) is_stopped: bool,
+    pub(crate) told: bool,
+}
+
+impl Rest {
+    /// A half for which nothing came.
+    pub(crate) fn new(window: u64) -> Self {
+        debug_assert!(1 <= window);
+        debug_assert!(window <= 1 << 20);
+        Rest {
+            read_count: 0,
+            received_end: 0,
+            limit: window,
+            size: 0,
+            reset: 0,
+            stop: 0,
+            window: window as u32,
+            is_sized: false,
+            is_reset: false,
+            is_stopped: false,
+            told: false,
+        }
+    }
+
+    /// Takes a frame that passed its check, where that stores no byte and the offsets that came stay those below a number.
+    /// Else it answers false, and changes nothing.
+    pub(crate) fn takes(&mut self, offset: u64, bytes: &[u8], fin: bool) -> bool {
+        let Some(received_end) = self.end_with(offset, bytes) else {
+            return false;
+        };
+        self.received_end = received_end;
+        if fin {
+            self.is_sized = true;
+            self.size = offset + bytes.len() as u64;
+        }
+        true
+    }
+
+    /// Takes a reset that passed its check.
+    pub(crate) fn take_reset(&mut self, code: u64, size: u64) {
+        debug_assert!(size <= 0x3fff_ffff_ffff_ffff);
+        if self.is_reset || self.is_whole() {
+            return;
+        }
+        self.is_sized = true;
+        self.size = size;
+        self.is_reset = true;
+        self.reset = code;
+    }
+
+    /// What a reader is told: bytes never are.
+    pub(crate) fn read(&mut self) -> Read {
+        if self.is_reset {
+            self.told = true;
+            return Read::Reset(self.reset);
+        }
+        let is_over = if self.is_stopped {
+            self.is_whole()
+        } else {
+            self.is_sized && self.size == self.read_count
+        };
+        if is_over {
+            self.told = true;
+            return Read::End;
+        }
+        Read::Wait
+    }
+
+    /// Notes a stop: the first code stays.
+    pub(crate) fn stop(&mut self, code: u64) {
+        debug_assert!(code <= 0x3fff_ffff_ffff_ffff);
+        if !self.is_stopped {
+            self.is_stopped = true;
+            self.stop = code;
+        }
+    }
+
+    /// Raises the limit, and answers the new one where it rose.
+    pub(crate) fn raise(&mut self) -> Option<u64> {
+        if self.is_sized {
+            return None;
+        }
+        let next = next_limit(self.limit, self.taken(), self.window as u64)?;
+        self.limit = next;
+        Some(next)
+    }
+
+    /// What holds of the half at all times.
+    pub(crate) fn is_lawful(&self) {
+        let _ = &self.limit;
+    }
+
+    /// The limit on the highest offset that was granted.
+    pub(crate) fn limit(&self) -> u64 {
+        self.limit
+    }
+
+    /// What credit is paid back for.
+    pub(crate) fn taken(&self) -> u64 {
+        if self.is_reset || self.is_stopped {
+            self.highest()
+        } else {
+            self.read_count
+        }
+    }
+
+    /// The final size if known, else one more than the largest offset that came, or 0.
+    pub(crate) fn highest(&self) -> u64 {
+        if self.is_sized {
+            self.size
+        } else {
+            self.received_end
+        }
+    }
+
+    /// How long the stream is, where that is known.
+    pub(crate) fn final_size(&self) -> Option<u64> {
+        given(self.is_sized, self.size)
+    }
+
+    /// How many bytes are stored: none.
+    pub(crate) fn stored(&self) -> u64 {
+        let _ = &self.limit;
+        0
+    }
+
+    /// How many bytes were read.
+    pub(crate) fn read_count(&self) -> u64 {
+        self.read_count
+    }
+
+    /// The code of the first stop, if there was one.
+    pub(crate) fn stop_code(&self) -> Option<u64> {
+        given(self.is_stopped, self.stop)
+    }
+
+    /// The code of the reset that was taken, if there was one.
+    pub(crate) fn reset_code(&self) -> Option<u64> {
+        given(self.is_reset, self.reset)
+    }
+
+    // The number below which the offsets are that came, once a frame's did. None where one of its bytes would be stored, or
+    // offsets lie apart.
+    fn end_with(&self, offset: u64, bytes: &[u8]) -> Option<u64> {
+        let end = offset + bytes.len() as u64;
+        if self.is_reset || end <= offset || end <= self.received_end {
+            return Some(self.received_end);
+        }
+        if self.is_stopped && offset <= self.received_end {
+            return Some(end);
+        }
+        None
+    }
+
+    // Whether the final size is known and every offset below it came.
+    fn is_whole(&self) -> bool {
+        self.is_sized && self.size <= self.received_end
+    }
+}
+
+/// The number, where there is one.
+pub(crate) fn given(is_there: bool, number: u64) -> Option<u64> {
+    if is_there { Some(number) } else { None }
+}

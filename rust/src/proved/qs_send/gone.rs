@@ -1,0 +1,75 @@
+// Made from crates/qs_send/src/gone.rt by rust/erase; not edited by hand.
+//! Which slots are empty, as far as it was noted: a bit for each, in words.
+
+use crate::shim::collections::VecDeque;
+
+/// How many slots a word has bits for.
+pub(crate) const PER_WORD: usize = 64;
+
+/// Makes room for the bits up to that of an index. Where memory is refused, it is not noted which of them are empty.
+pub(crate) fn make_room(words: &mut VecDeque<u64>, index: usize) {
+    let place = index / PER_WORD;
+    if place >= words.len() {
+        let _refused = words.reserve(place - words.len() + 1);
+    }
+}
+
+/// The slot of an index holds something, and there is a bit for it, if there are bits for all lower ones and room for one word more.
+pub(crate) fn begin(words: &mut VecDeque<u64>, index: usize) {
+    let place = index / PER_WORD;
+    if place < words.len() {
+        words[place] = with_bit(words[place], bit_of(index), false);
+    } else if place == words.len() && words.len() < words.capacity() {
+        words.push_back_reserved(0);
+    }
+}
+
+/// The slot of an index is empty.
+pub(crate) fn note(words: &mut VecDeque<u64>, index: usize) {
+    let place = index / PER_WORD;
+    if place < words.len() {
+        words[place] = with_bit(words[place], bit_of(index), true);
+    }
+}
+
+/// An end as low as can be, down to `low`, behind which all indexes below `end` are noted as empty.
+pub(crate) fn end_of_left(words: &VecDeque<u64>, low: usize, end: usize) -> usize {
+    let mut left = end;
+    while left > low {
+        let last = left - 1;
+        let place = last / PER_WORD;
+        if place >= words.len() {
+            return left;
+        }
+        match lowest_bit(!words[place], bit_of(last)) {
+            Some(bit) => return place * PER_WORD + (PER_WORD - bit),
+            None => left = place * PER_WORD,
+        }
+    }
+    left
+}
+
+// The bit of an index in its word. The lower one's lies above, so that a search for the greatest index is one for the lowest bit.
+fn bit_of(index: usize) -> usize {
+    PER_WORD - 1 - index % PER_WORD
+}
+
+// A word with one of its bits set or cleared.
+fn with_bit(word: u64, bit: usize, is_set: bool) -> u64 {
+    debug_assert!(bit < 64);
+    if is_set {
+        word | (1 << bit)
+    } else {
+        word & !(1 << bit)
+    }
+}
+
+// The least bit that is set, from one on.
+fn lowest_bit(word: u64, from: usize) -> Option<usize> {
+    debug_assert!(from < 64);
+    let rest = word >> from;
+    if rest == 0 {
+        return None;
+    }
+    Some(from + rest.trailing_zeros() as usize)
+}

@@ -1,0 +1,118 @@
+// Made from crates/qs_send/src/live_offsets.rt by rust/erase; not edited by hand.
+//! The written offsets of a half of which some are still to be sent, or to be acknowledged.
+
+use crate::proved::qs_send::edits::{add, forget};
+use crate::proved::qs_send::kept::Kept;
+use crate::proved::qs_ranges::{NoMemory, RangeSet};
+use crate::shim::alloc::Global;
+
+/// Offsets that were written: their bytes, which of them are due, and which are acknowledged.
+pub(crate) struct LiveOffsets {
+    written: u64,
+    // From the lowest offset not acknowledged on.
+    kept: Kept,
+    acked: RangeSet,
+    // The offsets that were noted as due; the due ones are those not acknowledged.
+    noted: RangeSet,
+    sent_end: u64,
+}
+
+impl LiveOffsets {
+    /// So many that are all acknowledged. They take no memory.
+    pub(crate) fn at_rest(alloc: Global, written: u64) -> Self {
+        debug_assert!(written <= 0x3fff_ffff_ffff_ffff);
+        Self {
+            written,
+            kept: Kept::new(alloc),
+            acked: RangeSet::below(alloc, written),
+            noted: RangeSet::new(alloc),
+            sent_end: written,
+        }
+    }
+
+    pub(crate) fn sent_end(&self) -> u64 {
+        self.sent_end
+    }
+
+    pub(crate) fn kept_len(&self) -> usize {
+        self.kept.len()
+    }
+
+    /// How many bytes of memory those take that are kept.
+    pub(crate) fn held(&self) -> usize {
+        self.kept.held()
+    }
+
+    /// The bytes that are kept, so many from a place on.
+    pub(crate) fn part(&self, from: usize, len: usize) -> &[u8] {
+        self.kept.part(from, len)
+    }
+
+    /// Takes bytes in behind those that were written. Where `most` are ever kept, they take no more memory than for twice as many.
+    pub(crate) fn write(&mut self, bytes: &[u8], most: usize) -> Result<(), NoMemory> {
+        let before = self.kept.len();
+        let end = self.written + bytes.len() as u64;
+        self.kept.append(bytes, most)?;
+        if let Err(fault) = self.noted.insert(self.written, end) {
+            self.kept.truncate(before);
+            return Err(fault);
+        }
+        self.written = end;
+        Ok(())
+    }
+
+    /// Takes in that the offsets below `end` were sent.
+    pub(crate) fn sent(&mut self, end: u64) {
+        let before = self.sent_end;
+        self.noted.drop_below(end);
+        self.sent_end = before.max(end);
+    }
+
+    /// Takes in that the offsets from `lo` on and below `hi` are acknowledged. Where nothing is left, and nothing more comes, the
+    /// buffer's memory goes. Unchanged where memory was refused.
+    pub(crate) fn acked(&mut self, lo: u64, hi: u64, is_over: bool) -> Result<(), NoMemory> {
+        debug_assert!(lo <= hi);
+        let from = self.written - self.kept.len() as u64;
+        add(&mut self.acked, lo, hi)?;
+        // What is acknowledged need not stay noted.
+        forget(&mut self.noted, lo, hi);
+        let low = self.acked.first_missing(0);
+        // Where none is kept, none is let go.
+        self.kept.let_go(low.saturating_sub(from) as usize, is_over);
+        Ok(())
+    }
+
+    /// Takes in that the offsets from `lo` on and below `hi` are lost: what isn't acknowledged is due again. Unchanged where memory
+    /// was refused.
+    pub(crate) fn lost(&mut self, lo: u64, hi: u64) -> Result<(), NoMemory> {
+        debug_assert!(lo <= hi);
+        let _written = self.written;
+        add(&mut self.noted, lo, hi)?;
+        Ok(())
+    }
+
+    /// Nothing is to be sent any more, so nothing is kept, and the buffer's memory goes.
+    pub(crate) fn let_all_go(&mut self) {
+        let count = self.kept.len();
+        self.kept.let_go(count, true);
+        self.noted.drop_below(self.written);
+    }
+
+    /// Whether each offset is acknowledged: then nothing is kept or due.
+    pub(crate) fn rests(&self) -> bool {
+        self.acked.first_missing(0) == self.written
+    }
+
+    /// The lowest due offsets that stand in a row.
+    pub(crate) fn due_run(&self) -> Option<(u64, u64)> {
+        let mut from = 0;
+        while let Some((start, end)) = self.noted.run_from(from) {
+            match self.acked.run_from(start) {
+                None => return Some((start, end)),
+                Some((next, _)) if start < next => return Some((start, next.min(end))),
+                Some((_, after)) => from = after,
+            }
+        }
+        None
+    }
+}

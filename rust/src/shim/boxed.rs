@@ -1,0 +1,45 @@
+//! A box whose making can fail.
+
+use super::alloc::{AllocError, Global};
+use super::heap::{boxed::Box as HeapBox, vec::Vec as HeapVec};
+use core::ops::{Deref, DerefMut};
+
+/// A value in memory of its own: a row of one, since of Rust's own calls that take memory only a row's can fail.
+pub struct Box<T> {
+    row: HeapBox<[T; 1]>,
+}
+
+impl<T> Box<T> {
+    pub fn new(_alloc: Global, value: T) -> Result<Self, AllocError> {
+        let mut row = HeapVec::new();
+        if row.try_reserve_exact(1).is_err() {
+            return Err(AllocError);
+        }
+        row.push(value);
+        match HeapBox::try_from(row) {
+            Ok(row) => Ok(Box { row }),
+            Err(_) => Err(AllocError),
+        }
+    }
+
+    pub fn into_inner(this: Self) -> T {
+        let [value] = *this.row;
+        value
+    }
+}
+
+impl<T> Deref for Box<T> {
+    type Target = T;
+
+    fn deref(&self) -> &T {
+        let [value] = &*self.row;
+        value
+    }
+}
+
+impl<T> DerefMut for Box<T> {
+    fn deref_mut(&mut self) -> &mut T {
+        let [value] = &mut *self.row;
+        value
+    }
+}
