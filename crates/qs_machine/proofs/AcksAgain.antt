@@ -7,10 +7,10 @@ use Rattle.std.specs.Cmp.{unsigned_tied}
 use Rattle.std.specs.FinMap as fmap
 use Rattle.std.proofs.lemmas.Grind.{reverse_onto}
 use Rattle.std.proofs.lemmas.Bool.{both_ways, or_cases, eqb-true, cases_eq}
-use Rattle.qs_wire.specs.declared.stream_id.Dir.TheVariants.{Bidi, Uni}
+use Rattle.qs_wire.specs.declared.stream_id.Dir.TheVariants.{Uni}
 use Rattle.qs_send.specs.Records.{Among, without_first}
 use Rattle.qs_send.specs.declared.piece.Item.{Item}
-use Rattle.qs_send.specs.declared.piece.Item.TheVariants.{MaxData, MaxStreamData, MaxStreams, ResetStream, StopSending, DataBlocked, StreamDataBlocked, StreamsBlocked}
+use Rattle.qs_send.specs.declared.piece.Item.TheVariants.{MaxStreams, StreamsBlocked}
 use Rattle.qs_send.specs.declared.piece.Piece.{Piece}
 use Rattle.qs_send.specs.declared.piece.Piece.TheVariants.{Data, Told}
 use Rattle.qs_send.proofs.Carrying.{rest_of, get_same-without_first, get_other-without_first}
@@ -72,16 +72,9 @@ reverse_among k (x ∷ xs) a =
 -- What acknowledgements leave
 
 held_item : (late : Bool) (i : Item) (e : End) → held late (item_acked i e) ≡ held late e
-held_item late (MaxData m) e = refl
-held_item late (MaxStreamData n m) e = refl
-held_item late (MaxStreams Bidi m) e = refl
 held_item late (MaxStreams Uni m) e = refl
-held_item late (ResetStream n code size) e = refl
-held_item late (StopSending n code) e = refl
-held_item late (DataBlocked m) e = refl
-held_item late (StreamDataBlocked n m) e = refl
-held_item late (StreamsBlocked Bidi m) e = refl
 held_item late (StreamsBlocked Uni m) e = refl
+held_item late i e = refl
 
 held_piece : (late : Bool) (p : Piece) (e : End) → held late (piece_acked p e) ≡ held late e
 held_piece late (Data n c) e = refl

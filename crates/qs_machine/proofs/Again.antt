@@ -27,7 +27,7 @@ use Rattle.qs_machine.proofs.Choices.{not_chosen}
 use Rattle.qs_machine.proofs.TableLaws.{lookup_same, open_at}
 use Rattle.qs_machine.proofs.FramesSound.{sound_frame, sound_opened}
 use Rattle.qs_machine.proofs.Taken.{out_there, in_there, stream_in, reset_in, stream_checked, stream_unchanged, reset_checked}
-use Rattle.qs_machine.proofs.CallsSound.{no_fault_there}
+use Rattle.qs_machine.proofs.EveryCall.{no_fault_there}
 use Rattle.qs_machine.proofs.LanesAgain.{LaneAfter, HasData, HasReset, data_stays, data_taken, data_again, reset_stays, reset_taken, reset_again}
 use Rattle.qs_machine.proofs.TablesAfter.{still_open, updated_back, open_back}
 use Rattle.qs_machine.proofs.EndsAfter.{HalfAfter, IsAfter, IsBare, after_same, after_twice, after_opened, after_frame, mid_stream, mid_reset, mid_allow, mid_stop, has_code, lawful_in, sent_stays}

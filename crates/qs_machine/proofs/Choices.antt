@@ -3,8 +3,8 @@ use Rattle.std.proofs.Common.{◌≡◌, Bool, true, false, Option, Some, None, 
 use Rattle.std.specs.Prelude.{MatchBool, Result, cond}
 use Rattle.std.proofs.lemmas.Bool.{false≢true}
 use Rattle.qs_machine.specs.Ends.{End}
-use Rattle.qs_machine.specs.Owner.{Certain, Uncertain}
-use Rattle.std.proofs.Common.{sym, inl, inr}
+use Rattle.qs_machine.specs.Owner.{Certain}
+use Rattle.std.proofs.Common.{sym}
 
 -- a call that is refused changes nothing
 pub by_refusal : {A F : Type 0} (P : Type 0) (r : Option F) (old : End) (answer : Result A F) (new : End) (Effect : Type 0) → Certain r old answer new Effect → (new ≡ old → P) → (Effect → P) → P
@@ -15,10 +15,6 @@ by_refusal P None old answer new Effect h same effect = effect h
 pub if_allowed : {A F : Type 0} (P : Type 0) (r : Option F) (old : End) (answer : Result A F) (new : End) (Effect : Type 0) → Certain r old answer new Effect → (new ≡ old → P) → (r ≡ None → Effect → P) → P
 if_allowed P (Some fault) old answer new Effect h same effect = same h.1
 if_allowed P None old answer new Effect h same effect = effect refl h
-
-pub by_memory : {A F : Type 0} (P : Type 0) (r : Option F) (f : F) (Asks : Type 0) (old : End) (answer : Result A F) (new : End) (Effect : Type 0) → Uncertain r f Asks old answer new Effect → (new ≡ old → P) → (Effect → P) → P
-by_memory P r f Asks old answer new Effect h same effect =
-    by_refusal P r old answer new _ h same (λ e. elim e [ inl none ↦ same none.1 | inr done ↦ effect done ])
 
 pub by_test : (P : Type 0) (b : Bool) (Yes No : Type 0) → MatchBool b Yes No → (Yes → P) → (No → P) → P
 by_test P true Yes No h if_so if_not = if_so h

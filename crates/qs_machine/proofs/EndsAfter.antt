@@ -269,16 +269,10 @@ after_acked_items : (e : End) (a : AckedItems) → IsAfter e (record e { acked =
 after_acked_items e a = record { role = refl; settings = refl; next = omega arith; credit = omega arith; bidi = omega arith; uni = omega arith; bidi_granted = omega arith; uni_granted = omega arith; counts = λ h. h; recvs = recvs_same e.recvs; sends = sends_same e.sends; bare = λ late k is. is; carried = λ late p is. is }
 
 after_item_acked : (i : Item) (e : End) → IsAfter e (item_acked i e)
-after_item_acked (MaxData m) e = after_acked_items e _
-after_item_acked (MaxStreamData n m) e = after_acked_items e _
-after_item_acked (MaxStreams Bidi m) e = after_acked_items e _
-after_item_acked (MaxStreams Uni m) e = after_acked_items e _
 after_item_acked (ResetStream n code size) e = after_send n reset_acked_lane e (λ l is. half_reset_acked l)
-after_item_acked (StopSending n code) e = after_acked_items e _
-after_item_acked (DataBlocked m) e = after_acked_items e _
-after_item_acked (StreamDataBlocked n m) e = after_acked_items e _
-after_item_acked (StreamsBlocked Bidi m) e = after_acked_items e _
+after_item_acked (MaxStreams Uni m) e = after_acked_items e _
 after_item_acked (StreamsBlocked Uni m) e = after_acked_items e _
+after_item_acked i e = after_acked_items e _
 
 written_lane : (o : Option SendLane) (l : SendLane) (c : Chunk) → o ≡ Some l → IsWritten o c → c.offset + c.len ≤ l.written
 written_lane o l c is h = subst (λ x. IsWritten x c) is h

@@ -24,7 +24,7 @@ use Rattle.qs_calls.specs.declared.closing.Received.TheVariants.{Done, Duplicate
 use Rattle.qs_wire.specs.Reading.{reading_of}
 use Rattle.qs_machine.specs.Tables.{lookup, update, open_to, total}
 use Rattle.qs_machine.specs.Ends.{End}
-use Rattle.qs_machine.specs.Seen.{Seen, Ack, Stream, Control, Close, Plain, seen, asks_ack}
+use Rattle.qs_machine.specs.Seen.{Seen, Stream, Close, seen, asks_ack}
 use Rattle.qs_machine.specs.Credit.{settle}
 use Rattle.qs_machine.specs.Verdicts.{verdict}
 use Rattle.qs_machine.specs.FrameStep.{frame_taken, frames_taken, acks, named, pieces_of, is_named}
@@ -104,11 +104,8 @@ out_of_memory =
 -- The processing of frames never ends so
 
 no_duplicate_at : (p : PlacedValue) (f : Seen) (e new : End) → Stops p f e (Ok Duplicate) new → ⊥
-no_duplicate_at p (Ack largest ranges) e new h = h
-no_duplicate_at p (Stream n offset bytes fin) e new h = h
-no_duplicate_at p (Control i) e new h = h
 no_duplicate_at p (Close code) e new h = h
-no_duplicate_at p (Plain asks) e new h = h
+no_duplicate_at p f e new h = h
 
 no_duplicate : (number : ℕ) (fault : Option WireFault) (asks : Bool) (e : End) (ps : List PlacedValue) (new : End) → Takes number fault asks e ps (Ok Duplicate) new → ⊥
 no_duplicate number None asks e [] new h = h
@@ -120,11 +117,8 @@ no_duplicate number fault asks e (p ∷ ps) new h =
     ]
 
 not_below_at : (p : PlacedValue) (f : Seen) (e new : End) → Stops p f e (Ok BelowFloor) new → ⊥
-not_below_at p (Ack largest ranges) e new h = h
-not_below_at p (Stream n offset bytes fin) e new h = h
-not_below_at p (Control i) e new h = h
 not_below_at p (Close code) e new h = h
-not_below_at p (Plain asks) e new h = h
+not_below_at p f e new h = h
 
 not_below : (number : ℕ) (fault : Option WireFault) (asks : Bool) (e : End) (ps : List PlacedValue) (new : End) → Takes number fault asks e ps (Ok BelowFloor) new → ⊥
 not_below number None asks e [] new h = h

@@ -1,11 +1,11 @@
 -- A frame that has no fault keeps an end within the credit that it granted.
-use Rattle.std.proofs.Common.{◌≡◌, ℕ, ◌+◌, ◌-◌, ◌/◌, ◌≤◌, Bool, true, false, ◌&&◌, ◌||◌, List, [], ◌∷◌, length, Option, Some, None, is_some, refl, sym, ap, ◌∙◌, subst, arith, inl, inr}
+use Rattle.std.proofs.Common.{◌≡◌, ℕ, ◌+◌, ◌-◌, ◌/◌, ◌≤◌, Bool, true, false, ◌&&◌, ◌||◌, List, length, Option, Some, None, is_some, refl, sym, ap, ◌∙◌, subst, arith, inl, inr}
 use Rattle.std.specs.Prelude.{cond, max, nat_le, nat_lt, is_none, Result, Ok, Err, IsOk}
 use Rattle.std.proofs.lemmas.Option.{none-some, same_Some}
 use Rattle.std.proofs.lemmas.Bool.{false≢true, cond_both, and_right}
 use Rattle.std.proofs.lemmas.Bool.Decides.{nat_tests}
 use Rattle.qs_ranges.proofs.Sets.{end_of-empty}
-use Rattle.qs_wire.specs.declared.stream_id.Dir.TheVariants.{Bidi, Uni}
+use Rattle.qs_wire.specs.declared.stream_id.Dir.TheVariants.{Uni}
 use Rattle.qs_recv.specs.Assembled.{Assembled, put}
 use Rattle.qs_recv.specs.Lane.{RecvLane, new_lane, highest, taken, check_stream, check_reset, take_stream, take_reset, is_whole, breaks_final_size}
 use Rattle.qs_recv.specs.Lawful.{IsLawful}
@@ -16,16 +16,15 @@ use Rattle.qs_recv.specs.declared.half.RecvFault.TheVariants.{FinalSize, StreamC
 use Rattle.qs_recv.proofs.LawfulLaws.{highest-take_stream}
 use Rattle.qs_recv.proofs.GrowthLaws.{lawful_after_call, grows_after_call}
 use Rattle.qs_send.specs.declared.piece.Item.{Item}
-use Rattle.qs_send.specs.declared.piece.Item.TheVariants.{MaxData, MaxStreamData, MaxStreams, ResetStream, StopSending, DataBlocked, StreamDataBlocked, StreamsBlocked}
-use Rattle.qs_send.specs.declared.piece.Piece.{Piece}
-use Rattle.qs_send.specs.declared.piece.Piece.TheVariants.{Data, Told}
+use Rattle.qs_send.specs.declared.piece.Item.TheVariants.{MaxStreamData, MaxStreams, ResetStream, StopSending, StreamDataBlocked}
 use Rattle.qs_machine.specs.Tables.{Tables, lookup, updated, open_to, total}
 use Rattle.qs_machine.specs.Ends.{End, is_own, is_uni, recv_lane, opens, opened_by_peer, window}
 use Rattle.qs_machine.specs.Credit.{spent, grant}
-use Rattle.qs_machine.specs.Seen.{Seen, Ack, Stream, Control, Close, Plain}
+use Rattle.qs_machine.specs.Seen.{Seen, Ack, Stream, Control}
 use Rattle.qs_machine.specs.Verdicts.{verdict, item_verdict, or_else, fault_if, state_fault_in, credit_fault, bytes_fault, lane_of, or_new, fault_code}
-use Rattle.qs_machine.specs.FrameStep.{frame_taken, item_taken, AckedPiece, without_piece, acks, first_acked, piece_acked, item_acked, named}
+use Rattle.qs_machine.specs.FrameStep.{frame_taken, item_taken, AckedPiece, acks, named}
 use Rattle.qs_machine.specs.Standing.{KeepsCredit, IsInCredit}
+use Rattle.qs_machine.proofs.Leaves.{acks_leave}
 use Rattle.qs_machine.proofs.Choices.{not_chosen}
 use Rattle.qs_machine.proofs.TableLaws.{lookup_open, open_at, total_open}
 use Rattle.qs_machine.proofs.Sound.{keeps_open, keeps_updated}
@@ -175,44 +174,22 @@ sound_reset n code size e v sound =
 
 -- Acknowledgements
 
-sound_item_acked : (i : Item) (e : End) → IsInCredit e → IsInCredit (item_acked i e)
-sound_item_acked (MaxData m) e h = h
-sound_item_acked (MaxStreamData n m) e h = h
-sound_item_acked (MaxStreams Bidi m) e h = h
-sound_item_acked (MaxStreams Uni m) e h = h
-sound_item_acked (ResetStream n code size) e h = h
-sound_item_acked (StopSending n code) e h = h
-sound_item_acked (DataBlocked m) e h = h
-sound_item_acked (StreamDataBlocked n m) e h = h
-sound_item_acked (StreamsBlocked Bidi m) e h = h
-sound_item_acked (StreamsBlocked Uni m) e h = h
-
-sound_piece_acked : (p : Piece) (e : End) → IsInCredit e → IsInCredit (piece_acked p e)
-sound_piece_acked (Data n c) e h = h
-sound_piece_acked (Told i) e h = sound_item_acked i e h
-
 pub sound_acks : (ps : List AckedPiece) (e : End) → IsInCredit e → IsInCredit (acks ps e)
-unfolding acks
-sound_acks [] e h = h
-sound_acks (p ∷ ps) e h = sound_acks ps (first_acked p e) (sound_piece_acked p.piece (without_piece p.late p.number e) h)
+sound_acks ps e h = subst IsInCredit (sym (acks_leave ps e)) h
 
 -- Frames
 
 sound_item : (i : Item) (e : End) → item_verdict e i ≡ None → IsInCredit e → IsInCredit (item_taken i e)
-sound_item (MaxData m) e v h = h
 sound_item (MaxStreamData n m) e v h = sound_opened n e h
-sound_item (MaxStreams Bidi m) e v h = h
 sound_item (MaxStreams Uni m) e v h = h
 sound_item (ResetStream n code size) e v h = sound_reset n code size e v h
 sound_item (StopSending n code) e v h = sound_opened n e h
-sound_item (DataBlocked m) e v h = h
 sound_item (StreamDataBlocked n m) e v h = sound_opened n e h
-sound_item (StreamsBlocked d m) e v h = h
+sound_item i e v h = h
 
 pub sound_frame : (f : Seen) (e : End) → verdict e f ≡ None → IsInCredit e → IsInCredit (frame_taken f e)
 unfolding verdict frame_taken
 sound_frame (Ack largest ranges) e v h = sound_acks (named e ranges) e h
 sound_frame (Stream n offset bytes fin) e v h = sound_stream n offset bytes fin e v h
 sound_frame (Control i) e v h = sound_item i e v h
-sound_frame (Close code) e v h = h
-sound_frame (Plain asks) e v h = h
+sound_frame f e v h = h

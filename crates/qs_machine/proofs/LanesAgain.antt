@@ -11,18 +11,20 @@ use Rattle.qs_ranges.specs.Numbers.{NumberSet, ContainsRange, is_within, numbers
 use Rattle.qs_ranges.proofs.Sets.{covers-is, covers-of, below-end_of}
 use Rattle.qs_ranges.proofs.Algebra.{inside, with_range-covered}
 use Rattle.qs_recv.specs.Assembled.{Assembled, put, store, discard}
-use Rattle.qs_recv.specs.Lane.{RecvLane, highest, highest_after, check_stream, check_reset, check_bytes, take_stream, take_reset, is_whole, whole_to, breaks_known, raise}
+use Rattle.qs_recv.specs.Lane.{RecvLane, highest, highest_after, check_stream, check_reset, check_bytes, take_stream, take_reset, is_whole, whole_to, breaks_known, raise, stop, after_read, after_answer, read_answer}
+use Rattle.qs_recv.specs.declared.half.Read.{Read}
+use Rattle.qs_recv.specs.declared.half.Read.TheVariants as reads
 use Rattle.qs_recv.specs.Lawful.{IsLawful}
 use Rattle.qs_recv.specs.declared.half.Highest.{Highest}
 use Rattle.qs_recv.specs.declared.half.RecvFault.TheVariants.{FinalSize, StreamCredit, ChangedByte}
 use Rattle.qs_recv.proofs.AssembledLaws.{contains-with_run}
 use Rattle.qs_recv.proofs.LaneLaws.{check_fits}
-use Rattle.qs_recv.specs.Laws.{Grows, IsUnchanged, TakeStream, TakeReset}
+use Rattle.qs_recv.specs.Laws.{Grows, IsUnchanged, TakeStream, TakeReset, ReadUpTo, StopWith}
 use Rattle.qs_recv.proofs.SameAgain.{check_is, taken_passes, stored_before as byte_before}
 use Rattle.qs_recv.proofs.SameLaws.{byte_in, same_none, same_true}
 use Rattle.qs_recv.proofs.LawfulLaws.{unbroken, reset_known, raised_grows}
 use Rattle.qs_recv.proofs.GrowthLaws.{grows_after_call}
-use Rattle.qs_machine.proofs.EndedHalves.{RecvStays, recv_stays, whole_stays, reset_stays_ended}
+use Rattle.qs_machine.proofs.EndedHalves.{RecvStays, recv_stays, whole_stays, reset_stays_ended, read_stays, stop_stays}
 
 -- a byte that is stored at an offset that came before was stored there before
 abbrev StaysStored : RecvLane → RecvLane → Type 0
@@ -68,6 +70,19 @@ reset_after l code size lawful ok =
 
 pub raise_after : (l : RecvLane) → LaneAfter l (raise l)
 raise_after l = record { limit = raised_grows l; received = λ q is. is; size = λ s is. is; reset = λ is. is; stored = λ q byte came is. is; ended = λ is. is }
+
+pub stop_after : (l : RecvLane) (code : ℕ) → IsLawful l → LaneAfter l (stop l code)
+stop_after l code lawful =
+    grown l (stop l code) (grows_after_call l (StopWith code) lawful tt)
+    (cond_both (is_some l.stop_code) l (record l { arrived = discard l.arrived; stop_code = Some code }) (λ m. is_some l.reset_code ≡ true → is_some m.reset_code ≡ true) (λ _ is. is) (λ _ is. is))
+    (byte_before l (StopWith code)) (stop_stays code l)
+
+pub read_after : (l : RecvLane) (size : ℕ) → IsLawful l → LaneAfter l (after_read l size)
+read_after l size lawful = grown l (after_read l size) (grows_after_call l (ReadUpTo size) lawful tt) (by (read_answer l size)) (byte_before l (ReadUpTo size)) (read_stays size l)
+  where
+    by : (answer : Read) → is_some l.reset_code ≡ true → is_some (after_answer answer l size).reset_code ≡ true
+    by (reads.Bytes n) is = is
+    by answer is = is
 
 -- Data
 

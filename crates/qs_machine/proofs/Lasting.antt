@@ -16,7 +16,7 @@ use Rattle.qs_machine.specs.Ends.{End}
 use Rattle.qs_machine.specs.Owner.{Certain, first_refusal, refuse_if, ReadBy, AcceptOpen, GivesNone}
 use Rattle.qs_machine.specs.Receiving.{ReceiveBy}
 use Rattle.qs_machine.specs.Making.{MakeAt, ClaimStep, claim_refusal, MakeAckAt}
-use Rattle.qs_machine.specs.EndStep.{Call, Answer, EndStep, Open, Accept, Write, Finish, Reset, Stop, ReadUpTo, Receive, Make, Lose, RaiseLimits, Claim, ClosingPayload, Stored, Granted, Spent, GrantedStreams, Report, MakeAck}
+use Rattle.qs_machine.specs.EndStep.{Call, Answer, EndStep, Open, Accept, Write, Finish, Reset, Stop, ReadUpTo, Receive, Make, Lose, RaiseLimits, Claim, MakeAck}
 use Rattle.qs_machine.specs.Laws.{StaysButNumber}
 use Rattle.qs_machine.proofs.Choices.{by_refusal}
 use Rattle.qs_calls.specs.declared.settings.RaiseFault.TheVariants as raising
@@ -76,9 +76,4 @@ closed_stays old (MakeAck delay room) answer new is h = ack_refused (is_some old
 closed_stays old (Lose k) answer new is h = refused_first (is_some old.closed) losing.Closed _ old answer new _ is h
 closed_stays old Claim answer new is h = claim_stays old answer new h
 closed_stays old (RaiseLimits p) answer new is h = refused_first (is_some old.closed) raising.Closed _ old answer new _ is h
-closed_stays old (ClosingPayload slice) answer new is h = h.1
-closed_stays old Stored answer new is h = h.1
-closed_stays old Granted answer new is h = h.1
-closed_stays old Spent answer new is h = h.1
-closed_stays old (GrantedStreams d) answer new is h = h.1
-closed_stays old (Report n) answer new is h = h.1
+closed_stays old call answer new is h = h.1

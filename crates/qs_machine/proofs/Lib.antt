@@ -3,10 +3,12 @@ pub mod Bounds
 pub mod CallsSound
 pub mod Carried
 pub mod Choices
+pub mod EveryCall
 pub mod Examples
 pub mod FramesSound
 pub mod LaneTables
 pub mod Lasting
+pub mod Leaves
 pub mod LostSent
 pub mod Prefix
 pub mod Raised

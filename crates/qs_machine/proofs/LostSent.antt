@@ -8,7 +8,7 @@ use Rattle.qs_send.specs.declared.parts.Chunk.{Chunk}
 use Rattle.qs_send.specs.declared.parts.SendFault.{SendFault}
 use Rattle.qs_send.specs.declared.parts.SendFault.TheVariants.{NoMemory}
 use Rattle.qs_send.specs.declared.piece.Item.{Item}
-use Rattle.qs_send.specs.declared.piece.Item.TheVariants.{MaxData, MaxStreamData, MaxStreams, ResetStream, StopSending, DataBlocked, StreamDataBlocked, StreamsBlocked}
+use Rattle.qs_send.specs.declared.piece.Item.TheVariants.{ResetStream, StreamDataBlocked}
 use Rattle.qs_send.specs.declared.piece.Piece.{Piece}
 use Rattle.qs_send.specs.declared.piece.Piece.TheVariants.{Data, Told}
 use Rattle.qs_send.specs.Lane.{SendLane, Sending, new_sending, accepted, refusal, reset_refusal, finish_lane, lost_due, after_write, after_finish, after_reset, after_stopped, after_allow, after_blocked, after_reset_acked, after_sent, after_acked, after_lost}
@@ -39,13 +39,7 @@ lasts_same s = record { sent = omega arith; ended = λ x. x; reset = λ x. x }
 piece_lasts : (t t' : Tables Sending) → AllLast t t' → (p : Piece) → IsSentPiece t p → IsSentPiece t' p
 piece_lasts t t' all (Data n c) (s, at, w) = (let l = all n s at in (l.0, l.1, record { offsets = omega (arith, w.offsets, l.2.sent); end = λ fin. l.2.ended (w.end fin) }))
 piece_lasts t t' all (Told (ResetStream n code size)) (s, at, r) = (let l = all n s at in (l.0, l.1, l.2.reset r))
-piece_lasts t t' all (Told (MaxData m)) h = tt
-piece_lasts t t' all (Told (MaxStreamData n m)) h = tt
-piece_lasts t t' all (Told (MaxStreams d m)) h = tt
-piece_lasts t t' all (Told (StopSending n code)) h = tt
-piece_lasts t t' all (Told (DataBlocked m)) h = tt
-piece_lasts t t' all (Told (StreamDataBlocked n m)) h = tt
-piece_lasts t t' all (Told (StreamsBlocked d m)) h = tt
+piece_lasts t t' all p h = tt
 
 all_updated : (t : Tables Sending) (n : ℕ) (f : Sending → Sending) → ((s : Sending) → Lasts s (f s)) → AllLast t (updated t n f (lookup t n))
 all_updated t n f lasts = go (lookup t n) refl
@@ -103,13 +97,7 @@ lasts_acked c s = record { sent = omega arith; ended = λ x. x; reset = λ x. x 
 all_acked : (t : Tables Sending) (p : Piece) → AllLast t (halves_acked p t)
 all_acked t (Data n c) = all_updated t n (λ s. after_acked s c) (lasts_acked c)
 all_acked t (Told (ResetStream n code size)) = all_updated t n after_reset_acked (λ s. record { sent = omega arith; ended = λ x. x; reset = λ x. x })
-all_acked t (Told (MaxData m)) = all_same t
-all_acked t (Told (MaxStreamData n m)) = all_same t
-all_acked t (Told (MaxStreams d m)) = all_same t
-all_acked t (Told (StopSending n code)) = all_same t
-all_acked t (Told (DataBlocked m)) = all_same t
-all_acked t (Told (StreamDataBlocked n m)) = all_same t
-all_acked t (Told (StreamsBlocked d m)) = all_same t
+all_acked t p = all_same t
 
 all_lost : (t : Tables Sending) (p : Piece) → AllLast t (halves_lost p t)
 all_lost t (Data n c) = all_updated t n (λ s. after_lost s c) (lasts_lost c)
@@ -117,13 +105,7 @@ all_lost t (Told i) = all_same t
 
 all_told : (t : Tables Sending) (i : Item) → AllLast t (halves_told i t)
 all_told t (StreamDataBlocked n m) = all_updated t n after_blocked (λ s. record { sent = omega arith; ended = λ x. x; reset = λ x. x })
-all_told t (MaxData m) = all_same t
-all_told t (MaxStreamData n m) = all_same t
-all_told t (MaxStreams d m) = all_same t
-all_told t (ResetStream n code size) = all_same t
-all_told t (StopSending n code) = all_same t
-all_told t (DataBlocked m) = all_same t
-all_told t (StreamsBlocked d m) = all_same t
+all_told t i = all_same t
 
 -- Lost packets with a piece more
 
@@ -217,13 +199,7 @@ sent_less t m new k is h p out = h p (carried-without_first m k p (subst (λ (x 
 open_of_sent : (t : Tables Sending) (p : Piece) → IsSentPiece t p → IsOfOpen (lanes_of t) p
 open_of_sent t (Data n c) (s, at, w) = ap is_some (lane_there t n s at)
 open_of_sent t (Told (ResetStream n code size)) (s, at, r) = subst IsOfReset (sym (lane_there t n s at)) r
-open_of_sent t (Told (MaxData m)) h = tt
-open_of_sent t (Told (MaxStreamData n m)) h = tt
-open_of_sent t (Told (MaxStreams d m)) h = tt
-open_of_sent t (Told (StopSending n code)) h = tt
-open_of_sent t (Told (DataBlocked m)) h = tt
-open_of_sent t (Told (StreamDataBlocked n m)) h = tt
-open_of_sent t (Told (StreamsBlocked d m)) h = tt
+open_of_sent t p h = tt
 
 pub all_open : (t : Tables Sending) (m : Records) → AreSent t m → AreOfOpen (lanes_of t) m
 all_open t m h p out = open_of_sent t p (h p out)
@@ -240,13 +216,7 @@ closed_sent t n count (Told (ResetStream k code size)) (s, at, r) of = go (looku
         → (s : Sending) × (lookup (with_table t (n % 4) (take count (table t (n % 4)))) k ≡ Some s) × (is_some s.lane.was_reset ≡ true)
     go None e x = absurd x
     go (Some y) e x = (y, e, x)
-closed_sent t n count (Told (MaxData m)) h of = tt
-closed_sent t n count (Told (MaxStreamData k m)) h of = tt
-closed_sent t n count (Told (MaxStreams d m)) h of = tt
-closed_sent t n count (Told (StopSending k code)) h of = tt
-closed_sent t n count (Told (DataBlocked m)) h of = tt
-closed_sent t n count (Told (StreamDataBlocked k m)) h of = tt
-closed_sent t n count (Told (StreamsBlocked d m)) h of = tt
+closed_sent t n count p h of = tt
 
 pub sent_close : (t t' : Tables Sending) (m : Records) (n count : ℕ) → t' ≡ with_table t (n % 4) (take count (table t (n % 4)))
     → AreOfOpen (with_table (lanes_of t) (n % 4) (take count (table (lanes_of t) (n % 4)))) m → AreSent t m → AreSent t' m

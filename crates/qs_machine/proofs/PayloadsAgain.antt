@@ -1,27 +1,26 @@
 -- A payload whose processing ended, and that comes again, goes on where it ended.
 use Rattle.std.proofs.Common.{◌≡◌, ℕ, zero, suc, Bool, false, ◌||◌, List, [], ◌∷◌, ◌++◌, take, Option, Some, None, refl, sym, ap, ◌∙◌, subst, inl, inr}
 use Rattle.std.specs.Prelude.{Result, Ok, Err}
-use Rattle.std.proofs.lemmas.Option.{none-some}
 use Rattle.qs_wire.specs.Layout.{PlacedValue}
 use Rattle.qs_wire.specs.Reading.{reading_of}
 use Rattle.qs_wire.specs.declared.fault.WireFault.{WireFault}
 use Rattle.qs_send.specs.Records.{Among}
 use Rattle.qs_calls.specs.declared.closing.Closing.{Closing}
 use Rattle.qs_calls.specs.declared.closing.Closed.{Closed}
-use Rattle.qs_calls.specs.declared.closing.Closed.TheVariants.{ByUs, ByPeer}
 use Rattle.qs_calls.specs.declared.closing.Received.{Received}
 use Rattle.qs_calls.specs.declared.closing.Received.TheVariants as received
 use Rattle.qs_machine.specs.Ends.{End, closes}
 use Rattle.qs_machine.specs.Credit.{settle}
-use Rattle.qs_machine.specs.Seen.{Seen, Ack, Stream, Control, Close, Plain, seen, asks_ack, any_asks}
+use Rattle.qs_machine.specs.Seen.{Seen, Ack, seen, asks_ack, any_asks}
 use Rattle.qs_machine.specs.FrameStep.{frames_taken, named, acks}
 use Rattle.qs_machine.specs.Recording.{recorded}
-use Rattle.qs_machine.specs.Receiving.{AtEnd, RunsOut, Stops, EndsBy, GoesOn, Takes, TakesPayload}
+use Rattle.qs_machine.specs.Receiving.{AtEnd, RunsOut, EndsBy, Takes, TakesPayload}
 use Rattle.qs_machine.specs.Standing.{IsInCredit, IsSound}
 use Rattle.qs_machine.specs.Repeats.{SentWasWritten, Resumes}
 use Rattle.qs_machine.proofs.FramesSound.{sound_acks}
 use Rattle.qs_machine.proofs.CallsSound.{sound_settle}
 use Rattle.qs_machine.proofs.Prefix.{takes_prefix, or_twice, or_false, seen_in}
+use Rattle.qs_machine.proofs.EveryCall.{stops_by}
 use Rattle.qs_machine.proofs.EndsAfter.{IsAfter, after_same, after_twice, after_closes, after_recorded, after_settle, after_acks, all_take, named_written, sent_stays}
 use Rattle.qs_machine.proofs.AcksAgain.{named_nothing}
 use Rattle.qs_machine.proofs.Again.{IsDone, IsLeft, all_left, all_done, done_stays, frame_again}
@@ -43,12 +42,8 @@ left_closes c e sound sent = left_by e (closes c e) sound sent (after_closes c e
 left_end : (number : ℕ) (asks : Bool) (fault : Option WireFault) (e : End) (result : Result Received Closing) (new : End) → IsSound e → SentWasWritten e → AtEnd number asks fault e result new → IsLeft e new
 left_end number asks None e (Ok received.Done) new sound sent step = becomes e _ new step (left_by e (recorded number asks e) sound sent (after_recorded number asks e) sound.0)
 left_end number asks None e (Ok received.NoMemory) new sound sent step = becomes e e new step.0 (left_same e sound sent)
-left_end number asks None e (Ok received.Duplicate) new sound sent step = absurd step
-left_end number asks None e (Ok received.BelowFloor) new sound sent step = absurd step
-left_end number asks None e (Ok (received.PeerClosed code)) new sound sent step = absurd step
-left_end number asks None e (Err closing) new sound sent step = absurd step
-left_end number asks (Some fault) e (Ok r) new sound sent step = absurd step
 left_end number asks (Some fault) e (Err closing) new sound sent step = becomes e _ new step.1 (left_closes _ e sound sent)
+left_end number asks fault e result new sound sent step = absurd step
 
 left_runs_out : (e : End) (f : Seen) (new : End) → IsSound e → SentWasWritten e → RunsOut e f new → IsLeft e new
 left_runs_out e (Ack largest ranges) new sound sent (m, after, asks) =
@@ -56,44 +51,7 @@ left_runs_out e (Ack largest ranges) new sound sent (m, after, asks) =
     (left_by e (acks (take m (named e ranges)) e) sound sent
     (after_acks (take m (named e ranges)) e (all_take e.sends m (named e ranges) (named_written e ranges sent)))
     (sound_acks (take m (named e ranges)) e sound.0))
-left_runs_out e (Stream n offset bytes fin) new sound sent after = becomes e e new after.0 (left_same e sound sent)
-left_runs_out e (Control i) new sound sent after = becomes e e new after.0 (left_same e sound sent)
-left_runs_out e (Close code) new sound sent after = becomes e e new after.0 (left_same e sound sent)
-left_runs_out e (Plain asks) new sound sent after = becomes e e new after.0 (left_same e sound sent)
-
--- a frame ends the processing: there is no memory, or the end closes
-stops_by : (P : Type 0) (p : PlacedValue) (f : Seen) (e : End) (result : Result Received Closing) (new : End) → Stops p f e result new
-    → ((c : Closed) → new ≡ closes c e → (GoesOn e f → ⊥) → P) → (result ≡ Ok received.NoMemory → RunsOut e f new → P) → P
-stops_by P p (Close code) e (Ok (received.PeerClosed told)) new stops shut out = shut (ByPeer code) stops.1 (λ goes. goes)
-stops_by P p (Close code) e (Ok received.Done) new stops shut out = absurd stops
-stops_by P p (Close code) e (Ok received.Duplicate) new stops shut out = absurd stops
-stops_by P p (Close code) e (Ok received.BelowFloor) new stops shut out = absurd stops
-stops_by P p (Close code) e (Ok received.NoMemory) new stops shut out = absurd stops
-stops_by P p (Close code) e (Err closing) new stops shut out = absurd stops
-stops_by P p (Ack largest ranges) e (Ok received.NoMemory) new stops shut out = out refl stops.1
-stops_by P p (Ack largest ranges) e (Ok received.Done) new stops shut out = absurd stops
-stops_by P p (Ack largest ranges) e (Ok received.Duplicate) new stops shut out = absurd stops
-stops_by P p (Ack largest ranges) e (Ok received.BelowFloor) new stops shut out = absurd stops
-stops_by P p (Ack largest ranges) e (Ok (received.PeerClosed code)) new stops shut out = absurd stops
-stops_by P p (Ack largest ranges) e (Err closing) new stops shut out = shut (ByUs closing) stops.2 (λ goes. none-some closing.code (sym goes ∙ stops.0))
-stops_by P p (Stream n offset bytes fin) e (Ok received.NoMemory) new stops shut out = out refl stops.1
-stops_by P p (Stream n offset bytes fin) e (Ok received.Done) new stops shut out = absurd stops
-stops_by P p (Stream n offset bytes fin) e (Ok received.Duplicate) new stops shut out = absurd stops
-stops_by P p (Stream n offset bytes fin) e (Ok received.BelowFloor) new stops shut out = absurd stops
-stops_by P p (Stream n offset bytes fin) e (Ok (received.PeerClosed code)) new stops shut out = absurd stops
-stops_by P p (Stream n offset bytes fin) e (Err closing) new stops shut out = shut (ByUs closing) stops.2 (λ goes. none-some closing.code (sym goes ∙ stops.0))
-stops_by P p (Control i) e (Ok received.NoMemory) new stops shut out = out refl stops.1
-stops_by P p (Control i) e (Ok received.Done) new stops shut out = absurd stops
-stops_by P p (Control i) e (Ok received.Duplicate) new stops shut out = absurd stops
-stops_by P p (Control i) e (Ok received.BelowFloor) new stops shut out = absurd stops
-stops_by P p (Control i) e (Ok (received.PeerClosed code)) new stops shut out = absurd stops
-stops_by P p (Control i) e (Err closing) new stops shut out = shut (ByUs closing) stops.2 (λ goes. none-some closing.code (sym goes ∙ stops.0))
-stops_by P p (Plain asks) e (Ok received.NoMemory) new stops shut out = out refl stops.1
-stops_by P p (Plain asks) e (Ok received.Done) new stops shut out = absurd stops
-stops_by P p (Plain asks) e (Ok received.Duplicate) new stops shut out = absurd stops
-stops_by P p (Plain asks) e (Ok received.BelowFloor) new stops shut out = absurd stops
-stops_by P p (Plain asks) e (Ok (received.PeerClosed code)) new stops shut out = absurd stops
-stops_by P p (Plain asks) e (Err closing) new stops shut out = shut (ByUs closing) stops.2 (λ goes. none-some closing.code (sym goes ∙ stops.0))
+left_runs_out e f new sound sent after = becomes e e new after.0 (left_same e sound sent)
 
 pub left_ends : (number : ℕ) (fault : Option WireFault) (asks : Bool) (left : List PlacedValue) (e : End) (result : Result Received Closing) (new : End)
     → IsSound e → SentWasWritten e → EndsBy number fault asks left e result new → IsLeft e new
@@ -113,10 +71,7 @@ acks_none (suc m) e = refl
 -- where a frame that took effect finds no memory, nothing changes
 out_again : (f : Seen) (e new : End) → IsDone f e → RunsOut e f new → new ≡ e
 out_again (Ack largest ranges) e new done (m, after, asks) = after ∙ ap (λ ps. acks (take m ps) e) (named_nothing e ranges done.1) ∙ acks_none m e
-out_again (Stream n offset bytes fin) e new done after = after.0
-out_again (Control i) e new done after = after.0
-out_again (Close code) e new done after = after.0
-out_again (Plain asks) e new done after = after.0
+out_again f e new done after = after.0
 
 takes_again : (number : ℕ) (fault : Option WireFault) (asks : Bool) (e : End) (taken left : List PlacedValue) (result : Result Received Closing) (new : End)
     → IsInCredit e → ((f : Seen) → Among f (seen_in taken) → IsDone f e) → Takes number fault asks e (taken ++ left) result new → Resumes number fault (asks || any_asks (seen_in taken)) e left result new

@@ -1,8 +1,6 @@
 -- A payload that was processed and comes again only records its number.
 use Rattle.std.proofs.Common.{◌≡◌, ℕ, ◌+◌, ◌/◌, Bool, true, false, ◌&&◌, ◌||◌, cond, List, [], ◌∷◌, ◌++◌, map, Option, Some, None, is_some, refl, sym, ap, ◌∙◌, subst, arith, inl, inr}
-use Rattle.std.specs.Prelude.{min, max, nat_le, nat_lt, ◌==◌, Result, Ok, Err, MatchBool}
-use Rattle.std.specs.FinSet as set
-use Rattle.std.proofs.lemmas.Bool.{cond_both}
+use Rattle.std.specs.Prelude.{min, max, nat_le, nat_lt, ◌==◌, Result, Ok, Err}
 use Rattle.std.proofs.lemmas.Bool.Decides.{nat_tests}
 use Rattle.qs_ranges.specs.Numbers.{MAX_VARINT}
 use Rattle.qs_wire.specs.Layout.{PlacedValue}
@@ -11,25 +9,22 @@ use Rattle.qs_wire.specs.Reading.{reading_of}
 use Rattle.qs_wire.specs.declared.fault.WireFault.{WireFault}
 use Rattle.qs_wire.specs.declared.stream_id.Dir.TheVariants.{Bidi, Uni}
 use Rattle.qs_recv.specs.Lane.{RecvLane, taken, raise, next_limit}
-use Rattle.qs_send.specs.declared.piece.Item.{Item}
-use Rattle.qs_send.specs.declared.piece.Item.TheVariants.{MaxData, MaxStreamData, MaxStreams, ResetStream, StopSending, DataBlocked, StreamDataBlocked, StreamsBlocked}
-use Rattle.qs_send.specs.declared.piece.Piece.{Piece}
-use Rattle.qs_send.specs.declared.piece.Piece.TheVariants.{Data, Told}
 use Rattle.qs_calls.specs.declared.closing.Closing.{Closing}
 use Rattle.qs_calls.specs.declared.closing.Closed.{Closed}
 use Rattle.qs_calls.specs.declared.closing.Closed.TheVariants.{ByUs, ByPeer}
 use Rattle.qs_calls.specs.declared.closing.Received.{Received}
 use Rattle.qs_calls.specs.declared.closing.Received.TheVariants as received
 use Rattle.qs_machine.specs.Tables.{Tables, each}
-use Rattle.qs_machine.specs.Ends.{End, is_own, opens, opened_by_peer}
+use Rattle.qs_machine.specs.Ends.{End}
 use Rattle.qs_machine.specs.Credit.{settle, all_taken}
-use Rattle.qs_machine.specs.Seen.{Seen, Ack, Stream, Control, Close, Plain, seen, seen_all, any_asks}
-use Rattle.qs_machine.specs.FrameStep.{frame_taken, frames_taken, AckedPiece, without_piece, item_taken, item_acked, piece_acked, first_acked, acks, named}
+use Rattle.qs_machine.specs.Seen.{Seen, Close, seen, seen_all, any_asks}
+use Rattle.qs_machine.specs.FrameStep.{frame_taken, frames_taken}
 use Rattle.qs_machine.specs.Recording.{recorded}
 use Rattle.qs_machine.specs.Receiving.{Stops, EndsBy, TakesPayload, OpenReceive, ReceiveBy, ReceiveStep}
 use Rattle.qs_machine.specs.Standing.{IsSound}
 use Rattle.qs_machine.specs.Repeats.{SentWasWritten, Resumes, OnlyRecords}
-use Rattle.qs_machine.proofs.Choices.{by_test}
+use Rattle.qs_machine.proofs.EveryCall.{by_open}
+use Rattle.qs_machine.proofs.Leaves.{frame_leaves}
 use Rattle.qs_machine.proofs.TableLaws.{total_each}
 use Rattle.qs_machine.proofs.Counts.{next_settle}
 use Rattle.qs_machine.proofs.PayloadsAgain.{payloads_repeat}
@@ -83,62 +78,16 @@ settle_twice e =
 
 -- Frames close nothing
 
-open_item_acked : (i : Item) (e : End) → (item_acked i e).closed ≡ e.closed
-open_item_acked (MaxData m) e = refl
-open_item_acked (MaxStreamData n m) e = refl
-open_item_acked (MaxStreams Bidi m) e = refl
-open_item_acked (MaxStreams Uni m) e = refl
-open_item_acked (ResetStream n code size) e = refl
-open_item_acked (StopSending n code) e = refl
-open_item_acked (DataBlocked m) e = refl
-open_item_acked (StreamDataBlocked n m) e = refl
-open_item_acked (StreamsBlocked Bidi m) e = refl
-open_item_acked (StreamsBlocked Uni m) e = refl
-
-open_piece : (p : Piece) (e : End) → (piece_acked p e).closed ≡ e.closed
-open_piece (Data n c) e = refl
-open_piece (Told i) e = open_item_acked i e
-
-open_acks : (ps : List AckedPiece) (e : End) → (acks ps e).closed ≡ e.closed
-unfolding acks
-open_acks [] e = refl
-open_acks (p ∷ ps) e = open_acks ps (first_acked p e) ∙ open_piece p.piece (without_piece p.late p.number e)
-
-open_opened : (n : ℕ) (e : End) → (opened_by_peer n e).closed ≡ e.closed
-open_opened n e = cond_both (is_own e n) e (opens n e) (λ x. x.closed ≡ e.closed) (λ _. refl) (λ _. refl)
-
-open_item : (i : Item) (e : End) → (item_taken i e).closed ≡ e.closed
-open_item (MaxData m) e = refl
-open_item (MaxStreamData n m) e = open_opened n e
-open_item (MaxStreams Bidi m) e = refl
-open_item (MaxStreams Uni m) e = refl
-open_item (ResetStream n code size) e = open_opened n e
-open_item (StopSending n code) e = open_opened n e
-open_item (DataBlocked m) e = refl
-open_item (StreamDataBlocked n m) e = open_opened n e
-open_item (StreamsBlocked d m) e = refl
-
-open_frame : (f : Seen) (e : End) → (frame_taken f e).closed ≡ e.closed
-unfolding frame_taken
-open_frame (Ack largest ranges) e = open_acks (named e ranges) e
-open_frame (Stream n offset bytes fin) e = open_opened n e
-open_frame (Control i) e = open_item i e
-open_frame (Close code) e = refl
-open_frame (Plain asks) e = refl
-
 open_frames : (fs : List Seen) (e : End) → (frames_taken fs e).closed ≡ e.closed
 unfolding frames_taken
 open_frames [] e = refl
-open_frames (f ∷ fs) e = open_frames fs (frame_taken f e) ∙ open_frame f e
+open_frames (f ∷ fs) e = open_frames fs (frame_taken f e) ∙ ap (λ (x : End). x.closed) (frame_leaves f e)
 
 -- A payload that was processed
 
 never_done : (p : PlacedValue) (f : Seen) (e new : End) → Stops p f e (Ok received.Done) new → ⊥
-never_done p (Ack largest ranges) e new h = h
-never_done p (Stream n offset bytes fin) e new h = h
-never_done p (Control i) e new h = h
 never_done p (Close code) e new h = h
-never_done p (Plain asks) e new h = h
+never_done p f e new h = h
 
 -- all its frames took effect, and it ended without a fault
 all_taken_by : (number : ℕ) (fault : Option WireFault) (asks : Bool) (left : List PlacedValue) (e mid : End) → EndsBy number fault asks left e (Ok received.Done) mid → (left ≡ []) × (fault ≡ None) × (mid ≡ recorded number asks e)
@@ -158,9 +107,7 @@ was_open (Some (ByPeer code)) number payload old new step = absurd (not_done cod
     not_done code h = cc
 was_open None number payload old new step =
     let Rest : Type 0 = (mid : End) × TakesPayload number payload old (Ok received.Done) mid × (new ≡ settle mid) in
-    let found : Rest = by_test Rest (nat_lt number old.floor) ((◌≡◌ {A = Result Received Closing} (Ok received.Done) (Ok received.BelowFloor)) × (new ≡ old)) (MatchBool (set.contains old.done number) ((◌≡◌ {A = Result Received Closing} (Ok received.Done) (Ok received.Duplicate)) × (new ≡ old)) Rest) step
-    (λ b. absurd (not_below b.0)) (λ more.
-    by_test Rest (set.contains old.done number) ((◌≡◌ {A = Result Received Closing} (Ok received.Done) (Ok received.Duplicate)) × (new ≡ old)) Rest more (λ d. absurd (not_again d.0)) (λ r. r)) in
+    let found : Rest = by_open Rest number payload old (Ok received.Done) new step (λ low is. absurd (not_below low)) (λ again is. absurd (not_again again)) (λ high mid takes is. (mid, takes, is)) in
     (refl, found.0, found.1, found.2)
   where
     not_below : ◌≡◌ {A = Result Received Closing} (Ok received.Done) (Ok received.BelowFloor) → ⊥
@@ -174,21 +121,13 @@ ends_again : (again : ℕ) (asks : Bool) (answer : Result Received Closing) (e m
 ends_again again asks answer e mid later same (inl out) is = subst (λ a. OnlyRecords again asks a e later) (sym out.0) (is ∙ ap settle out.1 ∙ same)
 ends_again again asks (Ok received.Done) e mid later same (inr end) is = is ∙ ap settle end ∙ ap (recorded again asks) same
 ends_again again asks (Ok received.NoMemory) e mid later same (inr end) is = is ∙ ap settle end.0 ∙ same
-ends_again again asks (Ok received.Duplicate) e mid later same (inr end) is = absurd end
-ends_again again asks (Ok received.BelowFloor) e mid later same (inr end) is = absurd end
-ends_again again asks (Ok (received.PeerClosed code)) e mid later same (inr end) is = absurd end
-ends_again again asks (Err closing) e mid later same (inr end) is = absurd end
+ends_again again asks answer e mid later same (inr end) is = absurd end
 
 opened_again : (again : ℕ) (payload : List ℕ) (asks : Bool) (e : End) (answer : Result Received Closing) (later : End) → ((mid : End) → TakesPayload again payload e answer mid → later ≡ settle mid → OnlyRecords again asks answer e later)
     → OpenReceive again payload e answer later → OnlyRecords again asks answer e later
 opened_again again payload asks e answer later taken step =
-    let Rest : Type 0 = (mid : End) × TakesPayload again payload e answer mid × (later ≡ settle mid) in
-    let below : Type 0 = (answer ≡ Ok received.BelowFloor) × (later ≡ e) in
-    let duplicate : Type 0 = (answer ≡ Ok received.Duplicate) × (later ≡ e) in
-    let Goal : Type 0 = OnlyRecords again asks answer e later in
-    by_test Goal (nat_lt again e.floor) below (MatchBool (set.contains e.done again) duplicate Rest) step
-    (λ b. subst (λ a. OnlyRecords again asks a e later) (sym b.0) b.1) (λ more.
-    by_test Goal (set.contains e.done again) duplicate Rest more (λ d. subst (λ a. OnlyRecords again asks a e later) (sym d.0) d.1) (λ r. taken r.0 r.1 r.2))
+    let stays : (r : Result Received Closing) → answer ≡ r → OnlyRecords again asks r e later → OnlyRecords again asks answer e later = λ r is h. subst (λ a. OnlyRecords again asks a e later) (sym is) h in
+    by_open (OnlyRecords again asks answer e later) again payload e answer later step (stays (Ok received.BelowFloor)) (stays (Ok received.Duplicate)) (λ high mid takes is. taken mid takes is)
 
 append_none : (ps : List PlacedValue) → ps ++ [] ≡ ps
 append_none [] = refl

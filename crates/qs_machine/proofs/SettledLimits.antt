@@ -1,22 +1,20 @@
 -- As each call ends every limit is its own next one.
-use Rattle.std.proofs.Common.{◌≡◌, ℕ, cond, List, [], ◌∷◌, Option, Some, None, is_some, refl, sym, ap, ◌∙◌, subst, arith}
+use Rattle.std.proofs.Common.{◌≡◌, ℕ, cond, Option, Some, None, is_some, refl, sym, ap, ◌∙◌, subst, arith}
 use Rattle.std.specs.Prelude.{Ok, option_map}
 use Rattle.std.proofs.lemmas.Bool.Decides.{nat_tests}
 use Rattle.std.proofs.lemmas.Option.{same_Some, none-some}
 use Rattle.qs_wire.specs.declared.stream_id.Role.{Role}
 use Rattle.qs_recv.specs.Lane.{RecvLane, taken, raise, next_limit}
-use Rattle.qs_send.specs.declared.piece.Piece.{Piece}
 use Rattle.qs_calls.specs.declared.settings.Settings.{Settings}
 use Rattle.qs_calls.specs.declared.settings.PeerLimits.{PeerLimits}
 use Rattle.qs_calls.specs.Settings.{setup_fault}
 use Rattle.qs_machine.specs.Tables.{lookup, total}
 use Rattle.qs_machine.specs.Ends.{End, new_end, end_made}
 use Rattle.qs_machine.specs.Credit.{settle, all_taken}
-use Rattle.qs_machine.specs.Making.{losses, first_lost}
 use Rattle.qs_machine.specs.EndStep.{Call, Answer, EndStep}
 use Rattle.qs_machine.specs.SettledLimits.{LimitsAreSettled}
 use Rattle.qs_machine.proofs.Bounds.{made_end, no_lane}
-use Rattle.qs_machine.proofs.CallsCounts.{ends_by}
+use Rattle.qs_machine.proofs.EveryCall.{ends_by}
 use Rattle.qs_machine.proofs.ProcessedAgain.{next_twice, raise_twice}
 use Rattle.qs_machine.proofs.TableLaws.{lookup_each, total_each}
 
@@ -57,11 +55,5 @@ settles e =
       streams = λ n l is none. (let (k, raised) = found (lookup e.recvs n) l (sym (lookup_each raise e.recvs n) ∙ is) in raised_stays k l raised none);
     }
 
--- a loss moves no limit
-losses_settled : (k : ℕ) (ps : List Piece) (e : End) → LimitsAreSettled e → LimitsAreSettled (losses k ps e)
-unfolding losses
-losses_settled k [] e h = h
-losses_settled k (p ∷ ps) e h = losses_settled k ps (first_lost k p e) (record { connection = h.connection; streams = h.streams })
-
 pub calls_settle : (old : End) (call : Call) (answer : Answer call) (new : End) → LimitsAreSettled old → EndStep old call answer new → LimitsAreSettled new
-calls_settle old call answer new h step = ends_by LimitsAreSettled old h settles (λ k ps. losses_settled k ps old h) (record { connection = h.connection; streams = h.streams }) call answer new step
+calls_settle old call answer new h step = ends_by LimitsAreSettled old h settles (λ k p e is. record { connection = is.connection; streams = is.streams }) (record { connection = h.connection; streams = h.streams }) call answer new step

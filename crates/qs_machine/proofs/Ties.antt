@@ -4,7 +4,7 @@ use Rattle.std.proofs.lemmas.Bool.{both_ways, cases_eq}
 use Rattle.std.specs.FinMap as fmap
 use Rattle.qs_send.specs.declared.parts.Chunk.{Chunk}
 use Rattle.qs_send.specs.declared.piece.Item.{Item}
-use Rattle.qs_send.specs.declared.piece.Item.TheVariants.{MaxData, MaxStreamData, MaxStreams, ResetStream, StopSending, DataBlocked, StreamDataBlocked, StreamsBlocked}
+use Rattle.qs_send.specs.declared.piece.Item.TheVariants.{ResetStream}
 use Rattle.qs_send.specs.declared.piece.Piece.{Piece}
 use Rattle.qs_send.specs.declared.piece.Piece.TheVariants.{Data, Told}
 use Rattle.qs_send.specs.Lane.{SendLane, Sending, new_sending, after_sent, after_acked, after_lost}
@@ -55,13 +55,7 @@ grown_reset t t' n grows (Some l) is r = (let g = grows n l is in subst IsOfRese
 grown : (t t' : Tables SendLane) → Grows t t' → (p : Piece) → IsOfOpen t p → IsOfOpen t' p
 grown t t' grows (Data n c) h = grown_open t t' n grows (lookup t n) refl h
 grown t t' grows (Told (ResetStream n code size)) h = grown_reset t t' n grows (lookup t n) refl h
-grown t t' grows (Told (MaxData m)) h = tt
-grown t t' grows (Told (MaxStreamData n m)) h = tt
-grown t t' grows (Told (MaxStreams d m)) h = tt
-grown t t' grows (Told (StopSending n code)) h = tt
-grown t t' grows (Told (DataBlocked m)) h = tt
-grown t t' grows (Told (StreamDataBlocked n m)) h = tt
-grown t t' grows (Told (StreamsBlocked d m)) h = tt
+grown t t' grows p h = tt
 
 grows_updated : (t : Tables SendLane) (n : ℕ) (l l' : SendLane) → lookup t n ≡ Some l → (is_some l.was_reset ≡ true → is_some l'.was_reset ≡ true) → Grows t (update t n l')
 grows_updated t n l l' there keeps k x is =

@@ -1,43 +1,32 @@
--- What each call of an end does before its limits move: one of a few edits.
-use Rattle.std.proofs.Common.{◌≡◌, ℕ, ◌+◌, ◌*◌, List, [], length, take, Option, Some, None, is_some, subst, sym, inl, inr, refl, true, false, Bool, ◌∷◌}
-use Rattle.std.specs.Prelude.{nat_lt, Result, Ok, Err, MatchBool}
-use Rattle.std.specs.FinSet as set
-use Rattle.std.proofs.lemmas.Option.{none-some}
+-- What each call of an owner does before its limits move: one of a few edits.
+use Rattle.std.proofs.Common.{◌≡◌, ℕ, ◌+◌, ◌*◌, List, [], length, take, Option, Some, None, is_some, subst, sym, inl, inr, refl}
+use Rattle.std.specs.Prelude.{Result, Ok, Err}
 use Rattle.qs_wire.specs.declared.stream_id.Dir.{Dir}
 use Rattle.qs_wire.specs.declared.stream_id.Dir.TheVariants.{Uni}
 use Rattle.qs_recv.specs.Lane.{after_read, stop}
 use Rattle.qs_recv.specs.declared.half.Read.{Read}
 use Rattle.qs_send.specs.Lane.{SendLane, refusal, reset_refusal, accepted, write_lane, finish_lane, reset_lane}
-use Rattle.qs_send.specs.declared.parts.SendFault.{SendFault}
 use Rattle.qs_send.specs.declared.piece.Piece.{Piece}
-use Rattle.qs_calls.specs.declared.closing.Closing.{Closing}
-use Rattle.qs_calls.specs.declared.closing.Closed.{Closed}
-use Rattle.qs_calls.specs.declared.closing.Closed.TheVariants.{ByUs, ByPeer}
-use Rattle.qs_calls.specs.declared.closing.Received.{Received}
-use Rattle.qs_calls.specs.declared.closing.Received.TheVariants as received
 use Rattle.qs_calls.specs.declared.making.MakeFault.{MakeFault}
 use Rattle.qs_calls.specs.declared.making.MakeFault.TheVariants as making
 use Rattle.qs_calls.specs.declared.making.Made.{Made}
 use Rattle.qs_calls.specs.declared.uses.OpenFault.TheVariants as opening
 use Rattle.qs_calls.specs.declared.uses.UseFault.{UseFault}
-use Rattle.qs_calls.specs.declared.uses.UseFault.TheVariants as uses
 use Rattle.qs_machine.specs.Ends.{End, send_lane, recv_lane, on_send, on_recv, opens}
 use Rattle.qs_machine.specs.Credit.{settle}
 use Rattle.qs_machine.specs.Due.{known_count}
-use Rattle.qs_machine.specs.Seen.{Seen, Ack, seen_all}
+use Rattle.qs_machine.specs.Seen.{Seen, seen_all}
 use Rattle.qs_machine.specs.Lawful.{Fills}
-use Rattle.qs_machine.specs.Owner.{OpenStep, AcceptStep, ReadBy, recv_refusal, with_wanted, first_refusal, refuse_if, no_half, half_refusal, IsBlocked, IsOpened, GivesNone, GivesBidi, GivesUni, AcceptOpen, peer_kind, next_stream, send_refusal}
-use Rattle.qs_machine.specs.Receiving.{ReceiveBy, TakesPayload, OpenReceive}
-use Rattle.qs_machine.specs.Making.{MakeAt, make_refusal, LoseStep, losses, claim_refusal, lose_refusal, MakeAckAt}
-use Rattle.qs_machine.specs.EndStep.{Call, Answer, EndStep, Open, Accept, Write, Finish, Reset, Stop, ReadUpTo, Receive, Make, Lose, Claim, RaiseLimits, ClosingPayload, Stored, Granted, Spent, GrantedStreams, Report, MakeAck}
-use Rattle.qs_machine.specs.Raising.{limits_raised, raise_refusal}
-use Rattle.qs_calls.specs.declared.settings.PeerLimits.{PeerLimits}
+use Rattle.qs_machine.specs.Owner.{OpenStep, AcceptStep, ReadBy, recv_refusal, with_wanted, refuse_if, IsBlocked, IsOpened, GivesNone, GivesBidi, GivesUni, AcceptOpen, peer_kind, next_stream, send_refusal}
+use Rattle.qs_machine.specs.Making.{MakeAt, make_refusal, LoseStep, losses, claim_refusal, lose_refusal}
+use Rattle.qs_machine.specs.EndStep.{Answer, EndStep, Open, Accept, Write, Lose}
 use Rattle.qs_calls.specs.declared.event.Act.{Act}
 use Rattle.qs_calls.specs.declared.event.Act.TheVariants as acts
 use Rattle.qs_calls.specs.declared.answer.Answer.{Answer as Answered}
 use Rattle.qs_calls.specs.declared.answer.Answer.TheVariants as answers
 use Rattle.qs_runs.specs.Worlds.{OwnStep}
 use Rattle.qs_machine.proofs.Choices.{by_refusal, by_test, if_allowed}
+use Rattle.qs_machine.proofs.EveryCall.{half_allowed}
 
 -- P holds of the end, and stays with each edit by a call; what a payload leaves is told apart
 pub record Edits (P : End → Type 0) (old : End) : Type 0 where
@@ -53,16 +42,6 @@ pub record Edits (P : End → Type 0) (old : End) : Type 0 where
   pub reads : (n size : ℕ) → P (on_recv n (λ m. after_read m size) old)
   pub fills : (frames : List Seen) (mid : End) → Fills old old frames mid → P (record mid { next = old.next + 1 })
   pub loses : (k : ℕ) (ps : List Piece) → P (losses k ps old)
-
--- a half that takes bytes refuses none
-half_allowed : (closed other : Bool) (o : Option SendLane) → first_refusal (refuse_if closed uses.Closed) (elim o [ None ↦ Some (no_half other) | Some l ↦ half_refusal (refusal l) ]) ≡ None → (l : SendLane) → o ≡ Some l → refusal l ≡ None
-half_allowed true other o h l is = absurd (none-some uses.Closed (sym h))
-half_allowed false other None h l is = absurd (none-some l is)
-half_allowed false other (Some k) h l is = subst (λ o. elim o as (λ _. Type 0) [ None ↦ Unit {0} | Some m ↦ refusal m ≡ None ]) is (no_refusal (refusal k) h)
-  where
-    no_refusal : (r : Option SendFault) → half_refusal r ≡ None → r ≡ None
-    no_refusal None e = refl
-    no_refusal (Some fault) e = absurd (none-some _ (sym e))
 
 module _ (P : End → Type 0) (old : End) (edits : Edits P old) where
   becomes : (new : End) → new ≡ old → P new
@@ -102,14 +81,6 @@ module _ (P : End → Type 0) (old : End) (edits : Edits P old) where
   make_by None first delay room (Err making.Closed) text new step = absurd step
   make_by None first delay room (Err making.Exhausted) text new step = absurd step
 
-  ack_by : (r : Option MakeFault) (delay room : ℕ) (answer : Result (Option Made) MakeFault) (text : List ℕ) (new : End) → MakeAckAt r old delay room answer text new → P new
-  ack_by (Some fault) delay room answer text new step = becomes new step.2
-  ack_by None delay room (Ok (Some made)) text new step =
-      let (mid, fills, after) = step.lawful.filled in
-      settled step.mid new (subst P (sym after) (edits.fills (Ack step.largest step.ranges ∷ []) mid fills)) step.after
-  ack_by None delay room (Ok None) text new step = becomes new step.2
-  ack_by None delay room (Err fault) text new step = absurd step
-
   lost : (k : ℕ) (ps : List Piece) (new : End) → new ≡ losses k ps old → P new
   lost k ps new same = subst P (sym same) (edits.loses k ps)
 
@@ -134,46 +105,6 @@ module _ (P : End → Type 0) (old : End) (edits : Edits P old) where
             settled (on_send n (λ m. write_lane m (take (accepted l (length bytes)) bytes)) old) new
             (edits.writes n bytes l is (half_allowed (is_some old.closed) (is_some (recv_lane old n)) (send_lane old n) allowed l is)) done.1
       ])
-
-  module _ (takes : (number : ℕ) (payload : List ℕ) (result : Result Received Closing) (mid : End) → TakesPayload number payload old result mid → P mid) where
-    receive_open : (number : ℕ) (payload : List ℕ) (result : Result Received Closing) (new : End) → OpenReceive number payload old result new → P new
-    receive_open number payload result new step =
-        let below : Type 0 = (result ≡ Ok received.BelowFloor) × (new ≡ old) in
-        let duplicate : Type 0 = (result ≡ Ok received.Duplicate) × (new ≡ old) in
-        let taken_in : Type 0 = (mid : End) × TakesPayload number payload old result mid × (new ≡ settle mid) in
-        by_test (P new) (nat_lt number old.floor) below (MatchBool (set.contains old.done number) duplicate taken_in) step (λ b. becomes new b.1) (λ more.
-        by_test (P new) (set.contains old.done number) duplicate taken_in more (λ d. becomes new d.1) (λ (mid, taken, after). settled mid new (takes number payload result mid taken) after))
-
-    receive_by : (c : Option Closed) (number : ℕ) (payload : List ℕ) (result : Result Received Closing) (new : End) → ReceiveBy c number payload old result new → P new
-    receive_by None number payload result new step = receive_open number payload result new step
-    receive_by (Some (ByUs closing)) number payload result new step = becomes new step.1
-    receive_by (Some (ByPeer code)) number payload result new step = becomes new step.1
-
-    -- every call, where P stays as limits rise, too
-    pub each_call : ((p : PeerLimits) → P (limits_raised p old)) → (call : Call) (answer : Answer call) (new : End) → EndStep old call answer new → P new
-    each_call raises (Open d) answer new step = open_by d answer new step
-    each_call raises Accept answer new step = accept_by answer new step
-    each_call raises (Write n bytes) answer new step = write_by n bytes answer new step
-    each_call raises (Finish n) answer new step =
-        by_refusal (P new) (send_refusal old n refusal) old answer new _ step (becomes new) (λ done. settled (on_send n finish_lane old) new (edits.finishes n) done.1)
-    each_call raises (Reset n code) answer new step =
-        by_refusal (P new) (send_refusal old n reset_refusal) old answer new _ step (becomes new) (λ done. settled (on_send n (λ m. reset_lane m code) old) new (edits.resets n code) done.1)
-    each_call raises (Stop n code) answer new step =
-        by_refusal (P new) (recv_refusal old n) old answer new _ step (becomes new) (λ done. settled (on_recv n (λ m. stop m code) old) new (edits.stops n code) done.1)
-    each_call raises (ReadUpTo n size) answer new step = read_by (recv_refusal old n) n size answer.0 answer.1 new step
-    each_call raises (Receive k payload) answer new step = receive_by old.closed k payload answer new step
-    each_call raises (Make first delay room) answer new step = make_by (make_refusal old) first delay room answer.0 answer.1 new step
-    each_call raises (MakeAck delay room) answer new step = ack_by (make_refusal old) delay room answer.0 answer.1 new step
-    each_call raises (Lose k) answer new step = lose_by k answer new step
-    each_call raises Claim answer new step = by_refusal (P new) (claim_refusal old) old answer new _ step (becomes new) claimed
-    each_call raises (RaiseLimits p) answer new step =
-        by_refusal (P new) (raise_refusal old p) old answer new _ step (becomes new) (λ done. settled (limits_raised p old) new (raises p) done.1)
-    each_call raises (ClosingPayload slice) answer new step = becomes new step.1
-    each_call raises Stored answer new step = becomes new step.1
-    each_call raises Granted answer new step = becomes new step.1
-    each_call raises Spent answer new step = becomes new step.1
-    each_call raises (GrantedStreams d) answer new step = becomes new step.1
-    each_call raises (Report n) answer new step = becomes new step.1
 
   -- what an owner does
   pub each_own : (act : Act) (answer : Answered) (new : End) → OwnStep old act answer new → P new

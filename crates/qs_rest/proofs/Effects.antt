@@ -11,10 +11,10 @@ use Rattle.qs_recv.specs.Lane.{RecvLane, take_reset, is_whole, whole_to}
 use Rattle.qs_send.specs.Lane.{SendLane, allow_lane, reset_lane, stopped_lane, unacked_from, is_whole as send_whole}
 use Rattle.qs_send.specs.declared.parts.SendFault.TheVariants.{Finished, WasReset}
 use Rattle.qs_send.specs.declared.piece.Item.{Item}
-use Rattle.qs_send.specs.declared.piece.Item.TheVariants.{MaxData, MaxStreamData, MaxStreams, ResetStream, StopSending, DataBlocked, StreamDataBlocked, StreamsBlocked}
+use Rattle.qs_send.specs.declared.piece.Item.TheVariants.{MaxData, MaxStreamData, MaxStreams, ResetStream, StopSending}
 use Rattle.qs_machine.specs.Tables.{lookup, updated, open_to}
 use Rattle.qs_machine.specs.Ends.{End, is_own, is_uni, opens, opened_by_peer, first_send_limit}
-use Rattle.qs_machine.specs.Seen.{Seen, Ack, Stream, Control, Close, Plain}
+use Rattle.qs_machine.specs.Seen.{Seen, Control}
 use Rattle.qs_machine.specs.Verdicts.{verdict, item_verdict, state_fault_out}
 use Rattle.qs_machine.specs.FrameStep.{frame_taken, item_taken}
 use Rattle.qs_machine.proofs.TableLaws.{open_at}
@@ -60,13 +60,7 @@ module _ (a b : End) (conn : a.known_data ≤ b.known_data) (bidi : a.known_bidi
   item_stays (Control (StopSending n code)) (l, is, h) =
       let (m, there, r) = sends n l is in
       (m, there, elim h [ inl reset ↦ inl (r.reset reset) | inr w ↦ inr (r.whole w) ])
-  item_stays (Control (DataBlocked m)) h = tt
-  item_stays (Control (StreamDataBlocked n m)) h = tt
-  item_stays (Control (StreamsBlocked d m)) h = tt
-  item_stays (Ack largest ranges) h = tt
-  item_stays (Stream n offset bytes fin) h = tt
-  item_stays (Close code) h = tt
-  item_stays (Plain asks) h = tt
+  item_stays f h = tt
 
   pub items_stay : (fs : List Seen) → AllByRecursion (ItemTaken a) fs → AllByRecursion (ItemTaken b) fs
   items_stay [] all = tt
@@ -154,14 +148,9 @@ module _ (p : Past) (e : End) (ok : EndOk p e) where
       let opened : EndOk p (opened_by_peer n e) = opened_ok p e n ok (named_by p _ n t refl) (is_own e n) refl in
       let half = subst (SendSlot p n (first_send_limit (opened_by_peer n e) n)) is (opened.sends n) in
       (stopped_lane l code, changed (opened_by_peer n e).sends n (λ x. stopped_lane x code) l is, stopped_or_acked p n (first_send_limit (opened_by_peer n e) n) l half code)
-  item_done (DataBlocked m) t fine h = tt
-  item_done (StreamDataBlocked n m) t fine h = tt
-  item_done (StreamsBlocked d m) t fine h = tt
+  item_done i t fine h = tt
 
   pub frame_done : (f : Seen) → Tells p.theirs f → verdict e f ≡ None → ItemTaken (frame_taken f e) f
   unfolding verdict frame_taken
   frame_done (Control i) t fine = item_done i t fine (frame_keeps p e (Control i) ok t fine)
-  frame_done (Ack largest ranges) t fine = tt
-  frame_done (Stream n offset bytes fin) t fine = tt
-  frame_done (Close code) t fine = tt
-  frame_done (Plain asks) t fine = tt
+  frame_done f t fine = tt

@@ -70,7 +70,7 @@ module _ (a b : Settings) (h : History) (v w : World) (s : Side) (ok : WorldOk a
   own_step : (act : Act) (answer : Answer) → is_delivery act ≡ false → OwnStep (end_of v s) act answer (end_of w s) → end_of w (other s) ≡ end_of v (other s) → (t : Side) → RestOk (past t ((does s act, answer) ∷ h)) (end_of w t)
   own_step act answer own step same =
       two_sides (λ t. RestOk (past t ((does s act, answer) ∷ h)) (end_of w t)) s
-      (moved (λ p. RestOk p (end_of w s)) _ _ (past_own s act answer h own) (own_rests (past s h) (end_of v s) (end_of w s) (ok.ends s) (rests s) act answer step))
+      (moved (λ p. RestOk p (end_of w s)) _ _ (past_own s act answer h own) (own_rests (past s h) (end_of v s) (end_of w s) (ok.sound s) (ok.sent s) (rests s) act answer step))
       (moved (λ p. RestOk p (end_of w (other s))) _ _ (past_peer s act answer h own) (moved (RestOk _) _ _ same (peer_rests (past (other s) h) (seen_by act answer) (end_of v (other s)) (rests (other s)))))
 
   deliver_step : (k : ℕ) (answer : Answer) → DeliverStep h v s k answer w → (t : Side) → RestOk (past t ((does s (acts.Deliver k), answer) ∷ h)) (end_of w t)
@@ -83,16 +83,7 @@ module _ (a b : Settings) (h : History) (v w : World) (s : Side) (ok : WorldOk a
 
   step_by : (act : Act) (answer : Answer) → StepBy h v s act answer w → (t : Side) → RestOk (past t ((does s act, answer) ∷ h)) (end_of w t)
   step_by (acts.Deliver k) answer step = deliver_step k answer step
-  step_by (acts.OpenStream dir) answer step = own_step (acts.OpenStream dir) answer refl step.0 step.1
-  step_by acts.Accept answer step = own_step acts.Accept answer refl step.0 step.1
-  step_by (acts.Write n bytes) answer step = own_step (acts.Write n bytes) answer refl step.0 step.1
-  step_by (acts.Finish n) answer step = own_step (acts.Finish n) answer refl step.0 step.1
-  step_by (acts.Reset n code) answer step = own_step (acts.Reset n code) answer refl step.0 step.1
-  step_by (acts.Stop n code) answer step = own_step (acts.Stop n code) answer refl step.0 step.1
-  step_by (acts.ReadUpTo n size) answer step = own_step (acts.ReadUpTo n size) answer refl step.0 step.1
-  step_by (acts.Make room) answer step = own_step (acts.Make room) answer refl step.0 step.1
-  step_by (acts.Lose k) answer step = own_step (acts.Lose k) answer refl step.0 step.1
-  step_by acts.Claim answer step = own_step acts.Claim answer refl step.0 step.1
+  step_by act answer step = own_step act answer refl step.0 step.1
 
 pub every_run_keeps : EveryRunKeeps
 every_run_keeps a b [] w is =

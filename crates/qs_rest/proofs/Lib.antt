@@ -1,6 +1,5 @@
 pub mod ItemParts
 pub mod EachCall
-pub mod Untouched
 pub mod Stops
 pub mod Halves
 pub mod Moves

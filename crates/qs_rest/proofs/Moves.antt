@@ -128,14 +128,8 @@ module _ (p : Past) where
   -- A packet
 
   item_put_moved : (i : Item) (e : End) → AllTrue p e → AckedTrue p e.acked → Moved p e (item_put i e)
-  item_put_moved (MaxData m) e all acked = moved_same e all acked
-  item_put_moved (MaxStreamData n m) e all acked = moved_same e all acked
-  item_put_moved (MaxStreams d m) e all acked = moved_same e all acked
-  item_put_moved (ResetStream n code size) e all acked = moved_same e all acked
-  item_put_moved (StopSending n code) e all acked = moved_same e all acked
-  item_put_moved (DataBlocked m) e all acked = moved_same e all acked
   item_put_moved (StreamDataBlocked n m) e all acked = half_moved e n blocked_lane all acked (λ l is. blocked_lasts l) (λ l is h. blocked_true p n _ l h)
-  item_put_moved (StreamsBlocked d m) e all acked = moved_same e all acked
+  item_put_moved i e all acked = moved_same e all acked
 
   put_moved : (f : Seen) (e : End) → AllTrue p e → AckedTrue p e.acked → Moved p e (frame_put f e)
   unfolding frame_put

@@ -16,7 +16,7 @@ use Rattle.qs_machine.specs.Seen.{Seen, Ack, Stream, Control, Close, Plain, seen
 use Rattle.qs_machine.specs.FrameStep.{named, frame_taken}
 use Rattle.qs_machine.specs.Recording.{recorded}
 use Rattle.qs_machine.specs.Receiving.{Takes, Stops, AtEnd}
-use Rattle.qs_machine.proofs.CallsSound.{no_fault_there}
+use Rattle.qs_machine.proofs.EveryCall.{no_fault_there}
 use Rattle.qs_runs.specs.Logs.{is_done}
 use Rattle.qs_runs.specs.Pasts.{Past, Tells}
 use Rattle.qs_runs.specs.Invariant.{EndOk}
@@ -25,7 +25,7 @@ use Rattle.qs_runs.proofs.Changes.{AllGrow, all_grow_refl, grow_trans}
 use Rattle.qs_runs.proofs.Acking.{named_pieces_ok}
 use Rattle.qs_runs.proofs.Frames.{Effect, frame_keeps}
 use Rattle.qs_rest.specs.Invariant.{ItemTaken}
-use Rattle.qs_rest.proofs.Untouched.{ends_recvs}
+use Rattle.qs_machine.proofs.Leaves.{stops_leave}
 use Rattle.qs_rest.proofs.Moves.{Moved, moved_same, moved_twice, frame_moved, acks_moved}
 use Rattle.qs_rest.proofs.Effects.{items_stay, frame_done}
 
@@ -66,7 +66,7 @@ module _ (p : Past) (k : ℕ) (all : List Seen) (is : slice_get p.theirs k ≡ S
   stops v (Close code) e (Ok (PeerClosed told)) new ok t m g h = not_done _ _ new refl h.1 (closed_at e _ m) (same_grow old e new (ap (λ x. x.recvs) h.1) g)
   stops v (Ack largest ranges) e (Ok NoMemory) new ok t m g (fine, (n, h, asks)) =
       not_done _ _ new refl h (moved_twice p old e _ m (acks_moved p (take n (named e ranges)) e (All_take _ n _ (named_pieces_ok p e ok ranges (λ j a. (largest, ranges, t, a)))) m.halves m.acked))
-      (same_grow old e new (ends_recvs v (Ack largest ranges) e (Ok NoMemory) new (fine, (n, h, asks))) g)
+      (same_grow old e new (stops_leave v (Ack largest ranges) e (Ok NoMemory) new (fine, (n, h, asks))) g)
   stops v (Stream n offset bytes fin) e (Ok NoMemory) new ok t m g h = not_done _ _ new refl h.1.0 m (same_grow old e new (ap (λ x. x.recvs) h.1.0) g)
   stops v (Control i) e (Ok NoMemory) new ok t m g h = not_done _ _ new refl h.1.0 m (same_grow old e new (ap (λ x. x.recvs) h.1.0) g)
   stops v (Plain asks) e (Ok NoMemory) new ok t m g h = not_done _ _ new refl h.1.0 m (same_grow old e new (ap (λ x. x.recvs) h.1.0) g)

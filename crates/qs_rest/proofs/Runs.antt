@@ -1,8 +1,7 @@
 -- In every run each end keeps what holds of it beside the invariant of qs_runs.
-use Rattle.std.proofs.Common.{◌≡◌, ℕ, ◌≤◌, Bool, true, false, ◌==◌, ◌&&◌, List, [], ◌⊎◌, Option, Some, None, Result, Ok, slice_get, refl, sym, ap, ◌∙◌, subst, arith, inl, inr, MatchBool}
+use Rattle.std.proofs.Common.{◌≡◌, ℕ, ◌≤◌, Bool, true, false, ◌==◌, ◌&&◌, List, [], ◌⊎◌, Option, Some, None, Result, Ok, Err, slice_get, refl, sym, ap, ◌∙◌, subst, arith, inl, inr}
 use Rattle.std.specs.Prelude.{cond}
 use Rattle.std.proofs.lemmas.Bool.{eqb-true}
-use Rattle.std.specs.FinSet as set
 use Rattle.qs_wire.specs.Reading.{reading_of}
 use Rattle.qs_recv.specs.Lane.{raise}
 use Rattle.qs_send.specs.Lane.{SendLane}
@@ -11,15 +10,15 @@ use Rattle.qs_calls.specs.declared.closing.Closing.{Closing}
 use Rattle.qs_calls.specs.declared.closing.Closed.{Closed}
 use Rattle.qs_calls.specs.declared.closing.Closed.TheVariants.{ByUs, ByPeer}
 use Rattle.qs_calls.specs.declared.closing.Received.{Received}
-use Rattle.qs_calls.specs.declared.closing.Received.TheVariants.{Duplicate, BelowFloor}
+use Rattle.qs_calls.specs.declared.closing.Received.TheVariants.{Duplicate, BelowFloor, PeerClosed}
 use Rattle.qs_calls.specs.declared.event.Act.{Act}
 use Rattle.qs_calls.specs.declared.answer.Answer.{Answer}
 use Rattle.qs_calls.specs.declared.answer.Answer.TheVariants as answers
 use Rattle.qs_machine.specs.Tables.{lookup}
 use Rattle.qs_machine.specs.Ends.{End, AckedItems, first_send_limit}
-use Rattle.qs_machine.specs.Credit.{settle}
-use Rattle.qs_machine.specs.Receiving.{ReceiveStep, ReceiveBy, ClosedReceive, TakesPayload}
+use Rattle.qs_machine.specs.Receiving.{ReceiveStep, ReceiveBy}
 use Rattle.qs_machine.specs.EndStep.{Receive}
+use Rattle.qs_machine.proofs.EveryCall.{by_open}
 use Rattle.qs_machine.proofs.SettledLimits.{calls_settle}
 use Rattle.qs_machine.proofs.CallsCounts.{settled_call}
 use Rattle.qs_runs.specs.Logs.{is_done}
@@ -32,7 +31,9 @@ use Rattle.qs_runs.proofs.Past.{Holds-more, TellsAck-more}
 use Rattle.qs_runs.proofs.Changes.{AllGrow, all_grow_refl}
 use Rattle.qs_runs.proofs.Settling.{each_grows, raise_grows}
 use Rattle.qs_runs.proofs.Granting.{own_call}
-use Rattle.qs_runs.proofs.Lasting.{own_grows}
+use Rattle.qs_machine.specs.Standing.{IsSound}
+use Rattle.qs_machine.specs.Repeats.{SentWasWritten}
+use Rattle.qs_runs.proofs.Lasting.{call_grows}
 use Rattle.qs_runs.proofs.OwnMoves.{with_call}
 use Rattle.qs_runs.proofs.PeerMoves.{with_theirs}
 use Rattle.qs_runs.proofs.Receives.{with_received}
@@ -105,11 +106,11 @@ module _ (p : Past) (e new : End) (ok : RestOk p e) (m : Moved p e new) where
   known_uni : new.peer.streams_uni ≤ new.known_uni
   known_uni = (let same = ap (λ x. x.streams_uni) m.peer in omega (arith, ok.uni, m.uni, same))
 
-pub own_rests : (p : Past) (e new : End) → EndOk p e → RestOk p e → (act : Act) (answer : Answer) → OwnStep e act answer new → RestOk (with_call p act answer) new
-own_rests p e new good ok act answer step =
-    let (call, given, is) = own_call e new act answer step in
+pub own_rests : (p : Past) (e new : End) → IsSound e → SentWasWritten e → RestOk p e → (act : Act) (answer : Answer) → OwnStep e act answer new → RestOk (with_call p act answer) new
+own_rests p e new sound sent ok act answer step =
+    let (call, given, is, own) = own_call e new act answer step in
     let m : Moved p e new = each_own (Moved p e) e (moved_edits p e (slots p e ok) ok.acked) act answer new step in
-    let grow = own_grows p e new good act answer step in
+    let grow = call_grows e new sound sent call given is in
     let q : Past = with_call p act answer in
     record {
       conn = known_conn p e new ok m;
@@ -139,26 +140,17 @@ after_payload p e new k text result good ok is step = by_closed e.closed step
     same : Moved p e e
     same = moved_same p e (slots p e ok) ok.acked
 
-    stays : is_done (answers.Deliver result) ≡ false → new ≡ e → After p (frames_in text) e result new
-    stays undone at = not_done p k (frames_in text) is e result e new undone at same (subst (λ x. AllGrow e.recvs x.recvs) (sym at) (all_grow_refl e.recvs))
-
-    by_kept : (b : Bool) → MatchBool b ((result ≡ Ok Duplicate) × (new ≡ e)) ((mid : End) × TakesPayload k text e result mid × (new ≡ settle mid)) → After p (frames_in text) e result new
-    by_kept true h = stays (ap (λ r. is_done (answers.Deliver r)) h.0) h.1
-    by_kept false (mid, taken, at) =
-        settled p k (frames_in text) is e result mid new (each_grows raise mid.recvs raise_grows) at
-        (takes p k (frames_in text) is e (reading_of text).left [] false (reading_of text).fault e result mid refl good same (all_grow_refl e.recvs) tt taken)
-
-    by_floor : (b : Bool) → MatchBool b ((result ≡ Ok BelowFloor) × (new ≡ e)) (MatchBool (set.contains e.done k) ((result ≡ Ok Duplicate) × (new ≡ e)) ((mid : End) × TakesPayload k text e result mid × (new ≡ settle mid))) → After p (frames_in text) e result new
-    by_floor true h = stays (ap (λ r. is_done (answers.Deliver r)) h.0) h.1
-    by_floor false h = by_kept _ h
-
-    by_reason : (c : Closed) → ClosedReceive c e result new → After p (frames_in text) e result new
-    by_reason (ByUs closing) h = stays (ap (λ r. is_done (answers.Deliver r)) h.0) h.1
-    by_reason (ByPeer code) h = stays (ap (λ r. is_done (answers.Deliver r)) h.0) h.1
+    stays : (r : Result Received Closing) → is_done (answers.Deliver r) ≡ false → result ≡ r → new ≡ e → After p (frames_in text) e result new
+    stays r undone told at =
+        not_done p k (frames_in text) is e result e new (ap (λ x. is_done (answers.Deliver x)) told ∙ undone) at same (subst (λ x. AllGrow e.recvs x.recvs) (sym at) (all_grow_refl e.recvs))
 
     by_closed : (o : Option Closed) → ReceiveBy o k text e result new → After p (frames_in text) e result new
-    by_closed (Some c) h = by_reason c h
-    by_closed None h = by_floor _ h
+    by_closed (Some (ByUs closing)) h = stays (Err closing) refl h.0 h.1
+    by_closed (Some (ByPeer code)) h = stays (Ok (PeerClosed code)) refl h.0 h.1
+    by_closed None h =
+        by_open (After p (frames_in text) e result new) k text e result new h (stays (Ok BelowFloor) refl) (stays (Ok Duplicate) refl) (λ high mid taken at.
+        settled p k (frames_in text) is e result mid new (each_grows raise mid.recvs raise_grows) at
+        (takes p k (frames_in text) is e (reading_of text).left [] false (reading_of text).fault e result mid refl good same (all_grow_refl e.recvs) tt taken))
 
 pub receive_rests : (p : Past) (e new : End) (k : ℕ) (text : List ℕ) (result : Result Received Closing) → EndOk p e → RestOk p e → slice_get p.theirs k ≡ Some (frames_in text) → ReceiveStep e k text result new → RestOk (with_received p k result) new
 receive_rests p e new k text result good ok is step =

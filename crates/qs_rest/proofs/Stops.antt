@@ -1,10 +1,7 @@
 -- A half whose reader stopped stays so, and has taken all that came.
-use Rattle.std.proofs.Common.{◌≡◌, ℕ, Bool, true, false, ◌&&◌, ◌||◌, List, [], ◌∷◌, Option, Some, is_some, refl, sym, ap, subst, inl, inr}
-use Rattle.std.specs.Prelude.{cond, Result}
+use Rattle.std.proofs.Common.{◌≡◌, ℕ, Bool, true, false, ◌&&◌, ◌||◌, Some, is_some, refl, sym, ap, subst, take}
+use Rattle.std.specs.Prelude.{cond}
 use Rattle.std.proofs.lemmas.Bool.{cond_both}
-use Rattle.qs_wire.specs.Layout.{PlacedValue}
-use Rattle.qs_wire.specs.Reading.{reading_of}
-use Rattle.qs_wire.specs.declared.fault.WireFault.{WireFault}
 use Rattle.qs_wire.specs.declared.stream_id.Dir.TheVariants.{Bidi, Uni}
 use Rattle.qs_recv.specs.Assembled.{discard}
 use Rattle.qs_recv.specs.Lane.{RecvLane, new_lane as new_recv_lane, highest, taken, take_stream, take_reset, after_read, after_answer, read_answer, stop, raise, is_whole}
@@ -12,21 +9,15 @@ use Rattle.qs_recv.specs.declared.half.Read.{Read}
 use Rattle.qs_recv.specs.declared.half.Read.TheVariants as reads
 use Rattle.qs_send.specs.declared.piece.Item.{Item}
 use Rattle.qs_send.specs.declared.piece.Item.TheVariants.{MaxData, MaxStreamData, MaxStreams, ResetStream, StopSending, DataBlocked, StreamDataBlocked, StreamsBlocked}
-use Rattle.qs_calls.specs.declared.closing.Closing.{Closing}
-use Rattle.qs_calls.specs.declared.closing.Received.{Received}
 use Rattle.qs_machine.specs.Tables.{Tables}
 use Rattle.qs_machine.specs.Ends.{End, on_recv, is_own, is_uni, opens, opened_by_peer, window}
-use Rattle.qs_machine.specs.Credit.{settle}
-use Rattle.qs_machine.specs.Seen.{Seen, Ack, Stream, Control, Close, Plain, seen, asks_ack}
+use Rattle.qs_machine.specs.Seen.{Seen, Ack, Stream, Control, Close, Plain}
 use Rattle.qs_machine.specs.FrameStep.{frame_taken, item_taken, named}
-use Rattle.qs_machine.specs.Receiving.{Takes}
 use Rattle.qs_machine.specs.EndStep.{Call, Answer, EndStep}
 use Rattle.qs_machine.proofs.TablesAfter.{KeptIn, kept_same, kept_twice, kept_updated, kept_open, kept_each}
-use Rattle.qs_runs.proofs.Frames.{acks_recvs}
-use Rattle.qs_runs.proofs.Lasting.{fills_recvs, wanted_recvs, losses_recvs}
+use Rattle.qs_machine.proofs.Leaves.{acks_leave, put_leaves, wanted_leaves}
 use Rattle.qs_rest.specs.Laws.{StopsGiveBack}
-use Rattle.qs_rest.proofs.Untouched.{ends_recvs, at_end_recvs}
-use Rattle.qs_rest.proofs.EachCall.{Edits, each_call}
+use Rattle.qs_machine.proofs.EveryCall.{Change, changed, Comes, relates, Wanted, Opened, Stopped, WasRead, Took, Acked, Put, Settled}
 
 -- the code of a stop stays
 abbrev StopStays : RecvLane → RecvLane → Type 0
@@ -93,40 +84,26 @@ stay_item (StreamsBlocked d m) e = stay_same e.recvs
 
 stay_frame : (f : Seen) (e : End) → Stay e.recvs (frame_taken f e).recvs
 unfolding frame_taken
-stay_frame (Ack largest ranges) e = stay_equal e.recvs _ (acks_recvs (named e ranges) e)
+stay_frame (Ack largest ranges) e = stay_equal e.recvs _ (ap (λ (x : End). x.recvs) (acks_leave (named e ranges) e))
 stay_frame (Stream n offset bytes fin) e = stay_changed n (λ l. take_stream l offset bytes fin) e (λ l c is. is)
 stay_frame (Control i) e = stay_item i e
 stay_frame (Close code) e = stay_same e.recvs
 stay_frame (Plain asks) e = stay_same e.recvs
 
-stay_takes : (number : ℕ) (fault : Option WireFault) (asks : Bool) (e : End) (ps : List PlacedValue) (result : Result Received Closing) (new : End) → Takes number fault asks e ps result new → Stay e.recvs new.recvs
-stay_takes number fault asks e [] result new takes = stay_equal e.recvs new.recvs (at_end_recvs number asks fault e result new takes)
-stay_takes number fault asks e (p ∷ ps) result new (inl ends) = stay_equal e.recvs new.recvs (ends_recvs p (seen p.frame) e result new ends)
-stay_takes number fault asks e (p ∷ ps) result new (inr (goes, rest)) =
-    stay_twice e.recvs (frame_taken (seen p.frame) e).recvs new.recvs (stay_frame (seen p.frame) e) (stay_takes number fault (asks || asks_ack (seen p.frame)) (frame_taken (seen p.frame) e) ps result new rest)
-
-stay_edits : (old : End) → Edits (λ new. Stay old.recvs new.recvs) old
-stay_edits old =
-    record {
-      same = stay_same old.recvs;
-      settles = λ mid h. stay_twice old.recvs mid.recvs (settle mid).recvs h (kept_each StopStays stays_same mid.recvs raise (λ l c is. is));
-      wants = λ d count. stay_equal old.recvs _ (wanted_recvs d count old);
-      opened = λ n. stay_opens n old;
-      accepts = λ bidi uni. stay_same old.recvs;
-      writes = λ n bytes l is fine. stay_same old.recvs;
-      finishes = λ n. stay_same old.recvs;
-      resets = λ n code. stay_same old.recvs;
-      stops = λ n code. stay_recv n (λ m. stop m code) old (stop_stays code);
-      reads = λ n size. stay_recv n (λ m. after_read m size) old (λ l. answer_stays (read_answer l size) size l);
-      fills = λ frames mid fills. stay_equal old.recvs mid.recvs (fills_recvs old frames old mid fills);
-      loses = λ k ps. stay_equal old.recvs _ (losses_recvs k ps old);
-    }
+stay_change : (old : End) (call : Call) (c : Change) (e : End) → Comes old call e c → Stay e.recvs (changed c e).recvs
+stay_change old call (Wanted d count) e comes = stay_equal e.recvs _ (wanted_leaves d count e)
+stay_change old call (Opened n) e comes = stay_opens n e
+stay_change old call (Stopped n code) e comes = stay_recv n (λ m. stop m code) e (stop_stays code)
+stay_change old call (WasRead n size) e comes = stay_recv n (λ m. after_read m size) e (λ l. answer_stays (read_answer l size) size l)
+stay_change old call (Took f) e comes = stay_frame f e
+stay_change old call (Acked count ranges) e comes = stay_equal e.recvs _ (ap (λ (x : End). x.recvs) (acks_leave (take count (named e ranges)) e))
+stay_change old call (Put f) e comes = stay_equal e.recvs _ (ap (λ (x : End). x.recvs) (put_leaves f e))
+stay_change old call Settled e comes = kept_each StopStays stays_same e.recvs raise (λ l c is. is)
+stay_change old call c e comes = stay_same e.recvs
 
 pub stops_stay : (old : End) (call : Call) (answer : Answer call) (new : End) → EndStep old call answer new → Stay old.recvs new.recvs
 stops_stay old call answer new step =
-    each_call (λ mid. Stay old.recvs mid.recvs) old (stay_edits old)
-    (λ number payload result mid taken. stay_takes number (reading_of payload).fault false old (reading_of payload).left result mid taken)
-    (λ p. stay_same old.recvs) call answer new step
+    relates (λ a b. Stay a.recvs b.recvs) (λ e. stay_same e.recvs) (λ a b c x y. stay_twice a.recvs b.recvs c.recvs x y) old call (stay_change old call) answer new step
 
 -- what a stopped half has taken
 pub stopped_taken : (l : RecvLane) (code : ℕ) → l.stop_code ≡ Some code → taken l ≡ highest l

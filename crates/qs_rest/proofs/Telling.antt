@@ -1,6 +1,6 @@
 -- What a reader was told of the end of a stream stands for good.
 use Rattle.std.proofs.Common.{◌≡◌, ℕ, Bool, true, false, ◌&&◌, ◌||◌, ◌==◌, List, [], ◌∷◌, length, Option, Some, None, is_some, refl, sym, ap, ◌∙◌, subst, arith, inl, inr}
-use Rattle.std.specs.Prelude.{cond, option_map, not, nat_lt, Result, Ok, MatchBool}
+use Rattle.std.specs.Prelude.{cond, option_map, not, Result}
 use Rattle.std.proofs.lemmas.Option.{same_Some}
 use Rattle.std.proofs.lemmas.Bool.{cond_both, eqb-true, true≢false, false≢true}
 use Rattle.std.proofs.lemmas.Bool.Decides.{nat_tests}
@@ -17,9 +17,7 @@ use Rattle.qs_send.specs.declared.piece.Item.{Item}
 use Rattle.qs_send.specs.declared.piece.Item.TheVariants.{MaxData, MaxStreamData, MaxStreams, ResetStream, StopSending, DataBlocked, StreamDataBlocked, StreamsBlocked}
 use Rattle.qs_calls.specs.declared.closing.Closing.{Closing}
 use Rattle.qs_calls.specs.declared.closing.Received.{Received}
-use Rattle.qs_calls.specs.declared.closing.Received.TheVariants as received
 use Rattle.qs_calls.specs.declared.closing.Closed.{Closed}
-use Rattle.qs_calls.specs.declared.closing.Closed.TheVariants.{ByUs, ByPeer}
 use Rattle.qs_calls.specs.declared.event.Act.{Act}
 use Rattle.qs_calls.specs.declared.answer.Answer.{Answer}
 use Rattle.qs_machine.specs.Tables.{Tables, lookup, updated, open_to}
@@ -28,17 +26,15 @@ use Rattle.qs_machine.specs.Ends.{End, on_recv, is_own, is_uni, opens, opened_by
 use Rattle.qs_machine.specs.Credit.{settle}
 use Rattle.qs_machine.specs.Seen.{Seen, Ack, Stream, Control, Close, Plain, seen, asks_ack}
 use Rattle.qs_machine.specs.FrameStep.{frame_taken, item_taken, named}
-use Rattle.qs_machine.specs.Receiving.{Takes, TakesPayload, OpenReceive, ReceiveBy, ReceiveStep}
-use Rattle.qs_machine.proofs.Choices.{by_test}
+use Rattle.qs_machine.specs.Receiving.{Takes, ReceiveBy, ReceiveStep}
 use Rattle.qs_machine.proofs.EndedHalves.{whole_stays}
 use Rattle.qs_machine.proofs.TableLaws.{slots_updated, slots_opened, slots_each}
 use Rattle.qs_runs.specs.Worlds.{OwnStep}
 use Rattle.qs_runs.proofs.Changes.{Grows, AllGrow}
-use Rattle.qs_runs.proofs.Frames.{acks_recvs}
-use Rattle.qs_runs.proofs.Lasting.{fills_recvs, wanted_recvs, losses_recvs}
+use Rattle.qs_machine.proofs.EveryCall.{by_open, closed_same}
+use Rattle.qs_machine.proofs.Leaves.{acks_leave, fills_leave, losses_leave, wanted_leaves, stops_leave, end_leaves}
 use Rattle.qs_rest.specs.Invariant.{IsToldOf, ToldTrue}
 use Rattle.qs_rest.specs.Rest.{TellsNoNews}
-use Rattle.qs_rest.proofs.Untouched.{ends_recvs, at_end_recvs}
 use Rattle.qs_rest.proofs.EachCall.{Edits, each_own}
 
 -- One half
@@ -186,7 +182,7 @@ told_edits old all =
     record {
       same = all;
       settles = λ mid h. told_settles mid h;
-      wants = λ d count. subst AllTold (sym (wanted_recvs d count old)) all;
+      wants = λ d count. subst AllTold (sym (wanted_leaves d count old)) all;
       opened = λ n. told_opens n old all;
       accepts = λ bidi uni. all;
       writes = λ n bytes l is fine. all;
@@ -194,8 +190,8 @@ told_edits old all =
       resets = λ n code. all;
       stops = λ n code. told_updated old.recvs n (λ m. stop m code) all (stop_told code);
       reads = λ n size. told_updated old.recvs n (λ m. after_read m size) all (answer_told size);
-      fills = λ frames mid fills. subst AllTold (sym (fills_recvs old frames old mid fills)) all;
-      loses = λ k ps. subst AllTold (sym (losses_recvs k ps old)) all;
+      fills = λ frames mid fills. subst AllTold (sym (ap (λ (x : End). x.recvs) (fills_leave old frames old mid fills))) all;
+      loses = λ k ps. subst AllTold (sym (ap (λ (x : End). x.recvs) (losses_leave k ps old))) all;
     }
 
 pub own_told : (old new : End) → AllTold old.recvs → (act : Act) (answer : Answer) → OwnStep old act answer new → AllTold new.recvs
@@ -275,15 +271,15 @@ module _ (t : Tables RecvLane) where
 
   held_frame : (f : Seen) (e : End) → AllHeld t e.recvs → AllHeld t (frame_taken f e).recvs
   unfolding frame_taken
-  held_frame (Ack largest ranges) e all = held_equal e.recvs _ (acks_recvs (named e ranges) e) all
+  held_frame (Ack largest ranges) e all = held_equal e.recvs _ (ap (λ (x : End). x.recvs) (acks_leave (named e ranges) e)) all
   held_frame (Stream n offset bytes fin) e all = held_changed n (λ l. take_stream l offset bytes fin) e all (stream_leaves offset bytes fin)
   held_frame (Control i) e all = held_item i e all
   held_frame (Close code) e all = all
   held_frame (Plain asks) e all = all
 
   held_takes : (number : ℕ) (fault : Option WireFault) (asks : Bool) (e : End) (ps : List PlacedValue) (result : Result Received Closing) (new : End) → Takes number fault asks e ps result new → AllHeld t e.recvs → AllHeld t new.recvs
-  held_takes number fault asks e [] result new takes all = held_equal e.recvs new.recvs (at_end_recvs number asks fault e result new takes) all
-  held_takes number fault asks e (p ∷ ps) result new (inl ends) all = held_equal e.recvs new.recvs (ends_recvs p (seen p.frame) e result new ends) all
+  held_takes number fault asks e [] result new takes all = held_equal e.recvs new.recvs (end_leaves number asks fault e result new takes) all
+  held_takes number fault asks e (p ∷ ps) result new (inl ends) all = held_equal e.recvs new.recvs (stops_leave p (seen p.frame) e result new ends) all
   held_takes number fault asks e (p ∷ ps) result new (inr (goes, rest)) all =
       held_takes number fault (asks || asks_ack (seen p.frame)) (frame_taken (seen p.frame) e) ps result new rest (held_frame (seen p.frame) e all)
 
@@ -300,20 +296,12 @@ received_held old new k text result step = by_closed old.closed step
     same : new ≡ old → AllHeld old.recvs new.recvs
     same is = subst (λ x. AllHeld old.recvs x.recvs) (sym is) (held_same old.recvs)
 
-    by_open : OpenReceive k text old result new → AllHeld old.recvs new.recvs
-    by_open step =
-        let below : Type 0 = (result ≡ Ok received.BelowFloor) × (new ≡ old) in
-        let duplicate : Type 0 = (result ≡ Ok received.Duplicate) × (new ≡ old) in
-        let taken_in : Type 0 = (mid : End) × TakesPayload k text old result mid × (new ≡ settle mid) in
-        by_test (AllHeld old.recvs new.recvs) (nat_lt k old.floor) below (MatchBool (set.contains old.done k) duplicate taken_in) step (λ b. same b.1) (λ more.
-        by_test (AllHeld old.recvs new.recvs) (set.contains old.done k) duplicate taken_in more (λ d. same d.1) (λ (mid, taken, after).
-        subst (λ x. AllHeld old.recvs x.recvs) (sym after)
-        (held_settles old.recvs mid (held_takes old.recvs k (reading_of text).fault false old (reading_of text).left result mid taken (held_same old.recvs)))))
-
     by_closed : (c : Option Closed) → ReceiveBy c k text old result new → AllHeld old.recvs new.recvs
-    by_closed None step = by_open step
-    by_closed (Some (ByUs closing)) step = same step.1
-    by_closed (Some (ByPeer code)) step = same step.1
+    by_closed (Some closed) step = same (closed_same closed old result new step)
+    by_closed None step =
+        by_open (AllHeld old.recvs new.recvs) k text old result new step (λ low is. same is) (λ again is. same is) (λ high mid taken after.
+        subst (λ x. AllHeld old.recvs x.recvs) (sym after)
+        (held_settles old.recvs mid (held_takes old.recvs k (reading_of text).fault false old (reading_of text).left result mid taken (held_same old.recvs))))
 
 pub receive_told : (old new : End) → AllHeld old.recvs new.recvs → AllGrow old.recvs new.recvs → AllTold old.recvs → AllTold new.recvs
 receive_told old new held grow all n = go (lookup new.recvs n) refl (held n)

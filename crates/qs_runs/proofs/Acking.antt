@@ -6,12 +6,12 @@ use Rattle.std.specs.FinMap as fmap
 use Rattle.std.specs.FinSet as set
 use Rattle.std.specs.List.{AllByRecursion, filter}
 use Rattle.qs_ranges.specs.Numbers.{missing_from}
-use Rattle.qs_wire.specs.declared.stream_id.Dir.TheVariants.{Bidi, Uni}
+use Rattle.qs_wire.specs.declared.stream_id.Dir.TheVariants.{Uni}
 use Rattle.qs_send.specs.Lane.{SendLane, allow_lane, reset_lane, stopped_lane, reset_refusal, acked_lane, reset_acked_lane, unacked_from, chunk_offsets}
 use Rattle.qs_send.specs.declared.parts.Chunk.{Chunk}
 use Rattle.qs_send.specs.declared.parts.Reset.{Reset}
 use Rattle.qs_send.specs.declared.piece.Item.{Item}
-use Rattle.qs_send.specs.declared.piece.Item.TheVariants.{MaxData, MaxStreamData, MaxStreams, ResetStream, StopSending, DataBlocked, StreamDataBlocked, StreamsBlocked}
+use Rattle.qs_send.specs.declared.piece.Item.TheVariants.{MaxStreamData, MaxStreams, ResetStream, StreamsBlocked}
 use Rattle.qs_send.specs.declared.piece.Piece.{Piece}
 use Rattle.qs_send.specs.declared.piece.Piece.TheVariants.{Data, Told}
 use Rattle.qs_machine.specs.Ends.{End, AckedItems, Records, LostPackets, lost_less, first_send_limit}
@@ -202,15 +202,9 @@ module _ (p : Past) where
 
   item_acked_ok : (e : End) (i : Item) → EndOk p e → EndOk p (item_acked i e)
   item_acked_ok e (ResetStream n code size) ok = send_kept p e n ok reset_acked_lane (λ l is h. (reset_acked_ok p n (first_send_limit e n) l h, refl))
-  item_acked_ok e (MaxData m) ok = with_items e _ ok
-  item_acked_ok e (MaxStreamData n m) ok = with_items e _ ok
-  item_acked_ok e (MaxStreams Bidi m) ok = with_items e _ ok
   item_acked_ok e (MaxStreams Uni m) ok = with_items e _ ok
-  item_acked_ok e (StopSending n c) ok = with_items e _ ok
-  item_acked_ok e (DataBlocked m) ok = with_items e _ ok
-  item_acked_ok e (StreamDataBlocked n m) ok = with_items e _ ok
-  item_acked_ok e (StreamsBlocked Bidi m) ok = with_items e _ ok
   item_acked_ok e (StreamsBlocked Uni m) ok = with_items e _ ok
+  item_acked_ok e i ok = with_items e _ ok
 
   piece_acked_ok : (e : End) (k : ℕ) (piece : Piece) → PieceOf p.mine k piece → TellsAck p.theirs k → EndOk p e → EndOk p (piece_acked piece e)
   piece_acked_ok e k (Data n c) stood ack ok = send_kept p e n ok (λ l. acked_lane l c) (λ l is h. (acked_ok p n (first_send_limit e n) l h k c stood ack, refl))

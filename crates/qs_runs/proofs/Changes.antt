@@ -6,10 +6,10 @@ use Rattle.std.specs.List.{AllByRecursion}
 use Rattle.std.specs.FinSet as set
 use Rattle.qs_recv.specs.Lane.{RecvLane}
 use Rattle.qs_send.specs.Lane.{SendLane}
-use Rattle.qs_send.specs.declared.piece.Item.TheVariants.{MaxData, MaxStreamData, MaxStreams, ResetStream, StopSending, DataBlocked, StreamDataBlocked, StreamsBlocked}
+use Rattle.qs_send.specs.declared.piece.Item.TheVariants.{ResetStream}
 use Rattle.qs_machine.specs.Tables.{Tables, lookup, update, updated}
-use Rattle.qs_machine.specs.Ends.{End, first_send_limit, window, on_send, on_recv}
-use Rattle.qs_machine.specs.Seen.{Seen, Ack, Stream, Control, Close, Plain}
+use Rattle.qs_machine.specs.Ends.{End, first_send_limit, window, on_send}
+use Rattle.qs_machine.specs.Seen.{Seen, Stream, Control}
 use Rattle.qs_runs.specs.Pasts.{Past}
 use Rattle.qs_runs.specs.Invariant.{EndOk, SendOk, SendSlot, RecvOk, RecvSlot, FrameTaken, StreamTaken, TakenOk, OpenOk, is_open}
 use Rattle.qs_machine.proofs.TableLaws.{lookup_same, lookup_other, slots_updated, total_update}
@@ -37,16 +37,7 @@ stream_stays l m offset bytes fin g t =
 pub frame_stays : (t u : Tables RecvLane) → AllGrow t u → (f : Seen) → FrameTaken t f → FrameTaken u f
 frame_stays t u grow (Stream n offset bytes fin) (l, is, taken) = (let (m, there, g) = grow n l is in (m, there, stream_stays l m offset bytes fin g taken))
 frame_stays t u grow (Control (ResetStream n code size)) (l, is, final) = (let (m, there, g) = grow n l is in (m, there, g.final size final))
-frame_stays t u grow (Control (MaxData m)) h = tt
-frame_stays t u grow (Control (MaxStreamData n m)) h = tt
-frame_stays t u grow (Control (MaxStreams d m)) h = tt
-frame_stays t u grow (Control (StopSending n c)) h = tt
-frame_stays t u grow (Control (DataBlocked m)) h = tt
-frame_stays t u grow (Control (StreamDataBlocked n m)) h = tt
-frame_stays t u grow (Control (StreamsBlocked d m)) h = tt
-frame_stays t u grow (Ack largest ranges) h = tt
-frame_stays t u grow (Close c) h = tt
-frame_stays t u grow (Plain asks) h = tt
+frame_stays t u grow f h = tt
 
 pub every_stays : (t u : Tables RecvLane) → AllGrow t u → (fs : List Seen) → AllByRecursion (FrameTaken t) fs → AllByRecursion (FrameTaken u) fs
 every_stays t u grow [] all = tt
@@ -113,10 +104,3 @@ grow_trans t u v a b n l is =
     let (m, there, g) = a n l is in
     let (k, at, h) = b n m there in
     (k, at, record { received = λ q old. h.received q (g.received q old); final = λ size old. h.final size (g.final size old); reset = λ none. g.reset (h.reset none) })
-
-pub on_recv_grows : (e : End) (n : ℕ) (f : RecvLane → RecvLane) → ((l : RecvLane) → lookup e.recvs n ≡ Some l → Grows l (f l)) → AllGrow e.recvs (on_recv n f e).recvs
-on_recv_grows e n f grows = go (lookup e.recvs n) refl
-  where
-    go : (o : Option RecvLane) → lookup e.recvs n ≡ o → AllGrow e.recvs (updated e.recvs n f o)
-    go None is m l there = (l, there, Grows_refl l)
-    go (Some l) is m x there = grows_update e.recvs n l (f l) is (grows l is) m x there

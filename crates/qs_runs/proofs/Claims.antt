@@ -1,8 +1,7 @@
 -- What comes of a packet of a claimed number.
-use Rattle.std.proofs.Common.{◌≡◌, ℕ, ◌+◌, Bool, true, false, List, [], ◌∷◌, ◌++◌, ◌⊎◌, length, Option, Some, None, Result, Ok, Err, slice_get, refl, sym, ap, ◌∙◌, subst, inl, inr, MatchBool, nat_lt}
+use Rattle.std.proofs.Common.{◌≡◌, ℕ, ◌+◌, true, false, List, [], ◌∷◌, ◌++◌, ◌⊎◌, length, Option, Some, None, Result, Ok, Err, slice_get, refl, sym, ap, ◌∙◌, subst, inl, inr}
 use Rattle.std.proofs.lemmas.Option.{none-some}
 use Rattle.std.proofs.lemmas.List.{length-map}
-use Rattle.std.specs.FinSet as set
 use Rattle.qs_wire.specs.Layout.{PlacedValue}
 use Rattle.qs_wire.specs.Grammar.{frames_of}
 use Rattle.qs_wire.specs.Reading.{reading_of}
@@ -10,7 +9,6 @@ use Rattle.qs_wire.specs.declared.fault.WireFault.{WireFault}
 use Rattle.qs_wire.specs.declared.stream_id.Role.{Role}
 use Rattle.qs_wire.specs.declared.stream_id.Role.TheVariants.{Client, Server}
 use Rattle.qs_wire.specs.declared.stream_id.Dir.TheVariants.{Bidi, Uni}
-use Rattle.qs_send.specs.declared.piece.Piece.{Piece}
 use Rattle.qs_calls.specs.Settings.{limits_of}
 use Rattle.qs_calls.specs.declared.settings.Settings.{Settings}
 use Rattle.qs_calls.specs.declared.settings.PeerLimits.{PeerLimits}
@@ -31,25 +29,24 @@ use Rattle.qs_machine.specs.Seen.{Seen, Plain, seen, seen_all, asks_ack}
 use Rattle.qs_machine.specs.Verdicts.{verdict}
 use Rattle.qs_machine.specs.FrameStep.{frame_taken}
 use Rattle.qs_machine.specs.Recording.{recorded}
-use Rattle.qs_machine.specs.Receiving.{ReceiveStep, ReceiveBy, TakesPayload, Takes, Stops, GoesOn, AtEnd}
-use Rattle.qs_machine.specs.Making.{ClaimStep, claim_refusal, first_lost, losses}
+use Rattle.qs_machine.specs.Receiving.{ReceiveStep, ReceiveBy, Takes, Stops, GoesOn, AtEnd}
+use Rattle.qs_machine.specs.Making.{ClaimStep, claim_refusal, first_lost}
 use Rattle.qs_machine.specs.EndStep.{Call, Answer as CallAnswer, EndStep, Receive}
 use Rattle.qs_machine.specs.Repeats.{OnlyRecords}
 use Rattle.qs_machine.proofs.Bounds.{new_ends_settled as new_counts_settled}
-use Rattle.qs_machine.proofs.CallsCounts.{ends_by}
+use Rattle.qs_machine.proofs.EveryCall.{ends_by, by_open}
 use Rattle.qs_machine.proofs.ProcessedAgain.{settle_twice}
 use Rattle.qs_machine.proofs.SettledLimits.{new_ends_settled}
-use Rattle.qs_runs.specs.Logs.{History, other, own_calls, made, made_in, payload, ping_text}
-use Rattle.qs_runs.specs.Worlds.{World, end_of, world_made, OwnStep, StepBy, WorldStep, Run}
+use Rattle.qs_runs.specs.Logs.{History, other, own_calls, made, payload, ping_text}
+use Rattle.qs_runs.specs.Worlds.{World, end_of, world_made, OwnStep, StepBy, Run}
 use Rattle.qs_runs.specs.Agree.{frames_in}
-use Rattle.qs_runs.specs.Pasts.{past}
 use Rattle.qs_runs.specs.Invariant.{WorldOk}
 use Rattle.qs_runs.specs.Claims.{claimed, ChangesNumbers, ClaimsAlwaysTellNothing}
 use Rattle.qs_runs.proofs.Lists.{slice_get-last}
 use Rattle.qs_runs.proofs.Standing.{certain_cases}
 use Rattle.qs_runs.proofs.Wire.{ping_seen, ping_faultless}
 use Rattle.qs_runs.proofs.Granting.{own_call}
-use Rattle.qs_runs.proofs.Histories.{does, seen_made}
+use Rattle.qs_runs.proofs.Histories.{seen_made}
 use Rattle.qs_runs.proofs.NewEnds.{first_world, made_first, ends_made}
 use Rattle.qs_runs.proofs.Runs.{two_sides, run_keeps, is_open_end, made_own}
 
@@ -62,14 +59,9 @@ begun_settled role s p begun =
     let counts = new_counts_settled role s p (new_end role s p) begun in
     λ i. record (new_end role s p) { granted = limits.connection i; granted_bidi = sym (counts Bidi) i; granted_uni = sym (counts Uni) i }
 
-losses_settled : (k : ℕ) (ps : List Piece) (e : End) → settle e ≡ e → settle (losses k ps e) ≡ losses k ps e
-unfolding losses
-losses_settled k [] e h = h
-losses_settled k (p ∷ ps) e h = losses_settled k ps (first_lost k p e) (ap (first_lost k p) h)
-
 call_settled : (old : End) (call : Call) (answer : CallAnswer call) (new : End) → settle old ≡ old → EndStep old call answer new → settle new ≡ new
 call_settled old call answer new h step =
-    ends_by (λ e. settle e ≡ e) old h settle_twice (λ k ps. losses_settled k ps old h) (ap (λ (e : End). record e { next = e.next + 1 }) h) call answer new step
+    ends_by (λ e. settle e ≡ e) old h settle_twice (λ k p e is. ap (first_lost k p) is) (ap (λ (e : End). record e { next = e.next + 1 }) h) call answer new step
 
 first_settled : (a b : Settings) → world_made a b ≡ Ok (first_world a b) → (s : Side) → settle (end_of (first_world a b) s) ≡ end_of (first_world a b) s
 first_settled a b is A = begun_settled Client a (limits_of b) (ends_made a b (first_world a b) is).0
@@ -81,7 +73,7 @@ same_settled e new is h = subst (λ x. settle x ≡ x) (sym is) h
 module _ (h : History) (v w : World) (s : Side) (settled : (t : Side) → settle (end_of v t) ≡ end_of v t) where
   own_settled : (act : Act) (answer : Answer) → OwnStep (end_of v s) act answer (end_of w s) → end_of w (other s) ≡ end_of v (other s) → (t : Side) → settle (end_of w t) ≡ end_of w t
   own_settled act answer step same =
-      let (call, given, is) = own_call (end_of v s) (end_of w s) act answer step in
+      let (call, given, is, own) = own_call (end_of v s) (end_of w s) act answer step in
       two_sides (λ t. settle (end_of w t) ≡ end_of w t) s (call_settled (end_of v s) call given (end_of w s) (settled s) is) (same_settled (end_of v (other s)) (end_of w (other s)) same (settled (other s)))
 
   step_settled : (act : Act) (answer : Answer) → StepBy h v s act answer w → (t : Side) → settle (end_of w t) ≡ end_of w t
@@ -106,11 +98,8 @@ ping_goes v f k e mid result is h = by result (subst (λ g. Stops v g e result m
     by : (r : Result Received Closing) → Stops v (Plain true) e r mid ⊎ (GoesOn e (Plain true) × AtEnd k true None (frame_taken (Plain true) e) r mid) → AtEnd k true None e r mid
     by r (inr goes) = goes.1
     by (Ok NoMemory) (inl stops) = absurd stops.1.1
-    by (Ok Done) (inl stops) = absurd stops
-    by (Ok Duplicate) (inl stops) = absurd stops
-    by (Ok BelowFloor) (inl stops) = absurd stops
-    by (Ok (PeerClosed code)) (inl stops) = absurd stops
     by (Err closing) (inl stops) = absurd (none-some closing.code stops.0)
+    by (Ok received) (inl stops) = absurd stops
 
 -- all that is read in it
 ping_taken : (left : List PlacedValue) (fault : Option WireFault) (k : ℕ) (e mid : End) (result : Result Received Closing) → seen_all (frames_of left) ≡ Plain true ∷ [] → fault ≡ None → Takes k fault false e left result mid → AtEnd k true None e result mid
@@ -123,28 +112,18 @@ ping_taken (v ∷ w ∷ left) fault k e mid result is none h = absurd (cc is)
 ping_ends : (k : ℕ) (e mid new : End) (result : Result Received Closing) → settle e ≡ e → AtEnd k true None e result mid → new ≡ settle mid → OnlyRecords k true result e new
 ping_ends k e mid new (Ok Done) same end is = is ∙ ap settle end ∙ ap (recorded k true) same
 ping_ends k e mid new (Ok NoMemory) same end is = is ∙ ap settle end.0 ∙ same
-ping_ends k e mid new (Ok Duplicate) same end is = absurd end
-ping_ends k e mid new (Ok BelowFloor) same end is = absurd end
-ping_ends k e mid new (Ok (PeerClosed code)) same end is = absurd end
-ping_ends k e mid new (Err closing) same end is = absurd end
+ping_ends k e mid new result same end is = absurd end
 
 ping_received : (k : ℕ) (e new : End) (result : Result Received Closing) → e.closed ≡ None → settle e ≡ e → ReceiveStep e k ping_text result new → OnlyRecords k true result e new
-ping_received k e new result not_closed same step = by_floor _ (subst (λ o. ReceiveBy o k ping_text e result new) not_closed step)
-  where
-    by_kept : (b : Bool) → MatchBool b ((result ≡ Ok Duplicate) × (new ≡ e)) ((mid : End) × TakesPayload k ping_text e result mid × (new ≡ settle mid)) → OnlyRecords k true result e new
-    by_kept true h = subst (λ r. OnlyRecords k true r e new) (sym h.0) h.1
-    by_kept false (mid, takes, is) = ping_ends k e mid new result same (ping_taken (reading_of ping_text).left (reading_of ping_text).fault k e mid result ping_seen ping_faultless takes) is
-
-    by_floor : (b : Bool) → MatchBool b ((result ≡ Ok BelowFloor) × (new ≡ e)) (MatchBool (set.contains e.done k) ((result ≡ Ok Duplicate) × (new ≡ e)) ((mid : End) × TakesPayload k ping_text e result mid × (new ≡ settle mid))) → OnlyRecords k true result e new
-    by_floor true h = subst (λ r. OnlyRecords k true r e new) (sym h.0) h.1
-    by_floor false h = by_kept _ h
+ping_received k e new result not_closed same step =
+    let stays : (r : Result Received Closing) → result ≡ r → OnlyRecords k true r e new → OnlyRecords k true result e new = λ r at h. subst (λ x. OnlyRecords k true x e new) (sym at) h in
+    by_open (OnlyRecords k true result e new) k ping_text e result new (subst (λ o. ReceiveBy o k ping_text e result new) not_closed step) (stays (Ok BelowFloor)) (stays (Ok Duplicate)) (λ high mid takes is.
+    ping_ends k e mid new result same (ping_taken (reading_of ping_text).left (reading_of ping_text).fault k e mid result ping_seen ping_faultless takes) is)
 
 records_numbers : (k : ℕ) (result : Result Received Closing) (old new : End) → OnlyRecords k true result old new → ChangesNumbers old new
-records_numbers k (Ok Done) old new is = subst (ChangesNumbers old) (sym is) refl
-records_numbers k (Ok Duplicate) old new is = subst (ChangesNumbers old) (sym is) refl
-records_numbers k (Ok BelowFloor) old new is = subst (ChangesNumbers old) (sym is) refl
-records_numbers k (Ok NoMemory) old new is = subst (ChangesNumbers old) (sym is) refl
 records_numbers k (Ok (PeerClosed code)) old new is = absurd is
+records_numbers k (Ok Done) old new is = subst (ChangesNumbers old) (sym is) refl
+records_numbers k (Ok received) old new is = subst (ChangesNumbers old) (sym is) refl
 records_numbers k (Err closing) old new is = absurd is
 
 -- A number is claimed

@@ -1,8 +1,7 @@
 -- What the peer made closes nothing.
-use Rattle.std.proofs.Common.{◌≡◌, ℕ, ◌%◌, ◌<◌, ◌≤◌, Bool, true, false, not, List, [], ◌∷◌, take, Option, Some, None, Result, Ok, Err, slice_get, refl, sym, ap, ◌∙◌, subst, arith, inl, inr, if◌then◌else◌, ◌||◌, ◌==◌, MatchBool}
+use Rattle.std.proofs.Common.{◌≡◌, ℕ, ◌%◌, ◌<◌, ◌≤◌, Bool, true, false, not, List, [], ◌∷◌, take, Option, Some, None, Result, Ok, Err, slice_get, refl, sym, ap, ◌∙◌, subst, arith, inl, inr, if◌then◌else◌, ◌||◌, ◌==◌}
 use Rattle.std.proofs.lemmas.Option.{none-some}
 use Rattle.std.proofs.lemmas.Bool.{cases_eq}
-use Rattle.std.specs.FinSet as set
 use Rattle.qs_wire.specs.Layout.{PlacedValue}
 use Rattle.qs_wire.specs.Grammar.{frames_of}
 use Rattle.qs_wire.specs.Reading.{reading_of}
@@ -10,22 +9,22 @@ use Rattle.qs_wire.specs.declared.fault.WireFault.{WireFault}
 use Rattle.qs_wire.specs.declared.stream_id.Role.TheVariants.{Client, Server}
 use Rattle.qs_calls.specs.declared.closing.Closing.{Closing}
 use Rattle.qs_calls.specs.declared.closing.Received.{Received}
-use Rattle.qs_calls.specs.declared.closing.Received.TheVariants.{Done, Duplicate, BelowFloor, PeerClosed, NoMemory}
+use Rattle.qs_calls.specs.declared.closing.Received.TheVariants.{Done, PeerClosed, NoMemory}
 use Rattle.qs_calls.specs.Settings.{limits_of}
 use Rattle.qs_machine.specs.Ends.{End, is_own, is_own_by, is_uni}
-use Rattle.qs_machine.specs.Credit.{settle}
-use Rattle.qs_machine.specs.Seen.{Seen, Ack, Stream, Control, Close, Plain, seen, seen_all, asks_ack}
+use Rattle.qs_machine.specs.Seen.{Seen, Ack, Close, seen, seen_all, asks_ack}
 use Rattle.qs_machine.specs.Verdicts.{verdict}
 use Rattle.qs_machine.specs.FrameStep.{named, frame_taken}
 use Rattle.qs_send.specs.Records.{Among}
-use Rattle.qs_machine.specs.Receiving.{ReceiveStep, ReceiveBy, TakesPayload, Takes, Stops, AtEnd}
-use Rattle.qs_machine.proofs.CallsSound.{no_fault_there}
+use Rattle.qs_machine.specs.Receiving.{ReceiveStep, ReceiveBy, Takes, Stops, AtEnd}
+use Rattle.qs_machine.proofs.EveryCall.{no_fault_there, by_open}
 use Rattle.qs_runs.specs.Agree.{frames_in}
 use Rattle.qs_runs.specs.Pasts.{Past, Tells}
 use Rattle.qs_runs.specs.Invariant.{EndOk}
 use Rattle.qs_runs.proofs.Unharmed.{Facing, told_fine}
 use Rattle.qs_runs.specs.Invariant.{standing}
-use Rattle.qs_runs.proofs.Standing.{acks_stand, frame_taken_stands}
+use Rattle.qs_machine.proofs.Leaves.{acks_leave, frame_leaves}
+use Rattle.qs_runs.proofs.Standing.{standing_at}
 use Rattle.qs_runs.proofs.Frames.{Effect, frame_keeps}
 
 -- two roles that face each other
@@ -68,14 +67,10 @@ module _ (p q : Past) (e f : End) (their : EndOk q f) (from : p.theirs ≡ q.min
 
   stops_stand : (v : PlacedValue) (g : Seen) (mid : End) (result : Result Received Closing) (new : End) → EndOk p mid → IsThere mid → Tells p.theirs g → Stops v g mid result new → standing new ≡ standing e
   stops_stand v (Close code) mid (Ok (PeerClosed told)) new ok same t h = absurd (their.packets.kinds (Close code) (subst (λ x. Tells x (Close code)) from t))
-  stops_stand v (Ack largest ranges) mid (Ok NoMemory) new ok same t (fine, (m, h, asks)) = ap standing h ∙ ap (λ x. x.0) (acks_stand (take m (named mid ranges)) mid) ∙ same.0
-  stops_stand v (Stream n offset bytes fin) mid (Ok NoMemory) new ok same t h = ap standing h.1.0 ∙ same.0
-  stops_stand v (Control i) mid (Ok NoMemory) new ok same t h = ap standing h.1.0 ∙ same.0
-  stops_stand v (Plain asks) mid (Ok NoMemory) new ok same t h = ap standing h.1.0 ∙ same.0
-  stops_stand v (Ack largest ranges) mid (Err closing) new ok same t h = absurd (none-some closing.code (sym (fine_now mid ok same (Ack largest ranges) t) ∙ h.0))
-  stops_stand v (Stream n offset bytes fin) mid (Err closing) new ok same t h = absurd (none-some closing.code (sym (fine_now mid ok same (Stream n offset bytes fin) t) ∙ h.0))
-  stops_stand v (Control i) mid (Err closing) new ok same t h = absurd (none-some closing.code (sym (fine_now mid ok same (Control i) t) ∙ h.0))
-  stops_stand v (Plain asks) mid (Err closing) new ok same t h = absurd (none-some closing.code (sym (fine_now mid ok same (Plain asks) t) ∙ h.0))
+  stops_stand v (Ack largest ranges) mid (Ok NoMemory) new ok same t (fine, (m, h, asks)) = ap standing h ∙ ap standing (acks_leave (take m (named mid ranges)) mid) ∙ same.0
+  stops_stand v (Close code) mid result new ok same t h = absurd h
+  stops_stand v g mid (Ok NoMemory) new ok same t h = ap standing h.1.0 ∙ same.0
+  stops_stand v g mid (Err closing) new ok same t h = absurd (none-some closing.code (sym (fine_now mid ok same g t) ∙ h.0))
   stops_stand v g mid result new ok same t h = absurd h
 
   at_end_stands : (k : ℕ) (asks : Bool) (fault : Option WireFault) (mid : End) (result : Result Received Closing) (new : End) → fault ≡ None → standing mid ≡ standing e → AtEnd k asks fault mid result new → standing new ≡ standing e
@@ -91,18 +86,11 @@ module _ (p q : Past) (e f : End) (their : EndOk q f) (from : p.theirs ≡ q.min
   takes_stand (v ∷ left) k asks fault mid result new none ok same told (inr (goes, rest)) =
       let g : Seen = seen v.frame in
       let one : Effect p mid (frame_taken g mid) g = frame_keeps p mid g ok (told g (inl refl)) (no_fault_there mid g goes) in
-      let still = frame_taken_stands g mid in
+      let still = ap standing_at (frame_leaves g mid) in
       takes_stand left k (asks || asks_ack g) fault (frame_taken g mid) result new none one.ok (ap (λ x. x.0) still ∙ same.0, ap (λ x. x.2) still ∙ same.1, ap (λ x. x.3) still ∙ same.2) (λ x a. told x (inr a)) rest
 
   -- a payload that the peer made, without a fault, leaves the end open
   pub receive_stands : (new : End) (k : ℕ) (text : List ℕ) (result : Result Received Closing) → EndOk p e → e.closed ≡ None → (reading_of text).fault ≡ None → slice_get p.theirs k ≡ Some (frames_in text) → ReceiveStep e k text result new → standing new ≡ standing e
-  receive_stands new k text result ok not_closed faultless is step = by_floor _ (subst (λ o. ReceiveBy o k text e result new) not_closed step)
-    where
-      by_kept : (b : Bool) → MatchBool b ((result ≡ Ok Duplicate) × (new ≡ e)) ((mid : End) × TakesPayload k text e result mid × (new ≡ settle mid)) → standing new ≡ standing e
-      by_kept true h = ap standing h.1
-      by_kept false (mid, takes, same) =
-          ap standing same ∙ takes_stand (reading_of text).left k false (reading_of text).fault e result mid faultless ok (refl, refl, refl) (λ g a. (k, (frames_in text, is, a))) takes
-
-      by_floor : (b : Bool) → MatchBool b ((result ≡ Ok BelowFloor) × (new ≡ e)) (MatchBool (set.contains e.done k) ((result ≡ Ok Duplicate) × (new ≡ e)) ((mid : End) × TakesPayload k text e result mid × (new ≡ settle mid))) → standing new ≡ standing e
-      by_floor true h = ap standing h.1
-      by_floor false h = by_kept _ h
+  receive_stands new k text result ok not_closed faultless is step =
+      by_open (standing new ≡ standing e) k text e result new (subst (λ o. ReceiveBy o k text e result new) not_closed step) (λ low same. ap standing same) (λ again same. ap standing same) (λ high mid takes same.
+      ap standing same ∙ takes_stand (reading_of text).left k false (reading_of text).fault e result mid faultless ok (refl, refl, refl) (λ g a. (k, (frames_in text, is, a))) takes)

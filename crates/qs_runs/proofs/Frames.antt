@@ -1,18 +1,17 @@
 -- A frame that the peer made and that has no fault keeps the invariant, and takes effect for good.
-use Rattle.std.proofs.Common.{◌≡◌, ℕ, ◌≤◌, ◌<◌, ◌/◌, max, Bool, List, [], ◌∷◌, ◌⊎◌, length, Option, Some, None, is_some, is_none, true, false, if◌then◌else◌, ◌||◌, refl, sym, ◌∙◌, subst, arith, inl, inr}
+use Rattle.std.proofs.Common.{◌≡◌, ℕ, ◌≤◌, ◌<◌, ◌/◌, max, Bool, List, ◌⊎◌, length, Option, Some, None, is_some, is_none, true, false, if◌then◌else◌, ◌||◌, refl, sym, subst, arith, inl, inr, ap}
 use Rattle.std.proofs.lemmas.Bool.{cases_lt, true≢false, false≢true, and_right}
 use Rattle.qs_wire.specs.declared.stream_id.Dir.TheVariants.{Bidi, Uni}
 use Rattle.qs_recv.specs.Lane.{RecvLane, take_stream, take_reset, is_whole, check_stream, check_reset}
 use Rattle.qs_send.specs.Lane.{allow_lane, stopped_lane}
 use Rattle.qs_send.specs.declared.piece.Item.{Item}
 use Rattle.qs_send.specs.declared.piece.Item.TheVariants.{MaxData, MaxStreamData, MaxStreams, ResetStream, StopSending, DataBlocked, StreamDataBlocked, StreamsBlocked}
-use Rattle.qs_send.specs.declared.piece.Piece.{Piece}
-use Rattle.qs_send.specs.declared.piece.Piece.TheVariants.{Data, Told}
 use Rattle.qs_machine.specs.Tables.{lookup, updated, open_to}
 use Rattle.qs_machine.specs.Ends.{End, is_own, is_uni, opens, opened_by_peer, window}
 use Rattle.qs_machine.specs.Seen.{Seen, Ack, Stream, Control, Close, Plain}
 use Rattle.qs_machine.specs.Verdicts.{verdict, item_verdict, credit_fault, lane_of, state_fault_in}
-use Rattle.qs_machine.specs.FrameStep.{AckedPiece, piece_acked, item_acked, acks, named, frame_taken, item_taken}
+use Rattle.qs_machine.specs.FrameStep.{named, frame_taken, item_taken}
+use Rattle.qs_machine.proofs.Leaves.{acks_leave}
 use Rattle.qs_machine.proofs.TableLaws.{lookup_same, open_at}
 use Rattle.qs_machine.proofs.FramesSound.{no_fault}
 use Rattle.qs_runs.specs.Pasts.{Past, Tells}
@@ -27,28 +26,6 @@ pub record Effect (p : Past) (old new : End) (f : Seen) : Type 0 where
   pub ok : EndOk p new
   pub grow : AllGrow old.recvs new.recvs
   pub taken : FrameTaken new.recvs f
-
-item_acked_recvs : (i : Item) (e : End) → (item_acked i e).recvs ≡ e.recvs
-item_acked_recvs (MaxData m) e = refl
-item_acked_recvs (MaxStreamData n m) e = refl
-item_acked_recvs (MaxStreams Bidi m) e = refl
-item_acked_recvs (MaxStreams Uni m) e = refl
-item_acked_recvs (ResetStream n code size) e = refl
-item_acked_recvs (StopSending n c) e = refl
-item_acked_recvs (DataBlocked m) e = refl
-item_acked_recvs (StreamDataBlocked n m) e = refl
-item_acked_recvs (StreamsBlocked Bidi m) e = refl
-item_acked_recvs (StreamsBlocked Uni m) e = refl
-
-piece_acked_recvs : (piece : Piece) (e : End) → (piece_acked piece e).recvs ≡ e.recvs
-piece_acked_recvs (Data n c) e = refl
-piece_acked_recvs (Told i) e = item_acked_recvs i e
-
--- an ACK leaves the receiving halves
-pub acks_recvs : (pieces : List AckedPiece) (e : End) → (acks pieces e).recvs ≡ e.recvs
-unfolding acks
-acks_recvs [] e = refl
-acks_recvs (a ∷ pieces) e = acks_recvs pieces _ ∙ piece_acked_recvs a.piece _
 
 below_max : (n uni bidi uni' bidi' : ℕ) (b : Bool) → n / 4 < (if b then uni else bidi) → uni ≤ uni' → bidi ≤ bidi' → n / 4 < (if b then uni' else bidi')
 below_max n uni bidi uni' bidi' true h a b = omega (arith, h)
@@ -194,7 +171,7 @@ module _ (p : Past) where
   frame_keeps e (Ack largest ranges) ok t fine =
       record {
         ok = acks_ok p (named e ranges) e (named_pieces_ok p e ok ranges (λ k a. (largest, ranges, t, a))) ok;
-        grow = subst (AllGrow e.recvs) (sym (acks_recvs (named e ranges) e)) (all_grow_refl e.recvs);
+        grow = subst (AllGrow e.recvs) (sym (ap (λ (x : End). x.recvs) (acks_leave (named e ranges) e))) (all_grow_refl e.recvs);
         taken = tt;
       }
   frame_keeps e (Stream n offset bytes fin) ok t fine =

@@ -22,24 +22,25 @@ use Rattle.qs_machine.specs.Lawful.{MayPut, Fills, frame_put}
 use Rattle.qs_machine.specs.Making.{MakeAt, make_refusal, IsMade}
 use Rattle.qs_machine.specs.EndStep.{Call, Answer as CallAnswer, EndStep, Open, Accept, Write, Finish, Reset, Stop, ReadUpTo, Make, Lose, Claim}
 use Rattle.qs_machine.specs.Standing.{CountsRise}
+use Rattle.qs_machine.proofs.EveryCall.{MovesStanding}
 use Rattle.qs_runs.specs.Worlds.{OwnStep}
 use Rattle.qs_runs.specs.Pasts.{Packets, Past, Tells, seen_by}
 use Rattle.qs_runs.specs.Invariant.{EndOk, CountsTrue, CountsOk}
 use Rattle.qs_runs.proofs.NewEnds.{tells_nothing}
 use Rattle.qs_runs.proofs.Wire.{text_seen, ping_seen}
 
--- what an owner does is a call of the end
-pub own_call : (e new : End) (act : Act) (answer : Answer) → OwnStep e act answer new → (call : Call) × (given : CallAnswer call) × EndStep e call given new
-own_call e new (acts.OpenStream dir) (answers.OpenStream r) step = (Open dir, r, step)
-own_call e new acts.Accept (answers.Accept r) step = (Accept, r, step)
-own_call e new (acts.Write n bytes) (answers.Write r) step = (Write n bytes.items, r, step)
-own_call e new (acts.Finish n) (answers.Finish r) step = (Finish n, r, step)
-own_call e new (acts.Reset n code) (answers.Reset r) step = (Reset n code, r, step)
-own_call e new (acts.Stop n code) (answers.Stop r) step = (Stop n code, r, step)
-own_call e new (acts.ReadUpTo n size) (answers.ReadUpTo r bytes) step = (ReadUpTo n size, (r, bytes.items), step)
-own_call e new (acts.Make room) (answers.Make r text) (first, delay, step) = (Make first delay room, (r, text.items), step)
-own_call e new (acts.Lose k) (answers.Lose r) step = (Lose k, r, step)
-own_call e new acts.Claim (answers.Claim r) step = (Claim, r, step)
+-- what an owner does is a call of the end that leaves what stands
+pub own_call : (e new : End) (act : Act) (answer : Answer) → OwnStep e act answer new → (call : Call) × (given : CallAnswer call) × EndStep e call given new × (MovesStanding call → ⊥)
+own_call e new (acts.OpenStream dir) (answers.OpenStream r) step = (Open dir, r, step, λ no. no)
+own_call e new acts.Accept (answers.Accept r) step = (Accept, r, step, λ no. no)
+own_call e new (acts.Write n bytes) (answers.Write r) step = (Write n bytes.items, r, step, λ no. no)
+own_call e new (acts.Finish n) (answers.Finish r) step = (Finish n, r, step, λ no. no)
+own_call e new (acts.Reset n code) (answers.Reset r) step = (Reset n code, r, step, λ no. no)
+own_call e new (acts.Stop n code) (answers.Stop r) step = (Stop n code, r, step, λ no. no)
+own_call e new (acts.ReadUpTo n size) (answers.ReadUpTo r bytes) step = (ReadUpTo n size, (r, bytes.items), step, λ no. no)
+own_call e new (acts.Make room) (answers.Make r text) (first, delay, step) = (Make first delay room, (r, text.items), step, λ no. no)
+own_call e new (acts.Lose k) (answers.Lose r) step = (Lose k, r, step, λ no. no)
+own_call e new acts.Claim (answers.Claim r) step = (Claim, r, step, λ no. no)
 own_call e new act answer step = absurd step
 
 -- What a packet tells
@@ -84,16 +85,10 @@ claim_tells (Err fault) i t = tells_nothing _ _ refl t
 
 told_now : (e new : End) (act : Act) (answer : Answer) (d : Dir) (count : ℕ) → OwnStep e act answer new → Tells (seen_by act answer) (Control (MaxStreams d count)) → count ≤ granted_streams e d
 told_now e new (acts.Make room) (answers.Make r text) d count (first, delay, step) t = make_count (make_refusal e) e new first delay room r text d count step t
-told_now e new (acts.OpenStream dir) (answers.OpenStream r) d count step t = absurd (tells_nothing _ _ refl t)
-told_now e new acts.Accept (answers.Accept r) d count step t = absurd (tells_nothing _ _ refl t)
-told_now e new (acts.Write n bytes) (answers.Write r) d count step t = absurd (tells_nothing _ _ refl t)
-told_now e new (acts.Finish n) (answers.Finish r) d count step t = absurd (tells_nothing _ _ refl t)
-told_now e new (acts.Reset n code) (answers.Reset r) d count step t = absurd (tells_nothing _ _ refl t)
-told_now e new (acts.Stop n code) (answers.Stop r) d count step t = absurd (tells_nothing _ _ refl t)
-told_now e new (acts.ReadUpTo n size) (answers.ReadUpTo r bytes) d count step t = absurd (tells_nothing _ _ refl t)
-told_now e new (acts.Lose k) (answers.Lose r) d count step t = absurd (tells_nothing _ _ refl t)
+told_now e new (acts.Make room) answer d count step t = absurd step
 told_now e new acts.Claim (answers.Claim r) d count step t = absurd (claim_tells r (MaxStreams d count) t)
-told_now e new act answer d count step t = absurd step
+told_now e new acts.Claim answer d count step t = absurd step
+told_now e new act answer d count step t = absurd (tells_nothing (seen_by act answer) (Control (MaxStreams d count)) refl t)
 
 -- The clause on counts
 

@@ -40,17 +40,8 @@ theirs_mine B h = refl
 -- One more event
 
 none_delivered : (act : Act) → is_delivery act ≡ false → (answer : Answer) (k : ℕ) (d : Bool) → (if delivers k act && is_done answer then true else d) ≡ d
-none_delivered (acts.OpenStream dir) own answer k d = refl
-none_delivered acts.Accept own answer k d = refl
-none_delivered (acts.Write n bytes) own answer k d = refl
-none_delivered (acts.Finish n) own answer k d = refl
-none_delivered (acts.Reset n code) own answer k d = refl
-none_delivered (acts.Stop n code) own answer k d = refl
-none_delivered (acts.ReadUpTo n size) own answer k d = refl
-none_delivered (acts.Make room) own answer k d = refl
-none_delivered (acts.Lose k) own answer j d = refl
-none_delivered acts.Claim own answer j d = refl
 none_delivered (acts.Deliver k) own answer j d = absurd (cc)
+none_delivered act own answer k d = refl
 
 pub past_own : (s : Side) (act : Act) (answer : Answer) (h : History) → is_delivery act ≡ false → past s ((does s act, answer) ∷ h) ≡ with_call (past s h) act answer
 unfolding own_calls processed

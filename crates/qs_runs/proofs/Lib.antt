@@ -25,7 +25,6 @@ pub mod Facing
 pub mod Agreement
 pub mod Repeats
 pub mod Histories
-pub mod OwnStands
 pub mod Runs
 pub mod Claims
 pub mod Agrees

@@ -21,6 +21,7 @@ use Rattle.qs_machine.specs.Lawful.{MayPut, MayCarry, Fills, Lawful, frame_put, 
 use Rattle.qs_runs.proofs.Lists.{slice_get-append, slice_get-push, slice_get-last, slice_get-take, slice_get-drop, Among_push, Among_left, Among_last}
 use Rattle.qs_runs.proofs.Members.{get-inserted}
 use Rattle.qs_runs.proofs.Base.{before-missing}
+use Rattle.qs_machine.proofs.Leaves.{put_leaves, fills_leave}
 use Rattle.qs_machine.proofs.TableLaws.{slots_updated, lookup_same}
 use Rattle.qs_runs.specs.Pasts.{Packets, Past, PieceOf, Holds, Tells}
 use Rattle.qs_runs.specs.Invariant.{EndHas, EndOk, SendTrue, SendSlot, RecvSlot, ChunkTrue, AckTrue, IsMade, OpenOk, StoodIn, is_open}
@@ -43,18 +44,11 @@ FrameTrue p e (Close code) = ⊥
 FrameTrue p e (Plain asks) = asks ≡ true
 
 true_is_made : (p : Past) (e : End) (f : Seen) → FrameTrue p e f → IsMade f
-true_is_made p e (Ack largest ranges) t = tt
-true_is_made p e (Stream n offset bytes fin) t = tt
-true_is_made p e (Control (MaxData m)) t = tt
-true_is_made p e (Control (MaxStreamData n m)) t = tt
-true_is_made p e (Control (MaxStreams d m)) t = tt
-true_is_made p e (Control (ResetStream n code size)) t = tt
-true_is_made p e (Control (StopSending n code)) t = tt
-true_is_made p e (Control (DataBlocked m)) t = tt
-true_is_made p e (Control (StreamDataBlocked n m)) t = tt
-true_is_made p e (Control (StreamsBlocked d m)) t = tt
 true_is_made p e (Close c) t = absurd t
 true_is_made p e (Plain asks) t = t
+true_is_made p e (Control (MaxData m)) t = tt
+true_is_made p e (Control (MaxStreams d m)) t = tt
+true_is_made p e f t = tt
 
 -- More was sent: what holds still does, and what is told is told before or is the frame.
 module _ (p : Past) (more : Packets) (e : End) (sent : ℕ) (f : Seen)
@@ -309,31 +303,10 @@ module _ (p : Past) (pre : List Seen) where
       go : (o : Option SendLane) → lookup e.sends n ≡ o → EndHas (with_packet p pre) (counted (record e { sends = updated e.sends n blocked_lane o })) 0
       go None is = ok
       go (Some l) is = lane_changed _ (counted e) 0 n l (blocked_lane l) ok is (blocked_ok _ _ _ n _ l (subst (SendSlot (with_packet p pre) n (first_send_limit e n)) is (ok.sends n)))
-  item_marked e (MaxData m) ok = ok
-  item_marked e (MaxStreamData n m) ok = ok
-  item_marked e (MaxStreams d m) ok = ok
-  item_marked e (ResetStream n code size) ok = ok
-  item_marked e (StopSending n code) ok = ok
-  item_marked e (DataBlocked m) ok = ok
-  item_marked e (StreamsBlocked d m) ok = ok
-
-item_put_next : (i : Item) (e : End) → (item_put i e).next ≡ e.next
-item_put_next (StreamDataBlocked n m) e = refl
-item_put_next (MaxData m) e = refl
-item_put_next (MaxStreamData n m) e = refl
-item_put_next (MaxStreams d m) e = refl
-item_put_next (ResetStream n code size) e = refl
-item_put_next (StopSending n code) e = refl
-item_put_next (DataBlocked m) e = refl
-item_put_next (StreamsBlocked d m) e = refl
+  item_marked e i ok = ok
 
 frame_put_next : (f : Seen) (e : End) → (frame_put f e).next ≡ e.next
-unfolding frame_put
-frame_put_next (Ack largest ranges) e = refl
-frame_put_next (Stream n offset bytes fin) e = refl
-frame_put_next (Control i) e = item_put_next i e
-frame_put_next (Close c) e = refl
-frame_put_next (Plain asks) e = refl
+frame_put_next f e = ap (λ (x : End). x.next) (put_leaves f e)
 
 module _ (p : Past) (old : End) (kept : (k : ℕ) → set.contains old.done k ≡ true → p.processed k ≡ true) where
   put_stream : (pre : List Seen) (e : End) (n offset : ℕ) (bytes : List ℕ) (fin : Bool) (l : SendLane) → MayCarry e n offset bytes fin l → e.next ≡ length p.mine → EndHas (with_packet p pre) (counted e) 0 →
@@ -361,7 +334,7 @@ module _ (p : Past) (old : End) (kept : (k : ℕ) → set.contains old.done k �
   put_step pre e (Stream n offset bytes fin) (l, may) at ok = put_stream pre e n offset bytes fin l may at ok
   put_step pre e (Control i) (due_then, due) at ok =
       let put : EndHas (with_packet p (pre ++ Control i ∷ [])) (counted e) 0 = packet_put p pre (counted e) (Control i) ok (item_true p pre e i due.0) (ap (λ x. x + 1) at) in
-      note_ok p pre (item_put i e) (Control i) (Told i) (item_put_next i e ∙ at) (item_marked p (pre ++ Control i ∷ []) e i put) (packet_has p.mine pre (Control i))
+      note_ok p pre (item_put i e) (Control i) (Told i) (frame_put_next (Control i) e ∙ at) (item_marked p (pre ++ Control i ∷ []) e i put) (packet_has p.mine pre (Control i))
   put_step pre e (Close c) may at ok = absurd may
   put_step pre e (Plain asks) may at ok = absurd may
 
@@ -372,8 +345,7 @@ module _ (p : Past) (old : End) (kept : (k : ℕ) → set.contains old.done k �
       (fills_ok fs (pre ++ f ∷ []) (frame_put f e) mid rest (frame_put_next f e ∙ at) (put_step pre e f may at ok))
 
   fills_next : (fs : List Seen) (e mid : End) → Fills old e fs mid → mid.next ≡ e.next
-  fills_next [] e mid is = ap (λ x. x.next) is
-  fills_next (f ∷ fs) e mid (may, rest) = fills_next fs (frame_put f e) mid rest ∙ frame_put_next f e
+  fills_next fs e mid fills = ap (λ (x : End). x.next) (fills_leave old fs e mid fills)
 
 without_sum : (p : Past) (e : End) (sent less : ℕ) → EndHas p e sent → less ≤ e.known_data → EndHas p e less
 without_sum p e sent less ok le =

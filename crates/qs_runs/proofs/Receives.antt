@@ -1,5 +1,5 @@
 -- A payload that the peer made keeps the invariant of the end that it comes to, whatever comes of it.
-use Rattle.std.proofs.Common.{◌≡◌, ℕ, ◌≤◌, ◌<◌, Bool, List, [], ◌∷◌, ◌++◌, ◌⊎◌, take, Option, Some, None, Result, Ok, Err, slice_get, true, false, if◌then◌else◌, ◌&&◌, ◌||◌, ◌==◌, refl, sym, ap, ◌∙◌, subst, arith, inl, inr, append-nil, append_assoc, nat_lt, MatchBool}
+use Rattle.std.proofs.Common.{◌≡◌, ℕ, ◌≤◌, ◌<◌, Bool, List, [], ◌∷◌, ◌++◌, ◌⊎◌, take, Option, Some, None, Result, Ok, Err, slice_get, true, false, if◌then◌else◌, ◌&&◌, ◌||◌, ◌==◌, refl, sym, ap, ◌∙◌, subst, arith, inl, inr, append-nil, append_assoc}
 use Rattle.std.proofs.lemmas.Bool.{cases_lt, eqb-true, ltb-false, eq-eqb, and_right}
 use Rattle.std.specs.FinSet as set
 use Rattle.std.specs.List.{AllByRecursion}
@@ -15,13 +15,12 @@ use Rattle.qs_calls.specs.declared.closing.Closed.TheVariants.{ByUs, ByPeer}
 use Rattle.qs_calls.specs.declared.closing.Received.{Received}
 use Rattle.qs_calls.specs.declared.closing.Received.TheVariants.{Done, Duplicate, BelowFloor, PeerClosed, NoMemory}
 use Rattle.qs_machine.specs.Ends.{End, closes}
-use Rattle.qs_machine.specs.Credit.{settle}
-use Rattle.qs_machine.specs.Seen.{Seen, Ack, Stream, Control, Close, Plain, seen, seen_all, asks_ack}
+use Rattle.qs_machine.specs.Seen.{Seen, Ack, Close, seen, seen_all, asks_ack}
 use Rattle.qs_machine.specs.FrameStep.{named, frame_taken}
 use Rattle.qs_machine.specs.Recording.{recorded, has_too_many, lowest_end, least_in}
 use Rattle.qs_machine.proofs.RunLaws.{least_above}
-use Rattle.qs_machine.specs.Receiving.{ReceiveStep, ReceiveBy, ClosedReceive, TakesPayload, Takes, Stops, AtEnd}
-use Rattle.qs_machine.proofs.CallsSound.{no_fault_there}
+use Rattle.qs_machine.specs.Receiving.{ReceiveStep, ReceiveBy, Takes, Stops, AtEnd}
+use Rattle.qs_machine.proofs.EveryCall.{no_fault_there, by_open}
 use Rattle.qs_calls.specs.declared.answer.Answer.TheVariants as answers
 use Rattle.qs_runs.specs.Logs.{is_done}
 use Rattle.qs_runs.specs.Agree.{frames_in}
@@ -32,7 +31,7 @@ use Rattle.qs_runs.specs.Invariant.{EndOk, FrameTaken}
 use Rattle.qs_runs.proofs.Changes.{every_stays}
 use Rattle.qs_runs.proofs.Settling.{settle_ok}
 use Rattle.qs_runs.proofs.Acking.{acks_ok, named_pieces_ok}
-use Rattle.qs_runs.proofs.Standing.{frame_taken_stands}
+use Rattle.qs_machine.proofs.Leaves.{frame_leaves}
 use Rattle.qs_runs.proofs.Frames.{Effect, frame_keeps}
 use Rattle.qs_runs.proofs.OwnMoves.{ended_by}
 
@@ -156,13 +155,9 @@ module _ (p : Past) (k : ℕ) (all : List Seen) (is : slice_get p.theirs k ≡ S
   stops_ok v (Close code) e (Ok (PeerClosed told)) new ok t h = unchanged p k new _ refl (ended_by p _ _ h.1 (closed_ok p e _ ok))
   stops_ok v (Ack largest ranges) e (Ok NoMemory) new ok t (fine, (m, h, asks)) =
       unchanged p k new _ refl (ended_by p _ _ h (acks_ok p (take m (named e ranges)) e (All_take _ m _ (named_pieces_ok p e ok ranges (λ j a. (largest, ranges, t, a)))) ok))
-  stops_ok v (Stream n offset bytes fin) e (Ok NoMemory) new ok t h = unchanged p k new _ refl (ended_by p _ _ h.1.0 ok)
-  stops_ok v (Control i) e (Ok NoMemory) new ok t h = unchanged p k new _ refl (ended_by p _ _ h.1.0 ok)
-  stops_ok v (Plain asks) e (Ok NoMemory) new ok t h = unchanged p k new _ refl (ended_by p _ _ h.1.0 ok)
-  stops_ok v (Ack largest ranges) e (Err closing) new ok t h = unchanged p k new _ refl (ended_by p _ _ h.2 (closed_ok p e _ ok))
-  stops_ok v (Stream n offset bytes fin) e (Err closing) new ok t h = unchanged p k new _ refl (ended_by p _ _ h.2 (closed_ok p e _ ok))
-  stops_ok v (Control i) e (Err closing) new ok t h = unchanged p k new _ refl (ended_by p _ _ h.2 (closed_ok p e _ ok))
-  stops_ok v (Plain asks) e (Err closing) new ok t h = unchanged p k new _ refl (ended_by p _ _ h.2 (closed_ok p e _ ok))
+  stops_ok v (Close code) e result new ok t h = absurd h
+  stops_ok v f e (Ok NoMemory) new ok t h = unchanged p k new _ refl (ended_by p _ _ h.1.0 ok)
+  stops_ok v f e (Err closing) new ok t h = unchanged p k new _ refl (ended_by p _ _ h.2 (closed_ok p e _ ok))
   stops_ok v f e result new ok t h = absurd h
 
   -- the frames before have taken effect; what is left are these
@@ -176,27 +171,19 @@ module _ (p : Past) (k : ℕ) (all : List Seen) (is : slice_get p.theirs k ≡ S
       let f : Seen = seen v.frame in
       let one : Effect p e (frame_taken f e) f = frame_keeps p e f ok (k, (all, is, rw split (Among_right before _ _ (inl refl)))) (no_fault_there e f goes) in
       takes_ok left (before ++ f ∷ []) (asks || asks_ack f) fault (frame_taken f e) result new (split ∙ sym (append_assoc before (f ∷ []) (seen_all (frames_of left)))) one.ok
-      (rw (ap (λ x. x.1) (frame_taken_stands f e)) low)
+      (rw (ap (λ (x : End). x.floor) (frame_leaves f e)) low)
       (All_append (FrameTaken (frame_taken f e).recvs) before (f ∷ []) (every_stays e.recvs (frame_taken f e).recvs one.grow before taken) (one.taken, tt)) rest
 
 pub receives : (p : Past) (e new : End) (k : ℕ) (text : List ℕ) (result : Result Received Closing) → EndOk p e → slice_get p.theirs k ≡ Some (frames_in text) → ReceiveStep e k text result new → EndOk (with_received p k result) new
 receives p e new k text result ok is step = by_closed e.closed step
   where
-    settled : (mid : End) → EndOk (with_received p k result) mid → new ≡ settle mid → EndOk (with_received p k result) new
-    settled mid h same = ended_by _ _ _ same (settle_ok _ mid h)
-
-    by_kept : (b : Bool) → e.floor ≤ k → MatchBool b ((result ≡ Ok Duplicate) × (new ≡ e)) ((mid : End) × TakesPayload k text e result mid × (new ≡ settle mid)) → EndOk (with_received p k result) new
-    by_kept true low h = unchanged p k new _ (ap (λ r. is_done (answers.Deliver r)) h.0) (ended_by p e new h.1 ok)
-    by_kept false low (mid, takes, same) = settled mid (takes_ok p k (frames_in text) is (reading_of text).left [] false (reading_of text).fault e result mid refl ok low tt takes) same
-
-    by_floor : (b : Bool) → nat_lt k e.floor ≡ b → MatchBool b ((result ≡ Ok BelowFloor) × (new ≡ e)) (MatchBool (set.contains e.done k) ((result ≡ Ok Duplicate) × (new ≡ e)) ((mid : End) × TakesPayload k text e result mid × (new ≡ settle mid))) → EndOk (with_received p k result) new
-    by_floor true low h = unchanged p k new _ (ap (λ r. is_done (answers.Deliver r)) h.0) (ended_by p e new h.1 ok)
-    by_floor false low h = by_kept (set.contains e.done k) (ltb-false k e.floor low) h
-
-    by_reason : (c : Closed) → ClosedReceive c e result new → EndOk (with_received p k result) new
-    by_reason (ByUs closing) h = unchanged p k new _ (ap (λ r. is_done (answers.Deliver r)) h.0) (ended_by p e new h.1 ok)
-    by_reason (ByPeer code) h = unchanged p k new _ (ap (λ r. is_done (answers.Deliver r)) h.0) (ended_by p e new h.1 ok)
+    -- what wasn't taken changes nothing
+    stays : (r : Result Received Closing) → is_done (answers.Deliver r) ≡ false → result ≡ r → new ≡ e → EndOk (with_received p k result) new
+    stays r undone at same = unchanged p k new _ (ap (λ x. is_done (answers.Deliver x)) at ∙ undone) (ended_by p e new same ok)
 
     by_closed : (o : Option Closed) → ReceiveBy o k text e result new → EndOk (with_received p k result) new
-    by_closed (Some c) h = by_reason c h
-    by_closed None h = by_floor _ refl h
+    by_closed (Some (ByUs closing)) h = stays (Err closing) refl h.0 h.1
+    by_closed (Some (ByPeer code)) h = stays (Ok (PeerClosed code)) refl h.0 h.1
+    by_closed None h =
+        by_open (EndOk (with_received p k result) new) k text e result new h (stays (Ok BelowFloor) refl) (stays (Ok Duplicate) refl) (λ high mid takes same.
+        ended_by _ _ _ same (settle_ok _ mid (takes_ok p k (frames_in text) is (reading_of text).left [] false (reading_of text).fault e result mid refl ok (ltb-false k e.floor high) tt takes)))

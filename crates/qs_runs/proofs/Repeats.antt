@@ -1,5 +1,5 @@
 -- A repeat leaves an end as it was, and what tells nothing new spends nothing.
-use Rattle.std.proofs.Common.{◌≡◌, ◌≢◌, ℕ, ◌+◌, ◌≤◌, ◌<◌, Bool, true, false, ◌||◌, List, [], ◌∷◌, length, take, Option, Some, None, Result, Ok, Err, unwrap_or, is_some, slice_get, refl, sym, ap, ◌∙◌, subst, arith, inl, inr, if◌then◌else◌, MatchBool, nat_lt, le_antisymm}
+use Rattle.std.proofs.Common.{◌≡◌, ◌≢◌, ℕ, ◌+◌, ◌≤◌, ◌<◌, Bool, true, false, ◌||◌, List, [], ◌∷◌, length, Option, Some, None, Result, Ok, unwrap_or, is_some, slice_get, refl, sym, ap, ◌∙◌, subst, arith, inl, inr, if◌then◌else◌, MatchBool, nat_lt, le_antisymm}
 use Rattle.std.proofs.lemmas.Option.{none-some, same_Some}
 use Rattle.std.proofs.lemmas.Bool.{lt-ltb, true≢false}
 use Rattle.std.specs.FinSet as set
@@ -9,31 +9,32 @@ use Rattle.qs_wire.specs.Layout.{PlacedValue}
 use Rattle.qs_wire.specs.Grammar.{frames_of}
 use Rattle.qs_wire.specs.Reading.{reading_of}
 use Rattle.qs_wire.specs.declared.fault.WireFault.{WireFault}
-use Rattle.qs_wire.specs.declared.stream_id.Dir.TheVariants.{Bidi, Uni}
+use Rattle.qs_wire.specs.declared.stream_id.Dir.TheVariants.{Uni}
 use Rattle.qs_recv.specs.Assembled.{put, discard}
 use Rattle.qs_recv.specs.Lane.{RecvLane, highest, take_stream, take_reset, is_whole, raise, check_stream, check_reset}
-use Rattle.qs_send.specs.declared.piece.Item.TheVariants.{MaxData, MaxStreamData, MaxStreams, ResetStream, StopSending, DataBlocked, StreamDataBlocked, StreamsBlocked}
+use Rattle.qs_send.specs.declared.piece.Item.TheVariants.{MaxStreamData, MaxStreams, ResetStream, StopSending, StreamDataBlocked}
 use Rattle.qs_calls.specs.declared.closing.Closing.{Closing}
 use Rattle.qs_calls.specs.declared.closing.Received.{Received}
-use Rattle.qs_calls.specs.declared.closing.Received.TheVariants.{Done, Duplicate, BelowFloor, PeerClosed, NoMemory}
+use Rattle.qs_calls.specs.declared.closing.Received.TheVariants.{Duplicate, BelowFloor}
 use Rattle.qs_machine.specs.Tables.{lookup, updated, total, open_to}
 use Rattle.qs_machine.specs.Ends.{End, is_own, opens, opened_by_peer}
 use Rattle.qs_machine.specs.Credit.{spent, settle}
-use Rattle.qs_machine.specs.Seen.{Seen, Ack, Stream, Control, Close, Plain, seen, seen_all, asks_ack}
+use Rattle.qs_machine.specs.Seen.{Seen, Ack, Stream, Control, seen, seen_all, asks_ack}
 use Rattle.qs_machine.specs.Verdicts.{verdict, item_verdict, credit_fault, lane_of, state_fault_in}
 use Rattle.qs_machine.specs.FrameStep.{named, frame_taken, item_taken}
 use Rattle.qs_send.specs.Records.{Among}
-use Rattle.qs_machine.specs.Receiving.{ReceiveStep, ReceiveBy, TakesPayload, Takes, Stops, AtEnd}
+use Rattle.qs_machine.specs.Receiving.{ReceiveStep, ReceiveBy, TakesPayload, Takes}
 use Rattle.qs_runs.specs.Agree.{IsOld, frames_in}
 use Rattle.qs_runs.proofs.Members.{run-cases, run-old, below-end, end-le}
 use Rattle.qs_machine.proofs.TableLaws.{lookup_open, total_update, total_each}
-use Rattle.qs_machine.proofs.CallsSound.{no_fault_there}
+use Rattle.qs_machine.proofs.EveryCall.{no_fault_there, by_open}
 use Rattle.qs_runs.specs.Pasts.{Past, Tells}
 use Rattle.qs_runs.specs.Invariant.{EndOk}
 use Rattle.qs_runs.proofs.Changes.{AllGrow, Grows}
 use Rattle.qs_runs.proofs.Opening.{new_recvs, lane_opened}
 use Rattle.qs_runs.proofs.Taking.{or_else_none, stream_passed, fin_fits, reset_fits}
-use Rattle.qs_runs.proofs.Frames.{Effect, frame_keeps, acks_recvs}
+use Rattle.qs_machine.proofs.Leaves.{acks_leave, stops_leave, end_leaves}
+use Rattle.qs_runs.proofs.Frames.{Effect, frame_keeps}
 use Rattle.qs_runs.proofs.Unharmed.{spent_opened}
 
 -- a packet that was processed
@@ -138,19 +139,14 @@ module _ (e : End) where
 
   frame_spends : (f : Seen) → IsOld e f → verdict e f ≡ None → spent (frame_taken f e) ≡ spent e
   unfolding verdict frame_taken
-  frame_spends (Ack largest ranges) old fine = ap (total highest) (acks_recvs (named e ranges) e)
+  frame_spends (Ack largest ranges) old fine = ap spent (acks_leave (named e ranges) e)
   frame_spends (Stream n offset bytes fin) old fine = stream_spends n offset bytes fin old fine
-  frame_spends (Control (MaxData m)) old fine = refl
   frame_spends (Control (MaxStreamData n m)) old fine = spent_opened e n (is_own e n)
-  frame_spends (Control (MaxStreams Bidi m)) old fine = refl
   frame_spends (Control (MaxStreams Uni m)) old fine = refl
   frame_spends (Control (ResetStream n code size)) old fine = reset_spends n code size old fine
   frame_spends (Control (StopSending n code)) old fine = spent_opened e n (is_own e n)
-  frame_spends (Control (DataBlocked m)) old fine = refl
   frame_spends (Control (StreamDataBlocked n m)) old fine = spent_opened e n (is_own e n)
-  frame_spends (Control (StreamsBlocked d m)) old fine = refl
-  frame_spends (Close c) old fine = refl
-  frame_spends (Plain asks) old fine = refl
+  frame_spends f old fine = refl
 
 -- What is old stays old.
 known_stays : (l m : RecvLane) → Grows l m → l.final_size ≢ None → m.final_size ≢ None
@@ -166,16 +162,7 @@ old_stays a b grow (Stream n offset bytes fin) (all, known) = (
   λ set. (let (l, is, sized) = known set in let (m, there, g) = grow n l is in (m, there, known_stays l m g sized)),
 )
 old_stays a b grow (Control (ResetStream n code size)) (l, is, known) = (let (m, there, g) = grow n l is in (m, there, known_stays l m g known))
-old_stays a b grow (Control (MaxData m)) old = tt
-old_stays a b grow (Control (MaxStreamData n m)) old = tt
-old_stays a b grow (Control (MaxStreams d m)) old = tt
-old_stays a b grow (Control (StopSending n code)) old = tt
-old_stays a b grow (Control (DataBlocked m)) old = tt
-old_stays a b grow (Control (StreamDataBlocked n m)) old = tt
-old_stays a b grow (Control (StreamsBlocked d m)) old = tt
-old_stays a b grow (Ack largest ranges) old = tt
-old_stays a b grow (Close c) old = tt
-old_stays a b grow (Plain asks) old = tt
+old_stays a b grow f old = tt
 
 all_old : (a b : End) → AllGrow a.recvs b.recvs → (fs : List Seen) → AllByRecursion (IsOld a) fs → AllByRecursion (IsOld b) fs
 all_old a b grow [] all = tt
@@ -186,28 +173,10 @@ settle_spends e = total_each highest raise e.recvs (λ l. refl)
 
 -- The frames of a payload, one after the other
 
-stops_spend : (v : PlacedValue) (f : Seen) (e : End) (result : Result Received Closing) (new : End) → Stops v f e result new → spent new ≡ spent e
-stops_spend v (Close code) e (Ok (PeerClosed told)) new h = ap spent h.1
-stops_spend v (Ack largest ranges) e (Ok NoMemory) new (fine, (m, h, asks)) = ap spent h ∙ ap (total highest) (acks_recvs (take m (named e ranges)) e)
-stops_spend v (Stream n offset bytes fin) e (Ok NoMemory) new h = ap spent h.1.0
-stops_spend v (Control i) e (Ok NoMemory) new h = ap spent h.1.0
-stops_spend v (Plain asks) e (Ok NoMemory) new h = ap spent h.1.0
-stops_spend v (Ack largest ranges) e (Err closing) new h = ap spent h.2
-stops_spend v (Stream n offset bytes fin) e (Err closing) new h = ap spent h.2
-stops_spend v (Control i) e (Err closing) new h = ap spent h.2
-stops_spend v (Plain asks) e (Err closing) new h = ap spent h.2
-stops_spend v f e result new h = absurd h
-
-at_end_spends : (k : ℕ) (asks : Bool) (fault : Option WireFault) (e : End) (result : Result Received Closing) (new : End) → AtEnd k asks fault e result new → spent new ≡ spent e
-at_end_spends k asks None e (Ok Done) new h = ap spent h
-at_end_spends k asks None e (Ok NoMemory) new h = ap spent h.0
-at_end_spends k asks (Some fault) e (Err closing) new h = ap spent h.1
-at_end_spends k asks fault e result new h = absurd h
-
 takes_spend : (left : List PlacedValue) (p : Past) (k : ℕ) (asks : Bool) (fault : Option WireFault) (e : End) (result : Result Received Closing) (new : End) → EndOk p e → ((f : Seen) → Among f (seen_all (frames_of left)) → Tells p.theirs f) →
     AllByRecursion (IsOld e) (seen_all (frames_of left)) → Takes k fault asks e left result new → spent new ≡ spent e
-takes_spend [] p k asks fault e result new ok told all h = at_end_spends k asks fault e result new h
-takes_spend (v ∷ left) p k asks fault e result new ok told all (inl stops) = stops_spend v (seen v.frame) e result new stops
+takes_spend [] p k asks fault e result new ok told all h = ap (total highest) (end_leaves k asks fault e result new h)
+takes_spend (v ∷ left) p k asks fault e result new ok told all (inl stops) = ap (total highest) (stops_leave v (seen v.frame) e result new stops)
 takes_spend (v ∷ left) p k asks fault e result new ok told all (inr (goes, rest)) =
     let f : Seen = seen v.frame in
     let one : Effect p e (frame_taken f e) f = frame_keeps p e f ok (told f (inl refl)) (no_fault_there e f goes) in
@@ -217,13 +186,6 @@ takes_spend (v ∷ left) p k asks fault e result new ok told all (inr (goes, res
 -- a payload that tells nothing new spends nothing
 pub spends_nothing : (p : Past) (e new : End) (k : ℕ) (text : List ℕ) (result : Result Received Closing) → EndOk p e → slice_get p.theirs k ≡ Some (frames_in text) → e.closed ≡ None → ReceiveStep e k text result new →
     AllByRecursion (IsOld e) (frames_in text) → spent new ≡ spent e
-spends_nothing p e new k text result ok is not_closed step all = by_floor _ (subst (λ o. ReceiveBy o k text e result new) not_closed step)
-  where
-    by_kept : (b : Bool) → MatchBool b ((result ≡ Ok Duplicate) × (new ≡ e)) ((mid : End) × TakesPayload k text e result mid × (new ≡ settle mid)) → spent new ≡ spent e
-    by_kept true h = ap spent h.1
-    by_kept false (mid, takes, same) =
-        ap spent same ∙ settle_spends mid ∙ takes_spend (reading_of text).left p k false (reading_of text).fault e result mid ok (λ g a. (k, (frames_in text, is, a))) all takes
-
-    by_floor : (b : Bool) → MatchBool b ((result ≡ Ok BelowFloor) × (new ≡ e)) (MatchBool (set.contains e.done k) ((result ≡ Ok Duplicate) × (new ≡ e)) ((mid : End) × TakesPayload k text e result mid × (new ≡ settle mid))) → spent new ≡ spent e
-    by_floor true h = ap spent h.1
-    by_floor false h = by_kept _ h
+spends_nothing p e new k text result ok is not_closed step all =
+    by_open (spent new ≡ spent e) k text e result new (subst (λ o. ReceiveBy o k text e result new) not_closed step) (λ low same. ap spent same) (λ again same. ap spent same) (λ high mid takes same.
+    ap spent same ∙ settle_spends mid ∙ takes_spend (reading_of text).left p k false (reading_of text).fault e result mid ok (λ g a. (k, (frames_in text, is, a))) all takes)

@@ -31,7 +31,7 @@ use Rattle.qs_runs.proofs.Unharmed.{Facing}
 use Rattle.qs_runs.specs.Invariant.{standing}
 use Rattle.qs_runs.proofs.Receives.{receives}
 use Rattle.qs_runs.proofs.OwnMoves.{own_moves}
-use Rattle.qs_runs.proofs.OwnStands.{own_stands}
+use Rattle.qs_runs.proofs.Standing.{call_stands}
 use Rattle.qs_runs.proofs.PeerMoves.{peer_moves}
 use Rattle.qs_runs.proofs.Facing.{facing, opposite_roles, receive_stands}
 use Rattle.qs_runs.proofs.Histories.{past_own, past_peer, past_sender, past_receiver, does, theirs_mine, payload_seen, AreFaultless, faultless_at, own_faultless}
@@ -134,8 +134,8 @@ module _ (a b : Settings) (h : History) (v w : World) (s : Side) (ok : WorldOk a
   -- the owner of an end does something
   own_step : (act : Act) (answer : Answer) → is_delivery act ≡ false → OwnStep (end_of v s) act answer (end_of w s) → end_of w (other s) ≡ end_of v (other s) → WorldOk a b ((does s act, answer) ∷ h) w
   own_step act answer own step same =
-      let (call, given, calls) = own_call (end_of v s) (end_of w s) act answer step in
-      let stays = own_stands (end_of v s) (end_of w s) act answer step in
+      let (call, given, calls, not_received) = own_call (end_of v s) (end_of w s) act answer step in
+      let stays = call_stands (end_of v s) call not_received given (end_of w s) calls in
       let rise = counts_call (end_of v s) (ok.sound s) (ok.sent s) call given (end_of w s) calls in
       record {
         counts = two_sides (λ t. CountsOk (past t ((does s act, answer) ∷ h)) (end_of w t)) s
@@ -182,16 +182,7 @@ module _ (a b : Settings) (h : History) (v w : World) (s : Side) (ok : WorldOk a
 
   step_by : (act : Act) (answer : Answer) → StepBy h v s act answer w → WorldOk a b ((does s act, answer) ∷ h) w
   step_by (acts.Deliver k) answer step = deliver_step k answer step
-  step_by (acts.OpenStream dir) answer step = own_step (acts.OpenStream dir) answer refl step.0 step.1
-  step_by acts.Accept answer step = own_step acts.Accept answer refl step.0 step.1
-  step_by (acts.Write n bytes) answer step = own_step (acts.Write n bytes) answer refl step.0 step.1
-  step_by (acts.Finish n) answer step = own_step (acts.Finish n) answer refl step.0 step.1
-  step_by (acts.Reset n code) answer step = own_step (acts.Reset n code) answer refl step.0 step.1
-  step_by (acts.Stop n code) answer step = own_step (acts.Stop n code) answer refl step.0 step.1
-  step_by (acts.ReadUpTo n size) answer step = own_step (acts.ReadUpTo n size) answer refl step.0 step.1
-  step_by (acts.Make room) answer step = own_step (acts.Make room) answer refl step.0 step.1
-  step_by (acts.Lose k) answer step = own_step (acts.Lose k) answer refl step.0 step.1
-  step_by acts.Claim answer step = own_step acts.Claim answer refl step.0 step.1
+  step_by act answer step = own_step act answer refl step.0 step.1
 
 -- one step keeps the invariant
 pub step_keeps : (a b : Settings) (h : History) (v w : World) (event : Event) (answer : Answer) → WorldOk a b h v → WorldStep h v event answer w → WorldOk a b ((event, answer) ∷ h) w

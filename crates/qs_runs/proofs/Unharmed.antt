@@ -12,11 +12,11 @@ use Rattle.qs_recv.specs.declared.half.Highest.{Highest}
 use Rattle.qs_recv.specs.declared.half.RecvFault.{RecvFault}
 use Rattle.qs_recv.specs.declared.half.RecvFault.TheVariants.{FinalSize, StreamCredit}
 use Rattle.qs_send.specs.Lane.{SendLane}
-use Rattle.qs_send.specs.declared.piece.Item.TheVariants.{MaxData, MaxStreamData, MaxStreams, ResetStream, StopSending, DataBlocked, StreamDataBlocked, StreamsBlocked}
+use Rattle.qs_send.specs.declared.piece.Item.TheVariants.{MaxData, MaxStreamData, ResetStream, StopSending, StreamDataBlocked}
 use Rattle.qs_machine.specs.Tables.{Tables, lookup, update, total, open_to}
 use Rattle.qs_machine.specs.Ends.{End, first_send_limit, window, is_own, is_uni, opens, opened_by_peer, recv_lane, send_lane}
 use Rattle.qs_machine.specs.Credit.{spent, all_sent, grant}
-use Rattle.qs_machine.specs.Seen.{Seen, Ack, Stream, Control, Close, Plain}
+use Rattle.qs_machine.specs.Seen.{Seen, Ack, Stream, Control}
 use Rattle.qs_machine.specs.Verdicts.{verdict, item_verdict, state_fault_in, state_fault_out, credit_fault, bytes_fault, fault_of, ack_fault, fault_if, or_else, lane_of, STREAM_STATE_ERROR, STREAM_LIMIT_ERROR}
 use Rattle.qs_runs.proofs.Members.{end-le}
 use Rattle.qs_machine.proofs.TableLaws.{value, total_le, total_update, total_open, lookup_same, lookup_other, open_lower, open_at}
@@ -190,13 +190,7 @@ module _ (p q : Past) (from : p.theirs ≡ q.mine) (back : q.theirs ≡ p.mine) 
   told_names (Control (StreamDataBlocked k limit)) m t is = inl (send_is_open p e ok m (λ h. h.no_blocked limit (subst (λ x. Tells p.mine (Control (StreamDataBlocked x limit))) is t)))
   told_names (Control (StopSending k code)) m t is = inr (recv_is_open p e ok m (λ h. h.no_stop code (subst (λ x. Tells p.mine (Control (StopSending x code))) is t)))
   told_names (Control (MaxStreamData k limit)) m t is = inr (recv_is_open p e ok m (λ h. h.no_limit limit (subst (λ x. Tells p.mine (Control (MaxStreamData x limit))) is t)))
-  told_names (Control (MaxData limit)) m t is = absurd is
-  told_names (Control (MaxStreams d count)) m t is = absurd is
-  told_names (Control (DataBlocked limit)) m t is = absurd is
-  told_names (Control (StreamsBlocked d count)) m t is = absurd is
-  told_names (Ack largest ranges) m t is = absurd is
-  told_names (Close code) m t is = absurd is
-  told_names (Plain asks) m t is = absurd is
+  told_names g m t is = absurd is
 
   pub own_sends : (n : ℕ) → is_own e n ≡ true → IsNamed q.theirs n → is_open e.sends n ≡ true
   own_sends n own (g, m, t, names, kind, le) =
@@ -362,13 +356,8 @@ module _ (p q : Past) (from : p.theirs ≡ q.mine) (back : q.theirs ≡ p.mine) 
   unfolding verdict
   told_fine (Ack largest ranges) t = ack_fine largest ranges t
   told_fine (Stream n offset bytes fin) t = stream_fine n offset bytes fin t
-  told_fine (Control (MaxData m)) t = refl
   told_fine (Control (MaxStreamData n m)) t = state_out_fine p q from back e f facing ok their n (recv_is_open q f their n (λ h. h.no_limit m t))
-  told_fine (Control (MaxStreams d m)) t = refl
   told_fine (Control (ResetStream n code size)) t = reset_fine n code size t
   told_fine (Control (StopSending n code)) t = state_out_fine p q from back e f facing ok their n (recv_is_open q f their n (λ h. h.no_stop code t))
-  told_fine (Control (DataBlocked m)) t = refl
   told_fine (Control (StreamDataBlocked n m)) t = state_in_fine p q from back e f facing ok their n (send_is_open q f their n (λ h. h.no_blocked m t))
-  told_fine (Control (StreamsBlocked d m)) t = refl
-  told_fine (Close code) t = refl
-  told_fine (Plain asks) t = refl
+  told_fine g t = refl

@@ -1,0 +1,314 @@
+-- One induction over all calls of an end: each is made of a few changes, and most end as the limits move.
+use Rattle.std.proofs.Common.{◌≡◌, ℕ, ◌+◌, ◌*◌, Bool, true, false, ◌||◌, List, [], ◌∷◌, ◌++◌, length, take, drop, append-nil, Option, Some, None, is_some, refl, sym, ap, ◌∙◌, subst, inl, inr}
+use Rattle.std.specs.Prelude.{⊤, nat_lt, Result, Ok, Err, MatchBool}
+use Rattle.std.specs.FinSet as set
+use Rattle.std.specs.FinMap as fmap
+use Rattle.std.proofs.lemmas.Option.{none-some}
+use Rattle.std.proofs.lemmas.List.{take-append-drop}
+use Rattle.qs_wire.specs.Layout.{PlacedValue}
+use Rattle.qs_wire.specs.Reading.{reading_of}
+use Rattle.qs_wire.specs.declared.fault.WireFault.{WireFault}
+use Rattle.qs_wire.specs.declared.stream_id.Dir.{Dir}
+use Rattle.qs_wire.specs.declared.stream_id.Dir.TheVariants.{Uni}
+use Rattle.qs_recv.specs.Lane.{after_read, stop}
+use Rattle.qs_recv.specs.declared.half.Read.{Read}
+use Rattle.qs_send.specs.Lane.{SendLane, refusal, reset_refusal, accepted, write_lane, finish_lane, reset_lane}
+use Rattle.qs_send.specs.Records.{IsCarried}
+use Rattle.qs_send.specs.declared.parts.SendFault.{SendFault}
+use Rattle.qs_send.specs.declared.piece.Piece.{Piece}
+use Rattle.qs_send.proofs.Carrying.{rest_of, get_same-without_first}
+use Rattle.qs_calls.specs.declared.closing.Closing.{Closing}
+use Rattle.qs_calls.specs.declared.closing.Closed.{Closed}
+use Rattle.qs_calls.specs.declared.closing.Closed.TheVariants.{ByUs, ByPeer}
+use Rattle.qs_calls.specs.declared.closing.Received.{Received}
+use Rattle.qs_calls.specs.declared.closing.Received.TheVariants as received
+use Rattle.qs_calls.specs.declared.making.Made.{Made}
+use Rattle.qs_calls.specs.declared.making.MakeFault.{MakeFault}
+use Rattle.qs_calls.specs.declared.making.MakeFault.TheVariants as making
+use Rattle.qs_calls.specs.declared.settings.PeerLimits.{PeerLimits}
+use Rattle.qs_calls.specs.declared.uses.OpenFault.TheVariants as opening
+use Rattle.qs_calls.specs.declared.uses.UseFault.{UseFault}
+use Rattle.qs_calls.specs.declared.uses.UseFault.TheVariants as uses
+use Rattle.qs_machine.specs.Due.{known_count}
+use Rattle.qs_machine.specs.Ends.{End, send_lane, recv_lane, on_send, on_recv, opens, closes}
+use Rattle.qs_machine.specs.Credit.{settle}
+use Rattle.qs_machine.specs.Seen.{Seen, Ack, Close, seen, seen_all, asks_ack}
+use Rattle.qs_machine.specs.Verdicts.{verdict}
+use Rattle.qs_machine.specs.FrameStep.{frame_taken, acks, named}
+use Rattle.qs_machine.specs.Recording.{recorded}
+use Rattle.qs_machine.specs.Lawful.{MayPut, Fills, frame_put}
+use Rattle.qs_machine.specs.Owner.{OpenStep, AcceptStep, ReadBy, with_wanted, Certain, first_refusal, refuse_if, no_half, half_refusal, send_refusal, recv_refusal, IsBlocked, IsOpened, GivesNone, GivesBidi, GivesUni, AcceptOpen, peer_kind, next_stream}
+use Rattle.qs_machine.specs.Receiving.{ClosedReceive, AtEnd, RunsOut, Stops, GoesOn, Takes, ReceiveBy, TakesPayload, OpenReceive}
+use Rattle.qs_machine.specs.Making.{MakeAt, MakeAckAt, make_refusal, claim_refusal, LoseStep, lose_refusal, first_lost, losses}
+use Rattle.qs_machine.specs.Raising.{limits_raised, raise_refusal}
+use Rattle.qs_machine.specs.EndStep.{Call, Answer, EndStep, Open, Accept, Write, Finish, Reset, Stop, ReadUpTo, Receive, Make, MakeAck, Lose, Claim, RaiseLimits}
+use Rattle.qs_machine.proofs.Choices.{by_refusal, by_test, if_allowed}
+
+-- a change of an end
+pub data Change : Type 0 where
+  Wanted : (d : Dir) (count : ℕ) → Change
+  Opened : (n : ℕ) → Change
+  AcceptedBidi : Change
+  AcceptedUni : Change
+  Written : (n : ℕ) (bytes : List ℕ) (l : SendLane) → Change
+  Finished : (n : ℕ) → Change
+  WasReset : (n code : ℕ) → Change
+  Stopped : (n code : ℕ) → Change
+  WasRead : (n size : ℕ) → Change
+  Raised : (limits : PeerLimits) → Change
+  -- a frame takes effect, and of an ACK, where no memory is left, some of the pieces
+  Took : (f : Seen) → Change
+  Acked : (count : ℕ) (ranges : List (ℕ × ℕ)) → Change
+  Shut : (c : Closed) → Change
+  Recorded : (number : ℕ) (asks : Bool) → Change
+  -- a frame is put in a packet, and its number is used up
+  Put : (f : Seen) → Change
+  Numbered : (next : ℕ) → Change
+  Lost : (k : ℕ) (p : Piece) → Change
+  Settled : Change
+
+abbrev pub changed : Change → End → End
+changed (Wanted d count) e = with_wanted d count e
+changed (Opened n) e = opens n e
+changed AcceptedBidi e = record e { accepted_bidi = e.accepted_bidi + 1 }
+changed AcceptedUni e = record e { accepted_uni = e.accepted_uni + 1 }
+changed (Written n bytes l) e = on_send n (λ m. write_lane m (take (accepted l (length bytes)) bytes)) e
+changed (Finished n) e = on_send n finish_lane e
+changed (WasReset n code) e = on_send n (λ m. reset_lane m code) e
+changed (Stopped n code) e = on_recv n (λ m. stop m code) e
+changed (WasRead n size) e = on_recv n (λ m. after_read m size) e
+changed (Raised limits) e = limits_raised limits e
+changed (Took f) e = frame_taken f e
+changed (Acked count ranges) e = acks (take count (named e ranges)) e
+changed (Shut c) e = closes c e
+changed (Recorded number asks) e = recorded number asks e
+changed (Put f) e = frame_put f e
+changed (Numbered next) e = record e { next = next }
+changed (Lost k p) e = first_lost k p e
+changed Settled e = settle e
+
+-- only a payload that comes closes an end, and only limits that rise move those that its peer began with
+abbrev pub MovesStanding : Call → Type 0
+MovesStanding (Receive k payload) = ⊤
+MovesStanding (RaiseLimits p) = ⊤
+MovesStanding call = ⊥
+
+-- what is known where a change comes, in a call that began at old and has led to e so far
+abbrev pub Comes : End → Call → End → Change → Type 0
+Comes old call e (Written n bytes l) = (send_lane e n ≡ Some l) × (refusal l ≡ None)
+Comes old call e (Took f) = verdict e f ≡ None
+Comes old call e (Put f) = MayPut old e f
+Comes old call e (Numbered next) = next ≡ old.next + 1
+Comes old call e (Raised limits) = MovesStanding call
+Comes old call e (Shut c) = MovesStanding call
+Comes old call e (Lost k p) = IsCarried e.outstanding p
+Comes old call e c = ⊤
+
+-- While a call lasts Q holds, and once it ended P does. As most calls end the limits move; a loss and a claimed number leave them.
+pub record Cases (old : End) (call : Call) (Q P : End → Type 0) : Type 0 where
+  pub begins : Q old
+  pub goes : (c : Change) (e : End) → Comes old call e c → Q e → Q (changed c e)
+  pub stays : P old
+  pub settles : (e : End) → Q e → P (settle e)
+  pub loses : (k : ℕ) (p : Piece) (e : End) → IsCarried e.outstanding p → P e → P (first_lost k p e)
+  pub claims : P (record old { next = old.next + 1 })
+
+-- a frame ends the processing: the end closes, or there is no memory
+pub stops_by : (P : Type 0) (p : PlacedValue) (f : Seen) (e : End) (result : Result Received Closing) (new : End) → Stops p f e result new
+    → ((c : Closed) → new ≡ closes c e → (GoesOn e f → ⊥) → P) → (result ≡ Ok received.NoMemory → RunsOut e f new → P) → P
+stops_by P p (Close code) e (Ok (received.PeerClosed told)) new stops shut out = shut (ByPeer code) stops.1 (λ goes. goes)
+stops_by P p (Close code) e result new stops shut out = absurd stops
+stops_by P p f e (Ok received.NoMemory) new stops shut out = out refl stops.1
+stops_by P p f e (Err closing) new stops shut out = shut (ByUs closing) stops.2 (λ goes. none-some closing.code (sym goes ∙ stops.0))
+stops_by P p f e (Ok received) new stops shut out = absurd stops
+
+-- a frame after which the processing goes on has no fault
+pub no_fault_there : (e : End) (f : Seen) → GoesOn e f → verdict e f ≡ None
+no_fault_there e (Close code) goes = absurd goes
+no_fault_there e f goes = goes
+
+-- what comes of a payload at an end that is open: it isn't taken and changes nothing, or it is taken
+pub by_open : (P : Type 0) (number : ℕ) (payload : List ℕ) (old : End) (result : Result Received Closing) (new : End) → OpenReceive number payload old result new
+    → (result ≡ Ok received.BelowFloor → new ≡ old → P) → (result ≡ Ok received.Duplicate → new ≡ old → P)
+    → (nat_lt number old.floor ≡ false → (mid : End) → TakesPayload number payload old result mid → new ≡ settle mid → P) → P
+by_open P number payload old result new step below again taken = by_floor (nat_lt number old.floor) refl step
+  where
+    Taken : Type 0
+    Taken = (mid : End) × TakesPayload number payload old result mid × (new ≡ settle mid)
+
+    by_done : nat_lt number old.floor ≡ false → (b : Bool) → MatchBool b ((result ≡ Ok received.Duplicate) × (new ≡ old)) Taken → P
+    by_done high true h = again h.0 h.1
+    by_done high false (mid, takes, is) = taken high mid takes is
+
+    by_floor : (b : Bool) → nat_lt number old.floor ≡ b → MatchBool b ((result ≡ Ok received.BelowFloor) × (new ≡ old)) (MatchBool (set.contains old.done number) ((result ≡ Ok received.Duplicate) × (new ≡ old)) Taken) → P
+    by_floor true low h = below h.0 h.1
+    by_floor false high h = by_done high (set.contains old.done number) h
+
+-- a closed end stays as it is
+pub closed_same : (c : Closed) (old : End) (result : Result Received Closing) (new : End) → ClosedReceive c old result new → new ≡ old
+closed_same (ByUs closing) old result new h = h.1
+closed_same (ByPeer code) old result new h = h.1
+
+-- a half that takes bytes refuses none
+pub half_allowed : (closed other : Bool) (o : Option SendLane) → first_refusal (refuse_if closed uses.Closed) (elim o [ None ↦ Some (no_half other) | Some l ↦ half_refusal (refusal l) ]) ≡ None → (l : SendLane) → o ≡ Some l → refusal l ≡ None
+half_allowed true other o h l is = absurd (none-some uses.Closed (sym h))
+half_allowed false other None h l is = absurd (none-some l is)
+half_allowed false other (Some k) h l is = subst (λ o. elim o as (λ _. Type 0) [ None ↦ Unit {0} | Some m ↦ refusal m ≡ None ]) is (no_refusal (refusal k) h)
+  where
+    no_refusal : (r : Option SendFault) → half_refusal r ≡ None → r ≡ None
+    no_refusal None e = refl
+    no_refusal (Some fault) e = absurd (none-some _ (sym e))
+
+module _ (old : End) (call : Call) (Q P : End → Type 0) (c : Cases old call Q P) where
+  same : (new : End) → new ≡ old → P new
+  same new is = subst P (sym is) c.stays
+
+  becomes : (e new : End) → new ≡ e → Q e → Q new
+  becomes e new is h = subst Q (sym is) h
+
+  settled : (e new : End) → new ≡ settle e → Q e → P new
+  settled e new is h = subst P (sym is) (c.settles e h)
+
+  -- a call of the owner that makes one change
+  edited : (one : Change) (new : End) → Comes old call old one → new ≡ settle (changed one old) → P new
+  edited one new comes is = settled (changed one old) new is (c.goes one old comes c.begins)
+
+  -- Payloads
+
+  module _ (comes : MovesStanding call) where
+    at_end : (number : ℕ) (asks : Bool) (fault : Option WireFault) (e : End) (result : Result Received Closing) (new : End) → Q e → AtEnd number asks fault e result new → Q new
+    at_end number asks None e (Ok received.Done) new h is = becomes _ new is (c.goes (Recorded number asks) e tt h)
+    at_end number asks None e (Ok received.NoMemory) new h out = becomes e new out.0 h
+    at_end number asks (Some fault) e (Err closing) new h ends = becomes _ new ends.1 (c.goes (Shut (ByUs closing)) e comes h)
+    at_end number asks fault e result new h none = absurd none
+
+    runs_out : (f : Seen) (e new : End) → Q e → RunsOut e f new → Q new
+    runs_out (Ack largest ranges) e new h (count, is, asks) = becomes _ new is (c.goes (Acked count ranges) e tt h)
+    runs_out f e new h out = becomes e new out.0 h
+
+    stops : (p : PlacedValue) (f : Seen) (e : End) (result : Result Received Closing) (new : End) → Q e → Stops p f e result new → Q new
+    stops p f e result new h ends = stops_by (Q new) p f e result new ends (λ closed is fault. becomes _ new is (c.goes (Shut closed) e comes h)) (λ is out. runs_out f e new h out)
+
+    takes : (number : ℕ) (fault : Option WireFault) (asks : Bool) (e : End) (ps : List PlacedValue) (result : Result Received Closing) (new : End) → Q e → Takes number fault asks e ps result new → Q new
+    takes number fault asks e [] result new h ends = at_end number asks fault e result new h ends
+    takes number fault asks e (p ∷ ps) result new h (inl ends) = stops p (seen p.frame) e result new h ends
+    takes number fault asks e (p ∷ ps) result new h (inr (goes, rest)) =
+        takes number fault (asks || asks_ack (seen p.frame)) (frame_taken (seen p.frame) e) ps result new (c.goes (Took (seen p.frame)) e (no_fault_there e (seen p.frame) goes) h) rest
+
+    receive_by : (o : Option Closed) (number : ℕ) (payload : List ℕ) (result : Result Received Closing) (new : End) → ReceiveBy o number payload old result new → P new
+    receive_by (Some closed) number payload result new step = same new (closed_same closed old result new step)
+    receive_by None number payload result new step =
+        by_open (P new) number payload old result new step (λ low is. same new is) (λ again is. same new is)
+        (λ high mid taken is. settled mid new is (takes number (reading_of payload).fault false old (reading_of payload).left result mid c.begins taken))
+
+  -- Packets
+
+  fills : (fs : List Seen) (e mid : End) → Q e → Fills old e fs mid → Q mid
+  fills [] e mid h is = becomes e mid is h
+  fills (f ∷ fs) e mid h (may, rest) = fills fs (frame_put f e) mid (c.goes (Put f) e may h) rest
+
+  packet : (fs : List Seen) (mid new : End) → (last : End) × Fills old old fs last × (mid ≡ record last { next = old.next + 1 }) → new ≡ settle mid → P new
+  packet fs mid new (last, filled, is) after =
+      settled mid new after (becomes _ mid is (c.goes (Numbered (old.next + 1)) last refl (fills fs old last c.begins filled)))
+
+  make_by : (r : Option MakeFault) (first delay room : ℕ) (answer : Result (Option Made) MakeFault) (text : List ℕ) (new : End) → MakeAt r old first delay room answer text new → P new
+  make_by None first delay room (Ok (Some made)) text new step = packet (seen_all step.frames) step.mid new step.lawful.filled step.after
+  make_by None first delay room (Err making.Closed) text new step = absurd step
+  make_by None first delay room (Err making.Exhausted) text new step = absurd step
+  make_by r first delay room answer text new step = same new step.2
+
+  ack_by : (r : Option MakeFault) (delay room : ℕ) (answer : Result (Option Made) MakeFault) (text : List ℕ) (new : End) → MakeAckAt r old delay room answer text new → P new
+  ack_by None delay room (Ok (Some made)) text new step = packet (Ack step.largest step.ranges ∷ []) step.mid new step.lawful.filled step.after
+  ack_by None delay room (Err fault) text new step = absurd step
+  ack_by r delay room answer text new step = same new step.2
+
+  -- the pieces are the first ones of the packet's record
+  loses : (k : ℕ) (ps rest : List Piece) (e : End) → fmap.get e.outstanding k ≡ Some (ps ++ rest) → P e → P (losses k ps e)
+  unfolding losses
+  loses k [] rest e is h = h
+  loses k (p ∷ []) rest e is h = c.loses k p e (k, p ∷ rest, is, inl refl) h
+  loses k (p ∷ q ∷ ps) rest e is h =
+      loses k (q ∷ ps) rest (first_lost k p e) (get_same-without_first e.outstanding k ∙ ap rest_of is) (c.loses k p e (k, p ∷ q ∷ ps ++ rest, is, inl refl) h)
+
+  lose_by : (k : ℕ) (answer : Answer (Lose k)) (new : End) → LoseStep old k answer new → P new
+  lose_by k answer new step =
+      by_refusal (P new) (lose_refusal old k) old answer new _ step (same new) (λ (ps, is, gone).
+      elim gone [
+        | inl (done, after) ↦ subst P (sym after) (loses k ps [] old (is ∙ ap Some (sym (append-nil ps))) c.stays)
+        | inr (moved, few, none, after) ↦ subst P (sym after) (loses k (take moved ps) (drop moved ps) old (is ∙ ap Some (sym (take-append-drop moved ps))) c.stays)
+      ])
+
+  -- The owner's calls
+
+  use_by : {A F : Type 0} (Told : Type 0) (r : Option F) (one : Change) (answer : Result A F) (new : End) → Comes old call old one → Certain r old answer new (Told × (new ≡ settle (changed one old))) → P new
+  use_by Told r one answer new comes step = by_refusal (P new) r old answer new _ step (same new) (λ done. edited one new comes done.1)
+
+  claim_by : (answer : Answer Claim) (new : End) → EndStep old Claim answer new → P new
+  claim_by answer new step = by_refusal (P new) (claim_refusal old) old answer new _ step (same new) (λ done. subst P (sym done.1) c.claims)
+
+  open_by : (d : Dir) (answer : Answer (Open d)) (new : End) → OpenStep old d answer new → P new
+  open_by d answer new step =
+      by_refusal (P new) (refuse_if (is_some old.closed) opening.Closed) old answer new _ step (same new) (λ opened.
+      by_test (P new) _ (IsBlocked old d answer new) (IsOpened old d answer new) opened (λ blocked. edited (Wanted d (known_count old d)) new tt blocked.1)
+      (λ done. elim done [ inl none ↦ same new none.1 | inr is ↦ edited (Opened (next_stream old d)) new tt is.1 ]))
+
+  accept_by : (answer : Answer Accept) (new : End) → AcceptStep old answer new → P new
+  accept_by answer new step =
+      let none : GivesNone old answer new → P new = λ g. same new g.1 in
+      let uni : GivesUni old answer new → P new =
+      λ g. by_test (P new) _ ((answer ≡ Some (old.accepted_uni * 4 + peer_kind old Uni)) × (new ≡ settle (changed AcceptedUni old))) (GivesNone old answer new) g
+      (λ u. edited AcceptedUni new tt u.1) none in
+      by_test (P new) _ (GivesNone old answer new) (AcceptOpen old answer new) step none
+      (λ goes. by_test (P new) _ (GivesBidi old answer new) (GivesUni old answer new) goes (λ g. edited AcceptedBidi new tt g.1) uni)
+
+  write_by : (n : ℕ) (bytes : List ℕ) (answer : Answer (Write n bytes)) (new : End) → EndStep old (Write n bytes) answer new → P new
+  write_by n bytes answer new step =
+      if_allowed (P new) (send_refusal old n refusal) old answer new _ step (same new) (λ allowed some.
+      elim some [
+        | inl none ↦ same new none.1
+        | inr (l, is, done) ↦ edited (Written n bytes l) new (is, half_allowed (is_some old.closed) (is_some (recv_lane old n)) (send_lane old n) allowed l is) done.1
+      ])
+
+  read_by : (r : Option UseFault) (n size : ℕ) (answer : Result Read UseFault) (bytes : List ℕ) (new : End) → ReadBy r old n size answer bytes new → P new
+  read_by (Some fault) n size answer bytes new step = same new step.2
+  read_by None n size answer bytes new (l, is, told, given, after) = edited (WasRead n size) new tt after
+
+-- Every call
+
+pub each_call : (old : End) (call : Call) (Q P : End → Type 0) → Cases old call Q P → (answer : Answer call) (new : End) → EndStep old call answer new → P new
+each_call old (Open d) Q P c answer new step = open_by old (Open d) Q P c d answer new step
+each_call old Accept Q P c answer new step = accept_by old Accept Q P c answer new step
+each_call old (Write n bytes) Q P c answer new step = write_by old (Write n bytes) Q P c n bytes answer new step
+each_call old (Finish n) Q P c answer new step = use_by old (Finish n) Q P c _ (send_refusal old n refusal) (Finished n) answer new tt step
+each_call old (Reset n code) Q P c answer new step = use_by old (Reset n code) Q P c _ (send_refusal old n reset_refusal) (WasReset n code) answer new tt step
+each_call old (Stop n code) Q P c answer new step = use_by old (Stop n code) Q P c _ (recv_refusal old n) (Stopped n code) answer new tt step
+each_call old (ReadUpTo n size) Q P c answer new step = read_by old (ReadUpTo n size) Q P c (recv_refusal old n) n size answer.0 answer.1 new step
+each_call old (Receive k payload) Q P c answer new step = receive_by old (Receive k payload) Q P c tt old.closed k payload answer new step
+each_call old (Make first delay room) Q P c answer new step = make_by old (Make first delay room) Q P c (make_refusal old) first delay room answer.0 answer.1 new step
+each_call old (MakeAck delay room) Q P c answer new step = ack_by old (MakeAck delay room) Q P c (make_refusal old) delay room answer.0 answer.1 new step
+each_call old (Lose k) Q P c answer new step = lose_by old (Lose k) Q P c k answer new step
+each_call old Claim Q P c answer new step = claim_by old Claim Q P c answer new step
+each_call old (RaiseLimits p) Q P c answer new step = use_by old (RaiseLimits p) Q P c _ (raise_refusal old p) (Raised p) answer new tt step
+each_call old call Q P c answer new step = same old call Q P c new step.1
+
+-- A relation that holds across each change, and across two where it does across each, holds across every call.
+module _ (R : End → End → Type 0) (same : (e : End) → R e e) (twice : (a b c : End) → R a b → R b c → R a c) (old : End) (call : Call) (one : (c : Change) (e : End) → Comes old call e c → R e (changed c e)) where
+  cases : Cases old call (R old) (R old)
+  cases =
+      record {
+        begins = same old;
+        goes = λ c e comes h. twice old e (changed c e) h (one c e comes);
+        stays = same old;
+        settles = λ e h. twice old e (settle e) h (one Settled e tt);
+        loses = λ k p e is h. twice old e (first_lost k p e) h (one (Lost k p) e is);
+        claims = one (Numbered (old.next + 1)) old refl;
+      }
+
+  pub relates : (answer : Answer call) (new : End) → EndStep old call answer new → R old new
+  relates answer new step = each_call old call (R old) (R old) cases answer new step
+
+-- What holds wherever the limits moved holds after every call, if a loss and a claimed number keep it.
+module _ (P : End → Type 0) (old : End) (kept : P old) (settles : (e : End) → P (settle e)) (loses : (k : ℕ) (p : Piece) (e : End) → P e → P (first_lost k p e)) (claims : P (record old { next = old.next + 1 })) where
+  pub ends_by : (call : Call) (answer : Answer call) (new : End) → EndStep old call answer new → P new
+  ends_by call answer new step =
+      each_call old call (λ e. ⊤) P (record { begins = tt; goes = λ c e comes h. tt; stays = kept; settles = λ e h. settles e; loses = λ k p e is h. loses k p e h; claims = claims }) answer new step
