@@ -1,7 +1,7 @@
 -- What is read of fields is spelled so, and what is spelled so is read.
-use Rattle.std.proofs.Common.{◌≡◌, ℕ, zero, suc, ◌+◌, ◌*◌, ◌≤◌, Bool, true, false, cond, ltb, leb, ◌&&◌, List, [], ◌∷◌, ◌++◌, length, take, drop, Option, Some, None, Result, Ok, Err, refl, sym, ap, subst, ◌∙◌, append_assoc, arith}
+use Rattle.std.proofs.Common.{◌≡◌, ℕ, zero, suc, ◌+◌, ◌-◌, ◌*◌, ◌≤◌, Bool, true, false, cond, ltb, leb, ◌&&◌, List, [], ◌∷◌, ◌++◌, length, take, drop, Option, Some, None, Result, Ok, Err, refl, sym, ap, subst, ◌∙◌, append_assoc, arith}
 use Rattle.std.proofs.lemmas.Bool.{ltb-false, le-ltb, leb-true, le-leb, and_parts}
-use Rattle.std.proofs.lemmas.List.{append-nil, take-append-drop, take_at, drop_at, length-append, length-take-le}
+use Rattle.std.proofs.lemmas.List.{append-nil, take-append-drop, take_at, drop_at, length-append, length-drop, length-take-le}
 use Rattle.qs_wire.specs.declared.fault.FaultKind.{FaultKind}
 use Rattle.qs_wire.specs.declared.fault.FaultKind.TheVariants.{Truncated, IdentifierLength}
 use Rattle.qs_wire.specs.declared.frame.EcnCounts.{EcnCounts}
@@ -9,7 +9,7 @@ use Rattle.qs_wire.specs.Varint.{Spells, varint_at}
 use Rattle.qs_wire.specs.Layout.{Field, number, number_if, counted, counted_if, plain, identifier, ack_ranges, ecn_if, Value, Values}
 use Rattle.qs_wire.specs.Grammar.{FieldText, FieldsText, CountedText, NumbersText, RangesText, EcnText, IsIdentifierLength}
 use Rattle.qs_wire.specs.Reading.{◌>>=◌, split_number, number_at, plain_at, counted_at, identifier_at, numbers_at, ranges_at, counts_at, field_at, fields_at}
-use Rattle.qs_wire.proofs.Numbers.{IsBytes, IsBytes-drop, varint_takes, varint_again}
+use Rattle.qs_wire.proofs.Numbers.{IsBytes, IsBytes-drop, varint_takes, varint_again, varint_within}
 
 -- the value of a step that did not fail
 pub bind_ok : {A B E : Type 0} (r : Result A E) (f : A → Result B E) (y : B) → (r >>= f) ≡ Ok y → (x : A) × (r ≡ Ok x) × (f x ≡ Ok y)
@@ -57,6 +57,23 @@ number_takes bytes x fits e =
     let t = varint_takes bytes s.0 fits s.1 in
     let made : Takes number bytes s.0.0 (drop s.0.1 bytes) = record { text = take s.0.1 bytes; parts = sym (take-append-drop s.0.1 bytes); spelled = t.spelled; rest_fits = IsBytes-drop s.0.1 bytes fits } in
     subst (λ (y : ℕ × List ℕ). Takes number bytes y.0 y.1) s.2 made
+
+-- a number that was read, and how many bytes it took
+pub number_len : (bytes : List ℕ) (v : ℕ) (after : List ℕ) → number_at bytes ≡ Ok (v, after) → varint_at bytes ≡ Some (v, length bytes - length after)
+unfolding number_at
+number_len bytes v after e =
+    let s = split_is (varint_at bytes) bytes (v, after) e in
+    let first : s.0.0 ≡ v = ap (λ (y : ℕ × List ℕ). y.0) s.2 in
+    let len : s.0.1 ≡ length bytes - length after = omega (arith, varint_within bytes s.0 s.1, length-drop s.0.1 bytes, ap (λ (y : ℕ × List ℕ). length y.1) s.2) in
+    s.1 ∙ ap (λ (k : ℕ). Some (k, s.0.1)) first ∙ ap (λ (n : ℕ). Some (v, n)) len
+
+pub number_none : (bytes : List ℕ) (kind : FaultKind) → number_at bytes ≡ Err kind → varint_at bytes ≡ None
+unfolding number_at
+number_none bytes kind e = at (varint_at bytes) e
+  where
+    at : (o : Option (ℕ × ℕ)) → split_number o bytes ≡ Err kind → o ≡ None
+    at None e = refl
+    at (Some p) e = absurd cc
 
 pub number_again : (v : ℕ) (text after : List ℕ) → Spells v text → number_at (text ++ after) ≡ Ok (v, after)
 unfolding number_at

@@ -7,10 +7,9 @@ use Rattle.qs_wire.specs.declared.frame.EcnCounts.{EcnCounts}
 use Rattle.qs_wire.specs.Layout.{FrameValue, PlacedValue, Field, number, number_if, counted, counted_if, plain, identifier, ack_ranges, ecn_if, Value, Values, layout, frame_of}
 use Rattle.qs_wire.specs.Grammar.{Begin, frames_of, FieldText, FieldsText, FrameText, Meets, Fits, NumbersText, AreRanges, EcnText, counts_of, CountsFit, IsIdentifierLength}
 use Rattle.qs_wire.specs.declared.fault.WireFault.{WireFault}
-use Rattle.qs_wire.specs.Reading.{LargestFits, fields_at, body_at, frame_at, reading_of}
+use Rattle.qs_wire.specs.Reading.{frame_at, reading_of}
 use Rattle.qs_wire.proofs.PayloadLaws.{Ending, payload_read}
 use Rattle.qs_wire.proofs.Numbers.{IsBytes, Spells-below}
-use Rattle.qs_wire.proofs.FieldLaws.{bind_ok, ok_is, fields_take}
 use Rattle.qs_wire.proofs.Shapes.{frame_takes}
 
 abbrev FieldBelow : (f : Field) → Value f → Type 0
@@ -82,17 +81,6 @@ text_fits frame text after h =
 
 pub read_fits : (bytes : List ℕ) (x : ℕ × FrameValue × List ℕ) → IsBytes bytes → frame_at bytes ≡ Ok x → Fits x.1
 read_fits bytes x fits e = let t = frame_takes bytes x fits e in text_fits x.1 t.taken.text x.2 (t.taken.shape, t.meets)
-
-largest_fits : (t : FrameType) (vs : Values (layout t)) → FieldsBelow (layout t) vs → LargestFits (frame_of t vs)
-largest_fits (Ack ecn) vs h = h.0
-largest_fits _ vs h = tt
-
-pub body_largest : (t : FrameType) (bytes : List ℕ) (x : FrameValue × List ℕ) → IsBytes bytes → body_at t bytes ≡ Ok x → LargestFits x.0
-unfolding body_at
-body_largest t bytes x fits e =
-    let a = bind_ok (fields_at (layout t) bytes) (λ vs. Ok (frame_of t vs.0, vs.1)) x e in
-    let f = fields_take (layout t) bytes a.0 fits a.1 in
-    subst (λ (y : FrameValue × List ℕ). LargestFits y.0) (ok_is (frame_of t a.0.0, a.0.1) x a.2) (largest_fits t a.0.0 (fields_below (layout t) a.0.0 f.text a.0.1 f.spelled))
 
 begin_fit : (ps : List PlacedValue) (place : ℕ) (bytes rest : List ℕ) → Begin place ps bytes rest → AllByRecursion Fits (frames_of ps)
 begin_fit [] place bytes rest h = tt

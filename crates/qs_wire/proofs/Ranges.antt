@@ -1,6 +1,7 @@
 -- The numbers of an ACK, one after the other.
-use Rattle.std.proofs.Common.{◌≡◌, ℕ, zero, suc, ◌+◌, ◌-◌, ◌<◌, ◌≤◌, List, [], ◌∷◌, ◌++◌, length, take, drop, Option, Some, None, Result, Ok, Err, refl, sym, ap, ◌∙◌, append_assoc, arith}
+use Rattle.std.proofs.Common.{◌≡◌, ℕ, zero, suc, ◌+◌, ◌-◌, ◌<◌, ◌≤◌, List, [], ◌∷◌, ◌++◌, length, take, drop, Option, Some, None, Result, Ok, Err, eqb, ltb, refl, sym, ap, ◌∙◌, append_assoc, arith, inl, inr}
 use Rattle.std.specs.List.{flat_map}
+use Rattle.std.proofs.lemmas.Bool.{cases_lt, lt-ltb, le-ltb, eq-eqb, ne_eqb}
 use Rattle.std.proofs.lemmas.List.{append-nil, length-append, length-drop, take_at, drop_at}
 use Rattle.std.proofs.lemmas.List.Concat.{flat_map-cons}
 use Rattle.qs_wire.specs.declared.fault.FaultKind.{FaultKind}
@@ -70,6 +71,14 @@ skipped n bytes vs after fits e =
 abbrev pub with_front : List ℕ → Result (List ℕ × List ℕ) FaultKind → Result (List ℕ × List ℕ) FaultKind
 with_front front read = read >>= λ x. Ok (front ++ x.0, x.1)
 
+-- no number yet
+pub none_yet : (count : ℕ) (bytes : List ℕ) → with_front [] (numbers_at (count - 0) bytes) ≡ numbers_at count bytes
+none_yet count bytes = at (numbers_at (count - 0) bytes) ∙ ap (λ (n : ℕ). numbers_at n bytes) (omega arith)
+  where
+    at : (r : Result (List ℕ × List ℕ) FaultKind) → with_front [] r ≡ r
+    at (Ok x) = refl
+    at (Err k) = refl
+
 regroup : (front : List ℕ) (v : ℕ) (read : Result (List ℕ × List ℕ) FaultKind) → with_front front (read >>= λ x. Ok (v ∷ x.0, x.1)) ≡ with_front (front ++ v ∷ []) read
 regroup front v (Ok x) = ap (λ (vs : List ℕ). Ok (vs, x.1)) (simp append_assoc)
 regroup front v (Err k) = refl
@@ -99,11 +108,18 @@ is_done front count i bytes total le so_far =
 
 -- ---- what ranges take from the largest number
 
-pub taken_next : (bytes : List ℕ) (x : ℕ × ℕ) → varint_at bytes ≡ Some x → taken (numbers_of bytes) ≡ (x.0 + 1) + taken (numbers_of (drop x.1 bytes))
-taken_next bytes x e = ap taken (numbers_of-next bytes x e)
+-- one number more
+pub taken_more : (vs : List ℕ) (v : ℕ) → taken (vs ++ v ∷ []) ≡ taken vs + (v + 1)
+taken_more [] v = omega arith
+taken_more (w ∷ vs) v = omega (arith, taken_more vs v)
 
-pub taken_none : (bytes : List ℕ) → varint_at bytes ≡ None → taken (numbers_of bytes) ≡ 0
-taken_none bytes e = ap taken (numbers_of-none bytes e)
+-- nothing is left of the limit where the ranges fall below zero
+pub falls_is : (largest left : ℕ) (vs ws : List ℕ) → left ≡ (largest + 2) - taken vs → ws ≡ vs → eqb left 0 ≡ ltb (largest + 1) (taken ws)
+falls_is largest left vs ws is same =
+    elim (cases_lt (largest + 1) (taken ws)) [
+      | inl lt ↦ rw (lt-ltb _ _ lt) (eq-eqb left 0 (omega (arith, is, ap taken same)))
+      | inr le ↦ rw (le-ltb _ _ le) (ne_eqb left 0 (λ none. omega (arith, is, ap taken same)))
+    ]
 
 pub none_from_default : {A : Type 0} (o p : Option A) → p ≡ o → ((x : A) → p ≡ Some x → ⊥) → o ≡ None
 none_from_default None p e h = refl

@@ -1,5 +1,5 @@
 -- What is read of a frame is a text of it, and a text of a frame is read.
-use Rattle.std.proofs.Common.{◌≡◌, ℕ, ◌^◌, ◌<◌, Bool, true, false, cond, eqb, List, ◌++◌, length, take, drop, Option, Some, None, Result, Ok, Err, refl, sym, ap, subst, ◌∙◌, append_assoc, arith}
+use Rattle.std.proofs.Common.{◌≡◌, ℕ, ◌^◌, ◌<◌, Bool, true, false, cond, eqb, List, ◌∷◌, ◌++◌, length, take, drop, Option, Some, None, Result, Ok, Err, refl, sym, ap, subst, ◌∙◌, append_assoc, arith}
 use Rattle.std.proofs.lemmas.Bool.{eqb-true, eq-eqb}
 use Rattle.std.proofs.lemmas.List.{take-append-drop, length-append, length-take-le, drop_at}
 use Rattle.qs_wire.specs.declared.fault.FaultKind.{FaultKind}
@@ -10,7 +10,8 @@ use Rattle.qs_wire.specs.Varint.{short, short_len, varint_at}
 use Rattle.qs_wire.specs.Layout.{FrameValue, layout, frame_of, type_of, number_of_type}
 use Rattle.qs_wire.specs.Grammar.{ShapeText, FrameText, Meets}
 use Rattle.qs_wire.specs.Reading.{◌>>=◌, fields_at, body_at, breach_of, typed, broken, split_type, number_of_type_at, known_type, checked, frame_at}
-use Rattle.qs_wire.proofs.Numbers.{IsBytes, IsBytes-drop, varint_takes, varint_again, short_spells, length-short, short_positive, short_from_length, Spells-below}
+use Rattle.qs_wire.specs.Bodies.{judged, judged_body_at}
+use Rattle.qs_wire.proofs.Numbers.{IsBytes, IsBytes-drop, varint_takes, varint_again, short_spells, short_byte, length-short, short_positive, short_from_length, Spells-below}
 use Rattle.qs_wire.proofs.FieldLaws.{bind_ok, ok_is, fields_take, fields_again}
 use Rattle.qs_wire.proofs.Types.{type_again, type_below, number_back, meets_from_none, none_from_meets}
 
@@ -70,7 +71,25 @@ type_at_again t after below =
     let at = varint_again t (short t) after (short_spells t below) in
     rw (at, eq-eqb _ _ (length-short t)) (ap (λ (r : List ℕ). Ok (t, r)) (drop_at (short t) after (length (short t)) refl))
 
+-- a byte below 64 is the number of a type
+pub byte_type : (b : ℕ) (bs : List ℕ) → b < 64 → number_of_type_at (b ∷ bs) ≡ Ok (b, bs)
+byte_type b bs below = ap (λ (t : List ℕ). number_of_type_at (t ++ bs)) (sym (short_byte b below)) ∙ type_at_again b bs (omega arith)
+
 -- ---- the frame
+
+judge : (n : ℕ) (r : Result (FrameValue × List ℕ) FaultKind) → (typed n r >>= λ y. checked n y (breach_of y.0)) ≡ (typed n (r >>= λ y. judged y (breach_of y.0)) >>= λ y. whole (n, y.0, y.1))
+judge n (Err k) = refl
+judge n (Ok x) = at (breach_of x.0)
+  where
+    at : (o : Option FaultKind) → checked n x o ≡ (typed n (judged x o) >>= λ y. whole (n, y.0, y.1))
+    at None = refl
+    at (Some k) = refl
+
+-- a frame is its type and a body that was judged
+pub frame_is : (bytes rest : List ℕ) (n : ℕ) (type : FrameType) (r : Result (FrameValue × List ℕ) FaultKind) → number_of_type_at bytes ≡ Ok (n, rest) → type_of n ≡ Some type
+    → judged_body_at type rest ≡ r → frame_at bytes ≡ (typed n r >>= λ y. whole (n, y.0, y.1))
+unfolding frame_at judged_body_at
+frame_is bytes rest n type r front known body = rw (front, known) (judge n (body_at type rest) ∙ ap (λ (b : Result (FrameValue × List ℕ) FaultKind). typed n b >>= λ y. whole (n, y.0, y.1)) body)
 
 pub record TakesFrame (bytes : List ℕ) (frame : FrameValue) (after : List ℕ) : Type 0 where
   pub text : List ℕ

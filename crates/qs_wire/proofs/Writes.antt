@@ -3,14 +3,13 @@ use Rattle.std.proofs.Common.{◌≡◌, ℕ, Bool, true, get_or, refl, ◌+◌,
 use Rattle.std.specs.List.{flat_map}
 use Rattle.std.proofs.lemmas.List.Concat.{flat_map-append}
 use Rattle.std.proofs.lemmas.List.{take_more, append-nil, length-append, length-take-le, length-drop, take-append-drop, take_at, drop_at, drop-drop}
-use Rattle.qs_wire.specs.declared.writing.Part.{Part}
 use Rattle.std.specs.Prelude.{nat_lt, if◌then◌else◌}
-use Rattle.qs_wire.specs.declared.frame_type.FrameType.TheVariants.{Stream}
-use Rattle.qs_wire.specs.Layout.{number_of_type, stream}
+use Rattle.qs_wire.specs.declared.frame_type.FrameType.TheVariants.{Stream, MaxData, MaxStreamData}
+use Rattle.qs_wire.specs.Layout.{number_of_type, stream, max_data, max_stream_data}
 use Rattle.qs_wire.specs.Varint.{short, short_len}
 use Rattle.qs_wire.specs.Grammar.{IsIdentifierLength, canonical}
 use Rattle.qs_wire.proofs.Numbers.{short_byte, length-short}
-use Rattle.qs_wire.specs.Writing.{Puts, part_text}
+use Rattle.qs_wire.specs.Writing.{Puts}
 
 pub Puts-then : (at next : ℕ) (a b old mid new : List ℕ) → Puts at a old mid → next ≡ at + length a → Puts next b mid new → Puts at (a ++ b) old new
 Puts-then at next a b old mid new p e q =
@@ -48,18 +47,18 @@ Puts-at_front text old new le e = record { room = omega arith; is = e ∙ ap (λ
 pub identifier_text : (v : List ℕ) → IsIdentifierLength (length v) → short (length v) ++ v ≡ length v ∷ v
 identifier_text v h = ap (λ (t : List ℕ). t ++ v) (short_byte (length v) (omega (arith, h.1)))
 
--- ---- the parts, one after the other
+-- ---- parts or numbers, one after the other, each with its text
 
--- the text of one more part
-pub text_more : (ps : List Part) (i : ℕ) (d : Part) → i < length ps → flat_map part_text (take (i + 1) ps) ≡ flat_map part_text (take i ps) ++ part_text (get_or ps i d)
-text_more ps i d lt = ap (flat_map part_text) (take_more ps i d lt) ∙ flat_map-append part_text (take i ps) (get_or ps i d ∷ []) ∙ ap (λ (t : List ℕ). flat_map part_text (take i ps) ++ t) (append-nil (part_text (get_or ps i d)))
+-- the text of one more
+pub text_more : {A : Type 0} (f : A → List ℕ) (ps : List A) (i : ℕ) (d : A) → i < length ps → flat_map f (take (i + 1) ps) ≡ flat_map f (take i ps) ++ f (get_or ps i d)
+text_more f ps i d lt = ap (flat_map f) (take_more ps i d lt) ∙ flat_map-append f (take i ps) (get_or ps i d ∷ []) ∙ ap (λ (t : List ℕ). flat_map f (take i ps) ++ t) (append-nil (f (get_or ps i d)))
 
--- the parts up to one are no longer than all of them
-pub text_within : (ps : List Part) (i : ℕ) → length (flat_map part_text (take i ps)) ≤ length (flat_map part_text ps)
-text_within ps i = omega (arith, ap (λ (qs : List Part). length (flat_map part_text qs)) (sym (take-append-drop i ps)), ap length (flat_map-append part_text (take i ps) (drop i ps)), length-append (flat_map part_text (take i ps)) (flat_map part_text (drop i ps)))
+-- those up to one are no longer than all of them
+pub text_within : {A : Type 0} (f : A → List ℕ) (ps : List A) (i : ℕ) → length (flat_map f (take i ps)) ≤ length (flat_map f ps)
+text_within f ps i = omega (arith, ap (λ qs. length (flat_map f qs)) (sym (take-append-drop i ps)), ap length (flat_map-append f (take i ps) (drop i ps)), length-append (flat_map f (take i ps)) (flat_map f (drop i ps)))
 
-pub length_more : (ps : List Part) (i : ℕ) (d : Part) → i < length ps → length (flat_map part_text (take (i + 1) ps)) ≡ length (flat_map part_text (take i ps)) + length (part_text (get_or ps i d))
-length_more ps i d lt = ap length (text_more ps i d lt) ∙ length-append (flat_map part_text (take i ps)) (part_text (get_or ps i d))
+pub length_more : {A : Type 0} (f : A → List ℕ) (ps : List A) (i : ℕ) (d : A) → i < length ps → length (flat_map f (take (i + 1) ps)) ≡ length (flat_map f (take i ps)) + length (f (get_or ps i d))
+length_more f ps i d lt = ap length (text_more f ps i d lt) ∙ length-append (flat_map f (take i ps)) (f (get_or ps i d))
 
 -- ---- the text of a STREAM frame
 
@@ -75,3 +74,13 @@ stream_len id offset fin bytes small =
     let at : List ℕ = if nat_lt 0 offset then short offset else [] in
     let rest = (short (length bytes) ++ bytes) ++ [] in
     omega (arith, ap length (stream_text id offset fin bytes), ap length (short_byte (number_of_type (Stream (nat_lt 0 offset) true fin)) small), length-short id, length-short (length bytes), length-append type (short id ++ (at ++ rest)), length-append (short id) (at ++ rest), length-append at rest, length-append (short (length bytes) ++ bytes) [], length-append (short (length bytes)) bytes)
+
+-- ---- the text of a frame of numbers
+
+pub max_data_text : (type maximum : ℕ) → type ≡ number_of_type MaxData → flat_map short (type ∷ maximum ∷ []) ≡ canonical (max_data maximum)
+unfolding canonical
+max_data_text type maximum is = ap (λ (n : ℕ). short n ++ (short maximum ++ [])) is
+
+pub max_stream_data_text : (type id s maximum : ℕ) → type ≡ number_of_type MaxStreamData → s ≡ id → flat_map short (type ∷ s ∷ maximum ∷ []) ≡ canonical (max_stream_data id maximum)
+unfolding canonical
+max_stream_data_text type id s maximum is same = ap (λ (n : ℕ). short n ++ (short s ++ (short maximum ++ []))) is ∙ ap (λ (n : ℕ). short (number_of_type MaxStreamData) ++ (short n ++ (short maximum ++ []))) same

@@ -1,4 +1,5 @@
 pub mod Acks
+pub mod Bodies
 pub mod Faults
 pub mod Grammar
 pub mod LastStream

@@ -1,6 +1,6 @@
 -- Trusted.
 -- Reading from left to right, with the first fault that is met (RFC 9000, sections 12.4, 16 and 19, for the whole file).
-use Rattle.std.specs.Prelude.{◌≡◌, ℕ, zero, suc, ◌+◌, ◌-◌, ◌*◌, ◌^◌, ◌<◌, List, [], ◌∷◌, length, take, drop, Option, Some, None, Result, Ok, Err, nat_lt, nat_le, ◌==◌, ◌&&◌, if◌then◌else◌}
+use Rattle.std.specs.Prelude.{◌≡◌, ℕ, zero, suc, ◌+◌, ◌-◌, ◌*◌, ◌^◌, List, [], ◌∷◌, length, take, drop, Option, Some, None, Result, Ok, Err, nat_lt, nat_le, ◌==◌, ◌&&◌, if◌then◌else◌}
 use Rattle.qs_wire.specs.declared.fault.FaultKind.{FaultKind}
 use Rattle.qs_wire.specs.declared.fault.FaultKind.TheVariants.{Empty, LongType, UnknownType, Truncated, OffsetTooLarge, CountTooLarge, BelowZero, IdentifierLength}
 use Rattle.qs_wire.specs.declared.fault.WireFault.{WireFault}
@@ -87,11 +87,6 @@ unfoldable pub body_at : FrameType → List ℕ → Result (FrameValue × List �
 body_at t bytes = do
   vs ← fields_at (layout t) bytes
   Ok (frame_of t vs.0, vs.1)
-
--- the largest number of an ACK has a spelling
-abbrev pub LargestFits : FrameValue → Type 0
-LargestFits (ack largest delay ranges ecn) = largest < 2 ^ 62
-LargestFits _ = Unit {0}
 
 -- what a frame's values break
 abbrev pub breach_of : FrameValue → Option FaultKind

@@ -1,23 +1,13 @@
 //! Reading the fields of a frame.
 
-ghost use Rattle.std.specs.Prelude.{◌≡◌, ℕ, ◌*◌, ◌+◌, ◌^◌, ◌<◌, ◌≤◌, List, length, MatchResult, IfOk, Ok, Err};
+ghost use Rattle.std.specs.Prelude.{◌≡◌, ℕ, ◌*◌, ◌+◌, ◌-◌, ◌^◌, ◌<◌, ◌≤◌, List, length, nat_lt, MatchResult, IfOk, Ok, Err};
 ghost use Rattle.qs_wire.specs.Varint.{numbers_of};
-ghost use Rattle.qs_wire.specs.Layout.{number_if, counted_if, ecn_if};
-ghost use Rattle.qs_wire.specs.Reading.{Gives, number_at, plain_at, counted_at, identifier_at, numbers_at, ranges_at, counts_at, field_at};
+ghost use Rattle.qs_wire.specs.Layout.{number_if, counted_if, ecn_if, taken};
+ghost use Rattle.qs_wire.specs.Reading.{Gives, plain_at, counted_at, identifier_at, numbers_at, ranges_at, counts_at, field_at};
 
 use crate::fault::FaultKind;
 use crate::frame::EcnCounts;
-use crate::varint::read_varint;
-
-#[tactic(auto, unfolding(crate::specs::Reading::number_at))]
-pub(crate) fn number_at(bytes: &[u8]) -> Result<(u64, &[u8]), FaultKind>
-    ensures gives { Gives (λ x. (x.0, x.1.now)) result (number_at bytes.now) }
-    ensures in_range { IfOk result (λ x. x.0 < 2 ^ 62) }
-    ensures shorter { IfOk result (λ x. length x.1.now ≤ length bytes.now) }
-{
-    let (value, len) = read_varint(bytes).ok_or(FaultKind::Truncated)?;
-    Ok((value, &bytes[len..]))
-}
+use crate::varint::number_at;
 
 /// So many bytes.
 #[tactic(auto, unfolding(crate::specs::Reading::plain_at))]
@@ -96,27 +86,31 @@ pub(crate) fn ecn_if(there: bool, bytes: &[u8]) -> Result<(Option<EcnCounts>, &[
     }
 }
 
-/// What follows so many numbers.
-fn skip_numbers(count: u64, bytes: &[u8]) -> Result<&[u8], FaultKind>
+/// What follows so many numbers, and what is left of a limit from which each takes one more than itself.
+fn skip_numbers(count: u64, limit: u64, bytes: &[u8]) -> Result<(u64, &[u8]), FaultKind>
     ensures skips { MatchResult result
-        (λ rest. (vs : List ℕ) × (numbers_at count bytes.now ≡ Ok (vs, rest.now)))
+        (λ x. (vs : List ℕ) × (numbers_at count bytes.now ≡ Ok (vs, x.1.now)) × (x.0 ≡ limit - taken vs))
         (λ kind. numbers_at count bytes.now ≡ Err kind) }
-    ensures shorter { IfOk result (λ rest. length rest.now ≤ length bytes.now) }
+    ensures shorter { IfOk result (λ x. length x.1.now ≤ length bytes.now) }
 {
+    let mut left = limit;
     let mut rest = bytes;
     for _ in 0..count {
-        let (_, after) = number_at(rest)?;
+        let (value, after) = number_at(rest)?;
+        left = left.saturating_sub(value + 1);
         rest = after;
     }
-    Ok(rest)
+    Ok((left, rest))
 }
 
-/// The numbers of an ACK's ranges.
+/// The numbers of an ACK's ranges, and whether the ranges fall below zero from the largest number.
 #[tactic(auto, unfolding(crate::specs::Reading::ranges_at))]
-pub(crate) fn ranges_at(bytes: &[u8]) -> Result<(&[u8], &[u8]), FaultKind>
-    ensures { Gives (λ x. (numbers_of x.0.now, x.1.now)) result (ranges_at bytes.now) }
+pub(crate) fn ranges_at(largest: u64, bytes: &[u8]) -> Result<(&[u8], bool, &[u8]), FaultKind>
+    requires { largest < 2 ^ 62 }
+    ensures gives { Gives (λ x. (numbers_of x.0.now, x.2.now)) result (ranges_at bytes.now) }
+    ensures falls { IfOk result (λ x. x.1 ≡ nat_lt (largest + 1) (taken (numbers_of x.0.now))) }
 {
     let (pairs, numbers) = number_at(bytes)?;
-    let rest = skip_numbers(2 * pairs + 1, numbers)?;
-    Ok((&numbers[..numbers.len() - rest.len()], rest))
+    let (left, rest) = skip_numbers(2 * pairs + 1, largest + 2, numbers)?;
+    Ok((&numbers[..numbers.len() - rest.len()], left == 0, rest))
 }

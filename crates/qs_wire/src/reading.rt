@@ -1,10 +1,9 @@
 //! Reading the frame that begins the bytes.
 
-ghost use Rattle.std.specs.Prelude.{◌≡◌, ℕ, ◌+◌, ◌-◌, ◌^◌, ◌<◌, length, nat_lt, IfOk, IfErr};
-ghost use Rattle.qs_wire.specs.Varint.{numbers_of};
-ghost use Rattle.qs_wire.specs.Layout.{view, taken};
+ghost use Rattle.std.specs.Prelude.{◌≡◌, ℕ, ◌+◌, ◌-◌, ◌^◌, ◌<◌, length, IfOk, IfErr};
+ghost use Rattle.qs_wire.specs.Layout.{view};
 ghost use Rattle.qs_wire.specs.Grammar.{Fits};
-ghost use Rattle.qs_wire.specs.Reading.{Gives, LargestFits, breach_of, number_of_type_at, frame_at, reading_from, with_first, placed_at};
+ghost use Rattle.qs_wire.specs.Reading.{Gives, number_of_type_at, frame_at, reading_from, with_first, placed_at};
 
 use crate::bodies::body_at;
 use crate::fault::FaultKind;
@@ -19,61 +18,22 @@ pub(crate) struct Broken {
     pub(crate) frame_type: u64,
 }
 
-/// Whether ranges that begin at a number fall below zero.
-fn falls_below_zero(largest: u64, numbers: &[u8]) -> bool
-    requires { largest < 2 ^ 62 }
-    ensures { result ≡ nat_lt (largest + 1) (taken (numbers_of numbers.now)) }
-{
-    let mut left = largest + 1;
-    let mut rest = numbers;
-    while let Some((value, len)) = read_varint(rest) {
-        if value >= left {
-            return true;
-        }
-        left -= value + 1;
-        let (_, after) = rest.split_at(len);
-        rest = after;
-    }
-    false
-}
-
-/// What a frame's values break.
-fn breach_of(frame: &Frame) -> Option<FaultKind>
-    requires { LargestFits (view frame.now) }
-    ensures { result ≡ breach_of (view frame.now) }
-{
-    match *frame {
-        Frame::Stream { offset, bytes, .. } | Frame::Crypto { offset, bytes } => {
-            let end = offset.checked_add(bytes.len() as u64);
-            match end {
-                Some(end) if end < 1 << 62 => None,
-                _ => Some(FaultKind::OffsetTooLarge),
-            }
-        }
-        Frame::MaxStreams { count, .. } | Frame::StreamsBlocked { count, .. } => {
-            if count > 1 << 60 {
-                Some(FaultKind::CountTooLarge)
-            } else {
-                None
-            }
-        }
-        Frame::Ack {
-            largest,
-            ranges,
-            ..
-        } => {
-            if falls_below_zero(largest, ranges) {
-                Some(FaultKind::BelowZero)
-            } else {
-                None
-            }
-        }
-        _ => None,
-    }
-}
-
-#[tactic(auto, unfolding(crate::specs::Reading::number_of_type_at))]
+#[tactic(auto, unfolding(crate::specs::Reading::number_of_type_at, crate::specs::Varint::varint_at, crate::specs::Varint::short_len))]
 fn type_at(bytes: &[u8]) -> Result<(u64, &[u8]), Broken>
+    ensures gives { Gives (λ x. (x.0, x.1.now)) result (number_of_type_at bytes.now) }
+    ensures typed { IfOk result (λ x. x.0 < 2 ^ 62) }
+    ensures broken { IfErr result (λ broken. broken.frame_type < 2 ^ 62) }
+{
+    match bytes.split_first() {
+        // One byte has no shorter spelling.
+        Some((&first, rest)) if first < 0x40 => Ok((u64::from(first), rest)),
+        _ => long_type_at(bytes),
+    }
+}
+
+/// The number of a type, however long.
+#[tactic(auto, unfolding(crate::specs::Reading::number_of_type_at))]
+fn long_type_at(bytes: &[u8]) -> Result<(u64, &[u8]), Broken>
     ensures gives { Gives (λ x. (x.0, x.1.now)) result (number_of_type_at bytes.now) }
     ensures typed { IfOk result (λ x. x.0 < 2 ^ 62) }
     ensures broken { IfErr result (λ broken. broken.frame_type < 2 ^ 62) }
@@ -112,12 +72,8 @@ pub(crate) fn frame_at(bytes: &[u8]) -> Result<(u64, Frame<'_>, &[u8]), Broken>
             frame_type,
         });
     };
-    let (frame, rest) = match body_at(known, rest) {
-        Ok(x) => x,
-        Err(kind) => return Err(Broken { kind, frame_type }),
-    };
-    if let Some(kind) = breach_of(&frame) {
-        return Err(Broken { kind, frame_type });
+    match body_at(known, rest) {
+        Ok((frame, rest)) => Ok((frame_type, frame, rest)),
+        Err(kind) => Err(Broken { kind, frame_type }),
     }
-    Ok((frame_type, frame, rest))
 }

@@ -1,9 +1,16 @@
-use Rattle.std.proofs.Common.{ℕ, List, sym, ap, arith}
+use Rattle.std.proofs.Common.{◌≡◌, ℕ, ◌+◌, List, drop, Option, Some, None, sym, ap, arith}
 use Rattle.std.proofs.lemmas.Bool.{lt-ltb, le-ltb}
 use Rattle.qs_wire.specs.Varint.{varint_at, numbers_of}
 use Rattle.qs_wire.specs.Layout.{taken}
-use Rattle.qs_wire.proofs.Ranges.{taken_next, taken_none, none_from_default}
+use Rattle.qs_wire.proofs.Ranges.{numbers_of-next, numbers_of-none, none_from_default}
 use Rattle.qs_c.proofs.puts.falls_below_zero.Goals as goal
+
+-- a number takes itself and one of what is left
+taken_next : (bytes : List ℕ) (x : ℕ × ℕ) → varint_at bytes ≡ Some x → taken (numbers_of bytes) ≡ (x.0 + 1) + taken (numbers_of (drop x.1 bytes))
+taken_next bytes x e = ap taken (numbers_of-next bytes x e)
+
+taken_none : (bytes : List ℕ) → varint_at bytes ≡ None → taken (numbers_of bytes) ≡ 0
+taken_none bytes e = ap taken (numbers_of-none bytes e)
 
 pub returns-then-value-left : goal.returns-then-value-left
 returns-then-value-left c =

@@ -15,8 +15,8 @@ returns-then-first-out-clause-full c =
     let l = a - (top ps).0 in
     (omega (arith, length-ack_take c.args.delay ps c.split_at.result.1.now 0 c.requires.pairs c.split_at.ensures.back (omega arith), length-short a, length-short l, length-short c.args.delay, c.varint_len.ensures.exact, c.varint_len-2.ensures.exact, c.varint_len-3.ensures.exact, c.if-first-out.true), refl)
 
-pub put_parts-requires-clause-room : goal.put_parts-requires-clause-room
-put_parts-requires-clause-room c =
+pub put_numbers-requires-clause-room : goal.put_numbers-requires-clause-room
+put_numbers-requires-clause-room c =
     let ps = c.args.pairs.now in
     let a = (top ps).1 - 1 in
     let l = a - (top ps).0 in
@@ -42,10 +42,10 @@ returns-clause-written c =
     let few : k < 64 = omega (arith, count, c.requires.pairs.few, ap length c.split_at.ensures.back, length-drop 1 ps) in
     let head = length-first_text c.args.delay (top ps) k few in
     let room : length first ≤ length out = omega (arith, head, length-short a, length-short l, length-short c.args.delay, c.varint_len.ensures.exact, c.varint_len-2.ensures.exact, c.varint_len-3.ensures.exact, c.if-first-out.false) in
-    let one = Puts-at_front first out c.put_parts.new.out room c.put_parts.ensures in
-    let rest = subst (λ (qs : List (ℕ × ℕ)). Puts (c.varint_len.result + c.varint_len-2.result + c.varint_len-3.result + 2) (text_below (top ps).0 qs) c.put_parts.new.out c.put_ranges.new.out) c.split_at-2.ensures.front c.put_ranges.ensures in
+    let one = Puts-at_front first out c.put_numbers.new.out room (c.put_numbers.ensures.written ∙ ap (λ (n : ℕ). first ++ drop n out) c.put_numbers.ensures.next) in
+    let rest = subst (λ (qs : List (ℕ × ℕ)). Puts (c.varint_len.result + c.varint_len-2.result + c.varint_len-3.result + 2) (text_below (top ps).0 qs) c.put_numbers.new.out c.put_ranges.new.out) c.split_at-2.ensures.front c.put_ranges.ensures in
     let at : c.varint_len.result + c.varint_len-2.result + c.varint_len-3.result + 2 ≡ 0 + length first = omega (arith, head, length-short a, length-short l, length-short c.args.delay, c.varint_len.ensures.exact, c.varint_len-2.ensures.exact, c.varint_len-3.ensures.exact) in
-    let whole = Puts-front (first ++ text) out c.put_ranges.new.out (Puts-then 0 (c.varint_len.result + c.varint_len-2.result + c.varint_len-3.result + 2) first text out c.put_parts.new.out c.put_ranges.new.out one at rest) in
+    let whole = Puts-front (first ++ text) out c.put_ranges.new.out (Puts-then 0 (c.varint_len.result + c.varint_len-2.result + c.varint_len-3.result + 2) first text out c.put_numbers.new.out c.put_ranges.new.out one at rest) in
     let is : canonical (ack_of c.args.delay (take (k + 1) ps)) ≡ first ++ text = ack_take c.args.delay ps others k c.requires.pairs.some c.split_at.ensures.back count in
     let len : c.varint_len.result + c.varint_len-2.result + c.varint_len-3.result + 2 + c.ranges_within-count.result.1 ≡ length (first ++ text) = omega (arith, at, length-append first text, c.ranges_within-count.ensures.len) in (
       len ∙ sym (ap length is),

@@ -6,4 +6,4 @@ pub spell-requires-clause-room : goal.spell-requires-clause-room
 spell-requires-clause-room c = omega (arith, length-short c.args.value, length-take (length c.args.out.now - c.args.at) (drop c.args.at c.args.out.now), length-drop c.args.at c.args.out.now)
 
 pub returns-clause-next : goal.returns-clause-next
-returns-clause-next c = omega (arith, length-short c.args.value, c.varint_len.ensures.exact)
+returns-clause-next c = omega (arith, length-short c.args.value, c.spell.ensures.len)
