@@ -4,10 +4,14 @@
 --     out_..       bytes copied out in one piece, and in two
 --     moved_whole      a whole ring in a larger one
 --     filled_..    bytes written into the gaps one after another
-use Rattle.std.specs.Prelude.{◌≡◌, ℕ, ◌+◌, ◌-◌, ◌*◌, ◌/◌, ◌%◌, ◌<◌, ◌≤◌, Bool, true, false, not, ◌&&◌, if◌then◌else◌, List, length, take, drop, slice_index, refl, ◌⊎◌}
+--     place_by_bits      a place where the size is a power of two
+use Rattle.std.specs.Prelude.{◌≡◌, ℕ, ◌+◌, ◌-◌, ◌*◌, ◌/◌, ◌%◌, ◌^◌, ◌<◌, ◌≤◌, zero, suc, Bool, true, false, not, ◌&&◌, if◌then◌else◌, List, length, take, drop, slice_index, refl, ◌⊎◌}
 use Rattle.std.proofs.Common.{sym, ◌∙◌, ap, arith, inl, inr, length-drop}
-use Rattle.std.proofs.Math.Nat.{mul-le-mul_left}
-use Rattle.std.proofs.lemmas.Nat.{mod_below}
+use Rattle.std.proofs.Math.Nat.{mul-le-mul_left, two-pow-succ}
+use Rattle.std.specs.Int.{IsPowerOfTwo, is_power_of_two}
+use Rattle.std.specs.Int.RustNames.{bit_and, count_ones}
+use lib.Count.{ones_step}
+use Rattle.std.proofs.lemmas.Nat.{and_mask, mod_below, ones_le_self, zero_from_ones}
 use Rattle.std.proofs.lemmas.List.{get_or-take, get_or-drop, length-take}
 use Rattle.std.specs.FinSet as set
 use Rattle.std.proofs.lemmas.Bool.{cases_lt, cases_order}
@@ -258,3 +262,29 @@ filled_gap r first at end stop next offset bytes old mid new begins low_at fits 
         let b : is_within first at q ≡ false = grind (arith, nat_tests) in
         let c : is_within first next q ≡ false = grind (arith, nat_tests) in
         rw (a, b, c) refl
+
+-- a number with one bit is a power of two
+one_bit : (d n : ℕ) → n ≤ d → count_ones n ≡ 1 → IsPowerOfTwo n
+one_bit zero n h e = let none : count_ones n ≤ n = ones_le_self n in absurd (omega (arith, none))
+one_bit (suc d) n h e =
+    let s = ones_step n in
+    elim (cases_lt 0 (n % 2)) [
+      | inl odd ↦ let half : n / 2 ≡ 0 = zero_from_ones (n / 2) (omega (arith, s)) in (0, omega (arith, half))
+      | inr even ↦
+          let half = one_bit d (n / 2) (omega arith) (omega (arith, s)) in
+          let power = half.1 in
+          let doubled = two-pow-succ half.0 in
+          (suc half.0, omega (arith, power, doubled))
+    ]
+
+-- where a size is a power of two, an offset's low bits are its place
+pub place_by_bits : (at size : ℕ) → is_power_of_two size ≡ true → bit_and at (size - 1) ≡ at % size
+place_by_bits at size one =
+    let power = one_bit size size (omega arith) (eq_of one) in
+    powers power.0 size power.1
+  where
+    powers : (k n : ℕ) → n ≡ 2 ^ k → bit_and at (n - 1) ≡ at % n
+    powers k n is = rw is (and_mask at k)
+
+    eq_of : is_power_of_two size ≡ true → count_ones size ≡ 1
+    eq_of e = grind (arith, nat_tests)

@@ -228,7 +228,7 @@ fn move_in(into: &mut [u8], ring: &[u8], from: u64)
     if len == 0 {
         return;
     }
-    let (front, back) = ring.split_at((from % len as u64) as usize);
+    let (front, back) = ring.split_at(place_of(from, len));
     copy_in(into, from, back);
     copy_in(into, from + back.len() as u64, front);
 }
@@ -263,10 +263,10 @@ fn narrow(ring: &mut Vec<u8>, from: u64, size: u64)
     ensures len { length ring.new.items ≡ size }
     ensures moved { IsMoved from ring.new.items ring.old.items }
 {
-    let place = (from % ring.len() as u64) as usize;
+    let place = place_of(from, ring.len());
     ring.rotate_left(place);
     ring.truncate(size as usize);
-    ring.rotate_right((from % size) as usize);
+    ring.rotate_right(place_of(from, size as usize));
     ring.shrink_to_fit();
 }
 
@@ -380,6 +380,19 @@ fn next_run(received: &RangeSet, at: u64, end: u64) -> (u64, u64)
     }
 }
 
+// The place of an offset in a ring of that size. Most are powers of two, at which no division is made.
+#[tactic(auto, using(crate::proofs::RingPlaces::place_by_bits))]
+fn place_of(at: u64, size: usize) -> usize
+    requires { 0 < size }
+    ensures { result ≡ at % size }
+{
+    if size.is_power_of_two() {
+        (at & (size as u64 - 1)) as usize
+    } else {
+        (at % size as u64) as usize
+    }
+}
+
 // Writes bytes to the places of the offsets from `at` on, in two pieces where these wrap.
 fn copy_in(ring: &mut [u8], at: u64, bytes: &[u8])
     requires some { 0 < length ring.old }
@@ -387,7 +400,7 @@ fn copy_in(ring: &mut [u8], at: u64, bytes: &[u8])
     ensures same_len { length ring.new ≡ length ring.old }
     ensures written { IsWritten at bytes.now ring.old ring.new }
 {
-    let place = (at % ring.len() as u64) as usize;
+    let place = place_of(at, ring.len());
     let room = ring.len() - place;
     if bytes.len() <= room {
         write_at(ring, place, bytes);
@@ -417,7 +430,7 @@ fn copy_out(ring: &[u8], at: u64, into: &mut [u8])
     if len == 0 {
         return;
     }
-    let place = (at % ring.len() as u64) as usize;
+    let place = place_of(at, ring.len());
     let room = ring.len() - place;
     if len <= room {
         into.copy_from_slice(&ring[place..place + len]);
@@ -467,7 +480,7 @@ fn are_at(ring: &[u8], at: u64, bytes: &[u8]) -> bool
     if len == 0 {
         return true;
     }
-    let place = (at % ring.len() as u64) as usize;
+    let place = place_of(at, ring.len());
     let room = ring.len() - place;
     if len <= room {
         return bytes == &ring[place..place + len];
