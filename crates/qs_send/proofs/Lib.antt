@@ -21,3 +21,4 @@ pub mod Passing
 pub mod LostLists
 pub mod LostOrders
 pub mod LostPassing
+pub mod Around

@@ -6,6 +6,7 @@ pub mod Parts
 pub mod Laws
 pub mod Writable
 pub mod PieceCodes
+pub mod Carried
 pub mod Records
 pub mod AckPass
 pub mod ByNumber

@@ -5,7 +5,7 @@
 --     with_piece, with_number      a packet with one piece more, and the order with its number
 --     latest, without_oldest       the order and the pieces without the oldest packet, where there is one too many
 --     without_number               the order without a number
-use Rattle.std.specs.Prelude.{◌≡◌, ℕ, ◌≤◌, ◌↔◌, Bool, true, false, List, [], ◌∷◌, ◌++◌, length, nat_eq, leb, if◌then◌else◌, Option, None, Some, refl}
+use Rattle.std.specs.Prelude.{◌≡◌, ℕ, ◌≤◌, ◌↔◌, Bool, true, false, List, [], ◌∷◌, ◌++◌, length, nat_eq, leb, if◌then◌else◌, Option, None, Some}
 use Rattle.std.specs.FinMap as fmap
 use Rattle.qs_send.specs.declared.piece.Piece.{Piece}
 use Rattle.qs_send.specs.Records.{PacketPieces, NoneEmpty, Among}

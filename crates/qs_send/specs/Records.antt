@@ -4,7 +4,7 @@
 --     without_first, first_piece      a packet without its first piece, and that piece
 --     IsCarried m p      some packet has the piece
 --     AreBelow m n, IsGreatest m k, IsGreatestBelow m n k      where the held numbers lie
-use Rattle.std.specs.Prelude.{◌≡◌, ℕ, zero, suc, ◌+◌, ◌<◌, ◌≤◌, true, List, [], ◌∷◌, slice_index_or, Option, None, Some, ◌⊎◌, refl}
+use Rattle.std.specs.Prelude.{◌≡◌, ℕ, zero, suc, ◌+◌, ◌<◌, ◌≤◌, true, List, [], ◌∷◌, slice_index_or, Option, None, Some, ◌⊎◌}
 use Rattle.std.specs.Ordering.{nat_cmp}
 use Rattle.std.specs.FinMap as fmap
 use Rattle.qs_send.specs.declared.piece.Piece.{Piece}

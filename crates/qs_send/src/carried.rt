@@ -3,57 +3,85 @@ ghost use Rattle.std.specs.Prelude.{◌≡◌, ◌↔◌, IsTrue, [], length, dr
 ghost use Rattle.qs_send.specs.Records.{Among, first_piece};
 
 use crate::piece::Piece;
+use crate::remaining::Remaining;
 use std::alloc::Global;
 use std::marker::Model;
+use std::mem;
 
-/// The pieces of a packet, of which the first `start` ones of the vector were let go. Where none is left, it holds no memory.
+/// The pieces of a packet that were not let go.
 #[derive(Drop)]
 pub(crate) struct Carried {
-    start: usize,
-    pieces: Vec<Piece>,
+    pieces: Pieces,
+}
+
+// Most packets carry one piece: it stands in the value itself, so that a steady flow takes no memory for it.
+#[derive(Drop)]
+enum Pieces {
+    Empty,
+    One(Piece),
+    Several(Remaining),
 }
 
 impl Model for Carried {
-    ghost use Rattle.std.specs.Prelude.{List, ◌≤◌, length, drop};
+    ghost use Rattle.std.specs.Prelude.{List};
     ghost use Rattle.std.specs.Coded.{coded_list};
     ghost use Rattle.qs_send.specs.declared.piece.Piece.{Piece};
     ghost use Rattle.qs_send.specs.PieceCodes.{piece_code};
+    ghost use Rattle.qs_send.specs.Carried.{pieces_in};
 
     ghost Value = { List Piece };
 
     ghost coded = { coded_list piece_code };
 
-    ghost view = { λ c. drop c.start c.pieces.items };
-
-    ghost invariant = { λ c. c.start ≤ length c.pieces.items };
+    ghost view = { λ c. pieces_in c.pieces };
 }
 
 impl Carried {
-    pub(crate) fn new(pieces: Vec<Piece>) -> Self
-        ensures { result ≡ pieces.items }
-    {
-        Carried { start: 0, pieces }
-    }
-
-    /// Of a number without a record. It takes no memory.
-    pub(crate) fn empty(alloc: Global) -> Self
+    /// Of a number without a record.
+    pub(crate) fn empty() -> Self
         ensures { result ≡ [] }
     {
-        Carried::new(Vec::new(alloc))
+        Carried {
+            pieces: Pieces::Empty,
+        }
+    }
+
+    /// The pieces of a buffer, in which none is left.
+    pub(crate) fn taken_from(alloc: Global, buffer: &mut Vec<Piece>) -> Self
+        ensures pieces { result ≡ buffer.old.items }
+        ensures left { buffer.new.items ≡ [] }
+    {
+        if buffer.len() > 1 {
+            let pieces = hand_over(alloc, buffer);
+            return Carried {
+                pieces: Pieces::Several(Remaining::new(pieces)),
+            };
+        }
+        match buffer.pop() {
+            Some(piece) => Carried {
+                pieces: Pieces::One(piece),
+            },
+            None => Carried::empty(),
+        }
     }
 
     pub(crate) fn len(&self) -> usize
         ensures { result ≡ length self.now }
     {
-        self.pieces.len() - self.start
+        match &self.pieces {
+            Pieces::Empty => 0,
+            Pieces::One(_) => 1,
+            Pieces::Several(pieces) => pieces.len(),
+        }
     }
 
     pub(crate) fn first(&self) -> Option<Piece>
         ensures { result ≡ first_piece (Some self.now) }
     {
-        match self.pieces.get(self.start) {
-            Some(piece) => Some(*piece),
-            None => None,
+        match &self.pieces {
+            Pieces::Empty => None,
+            Pieces::One(piece) => Some(*piece),
+            Pieces::Several(pieces) => pieces.first(),
         }
     }
 
@@ -61,18 +89,37 @@ impl Carried {
     pub(crate) fn drop_first(&mut self)
         ensures { self.new ≡ drop 1 self.old }
     {
-        if self.len() > 1 {
-            self.start += 1;
-        } else {
-            self.start = 0;
-            self.pieces.clear();
-            self.pieces.shrink_to_fit();
+        if self.len() <= 1 {
+            self.pieces = Pieces::Empty;
+            return;
+        }
+        if let Pieces::Several(pieces) = &mut self.pieces {
+            pieces.drop_first();
         }
     }
 
     pub(crate) fn has(&self, piece: Piece) -> bool
         ensures { IsTrue result ↔ Among piece self.now }
     {
-        self.pieces[self.start..].contains(&piece)
+        match &self.pieces {
+            Pieces::Empty => false,
+            Pieces::One(one) => *one == piece,
+            Pieces::Several(pieces) => pieces.has(piece),
+        }
+    }
+}
+
+// The pieces of a buffer, in no more memory than they need: the buffer stays for the next packet, so that a steady flow doesn't take it
+// anew. Where that memory is refused, the buffer itself goes.
+fn hand_over(alloc: Global, buffer: &mut Vec<Piece>) -> Vec<Piece>
+    ensures pieces { result.items ≡ buffer.old.items }
+    ensures left { buffer.new.items ≡ [] }
+{
+    match buffer.to_vec(alloc) {
+        Ok(pieces) => {
+            buffer.clear();
+            pieces
+        }
+        Err(_refused) => mem::replace(buffer, Vec::new(alloc)),
     }
 }

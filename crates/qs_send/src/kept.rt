@@ -1,5 +1,7 @@
 //! Bytes that come in at the back and are let go at the front.
-ghost use Rattle.std.specs.Prelude.{◌≡◌, ◌+◌, ◌*◌, ◌≤◌, true, [], ◌++◌, length, take, drop, OnOk, OnErr};
+ghost use Rattle.std.specs.Prelude.{◌≡◌, ℕ, ◌+◌, ◌-◌, ◌*◌, ◌≤◌, ◌<◌, true, [], ◌++◌, if◌then◌else◌, length, take, drop, max, vec_len, slice_index, IfOk, OnOk, OnErr};
+ghost use Rattle.qs_ranges.specs.Numbers.{is_within};
+ghost use Rattle.qs_send.specs.KeptBytes.{around, place_in};
 
 use qs_ranges::NoMemory;
 use std::alloc::Global;
@@ -8,27 +10,28 @@ use std::marker::Model;
 // The most bytes of room that stay where nothing is kept, so that a few bytes now and then take no memory anew.
 const IDLE_ROOM: usize = 4096;
 
-/// The bytes stand in a row from `start` on. Those before it were let go, and never take more than half of the room.
+/// The bytes stand in a ring, so that none is moved while others come and go.
 #[derive(Drop)]
 pub struct Kept {
     alloc: Global,
-    bytes: Vec<u8>,
+    // As long as there is room.
+    ring: Vec<u8>,
+    // The place of the first byte.
     start: usize,
-    // How many bytes of memory were asked for.
-    room: usize,
+    count: usize,
 }
 
 impl Model for Kept {
-    ghost use Rattle.std.specs.Prelude.{drop, vec_len, vec_capacity};
-    ghost use Rattle.qs_send.specs.KeptBytes.{KeptBytes, IsRoom, kept_code};
+    ghost use Rattle.std.specs.Prelude.{vec_len};
+    ghost use Rattle.qs_send.specs.KeptBytes.{KeptBytes, IsRing, around, kept_code};
 
     ghost Value = { KeptBytes };
 
     ghost coded = { kept_code };
 
-    ghost view = { λ k. record { bytes = drop k.start k.bytes.items; room = k.room } };
+    ghost view = { λ k. record { bytes = around k.start k.count k.ring.items; room = vec_len k.ring } };
 
-    ghost invariant = { λ k. IsRoom k.start (vec_len k.bytes) k.room (vec_capacity k.bytes) };
+    ghost invariant = { λ k. IsRing k.start k.count (vec_len k.ring) };
 }
 
 impl Kept {
@@ -38,86 +41,107 @@ impl Kept {
     {
         Self {
             alloc,
-            bytes: Vec::new(alloc),
+            ring: Vec::new(alloc),
             start: 0,
-            room: 0,
+            count: 0,
         }
     }
 
+    #[tactic(auto, using(crate::proofs::Around::around_len))]
     pub fn len(&self) -> usize
         ensures { result ≡ length self.now.bytes }
     {
-        self.bytes.len() - self.start
+        self.count
     }
 
     /// How many bytes of memory are taken: at least those that are kept, and no more than 4,096 where none is.
+    #[tactic(auto, using(crate::proofs::Around::around_len))]
     pub fn held(&self) -> usize
         ensures value { result ≡ self.now.room }
         ensures kept { length self.now.bytes ≤ result }
         ensures idle { length self.now.bytes ≡ 0 → result ≤ 4096 }
     {
-        self.room
+        self.ring.len()
     }
 
     /// Appends the bytes. Where `most` bytes at most are ever kept, no more than twice as many are
     /// allocated, and while these are there nothing is.
+    #[tactic(auto, using(crate::proofs::Around::around_len))]
     pub fn append(&mut self, bytes: &[u8], most: usize) -> Result<(), NoMemory>
         ensures ok { OnOk result (self.new.bytes ≡ self.old.bytes ++ bytes.now) }
         ensures err { OnErr result (self.new.bytes ≡ self.old.bytes) }
         ensures room { length self.old.bytes + length bytes.now ≤ most → self.old.room ≤ 2 * most → self.new.room ≤ 2 * most }
     {
-        let len = self.bytes.len();
-        if self.room - len < bytes.len() {
-            let grown = self.room.min(most).saturating_mul(2);
-            let more = grown.saturating_sub(len).max(bytes.len());
-            self.bytes.reserve_exact(more)?;
-            self.room = len + more;
+        let count = self.count + bytes.len();
+        if count > self.ring.len() {
+            let size = self.ring.len().saturating_mul(2).min(most).max(count);
+            return self.move_to(size, bytes);
         }
-        self.bytes.extend_from_slice(bytes)?;
+        write_behind(&mut self.ring, self.start, self.count, bytes);
+        self.count = count;
         Ok(())
     }
 
     /// Leaves the first `n` bytes.
+    #[tactic(auto, using(crate::proofs::Around::around_first))]
     pub fn truncate(&mut self, n: usize)
         requires { n ≤ length self.old.bytes }
         ensures bytes { self.new.bytes ≡ take n self.old.bytes }
         ensures room { self.new.room ≤ self.old.room }
     {
-        if n == 0 && self.room > IDLE_ROOM {
+        if n == 0 && self.ring.len() > IDLE_ROOM {
             self.give_back();
         } else {
-            self.bytes.truncate(self.start + n);
+            self.count = n;
         }
     }
 
-    /// Lets the first `n` bytes go. What is left is moved only once it is no more than what was let go before it. Where
-    /// nothing is left a room of more than 4,096 bytes is given back, and any where nothing more comes.
+    /// Lets the first `n` bytes go. Where nothing is left a room of more than 4,096 bytes is given back, and any where
+    /// nothing more comes.
+    #[tactic(auto, using(crate::proofs::Around::around_rest))]
     pub fn let_go(&mut self, n: usize, is_over: bool)
         requires { n ≤ length self.old.bytes }
         ensures bytes { self.new.bytes ≡ drop n self.old.bytes }
         ensures room { self.new.room ≤ self.old.room }
         ensures over { is_over ≡ true → length self.new.bytes ≡ 0 → self.new.room ≡ 0 }
     {
-        let start = self.start + n;
-        let left = self.bytes.len() - start;
-        if left == 0 && (is_over || self.room > IDLE_ROOM) {
+        let count = self.count - n;
+        if count > 0 {
+            self.start = place(self.ring.len(), self.start + n);
+            self.count = count;
+        } else if is_over || self.ring.len() > IDLE_ROOM {
             self.give_back();
-        } else if left <= start {
-            self.bytes.copy_within(start.., 0);
-            self.bytes.truncate(left);
-            self.start = 0;
         } else {
-            self.start = start;
+            self.start = 0;
+            self.count = 0;
         }
     }
 
-    /// The `len` bytes from a place on.
-    pub fn part(&self, from: usize, len: usize) -> &[u8]
+    /// The `len` bytes from a place on: a front, and where they go around the ring's end, a back.
+    pub fn part(&self, from: usize, len: usize) -> (&[u8], &[u8])
         requires { from + len ≤ length self.now.bytes }
-        ensures { result.now ≡ take len (drop from self.now.bytes) }
+        ensures { result.0.now ++ result.1.now ≡ take len (drop from self.now.bytes) }
     {
-        let first = self.start + from;
-        &self.bytes[first..first + len]
+        let start = place(self.ring.len(), self.start + from);
+        pieces(&self.ring, start, len)
+    }
+
+    // Moves the bytes to the front of a ring with so many places, and puts those behind them that come. Unchanged where memory is
+    // refused.
+    #[tactic(auto, using(crate::proofs::Around::around_len, crate::proofs::Around::moved_is))]
+    fn move_to(&mut self, size: usize, bytes: &[u8]) -> Result<(), NoMemory>
+        requires fits { length self.old.bytes + length bytes.now ≤ size }
+        requires some { 0 < length bytes.now }
+        ensures ok { OnOk result (self.new.bytes ≡ self.old.bytes ++ bytes.now) }
+        ensures err { OnErr result (self.new.bytes ≡ self.old.bytes) }
+        ensures room { self.new.room ≤ max self.old.room size }
+    {
+        let (front, back) = pieces(&self.ring, self.start, self.count);
+        let ring = joined(self.alloc, front, back, bytes, size)?;
+        self.ring = ring;
+        self.start = 0;
+        self.count += bytes.len();
+        Ok(())
     }
 
     // Keeps nothing, and takes no memory.
@@ -125,8 +149,82 @@ impl Kept {
         ensures bytes { self.new.bytes ≡ [] }
         ensures room { self.new.room ≡ 0 }
     {
-        self.bytes = Vec::new(self.alloc);
+        self.ring = Vec::new(self.alloc);
         self.start = 0;
-        self.room = 0;
+        self.count = 0;
     }
+}
+
+// Where in a ring of so many places the byte stands that is so many places past the front.
+fn place(size: usize, at: usize) -> usize
+    requires { at ≤ 2 * size }
+    ensures value { result ≡ place_in size at }
+    ensures within { result ≤ size }
+{
+    if at < size { at } else { at - size }
+}
+
+// So many bytes of a ring, in two pieces where they go around its end.
+#[tactic(auto, using(crate::proofs::Around::pieces_once, crate::proofs::Around::pieces_twice))]
+fn pieces(ring: &[u8], start: usize, count: usize) -> (&[u8], &[u8])
+    requires begins { start ≤ length ring.now }
+    requires fits { count ≤ length ring.now }
+    ensures { result.0.now ++ result.1.now ≡ around start count ring.now }
+{
+    let room = ring.len() - start;
+    if count <= room {
+        (&ring[start..start + count], &[])
+    } else {
+        (&ring[start..], &ring[..count - room])
+    }
+}
+
+// Writes bytes behind those that stand in a ring, in two pieces where they go around its end.
+fn write_behind(ring: &mut [u8], start: usize, count: usize, bytes: &[u8])
+    requires begins { start ≤ length ring.old }
+    requires fits { count + length bytes.now ≤ length ring.old }
+    ensures same_len { length ring.new ≡ length ring.old }
+    ensures written { around start (count + length bytes.now) ring.new ≡ around start count ring.old ++ bytes.now }
+{
+    let at = place(ring.len(), start + count);
+    let room = ring.len() - at;
+    if bytes.len() <= room {
+        write_at(ring, at, bytes);
+    } else {
+        let (front, back) = bytes.split_at(room);
+        write_at(ring, at, front);
+        write_at(ring, 0, back);
+    }
+}
+
+// Writes bytes from a place on.
+fn write_at(into: &mut [u8], at: usize, bytes: &[u8])
+    requires { at + length bytes.now ≤ length into.old }
+    ensures same_len { length into.new ≡ length into.old }
+    ensures written { (k : ℕ) → slice_index into.new k
+        ≡ (if is_within at (at + length bytes.now) k then slice_index bytes.now (k - at) else slice_index into.old k) }
+{
+    into[at..at + bytes.len()].copy_from_slice(bytes);
+}
+
+// The bytes one behind the other, at the front of a ring of so many places.
+#[tactic(auto, using(crate::proofs::Around::around_front))]
+fn joined(
+    alloc: Global,
+    front: &[u8],
+    back: &[u8],
+    bytes: &[u8],
+    size: usize,
+) -> Result<Vec<u8>, NoMemory>
+    requires { length (front.now ++ back.now) + length bytes.now ≤ size }
+    ensures size { IfOk result (λ ring. vec_len ring ≡ size) }
+    ensures bytes { IfOk result (λ ring. around 0 (length (front.now ++ back.now) + length bytes.now) ring.items ≡ (front.now ++ back.now) ++ bytes.now) }
+{
+    let mut ring = Vec::new(alloc);
+    ring.reserve_exact(size)?;
+    ring.extend_from_slice(front)?;
+    ring.extend_from_slice(back)?;
+    ring.extend_from_slice(bytes)?;
+    ring.resize(size, 0)?;
+    Ok(ring)
 }

@@ -1,5 +1,5 @@
 //! The written offsets of a half. Those that are at rest take no memory.
-ghost use Rattle.std.specs.Prelude.{◌≡◌, ℕ, ◌+◌, ◌-◌, ◌*◌, ◌≤◌, ◌<◌, true, length, take, drop, OnOk, OnErr, IfSome, IfNone};
+ghost use Rattle.std.specs.Prelude.{◌≡◌, ℕ, ◌+◌, ◌-◌, ◌*◌, ◌≤◌, ◌<◌, true, ◌++◌, length, take, drop, OnOk, OnErr, IfSome, IfNone};
 ghost use Rattle.qs_ranges.specs.Numbers.{MAX_VARINT, missing_from, MissesRange, IsRunFrom, EndsBefore};
 ghost use Rattle.qs_send.specs.Offsets.{at_rest, with_written, with_sent, with_acked, with_lost, with_none};
 
@@ -81,13 +81,13 @@ impl Offsets {
         }
     }
 
-    /// The bytes that are kept, so many from a place on.
-    pub(crate) fn part(&self, from: usize, len: usize) -> &[u8]
+    /// The bytes that are kept, so many from a place on, in two pieces.
+    pub(crate) fn part(&self, from: usize, len: usize) -> (&[u8], &[u8])
         requires { from + len ≤ length self.now.parts.kept }
-        ensures { result.now ≡ take len (drop from self.now.parts.kept) }
+        ensures { result.0.now ++ result.1.now ≡ take len (drop from self.now.parts.kept) }
     {
         match &self.live {
-            None => &[],
+            None => (&[], &[]),
             Some(live) => live.part(from, len),
         }
     }

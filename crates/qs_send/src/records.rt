@@ -1,5 +1,5 @@
 //! What the outstanding packets carried.
-ghost use Rattle.std.specs.Prelude.{◌≡◌, ℕ, ◌+◌, ◌-◌, ◌^◌, ◌<◌, ◌≤◌, ◌↔◌, IsTrue, IfSome, IfNone, OnOk, OnErr, min, length, true, false};
+ghost use Rattle.std.specs.Prelude.{◌≡◌, ℕ, ◌+◌, ◌-◌, ◌^◌, ◌<◌, ◌≤◌, ◌↔◌, IsTrue, IfSome, IfNone, OnOk, OnErr, min, [], length, true, false};
 ghost use Rattle.std.specs.FinMap as fmap;
 ghost use Rattle.qs_send.specs.Records.{Among, AreBelow, IsCarried, IsGreatest, IsGreatestBelow, IsSlotOf, NoneEmpty, first_piece, slot_at, with_record, without_first};
 
@@ -89,18 +89,19 @@ impl Records {
         Ok(())
     }
 
-    /// Holds the pieces of a packet. It takes no memory.
-    pub fn put(&mut self, number: u64, pieces: Vec<Piece>)
+    /// Holds the pieces of a packet that stand in a buffer, and leaves none there. It needs no memory.
+    pub fn put(&mut self, number: u64, buffer: &mut Vec<Piece>)
         requires ready { number < self.old.room }
         requires above { AreBelow self.old.pieces number }
-        requires some { 0 < length pieces.items }
-        ensures pieces { self.new.pieces ≡ fmap.insert self.old.pieces number pieces.items }
+        requires some { 0 < length buffer.old.items }
+        ensures pieces { self.new.pieces ≡ fmap.insert self.old.pieces number buffer.old.items }
+        ensures left { buffer.new.items ≡ [] }
         ensures end { self.new.base + self.new.slots ≡ number + 1 }
     {
         self.drop_empty_end();
         self.start_at(number);
         self.fill_to(number);
-        self.push_slot(Carried::new(pieces));
+        self.push_slot(Carried::taken_from(self.alloc, buffer));
     }
 
     /// The first piece of a packet, `None` where the number isn't held.
@@ -395,7 +396,7 @@ impl Records {
     {
         while self.ends_before(number) {
             let place = self.slots.len();
-            self.push_slot(Carried::empty(self.alloc));
+            self.push_slot(Carried::empty());
             self.note(place);
         }
     }

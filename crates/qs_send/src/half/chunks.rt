@@ -1,5 +1,5 @@
 //! Which chunk of a half goes out next, and what it holds.
-ghost use Rattle.std.specs.Prelude.{◌≡◌, ◌+◌, ◌≤◌, ◌<◌, ◌↔◌, IsTrue, ℕ, length, IfSome, IfNone};
+ghost use Rattle.std.specs.Prelude.{◌≡◌, ◌+◌, ◌≤◌, ◌<◌, ◌↔◌, ◌++◌, IsTrue, ℕ, length, IfSome, IfNone};
 ghost use Rattle.qs_ranges.specs.Numbers.{MAX_VARINT, IsRunFrom, EndsBefore, IsLeastFrom};
 ghost use Rattle.qs_wire.specs.Varint.{short_len};
 ghost use Rattle.qs_send.specs.Chunks.{IsNextChunk, HasNoChunk, IsHeldByRoom, HasBytes, WasSent, offset_len, frame_len};
@@ -73,11 +73,11 @@ impl SendHalf {
         self.fin_noted && !self.fin_acked
     }
 
-    /// The bytes of a chunk that is still in the buffer.
-    pub fn bytes(&self, chunk: Chunk) -> &[u8]
+    /// The bytes of a chunk that is still in the buffer: a front, and where they go around the buffer's end, a back.
+    pub fn bytes(&self, chunk: Chunk) -> (&[u8], &[u8])
         requires { HasBytes self.now.lane chunk }
-        ensures bytes { result.now ≡ bytes_of self.now.lane chunk }
-        ensures len { length result.now ≡ chunk.len }
+        ensures bytes { result.0.now ++ result.1.now ≡ bytes_of self.now.lane chunk }
+        ensures len { length result.0.now + length result.1.now ≡ chunk.len }
     {
         let first = self.offsets.written() - self.offsets.kept_len() as u64;
         self.offsets
@@ -90,7 +90,10 @@ impl SendHalf {
         requires fits { length into.old ≡ chunk.len }
         ensures { into.new ≡ bytes_of self.now.lane chunk }
     {
-        into.copy_from_slice(self.bytes(chunk));
+        let (front, back) = self.bytes(chunk);
+        let (begin, rest) = into.split_at_mut(front.len());
+        begin.copy_from_slice(front);
+        rest.copy_from_slice(back);
     }
 
     /// How many bytes the chunk's STREAM frame takes (RFC 9000, section 19.8).

@@ -3,7 +3,7 @@ use Rattle.std.specs.List.{list_any}
 use Rattle.std.proofs.lemmas.List.{take_all}
 use Rattle.qs_send.specs.contracts.piece.PiecePartialEq.TheImpl as piece
 use Rattle.qs_send.proofs.PieceEquality.{among_of_any, any_of_among}
-use Rattle.qs_send.proofs.carried.Carried.has.Goals as goal
+use Rattle.qs_send.proofs.remaining.Remaining.has.Goals as goal
 
 pub returns : goal.returns
 returns c =

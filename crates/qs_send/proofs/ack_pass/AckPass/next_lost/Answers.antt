@@ -3,7 +3,7 @@ use Rattle.qs_wire.specs.Acks.{FallBelow}
 use Rattle.qs_send.specs.AckPass.{Passing}
 use Rattle.qs_send.proofs.Passing.{passed_range}
 use Rattle.qs_send.proofs.LostPassing.{passed_itself, not_below_itself, seen_lower, lost_turns_look, lost_turns_read, lost_turns_end, each_step, each_read, none_ahead}
-use Rattle.qs_send.proofs.lost_pass.LostPass.next.Goals as goal
+use Rattle.qs_send.proofs.ack_pass.AckPass.next_lost.Goals as goal
 
 pub loop-number-init : goal.loop-number-init
 loop-number-init c = rw (← c.self.view_is) (record {
@@ -20,9 +20,9 @@ pub returns-then-not-read_range : goal.returns-then-not-read_range
 returns-then-not-read_range c =
     let start = c.args.self.now in
     let q = c.loop-number.self in
-    let cut = c.in_range.new.self in
+    let cut = c.lost_in_range.new.self in
     let l = c.args.records.now in
-    let seen = c.in_range.new.seen in
+    let seen = c.lost_in_range.new.seen in
     let was = c.in_default.ensures in
     let so_far = c.loop-number.invariant in
     let ended = c.read_range.ensures.ended c.if-not-read_range.true in
@@ -48,10 +48,10 @@ pub loop-number-preserved : goal.loop-number-preserved
 loop-number-preserved c =
     let start = c.args.self.now in
     let q = c.loop-number.self in
-    let cut = c.in_range.new.self in
+    let cut = c.lost_in_range.new.self in
     let after = c.read_range.new.self in
     let l = c.args.records.now in
-    let seen = c.in_range.new.seen in
+    let seen = c.lost_in_range.new.seen in
     let was = c.in_default.ensures in
     let so_far = c.loop-number.invariant in
     let read = c.read_range.ensures.read c.if-not-read_range.false in

@@ -1,7 +1,7 @@
 use Rattle.std.proofs.Common.{◌≤◌, ◌+◌, ◌-◌, length}
 use Rattle.qs_send.specs.AckPass.{Falls, HasPassed, more_turns}
 use Rattle.qs_send.specs.LostPass.{lost_ahead, IsSeen, seen_below}
-use Rattle.qs_send.proofs.lost_pass.LostPass.next.Given as goal
+use Rattle.qs_send.proofs.ack_pass.AckPass.next_lost.Given as goal
 
 abbrev pub invariant-loop-number : goal.invariant-loop-number
 invariant-loop-number l = record {

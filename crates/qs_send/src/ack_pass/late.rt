@@ -5,51 +5,14 @@ ghost use Rattle.qs_send.specs.AckPass.{HasRead, more_turns, pass_over};
 ghost use Rattle.qs_send.specs.LostPass.{IsNextLost, IsSeen, count_below, seen_below};
 ghost use Rattle.qs_send.specs.Records.{IsGreatestBelow};
 
-use crate::ack_pass::one_more;
+use super::{AckPass, one_more};
 use crate::lost_records::LostRecords;
-use qs_wire::AckRanges;
-use std::marker::Model;
 
-/// One pass over the lost records from the highest number that an ACK's ranges name down to the lowest (RFC 9000, section 13.2.1). Each
-/// record that it looks at, also one below the range, and each range that it reads takes one turn. It looks at none twice.
-#[derive(Drop)]
-pub struct LostPass<'a> {
-    // Of the range that was read last, the numbers from `low` on and below `below` are left.
-    low: u64,
-    below: u64,
-    ranges: AckRanges<'a>,
-    turns: u64,
-}
-
-impl<'a> Model for LostPass<'a> {
-    ghost use Rattle.std.specs.Prelude.{◌≤◌};
-    ghost use Rattle.qs_send.specs.AckPass.{Passing, passing_code, PAST_NUMBERS};
-
-    ghost Value = { Passing };
-
-    ghost coded = { passing_code };
-
-    ghost view = { λ p. record { low = p.low; below = p.below; unread = p.ranges; turns = p.turns } };
-
-    ghost invariant = { λ p. p.turns ≤ PAST_NUMBERS };
-}
-
-impl<'a> LostPass<'a> {
-    /// A pass over the ranges that are left of an ACK.
-    pub fn new(ranges: AckRanges<'a>) -> LostPass<'a>
-        ensures { result ≡ pass_over ranges.entry }
-    {
-        LostPass {
-            low: u64::MAX,
-            below: u64::MAX,
-            ranges,
-            turns: 0,
-        }
-    }
-
+impl<'a> AckPass<'a> {
     /// The greatest lost number that the ranges name below the one given last, `None` where there is none. Where no packet is lost, it
-    /// reads no range.
-    pub fn next(&mut self, records: &LostRecords) -> Option<u64>
+    /// reads no range (RFC 9000, section 13.2.1). Each record that it looks at, also one below the range, and each range that it reads
+    /// takes one turn. It looks at none twice.
+    pub fn next_lost(&mut self, records: &LostRecords) -> Option<u64>
         ensures { IsNextLost records.now self.old result self.new }
     {
         records.is_in_order();
@@ -59,7 +22,7 @@ impl<'a> LostPass<'a> {
         // The number of the record that was looked at last; before the first look the bound itself.
         let mut seen = self.below;
         loop {
-            if let Some(number) = self.in_range(records, &mut seen) {
+            if let Some(number) = self.lost_in_range(records, &mut seen) {
                 return Some(number);
             }
             if !self.read_range() {
@@ -69,30 +32,8 @@ impl<'a> LostPass<'a> {
         }
     }
 
-    /// How many turns it took: records that it looked at, and ranges that it read.
-    pub fn turns(&self) -> u64
-        ensures { result ≡ self.now.turns }
-    {
-        self.turns
-    }
-
-    // The next range, `false` after the last.
-    fn read_range(&mut self) -> bool
-        ensures read { result ≡ true → (range : ℕ × ℕ) × HasRead self.old range self.new }
-        ensures ended { result ≡ false → (self.old.unread ≡ []) × (self.new ≡ self.old) }
-        ensures counted { self.old.turns ≤ self.new.turns }
-    {
-        let Some((low, high)) = self.ranges.next() else {
-            return false;
-        };
-        self.turns = one_more(self.turns);
-        self.low = low;
-        self.below = self.below.min(high + 1);
-        true
-    }
-
     // The greatest lost number of the range that was read last, below the one given last. Another record is looked at in one turn.
-    fn in_range(&mut self, records: &LostRecords, seen: &mut u64) -> Option<u64>
+    fn lost_in_range(&mut self, records: &LostRecords, seen: &mut u64) -> Option<u64>
         requires { IsSeen records.now.pieces self.old.below seen.old }
         ensures same { (self.new.low ≡ self.old.low) × (self.new.unread ≡ self.old.unread) }
         ensures below { self.new.below ≤ self.old.below }
