@@ -69,18 +69,18 @@ out_is late k p o = held_piece late p (without_piece_out late k o) ∙ held_with
 abbrev listed : Bool → ℕ → Option (List Piece) → List AckedPiece
 listed late k x = elim x [ None ↦ [] | Some ps ↦ map (acked_at late k) ps ]
 
-ends_by : (late : Bool) (k : ℕ) (o : Outgoing) → first_piece (fmap.get (held_out late o) k) ≡ None → AcksPacket late k o (Ok tt) o
+pub packet_end : (late : Bool) (k : ℕ) (o : Outgoing) → first_piece (fmap.get (held_out late o) k) ≡ None → AcksPacket late k o (Ok tt) o
 unfolding AcksPacket acks_out
-ends_by late k o first = go (fmap.get (held_out late o) k) first
+packet_end late k o first = go (fmap.get (held_out late o) k) first
   where
     go : (x : Option (List Piece)) → first_piece x ≡ None → AcksBy (elim x [ None ↦ [] | Some ps ↦ map (acked_at late k) ps ]) o (Ok tt) o
     go None e = refl
     go (Some []) e = refl
     go (Some (p ∷ ps)) e = absurd (none_some p (sym e))
 
-stops_by : (late : Bool) (k : ℕ) (o new : Outgoing) (p : Piece) (e : NoMemory) → first_piece (fmap.get (held_out late o) k) ≡ Some p → new ≡ o → PieceMayRunOut o.sends o.acked p → AcksPacket late k o (Err e) new
+pub packet_stop : (late : Bool) (k : ℕ) (o new : Outgoing) (p : Piece) (e : NoMemory) → first_piece (fmap.get (held_out late o) k) ≡ Some p → new ≡ o → PieceMayRunOut o.sends o.acked p → AcksPacket late k o (Err e) new
 unfolding AcksPacket acks_out
-stops_by late k o new p e first same may =
+packet_stop late k o new p e first same may =
     (0, same, subst (λ (x : Outgoing). StopsAt x.sends x.acked (slice_get (pieces_of late (held_out late o) k) 0)) (sym same) (go (fmap.get (held_out late o) k) first))
   where
     go : (x : Option (List Piece)) → first_piece x ≡ Some p → StopsAt o.sends o.acked (slice_get (listed late k x) 0)
@@ -98,42 +98,18 @@ pieces_next late m k p first = go (fmap.get m k) first
     go (Some (q ∷ r ∷ rs)) f =
         ap (λ x. acked_at late k x ∷ map (acked_at late k) (r ∷ rs)) (some_is (Some q) q p refl f) ∙ ap (λ xs. acked_at late k p ∷ xs) (sym (ap (listed late k) (get_new m k (r ∷ rs))))
 
-more_by : (late : Bool) (k : ℕ) (o next new : Outgoing) (p : Piece) (result : Result (Unit {0}) NoMemory) → first_piece (fmap.get (held_out late o) k) ≡ Some p → next ≡ first_acked_out (acked_at late k p) o → AcksPacket late k next result new
+pub packet_more : (late : Bool) (k : ℕ) (o next new : Outgoing) (p : Piece) (result : Result (Unit {0}) NoMemory) → first_piece (fmap.get (held_out late o) k) ≡ Some p → next ≡ first_acked_out (acked_at late k p) o → AcksPacket late k next result new
     → AcksPacket late k o result new
 unfolding AcksPacket
-more_by late k o next new p result first is h =
+packet_more late k o next new p result first is h =
     let left = subst (λ (x : Outgoing). AcksBy (pieces_of late (held_out late x) k) x result new) is h in
     let rest = subst (λ (m : Records). AcksBy (pieces_of late m k) (first_acked_out (acked_at late k p) o) result new) (out_is late k p o) left in
     subst (λ xs. AcksBy xs o result new) (sym (pieces_next late (held_out late o) k p first)) (acks_cons (acked_at late k p) _ o new result rest)
 
-less_by : (late : Bool) (k : ℕ) (o next : Outgoing) (p : Piece) → first_piece (fmap.get (held_out late o) k) ≡ Some p → next ≡ first_acked_out (acked_at late k p) o → pieces_left late k next < pieces_left late k o
+pub packet_less : (late : Bool) (k : ℕ) (o next : Outgoing) (p : Piece) → first_piece (fmap.get (held_out late o) k) ≡ Some p → next ≡ first_acked_out (acked_at late k p) o → pieces_left late k next < pieces_left late k o
 unfolding pieces_left
-less_by late k o next p first is =
+packet_less late k o next p first is =
     subst (λ (m : Records). length (pieces_in m k) < length (pieces_in (held_out late o) k)) (sym (ap (held_out late) is ∙ out_is late k p o)) (less_left (held_out late o) k p first)
-
-pub packet_end : (k : ℕ) (o : Outgoing) → first_piece (fmap.get o.outstanding k) ≡ None → AcksPacket false k o (Ok tt) o
-packet_end k o first = ends_by false k o first
-
-pub packet_stop : (k : ℕ) (o new : Outgoing) (p : Piece) (e : NoMemory) → first_piece (fmap.get o.outstanding k) ≡ Some p → new ≡ o → PieceMayRunOut o.sends o.acked p → AcksPacket false k o (Err e) new
-packet_stop k o new p e first same may = stops_by false k o new p e first same may
-
-pub packet_more : (k : ℕ) (o next new : Outgoing) (p : Piece) (result : Result (Unit {0}) NoMemory) → first_piece (fmap.get o.outstanding k) ≡ Some p → next ≡ first_acked_out (acked_at false k p) o → AcksPacket false k next result new → AcksPacket false k o result new
-packet_more k o next new p result first is h = more_by false k o next new p result first is h
-
-pub packet_less : (k : ℕ) (o next : Outgoing) (p : Piece) → first_piece (fmap.get o.outstanding k) ≡ Some p → next ≡ first_acked_out (acked_at false k p) o → pieces_left false k next < pieces_left false k o
-packet_less k o next p first is = less_by false k o next p first is
-
-pub late_end : (k : ℕ) (o : Outgoing) → first_piece (fmap.get o.lost.pieces k) ≡ None → AcksPacket true k o (Ok tt) o
-late_end k o first = ends_by true k o first
-
-pub late_stop : (k : ℕ) (o new : Outgoing) (p : Piece) (e : NoMemory) → first_piece (fmap.get o.lost.pieces k) ≡ Some p → new ≡ o → PieceMayRunOut o.sends o.acked p → AcksPacket true k o (Err e) new
-late_stop k o new p e first same may = stops_by true k o new p e first same may
-
-pub late_more : (k : ℕ) (o next new : Outgoing) (p : Piece) (result : Result (Unit {0}) NoMemory) → first_piece (fmap.get o.lost.pieces k) ≡ Some p → next ≡ first_acked_out (acked_at true k p) o → AcksPacket true k next result new → AcksPacket true k o result new
-late_more k o next new p result first is h = more_by true k o next new p result first is h
-
-pub late_less : (k : ℕ) (o next : Outgoing) (p : Piece) → first_piece (fmap.get o.lost.pieces k) ≡ Some p → next ≡ first_acked_out (acked_at true k p) o → pieces_left true k next < pieces_left true k o
-late_less k o next p first is = less_by true k o next p first is
 
 -- other packets stay
 others : (late : Bool) (k j : ℕ) (ps : List Piece) (o : Outgoing) → j ≢ k → fmap.get (held_out late (acks_out (map (acked_at late k) ps) o)) j ≡ fmap.get (held_out late o) j
@@ -235,14 +211,15 @@ pass_more late p q k o next new (Some i) result is answer fall below acked rest 
     (acks_append (pieces_of late (held_out late o) k) (ahead_pieces late m q) o new result (subst (λ (x : Outgoing). AcksBy (ahead_pieces late m q) x result new) acked later))
 
 -- of a pass that begins all that the ranges name is ahead
-begun : (late : Bool) (p : Passing) (ranges : List (ℕ × ℕ)) (o new : Outgoing) (result : Result (Unit {0}) NoMemory) → p ≡ pass_over ranges → AcksAhead late p o result new → AcksNamed late ranges o result new
+pub all_named : (late : Bool) (p : Passing) (ranges : List (ℕ × ℕ)) (o mid new : Outgoing) (result : Result (Unit {0}) NoMemory) → p ≡ pass_over ranges → AcksAhead late p o result mid → new ≡ mid → AcksNamed late ranges o result new
 unfolding AcksAhead AcksNamed
-begun late p ranges o new result begins acked = λ falls.
+all_named late p ranges o mid new result begins acked same = λ falls.
     let start = subst (λ (x : Passing). Falls x) (sym begins) falls in
     let by_pass = acked (held_out late o) start (λ k lt. refl) in
-    subst (λ ks. AcksBy (flat_map (pieces_of late (held_out late o)) (reverse ks)) o result new)
+    subst (λ (x : Outgoing). AcksBy (named_in late (held_out late o) ranges) o result x) (sym same)
+    (subst (λ ks. AcksBy (flat_map (pieces_of late (held_out late o)) (reverse ks)) o result mid)
     (ap (λ (x : Passing). filter (is_ahead x) (fmap.keys (held_out late o))) begins
-    ∙ filter_alike (held_out late o) (is_ahead (pass_over ranges)) (is_named ranges) (λ j. same_truth (is_ahead (pass_over ranges) j) (is_named ranges j) (to j) (from falls j))) by_pass
+    ∙ filter_alike (held_out late o) (is_ahead (pass_over ranges)) (is_named ranges) (λ j. same_truth (is_ahead (pass_over ranges) j) (is_named ranges j) (to j) (from falls j))) by_pass)
   where
     to : (j : ℕ) → is_ahead (pass_over ranges) j ≡ true → is_named ranges j ≡ true
     to j is = let ahead = as_ahead (pass_over ranges) j is in named j ahead.0 ahead.1
@@ -256,12 +233,6 @@ begun late p ranges o new result begins acked = λ falls.
         let by = as_named ranges j is in
         let less = named_below PAST_NUMBERS ranges j falls by in
         ahead_as (pass_over ranges) j (omega (arith, less), inr by)
-
-pub all_pass : (p : Passing) (ranges : List (ℕ × ℕ)) (o mid new : Outgoing) (result : Result (Unit {0}) NoMemory) → p ≡ pass_over ranges → AcksAhead false p o result mid → new ≡ mid → AcksNamed false ranges o result new
-all_pass p ranges o mid new result begins acked same = subst (λ (x : Outgoing). AcksNamed false ranges o result x) (sym same) (begun false p ranges o mid result begins acked)
-
-pub all_late : (p : Passing) (ranges : List (ℕ × ℕ)) (o new : Outgoing) (result : Result (Unit {0}) NoMemory) → p ≡ pass_over ranges → AcksAhead true p o result new → AcksNamed true ranges o result new
-all_late p ranges o new result begins acked = begun true p ranges o new result begins acked
 
 -- Both passes
 

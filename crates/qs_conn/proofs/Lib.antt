@@ -32,6 +32,7 @@ pub mod Runs
 pub mod AckRuns
 pub mod SendEdits
 pub mod Settling
+pub mod Unmoved
 pub mod Slots
 pub mod Sendables
 pub mod Stages
@@ -43,6 +44,7 @@ pub mod Untolds
 pub mod Marked
 pub mod Words
 pub mod Summed
+pub mod Most
 pub mod Tasks
 pub mod Quiets
 pub mod LaneMarks

@@ -7,7 +7,7 @@ use Rattle.std.proofs.lemmas.Bool.{cases_lt, both_ways, true≢false}
 use Rattle.std.proofs.lemmas.List.{length-append, length-take, length-replicate}
 use Rattle.std.proofs.lemmas.List.FromFn.{length-map-range_with_len}
 use Rattle.std.proofs.lemmas.Option.{none-some, same_Some}
-use Rattle.std.specs.Prelude.{Result, Ok, Err, is_none}
+use Rattle.std.specs.Prelude.{Result, Ok, Err}
 use Rattle.std.specs.Result.{OnOk, OnErr}
 use Rattle.qs_conn.specs.Untold.{IsClear}
 use Rattle.qs_conn.specs.Marks.{is_marked, AreMarked, IsBefore, IsNextMark, HaveTo, least_of}
@@ -154,6 +154,10 @@ next_small ms from None few next = tt
 next_small ms from (Some n) few next =
     elim (cases_lt n (length ms)) [ inl lt ↦ omega (arith, lt, few) | inr ge ↦ absurd (both_ways (is_marked ms n) (mark_past ms n ge) (next.found n refl).1) ]
 
+pub short_opened : {E : Type 0} (r : Result (Unit {0}) E) (ms now : List Bool) (count : ℕ) → count ≤ 2 ^ 60 → length ms ≤ 2 ^ 60 → OnOk r (now ≡ ms ++ replicate (count - length ms) false) → OnErr r (now ≡ ms) → length now ≤ 2 ^ 60
+short_opened (Ok done) ms now count small few ok err = let len = ap length ok in omega (arith, len, small, few, length-append ms (replicate (count - length ms) false), length-replicate (count - length ms) false)
+short_opened (Err e) ms now count small few ok err = let len = ap length err in omega (arith, len, few)
+
 mark_at : (ms : List Bool) (i : ℕ) (b : Bool) → slice_get ms i ≡ Some b → is_marked ms i ≡ b
 mark_at [] i b at = absurd (none-some b at)
 mark_at (m ∷ ms) zero b at = same_Some m b at
@@ -165,40 +169,8 @@ unmarked_passed ms from answer next i b le before at = sym (mark_at ms i b at) �
 
 -- no index has a mark
 
-pub clear_new : (ms : List Bool) → ms ≡ [] → IsClear ms
-clear_new ms is i = subst (λ xs. is_marked xs i ≡ false) (sym is) (mark_past [] i (omega arith))
-
-pub clear_opened : {E : Type 0} (r : Result (Unit {0}) E) (ms now : List Bool) (n : ℕ) → OnOk r (now ≡ ms ++ replicate n false) → OnErr r (now ≡ ms) → IsClear ms → IsClear now
-clear_opened (Ok done) ms now n ok err h i = subst (λ xs. is_marked xs i ≡ false) (sym ok) (more ms i h)
-  where
-    begun : (k j : ℕ) → is_marked (replicate k false) j ≡ false
-    begun zero j = mark_past [] j (omega arith)
-    begun (suc k) zero = refl
-    begun (suc k) (suc j) = begun k j
-
-    more : (xs : List Bool) (j : ℕ) → IsClear xs → is_marked (xs ++ replicate n false) j ≡ false
-    more [] j clear = begun n j
-    more (x ∷ xs) zero clear = clear 0
-    more (x ∷ xs) (suc j) clear = more xs j (λ k. clear (suc k))
-clear_opened (Err e) ms now n ok err h i = subst (λ xs. is_marked xs i ≡ false) (sym err) (h i)
-
-pub short_opened : {E : Type 0} (r : Result (Unit {0}) E) (ms now : List Bool) (count : ℕ) → count ≤ 2 ^ 60 → length ms ≤ 2 ^ 60 → OnOk r (now ≡ ms ++ replicate (count - length ms) false) → OnErr r (now ≡ ms) → length now ≤ 2 ^ 60
-short_opened (Ok done) ms now count small few ok err = let len = ap length ok in omega (arith, len, small, few, length-append ms (replicate (count - length ms) false), length-replicate (count - length ms) false)
-short_opened (Err e) ms now count small few ok err = let len = ap length err in omega (arith, len, few)
-
-pub clear_set : (ms now : List Bool) (i : ℕ) (b : Bool) → now ≡ set ms i b → b ≡ false → IsClear ms → IsClear now
-clear_set ms now i b is none h = rw (is, none) (go ms i h)
-  where
-    go : (xs : List Bool) (k : ℕ) → IsClear xs → IsClear (set xs k false)
-    go [] k clear j = clear j
-    go (x ∷ xs) zero clear zero = refl
-    go (x ∷ xs) zero clear (suc j) = clear (suc j)
-    go (x ∷ xs) (suc k) clear zero = clear 0
-    go (x ∷ xs) (suc k) clear (suc j) = go xs k (λ q. clear (suc q)) j
-
-pub clear_seen : (ms : List Bool) (answer : Option ℕ) → IsNextMark ms 0 answer → is_none answer ≡ true → IsClear ms
-clear_seen ms None next none i = next.unmarked i (omega arith) tt
-clear_seen ms (Some n) next none i = absurd (true≢false (sym none))
+pub none_at : (ms : List Bool) → IsClear ms → (i : ℕ) (b : Bool) → slice_get ms i ≡ Some b → b ≡ false
+none_at ms h i b at = sym (mark_at ms i b at) ∙ h i
 
 pub clear_next : (ms : List Bool) (from : ℕ) → IsClear ms → IsNextMark ms from None
 clear_next ms from h = record { found = λ n is. absurd (none-some n is); unmarked = λ i le before. h i }
@@ -255,6 +227,21 @@ of_kind Q ls k from first d found answer len small is q before n x kind le earli
 
 pub least_four : (a b c d x y r : Option ℕ) → x ≡ least_of a b → y ≡ least_of c d → r ≡ least_of x y → r ≡ least_of (least_of a b) (least_of c d)
 least_four a b c d x y r left right is = rw (sym left, sym right) is
+
+-- what all parts of each type have, each open stream has
+pub has_each : {X : Type 0} (Q : X → Type 0) (ls : List (List X)) (d0 d1 d2 d3 : List X) → length ls ≡ 4 → ((i : ℕ) (x : X) → slice_get (get_or ls 0 d0) i ≡ Some x → Q x) → ((i : ℕ) (x : X) → slice_get (get_or ls 1 d1) i ≡ Some x → Q x)
+    → ((i : ℕ) (x : X) → slice_get (get_or ls 2 d2) i ≡ Some x → Q x) → ((i : ℕ) (x : X) → slice_get (get_or ls 3 d3) i ≡ Some x → Q x) → (n : ℕ) (x : X) → lookup (tables_of ls) n ≡ Some x → Q x
+has_each {X} Q ls d0 d1 d2 d3 len q0 q1 q2 q3 n x at = go (n % 4) refl (omega arith)
+  where
+    there : (k : ℕ) (d : List X) → n % 4 ≡ k → slice_get (get_or ls k d) (n / 4) ≡ Some x
+    there k d e = sym (lookup_is ls n k (n / 4) d len (sym e) refl) ∙ at
+
+    go : (k : ℕ) → n % 4 ≡ k → k < 4 → Q x
+    go zero e lt = q0 (n / 4) x (there 0 d0 e)
+    go (suc zero) e lt = q1 (n / 4) x (there 1 d1 e)
+    go (suc (suc zero)) e lt = q2 (n / 4) x (there 2 d2 e)
+    go (suc (suc (suc zero))) e lt = q3 (n / 4) x (there 3 d3 e)
+    go (suc (suc (suc (suc k)))) e lt = absurd (omega (arith, lt))
 
 -- the number of a stream
 pub before_id : (id : Option ℕ) (a b c d r : Option ℕ) (number from n : ℕ) → r ≡ least_of (least_of a b) (least_of c d) → r ≡ Some number → IfSome a (IsIn from) → IfSome b (IsIn from) → IfSome c (IsIn from) → IfSome d (IsIn from)

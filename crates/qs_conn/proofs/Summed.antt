@@ -1,11 +1,14 @@
 -- Marks and the flags that sum them up by words.
-use Rattle.std.proofs.Common.{◌≡◌, ℕ, ◌+◌, ◌-◌, ◌*◌, ◌/◌, ◌^◌, ◌<◌, ◌≤◌, Bool, true, false, List, [], ◌++◌, length, replicate, Result, Ok, Err, None, Some, sym, ap, ◌∙◌, subst, refl, inl, inr, arith}
+use Rattle.std.proofs.Common.{◌≡◌, ℕ, zero, suc, ◌+◌, ◌-◌, ◌*◌, ◌/◌, ◌^◌, ◌<◌, ◌≤◌, Bool, true, false, List, [], ◌∷◌, ◌++◌, take, length, replicate, Result, Ok, Err, None, Some, sym, ap, ◌∙◌, subst, refl, inl, inr, arith}
 use Rattle.std.specs.Result.{OnOk, OnErr}
 use Rattle.std.proofs.lemmas.Bool.{cases_lt, both_ways}
-use Rattle.std.proofs.lemmas.List.{length-append, length-replicate, get_or_past}
+use Rattle.std.proofs.lemmas.Grind.{get_or-set_at}
+use Rattle.std.proofs.lemmas.List.{length-append, length-replicate, length-set, length-take, get_or_past, get_or-set_other}
 use Rattle.std.proofs.lemmas.Option.{none-some, same_Some}
+use Rattle.qs_conn.proofs.Marked.{mark_past}
 use Rattle.qs_conn.proofs.Words.{padded}
-use Rattle.qs_conn.specs.Marks.{is_marked, IsNextMark, IsNextInWord, AreSummed}
+use Rattle.std.proofs.Math.ListN.{set}
+use Rattle.qs_conn.specs.Marks.{is_marked, IsNextMark, IsNextInWord, HasNoMark, AreSummed}
 
 -- a flag that is set stands within the flags
 pub marked_below : (marks : List Bool) (i : ℕ) → is_marked marks i ≡ true → i < length marks
@@ -34,6 +37,22 @@ module _ (marks words : List Bool) (are : AreSummed marks words) where
         fits = are.fits;
         none = λ word unmarked i at. padded marks n i false ∙ are.none word unmarked i at;
       }
+
+-- Closing
+
+is_marked_taken : (marks : List Bool) (n i : ℕ) → is_marked marks i ≡ false → is_marked (take n marks) i ≡ false
+is_marked_taken marks zero i none = mark_past [] i (omega arith)
+is_marked_taken [] (suc n) i none = none
+is_marked_taken (m ∷ marks) (suc n) zero none = none
+is_marked_taken (m ∷ marks) (suc n) (suc i) none = is_marked_taken marks n i none
+
+pub summed_taken : (marks words marks_now : List Bool) (n : ℕ) → AreSummed marks words → marks_now ≡ take n marks → AreSummed marks_now words
+summed_taken marks words marks_now n are is =
+    record {
+      room = omega (arith, are.room, ap length is, length-take n marks);
+      fits = are.fits;
+      none = λ word unmarked i at. ap (λ xs. is_marked xs i) is ∙ is_marked_taken marks n i (are.none word unmarked i at);
+    }
 
 -- A search
 
@@ -107,3 +126,26 @@ module _ {A E : Type 0} (r : Result A E) (marks words marks_now words_now : List
       go : (q : Result A E) → OnOk q (marks_now ≡ marks ++ replicate (count - length marks) false) → OnErr q (marks_now ≡ marks) → AreSummed marks_now words_now
       go (Ok a) ok err = rw ok (summed_opened marks words_now widened (count - length marks) (omega (arith, more, room)))
       go (Err e) ok err = rw err widened
+
+-- one mark is set or taken away, and its word's flag with it
+module _ (marks words marks_now words_now : List Bool) (i : ℕ) (b has : Bool) (are : AreSummed marks words) (there : i < length marks) (is : marks_now ≡ set marks i b) (looked : has ≡ false → HasNoMark marks_now (i / 64)) (flags : words_now ≡ set words (i / 64) has) where
+  here : (word : ℕ) → word ≡ i / 64 → is_marked words_now word ≡ false → HasNoMark marks_now word
+  here word e unmarked =
+      let none : has ≡ false = sym (get_or-set_at words (i / 64) word has false e (omega (arith, there, are.room))) ∙ ap (λ xs. is_marked xs word) (sym flags) ∙ unmarked in
+      subst (HasNoMark marks_now) (sym e) (looked none)
+
+  other : (word : ℕ) → (word ≡ i / 64 → ⊥) → is_marked words_now word ≡ false → HasNoMark marks_now word
+  other word not_here unmarked j at =
+      ap (λ xs. is_marked xs j) is ∙ get_or-set_other marks i j b false (λ e. not_here (sym at ∙ ap (λ n. n / 64) e)) ∙ are.none word (sym (get_or-set_other words (i / 64) word has false not_here) ∙ ap (λ xs. is_marked xs word) (sym flags) ∙ unmarked) j at
+
+  pub summed_set : AreSummed marks_now words_now
+  summed_set =
+      record {
+        room = omega (arith, are.room, ap length is, length-set marks i b, ap length flags, length-set words (i / 64) has);
+        fits = omega (arith, are.fits, ap length flags, length-set words (i / 64) has);
+        none = λ word unmarked.
+            elim (cases_lt word (i / 64)) [
+              | inl lt ↦ other word (λ e. omega (arith, lt, e)) unmarked
+              | inr ge ↦ elim (cases_lt (i / 64) word) [ inl lt ↦ other word (λ e. omega (arith, lt, e)) unmarked | inr le ↦ here word (omega (arith, ge, le)) unmarked ]
+            ];
+      }

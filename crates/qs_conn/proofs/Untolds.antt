@@ -25,6 +25,7 @@ use Rattle.std.specs.Prelude.{Result, Ok, Err}
 use Rattle.std.specs.Result.{OnOk, OnErr}
 use Rattle.qs_machine.specs.Outgoing.{items_acked, with_sends}
 use Rattle.qs_send.specs.Lane.{SendLane, sent_lane}
+use Rattle.qs_conn.specs.Runs.{held_out}
 use Rattle.qs_conn.specs.declared.terms.Terms.{Terms}
 use Rattle.qs_conn.specs.declared.slot.Kind.{Kind}
 use Rattle.qs_conn.specs.declared.slot.Kind.TheVariants as kinds
@@ -360,9 +361,9 @@ acked_acked late k (Data n c) o = refl
 acked_acked late k (Told i) o = refl
 
 -- an outstanding piece is acknowledged
-pub acked_stays : (k : ℕ) (p : Piece) (o new : Outgoing) (marks marks' : Tables Bool) → first_piece (fmap.get o.outstanding k) ≡ Some p → new ≡ first_acked_out (acked_at false k p) o → marks' ≡ marked_for p marks → StayTold o marks new marks'
+timely_stays : (k : ℕ) (p : Piece) (o new : Outgoing) (marks marks' : Tables Bool) → first_piece (fmap.get o.outstanding k) ≡ Some p → new ≡ first_acked_out (acked_at false k p) o → marks' ≡ marked_for p marks → StayTold o marks new marks'
 unfolding StayTold
-acked_stays k p o new marks marks' first is are r s recvs h =
+timely_stays k p o new marks marks' first is are r s recvs h =
     rw (is, are, outstanding_acked false k p o, acked_acked false k p o) (told_stay r s recvs o.outstanding o.acked marks h _ _ (marked_for p marks) (has_for p marks)
     (λ n w l i free has was. elim was [
       | inl out ↦ inl (still_carried o.outstanding _ k p (Told i) (shortened_is o.outstanding k p first) (not_left p marks n w l i free has) out)
@@ -370,11 +371,15 @@ acked_stays k p o new marks marks' first is are r s recvs h =
     ]))
 
 -- a lost piece is, late
-pub late_stays : (k : ℕ) (p : Piece) (o new : Outgoing) (marks marks' : Tables Bool) → new ≡ first_acked_out (acked_at true k p) o → marks' ≡ marked_for p marks → StayTold o marks new marks'
+late_stays : (k : ℕ) (p : Piece) (o new : Outgoing) (marks marks' : Tables Bool) → new ≡ first_acked_out (acked_at true k p) o → marks' ≡ marked_for p marks → StayTold o marks new marks'
 unfolding StayTold
 late_stays k p o new marks marks' is are r s recvs h =
     rw (is, are, outstanding_acked true k p o, acked_acked true k p o) (told_stay r s recvs o.outstanding o.acked marks h _ _ (marked_for p marks) (has_for p marks)
     (λ n w l i free has was. elim was [ inl out ↦ inl out | inr known ↦ inr (still_noted p marks n w l i o.acked free has known) ]))
+
+pub acked_stays : (late : Bool) (k : ℕ) (p : Piece) (o new : Outgoing) (marks marks' : Tables Bool) → first_piece (fmap.get (held_out late o) k) ≡ Some p → new ≡ first_acked_out (acked_at late k p) o → marks' ≡ marked_for p marks → StayTold o marks new marks'
+acked_stays true k p o new marks marks' first is are = late_stays k p o new marks marks' is are
+acked_stays false k p o new marks marks' first is are = timely_stays k p o new marks marks' first is are
 
 -- a piece is lost
 pub lost_stays : (k : ℕ) (p : Piece) (o new : Outgoing) (marks marks' : Tables Bool) → first_piece (fmap.get o.outstanding k) ≡ Some p → new ≡ first_lost_out k p o → marks' ≡ marked_for p marks → StayTold o marks new marks'
@@ -414,15 +419,11 @@ lost_stop piece o p q a b c before is are = stay_twice o p q a b c before (marks
 pub told_with : (r : Role) (s : Settings) (recvs : Tables RecvLane) (o new : Outgoing) (t : Tables SendLane) (marks : Tables Bool) → new ≡ with_sends t o → AreTold r s recvs o.outstanding o.acked marks → AreTold r s recvs new.outstanding new.acked marks
 told_with r s recvs o new t marks is h = subst (λ (x : Outgoing). AreTold r s recvs x.outstanding x.acked marks) (sym is) h
 
--- an outstanding piece is acknowledged, or nothing left
-pub acked_by : {E : Type 0} (result : Result (Unit {0}) E) (k : ℕ) (p : Piece) (o new : Outgoing) (marks marks' : Tables Bool) → first_piece (fmap.get o.outstanding k) ≡ Some p → OnOk result (new ≡ first_acked_out (acked_at false k p) o) → OnErr result (new ≡ o) → marks' ≡ marked_for p marks
-    → StayTold o marks new marks'
-acked_by (Ok done) k p o new marks marks' first ok err are = acked_stays k p o new marks marks' first ok are
-acked_by (Err e) k p o new marks marks' first ok err are = marks_stay p o new marks marks' err are
-
-pub late_by : {E : Type 0} (result : Result (Unit {0}) E) (k : ℕ) (p : Piece) (o new : Outgoing) (marks marks' : Tables Bool) → OnOk result (new ≡ first_acked_out (acked_at true k p) o) → OnErr result (new ≡ o) → marks' ≡ marked_for p marks → StayTold o marks new marks'
-late_by (Ok done) k p o new marks marks' ok err are = late_stays k p o new marks marks' ok are
-late_by (Err e) k p o new marks marks' ok err are = marks_stay p o new marks marks' err are
+-- a piece is acknowledged, or nothing left
+pub acked_by : {E : Type 0} (late : Bool) (result : Result (Unit {0}) E) (k : ℕ) (p : Piece) (o new : Outgoing) (marks marks' : Tables Bool) → first_piece (fmap.get (held_out late o) k) ≡ Some p → OnOk result (new ≡ first_acked_out (acked_at late k p) o) → OnErr result (new ≡ o)
+    → marks' ≡ marked_for p marks → StayTold o marks new marks'
+acked_by late (Ok done) k p o new marks marks' first ok err are = acked_stays late k p o new marks marks' first ok are
+acked_by late (Err e) k p o new marks marks' first ok err are = marks_stay p o new marks marks' err are
 
 -- A search
 

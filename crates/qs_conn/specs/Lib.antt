@@ -11,3 +11,4 @@ pub mod Sending
 pub mod Untold
 pub mod Named
 pub mod Held
+pub mod Settled

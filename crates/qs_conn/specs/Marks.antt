@@ -61,6 +61,12 @@ IsEndedOf e kind n = (kind_of n ≡ kind) × IsEnded e n
 abbrev pub HasNoMark : List Bool → ℕ → Type 0
 HasNoMark marks word = (i : ℕ) → i / 64 ≡ word → is_marked marks i ≡ false
 
+-- how many indexes are marked
+abbrev pub count_marked : List Bool → ℕ
+count_marked [] = 0
+count_marked (true ∷ marks) = count_marked marks + 1
+count_marked (false ∷ marks) = count_marked marks
+
 -- There is a flag for each word of marks, and a word without one has no mark.
 pub record AreSummed (marks words : List Bool) : Type 0 where
   pub room : length marks ≤ 64 * length words

@@ -1,5 +1,5 @@
 //! Which streams of the peer came to their end.
-ghost use Rattle.std.specs.Prelude.{◌≡◌, ◌+◌, ◌-◌, ◌≤◌, ◌<◌, ◌^◌, ℕ, length, if◌then◌else◌};
+ghost use Rattle.std.specs.Prelude.{◌≡◌, ◌+◌, ◌-◌, ◌≤◌, ◌<◌, ◌^◌, ℕ, length, true, if◌then◌else◌};
 ghost use Rattle.qs_machine.specs.Tables.{table};
 ghost use Rattle.qs_machine.specs.Ends.{is_uni};
 ghost use Rattle.qs_conn.specs.Ended.{is_over, one_if, recounted};
@@ -18,6 +18,13 @@ pub(crate) struct EndedStreams {
 }
 
 impl EndedStreams {
+    /// Whether the counts are the same as others.
+    pub(crate) fn is_same(&self, other: EndedStreams) -> bool
+        ensures { result ≡ true → self.now ≡ other }
+    {
+        self.bidi == other.bidi && self.uni == other.uni
+    }
+
     /// Counts a stream anew, which was at its end or wasn't, and is now or isn't.
     pub(crate) fn recount(&mut self, stream: StreamId, was: bool, is: bool)
         requires small { (self.old.bidi ≤ 2 ^ 60) × (self.old.uni ≤ 2 ^ 60) }

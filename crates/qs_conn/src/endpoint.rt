@@ -16,8 +16,9 @@ use crate::places::kind_of;
 use crate::recv_tables::RecvTables;
 use crate::setup::setup_fault;
 use crate::untold::Untold;
-use qs_calls::{Closed, Closing, MAX_VARINT, PeerLimits, Settings, SetupFault};
+use qs_calls::{Closed, Closing, PeerLimits, Settings, SetupFault};
 use qs_ranges::RangeSet;
+use qs_recv::next_limit;
 use qs_wire::{Dir, Frame, Role, StreamId, put};
 use std::alloc::Global;
 use std::marker::Model;
@@ -54,6 +55,8 @@ pub struct Endpoint {
     granted_bidi: u64,
     granted_uni: u64,
     ended: EndedStreams,
+    // Whether nothing that the limits and the counts of streams follow has moved since they were looked at.
+    is_settled: bool,
     known_data: u64,
     known_bidi: u64,
     known_uni: u64,
@@ -75,6 +78,7 @@ impl Model for Endpoint {
     ghost use Rattle.qs_conn.specs.Filling.{IsFunded};
     ghost use Rattle.qs_conn.specs.Ended.{CountsFit};
     ghost use Rattle.qs_conn.specs.Untold.{AreTold};
+    ghost use Rattle.qs_conn.specs.Settled.{AreNextWhere};
 
     ghost Value = { End };
 
@@ -106,9 +110,9 @@ impl Model for Endpoint {
       closed = e.closed;
     } };
 
-    // Between calls no packet is in the making, and one may be made; the counts of streams are right; and of a stream without a mark
-    // nothing is to be told that wasn't.
-    ghost invariant = { λ e. IsKept e.role e.settings e.peer e.recvs e.granted e.known_bidi e.known_uni e.closed × IsIdle e.outbox × IsFunded e.outbox.sends e.known_data e.done e.ack_due × CountsFit e.role e.settings e.recvs e.outbox.sends e.ended e.granted_bidi e.granted_uni × AreTold e.role e.settings e.recvs e.outbox.outstanding e.outbox.acked e.untold };
+    // Between calls no packet is in the making, and one may be made; the counts of streams are right; of a stream without a mark
+    // nothing is to be told that wasn't; and where nothing moved each limit is the next one already.
+    ghost invariant = { λ e. IsKept e.role e.settings e.peer e.recvs e.granted e.known_bidi e.known_uni e.closed × IsIdle e.outbox × IsFunded e.outbox.sends e.known_data e.done e.ack_due × CountsFit e.role e.settings e.recvs e.outbox.sends e.ended e.granted_bidi e.granted_uni × AreTold e.role e.settings e.recvs e.outbox.outstanding e.outbox.acked e.untold × AreNextWhere e.is_settled e.settings e.recvs e.ended e.granted e.granted_bidi e.granted_uni };
 }
 
 impl Endpoint {
@@ -136,6 +140,7 @@ impl Endpoint {
             granted_bidi: settings.grant_bidi,
             granted_uni: settings.grant_uni,
             ended: EndedStreams { bidi: 0, uni: 0 },
+            is_settled: false,
             known_data: peer.max_data,
             known_bidi: peer.streams_bidi,
             known_uni: peer.streams_uni,
@@ -210,11 +215,13 @@ impl Endpoint {
         put_close(closing, out)
     }
 
-    // Each limit becomes the next one, and each granted count of streams.
+    // Each limit becomes the next one, and each granted count of streams: where nothing moved they are.
     fn settle(&mut self)
         ensures { self.new ≡ settle self.old }
     {
-        let _granted = self.granted;
+        if self.is_settled {
+            return;
+        }
         self.recvs.raise_all(&mut self.untold);
         let taken = self.recvs.tally().taken;
         let settings = &self.settings;
@@ -225,6 +232,7 @@ impl Endpoint {
             self.ended.bidi,
         );
         self.granted_uni = next_count(settings.grant_uni, settings.lifetime_uni, self.ended.uni);
+        self.is_settled = true;
     }
 
     // Whether this end opens the stream.
@@ -280,23 +288,6 @@ pub(crate) fn is_uni(stream: StreamId) -> bool
     ensures { result ≡ is_uni stream }
 {
     kind_of(stream) >= 2
-}
-
-// The limit that follows, where so much was taken of a window (RFC 9000, section 4.2).
-fn next_limit(limit: u64, taken: u64, window: u64) -> u64
-    requires small { limit ≤ MAX_VARINT }
-    requires taken { taken ≤ MAX_VARINT }
-    requires window { window ≤ 2 ^ 24 }
-    ensures value { result ≡ next_limit limit taken window }
-    ensures in_range { result ≤ MAX_VARINT }
-{
-    let next = (taken + window).min(MAX_VARINT);
-    let step = (window / 2).max(1);
-    if limit + step <= next || (next == MAX_VARINT && limit < next) {
-        next
-    } else {
-        limit
-    }
 }
 
 // How many streams may be opened, where so many came to their end (RFC 9000, section 4.6).

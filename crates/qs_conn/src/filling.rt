@@ -8,7 +8,7 @@ ghost use Rattle.qs_send.specs.declared.piece.Piece.TheVariants as pieces;
 ghost use Rattle.qs_machine.specs.Credit.{all_sent};
 ghost use Rattle.qs_send.specs.Lane.{sent_lane, bytes_of};
 ghost use Rattle.qs_send.specs.Chunks.{frame_len};
-ghost use Rattle.qs_wire.specs.Layout.{view};
+ghost use Rattle.qs_wire.specs.Layout.{view, stream};
 ghost use Rattle.qs_wire.specs.Grammar.{Fits, canonical};
 ghost use Rattle.qs_conn.specs.declared.terms.Terms.{Terms};
 ghost use Rattle.qs_machine.specs.Tables.{Tables, lookup};
@@ -28,7 +28,7 @@ use crate::terms::Terms;
 use crate::untold::Untold;
 use qs_ranges::RangeSet;
 use qs_send::{Chunk, Item};
-use qs_wire::{Dir, Frame, StreamId, put, put_ack};
+use qs_wire::{Dir, Frame, StreamId, put, put_ack, put_stream};
 
 /// No STREAM frame with a length is shorter: its type, its stream and its length take a byte each (RFC 9000, section 19.8).
 const LEAST_STREAM_FRAME: usize = 3;
@@ -56,6 +56,29 @@ fn put_frame(frame: &Frame<'_>, out: &mut [u8], len: usize) -> Option<usize>
     ensures room { length out.new ≡ length out.old }
 {
     match put(frame, &mut out[len..]) {
+        Ok(more) => Some(len + more),
+        Err(_full) => None,
+    }
+}
+
+/// Writes a STREAM frame with the bytes of a front and a back behind the bytes that are there, as `put_frame` does.
+fn put_data(
+    id: StreamId,
+    chunk: Chunk,
+    front: &[u8],
+    back: &[u8],
+    out: &mut [u8],
+    len: usize,
+) -> Option<usize>
+    requires fits { Fits (stream id chunk.offset chunk.fin (front.now ++ back.now)) }
+    requires within { len ≤ length out.old }
+    ensures text { IfSome result (λ end. take end out.new ≡ take len out.old ++ canonical (stream id chunk.offset chunk.fin (front.now ++ back.now))) }
+    ensures end { IfSome result (λ end. end ≡ len + length (canonical (stream id chunk.offset chunk.fin (front.now ++ back.now)))) }
+    ensures inside { IfSome result (λ end. end ≤ length out.old) }
+    ensures full { IfNone result (length out.old - len < length (canonical (stream id chunk.offset chunk.fin (front.now ++ back.now)))) }
+    ensures room { length out.new ≡ length out.old }
+{
+    match put_stream(id, chunk.offset, chunk.fin, front, back, &mut out[len..]) {
         Ok(more) => Some(len + more),
         Err(_full) => None,
     }
@@ -312,13 +335,8 @@ pub(crate) fn put_chunk(
     ensures spare { HasSpare (length out.new) result outbox.new.spare }
     ensures room { length out.new ≡ length out.old }
 {
-    let frame = Frame::Stream {
-        stream,
-        offset: chunk.offset,
-        fin: chunk.fin,
-        bytes: outbox.bytes(stream, chunk),
-    };
-    match put_frame(&frame, out, len) {
+    let (front, back) = outbox.bytes(stream, chunk);
+    match put_data(stream, chunk, front, back, out, len) {
         Some(end) => {
             outbox.put_chunk(stream, chunk);
             end
@@ -366,7 +384,7 @@ pub(crate) fn put_chunks(
 }
 
 // Puts chunks of a stream into the packet, if it is one that can send.
-fn put_stream(
+fn put_open(
     terms: &Terms,
     outbox: &mut Outbox,
     stream: StreamId,
@@ -442,7 +460,7 @@ fn put_way(
         if !is_on_way(around, first, stream) {
             return packet;
         }
-        packet = put_stream(terms, outbox, stream, out, packet);
+        packet = put_open(terms, outbox, stream, out, packet);
         if packet.is_full {
             return packet;
         }

@@ -1,6 +1,7 @@
 //! Which streams of one type may have something to send or to tell.
 ghost use Rattle.std.specs.Prelude.{◌≡◌, ◌++◌, ◌*◌, ◌-◌, ◌<◌, ◌^◌, [], true, false, length, take, slice_set, replicate, OnOk, OnErr};
 ghost use Rattle.qs_conn.specs.Marks.{IsNextMark, HasNoMark, least_of};
+ghost use Rattle.qs_conn.specs.Untold.{IsClear};
 
 use crate::bits::{Bits, FLAGS_PER_WORD};
 use qs_ranges::NoMemory;
@@ -8,18 +9,20 @@ use std::alloc::Global;
 use std::marker::Model;
 
 /// A mark for each index of the streams of one type, and a flag for each word of marks that has one: so a search looks at one word of
-/// flags for 4,096 indexes without a mark.
+/// flags for 4,096 indexes without a mark, and at none where no index has one.
 #[derive(Drop)]
 pub(crate) struct Marks {
     marks: Bits,
     // A word without a flag has no mark.
     words: Bits,
+    // No more indexes than these have a mark: without any a search needs one look.
+    most: usize,
 }
 
 impl Model for Marks {
-    ghost use Rattle.std.specs.Prelude.{List, Bool};
+    ghost use Rattle.std.specs.Prelude.{◌≤◌, List, Bool};
     ghost use Rattle.std.specs.Coded.{coded_list, coded_bool};
-    ghost use Rattle.qs_conn.specs.Marks.{AreSummed};
+    ghost use Rattle.qs_conn.specs.Marks.{AreSummed, count_marked};
 
     ghost Value = { List Bool };
 
@@ -27,7 +30,7 @@ impl Model for Marks {
 
     ghost view = { λ m. m.marks };
 
-    ghost invariant = { λ m. AreSummed m.marks m.words };
+    ghost invariant = { λ m. AreSummed m.marks m.words × (count_marked m.marks ≤ m.most) };
 }
 
 impl Marks {
@@ -38,7 +41,15 @@ impl Marks {
         Marks {
             marks: Bits::new(alloc),
             words: Bits::new(alloc),
+            most: 0,
         }
+    }
+
+    /// Whether some index may have a mark.
+    pub(crate) fn may_have(&self) -> bool
+        ensures { result ≡ false → IsClear self.now }
+    {
+        self.most > 0
     }
 
     /// How many indexes there are.
@@ -102,12 +113,20 @@ impl Marks {
         self.marks.set(index, is_marked);
         let word = index / FLAGS_PER_WORD;
         self.words.set(word, has_mark(&self.marks, word));
+        if !is_marked {
+            self.most -= 1;
+        } else if self.most < self.marks.len() {
+            self.most += 1;
+        }
     }
 
     /// The least marked index from an index on.
     pub(crate) fn next(&self, from: usize) -> Option<usize>
         ensures { IsNextMark self.now from result }
     {
+        if self.most == 0 {
+            return None;
+        }
         if let Some(index) = self.marks.next_in_word(from) {
             return Some(index);
         }

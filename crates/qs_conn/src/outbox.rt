@@ -24,10 +24,11 @@ mod acks;
 mod making;
 mod telling;
 
+pub(crate) use acks::KeptPacket;
+
 /// What an end sends: its sending halves, what its packets carried, and what was acknowledged of them.
 #[derive(Drop)]
 pub(crate) struct Outbox {
-    alloc: Global,
     sends: SendTables,
     // The sum of all sent ends.
     sent: u64,
@@ -71,7 +72,6 @@ impl Outbox {
         ensures { result ≡ no_packets }
     {
         Outbox {
-            alloc,
             sends: SendTables::new(alloc),
             sent: 0,
             records: Records::new(alloc),

@@ -1,5 +1,5 @@
 //! Where a stream stands in a table.
-ghost use Rattle.std.specs.Prelude.{◌≡◌, ◌<◌, ◌^◌};
+ghost use Rattle.std.specs.Prelude.{◌≡◌, ◌+◌, ◌-◌, ◌/◌, ◌≤◌, ◌<◌, ◌^◌};
 ghost use Rattle.qs_machine.specs.Tables.{kind_of, index_of};
 
 use qs_wire::StreamId;
@@ -18,4 +18,13 @@ pub(crate) fn index_of(stream: StreamId) -> usize
     ensures small { result < 2 ^ 60 }
 {
     (stream.value() / 4) as usize
+}
+
+/// The index of the least stream of a type from a number on.
+pub(crate) fn index_from(kind: usize, from: u64) -> usize
+    requires kind { kind < 4 }
+    requires from { from ≤ 2 ^ 62 }
+    ensures { result ≡ (from + 3 - kind) / 4 }
+{
+    ((from + 3 - kind as u64) / 4) as usize
 }

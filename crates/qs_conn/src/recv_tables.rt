@@ -16,7 +16,7 @@ ghost use Rattle.qs_conn.specs.Untold.{HasMore};
 ghost use Rattle.qs_conn.specs.RecvTasks.{HasOne};
 
 use crate::marks::least;
-use crate::places::{index_of, kind_of};
+use crate::places::{index_from, index_of, kind_of};
 use crate::recv_lanes::RecvLanes;
 use crate::recv_marks::RecvTask;
 use crate::untold::Untold;
@@ -298,8 +298,7 @@ impl RecvTables {
         ensures small { IfSome result (λ n. n < 2 ^ 62) }
     {
         let lanes = &self.types[kind];
-        let first = (from + 3 - kind as u64) / 4;
-        match lanes.next_with(task, first as usize) {
+        match lanes.next_with(task, index_from(kind, from)) {
             Some(index) => Some((index * 4 + kind) as u64),
             None => None,
         }

@@ -257,6 +257,13 @@ impl SendLanes {
         answer
     }
 
+    /// Whether any half may have a task.
+    pub(crate) fn may_have(&self, task: Task) -> bool
+        ensures { result ≡ false → (i : ℕ) (s : Sending) → slice_get self.now i ≡ Some s → IsQuiet task s }
+    {
+        self.marks.may_have(task)
+    }
+
     /// The least index from one on whose half may have a task. The halves between are quiet of it.
     pub(crate) fn next_marked(&self, task: Task, from: usize) -> Option<usize>
         ensures from { IfSome result (λ n. from ≤ n) }

@@ -3,6 +3,7 @@ ghost use Rattle.std.specs.Prelude.{◌≡◌, ◌++◌, ◌-◌, ◌<◌, [], t
 ghost use Rattle.qs_machine.specs.Credit.{send_ended};
 ghost use Rattle.qs_conn.specs.Marks.{IsNextMark};
 ghost use Rattle.qs_conn.specs.Tasks.{IsQuiet, IsLooked, IsStill, HasTask, begins, marks_of};
+ghost use Rattle.qs_conn.specs.Untold.{IsClear};
 ghost use Rattle.qs_conn.specs.declared.send_marks.Task.TheVariants as tasks;
 
 use crate::marks::Marks;
@@ -149,6 +150,19 @@ impl SendMarks {
         self.bytes.set(index, may_send(half));
         self.writable.set(index, half.is_writable());
         self.ended.set(index, has_ended(half));
+    }
+
+    /// Whether any index may be marked.
+    pub(crate) fn may_have(&self, task: Task) -> bool
+        ensures { result ≡ false → IsClear (marks_of self.now task) }
+    {
+        match task {
+            Task::Bytes => self.bytes.may_have(),
+            Task::Reset => self.resets.may_have(),
+            Task::Blocked => self.blocks.may_have(),
+            Task::Writable => self.writable.may_have(),
+            Task::Ended => self.ended.may_have(),
+        }
     }
 
     /// The least marked index from one on.

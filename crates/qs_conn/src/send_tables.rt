@@ -1,5 +1,5 @@
 //! The sending halves of an end.
-ghost use Rattle.std.specs.Prelude.{◌≡◌, ◌-◌, ◌≤◌, ◌<◌, ◌^◌, ℕ, length, min, take, is_some, unwrap_or, true, Some, None, OnOk, OnErr, IfOk, IfErr, IfSome};
+ghost use Rattle.std.specs.Prelude.{◌≡◌, ◌-◌, ◌≤◌, ◌<◌, ◌^◌, ℕ, length, min, take, is_some, unwrap_or, true, false, Some, None, OnOk, OnErr, IfOk, IfErr, IfSome};
 ghost use Rattle.qs_ranges.specs.Numbers.{MAX_VARINT};
 ghost use Rattle.qs_send.specs.Lane.{Sending, new_sending, accepted, refusal, reset_refusal, answer_of, state, after_write, after_finish, after_reset, after_stopped, after_reset_acked, after_blocked, after_allow, after_sent, after_acked, after_lost};
 ghost use Rattle.qs_send.specs.Chunks.{IsDueChunk, WasSent};
@@ -12,7 +12,7 @@ ghost use Rattle.qs_conn.specs.Marks.{IsBefore, HaveTo, IsHeldOf};
 ghost use Rattle.qs_conn.specs.Tasks.{IsQuiet, HasTask};
 
 use crate::marks::least;
-use crate::places::{index_of, kind_of};
+use crate::places::{index_from, index_of, kind_of};
 use crate::send_lanes::SendLanes;
 use crate::send_marks::Task;
 use qs_ranges::NoMemory;
@@ -246,9 +246,38 @@ impl SendTables {
         ensures from { IfSome result (λ n. from ≤ n) }
         ensures quiet { (n : ℕ) (s : Sending) → from ≤ n → IsBefore n result → lookup self.now n ≡ Some s → IsQuiet task s }
     {
+        if !self.may_have(task) {
+            return None;
+        }
+        self.least_marked(task, from)
+    }
+
+    // The search. It stands apart, so that where no half has a task a caller pays for the look above alone.
+    #[inline(never)]
+    fn least_marked(&self, task: Task, from: u64) -> Option<StreamId>
+        requires { from ≤ 2 ^ 62 }
+        ensures from { IfSome result (λ n. from ≤ n) }
+        ensures quiet { (n : ℕ) (s : Sending) → from ≤ n → IsBefore n result → lookup self.now n ≡ Some s → IsQuiet task s }
+    {
         let bidi = least(self.next_of(task, 0, from), self.next_of(task, 1, from));
         let uni = least(self.next_of(task, 2, from), self.next_of(task, 3, from));
         StreamId::new(least(bidi, uni)?)
+    }
+
+    // Whether any half may have a task.
+    fn may_have(&self, task: Task) -> bool
+        ensures { result ≡ false → (n : ℕ) (s : Sending) → lookup self.now n ≡ Some s → IsQuiet task s }
+    {
+        if self.types[0].may_have(task) {
+            return true;
+        }
+        if self.types[1].may_have(task) {
+            return true;
+        }
+        if self.types[2].may_have(task) {
+            return true;
+        }
+        self.types[3].may_have(task)
     }
 
     // The least such number among the streams of a type.
@@ -259,8 +288,7 @@ impl SendTables {
         ensures quiet { HaveTo (IsQuiet task) self.now from result kind }
     {
         let lanes = &self.types[kind];
-        let first = (from + 3 - kind as u64) / 4;
-        let index = lanes.next_marked(task, first as usize)?;
+        let index = lanes.next_marked(task, index_from(kind, from))?;
         Some((index * 4 + kind) as u64)
     }
 
@@ -291,8 +319,7 @@ impl SendTables {
         ensures small { IfSome result (λ n. n < 2 ^ 62) }
     {
         let lanes = &self.types[kind];
-        let first = (from + 3 - kind as u64) / 4;
-        match lanes.next_with(task, first as usize) {
+        match lanes.next_with(task, index_from(kind, from)) {
             Some(index) => Some((index * 4 + kind) as u64),
             None => None,
         }

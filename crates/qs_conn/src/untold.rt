@@ -3,10 +3,10 @@ ghost use Rattle.std.specs.Prelude.{◌≡◌, ◌+◌, ◌-◌, ◌++◌, ◌�
 ghost use Rattle.qs_machine.specs.Tables.{no_streams, lookup, updated, open_to};
 ghost use Rattle.qs_machine.specs.Sums.{changed};
 ghost use Rattle.qs_conn.specs.Marks.{IsBefore, IsNextMark, HaveTo};
-ghost use Rattle.qs_conn.specs.Untold.{IsUnmarked, marked_for};
+ghost use Rattle.qs_conn.specs.Untold.{IsClear, IsUnmarked, marked_for};
 
 use crate::marks::{Marks, least};
-use crate::places::{index_of, kind_of};
+use crate::places::{index_from, index_of, kind_of};
 use qs_ranges::NoMemory;
 use qs_send::{Item, Piece};
 use qs_wire::StreamId;
@@ -17,14 +17,11 @@ use std::marker::Model;
 #[derive(Drop)]
 struct UntoldLanes {
     marks: Marks,
-    // Without it none is marked, as mostly none is.
-    may_have: bool,
 }
 
 impl Model for UntoldLanes {
-    ghost use Rattle.std.specs.Prelude.{◌≡◌, ◌≤◌, ◌^◌, List, Bool, false, length};
+    ghost use Rattle.std.specs.Prelude.{◌≤◌, ◌^◌, List, Bool, length};
     ghost use Rattle.std.specs.Coded.{coded_list, coded_bool};
-    ghost use Rattle.qs_conn.specs.Untold.{IsClear};
 
     ghost Value = { List Bool };
 
@@ -32,17 +29,15 @@ impl Model for UntoldLanes {
 
     ghost view = { λ u. u.marks };
 
-    ghost invariant = { λ u. length u.marks ≤ 2 ^ 60 × (u.may_have ≡ false → IsClear u.marks) };
+    ghost invariant = { λ u. length u.marks ≤ 2 ^ 60 };
 }
 
 impl UntoldLanes {
-    #[tactic(auto, using(crate::proofs::Marked::clear_new))]
     fn new(alloc: Global) -> Self
         ensures { result ≡ [] }
     {
         UntoldLanes {
             marks: Marks::new(alloc),
-            may_have: false,
         }
     }
 
@@ -60,7 +55,6 @@ impl UntoldLanes {
         self.marks.open_to(count)
     }
 
-    #[tactic(auto, using(crate::proofs::Marked::clear_set))]
     fn set(&mut self, index: usize, is_marked: bool)
         ensures { self.new ≡ changed self.old index (λ b. is_marked) (slice_get self.old index) }
     {
@@ -68,28 +62,18 @@ impl UntoldLanes {
             return;
         }
         self.marks.set(index, is_marked);
-        if is_marked {
-            self.may_have = true;
-        }
     }
 
-    // Whether any is marked still is looked at. No clause sees it.
-    #[tactic(auto, using(crate::proofs::Marked::clear_seen))]
-    fn look(&mut self)
-        ensures { self.new ≡ self.old }
+    fn may_have(&self) -> bool
+        ensures { result ≡ false → IsClear self.now }
     {
-        if self.may_have && self.marks.next(0).is_none() {
-            self.may_have = false;
-        }
+        self.marks.may_have()
     }
 
     fn next(&self, from: usize) -> Option<usize>
         ensures next { IsNextMark self.now from result }
         ensures small { IfSome result (λ n. n < 2 ^ 60) }
     {
-        if !self.may_have {
-            return None;
-        }
         self.marks.next(from)
     }
 }
@@ -156,16 +140,6 @@ impl Untold {
         lanes.set(index_of(stream), is_marked);
     }
 
-    /// Looks whether any stream is marked still. No clause sees it.
-    pub(crate) fn look(&mut self)
-        ensures { self.new ≡ self.old }
-    {
-        self.types[0].look();
-        self.types[1].look();
-        self.types[2].look();
-        self.types[3].look();
-    }
-
     /// A piece leaves its packet: the stream whose limit or stop it told is marked.
     pub(crate) fn look_again(&mut self, piece: &Piece)
         ensures { self.new ≡ marked_for piece.now self.old }
@@ -183,9 +157,28 @@ impl Untold {
         ensures from { IfSome result (λ n. from ≤ n) }
         ensures unmarked { (n : ℕ) (b : Bool) → from ≤ n → IsBefore n result → lookup self.now n ≡ Some b → b ≡ false }
     {
+        if !self.may_have() {
+            return None;
+        }
         let bidi = least(self.next_of(0, from), self.next_of(1, from));
         let uni = least(self.next_of(2, from), self.next_of(3, from));
         StreamId::new(least(bidi, uni)?)
+    }
+
+    // Whether any stream may be marked.
+    fn may_have(&self) -> bool
+        ensures { result ≡ false → (n : ℕ) (b : Bool) → lookup self.now n ≡ Some b → b ≡ false }
+    {
+        if self.types[0].may_have() {
+            return true;
+        }
+        if self.types[1].may_have() {
+            return true;
+        }
+        if self.types[2].may_have() {
+            return true;
+        }
+        self.types[3].may_have()
     }
 
     // The least such number among the streams of a type.
@@ -196,8 +189,7 @@ impl Untold {
         ensures unmarked { HaveTo IsUnmarked self.now from result kind }
     {
         let lanes = &self.types[kind];
-        let first = (from + 3 - kind as u64) / 4;
-        let index = lanes.next(first as usize)?;
+        let index = lanes.next(index_from(kind, from))?;
         Some((index * 4 + kind) as u64)
     }
 }

@@ -1,5 +1,5 @@
 //! Packets are acknowledged.
-ghost use Rattle.std.specs.Prelude.{◌≡◌, ◌<◌, ◌^◌, true, false, Some, OnOk, OnErr};
+ghost use Rattle.std.specs.Prelude.{◌≡◌, ◌<◌, ◌^◌, Some, OnOk, OnErr};
 ghost use Rattle.std.specs.FinMap as fmap;
 ghost use Rattle.qs_wire.specs.Varint.{numbers_of};
 ghost use Rattle.qs_wire.specs.Layout.{ack_ranges_of};
@@ -7,14 +7,14 @@ ghost use Rattle.qs_machine.specs.Memory.{PieceMayRunOut};
 ghost use Rattle.qs_machine.specs.Outgoing.{IsIdle, first_piece, first_acked_out, acked_at};
 ghost use Rattle.qs_conn.specs.Ended.{AreAllCounted, half_of};
 ghost use Rattle.qs_conn.specs.Untold.{StayTold};
-ghost use Rattle.qs_conn.specs.Runs.{AcksAhead, AcksNamed, AcksPacket, AcksRanges};
+ghost use Rattle.qs_conn.specs.Runs.{AcksAhead, AcksNamed, AcksPacket, AcksRanges, held_out};
 
 use crate::ended::{EndedStreams, is_over};
-use crate::outbox::Outbox;
+use crate::outbox::{KeptPacket, Outbox};
 use crate::recv_tables::RecvTables;
 use crate::untold::Untold;
 use qs_ranges::NoMemory;
-use qs_send::{AckPass, Item, LostPass, Piece};
+use qs_send::{AckPass, Item, Piece};
 use qs_wire::{AckRanges, Role, StreamId};
 
 // The packets that an ACK names are acknowledged: the outstanding ones and then the lost ones, each from the highest number down.
@@ -36,32 +36,35 @@ pub(super) fn ack_ranges(
     ensures told { StayTold outbox.old untold.old outbox.new untold.new }
     ensures step { AcksRanges (ack_ranges_of largest (numbers_of ranges.now)) outbox.old result outbox.new }
 {
-    ack_outstanding(
+    ack_all(
         outbox,
         role,
         recvs,
         ended,
         untold,
+        false,
         AckRanges::new(largest, ranges),
     )?;
-    ack_lost(
+    ack_all(
         outbox,
         role,
         recvs,
         ended,
         untold,
+        true,
         AckRanges::new(largest, ranges),
     )
 }
 
-// The outstanding packets that the ranges name are acknowledged, in one pass.
-#[tactic(auto, using(crate::proofs::AckRuns::all_pass))]
-fn ack_outstanding(
+// The packets that the ranges name are acknowledged in one pass, the outstanding ones or the lost ones.
+#[tactic(auto, using(crate::proofs::AckRuns::all_named))]
+fn ack_all(
     outbox: &mut Outbox,
     role: Role,
     recvs: &RecvTables,
     ended: &mut EndedStreams,
     untold: &mut Untold,
+    late: bool,
     ranges: AckRanges<'_>,
 ) -> Result<(), NoMemory>
     requires idle { IsIdle outbox.old }
@@ -69,36 +72,15 @@ fn ack_outstanding(
     ensures idle { IsIdle outbox.new }
     ensures counted { AreAllCounted role recvs.now outbox.new.sends ended.new }
     ensures told { StayTold outbox.old untold.old outbox.new untold.new }
-    ensures step { AcksNamed false ranges.entry outbox.old result outbox.new }
+    ensures step { AcksNamed late ranges.entry outbox.old result outbox.new }
 {
     let mut pass = AckPass::new(ranges);
-    let result = ack_named(outbox, role, recvs, ended, untold, &mut pass);
+    let result = ack_named(outbox, role, recvs, ended, untold, late, &mut pass);
     outbox.trim();
     result
 }
 
-// The lost packets that the ranges name are acknowledged, in one pass.
-#[tactic(auto, using(crate::proofs::AckRuns::all_late))]
-fn ack_lost(
-    outbox: &mut Outbox,
-    role: Role,
-    recvs: &RecvTables,
-    ended: &mut EndedStreams,
-    untold: &mut Untold,
-    ranges: AckRanges<'_>,
-) -> Result<(), NoMemory>
-    requires idle { IsIdle outbox.old }
-    requires counted { AreAllCounted role recvs.now outbox.old.sends ended.old }
-    ensures idle { IsIdle outbox.new }
-    ensures counted { AreAllCounted role recvs.now outbox.new.sends ended.new }
-    ensures told { StayTold outbox.old untold.old outbox.new untold.new }
-    ensures step { AcksNamed true ranges.entry outbox.old result outbox.new }
-{
-    let mut pass = LostPass::new(ranges);
-    ack_late(outbox, role, recvs, ended, untold, &mut pass)
-}
-
-// The outstanding packets that a pass has ahead are acknowledged.
+// The packets that a pass has ahead are acknowledged.
 #[tactic(auto, using(crate::proofs::Untolds::stay_same))]
 fn ack_named(
     outbox: &mut Outbox,
@@ -106,6 +88,7 @@ fn ack_named(
     recvs: &RecvTables,
     ended: &mut EndedStreams,
     untold: &mut Untold,
+    late: bool,
     pass: &mut AckPass<'_>,
 ) -> Result<(), NoMemory>
     requires idle { IsIdle outbox.old }
@@ -113,38 +96,16 @@ fn ack_named(
     ensures idle { IsIdle outbox.new }
     ensures counted { AreAllCounted role recvs.now outbox.new.sends ended.new }
     ensures told { StayTold outbox.old untold.old outbox.new untold.new }
-    ensures step { AcksAhead false pass.old outbox.old result outbox.new }
+    ensures step { AcksAhead late pass.old outbox.old result outbox.new }
 {
-    while let Some(number) = outbox.next_named(pass) {
-        ack_packet(outbox, role, recvs, ended, untold, number)?;
+    while let Some(number) = outbox.next_named(late, pass) {
+        let packet = KeptPacket { late, number };
+        ack_packet(outbox, role, recvs, ended, untold, packet)?;
     }
     Ok(())
 }
 
-// The lost packets that a pass has ahead are acknowledged.
-#[tactic(auto, using(crate::proofs::Untolds::stay_same))]
-fn ack_late(
-    outbox: &mut Outbox,
-    role: Role,
-    recvs: &RecvTables,
-    ended: &mut EndedStreams,
-    untold: &mut Untold,
-    pass: &mut LostPass<'_>,
-) -> Result<(), NoMemory>
-    requires idle { IsIdle outbox.old }
-    requires counted { AreAllCounted role recvs.now outbox.old.sends ended.old }
-    ensures idle { IsIdle outbox.new }
-    ensures counted { AreAllCounted role recvs.now outbox.new.sends ended.new }
-    ensures told { StayTold outbox.old untold.old outbox.new untold.new }
-    ensures step { AcksAhead true pass.old outbox.old result outbox.new }
-{
-    while let Some(number) = outbox.next_lost(pass) {
-        ack_lost_packet(outbox, role, recvs, ended, untold, number)?;
-    }
-    Ok(())
-}
-
-// The pieces of an outstanding packet are acknowledged, from the first on.
+// The pieces of a packet are acknowledged, from the first on.
 #[tactic(auto, using(crate::proofs::AckRuns::packet_end, crate::proofs::AckRuns::packet_stop, crate::proofs::AckRuns::packet_more, crate::proofs::AckRuns::packet_less, crate::proofs::Untolds::stay_twice, crate::proofs::Untolds::stay_same))]
 fn ack_packet(
     outbox: &mut Outbox,
@@ -152,45 +113,22 @@ fn ack_packet(
     recvs: &RecvTables,
     ended: &mut EndedStreams,
     untold: &mut Untold,
-    number: u64,
+    packet: KeptPacket,
 ) -> Result<(), NoMemory>
     requires idle { IsIdle outbox.old }
     requires counted { AreAllCounted role recvs.now outbox.old.sends ended.old }
     ensures idle { IsIdle outbox.new }
     ensures counted { AreAllCounted role recvs.now outbox.new.sends ended.new }
     ensures told { StayTold outbox.old untold.old outbox.new untold.new }
-    ensures step { AcksPacket false number outbox.old result outbox.new }
+    ensures step { AcksPacket packet.late packet.number outbox.old result outbox.new }
 {
-    while let Some(piece) = outbox.first(number) {
-        ack_piece(outbox, role, recvs, ended, untold, number, piece)?;
+    while let Some(piece) = outbox.first_kept(packet) {
+        ack_piece(outbox, role, recvs, ended, untold, packet, piece)?;
     }
     Ok(())
 }
 
-// The pieces of a lost packet are acknowledged, from the first on.
-#[tactic(auto, using(crate::proofs::AckRuns::late_end, crate::proofs::AckRuns::late_stop, crate::proofs::AckRuns::late_more, crate::proofs::AckRuns::late_less, crate::proofs::Untolds::stay_twice, crate::proofs::Untolds::stay_same))]
-fn ack_lost_packet(
-    outbox: &mut Outbox,
-    role: Role,
-    recvs: &RecvTables,
-    ended: &mut EndedStreams,
-    untold: &mut Untold,
-    number: u64,
-) -> Result<(), NoMemory>
-    requires idle { IsIdle outbox.old }
-    requires counted { AreAllCounted role recvs.now outbox.old.sends ended.old }
-    ensures idle { IsIdle outbox.new }
-    ensures counted { AreAllCounted role recvs.now outbox.new.sends ended.new }
-    ensures told { StayTold outbox.old untold.old outbox.new untold.new }
-    ensures step { AcksPacket true number outbox.old result outbox.new }
-{
-    while let Some(piece) = outbox.first_lost(number) {
-        ack_lost_piece(outbox, role, recvs, ended, untold, number, piece)?;
-    }
-    Ok(())
-}
-
-// The first piece of an outstanding packet is acknowledged, or nothing changes.
+// The first piece of a packet is acknowledged, or nothing changes.
 #[tactic(auto, using(crate::proofs::Untolds::marks_stay))]
 fn ack_piece(
     outbox: &mut Outbox,
@@ -198,13 +136,13 @@ fn ack_piece(
     recvs: &RecvTables,
     ended: &mut EndedStreams,
     untold: &mut Untold,
-    number: u64,
+    packet: KeptPacket,
     piece: Piece,
 ) -> Result<(), NoMemory>
     requires idle { IsIdle outbox.old }
-    requires first { first_piece (fmap.get outbox.old.outstanding number) ≡ Some piece }
+    requires first { first_piece (fmap.get (held_out packet.late outbox.old) packet.number) ≡ Some piece }
     requires counted { AreAllCounted role recvs.now outbox.old.sends ended.old }
-    ensures ok { OnOk result (outbox.new ≡ first_acked_out (acked_at false number piece) outbox.old) }
+    ensures ok { OnOk result (outbox.new ≡ first_acked_out (acked_at packet.late packet.number piece) outbox.old) }
     ensures err { OnErr result (outbox.new ≡ outbox.old) }
     ensures asks { OnErr result (PieceMayRunOut outbox.old.sends outbox.old.acked piece) }
     ensures idle { IsIdle outbox.new }
@@ -213,41 +151,10 @@ fn ack_piece(
 {
     untold.look_again(&piece);
     let Some(stream) = half_of(&piece) else {
-        return outbox.ack_first(number, piece);
+        return outbox.ack_kept(packet, piece);
     };
     let was = is_over(role, recvs, outbox, stream);
-    outbox.ack_first(number, piece)?;
-    ended.recount(stream, was, is_over(role, recvs, outbox, stream));
-    Ok(())
-}
-
-// The first piece of a lost packet is acknowledged, late, or nothing changes.
-#[tactic(auto, using(crate::proofs::Untolds::marks_stay))]
-fn ack_lost_piece(
-    outbox: &mut Outbox,
-    role: Role,
-    recvs: &RecvTables,
-    ended: &mut EndedStreams,
-    untold: &mut Untold,
-    number: u64,
-    piece: Piece,
-) -> Result<(), NoMemory>
-    requires idle { IsIdle outbox.old }
-    requires first { first_piece (fmap.get outbox.old.lost.pieces number) ≡ Some piece }
-    requires counted { AreAllCounted role recvs.now outbox.old.sends ended.old }
-    ensures ok { OnOk result (outbox.new ≡ first_acked_out (acked_at true number piece) outbox.old) }
-    ensures err { OnErr result (outbox.new ≡ outbox.old) }
-    ensures asks { OnErr result (PieceMayRunOut outbox.old.sends outbox.old.acked piece) }
-    ensures idle { IsIdle outbox.new }
-    ensures counted { AreAllCounted role recvs.now outbox.new.sends ended.new }
-    ensures told { StayTold outbox.old untold.old outbox.new untold.new }
-{
-    untold.look_again(&piece);
-    let Some(stream) = half_of(&piece) else {
-        return outbox.ack_lost_first(number, piece);
-    };
-    let was = is_over(role, recvs, outbox, stream);
-    outbox.ack_lost_first(number, piece)?;
+    outbox.ack_kept(packet, piece)?;
     ended.recount(stream, was, is_over(role, recvs, outbox, stream));
     Ok(())
 }

@@ -19,7 +19,7 @@ use qs_wire::{Dir, Frame, StreamId};
 impl Endpoint {
     // A frame takes effect, or finds no memory and changes nothing; of an ACK some packets may be acknowledged then.
     #[tactic(auto, unfolding(qs_machine::specs::FrameStep::frame_taken))]
-    pub(super) fn take(&mut self, frame: &Frame<'_>) -> Result<(), NoMemory>
+    pub(super) fn on_frame(&mut self, frame: &Frame<'_>) -> Result<(), NoMemory>
         requires fits { Fits (view frame.now) }
         requires passed { verdict self.old (seen (view frame.now)) ≡ None }
         ensures ok { OnOk result (self.new ≡ frame_taken (seen (view frame.now)) self.old) }
@@ -43,41 +43,42 @@ impl Endpoint {
                 largest,
                 ranges,
                 ..
-            } => self.take_ack(largest, ranges),
+            } => self.on_ack(largest, ranges),
             Frame::MaxData { maximum } => {
                 self.known_data = self.known_data.max(maximum);
                 Ok(())
             }
             Frame::MaxStreams { dir, count } => {
-                self.allow_streams(dir, count);
+                self.on_max_streams(dir, count);
                 Ok(())
             }
-            Frame::MaxStreamData { stream, maximum } => self.allow(stream, maximum),
-            Frame::StopSending { stream, code } => self.stopped(stream, code),
+            Frame::MaxStreamData { stream, maximum } => self.on_max_stream_data(stream, maximum),
+            Frame::StopSending { stream, code } => self.on_stop_sending(stream, code),
             Frame::StreamDataBlocked { stream, .. } => self.open_by_peer(stream),
             Frame::ResetStream {
                 stream,
                 code,
                 final_size,
-            } => self.take_reset(stream, code, final_size),
+            } => self.on_reset_stream(stream, code, final_size),
             Frame::Stream {
                 stream,
                 offset,
                 fin,
                 bytes,
-            } => self.take_stream(stream, offset, bytes, fin),
+            } => self.on_stream(stream, offset, bytes, fin),
         }
     }
 
     // The packets that an ACK names are acknowledged, also those that were declared lost (RFC 9000, sections 13.2.1 and 13.3).
-    fn take_ack(&mut self, largest: u64, ranges: &[u8]) -> Result<(), NoMemory>
+    fn on_ack(&mut self, largest: u64, ranges: &[u8]) -> Result<(), NoMemory>
         requires small { largest < 2 ^ 62 }
         requires above { taken (numbers_of ranges.now) ≤ largest + 1 }
         ensures ok { OnOk result (self.new ≡ acks (named self.old (ack_ranges_of largest (numbers_of ranges.now))) self.old) }
         ensures err { OnErr result (RunsOut self.old (Ack largest (ack_ranges_of largest (numbers_of ranges.now))) self.new) }
     {
         let (role, recvs) = (self.role, &self.recvs);
-        ack_ranges(
+        let before = self.ended;
+        let taken = ack_ranges(
             &mut self.outbox,
             role,
             recvs,
@@ -85,11 +86,13 @@ impl Endpoint {
             &mut self.untold,
             largest,
             ranges,
-        )
+        );
+        self.is_settled &= self.ended.is_same(before);
+        taken
     }
 
     // The peer allows so many streams of a direction.
-    fn allow_streams(&mut self, dir: Dir, count: u64)
+    fn on_max_streams(&mut self, dir: Dir, count: u64)
         requires { count ≤ 2 ^ 60 }
         ensures { self.new ≡ item_taken (items.MaxStreams dir count) self.old }
     {
@@ -101,7 +104,7 @@ impl Endpoint {
 
     // The peer allows the offsets of a stream below a limit.
     #[tactic(auto, using(crate::proofs::Runs::idle_with))]
-    fn allow(&mut self, stream: StreamId, maximum: u64) -> Result<(), NoMemory>
+    fn on_max_stream_data(&mut self, stream: StreamId, maximum: u64) -> Result<(), NoMemory>
         requires limit { maximum ≤ MAX_VARINT }
         requires passed { state_fault_out self.old stream ≡ None }
         ensures ok { OnOk result (self.new ≡ item_taken (items.MaxStreamData stream maximum) self.old) }
@@ -115,7 +118,7 @@ impl Endpoint {
 
     // The peer reads a stream no more.
     #[tactic(auto, using(crate::proofs::Runs::idle_with))]
-    fn stopped(&mut self, stream: StreamId, code: u64) -> Result<(), NoMemory>
+    fn on_stop_sending(&mut self, stream: StreamId, code: u64) -> Result<(), NoMemory>
         requires fits { code ≤ MAX_VARINT }
         requires passed { state_fault_out self.old stream ≡ None }
         ensures ok { OnOk result (self.new ≡ item_taken (items.StopSending stream code) self.old) }
@@ -128,7 +131,7 @@ impl Endpoint {
     }
 
     // The peer broke a stream off.
-    fn take_reset(&mut self, stream: StreamId, code: u64, size: u64) -> Result<(), NoMemory>
+    fn on_reset_stream(&mut self, stream: StreamId, code: u64, size: u64) -> Result<(), NoMemory>
         requires in_range { size ≤ MAX_VARINT }
         requires passed { verdict self.old (Control (items.ResetStream stream code size)) ≡ None }
         ensures ok { OnOk result (self.new ≡ item_taken (items.ResetStream stream code size) self.old) }
@@ -138,12 +141,13 @@ impl Endpoint {
         let _granted = self.granted;
         self.open_by_peer(stream)?;
         self.recvs.take_reset(stream, code, size);
+        self.is_settled = false;
         Ok(())
     }
 
     // Bytes of a stream came.
     #[tactic(auto, unfolding(qs_machine::specs::FrameStep::frame_taken))]
-    fn take_stream(
+    fn on_stream(
         &mut self,
         stream: StreamId,
         offset: u64,
@@ -164,8 +168,10 @@ impl Endpoint {
         if let Err(refused) = self.recvs.take_stream(stream, offset, bytes, fin) {
             self.outbox.close_to(stream, sends);
             self.recvs.close_to(stream, recvs);
+            self.is_settled = false;
             return Err(refused);
         }
+        self.is_settled = false;
         Ok(())
     }
 }

@@ -10,14 +10,22 @@ ghost use Rattle.qs_machine.specs.Tables.{lookup, updated};
 ghost use Rattle.qs_machine.specs.Asking.{IsNextOutstanding};
 ghost use Rattle.qs_machine.specs.Memory.{NoteMayRunOut, PieceMayRunOut};
 ghost use Rattle.qs_machine.specs.Outgoing.{lanes_of, first_piece, first_acked_out, first_lost_out, acked_at, IsIdle, IsSentPiece, NoneEmpty, item_noted, halves_acked, items_acked, halves_lost};
+ghost use Rattle.qs_conn.specs.Runs.{held_out};
 
 use super::Outbox;
 use crate::send_tables::SendTables;
 use crate::told::ToldItems;
 use crate::told_index::ToldIndex;
 use qs_ranges::NoMemory;
-use qs_send::{AckPass, Item, LostPass, Piece, Records, SendState};
+use qs_send::{AckPass, Item, Piece, Records, SendState};
 use qs_wire::StreamId;
+
+/// A packet whose record is kept: of the outstanding ones, or of the lost ones, for which an acknowledgement comes late.
+#[derive(Clone, Copy)]
+pub(crate) struct KeptPacket {
+    pub late: bool,
+    pub number: u64,
+}
 
 impl Outbox {
     /// Each outstanding packet has a piece. It does nothing: a caller learns the clause.
@@ -38,14 +46,17 @@ impl Outbox {
         next_held(&self.records, from)
     }
 
-    /// The next outstanding packet that a pass over an ACK names, `None` after the last.
-    pub(crate) fn next_named(&self, pass: &mut AckPass<'_>) -> Option<u64>
+    /// The next packet that a pass over an ACK names, of the outstanding ones or of the lost ones; `None` after the last.
+    pub(crate) fn next_named(&self, late: bool, pass: &mut AckPass<'_>) -> Option<u64>
         requires { IsIdle self.now }
-        ensures answer { Falls pass.old → IsNextNamed self.now.outstanding pass.old result pass.new }
+        ensures answer { Falls pass.old → IsNextNamed (held_out late self.now) pass.old result pass.new }
         ensures falls { Falls pass.old → Falls pass.new }
         ensures below { IfSome result (λ k. (pass.new.below ≡ k) × (k < pass.old.below)) }
     {
         let _next = self.next;
+        if late {
+            return pass.next_lost(&self.lost);
+        }
         pass.next(&self.records)
     }
 
@@ -65,8 +76,35 @@ impl Outbox {
         self.records.first(number)
     }
 
-    /// The first piece of an outstanding packet is acknowledged, or nothing changes.
-    pub(crate) fn ack_first(&mut self, number: u64, piece: Piece) -> Result<(), NoMemory>
+    /// The first piece of a packet of which a record is kept.
+    pub(crate) fn first_kept(&self, packet: KeptPacket) -> Option<Piece>
+        requires { IsIdle self.now }
+        ensures { result ≡ first_piece (fmap.get (held_out packet.late self.now) packet.number) }
+    {
+        let _next = self.next;
+        if packet.late {
+            return self.lost.first(packet.number);
+        }
+        self.first(packet.number)
+    }
+
+    /// The first piece of a packet of which a record is kept is acknowledged, or nothing changes.
+    pub(crate) fn ack_kept(&mut self, packet: KeptPacket, piece: Piece) -> Result<(), NoMemory>
+        requires idle { IsIdle self.old }
+        requires first { first_piece (fmap.get (held_out packet.late self.old) packet.number) ≡ Some piece }
+        ensures ok { OnOk result (self.new ≡ first_acked_out (acked_at packet.late packet.number piece) self.old) }
+        ensures err { OnErr result (self.new ≡ self.old) }
+        ensures asks { OnErr result (PieceMayRunOut self.old.sends self.old.acked piece) }
+        ensures idle { IsIdle self.new }
+    {
+        if packet.late {
+            return self.ack_lost(packet.number, piece);
+        }
+        self.ack_outstanding(packet.number, piece)
+    }
+
+    // The first piece of an outstanding packet is acknowledged, or nothing changes.
+    fn ack_outstanding(&mut self, number: u64, piece: Piece) -> Result<(), NoMemory>
         requires idle { IsIdle self.old }
         requires first { first_piece (fmap.get self.old.outstanding number) ≡ Some piece }
         ensures ok { OnOk result (self.new ≡ first_acked_out (acked_at false number piece) self.old) }
@@ -81,26 +119,8 @@ impl Outbox {
         Ok(())
     }
 
-    /// The next lost packet that a pass over an ACK names, `None` after the last.
-    pub(crate) fn next_lost(&self, pass: &mut LostPass<'_>) -> Option<u64>
-        ensures answer { Falls pass.old → IsNextNamed self.now.lost.pieces pass.old result pass.new }
-        ensures falls { Falls pass.old → Falls pass.new }
-        ensures below { IfSome result (λ k. (pass.new.below ≡ k) × (k < pass.old.below)) }
-    {
-        let _next = self.next;
-        pass.next(&self.lost)
-    }
-
-    /// The first piece of a lost packet.
-    pub(crate) fn first_lost(&self, number: u64) -> Option<Piece>
-        ensures { result ≡ first_piece (fmap.get self.now.lost.pieces number) }
-    {
-        let _next = self.next;
-        self.lost.first(number)
-    }
-
-    /// The first piece of a lost packet is acknowledged, late, or nothing changes.
-    pub(crate) fn ack_lost_first(&mut self, number: u64, piece: Piece) -> Result<(), NoMemory>
+    // The first piece of a lost packet is acknowledged, or nothing changes.
+    fn ack_lost(&mut self, number: u64, piece: Piece) -> Result<(), NoMemory>
         requires idle { IsIdle self.old }
         requires first { first_piece (fmap.get self.old.lost.pieces number) ≡ Some piece }
         ensures ok { OnOk result (self.new ≡ first_acked_out (acked_at true number piece) self.old) }

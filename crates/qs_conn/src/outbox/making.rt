@@ -14,8 +14,6 @@ use crate::send_tables::SendTables;
 use qs_ranges::NoMemory;
 use qs_send::{Chunk, Item, Piece, Records};
 use qs_wire::StreamId;
-use std::alloc::Global;
-use std::mem;
 
 impl Outbox {
     /// Makes room for a packet of so many pieces. Nothing else changes.
@@ -52,12 +50,12 @@ impl Outbox {
         half.is_held_by_room(room, fresh)
     }
 
-    /// The bytes of a chunk that is still in the buffer.
-    pub(crate) fn bytes(&self, stream: StreamId, chunk: Chunk) -> &[u8]
+    /// The bytes of a chunk that is still in the buffer, in two pieces.
+    pub(crate) fn bytes(&self, stream: StreamId, chunk: Chunk) -> (&[u8], &[u8])
         requires open { is_some (lookup self.now.sends stream) ≡ true }
         requires kept { HasBytes (or_none (lookup self.now.sends stream)) chunk }
-        ensures bytes { result.now ≡ bytes_of (or_none (lookup self.now.sends stream)) chunk }
-        ensures len { length result.now ≡ chunk.len }
+        ensures bytes { result.0.now ++ result.1.now ≡ bytes_of (or_none (lookup self.now.sends stream)) chunk }
+        ensures len { length (result.0.now ++ result.1.now) ≡ chunk.len }
     {
         self.sends.get(stream).bytes(chunk)
     }
@@ -106,8 +104,7 @@ impl Outbox {
         ensures after { self.new ≡ record self.old { next = self.old.next + 1; spare = 0 } }
         ensures idle { IsIdle self.new }
     {
-        let pieces = hand_over(self.alloc, &mut self.pending);
-        put_pieces(&mut self.records, self.next, pieces);
+        put_pieces(&mut self.records, self.next, &mut self.pending);
         self.next += 1;
         self.spare = 0;
     }
@@ -130,29 +127,15 @@ fn note_blocked(sends: &mut SendTables, stream: StreamId)
     }
 }
 
-// The pieces of the packet in the making, in no more memory than they need: the buffer stays for the next packet, so that a steady flow
-// doesn't take it anew. Where that memory is refused, the buffer itself goes.
-fn hand_over(alloc: Global, pending: &mut Vec<Piece>) -> Vec<Piece>
-    ensures pieces { result.items ≡ pending.old.items }
-    ensures empty { pending.new.items ≡ [] }
-{
-    match pending.to_vec(alloc) {
-        Ok(pieces) => {
-            pending.clear();
-            pieces
-        }
-        Err(_refused) => mem::replace(pending, Vec::new(alloc)),
-    }
-}
-
-// The pieces of a packet are kept, where it has some.
-fn put_pieces(records: &mut Records, number: u64, pieces: Vec<Piece>)
-    requires ready { 0 < length pieces.items → number < records.old.room }
+// The pieces of the packet in the making are kept, where it has some, and none is left in the making.
+fn put_pieces(records: &mut Records, number: u64, pending: &mut Vec<Piece>)
+    requires ready { 0 < length pending.old.items → number < records.old.room }
     requires above { AreBelow records.old.pieces number }
-    ensures { records.new.pieces ≡ with_pending records.old.pieces number pieces.items }
+    ensures kept { records.new.pieces ≡ with_pending records.old.pieces number pending.old.items }
+    ensures left { pending.new.items ≡ [] }
 {
-    if pieces.len() > 0 {
-        records.put(number, pieces);
+    if pending.len() > 0 {
+        records.put(number, pending);
     }
 }
 

@@ -34,12 +34,12 @@ loop-stream-preserved c =
           let before = c.loop-stream.invariant.flow recvs delay room old e at start in
           let here = flow_idle delay room old (take c.loop-stream.packet.len c.loop-stream.out) (end_by c.args.terms.now recvs c.loop-stream.outbox e) c.loop-stream.packet.is_full around first c.loop-stream.from stream c.in-Some.ensures.from
           (λ n ge lt. no_goes c.loop-stream.outbox n (c.in-Some.ensures.quiet n ge lt) c.args.terms.now recvs e) before in
-          let after = c.put_stream-packet.ensures.flow around first recvs delay room old e (at ∙ sym c.loop-stream.invariant.room) (c.is_on_way.ensures.0 c.if-not-is_on_way.false) here in
-          subst (λ n. Flow delay room old (take c.put_stream-packet.result.len c.put_stream-packet.new.out) (end_by c.args.terms.now recvs c.put_stream-packet.new.outbox e) c.put_stream-packet.result.is_full (turn_at around first (n + 1))) (sym c.value-from.ensures.same) after);
-      credit = c.put_stream-packet.ensures.credit;
-      within = c.put_stream-packet.ensures.within;
-      spare = c.put_stream-packet.ensures.spare;
-      room = c.put_stream-packet.ensures.room ∙ c.loop-stream.invariant.room;
+          let after = c.put_open-packet.ensures.flow around first recvs delay room old e (at ∙ sym c.loop-stream.invariant.room) (c.is_on_way.ensures.0 c.if-not-is_on_way.false) here in
+          subst (λ n. Flow delay room old (take c.put_open-packet.result.len c.put_open-packet.new.out) (end_by c.args.terms.now recvs c.put_open-packet.new.outbox e) c.put_open-packet.result.is_full (turn_at around first (n + 1))) (sym c.value-from.ensures.same) after);
+      credit = c.put_open-packet.ensures.credit;
+      within = c.put_open-packet.ensures.within;
+      spare = c.put_open-packet.ensures.spare;
+      room = c.put_open-packet.ensures.room ∙ c.loop-stream.invariant.room;
     }
 
 pub returns-then-not-is_on_way-clause-flow : goal.returns-then-not-is_on_way-clause-flow
@@ -56,8 +56,8 @@ returns-then-packet-2-clause-flow c = λ recvs delay room old e at start. (
     let before = c.loop-stream.invariant.flow recvs delay room old e at start in
     let here = flow_idle delay room old (take c.loop-stream.packet.len c.loop-stream.out) (end_by c.args.terms.now recvs c.loop-stream.outbox e) c.loop-stream.packet.is_full around first c.loop-stream.from stream c.in-Some.ensures.from
     (λ n ge lt. no_goes c.loop-stream.outbox n (c.in-Some.ensures.quiet n ge lt) c.args.terms.now recvs e) before in
-    let after = c.put_stream-packet.ensures.flow around first recvs delay room old e (at ∙ sym c.loop-stream.invariant.room) (c.is_on_way.ensures.0 c.if-not-is_on_way.false) here in
-    flow_whole delay room old (take c.put_stream-packet.result.len c.put_stream-packet.new.out) (end_by c.args.terms.now recvs c.put_stream-packet.new.outbox e) c.put_stream-packet.result.is_full around first (stream + 1) c.if-packet-2.true after)
+    let after = c.put_open-packet.ensures.flow around first recvs delay room old e (at ∙ sym c.loop-stream.invariant.room) (c.is_on_way.ensures.0 c.if-not-is_on_way.false) here in
+    flow_whole delay room old (take c.put_open-packet.result.len c.put_open-packet.new.out) (end_by c.args.terms.now recvs c.put_open-packet.new.outbox e) c.put_open-packet.result.is_full around first (stream + 1) c.if-packet-2.true after)
 
 pub returns-clause-flow : goal.returns-clause-flow
 returns-clause-flow c = λ recvs delay room old e at start.

@@ -1,7 +1,4 @@
-use Rattle.std.proofs.Common.{◌∙◌, arith, sym, subst}
-use Rattle.qs_machine.specs.Ends.{End}
-use Rattle.qs_conn.specs.Filling.{end_by}
-use Rattle.qs_conn.specs.Untold.{IsTold}
+use Rattle.std.proofs.Common.{arith}
 use Rattle.qs_conn.proofs.Untolds.{told_unmarked, idle_told}
 use Rattle.qs_conn.proofs.unmarking.unmark_told.Goals as goal
 
@@ -18,6 +15,3 @@ loop-stream-preserved c =
           told_unmarked t.role t.settings c.args.recvs.now o.outstanding o.acked c.loop-stream.untold (c.loop-stream.invariant.told e h) c.set.new.self c.in-Some.stream c.set.ensures
           (idle_told t c.args.recvs.now o e c.in-Some.stream (c.is_idle.ensures e c.if-not-is_idle.false) (c.is_idle-in-Some.ensures e c.if-not-is_idle-2.false));
     }
-
-pub returns : goal.returns
-returns c = λ e h. subst (IsTold (end_by c.args.terms.now c.args.recvs.now c.args.outbox.now e)) (sym c.look.ensures) (c.loop-stream.invariant.told e h)

@@ -19,6 +19,7 @@ invariant_of-self-then-len-eq0 c = (
   },
   fit_sends _ _ _ _ _ _ _ c.self.invariant.3 _ _ (filled_counted _ c.args.self.now c.self.view_is c.terms-terms.result c.begin.new.self c.fill-len.new.outbox (length c.args.out.now / 2) c.args.first c.args.delay (length c.args.out.now) c.fill-len.result c.fill-len.new.out c.self.invariant.1 c.terms-terms.ensures c.in_default.ensures.ok c.self.inside.untold c.self.invariant.4 c.fill-len.ensures.packed c.self.inside.role c.self.inside.ended c.self.invariant.3.counted),
   filled_told _ c.args.self.now c.self.view_is c.terms-terms.result c.begin.new.self c.fill-len.new.outbox (length c.args.out.now / 2) c.args.first c.args.delay (length c.args.out.now) c.fill-len.result c.fill-len.new.out c.self.invariant.1 c.terms-terms.ensures c.in_default.ensures.ok c.self.inside.untold c.self.invariant.4 c.fill-len.ensures.packed c.unmark_told.new.untold c.unmark_told.ensures,
+  c.self.invariant.5,
 )
 
 pub returns-then-len-eq0 : goal.returns-then-len-eq0
@@ -44,6 +45,7 @@ invariant_of-self-3 c =
       },
       rw c.commit.ensures.after (fit_sends _ _ _ _ _ _ _ c.self.invariant.3 _ _ (filled_counted _ c.args.self.now c.self.view_is c.terms-terms.result c.begin.new.self c.fill-len.new.outbox (length c.args.out.now / 2) c.args.first c.args.delay (length c.args.out.now) c.fill-len.result c.fill-len.new.out c.self.invariant.1 c.terms-terms.ensures c.in_default.ensures.ok c.self.inside.untold c.self.invariant.4 c.fill-len.ensures.packed c.self.inside.role c.self.inside.ended c.self.invariant.3.counted)),
       rw c.commit.ensures.after (filled_told _ c.args.self.now c.self.view_is c.terms-terms.result c.begin.new.self c.fill-len.new.outbox (length c.args.out.now / 2) c.args.first c.args.delay (length c.args.out.now) c.fill-len.result c.fill-len.new.out c.self.invariant.1 c.terms-terms.ensures c.in_default.ensures.ok c.self.inside.untold c.self.invariant.4 c.fill-len.ensures.packed c.unmark_told.new.untold c.unmark_told.ensures),
+      c.self.invariant.5,
     )
 
 pub returns : goal.returns

@@ -1,3 +1,5 @@
+use Rattle.std.proofs.Common.{sym}
+use Rattle.std.proofs.lemmas.Bool.{true≢false}
 use Rattle.qs_conn.proofs.Kept.{kept_read}
 use Rattle.qs_conn.proofs.Counting.{counted_small, counted_part}
 use Rattle.qs_conn.proofs.Counted.{fit_read}
@@ -17,4 +19,5 @@ invariant_of-self c = (
   c.self.invariant.2,
   fit_read _ _ _ _ _ _ _ c.self.invariant.3 _ c.self.invariant.0.sound _ c.args.stream _ _ _ _ c.read-answer.ensures.after c.is_over-was.ensures.value c.is_over-is.ensures.value c.recount.ensures,
   told_read c.self.inside.role c.self.inside.settings c.self.inside.recvs c.self.inside.outbox.outstanding c.self.inside.outbox.acked c.self.inside.untold c.self.invariant.4 c.read-answer.new.self c.args.stream _ c.read-answer.ensures.after,
+  λ on. absurd (true≢false (sym on)),
 )

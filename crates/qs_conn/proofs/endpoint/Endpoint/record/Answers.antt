@@ -10,4 +10,4 @@ returns-clause-ok c =
 
 pub invariant_of-self-2 : goal.invariant_of-self-2
 invariant_of-self-2 c =
-    (c.self.invariant.0, c.self.invariant.1, funded_recorded _ _ c.args.number c.self.inside.done _ _ _ _ c.in_ok-insert.ensures.ok c.trim-self-inside.ensures.done c.self.invariant.2, c.self.invariant.3, c.self.invariant.4)
+    (c.self.invariant.0, c.self.invariant.1, funded_recorded _ _ c.args.number c.self.inside.done _ _ _ _ c.in_ok-insert.ensures.ok c.trim-self-inside.ensures.done c.self.invariant.2, c.self.invariant.3, c.self.invariant.4, c.self.invariant.5)

@@ -6,6 +6,7 @@ use Rattle.qs_machine.proofs.TableLaws.{total_each}
 use Rattle.qs_machine.proofs.Sound.{keeps_settle}
 use Rattle.qs_conn.proofs.Counted.{fit_settled, grants_fit}
 use Rattle.qs_conn.proofs.Untolds.{told_raised}
+use Rattle.qs_conn.proofs.Unmoved.{next_now, settled_already}
 use Rattle.qs_conn.proofs.endpoint.Endpoint.settle.Goals as goal
 
 pub tally-taken-requires : goal.tally-taken-requires
@@ -38,6 +39,7 @@ invariant_of-self c =
       c.self.invariant.2,
       fit_settled _ _ _ _ _ _ _ c.self.invariant.3 _ _ _ c.raise_all.ensures.after c.next_count-self-inside.ensures c.next_count-self-inside-2.ensures,
       told_raised inside.role inside.settings inside.recvs inside.outbox.outstanding inside.outbox.acked inside.untold c.self.invariant.4 c.raise_all.new.self c.raise_all.new.untold c.raise_all.ensures.after c.raise_all.ensures.marks c.raise_all.ensures.marked,
+      λ _. next_now inside.settings inside.recvs c.raise_all.new.self inside.ended inside.granted _ _ _ c.raise_all.ensures.after limit c.next_count-self-inside.ensures c.next_count-self-inside-2.ensures,
     )
 
 pub returns : goal.returns
@@ -54,3 +56,6 @@ next_count-self-inside-requires c = (grants_fit c.self.inside.settings c.self.in
 
 pub next_count-self-inside-requires-2 : goal.next_count-self-inside-requires-2
 next_count-self-inside-requires-2 c = (grants_fit c.self.inside.settings c.self.invariant.0.sound.settings).1
+
+pub returns-then-self : goal.returns-then-self
+returns-then-self c = rw (← c.self.view_is) (settled_already _ c.self.inside.ended c.self.invariant.3.counted (c.self.invariant.5 c.if-self.true))

@@ -14,6 +14,7 @@ invariant_of-self c = (
   funded_written c.self.inside.outbox _ _ _ _ _ _ c.in-Ok.ensures.accepted.2 c.self.invariant.2,
   fit_written _ _ _ _ _ _ _ c.self.invariant.3 _ c.args.stream _ c.in-Ok.ensures.accepted.0 (ap (λ (o : Outgoing). o.sends) c.in-Ok.ensures.accepted.2),
   told_with c.self.inside.role c.self.inside.settings c.self.inside.recvs c.self.inside.outbox _ _ c.self.inside.untold c.in-Ok.ensures.accepted.2 c.self.invariant.4,
+  c.self.invariant.5,
 )
 
 pub returns-in-Err : goal.returns-in-Err

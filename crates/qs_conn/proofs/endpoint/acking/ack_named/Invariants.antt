@@ -1,4 +1,4 @@
-use Rattle.std.proofs.Common.{Result, false}
+use Rattle.std.proofs.Common.{Result}
 use Rattle.qs_ranges.specs.declared.NoMemory.{NoMemory}
 use Rattle.qs_machine.specs.Outgoing.{Outgoing, IsIdle}
 use Rattle.qs_conn.specs.Ended.{AreAllCounted}
@@ -13,7 +13,7 @@ invariant-loop-number l =
       idle : IsIdle l.outbox;
       told : StayTold l.initial.outbox l.initial.untold l.outbox l.untold;
       counted : AreAllCounted l.role l.recvs l.outbox.sends l.ended;
-      rest : (result : Result (Unit {0}) NoMemory) (new : Outgoing) → AcksAhead false l.pass l.outbox result new → AcksAhead false l.initial.pass l.initial.outbox result new;
+      rest : (result : Result (Unit {0}) NoMemory) (new : Outgoing) → AcksAhead l.late l.pass l.outbox result new → AcksAhead l.late l.initial.pass l.initial.outbox result new;
     }
 
 abbrev pub decreases-loop-number : goal.decreases-loop-number

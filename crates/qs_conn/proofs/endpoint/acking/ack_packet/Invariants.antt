@@ -1,4 +1,4 @@
-use Rattle.std.proofs.Common.{Result, false}
+use Rattle.std.proofs.Common.{Result}
 use Rattle.qs_ranges.specs.declared.NoMemory.{NoMemory}
 use Rattle.qs_machine.specs.Outgoing.{Outgoing, IsIdle}
 use Rattle.qs_conn.specs.Ended.{AreAllCounted}
@@ -13,8 +13,8 @@ invariant-loop-piece l =
       idle : IsIdle l.outbox;
       told : StayTold l.initial.outbox l.initial.untold l.outbox l.untold;
       counted : AreAllCounted l.role l.recvs l.outbox.sends l.ended;
-      rest : (result : Result (Unit {0}) NoMemory) (new : Outgoing) → AcksPacket false l.number l.outbox result new → AcksPacket false l.number l.initial.outbox result new;
+      rest : (result : Result (Unit {0}) NoMemory) (new : Outgoing) → AcksPacket l.packet.late l.packet.number l.outbox result new → AcksPacket l.packet.late l.packet.number l.initial.outbox result new;
     }
 
 abbrev pub decreases-loop-piece : goal.decreases-loop-piece
-decreases-loop-piece l = pieces_left false l.number l.outbox
+decreases-loop-piece l = pieces_left l.packet.late l.packet.number l.outbox

@@ -1,4 +1,5 @@
 use Rattle.std.proofs.Common.{refl, subst, sym, ap, ◌∙◌}
+use Rattle.std.proofs.lemmas.List.{length-append}
 use Rattle.qs_send.specs.Lane.{SendLane, bytes_of}
 use Rattle.qs_send.specs.Chunks.{HasBytes}
 use Rattle.qs_conn.proofs.Outboxes.{half_there}
@@ -13,3 +14,6 @@ bytes-requires c = subst (λ (l : SendLane). HasBytes l c.args.chunk) (same_half
 
 pub returns-clause-bytes : goal.returns-clause-bytes
 returns-clause-bytes c = c.bytes.ensures.bytes ∙ ap (λ (l : SendLane). bytes_of l c.args.chunk) (sym (same_half _ c.args.self.now c.self.inside.sends c.args.stream c.get.result.now c.self.view_is refl c.get.ensures))
+
+pub returns-clause-len : goal.returns-clause-len
+returns-clause-len c = length-append c.bytes.result.0.now c.bytes.result.1.now ∙ c.bytes.ensures.len

@@ -1,0 +1,36 @@
+use Rattle.std.proofs.Common.{rules, ◌≡◌, Bool, Option, Some, None, true, false, refl, sym, ap, ◌∙◌, arith}
+use Rattle.std.specs.Prelude.{not, if◌then◌else◌}
+use Rattle.std.proofs.lemmas.Bool.Decides.{nat_tests}
+use Rattle.std.proofs.lemmas.Option.{none-some}
+use Rattle.qs_calls.specs.Settings.{are_spellable}
+use Rattle.qs_calls.specs.declared.settings.PeerLimits.{PeerLimits}
+use Rattle.qs_calls.specs.declared.settings.SetupFault.{SetupFault}
+use Rattle.qs_calls.specs.declared.settings.SetupFault.TheVariants.{OutOfRange}
+use Rattle.qs_machine.specs.Raising.{greater_limits}
+use Rattle.qs_conn.proofs.endpoint.Endpoint.know_limits.Goals as goal
+
+-- limits that aren't refused can be spelled
+spelled : (b : Bool) (o : Option SetupFault) → (if not b then Some OutOfRange else o) ≡ None → b ≡ true
+spelled true o h = refl
+spelled false o h = absurd (none-some OutOfRange (sym h))
+
+-- so can the greater ones of two
+greater_spelled : (a b : PeerLimits) → are_spellable a ≡ true → are_spellable b ≡ true → are_spellable (greater_limits a b) ≡ true
+greater_spelled a b ha hb = grind (arith, nat_tests, ha, hb)
+
+pub invariant_of-self : goal.invariant_of-self
+invariant_of-self c = (
+  record {
+    sound = c.self.invariant.0.sound;
+    granted_fits = c.self.invariant.0.granted_fits;
+    peer_fits = ap are_spellable c.greater_limits-self-inside.ensures ∙ greater_spelled c.self.inside.peer c.args.limits.now c.self.invariant.0.peer_fits (spelled _ _ c.requires);
+    bidi_fits = search rules;
+    uni_fits = search rules;
+    closing_fits = c.self.invariant.0.closing_fits;
+  },
+  c.self.invariant.1,
+  search rules,
+  c.self.invariant.3,
+  c.self.invariant.4,
+  c.self.invariant.5,
+)

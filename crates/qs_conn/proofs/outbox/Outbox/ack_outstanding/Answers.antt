@@ -1,0 +1,46 @@
+use Rattle.std.proofs.Common.{◌≡◌, ◌≤◌, ℕ, refl, arith}
+use Rattle.qs_conn.proofs.OutboxMaking.{room_stays}
+use Rattle.qs_conn.proofs.OutboxAcks.{idle_none, first_at, tied_at, sent_piece, box_acked, acked_value, idle_after, stop_asks}
+use Rattle.qs_conn.proofs.Indexed.{indexed_first_gone}
+use Rattle.qs_machine.proofs.LostSent.{sent_acked}
+use Rattle.qs_conn.proofs.outbox.Outbox.ack_outstanding.Goals as goal
+
+kept : {a b : ℕ} → a ≡ b → b ≤ a
+kept e = omega (arith, e)
+
+pub piece_acked-requires : goal.piece_acked-requires
+piece_acked-requires c =
+    sent_piece c.self.inside.sends c.self.inside.records.pieces c.args.number c.args.piece
+    (tied_at _ _ _ _ _ _ _ _ c.self.invariant.0 (idle_none _ c.args.self.now c.self.inside.records.pieces c.self.inside.pending.items c.self.view_is refl c.requires.idle))
+    (first_at _ c.args.self.now c.self.inside.records.pieces c.self.inside.pending.items c.args.number c.args.piece c.self.view_is refl c.requires.idle c.requires.first)
+
+pub invariant_of-self-2 : goal.invariant_of-self-2
+invariant_of-self-2 c = (
+  box_acked _ _ _ _ _ _ _ _ _ _ _ c.args.number c.args.piece c.self.invariant.0
+      (idle_none _ c.args.self.now c.self.inside.records.pieces c.self.inside.pending.items c.self.view_is refl c.requires.idle)
+      (first_at _ c.args.self.now c.self.inside.records.pieces c.self.inside.pending.items c.args.number c.args.piece c.self.view_is refl c.requires.idle c.requires.first)
+      c.in_ok-piece_acked.ensures.halves c.drop_first.ensures.pieces (room_stays c.self.inside.next c.self.inside.records.room c.drop_first.new.self.room (kept c.drop_first.ensures.room)),
+  indexed_first_gone _ _ _ c.args.number c.args.piece _ _ _ _ _ _ c.self.invariant.1 c.self.invariant.0.tied.apart
+      (idle_none _ c.args.self.now c.self.inside.records.pieces c.self.inside.pending.items c.self.view_is refl c.requires.idle)
+      (first_at _ c.args.self.now c.self.inside.records.pieces c.self.inside.pending.items c.args.number c.args.piece c.self.view_is refl c.requires.idle c.requires.first)
+      c.drop_first.ensures.pieces c.forget.ensures.items c.forget.ensures.spare,
+  sent_acked c.self.inside.sends c.piece_acked.new.sends _ c.self.invariant.2 c.args.piece c.in_ok-piece_acked.ensures.halves,
+)
+
+pub returns-clause-ok : goal.returns-clause-ok
+returns-clause-ok c =
+    acked_value c.args.number c.args.piece _ c.args.self.now c.self.inside.sends c.piece_acked.new.sends c.self.inside.records.pieces c.drop_first.new.self.pieces c.self.inside.pending.items c.piece_acked.new.told c.self.view_is refl refl
+    (idle_none _ c.args.self.now c.self.inside.records.pieces c.self.inside.pending.items c.self.view_is refl c.requires.idle)
+    c.in_ok-piece_acked.ensures.halves c.drop_first.ensures.pieces c.in_ok-piece_acked.ensures.items
+
+pub returns-clause-idle : goal.returns-clause-idle
+returns-clause-idle c =
+    let held =
+    box_acked _ _ _ _ _ _ _ _ _ _ _ c.args.number c.args.piece c.self.invariant.0
+    (idle_none _ c.args.self.now c.self.inside.records.pieces c.self.inside.pending.items c.self.view_is refl c.requires.idle)
+    (first_at _ c.args.self.now c.self.inside.records.pieces c.self.inside.pending.items c.args.number c.args.piece c.self.view_is refl c.requires.idle c.requires.first)
+    c.in_ok-piece_acked.ensures.halves c.drop_first.ensures.pieces (room_stays c.self.inside.next c.self.inside.records.room c.drop_first.new.self.room (kept c.drop_first.ensures.room)) in
+    idle_after _ _ _ held.below (idle_none _ c.args.self.now c.self.inside.records.pieces c.self.inside.pending.items c.self.view_is refl c.requires.idle)
+
+pub returns-in_err-piece_acked-clause-asks : goal.returns-in_err-piece_acked-clause-asks
+returns-in_err-piece_acked-clause-asks c = stop_asks c.from_residual.result _ c.args.self.now c.args.piece c.self.view_is c.in_err-piece_acked.ensures.asks
