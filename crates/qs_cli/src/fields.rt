@@ -16,7 +16,7 @@ use qs_wire::{AckRanges, EcnCounts, Frame};
 use std::alloc::{AllocError, Global};
 
 /// A field of a frame, with the name under which it is shown.
-#[derive(Clone, Copy, Debug)]
+#[derive(Clone, Copy)]
 pub enum Field<'a> {
     Nothing,
     Number(&'static str, u64),

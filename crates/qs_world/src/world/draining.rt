@@ -31,7 +31,7 @@ pub enum Drained {
 }
 
 /// Whose turn it is in a round, and for what.
-#[derive(Clone, Copy, Debug, PartialEq, Eq, Drop)]
+#[derive(Clone, Copy, Drop)]
 pub enum Turn {
     /// All that is outstanding is declared lost.
     Lose(Side),

@@ -3,7 +3,6 @@ use Rattle.std.specs.List.{list_all}
 use Rattle.std.proofs.lemmas.Result.{IfOk-weaker}
 use Rattle.qs_calls.specs.Events.{fits}
 use Rattle.qs_world.specs.Randoms.{IsRandomScript, seeded}
-use Rattle.qs_world.specs.declared.report.PlayFault.TheVariants.{NoMemory}
 use Rattle.qs_world.proofs.DrawnRuns.{begins_drawn, draws_more, is_script, script_fits}
 use Rattle.qs_world.proofs.random.random_script.Goals as goal
 
@@ -12,7 +11,7 @@ loop-init c =
     rw c.new-words.ensures (begins_drawn _ _ _ _ c.standard_settings-settings.ensures c.standard_settings-settings.ensures c.in-Ok.ensures.made)
 
 pub loop-preserved : goal.loop-preserved
-loop-preserved c = draws_more _ _ _ _ _ _ c.loop.invariant c.in_ok-draw_step.ensures.step
+loop-preserved c = draws_more _ _ _ _ _ _ c.loop.invariant c.in_default.ensures.step
 
 pub returns-clause-drawn : goal.returns-clause-drawn
 returns-clause-drawn c =
@@ -25,8 +24,3 @@ returns-clause-fit c =
     let fit : list_all fits (map (λ x. x.0) (reverse c.loop.world.log)) ≡ true = script_fits _ _ _ _ c.loop.invariant in
     let fit' = rw (← c.into_log.ensures) at fit in
     search (rules, fit')
-
-pub returns-in_err-draw_step-clause-err : goal.returns-in_err-draw_step-clause-err
-returns-in_err-draw_step-clause-err c =
-    let is : c.in_err-draw_step.field-0.0 ≡ NoMemory = c.in_err-draw_step.ensures.err in
-    search (rules, is, c.from_residual.ensures)
