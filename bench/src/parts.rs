@@ -252,7 +252,7 @@ fn send(flight: u64) -> Run {
                 written += half.write(bytes).expect("there is memory") as u64;
             }
             while let Some(chunk) = half.next_chunk(CHUNK + 12, u64::MAX) {
-                packet[..chunk.len].copy_from_slice(half.bytes(chunk));
+                half.copy(chunk, &mut packet[..chunk.len]);
                 black_box(&packet);
                 pattern::check(chunk.offset, &packet[..chunk.len]);
                 half.sent(chunk);

@@ -132,7 +132,7 @@ impl<'a> Eraser<'a> {
             "error" => Ok(self.cut_item(at, close)),
             "derive" => self.derive(at, open + 2, close),
             "test" => self.test(close + 1),
-            "cfg" | "default" => Ok(close + 1),
+            "cfg" | "default" | "inline" => Ok(close + 1),
             _ => self.unknown(open + 1, "an attribute"),
         }
     }

@@ -71,13 +71,21 @@ fn an_error_has_its_message() {
 }
 
 #[test]
+fn a_hint_on_inlining_stays() {
+    is_made(
+        "#[inline(never)]\nfn f()\n    requires { a }\n{}\n",
+        "#[inline(never)]\nfn f() {}\n",
+    );
+}
+
+#[test]
 fn unknown_forms_stop_it() {
     stops("fn f() {\n    let ghost = 1;\n}\n", "ghost");
     stops("fn f()\n    ensures a ≡ b\n{}\n", "ensures");
     stops("fn f() {\n    prove!(a < b);\n}\n", "prove");
     stops("fn f() {\n    v.sort();\n}\n", "sort");
     stops("fn f() {\n    let v = i.collect();\n}\n", "collect");
-    stops("#[inline]\nfn f() {}\n", "inline");
+    stops("#[cold]\nfn f() {}\n", "cold");
     stops(
         "type D = Box<dyn A + Drop + B>;\nfn f(d: Drop) {}\n",
         "Drop)",

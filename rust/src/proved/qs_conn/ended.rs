@@ -15,6 +15,11 @@ pub(crate) struct EndedStreams {
 }
 
 impl EndedStreams {
+    /// Whether the counts are the same as others.
+    pub(crate) fn is_same(&self, other: EndedStreams) -> bool {
+        self.bidi == other.bidi && self.uni == other.uni
+    }
+
     /// Counts a stream anew, which was at its end or wasn't, and is now or isn't.
     pub(crate) fn recount(&mut self, stream: StreamId, was: bool, is: bool) {
         if is_uni(stream) {

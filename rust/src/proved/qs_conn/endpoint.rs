@@ -8,8 +8,9 @@ use crate::proved::qs_conn::places::kind_of;
 use crate::proved::qs_conn::recv_tables::RecvTables;
 use crate::proved::qs_conn::setup::setup_fault;
 use crate::proved::qs_conn::untold::Untold;
-use crate::proved::qs_calls::{Closed, Closing, MAX_VARINT, PeerLimits, Settings, SetupFault};
+use crate::proved::qs_calls::{Closed, Closing, PeerLimits, Settings, SetupFault};
 use crate::proved::qs_ranges::RangeSet;
+use crate::proved::qs_recv::next_limit;
 use crate::proved::qs_wire::{Dir, Frame, Role, StreamId, put};
 use crate::shim::alloc::Global;
 
@@ -44,6 +45,8 @@ pub struct Endpoint {
     granted_bidi: u64,
     granted_uni: u64,
     ended: EndedStreams,
+    // Whether nothing that the limits and the counts of streams follow has moved since they were looked at.
+    is_settled: bool,
     known_data: u64,
     known_bidi: u64,
     known_uni: u64,
@@ -80,6 +83,7 @@ impl Endpoint {
             granted_bidi: settings.grant_bidi,
             granted_uni: settings.grant_uni,
             ended: EndedStreams { bidi: 0, uni: 0 },
+            is_settled: false,
             known_data: peer.max_data,
             known_bidi: peer.streams_bidi,
             known_uni: peer.streams_uni,
@@ -141,9 +145,11 @@ impl Endpoint {
         put_close(closing, out)
     }
 
-    // Each limit becomes the next one, and each granted count of streams.
+    // Each limit becomes the next one, and each granted count of streams: where nothing moved they are.
     fn settle(&mut self) {
-        let _granted = self.granted;
+        if self.is_settled {
+            return;
+        }
         self.recvs.raise_all(&mut self.untold);
         let taken = self.recvs.tally().taken;
         let settings = &self.settings;
@@ -154,6 +160,7 @@ impl Endpoint {
             self.ended.bidi,
         );
         self.granted_uni = next_count(settings.grant_uni, settings.lifetime_uni, self.ended.uni);
+        self.is_settled = true;
     }
 
     // Whether this end opens the stream.
@@ -195,20 +202,6 @@ pub(crate) fn role_bit(role: Role) -> usize {
 // Whether only the initiator sends (RFC 9000, section 2.1).
 pub(crate) fn is_uni(stream: StreamId) -> bool {
     kind_of(stream) >= 2
-}
-
-// The limit that follows, where so much was taken of a window (RFC 9000, section 4.2).
-fn next_limit(limit: u64, taken: u64, window: u64) -> u64 {
-    debug_assert!(limit <= 0x3fff_ffff_ffff_ffff);
-    debug_assert!(taken <= 0x3fff_ffff_ffff_ffff);
-    debug_assert!(window <= 1 << 24);
-    let next = (taken + window).min(MAX_VARINT);
-    let step = (window / 2).max(1);
-    if limit + step <= next || (next == MAX_VARINT && limit < next) {
-        next
-    } else {
-        limit
-    }
 }
 
 // How many streams may be opened, where so many came to their end (RFC 9000, section 4.6).

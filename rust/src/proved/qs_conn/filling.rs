@@ -9,7 +9,7 @@ use crate::proved::qs_conn::terms::Terms;
 use crate::proved::qs_conn::untold::Untold;
 use crate::proved::qs_ranges::RangeSet;
 use crate::proved::qs_send::{Chunk, Item};
-use crate::proved::qs_wire::{Dir, Frame, StreamId, put, put_ack};
+use crate::proved::qs_wire::{Dir, Frame, StreamId, put, put_ack, put_stream};
 
 /// No STREAM frame with a length is shorter: its type, its stream and its length take a byte each (RFC 9000, section 19.8).
 const LEAST_STREAM_FRAME: usize = 3;
@@ -28,6 +28,22 @@ pub(crate) struct Packet {
 fn put_frame(frame: &Frame<'_>, out: &mut [u8], len: usize) -> Option<usize> {
     debug_assert!(len <= out.len());
     match put(frame, &mut out[len..]) {
+        Ok(more) => Some(len + more),
+        Err(_full) => None,
+    }
+}
+
+/// Writes a STREAM frame with the bytes of a front and a back behind the bytes that are there, as `put_frame` does.
+fn put_data(
+    id: StreamId,
+    chunk: Chunk,
+    front: &[u8],
+    back: &[u8],
+    out: &mut [u8],
+    len: usize,
+) -> Option<usize> {
+    debug_assert!(len <= out.len());
+    match put_stream(id, chunk.offset, chunk.fin, front, back, &mut out[len..]) {
         Ok(more) => Some(len + more),
         Err(_full) => None,
     }
@@ -206,13 +222,8 @@ pub(crate) fn put_chunk(
     len: usize,
 ) -> usize {
     debug_assert!(len <= out.len());
-    let frame = Frame::Stream {
-        stream,
-        offset: chunk.offset,
-        fin: chunk.fin,
-        bytes: outbox.bytes(stream, chunk),
-    };
-    match put_frame(&frame, out, len) {
+    let (front, back) = outbox.bytes(stream, chunk);
+    match put_data(stream, chunk, front, back, out, len) {
         Some(end) => {
             outbox.put_chunk(stream, chunk);
             end
@@ -246,7 +257,7 @@ pub(crate) fn put_chunks(
 }
 
 // Puts chunks of a stream into the packet, if it is one that can send.
-fn put_stream(
+fn put_open(
     terms: &Terms,
     outbox: &mut Outbox,
     stream: StreamId,
@@ -292,7 +303,7 @@ fn put_way(
         if !is_on_way(around, first, stream) {
             return packet;
         }
-        packet = put_stream(terms, outbox, stream, out, packet);
+        packet = put_open(terms, outbox, stream, out, packet);
         if packet.is_full {
             return packet;
         }

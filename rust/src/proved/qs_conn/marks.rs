@@ -6,11 +6,13 @@ use crate::proved::qs_ranges::NoMemory;
 use crate::shim::alloc::Global;
 
 /// A mark for each index of the streams of one type, and a flag for each word of marks that has one: so a search looks at one word of
-/// flags for 4,096 indexes without a mark.
+/// flags for 4,096 indexes without a mark, and at none where no index has one.
 pub(crate) struct Marks {
     marks: Bits,
     // A word without a flag has no mark.
     words: Bits,
+    // No more indexes than these have a mark: without any a search needs one look.
+    most: usize,
 }
 
 impl Marks {
@@ -19,7 +21,13 @@ impl Marks {
         Marks {
             marks: Bits::new(alloc),
             words: Bits::new(alloc),
+            most: 0,
         }
+    }
+
+    /// Whether some index may have a mark.
+    pub(crate) fn may_have(&self) -> bool {
+        self.most > 0
     }
 
     /// How many indexes there are.
@@ -68,10 +76,18 @@ impl Marks {
         self.marks.set(index, is_marked);
         let word = index / FLAGS_PER_WORD;
         self.words.set(word, has_mark(&self.marks, word));
+        if !is_marked {
+            self.most -= 1;
+        } else if self.most < self.marks.len() {
+            self.most += 1;
+        }
     }
 
     /// The least marked index from an index on.
     pub(crate) fn next(&self, from: usize) -> Option<usize> {
+        if self.most == 0 {
+            return None;
+        }
         if let Some(index) = self.marks.next_in_word(from) {
             return Some(index);
         }

@@ -15,9 +15,10 @@ mod acks;
 mod making;
 mod telling;
 
+pub(crate) use acks::KeptPacket;
+
 /// What an end sends: its sending halves, what its packets carried, and what was acknowledged of them.
 pub(crate) struct Outbox {
-    alloc: Global,
     sends: SendTables,
     // The sum of all sent ends.
     sent: u64,
@@ -37,7 +38,6 @@ pub(crate) struct Outbox {
 impl Outbox {
     pub(crate) fn new(alloc: Global) -> Self {
         Outbox {
-            alloc,
             sends: SendTables::new(alloc),
             sent: 0,
             records: Records::new(alloc),

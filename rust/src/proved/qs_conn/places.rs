@@ -12,3 +12,10 @@ pub(crate) fn kind_of(stream: StreamId) -> usize {
 pub(crate) fn index_of(stream: StreamId) -> usize {
     (stream.value() / 4) as usize
 }
+
+/// The index of the least stream of a type from a number on.
+pub(crate) fn index_from(kind: usize, from: u64) -> usize {
+    debug_assert!(kind < 4);
+    debug_assert!(from <= 1 << 62);
+    ((from + 3 - kind as u64) / 4) as usize
+}

@@ -2,7 +2,7 @@
 //! The receiving halves of an end.
 
 use crate::proved::qs_conn::marks::least;
-use crate::proved::qs_conn::places::{index_of, kind_of};
+use crate::proved::qs_conn::places::{index_from, index_of, kind_of};
 use crate::proved::qs_conn::recv_lanes::RecvLanes;
 use crate::proved::qs_conn::recv_marks::RecvTask;
 use crate::proved::qs_conn::untold::Untold;
@@ -198,8 +198,7 @@ impl RecvTables {
         debug_assert!(kind < 4);
         debug_assert!(from <= 1 << 62);
         let lanes = &self.types[kind];
-        let first = (from + 3 - kind as u64) / 4;
-        match lanes.next_with(task, first as usize) {
+        match lanes.next_with(task, index_from(kind, from)) {
             Some(index) => Some((index * 4 + kind) as u64),
             None => None,
         }

@@ -167,6 +167,11 @@ impl SendLanes {
         answer
     }
 
+    /// Whether any half may have a task.
+    pub(crate) fn may_have(&self, task: Task) -> bool {
+        self.marks.may_have(task)
+    }
+
     /// The least index from one on whose half may have a task. The halves between are quiet of it.
     pub(crate) fn next_marked(&self, task: Task, from: usize) -> Option<usize> {
         if from >= self.halves.len() {

@@ -118,6 +118,17 @@ impl SendMarks {
         self.ended.set(index, has_ended(half));
     }
 
+    /// Whether any index may be marked.
+    pub(crate) fn may_have(&self, task: Task) -> bool {
+        match task {
+            Task::Bytes => self.bytes.may_have(),
+            Task::Reset => self.resets.may_have(),
+            Task::Blocked => self.blocks.may_have(),
+            Task::Writable => self.writable.may_have(),
+            Task::Ended => self.ended.may_have(),
+        }
+    }
+
     /// The least marked index from one on.
     pub(crate) fn next(&self, task: Task, from: usize) -> Option<usize> {
         match task {

@@ -2,7 +2,7 @@
 //! The sending halves of an end.
 
 use crate::proved::qs_conn::marks::least;
-use crate::proved::qs_conn::places::{index_of, kind_of};
+use crate::proved::qs_conn::places::{index_from, index_of, kind_of};
 use crate::proved::qs_conn::send_lanes::SendLanes;
 use crate::proved::qs_conn::send_marks::Task;
 use crate::proved::qs_ranges::NoMemory;
@@ -149,9 +149,33 @@ impl SendTables {
     /// The least number from one on of a stream that may have a task. The halves of the streams between are quiet of it.
     pub(crate) fn next_marked(&self, task: Task, from: u64) -> Option<StreamId> {
         debug_assert!(from <= 1 << 62);
+        if !self.may_have(task) {
+            return None;
+        }
+        self.least_marked(task, from)
+    }
+
+    // The search. It stands apart, so that where no half has a task a caller pays for the look above alone.
+    #[inline(never)]
+    fn least_marked(&self, task: Task, from: u64) -> Option<StreamId> {
+        debug_assert!(from <= 1 << 62);
         let bidi = least(self.next_of(task, 0, from), self.next_of(task, 1, from));
         let uni = least(self.next_of(task, 2, from), self.next_of(task, 3, from));
         StreamId::new(least(bidi, uni)?)
+    }
+
+    // Whether any half may have a task.
+    fn may_have(&self, task: Task) -> bool {
+        if self.types[0].may_have(task) {
+            return true;
+        }
+        if self.types[1].may_have(task) {
+            return true;
+        }
+        if self.types[2].may_have(task) {
+            return true;
+        }
+        self.types[3].may_have(task)
     }
 
     // The least such number among the streams of a type.
@@ -159,8 +183,7 @@ impl SendTables {
         debug_assert!(kind < 4);
         debug_assert!(from <= 1 << 62);
         let lanes = &self.types[kind];
-        let first = (from + 3 - kind as u64) / 4;
-        let index = lanes.next_marked(task, first as usize)?;
+        let index = lanes.next_marked(task, index_from(kind, from))?;
         Some((index * 4 + kind) as u64)
     }
 
@@ -186,8 +209,7 @@ impl SendTables {
         debug_assert!(kind < 4);
         debug_assert!(from <= 1 << 62);
         let lanes = &self.types[kind];
-        let first = (from + 3 - kind as u64) / 4;
-        match lanes.next_with(task, first as usize) {
+        match lanes.next_with(task, index_from(kind, from)) {
             Some(index) => Some((index * 4 + kind) as u64),
             None => None,
         }

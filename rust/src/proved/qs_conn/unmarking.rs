@@ -22,7 +22,6 @@ pub(crate) fn unmark_told(terms: &Terms, recvs: &RecvTables, outbox: &Outbox, un
         untold.set(stream, false);
         from = stream.value() + 1;
     }
-    untold.look();
 }
 
 // Whether what is current of a slot was told.

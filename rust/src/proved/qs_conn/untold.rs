@@ -2,7 +2,7 @@
 //! Of which streams a stop or a limit may still have to be told.
 
 use crate::proved::qs_conn::marks::{Marks, least};
-use crate::proved::qs_conn::places::{index_of, kind_of};
+use crate::proved::qs_conn::places::{index_from, index_of, kind_of};
 use crate::proved::qs_ranges::NoMemory;
 use crate::proved::qs_send::{Item, Piece};
 use crate::proved::qs_wire::StreamId;
@@ -11,15 +11,12 @@ use crate::shim::alloc::Global;
 /// A mark for each stream of one type, by its index.
 struct UntoldLanes {
     marks: Marks,
-    // Without it none is marked, as mostly none is.
-    may_have: bool,
 }
 
 impl UntoldLanes {
     fn new(alloc: Global) -> Self {
         UntoldLanes {
             marks: Marks::new(alloc),
-            may_have: false,
         }
     }
 
@@ -37,22 +34,13 @@ impl UntoldLanes {
             return;
         }
         self.marks.set(index, is_marked);
-        if is_marked {
-            self.may_have = true;
-        }
     }
 
-    // Whether any is marked still is looked at. No clause sees it.
-    fn look(&mut self) {
-        if self.may_have && self.marks.next(0).is_none() {
-            self.may_have = false;
-        }
+    fn may_have(&self) -> bool {
+        self.marks.may_have()
     }
 
     fn next(&self, from: usize) -> Option<usize> {
-        if !self.may_have {
-            return None;
-        }
         self.marks.next(from)
     }
 }
@@ -93,14 +81,6 @@ impl Untold {
         lanes.set(index_of(stream), is_marked);
     }
 
-    /// Looks whether any stream is marked still. No clause sees it.
-    pub(crate) fn look(&mut self) {
-        self.types[0].look();
-        self.types[1].look();
-        self.types[2].look();
-        self.types[3].look();
-    }
-
     /// A piece leaves its packet: the stream whose limit or stop it told is marked.
     pub(crate) fn look_again(&mut self, piece: &Piece) {
         match *piece {
@@ -113,9 +93,26 @@ impl Untold {
     /// The least number from one on of a marked stream.
     pub(crate) fn next(&self, from: u64) -> Option<StreamId> {
         debug_assert!(from <= 1 << 62);
+        if !self.may_have() {
+            return None;
+        }
         let bidi = least(self.next_of(0, from), self.next_of(1, from));
         let uni = least(self.next_of(2, from), self.next_of(3, from));
         StreamId::new(least(bidi, uni)?)
+    }
+
+    // Whether any stream may be marked.
+    fn may_have(&self) -> bool {
+        if self.types[0].may_have() {
+            return true;
+        }
+        if self.types[1].may_have() {
+            return true;
+        }
+        if self.types[2].may_have() {
+            return true;
+        }
+        self.types[3].may_have()
     }
 
     // The least such number among the streams of a type.
@@ -123,8 +120,7 @@ impl Untold {
         debug_assert!(kind < 4);
         debug_assert!(from <= 1 << 62);
         let lanes = &self.types[kind];
-        let first = (from + 3 - kind as u64) / 4;
-        let index = lanes.next(first as usize)?;
+        let index = lanes.next(index_from(kind, from))?;
         Some((index * 4 + kind) as u64)
     }
 }

@@ -4,15 +4,16 @@
 // The largest value of a variable-length integer.
 const MAX_VARINT: u64 = (1 << 62) - 1;
 
-/// The limit that follows one where so much was taken of a window, if it rises (RFC 9000, section 4.2).
-pub(crate) fn next_limit(limit: u64, taken: u64, window: u64) -> Option<u64> {
+/// The limit that follows one where so much was taken of a window (RFC 9000, section 4.2).
+pub fn next_limit(limit: u64, taken: u64, window: u64) -> u64 {
     debug_assert!(limit <= 0x3fff_ffff_ffff_ffff);
     debug_assert!(taken <= 0x3fff_ffff_ffff_ffff);
-    debug_assert!(window <= 1 << 20);
+    debug_assert!(window <= 1 << 24);
     let next = (taken + window).min(MAX_VARINT);
     let step = (window / 2).max(1);
     if limit + step <= next || (next == MAX_VARINT && limit < next) {
-        return Some(next);
+        next
+    } else {
+        limit
     }
-    None
 }

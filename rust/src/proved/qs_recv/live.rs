@@ -173,7 +173,10 @@ impl<A: Assembly> LiveHalf<A> {
         if self.final_size.is_some() {
             return None;
         }
-        let next = next_limit(self.limit, self.taken(), self.window)?;
+        let next = next_limit(self.limit, self.taken(), self.window);
+        if next <= self.limit {
+            return None;
+        }
         self.limit = next;
         Some(next)
     }

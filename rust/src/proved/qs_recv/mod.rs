@@ -10,5 +10,6 @@ mod rest;
 mod ring_assembly;
 
 pub use assembly::Assembly;
+pub use credit::next_limit;
 pub use half::{Highest, Read, RecvFault, RecvHalf, RecvState};
 pub use ring_assembly::RingAssembly;

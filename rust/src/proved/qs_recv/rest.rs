@@ -98,7 +98,10 @@ impl Rest {
         if self.is_sized {
             return None;
         }
-        let next = next_limit(self.limit, self.taken(), self.window as u64)?;
+        let next = next_limit(self.limit, self.taken(), self.window as u64);
+        if next <= self.limit {
+            return None;
+        }
         self.limit = next;
         Some(next)
     }

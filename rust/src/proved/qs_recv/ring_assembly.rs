@@ -174,7 +174,7 @@ fn move_in(into: &mut [u8], ring: &[u8], from: u64) {
     if len == 0 {
         return;
     }
-    let (front, back) = ring.split_at((from % len as u64) as usize);
+    let (front, back) = ring.split_at(place_of(from, len));
     copy_in(into, from, back);
     copy_in(into, from + back.len() as u64, front);
 }
@@ -198,10 +198,10 @@ fn shed(alloc: Global, ring: &mut Vec<u8>, from: u64, span: u64, window: u64) {
 // Brings a ring to a smaller size in place: what it has then is what it had, the byte of each offset from `from` on.
 fn narrow(ring: &mut Vec<u8>, from: u64, size: u64) {
     debug_assert!(0 < size);
-    let place = (from % ring.len() as u64) as usize;
+    let place = place_of(from, ring.len());
     ring.rotate_left(place);
     ring.truncate(size as usize);
-    ring.rotate_right((from % size) as usize);
+    ring.rotate_right(place_of(from, size as usize));
     ring.shrink_to_fit();
 }
 
@@ -290,11 +290,21 @@ fn next_run(received: &RangeSet, at: u64, end: u64) -> (u64, u64) {
     }
 }
 
+// The place of an offset in a ring of that size. Most are powers of two, at which no division is made.
+fn place_of(at: u64, size: usize) -> usize {
+    debug_assert!(0 < size);
+    if size.is_power_of_two() {
+        (at & (size as u64 - 1)) as usize
+    } else {
+        (at % size as u64) as usize
+    }
+}
+
 // Writes bytes to the places of the offsets from `at` on, in two pieces where these wrap.
 fn copy_in(ring: &mut [u8], at: u64, bytes: &[u8]) {
     debug_assert!(0 < ring.len());
     debug_assert!(bytes.len() <= ring.len());
-    let place = (at % ring.len() as u64) as usize;
+    let place = place_of(at, ring.len());
     let room = ring.len() - place;
     if bytes.len() <= room {
         write_at(ring, place, bytes);
@@ -317,7 +327,7 @@ fn copy_out(ring: &[u8], at: u64, into: &mut [u8]) {
     if len == 0 {
         return;
     }
-    let place = (at % ring.len() as u64) as usize;
+    let place = place_of(at, ring.len());
     let room = ring.len() - place;
     if len <= room {
         into.copy_from_slice(&ring[place..place + len]);
@@ -360,7 +370,7 @@ fn are_at(ring: &[u8], at: u64, bytes: &[u8]) -> bool {
     if len == 0 {
         return true;
     }
-    let place = (at % ring.len() as u64) as usize;
+    let place = place_of(at, ring.len());
     let room = ring.len() - place;
     if len <= room {
         return bytes == &ring[place..place + len];

@@ -4,8 +4,10 @@
 use crate::proved::qs_send::records::Records;
 use crate::proved::qs_wire::AckRanges;
 
-/// One pass over the records from the highest number that an ACK's ranges name down to the lowest (RFC 9000, section 13.3). Each
-/// number that it gives and each range that it reads takes one turn, and after each turn comes one search.
+mod late;
+
+/// One pass over the outstanding records, or over the lost ones, from the highest number that an ACK's ranges name down to the lowest
+/// (RFC 9000, section 13.3).
 pub struct AckPass<'a> {
     // Of the range that was read last, the numbers from `low` on and below `below` are left.
     low: u64,
@@ -25,7 +27,8 @@ impl<'a> AckPass<'a> {
         }
     }
 
-    /// The greatest outstanding number that the ranges name below the one given last, `None` where there is none.
+    /// The greatest outstanding number that the ranges name below the one given last, `None` where there is none. Each number that it
+    /// gives and each range that it reads takes one turn, and after each turn comes one search.
     pub fn next(&mut self, records: &Records) -> Option<u64> {
         let _turns = self.turns;
         loop {
@@ -38,7 +41,7 @@ impl<'a> AckPass<'a> {
         }
     }
 
-    /// How many turns it took: numbers that it gave, and ranges that it read.
+    /// How many turns it took.
     pub fn turns(&self) -> u64 {
         self.turns
     }

@@ -8,83 +8,147 @@ use crate::shim::alloc::Global;
 // The most bytes of room that stay where nothing is kept, so that a few bytes now and then take no memory anew.
 const IDLE_ROOM: usize = 4096;
 
-/// The bytes stand in a row from `start` on. Those before it were let go, and never take more than half of the room.
+/// The bytes stand in a ring, so that none is moved while others come and go.
 pub struct Kept {
     alloc: Global,
-    bytes: Vec<u8>,
+    // As long as there is room.
+    ring: Vec<u8>,
+    // The place of the first byte.
     start: usize,
-    // How many bytes of memory were asked for.
-    room: usize,
+    count: usize,
 }
 
 impl Kept {
     pub fn new(alloc: Global) -> Self {
         Self {
             alloc,
-            bytes: Vec::new(alloc),
+            ring: Vec::new(alloc),
             start: 0,
-            room: 0,
+            count: 0,
         }
     }
 
     pub fn len(&self) -> usize {
-        self.bytes.len() - self.start
+        self.count
     }
 
     /// How many bytes of memory are taken: at least those that are kept, and no more than 4,096 where none is.
     pub fn held(&self) -> usize {
-        self.room
+        self.ring.len()
     }
 
     /// Appends the bytes. Where `most` bytes at most are ever kept, no more than twice as many are
     /// allocated, and while these are there nothing is.
     pub fn append(&mut self, bytes: &[u8], most: usize) -> Result<(), NoMemory> {
-        let len = self.bytes.len();
-        if self.room - len < bytes.len() {
-            let grown = self.room.min(most).saturating_mul(2);
-            let more = grown.saturating_sub(len).max(bytes.len());
-            self.bytes.reserve_exact(more)?;
-            self.room = len + more;
+        let count = self.count + bytes.len();
+        if count > self.ring.len() {
+            let size = self.ring.len().saturating_mul(2).min(most).max(count);
+            return self.move_to(size, bytes);
         }
-        self.bytes.extend_from_slice(bytes)?;
+        write_behind(&mut self.ring, self.start, self.count, bytes);
+        self.count = count;
         Ok(())
     }
 
     /// Leaves the first `n` bytes.
     pub fn truncate(&mut self, n: usize) {
-        if n == 0 && self.room > IDLE_ROOM {
+        if n == 0 && self.ring.len() > IDLE_ROOM {
             self.give_back();
         } else {
-            self.bytes.truncate(self.start + n);
+            self.count = n;
         }
     }
 
-    /// Lets the first `n` bytes go. What is left is moved only once it is no more than what was let go before it. Where
-    /// nothing is left a room of more than 4,096 bytes is given back, and any where nothing more comes.
+    /// Lets the first `n` bytes go. Where nothing is left a room of more than 4,096 bytes is given back, and any where
+    /// nothing more comes.
     pub fn let_go(&mut self, n: usize, is_over: bool) {
-        let start = self.start + n;
-        let left = self.bytes.len() - start;
-        if left == 0 && (is_over || self.room > IDLE_ROOM) {
+        let count = self.count - n;
+        if count > 0 {
+            self.start = place(self.ring.len(), self.start + n);
+            self.count = count;
+        } else if is_over || self.ring.len() > IDLE_ROOM {
             self.give_back();
-        } else if left <= start {
-            self.bytes.copy_within(start.., 0);
-            self.bytes.truncate(left);
-            self.start = 0;
         } else {
-            self.start = start;
+            self.start = 0;
+            self.count = 0;
         }
     }
 
-    /// The `len` bytes from a place on.
-    pub fn part(&self, from: usize, len: usize) -> &[u8] {
-        let first = self.start + from;
-        &self.bytes[first..first + len]
+    /// The `len` bytes from a place on: a front, and where they go around the ring's end, a back.
+    pub fn part(&self, from: usize, len: usize) -> (&[u8], &[u8]) {
+        let start = place(self.ring.len(), self.start + from);
+        pieces(&self.ring, start, len)
+    }
+
+    // Moves the bytes to the front of a ring with so many places, and puts those behind them that come. Unchanged where memory is
+    // refused.
+    fn move_to(&mut self, size: usize, bytes: &[u8]) -> Result<(), NoMemory> {
+        debug_assert!(0 < bytes.len());
+        let (front, back) = pieces(&self.ring, self.start, self.count);
+        let ring = joined(self.alloc, front, back, bytes, size)?;
+        self.ring = ring;
+        self.start = 0;
+        self.count += bytes.len();
+        Ok(())
     }
 
     // Keeps nothing, and takes no memory.
     fn give_back(&mut self) {
-        self.bytes = Vec::new(self.alloc);
+        self.ring = Vec::new(self.alloc);
         self.start = 0;
-        self.room = 0;
+        self.count = 0;
     }
+}
+
+// Where in a ring of so many places the byte stands that is so many places past the front.
+fn place(size: usize, at: usize) -> usize {
+    if at < size { at } else { at - size }
+}
+
+// So many bytes of a ring, in two pieces where they go around its end.
+fn pieces(ring: &[u8], start: usize, count: usize) -> (&[u8], &[u8]) {
+    debug_assert!(start <= ring.len());
+    debug_assert!(count <= ring.len());
+    let room = ring.len() - start;
+    if count <= room {
+        (&ring[start..start + count], &[])
+    } else {
+        (&ring[start..], &ring[..count - room])
+    }
+}
+
+// Writes bytes behind those that stand in a ring, in two pieces where they go around its end.
+fn write_behind(ring: &mut [u8], start: usize, count: usize, bytes: &[u8]) {
+    debug_assert!(start <= ring.len());
+    let at = place(ring.len(), start + count);
+    let room = ring.len() - at;
+    if bytes.len() <= room {
+        write_at(ring, at, bytes);
+    } else {
+        let (front, back) = bytes.split_at(room);
+        write_at(ring, at, front);
+        write_at(ring, 0, back);
+    }
+}
+
+// Writes bytes from a place on.
+fn write_at(into: &mut [u8], at: usize, bytes: &[u8]) {
+    into[at..at + bytes.len()].copy_from_slice(bytes);
+}
+
+// The bytes one behind the other, at the front of a ring of so many places.
+fn joined(
+    alloc: Global,
+    front: &[u8],
+    back: &[u8],
+    bytes: &[u8],
+    size: usize,
+) -> Result<Vec<u8>, NoMemory> {
+    let mut ring = Vec::new(alloc);
+    ring.reserve_exact(size)?;
+    ring.extend_from_slice(front)?;
+    ring.extend_from_slice(back)?;
+    ring.extend_from_slice(bytes)?;
+    ring.resize(size, 0)?;
+    Ok(ring)
 }

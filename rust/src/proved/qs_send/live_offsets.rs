@@ -43,8 +43,8 @@ impl LiveOffsets {
         self.kept.held()
     }
 
-    /// The bytes that are kept, so many from a place on.
-    pub(crate) fn part(&self, from: usize, len: usize) -> &[u8] {
+    /// The bytes that are kept, so many from a place on, in two pieces.
+    pub(crate) fn part(&self, from: usize, len: usize) -> (&[u8], &[u8]) {
         self.kept.part(from, len)
     }
 

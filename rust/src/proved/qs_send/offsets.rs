@@ -51,10 +51,10 @@ impl Offsets {
         }
     }
 
-    /// The bytes that are kept, so many from a place on.
-    pub(crate) fn part(&self, from: usize, len: usize) -> &[u8] {
+    /// The bytes that are kept, so many from a place on, in two pieces.
+    pub(crate) fn part(&self, from: usize, len: usize) -> (&[u8], &[u8]) {
         match &self.live {
-            None => &[],
+            None => (&[], &[]),
             Some(live) => live.part(from, len),
         }
     }

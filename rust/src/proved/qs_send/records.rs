@@ -54,12 +54,12 @@ impl Records {
         Ok(())
     }
 
-    /// Holds the pieces of a packet. It takes no memory.
-    pub fn put(&mut self, number: u64, pieces: Vec<Piece>) {
+    /// Holds the pieces of a packet that stand in a buffer, and leaves none there. It needs no memory.
+    pub fn put(&mut self, number: u64, buffer: &mut Vec<Piece>) {
         self.drop_empty_end();
         self.start_at(number);
         self.fill_to(number);
-        self.push_slot(Carried::new(pieces));
+        self.push_slot(Carried::taken_from(self.alloc, buffer));
     }
 
     /// The first piece of a packet, `None` where the number isn't held.
@@ -260,7 +260,7 @@ impl Records {
     fn fill_to(&mut self, number: u64) {
         while self.ends_before(number) {
             let place = self.slots.len();
-            self.push_slot(Carried::empty(self.alloc));
+            self.push_slot(Carried::empty());
             self.note(place);
         }
     }

@@ -3,7 +3,7 @@
 
 use crate::proved::qs_wire::fault::Full;
 use crate::proved::qs_wire::varint::{read_varint, varint_len};
-use crate::proved::qs_wire::writing::{Part, put_number, put_parts};
+use crate::proved::qs_wire::writing::{put_number, put_numbers};
 
 /// Gives the ranges of an ACK frame as smallest and largest packet number, the highest first.
 #[derive(Debug)]
@@ -95,16 +95,7 @@ pub fn put_ack(pairs: &[(u64, u64)], delay: u64, out: &mut [u8]) -> Result<(usiz
         return Err(Full);
     }
     let (count, len) = ranges_within(start, others, out.len() - first);
-    put_parts(
-        &[
-            Part::Number(ACK),
-            Part::Number(end - 1),
-            Part::Number(delay),
-            Part::Number(count as u64),
-            Part::Number(end - 1 - start),
-        ],
-        out,
-    );
+    put_numbers(&[ACK, end - 1, delay, count as u64, end - 1 - start], out);
     let (fitting, _) = others.split_at(count);
     put_ranges(start, fitting, first, out);
     Ok((count + 1, first + len))

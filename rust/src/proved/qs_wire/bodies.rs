@@ -1,19 +1,23 @@
 // Made from crates/qs_wire/src/bodies.rt by rust/erase; not edited by hand.
-//! Reading the fields of each frame, behind its type.
+//! Reading the fields of each frame, behind its type, and judging their values.
 
 use crate::proved::qs_wire::fault::FaultKind;
 use crate::proved::qs_wire::fields::{
-    counted_at, counted_if, ecn_if, identifier_at, number_at, number_if, plain_at, ranges_at,
+    counted_at, counted_if, ecn_if, identifier_at, number_if, plain_at, ranges_at,
 };
 use crate::proved::qs_wire::frame::Frame;
 use crate::proved::qs_wire::frame_type::FrameType;
 use crate::proved::qs_wire::stream_id::{Dir, StreamId};
+use crate::proved::qs_wire::varint::number_at;
 
 fn ack_at(ecn: bool, bytes: &[u8]) -> Result<(Frame<'_>, &[u8]), FaultKind> {
     let (largest, rest) = number_at(bytes)?;
     let (delay, rest) = number_at(rest)?;
-    let (ranges, rest) = ranges_at(rest)?;
+    let (ranges, falls_below_zero, rest) = ranges_at(largest, rest)?;
     let (ecn, rest) = ecn_if(ecn, rest)?;
+    if falls_below_zero {
+        return Err(FaultKind::BelowZero);
+    }
     Ok((
         Frame::Ack {
             largest,
@@ -47,9 +51,20 @@ fn stop_sending_at(bytes: &[u8]) -> Result<(Frame<'_>, &[u8]), FaultKind> {
     Ok((Frame::StopSending { stream, code }, rest))
 }
 
+/// Whether the bytes that stand at an offset of a stream end below 2^62.
+fn ends_in_range(offset: u64, bytes: &[u8]) -> bool {
+    match offset.checked_add(bytes.len() as u64) {
+        Some(end) => end < 1 << 62,
+        None => false,
+    }
+}
+
 fn crypto_at(bytes: &[u8]) -> Result<(Frame<'_>, &[u8]), FaultKind> {
     let (offset, rest) = number_at(bytes)?;
     let (bytes, rest) = counted_at(rest)?;
+    if !ends_in_range(offset, bytes) {
+        return Err(FaultKind::OffsetTooLarge);
+    }
     Ok((Frame::Crypto { offset, bytes }, rest))
 }
 
@@ -62,6 +77,9 @@ fn stream_at(off: bool, len: bool, fin: bool, bytes: &[u8]) -> Result<(Frame<'_>
     let (stream, rest) = number_at(bytes)?;
     let (offset, rest) = number_if(off, rest)?;
     let (bytes, rest) = counted_if(len, rest)?;
+    if !ends_in_range(offset, bytes) {
+        return Err(FaultKind::OffsetTooLarge);
+    }
     let stream = StreamId::of_varint(stream);
     Ok((
         Frame::Stream {
@@ -88,6 +106,9 @@ fn max_stream_data_at(bytes: &[u8]) -> Result<(Frame<'_>, &[u8]), FaultKind> {
 
 fn max_streams_at(dir: Dir, bytes: &[u8]) -> Result<(Frame<'_>, &[u8]), FaultKind> {
     let (count, rest) = number_at(bytes)?;
+    if count > 1 << 60 {
+        return Err(FaultKind::CountTooLarge);
+    }
     Ok((Frame::MaxStreams { dir, count }, rest))
 }
 
@@ -105,6 +126,9 @@ fn stream_data_blocked_at(bytes: &[u8]) -> Result<(Frame<'_>, &[u8]), FaultKind>
 
 fn streams_blocked_at(dir: Dir, bytes: &[u8]) -> Result<(Frame<'_>, &[u8]), FaultKind> {
     let (count, rest) = number_at(bytes)?;
+    if count > 1 << 60 {
+        return Err(FaultKind::CountTooLarge);
+    }
     Ok((Frame::StreamsBlocked { dir, count }, rest))
 }
 
@@ -159,7 +183,7 @@ fn application_close_at(bytes: &[u8]) -> Result<(Frame<'_>, &[u8]), FaultKind> {
     Ok((Frame::ApplicationClose { code, reason }, rest))
 }
 
-/// The frame of a type, and the bytes after it.
+/// The frame of a type, whose values break nothing, and the bytes after it.
 pub(crate) fn body_at(frame_type: FrameType, bytes: &[u8]) -> Result<(Frame<'_>, &[u8]), FaultKind> {
     match frame_type {
         FrameType::Padding => Ok((Frame::Padding, bytes)),

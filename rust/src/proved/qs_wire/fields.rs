@@ -3,12 +3,7 @@
 
 use crate::proved::qs_wire::fault::FaultKind;
 use crate::proved::qs_wire::frame::EcnCounts;
-use crate::proved::qs_wire::varint::read_varint;
-
-pub(crate) fn number_at(bytes: &[u8]) -> Result<(u64, &[u8]), FaultKind> {
-    let (value, len) = read_varint(bytes).ok_or(FaultKind::Truncated)?;
-    Ok((value, &bytes[len..]))
-}
+use crate::proved::qs_wire::varint::number_at;
 
 /// So many bytes.
 pub(crate) fn plain_at(len: u64, bytes: &[u8]) -> Result<(&[u8], &[u8]), FaultKind> {
@@ -69,19 +64,22 @@ pub(crate) fn ecn_if(there: bool, bytes: &[u8]) -> Result<(Option<EcnCounts>, &[
     }
 }
 
-/// What follows so many numbers.
-fn skip_numbers(count: u64, bytes: &[u8]) -> Result<&[u8], FaultKind> {
+/// What follows so many numbers, and what is left of a limit from which each takes one more than itself.
+fn skip_numbers(count: u64, limit: u64, bytes: &[u8]) -> Result<(u64, &[u8]), FaultKind> {
+    let mut left = limit;
     let mut rest = bytes;
     for _ in 0..count {
-        let (_, after) = number_at(rest)?;
+        let (value, after) = number_at(rest)?;
+        left = left.saturating_sub(value + 1);
         rest = after;
     }
-    Ok(rest)
+    Ok((left, rest))
 }
 
-/// The numbers of an ACK's ranges.
-pub(crate) fn ranges_at(bytes: &[u8]) -> Result<(&[u8], &[u8]), FaultKind> {
+/// The numbers of an ACK's ranges, and whether the ranges fall below zero from the largest number.
+pub(crate) fn ranges_at(largest: u64, bytes: &[u8]) -> Result<(&[u8], bool, &[u8]), FaultKind> {
+    debug_assert!(largest < 1 << 62);
     let (pairs, numbers) = number_at(bytes)?;
-    let rest = skip_numbers(2 * pairs + 1, numbers)?;
-    Ok((&numbers[..numbers.len() - rest.len()], rest))
+    let (left, rest) = skip_numbers(2 * pairs + 1, largest + 2, numbers)?;
+    Ok((&numbers[..numbers.len() - rest.len()], left == 0, rest))
 }

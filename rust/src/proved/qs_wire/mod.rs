@@ -22,4 +22,4 @@ pub use frames::Frames;
 pub use stream_id::{Dir, Role, StreamId};
 pub use turns::last_stream;
 pub use varint::{read_varint, varint_len, write_varint};
-pub use writing::put;
+pub use writing::{put, put_stream};

@@ -14,55 +14,16 @@ pub(crate) struct Broken {
     pub(crate) frame_type: u64,
 }
 
-/// Whether ranges that begin at a number fall below zero.
-fn falls_below_zero(largest: u64, numbers: &[u8]) -> bool {
-    debug_assert!(largest < 1 << 62);
-    let mut left = largest + 1;
-    let mut rest = numbers;
-    while let Some((value, len)) = read_varint(rest) {
-        if value >= left {
-            return true;
-        }
-        left -= value + 1;
-        let (_, after) = rest.split_at(len);
-        rest = after;
-    }
-    false
-}
-
-/// What a frame's values break.
-fn breach_of(frame: &Frame) -> Option<FaultKind> {
-    match *frame {
-        Frame::Stream { offset, bytes, .. } | Frame::Crypto { offset, bytes } => {
-            let end = offset.checked_add(bytes.len() as u64);
-            match end {
-                Some(end) if end < 1 << 62 => None,
-                _ => Some(FaultKind::OffsetTooLarge),
-            }
-        }
-        Frame::MaxStreams { count, .. } | Frame::StreamsBlocked { count, .. } => {
-            if count > 1 << 60 {
-                Some(FaultKind::CountTooLarge)
-            } else {
-                None
-            }
-        }
-        Frame::Ack {
-            largest,
-            ranges,
-            ..
-        } => {
-            if falls_below_zero(largest, ranges) {
-                Some(FaultKind::BelowZero)
-            } else {
-                None
-            }
-        }
-        _ => None,
-    }
-}
-
 fn type_at(bytes: &[u8]) -> Result<(u64, &[u8]), Broken> {
+    match bytes.split_first() {
+        // One byte has no shorter spelling.
+        Some((&first, rest)) if first < 0x40 => Ok((u64::from(first), rest)),
+        _ => long_type_at(bytes),
+    }
+}
+
+/// The number of a type, however long.
+fn long_type_at(bytes: &[u8]) -> Result<(u64, &[u8]), Broken> {
     let Some((frame_type, len)) = read_varint(bytes) else {
         return Err(Broken {
             kind: FaultKind::Truncated,
@@ -87,12 +48,8 @@ pub(crate) fn frame_at(bytes: &[u8]) -> Result<(u64, Frame<'_>, &[u8]), Broken> 
             frame_type,
         });
     };
-    let (frame, rest) = match body_at(known, rest) {
-        Ok(x) => x,
-        Err(kind) => return Err(Broken { kind, frame_type }),
-    };
-    if let Some(kind) = breach_of(&frame) {
-        return Err(Broken { kind, frame_type });
+    match body_at(known, rest) {
+        Ok((frame, rest)) => Ok((frame_type, frame, rest)),
+        Err(kind) => Err(Broken { kind, frame_type }),
     }
-    Ok((frame_type, frame, rest))
 }

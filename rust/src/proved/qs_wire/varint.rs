@@ -1,6 +1,7 @@
 // Made from crates/qs_wire/src/varint.rt by rust/erase; not edited by hand.
 //! Numbers of variable length.
 
+use crate::proved::qs_wire::fault::FaultKind;
 use crate::shim::byteorder::{BigEndian, ByteOrder};
 
 /// The number at the front of the bytes and how many bytes it takes, or `None` where the bytes end
@@ -10,23 +11,40 @@ pub fn read_varint(bytes: &[u8]) -> Option<(u64, usize)> {
 }
 
 fn parse(bytes: &[u8]) -> Option<(u64, usize)> {
-    let first = *bytes.first()?;
-    let len = match first >> 6 {
-        0 => 1,
-        1 => 2,
-        2 => 4,
-        _ => 8,
-    };
-    if bytes.len() < len {
-        return None;
+    match number_at(bytes) {
+        Ok((value, after)) => Some((value, bytes.len() - after.len())),
+        Err(_) => None,
     }
-    let value = match len {
-        1 => u64::from(first),
-        2 => u64::from(BigEndian::read_u16(bytes)) & 0x3fff,
-        4 => u64::from(BigEndian::read_u32(bytes)) & 0x3fff_ffff,
-        _ => BigEndian::read_u64(bytes) & 0x3fff_ffff_ffff_ffff,
+}
+
+/// The number at the front of the bytes, and the bytes after it.
+pub(crate) fn number_at(bytes: &[u8]) -> Result<(u64, &[u8]), FaultKind> {
+    let Some((&first, after)) = bytes.split_first() else {
+        return Err(FaultKind::Truncated);
     };
-    Some((value, len))
+    // Each size cuts the bytes for itself, so that the bounds are tested once.
+    if first < 0x40 {
+        return Ok((u64::from(first), after));
+    }
+    if first < 0x80 {
+        if bytes.len() < 2 {
+            return Err(FaultKind::Truncated);
+        }
+        let (_, after) = bytes.split_at(2);
+        return Ok((u64::from(BigEndian::read_u16(bytes)) & 0x3fff, after));
+    }
+    if first < 0xc0 {
+        if bytes.len() < 4 {
+            return Err(FaultKind::Truncated);
+        }
+        let (_, after) = bytes.split_at(4);
+        return Ok((u64::from(BigEndian::read_u32(bytes)) & 0x3fff_ffff, after));
+    }
+    if bytes.len() < 8 {
+        return Err(FaultKind::Truncated);
+    }
+    let (_, after) = bytes.split_at(8);
+    Ok((BigEndian::read_u64(bytes) & 0x3fff_ffff_ffff_ffff, after))
 }
 
 /// How many bytes the shortest spelling takes.
@@ -50,17 +68,28 @@ pub fn write_varint(value: u64, out: &mut [u8]) -> Option<usize> {
     if out.len() < len {
         return None;
     }
-    spell(value, out);
-    Some(len)
+    Some(spell(value, out))
 }
 
-/// Writes the shortest spelling at the front.
-pub(crate) fn spell(value: u64, out: &mut [u8]) {
+/// Writes the shortest spelling at the front and answers its length.
+pub(crate) fn spell(value: u64, out: &mut [u8]) -> usize {
     debug_assert!(value < 1 << 62);
     match varint_len(value) {
-        1 => out[0] = value as u8,
-        2 => BigEndian::write_u16(out, 0x4000 + value as u16),
-        4 => BigEndian::write_u32(out, 0x8000_0000 + value as u32),
-        _ => BigEndian::write_u64(out, 0xc000_0000_0000_0000 + value),
+        1 => {
+            out[0] = value as u8;
+            1
+        }
+        2 => {
+            BigEndian::write_u16(out, 0x4000 + value as u16);
+            2
+        }
+        4 => {
+            BigEndian::write_u32(out, 0x8000_0000 + value as u32);
+            4
+        }
+        _ => {
+            BigEndian::write_u64(out, 0xc000_0000_0000_0000 + value);
+            8
+        }
     }
 }

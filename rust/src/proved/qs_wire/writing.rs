@@ -60,8 +60,29 @@ impl<'a> Part<'a> {
 /// Writes a number at a place, and answers the place after it.
 pub(crate) fn put_number(value: u64, at: usize, out: &mut [u8]) -> usize {
     debug_assert!(value < 1 << 62);
-    spell(value, &mut out[at..]);
-    at + varint_len(value)
+    at + spell(value, &mut out[at..])
+}
+
+/// Writes numbers at the front, and answers the place after them.
+pub(crate) fn put_numbers(numbers: &[u64], out: &mut [u8]) -> usize {
+    let mut at = 0;
+    for number in numbers {
+        at = put_number(*number, at, out);
+    }
+    at
+}
+
+/// Writes numbers at the front, where they fit, and answers the place after them.
+fn put_fitting(numbers: &[u64], out: &mut [u8]) -> Result<usize, Full> {
+    let mut len = 0;
+    for number in numbers {
+        let more = varint_len(*number);
+        if more > out.len() - len {
+            return Err(Full);
+        }
+        len += more;
+    }
+    Ok(put_numbers(numbers, out))
 }
 
 /// Writes bytes at a place, and answers the place after them.
@@ -76,6 +97,14 @@ fn put_counted(bytes: &[u8], at: usize, out: &mut [u8]) -> usize {
     debug_assert!(bytes.len() < 1 << 62);
     let next = put_number(bytes.len() as u64, at, out);
     put_bytes(bytes, next, out)
+}
+
+/// Writes the bytes of two pieces behind their count at a place, and answers the place after them.
+fn put_pieces(front: &[u8], back: &[u8], at: usize, out: &mut [u8]) -> usize {
+    let count = front.len() + back.len();
+    let next = put_number(count as u64, at, out);
+    let next = put_bytes(front, next, out);
+    put_bytes(back, next, out)
 }
 
 fn counts_len(counts: EcnCounts) -> usize {
@@ -300,12 +329,14 @@ fn put_number_if(there: bool, value: u64, at: usize, out: &mut [u8]) -> usize {
     }
 }
 
-/// Writes a STREAM frame, as `put` does: most bytes go in such a frame, so it is written without a list of parts.
-fn put_stream(
+/// Writes the canonical text of a STREAM frame at the slice's front, as `put` does, with the bytes of a front and a back: a ring has
+/// them in two pieces (RFC 9000, section 19.8). Most bytes go in such a frame, so it is written without a list of parts.
+pub fn put_stream(
     id: StreamId,
     offset: u64,
     fin: bool,
-    bytes: &[u8],
+    front: &[u8],
+    back: &[u8],
     out: &mut [u8],
 ) -> Result<usize, Full> {
     let off = offset > 0;
@@ -314,15 +345,16 @@ fn put_stream(
         len: true,
         fin,
     };
+    let count = front.len() + back.len();
     let head = 1 + varint_len(id.value()) + len_if(off, offset);
-    let len = head + varint_len(bytes.len() as u64) + bytes.len();
+    let len = head + varint_len(count as u64) + count;
     if len > out.len() {
         return Err(Full);
     }
     let next = put_number(frame_type.number(), 0, out);
     let next = put_number(id.value(), next, out);
     let next = put_number_if(off, offset, next, out);
-    Ok(put_counted(bytes, next, out))
+    Ok(put_pieces(front, back, next, out))
 }
 
 /// Writes a frame part by part, as `put` does.
@@ -343,7 +375,13 @@ pub fn put(frame: &Frame, out: &mut [u8]) -> Result<usize, Full> {
             offset,
             fin,
             bytes,
-        } => put_stream(stream, offset, fin, bytes, out),
+        } => put_stream(stream, offset, fin, bytes, &[], out),
+        // What an endpoint tells most often, without a list of parts.
+        Frame::MaxData { maximum } => put_fitting(&[FrameType::MaxData.number(), maximum], out),
+        Frame::MaxStreamData { stream, maximum } => put_fitting(
+            &[FrameType::MaxStreamData.number(), stream.value(), maximum],
+            out,
+        ),
         _ => put_any(frame, out),
     }
 }

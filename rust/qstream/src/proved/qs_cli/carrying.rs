@@ -45,7 +45,9 @@ pub fn udp_events<Wi: Wire, W: io::Write>(
     let Ok(mut world) = World::new(alloc, standard_settings(), standard_settings()) else {
         unreachable!()
     };
-    carry_and_show(alloc, events, wire, &mut world, out)
+    let answer = carry_and_show(alloc, events, wire, &mut world, out);
+    world.discard();
+    answer
 }
 
 /// The events take place in a new world, and what took place is written.

@@ -10,7 +10,7 @@ use crate::proved::qs_wire::{AckRanges, EcnCounts, Frame};
 use crate::shim::alloc::{AllocError, Global};
 
 /// A field of a frame, with the name under which it is shown.
-#[derive(Clone, Copy, Debug)]
+#[derive(Clone, Copy)]
 pub enum Field<'a> {
     Nothing,
     Number(&'static str, u64),

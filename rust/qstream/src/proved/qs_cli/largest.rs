@@ -2,7 +2,7 @@
 //! The packet number at which the ranges of an ACK begin.
 
 /// The largest packet number that an ACK names.
-#[derive(Clone, Copy, Debug)]
+#[derive(Clone, Copy)]
 pub struct Largest {
     number: u64,
 }

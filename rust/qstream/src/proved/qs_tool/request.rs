@@ -21,7 +21,7 @@ const USUAL_GRANT: u64 = 8;
 const MAX_LIFETIME: u64 = 65_536;
 
 /// What the program is asked to do.
-#[derive(Clone, Copy, Debug, PartialEq, Eq)]
+#[derive(Clone, Copy)]
 pub enum Request<'a> {
     /// Show the frames of the payload that the word spells in hex.
     Frames(&'a str),

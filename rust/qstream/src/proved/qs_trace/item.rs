@@ -2,7 +2,7 @@
 //! What a trace tells.
 
 /// A half of a stream and the state that it comes to (RFC 9000, sections 3.1 and 3.2).
-#[derive(Clone, Copy, Debug, PartialEq, Eq)]
+#[derive(Clone, Copy)]
 pub enum Turn {
     Ready,
     ResetSent,
@@ -12,7 +12,7 @@ pub enum Turn {
 }
 
 /// Why a packet that came had no effect, or not the whole.
-#[derive(Clone, Copy, Debug, PartialEq, Eq)]
+#[derive(Clone, Copy)]
 pub enum Why {
     Duplicate,
     BelowFloor,
@@ -21,7 +21,7 @@ pub enum Why {
 
 /// A packet by its number, a half of a stream with its new state, a count of bytes of a stream that the transport took from the
 /// application or gave to it, or the connection's end by a code.
-#[derive(Clone, Copy, Debug)]
+#[derive(Clone, Copy)]
 pub enum Item<'a> {
     /// With its payload.
     Sent(u64, &'a [u8]),

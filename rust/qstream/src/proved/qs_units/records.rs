@@ -67,7 +67,7 @@ fn grow(records: &mut Records, number: u64) -> Result<(), NoMemory> {
     records.make_room(number)
 }
 
-fn put(records: &mut Records, number: u64, pieces: Vec<Piece>) -> bool {
+fn put(records: &mut Records, number: u64, pieces: &mut Vec<Piece>) -> bool {
     if pieces.is_empty() || records.make_room(number).is_err() {
         return false;
     }
@@ -90,9 +90,10 @@ fn puts(
     first: u32,
     more: u32,
 ) -> Result<bool, NoMemory> {
-    let pieces = pieces_from(alloc, first, more)?;
+    let mut pieces = pieces_from(alloc, first, more)?;
     grow(records, number)?;
-    Ok(put(records, number, pieces))
+    let is_put = put(records, number, &mut pieces);
+    Ok(is_put && pieces.is_empty())
 }
 
 fn is_first(records: &Records, number: u64, expected: Option<u32>) -> bool {

@@ -126,7 +126,11 @@ fn acknowledges_reset(half: &mut SendHalf) -> bool {
 
 fn holds(half: &SendHalf, expected: &[u8]) -> bool {
     match half.next_chunk(128, 0) {
-        Some(chunk) => half.bytes(chunk) == expected && copies(half, chunk, expected),
+        Some(chunk) => {
+            let (front, back) = half.bytes(chunk);
+            let (begin, rest) = expected.split_at(front.len().min(expected.len()));
+            front == begin && back == rest && copies(half, chunk, expected)
+        }
         None => false,
     }
 }

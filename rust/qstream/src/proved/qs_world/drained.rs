@@ -26,7 +26,10 @@ pub fn play_drained(
     };
     match play_each(&mut world, events) {
         Ok(()) => drain_and_report(world, most),
-        Err(fault) => Err(fault),
+        Err(fault) => {
+            world.discard();
+            Err(fault)
+        }
     }
 }
 
@@ -37,6 +40,9 @@ fn drain_and_report(mut world: World, most: u64) -> Result<(Report, Drained), Pl
             Ok(report) => Ok((report, drained)),
             Err(fault) => Err(fault),
         },
-        Err(fault) => Err(fault),
+        Err(fault) => {
+            world.discard();
+            Err(fault)
+        }
     }
 }

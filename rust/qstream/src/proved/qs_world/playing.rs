@@ -28,7 +28,10 @@ pub fn play(
     };
     match play_each(&mut world, events) {
         Ok(()) => world.into_report(),
-        Err(fault) => Err(fault),
+        Err(fault) => {
+            world.discard();
+            Err(fault)
+        }
     }
 }
 

@@ -37,7 +37,10 @@ pub fn random_script(alloc: Global, seed: u64, n: usize) -> Result<Vec<Event>, P
     };
     let mut words = Lcg64Xsh32::new(seed, 0);
     for _ in 0..n {
-        draw_step(alloc, &mut world, &mut words)?;
+        if let Err(fault) = draw_step(alloc, &mut world, &mut words) {
+            world.discard();
+            return Err(fault);
+        }
     }
     events_of(alloc, world.into_log())
 }

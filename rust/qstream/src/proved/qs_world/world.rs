@@ -95,6 +95,11 @@ impl World {
         }
     }
 
+    /// Lets it go. (What drops it in place takes it apart into all that two ends hold, and has to prove that: one function alone does.)
+    pub fn discard(self) {
+        self.into_log();
+    }
+
     /// What happened, in order.
     pub(crate) fn into_log(self) -> Vec<(Event, Answer)> {
         self.log.into_entries()

@@ -99,8 +99,10 @@ impl Endpoint {
             stream,
         ) {
             self.outbox.close_to(stream, before);
+            self.is_settled = false;
             return Err(refused);
         }
+        self.is_settled = false;
         Ok(())
     }
 

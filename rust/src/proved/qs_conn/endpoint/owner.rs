@@ -71,6 +71,7 @@ impl Endpoint {
         let answer = self.recvs.read(stream, into);
         let is = is_over(self.role, &self.recvs, &self.outbox, stream);
         self.ended.recount(stream, was, is);
+        self.is_settled = false;
         self.settle();
         Ok(answer)
     }
@@ -86,6 +87,7 @@ impl Endpoint {
         }
         self.recvs.stop(stream, code);
         self.untold.set(stream, true);
+        self.is_settled = false;
         self.settle();
         Ok(())
     }

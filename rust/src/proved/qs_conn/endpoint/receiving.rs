@@ -73,7 +73,7 @@ impl Endpoint {
         if let Some(code) = self.verdict(&placed.frame) {
             return Progress::Ends(Err(self.close_at(placed, code)));
         }
-        if let Err(_refused) = self.take(&placed.frame) {
+        if let Err(_refused) = self.on_frame(&placed.frame) {
             return Progress::Ends(Ok(Received::NoMemory));
         }
         Progress::GoesOn

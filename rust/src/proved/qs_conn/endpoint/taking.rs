@@ -8,7 +8,7 @@ use crate::proved::qs_wire::{Dir, Frame, StreamId};
 
 impl Endpoint {
     // A frame takes effect, or finds no memory and changes nothing; of an ACK some packets may be acknowledged then.
-    pub(super) fn take(&mut self, frame: &Frame<'_>) -> Result<(), NoMemory> {
+    pub(super) fn on_frame(&mut self, frame: &Frame<'_>) -> Result<(), NoMemory> {
         match *frame {
             Frame::Padding
             | Frame::Ping
@@ -27,37 +27,38 @@ impl Endpoint {
                 largest,
                 ranges,
                 ..
-            } => self.take_ack(largest, ranges),
+            } => self.on_ack(largest, ranges),
             Frame::MaxData { maximum } => {
                 self.known_data = self.known_data.max(maximum);
                 Ok(())
             }
             Frame::MaxStreams { dir, count } => {
-                self.allow_streams(dir, count);
+                self.on_max_streams(dir, count);
                 Ok(())
             }
-            Frame::MaxStreamData { stream, maximum } => self.allow(stream, maximum),
-            Frame::StopSending { stream, code } => self.stopped(stream, code),
+            Frame::MaxStreamData { stream, maximum } => self.on_max_stream_data(stream, maximum),
+            Frame::StopSending { stream, code } => self.on_stop_sending(stream, code),
             Frame::StreamDataBlocked { stream, .. } => self.open_by_peer(stream),
             Frame::ResetStream {
                 stream,
                 code,
                 final_size,
-            } => self.take_reset(stream, code, final_size),
+            } => self.on_reset_stream(stream, code, final_size),
             Frame::Stream {
                 stream,
                 offset,
                 fin,
                 bytes,
-            } => self.take_stream(stream, offset, bytes, fin),
+            } => self.on_stream(stream, offset, bytes, fin),
         }
     }
 
     // The packets that an ACK names are acknowledged, also those that were declared lost (RFC 9000, sections 13.2.1 and 13.3).
-    fn take_ack(&mut self, largest: u64, ranges: &[u8]) -> Result<(), NoMemory> {
+    fn on_ack(&mut self, largest: u64, ranges: &[u8]) -> Result<(), NoMemory> {
         debug_assert!(largest < 1 << 62);
         let (role, recvs) = (self.role, &self.recvs);
-        ack_ranges(
+        let before = self.ended;
+        let taken = ack_ranges(
             &mut self.outbox,
             role,
             recvs,
@@ -65,11 +66,13 @@ impl Endpoint {
             &mut self.untold,
             largest,
             ranges,
-        )
+        );
+        self.is_settled &= self.ended.is_same(before);
+        taken
     }
 
     // The peer allows so many streams of a direction.
-    fn allow_streams(&mut self, dir: Dir, count: u64) {
+    fn on_max_streams(&mut self, dir: Dir, count: u64) {
         debug_assert!(count <= 1 << 60);
         match dir {
             Dir::Bidi => self.known_bidi = self.known_bidi.max(count),
@@ -78,7 +81,7 @@ impl Endpoint {
     }
 
     // The peer allows the offsets of a stream below a limit.
-    fn allow(&mut self, stream: StreamId, maximum: u64) -> Result<(), NoMemory> {
+    fn on_max_stream_data(&mut self, stream: StreamId, maximum: u64) -> Result<(), NoMemory> {
         debug_assert!(maximum <= 0x3fff_ffff_ffff_ffff);
         self.open_by_peer(stream)?;
         self.outbox.allow(stream, maximum);
@@ -86,7 +89,7 @@ impl Endpoint {
     }
 
     // The peer reads a stream no more.
-    fn stopped(&mut self, stream: StreamId, code: u64) -> Result<(), NoMemory> {
+    fn on_stop_sending(&mut self, stream: StreamId, code: u64) -> Result<(), NoMemory> {
         debug_assert!(code <= 0x3fff_ffff_ffff_ffff);
         self.open_by_peer(stream)?;
         self.outbox.stopped(stream, code);
@@ -94,16 +97,17 @@ impl Endpoint {
     }
 
     // The peer broke a stream off.
-    fn take_reset(&mut self, stream: StreamId, code: u64, size: u64) -> Result<(), NoMemory> {
+    fn on_reset_stream(&mut self, stream: StreamId, code: u64, size: u64) -> Result<(), NoMemory> {
         debug_assert!(size <= 0x3fff_ffff_ffff_ffff);
         let _granted = self.granted;
         self.open_by_peer(stream)?;
         self.recvs.take_reset(stream, code, size);
+        self.is_settled = false;
         Ok(())
     }
 
     // Bytes of a stream came.
-    fn take_stream(
+    fn on_stream(
         &mut self,
         stream: StreamId,
         offset: u64,
@@ -118,8 +122,10 @@ impl Endpoint {
         if let Err(refused) = self.recvs.take_stream(stream, offset, bytes, fin) {
             self.outbox.close_to(stream, sends);
             self.recvs.close_to(stream, recvs);
+            self.is_settled = false;
             return Err(refused);
         }
+        self.is_settled = false;
         Ok(())
     }
 }

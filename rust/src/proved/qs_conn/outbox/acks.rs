@@ -6,8 +6,15 @@ use crate::proved::qs_conn::send_tables::SendTables;
 use crate::proved::qs_conn::told::ToldItems;
 use crate::proved::qs_conn::told_index::ToldIndex;
 use crate::proved::qs_ranges::NoMemory;
-use crate::proved::qs_send::{AckPass, Item, LostPass, Piece, Records, SendState};
+use crate::proved::qs_send::{AckPass, Item, Piece, Records, SendState};
 use crate::proved::qs_wire::StreamId;
+
+/// A packet whose record is kept: of the outstanding ones, or of the lost ones, for which an acknowledgement comes late.
+#[derive(Clone, Copy)]
+pub(crate) struct KeptPacket {
+    pub late: bool,
+    pub number: u64,
+}
 
 impl Outbox {
     /// Each outstanding packet has a piece. It does nothing: a caller learns the clause.
@@ -22,9 +29,12 @@ impl Outbox {
         next_held(&self.records, from)
     }
 
-    /// The next outstanding packet that a pass over an ACK names, `None` after the last.
-    pub(crate) fn next_named(&self, pass: &mut AckPass<'_>) -> Option<u64> {
+    /// The next packet that a pass over an ACK names, of the outstanding ones or of the lost ones; `None` after the last.
+    pub(crate) fn next_named(&self, late: bool, pass: &mut AckPass<'_>) -> Option<u64> {
         let _next = self.next;
+        if late {
+            return pass.next_lost(&self.lost);
+        }
         pass.next(&self.records)
     }
 
@@ -39,8 +49,25 @@ impl Outbox {
         self.records.first(number)
     }
 
-    /// The first piece of an outstanding packet is acknowledged, or nothing changes.
-    pub(crate) fn ack_first(&mut self, number: u64, piece: Piece) -> Result<(), NoMemory> {
+    /// The first piece of a packet of which a record is kept.
+    pub(crate) fn first_kept(&self, packet: KeptPacket) -> Option<Piece> {
+        let _next = self.next;
+        if packet.late {
+            return self.lost.first(packet.number);
+        }
+        self.first(packet.number)
+    }
+
+    /// The first piece of a packet of which a record is kept is acknowledged, or nothing changes.
+    pub(crate) fn ack_kept(&mut self, packet: KeptPacket, piece: Piece) -> Result<(), NoMemory> {
+        if packet.late {
+            return self.ack_lost(packet.number, piece);
+        }
+        self.ack_outstanding(packet.number, piece)
+    }
+
+    // The first piece of an outstanding packet is acknowledged, or nothing changes.
+    fn ack_outstanding(&mut self, number: u64, piece: Piece) -> Result<(), NoMemory> {
         let _next = self.next;
         piece_acked(&mut self.sends, &mut self.told, &piece)?;
         self.records.drop_first(number);
@@ -48,20 +75,8 @@ impl Outbox {
         Ok(())
     }
 
-    /// The next lost packet that a pass over an ACK names, `None` after the last.
-    pub(crate) fn next_lost(&self, pass: &mut LostPass<'_>) -> Option<u64> {
-        let _next = self.next;
-        pass.next(&self.lost)
-    }
-
-    /// The first piece of a lost packet.
-    pub(crate) fn first_lost(&self, number: u64) -> Option<Piece> {
-        let _next = self.next;
-        self.lost.first(number)
-    }
-
-    /// The first piece of a lost packet is acknowledged, late, or nothing changes.
-    pub(crate) fn ack_lost_first(&mut self, number: u64, piece: Piece) -> Result<(), NoMemory> {
+    // The first piece of a lost packet is acknowledged, or nothing changes.
+    fn ack_lost(&mut self, number: u64, piece: Piece) -> Result<(), NoMemory> {
         let _next = self.next;
         piece_acked(&mut self.sends, &mut self.told, &piece)?;
         self.lost.drop_first(number);

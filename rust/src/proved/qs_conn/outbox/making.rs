@@ -1,14 +1,12 @@
 // Made from crates/qs_conn/src/outbox/making.rt by rust/erase; not edited by hand.
 //! Packets are made.
-use crate::shim::{SliceCalls, Vec};
+use crate::shim::Vec;
 
 use super::Outbox;
 use crate::proved::qs_conn::send_tables::SendTables;
 use crate::proved::qs_ranges::NoMemory;
 use crate::proved::qs_send::{Chunk, Item, Piece, Records};
 use crate::proved::qs_wire::StreamId;
-use crate::shim::alloc::Global;
-use crate::shim::mem;
 
 impl Outbox {
     /// Makes room for a packet of so many pieces. Nothing else changes.
@@ -36,8 +34,8 @@ impl Outbox {
         half.is_held_by_room(room, fresh)
     }
 
-    /// The bytes of a chunk that is still in the buffer.
-    pub(crate) fn bytes(&self, stream: StreamId, chunk: Chunk) -> &[u8] {
+    /// The bytes of a chunk that is still in the buffer, in two pieces.
+    pub(crate) fn bytes(&self, stream: StreamId, chunk: Chunk) -> (&[u8], &[u8]) {
         self.sends.get(stream).bytes(chunk)
     }
 
@@ -69,8 +67,7 @@ impl Outbox {
 
     /// The packet is made, and the next one has the next number.
     pub(crate) fn commit(&mut self) {
-        let pieces = hand_over(self.alloc, &mut self.pending);
-        put_pieces(&mut self.records, self.next, pieces);
+        put_pieces(&mut self.records, self.next, &mut self.pending);
         self.next += 1;
         self.spare = 0;
     }
@@ -89,22 +86,10 @@ fn note_blocked(sends: &mut SendTables, stream: StreamId) {
     }
 }
 
-// The pieces of the packet in the making, in no more memory than they need: the buffer stays for the next packet, so that a steady flow
-// doesn't take it anew. Where that memory is refused, the buffer itself goes.
-fn hand_over(alloc: Global, pending: &mut Vec<Piece>) -> Vec<Piece> {
-    match pending.copied_in(alloc) {
-        Ok(pieces) => {
-            pending.clear();
-            pieces
-        }
-        Err(_refused) => mem::replace(pending, Vec::new(alloc)),
-    }
-}
-
-// The pieces of a packet are kept, where it has some.
-fn put_pieces(records: &mut Records, number: u64, pieces: Vec<Piece>) {
-    if pieces.len() > 0 {
-        records.put(number, pieces);
+// The pieces of the packet in the making are kept, where it has some, and none is left in the making.
+fn put_pieces(records: &mut Records, number: u64, pending: &mut Vec<Piece>) {
+    if pending.len() > 0 {
+        records.put(number, pending);
     }
 }
 

@@ -58,8 +58,8 @@ impl SendHalf {
         self.fin_noted && !self.fin_acked
     }
 
-    /// The bytes of a chunk that is still in the buffer.
-    pub fn bytes(&self, chunk: Chunk) -> &[u8] {
+    /// The bytes of a chunk that is still in the buffer: a front, and where they go around the buffer's end, a back.
+    pub fn bytes(&self, chunk: Chunk) -> (&[u8], &[u8]) {
         let first = self.offsets.written() - self.offsets.kept_len() as u64;
         self.offsets
             .part((chunk.offset - first) as usize, chunk.len)
@@ -67,7 +67,10 @@ impl SendHalf {
 
     /// Writes the bytes of a chunk that is still in the buffer into the slice.
     pub fn copy(&self, chunk: Chunk, into: &mut [u8]) {
-        into.copy_from_slice(self.bytes(chunk));
+        let (front, back) = self.bytes(chunk);
+        let (begin, rest) = into.split_at_mut(front.len());
+        begin.copy_from_slice(front);
+        rest.copy_from_slice(back);
     }
 
     /// How many bytes the chunk's STREAM frame takes (RFC 9000, section 19.8).

@@ -22,9 +22,9 @@ fn words(alloc: Global, texts: &[&str]) -> Result<Vec<String>, Fail> {
 fn the_command_line_names_a_payload() -> Result<(), Fail> {
     let rt = HostRuntime::new();
     let line = words(rt.alloc(), &["qstream", "frames", "01"])?;
-    assert!(rt; Request::parse(rt.alloc(), &line) == Ok(Request::Frames("01")));
+    assert!(rt; matches!(Request::parse(rt.alloc(), &line), Ok(Request::Frames("01"))));
     let line = words(rt.alloc(), &["qstream", "frames", ""])?;
-    assert!(rt; Request::parse(rt.alloc(), &line) == Ok(Request::Frames("")));
+    assert!(rt; matches!(Request::parse(rt.alloc(), &line), Ok(Request::Frames(""))));
     Ok(())
 }
 
@@ -55,28 +55,41 @@ fn other_command_lines_make_no_sense() -> Result<(), Fail> {
     ];
     for line in lines {
         let line = words(rt.alloc(), line)?;
-        assert!(rt; Request::parse(rt.alloc(), &line) == Err(Status::BadUsage));
+        assert!(rt; matches!(Request::parse(rt.alloc(), &line), Err(Status::BadUsage)));
     }
     Ok(())
+}
+
+/// Whether both ends are to be led to rest, where `a file` is to be played between those of the standard settings, without traces.
+fn asks_for_rest(request: Result<Request, Status>) -> Option<bool> {
+    match request {
+        Ok(
+            Request::Play {
+                file: "a file",
+                settings,
+                drain,
+                qlog: None,
+            },
+        ) if settings == standard_settings() => Some(drain),
+        _ => None,
+    }
 }
 
 #[test]
 fn the_command_line_names_a_file() -> Result<(), Fail> {
     let rt = HostRuntime::new();
     let line = words(rt.alloc(), &["qstream", "play", "a file"])?;
-    let play = Request::Play {
-        file: "a file",
-        settings: standard_settings(),
-        drain: false,
-        qlog: None,
-    };
-    assert!(rt; Request::parse(rt.alloc(), &line) == Ok(play));
+    assert!(rt; asks_for_rest(Request::parse(rt.alloc(), &line)) == Some(false));
     let line = words(rt.alloc(), &["qstream", "udp", "a file"])?;
-    let udp = Request::Udp {
-        file: "a file",
-        qlog: None,
-    };
-    assert!(rt; Request::parse(rt.alloc(), &line) == Ok(udp));
+    assert!(rt;
+        matches!(
+            Request::parse(rt.alloc(), &line),
+            Ok(Request::Udp {
+                file: "a file",
+                qlog: None
+            })
+        )
+    );
     Ok(())
 }
 
@@ -84,11 +97,15 @@ fn the_command_line_names_a_file() -> Result<(), Fail> {
 fn the_command_line_names_the_traces() -> Result<(), Fail> {
     let rt = HostRuntime::new();
     let line = words(rt.alloc(), &["qstream", "udp", "a file", "--qlog", "b"])?;
-    let udp = Request::Udp {
-        file: "a file",
-        qlog: Some("b"),
-    };
-    assert!(rt; Request::parse(rt.alloc(), &line) == Ok(udp));
+    assert!(rt;
+        matches!(
+            Request::parse(rt.alloc(), &line),
+            Ok(Request::Udp {
+                file: "a file",
+                qlog: Some("b")
+            })
+        )
+    );
     Ok(())
 }
 
@@ -96,13 +113,7 @@ fn the_command_line_names_the_traces() -> Result<(), Fail> {
 fn the_command_line_asks_for_rest() -> Result<(), Fail> {
     let rt = HostRuntime::new();
     let line = words(rt.alloc(), &["qstream", "play", "a file", "--drain"])?;
-    let play = Request::Play {
-        file: "a file",
-        settings: standard_settings(),
-        drain: true,
-        qlog: None,
-    };
-    assert!(rt; Request::parse(rt.alloc(), &line) == Ok(play));
+    assert!(rt; asks_for_rest(Request::parse(rt.alloc(), &line)) == Some(true));
     Ok(())
 }
 

@@ -23,7 +23,7 @@ pub enum Drained {
 }
 
 /// Whose turn it is in a round, and for what.
-#[derive(Clone, Copy, Debug, PartialEq, Eq)]
+#[derive(Clone, Copy)]
 pub enum Turn {
     /// All that is outstanding is declared lost.
     Lose(Side),

@@ -1,0 +1,54 @@
+// Made from crates/qs_send/src/ack_pass/late.rt by rust/erase; not edited by hand.
+//! Which lost packets a late ACK names.
+
+use super::{AckPass, one_more};
+use crate::proved::qs_send::lost_records::LostRecords;
+
+impl<'a> AckPass<'a> {
+    /// The greatest lost number that the ranges name below the one given last, `None` where there is none. Where no packet is lost, it
+    /// reads no range (RFC 9000, section 13.2.1). Each record that it looks at, also one below the range, and each range that it reads
+    /// takes one turn. It looks at none twice.
+    pub fn next_lost(&mut self, records: &LostRecords) -> Option<u64> {
+        records.is_in_order();
+        if records.len() == 0 {
+            return None;
+        }
+        // The number of the record that was looked at last; before the first look the bound itself.
+        let mut seen = self.below;
+        loop {
+            if let Some(number) = self.lost_in_range(records, &mut seen) {
+                return Some(number);
+            }
+            if !self.read_range() {
+                self.below = 0;
+                return None;
+            }
+        }
+    }
+
+    // The greatest lost number of the range that was read last, below the one given last. Another record is looked at in one turn.
+    fn lost_in_range(&mut self, records: &LostRecords, seen: &mut u64) -> Option<u64> {
+        records.is_in_order();
+        if self.below <= self.low {
+            return None;
+        }
+        let number = self.look(records, *seen)?;
+        *seen = number;
+        if number < self.low {
+            return None;
+        }
+        self.below = number;
+        Some(number)
+    }
+
+    // The greatest lost number below the one given last: the one that was looked at last, where it lies below, else another one, in one
+    // turn.
+    fn look(&mut self, records: &LostRecords, seen: u64) -> Option<u64> {
+        if seen < self.below {
+            return Some(seen);
+        }
+        let number = records.below(self.below)?;
+        self.turns = one_more(self.turns);
+        Some(number)
+    }
+}

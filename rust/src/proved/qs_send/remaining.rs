@@ -1,0 +1,37 @@
+// Made from crates/qs_send/src/remaining.rt by rust/erase; not edited by hand.
+//! What is left of several pieces.
+use crate::shim::Vec;
+
+use crate::proved::qs_send::piece::Piece;
+
+/// The pieces of a vector without the first `start` ones, which were let go.
+pub(crate) struct Remaining {
+    start: usize,
+    pieces: Vec<Piece>,
+}
+
+impl Remaining {
+    pub(crate) fn new(pieces: Vec<Piece>) -> Self {
+        Remaining { start: 0, pieces }
+    }
+
+    pub(crate) fn len(&self) -> usize {
+        self.pieces.len() - self.start
+    }
+
+    pub(crate) fn first(&self) -> Option<Piece> {
+        match self.pieces.get(self.start) {
+            Some(piece) => Some(*piece),
+            None => None,
+        }
+    }
+
+    /// Lets the first piece go, of one or more.
+    pub(crate) fn drop_first(&mut self) {
+        self.start += 1;
+    }
+
+    pub(crate) fn has(&self, piece: Piece) -> bool {
+        self.pieces[self.start..].contains(&piece)
+    }
+}
