@@ -13,3 +13,4 @@ pub mod Places
 pub mod Pieces
 pub mod Found
 pub mod Sides
+pub mod OneWord

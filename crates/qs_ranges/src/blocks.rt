@@ -227,6 +227,7 @@ fn drop_blocks(blocks: &mut Vec<Block>, first: usize, last: usize)
 }
 
 /// The runs that end at `low` or later and start below `high`: with no search where the last run or the first decides.
+#[inline(always)]
 pub(crate) fn span_of(blocks: &[Block], low: u64, high: u64) -> Span
     requires apart { AreApart (all_runs blocks.now) }
     requires ordered { low ≤ high }
@@ -262,6 +263,7 @@ pub(crate) fn span_of(blocks: &[Block], low: u64, high: u64) -> Span
 }
 
 /// The first run that ends above `n`, and the one behind it.
+#[inline(never)]
 pub(crate) fn two_above(blocks: &[Block], n: u64) -> (Option<(u64, u64)>, Option<(u64, u64)>)
     requires apart { AreApart (all_runs blocks.now) }
     requires number { n < 2 ^ 62 }
@@ -291,6 +293,7 @@ fn run_behind(blocks: &[Block], block: usize, at: usize) -> Option<(u64, u64)>
 }
 
 /// The place of the first run that ends at `low` or later. The last run and the first may decide it.
+#[inline]
 pub(crate) fn first_from(blocks: &[Block], low: u64) -> (usize, usize)
     requires { AreApart (all_runs blocks.now) }
     ensures place { IsFirstFrom (all_runs blocks.now) low (place blocks.now result.0 result.1) }
@@ -316,6 +319,7 @@ pub(crate) fn first_from(blocks: &[Block], low: u64) -> (usize, usize)
 }
 
 // The same by a search.
+#[inline(never)]
 fn search_from(blocks: &[Block], low: u64) -> (usize, usize)
     ensures place { IsFirstFrom (all_runs blocks.now) low (place blocks.now result.0 result.1) }
     ensures block { result.0 ≤ length blocks.now }
@@ -368,6 +372,7 @@ fn behind(blocks: &[Block], block: usize, from: usize, high: u64) -> (usize, usi
 }
 
 // The first block from a number on whose first run starts at `high` or later.
+#[inline]
 fn block_behind(blocks: &[Block], at: usize, high: u64) -> usize
     requires { at ≤ length blocks.now }
     ensures from { at ≤ result }

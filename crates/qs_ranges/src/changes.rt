@@ -9,6 +9,7 @@ use crate::blocks::{insert_at, replace, span_of, split, take_out};
 use crate::few::{Few, few_of};
 
 /// Adds a range to the runs of blocks.
+#[inline(never)]
 pub(crate) fn insert_many(
     few: &mut Few,
     blocks: &mut Vec<Block>,
@@ -36,6 +37,7 @@ pub(crate) fn insert_many(
 }
 
 /// Takes a range out of the runs of blocks.
+#[inline(never)]
 pub(crate) fn remove_many(
     few: &mut Few,
     blocks: &mut Vec<Block>,
@@ -96,6 +98,7 @@ fn settle(few: &mut Few, blocks: &mut Vec<Block>)
 }
 
 /// Copies the runs of blocks to the slice's front.
+#[inline(never)]
 pub(crate) fn copy_runs(blocks: &[Block], into: &mut [(u64, u64)]) -> usize
     requires { length (all_runs blocks.now) ≤ length into.old }
     ensures count { result ≡ length (all_runs blocks.now) }

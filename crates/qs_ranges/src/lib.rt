@@ -27,6 +27,7 @@ use crate::few::{Few, copy_few, count_few, few_above, few_above_two, insert_few,
 use std::alloc::{AllocError, AllocFailed, Global};
 use std::marker::Model;
 
+mod bits;
 mod block;
 mod blocks;
 mod changes;
@@ -34,6 +35,7 @@ mod few;
 pub mod laws;
 mod maybe_number;
 
+pub use bits::{lowest_bit, with_bit};
 pub use maybe_number::MaybeNumber;
 
 /// No memory was left.

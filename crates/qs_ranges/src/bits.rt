@@ -1,0 +1,27 @@
+//! Bits of a word.
+ghost use Rattle.std.specs.Prelude.{◌<◌};
+ghost use Rattle.qs_ranges.specs.Bits.{HasBit, IsLowestBit};
+
+/// A word with one of its bits set or cleared.
+pub fn with_bit(word: u64, bit: usize, is_set: bool) -> u64
+    requires { bit < 64 }
+    ensures { HasBit word bit is_set result }
+{
+    if is_set {
+        word | (1 << bit)
+    } else {
+        word & !(1 << bit)
+    }
+}
+
+/// The least bit that is set, from one on.
+pub fn lowest_bit(word: u64, from: usize) -> Option<usize>
+    requires { from < 64 }
+    ensures { IsLowestBit word from result }
+{
+    let rest = word >> from;
+    if rest == 0 {
+        return None;
+    }
+    Some(from + rest.trailing_zeros() as usize)
+}
