@@ -53,6 +53,10 @@ around_rest s n from ring begins fits within =
 pub around_first : (s n k : ℕ) (ring : List ℕ) → k ≤ n → around s k ring ≡ take k (around s n ring)
 around_first s n k ring h = sym (take-take k n (drop s ring ++ ring) h)
 
+-- those from the front on
+pub at_front : (n : ℕ) (ring : List ℕ) → n ≤ length ring → around 0 n ring ≡ take n ring
+at_front n ring h = take-append-le n ring ring h
+
 pub around_front : (xs rest ring : List ℕ) (n : ℕ) → ring ≡ xs ++ rest → length xs ≡ n → around 0 n ring ≡ xs
 around_front xs rest ring n is len = ap (λ r. take n (r ++ ring)) is ∙ ap (take n) (append_assoc xs rest ring) ∙ take_at xs (rest ++ ring) n len
 

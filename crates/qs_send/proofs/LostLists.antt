@@ -192,6 +192,20 @@ cut_gap n [] (suc k) gap = absurd gap
 cut_gap n (r ∷ rs) zero gap = omega (arith, gap)
 cut_gap n (r ∷ rs) (suc k) gap = (gap.0, cut_gap n rs k gap.1)
 
+-- the records beside a place tell whether it parts the list
+pub cut_by : (n low : ℕ) (rs : List Numbered) (k : ℕ) → AreRising low rs → k ≤ length rs → ((j : ℕ) → k ≡ suc j → (x : Numbered) × (x ≡ slice_index_or rs j x) × (x.number < n)) → (k < length rs → (x : Numbered) × (x ≡ slice_index_or rs k x) × (n ≤ x.number)) → IsCut n rs k
+cut_by n low [] zero h le before behind = tt
+cut_by n low [] (suc k) h le before behind = absurd (omega (arith, le))
+cut_by n low (r ∷ rs) zero h le before behind =
+    let x = behind (omega arith) in
+    let same : x.0.number ≡ r.number = ap (λ y. y.number) x.1 in
+    omega (arith, same, x.2)
+cut_by n low (r ∷ rs) (suc k) h le before behind =
+    let x = before k refl in
+    let same : x.0.number ≡ (slice_index_or (r ∷ rs) k x.0).number = ap (λ y. y.number) x.1 in
+    let up : r.number ≤ (slice_index_or (r ∷ rs) k x.0).number = rises low (r ∷ rs) 0 k x.0 h (omega arith) (omega (arith, le)) in
+    (omega (arith, up, same, x.2), cut_by n (r.number + 1) rs k h.2 (omega (arith, le)) (λ j is. before (suc j) (ap suc is)) (λ lt. behind (omega (arith, lt))))
+
 -- without one before the place none is below
 none_before : (n low : ℕ) (rs : List Numbered) → AreRising low rs → IsCut n rs zero → (j : ℕ) → is_some (lookup j rs) ≡ true → n ≤ j
 none_before n low [] h cut j some = absurd (both_ways false refl some)

@@ -62,6 +62,13 @@ impl<'a> AckPass<'a> {
         }
     }
 
+    /// It gives no number from this one on any more.
+    pub fn below(&self) -> u64
+        ensures { result ≡ self.now.below }
+    {
+        self.below
+    }
+
     /// How many turns it took.
     pub fn turns(&self) -> u64
         ensures { result ≡ self.now.turns }

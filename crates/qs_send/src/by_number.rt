@@ -1,5 +1,5 @@
 //! Records of lost packets by number.
-ghost use Rattle.std.specs.Prelude.{◌≡◌, ℕ, ◌<◌, ◌≤◌, length, IfOk, IfErr, IfSome, IfNone, OnOk, OnErr, None, false, is_ok};
+ghost use Rattle.std.specs.Prelude.{◌≡◌, ℕ, ◌<◌, ◌≤◌, length, IfOk, IfErr, IfSome, IfNone, OnOk, OnErr, None, true, false, is_ok};
 ghost use Rattle.std.specs.FinMap as fmap;
 ghost use Rattle.qs_send.specs.ByNumber.{IsAt, IsCut, IsGapAt, lookup, map_of, room_for};
 ghost use Rattle.qs_send.specs.LostRecords.{with_piece};
@@ -108,17 +108,48 @@ impl ByNumber {
         self.place_of(number).is_ok()
     }
 
-    /// The greatest number below `number` that has a record.
-    pub(crate) fn below(&self, number: u64) -> Option<u64>
+    /// The greatest number below `number` that has a record. It is looked for at the place `near` first, and the next one below it
+    /// may stand at the place that `near` is then.
+    pub(crate) fn below(&self, number: u64, near: &mut usize) -> Option<u64>
         ensures found { IfSome result (IsGreatestBelow (map_of self.now.records) number) }
         ensures none { IfNone result ((k : ℕ) → k < number → fmap.contains_key (map_of self.now.records) k ≡ false) }
     {
         let records = &self.records;
-        let count = self.count_below(number);
+        let count = self.count_near(number, *near);
         if count == 0 {
             return None;
         }
+        *near = count - 1;
         Some(records[count - 1].number())
+    }
+
+    // How many records are those of numbers below `number`: without a search where these are `near`.
+    fn count_near(&self, number: u64, near: usize) -> usize
+        ensures cut { IsCut number self.now.records result }
+        ensures within { result ≤ length self.now.records }
+    {
+        if self.parts_at(number, near) {
+            return near;
+        }
+        self.count_below(number)
+    }
+
+    // Whether the first `count` records are those of numbers below `number`.
+    fn parts_at(&self, number: u64, count: usize) -> bool
+        ensures cut { result ≡ true → IsCut number self.now.records count }
+        ensures within { result ≡ true → count ≤ length self.now.records }
+    {
+        let records = &self.records;
+        if count > records.len() {
+            return false;
+        }
+        if count > 0 && records[count - 1].number() >= number {
+            return false;
+        }
+        if count < records.len() && records[count].number() < number {
+            return false;
+        }
+        true
     }
 
     // How many records are those of numbers below `number`.

@@ -1,7 +1,8 @@
 //! Which slots are empty, as far as it was noted: a bit for each, in words.
 ghost use Rattle.std.specs.Prelude.{◌≡◌, ◌≤◌, ◌<◌, ◌≢◌, ◌-◌, ◌%◌, ℕ, true, false};
-ghost use Rattle.qs_send.specs.Gone.{HasBit, IsLowestBit, is_gone};
+ghost use Rattle.qs_send.specs.Gone.{is_gone};
 
+use qs_ranges::{lowest_bit, with_bit};
 use std::collections::VecDeque;
 
 /// How many slots a word has bits for.
@@ -65,28 +66,4 @@ fn bit_of(index: usize) -> usize
     ensures { result ≡ 63 - index % 64 }
 {
     PER_WORD - 1 - index % PER_WORD
-}
-
-// A word with one of its bits set or cleared.
-fn with_bit(word: u64, bit: usize, is_set: bool) -> u64
-    requires { bit < 64 }
-    ensures { HasBit word bit is_set result }
-{
-    if is_set {
-        word | (1 << bit)
-    } else {
-        word & !(1 << bit)
-    }
-}
-
-// The least bit that is set, from one on.
-fn lowest_bit(word: u64, from: usize) -> Option<usize>
-    requires { from < 64 }
-    ensures { IsLowestBit word from result }
-{
-    let rest = word >> from;
-    if rest == 0 {
-        return None;
-    }
-    Some(from + rest.trailing_zeros() as usize)
 }

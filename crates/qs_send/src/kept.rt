@@ -66,7 +66,7 @@ impl Kept {
 
     /// Appends the bytes. Where `most` bytes at most are ever kept, no more than twice as many are
     /// allocated, and while these are there nothing is.
-    #[tactic(auto, using(crate::proofs::Around::around_len))]
+    #[tactic(auto, using(crate::proofs::Around::around_len, crate::proofs::Around::at_front))]
     pub fn append(&mut self, bytes: &[u8], most: usize) -> Result<(), NoMemory>
         ensures ok { OnOk result (self.new.bytes ≡ self.old.bytes ++ bytes.now) }
         ensures err { OnErr result (self.new.bytes ≡ self.old.bytes) }
@@ -75,7 +75,12 @@ impl Kept {
         let count = self.count + bytes.len();
         if count > self.ring.len() {
             let size = self.ring.len().saturating_mul(2).min(most).max(count);
-            return self.move_to(size, bytes);
+            if self.start > 0 {
+                return self.move_to(size, bytes);
+            }
+            grow(&mut self.ring, self.count, bytes, size)?;
+            self.count = count;
+            return Ok(());
         }
         write_behind(&mut self.ring, self.start, self.count, bytes);
         self.count = count;
@@ -177,6 +182,28 @@ fn pieces(ring: &[u8], start: usize, count: usize) -> (&[u8], &[u8])
     } else {
         (&ring[start..], &ring[..count - room])
     }
+}
+
+// Puts bytes behind the first `count` of a ring, which goes on where it stands, to so many places. Where memory is refused these
+// stay, if not all.
+fn grow(ring: &mut Vec<u8>, count: usize, bytes: &[u8], size: usize) -> Result<(), NoMemory>
+    requires kept { count ≤ length ring.old.items }
+    requires grows { length ring.old.items ≤ size }
+    requires fits { count + length bytes.now ≤ size }
+    ensures size { OnOk result (length ring.new.items ≡ size) }
+    ensures ok { OnOk result (take (count + length bytes.now) ring.new.items ≡ take count ring.old.items ++ bytes.now) }
+    ensures err { OnErr result (take count ring.new.items ≡ take count ring.old.items) }
+    ensures stays { OnErr result (count ≤ length ring.new.items) }
+    ensures fewer { OnErr result (length ring.new.items ≤ length ring.old.items) }
+{
+    ring.reserve_exact(size - ring.len())?;
+    ring.truncate(count);
+    ring.extend_from_slice(bytes)?;
+    if ring.resize(size, 0).is_err() {
+        ring.truncate(count);
+        return Err(NoMemory);
+    }
+    Ok(())
 }
 
 // Writes bytes behind those that stand in a ring, in two pieces where they go around its end.

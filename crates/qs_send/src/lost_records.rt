@@ -119,7 +119,17 @@ impl LostRecords {
         ensures found { IfSome result (IsGreatestBelow self.now.pieces number) }
         ensures none { IfNone result ((k : ℕ) → k < number → fmap.contains_key self.now.pieces k ≡ false) }
     {
-        self.list.below(number)
+        let mut near = 0;
+        self.below_near(number, &mut near)
+    }
+
+    /// The same for a pass from high numbers to low ones, which hands `near` on from each call to the next: it is where the search
+    /// begins.
+    pub(crate) fn below_near(&self, number: u64, near: &mut usize) -> Option<u64>
+        ensures found { IfSome result (IsGreatestBelow self.now.pieces number) }
+        ensures none { IfNone result ((k : ℕ) → k < number → fmap.contains_key self.now.pieces k ≡ false) }
+    {
+        self.list.below(number, near)
     }
 
     /// How many packets are held.
