@@ -11,6 +11,7 @@ pub mod RingLaws
 pub mod RingMoved
 pub mod RingPlaces
 pub mod RingShrunk
+pub mod RingTurned
 pub mod SameAgain
 pub mod SameLaws
 pub mod SameRing

@@ -11,7 +11,8 @@ use Rattle.std.specs.FinMap.{nat_cmp-IsAntisymmetric, same_map}
 use Rattle.std.specs.FinSet as set
 use Rattle.std.proofs.lemmas.Bool.{both_ways, cases_lt, cases_Bool}
 use Rattle.std.proofs.lemmas.Bool.Decides.{nat_tests}
-use Rattle.qs_ranges.specs.Numbers.{NumberSet}
+use Rattle.qs_ranges.specs.Numbers.{NumberSet, end_of}
+use Rattle.qs_ranges.proofs.Sets.{below-end_of}
 use Rattle.qs_recv.specs.Assembled.{Assembled}
 use Rattle.qs_recv.specs.Ring.{IsMoved, IsRing, ring_bytes, stored_in_ring}
 use Rattle.qs_recv.proofs.AssembledLaws.{is_in_run}
@@ -59,16 +60,15 @@ other_ring r old new w v from stored h o =
     }
 
 -- a ring that grew
-pub grown : (r : NumberSet) (old new : List ℕ) (w v from stored : ℕ) → IsRing old r w from stored false → w ≤ v → v ≤ 2 ^ 20 → length new ≡ v → IsMoved from old new → IsOther r old new w v from
-grown r old new w v from stored h more small len moved =
+pub grown : (r : NumberSet) (old new : List ℕ) (w v from count stored : ℕ) → IsRing old r w from stored false → w ≤ v → v ≤ 2 ^ 20 → length new ≡ v → length old ≡ w → end_of r ≤ from + count → IsMoved from count old new → IsOther r old new w v from
+grown r old new w v from count stored h more small len size reaches moved =
     record {
       small = small;
       within = λ q came. (let near = h.came_within refl q came in omega (arith, near, more));
       held = λ q low came. len;
       same = λ q low came.
-          let near = h.came_within refl q came in
-          let size = h.held refl q low came in
-          ap (λ n. slice_index new (q % n)) (sym len) ∙ moved q low (omega (arith, near, size)) ∙ ap (λ n. slice_index old (q % n)) size;
+          let below = below-end_of r q came in
+          ap (λ n. slice_index new (q % n)) (sym len) ∙ moved q low (omega (arith, below, reaches)) ∙ ap (λ n. slice_index old (q % n)) size;
     }
 
 -- nothing came that wasn't read where nothing is stored

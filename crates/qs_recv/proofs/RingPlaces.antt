@@ -1,12 +1,11 @@
 -- Where offsets stand in a ring, and what its places have after bytes were written.
 --     places       how the places of two offsets lie to each other
 --     written_..   bytes written in one piece, and in two
---     out_..       bytes copied out in one piece, and in two
---     moved_whole      a whole ring in a larger one
+--     place_past   an offset less than a turn past another
 --     filled_..    bytes written into the gaps one after another
 --     place_by_bits      a place where the size is a power of two
 use Rattle.std.specs.Prelude.{◌≡◌, ℕ, ◌+◌, ◌-◌, ◌*◌, ◌/◌, ◌%◌, ◌^◌, ◌<◌, ◌≤◌, zero, suc, Bool, true, false, not, ◌&&◌, if◌then◌else◌, List, length, take, drop, slice_index, refl, ◌⊎◌}
-use Rattle.std.proofs.Common.{sym, ◌∙◌, ap, arith, inl, inr, length-drop}
+use Rattle.std.proofs.Common.{◌∙◌, ap, arith, inl, inr, length-drop}
 use Rattle.std.proofs.Math.Nat.{mul-le-mul_left, two-pow-succ}
 use Rattle.std.specs.Int.{IsPowerOfTwo, is_power_of_two}
 use Rattle.std.specs.Int.RustNames.{bit_and, count_ones}
@@ -17,7 +16,7 @@ use Rattle.std.specs.FinSet as set
 use Rattle.std.proofs.lemmas.Bool.{cases_lt, cases_order}
 use Rattle.std.proofs.lemmas.Bool.Decides.{nat_tests}
 use Rattle.qs_ranges.specs.Numbers.{NumberSet, is_within}
-use Rattle.qs_recv.specs.Ring.{IsFilled, IsMoved, IsNextRun, IsWritten}
+use Rattle.qs_recv.specs.Ring.{IsFilled, IsNextRun, IsWritten}
 
 -- one turn more, or several
 one_turn : (w a b : ℕ) → a < b → w * a + w ≤ w * b
@@ -27,7 +26,7 @@ two_turns : (w a b : ℕ) → a + 1 < b → w * a + w + w ≤ w * b
 two_turns w a b h = let m : w * (a + 2) ≤ w * b = mul-le-mul_left w (omega arith) in omega arith
 
 -- the quotients of two offsets that lie less than a turn apart
-next_turn : (w a b : ℕ) → 0 < w → b ≤ a + w → a / w < b / w → w * (b / w) ≡ w * (a / w) + w
+pub next_turn : (w a b : ℕ) → 0 < w → b ≤ a + w → a / w < b / w → w * (b / w) ≡ w * (a / w) + w
 next_turn w a b pos near lt =
     let below = mod_below a w pos in
     elim (cases_lt (a / w + 1) (b / w)) [
@@ -122,7 +121,7 @@ written_twice at room bytes front back old mid new pos fits rest more front_is b
         ]
     two_pieces k p w n f b below start fits rest more f_is b_is low high (inr (inr before)) = absurd (omega arith)
 
--- Copied out
+-- Less than a turn past another
 
 -- the place of an offset less than a turn past another
 pub place_past : (at i w : ℕ) → 0 < w → i < w → ((at + i) % w ≡ at % w + i) ⊎ ((at + i) % w + w ≡ at % w + i)
@@ -133,82 +132,6 @@ place_past at i w pos h =
         | inl later ↦ inr (omega arith)
         | inr before ↦ (let b = mod_below (at + i) w pos in absurd (omega (arith, b)))
       ]
-    ]
-
-pub out_once : (at n : ℕ) (ring out : List ℕ) → 0 < length ring → at % length ring + n ≤ length ring
-    → out ≡ take (at % length ring + n - at % length ring) (drop (at % length ring) ring)
-    → (k : ℕ) → k < n → slice_index out k ≡ slice_index ring ((at + k) % length ring)
-out_once at n ring out pos fits is k h =
-    let place : (at + k) % length ring ≡ at % length ring + k =
-    elim (place_past at k (length ring) pos (omega arith)) [ inl here ↦ here | inr later ↦ (let b = mod_below (at + k) (length ring) pos in absurd (omega (arith, b))) ] in
-    ap (λ xs. slice_index xs k) is ∙ get_or-take (at % length ring + n - at % length ring) (drop (at % length ring) ring) k 0 (omega arith) ∙ get_or-drop (at % length ring) ring k 0 ∙ ap (slice_index ring) (sym place)
-
-pub out_twice : (at n room : ℕ) (ring into mid out : List ℕ) → 0 < length ring → n ≤ length ring → room ≡ length ring - at % length ring → room < n
-    → ((k : ℕ) → slice_index mid k ≡ (if is_within 0 (0 + length (take (length ring - at % length ring) (drop (at % length ring) ring))) k then slice_index (take (length ring - at % length ring) (drop (at % length ring) ring)) (k - 0) else slice_index into k))
-    → ((k : ℕ) → slice_index out k ≡ (if is_within room (room + length (take (n - room) ring)) k then slice_index (take (n - room) ring) (k - room) else slice_index mid k))
-    → (k : ℕ) → k < n → slice_index out k ≡ slice_index ring ((at + k) % length ring)
-out_twice at n room ring into mid out pos fits rest more mid_is out_is k h =
-    let p = at % length ring in
-    let start : p < length ring = mod_below at (length ring) pos in
-    let front_len : length (take (length ring - p) (drop p ring)) ≡ room = simp (length-take, length-drop) (omega (arith, start)) in
-    let back_len : length (take (n - room) ring) ≡ n - room = simp length-take (omega arith) in
-    elim (cases_lt k room) [
-      | inl first ↦
-          let a : is_within room (room + length (take (n - room) ring)) k ≡ false = grind (arith, nat_tests) in
-          let b : is_within 0 (0 + length (take (length ring - p) (drop p ring))) k ≡ true = grind (arith, nat_tests, front_len) in
-          let whole : k - 0 ≡ k = omega arith in
-          let place : p + k ≡ (at + k) % length ring =
-          elim (place_past at k (length ring) pos (omega arith)) [ inl here ↦ sym here | inr later ↦ absurd (omega arith) ] in
-          out_is k
-          ∙ ap (λ t. if t then slice_index (take (n - room) ring) (k - room) else slice_index mid k) a
-          ∙ mid_is k
-          ∙ ap (λ t. if t then slice_index (take (length ring - p) (drop p ring)) (k - 0) else slice_index into k) b
-          ∙ ap (slice_index (take (length ring - p) (drop p ring))) whole
-          ∙ get_or-take (length ring - p) (drop p ring) k 0 (omega arith) ∙ get_or-drop p ring k 0 ∙ ap (slice_index ring) place
-      | inr second ↦
-          let a : is_within room (room + length (take (n - room) ring)) k ≡ true = grind (arith, nat_tests, back_len) in
-          let place : k - room ≡ (at + k) % length ring =
-          elim (place_past at k (length ring) pos (omega arith)) [ inl here ↦ (let b = mod_below (at + k) (length ring) pos in absurd (omega (arith, b))) | inr later ↦ omega arith ] in
-          out_is k
-          ∙ ap (λ t. if t then slice_index (take (n - room) ring) (k - room) else slice_index mid k) a
-          ∙ get_or-take (n - room) ring (k - room) 0 (omega arith) ∙ ap (slice_index ring) place
-    ]
-
--- A whole ring, written into a larger one from an offset on
-
-pub moved_whole : (from : ℕ) (ring front back old mid new : List ℕ) → 0 < length ring → length ring ≤ length old
-    → front ≡ take (from % length ring) ring → back ≡ drop (from % length ring) ring → length front ≡ from % length ring → length back + from % length ring ≡ length ring
-    → length mid ≡ length old → length new ≡ length mid → IsWritten from back old mid → IsWritten (from + length back) front mid new → IsMoved from ring new
-moved_whole from ring front back old mid new pos fits front_is back_is front_len back_len same more first second q low high =
-    let p = from % length ring in
-    let i = q - from in
-    let at : from + i ≡ q = omega arith in
-    let turn = place_past from i (length ring) pos (omega arith) in
-    let size : length new ≡ length old = more ∙ same in
-    elim (cases_lt i (length back)) [
-      | inl here ↦
-          let out : is_within (from + length back) (from + length back + length front) q ≡ false = grind (arith, nat_tests) in
-          let within : is_within from (from + length back) q ≡ true = grind (arith, nat_tests) in
-          let place : p + i ≡ (from + i) % length ring =
-          elim turn [ inl plain ↦ sym plain | inr later ↦ absurd (omega (arith, later, back_len, here)) ] in
-          ap (λ n. slice_index new (q % n)) more
-          ∙ second q (omega (arith, front_len, back_len, same, fits)) (omega (arith, same, fits, here))
-          ∙ ap (λ t. if t then slice_index front (q - (from + length back)) else slice_index mid (q % length mid)) out
-          ∙ ap (λ n. slice_index mid (q % n)) same
-          ∙ first q (omega (arith, back_len, fits)) (omega (arith, here, back_len, fits))
-          ∙ ap (λ t. if t then slice_index back (q - from) else slice_index old (q % length old)) within
-          ∙ ap (λ xs. slice_index xs (q - from)) back_is ∙ get_or-drop p ring (q - from) 0
-          ∙ ap (slice_index ring) (place ∙ ap (λ n. n % length ring) at)
-      | inr there ↦
-          let j = q - (from + length back) in
-          let within : is_within (from + length back) (from + length back + length front) q ≡ true = grind (arith, nat_tests) in
-          let place : j ≡ (from + i) % length ring =
-          elim turn [ inl plain ↦ (let b = mod_below (from + i) (length ring) pos in absurd (omega (arith, b, plain, back_len, there))) | inr later ↦ omega (arith, later, back_len, there) ] in
-          ap (λ n. slice_index new (q % n)) more
-          ∙ second q (omega (arith, front_len, back_len, same, fits)) (omega (arith, same, fits, front_len, back_len))
-          ∙ ap (λ t. if t then slice_index front j else slice_index mid (q % length mid)) within
-          ∙ ap (λ xs. slice_index xs j) front_is ∙ get_or-take p ring j 0 (omega (arith, front_len, back_len, there))
-          ∙ ap (slice_index ring) (place ∙ ap (λ n. n % length ring) at)
     ]
 
 -- Gap after gap

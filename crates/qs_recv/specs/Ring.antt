@@ -1,5 +1,6 @@
 -- Of private contracts.
 -- Bytes kept in a ring, and the map of bytes that they stand for. The byte of an offset stands at the offset modulo the ring's size.
+--     padded, places_of, IsKept, around      the bytes that a ring keeps, and those of its places
 --     ring_bytes, stored_in_ring      each byte under its offset
 --     IsRing, IsSized       what holds of a ring assembly's fields at all times
 --     IsSizeFor, IsMoved      a ring of another size
@@ -7,12 +8,31 @@
 --     IsNextRun, IsNextGap      where the next offsets that came begin, and where they end, and the same for those that didn't
 --     IsInRing       bytes that stand at their places, as far as their offsets came
 --     IsWritten, IsFilled       what the places have after bytes were written
-use Rattle.std.specs.Prelude.{◌≡◌, ℕ, ◌+◌, ◌-◌, ◌*◌, ◌%◌, ◌^◌, ◌⊎◌, max, ◌<◌, ◌≤◌, zero, suc, Bool, true, false, not, ◌&&◌, if◌then◌else◌, List, length, slice_index}
+use Rattle.std.specs.Prelude.{◌≡◌, ℕ, ◌+◌, ◌-◌, ◌*◌, ◌%◌, ◌^◌, ◌⊎◌, max, ◌<◌, ◌≤◌, zero, suc, Bool, true, false, not, ◌&&◌, if◌then◌else◌, List, ◌++◌, length, take, drop, replicate, slice_index}
 use Rattle.std.specs.Int.{IsPowerOfTwo}
 use Rattle.std.specs.Ordering.{nat_cmp}
 use Rattle.std.specs.FinMap as map
 use Rattle.std.specs.FinSet as set
 use Rattle.qs_ranges.specs.Numbers.{NumberSet, ContainsRange, MissesRange, is_within, end_of}
+
+-- the bytes that a ring of that size keeps, and zeros for those that were never written
+abbrev pub padded : ℕ → List ℕ → List ℕ
+padded size bytes = bytes ++ replicate (size - length bytes) 0
+
+-- the byte of each place, which stands so much further on among these, around the ring's end
+abbrev pub places_of : ℕ → ℕ → List ℕ → List ℕ
+places_of turn size bytes = drop turn (padded size bytes) ++ take turn (padded size bytes)
+
+-- there is room for as many bytes as there are places
+pub record IsKept (turn size count room : ℕ) : Type 0 where
+  pub small : size ≤ 2 ^ 20
+  pub turned : turn ≤ size
+  pub within : count ≤ size
+  pub fits : size ≤ room
+
+-- so many bytes from a place on, where the first follows the last
+abbrev pub around : ℕ → ℕ → List ℕ → List ℕ
+around place count bytes = take count (drop place bytes ++ bytes)
 
 -- the bytes of those of the n offsets from `from` on that came, each at its place in the ring
 unfoldable pub ring_bytes : NumberSet → List ℕ → ℕ → ℕ → ℕ → map.FinMap nat_cmp ℕ
@@ -53,9 +73,9 @@ pub record IsSizeFor (span window size : ℕ) : Type 0 where
   pub bound : size ≤ max 4096 (2 * span)
   pub power : IsPowerOfTwo size ⊎ (size ≡ window)
 
--- a ring of another size has the byte of each offset from `from` on, as far as the old one reaches
-abbrev pub IsMoved : ℕ → List ℕ → List ℕ → Type 0
-IsMoved from old new = (q : ℕ) → from ≤ q → q < from + length old → slice_index new (q % length new) ≡ slice_index old (q % length old)
+-- a ring of another size has the bytes of so many offsets from `from` on
+abbrev pub IsMoved : ℕ → ℕ → List ℕ → List ℕ → Type 0
+IsMoved from count old new = (q : ℕ) → from ≤ q → q < from + count → slice_index new (q % length new) ≡ slice_index old (q % length old)
 
 -- how many of the n offsets from `from` on didn't come
 unfoldable pub missing_count : NumberSet → ℕ → ℕ → ℕ

@@ -1,11 +1,12 @@
 //! An assembly that keeps what came in one ring: the byte of an offset stands at the offset modulo the ring's size.
-ghost use Rattle.std.specs.Prelude.{◌≡◌, if◌then◌else◌, ℕ, ◌+◌, ◌-◌, ◌*◌, ◌%◌, ◌<◌, ◌≤◌, ◌^◌, ◌⊎◌, max, length, slice_index, true, false, IsTrue, ◌↔◌, OnOk, OnErr, IfOk};
+ghost use Rattle.std.specs.Prelude.{◌≡◌, ℕ, ◌+◌, ◌-◌, ◌*◌, ◌<◌, ◌≤◌, ◌^◌, ◌⊎◌, max, length, true, false, IsTrue, ◌↔◌, OnOk, OnErr, IfOk};
 ghost use Rattle.std.specs.FinSet as set;
-ghost use Rattle.qs_ranges.specs.Numbers.{EndsBefore, MAX_VARINT, MissesRange, covers, is_within, numbers};
+ghost use Rattle.qs_ranges.specs.Numbers.{EndsBefore, MAX_VARINT, MissesRange, covers, numbers};
 ghost use Rattle.qs_recv.specs.Assembled.{put};
-ghost use Rattle.qs_recv.specs.Ring.{AreAt, IsFilled, IsInRing, IsMoved, IsNextGap, IsNextRun, IsSizeFor, IsWritten, missing_count};
+ghost use Rattle.qs_recv.specs.Ring.{IsFilled, IsInRing, IsMoved, IsNextGap, IsNextRun, IsSizeFor, missing_count};
 
 use crate::assembly::Assembly;
+use crate::ring::Ring;
 use qs_ranges::{NoMemory, RangeSet};
 use std::alloc::Global;
 use std::marker::Model;
@@ -26,7 +27,7 @@ const LEAST_SIZE: u64 = 4096;
 #[derive(Drop)]
 pub struct RingAssembly {
     alloc: Global,
-    ring: Vec<u8>,
+    ring: Ring,
     received: RangeSet,
     read_count: u64,
     // One more than the largest offset that came, until bytes are thrown away.
@@ -48,9 +49,9 @@ impl Model for RingAssembly {
 
     ghost coded = { coded× assembled_code coded_ℕ };
 
-    ghost view = { λ a. (record { stored = stored_in_ring a.received a.ring.items (length a.ring.items) a.read_count a.discarding; received = a.received; read_count = a.read_count; window = a.window; discarding = a.discarding }, length a.ring.items) };
+    ghost view = { λ a. (record { stored = stored_in_ring a.received a.ring (length a.ring) a.read_count a.discarding; received = a.received; read_count = a.read_count; window = a.window; discarding = a.discarding }, length a.ring) };
 
-    ghost invariant = { λ a. IsRing a.ring.items a.received (length a.ring.items) a.read_count a.stored a.discarding × IsSized a.received (length a.ring.items) a.read_count a.end a.stored a.window a.discarding };
+    ghost invariant = { λ a. IsRing a.ring a.received (length a.ring) a.read_count a.stored a.discarding × IsSized a.received (length a.ring) a.read_count a.end a.stored a.window a.discarding };
 }
 
 impl Assembly for RingAssembly {
@@ -61,7 +62,7 @@ impl Assembly for RingAssembly {
     fn new(alloc: Global, window: u64) -> Self {
         RingAssembly {
             alloc,
-            ring: Vec::new(alloc),
+            ring: Ring::none(alloc),
             received: RangeSet::new(alloc),
             read_count: 0,
             end: 0,
@@ -74,7 +75,7 @@ impl Assembly for RingAssembly {
     fn at_rest(alloc: Global, window: u64, read_count: u64, end: u64, discarding: bool) -> Self {
         RingAssembly {
             alloc,
-            ring: Vec::new(alloc),
+            ring: Ring::none(alloc),
             received: RangeSet::below(alloc, end),
             read_count,
             end,
@@ -130,7 +131,10 @@ impl Assembly for RingAssembly {
             self.end = self.end.max(end);
         } else {
             let size = size_for(span, self.window);
-            let mut wider = widened(self.alloc, &self.ring, self.read_count, size)?;
+            let kept = self.end - self.read_count;
+            let mut wider = self
+                .ring
+                .resized(self.alloc, self.read_count, kept as usize, size as usize)?;
             let count = store(&mut wider, &mut self.received, first, stop, offset, bytes)?;
             self.ring = wider;
             self.stored += count;
@@ -145,7 +149,7 @@ impl Assembly for RingAssembly {
         }
         let next = self.received.first_missing(self.read_count);
         let count = (next - self.read_count).min(into.len() as u64) as usize;
-        copy_out(&self.ring, self.read_count, &mut into[..count]);
+        self.ring.copy_out(self.read_count, &mut into[..count]);
         self.read_count += count as u64;
         self.stored -= count as u64;
         let span = self.end - self.read_count;
@@ -160,14 +164,14 @@ impl Assembly for RingAssembly {
     }
 
     fn discard(&mut self) {
-        self.ring = Vec::new(self.alloc);
+        self.ring = Ring::none(self.alloc);
         self.stored = 0;
         self.discarding = true;
     }
 
     fn give_back(&mut self) {
         if self.stored == 0 {
-            self.ring = Vec::new(self.alloc);
+            self.ring = Ring::none(self.alloc);
         }
     }
 
@@ -203,77 +207,34 @@ fn size_for(span: u64, window: u64) -> u64
     least.min(window)
 }
 
-// A ring of a larger size, with the byte of each offset from `from` on.
-fn widened(alloc: Global, ring: &[u8], from: u64, size: u64) -> Result<Vec<u8>, NoMemory>
-    requires small { size ≤ 2 ^ 20 }
-    requires from_fits { from ≤ 2 ^ 62 }
-    requires grows { length ring.now ≤ size }
-    ensures len { IfOk result (λ wider. length wider.items ≡ size) }
-    ensures moved { IfOk result (λ wider. IsMoved from ring.now wider.items) }
-{
-    let mut wider = Vec::new(alloc);
-    wider.resize(size as usize, 0)?;
-    move_in(&mut wider, ring, from);
-    Ok(wider)
-}
-
-// Copies a ring into one that is no smaller: the byte of each offset from `from` on goes to its place there.
-fn move_in(into: &mut [u8], ring: &[u8], from: u64)
-    requires fits { length ring.now ≤ length into.old }
-    requires from_fits { from ≤ 2 ^ 62 }
-    ensures same_len { length into.new ≡ length into.old }
-    ensures moved { IsMoved from ring.now into.new }
-{
-    let len = ring.len();
-    if len == 0 {
-        return;
-    }
-    let (front, back) = ring.split_at(place_of(from, len));
-    copy_in(into, from, back);
-    copy_in(into, from + back.len() as u64, front);
-}
-
 // Lets go of what a ring of more than 4,096 bytes has too much: all of it where nothing is stored, and where it is larger than
 // four times the span from `from` to the end of what is, what lies past the least power of two that is twice that or more.
-fn shed(alloc: Global, ring: &mut Vec<u8>, from: u64, span: u64, window: u64)
+fn shed(alloc: Global, ring: &mut Ring, from: u64, span: u64, window: u64)
     requires small { window ≤ 2 ^ 20 }
-    requires within { length ring.old.items ≤ window }
-    requires reaches { span ≤ length ring.old.items }
-    ensures bound { length ring.new.items ≤ max 4096 (4 * span) }
-    ensures fewer { length ring.new.items ≤ length ring.old.items }
-    ensures reaches { span ≤ length ring.new.items }
-    ensures moved { IsMoved from ring.new.items ring.old.items }
+    requires from_fits { from ≤ 2 ^ 62 }
+    requires within { length ring.old ≤ window }
+    requires reaches { span ≤ length ring.old }
+    ensures bound { length ring.new ≤ max 4096 (4 * span) }
+    ensures fewer { length ring.new ≤ length ring.old }
+    ensures reaches { span ≤ length ring.new }
+    ensures moved { IsMoved from span ring.old ring.new }
 {
     let len = ring.len() as u64;
     if len <= LEAST_SIZE.max(4 * span) {
         return;
     }
     if span == 0 {
-        *ring = Vec::new(alloc);
+        *ring = Ring::none(alloc);
         return;
     }
     let size = size_for(2 * span, window);
-    narrow(ring, from, size);
-}
-
-// Brings a ring to a smaller size in place: what it has then is what it had, the byte of each offset from `from` on.
-fn narrow(ring: &mut Vec<u8>, from: u64, size: u64)
-    requires some { 0 < size }
-    requires fewer { size ≤ length ring.old.items }
-    ensures len { length ring.new.items ≡ size }
-    ensures moved { IsMoved from ring.new.items ring.old.items }
-{
-    let place = place_of(from, ring.len());
-    ring.rotate_left(place);
-    ring.truncate(size as usize);
-    ring.rotate_right(place_of(from, size as usize));
-    ring.shrink_to_fit();
+    ring.narrow(from, span as usize, size as usize);
 }
 
 // Stores the bytes at offsets that didn't come before, notes the offsets, and answers how many are new. The first such
 // offsets are those from `first` on and below `stop`.
 fn store(
-    ring: &mut Vec<u8>,
+    ring: &mut Ring,
     received: &mut RangeSet,
     first: u64,
     stop: u64,
@@ -285,9 +246,9 @@ fn store(
     requires begins { offset ≤ first }
     requires some { first < stop }
     requires ends { stop ≤ offset + length bytes.now }
-    requires fits { offset + length bytes.now ≤ first + length ring.old.items }
-    ensures same_len { length ring.new.items ≡ length ring.old.items }
-    ensures filled { IsFilled received.old first (offset + length bytes.now) offset bytes.now ring.old.items ring.new.items }
+    requires fits { offset + length bytes.now ≤ first + length ring.old }
+    ensures same_len { length ring.new ≡ length ring.old }
+    ensures filled { IsFilled received.old first (offset + length bytes.now) offset bytes.now ring.old ring.new }
     ensures count { IfOk result (λ n. n ≡ missing_count received.old first (offset + length bytes.now - first)) }
     ensures noted { OnOk result (received.new ≡ set.union received.old (numbers offset (offset + length bytes.now))) }
     ensures err { OnErr result (received.new ≡ received.old) }
@@ -302,7 +263,7 @@ fn store(
 // Writes the bytes at offsets that didn't come before to their places, and answers how many these are. The first such
 // offsets are those from `first` on and below `stop`.
 fn fill_gaps(
-    ring: &mut [u8],
+    ring: &mut Ring,
     received: &RangeSet,
     first: u64,
     stop: u64,
@@ -315,13 +276,13 @@ fn fill_gaps(
     requires some { first < stop }
     requires ends { stop ≤ offset + length bytes.now }
     requires fits { offset + length bytes.now ≤ first + length ring.old }
+    ensures same_len { length ring.new ≡ length ring.old }
     ensures count { result ≡ missing_count received.now first (offset + length bytes.now - first) }
     ensures filled { IsFilled received.now first (offset + length bytes.now) offset bytes.now ring.old ring.new }
 {
     let end = offset + bytes.len() as u64;
     if stop == end {
-        copy_in(
-            ring,
+        ring.write(
             first,
             &bytes[(first - offset) as usize..(stop - offset) as usize],
         );
@@ -331,11 +292,7 @@ fn fill_gaps(
     let mut to = stop;
     let mut count = 0;
     while at < end {
-        copy_in(
-            ring,
-            at,
-            &bytes[(at - offset) as usize..(to - offset) as usize],
-        );
+        ring.write(at, &bytes[(at - offset) as usize..(to - offset) as usize]);
         count += to - at;
         let (next, after) = next_gap(received, to, end);
         at = next;
@@ -380,69 +337,9 @@ fn next_run(received: &RangeSet, at: u64, end: u64) -> (u64, u64)
     }
 }
 
-// The place of an offset in a ring of that size. Most are powers of two, at which no division is made.
-#[tactic(auto, using(crate::proofs::RingPlaces::place_by_bits))]
-fn place_of(at: u64, size: usize) -> usize
-    requires { 0 < size }
-    ensures { result ≡ at % size }
-{
-    if size.is_power_of_two() {
-        (at & (size as u64 - 1)) as usize
-    } else {
-        (at % size as u64) as usize
-    }
-}
-
-// Writes bytes to the places of the offsets from `at` on, in two pieces where these wrap.
-fn copy_in(ring: &mut [u8], at: u64, bytes: &[u8])
-    requires some { 0 < length ring.old }
-    requires fits { length bytes.now ≤ length ring.old }
-    ensures same_len { length ring.new ≡ length ring.old }
-    ensures written { IsWritten at bytes.now ring.old ring.new }
-{
-    let place = place_of(at, ring.len());
-    let room = ring.len() - place;
-    if bytes.len() <= room {
-        write_at(ring, place, bytes);
-    } else {
-        let (front, back) = bytes.split_at(room);
-        write_at(ring, place, front);
-        write_at(ring, 0, back);
-    }
-}
-
-// Writes bytes from a place on.
-fn write_at(into: &mut [u8], place: usize, bytes: &[u8])
-    requires { place + length bytes.now ≤ length into.old }
-    ensures same_len { length into.new ≡ length into.old }
-    ensures written { (k : ℕ) → slice_index into.new k
-        ≡ (if is_within place (place + length bytes.now) k then slice_index bytes.now (k - place) else slice_index into.old k) }
-{
-    into[place..place + bytes.len()].copy_from_slice(bytes);
-}
-
-// Copies the bytes of the offsets from `at` on out, in two pieces where their places wrap.
-fn copy_out(ring: &[u8], at: u64, into: &mut [u8])
-    requires { length into.old ≤ length ring.now }
-    ensures { (k : ℕ) → k < length into.old → slice_index into.new k ≡ slice_index ring.now ((at + k) % length ring.now) }
-{
-    let len = into.len();
-    if len == 0 {
-        return;
-    }
-    let place = place_of(at, ring.len());
-    let room = ring.len() - place;
-    if len <= room {
-        into.copy_from_slice(&ring[place..place + len]);
-    } else {
-        write_at(into, 0, &ring[place..]);
-        write_at(into, room, &ring[..len - room]);
-    }
-}
-
 // Whether the bytes at those offsets from `start` on that came are the ones at their places. From `last` on none came.
 fn is_in_ring(
-    ring: &[u8],
+    ring: &Ring,
     received: &RangeSet,
     start: u64,
     last: u64,
@@ -463,28 +360,10 @@ fn is_in_ring(
             return true;
         }
         let run = &bytes[(from - offset) as usize..(to - offset) as usize];
-        if !are_at(ring, from, run) {
+        if !ring.are_at(from, run) {
             return false;
         }
         at = to;
     }
     true
-}
-
-// Whether bytes are the ones at the places of the offsets from `at` on, in two pieces where these wrap.
-fn are_at(ring: &[u8], at: u64, bytes: &[u8]) -> bool
-    requires { length bytes.now ≤ length ring.now }
-    ensures { IsTrue result ↔ AreAt ring.now at bytes.now }
-{
-    let len = bytes.len();
-    if len == 0 {
-        return true;
-    }
-    let place = place_of(at, ring.len());
-    let room = ring.len() - place;
-    if len <= room {
-        return bytes == &ring[place..place + len];
-    }
-    let (front, back) = bytes.split_at(room);
-    front == &ring[place..] && back == &ring[..len - room]
 }

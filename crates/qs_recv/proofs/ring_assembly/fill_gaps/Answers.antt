@@ -1,4 +1,4 @@
-use Rattle.std.proofs.Common.{◌≡◌, ◌∙◌, ◌+◌, ◌-◌, sym, ap, arith, length}
+use Rattle.std.proofs.Common.{◌≡◌, ◌∙◌, ◌+◌, ◌-◌, sym, ap, arith, length, refl}
 use Rattle.qs_recv.specs.Ring.{missing_count}
 use Rattle.qs_recv.proofs.RingCount.{missing_all, missing_gap, missing_zero, run_behind}
 use Rattle.qs_recv.proofs.RingPlaces.{filled_none, filled_gap}
@@ -20,6 +20,7 @@ loop-at-init c =
       missing = c.requires.missing;
       counted = sym (ap (missing_count c.args.received.now c.args.first) none ∙ missing_zero c.args.received.now c.args.first);
       small = omega arith;
+      same_len = refl;
       filled = filled_none c.args.received.now c.args.first c.args.offset c.args.bytes.now c.args.ring.now;
     }
 
@@ -44,6 +45,7 @@ loop-at-preserved c =
       missing = gap.missing;
       counted = ap (λ k. k + (stop - at)) inv.counted ∙ missing_gap c.args.received.now c.args.first at end stop next inv.begins none g;
       small = omega (arith, inv.begins, inv.small, some, g.ordered);
-      filled = filled_gap c.args.received.now c.args.first at end stop next c.args.offset c.args.bytes.now c.args.ring.now c.loop-at.ring c.copy_in-in-loop-at.new.ring c.requires.begins inv.begins (omega arith) some g
-          c.loop-at.auto.ring inv.filled c.copy_in-in-loop-at.ensures.written;
+      same_len = c.write-in-loop-at.ensures.same_len ∙ inv.same_len;
+      filled = filled_gap c.args.received.now c.args.first at end stop next c.args.offset c.args.bytes.now c.args.ring.now c.loop-at.ring c.write-in-loop-at.new.self c.requires.begins inv.begins (omega arith) some g
+          inv.same_len inv.filled c.write-in-loop-at.ensures.written;
     }

@@ -1,4 +1,4 @@
-use Rattle.std.proofs.Common.{◌≡◌, ◌≤◌, ◌<◌, ◌-◌}
+use Rattle.std.proofs.Common.{◌≡◌, ◌≤◌, ◌<◌, ◌-◌, length}
 use Rattle.qs_ranges.specs.Numbers.{MissesRange}
 use Rattle.qs_recv.specs.Ring.{IsFilled, missing_count}
 use Rattle.qs_recv.proofs.ring_assembly.fill_gaps.Given as goal
@@ -13,6 +13,7 @@ invariant-loop-at l =
       missing : MissesRange l.received l.at l.to;
       counted : l.count ≡ missing_count l.received l.first (l.at - l.first);
       small : l.count ≤ l.at - l.first;
+      same_len : length l.ring ≡ length l.initial.ring;
       filled : IsFilled l.received l.first l.at l.offset l.bytes l.initial.ring l.ring;
     }
 

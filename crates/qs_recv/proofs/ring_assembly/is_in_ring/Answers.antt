@@ -3,8 +3,8 @@ use Rattle.std.proofs.lemmas.Bool.{both_ways}
 use Rattle.qs_recv.proofs.SameRing.{run_fits, run_more, run_there}
 use Rattle.qs_recv.proofs.ring_assembly.is_in_ring.Goals as goal
 
-pub are_at-requires : goal.are_at-requires
-are_at-requires c =
+pub are_at-requires-clause-fits : goal.are_at-requires-clause-fits
+are_at-requires-clause-fits c =
     run_fits c.args.received.now c.args.ring.now c.args.bytes.now c.args.start c.args.offset c.min-end.result c.loop-at.at c.next_run-from.result.0 c.next_run-from.result.1
     c.requires.begins (omega (arith, c.min-end.ensures)) c.loop-at.invariant.begins c.requires.fits c.next_run-from.ensures
 

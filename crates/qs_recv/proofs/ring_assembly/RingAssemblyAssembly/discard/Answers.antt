@@ -6,6 +6,6 @@ use Rattle.qs_recv.proofs.ring_assembly.RingAssemblyAssembly.discard.Goals as go
 pub invariant_of-self : goal.invariant_of-self
 invariant_of-self c =
     let s = c.self.inside in (
-      thrown_away s.ring.items c.new.result.items s.received (length s.ring.items) s.read_count s.stored s.discarding c.self.invariant.0 c.new.ensures.items,
-      rw c.new.ensures.items (sized_empty s.received s.read_count s.end 0 s.window true c.self.invariant.1.small_window (λ on. absurd (both_ways true on refl))),
+      thrown_away s.ring c.none.result s.received (length s.ring) s.read_count s.stored s.discarding c.self.invariant.0 c.none.ensures,
+      rw c.none.ensures (sized_empty s.received s.read_count s.end 0 s.window true c.self.invariant.1.small_window (λ on. absurd (both_ways true on refl))),
     )

@@ -5,5 +5,5 @@ use Rattle.qs_recv.proofs.ring_assembly.RingAssemblyAssembly.held.Goals as goal
 pub returns-clause-room : goal.returns-clause-room
 returns-clause-room c =
     let s = c.self.inside in
-    let fits = stored_fits s.received s.ring.items (length s.ring.items) s.read_count s.discarding in
-    rw (← c.self.view_is) (omega (arith, fits, s.ring.ok.0, c.len.ensures))
+    let fits = stored_fits s.received s.ring (length s.ring) s.read_count s.discarding in
+    rw (← c.self.view_is) (omega (arith, fits, c.len.ensures))

@@ -4,7 +4,7 @@ use Rattle.qs_recv.proofs.RingLaws.{empty_ring, new_ring, sized_empty}
 use Rattle.qs_recv.proofs.ring_assembly.RingAssemblyAssembly.new.Goals as goal
 
 pub invariant_of-result : goal.invariant_of-result
-invariant_of-result c = rw (c.new.ensures.items, c.new-2.ensures) (new_ring, sized_empty _ 0 0 0 c.args.window false c.requires.small (λ _. sym end_of-empty))
+invariant_of-result c = rw (c.none.ensures, c.new.ensures) (new_ring, sized_empty _ 0 0 0 c.args.window false c.requires.small (λ _. sym end_of-empty))
 
 pub returns-clause-empty : goal.returns-clause-empty
-returns-clause-empty c = rw (c.new-2.ensures, empty_ring) refl
+returns-clause-empty c = rw (c.new.ensures, empty_ring) refl

@@ -13,8 +13,7 @@ returns-then-self c =
 pub is_in_ring-requires-clause-fits : goal.is_in_ring-requires-clause-fits
 is_in_ring-requires-clause-fits c =
     let s = c.self.inside in
-    rw c.deref.ensures.value
-    (ring_fits s.received s.ring.items (length s.ring.items) s.read_count s.stored c.max-start.result (rw c.if-self.false at c.self.invariant.0) (let m = c.max-start.ensures in omega (arith, m)))
+    (ring_fits s.received s.ring (length s.ring) s.read_count s.stored c.max-start.result (rw c.if-self.false at c.self.invariant.0) (let m = c.max-start.ensures in omega (arith, m)))
 
 pub is_in_ring-requires-clause-ends : goal.is_in_ring-requires-clause-ends
 is_in_ring-requires-clause-ends c = rw ((rw c.if-self.false at c.self.invariant.1).ends refl) (end_of-ends c.self.inside.received)
@@ -23,5 +22,5 @@ pub returns : goal.returns
 returns c =
     let s = c.self.inside in
     rw (← c.self.view_is, c.if-self.false)
-    (same_ring s.received s.ring.items c.args.bytes.now (length s.ring.items) s.read_count s.stored c.max-start.result c.args.offset c.is_in_ring.result (rw c.if-self.false at c.self.invariant.0) c.max-start.ensures
-    (rw c.deref.ensures.value at c.is_in_ring.ensures))
+    (same_ring s.received s.ring c.args.bytes.now (length s.ring) s.read_count s.stored c.max-start.result c.args.offset c.is_in_ring.result (rw c.if-self.false at c.self.invariant.0) c.max-start.ensures
+    c.is_in_ring.ensures)

@@ -21,7 +21,7 @@ overflow_sub-self c =
     let s = c.self.inside in
     let n = c.min-count.result in
     let kept = rw c.if-self.false at c.self.invariant.0 in
-    next_stored s.received s.ring.items (length s.ring.items) s.read_count n s.stored kept
+    next_stored s.received s.ring (length s.ring) s.read_count n s.stored kept
     (came_next s.received s.read_count c.first_missing-next.result (length c.args.into.now) n c.first_missing-next.ensures.missing c.min-count.ensures)
 
 pub overflow_sub-span : goal.overflow_sub-span
@@ -31,10 +31,10 @@ overflow_sub-span c =
     let kept = rw c.if-self.false at c.self.invariant.0 in
     let within = c.first_missing-next.ensures.within in
     let small = kept.small_count in
-    let after = ring_read s.received s.ring.items (length s.ring.items) s.read_count n s.stored kept
+    let after = ring_read s.received s.ring (length s.ring) s.read_count n s.stored kept
     (came_next s.received s.read_count c.first_missing-next.result (length c.args.into.now) n c.first_missing-next.ensures.missing c.min-count.ensures) (omega (arith, within, small, c.min-count.ensures)) in
     let ends = (rw c.if-self.false at c.self.invariant.1).ends refl in
-    let starts = span_starts s.received s.ring.items (length s.ring.items) (s.read_count + n) (s.stored - n) after in
+    let starts = span_starts s.received s.ring (length s.ring) (s.read_count + n) (s.stored - n) after in
     omega (arith, ends, starts)
 
 pub shed-requires-clause-reaches : goal.shed-requires-clause-reaches
@@ -44,11 +44,11 @@ shed-requires-clause-reaches c =
     let kept = rw c.if-self.false at c.self.invariant.0 in
     let within = c.first_missing-next.ensures.within in
     let small = kept.small_count in
-    let after = ring_read s.received s.ring.items (length s.ring.items) s.read_count n s.stored kept
+    let after = ring_read s.received s.ring (length s.ring) s.read_count n s.stored kept
     (came_next s.received s.read_count c.first_missing-next.result (length c.args.into.now) n c.first_missing-next.ensures.missing c.min-count.ensures) (omega (arith, within, small, c.min-count.ensures)) in
     let ends = (rw c.if-self.false at c.self.invariant.1).ends refl in
-    let fits = span_fits s.received s.ring.items (length s.ring.items) (s.read_count + n) (s.stored - n) after in
-    omega (arith, ends, fits)
+    let fits = span_fits s.received s.ring (length s.ring) (s.read_count + n) (s.stored - n) after in
+    rw c.copy_out.ensures.same (omega (arith, ends, fits))
 
 pub invariant_of-self : goal.invariant_of-self
 invariant_of-self c =
@@ -57,15 +57,15 @@ invariant_of-self c =
     let kept = rw c.if-self.false at c.self.invariant.0 in
     let within = c.first_missing-next.ensures.within in
     let small = kept.small_count in
-    let after = ring_read s.received s.ring.items (length s.ring.items) s.read_count n s.stored kept
+    let after = ring_read s.received s.ring (length s.ring) s.read_count n s.stored kept
     (came_next s.received s.read_count c.first_missing-next.result (length c.args.into.now) n c.first_missing-next.ensures.missing c.min-count.ensures) (omega (arith, within, small, c.min-count.ensures)) in
-    let new = c.shed.new.ring.items in
+    let new = c.shed.new.ring in
     let sized = rw c.if-self.false at c.self.invariant.1 in
-    let now = other_ring s.received s.ring.items new (length s.ring.items) (length new) (s.read_count + n) (s.stored - n) after
-    (shed_is s.received s.ring.items new (s.read_count + n) (s.stored - n) (s.end - (s.read_count + n)) after (ap (λ e. e - (s.read_count + n)) (sized.ends refl)) c.shed.ensures.fewer c.shed.ensures.reaches c.shed.ensures.moved) in
+    let now = other_ring s.received s.ring new (length s.ring) (length new) (s.read_count + n) (s.stored - n) after
+    (shed_is s.received s.ring new (s.read_count + n) (s.stored - n) (s.end - (s.read_count + n)) after (ap (λ e. e - (s.read_count + n)) (sized.ends refl)) (rw c.copy_out.ensures.same at c.shed.ensures.fewer) c.shed.ensures.reaches (rw c.copy_out.ensures.same at c.shed.ensures.moved)) in
     rw c.if-self.false (
       now,
-      sized_shed s.received new (length s.ring.items) (length new) s.read_count (s.read_count + n) s.end s.stored (s.stored - n) s.window sized now c.shed.ensures.fewer c.shed.ensures.bound,
+      sized_shed s.received new (length s.ring) (length new) s.read_count (s.read_count + n) s.end s.stored (s.stored - n) s.window sized now (rw c.copy_out.ensures.same at c.shed.ensures.fewer) c.shed.ensures.bound,
     )
 
 pub returns-clause-count : goal.returns-clause-count
@@ -73,8 +73,8 @@ returns-clause-count c =
     let s = c.self.inside in
     let n = c.min-count.result in
     let kept = rw c.if-self.false at c.self.invariant.0 in
-    let fronts = front_next s.received s.ring.items c.deref.result.now c.args.into.now c.copy_out.new.into (length s.ring.items) s.read_count c.first_missing-next.result n s.stored kept
-    c.first_missing-next.ensures.missing c.min-count.ensures c.deref.ensures.value c.copy_out.auto.into c.copy_out.ensures in
+    let fronts = front_next s.received s.ring s.ring c.args.into.now c.copy_out.new.into (length s.ring) s.read_count c.first_missing-next.result n s.stored kept
+    c.first_missing-next.ensures.missing c.min-count.ensures refl c.copy_out.auto.into c.copy_out.ensures.out in
     rw (← c.self.view_is, c.if-self.false) (sym (ap length fronts.1 ∙ fronts.2))
 
 pub returns-clause-bytes : goal.returns-clause-bytes
@@ -82,8 +82,8 @@ returns-clause-bytes c =
     let s = c.self.inside in
     let n = c.min-count.result in
     let kept = rw c.if-self.false at c.self.invariant.0 in
-    let fronts = front_next s.received s.ring.items c.deref.result.now c.args.into.now c.copy_out.new.into (length s.ring.items) s.read_count c.first_missing-next.result n s.stored kept
-    c.first_missing-next.ensures.missing c.min-count.ensures c.deref.ensures.value c.copy_out.auto.into c.copy_out.ensures in
+    let fronts = front_next s.received s.ring s.ring c.args.into.now c.copy_out.new.into (length s.ring) s.read_count c.first_missing-next.result n s.stored kept
+    c.first_missing-next.ensures.missing c.min-count.ensures refl c.copy_out.auto.into c.copy_out.ensures.out in
     rw (← c.self.view_is, c.if-self.false) (sym (ap (λ xs. xs ++ drop n c.args.into.now) fronts.1))
 
 pub returns-clause-rest : goal.returns-clause-rest
@@ -93,13 +93,13 @@ returns-clause-rest c =
     let kept = rw c.if-self.false at c.self.invariant.0 in
     let within = c.first_missing-next.ensures.within in
     let small = kept.small_count in
-    let after = ring_read s.received s.ring.items (length s.ring.items) s.read_count n s.stored kept
+    let after = ring_read s.received s.ring (length s.ring) s.read_count n s.stored kept
     (came_next s.received s.read_count c.first_missing-next.result (length c.args.into.now) n c.first_missing-next.ensures.missing c.min-count.ensures) (omega (arith, within, small, c.min-count.ensures)) in
-    let fronts = front_next s.received s.ring.items c.deref.result.now c.args.into.now c.copy_out.new.into (length s.ring.items) s.read_count c.first_missing-next.result n s.stored kept
-    c.first_missing-next.ensures.missing c.min-count.ensures c.deref.ensures.value c.copy_out.auto.into c.copy_out.ensures in
-    let new = c.shed.new.ring.items in
+    let fronts = front_next s.received s.ring s.ring c.args.into.now c.copy_out.new.into (length s.ring) s.read_count c.first_missing-next.result n s.stored kept
+    c.first_missing-next.ensures.missing c.min-count.ensures refl c.copy_out.auto.into c.copy_out.ensures.out in
+    let new = c.shed.new.ring in
     let sized = rw c.if-self.false at c.self.invariant.1 in
-    let same = other_view s.received s.ring.items new (length s.ring.items) (length new) (s.read_count + n) (s.stored - n) after
-    (shed_is s.received s.ring.items new (s.read_count + n) (s.stored - n) (s.end - (s.read_count + n)) after (ap (λ e. e - (s.read_count + n)) (sized.ends refl)) c.shed.ensures.fewer c.shed.ensures.reaches c.shed.ensures.moved) in
+    let same = other_view s.received s.ring new (length s.ring) (length new) (s.read_count + n) (s.stored - n) after
+    (shed_is s.received s.ring new (s.read_count + n) (s.stored - n) (s.end - (s.read_count + n)) after (ap (λ e. e - (s.read_count + n)) (sized.ends refl)) (rw c.copy_out.ensures.same at c.shed.ensures.fewer) c.shed.ensures.reaches (rw c.copy_out.ensures.same at c.shed.ensures.moved)) in
     rw (← c.self.view_is, c.if-self.false, same)
-    (rest_next s.received s.ring.items c.copy_out.new.into (length s.ring.items) s.window s.read_count (length c.args.into.now) n s.stored kept fronts)
+    (rest_next s.received s.ring c.copy_out.new.into (length s.ring) s.window s.read_count (length c.args.into.now) n s.stored kept fronts)

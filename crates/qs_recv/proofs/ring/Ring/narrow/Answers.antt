@@ -1,0 +1,20 @@
+use Rattle.std.proofs.Common.{◌∙◌, ◌-◌, ap, subst, arith}
+use Rattle.qs_recv.specs.Ring.{IsMoved, places_of}
+use Rattle.qs_recv.proofs.RingTurned.{begun, length_places, same_places}
+use Rattle.qs_recv.proofs.ring.Ring.narrow.Goals as goal
+
+pub returns-clause-moved : goal.returns-clause-moved
+returns-clause-moved c =
+    let s = c.self.inside in
+    let i = c.self.invariant in
+    let within = i.within in
+    let place = c.place_of-place.result in
+    let filled = c.fill.new.bytes.items in
+    let kept = c.shrink_to.new.self.items in
+    let start = c.args.size - c.place_of.result in
+    let size = rw c.self.view_is at (length_places s.turn s.size s.bytes.items i.turned (omega (arith, within))) in
+    let same = same_places s.turn s.size s.bytes.items filled (omega (arith, within)) (omega (arith, c.fill.ensures.within)) c.fill.ensures.same in
+    rw (← c.self.view_is) (subst (λ ring. IsMoved c.args.from c.args.count ring (places_of start c.args.size kept)) same
+    (begun c.args.from s.turn s.size place c.args.count c.args.size start filled kept (omega (arith, size, c.requires.fewer, c.requires.fits, c.requires.some)) i.turned (omega (arith, c.fill.ensures.within)) c.place_of-place.ensures
+    (omega (arith, size, c.requires.fewer, c.requires.fits)) (omega (arith, c.fill.ensures.reaches)) (omega (arith, c.requires.fits, c.requires.some)) c.requires.fits (ap (λ p. c.args.size - p) c.place_of.ensures)
+    (c.shrink_to.ensures.items ∙ c.bring_to_front.ensures.items)))
