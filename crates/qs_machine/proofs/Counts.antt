@@ -11,7 +11,7 @@ use Rattle.qs_recv.specs.Lane.{RecvLane, raise}
 use Rattle.qs_send.specs.Lane.{SendLane}
 use Rattle.qs_calls.specs.declared.settings.Settings.{Settings}
 use Rattle.qs_machine.specs.Tables.{Tables, table, lookup, each}
-use Rattle.qs_machine.specs.Ends.{End, role_bit, peer_kind}
+use Rattle.qs_machine.specs.Ends.{End, role_bit, peer_type}
 use Rattle.qs_machine.specs.Credit.{recv_ended, send_ended, both_ended, ended, first_grant, lifetime, next_count, settle}
 use Rattle.qs_machine.specs.Standing.{CountsStand, CountsAreSettled, CountsRise}
 use Rattle.qs_machine.proofs.EndedHalves.{RecvStays, SendStays}
@@ -98,11 +98,11 @@ uni_few r = omega arith
 pub ended_grows : (a b : End) → b.role ≡ a.role → KeptIn RecvStays a.recvs b.recvs → KeptIn SendStays a.sends b.sends → (d : Dir) → ended a d ≤ ended b d
 ended_grows a b role recvs sends Bidi =
     subst (λ r. ended a Bidi ≤ length (filter both_ended (zip (table b.recvs (1 - role_bit r)) (table b.sends (1 - role_bit r))))) (sym role)
-    (both_grow (table a.recvs (peer_kind a Bidi)) (table b.recvs (peer_kind a Bidi)) (table a.sends (peer_kind a Bidi)) (table b.sends (peer_kind a Bidi))
-    (kept_table RecvStays a.recvs b.recvs (peer_kind a Bidi) (bidi_few a.role) recvs) (kept_table SendStays a.sends b.sends (peer_kind a Bidi) (bidi_few a.role) sends))
+    (both_grow (table a.recvs (peer_type a Bidi)) (table b.recvs (peer_type a Bidi)) (table a.sends (peer_type a Bidi)) (table b.sends (peer_type a Bidi))
+    (kept_table RecvStays a.recvs b.recvs (peer_type a Bidi) (bidi_few a.role) recvs) (kept_table SendStays a.sends b.sends (peer_type a Bidi) (bidi_few a.role) sends))
 ended_grows a b role recvs sends Uni =
     subst (λ r. ended a Uni ≤ length (filter recv_ended (table b.recvs (3 - role_bit r)))) (sym role)
-    (recvs_grow (table a.recvs (peer_kind a Uni)) (table b.recvs (peer_kind a Uni)) (kept_table RecvStays a.recvs b.recvs (peer_kind a Uni) (uni_few a.role) recvs))
+    (recvs_grow (table a.recvs (peer_type a Uni)) (table b.recvs (peer_type a Uni)) (kept_table RecvStays a.recvs b.recvs (peer_type a Uni) (uni_few a.role) recvs))
 
 -- and so the next count is no lower
 pub next_grows : (a b : End) → b.role ≡ a.role → b.settings ≡ a.settings → KeptIn RecvStays a.recvs b.recvs → KeptIn SendStays a.sends b.sends → (d : Dir) → next_count a d ≤ next_count b d
@@ -111,8 +111,8 @@ next_grows a b role settings recvs sends d =
 
 -- Limits that rise end no stream.
 pub ended_settle : (e : End) (d : Dir) → ended (settle e) d ≡ ended e d
-ended_settle e Bidi = ap (λ xs. length (filter both_ended (zip xs (table e.sends (peer_kind e Bidi))))) (each_table raise e.recvs (peer_kind e Bidi)) ∙ both_raised (table e.recvs (peer_kind e Bidi)) (table e.sends (peer_kind e Bidi))
-ended_settle e Uni = ap (λ xs. length (filter recv_ended xs)) (each_table raise e.recvs (peer_kind e Uni)) ∙ recvs_raised (table e.recvs (peer_kind e Uni))
+ended_settle e Bidi = ap (λ xs. length (filter both_ended (zip xs (table e.sends (peer_type e Bidi))))) (each_table raise e.recvs (peer_type e Bidi)) ∙ both_raised (table e.recvs (peer_type e Bidi)) (table e.sends (peer_type e Bidi))
+ended_settle e Uni = ap (λ xs. length (filter recv_ended xs)) (each_table raise e.recvs (peer_type e Uni)) ∙ recvs_raised (table e.recvs (peer_type e Uni))
 
 pub next_settle : (e : End) (d : Dir) → next_count (settle e) d ≡ next_count e d
 next_settle e d = ap (λ k. min (lifetime e.settings d) (first_grant e.settings d + k)) (ended_settle e d)

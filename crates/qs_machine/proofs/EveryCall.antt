@@ -37,7 +37,7 @@ use Rattle.qs_machine.specs.Verdicts.{verdict}
 use Rattle.qs_machine.specs.FrameStep.{frame_taken, acks, named}
 use Rattle.qs_machine.specs.Recording.{recorded}
 use Rattle.qs_machine.specs.Lawful.{MayPut, Fills, frame_put}
-use Rattle.qs_machine.specs.Owner.{OpenStep, AcceptStep, ReadBy, with_wanted, Certain, first_refusal, refuse_if, no_half, half_refusal, send_refusal, recv_refusal, IsBlocked, IsOpened, GivesNone, GivesBidi, GivesUni, AcceptOpen, peer_kind, next_stream}
+use Rattle.qs_machine.specs.Owner.{OpenStep, AcceptStep, ReadBy, with_wanted, Certain, first_refusal, refuse_if, no_half, half_refusal, send_refusal, recv_refusal, IsBlocked, IsOpened, GivesNone, GivesBidi, GivesUni, AcceptOpen, peer_type, next_stream}
 use Rattle.qs_machine.specs.Receiving.{ClosedReceive, AtEnd, RunsOut, Stops, GoesOn, Takes, ReceiveBy, TakesPayload, OpenReceive}
 use Rattle.qs_machine.specs.Making.{MakeAt, MakeAckAt, make_refusal, claim_refusal, LoseStep, lose_refusal, first_lost, losses}
 use Rattle.qs_machine.specs.Raising.{limits_raised, raise_refusal}
@@ -256,7 +256,7 @@ module _ (old : End) (call : Call) (Q P : End → Type 0) (c : Cases old call Q 
   accept_by answer new step =
       let none : GivesNone old answer new → P new = λ g. same new g.1 in
       let uni : GivesUni old answer new → P new =
-      λ g. by_test (P new) _ ((answer ≡ Some (old.accepted_uni * 4 + peer_kind old Uni)) × (new ≡ settle (changed AcceptedUni old))) (GivesNone old answer new) g
+      λ g. by_test (P new) _ ((answer ≡ Some (old.accepted_uni * 4 + peer_type old Uni)) × (new ≡ settle (changed AcceptedUni old))) (GivesNone old answer new) g
       (λ u. edited AcceptedUni new tt u.1) none in
       by_test (P new) _ (GivesNone old answer new) (AcceptOpen old answer new) step none
       (λ goes. by_test (P new) _ (GivesBidi old answer new) (GivesUni old answer new) goes (λ g. edited AcceptedBidi new tt g.1) uni)

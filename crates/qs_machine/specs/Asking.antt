@@ -10,7 +10,7 @@ use Rattle.qs_calls.specs.declared.closing.Closed.TheVariants.{ByUs, ByPeer}
 use Rattle.qs_machine.specs.Ends.{End, Records, send_lane}
 use Rattle.qs_machine.specs.Credit.{all_sent, lifetime}
 use Rattle.qs_machine.specs.Due.{IsDueItem, StreamGoes, known_count}
-use Rattle.qs_machine.specs.Owner.{opened_count, own_kind, peer_kind}
+use Rattle.qs_machine.specs.Owner.{opened_count, own_type, peer_type}
 
 -- Something beside an ACK goes: a control item that is due, or bytes or the end of a stream that no limit holds back. Of an end that
 -- closed nothing goes (RFC 9000, sections 4.1, 10.2 and 13.3).
@@ -26,11 +26,11 @@ peer_closing (Some (ByPeer code)) = Some code
 -- how many streams of a direction the peer may open in all time to come: the lifetime's count without those that it opened (RFC 9000,
 -- section 4.6)
 abbrev pub streams_left : End → Dir → ℕ
-streams_left e d = lifetime e.settings d - opened_count e (peer_kind e d)
+streams_left e d = lifetime e.settings d - opened_count e (peer_type e d)
 
 -- how many this end may open by the count that the peer told last (RFC 9000, section 4.6)
 abbrev pub open_left : End → Dir → ℕ
-open_left e d = known_count e d - opened_count e (own_kind e d)
+open_left e d = known_count e d - opened_count e (own_type e d)
 
 -- Bytes were written that weren't sent, and nothing but credit holds them back: the stream's limit is reached, or the connection's
 -- credit is used up (RFC 9000, section 4.1).

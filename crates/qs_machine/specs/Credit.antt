@@ -9,7 +9,7 @@ use Rattle.qs_recv.specs.Lane.{RecvLane, highest, taken, raise, next_limit, is_w
 use Rattle.qs_send.specs.Lane.{SendLane, is_whole as send_whole}
 use Rattle.qs_calls.specs.declared.settings.Settings.{Settings}
 use Rattle.qs_machine.specs.Tables.{table, each, total}
-use Rattle.qs_machine.specs.Ends.{End, is_uni, peer_kind}
+use Rattle.qs_machine.specs.Ends.{End, is_uni, peer_type}
 
 -- the sum of the highest offsets of all receiving halves: what the connection limit bounds (RFC 9000, section 4.1)
 abbrev pub spent : End → ℕ
@@ -60,8 +60,8 @@ both_ended halves = recv_ended halves.0 && send_ended halves.1
 
 -- how many streams of a direction the peer opened and came to their end (RFC 9000, sections 3 and 4.6)
 abbrev pub ended : End → Dir → ℕ
-ended e Bidi = length (filter both_ended (zip (table e.recvs (peer_kind e Bidi)) (table e.sends (peer_kind e Bidi))))
-ended e Uni = length (filter recv_ended (table e.recvs (peer_kind e Uni)))
+ended e Bidi = length (filter both_ended (zip (table e.recvs (peer_type e Bidi)) (table e.sends (peer_type e Bidi))))
+ended e Uni = length (filter recv_ended (table e.recvs (peer_type e Uni)))
 
 -- the count to which a direction's grant is brought: a stream more for each one that ended, up to the lifetime's (RFC 9000, section 4.6)
 abbrev pub next_count : End → Dir → ℕ

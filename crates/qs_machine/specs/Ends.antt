@@ -17,7 +17,7 @@ use Rattle.qs_calls.specs.declared.settings.PeerLimits.{PeerLimits}
 use Rattle.qs_calls.specs.declared.settings.SetupFault.{SetupFault}
 use Rattle.qs_calls.specs.declared.closing.Closed.{Closed}
 use Rattle.qs_calls.specs.Settings.{setup_fault}
-use Rattle.qs_machine.specs.Tables.{Tables, no_streams, kind_of, lookup, updated, open_to}
+use Rattle.qs_machine.specs.Tables.{Tables, no_streams, type_of, lookup, updated, open_to}
 pub use Rattle.qs_machine.specs.LostPackets.{LostPackets, no_lost, lost_with, lost_less}
 
 -- the pieces of packets, by packet number (RFC 9000, section 13.3)
@@ -81,25 +81,25 @@ role_bit Server = 1
 
 -- whether an end of that role opens the stream (RFC 9000, section 2.1)
 abbrev pub is_own_by : Role → ℕ → Bool
-is_own_by role n = kind_of n % 2 == role_bit role
+is_own_by role n = type_of n % 2 == role_bit role
 
 -- whether this end opens the stream (RFC 9000, section 2.1)
 abbrev pub is_own : End → ℕ → Bool
 is_own e n = is_own_by e.role n
 
 -- the type of the streams that an end opens, and of those that its peer does (RFC 9000, section 2.1)
-abbrev pub own_kind : End → Dir → ℕ
-own_kind e Bidi = role_bit e.role
-own_kind e Uni = 2 + role_bit e.role
+abbrev pub own_type : End → Dir → ℕ
+own_type e Bidi = role_bit e.role
+own_type e Uni = 2 + role_bit e.role
 
 -- those that the peer opens (RFC 9000, section 2.1)
-abbrev pub peer_kind : End → Dir → ℕ
-peer_kind e Bidi = 1 - role_bit e.role
-peer_kind e Uni = 3 - role_bit e.role
+abbrev pub peer_type : End → Dir → ℕ
+peer_type e Bidi = 1 - role_bit e.role
+peer_type e Uni = 3 - role_bit e.role
 
 -- whether only the initiator sends (RFC 9000, section 2.1)
 abbrev pub is_uni : ℕ → Bool
-is_uni n = nat_le 2 (kind_of n)
+is_uni n = nat_le 2 (type_of n)
 
 -- the halves of a stream at this end, None where there is none (RFC 9000, section 3)
 abbrev pub send_lane : End → ℕ → Option SendLane

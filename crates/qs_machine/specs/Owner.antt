@@ -15,7 +15,7 @@ use Rattle.qs_calls.specs.declared.uses.UseFault.{UseFault}
 use Rattle.qs_calls.specs.declared.uses.UseFault.TheVariants.{NoSuchStream, WrongDirection, Finished, WasReset, Closed, NoMemory}
 use Rattle.qs_machine.specs.Tables.{table}
 use Rattle.qs_machine.specs.Ends.{End, send_lane, recv_lane, on_send, on_recv, opens}
-pub use Rattle.qs_machine.specs.Ends.{own_kind, peer_kind}
+pub use Rattle.qs_machine.specs.Ends.{own_type, peer_type}
 use Rattle.qs_machine.specs.Credit.{settle}
 use Rattle.qs_machine.specs.Due.{known_count}
 
@@ -44,7 +44,7 @@ opened_count e kind = max (length (table e.sends kind)) (length (table e.recvs k
 
 -- the number of the next stream that an end opens
 abbrev pub next_stream : End → Dir → ℕ
-next_stream e d = opened_count e (own_kind e d) * 4 + own_kind e d
+next_stream e d = opened_count e (own_type e d) * 4 + own_type e d
 
 abbrev pub with_wanted : Dir → ℕ → End → End
 with_wanted Bidi count e = record e { wanted_bidi = Some count }
@@ -63,25 +63,25 @@ IsOpened old d answer new =
 abbrev pub OpenStep : End → Dir → Result ℕ OpenFault → End → Type 0
 OpenStep old d answer new =
     Certain (refuse_if (is_some old.closed) opening.Closed) old answer new
-    (MatchBool (nat_le (known_count old d) (opened_count old (own_kind old d))) (IsBlocked old d answer new) (IsOpened old d answer new))
+    (MatchBool (nat_le (known_count old d) (opened_count old (own_type old d))) (IsBlocked old d answer new) (IsOpened old d answer new))
 
 abbrev pub GivesNone : End → Option ℕ → End → Type 0
 GivesNone old answer new = (answer ≡ None) × (new ≡ old)
 
 abbrev pub GivesBidi : End → Option ℕ → End → Type 0
 GivesBidi old answer new =
-    (answer ≡ Some (old.accepted_bidi * 4 + peer_kind old Bidi)) × (new ≡ settle (record old { accepted_bidi = old.accepted_bidi + 1 }))
+    (answer ≡ Some (old.accepted_bidi * 4 + peer_type old Bidi)) × (new ≡ settle (record old { accepted_bidi = old.accepted_bidi + 1 }))
 
 abbrev pub GivesUni : End → Option ℕ → End → Type 0
 GivesUni old answer new =
-    MatchBool (nat_lt old.accepted_uni (opened_count old (peer_kind old Uni)))
-    ((answer ≡ Some (old.accepted_uni * 4 + peer_kind old Uni)) × (new ≡ settle (record old { accepted_uni = old.accepted_uni + 1 })))
+    MatchBool (nat_lt old.accepted_uni (opened_count old (peer_type old Uni)))
+    ((answer ≡ Some (old.accepted_uni * 4 + peer_type old Uni)) × (new ≡ settle (record old { accepted_uni = old.accepted_uni + 1 })))
     (GivesNone old answer new)
 
 -- each stream that the peer opened, once: bidirectional ones first, lower numbers first
 abbrev pub AcceptOpen : End → Option ℕ → End → Type 0
 AcceptOpen old answer new =
-    MatchBool (nat_lt old.accepted_bidi (opened_count old (peer_kind old Bidi))) (GivesBidi old answer new) (GivesUni old answer new)
+    MatchBool (nat_lt old.accepted_bidi (opened_count old (peer_type old Bidi))) (GivesBidi old answer new) (GivesUni old answer new)
 
 abbrev pub AcceptStep : End → Option ℕ → End → Type 0
 AcceptStep old answer new = MatchBool (is_some old.closed) (GivesNone old answer new) (AcceptOpen old answer new)

@@ -14,8 +14,8 @@ abbrev pub no_streams : {X : Type 0} → Tables X
 no_streams = record { client_bidi = []; server_bidi = []; client_uni = []; server_uni = [] }
 
 -- the type of a stream, 0 to 3: its two lowest bits (RFC 9000, section 2.1, table 1)
-abbrev pub kind_of : ℕ → ℕ
-kind_of n = n % 4
+abbrev pub type_of : ℕ → ℕ
+type_of n = n % 4
 
 -- how many streams of its type have a lower number
 abbrev pub index_of : ℕ → ℕ
@@ -36,10 +36,10 @@ with_table t (suc (suc (suc kind))) xs = record t { server_uni = xs }
 
 -- what is kept for a stream, None where it isn't open
 unfoldable pub lookup : {X : Type 0} → Tables X → ℕ → Option X
-lookup t n = slice_get (table t (kind_of n)) (index_of n)
+lookup t n = slice_get (table t (type_of n)) (index_of n)
 
 unfoldable pub update : {X : Type 0} → Tables X → ℕ → X → Tables X
-update t n x = with_table t (kind_of n) (slice_set (table t (kind_of n)) (index_of n) x)
+update t n x = with_table t (type_of n) (slice_set (table t (type_of n)) (index_of n) x)
 
 -- the stream's part changed by f, where the stream is open
 abbrev pub updated : {X : Type 0} → Tables X → ℕ → (X → X) → Option X → Tables X
@@ -52,7 +52,7 @@ widened xs n begin = xs ++ map begin (range_with_len (length xs) (n - length xs)
 
 -- with the stream and all lower ones of its type open: each that wasn't begins as its number tells (RFC 9000, section 3.2)
 unfoldable pub open_to : {X : Type 0} → Tables X → ℕ → (ℕ → X) → Tables X
-open_to t n begin = with_table t (kind_of n) (widened (table t (kind_of n)) (index_of n + 1) (λ i. begin (i * 4 + kind_of n)))
+open_to t n begin = with_table t (type_of n) (widened (table t (type_of n)) (index_of n + 1) (λ i. begin (i * 4 + type_of n)))
 
 -- each stream's part changed by f
 unfoldable pub each : {X : Type 0} → (X → X) → Tables X → Tables X

@@ -17,7 +17,7 @@ use Rattle.qs_machine.specs.Credit.{settle}
 use Rattle.qs_machine.specs.Due.{known_count}
 use Rattle.qs_machine.specs.Seen.{Seen, seen_all}
 use Rattle.qs_machine.specs.Lawful.{Fills}
-use Rattle.qs_machine.specs.Owner.{OpenStep, AcceptStep, ReadBy, recv_refusal, with_wanted, refuse_if, IsBlocked, IsOpened, GivesNone, GivesBidi, GivesUni, AcceptOpen, peer_kind, next_stream, send_refusal}
+use Rattle.qs_machine.specs.Owner.{OpenStep, AcceptStep, ReadBy, recv_refusal, with_wanted, refuse_if, IsBlocked, IsOpened, GivesNone, GivesBidi, GivesUni, AcceptOpen, peer_type, next_stream, send_refusal}
 use Rattle.qs_machine.specs.Making.{MakeAt, make_refusal, LoseStep, losses, claim_refusal, lose_refusal}
 use Rattle.qs_machine.specs.EndStep.{Answer, EndStep, Open, Accept, Write, Lose}
 use Rattle.qs_calls.specs.declared.event.Act.{Act}
@@ -61,7 +61,7 @@ module _ (P : End → Type 0) (old : End) (edits : Edits P old) where
   accept_by answer new step =
       let none : GivesNone old answer new → P new = λ g. becomes new g.1 in
       let uni : GivesUni old answer new → P new =
-      λ g. by_test (P new) _ ((answer ≡ Some (old.accepted_uni * 4 + peer_kind old Uni)) × (new ≡ settle (record old { accepted_uni = old.accepted_uni + 1 }))) (GivesNone old answer new) g
+      λ g. by_test (P new) _ ((answer ≡ Some (old.accepted_uni * 4 + peer_type old Uni)) × (new ≡ settle (record old { accepted_uni = old.accepted_uni + 1 }))) (GivesNone old answer new) g
       (λ u. settled (record old { accepted_uni = old.accepted_uni + 1 }) new (edits.accepts old.accepted_bidi (old.accepted_uni + 1)) u.1) none in
       let bidi : GivesBidi old answer new → P new = λ g. settled (record old { accepted_bidi = old.accepted_bidi + 1 }) new (edits.accepts (old.accepted_bidi + 1) old.accepted_uni) g.1 in
       by_test (P new) _ (GivesNone old answer new) (AcceptOpen old answer new) step none

@@ -24,7 +24,7 @@ use Rattle.qs_machine.specs.Ends.{End, on_send, on_recv, send_lane, first_send_l
 use Rattle.qs_machine.specs.Credit.{settle}
 use Rattle.qs_machine.specs.Seen.{Seen, seen_all}
 use Rattle.qs_machine.specs.Due.{known_count}
-use Rattle.qs_machine.specs.Owner.{first_refusal, refuse_if, send_refusal, recv_refusal, half_refusal, no_half, opened_count, own_kind, peer_kind, with_wanted, OpenStep, IsBlocked, IsOpened, AcceptStep, GivesNone, GivesBidi, GivesUni, AcceptOpen, WriteStep, FinishStep, ResetStep, StopStep, ReadStep, ReadBy, next_stream}
+use Rattle.qs_machine.specs.Owner.{first_refusal, refuse_if, send_refusal, recv_refusal, half_refusal, no_half, opened_count, own_type, peer_type, with_wanted, OpenStep, IsBlocked, IsOpened, AcceptStep, GivesNone, GivesBidi, GivesUni, AcceptOpen, WriteStep, FinishStep, ResetStep, StopStep, ReadStep, ReadBy, next_stream}
 use Rattle.qs_machine.specs.Making.{MakeStep, MakeAt, make_refusal, IsMade, LoseStep, lose_refusal, ClaimStep, claim_refusal}
 use Rattle.qs_calls.specs.declared.event.Act.{Act}
 use Rattle.qs_calls.specs.declared.event.Act.TheVariants as acts
@@ -109,7 +109,7 @@ module _ (p : Past) (e new : End) (ok : EndOk p e) where
         | inr (allowed, h) ↦ by _ refl h
       ]
     where
-      by : (b : Bool) → nat_le (known_count e d) (opened_count e (own_kind e d)) ≡ b → MatchBool b (IsBlocked e d answer new) (IsOpened e d answer new) → EndOk p new
+      by : (b : Bool) → nat_le (known_count e d) (opened_count e (own_type e d)) ≡ b → MatchBool b (IsBlocked e d answer new) (IsOpened e d answer new) → EndOk p new
       by true le h = ended_by p _ new h.1 (settle_ok p _ (wanted_ok p e d (known_count e d) ok))
       by false gt (inl h) = ended_by p _ new h.1 ok
       by false gt (inr h) = ended_by p _ new h.1 (settle_ok p _ (own_opened p e (next_stream e d) ok (next_own e d) (next_below e d (leb-false _ _ gt))))
@@ -117,7 +117,7 @@ module _ (p : Past) (e new : End) (ok : EndOk p e) where
   accept_moves : (answer : Option ℕ) → AcceptStep e answer new → EndOk p new
   accept_moves answer step = first _ step
     where
-      third : (b : Bool) → MatchBool b ((answer ≡ Some (e.accepted_uni * 4 + peer_kind e Uni)) × (new ≡ settle (record e { accepted_uni = e.accepted_uni + 1 }))) (GivesNone e answer new) → EndOk p new
+      third : (b : Bool) → MatchBool b ((answer ≡ Some (e.accepted_uni * 4 + peer_type e Uni)) × (new ≡ settle (record e { accepted_uni = e.accepted_uni + 1 }))) (GivesNone e answer new) → EndOk p new
       third true h = ended_by p _ new h.1 (settle_ok p _ (rest_ok p e e.accepted_bidi (e.accepted_uni + 1) e.wanted_bidi e.wanted_uni ok))
       third false h = ended_by p _ new h.1 ok
 

@@ -8,7 +8,7 @@ use Rattle.qs_wire.specs.declared.stream_id.Dir.TheVariants.{Bidi, Uni}
 use Rattle.qs_machine.specs.Tables.{Tables, open_to}
 use Rattle.qs_machine.specs.Ends.{End, is_own, is_own_by, is_uni, role_bit, opens}
 use Rattle.qs_machine.specs.Due.{known_count}
-use Rattle.qs_machine.specs.Owner.{own_kind, opened_count, next_stream}
+use Rattle.qs_machine.specs.Owner.{own_type, opened_count, next_stream}
 use Rattle.qs_machine.proofs.TableLaws.{lookup_open, open_lower, open_at}
 use Rattle.qs_runs.specs.Pasts.{Past}
 use Rattle.qs_runs.specs.Invariant.{EndOk, is_open}
@@ -42,16 +42,16 @@ kind_is_uni Server Bidi = refl
 kind_is_uni Server Uni = refl
 
 pub next_own : (e : End) (d : Dir) → is_own e (next_stream e d) ≡ true
-next_own e Bidi = rw ((kinds e.role Bidi (opened_count e (own_kind e Bidi))).0) (kind_is_own e.role Bidi)
-next_own e Uni = rw ((kinds e.role Uni (opened_count e (own_kind e Uni))).0) (kind_is_own e.role Uni)
+next_own e Bidi = rw ((kinds e.role Bidi (opened_count e (own_type e Bidi))).0) (kind_is_own e.role Bidi)
+next_own e Uni = rw ((kinds e.role Uni (opened_count e (own_type e Uni))).0) (kind_is_own e.role Uni)
 
 count_below : (r : Role) (d : Dir) (c uni bidi : ℕ) → c < (if is_uni_dir d then uni else bidi) → (c * 4 + kind_by r d) / 4 < (if nat_le 2 ((c * 4 + kind_by r d) % 4) then uni else bidi)
 count_below r d c uni bidi lt = rw ((kinds r d c).1, (kinds r d c).0, kind_is_uni r d) lt
 
 -- the next stream is below the peer's count
-pub next_below : (e : End) (d : Dir) → opened_count e (own_kind e d) < known_count e d → next_stream e d / 4 < (if is_uni (next_stream e d) then e.known_uni else e.known_bidi)
-next_below e Bidi lt = count_below e.role Bidi (opened_count e (own_kind e Bidi)) e.known_uni e.known_bidi lt
-next_below e Uni lt = count_below e.role Uni (opened_count e (own_kind e Uni)) e.known_uni e.known_bidi lt
+pub next_below : (e : End) (d : Dir) → opened_count e (own_type e d) < known_count e d → next_stream e d / 4 < (if is_uni (next_stream e d) then e.known_uni else e.known_bidi)
+next_below e Bidi lt = count_below e.role Bidi (opened_count e (own_type e Bidi)) e.known_uni e.known_bidi lt
+next_below e Uni lt = count_below e.role Uni (opened_count e (own_type e Uni)) e.known_uni e.known_bidi lt
 
 module _ (p : Past) (e : End) (n : ℕ) (ok : EndOk p e) (own : is_own e n ≡ true) (below : n / 4 < (if is_uni n then e.known_uni else e.known_bidi)) where
   own_cases : {X : Type 0} (t : Tables X) (begin : ℕ → X) (b : Bool) (m : ℕ) → is_open (if b then t else open_to t n begin) m ≡ true → (is_open t m ≡ true) ⊎ ((b ≡ false) × (m % 4 ≡ n % 4) × (m ≤ n))
