@@ -14,7 +14,7 @@ use Rattle.qs_send.specs.declared.parts.Reset.{Reset}
 use Rattle.qs_send.specs.declared.piece.Piece.TheVariants.{Data}
 use Rattle.qs_send.proofs.Packets.{cut_chunk_is_last, sendable_has_chunk, sendable_end_has_chunk}
 use Rattle.qs_recv.specs.Lane.{RecvLane}
-use Rattle.qs_conn.specs.declared.terms.Terms.{Terms}
+use Rattle.qs_conn.specs.declared.limits.Limits.{Limits}
 use Rattle.qs_machine.specs.Tables.{Tables, lookup, update, updated, total}
 use Rattle.qs_machine.specs.Ends.{End, send_lane, on_send}
 use Rattle.qs_machine.specs.Credit.{all_sent}
@@ -41,7 +41,7 @@ not_reset : (s : Sending) → IsLawful s → (o : Option Reset) → s.lane.was_r
 not_reset s lawful None is never = is
 not_reset s lawful (Some r) is never = absurd (never (ap is_some is))
 
-pub ties_of : (t : Terms) (recvs : Tables RecvLane) (o : Outgoing) (e : End) (n : ℕ) (s : Sending) → HasSending o n s → Ties (end_by t recvs o e) n s
+pub ties_of : (t : Limits) (recvs : Tables RecvLane) (o : Outgoing) (e : End) (n : ℕ) (s : Sending) → HasSending o n s → Ties (end_by t recvs o e) n s
 ties_of t recvs o e n s h =
     record {
       lane = h.lane;

@@ -21,7 +21,7 @@ use Rattle.qs_send.proofs.Canonical.{frame_len_is_canonical}
 use Rattle.qs_send.proofs.Held.{held_by_room_or_limits}
 use Rattle.qs_ranges.specs.Numbers.{MAX_VARINT, same_numbers}
 use Rattle.qs_recv.specs.Lane.{RecvLane}
-use Rattle.qs_conn.specs.declared.terms.Terms.{Terms}
+use Rattle.qs_conn.specs.declared.limits.Limits.{Limits}
 use Rattle.qs_machine.specs.Outgoing.{Outgoing, HasSending, chunk_put, on_lane, sent_sum}
 use Rattle.qs_machine.specs.Sums.{or_none}
 use Rattle.qs_machine.proofs.TableLaws.{lookup_same, lookup_other, total_update}
@@ -322,14 +322,14 @@ flow_packed first delay room old text e false f =
 
 -- Over the parts of an end
 
-pub end_chunk : (t : Terms) (recvs : Tables RecvLane) (o : Outgoing) (e : End) (n : ℕ) (c : Chunk) (bytes : List ℕ) → length bytes ≡ c.len → end_by t recvs (chunk_put n c o) e ≡ frame_put (Stream n c.offset bytes c.fin) (end_by t recvs o e)
+pub end_chunk : (t : Limits) (recvs : Tables RecvLane) (o : Outgoing) (e : End) (n : ℕ) (c : Chunk) (bytes : List ℕ) → length bytes ≡ c.len → end_by t recvs (chunk_put n c o) e ≡ frame_put (Stream n c.offset bytes c.fin) (end_by t recvs o e)
 unfolding frame_put
 end_chunk t recvs o e n c bytes count = ap (λ k. end_by t recvs (chunk_put n (record { offset = c.offset; len = k; fin = c.fin }) o) e) (sym count)
 
 lane_there : (o : Outgoing) (n : ℕ) (s : Sending) → HasSending o n s → or_none (lookup o.sends n) ≡ s.lane
 lane_there o n s h = ap or_none h.lane
 
-pub chunking_put : (around : Bool) (first : ℕ) (t : Terms) (recvs : Tables RecvLane) (o : Outgoing) (e : End) (delay room : ℕ) (old : End) (before after : List ℕ) (len end n : ℕ) (c : Chunk) (left fresh : ℕ) (s : Sending) →
+pub chunking_put : (around : Bool) (first : ℕ) (t : Limits) (recvs : Tables RecvLane) (o : Outgoing) (e : End) (delay room : ℕ) (old : End) (before after : List ℕ) (len end n : ℕ) (c : Chunk) (left fresh : ℕ) (s : Sending) →
     HasSending o n s → IsNextChunk s left fresh c → HasBytes s.lane c → len ≤ length before → room ≡ length before → left ≡ length before - len → fresh ≡ t.known_data - sent_sum o.sends →
     length (bytes_of (or_none (lookup o.sends n)) c) ≡ c.len → take end after ≡ take len before ++ canonical (stream_frame o n c) →
     Chunking delay room old (take len before) (end_by t recvs o e) around first n → Chunking delay room old (take end after) (end_by t recvs (chunk_put n c o) e) around first n
@@ -358,7 +358,7 @@ one_half e n s s' t t' = same_parts s s' lane offsets fin
     same_parts : (a b : Sending) → a.lane ≡ b.lane → a.due.offsets ≡ b.due.offsets → a.due.fin ≡ b.due.fin → a ≡ b
     same_parts a b lane offsets fin = λ i. record { lane = lane i; due = record { offsets = offsets i; fin = fin i } }
 
-pub flow_ends : (around : Bool) (first : ℕ) (t : Terms) (recvs : Tables RecvLane) (o : Outgoing) (e : End) (delay room : ℕ) (old : End) (before : List ℕ) (len n left fresh : ℕ) (s s' : Sending) (full : Bool) →
+pub flow_ends : (around : Bool) (first : ℕ) (t : Limits) (recvs : Tables RecvLane) (o : Outgoing) (e : End) (delay room : ℕ) (old : End) (before : List ℕ) (len n left fresh : ℕ) (s s' : Sending) (full : Bool) →
     HasSending o n s → HasNoChunk s left fresh → HasSending o n s' → IsTrue full ↔ IsHeldByRoom s' left fresh → len ≤ length before → room ≡ length before → left ≡ length before - len → fresh ≡ t.known_data - sent_sum o.sends →
     Chunking delay room old (take len before) (end_by t recvs o e) around first n → Flow delay room old (take len before) (end_by t recvs o e) full (turn_at around first (n + 1))
 flow_ends around first t recvs o e delay room old before len n left fresh s s' full h none h' held within at left_is fresh_is k = go full refl

@@ -5,7 +5,7 @@ use Rattle.std.proofs.lemmas.Bool.{cases_lt, both_ways}
 use Rattle.std.proofs.lemmas.Option.{none-some, same_Some}
 use Rattle.qs_machine.specs.News.{IsLeast, IsHeld}
 use Rattle.qs_machine.specs.Sums.{tables_of}
-use Rattle.qs_machine.specs.Tables.{Tables, kind_of}
+use Rattle.qs_machine.specs.Tables.{Tables, type_of}
 use Rattle.qs_machine.proofs.TableEdits.{lookup_is}
 use Rattle.qs_conn.specs.Marks.{is_marked, AreMarked, IsBefore, IsNextMark, IsAt, IsHeldOf, least_of}
 use Rattle.qs_conn.proofs.Marked.{mark_past, marked_len, unmarked_at, least_has}
@@ -92,7 +92,7 @@ least_two P Q R from a b left right parts p q = least_by R from (least_of a b) (
 
 -- Streams
 
-index_from : (n k from first : ℕ) → k < 4 → first ≡ (from + 3 - k) / 4 → kind_of n ≡ k → from ≤ n → first ≤ n / 4
+index_from : (n k from first : ℕ) → k < 4 → first ≡ (from + 3 - k) / 4 → type_of n ≡ k → from ≤ n → first ≤ n / 4
 index_from n k from first small is kind ge = omega (arith, small, is, kind, ge)
 
 part_of : {X : Type 0} (R : X → Type 0) (ls : List (List X)) (k n : ℕ) (d : List X) → length ls ≡ 4 → IsHeldOf R (tables_of ls) k n → IsAt R (get_or ls k d) (n / 4)
@@ -113,13 +113,13 @@ kind_some R ls k from first i d len small is h =
         let f = h.found i refl in
         let ge = f.0 in
         let p = f.1 in
-        let kind : kind_of n ≡ k = omega (arith, at, small) in
+        let kind : type_of n ≡ k = omega (arith, at, small) in
         let index : i ≡ n / 4 = omega (arith, at, small) in
         (omega (arith, at, ge, is, small), (kind, (p.0, lookup_is ls n k i d len (sym kind) index ∙ p.1, p.2)))
 
 -- of all four types
 abbrev OfKind : (ℕ → Type 0) → ℕ → ℕ → Type 0
-OfKind P k n = (kind_of n ≡ k) × P n
+OfKind P k n = (type_of n ≡ k) × P n
 
 pub kinds_four : (P : ℕ → Type 0) (from : ℕ) (a b c d : Option ℕ) → IsLeast (OfKind P 0) from a → IsLeast (OfKind P 1) from b → IsLeast (OfKind P 2) from c → IsLeast (OfKind P 3) from d → IsLeast P from (least_of (least_of a b) (least_of c d))
 kinds_four P from a b c d p q r s =

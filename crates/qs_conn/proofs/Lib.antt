@@ -14,6 +14,7 @@ pub mod Items
 pub mod Kept
 pub mod LaneEdits
 pub mod MadePackets
+pub mod Halves
 pub mod Helds
 pub mod Indexed
 pub mod ItemOrders

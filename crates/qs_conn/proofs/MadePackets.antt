@@ -7,7 +7,7 @@ use Rattle.std.specs.FinMap as fmap
 use Rattle.qs_ranges.specs.Numbers.{MAX_VARINT}
 use Rattle.qs_send.specs.declared.piece.Piece.{Piece}
 use Rattle.qs_calls.specs.declared.making.MakeFault.TheVariants as making
-use Rattle.qs_conn.specs.declared.terms.Terms.{Terms}
+use Rattle.qs_conn.specs.declared.limits.Limits.{Limits}
 use Rattle.qs_machine.specs.Ends.{End}
 use Rattle.qs_machine.specs.Credit.{settle}
 use Rattle.qs_machine.specs.Seen.{Seen, seen_all}
@@ -45,14 +45,14 @@ fills_next : (old e mid : End) (fs : List Seen) → Fills old e fs mid → mid.n
 fills_next old e mid [] is = ap (λ (x : End). x.next) is
 fills_next old e mid (f ∷ fs) (may, rest) = fills_next old (frame_put f e) mid fs rest ∙ put_next f e
 
-abbrev pub terms_of : End → Terms
-terms_of v = record { role = v.role; settings = v.settings; granted = v.granted; granted_bidi = v.granted_bidi; granted_uni = v.granted_uni; known_data = v.known_data; known_bidi = v.known_bidi; known_uni = v.known_uni; wanted_bidi = v.wanted_bidi; wanted_uni = v.wanted_uni }
+abbrev pub limits_of : End → Limits
+limits_of v = record { role = v.role; settings = v.settings; granted = v.granted; granted_bidi = v.granted_bidi; granted_uni = v.granted_uni; known_data = v.known_data; known_bidi = v.known_bidi; known_uni = v.known_uni; wanted_bidi = v.wanted_bidi; wanted_uni = v.wanted_uni }
 
 abbrev pub outgoing_of : ℕ → End → Outgoing
 outgoing_of spare v = record { sends = v.sends; next = v.next; outstanding = v.outstanding; lost = v.lost; acked = v.acked; spare = spare }
 
 -- the call filled a packet
-module _ (v old : End) (same : v ≡ old) (t : Terms) (o o' : Outgoing) (spare first delay room len : ℕ) (out : List ℕ) (idle : fmap.get v.outstanding v.next ≡ None) (t_is : t ≡ terms_of v) (o_is : o ≡ outgoing_of spare v)
+module _ (v old : End) (same : v ≡ old) (t : Limits) (o o' : Outgoing) (spare first delay room len : ℕ) (out : List ℕ) (idle : fmap.get v.outstanding v.next ≡ None) (t_is : t ≡ limits_of v) (o_is : o ≡ outgoing_of spare v)
     (marks : Tables Bool) (told : IsTold v marks)
     (fills : (x : End) → end_by t v.recvs o x ≡ x → x.done ≡ v.done → x.ack_due ≡ v.ack_due → ((p : Piece) → InPacket x p → ⊥) → IsTold x marks → Packed first delay room x (take len out) (end_by t v.recvs o' (record x { ack_due = false }))) where
   abbrev pub filled : End
@@ -68,7 +68,7 @@ module _ (v old : End) (same : v ≡ old) (t : Terms) (o o' : Outgoing) (spare f
   filled_next = fills_next v v filled (seen_all packed.frames) packed.fills
 
   pub filled_credit : sent_sum o'.sends ≤ v.known_data
-  filled_credit = (let known : t.known_data ≡ v.known_data = ap (λ (x : Terms). x.known_data) t_is in omega (arith, known, packed.within))
+  filled_credit = (let known : t.known_data ≡ v.known_data = ap (λ (x : Limits). x.known_data) t_is in omega (arith, known, packed.within))
 
   pub filled_counted : (role : Role) (c : EndedStreams) → AreAllCounted role v.recvs v.sends c → AreAllCounted role v.recvs o'.sends c
   filled_counted role c h = fills_counted role v v filled (seen_all packed.frames) c packed.fills h
@@ -76,7 +76,7 @@ module _ (v old : End) (same : v ≡ old) (t : Terms) (o o' : Outgoing) (spare f
   -- what was told before stays so, whichever marks go then
   pub filled_told : (marks' : Tables Bool) → ((e : End) → IsTold (end_by t v.recvs o' e) marks → IsTold (end_by t v.recvs o' e) marks') → AreTold v.role v.settings v.recvs o'.outstanding o'.acked marks'
   filled_told marks' unmarks =
-      subst (λ (x : Terms). AreTold x.role x.settings v.recvs o'.outstanding o'.acked marks') t_is (unmarks (record v { ack_due = false }) (fills_told v v filled (seen_all packed.frames) marks packed.fills told))
+      subst (λ (x : Limits). AreTold x.role x.settings v.recvs o'.outstanding o'.acked marks') t_is (unmarks (record v { ack_due = false }) (fills_told v v filled (seen_all packed.frames) marks packed.fills told))
 
   none_is : 25 ≤ room → len ≡ 0 → (Sendable v → ⊥) × (filled ≡ v)
   none_is enough none = packed_none first delay room v (take len out) filled packed enough (ap (λ k. take k out) none)

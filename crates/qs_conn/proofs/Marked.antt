@@ -12,7 +12,7 @@ use Rattle.std.specs.Result.{OnOk, OnErr}
 use Rattle.qs_conn.specs.Untold.{IsClear}
 use Rattle.qs_conn.specs.Marks.{is_marked, AreMarked, IsBefore, IsNextMark, HaveTo, least_of}
 use Rattle.qs_machine.specs.Sums.{tables_of}
-use Rattle.qs_machine.specs.Tables.{Tables, kind_of, lookup, widened}
+use Rattle.qs_machine.specs.Tables.{Tables, type_of, lookup, widened}
 use Rattle.qs_machine.proofs.TableEdits.{lookup_is}
 
 pub mark_past : (ms : List Bool) (i : ℕ) → length ms ≤ i → is_marked ms i ≡ false
@@ -199,8 +199,8 @@ least_has P None b p q = q
 least_has P (Some a) None p q = p
 least_has P (Some a) (Some b) p q = elim (cases_lt a b) [ inl lt ↦ (let e : min a b ≡ a = omega (arith, lt) in subst P (sym e) p) | inr ge ↦ (let e : min a b ≡ b = omega (arith, ge) in subst P (sym e) q) ]
 
-pub by_kinds : {X : Type 0} (P : ℕ → X → Type 0) (t : Tables X) (from : ℕ) (a b c d answer : Option ℕ) → ((n : ℕ) (x : X) → kind_of n ≡ 0 → from ≤ n → IsBefore n a → lookup t n ≡ Some x → P n x) → ((n : ℕ) (x : X) → kind_of n ≡ 1 → from ≤ n → IsBefore n b → lookup t n ≡ Some x → P n x)
-    → ((n : ℕ) (x : X) → kind_of n ≡ 2 → from ≤ n → IsBefore n c → lookup t n ≡ Some x → P n x) → ((n : ℕ) (x : X) → kind_of n ≡ 3 → from ≤ n → IsBefore n d → lookup t n ≡ Some x → P n x) → answer ≡ least_of (least_of a b) (least_of c d)
+pub by_kinds : {X : Type 0} (P : ℕ → X → Type 0) (t : Tables X) (from : ℕ) (a b c d answer : Option ℕ) → ((n : ℕ) (x : X) → type_of n ≡ 0 → from ≤ n → IsBefore n a → lookup t n ≡ Some x → P n x) → ((n : ℕ) (x : X) → type_of n ≡ 1 → from ≤ n → IsBefore n b → lookup t n ≡ Some x → P n x)
+    → ((n : ℕ) (x : X) → type_of n ≡ 2 → from ≤ n → IsBefore n c → lookup t n ≡ Some x → P n x) → ((n : ℕ) (x : X) → type_of n ≡ 3 → from ≤ n → IsBefore n d → lookup t n ≡ Some x → P n x) → answer ≡ least_of (least_of a b) (least_of c d)
     → (n : ℕ) (x : X) → from ≤ n → IsBefore n answer → lookup t n ≡ Some x → P n x
 by_kinds P t from a b c d answer qa qb qc qd is n x le before at = go (n % 4) refl (omega arith)
   where

@@ -4,7 +4,7 @@ use Rattle.std.proofs.lemmas.Bool.{both_ways, true≢false, cases_lt}
 use Rattle.std.proofs.lemmas.Bool.Decides.{nat_tests}
 use Rattle.std.proofs.lemmas.Option.{none-some, same_Some}
 use Rattle.qs_send.specs.Lane.{Sending}
-use Rattle.qs_machine.specs.Tables.{Tables, kind_of, lookup}
+use Rattle.qs_machine.specs.Tables.{Tables, type_of, lookup}
 use Rattle.qs_machine.specs.Ends.{End, role_bit, is_uni, is_own}
 use Rattle.qs_machine.specs.News.{IsLeast}
 use Rattle.qs_machine.specs.Outgoing.{Outgoing, lanes_of}
@@ -33,7 +33,7 @@ sent_least v o t k from r same lanes h = subst (λ (x : Outgoing). IsLeast (IsHe
         let (s, there, is) = half_of_lane t n l (ap (λ x. lookup x n) lanes ∙ at) in
         h.least n ge (kind, (s, there, subst HasSent (sym is) over))
 
-uni_is : (n k : ℕ) (b : Bool) → kind_of n ≡ k → nat_le 2 k ≡ b → is_uni n ≡ b
+uni_is : (n k : ℕ) (b : Bool) → type_of n ≡ k → nat_le 2 k ≡ b → is_uni n ≡ b
 uni_is n k b kind is = ap (nat_le 2) kind ∙ is
 
 bidi_below : (k : ℕ) → k < 2 → nat_le 2 k ≡ false
@@ -114,7 +114,7 @@ test_false a b apart = go (a == b) refl
     go true is = absurd (apart (grind (arith, nat_tests, is)))
 
 module _ (e : End) (k from : ℕ) (r : Option ℕ) (ge2 : 2 ≤ k) (lt4 : k < 4) where
-  own_is : (n : ℕ) (b : Bool) → kind_of n ≡ k → (k % 2 == role_bit e.role) ≡ b → is_own e n ≡ b
+  own_is : (n : ℕ) (b : Bool) → type_of n ≡ k → (k % 2 == role_bit e.role) ≡ b → is_own e n ≡ b
   own_is n b kind is = ap (λ j. j % 2 == role_bit e.role) kind ∙ is
 
   pub own_least : k % 2 ≡ role_bit e.role → IsLeast (IsHeldOf HasSent e.sends k) from r → IsLeast (IsEndedOf e k) from r

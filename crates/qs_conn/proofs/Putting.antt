@@ -8,7 +8,7 @@ use Rattle.qs_send.specs.declared.piece.Item.{Item}
 use Rattle.qs_send.specs.declared.piece.Item.TheVariants.{MaxData, MaxStreamData, MaxStreams, ResetStream, StopSending, DataBlocked, StreamDataBlocked, StreamsBlocked}
 use Rattle.qs_conn.specs.declared.slot.Slot.{Slot}
 use Rattle.qs_conn.specs.declared.slot.Kind.{Kind}
-use Rattle.qs_conn.specs.declared.terms.Terms.{Terms}
+use Rattle.qs_conn.specs.declared.limits.Limits.{Limits}
 use Rattle.qs_send.specs.Lane.{SendLane, blocked_lane}
 use Rattle.qs_machine.proofs.TableLaws.{total_update}
 use Rattle.qs_machine.specs.Tables.{Tables, lookup, updated}
@@ -50,7 +50,7 @@ pub stage_covered : (delay room : ℕ) (old : End) (text : List ℕ) (e : End) (
 stage_covered delay room old text e true P s i c covered b = b
 stage_covered delay room old text e false P s i c covered b = slot_covered delay room old text e (IsPassed P) s i c b covered
 
-pub stage_put : (delay room : ℕ) (old : End) (t : Terms) (recvs : Tables RecvLane) (o new : Outgoing) (e : End) (before after : List ℕ) (len end : ℕ) (b full : Bool) (P : Passed) (s : Slot) (i : Item) →
+pub stage_put : (delay room : ℕ) (old : End) (t : Limits) (recvs : Tables RecvLane) (o new : Outgoing) (e : End) (before after : List ℕ) (len end : ℕ) (b full : Bool) (P : Passed) (s : Slot) (i : Item) →
     b ≡ false → room ≡ length before → len ≤ length before → IsCurrentIn (end_by t recvs o e) s (Some i) → (IsCovered (end_by t recvs o e) i → ⊥) → Fits (frame_of_item i) → PutsItem i before len o after end new full →
     Stage delay room old (take len before) (end_by t recvs o e) b P → Stage delay room old (take end after) (end_by t recvs new e) full (and_slot P s)
 stage_put delay room old t recvs o new e before after len end true full P s i is at le c free fits puts st = absurd (true≢false is)

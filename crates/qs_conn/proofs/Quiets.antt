@@ -9,10 +9,10 @@ use Rattle.qs_send.specs.declared.piece.Item.TheVariants.{ResetStream}
 use Rattle.qs_conn.specs.declared.slot.Slot.TheVariants as slots
 use Rattle.qs_conn.specs.declared.slot.Kind.{Kind}
 use Rattle.qs_conn.specs.declared.slot.Kind.TheVariants as kinds
-use Rattle.qs_conn.specs.declared.terms.Terms.{Terms}
+use Rattle.qs_conn.specs.declared.limits.Limits.{Limits}
 use Rattle.qs_calls.specs.declared.settings.Settings.{Settings}
 use Rattle.qs_wire.specs.declared.stream_id.Role.{Role}
-use Rattle.qs_machine.specs.Tables.{Tables, kind_of, lookup}
+use Rattle.qs_machine.specs.Tables.{Tables, type_of, lookup}
 use Rattle.qs_machine.specs.Ends.{End, window_by, role_bit}
 use Rattle.qs_machine.specs.Due.{IsCurrent, IsCovered, IsDue, IsEndDue, StreamGoes}
 use Rattle.qs_machine.specs.Outgoing.{Outgoing, IsTied, IsBlockedAt, WantsMore, lanes_of}
@@ -51,7 +51,7 @@ module _ (o : Outgoing) (n : ℕ) (q : IsQuietAt tasks.Bytes o n) where
           let sent : s.lane.written ≤ s.lane.sent_end = quiet.sent (ap (λ x. x.was_reset) is ∙ none) (omega (arith, below, same, limit)) in
           omega (arith, more, sent, same, all)
 
-  pub no_goes : (t : Terms) (recvs : Tables RecvLane) (e : End) → StreamGoes (end_by t recvs o e) n → ⊥
+  pub no_goes : (t : Limits) (recvs : Tables RecvLane) (e : End) → StreamGoes (end_by t recvs o e) n → ⊥
   no_goes t recvs e (l, at, inl (k, due, below, credit)) =
       let (s, is, tied, quiet) = q l at in
       let there = end_by t recvs o e in
@@ -62,7 +62,7 @@ module _ (o : Outgoing) (n : ℕ) (q : IsQuietAt tasks.Bytes o n) where
       let there = end_by t recvs o e in
       both_ways s.due.fin (quiet.no_end (ap (λ x. x.sent_end) is ∙ whole ∙ ap (λ x. x.written) (sym is))) (is_end_due there n s tied (subst (IsEndDue there n) (sym is) due))
 
-module _ (o : Outgoing) (n : ℕ) (t : Terms) (recvs : Tables RecvLane) (e : End) where
+module _ (o : Outgoing) (n : ℕ) (t : Limits) (recvs : Tables RecvLane) (e : End) where
   abbrev pub there : End
   there = end_by t recvs o e
 
@@ -91,5 +91,5 @@ pub none_wants : (o : Outgoing) (from : ℕ) → ((n : ℕ) → n < from → Wan
 none_wants o from below quiet (n, w) = elim (cases_lt n from) [ inl before ↦ below n before w | inr ge ↦ no_wants o n (quiet n ge) w ]
 
 -- the window is that of the type
-pub window_same : (r : Role) (s : Settings) (n k : ℕ) → kind_of n ≡ k → k < 4 → window_by r s k ≡ window_by r s n
-window_same r s n k is small = let same : kind_of k ≡ kind_of n = omega (arith, is, small) in ap (λ j. if nat_le 2 j then s.uni else (if j % 2 == role_bit r then s.bidi_local else s.bidi_remote)) same
+pub window_same : (r : Role) (s : Settings) (n k : ℕ) → type_of n ≡ k → k < 4 → window_by r s k ≡ window_by r s n
+window_same r s n k is small = let same : type_of k ≡ type_of n = omega (arith, is, small) in ap (λ j. if nat_le 2 j then s.uni else (if j % 2 == role_bit r then s.bidi_local else s.bidi_remote)) same

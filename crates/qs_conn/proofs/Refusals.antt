@@ -1,5 +1,5 @@
 -- What is so of a frame that ends the processing of its payload, and of one that doesn't.
-use Rattle.std.proofs.Common.{◌≡◌, ℕ, ◌<◌, ◌^◌, Bool, true, false, Option, Some, None, Result, Ok, Err, length, arith, rules, cond, subst}
+use Rattle.std.proofs.Common.{◌≡◌, ℕ, ◌<◌, ◌^◌, Bool, true, false, Option, Some, None, Result, Ok, Err, length, arith, cond, subst}
 use Rattle.std.specs.Prelude.{⊤}
 use Rattle.qs_send.specs.declared.piece.Item.TheVariants.{MaxData, MaxStreamData, MaxStreams, ResetStream, StopSending, DataBlocked, StreamDataBlocked, StreamsBlocked}
 use Rattle.qs_recv.specs.Lane.{check_stream, check_bytes}
@@ -11,8 +11,7 @@ use Rattle.qs_calls.specs.declared.closing.Received.TheVariants as received
 use Rattle.qs_machine.specs.Ends.{End, is_own, is_uni}
 use Rattle.qs_machine.specs.Seen.{Seen, Ack, Stream, Control, Close, Plain}
 use Rattle.qs_machine.specs.Verdicts.{STREAM_LIMIT_ERROR, STREAM_STATE_ERROR, verdict, or_else, fault_if, state_fault_in, state_fault_out, credit_fault, bytes_fault, fault_code, fault_of, lane_of}
-use Rattle.qs_machine.specs.Receiving.{Stops, RunsOut}
-use Rattle.qs_conn.specs.Layers.{close_code}
+use Rattle.qs_machine.specs.Receiving.{Stops, GoesOn, RunsOut}
 
 -- A code with which a frame may close the connection.
 abbrev Small : Option ℕ → Type 0
@@ -75,9 +74,9 @@ pub code_fits : (e : End) (f : Seen) (code : ℕ) → verdict e f ≡ Some code 
 code_fits e f code is = subst Small is (small e f)
 
 -- a frame that found no memory ends the processing
-pub runs_out : (p : PlacedValue) (f : Seen) (e new : End) → close_code f ≡ None → verdict e f ≡ None → RunsOut e f new → Stops p f e (Ok received.NoMemory) new
-runs_out p (Ack largest ranges) e new goes passed is = (passed, is)
-runs_out p (Stream n offset bytes fin) e new goes passed is = (passed, is)
-runs_out p (Control item) e new goes passed is = (passed, is)
-runs_out p (Close code) e new goes passed is = absurd (search (rules, goes))
-runs_out p (Plain asks) e new goes passed is = (passed, is)
+pub runs_out : (p : PlacedValue) (f : Seen) (e new : End) → GoesOn e f → RunsOut e f new → Stops p f e (Ok received.NoMemory) new
+runs_out p (Ack largest ranges) e new goes is = (goes, is)
+runs_out p (Stream n offset bytes fin) e new goes is = (goes, is)
+runs_out p (Control item) e new goes is = (goes, is)
+runs_out p (Close code) e new goes is = absurd goes
+runs_out p (Plain asks) e new goes is = (goes, is)

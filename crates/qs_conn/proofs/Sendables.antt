@@ -11,7 +11,7 @@ use Rattle.qs_send.specs.declared.piece.Item.TheVariants.{MaxData, MaxStreamData
 use Rattle.qs_conn.specs.Untold.{IsTold}
 use Rattle.qs_conn.specs.declared.slot.Slot.{Slot}
 use Rattle.qs_conn.specs.declared.slot.Kind.{Kind}
-use Rattle.qs_conn.specs.declared.terms.Terms.{Terms}
+use Rattle.qs_conn.specs.declared.limits.Limits.{Limits}
 use Rattle.qs_machine.specs.Tables.{Tables, lookup}
 use Rattle.qs_machine.specs.Ends.{End}
 use Rattle.qs_machine.specs.Due.{IsCovered, StreamGoes, Sendable}
@@ -22,7 +22,7 @@ use Rattle.qs_conn.specs.Filling.{end_by, slot_of, slot_at, IsCurrentIn, Passed,
 use Rattle.qs_conn.specs.Marks.{IsIdle}
 use Rattle.qs_conn.specs.Sending.{TellsDue, TellsGoing, TellsAnyGoing, TellsFrame}
 use Rattle.qs_conn.proofs.Chunks.{ties_of, none_goes, chunk_goes}
-use Rattle.qs_conn.proofs.MadePackets.{terms_of}
+use Rattle.qs_conn.proofs.MadePackets.{limits_of}
 
 -- Control items
 
@@ -85,7 +85,7 @@ pub going_absent : (e : End) (n : ℕ) (b : Bool) → b ≡ is_some (lookup e.se
 going_absent e n true is none = absurd (true≢false none)
 going_absent e n false is none = λ goes. true≢false (sym (is ∙ ap is_some goes.1))
 
-pub going_found : (t : Terms) (recvs : Tables RecvLane) (o : Outgoing) (e : End) (n : ℕ) (s : Sending) (fresh : ℕ) (found : Option Chunk) → HasSending o n s → fresh ≡ t.known_data - sent_sum o.sends → sent_sum o.sends ≤ t.known_data → ChunkFound s 25 fresh found
+pub going_found : (t : Limits) (recvs : Tables RecvLane) (o : Outgoing) (e : End) (n : ℕ) (s : Sending) (fresh : ℕ) (found : Option Chunk) → HasSending o n s → fresh ≡ t.known_data - sent_sum o.sends → sent_sum o.sends ≤ t.known_data → ChunkFound s 25 fresh found
     → TellsGoing (is_some found) (end_by t recvs o e) n
 going_found t recvs o e n s fresh None h is credit none = none_goes (end_by t recvs o e) n s 25 (ties_of t recvs o e n s h) (omega arith) credit (subst (HasNoChunk s 25) is none)
 going_found t recvs o e n s fresh (Some c) h is credit next = chunk_goes (end_by t recvs o e) n s (ties_of t recvs o e n s h) c next.0.allowed.chunk (omega (arith, next.0.allowed.within_credit, is, credit))
@@ -128,11 +128,11 @@ frame_stream e false false is none goes = λ some. elim some [ inl (i, due) ↦ 
 pub sendable_due : (v old : End) → v ≡ old → v.ack_due ≡ true → IsTrue true ↔ Sendable old
 sendable_due v old same due = ((λ h. inl (ap (λ (e : End). e.ack_due) (sym same) ∙ due)), (λ h. refl))
 
-pub sendable_frame : (v old : End) (t : Terms) (o : Outgoing) (b : Bool) (marks : Tables Bool) → v ≡ old → v.ack_due ≡ false → t ≡ terms_of old → with_outgoing o v ≡ v → IsTold v marks → ((e : End) → IsTold (end_by t v.recvs o e) marks → TellsFrame b (end_by t v.recvs o e)) → IsTrue b ↔ Sendable old
+pub sendable_frame : (v old : End) (t : Limits) (o : Outgoing) (b : Bool) (marks : Tables Bool) → v ≡ old → v.ack_due ≡ false → t ≡ limits_of old → with_outgoing o v ≡ v → IsTold v marks → ((e : End) → IsTold (end_by t v.recvs o e) marks → TellsFrame b (end_by t v.recvs o e)) → IsTrue b ↔ Sendable old
 sendable_frame v old t o b marks same due is out told tells = subst (λ e. IsTrue b ↔ Sendable e) same (go b (subst (TellsFrame b) parts (tells v (subst (λ (e : End). IsTold e marks) (sym parts) told))))
   where
     parts : end_by t v.recvs o v ≡ v
-    parts = ap (λ (x : Terms). end_by x v.recvs o v) (is ∙ ap terms_of (sym same)) ∙ out
+    parts = ap (λ (x : Limits). end_by x v.recvs o v) (is ∙ ap limits_of (sym same)) ∙ out
 
     go : (c : Bool) → TellsFrame c v → IsTrue c ↔ Sendable v
     go true some = ((λ h. inr some), (λ h. refl))
@@ -143,11 +143,11 @@ sendable_frame v old t o b marks same due is out told tells = subst (λ e. IsTru
 pub beside_closed : (v old : End) → v ≡ old → is_some v.closed ≡ true → IsTrue false ↔ GoesBesideAck old
 beside_closed v old same closed = ((λ h. absurd (both_ways false refl h)), (λ goes. absurd (true≢false (sym closed ∙ ap (λ (e : End). is_some e.closed) same ∙ ap is_some goes.0))))
 
-pub beside_frame : (v old : End) (t : Terms) (o : Outgoing) (b : Bool) (marks : Tables Bool) → v ≡ old → is_some v.closed ≡ false → t ≡ terms_of old → with_outgoing o v ≡ v → IsTold v marks → ((e : End) → IsTold (end_by t v.recvs o e) marks → TellsFrame b (end_by t v.recvs o e)) → IsTrue b ↔ GoesBesideAck old
+pub beside_frame : (v old : End) (t : Limits) (o : Outgoing) (b : Bool) (marks : Tables Bool) → v ≡ old → is_some v.closed ≡ false → t ≡ limits_of old → with_outgoing o v ≡ v → IsTold v marks → ((e : End) → IsTold (end_by t v.recvs o e) marks → TellsFrame b (end_by t v.recvs o e)) → IsTrue b ↔ GoesBesideAck old
 beside_frame v old t o b marks same open_still is out told tells = subst (λ e. IsTrue b ↔ GoesBesideAck e) same (go b (subst (TellsFrame b) parts (tells v (subst (λ (e : End). IsTold e marks) (sym parts) told))))
   where
     parts : end_by t v.recvs o v ≡ v
-    parts = ap (λ (x : Terms). end_by x v.recvs o v) (is ∙ ap terms_of (sym same)) ∙ out
+    parts = ap (λ (x : Limits). end_by x v.recvs o v) (is ∙ ap limits_of (sym same)) ∙ out
 
     none_of : (x : Option Closed) → is_some x ≡ false → x ≡ None
     none_of None h = refl

@@ -8,7 +8,7 @@ use Rattle.qs_send.specs.Lane.{SendLane}
 use Rattle.qs_send.specs.declared.parts.Reset.{Reset}
 use Rattle.qs_send.specs.declared.piece.Item.{Item}
 use Rattle.qs_send.specs.declared.piece.Item.TheVariants.{MaxData, MaxStreamData, MaxStreams, ResetStream, StopSending, DataBlocked, StreamDataBlocked, StreamsBlocked}
-use Rattle.qs_conn.specs.declared.terms.Terms.{Terms}
+use Rattle.qs_conn.specs.declared.limits.Limits.{Limits}
 use Rattle.qs_machine.specs.Seen.{Control}
 use Rattle.qs_machine.specs.Lawful.{frame_put}
 use Rattle.qs_conn.specs.declared.slot.Slot.TheVariants as slots
@@ -213,7 +213,7 @@ may_tell e (StreamDataBlocked n m) c = tt
 may_tell e (StreamsBlocked d m) c = tt
 
 -- what the sending side knows as acknowledged
-pub acked_out : (t : Terms) (recvs : Tables RecvLane) (o : Outgoing) (e : End) (i : Item) → IsAckedOut o i → IsAcked (end_by t recvs o e) i
+pub acked_out : (t : Limits) (recvs : Tables RecvLane) (o : Outgoing) (e : End) (i : Item) → IsAckedOut o i → IsAcked (end_by t recvs o e) i
 acked_out t recvs o e (MaxData m) a = a
 acked_out t recvs o e (MaxStreamData n m) a = a
 acked_out t recvs o e (MaxStreams Bidi m) a = a
@@ -229,7 +229,7 @@ acked_out t recvs o e (StreamDataBlocked n m) a = a
 acked_out t recvs o e (StreamsBlocked Bidi m) a = a
 acked_out t recvs o e (StreamsBlocked Uni m) a = a
 
-pub acked_in : (t : Terms) (recvs : Tables RecvLane) (o : Outgoing) (e : End) (i : Item) → IsAcked (end_by t recvs o e) i → IsAckedOut o i
+pub acked_in : (t : Limits) (recvs : Tables RecvLane) (o : Outgoing) (e : End) (i : Item) → IsAcked (end_by t recvs o e) i → IsAckedOut o i
 acked_in t recvs o e (MaxData m) a = a
 acked_in t recvs o e (MaxStreamData n m) a = a
 acked_in t recvs o e (MaxStreams Bidi m) a = a
@@ -242,7 +242,7 @@ acked_in t recvs o e (StreamsBlocked Bidi m) a = a
 acked_in t recvs o e (StreamsBlocked Uni m) a = a
 
 -- An item put by the sending side is put by the end.
-pub end_put : (t : Terms) (recvs : Tables RecvLane) (o : Outgoing) (e : End) (i : Item) → end_by t recvs (item_put_out i o) e ≡ frame_put (Control i) (end_by t recvs o e)
+pub end_put : (t : Limits) (recvs : Tables RecvLane) (o : Outgoing) (e : End) (i : Item) → end_by t recvs (item_put_out i o) e ≡ frame_put (Control i) (end_by t recvs o e)
 unfolding frame_put
 end_put t recvs o e (MaxData m) = refl
 end_put t recvs o e (MaxStreamData n m) = refl

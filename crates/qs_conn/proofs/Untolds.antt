@@ -26,7 +26,7 @@ use Rattle.std.specs.Result.{OnOk, OnErr}
 use Rattle.qs_machine.specs.Outgoing.{items_acked, with_sends}
 use Rattle.qs_send.specs.Lane.{SendLane, sent_lane}
 use Rattle.qs_conn.specs.Runs.{held_out}
-use Rattle.qs_conn.specs.declared.terms.Terms.{Terms}
+use Rattle.qs_conn.specs.declared.limits.Limits.{Limits}
 use Rattle.qs_conn.specs.declared.slot.Kind.{Kind}
 use Rattle.qs_conn.specs.declared.slot.Kind.TheVariants as kinds
 use Rattle.qs_conn.specs.declared.slot.Slot.TheVariants as slots
@@ -428,7 +428,7 @@ acked_by late (Err e) k p o new marks marks' first ok err are = marks_stay p o n
 -- A search
 
 -- where no mark is, what is current of a limit and of a stop was told
-module _ (t : Terms) (recvs : Tables RecvLane) (o : Outgoing) (e : End) (marks : Tables Bool) (n : ℕ) (h : IsTold (end_by t recvs o e) marks) (free : (b : Bool) → lookup marks n ≡ Some b → b ≡ false) where
+module _ (t : Limits) (recvs : Tables RecvLane) (o : Outgoing) (e : End) (marks : Tables Bool) (n : ℕ) (h : IsTold (end_by t recvs o e) marks) (free : (b : Bool) → lookup marks n ≡ Some b → b ≡ false) where
   there : End
   there = end_by t recvs o e
 
@@ -455,7 +455,7 @@ pub idle_covered : (e : End) (slot : Slot) (i : Item) → IsCurrentIn e slot (So
 idle_covered e slot i current covered j at is = subst (IsCovered e) (sym (current.2 j at is)) covered
 
 -- and where both are idle, no mark is needed
-pub idle_told : (t : Terms) (recvs : Tables RecvLane) (o : Outgoing) (e : End) (n : ℕ) → IsIdle (end_by t recvs o e) (slots.StopSending n) → IsIdle (end_by t recvs o e) (slots.MaxStreamData n)
+pub idle_told : (t : Limits) (recvs : Tables RecvLane) (o : Outgoing) (e : End) (n : ℕ) → IsIdle (end_by t recvs o e) (slots.StopSending n) → IsIdle (end_by t recvs o e) (slots.MaxStreamData n)
     → (l : RecvLane) → lookup recvs n ≡ Some l → HasTold (window_by t.role t.settings n) n o.outstanding o.acked l
 idle_told t recvs o e n stop limit l at = told
   where

@@ -7,22 +7,9 @@ use Rattle.std.proofs.lemmas.List.FromFn.{length-map-range_with_len, get_or-map-
 use Rattle.std.proofs.lemmas.Nat.{shr-shr, one_shl, shr_le}
 use Rattle.std.proofs.lemmas.Nat.Bits.{bit_at-zero, bit_at_above, bit_at_and, bit_at_ones, bit_at_ones_above, bit_at-lt, bit_at-trailing_zeros, bit_at_set_same, bit_at_set_other, bit_at_clear_same, bit_at_clear_other}
 use Rattle.std.proofs.lemmas.Option.{none-some, same_Some}
-use Rattle.qs_conn.specs.Marks.{is_marked, IsBefore, IsNextMark, IsNextInWord}
-use Rattle.qs_conn.specs.Words.{flag, flags, AreFlags, HasBit, IsCutAt, IsLowestBit}
-
-pub bit_set : (word bit : ℕ) → bit < 64 → HasBit word bit true (bit_or word (1 * 2 ^ bit % 2 ^ 64))
-bit_set word bit small =
-    record {
-      here = eq-eqb _ 1 (bit_at_set_same w64 word bit small);
-      others = λ i lt differs. bit_at_set_other w64 word bit small i differs;
-    }
-
-pub bit_cleared : (word bit : ℕ) → bit < 64 → HasBit word bit false (bit_and word (bit_not w64 (1 * 2 ^ bit % 2 ^ 64)))
-bit_cleared word bit small =
-    record {
-      here = rw (bit_at_clear_same w64 word bit small) refl;
-      others = λ i lt differs. bit_at_clear_other w64 word bit small i lt differs;
-    }
+use Rattle.qs_ranges.specs.Bits.{HasBit, IsBefore, IsLowestBit}
+use Rattle.qs_conn.specs.Marks.{is_marked, IsNextMark, IsNextInWord}
+use Rattle.qs_conn.specs.Words.{flag, flags, AreFlags, IsCutAt}
 
 pub bits_cut : (word bit : ℕ) → bit < 64 → IsCutAt word bit (bit_and word (1 * 2 ^ bit % 2 ^ 64 - 1))
 bits_cut word bit small =
@@ -31,43 +18,6 @@ bits_cut word bit small =
       below = λ i lt. omega (arith, bit_at_and word (2 ^ bit - 1) i, bit_at_ones bit i lt, bit_at-lt word i);
       above = λ i le. omega (arith, bit_at_and word (2 ^ bit - 1) i, bit_at_ones_above bit i le);
     }
-
--- bits of a word that was shifted
-bit_at_shifted : (word from i : ℕ) → bit_at (word / 2 ^ from) i ≡ bit_at word (from + i)
-bit_at_shifted word from i = ap (λ n. n % 2) (shr-shr word from i)
-
-pub no_bit_from : (word from : ℕ) → word / 2 ^ from ≡ 0 → IsLowestBit word from None
-no_bit_from word from none =
-    record {
-      found = λ n is. absurd (none-some n is);
-      clear = λ i le lt before.
-          let at : from + (i - from) ≡ i = omega (arith, le) in
-          let zero_at : bit_at (word / 2 ^ from) (i - from) ≡ 0 = rw none (bit_at-zero (i - from)) in
-          rw at at (sym (bit_at_shifted word from (i - from)) ∙ zero_at);
-    }
-
-module _ (word from : ℕ) (fits : word < 2 ^ 64) (some : 0 < word / 2 ^ from) where
-  lowest : (trailing_zeros w64 (word / 2 ^ from) < 64) × (bit_at (word / 2 ^ from) (trailing_zeros w64 (word / 2 ^ from)) ≡ 1) × ((i : ℕ) → i < trailing_zeros w64 (word / 2 ^ from) → bit_at (word / 2 ^ from) i ≡ 0)
-  lowest = bit_at-trailing_zeros w64 (word / 2 ^ from) some (omega (arith, fits, shr_le word from))
-
-  lowest_is_set : bit_at word (from + trailing_zeros w64 (word / 2 ^ from)) ≡ 1
-  lowest_is_set = sym (bit_at_shifted word from (trailing_zeros w64 (word / 2 ^ from))) ∙ lowest.1
-
-  pub lowest_below : from + trailing_zeros w64 (word / 2 ^ from) < 64
-  lowest_below =
-      elim (cases_lt (from + trailing_zeros w64 (word / 2 ^ from)) 64) [
-        | inl lt ↦ lt
-        | inr ge ↦ absurd (omega (arith, lowest_is_set, bit_at_above word 64 (from + trailing_zeros w64 (word / 2 ^ from)) fits ge))
-      ]
-
-  pub lowest_from : IsLowestBit word from (Some (from + trailing_zeros w64 (word / 2 ^ from)))
-  lowest_from =
-      record {
-        found = λ n is. subst (λ m. (from ≤ m) × (m < 64) × (bit_at word m ≡ 1)) (same_Some _ n is) (omega arith, lowest_below, lowest_is_set);
-        clear = λ i le lt before.
-            let at : from + (i - from) ≡ i = omega (arith, le) in
-            rw at at (sym (bit_at_shifted word from (i - from)) ∙ lowest.2 (i - from) (omega (arith, le, before)));
-      }
 
 -- Words
 

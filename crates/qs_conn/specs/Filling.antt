@@ -21,7 +21,7 @@ use Rattle.qs_send.specs.declared.piece.Item.TheVariants.{MaxData, MaxStreamData
 use Rattle.qs_conn.specs.declared.slot.Slot.{Slot}
 use Rattle.qs_conn.specs.declared.slot.Kind.{Kind}
 use Rattle.qs_conn.specs.declared.slot.Kind.TheVariants as kinds
-use Rattle.qs_conn.specs.declared.terms.Terms.{Terms}
+use Rattle.qs_conn.specs.declared.limits.Limits.{Limits}
 use Rattle.qs_conn.specs.declared.slot.Slot.TheVariants as slots
 use Rattle.qs_machine.specs.Tables.{Tables, lookup, each}
 use Rattle.qs_machine.specs.Ends.{End}
@@ -56,7 +56,7 @@ frame_of_item (StreamDataBlocked n m) = stream_data_blocked n m
 frame_of_item (StreamsBlocked d m) = streams_blocked d m
 
 -- an end of these parts
-abbrev pub end_by : Terms → Tables RecvLane → Outgoing → End → End
+abbrev pub end_by : Limits → Tables RecvLane → Outgoing → End → End
 end_by t recvs o e =
     record e {
       role = t.role;
@@ -88,7 +88,7 @@ ItemFits None = Unit {0}
 ItemFits (Some i) = Fits (frame_of_item i)
 
 -- what an end has to tell has a text
-pub record TermsFit (t : Terms) : Type 0 where
+pub record LimitsFit (t : Limits) : Type 0 where
   pub granted : t.granted ≤ MAX_VARINT
   pub granted_bidi : t.granted_bidi ≤ 2 ^ 60
   pub granted_uni : t.granted_uni ≤ 2 ^ 60

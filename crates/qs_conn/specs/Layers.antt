@@ -21,7 +21,7 @@ use Rattle.qs_machine.specs.Standing.{KeepsCredit}
 use Rattle.qs_wire.specs.Layout.{PlacedValue}
 use Rattle.qs_conn.specs.declared.endpoint.receiving.Progress.{Progress}
 use Rattle.qs_conn.specs.declared.endpoint.receiving.Progress.TheVariants as progress
-use Rattle.qs_machine.specs.Seen.{Seen, Close, seen}
+use Rattle.qs_machine.specs.Seen.{seen, asks_ack}
 use Rattle.qs_machine.specs.FrameStep.{frame_taken}
 use Rattle.qs_machine.specs.Receiving.{Stops, GoesOn}
 use Rattle.qs_machine.specs.Sums.{tally_on, EachLawful}
@@ -92,12 +92,7 @@ pub record IsKept (role : Role) (s : Settings) (p : PeerLimits) (recvs : Tables 
   pub uni_fits : known_uni ≤ 2 ^ 60
   pub closing_fits : ClosingFits closed
 
--- the code of a CONNECTION_CLOSE
-abbrev pub close_code : Seen → Option ℕ
-close_code (Close code) = Some code
-close_code f = None
-
--- one frame takes effect and the processing goes on, or the processing ends with it
+-- one frame takes effect and the processing goes on, asking for an ACK or not, or the processing ends with it
 abbrev pub TakesFrame : PlacedValue → End → Progress → End → Type 0
-TakesFrame p old progress.GoesOn new = GoesOn old (seen p.frame) × (new ≡ frame_taken (seen p.frame) old)
+TakesFrame p old (progress.GoesOn asks) new = GoesOn old (seen p.frame) × (asks ≡ asks_ack (seen p.frame)) × (new ≡ frame_taken (seen p.frame) old)
 TakesFrame p old (progress.Ends result) new = Stops p (seen p.frame) old result new

@@ -10,5 +10,6 @@ pub mod Words
 pub mod Sending
 pub mod Untold
 pub mod Named
+pub mod Seen
 pub mod Held
 pub mod Settled

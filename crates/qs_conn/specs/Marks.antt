@@ -1,7 +1,8 @@
 -- Of private contracts.
 -- Which streams may have something to send or to tell: a mark for each index, and streams that have nothing.
 use Rattle.std.specs.Prelude.{◌≡◌, ℕ, ◌+◌, ◌*◌, ◌/◌, ◌^◌, ◌≤◌, ◌<◌, length, Bool, true, false, List, [], ◌∷◌, slice_index_or, slice_get, min, Option, None, Some, ⊤}
-use Rattle.qs_machine.specs.Tables.{Tables, kind_of, lookup}
+pub use Rattle.qs_ranges.specs.Bits.{IsBefore}
+use Rattle.qs_machine.specs.Tables.{Tables, type_of, lookup}
 use Rattle.qs_send.specs.declared.piece.Item.{Item}
 use Rattle.qs_conn.specs.declared.slot.Slot.{Slot}
 use Rattle.qs_machine.specs.Ends.{End}
@@ -20,11 +21,6 @@ AreMarked Q [] (m ∷ ms) = ⊥
 AreMarked Q (x ∷ xs) [] = ⊥
 AreMarked Q (x ∷ xs) (m ∷ ms) = (m ≡ false → Q x) × AreMarked Q xs ms
 
--- the number comes before the answer
-abbrev pub IsBefore : ℕ → Option ℕ → Type 0
-IsBefore i None = ⊤
-IsBefore i (Some n) = i < n
-
 -- the lesser of two answers
 abbrev pub least_of : Option ℕ → Option ℕ → Option ℕ
 least_of None b = b
@@ -33,7 +29,7 @@ least_of (Some a) (Some b) = Some (min a b)
 
 -- the streams of one type from a number on, below the answer, have the property
 abbrev pub HaveTo : {X : Type 0} → (X → Type 0) → Tables X → ℕ → Option ℕ → ℕ → Type 0
-HaveTo {X} Q t from answer kind = (n : ℕ) (x : X) → kind_of n ≡ kind → from ≤ n → IsBefore n answer → lookup t n ≡ Some x → Q x
+HaveTo {X} Q t from answer kind = (n : ℕ) (x : X) → type_of n ≡ kind → from ≤ n → IsBefore n answer → lookup t n ≡ Some x → Q x
 
 -- the least marked index from an index on
 pub record IsNextMark (marks : List Bool) (from : ℕ) (answer : Option ℕ) : Type 0 where
@@ -51,11 +47,11 @@ IsAt {X} P xs i = (x : X) × (slice_get xs i ≡ Some x) × P x
 
 -- a stream of a type is open, and what is kept of it has the property
 abbrev pub IsHeldOf : {X : Type 0} → (X → Type 0) → Tables X → ℕ → ℕ → Type 0
-IsHeldOf {X} P t kind n = (kind_of n ≡ kind) × IsHeld P t n
+IsHeldOf {X} P t kind n = (type_of n ≡ kind) × IsHeld P t n
 
 -- a stream of a type that is over
 abbrev pub IsEndedOf : End → ℕ → ℕ → Type 0
-IsEndedOf e kind n = (kind_of n ≡ kind) × IsEnded e n
+IsEndedOf e kind n = (type_of n ≡ kind) × IsEnded e n
 
 -- no index of a word of 64 is marked
 abbrev pub HasNoMark : List Bool → ℕ → Type 0

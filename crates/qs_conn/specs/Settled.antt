@@ -13,5 +13,6 @@ pub record AreNext (s : Settings) (recvs : Tables RecvLane) (e : EndedStreams) (
   pub bidi : min s.lifetime_bidi (s.grant_bidi + e.bidi) ≡ granted_bidi
   pub uni : min s.lifetime_uni (s.grant_uni + e.uni) ≡ granted_uni
 
+-- the same, where an end notes that nothing has moved
 abbrev pub AreNextWhere : Bool → Settings → Tables RecvLane → EndedStreams → ℕ → ℕ → ℕ → Type 0
 AreNextWhere is_settled s recvs e granted bidi uni = is_settled ≡ true → AreNext s recvs e granted bidi uni

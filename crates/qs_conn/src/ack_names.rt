@@ -1,15 +1,16 @@
 //! Which packet numbers the ACKs of a payload name.
 ghost use Rattle.std.specs.Prelude.{◌≡◌, ◌<◌, ◌^◌, true, None};
 ghost use Rattle.qs_wire.specs.Varint.{numbers_of};
-ghost use Rattle.qs_wire.specs.Layout.{view, ack_ranges_of};
-ghost use Rattle.qs_wire.specs.Grammar.{Fits, frames_of};
+ghost use Rattle.qs_wire.specs.Layout.{ack_ranges_of};
+ghost use Rattle.qs_wire.specs.Grammar.{frames_of};
 ghost use Rattle.qs_wire.specs.Reading.{reading_of};
 ghost use Rattle.qs_machine.specs.News.{IsLeast};
 ghost use Rattle.qs_machine.specs.Newly.{payload_acks};
-ghost use Rattle.qs_machine.specs.Seen.{seen, seen_all};
-ghost use Rattle.qs_conn.specs.Named.{is_close, with_range, with_ranges, with_frame, with_frames};
+ghost use Rattle.qs_machine.specs.Seen.{seen_all};
+ghost use Rattle.qs_conn.specs.Named.{with_range, with_ranges, with_frames};
 
-use qs_wire::{AckRanges, Frame, Frames};
+use crate::seen::{SeenFrame, seen};
+use qs_wire::{AckRanges, Frames};
 
 /// The least number from one on that an ACK of the payload names. The reading ends at the first fault, and at a CONNECTION_CLOSE.
 pub(crate) fn next_named(payload: &[u8], from: u64) -> Option<u64>
@@ -25,38 +26,15 @@ fn least_of_frames(payload: &[u8], from: u64) -> Option<u64>
     let mut least = None;
     loop {
         match frames.next() {
-            Ok(Some(placed)) => {
-                if is_close(&placed.frame) {
-                    return least;
+            Ok(Some(placed)) => match seen(&placed.frame) {
+                SeenFrame::Close(_) => return least,
+                SeenFrame::Ack { largest, ranges } => {
+                    least = with_ranges(from, largest, ranges, least);
                 }
-                least = with_frame(from, &placed.frame, least);
-            }
+                _ => {}
+            },
             _ => return least,
         }
-    }
-}
-
-fn is_close(frame: &Frame<'_>) -> bool
-    ensures { result ≡ is_close (seen (view frame.now)) }
-{
-    matches!(
-        *frame,
-        Frame::ConnectionClose { .. } | Frame::ApplicationClose { .. }
-    )
-}
-
-// With the ranges of a frame, where it is an ACK.
-fn with_frame(from: u64, frame: &Frame<'_>, least: Option<u64>) -> Option<u64>
-    requires { Fits (view frame.now) }
-    ensures { result ≡ with_frame from (seen (view frame.now)) least }
-{
-    match *frame {
-        Frame::Ack {
-            largest,
-            ranges,
-            ..
-        } => with_ranges(from, largest, ranges, least),
-        _ => least,
     }
 }
 

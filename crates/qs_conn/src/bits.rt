@@ -2,9 +2,9 @@
 ghost use Rattle.std.specs.Prelude.{◌≡◌, ◌++◌, ◌-◌, ◌<◌, ◌==◌, ◌^◌, [], false, length, take, slice_set, replicate, OnOk, OnErr};
 ghost use Rattle.std.specs.Int.{bit_at};
 ghost use Rattle.qs_conn.specs.Marks.{IsNextMark, IsNextInWord, is_marked};
-ghost use Rattle.qs_conn.specs.Words.{HasBit, IsCutAt, IsLowestBit};
+ghost use Rattle.qs_conn.specs.Words.{IsCutAt};
 
-use qs_ranges::NoMemory;
+use qs_ranges::{NoMemory, lowest_bit, with_bit};
 use std::alloc::Global;
 use std::marker::Model;
 
@@ -149,34 +149,10 @@ fn has_bit(word: u64, bit: usize) -> bool
     (word >> bit) & 1 == 1
 }
 
-/// A word with one of its bits set or cleared.
-fn with_bit(word: u64, bit: usize, is_set: bool) -> u64
-    requires { bit < 64 }
-    ensures { HasBit word bit is_set result }
-{
-    if is_set {
-        word | (1 << bit)
-    } else {
-        word & !(1 << bit)
-    }
-}
-
 /// A word with its bits from one on cleared.
 fn cut_at(word: u64, bit: usize) -> u64
     requires { bit < 64 }
     ensures { IsCutAt word bit result }
 {
     word & ((1 << bit) - 1)
-}
-
-/// The least bit that is set, from one on.
-fn lowest_bit(word: u64, from: usize) -> Option<usize>
-    requires { from < 64 }
-    ensures { IsLowestBit word from result }
-{
-    let rest = word >> from;
-    if rest == 0 {
-        return None;
-    }
-    Some(from + rest.trailing_zeros() as usize)
 }

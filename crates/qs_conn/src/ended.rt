@@ -6,7 +6,7 @@ ghost use Rattle.qs_conn.specs.Ended.{is_over, one_if, recounted};
 
 use crate::endpoint::{is_uni, role_bit};
 use crate::outbox::Outbox;
-use crate::places::kind_of;
+use crate::places::type_of;
 use crate::recv_tables::RecvTables;
 use qs_wire::{Role, StreamId};
 
@@ -55,7 +55,7 @@ pub(crate) fn is_over(role: Role, recvs: &RecvTables, outbox: &Outbox, stream: S
     ensures few { (k : ℕ) → k < 4 → length (table recvs.now k) ≤ 2 ^ 60 }
 {
     recvs.are_few();
-    if kind_of(stream) % 2 == role_bit(role) {
+    if type_of(stream) % 2 == role_bit(role) {
         return false;
     }
     recvs.has_ended(stream) && (is_uni(stream) || outbox.has_ended(stream))

@@ -11,8 +11,9 @@ ghost use Rattle.qs_machine.specs.Standing.{IsSound, IsWithinCredit};
 
 use crate::ended::EndedStreams;
 use crate::held::Held;
+use crate::limits::Limits;
 use crate::outbox::Outbox;
-use crate::places::kind_of;
+use crate::places::type_of;
 use crate::recv_tables::RecvTables;
 use crate::setup::setup_fault;
 use crate::untold::Untold;
@@ -45,25 +46,16 @@ mod taking;
 /// Contracts see the end as a record.
 #[derive(Drop)]
 pub struct Endpoint {
-    role: Role,
-    settings: Settings,
+    limits: Limits,
     peer: PeerLimits,
     outbox: Outbox,
     recvs: RecvTables,
     untold: Untold,
-    granted: u64,
-    granted_bidi: u64,
-    granted_uni: u64,
     ended: EndedStreams,
     // Whether nothing that the limits and the counts of streams follow has moved since they were looked at.
     is_settled: bool,
-    known_data: u64,
-    known_bidi: u64,
-    known_uni: u64,
     accepted_bidi: u64,
     accepted_uni: u64,
-    wanted_bidi: Option<u64>,
-    wanted_uni: Option<u64>,
     done: RangeSet,
     floor: u64,
     ack_due: bool,
@@ -85,21 +77,21 @@ impl Model for Endpoint {
     ghost coded = { end_code };
 
     ghost view = { λ e. record {
-      role = e.role;
-      settings = e.settings;
+      role = e.limits.role;
+      settings = e.limits.settings;
       peer = e.peer;
       sends = e.outbox.sends;
       recvs = e.recvs;
-      granted = e.granted;
-      granted_bidi = e.granted_bidi;
-      granted_uni = e.granted_uni;
-      known_data = e.known_data;
-      known_bidi = e.known_bidi;
-      known_uni = e.known_uni;
+      granted = e.limits.granted;
+      granted_bidi = e.limits.granted_bidi;
+      granted_uni = e.limits.granted_uni;
+      known_data = e.limits.known_data;
+      known_bidi = e.limits.known_bidi;
+      known_uni = e.limits.known_uni;
       accepted_bidi = e.accepted_bidi;
       accepted_uni = e.accepted_uni;
-      wanted_bidi = e.wanted_bidi;
-      wanted_uni = e.wanted_uni;
+      wanted_bidi = e.limits.wanted_bidi;
+      wanted_uni = e.limits.wanted_uni;
       done = e.done;
       floor = e.floor;
       ack_due = e.ack_due;
@@ -112,7 +104,7 @@ impl Model for Endpoint {
 
     // Between calls no packet is in the making, and one may be made; the counts of streams are right; of a stream without a mark
     // nothing is to be told that wasn't; and where nothing moved each limit is the next one already.
-    ghost invariant = { λ e. IsKept e.role e.settings e.peer e.recvs e.granted e.known_bidi e.known_uni e.closed × IsIdle e.outbox × IsFunded e.outbox.sends e.known_data e.done e.ack_due × CountsFit e.role e.settings e.recvs e.outbox.sends e.ended e.granted_bidi e.granted_uni × AreTold e.role e.settings e.recvs e.outbox.outstanding e.outbox.acked e.untold × AreNextWhere e.is_settled e.settings e.recvs e.ended e.granted e.granted_bidi e.granted_uni };
+    ghost invariant = { λ e. IsKept e.limits.role e.limits.settings e.peer e.recvs e.limits.granted e.limits.known_bidi e.limits.known_uni e.closed × IsIdle e.outbox × IsFunded e.outbox.sends e.limits.known_data e.done e.ack_due × CountsFit e.limits.role e.limits.settings e.recvs e.outbox.sends e.ended e.limits.granted_bidi e.limits.granted_uni × AreTold e.limits.role e.limits.settings e.recvs e.outbox.outstanding e.outbox.acked e.untold × AreNextWhere e.is_settled e.limits.settings e.recvs e.ended e.limits.granted e.limits.granted_bidi e.limits.granted_uni };
 }
 
 impl Endpoint {
@@ -130,24 +122,26 @@ impl Endpoint {
             return Err(fault);
         }
         Ok(Endpoint {
-            role,
-            settings,
+            limits: Limits {
+                role,
+                settings,
+                granted: settings.conn_window,
+                granted_bidi: settings.grant_bidi,
+                granted_uni: settings.grant_uni,
+                known_data: peer.max_data,
+                known_bidi: peer.streams_bidi,
+                known_uni: peer.streams_uni,
+                wanted_bidi: None,
+                wanted_uni: None,
+            },
             peer,
             outbox: Outbox::new(alloc),
             recvs: RecvTables::new(alloc),
             untold: Untold::new(alloc),
-            granted: settings.conn_window,
-            granted_bidi: settings.grant_bidi,
-            granted_uni: settings.grant_uni,
             ended: EndedStreams { bidi: 0, uni: 0 },
             is_settled: false,
-            known_data: peer.max_data,
-            known_bidi: peer.streams_bidi,
-            known_uni: peer.streams_uni,
             accepted_bidi: 0,
             accepted_uni: 0,
-            wanted_bidi: None,
-            wanted_uni: None,
             done: RangeSet::new(alloc),
             floor: 0,
             ack_due: false,
@@ -160,7 +154,7 @@ impl Endpoint {
         ensures exact { result ≡ all_stored self.now }
         ensures within { IsWithinCredit self.now }
     {
-        let _granted = self.granted;
+        let _granted = self.limits.granted;
         self.recvs.tally().stored
     }
 
@@ -171,7 +165,7 @@ impl Endpoint {
     pub fn held(&self) -> Held
         ensures { IsHeldBy self.now result }
     {
-        let _granted = self.granted;
+        let _granted = self.limits.granted;
         Held {
             receiving: self.recvs.held(),
             sending: self.outbox.held(),
@@ -182,7 +176,7 @@ impl Endpoint {
     pub fn granted(&self) -> u64
         ensures { result ≡ self.now.granted }
     {
-        self.granted
+        self.limits.granted
     }
 
     /// How many streams of a direction the peer may open: the grant, and one more for each of its streams that came to its end, up to
@@ -191,8 +185,8 @@ impl Endpoint {
         ensures { result ≡ granted_streams self.now dir }
     {
         match dir {
-            Dir::Bidi => self.granted_bidi,
-            Dir::Uni => self.granted_uni,
+            Dir::Bidi => self.limits.granted_bidi,
+            Dir::Uni => self.limits.granted_uni,
         }
     }
 
@@ -200,7 +194,7 @@ impl Endpoint {
     pub fn spent(&self) -> u64
         ensures { result ≡ spent self.now }
     {
-        let _granted = self.granted;
+        let _granted = self.limits.granted;
         self.recvs.tally().spent
     }
 
@@ -224,14 +218,18 @@ impl Endpoint {
         }
         self.recvs.raise_all(&mut self.untold);
         let taken = self.recvs.tally().taken;
-        let settings = &self.settings;
-        self.granted = next_limit(self.granted, taken, settings.conn_window);
-        self.granted_bidi = next_count(
+        let settings = &self.limits.settings;
+        self.limits.granted = next_limit(self.limits.granted, taken, settings.conn_window);
+        self.limits.granted_bidi = next_count(
             settings.grant_bidi,
             settings.lifetime_bidi,
             self.ended.bidi,
         );
-        self.granted_uni = next_count(settings.grant_uni, settings.lifetime_uni, self.ended.uni);
+        self.limits.granted_uni = next_count(
+            settings.grant_uni,
+            settings.lifetime_uni,
+            self.ended.uni,
+        );
         self.is_settled = true;
     }
 
@@ -239,7 +237,7 @@ impl Endpoint {
     fn is_own(&self, stream: StreamId) -> bool
         ensures { result ≡ is_own self.now stream }
     {
-        kind_of(stream) % 2 == role_bit(self.role)
+        type_of(stream) % 2 == role_bit(self.limits.role)
     }
 
     // The window of a receiving half, which is its first limit too.
@@ -248,13 +246,7 @@ impl Endpoint {
         ensures some { 1 ≤ result }
         ensures small { result ≤ 2 ^ 20 }
     {
-        if is_uni(stream) {
-            self.settings.uni
-        } else if self.is_own(stream) {
-            self.settings.bidi_local
-        } else {
-            self.settings.bidi_remote
-        }
+        self.limits.window(stream)
     }
 
     // The limit with which a sending half begins.
@@ -287,7 +279,7 @@ pub(crate) fn role_bit(role: Role) -> usize
 pub(crate) fn is_uni(stream: StreamId) -> bool
     ensures { result ≡ is_uni stream }
 {
-    kind_of(stream) >= 2
+    type_of(stream) >= 2
 }
 
 // How many streams may be opened, where so many came to their end (RFC 9000, section 4.6).

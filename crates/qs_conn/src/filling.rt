@@ -10,7 +10,7 @@ ghost use Rattle.qs_send.specs.Lane.{sent_lane, bytes_of};
 ghost use Rattle.qs_send.specs.Chunks.{frame_len};
 ghost use Rattle.qs_wire.specs.Layout.{view, stream};
 ghost use Rattle.qs_wire.specs.Grammar.{Fits, canonical};
-ghost use Rattle.qs_conn.specs.declared.terms.Terms.{Terms};
+ghost use Rattle.qs_conn.specs.declared.limits.Limits.{Limits};
 ghost use Rattle.qs_machine.specs.Tables.{Tables, lookup};
 ghost use Rattle.qs_machine.specs.Ends.{End};
 ghost use Rattle.qs_machine.specs.Due.{IsCovered};
@@ -18,13 +18,13 @@ ghost use Rattle.qs_machine.specs.Outgoing.{IsCarried, MayTell, sent_sum, on_lan
 ghost use Rattle.qs_machine.specs.Sums.{or_none};
 ghost use Rattle.qs_conn.specs.Marks.{IsBefore, IsIdle};
 ghost use Rattle.qs_conn.specs.Untold.{IsTold};
-ghost use Rattle.qs_conn.specs.Filling.{frame_of_item, slot_at, end_by, TermsFit, HasSpare, PutsItem, Passed, no_slot, and_slot, and_kind, all_items, Stage, Flow, Packed, InPacket, Begun, IsAckText, IsPassed, MayGo, stream_frame, turn_at, start_of, way_end, IsOnWay};
+ghost use Rattle.qs_conn.specs.Filling.{frame_of_item, slot_at, end_by, LimitsFit, HasSpare, PutsItem, Passed, no_slot, and_slot, and_kind, all_items, Stage, Flow, Packed, InPacket, Begun, IsAckText, IsPassed, MayGo, stream_frame, turn_at, start_of, way_end, IsOnWay};
 
+use crate::limits::Limits;
 use crate::outbox::Outbox;
 use crate::recv_tables::RecvTables;
 use crate::send_marks::Task;
 use crate::slot::{Kind, Slot};
-use crate::terms::Terms;
 use crate::untold::Untold;
 use qs_ranges::RangeSet;
 use qs_send::{Chunk, Item};
@@ -140,8 +140,8 @@ fn put_item(outbox: &mut Outbox, item: &Item, out: &mut [u8], packet: Packet) ->
 /// Whether an outstanding or acknowledged packet told the item with this value.
 #[tactic(auto, using(crate::proofs::Slots::acked_out, crate::proofs::Slots::acked_in))]
 pub(crate) fn is_covered(outbox: &Outbox, item: &Item) -> bool
-    ensures yes { (t : Terms) (recvs : Tables RecvLane) (e : End) → result ≡ true → IsCovered (end_by t recvs outbox.now e) item.now }
-    ensures no { (t : Terms) (recvs : Tables RecvLane) (e : End) → result ≡ false → IsCovered (end_by t recvs outbox.now e) item.now → ⊥ }
+    ensures yes { (t : Limits) (recvs : Tables RecvLane) (e : End) → result ≡ true → IsCovered (end_by t recvs outbox.now e) item.now }
+    ensures no { (t : Limits) (recvs : Tables RecvLane) (e : End) → result ≡ false → IsCovered (end_by t recvs outbox.now e) item.now → ⊥ }
 {
     if outbox.tells(*item) {
         return true;
@@ -151,19 +151,19 @@ pub(crate) fn is_covered(outbox: &Outbox, item: &Item) -> bool
 
 /// Puts the item of a slot into the packet, if it is due.
 pub(crate) fn put_slot(
-    terms: &Terms,
+    limits: &Limits,
     recvs: &RecvTables,
     outbox: &mut Outbox,
     slot: Slot,
     out: &mut [u8],
     packet: Packet,
 ) -> Packet
-    requires terms { TermsFit terms.now }
+    requires limits { LimitsFit limits.now }
     requires within { packet.len ≤ length out.old }
     requires spare { HasSpare (length out.old) packet.len outbox.old.spare }
     ensures stage { (delay room : ℕ) (old e : End) (passed : Passed) → room ≡ length out.old
-        → Stage delay room old (take packet.len out.old) (end_by terms.now recvs.now outbox.old e) packet.is_full passed
-        → Stage delay room old (take result.len out.new) (end_by terms.now recvs.now outbox.new e) result.is_full (and_slot passed slot) }
+        → Stage delay room old (take packet.len out.old) (end_by limits.now recvs.now outbox.old e) packet.is_full passed
+        → Stage delay room old (take result.len out.new) (end_by limits.now recvs.now outbox.new e) result.is_full (and_slot passed slot) }
     ensures sum { sent_sum outbox.new.sends ≡ sent_sum outbox.old.sends }
     ensures within { result.len ≤ length out.new }
     ensures spare { HasSpare (length out.new) result.len outbox.new.spare }
@@ -172,7 +172,7 @@ pub(crate) fn put_slot(
     if packet.is_full {
         return packet;
     }
-    let Some(item) = terms.current(outbox, recvs, slot) else {
+    let Some(item) = limits.current(outbox, recvs, slot) else {
         return packet;
     };
     if is_covered(outbox, &item) {
@@ -183,28 +183,28 @@ pub(crate) fn put_slot(
 
 // Puts the item of a slot of the connection into the packet, if it is due. Mostly a look at two numbers tells that there is none.
 fn put_own_slot(
-    terms: &Terms,
+    limits: &Limits,
     recvs: &RecvTables,
     outbox: &mut Outbox,
     slot: Slot,
     out: &mut [u8],
     packet: Packet,
 ) -> Packet
-    requires terms { TermsFit terms.now }
+    requires limits { LimitsFit limits.now }
     requires within { packet.len ≤ length out.old }
     requires spare { HasSpare (length out.old) packet.len outbox.old.spare }
     ensures stage { (delay room : ℕ) (old e : End) (passed : Passed) → room ≡ length out.old
-        → Stage delay room old (take packet.len out.old) (end_by terms.now recvs.now outbox.old e) packet.is_full passed
-        → Stage delay room old (take result.len out.new) (end_by terms.now recvs.now outbox.new e) result.is_full (and_slot passed slot) }
+        → Stage delay room old (take packet.len out.old) (end_by limits.now recvs.now outbox.old e) packet.is_full passed
+        → Stage delay room old (take result.len out.new) (end_by limits.now recvs.now outbox.new e) result.is_full (and_slot passed slot) }
     ensures sum { sent_sum outbox.new.sends ≡ sent_sum outbox.old.sends }
     ensures within { result.len ≤ length out.new }
     ensures spare { HasSpare (length out.new) result.len outbox.new.spare }
     ensures room { length out.new ≡ length out.old }
 {
-    if terms.has_none(outbox, &slot) {
+    if limits.has_none(outbox, &slot) {
         return packet;
     }
-    put_slot(terms, recvs, outbox, slot, out, packet)
+    put_slot(limits, recvs, outbox, slot, out, packet)
 }
 
 /// The least number from one on of a stream that may have an item of a kind. Of the streams between none is due.
@@ -216,7 +216,7 @@ pub(crate) fn next_of_kind(
 ) -> Option<StreamId>
     requires { from ≤ 2 ^ 62 }
     ensures from { IfSome result (λ n. from ≤ n) }
-    ensures idle { (t : Terms) (recvs : Tables RecvLane) (n : ℕ) (e : End) → IsTold (end_by t recvs outbox.now e) untold.now
+    ensures idle { (t : Limits) (recvs : Tables RecvLane) (n : ℕ) (e : End) → IsTold (end_by t recvs outbox.now e) untold.now
         → from ≤ n → IsBefore n result → IsIdle (end_by t recvs outbox.now e) (slot_at kind n) }
 {
     match kind {
@@ -228,7 +228,7 @@ pub(crate) fn next_of_kind(
 
 /// Puts the items of a kind into the packet that are due, lower stream numbers first.
 pub(crate) fn put_kind(
-    terms: &Terms,
+    limits: &Limits,
     recvs: &RecvTables,
     untold: &Untold,
     outbox: &mut Outbox,
@@ -236,12 +236,12 @@ pub(crate) fn put_kind(
     out: &mut [u8],
     packet: Packet,
 ) -> Packet
-    requires terms { TermsFit terms.now }
+    requires limits { LimitsFit limits.now }
     requires within { packet.len ≤ length out.old }
     requires spare { HasSpare (length out.old) packet.len outbox.old.spare }
     ensures stage { (delay room : ℕ) (old e : End) (passed : Passed) → room ≡ length out.old → IsTold old untold.now
-        → Stage delay room old (take packet.len out.old) (end_by terms.now recvs.now outbox.old e) packet.is_full passed
-        → Stage delay room old (take result.len out.new) (end_by terms.now recvs.now outbox.new e) result.is_full (and_kind passed kind) }
+        → Stage delay room old (take packet.len out.old) (end_by limits.now recvs.now outbox.old e) packet.is_full passed
+        → Stage delay room old (take result.len out.new) (end_by limits.now recvs.now outbox.new e) result.is_full (and_kind passed kind) }
     ensures sum { sent_sum outbox.new.sends ≡ sent_sum outbox.old.sends }
     ensures within { result.len ≤ length out.new }
     ensures spare { HasSpare (length out.new) result.len outbox.new.spare }
@@ -253,7 +253,7 @@ pub(crate) fn put_kind(
     let mut packet = packet;
     let mut from = 0;
     while let Some(stream) = next_of_kind(outbox, untold, kind, from) {
-        packet = put_slot(terms, recvs, outbox, kind.at(stream), out, packet);
+        packet = put_slot(limits, recvs, outbox, kind.at(stream), out, packet);
         if packet.is_full {
             return packet;
         }
@@ -264,33 +264,49 @@ pub(crate) fn put_kind(
 
 /// Puts the control items into the packet that are due.
 pub(crate) fn put_items(
-    terms: &Terms,
+    limits: &Limits,
     recvs: &RecvTables,
     untold: &Untold,
     outbox: &mut Outbox,
     out: &mut [u8],
     packet: Packet,
 ) -> Packet
-    requires terms { TermsFit terms.now }
+    requires limits { LimitsFit limits.now }
     requires within { packet.len ≤ length out.old }
     requires spare { HasSpare (length out.old) packet.len outbox.old.spare }
     ensures stage { (delay room : ℕ) (old e : End) → room ≡ length out.old → IsTold old untold.now
-        → Stage delay room old (take packet.len out.old) (end_by terms.now recvs.now outbox.old e) packet.is_full no_slot
-        → Stage delay room old (take result.len out.new) (end_by terms.now recvs.now outbox.new e) result.is_full all_items }
+        → Stage delay room old (take packet.len out.old) (end_by limits.now recvs.now outbox.old e) packet.is_full no_slot
+        → Stage delay room old (take result.len out.new) (end_by limits.now recvs.now outbox.new e) result.is_full all_items }
     ensures sum { sent_sum outbox.new.sends ≡ sent_sum outbox.old.sends }
     ensures within { result.len ≤ length out.new }
     ensures spare { HasSpare (length out.new) result.len outbox.new.spare }
     ensures room { length out.new ≡ length out.old }
 {
-    let packet = put_own_slot(terms, recvs, outbox, Slot::MaxData, out, packet);
+    let packet = put_own_slot(limits, recvs, outbox, Slot::MaxData, out, packet);
     let bidi_streams = Slot::MaxStreams(Dir::Bidi);
-    let packet = put_own_slot(terms, recvs, outbox, bidi_streams, out, packet);
+    let packet = put_own_slot(limits, recvs, outbox, bidi_streams, out, packet);
     let uni_streams = Slot::MaxStreams(Dir::Uni);
-    let packet = put_own_slot(terms, recvs, outbox, uni_streams, out, packet);
-    let packet = put_kind(terms, recvs, untold, outbox, Kind::ResetStream, out, packet);
-    let packet = put_kind(terms, recvs, untold, outbox, Kind::StopSending, out, packet);
+    let packet = put_own_slot(limits, recvs, outbox, uni_streams, out, packet);
     let packet = put_kind(
-        terms,
+        limits,
+        recvs,
+        untold,
+        outbox,
+        Kind::ResetStream,
+        out,
+        packet,
+    );
+    let packet = put_kind(
+        limits,
+        recvs,
+        untold,
+        outbox,
+        Kind::StopSending,
+        out,
+        packet,
+    );
+    let packet = put_kind(
+        limits,
         recvs,
         untold,
         outbox,
@@ -298,9 +314,9 @@ pub(crate) fn put_items(
         out,
         packet,
     );
-    let packet = put_own_slot(terms, recvs, outbox, Slot::DataBlocked, out, packet);
+    let packet = put_own_slot(limits, recvs, outbox, Slot::DataBlocked, out, packet);
     let packet = put_kind(
-        terms,
+        limits,
         recvs,
         untold,
         outbox,
@@ -309,9 +325,9 @@ pub(crate) fn put_items(
         packet,
     );
     let bidi_blocked = Slot::StreamsBlocked(Dir::Bidi);
-    let packet = put_own_slot(terms, recvs, outbox, bidi_blocked, out, packet);
+    let packet = put_own_slot(limits, recvs, outbox, bidi_blocked, out, packet);
     let uni_blocked = Slot::StreamsBlocked(Dir::Uni);
-    put_own_slot(terms, recvs, outbox, uni_blocked, out, packet)
+    put_own_slot(limits, recvs, outbox, uni_blocked, out, packet)
 }
 
 /// Puts a chunk into the packet that is known to fit, and answers how many bytes there are then.
@@ -347,22 +363,22 @@ pub(crate) fn put_chunk(
 
 /// Puts chunks of a stream into the packet, one for each run of due offsets, as far as the limits and the room allow.
 pub(crate) fn put_chunks(
-    terms: &Terms,
+    limits: &Limits,
     outbox: &mut Outbox,
     stream: StreamId,
     out: &mut [u8],
     packet: Packet,
 ) -> Packet
-    requires terms { TermsFit terms.now }
-    requires credit { sent_sum outbox.old.sends ≤ terms.now.known_data }
+    requires limits { LimitsFit limits.now }
+    requires credit { sent_sum outbox.old.sends ≤ limits.now.known_data }
     requires open { is_some (lookup outbox.old.sends stream) ≡ true }
     requires within { packet.len ≤ length out.old }
     requires spare { HasSpare (length out.old) packet.len outbox.old.spare }
     ensures flow { (around : Bool) (first : ℕ) (recvs : Tables RecvLane) (delay room : ℕ) (old e : End) → room ≡ length out.old → IsOnWay around first stream
-        → Flow delay room old (take packet.len out.old) (end_by terms.now recvs outbox.old e) packet.is_full (turn_at around first stream)
-        → Flow delay room old (take result.len out.new) (end_by terms.now recvs outbox.new e) result.is_full (turn_at around first (stream + 1)) }
+        → Flow delay room old (take packet.len out.old) (end_by limits.now recvs outbox.old e) packet.is_full (turn_at around first stream)
+        → Flow delay room old (take result.len out.new) (end_by limits.now recvs outbox.new e) result.is_full (turn_at around first (stream + 1)) }
     ensures lanes { (n : ℕ) → lookup outbox.old.sends n ≡ None → lookup outbox.new.sends n ≡ None }
-    ensures credit { sent_sum outbox.new.sends ≤ terms.now.known_data }
+    ensures credit { sent_sum outbox.new.sends ≤ limits.now.known_data }
     ensures within { result.len ≤ length out.new }
     ensures spare { HasSpare (length out.new) result.len outbox.new.spare }
     ensures room { length out.new ≡ length out.old }
@@ -371,13 +387,13 @@ pub(crate) fn put_chunks(
         return packet;
     }
     let mut len = packet.len;
-    let mut fresh = terms.known_data - outbox.sent_sum();
+    let mut fresh = limits.known_data - outbox.sent_sum();
     while let Some(chunk) = outbox.next_chunk(stream, out.len() - len, fresh) {
         len = put_chunk(outbox, stream, chunk, out, len);
         if out.len() - len < LEAST_STREAM_FRAME {
             return Packet { len, is_full: true };
         }
-        fresh = terms.known_data - outbox.sent_sum();
+        fresh = limits.known_data - outbox.sent_sum();
     }
     let is_full = outbox.is_held_by_room(stream, out.len() - len, fresh);
     Packet { len, is_full }
@@ -385,27 +401,27 @@ pub(crate) fn put_chunks(
 
 // Puts chunks of a stream into the packet, if it is one that can send.
 fn put_open(
-    terms: &Terms,
+    limits: &Limits,
     outbox: &mut Outbox,
     stream: StreamId,
     out: &mut [u8],
     packet: Packet,
 ) -> Packet
-    requires terms { TermsFit terms.now }
-    requires credit { sent_sum outbox.old.sends ≤ terms.now.known_data }
+    requires limits { LimitsFit limits.now }
+    requires credit { sent_sum outbox.old.sends ≤ limits.now.known_data }
     requires within { packet.len ≤ length out.old }
     requires spare { HasSpare (length out.old) packet.len outbox.old.spare }
     ensures flow { (around : Bool) (first : ℕ) (recvs : Tables RecvLane) (delay room : ℕ) (old e : End) → room ≡ length out.old → IsOnWay around first stream
-        → Flow delay room old (take packet.len out.old) (end_by terms.now recvs outbox.old e) packet.is_full (turn_at around first stream)
-        → Flow delay room old (take result.len out.new) (end_by terms.now recvs outbox.new e) result.is_full (turn_at around first (stream + 1)) }
+        → Flow delay room old (take packet.len out.old) (end_by limits.now recvs outbox.old e) packet.is_full (turn_at around first stream)
+        → Flow delay room old (take result.len out.new) (end_by limits.now recvs outbox.new e) result.is_full (turn_at around first (stream + 1)) }
     ensures lanes { (n : ℕ) → lookup outbox.old.sends n ≡ None → lookup outbox.new.sends n ≡ None }
-    ensures credit { sent_sum outbox.new.sends ≤ terms.now.known_data }
+    ensures credit { sent_sum outbox.new.sends ≤ limits.now.known_data }
     ensures within { result.len ≤ length out.new }
     ensures spare { HasSpare (length out.new) result.len outbox.new.spare }
     ensures room { length out.new ≡ length out.old }
 {
     if outbox.is_open(stream) {
-        return put_chunks(terms, outbox, stream, out, packet);
+        return put_chunks(limits, outbox, stream, out, packet);
     }
     packet
 }
@@ -431,7 +447,7 @@ fn is_on_way(around: bool, first: u64, stream: StreamId) -> bool
 
 // Puts the bytes of the streams of a way into the packet, lower numbers first, as far as the limits and the room allow.
 fn put_way(
-    terms: &Terms,
+    limits: &Limits,
     outbox: &mut Outbox,
     first: u64,
     around: bool,
@@ -439,14 +455,14 @@ fn put_way(
     packet: Packet,
 ) -> Packet
     requires first { first < 2 ^ 62 }
-    requires terms { TermsFit terms.now }
-    requires credit { sent_sum outbox.old.sends ≤ terms.now.known_data }
+    requires limits { LimitsFit limits.now }
+    requires credit { sent_sum outbox.old.sends ≤ limits.now.known_data }
     requires within { packet.len ≤ length out.old }
     requires spare { HasSpare (length out.old) packet.len outbox.old.spare }
     ensures flow { (recvs : Tables RecvLane) (delay room : ℕ) (old e : End) → room ≡ length out.old
-        → Flow delay room old (take packet.len out.old) (end_by terms.now recvs outbox.old e) packet.is_full (turn_at around first (start_of around first))
-        → Flow delay room old (take result.len out.new) (end_by terms.now recvs outbox.new e) result.is_full (way_end around first) }
-    ensures credit { sent_sum outbox.new.sends ≤ terms.now.known_data }
+        → Flow delay room old (take packet.len out.old) (end_by limits.now recvs outbox.old e) packet.is_full (turn_at around first (start_of around first))
+        → Flow delay room old (take result.len out.new) (end_by limits.now recvs outbox.new e) result.is_full (way_end around first) }
+    ensures credit { sent_sum outbox.new.sends ≤ limits.now.known_data }
     ensures within { result.len ≤ length out.new }
     ensures spare { HasSpare (length out.new) result.len outbox.new.spare }
     ensures room { length out.new ≡ length out.old }
@@ -460,7 +476,7 @@ fn put_way(
         if !is_on_way(around, first, stream) {
             return packet;
         }
-        packet = put_open(terms, outbox, stream, out, packet);
+        packet = put_open(limits, outbox, stream, out, packet);
         if packet.is_full {
             return packet;
         }
@@ -472,29 +488,29 @@ fn put_way(
 /// Puts the bytes of all streams into the packet, those from `first` on before the others and lower numbers first, as far as the limits
 /// and the room allow.
 pub(crate) fn put_streams(
-    terms: &Terms,
+    limits: &Limits,
     outbox: &mut Outbox,
     first: u64,
     out: &mut [u8],
     packet: Packet,
 ) -> Packet
     requires first { first < 2 ^ 62 }
-    requires terms { TermsFit terms.now }
-    requires credit { sent_sum outbox.old.sends ≤ terms.now.known_data }
+    requires limits { LimitsFit limits.now }
+    requires credit { sent_sum outbox.old.sends ≤ limits.now.known_data }
     requires within { packet.len ≤ length out.old }
     requires spare { HasSpare (length out.old) packet.len outbox.old.spare }
     ensures packed { (recvs : Tables RecvLane) (delay room : ℕ) (old e : End) → room ≡ length out.old
-        → Flow delay room old (take packet.len out.old) (end_by terms.now recvs outbox.old e) packet.is_full (turn_at false first first)
-        → Packed first delay room old (take result.len out.new) (end_by terms.now recvs outbox.new e) }
+        → Flow delay room old (take packet.len out.old) (end_by limits.now recvs outbox.old e) packet.is_full (turn_at false first first)
+        → Packed first delay room old (take result.len out.new) (end_by limits.now recvs outbox.new e) }
     ensures within { result.len ≤ length out.new }
     ensures spare { HasSpare (length out.new) result.len outbox.new.spare }
     ensures room { length out.new ≡ length out.old }
 {
-    let packet = put_way(terms, outbox, first, false, out, packet);
+    let packet = put_way(limits, outbox, first, false, out, packet);
     if packet.is_full {
         return packet;
     }
-    put_way(terms, outbox, first, true, out, packet)
+    put_way(limits, outbox, first, true, out, packet)
 }
 
 /// Writes an ACK of the kept numbers at the slice's front, which tells a delay, the highest ranges first and as many as fit, and answers
@@ -548,7 +564,7 @@ pub(crate) struct Wish {
 /// Fills a packet from its first byte on, and answers how many bytes it has: the ACK if one is due, control items, and the bytes of
 /// streams (RFC 9000, sections 4, 13.2 and 13.3).
 pub(crate) fn fill(
-    terms: &Terms,
+    limits: &Limits,
     recvs: &RecvTables,
     untold: &Untold,
     done: &RangeSet,
@@ -558,15 +574,15 @@ pub(crate) fn fill(
 ) -> usize
     requires first { wish.first < 2 ^ 62 }
     requires delay { wish.delay < 2 ^ 62 }
-    requires terms { TermsFit terms.now }
-    requires credit { sent_sum outbox.old.sends ≤ terms.now.known_data }
+    requires limits { LimitsFit limits.now }
+    requires credit { sent_sum outbox.old.sends ≤ limits.now.known_data }
     requires acks { wish.ack_due ≡ true → 0 < set.len (run_starts done.now) }
     requires few { set.len (run_starts done.now) ≤ 32 }
     requires space { 26 ≤ length out.old }
     requires spare { HasSpare (length out.old) 0 outbox.old.spare }
-    ensures packed { (old : End) → end_by terms.now recvs.now outbox.old old ≡ old → old.done ≡ done.now → old.ack_due ≡ wish.ack_due
+    ensures packed { (old : End) → end_by limits.now recvs.now outbox.old old ≡ old → old.done ≡ done.now → old.ack_due ≡ wish.ack_due
         → ((x : Piece) → InPacket old x → ⊥) → IsTold old untold.now
-        → Packed wish.first wish.delay (length out.old) old (take result out.new) (end_by terms.now recvs.now outbox.new (record old { ack_due = false })) }
+        → Packed wish.first wish.delay (length out.old) old (take result out.new) (end_by limits.now recvs.now outbox.new (record old { ack_due = false })) }
     ensures within { result ≤ length out.new }
     ensures room { length out.new ≡ length out.old }
 {
@@ -575,7 +591,7 @@ pub(crate) fn fill(
         len,
         is_full: false,
     };
-    let packet = put_items(terms, recvs, untold, outbox, out, start);
-    let packet = put_streams(terms, outbox, wish.first, out, packet);
+    let packet = put_items(limits, recvs, untold, outbox, out, start);
+    let packet = put_streams(limits, outbox, wish.first, out, packet);
     packet.len
 }

@@ -2,7 +2,7 @@
 ghost use Rattle.std.specs.Prelude.{◌≡◌, ◌-◌, ◌≤◌, ◌^◌, ◌<◌, length, min, take, is_some, option_map, unwrap_or, true, OnOk, OnErr, IfOk, IfErr};
 ghost use Rattle.qs_ranges.specs.Numbers.{MAX_VARINT};
 ghost use Rattle.qs_send.specs.Lane.{Sending, new_lane, accepted, refusal, reset_refusal, answer_of, write_lane, finish_lane, reset_lane, stopped_lane, allow_lane};
-ghost use Rattle.qs_machine.specs.Tables.{table, with_table, lookup, open_to, total, kind_of};
+ghost use Rattle.qs_machine.specs.Tables.{table, with_table, lookup, open_to, total, type_of};
 ghost use Rattle.qs_machine.specs.Asking.{stop_of};
 ghost use Rattle.qs_machine.specs.Reports.{send_report};
 ghost use Rattle.qs_machine.specs.Sums.{or_none};
@@ -10,9 +10,11 @@ ghost use Rattle.qs_conn.specs.Ended.{send_over};
 ghost use Rattle.qs_conn.specs.Held.{kept_on, most_buffered};
 ghost use Rattle.qs_machine.specs.Outgoing.{no_packets, with_sends, on_lane, sent_sum, HasSending, AreOfOpen};
 
-use crate::send_tables::SendTables;
+use crate::places::{index_of, type_of};
+use crate::send_lanes::SendLanes;
 use crate::told::ToldItems;
 use crate::told_index::ToldIndex;
+use halves::{half_of, is_open};
 use qs_calls::SendReport;
 use qs_ranges::NoMemory;
 use qs_send::{LostRecords, Piece, Records, SendFault, SendState};
@@ -21,6 +23,7 @@ use std::alloc::Global;
 use std::marker::Model;
 
 mod acks;
+mod halves;
 mod making;
 mod telling;
 
@@ -29,7 +32,8 @@ pub(crate) use acks::KeptPacket;
 /// What an end sends: its sending halves, what its packets carried, and what was acknowledged of them.
 #[derive(Drop)]
 pub(crate) struct Outbox {
-    sends: SendTables,
+    // Its sending halves, of each of the four types of streams in the order of their bits.
+    types: [SendLanes; 4],
     // The sum of all sent ends.
     sent: u64,
     records: Records,
@@ -47,16 +51,17 @@ pub(crate) struct Outbox {
 
 // Clauses see the lanes. What of them is due stays inside: what was written and is neither acknowledged nor outstanding.
 impl Model for Outbox {
-    ghost use Rattle.std.specs.Prelude.{◌-◌, nat_lt, vec_len, vec_capacity};
+    ghost use Rattle.std.specs.Prelude.{◌≡◌, ◌-◌, length, nat_lt, vec_len, vec_capacity};
     ghost use Rattle.qs_machine.specs.Outgoing.{Outgoing, IsOutbox, IsIndexed, AreSent, lanes_of, with_pending};
     ghost use Rattle.qs_machine.specs.EndCodes.{outgoing_code};
+    ghost use Rattle.qs_machine.specs.Sums.{tables_of};
 
     ghost Value = { Outgoing };
 
     ghost coded = { outgoing_code };
 
     ghost view = { λ o. record {
-      sends = lanes_of o.sends;
+      sends = lanes_of (tables_of o.types);
       next = o.next;
       outstanding = with_pending o.records.pieces o.next o.pending.items;
       lost = record { pieces = o.lost.pieces; order = o.lost.order };
@@ -64,7 +69,7 @@ impl Model for Outbox {
       spare = o.spare;
     } };
 
-    ghost invariant = { λ o. IsOutbox o.sends o.records.pieces (nat_lt o.next o.records.room) o.pending.items o.next o.sent o.spare (vec_capacity o.pending - vec_len o.pending) × IsIndexed (with_pending o.records.pieces o.next o.pending.items) o.index.items o.spare o.index.spare × AreSent o.sends o.lost.pieces };
+    ghost invariant = { λ o. IsOutbox (tables_of o.types) o.records.pieces (nat_lt o.next o.records.room) o.pending.items o.next o.sent o.spare (vec_capacity o.pending - vec_len o.pending) × IsIndexed (with_pending o.records.pieces o.next o.pending.items) o.index.items o.spare o.index.spare × AreSent (tables_of o.types) o.lost.pieces × (length o.types ≡ 4) };
 }
 
 impl Outbox {
@@ -72,7 +77,12 @@ impl Outbox {
         ensures { result ≡ no_packets }
     {
         Outbox {
-            sends: SendTables::new(alloc),
+            types: [
+                SendLanes::new(alloc),
+                SendLanes::new(alloc),
+                SendLanes::new(alloc),
+                SendLanes::new(alloc),
+            ],
             sent: 0,
             records: Records::new(alloc),
             lost: LostRecords::new(alloc),
@@ -98,40 +108,41 @@ impl Outbox {
         ensures { (s : Sending) × HasSending self.now stream s }
     {
         let _next = self.next;
-        self.sends.get(stream).is_lawful();
+        half_of(&self.types, stream).is_lawful();
     }
 
     /// Whether the stream has a sending half.
     pub(crate) fn is_open(&self, stream: StreamId) -> bool
         ensures { result ≡ is_some (lookup self.now.sends stream) }
     {
-        self.sends.is_open(stream)
+        is_open(&self.types, stream)
     }
 
     /// How many streams of the type of this one are open.
     pub(crate) fn count(&self, stream: StreamId) -> usize
-        ensures { result ≡ length (table self.now.sends (kind_of stream)) }
+        ensures { result ≡ length (table self.now.sends (type_of stream)) }
     {
-        self.sends.count(stream)
+        self.count_of(type_of(stream))
     }
 
     /// How many streams of a type are open.
-    pub(crate) fn count_of(&self, kind: usize) -> usize
-        requires { kind < 4 }
-        ensures value { result ≡ length (table self.now.sends kind) }
+    pub(crate) fn count_of(&self, stream_type: usize) -> usize
+        requires { stream_type < 4 }
+        ensures value { result ≡ length (table self.now.sends stream_type) }
         ensures small { result ≤ 2 ^ 60 }
     {
-        self.sends.count_of(kind)
+        let lanes = &self.types[stream_type];
+        lanes.len()
     }
 
     /// Whether a stream's sending half is in Data Recvd or Reset Recvd (RFC 9000, section 3.1).
     pub(crate) fn has_ended(&self, stream: StreamId) -> bool
         ensures { result ≡ send_over (lookup self.now.sends stream) }
     {
-        if !self.sends.is_open(stream) {
+        if !is_open(&self.types, stream) {
             return false;
         }
-        let half = self.sends.get(stream);
+        let half = half_of(&self.types, stream);
         half.is_lawful();
         matches!(half.state(), SendState::DataRecvd | SendState::ResetRecvd)
     }
@@ -140,10 +151,10 @@ impl Outbox {
     pub(crate) fn report(&self, stream: StreamId) -> Option<SendReport>
         ensures { result ≡ option_map send_report (lookup self.now.sends stream) }
     {
-        if !self.sends.is_open(stream) {
+        if !is_open(&self.types, stream) {
             return None;
         }
-        let half = self.sends.get(stream);
+        let half = half_of(&self.types, stream);
         Some(SendReport {
             state: half.state(),
             written: half.written(),
@@ -180,8 +191,9 @@ impl Outbox {
         ensures kept { min (total kept_on self.now.sends) (2 ^ 64 - 1) ≤ result }
         ensures most { result ≤ total most_buffered self.now.sends }
     {
-        let _next = self.next;
-        self.sends.held()
+        let bidi = self.types[0].held().saturating_add(self.types[1].held());
+        let uni = self.types[2].held().saturating_add(self.types[3].held());
+        bidi.saturating_add(uni)
     }
 
     /// Opens a stream and all lower ones of its type.
@@ -195,25 +207,27 @@ impl Outbox {
         ensures ok { OnOk result (self.new ≡ with_sends (open_to self.old.sends stream (λ m. new_lane m limit buffer)) self.old) }
         ensures err { OnErr result (self.new ≡ self.old) }
     {
-        self.sends.open_to(limit, buffer, stream)
+        let lanes = &mut self.types[type_of(stream)];
+        lanes.open_to(type_of(stream) as u64, limit, buffer, index_of(stream) + 1)
     }
 
     /// Takes the memory for the sending halves of a stream and of all lower ones of its type, and opens none.
     pub(crate) fn reserve(&mut self, stream: StreamId) -> Result<(), NoMemory>
         ensures { self.new ≡ self.old }
     {
-        self.sends.reserve(stream)
+        let lanes = &mut self.types[type_of(stream)];
+        lanes.reserve_to(index_of(stream) + 1)
     }
 
     /// Takes the streams of the type of this one from a count on away. Nothing of them was sent.
     pub(crate) fn close_to(&mut self, stream: StreamId, count: usize)
-        requires none { AreOfOpen (with_table self.old.sends (kind_of stream) (take count (table self.old.sends (kind_of stream)))) self.old.outstanding }
-        requires lost { AreOfOpen (with_table self.old.sends (kind_of stream) (take count (table self.old.sends (kind_of stream)))) self.old.lost.pieces }
-        requires unsent { sent_sum (with_table self.old.sends (kind_of stream) (take count (table self.old.sends (kind_of stream)))) ≡ sent_sum self.old.sends }
-        ensures { self.new ≡ with_sends (with_table self.old.sends (kind_of stream) (take count (table self.old.sends (kind_of stream)))) self.old }
+        requires none { AreOfOpen (with_table self.old.sends (type_of stream) (take count (table self.old.sends (type_of stream)))) self.old.outstanding }
+        requires lost { AreOfOpen (with_table self.old.sends (type_of stream) (take count (table self.old.sends (type_of stream)))) self.old.lost.pieces }
+        requires unsent { sent_sum (with_table self.old.sends (type_of stream) (take count (table self.old.sends (type_of stream)))) ≡ sent_sum self.old.sends }
+        ensures { self.new ≡ with_sends (with_table self.old.sends (type_of stream) (take count (table self.old.sends (type_of stream)))) self.old }
     {
-        let _next = self.next;
-        self.sends.close_to(stream, count);
+        let lanes = &mut self.types[type_of(stream)];
+        lanes.close_to(count);
     }
 
     /// Accepts bytes at an open stream, as many as there is room for; or changes nothing.
@@ -225,8 +239,9 @@ impl Outbox {
             IfErr result (λ fault. (self.new ≡ self.old) × (fault ≡ unwrap_or (refusal lane) SendFault.NoMemory)) }
         ensures grows { result ≡ Err SendFault.NoMemory → 0 < accepted (or_none (lookup self.old.sends stream)) (length bytes.now) }
     {
-        self.sends.get(stream).is_lawful();
-        self.sends.write(stream, bytes)
+        half_of(&self.types, stream).is_lawful();
+        let lanes = &mut self.types[type_of(stream)];
+        lanes.write(index_of(stream), bytes)
     }
 
     /// Asks for the end of an open stream.
@@ -236,8 +251,9 @@ impl Outbox {
         ensures ok { OnOk result (self.new ≡ on_lane stream finish_lane self.old) }
         ensures err { OnErr result (self.new ≡ self.old) }
     {
-        self.sends.get(stream).is_lawful();
-        self.sends.finish(stream)
+        half_of(&self.types, stream).is_lawful();
+        let lanes = &mut self.types[type_of(stream)];
+        lanes.finish(index_of(stream))
     }
 
     /// Breaks an open stream off.
@@ -248,7 +264,8 @@ impl Outbox {
         ensures after { self.new ≡ on_lane stream (λ l. reset_lane l code) self.old }
         ensures err { OnErr result (self.new ≡ self.old) }
     {
-        self.sends.reset(stream, code)
+        let lanes = &mut self.types[type_of(stream)];
+        lanes.reset(index_of(stream), code)
     }
 
     /// Takes in a STOP_SENDING of an open stream.
@@ -257,17 +274,18 @@ impl Outbox {
         requires fits { code ≤ MAX_VARINT }
         ensures { self.new ≡ on_lane stream (λ l. stopped_lane l code) self.old }
     {
-        self.sends.stopped(stream, code);
+        let lanes = &mut self.types[type_of(stream)];
+        lanes.stopped(index_of(stream), code);
     }
 
     /// The code of the first STOP_SENDING that came of a stream.
     pub(crate) fn stop_code(&self, stream: StreamId) -> Option<u64>
         ensures { result ≡ stop_of (lookup self.now.sends stream) }
     {
-        if !self.sends.is_open(stream) {
+        if !is_open(&self.types, stream) {
             return None;
         }
-        let half = self.sends.get(stream);
+        let half = half_of(&self.types, stream);
         half.stop_code()
     }
 
@@ -277,6 +295,7 @@ impl Outbox {
         requires limit { limit ≤ MAX_VARINT }
         ensures { self.new ≡ on_lane stream (λ l. allow_lane l limit) self.old }
     {
-        self.sends.allow(stream, limit);
+        let lanes = &mut self.types[type_of(stream)];
+        lanes.allow(index_of(stream), limit);
     }
 }

@@ -356,13 +356,13 @@ impl RecvLanes {
 
     /// Each limit becomes the next one, and a stream whose limit rises is marked. Only lanes that were touched are looked at; `kind` is
     /// the type of their streams.
-    pub(crate) fn raise_all(&mut self, kind: usize, untold: &mut Untold)
-        requires { kind < 4 }
+    pub(crate) fn raise_all(&mut self, stream_type: usize, untold: &mut Untold)
+        requires { stream_type < 4 }
         ensures after { self.new ≡ map raise self.old }
         ensures marks { HasMore untold.old untold.new }
-        ensures marked { AreRaisedMarked kind self.old untold.new }
+        ensures marked { AreRaisedMarked stream_type self.old untold.new }
     {
-        raise_touched(&mut self.halves, self.touched, kind, untold);
+        raise_touched(&mut self.halves, self.touched, stream_type, untold);
         self.touched = Touched::Nothing;
     }
 
@@ -437,59 +437,59 @@ fn touch(touched: Touched, index: usize) -> Touched
     }
 }
 
-fn raise_touched(halves: &mut Vec<Half>, touched: Touched, kind: usize, untold: &mut Untold)
-    requires kind { kind < 4 }
+fn raise_touched(halves: &mut Vec<Half>, touched: Touched, stream_type: usize, untold: &mut Untold)
+    requires stream_type { stream_type < 4 }
     requires few { length halves.old.items ≤ 2 ^ 60 }
     requires settled { AreSettled touched halves.old.items }
     ensures after { halves.new.items ≡ map raise halves.old.items }
     ensures marks { HasMore untold.old untold.new }
-    ensures marked { AreRaisedMarked kind halves.old.items untold.new }
+    ensures marked { AreRaisedMarked stream_type halves.old.items untold.new }
 {
     match touched {
         Touched::Nothing => {}
-        Touched::Lane(index) => raise_one(halves, index, kind, untold),
-        Touched::Several => raise_each(halves, kind, untold),
+        Touched::Lane(index) => raise_one(halves, index, stream_type, untold),
+        Touched::Several => raise_each(halves, stream_type, untold),
     }
 }
 
 #[tactic(auto, using(crate::proofs::Untolds::has_same, crate::proofs::LaneMarks::raised_past))]
-fn raise_one(halves: &mut Vec<Half>, index: usize, kind: usize, untold: &mut Untold)
-    requires kind { kind < 4 }
+fn raise_one(halves: &mut Vec<Half>, index: usize, stream_type: usize, untold: &mut Untold)
+    requires stream_type { stream_type < 4 }
     requires few { length halves.old.items ≤ 2 ^ 60 }
     ensures after { halves.new.items ≡ changed halves.old.items index raise (slice_get halves.old.items index) }
     ensures marks { HasMore untold.old untold.new }
-    ensures marked { IsRaisedMarked kind halves.old.items untold.new index }
+    ensures marked { IsRaisedMarked stream_type halves.old.items untold.new index }
 {
     if index < halves.len() {
-        raise_at(halves, index, kind, untold);
+        raise_at(halves, index, stream_type, untold);
     }
 }
 
-fn raise_each(halves: &mut Vec<Half>, kind: usize, untold: &mut Untold)
-    requires kind { kind < 4 }
+fn raise_each(halves: &mut Vec<Half>, stream_type: usize, untold: &mut Untold)
+    requires stream_type { stream_type < 4 }
     requires few { length halves.old.items ≤ 2 ^ 60 }
     ensures after { halves.new.items ≡ map raise halves.old.items }
     ensures marks { HasMore untold.old untold.new }
-    ensures marked { AreRaisedMarked kind halves.old.items untold.new }
+    ensures marked { AreRaisedMarked stream_type halves.old.items untold.new }
 {
     for index in 0..halves.len() {
-        raise_at(halves, index, kind, untold);
+        raise_at(halves, index, stream_type, untold);
     }
 }
 
 #[tactic(auto, using(crate::proofs::Untolds::has_same, crate::proofs::Untolds::has_marked, crate::proofs::LaneMarks::raised_none, crate::proofs::LaneMarks::raised_some, crate::proofs::LaneEdits::changed_at))]
-fn raise_at(halves: &mut Vec<Half>, index: usize, kind: usize, untold: &mut Untold)
+fn raise_at(halves: &mut Vec<Half>, index: usize, stream_type: usize, untold: &mut Untold)
     requires there { index < length halves.old.items }
-    requires kind { kind < 4 }
+    requires stream_type { stream_type < 4 }
     requires few { length halves.old.items ≤ 2 ^ 60 }
     ensures after { halves.new.items ≡ changed halves.old.items index raise (slice_get halves.old.items index) }
     ensures len { length halves.new.items ≡ length halves.old.items }
     ensures marks { HasMore untold.old untold.new }
-    ensures marked { IsRaisedMarked kind halves.old.items untold.new index }
+    ensures marked { IsRaisedMarked stream_type halves.old.items untold.new index }
 {
     let half = &mut halves[index];
     if let Some(_limit) = half.raise() {
-        let stream = StreamId::new((index * 4 + kind) as u64).unwrap();
+        let stream = StreamId::new((index * 4 + stream_type) as u64).unwrap();
         untold.set(stream, true);
     }
 }

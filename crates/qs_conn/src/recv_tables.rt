@@ -2,7 +2,7 @@
 ghost use Rattle.std.specs.Prelude.{◌≡◌, ◌+◌, ◌≤◌, ◌<◌, ◌^◌, ◌++◌, ℕ, length, drop, take, is_some, option_map, true, false, Some, OnOk, OnErr, IsOk, IfOk, IfSome};
 ghost use Rattle.qs_ranges.specs.Numbers.{MAX_VARINT};
 ghost use Rattle.qs_recv.specs.Lane.{RecvLane, new_lane, check_stream, check_reset, check_bytes, highest, taken, take_stream, take_reset, read_answer, bytes_read, after_read, raise, stop};
-ghost use Rattle.qs_machine.specs.Tables.{no_streams, table, with_table, lookup, updated, open_to, each, total, kind_of};
+ghost use Rattle.qs_machine.specs.Tables.{no_streams, table, with_table, lookup, updated, open_to, each, total, type_of};
 ghost use Rattle.qs_machine.specs.Memory.{HasNews};
 ghost use Rattle.qs_machine.specs.Reports.{recv_report};
 ghost use Rattle.qs_machine.specs.Verdicts.{or_new};
@@ -16,7 +16,7 @@ ghost use Rattle.qs_conn.specs.Untold.{HasMore};
 ghost use Rattle.qs_conn.specs.RecvTasks.{HasOne};
 
 use crate::marks::least;
-use crate::places::{index_from, index_of, kind_of};
+use crate::places::{index_from, index_of, type_of};
 use crate::recv_lanes::RecvLanes;
 use crate::recv_marks::RecvTask;
 use crate::untold::Untold;
@@ -70,7 +70,7 @@ impl RecvTables {
     pub(crate) fn is_open(&self, stream: StreamId) -> bool
         ensures { result ≡ is_some (lookup self.now stream) }
     {
-        let lanes = &self.types[kind_of(stream)];
+        let lanes = &self.types[type_of(stream)];
         index_of(stream) < lanes.len()
     }
 
@@ -89,7 +89,7 @@ impl RecvTables {
         ensures value { result ≡ check_stream (or_new (lookup self.now stream) window) offset len fin }
         ensures in_range { IfOk result (λ h. h.after ≤ MAX_VARINT) }
     {
-        let lanes = &self.types[kind_of(stream)];
+        let lanes = &self.types[type_of(stream)];
         lanes.check_stream(window, index_of(stream), offset, len, fin)
     }
 
@@ -106,7 +106,7 @@ impl RecvTables {
         requires small { window ≤ 2 ^ 20 }
         ensures { result ≡ check_bytes (or_new (lookup self.now stream) window) offset bytes.now }
     {
-        let lanes = &self.types[kind_of(stream)];
+        let lanes = &self.types[type_of(stream)];
         lanes.check_bytes(window, index_of(stream), offset, bytes)
     }
 
@@ -122,24 +122,24 @@ impl RecvTables {
         requires small { window ≤ 2 ^ 20 }
         ensures { result ≡ check_reset (or_new (lookup self.now stream) window) size }
     {
-        let lanes = &self.types[kind_of(stream)];
+        let lanes = &self.types[type_of(stream)];
         lanes.check_reset(window, index_of(stream), size)
     }
 
     /// How many streams of the type of this one are open.
     pub(crate) fn count(&self, stream: StreamId) -> usize
-        ensures { result ≡ length (table self.now (kind_of stream)) }
+        ensures { result ≡ length (table self.now (type_of stream)) }
     {
-        self.count_of(kind_of(stream))
+        self.count_of(type_of(stream))
     }
 
     /// How many streams of a type are open.
-    pub(crate) fn count_of(&self, kind: usize) -> usize
-        requires { kind < 4 }
-        ensures value { result ≡ length (table self.now kind) }
+    pub(crate) fn count_of(&self, stream_type: usize) -> usize
+        requires { stream_type < 4 }
+        ensures value { result ≡ length (table self.now stream_type) }
         ensures small { result ≤ 2 ^ 60 }
     {
-        let lanes = &self.types[kind];
+        let lanes = &self.types[stream_type];
         lanes.len()
     }
 
@@ -147,16 +147,16 @@ impl RecvTables {
     pub(crate) fn reserve(&mut self, stream: StreamId) -> Result<(), NoMemory>
         ensures { self.new ≡ self.old }
     {
-        let lanes = &mut self.types[kind_of(stream)];
+        let lanes = &mut self.types[type_of(stream)];
         lanes.reserve_to(index_of(stream) + 1)
     }
 
     /// Takes the streams of the type of this one from a count on away, which nothing came for.
     pub(crate) fn close_to(&mut self, stream: StreamId, count: usize)
-        requires { let lanes = table self.old (kind_of stream) in tally_on (take count lanes) ≡ tally_on lanes }
-        ensures { self.new ≡ with_table self.old (kind_of stream) (take count (table self.old (kind_of stream))) }
+        requires { let lanes = table self.old (type_of stream) in tally_on (take count lanes) ≡ tally_on lanes }
+        ensures { self.new ≡ with_table self.old (type_of stream) (take count (table self.old (type_of stream))) }
     {
-        let lanes = &mut self.types[kind_of(stream)];
+        let lanes = &mut self.types[type_of(stream)];
         lanes.close_to(count);
     }
 
@@ -167,7 +167,7 @@ impl RecvTables {
         ensures ok { OnOk result (self.new ≡ open_to self.old stream (λ m. new_lane window)) }
         ensures err { OnErr result (self.new ≡ self.old) }
     {
-        let lanes = &mut self.types[kind_of(stream)];
+        let lanes = &mut self.types[type_of(stream)];
         lanes.open_to(window, index_of(stream) + 1)
     }
 
@@ -188,7 +188,7 @@ impl RecvTables {
         ensures err { OnErr result (self.new ≡ self.old) }
         ensures news { OnErr result (HasNews (or_new (lookup self.old stream) 0) offset (length bytes.now)) }
     {
-        let lanes = &mut self.types[kind_of(stream)];
+        let lanes = &mut self.types[type_of(stream)];
         lanes.take_stream(index_of(stream), offset, bytes, fin)
     }
 
@@ -200,7 +200,7 @@ impl RecvTables {
         requires room { total highest self.old < 2 ^ 62 }
         ensures { self.new ≡ updated self.old stream (λ l. take_reset l code size) (lookup self.old stream) }
     {
-        let lanes = &mut self.types[kind_of(stream)];
+        let lanes = &mut self.types[type_of(stream)];
         lanes.take_reset(index_of(stream), code, size);
     }
 
@@ -212,7 +212,7 @@ impl RecvTables {
         ensures bytes { let bytes = bytes_read (or_new (lookup self.old stream) 0) (length into.old) in into.new ≡ bytes ++ drop (length bytes) into.old }
         ensures after { self.new ≡ updated self.old stream (λ l. after_read l (length into.old)) (lookup self.old stream) }
     {
-        let lanes = &mut self.types[kind_of(stream)];
+        let lanes = &mut self.types[type_of(stream)];
         lanes.read(index_of(stream), into)
     }
 
@@ -223,7 +223,7 @@ impl RecvTables {
         requires fits { code ≤ MAX_VARINT }
         ensures { self.new ≡ updated self.old stream (λ l. stop l code) (lookup self.old stream) }
     {
-        let lanes = &mut self.types[kind_of(stream)];
+        let lanes = &mut self.types[type_of(stream)];
         lanes.stop(index_of(stream), code);
     }
 
@@ -231,7 +231,7 @@ impl RecvTables {
     pub(crate) fn has_ended(&self, stream: StreamId) -> bool
         ensures { result ≡ recv_over (lookup self.now stream) }
     {
-        let lanes = &self.types[kind_of(stream)];
+        let lanes = &self.types[type_of(stream)];
         lanes.has_ended(index_of(stream))
     }
 
@@ -249,7 +249,7 @@ impl RecvTables {
     pub(crate) fn report(&self, stream: StreamId) -> Option<RecvReport>
         ensures { result ≡ option_map recv_report (lookup self.now stream) }
     {
-        let lanes = &self.types[kind_of(stream)];
+        let lanes = &self.types[type_of(stream)];
         lanes.report(index_of(stream))
     }
 
@@ -258,7 +258,7 @@ impl RecvTables {
         ensures value { result ≡ limit_to_tell (lookup self.now stream) }
         ensures small { IfSome result (λ limit. limit ≤ MAX_VARINT) }
     {
-        let lanes = &self.types[kind_of(stream)];
+        let lanes = &self.types[type_of(stream)];
         lanes.limit_to_tell(index_of(stream))
     }
 
@@ -267,7 +267,7 @@ impl RecvTables {
         ensures value { result ≡ stop_to_tell (lookup self.now stream) }
         ensures small { IfSome result (λ code. code ≤ MAX_VARINT) }
     {
-        let lanes = &self.types[kind_of(stream)];
+        let lanes = &self.types[type_of(stream)];
         lanes.stop_to_tell(index_of(stream))
     }
 
@@ -291,15 +291,15 @@ impl RecvTables {
     }
 
     /// The least such number among the streams of a type.
-    pub(crate) fn next_with_of(&self, task: RecvTask, kind: usize, from: u64) -> Option<u64>
-        requires kind { kind < 4 }
+    pub(crate) fn next_with_of(&self, task: RecvTask, stream_type: usize, from: u64) -> Option<u64>
+        requires stream_type { stream_type < 4 }
         requires from { from ≤ 2 ^ 62 }
-        ensures least { IsLeast (IsHeldOf (HasOne task) self.now kind) from result }
+        ensures least { IsLeast (IsHeldOf (HasOne task) self.now stream_type) from result }
         ensures small { IfSome result (λ n. n < 2 ^ 62) }
     {
-        let lanes = &self.types[kind];
-        match lanes.next_with(task, index_from(kind, from)) {
-            Some(index) => Some((index * 4 + kind) as u64),
+        let lanes = &self.types[stream_type];
+        match lanes.next_with(task, index_from(stream_type, from)) {
+            Some(index) => Some((index * 4 + stream_type) as u64),
             None => None,
         }
     }

@@ -88,21 +88,21 @@ impl SendLanes {
     /// Opens the halves of all indexes below a count, in streams of that type.
     pub(crate) fn open_to(
         &mut self,
-        kind: u64,
+        stream_type: u64,
         limit: u64,
         buffer: usize,
         count: usize,
     ) -> Result<(), NoMemory>
-        requires kind { kind < 4 }
+        requires stream_type { stream_type < 4 }
         requires limit { limit ≤ MAX_VARINT }
         requires count { count ≤ 2 ^ 60 }
-        ensures ok { OnOk result (self.new ≡ widened self.old count (λ i. new_sending (i * 4 + kind) limit buffer)) }
+        ensures ok { OnOk result (self.new ≡ widened self.old count (λ i. new_sending (i * 4 + stream_type) limit buffer)) }
         ensures err { OnErr result (self.new ≡ self.old) }
     {
         let before = self.halves.len();
         let missing = count.saturating_sub(before);
         for opened in 0..missing {
-            let number = (before + opened) as u64 * 4 + kind;
+            let number = (before + opened) as u64 * 4 + stream_type;
             let id = StreamId::new(number).unwrap();
             let fresh = SendHalf::new(self.alloc, id, limit, buffer);
             if let Err(_refused) = self.halves.push(fresh) {

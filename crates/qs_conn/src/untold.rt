@@ -6,7 +6,7 @@ ghost use Rattle.qs_conn.specs.Marks.{IsBefore, IsNextMark, HaveTo};
 ghost use Rattle.qs_conn.specs.Untold.{IsClear, IsUnmarked, marked_for};
 
 use crate::marks::{Marks, least};
-use crate::places::{index_from, index_of, kind_of};
+use crate::places::{index_from, index_of, type_of};
 use qs_ranges::NoMemory;
 use qs_send::{Item, Piece};
 use qs_wire::StreamId;
@@ -119,7 +119,7 @@ impl Untold {
     pub(crate) fn reserve(&mut self, stream: StreamId) -> Result<(), NoMemory>
         ensures { self.new ≡ self.old }
     {
-        let lanes = &mut self.types[kind_of(stream)];
+        let lanes = &mut self.types[type_of(stream)];
         lanes.reserve(index_of(stream) + 1)
     }
 
@@ -128,7 +128,7 @@ impl Untold {
         ensures ok { OnOk result (self.new ≡ open_to self.old stream (λ n. false)) }
         ensures err { OnErr result (self.new ≡ self.old) }
     {
-        let lanes = &mut self.types[kind_of(stream)];
+        let lanes = &mut self.types[type_of(stream)];
         lanes.open_to(index_of(stream) + 1)
     }
 
@@ -136,7 +136,7 @@ impl Untold {
     pub(crate) fn set(&mut self, stream: StreamId, is_marked: bool)
         ensures { self.new ≡ updated self.old stream (λ b. is_marked) (lookup self.old stream) }
     {
-        let lanes = &mut self.types[kind_of(stream)];
+        let lanes = &mut self.types[type_of(stream)];
         lanes.set(index_of(stream), is_marked);
     }
 
@@ -160,6 +160,16 @@ impl Untold {
         if !self.may_have() {
             return None;
         }
+        self.least_marked(from)
+    }
+
+    // The search. It stands apart, so that where no half has a mark a caller pays for the look above alone.
+    #[inline(never)]
+    fn least_marked(&self, from: u64) -> Option<StreamId>
+        requires { from ≤ 2 ^ 62 }
+        ensures from { IfSome result (λ n. from ≤ n) }
+        ensures unmarked { (n : ℕ) (b : Bool) → from ≤ n → IsBefore n result → lookup self.now n ≡ Some b → b ≡ false }
+    {
         let bidi = least(self.next_of(0, from), self.next_of(1, from));
         let uni = least(self.next_of(2, from), self.next_of(3, from));
         StreamId::new(least(bidi, uni)?)
@@ -182,14 +192,14 @@ impl Untold {
     }
 
     // The least such number among the streams of a type.
-    fn next_of(&self, kind: usize, from: u64) -> Option<u64>
-        requires kind { kind < 4 }
+    fn next_of(&self, stream_type: usize, from: u64) -> Option<u64>
+        requires stream_type { stream_type < 4 }
         requires from { from ≤ 2 ^ 62 }
         ensures found { IfSome result (λ n. (from ≤ n) × (n < 2 ^ 62)) }
-        ensures unmarked { HaveTo IsUnmarked self.now from result kind }
+        ensures unmarked { HaveTo IsUnmarked self.now from result stream_type }
     {
-        let lanes = &self.types[kind];
-        let index = lanes.next(index_from(kind, from))?;
-        Some((index * 4 + kind) as u64)
+        let lanes = &self.types[stream_type];
+        let index = lanes.next(index_from(stream_type, from))?;
+        Some((index * 4 + stream_type) as u64)
     }
 }

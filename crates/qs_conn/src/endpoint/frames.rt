@@ -1,16 +1,16 @@
 //! What the frames of a payload do.
 ghost use Rattle.std.specs.Prelude.{◌≡◌, ◌+◌, ◌≤◌, ◌<◌, ◌^◌, length, IfOk};
 ghost use Rattle.qs_ranges.specs.Numbers.{MAX_VARINT};
-ghost use Rattle.qs_wire.specs.Layout.{view};
-ghost use Rattle.qs_wire.specs.Grammar.{Fits};
 ghost use Rattle.qs_recv.specs.Lane.{check_stream, check_reset};
 ghost use Rattle.qs_machine.specs.Credit.{grant};
-ghost use Rattle.qs_machine.specs.Seen.{seen};
 ghost use Rattle.qs_machine.specs.Verdicts.{or_else, ack_fault, state_fault_in, state_fault_out, credit_fault, bytes_fault, fault_code, lane_of, verdict};
+ghost use Rattle.qs_conn.specs.Seen.{view_seen, SeenFits};
 
 use super::{Endpoint, is_uni};
+use crate::seen::SeenFrame;
 use qs_recv::{Highest, RecvFault};
-use qs_wire::{Frame, StreamId};
+use qs_send::Item;
+use qs_wire::StreamId;
 
 // Codes of errors (RFC 9000, section 20.1).
 const FLOW_CONTROL_ERROR: u64 = 0x03;
@@ -26,41 +26,31 @@ const PROTOCOL_VIOLATION: u64 = 0x0a;
 impl Endpoint {
     // The code with which a frame closes the connection.
     #[tactic(auto, unfolding(qs_machine::specs::Verdicts::verdict))]
-    pub(super) fn verdict(&self, frame: &Frame<'_>) -> Option<u64>
-        requires { Fits (view frame.now) }
-        ensures { result ≡ verdict self.now (seen (view frame.now)) }
+    pub(super) fn verdict(&self, seen: &SeenFrame<'_>) -> Option<u64>
+        requires { SeenFits seen.now }
+        ensures { result ≡ verdict self.now (view_seen seen.now) }
     {
-        match *frame {
-            Frame::Padding
-            | Frame::Ping
-            | Frame::Crypto { .. }
-            | Frame::NewToken { .. }
-            | Frame::MaxData { .. }
-            | Frame::MaxStreams { .. }
-            | Frame::DataBlocked { .. }
-            | Frame::StreamsBlocked { .. }
-            | Frame::NewConnectionId { .. }
-            | Frame::RetireConnectionId { .. }
-            | Frame::PathChallenge { .. }
-            | Frame::PathResponse { .. }
-            | Frame::ConnectionClose { .. }
-            | Frame::ApplicationClose { .. }
-            | Frame::HandshakeDone => None,
-            Frame::Ack { largest, .. } => self.ack_fault(largest),
-            Frame::Stream {
+        match *seen {
+            SeenFrame::Ack { largest, .. } => self.ack_fault(largest),
+            SeenFrame::Stream {
                 stream,
                 offset,
-                fin,
                 bytes,
+                fin,
             } => self.stream_fault(stream, offset, bytes, fin),
-            Frame::ResetStream {
-                stream,
-                final_size,
-                ..
-            } => self.reset_fault(stream, final_size),
-            Frame::StreamDataBlocked { stream, .. } => self.state_fault_in(stream),
-            Frame::StopSending { stream, .. } => self.state_fault_out(stream),
-            Frame::MaxStreamData { stream, .. } => self.state_fault_out(stream),
+            SeenFrame::Control(
+                Item::ResetStream {
+                    stream,
+                    final_size,
+                    ..
+                },
+            ) => self.reset_fault(stream, final_size),
+            SeenFrame::Control(Item::StreamDataBlocked { stream, .. }) => {
+                self.state_fault_in(stream)
+            }
+            SeenFrame::Control(Item::StopSending { stream, .. }) => self.state_fault_out(stream),
+            SeenFrame::Control(Item::MaxStreamData { stream, .. }) => self.state_fault_out(stream),
+            SeenFrame::Control(_) | SeenFrame::Close(_) | SeenFrame::Plain { .. } => None,
         }
     }
 
@@ -152,7 +142,7 @@ impl Endpoint {
             Err(fault) => Some(code_of(fault)),
             Ok(highest) => {
                 let growth = highest.after.saturating_sub(highest.before);
-                if self.granted < self.spent() + growth {
+                if self.limits.granted < self.spent() + growth {
                     Some(FLOW_CONTROL_ERROR)
                 } else {
                     None
@@ -166,9 +156,9 @@ impl Endpoint {
         ensures { result ≡ grant self.now stream }
     {
         if is_uni(stream) {
-            self.granted_uni
+            self.limits.granted_uni
         } else {
-            self.granted_bidi
+            self.limits.granted_bidi
         }
     }
 }

@@ -7,7 +7,6 @@ ghost use Rattle.qs_conn.specs.Filling.{made_text};
 use super::Endpoint;
 use crate::filling::{Wish, fill};
 use crate::sendable::has_frame;
-use crate::terms::Terms;
 use crate::unmarking::unmark_told;
 use qs_calls::{Made, MakeFault};
 use qs_wire::StreamId;
@@ -64,7 +63,6 @@ impl Endpoint {
         if let Err(_refused) = self.outbox.begin(out.len() / 2) {
             return self.without_memory();
         }
-        let terms = self.terms();
         let wish = Wish {
             first,
             delay,
@@ -72,7 +70,7 @@ impl Endpoint {
         };
         let (recvs, untold) = (&self.recvs, &self.untold);
         let len = fill(
-            &terms,
+            &self.limits,
             recvs,
             untold,
             &self.done,
@@ -80,7 +78,7 @@ impl Endpoint {
             wish,
             out,
         );
-        unmark_told(&terms, &self.recvs, &self.outbox, &mut self.untold);
+        unmark_told(&self.limits, &self.recvs, &self.outbox, &mut self.untold);
         if len == 0 {
             return Ok(None);
         }
@@ -113,25 +111,6 @@ impl Endpoint {
         if self.ack_due {
             return true;
         }
-        let terms = self.terms();
-        has_frame(&terms, &self.recvs, &self.untold, &self.outbox)
-    }
-
-    // What is to be told beside what the streams have.
-    pub(super) fn terms(&self) -> Terms
-        ensures { result ≡ record { role = self.now.role; settings = self.now.settings; granted = self.now.granted; granted_bidi = self.now.granted_bidi; granted_uni = self.now.granted_uni; known_data = self.now.known_data; known_bidi = self.now.known_bidi; known_uni = self.now.known_uni; wanted_bidi = self.now.wanted_bidi; wanted_uni = self.now.wanted_uni } }
-    {
-        Terms {
-            role: self.role,
-            settings: self.settings,
-            granted: self.granted,
-            granted_bidi: self.granted_bidi,
-            granted_uni: self.granted_uni,
-            known_data: self.known_data,
-            known_bidi: self.known_bidi,
-            known_uni: self.known_uni,
-            wanted_bidi: self.wanted_bidi,
-            wanted_uni: self.wanted_uni,
-        }
+        has_frame(&self.limits, &self.recvs, &self.untold, &self.outbox)
     }
 }

@@ -12,7 +12,7 @@ ghost use Rattle.qs_machine.specs.Credit.{settle};
 ghost use Rattle.qs_machine.specs.Due.{known_count};
 ghost use Rattle.qs_machine.specs.Memory.{IsYetToOpen};
 ghost use Rattle.qs_machine.specs.Outgoing.{Outgoing, with_sends};
-ghost use Rattle.qs_machine.specs.Owner.{OpenStep, AcceptStep, own_kind, peer_kind, opened_count, with_wanted};
+ghost use Rattle.qs_machine.specs.Owner.{OpenStep, AcceptStep, own_type, peer_type, opened_count, with_wanted};
 
 use super::{Endpoint, is_uni, role_bit};
 use crate::outbox::Outbox;
@@ -33,15 +33,15 @@ impl Endpoint {
         if self.closed.is_some() {
             return Err(OpenFault::Closed);
         }
-        let kind = self.own_kind(dir);
-        let count = self.opened_count(kind);
+        let stream_type = self.own_type(dir);
+        let count = self.opened_count(stream_type);
         let known = self.known_count(dir);
         if known <= count as u64 {
             self.want(dir, known);
             self.settle();
             return Err(OpenFault::Blocked(known));
         }
-        let stream = StreamId::new(count as u64 * 4 + kind as u64).unwrap();
+        let stream = StreamId::new(count as u64 * 4 + stream_type as u64).unwrap();
         if let Err(_refused) = self.open_stream(stream) {
             return Err(OpenFault::NoMemory);
         }
@@ -56,14 +56,14 @@ impl Endpoint {
         if self.closed.is_some() {
             return None;
         }
-        let bidi = self.peer_kind(Dir::Bidi);
+        let bidi = self.peer_type(Dir::Bidi);
         if self.accepted_bidi < self.opened_count(bidi) as u64 {
             let stream = StreamId::new(self.accepted_bidi * 4 + bidi as u64).unwrap();
             self.accepted_bidi += 1;
             self.settle();
             return Some(stream);
         }
-        let uni = self.peer_kind(Dir::Uni);
+        let uni = self.peer_type(Dir::Uni);
         if self.accepted_uni < self.opened_count(uni) as u64 {
             let stream = StreamId::new(self.accepted_uni * 4 + uni as u64).unwrap();
             self.accepted_uni += 1;
@@ -118,7 +118,7 @@ impl Endpoint {
         let (uni, own) = (is_uni(stream), self.is_own(stream));
         let limit = self.first_send_limit(stream);
         let window = self.window(stream);
-        let buffer = self.settings.send_buffer;
+        let buffer = self.limits.settings.send_buffer;
         self.outbox.are_of_open();
         let before = self.outbox.count(stream);
         self.outbox.are_of_open();
@@ -153,8 +153,8 @@ impl Endpoint {
         ensures { self.new ≡ with_wanted dir count self.old }
     {
         match dir {
-            Dir::Bidi => self.wanted_bidi = Some(count),
-            Dir::Uni => self.wanted_uni = Some(count),
+            Dir::Bidi => self.limits.wanted_bidi = Some(count),
+            Dir::Uni => self.limits.wanted_uni = Some(count),
         }
     }
 
@@ -164,39 +164,41 @@ impl Endpoint {
         ensures small { result ≤ 2 ^ 60 }
     {
         match dir {
-            Dir::Bidi => self.known_bidi,
-            Dir::Uni => self.known_uni,
+            Dir::Bidi => self.limits.known_bidi,
+            Dir::Uni => self.limits.known_uni,
         }
     }
 
     // How many streams of a type are open.
-    pub(super) fn opened_count(&self, kind: usize) -> usize
-        requires { kind < 4 }
-        ensures value { result ≡ opened_count self.now kind }
+    pub(super) fn opened_count(&self, stream_type: usize) -> usize
+        requires { stream_type < 4 }
+        ensures value { result ≡ opened_count self.now stream_type }
         ensures small { result ≤ 2 ^ 60 }
     {
-        self.outbox.count_of(kind).max(self.recvs.count_of(kind))
+        self.outbox
+            .count_of(stream_type)
+            .max(self.recvs.count_of(stream_type))
     }
 
     // The type of the streams that this end opens.
-    pub(super) fn own_kind(&self, dir: Dir) -> usize
-        ensures value { result ≡ own_kind self.now dir }
+    pub(super) fn own_type(&self, dir: Dir) -> usize
+        ensures value { result ≡ own_type self.now dir }
         ensures small { result < 4 }
     {
         match dir {
-            Dir::Bidi => role_bit(self.role),
-            Dir::Uni => 2 + role_bit(self.role),
+            Dir::Bidi => role_bit(self.limits.role),
+            Dir::Uni => 2 + role_bit(self.limits.role),
         }
     }
 
     // The type of the streams that the peer opens.
-    pub(super) fn peer_kind(&self, dir: Dir) -> usize
-        ensures value { result ≡ peer_kind self.now dir }
+    pub(super) fn peer_type(&self, dir: Dir) -> usize
+        ensures value { result ≡ peer_type self.now dir }
         ensures small { result < 4 }
     {
         match dir {
-            Dir::Bidi => 1 - role_bit(self.role),
-            Dir::Uni => 3 - role_bit(self.role),
+            Dir::Bidi => 1 - role_bit(self.limits.role),
+            Dir::Uni => 3 - role_bit(self.limits.role),
         }
     }
 }

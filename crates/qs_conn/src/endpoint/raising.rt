@@ -52,19 +52,19 @@ impl Endpoint {
         ensures { self.new ≡ knows_limits limits.now self.old }
     {
         self.peer = greater_limits(&self.peer, limits);
-        self.known_data = self.known_data.max(limits.max_data);
-        self.known_bidi = self.known_bidi.max(limits.streams_bidi);
-        self.known_uni = self.known_uni.max(limits.streams_uni);
+        self.limits.known_data = self.limits.known_data.max(limits.max_data);
+        self.limits.known_bidi = self.limits.known_bidi.max(limits.streams_bidi);
+        self.limits.known_uni = self.limits.known_uni.max(limits.streams_uni);
     }
 
     // Each open half of a type may send what one may that opens now.
-    fn allow_type(&mut self, kind: usize)
-        requires { kind < 4 }
-        ensures { self.new ≡ record self.old { sends = type_allowed kind (first_send_limit self.old kind) self.old.sends } }
+    fn allow_type(&mut self, stream_type: usize)
+        requires { stream_type < 4 }
+        ensures { self.new ≡ record self.old { sends = type_allowed stream_type (first_send_limit self.old stream_type) self.old.sends } }
     {
-        let limit = self.first_send_limit(StreamId::new(kind as u64).unwrap());
-        for index in 0..self.outbox.count_of(kind) {
-            let stream = StreamId::new((index * 4 + kind) as u64).unwrap();
+        let limit = self.first_send_limit(StreamId::new(stream_type as u64).unwrap());
+        for index in 0..self.outbox.count_of(stream_type) {
+            let stream = StreamId::new((index * 4 + stream_type) as u64).unwrap();
             self.allow_to(stream, limit);
         }
     }

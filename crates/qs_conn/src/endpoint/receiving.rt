@@ -4,18 +4,18 @@ ghost use Rattle.qs_wire.specs.Layout.{view};
 ghost use Rattle.qs_wire.specs.Grammar.{Fits};
 ghost use Rattle.qs_wire.specs.Reading.{view_placed};
 ghost use Rattle.qs_machine.specs.Ends.{closes};
-ghost use Rattle.qs_machine.specs.Seen.{seen, asks_ack};
 ghost use Rattle.qs_machine.specs.Receiving.{ReceiveStep, TakesPayload, AtEnd, closing_at, closing_of};
-ghost use Rattle.qs_conn.specs.Layers.{TakesFrame, close_code};
+ghost use Rattle.qs_conn.specs.Layers.{TakesFrame};
 
 use super::Endpoint;
+use crate::seen::{SeenFrame, asks_ack, seen};
 use qs_calls::{Closed, Closing, Received};
-use qs_wire::{Frame, Frames, Placed, WireFault};
+use qs_wire::{Frames, Placed, WireFault};
 
-/// What one frame does to the processing of its payload.
+/// What one frame does to the processing of its payload. Where it goes on, the frame may ask for an ACK.
 #[derive(Drop)]
 pub(crate) enum Progress {
-    GoesOn,
+    GoesOn(bool),
     Ends(Result<Received, Closing>),
 }
 
@@ -68,7 +68,7 @@ impl Endpoint {
         loop {
             match frames.next() {
                 Ok(Some(placed)) => match self.take_placed(&placed) {
-                    Progress::GoesOn => asks |= asks_ack(&placed.frame),
+                    Progress::GoesOn(asks_ack) => asks |= asks_ack,
                     Progress::Ends(result) => return result,
                 },
                 Ok(None) => return Ok(self.record_all(number, asks)),
@@ -84,17 +84,18 @@ impl Endpoint {
         requires typed { placed.now.frame_type < 2 ^ 62 }
         ensures { TakesFrame (view_placed placed.now) self.old result self.new }
     {
-        if let Some(code) = close_code(&placed.frame) {
+        let seen = seen(&placed.frame);
+        if let SeenFrame::Close(code) = seen {
             self.closed = Some(Closed::ByPeer(code));
             return Progress::Ends(Ok(Received::PeerClosed(code)));
         }
-        if let Some(code) = self.verdict(&placed.frame) {
+        if let Some(code) = self.verdict(&seen) {
             return Progress::Ends(Err(self.close_at(placed, code)));
         }
-        if let Err(_refused) = self.on_frame(&placed.frame) {
+        if let Err(_refused) = self.on_frame(&seen) {
             return Progress::Ends(Ok(Received::NoMemory));
         }
-        Progress::GoesOn
+        Progress::GoesOn(asks_ack(&seen))
     }
 
     // No frame is left.
@@ -138,27 +139,4 @@ impl Endpoint {
         self.closed = Some(Closed::ByUs(closing));
         closing
     }
-}
-
-// The code of a CONNECTION_CLOSE.
-fn close_code(frame: &Frame<'_>) -> Option<u64>
-    ensures { result ≡ close_code (seen (view frame.now)) }
-{
-    match *frame {
-        Frame::ConnectionClose { code, .. } | Frame::ApplicationClose { code, .. } => Some(code),
-        _ => None,
-    }
-}
-
-// Whether a frame asks for an ACK (RFC 9000, section 13.2).
-fn asks_ack(frame: &Frame<'_>) -> bool
-    ensures { result ≡ asks_ack (seen (view frame.now)) }
-{
-    !matches!(
-        *frame,
-        Frame::Padding
-            | Frame::Ack { .. }
-            | Frame::ConnectionClose { .. }
-            | Frame::ApplicationClose { .. }
-    )
 }

@@ -2,70 +2,62 @@
 ghost use Rattle.std.specs.Prelude.{◌≡◌, ◌+◌, ◌≤◌, ◌<◌, ◌^◌, length, None, OnOk, OnErr};
 ghost use Rattle.qs_ranges.specs.Numbers.{MAX_VARINT};
 ghost use Rattle.qs_wire.specs.Varint.{numbers_of};
-ghost use Rattle.qs_wire.specs.Layout.{view, taken, ack_ranges_of};
-ghost use Rattle.qs_wire.specs.Grammar.{Fits};
+ghost use Rattle.qs_wire.specs.Layout.{taken, ack_ranges_of};
 ghost use Rattle.qs_send.specs.declared.piece.Item.TheVariants as items;
-ghost use Rattle.qs_machine.specs.Seen.{seen, Ack, Stream, Control};
+ghost use Rattle.qs_machine.specs.Seen.{Ack, Stream, Control};
 ghost use Rattle.qs_machine.specs.Verdicts.{state_fault_out, verdict};
 ghost use Rattle.qs_machine.specs.FrameStep.{named, acks, item_taken, frame_taken};
 ghost use Rattle.qs_machine.specs.Memory.{IsYetToOpen, MayRunOut};
 ghost use Rattle.qs_machine.specs.Receiving.{RunsOut};
+ghost use Rattle.qs_conn.specs.Seen.{view_seen, SeenFits};
 
 use super::Endpoint;
 use super::acking::ack_ranges;
+use crate::seen::SeenFrame;
 use qs_ranges::NoMemory;
-use qs_wire::{Dir, Frame, StreamId};
+use qs_send::Item;
+use qs_wire::{Dir, StreamId};
 
 impl Endpoint {
     // A frame takes effect, or finds no memory and changes nothing; of an ACK some packets may be acknowledged then.
-    #[tactic(auto, unfolding(qs_machine::specs::FrameStep::frame_taken))]
-    pub(super) fn on_frame(&mut self, frame: &Frame<'_>) -> Result<(), NoMemory>
-        requires fits { Fits (view frame.now) }
-        requires passed { verdict self.old (seen (view frame.now)) ≡ None }
-        ensures ok { OnOk result (self.new ≡ frame_taken (seen (view frame.now)) self.old) }
-        ensures err { OnErr result (RunsOut self.old (seen (view frame.now)) self.new) }
+    #[tactic(auto, unfolding(qs_machine::specs::Verdicts::verdict, qs_machine::specs::FrameStep::frame_taken))]
+    pub(super) fn on_frame(&mut self, seen: &SeenFrame<'_>) -> Result<(), NoMemory>
+        requires fits { SeenFits seen.now }
+        requires passed { verdict self.old (view_seen seen.now) ≡ None }
+        ensures ok { OnOk result (self.new ≡ frame_taken (view_seen seen.now) self.old) }
+        ensures err { OnErr result (RunsOut self.old (view_seen seen.now) self.new) }
     {
-        match *frame {
-            Frame::Padding
-            | Frame::Ping
-            | Frame::Crypto { .. }
-            | Frame::NewToken { .. }
-            | Frame::DataBlocked { .. }
-            | Frame::StreamsBlocked { .. }
-            | Frame::NewConnectionId { .. }
-            | Frame::RetireConnectionId { .. }
-            | Frame::PathChallenge { .. }
-            | Frame::PathResponse { .. }
-            | Frame::ConnectionClose { .. }
-            | Frame::ApplicationClose { .. }
-            | Frame::HandshakeDone => Ok(()),
-            Frame::Ack {
-                largest,
-                ranges,
-                ..
-            } => self.on_ack(largest, ranges),
-            Frame::MaxData { maximum } => {
-                self.known_data = self.known_data.max(maximum);
+        match *seen {
+            SeenFrame::Ack { largest, ranges } => self.on_ack(largest, ranges),
+            SeenFrame::Stream {
+                stream,
+                offset,
+                bytes,
+                fin,
+            } => self.on_stream(stream, offset, bytes, fin),
+            SeenFrame::Control(Item::MaxData { maximum }) => {
+                self.limits.known_data = self.limits.known_data.max(maximum);
                 Ok(())
             }
-            Frame::MaxStreams { dir, count } => {
+            SeenFrame::Control(Item::MaxStreams { dir, count }) => {
                 self.on_max_streams(dir, count);
                 Ok(())
             }
-            Frame::MaxStreamData { stream, maximum } => self.on_max_stream_data(stream, maximum),
-            Frame::StopSending { stream, code } => self.on_stop_sending(stream, code),
-            Frame::StreamDataBlocked { stream, .. } => self.open_by_peer(stream),
-            Frame::ResetStream {
-                stream,
-                code,
-                final_size,
-            } => self.on_reset_stream(stream, code, final_size),
-            Frame::Stream {
-                stream,
-                offset,
-                fin,
-                bytes,
-            } => self.on_stream(stream, offset, bytes, fin),
+            SeenFrame::Control(Item::MaxStreamData { stream, maximum }) => {
+                self.on_max_stream_data(stream, maximum)
+            }
+            SeenFrame::Control(Item::StopSending { stream, code }) => {
+                self.on_stop_sending(stream, code)
+            }
+            SeenFrame::Control(Item::StreamDataBlocked { stream, .. }) => self.open_by_peer(stream),
+            SeenFrame::Control(
+                Item::ResetStream {
+                    stream,
+                    code,
+                    final_size,
+                },
+            ) => self.on_reset_stream(stream, code, final_size),
+            SeenFrame::Control(_) | SeenFrame::Close(_) | SeenFrame::Plain { .. } => Ok(()),
         }
     }
 
@@ -76,7 +68,7 @@ impl Endpoint {
         ensures ok { OnOk result (self.new ≡ acks (named self.old (ack_ranges_of largest (numbers_of ranges.now))) self.old) }
         ensures err { OnErr result (RunsOut self.old (Ack largest (ack_ranges_of largest (numbers_of ranges.now))) self.new) }
     {
-        let (role, recvs) = (self.role, &self.recvs);
+        let (role, recvs) = (self.limits.role, &self.recvs);
         let before = self.ended;
         let taken = ack_ranges(
             &mut self.outbox,
@@ -97,8 +89,8 @@ impl Endpoint {
         ensures { self.new ≡ item_taken (items.MaxStreams dir count) self.old }
     {
         match dir {
-            Dir::Bidi => self.known_bidi = self.known_bidi.max(count),
-            Dir::Uni => self.known_uni = self.known_uni.max(count),
+            Dir::Bidi => self.limits.known_bidi = self.limits.known_bidi.max(count),
+            Dir::Uni => self.limits.known_uni = self.limits.known_uni.max(count),
         }
     }
 
@@ -138,7 +130,7 @@ impl Endpoint {
         ensures err { OnErr result (self.new ≡ self.old) }
         ensures yet { OnErr result (IsYetToOpen self.old stream) }
     {
-        let _granted = self.granted;
+        let _granted = self.limits.granted;
         self.open_by_peer(stream)?;
         self.recvs.take_reset(stream, code, size);
         self.is_settled = false;

@@ -1,23 +1,27 @@
 //! Packets are acknowledged and lost.
-ghost use Rattle.std.specs.Prelude.{◌≡◌, ◌<◌, ◌≤◌, ◌↔◌, is_some, true, Some, false, IfSome, OnOk, OnErr};
+ghost use Rattle.std.specs.Prelude.{◌≡◌, ◌<◌, ◌≤◌, ◌↔◌, length, is_some, true, Some, false, IfSome, OnOk, OnErr};
 ghost use Rattle.std.specs.FinMap as fmap;
 ghost use Rattle.qs_send.specs.declared.piece.Item.{Item};
 ghost use Rattle.qs_send.specs.declared.piece.Piece.TheVariants as pieces;
 ghost use Rattle.qs_send.specs.Records.{Among};
 ghost use Rattle.qs_send.specs.AckPass.{Falls, IsNextNamed};
-ghost use Rattle.qs_send.specs.Lane.{Sending, after_reset_acked};
+ghost use Rattle.qs_send.specs.Chunks.{WasSent};
+ghost use Rattle.qs_send.specs.Lane.{Sending, after_reset_acked, after_acked, after_lost};
 ghost use Rattle.qs_machine.specs.Tables.{lookup, updated};
 ghost use Rattle.qs_machine.specs.Asking.{IsNextOutstanding};
-ghost use Rattle.qs_machine.specs.Memory.{NoteMayRunOut, PieceMayRunOut};
+ghost use Rattle.qs_machine.specs.Memory.{ChunkMayRunOut, NoteMayRunOut, PieceMayRunOut};
+ghost use Rattle.qs_machine.specs.Sums.{or_no_sending, tables_of};
 ghost use Rattle.qs_machine.specs.Outgoing.{lanes_of, first_piece, first_acked_out, first_lost_out, acked_at, IsIdle, IsSentPiece, NoneEmpty, item_noted, halves_acked, items_acked, halves_lost};
 ghost use Rattle.qs_conn.specs.Runs.{held_out};
 
 use super::Outbox;
-use crate::send_tables::SendTables;
+use super::halves::half_of;
+use crate::places::{index_of, type_of};
+use crate::send_lanes::SendLanes;
 use crate::told::ToldItems;
 use crate::told_index::ToldIndex;
 use qs_ranges::NoMemory;
-use qs_send::{AckPass, Item, Piece, Records, SendState};
+use qs_send::{AckPass, Chunk, Item, Piece, Records, SendState};
 use qs_wire::StreamId;
 
 /// A packet whose record is kept: of the outstanding ones, or of the lost ones, for which an acknowledgement comes late.
@@ -57,6 +61,10 @@ impl Outbox {
         if late {
             return pass.next_lost(&self.lost);
         }
+        // Below the first record there is none, however many ranges follow.
+        if pass.below() <= self.records.base() {
+            return None;
+        }
         pass.next(&self.records)
     }
 
@@ -89,6 +97,7 @@ impl Outbox {
     }
 
     /// The first piece of a packet of which a record is kept is acknowledged, or nothing changes.
+    #[inline]
     pub(crate) fn ack_kept(&mut self, packet: KeptPacket, piece: Piece) -> Result<(), NoMemory>
         requires idle { IsIdle self.old }
         requires first { first_piece (fmap.get (held_out packet.late self.old) packet.number) ≡ Some piece }
@@ -113,7 +122,7 @@ impl Outbox {
         ensures idle { IsIdle self.new }
     {
         let _next = self.next;
-        piece_acked(&mut self.sends, &mut self.told, &piece)?;
+        piece_acked(&mut self.types, &mut self.told, &piece)?;
         self.records.drop_first(number);
         forget(&mut self.index, piece);
         Ok(())
@@ -129,7 +138,7 @@ impl Outbox {
         ensures idle { IsIdle self.new }
     {
         let _next = self.next;
-        piece_acked(&mut self.sends, &mut self.told, &piece)?;
+        piece_acked(&mut self.types, &mut self.told, &piece)?;
         self.lost.drop_first(number);
         Ok(())
     }
@@ -145,7 +154,7 @@ impl Outbox {
     {
         let _next = self.next;
         self.lost.make_room(number)?;
-        piece_lost(&mut self.sends, &piece)?;
+        piece_lost(&mut self.types, &piece)?;
         self.lost.add(number, piece);
         self.records.drop_first(number);
         forget(&mut self.index, piece);
@@ -170,56 +179,90 @@ fn next_held(records: &Records, from: u64) -> Option<u64>
 }
 
 // A chunk, or an item, is acknowledged; or nothing changes.
-fn piece_acked(sends: &mut SendTables, told: &mut ToldItems, piece: &Piece) -> Result<(), NoMemory>
-    requires { IsSentPiece sends.old piece.now }
-    ensures halves { OnOk result (sends.new ≡ halves_acked piece.now sends.old) }
+fn piece_acked(
+    types: &mut [SendLanes; 4],
+    told: &mut ToldItems,
+    piece: &Piece,
+) -> Result<(), NoMemory>
+    requires { IsSentPiece (tables_of types.old) piece.now }
+    ensures len { length types.new ≡ 4 }
+    ensures halves { OnOk result (tables_of types.new ≡ halves_acked piece.now (tables_of types.old)) }
     ensures items { OnOk result (told.new ≡ items_acked piece.now told.old) }
-    ensures err { OnErr result (sends.new ≡ sends.old) }
+    ensures err { OnErr result (types.new ≡ types.old) }
     ensures same { OnErr result (told.new ≡ told.old) }
-    ensures asks { OnErr result (PieceMayRunOut (lanes_of sends.old) told.old piece.now) }
+    ensures asks { OnErr result (PieceMayRunOut (lanes_of (tables_of types.old)) told.old piece.now) }
 {
     match *piece {
-        Piece::Data { stream, chunk } => sends.acked(stream, chunk),
-        Piece::Told(item) => item_acked(sends, told, item),
+        Piece::Data { stream, chunk } => chunk_acked(types, stream, chunk),
+        Piece::Told(item) => item_acked(types, told, item),
     }
 }
 
+// Takes in that a chunk is acknowledged, or changes nothing.
+fn chunk_acked(types: &mut [SendLanes; 4], stream: StreamId, chunk: Chunk) -> Result<(), NoMemory>
+    requires there { is_some (lookup (tables_of types.old) stream) ≡ true }
+    requires sent { WasSent (or_no_sending (lookup (tables_of types.old) stream)).lane chunk }
+    ensures len { length types.new ≡ 4 }
+    ensures ok { OnOk result (tables_of types.new ≡ updated (tables_of types.old) stream (λ s. after_acked s chunk) (lookup (tables_of types.old) stream)) }
+    ensures err { OnErr result (types.new ≡ types.old) }
+    ensures asks { OnErr result (ChunkMayRunOut (or_no_sending (lookup (tables_of types.old) stream)).lane chunk) }
+{
+    let lanes = &mut types[type_of(stream)];
+    lanes.acked(index_of(stream), chunk)
+}
+
 // An item is acknowledged, or nothing changes. A RESET_STREAM is marked in its half, once.
-fn item_acked(sends: &mut SendTables, told: &mut ToldItems, item: Item) -> Result<(), NoMemory>
-    requires { IsSentPiece sends.old (pieces.Told item) }
-    ensures halves { OnOk result (sends.new ≡ halves_acked (pieces.Told item) sends.old) }
+fn item_acked(types: &mut [SendLanes; 4], told: &mut ToldItems, item: Item) -> Result<(), NoMemory>
+    requires { IsSentPiece (tables_of types.old) (pieces.Told item) }
+    ensures len { length types.new ≡ 4 }
+    ensures halves { OnOk result (tables_of types.new ≡ halves_acked (pieces.Told item) (tables_of types.old)) }
     ensures items { OnOk result (told.new ≡ item_noted item told.old) }
-    ensures err { OnErr result (sends.new ≡ sends.old) }
+    ensures err { OnErr result (types.new ≡ types.old) }
     ensures same { OnErr result (told.new ≡ told.old) }
     ensures asks { OnErr result (NoteMayRunOut told.old item) }
 {
     if let Item::ResetStream { stream, .. } = item {
-        reset_acked(sends, stream);
+        reset_acked(types, stream);
         return Ok(());
     }
     told.note(item)
 }
 
 // The RESET_STREAM of a half is acknowledged, once more or for the first time.
-fn reset_acked(sends: &mut SendTables, stream: StreamId)
-    requires { (s : Sending) × (lookup sends.old stream ≡ Some s) × (is_some s.lane.was_reset ≡ true) }
-    ensures { sends.new ≡ updated sends.old stream after_reset_acked (lookup sends.old stream) }
+fn reset_acked(types: &mut [SendLanes; 4], stream: StreamId)
+    requires { (s : Sending) × (lookup (tables_of types.old) stream ≡ Some s) × (is_some s.lane.was_reset ≡ true) }
+    ensures len { length types.new ≡ 4 }
+    ensures after { tables_of types.new ≡ updated (tables_of types.old) stream after_reset_acked (lookup (tables_of types.old) stream) }
 {
-    if matches!(sends.get(stream).state(), SendState::ResetSent) {
-        sends.reset_acked(stream);
+    if matches!(half_of(types, stream).state(), SendState::ResetSent) {
+        let lanes = &mut types[type_of(stream)];
+        lanes.reset_acked(index_of(stream));
     }
 }
 
 // A chunk is due again, or nothing changes. An item is due by itself.
-fn piece_lost(sends: &mut SendTables, piece: &Piece) -> Result<(), NoMemory>
-    requires { IsSentPiece sends.old piece.now }
-    ensures ok { OnOk result (sends.new ≡ halves_lost piece.now sends.old) }
-    ensures err { OnErr result (sends.new ≡ sends.old) }
+fn piece_lost(types: &mut [SendLanes; 4], piece: &Piece) -> Result<(), NoMemory>
+    requires { IsSentPiece (tables_of types.old) piece.now }
+    ensures len { length types.new ≡ 4 }
+    ensures ok { OnOk result (tables_of types.new ≡ halves_lost piece.now (tables_of types.old)) }
+    ensures err { OnErr result (types.new ≡ types.old) }
 {
     match *piece {
-        Piece::Data { stream, chunk } => sends.lost(stream, chunk),
+        Piece::Data { stream, chunk } => chunk_lost(types, stream, chunk),
         Piece::Told(_) => Ok(()),
     }
+}
+
+// Takes in that a chunk is lost, or changes nothing.
+fn chunk_lost(types: &mut [SendLanes; 4], stream: StreamId, chunk: Chunk) -> Result<(), NoMemory>
+    requires there { is_some (lookup (tables_of types.old) stream) ≡ true }
+    requires sent { WasSent (or_no_sending (lookup (tables_of types.old) stream)).lane chunk }
+    ensures len { length types.new ≡ 4 }
+    ensures ok { OnOk result (tables_of types.new ≡ updated (tables_of types.old) stream (λ s. after_lost s chunk) (lookup (tables_of types.old) stream)) }
+    ensures err { OnErr result (types.new ≡ types.old) }
+{
+    let lanes = &mut types[type_of(stream)];
+    lanes.lost(index_of(stream), chunk)
 }
 
 // An item that left the records is told no more.

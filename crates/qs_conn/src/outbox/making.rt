@@ -6,11 +6,13 @@ ghost use Rattle.qs_send.specs.declared.piece.Piece.TheVariants as pieces;
 ghost use Rattle.qs_send.specs.Lane.{Sending, sent_lane, bytes_of, after_blocked};
 ghost use Rattle.qs_send.specs.Chunks.{IsDueChunk, IsHeldByRoom, HasBytes};
 ghost use Rattle.qs_machine.specs.Tables.{lookup, updated};
-ghost use Rattle.qs_machine.specs.Sums.{or_none};
+ghost use Rattle.qs_machine.specs.Sums.{or_none, tables_of};
 ghost use Rattle.qs_machine.specs.Outgoing.{on_lane, sent_sum, chunk_put, item_put_out, HasSending, ChunkFound, MayTell, IsCarried, IsIdle, AreBelow, halves_told, with_pending};
 
 use super::Outbox;
-use crate::send_tables::SendTables;
+use super::halves::{half_of, is_open};
+use crate::places::{index_of, type_of};
+use crate::send_lanes::SendLanes;
 use qs_ranges::NoMemory;
 use qs_send::{Chunk, Item, Piece, Records};
 use qs_wire::StreamId;
@@ -34,7 +36,7 @@ impl Outbox {
         ensures { (s : Sending) × HasSending self.now stream s × ChunkFound s room fresh result }
     {
         let _next = self.next;
-        let half = self.sends.get(stream);
+        let half = half_of(&self.types, stream);
         half.is_lawful();
         half.next_chunk(room, fresh)
     }
@@ -45,7 +47,7 @@ impl Outbox {
         ensures { (s : Sending) × HasSending self.now stream s × (IsTrue result ↔ IsHeldByRoom s room fresh) }
     {
         let _next = self.next;
-        let half = self.sends.get(stream);
+        let half = half_of(&self.types, stream);
         half.is_lawful();
         half.is_held_by_room(room, fresh)
     }
@@ -57,7 +59,7 @@ impl Outbox {
         ensures bytes { result.0.now ++ result.1.now ≡ bytes_of (or_none (lookup self.now.sends stream)) chunk }
         ensures len { length (result.0.now ++ result.1.now) ≡ chunk.len }
     {
-        self.sends.get(stream).bytes(chunk)
+        half_of(&self.types, stream).bytes(chunk)
     }
 
     /// The chunk stands in the packet in the making.
@@ -67,11 +69,12 @@ impl Outbox {
         requires small { sent_sum (on_lane stream (λ l. sent_lane l chunk) self.old).sends ≤ MAX_VARINT }
         ensures { self.new ≡ chunk_put stream chunk self.old }
     {
-        let half = self.sends.get(stream);
+        let half = half_of(&self.types, stream);
         half.is_lawful();
         let before = half.sent_end();
-        self.sends.sent(stream, chunk);
-        let after = self.sends.get(stream).sent_end();
+        let lanes = &mut self.types[type_of(stream)];
+        lanes.sent(index_of(stream), chunk);
+        let after = half_of(&self.types, stream).sent_end();
         self.sent = self.sent - before + after;
         hold(&mut self.pending, Piece::Data { stream, chunk });
         self.spare -= 1;
@@ -85,7 +88,7 @@ impl Outbox {
         ensures { self.new ≡ item_put_out item self.old }
     {
         let _next = self.next;
-        note_told(&mut self.sends, &item);
+        note_told(&mut self.types, &item);
         hold(&mut self.pending, Piece::Told(item));
         self.index.insert(item);
         self.spare -= 1;
@@ -111,19 +114,22 @@ impl Outbox {
 }
 
 // That a STREAM_DATA_BLOCKED was sent is marked in its half.
-fn note_told(sends: &mut SendTables, item: &Item)
-    ensures { sends.new ≡ halves_told item.now sends.old }
+fn note_told(types: &mut [SendLanes; 4], item: &Item)
+    ensures len { length types.new ≡ 4 }
+    ensures after { tables_of types.new ≡ halves_told item.now (tables_of types.old) }
 {
     if let Item::StreamDataBlocked { stream, .. } = *item {
-        note_blocked(sends, stream);
+        note_blocked(types, stream);
     }
 }
 
-fn note_blocked(sends: &mut SendTables, stream: StreamId)
-    ensures { sends.new ≡ updated sends.old stream after_blocked (lookup sends.old stream) }
+fn note_blocked(types: &mut [SendLanes; 4], stream: StreamId)
+    ensures len { length types.new ≡ 4 }
+    ensures after { tables_of types.new ≡ updated (tables_of types.old) stream after_blocked (lookup (tables_of types.old) stream) }
 {
-    if sends.is_open(stream) {
-        sends.note_blocked(stream);
+    if is_open(types, stream) {
+        let lanes = &mut types[type_of(stream)];
+        lanes.note_blocked(index_of(stream));
     }
 }
 

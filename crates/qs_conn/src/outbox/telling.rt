@@ -13,6 +13,7 @@ ghost use Rattle.qs_conn.specs.Tasks.{IsQuietAt};
 ghost use Rattle.qs_machine.specs.Outgoing.{IsCarried, IsAckedOut, IsAckedReset, IsBlockedAt, WantsMore, reset_by, with_outgoing};
 
 use super::Outbox;
+use super::halves::{half_of, is_open, least_marked, may_have, next_with, next_with_of};
 use crate::send_marks::Task;
 use qs_send::{Item, Reset, SendState};
 use qs_wire::StreamId;
@@ -39,10 +40,10 @@ impl Outbox {
     fn is_reset_acked(&self, stream: StreamId) -> bool
         ensures { IsTrue result ↔ IsAckedReset (lookup self.now.sends stream) }
     {
-        if !self.sends.is_open(stream) {
+        if !is_open(&self.types, stream) {
             return false;
         }
-        matches!(self.sends.get(stream).state(), SendState::ResetRecvd)
+        matches!(half_of(&self.types, stream).state(), SendState::ResetRecvd)
     }
 
     /// The reset of a stream. A frame can tell it.
@@ -50,10 +51,10 @@ impl Outbox {
         ensures value { result ≡ (or_none (lookup self.now.sends stream)).was_reset }
         ensures small { IfSome result (λ r. (r.code ≤ MAX_VARINT) × (r.size ≤ MAX_VARINT)) }
     {
-        if !self.sends.is_open(stream) {
+        if !is_open(&self.types, stream) {
             return None;
         }
-        let half = self.sends.get(stream);
+        let half = half_of(&self.types, stream);
         reset_by(half.reset_code(), half.final_size())
     }
 
@@ -63,10 +64,10 @@ impl Outbox {
         ensures none { IfNone result ((m : ℕ) → IsBlockedAt (lookup self.now.sends stream) m → ⊥) }
         ensures small { IfSome result (λ limit. limit ≤ MAX_VARINT) }
     {
-        if !self.sends.is_open(stream) {
+        if !is_open(&self.types, stream) {
             return None;
         }
-        let half = self.sends.get(stream);
+        let half = half_of(&self.types, stream);
         if let Some(_code) = half.reset_code() {
             return None;
         }
@@ -84,10 +85,10 @@ impl Outbox {
     pub(crate) fn wants_more(&self, stream: StreamId) -> bool
         ensures { IsTrue result ↔ WantsMore (lookup self.now.sends stream) }
     {
-        if !self.sends.is_open(stream) {
+        if !is_open(&self.types, stream) {
             return false;
         }
-        let half = self.sends.get(stream);
+        let half = half_of(&self.types, stream);
         if let Some(_code) = half.reset_code() {
             return false;
         }
@@ -98,10 +99,10 @@ impl Outbox {
     pub(crate) fn waits_for_credit(&self, stream: StreamId, is_used_up: bool) -> bool
         ensures { result ≡ waits_for_credit is_used_up (lookup self.now.sends stream) }
     {
-        if !self.sends.is_open(stream) {
+        if !is_open(&self.types, stream) {
             return false;
         }
-        let half = self.sends.get(stream);
+        let half = half_of(&self.types, stream);
         if let Some(_code) = half.reset_code() {
             return false;
         }
@@ -117,8 +118,10 @@ impl Outbox {
         ensures from { IfSome result (λ n. from ≤ n) }
         ensures quiet { (n : ℕ) → from ≤ n → IsBefore n result → IsQuietAt task self.now n }
     {
-        let _next = self.next;
-        self.sends.next_marked(task, from)
+        if !may_have(&self.types, task) {
+            return None;
+        }
+        least_marked(&self.types, task, from)
     }
 
     /// The least number from one on of a stream that may be written to.
@@ -127,18 +130,18 @@ impl Outbox {
         ensures { IsLeast (IsHeld MayWrite self.now.sends) from result }
     {
         let _next = self.next;
-        self.sends.next_with(Task::Writable, from)
+        next_with(&self.types, Task::Writable, from)
     }
 
     /// The least number from one on of a stream of a type whose sending half came to its end.
-    pub(crate) fn next_ended_of(&self, kind: usize, from: u64) -> Option<u64>
-        requires kind { kind < 4 }
+    pub(crate) fn next_ended_of(&self, stream_type: usize, from: u64) -> Option<u64>
+        requires stream_type { stream_type < 4 }
         requires from { from ≤ 2 ^ 62 }
-        ensures least { IsLeast (IsHeldOf HasSent self.now.sends kind) from result }
+        ensures least { IsLeast (IsHeldOf HasSent self.now.sends stream_type) from result }
         ensures small { IfSome result (λ n. n < 2 ^ 62) }
     {
         let _next = self.next;
-        self.sends.next_with_of(Task::Ended, kind, from)
+        next_with_of(&self.types, Task::Ended, stream_type, from)
     }
 
     /// The least number from one on of a stream of which bytes or the end are due, which its own limit lets go.
@@ -147,9 +150,9 @@ impl Outbox {
         ensures { (e : End) → IsLeast (IsDueOf (with_outgoing self.now e)) from result }
     {
         let _next = self.next;
-        match self.sends.next_with(Task::Bytes, from) {
+        match next_with(&self.types, Task::Bytes, from) {
             Some(stream) => {
-                self.sends.get(stream).is_lawful();
+                half_of(&self.types, stream).is_lawful();
                 Some(stream)
             }
             None => None,

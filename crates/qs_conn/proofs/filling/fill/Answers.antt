@@ -8,7 +8,7 @@ use Rattle.qs_conn.proofs.filling.fill.Goals as goal
 
 pub returns-clause-packed : goal.returns-clause-packed
 returns-clause-packed c = λ old parts same due fresh told.
-    let t = c.args.terms.now in
+    let t = c.args.limits.now in
     let recvs = c.args.recvs.now in
     let room = length c.args.out.now in
     let first = c.args.wish.first in

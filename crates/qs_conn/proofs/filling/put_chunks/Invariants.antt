@@ -11,12 +11,12 @@ abbrev pub invariant-loop-chunk : goal.invariant-loop-chunk
 invariant-loop-chunk l =
     record {
       chunking : (around : Bool) (first : ℕ) (recvs : Tables RecvLane) (delay room : ℕ) (old e : End) → room ≡ length l.fn.out → IsOnWay around first l.fn.stream
-          → Flow delay room old (take l.fn.packet.len l.fn.out) (end_by l.fn.terms recvs l.fn.outbox e) l.fn.packet.is_full (turn_at around first l.fn.stream)
-          → Chunking delay room old (take l.len l.out) (end_by l.fn.terms recvs l.outbox e) around first l.fn.stream;
+          → Flow delay room old (take l.fn.packet.len l.fn.out) (end_by l.fn.limits recvs l.fn.outbox e) l.fn.packet.is_full (turn_at around first l.fn.stream)
+          → Chunking delay room old (take l.len l.out) (end_by l.fn.limits recvs l.outbox e) around first l.fn.stream;
       is_open : is_some (lookup l.outbox.sends l.fn.stream) ≡ true;
       lanes : (n : ℕ) → lookup l.fn.outbox.sends n ≡ None → lookup l.outbox.sends n ≡ None;
-      credit : sent_sum l.outbox.sends ≤ l.fn.terms.known_data;
-      fresh : l.fresh ≡ l.fn.terms.known_data - sent_sum l.outbox.sends;
+      credit : sent_sum l.outbox.sends ≤ l.fn.limits.known_data;
+      fresh : l.fresh ≡ l.fn.limits.known_data - sent_sum l.outbox.sends;
       within : l.len ≤ length l.out;
       spare : HasSpare (length l.out) l.len l.outbox.spare;
       room : length l.out ≡ length l.fn.out;

@@ -10,9 +10,9 @@ loop-stream-preserved c =
       small = omega (arith, c.value-from.ensures.in_range);
       stage = λ delay room old e passed at told start. (
           let before = c.loop-stream.invariant.stage delay room old e passed at told start in
-          let here = stage_idle_told c.args.untold.now delay room old (take c.loop-stream.packet.len c.loop-stream.out) (end_by c.args.terms.now c.args.recvs.now c.loop-stream.outbox e) c.loop-stream.packet.is_full passed c.args.kind c.loop-stream.from stream told (λ now n. c.in-Some.ensures.idle c.args.terms.now c.args.recvs.now n e now) before in
+          let here = stage_idle_told c.args.untold.now delay room old (take c.loop-stream.packet.len c.loop-stream.out) (end_by c.args.limits.now c.args.recvs.now c.loop-stream.outbox e) c.loop-stream.packet.is_full passed c.args.kind c.loop-stream.from stream told (λ now n. c.in-Some.ensures.idle c.args.limits.now c.args.recvs.now n e now) before in
           let after = c.put_slot-packet.ensures.stage delay room old e (and_below passed c.args.kind stream) (at ∙ sym c.loop-stream.invariant.room) here in
-          stage_fewer delay room old (take c.put_slot-packet.result.len c.put_slot-packet.new.out) (end_by c.args.terms.now c.args.recvs.now c.put_slot-packet.new.outbox e) c.put_slot-packet.result.is_full
+          stage_fewer delay room old (take c.put_slot-packet.result.len c.put_slot-packet.new.out) (end_by c.args.limits.now c.args.recvs.now c.put_slot-packet.new.outbox e) c.put_slot-packet.result.is_full
           (and_slot (and_below passed c.args.kind stream) c.at.result) (and_below passed c.args.kind (c.value-from.result + 1))
           (λ s. below_next passed c.args.kind stream (c.value-from.result + 1) c.at.result s c.at.ensures (ap (λ k. k + 1) c.value-from.ensures.same)) after);
       within = c.put_slot-packet.ensures.within;
@@ -23,5 +23,5 @@ loop-stream-preserved c =
 
 pub returns-clause-stage : goal.returns-clause-stage
 returns-clause-stage c = λ delay room old e passed at told start.
-    stage_kind_told c.args.untold.now delay room old (take c.loop-stream.packet.len c.loop-stream.out) (end_by c.args.terms.now c.args.recvs.now c.loop-stream.outbox e) c.loop-stream.packet.is_full passed c.args.kind c.loop-stream.from told
-    (λ now n le. c.in_default.ensures.idle c.args.terms.now c.args.recvs.now n e now le tt) (c.loop-stream.invariant.stage delay room old e passed at told start)
+    stage_kind_told c.args.untold.now delay room old (take c.loop-stream.packet.len c.loop-stream.out) (end_by c.args.limits.now c.args.recvs.now c.loop-stream.outbox e) c.loop-stream.packet.is_full passed c.args.kind c.loop-stream.from told
+    (λ now n le. c.in_default.ensures.idle c.args.limits.now c.args.recvs.now n e now le tt) (c.loop-stream.invariant.stage delay room old e passed at told start)

@@ -10,8 +10,8 @@ invariant-loop-stream l =
     record {
       small : l.from ≤ 2 ^ 62;
       stage : (delay room : ℕ) (old e : End) (passed : Passed) → room ≡ length l.fn.out → IsTold old l.fn.untold
-          → Stage delay room old (take l.fn.packet.len l.fn.out) (end_by l.fn.terms l.fn.recvs l.fn.outbox e) l.fn.packet.is_full passed
-          → Stage delay room old (take l.packet.len l.out) (end_by l.fn.terms l.fn.recvs l.outbox e) l.packet.is_full (and_below passed l.fn.kind l.from);
+          → Stage delay room old (take l.fn.packet.len l.fn.out) (end_by l.fn.limits l.fn.recvs l.fn.outbox e) l.fn.packet.is_full passed
+          → Stage delay room old (take l.packet.len l.out) (end_by l.fn.limits l.fn.recvs l.outbox e) l.packet.is_full (and_below passed l.fn.kind l.from);
       within : l.packet.len ≤ length l.out;
       spare : HasSpare (length l.out) l.packet.len l.outbox.spare;
       sum : sent_sum l.outbox.sends ≡ sent_sum l.fn.outbox.sends;

@@ -6,7 +6,7 @@ use Rattle.qs_conn.proofs.filling.put_streams.Goals as goal
 pub returns-then-packet-clause-packed : goal.returns-then-packet-clause-packed
 returns-then-packet-clause-packed c = λ recvs delay room old e at start.
     let text = take c.put_way-packet.result.len c.put_way-packet.new.out in
-    let there = end_by c.args.terms.now recvs c.put_way-packet.new.outbox e in
+    let there = end_by c.args.limits.now recvs c.put_way-packet.new.outbox e in
     let full = c.put_way-packet.result.is_full in
     flow_packed c.args.first delay room old text there full (flow_whole delay room old text there full true c.args.first 0 c.if-packet.true (c.put_way-packet.ensures.flow recvs delay room old e at start))
 
@@ -14,4 +14,4 @@ pub returns-clause-packed : goal.returns-clause-packed
 returns-clause-packed c = λ recvs delay room old e at start.
     let one = c.put_way-packet.ensures.flow recvs delay room old e at start in
     let two = c.put_way.ensures.flow recvs delay room old e (at ∙ sym c.put_way-packet.ensures.room) one in
-    flow_packed c.args.first delay room old (take c.put_way.result.len c.put_way.new.out) (end_by c.args.terms.now recvs c.put_way.new.outbox e) c.put_way.result.is_full two
+    flow_packed c.args.first delay room old (take c.put_way.result.len c.put_way.new.out) (end_by c.args.limits.now recvs c.put_way.new.outbox e) c.put_way.result.is_full two

@@ -12,9 +12,9 @@ invariant-loop-stream l =
       small : l.from ≤ 2 ^ 62;
       begun : start_of l.fn.around l.fn.first ≤ l.from;
       flow : (recvs : Tables RecvLane) (delay room : ℕ) (old e : End) → room ≡ length l.fn.out
-          → Flow delay room old (take l.fn.packet.len l.fn.out) (end_by l.fn.terms recvs l.fn.outbox e) l.fn.packet.is_full (turn_at l.fn.around l.fn.first (start_of l.fn.around l.fn.first))
-          → Flow delay room old (take l.packet.len l.out) (end_by l.fn.terms recvs l.outbox e) l.packet.is_full (turn_at l.fn.around l.fn.first l.from);
-      credit : sent_sum l.outbox.sends ≤ l.fn.terms.known_data;
+          → Flow delay room old (take l.fn.packet.len l.fn.out) (end_by l.fn.limits recvs l.fn.outbox e) l.fn.packet.is_full (turn_at l.fn.around l.fn.first (start_of l.fn.around l.fn.first))
+          → Flow delay room old (take l.packet.len l.out) (end_by l.fn.limits recvs l.outbox e) l.packet.is_full (turn_at l.fn.around l.fn.first l.from);
+      credit : sent_sum l.outbox.sends ≤ l.fn.limits.known_data;
       within : l.packet.len ≤ length l.out;
       spare : HasSpare (length l.out) l.packet.len l.outbox.spare;
       room : length l.out ≡ length l.fn.out;

@@ -11,4 +11,4 @@ returns-in-Some-clause-marks c = subst (HasMore c.args.untold.now) (sym c.set.en
 
 pub returns-in-Some-clause-marked : goal.returns-in-Some-clause-marked
 returns-in-Some-clause-marked c =
-    raised_some c.args.kind c.args.halves.now.items c.args.untold.now c.set.new.self c.args.index c.unwrap-stream.result (id_is c.new.result c.unwrap-stream.result (c.args.index * 4 + c.args.kind) c.unwrap-stream.ensures c.new.ensures.some) c.set.ensures
+    raised_some c.args.stream_type c.args.halves.now.items c.args.untold.now c.set.new.self c.args.index c.unwrap-stream.result (id_is c.new.result c.unwrap-stream.result (c.args.index * 4 + c.args.stream_type) c.unwrap-stream.ensures c.new.ensures.some) c.set.ensures

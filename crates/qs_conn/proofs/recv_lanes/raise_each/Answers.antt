@@ -13,9 +13,9 @@ loop-index-preserved c =
       raised = raised_more c.args.halves.now.items c.loop-index.halves.items c.raise_at.new.halves.items c.loop-index.index there c.loop-index.invariant.len c.loop-index.invariant.raised c.raise_at.ensures.after;
       len = c.raise_at.ensures.len ∙ c.loop-index.invariant.len;
       more = has_twice c.args.untold.now c.loop-index.untold c.raise_at.new.untold c.loop-index.invariant.more c.raise_at.ensures.marks;
-      marked = raised_next c.args.kind c.args.halves.now.items c.loop-index.halves.items c.loop-index.untold c.raise_at.new.untold c.loop-index.index c.loop-index.invariant.raised c.raise_at.ensures.marks c.loop-index.invariant.marked c.raise_at.ensures.marked;
+      marked = raised_next c.args.stream_type c.args.halves.now.items c.loop-index.halves.items c.loop-index.untold c.raise_at.new.untold c.loop-index.index c.loop-index.invariant.raised c.raise_at.ensures.marks c.loop-index.invariant.marked c.raise_at.ensures.marked;
     }
 
 pub returns-clause-marked : goal.returns-clause-marked
 returns-clause-marked c =
-    raised_every c.args.kind c.args.halves.now.items c.loop-index.untold c.loop-index.index (omega (arith, c.loop-index-test.false, c.len-index-end.ensures)) c.loop-index.invariant.marked
+    raised_every c.args.stream_type c.args.halves.now.items c.loop-index.untold c.loop-index.index (omega (arith, c.loop-index-test.false, c.len-index-end.ensures)) c.loop-index.invariant.marked

@@ -9,5 +9,5 @@ invariant-loop-index l =
       raised : l.halves.items ≡ map raise (take l.index l.fn.halves.items) ++ drop l.index l.fn.halves.items;
       len : length l.halves.items ≡ length l.fn.halves.items;
       more : HasMore l.fn.untold l.untold;
-      marked : (j : ℕ) → j < l.index → IsRaisedMarked l.kind l.fn.halves.items l.untold j;
+      marked : (j : ℕ) → j < l.index → IsRaisedMarked l.stream_type l.fn.halves.items l.untold j;
     }

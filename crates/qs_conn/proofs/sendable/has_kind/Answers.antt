@@ -8,7 +8,7 @@ pub loop-stream-init : goal.loop-stream-init
 loop-stream-init c =
     record {
       small = omega arith;
-      due = λ e passed told before. tells_first (end_by c.args.terms.now c.args.recvs.now c.args.outbox.now e) c.args.is_found passed c.args.kind before;
+      due = λ e passed told before. tells_first (end_by c.args.limits.now c.args.recvs.now c.args.outbox.now e) c.args.is_found passed c.args.kind before;
     }
 
 pub loop-stream-preserved : goal.loop-stream-preserved
@@ -17,8 +17,8 @@ loop-stream-preserved c =
     record {
       small = omega (arith, c.value-from.ensures.in_range);
       due = λ e passed told before. (
-          let there = end_by c.args.terms.now c.args.recvs.now c.args.outbox.now e in
-          let here = tells_idle there c.loop-stream.is_found passed c.args.kind c.loop-stream.from stream (λ n. c.in-Some.ensures.idle c.args.terms.now c.args.recvs.now n e told) (c.loop-stream.invariant.due e passed told before) in
+          let there = end_by c.args.limits.now c.args.recvs.now c.args.outbox.now e in
+          let here = tells_idle there c.loop-stream.is_found passed c.args.kind c.loop-stream.from stream (λ n. c.in-Some.ensures.idle c.args.limits.now c.args.recvs.now n e told) (c.loop-stream.invariant.due e passed told before) in
           tells_fewer there c.has_slot-is_found.result (and_slot (and_below passed c.args.kind stream) c.at.result) (and_below passed c.args.kind (c.value-from.result + 1))
           (λ s. below_next passed c.args.kind stream (c.value-from.result + 1) c.at.result s c.at.ensures (ap (λ k. k + 1) c.value-from.ensures.same)) (c.has_slot-is_found.ensures e (and_below passed c.args.kind stream) here));
     }
@@ -26,10 +26,10 @@ loop-stream-preserved c =
 pub returns-then-is_found : goal.returns-then-is_found
 returns-then-is_found c = λ e passed told before.
     let stream = c.in-Some.stream in
-    let there = end_by c.args.terms.now c.args.recvs.now c.args.outbox.now e in
-    let here = tells_idle there c.loop-stream.is_found passed c.args.kind c.loop-stream.from stream (λ n. c.in-Some.ensures.idle c.args.terms.now c.args.recvs.now n e told) (c.loop-stream.invariant.due e passed told before) in
+    let there = end_by c.args.limits.now c.args.recvs.now c.args.outbox.now e in
+    let here = tells_idle there c.loop-stream.is_found passed c.args.kind c.loop-stream.from stream (λ n. c.in-Some.ensures.idle c.args.limits.now c.args.recvs.now n e told) (c.loop-stream.invariant.due e passed told before) in
     tells_found there c.has_slot-is_found.result true (and_slot (and_below passed c.args.kind stream) c.at.result) (and_kind passed c.args.kind) c.if-is_found.true refl (c.has_slot-is_found.ensures e (and_below passed c.args.kind stream) here)
 
 pub returns : goal.returns
 returns c = λ e passed told before.
-    tells_kind (end_by c.args.terms.now c.args.recvs.now c.args.outbox.now e) c.loop-stream.is_found passed c.args.kind c.loop-stream.from (λ n le. c.in_default.ensures.idle c.args.terms.now c.args.recvs.now n e told le tt) (c.loop-stream.invariant.due e passed told before)
+    tells_kind (end_by c.args.limits.now c.args.recvs.now c.args.outbox.now e) c.loop-stream.is_found passed c.args.kind c.loop-stream.from (λ n le. c.in_default.ensures.idle c.args.limits.now c.args.recvs.now n e told le tt) (c.loop-stream.invariant.due e passed told before)

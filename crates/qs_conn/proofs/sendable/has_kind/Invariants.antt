@@ -9,7 +9,7 @@ abbrev pub invariant-loop-stream : goal.invariant-loop-stream
 invariant-loop-stream l =
     record {
       small : l.from ≤ 2 ^ 62;
-      due : (e : End) (passed : Passed) → IsTold (end_by l.fn.terms l.fn.recvs l.fn.outbox e) l.fn.untold → TellsDue l.fn.is_found (end_by l.fn.terms l.fn.recvs l.fn.outbox e) passed → TellsDue l.is_found (end_by l.fn.terms l.fn.recvs l.fn.outbox e) (and_below passed l.fn.kind l.from);
+      due : (e : End) (passed : Passed) → IsTold (end_by l.fn.limits l.fn.recvs l.fn.outbox e) l.fn.untold → TellsDue l.fn.is_found (end_by l.fn.limits l.fn.recvs l.fn.outbox e) passed → TellsDue l.is_found (end_by l.fn.limits l.fn.recvs l.fn.outbox e) (and_below passed l.fn.kind l.from);
     }
 
 abbrev pub decreases-loop-stream : goal.decreases-loop-stream

@@ -5,12 +5,12 @@ use Rattle.qs_conn.proofs.sendable.has_slot.Goals as goal
 
 pub returns-then-is_found : goal.returns-then-is_found
 returns-then-is_found c = λ e passed before.
-    tells_found (end_by c.args.terms.now c.args.recvs.now c.args.outbox.now e) c.args.is_found true passed (and_slot passed c.args.slot) c.if-is_found.true refl before
+    tells_found (end_by c.args.limits.now c.args.recvs.now c.args.outbox.now e) c.args.is_found true passed (and_slot passed c.args.slot) c.if-is_found.true refl before
 
 pub returns-in_default : goal.returns-in_default
 returns-in_default c = λ e passed before.
-    tells_absent (end_by c.args.terms.now c.args.recvs.now c.args.outbox.now e) c.args.is_found passed c.args.slot c.if-is_found.false (c.in_default.ensures.current e) before
+    tells_absent (end_by c.args.limits.now c.args.recvs.now c.args.outbox.now e) c.args.is_found passed c.args.slot c.if-is_found.false (c.in_default.ensures.current e) before
 
 pub returns : goal.returns
 returns c = λ e passed before.
-    tells_item (end_by c.args.terms.now c.args.recvs.now c.args.outbox.now e) c.args.is_found passed c.args.slot c.in-Some.item c.is_covered.result c.if-is_found.false (c.in-Some.ensures.current e) (c.is_covered.ensures.yes c.args.terms.now c.args.recvs.now e) (c.is_covered.ensures.no c.args.terms.now c.args.recvs.now e) before
+    tells_item (end_by c.args.limits.now c.args.recvs.now c.args.outbox.now e) c.args.is_found passed c.args.slot c.in-Some.item c.is_covered.result c.if-is_found.false (c.in-Some.ensures.current e) (c.is_covered.ensures.yes c.args.limits.now c.args.recvs.now e) (c.is_covered.ensures.no c.args.limits.now c.args.recvs.now e) before

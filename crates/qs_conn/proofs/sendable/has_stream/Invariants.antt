@@ -10,7 +10,7 @@ abbrev pub invariant-loop-stream : goal.invariant-loop-stream
 invariant-loop-stream l =
     record {
       small : l.from ≤ 2 ^ 62;
-      below : (recvs : Tables RecvLane) (e : End) (n : ℕ) → n < l.from → StreamGoes (end_by l.fn.terms recvs l.fn.outbox e) n → ⊥;
+      below : (recvs : Tables RecvLane) (e : End) (n : ℕ) → n < l.from → StreamGoes (end_by l.fn.limits recvs l.fn.outbox e) n → ⊥;
     }
 
 abbrev pub decreases-loop-stream : goal.decreases-loop-stream

@@ -7,7 +7,7 @@ loop-stream-init c = record { small = omega arith; told = λ e h. h }
 
 pub loop-stream-preserved : goal.loop-stream-preserved
 loop-stream-preserved c =
-    let t = c.args.terms.now in
+    let t = c.args.limits.now in
     let o = c.args.outbox.now in
     record {
       small = omega (arith, c.value-from.ensures.in_range);

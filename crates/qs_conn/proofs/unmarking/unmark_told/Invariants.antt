@@ -8,7 +8,7 @@ abbrev pub invariant-loop-stream : goal.invariant-loop-stream
 invariant-loop-stream l =
     record {
       small : l.from ≤ 2 ^ 62;
-      told : (e : End) → IsTold (end_by l.fn.terms l.fn.recvs l.fn.outbox e) l.fn.untold → IsTold (end_by l.fn.terms l.fn.recvs l.fn.outbox e) l.untold;
+      told : (e : End) → IsTold (end_by l.fn.limits l.fn.recvs l.fn.outbox e) l.fn.untold → IsTold (end_by l.fn.limits l.fn.recvs l.fn.outbox e) l.untold;
     }
 
 abbrev pub decreases-loop-stream : goal.decreases-loop-stream

@@ -4,4 +4,4 @@ use Rattle.qs_conn.proofs.Allowed.{first_halves}
 use Rattle.qs_conn.proofs.endpoint.Endpoint.allow_type.Given as goal
 
 abbrev pub invariant-loop-index : goal.invariant-loop-index
-invariant-loop-index l = l.self ≡ first_halves (λ m. allow_lane m l.limit) l.kind l.index l.fn.self
+invariant-loop-index l = l.self ≡ first_halves (λ m. allow_lane m l.limit) l.stream_type l.index l.fn.self

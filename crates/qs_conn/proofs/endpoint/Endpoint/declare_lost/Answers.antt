@@ -8,7 +8,7 @@ use Rattle.qs_conn.proofs.endpoint.Endpoint.declare_lost.Goals.{in-Ok, in-Err}
 pub invariant_of-self : goal.invariant_of-self
 invariant_of-self c =
     let sends = sends_lost c.args.number c.self.inside.outbox c.lose_packet.new.outbox c.lose_packet.result c.lose_packet.ensures.step in
-    (c.self.invariant.0, c.lose_packet.ensures.idle, funded_lost c.args.number c.self.inside.outbox c.lose_packet.new.outbox c.lose_packet.result _ _ _ c.lose_packet.ensures.step c.self.invariant.2, rw sends c.self.invariant.3, stays c.self.inside.outbox c.lose_packet.new.outbox c.self.inside.untold c.lose_packet.new.untold c.lose_packet.ensures.told c.self.inside.role c.self.inside.settings c.self.inside.recvs c.self.invariant.4, c.self.invariant.5)
+    (c.self.invariant.0, c.lose_packet.ensures.idle, funded_lost c.args.number c.self.inside.outbox c.lose_packet.new.outbox c.lose_packet.result _ _ _ c.lose_packet.ensures.step c.self.invariant.2, rw sends c.self.invariant.3, stays c.self.inside.outbox c.lose_packet.new.outbox c.self.inside.untold c.lose_packet.new.untold c.lose_packet.ensures.told c.self.inside.limits.role c.self.inside.limits.settings c.self.inside.recvs c.self.invariant.4, c.self.invariant.5)
 
 pub returns : goal.returns
 returns c =

@@ -1,4 +1,4 @@
-use Rattle.std.proofs.Common.{◌/◌, ◌∙◌, arith, sym, length}
+use Rattle.std.proofs.Common.{◌/◌, ◌∙◌, arith, refl, sym, length}
 use Rattle.std.proofs.lemmas.Bool.{true≢false}
 use Rattle.qs_conn.proofs.MadePackets.{make_exhausted, make_none, idle_none, make_some, filled_next, filled_credit, filled_counted, filled_told}
 use Rattle.qs_conn.proofs.Counted.{fit_sends}
@@ -10,31 +10,31 @@ returns-then-number-gt-MAX_NUMBER c = make_exhausted _ c.args.self.now c.args.fi
 pub invariant_of-self-then-len-eq0 : goal.invariant_of-self-then-len-eq0
 invariant_of-self-then-len-eq0 c = (
   c.self.invariant.0,
-  idle_none _ c.args.self.now c.self.view_is c.terms-terms.result c.begin.new.self c.fill-len.new.outbox (length c.args.out.now / 2) c.args.first c.args.delay (length c.args.out.now) c.fill-len.result c.fill-len.new.out c.self.invariant.1 c.terms-terms.ensures c.in_default.ensures.ok c.self.inside.untold c.self.invariant.4 c.fill-len.ensures.packed (omega (arith, c.requires.least)) c.if-len-eq0.true,
+  idle_none _ c.args.self.now c.self.view_is c.self.inside.limits c.begin.new.self c.fill-len.new.outbox (length c.args.out.now / 2) c.args.first c.args.delay (length c.args.out.now) c.fill-len.result c.fill-len.new.out c.self.invariant.1 refl c.in_default.ensures.ok c.self.inside.untold c.self.invariant.4 c.fill-len.ensures.packed (omega (arith, c.requires.least)) c.if-len-eq0.true,
   record {
-    credit = filled_credit _ c.args.self.now c.self.view_is c.terms-terms.result c.begin.new.self c.fill-len.new.outbox (length c.args.out.now / 2) c.args.first c.args.delay (length c.args.out.now) c.fill-len.result c.fill-len.new.out c.self.invariant.1 c.terms-terms.ensures c.in_default.ensures.ok c.self.inside.untold c.self.invariant.4 c.fill-len.ensures.packed;
+    credit = filled_credit _ c.args.self.now c.self.view_is c.self.inside.limits c.begin.new.self c.fill-len.new.outbox (length c.args.out.now / 2) c.args.first c.args.delay (length c.args.out.now) c.fill-len.result c.fill-len.new.out c.self.invariant.1 refl c.in_default.ensures.ok c.self.inside.untold c.self.invariant.4 c.fill-len.ensures.packed;
     known_fits = c.self.invariant.2.known_fits;
     few = c.self.invariant.2.few;
     acks = c.self.invariant.2.acks;
   },
-  fit_sends _ _ _ _ _ _ _ c.self.invariant.3 _ _ (filled_counted _ c.args.self.now c.self.view_is c.terms-terms.result c.begin.new.self c.fill-len.new.outbox (length c.args.out.now / 2) c.args.first c.args.delay (length c.args.out.now) c.fill-len.result c.fill-len.new.out c.self.invariant.1 c.terms-terms.ensures c.in_default.ensures.ok c.self.inside.untold c.self.invariant.4 c.fill-len.ensures.packed c.self.inside.role c.self.inside.ended c.self.invariant.3.counted),
-  filled_told _ c.args.self.now c.self.view_is c.terms-terms.result c.begin.new.self c.fill-len.new.outbox (length c.args.out.now / 2) c.args.first c.args.delay (length c.args.out.now) c.fill-len.result c.fill-len.new.out c.self.invariant.1 c.terms-terms.ensures c.in_default.ensures.ok c.self.inside.untold c.self.invariant.4 c.fill-len.ensures.packed c.unmark_told.new.untold c.unmark_told.ensures,
+  fit_sends _ _ _ _ _ _ _ c.self.invariant.3 _ _ (filled_counted _ c.args.self.now c.self.view_is c.self.inside.limits c.begin.new.self c.fill-len.new.outbox (length c.args.out.now / 2) c.args.first c.args.delay (length c.args.out.now) c.fill-len.result c.fill-len.new.out c.self.invariant.1 refl c.in_default.ensures.ok c.self.inside.untold c.self.invariant.4 c.fill-len.ensures.packed c.self.inside.limits.role c.self.inside.ended c.self.invariant.3.counted),
+  filled_told _ c.args.self.now c.self.view_is c.self.inside.limits c.begin.new.self c.fill-len.new.outbox (length c.args.out.now / 2) c.args.first c.args.delay (length c.args.out.now) c.fill-len.result c.fill-len.new.out c.self.invariant.1 refl c.in_default.ensures.ok c.self.inside.untold c.self.invariant.4 c.fill-len.ensures.packed c.unmark_told.new.untold c.unmark_told.ensures,
   c.self.invariant.5,
 )
 
 pub returns-then-len-eq0 : goal.returns-then-len-eq0
 returns-then-len-eq0 c =
-    make_none _ c.args.self.now c.self.view_is c.terms-terms.result c.begin.new.self c.fill-len.new.outbox (length c.args.out.now / 2) c.args.first c.args.delay (length c.args.out.now) c.fill-len.result c.fill-len.new.out c.self.invariant.1 c.terms-terms.ensures c.in_default.ensures.ok c.self.inside.untold c.self.invariant.4 c.fill-len.ensures.packed
+    make_none _ c.args.self.now c.self.view_is c.self.inside.limits c.begin.new.self c.fill-len.new.outbox (length c.args.out.now / 2) c.args.first c.args.delay (length c.args.out.now) c.fill-len.result c.fill-len.new.out c.self.invariant.1 refl c.in_default.ensures.ok c.self.inside.untold c.self.invariant.4 c.fill-len.ensures.packed
     (sym c.is_some.ensures ∙ c.if-is_some.false) (omega (arith, c.if-number-gt-MAX_NUMBER.false, c.next-number.ensures)) (omega (arith, c.requires.least)) c.if-len-eq0.true
 
 pub commit-requires : goal.commit-requires
 commit-requires c =
-    let next = filled_next _ c.args.self.now c.self.view_is c.terms-terms.result c.begin.new.self c.fill-len.new.outbox (length c.args.out.now / 2) c.args.first c.args.delay (length c.args.out.now) c.fill-len.result c.fill-len.new.out c.self.invariant.1 c.terms-terms.ensures c.in_default.ensures.ok c.self.inside.untold c.self.invariant.4 c.fill-len.ensures.packed in
+    let next = filled_next _ c.args.self.now c.self.view_is c.self.inside.limits c.begin.new.self c.fill-len.new.outbox (length c.args.out.now / 2) c.args.first c.args.delay (length c.args.out.now) c.fill-len.result c.fill-len.new.out c.self.invariant.1 refl c.in_default.ensures.ok c.self.inside.untold c.self.invariant.4 c.fill-len.ensures.packed in
     omega (arith, next, c.if-number-gt-MAX_NUMBER.false, c.next-number.ensures)
 
-pub invariant_of-self-3 : goal.invariant_of-self-3
-invariant_of-self-3 c =
-    let credit = filled_credit _ c.args.self.now c.self.view_is c.terms-terms.result c.begin.new.self c.fill-len.new.outbox (length c.args.out.now / 2) c.args.first c.args.delay (length c.args.out.now) c.fill-len.result c.fill-len.new.out c.self.invariant.1 c.terms-terms.ensures c.in_default.ensures.ok c.self.inside.untold c.self.invariant.4 c.fill-len.ensures.packed in (
+pub invariant_of-self-2 : goal.invariant_of-self-2
+invariant_of-self-2 c =
+    let credit = filled_credit _ c.args.self.now c.self.view_is c.self.inside.limits c.begin.new.self c.fill-len.new.outbox (length c.args.out.now / 2) c.args.first c.args.delay (length c.args.out.now) c.fill-len.result c.fill-len.new.out c.self.invariant.1 refl c.in_default.ensures.ok c.self.inside.untold c.self.invariant.4 c.fill-len.ensures.packed in (
       c.self.invariant.0,
       c.commit.ensures.idle,
       record {
@@ -43,13 +43,13 @@ invariant_of-self-3 c =
         few = c.self.invariant.2.few;
         acks = λ due. absurd (true≢false (sym due));
       },
-      rw c.commit.ensures.after (fit_sends _ _ _ _ _ _ _ c.self.invariant.3 _ _ (filled_counted _ c.args.self.now c.self.view_is c.terms-terms.result c.begin.new.self c.fill-len.new.outbox (length c.args.out.now / 2) c.args.first c.args.delay (length c.args.out.now) c.fill-len.result c.fill-len.new.out c.self.invariant.1 c.terms-terms.ensures c.in_default.ensures.ok c.self.inside.untold c.self.invariant.4 c.fill-len.ensures.packed c.self.inside.role c.self.inside.ended c.self.invariant.3.counted)),
-      rw c.commit.ensures.after (filled_told _ c.args.self.now c.self.view_is c.terms-terms.result c.begin.new.self c.fill-len.new.outbox (length c.args.out.now / 2) c.args.first c.args.delay (length c.args.out.now) c.fill-len.result c.fill-len.new.out c.self.invariant.1 c.terms-terms.ensures c.in_default.ensures.ok c.self.inside.untold c.self.invariant.4 c.fill-len.ensures.packed c.unmark_told.new.untold c.unmark_told.ensures),
+      rw c.commit.ensures.after (fit_sends _ _ _ _ _ _ _ c.self.invariant.3 _ _ (filled_counted _ c.args.self.now c.self.view_is c.self.inside.limits c.begin.new.self c.fill-len.new.outbox (length c.args.out.now / 2) c.args.first c.args.delay (length c.args.out.now) c.fill-len.result c.fill-len.new.out c.self.invariant.1 refl c.in_default.ensures.ok c.self.inside.untold c.self.invariant.4 c.fill-len.ensures.packed c.self.inside.limits.role c.self.inside.ended c.self.invariant.3.counted)),
+      rw c.commit.ensures.after (filled_told _ c.args.self.now c.self.view_is c.self.inside.limits c.begin.new.self c.fill-len.new.outbox (length c.args.out.now / 2) c.args.first c.args.delay (length c.args.out.now) c.fill-len.result c.fill-len.new.out c.self.invariant.1 refl c.in_default.ensures.ok c.self.inside.untold c.self.invariant.4 c.fill-len.ensures.packed c.unmark_told.new.untold c.unmark_told.ensures),
       c.self.invariant.5,
     )
 
 pub returns : goal.returns
 returns c =
-    make_some _ c.args.self.now c.self.view_is c.terms-terms.result c.begin.new.self c.fill-len.new.outbox (length c.args.out.now / 2) c.args.first c.args.delay (length c.args.out.now) c.fill-len.result c.fill-len.new.out c.self.invariant.1 c.terms-terms.ensures c.in_default.ensures.ok c.self.inside.untold c.self.invariant.4 c.fill-len.ensures.packed
+    make_some _ c.args.self.now c.self.view_is c.self.inside.limits c.begin.new.self c.fill-len.new.outbox (length c.args.out.now / 2) c.args.first c.args.delay (length c.args.out.now) c.fill-len.result c.fill-len.new.out c.self.invariant.1 refl c.in_default.ensures.ok c.self.inside.untold c.self.invariant.4 c.fill-len.ensures.packed
     c.settle.new.self c.commit.new.self c.next-number.result c.has_piece-is_ack_eliciting.result c.has_piece-is_ack_eliciting.ensures (sym c.is_some.ensures ∙ c.if-is_some.false) (omega (arith, c.if-number-gt-MAX_NUMBER.false, c.next-number.ensures))
     (omega (arith, c.if-len-eq0.false)) (omega (arith, c.fill-len.ensures.within, c.fill-len.ensures.room)) c.fill-len.ensures.room c.next-number.ensures c.commit.ensures.after c.settle.ensures

@@ -1,4 +1,5 @@
-use Rattle.std.proofs.Common.{refl}
+use Rattle.std.proofs.Common.{ap, refl}
+use Rattle.qs_conn.proofs.MadePackets.{limits_of}
 use Rattle.qs_conn.proofs.Sendables.{sendable_due, sendable_frame}
 use Rattle.qs_conn.proofs.endpoint.Endpoint.may_make.Goals as goal
 
@@ -6,4 +7,4 @@ pub returns-then-self : goal.returns-then-self
 returns-then-self c = sendable_due _ c.args.self.now c.self.view_is c.if-self.true
 
 pub returns : goal.returns
-returns c = sendable_frame _ c.args.self.now c.terms-terms.result c.self.inside.outbox c.has_frame.result c.self.inside.untold c.self.view_is c.if-self.false c.terms-terms.ensures refl c.self.invariant.4 c.has_frame.ensures
+returns c = sendable_frame _ c.args.self.now c.self.inside.limits c.self.inside.outbox c.has_frame.result c.self.inside.untold c.self.view_is c.if-self.false (ap limits_of c.self.view_is) refl c.self.invariant.4 c.has_frame.ensures

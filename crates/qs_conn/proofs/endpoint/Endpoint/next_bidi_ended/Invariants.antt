@@ -7,7 +7,7 @@ abbrev pub invariant-loop-recv : goal.invariant-loop-recv
 invariant-loop-recv l =
     record {
       small : l.next ≤ 2 ^ 62;
-      clear : IsClear (IsEndedOf l.fn.self l.fn.kind) l.fn.from l.next;
+      clear : IsClear (IsEndedOf l.fn.self l.fn.stream_type) l.fn.from l.next;
     }
 
 abbrev pub decreases-loop-recv : goal.decreases-loop-recv

@@ -21,6 +21,6 @@ invariant_of-self c = (
   c.ack_ranges-taken.ensures.idle,
   funded_acked c.args.largest (numbers_of c.args.ranges.now) _ c.self.inside.outbox c.ack_ranges-taken.new.outbox c.ack_ranges-taken.result _ _ _ c.requires.small c.requires.above refl c.ack_ranges-taken.ensures.step c.self.invariant.2,
   fit_sends _ _ _ _ _ _ _ c.self.invariant.3 _ _ c.ack_ranges-taken.ensures.counted,
-  stays c.self.inside.outbox c.ack_ranges-taken.new.outbox c.self.inside.untold c.ack_ranges-taken.new.untold c.ack_ranges-taken.ensures.told c.self.inside.role c.self.inside.settings c.self.inside.recvs c.self.invariant.4,
-  next_recounted c.self.inside.settings c.self.inside.recvs c.self.inside.ended _ _ _ c.self.inside.is_settled c.is_same.result c.ack_ranges-taken.new.ended c.self.invariant.5 c.is_same.ensures,
+  stays c.self.inside.outbox c.ack_ranges-taken.new.outbox c.self.inside.untold c.ack_ranges-taken.new.untold c.ack_ranges-taken.ensures.told c.self.inside.limits.role c.self.inside.limits.settings c.self.inside.recvs c.self.invariant.4,
+  next_recounted c.self.inside.limits.settings c.self.inside.recvs c.self.inside.ended _ _ _ c.self.inside.is_settled c.is_same.result c.ack_ranges-taken.new.ended c.self.invariant.5 c.is_same.ensures,
 )

@@ -24,6 +24,6 @@ invariant_of-self c =
       c.self-2.invariant.1,
       c.self-2.invariant.2,
       fit_broken _ _ _ _ _ _ _ c.self-2.invariant.3 _ c.args.stream _ _ c.take_reset.ensures,
-      told_broken c.self-2.inside.role c.self-2.inside.settings c.self-2.inside.recvs c.self-2.inside.outbox.outstanding c.self-2.inside.outbox.acked c.self-2.inside.untold c.self-2.invariant.4 c.take_reset.new.self c.args.stream c.args.code c.args.size c.take_reset.ensures,
+      told_broken c.self-2.inside.limits.role c.self-2.inside.limits.settings c.self-2.inside.recvs c.self-2.inside.outbox.outstanding c.self-2.inside.outbox.acked c.self-2.inside.untold c.self-2.invariant.4 c.take_reset.new.self c.args.stream c.args.code c.args.size c.take_reset.ensures,
       λ on. absurd (true≢false (sym on)),
     )

@@ -46,8 +46,8 @@ invariant_of-self c =
       funded_same _ _ _ _ _ (ap (λ (x : Outgoing). sent_sum x.sends) c.close_to.ensures ∙ peer_unsent c.args.self.now _ c.args.stream c.count-sends.result (c.self-2.view_is ∙ c.in_ok-open_by_peer.ensures.ok) (c.count-sends.ensures ∙ ap (λ (e : End). length (table e.sends (c.args.stream % 4))) c.self.view_is)) c.self-2.invariant.2,
       fit_recvs _ _ _ _ _ _ _ c.self-2.invariant.3 _ _ _ (closed_counted c.args.self.now _ c.args.stream _ _ c.self.inside.ended _ (c.self-2.view_is ∙ c.in_ok-open_by_peer.ensures.ok) back sends (subst (λ (k : End). AreAllCounted k.role k.recvs k.sends c.self.inside.ended) c.self.view_is c.self.invariant.3.counted) c.self-2.invariant.3.counted)
           (subst (λ (t : Tables RecvLane). (n : ℕ) → IsToldOfEnd (lookup t n)) (sym back) (subst (λ (k : End). (n : ℕ) → IsToldOfEnd (lookup k.recvs n)) c.self.view_is c.self.invariant.3.told)),
-      told_with c.self-2.inside.role c.self-2.inside.settings c.close_to-in-Err.new.self c.self-2.inside.outbox _ _ c.self-2.inside.untold c.close_to.ensures
-          (told_closed c.self-2.inside.role c.self-2.inside.settings c.self-2.inside.recvs c.self-2.inside.outbox.outstanding c.self-2.inside.outbox.acked c.self-2.inside.untold c.self-2.invariant.4 c.take_stream.new.self c.close_to-in-Err.new.self c.args.stream c.count-recvs.result c.in-Err.ensures.err c.close_to-in-Err.ensures),
+      told_with c.self-2.inside.limits.role c.self-2.inside.limits.settings c.close_to-in-Err.new.self c.self-2.inside.outbox _ _ c.self-2.inside.untold c.close_to.ensures
+          (told_closed c.self-2.inside.limits.role c.self-2.inside.limits.settings c.self-2.inside.recvs c.self-2.inside.outbox.outstanding c.self-2.inside.outbox.acked c.self-2.inside.untold c.self-2.invariant.4 c.take_stream.new.self c.close_to-in-Err.new.self c.args.stream c.count-recvs.result c.in-Err.ensures.err c.close_to-in-Err.ensures),
       λ on. absurd (true≢false (sym on)),
     )
 
@@ -80,7 +80,7 @@ invariant_of-self-2 c =
       c.self-2.invariant.2,
       fit_streamed _ _ _ _ _ _ _ c.self-2.invariant.3 _ c.self-2.invariant.0.sound _ c.args.stream _ _ _
           (stream_checked c.args.self.now _ c.args.stream c.args.offset c.args.bytes.now c.args.fin c.requires.passed (c.self-2.view_is ∙ c.in_ok-open_by_peer.ensures.ok)) c.in_default.ensures.ok,
-      told_streamed c.self-2.inside.role c.self-2.inside.settings c.self-2.inside.recvs c.self-2.inside.outbox.outstanding c.self-2.inside.outbox.acked c.self-2.inside.untold c.self-2.invariant.4 c.take_stream.new.self c.args.stream _ c.self-2.invariant.0.sound c.args.offset c.args.bytes.now c.args.fin
+      told_streamed c.self-2.inside.limits.role c.self-2.inside.limits.settings c.self-2.inside.recvs c.self-2.inside.outbox.outstanding c.self-2.inside.outbox.acked c.self-2.inside.untold c.self-2.invariant.4 c.take_stream.new.self c.args.stream _ c.self-2.invariant.0.sound c.args.offset c.args.bytes.now c.args.fin
           (stream_checked c.args.self.now _ c.args.stream c.args.offset c.args.bytes.now c.args.fin c.requires.passed (c.self-2.view_is ∙ c.in_ok-open_by_peer.ensures.ok)) c.in_default.ensures.ok,
       λ on. absurd (true≢false (sym on)),
     )

@@ -24,8 +24,8 @@ invariant_of-self-2 c = (
   idle_with c.self.inside.outbox _ _ c.in_ok-open_sends.ensures.ok c.self.invariant.1,
   funded_opened c.self.inside.outbox _ _ _ _ _ _ _ _ c.in_ok-open_sends.ensures.ok c.self.invariant.2,
   fit_opened _ _ _ _ _ _ _ c.self.invariant.3 _ _ c.args.stream _ _ _ _ _ (ap (λ (o : Outgoing). o.sends) c.in_ok-open_sends.ensures.ok) c.in_default.ensures.ok,
-  told_with c.self.inside.role c.self.inside.settings c.open_recvs.new.recvs c.self.inside.outbox _ _ c.open_recvs.new.untold c.in_ok-open_sends.ensures.ok
-      (c.in_default.ensures.told c.self.inside.role c.self.inside.settings c.self.inside.outbox (c.window-window.ensures.value ∙ ap (λ (e : End). window e c.args.stream) (sym c.self.view_is)) c.self.invariant.4),
+  told_with c.self.inside.limits.role c.self.inside.limits.settings c.open_recvs.new.recvs c.self.inside.outbox _ _ c.open_recvs.new.untold c.in_ok-open_sends.ensures.ok
+      (c.in_default.ensures.told c.self.inside.limits.role c.self.inside.limits.settings c.self.inside.outbox (c.window-window.ensures.value ∙ ap (λ (e : End). window e c.args.stream) (sym c.self.view_is)) c.self.invariant.4),
   λ on. absurd (true≢false (sym on)),
 )
 
@@ -43,10 +43,10 @@ invariant_of-self-in-Err c =
     let back = out_back c.self.inside.outbox c.open_sends.new.outbox c.args.stream c.count-before.result _ _ _ c.in_ok-open_sends.ensures.ok c.count-before.ensures c.close_to.new.self c.close_to.ensures in (
       rw c.in-Err.ensures.err c.self.invariant.0,
       subst (λ (o : Outgoing). IsIdle o) (sym back) c.self.invariant.1,
-      subst (λ (o : Outgoing). IsFunded o.sends c.self.inside.known_data c.self.inside.done c.self.inside.ack_due) (sym back) c.self.invariant.2,
-      rw c.in-Err.ensures.err (subst (λ (o : Outgoing). CountsFit c.self.inside.role c.self.inside.settings c.self.inside.recvs o.sends c.self.inside.ended c.self.inside.granted_bidi c.self.inside.granted_uni) (sym back) c.self.invariant.3),
-      subst (λ (o : Outgoing). AreTold c.self.inside.role c.self.inside.settings c.open_recvs.new.recvs o.outstanding o.acked c.open_recvs.new.untold) (sym back)
-          (c.in-Err.ensures.told c.self.inside.role c.self.inside.settings c.self.inside.outbox (c.window-window.ensures.value ∙ ap (λ (e : End). window e c.args.stream) (sym c.self.view_is)) c.self.invariant.4),
+      subst (λ (o : Outgoing). IsFunded o.sends c.self.inside.limits.known_data c.self.inside.done c.self.inside.ack_due) (sym back) c.self.invariant.2,
+      rw c.in-Err.ensures.err (subst (λ (o : Outgoing). CountsFit c.self.inside.limits.role c.self.inside.limits.settings c.self.inside.recvs o.sends c.self.inside.ended c.self.inside.limits.granted_bidi c.self.inside.limits.granted_uni) (sym back) c.self.invariant.3),
+      subst (λ (o : Outgoing). AreTold c.self.inside.limits.role c.self.inside.limits.settings c.open_recvs.new.recvs o.outstanding o.acked c.open_recvs.new.untold) (sym back)
+          (c.in-Err.ensures.told c.self.inside.limits.role c.self.inside.limits.settings c.self.inside.outbox (c.window-window.ensures.value ∙ ap (λ (e : End). window e c.args.stream) (sym c.self.view_is)) c.self.invariant.4),
       λ on. absurd (true≢false (sym on)),
     )
 

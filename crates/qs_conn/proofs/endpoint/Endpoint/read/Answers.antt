@@ -18,6 +18,6 @@ invariant_of-self c = (
   c.self.invariant.1,
   c.self.invariant.2,
   fit_read _ _ _ _ _ _ _ c.self.invariant.3 _ c.self.invariant.0.sound _ c.args.stream _ _ _ _ c.read-answer.ensures.after c.is_over-was.ensures.value c.is_over-is.ensures.value c.recount.ensures,
-  told_read c.self.inside.role c.self.inside.settings c.self.inside.recvs c.self.inside.outbox.outstanding c.self.inside.outbox.acked c.self.inside.untold c.self.invariant.4 c.read-answer.new.self c.args.stream _ c.read-answer.ensures.after,
+  told_read c.self.inside.limits.role c.self.inside.limits.settings c.self.inside.recvs c.self.inside.outbox.outstanding c.self.inside.outbox.acked c.self.inside.untold c.self.invariant.4 c.read-answer.new.self c.args.stream _ c.read-answer.ensures.after,
   λ on. absurd (true≢false (sym on)),
 )

@@ -13,7 +13,7 @@ invariant_of-self c = (
   idle_with c.self.inside.outbox _ _ c.in-Ok.ensures.accepted.2 c.self.invariant.1,
   funded_written c.self.inside.outbox _ _ _ _ _ _ c.in-Ok.ensures.accepted.2 c.self.invariant.2,
   fit_written _ _ _ _ _ _ _ c.self.invariant.3 _ c.args.stream _ c.in-Ok.ensures.accepted.0 (ap (λ (o : Outgoing). o.sends) c.in-Ok.ensures.accepted.2),
-  told_with c.self.inside.role c.self.inside.settings c.self.inside.recvs c.self.inside.outbox _ _ c.self.inside.untold c.in-Ok.ensures.accepted.2 c.self.invariant.4,
+  told_with c.self.inside.limits.role c.self.inside.limits.settings c.self.inside.recvs c.self.inside.outbox _ _ c.self.inside.untold c.in-Ok.ensures.accepted.2 c.self.invariant.4,
   c.self.invariant.5,
 )
 

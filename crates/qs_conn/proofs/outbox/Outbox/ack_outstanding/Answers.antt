@@ -3,6 +3,7 @@ use Rattle.qs_conn.proofs.OutboxMaking.{room_stays}
 use Rattle.qs_conn.proofs.OutboxAcks.{idle_none, first_at, tied_at, sent_piece, box_acked, acked_value, idle_after, stop_asks}
 use Rattle.qs_conn.proofs.Indexed.{indexed_first_gone}
 use Rattle.qs_machine.proofs.LostSent.{sent_acked}
+use Rattle.qs_machine.specs.Sums.{tables_of}
 use Rattle.qs_conn.proofs.outbox.Outbox.ack_outstanding.Goals as goal
 
 kept : {a b : ℕ} → a ≡ b → b ≤ a
@@ -10,7 +11,7 @@ kept e = omega (arith, e)
 
 pub piece_acked-requires : goal.piece_acked-requires
 piece_acked-requires c =
-    sent_piece c.self.inside.sends c.self.inside.records.pieces c.args.number c.args.piece
+    sent_piece (tables_of c.self.inside.types) c.self.inside.records.pieces c.args.number c.args.piece
     (tied_at _ _ _ _ _ _ _ _ c.self.invariant.0 (idle_none _ c.args.self.now c.self.inside.records.pieces c.self.inside.pending.items c.self.view_is refl c.requires.idle))
     (first_at _ c.args.self.now c.self.inside.records.pieces c.self.inside.pending.items c.args.number c.args.piece c.self.view_is refl c.requires.idle c.requires.first)
 
@@ -24,12 +25,13 @@ invariant_of-self-2 c = (
       (idle_none _ c.args.self.now c.self.inside.records.pieces c.self.inside.pending.items c.self.view_is refl c.requires.idle)
       (first_at _ c.args.self.now c.self.inside.records.pieces c.self.inside.pending.items c.args.number c.args.piece c.self.view_is refl c.requires.idle c.requires.first)
       c.drop_first.ensures.pieces c.forget.ensures.items c.forget.ensures.spare,
-  sent_acked c.self.inside.sends c.piece_acked.new.sends _ c.self.invariant.2 c.args.piece c.in_ok-piece_acked.ensures.halves,
+  sent_acked (tables_of c.self.inside.types) (tables_of c.piece_acked.new.types) _ c.self.invariant.2 c.args.piece c.in_ok-piece_acked.ensures.halves,
+  c.piece_acked.ensures.len,
 )
 
 pub returns-clause-ok : goal.returns-clause-ok
 returns-clause-ok c =
-    acked_value c.args.number c.args.piece _ c.args.self.now c.self.inside.sends c.piece_acked.new.sends c.self.inside.records.pieces c.drop_first.new.self.pieces c.self.inside.pending.items c.piece_acked.new.told c.self.view_is refl refl
+    acked_value c.args.number c.args.piece _ c.args.self.now (tables_of c.self.inside.types) (tables_of c.piece_acked.new.types) c.self.inside.records.pieces c.drop_first.new.self.pieces c.self.inside.pending.items c.piece_acked.new.told c.self.view_is refl refl
     (idle_none _ c.args.self.now c.self.inside.records.pieces c.self.inside.pending.items c.self.view_is refl c.requires.idle)
     c.in_ok-piece_acked.ensures.halves c.drop_first.ensures.pieces c.in_ok-piece_acked.ensures.items
 

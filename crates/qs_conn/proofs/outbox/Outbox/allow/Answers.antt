@@ -1,20 +1,24 @@
 use Rattle.std.proofs.Common.{ap, ◌∙◌, refl}
+use Rattle.std.proofs.lemmas.List.{length-set}
 use Rattle.qs_send.specs.Lane.{allow_lane, after_allow}
 use Rattle.qs_machine.specs.Outgoing.{lanes_of}
+use Rattle.qs_machine.specs.Sums.{tables_of}
 use Rattle.qs_machine.proofs.LaneTables.{lanes_updated}
-use Rattle.qs_conn.proofs.Outboxes.{half_there, lane_step, box_allowed}
 use Rattle.qs_machine.proofs.LostSent.{sent_allow}
+use Rattle.qs_machine.proofs.TableEdits.{open_there, updated_is}
+use Rattle.qs_conn.proofs.Outboxes.{half_there, lane_step, box_allowed}
 use Rattle.qs_conn.proofs.outbox.Outbox.allow.Goals as goal
 
 pub allow-requires-clause-there : goal.allow-requires-clause-there
-allow-requires-clause-there c = half_there _ c.args.self.now c.self.inside.sends c.args.stream c.self.view_is refl c.requires.open
+allow-requires-clause-there c = open_there c.self.inside.types c.args.stream _ _ _ c.self.invariant.3 c.type_of.ensures.value c.index_of.ensures.value (half_there _ c.args.self.now (tables_of c.self.inside.types) c.args.stream c.self.view_is refl c.requires.open)
 
 pub invariant_of-self : goal.invariant_of-self
 invariant_of-self c =
-    let there = half_there _ c.args.self.now c.self.inside.sends c.args.stream c.self.view_is refl c.requires.open in
-    (box_allowed _ _ _ _ _ _ _ _ _ c.self.invariant.0 c.args.stream c.args.limit there c.allow.ensures, c.self.invariant.1, sent_allow c.self.inside.sends c.allow.new.self _ c.self.invariant.2 c.args.stream c.args.limit c.allow.ensures)
+    let there = half_there _ c.args.self.now (tables_of c.self.inside.types) c.args.stream c.self.view_is refl c.requires.open in
+    let is = updated_is c.self.inside.types c.args.stream _ _ _ _ (λ s. after_allow s c.args.limit) c.self.invariant.3 c.type_of.ensures.value c.index_of.ensures.value c.allow.ensures in
+    (box_allowed _ _ _ _ _ _ _ _ _ c.self.invariant.0 c.args.stream c.args.limit there is, c.self.invariant.1, sent_allow (tables_of c.self.inside.types) _ _ c.self.invariant.2 c.args.stream c.args.limit is, length-set _ _ _ ∙ c.self.invariant.3)
 
 pub returns : goal.returns
 returns c =
-    lane_step _ c.args.self.now c.args.stream _ (lanes_of c.allow.new.self) c.self.view_is
-    (ap lanes_of c.allow.ensures ∙ lanes_updated c.self.inside.sends c.args.stream (λ s. after_allow s c.args.limit) (λ l. allow_lane l c.args.limit) (λ s there. refl))
+    let is = updated_is c.self.inside.types c.args.stream _ _ _ _ (λ s. after_allow s c.args.limit) c.self.invariant.3 c.type_of.ensures.value c.index_of.ensures.value c.allow.ensures in
+    lane_step _ c.args.self.now c.args.stream _ _ c.self.view_is (ap lanes_of is ∙ lanes_updated (tables_of c.self.inside.types) c.args.stream (λ s. after_allow s c.args.limit) (λ l. allow_lane l c.args.limit) (λ s there. refl))

@@ -13,6 +13,7 @@ invariant_of-self-in_err-reserve-2 c =
       box_begun _ _ _ _ _ _ _ _ _ _ _ _ _ c.self.invariant.0 c.make_room.ensures.same c.reserve.ensures.items (has_room _ _ c.in_ok-make_room.ensures.ok) (omega (arith, was, more, len)),
       indexed_begun _ _ _ _ _ _ _ _ _ _ _ c.self.invariant.1 c.make_room.ensures.same c.reserve.ensures.items c.reserve-2.ensures.items (omega (arith, room, kept)),
       c.self.invariant.2,
+      c.self.invariant.3,
     )
 
 pub invariant_of-self-2 : goal.invariant_of-self-2
@@ -21,4 +22,5 @@ invariant_of-self-2 c =
       box_begun _ _ _ _ _ _ _ _ _ _ _ _ _ c.self.invariant.0 c.make_room.ensures.same c.reserve.ensures.items (has_room _ _ c.in_ok-make_room.ensures.ok) (omega (arith, enough)),
       indexed_begun _ _ _ _ _ _ _ _ _ _ _ c.self.invariant.1 c.make_room.ensures.same c.reserve.ensures.items c.reserve-2.ensures.items c.in_ok-reserve-2.ensures.ok,
       c.self.invariant.2,
+      c.self.invariant.3,
     )

@@ -1,29 +1,29 @@
 use Rattle.std.proofs.Common.{ap, ◌∙◌, refl, sym}
-use Rattle.qs_send.specs.Lane.{refusal, answer_of, finish_lane}
+use Rattle.std.proofs.lemmas.List.{length-set}
+use Rattle.qs_send.specs.Lane.{Sending, refusal, answer_of, finish_lane, after_finish}
 use Rattle.qs_machine.specs.Outgoing.{lanes_of}
-use Rattle.qs_machine.proofs.TableEdits.{on_ok}
-use Rattle.qs_conn.proofs.Outboxes.{half_there, lane_now, lane_step, same_step, box_finished, finish_ok, finish_err, on_error}
+use Rattle.qs_machine.specs.Sums.{tables_of}
 use Rattle.qs_machine.proofs.LostSent.{sent_finish}
+use Rattle.qs_machine.proofs.TableEdits.{open_there, half_is, updated_is, on_ok}
+use Rattle.qs_conn.proofs.Outboxes.{half_there, lane_now, lane_step, same_step, box_finished, finish_ok, finish_err, on_error}
 use Rattle.qs_conn.proofs.outbox.Outbox.finish.Goals as goal
 
-pub get-requires : goal.get-requires
-get-requires c = (half_there _ c.args.self.now c.self.inside.sends c.args.stream c.self.view_is refl c.requires)
+pub half_of-requires-clause-open : goal.half_of-requires-clause-open
+half_of-requires-clause-open c = half_there _ c.args.self.now (tables_of c.self.inside.types) c.args.stream c.self.view_is refl c.requires
 
 pub finish-requires : goal.finish-requires
-finish-requires c = (half_there _ c.args.self.now c.self.inside.sends c.args.stream c.self.view_is refl c.requires)
+finish-requires c = open_there c.self.inside.types c.args.stream _ _ _ c.self.invariant.3 c.type_of.ensures.value c.index_of.ensures.value (half_there _ c.args.self.now (tables_of c.self.inside.types) c.args.stream c.self.view_is refl c.requires)
 
 pub invariant_of-self : goal.invariant_of-self
-invariant_of-self c = (box_finished _ _ _ _ _ _ _ _ _ c.self.invariant.0 c.args.stream c.get.result.now c.get.ensures c.is_lawful.ensures c.finish.ensures.after, c.self.invariant.1, sent_finish c.self.inside.sends c.finish.new.self _ c.self.invariant.2 c.args.stream c.finish.ensures.after)
+invariant_of-self c =
+    let is = updated_is c.self.inside.types c.args.stream _ _ _ _ after_finish c.self.invariant.3 c.type_of.ensures.value c.index_of.ensures.value c.finish.ensures.after in
+    (box_finished _ _ _ _ _ _ _ _ _ c.self.invariant.0 c.args.stream c.half_of.result.now c.half_of.ensures c.is_lawful.ensures is, c.self.invariant.1, sent_finish (tables_of c.self.inside.types) _ _ c.self.invariant.2 c.args.stream is, length-set _ _ _ ∙ c.self.invariant.3)
 
-pub returns-clause-answer : goal.returns-clause-answer
-returns-clause-answer c = c.finish.ensures.answer ∙ ap (λ l. answer_of (refusal l)) (sym (lane_now _ c.args.self.now c.self.inside.sends c.args.stream c.self.view_is refl))
-
-pub returns-clause-ok : goal.returns-clause-ok
-returns-clause-ok c =
-    on_ok c.finish.result _ _ (λ is. lane_step _ c.args.self.now c.args.stream finish_lane (lanes_of c.finish.new.self) c.self.view_is is)
-    (finish_ok c.self.inside.sends c.finish.new.self c.args.stream c.finish.result (half_there _ c.args.self.now c.self.inside.sends c.args.stream c.self.view_is refl c.requires) c.finish.ensures.after c.finish.ensures.answer)
-
-pub returns-clause-err : goal.returns-clause-err
-returns-clause-err c =
-    on_error c.finish.result _ _ (λ is. same_step _ c.args.self.now (lanes_of c.finish.new.self) c.self.view_is (ap lanes_of is))
-    (finish_err c.self.inside.sends c.finish.new.self c.args.stream c.finish.result (half_there _ c.args.self.now c.self.inside.sends c.args.stream c.self.view_is refl c.requires) c.finish.ensures.after c.finish.ensures.answer)
+pub returns : goal.returns
+returns c =
+    let is = updated_is c.self.inside.types c.args.stream _ _ _ _ after_finish c.self.invariant.3 c.type_of.ensures.value c.index_of.ensures.value c.finish.ensures.after in
+    let answer = c.finish.ensures.answer ∙ ap (λ (s : Sending). answer_of (refusal s.lane)) (sym (half_is c.self.inside.types c.args.stream _ _ _ c.self.invariant.3 c.type_of.ensures.value c.index_of.ensures.value)) in record {
+      answer = answer ∙ ap (λ l. answer_of (refusal l)) (sym (lane_now _ c.args.self.now (tables_of c.self.inside.types) c.args.stream c.self.view_is refl));
+      ok = on_ok c.finish.result _ _ (λ lanes. lane_step _ c.args.self.now c.args.stream finish_lane _ c.self.view_is lanes) (finish_ok (tables_of c.self.inside.types) _ c.args.stream c.finish.result (half_there _ c.args.self.now (tables_of c.self.inside.types) c.args.stream c.self.view_is refl c.requires) is answer);
+      err = on_error c.finish.result _ _ (λ same. same_step _ c.args.self.now _ c.self.view_is (ap lanes_of same)) (finish_err (tables_of c.self.inside.types) _ c.args.stream c.finish.result (half_there _ c.args.self.now (tables_of c.self.inside.types) c.args.stream c.self.view_is refl c.requires) is answer);
+    }

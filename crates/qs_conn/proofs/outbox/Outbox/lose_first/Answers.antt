@@ -3,6 +3,7 @@ use Rattle.qs_conn.proofs.OutboxMaking.{room_stays}
 use Rattle.qs_conn.proofs.OutboxAcks.{idle_none, first_at, tied_at, sent_piece, box_lost, lost_value, lost_added, idle_after}
 use Rattle.qs_conn.proofs.Indexed.{indexed_first_gone}
 use Rattle.qs_machine.proofs.LostSent.{sent_lost}
+use Rattle.qs_machine.specs.Sums.{tables_of}
 use Rattle.qs_conn.proofs.outbox.Outbox.lose_first.Goals as goal
 
 kept : {a b : ℕ} → a ≡ b → b ≤ a
@@ -10,7 +11,7 @@ kept e = omega (arith, e)
 
 pub piece_lost-requires : goal.piece_lost-requires
 piece_lost-requires c =
-    sent_piece c.self.inside.sends c.self.inside.records.pieces c.args.number c.args.piece
+    sent_piece (tables_of c.self.inside.types) c.self.inside.records.pieces c.args.number c.args.piece
     (tied_at _ _ _ _ _ _ _ _ c.self.invariant.0 (idle_none _ c.args.self.now c.self.inside.records.pieces c.self.inside.pending.items c.self.view_is refl c.requires.idle))
     (first_at _ c.args.self.now c.self.inside.records.pieces c.self.inside.pending.items c.args.number c.args.piece c.self.view_is refl c.requires.idle c.requires.first)
 
@@ -24,16 +25,17 @@ invariant_of-self-2 c = (
       (idle_none _ c.args.self.now c.self.inside.records.pieces c.self.inside.pending.items c.self.view_is refl c.requires.idle)
       (first_at _ c.args.self.now c.self.inside.records.pieces c.self.inside.pending.items c.args.number c.args.piece c.self.view_is refl c.requires.idle c.requires.first)
       c.drop_first.ensures.pieces c.forget.ensures.items c.forget.ensures.spare,
-  sent_lost c.self.inside.sends c.piece_lost.new.sends c.self.inside.lost.pieces c.make_room.new.self.pieces c.add.new.self.pieces c.make_room.new.self.order c.args.number c.args.piece c.in_ok-piece_lost.ensures.ok c.make_room.ensures.pieces c.add.ensures.pieces
-      (sent_piece c.self.inside.sends c.self.inside.records.pieces c.args.number c.args.piece
+  sent_lost (tables_of c.self.inside.types) (tables_of c.piece_lost.new.types) c.self.inside.lost.pieces c.make_room.new.self.pieces c.add.new.self.pieces c.make_room.new.self.order c.args.number c.args.piece c.in_ok-piece_lost.ensures.ok c.make_room.ensures.pieces c.add.ensures.pieces
+      (sent_piece (tables_of c.self.inside.types) c.self.inside.records.pieces c.args.number c.args.piece
       (tied_at _ _ _ _ _ _ _ _ c.self.invariant.0 (idle_none _ c.args.self.now c.self.inside.records.pieces c.self.inside.pending.items c.self.view_is refl c.requires.idle))
       (first_at _ c.args.self.now c.self.inside.records.pieces c.self.inside.pending.items c.args.number c.args.piece c.self.view_is refl c.requires.idle c.requires.first))
       c.self.invariant.2,
+  c.piece_lost.ensures.len,
 )
 
 pub returns-clause-ok : goal.returns-clause-ok
 returns-clause-ok c =
-    lost_value c.args.number c.args.piece _ c.args.self.now c.self.inside.sends c.piece_lost.new.sends c.self.inside.records.pieces c.drop_first.new.self.pieces c.self.inside.pending.items c.self.view_is refl refl
+    lost_value c.args.number c.args.piece _ c.args.self.now (tables_of c.self.inside.types) (tables_of c.piece_lost.new.types) c.self.inside.records.pieces c.drop_first.new.self.pieces c.self.inside.pending.items c.self.view_is refl refl
     (idle_none _ c.args.self.now c.self.inside.records.pieces c.self.inside.pending.items c.self.view_is refl c.requires.idle)
     c.in_ok-piece_lost.ensures.ok c.drop_first.ensures.pieces _
     (lost_added c.args.number c.args.piece c.self.inside.lost.pieces c.make_room.new.self.pieces c.add.new.self.pieces c.self.inside.lost.order c.make_room.new.self.order c.add.new.self.order c.make_room.ensures.pieces c.make_room.ensures.order c.add.ensures.pieces c.add.ensures.order)

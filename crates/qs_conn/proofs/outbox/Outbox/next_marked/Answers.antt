@@ -1,6 +1,12 @@
-use Rattle.std.proofs.Common.{refl}
+use Rattle.std.proofs.Common.{◌≡◌, false, refl, arith}
+use Rattle.qs_machine.specs.Sums.{tables_of}
 use Rattle.qs_conn.proofs.Quiets.{quiet_at}
 use Rattle.qs_conn.proofs.outbox.Outbox.next_marked.Goals as goal
 
+pub returns-then-not-may_have-clause-quiet : goal.returns-then-not-may_have-clause-quiet
+returns-then-not-may_have-clause-quiet c =
+    let none : c.may_have.result ≡ false = grind (arith, c.if-not-may_have.true) in
+    λ n le before. quiet_at c.args.task _ c.args.self.now (tables_of c.self.inside.types) n c.self.view_is refl (c.self.invariant.0.tied.lanes n) (λ s. c.may_have.ensures none n s)
+
 pub returns-clause-quiet : goal.returns-clause-quiet
-returns-clause-quiet c = λ n le before. quiet_at c.args.task _ c.args.self.now c.self.inside.sends n c.self.view_is refl (c.self.invariant.0.tied.lanes n) (λ s. c.next_marked.ensures.quiet n s le before)
+returns-clause-quiet c = λ n le before. quiet_at c.args.task _ c.args.self.now (tables_of c.self.inside.types) n c.self.view_is refl (c.self.invariant.0.tied.lanes n) (λ s. c.least_marked.ensures.quiet n s le before)

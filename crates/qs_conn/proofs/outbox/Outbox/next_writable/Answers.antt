@@ -3,7 +3,8 @@ use Rattle.qs_conn.specs.Sending.{MayWrite}
 use Rattle.qs_conn.specs.Tasks.{HasTask}
 use Rattle.qs_conn.specs.declared.send_marks.Task.TheVariants as tasks
 use Rattle.qs_conn.proofs.Sought.{lanes_least}
+use Rattle.qs_machine.specs.Sums.{tables_of}
 use Rattle.qs_conn.proofs.outbox.Outbox.next_writable.Goals as goal
 
 pub returns : goal.returns
-returns c = lanes_least (HasTask tasks.Writable) MayWrite (λ s h. h) (λ s h. h) _ c.args.self.now c.self.inside.sends c.args.from c.next_with.result c.self.view_is refl c.next_with.ensures
+returns c = lanes_least (HasTask tasks.Writable) MayWrite (λ s h. h) (λ s h. h) _ c.args.self.now (tables_of c.self.inside.types) c.args.from c.next_with.result c.self.view_is refl c.next_with.ensures

@@ -1,13 +1,14 @@
 use Rattle.std.proofs.Common.{refl, sym, ap, ◌∙◌, ◌≡◌, false, arith}
 use Rattle.qs_machine.specs.Asking.{stop_of}
 use Rattle.qs_conn.proofs.Telling.{no_lookup, lookup_now}
+use Rattle.qs_machine.specs.Sums.{tables_of}
 use Rattle.qs_conn.proofs.outbox.Outbox.stop_code.Goals as goal
 
 pub returns-then-not-is_open : goal.returns-then-not-is_open
 returns-then-not-is_open c =
     let none : c.is_open.result ≡ false = grind (arith, c.if-not-is_open.true) in
-    sym (ap stop_of (no_lookup _ c.args.self.now c.self.inside.sends c.args.stream c.self.view_is refl (sym c.is_open.ensures ∙ none)))
+    sym (ap stop_of (no_lookup _ c.args.self.now (tables_of c.self.inside.types) c.args.stream c.self.view_is refl (sym c.is_open.ensures ∙ none)))
 
 pub returns : goal.returns
 returns c =
-    c.stop_code.ensures ∙ sym (ap stop_of (lookup_now _ c.args.self.now c.self.inside.sends c.args.stream c.get-half.result.now c.self.view_is refl c.get-half.ensures))
+    c.stop_code.ensures ∙ sym (ap stop_of (lookup_now _ c.args.self.now (tables_of c.self.inside.types) c.args.stream c.half_of-half.result.now c.self.view_is refl c.half_of-half.ensures))

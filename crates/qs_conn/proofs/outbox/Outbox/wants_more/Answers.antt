@@ -1,14 +1,15 @@
 use Rattle.std.proofs.Common.{refl, sym, ◌∙◌, ◌≡◌, false, arith}
 use Rattle.qs_conn.proofs.Telling.{no_lookup, lookup_now, wants_none, not_wanting, wanting, has_code, no_code}
+use Rattle.qs_machine.specs.Sums.{tables_of}
 use Rattle.qs_conn.proofs.outbox.Outbox.wants_more.Goals as goal
 
 pub returns-then-not-is_open : goal.returns-then-not-is_open
 returns-then-not-is_open c =
     let none : c.is_open.result ≡ false = grind (arith, c.if-not-is_open.true) in
-    wants_none _ (no_lookup _ c.args.self.now c.self.inside.sends c.args.stream c.self.view_is refl (sym c.is_open.ensures ∙ none))
+    wants_none _ (no_lookup _ c.args.self.now (tables_of c.self.inside.types) c.args.stream c.self.view_is refl (sym c.is_open.ensures ∙ none))
 
 pub returns-in-Some : goal.returns-in-Some
-returns-in-Some c = not_wanting _ c.get-half.result.now.lane (lookup_now _ c.args.self.now c.self.inside.sends c.args.stream c.get-half.result.now c.self.view_is refl c.get-half.ensures) (has_code c.get-half.result.now.lane c.reset_code.result c.in-Some._code c.reset_code.ensures.value c.in-Some.is)
+returns-in-Some c = not_wanting _ c.half_of-half.result.now.lane (lookup_now _ c.args.self.now (tables_of c.self.inside.types) c.args.stream c.half_of-half.result.now c.self.view_is refl c.half_of-half.ensures) (has_code c.half_of-half.result.now.lane c.reset_code.result c.in-Some._code c.reset_code.ensures.value c.in-Some.is)
 
 pub returns : goal.returns
-returns c = wanting _ c.get-half.result.now.lane _ (lookup_now _ c.args.self.now c.self.inside.sends c.args.stream c.get-half.result.now c.self.view_is refl c.get-half.ensures) (no_code c.get-half.result.now.lane (sym c.reset_code.ensures.value ∙ c.in_default.is)) (rw (c.min.ensures, c.sent_end.ensures.exact, c.written.ensures.exact, c.limit.ensures.exact) refl)
+returns c = wanting _ c.half_of-half.result.now.lane _ (lookup_now _ c.args.self.now (tables_of c.self.inside.types) c.args.stream c.half_of-half.result.now c.self.view_is refl c.half_of-half.ensures) (no_code c.half_of-half.result.now.lane (sym c.reset_code.ensures.value ∙ c.in_default.is)) (rw (c.min.ensures, c.sent_end.ensures.exact, c.written.ensures.exact, c.limit.ensures.exact) refl)

@@ -6,4 +6,4 @@ use Rattle.qs_conn.proofs.recv_tables.RecvTables.check_reset.Goals as goal
 pub returns : goal.returns
 returns c =
     rw (← c.self.view_is)
-    (c.check_reset.ensures ∙ ap (λ l. check_reset l c.args.size) (lane_looked c.self.inside.types c.args.stream c.kind_of.result c.index_of.result c.index-self-kind_of.result c.args.window c.self.invariant c.kind_of.ensures.value c.index_of.ensures.value))
+    (c.check_reset.ensures ∙ ap (λ l. check_reset l c.args.size) (lane_looked c.self.inside.types c.args.stream c.type_of.result c.index_of.result c.index-self-type_of.result c.args.window c.self.invariant c.type_of.ensures.value c.index_of.ensures.value))

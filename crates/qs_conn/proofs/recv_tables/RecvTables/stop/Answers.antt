@@ -5,13 +5,13 @@ use Rattle.qs_conn.proofs.recv_tables.RecvTables.stop.Goals as goal
 
 pub stop-requires-clause-there : goal.stop-requires-clause-there
 stop-requires-clause-there c =
-    open_there c.self.inside.types c.args.stream c.kind_of.result c.index_of.result c.index-self-kind_of.result c.self.invariant c.kind_of.ensures.value c.index_of.ensures.value (rw (← c.self.view_is) at c.requires.open)
+    open_there c.self.inside.types c.args.stream c.type_of.result c.index_of.result c.index-self-type_of.result c.self.invariant c.type_of.ensures.value c.index_of.ensures.value (rw (← c.self.view_is) at c.requires.open)
 
 pub stop-requires-clause-room : goal.stop-requires-clause-room
 stop-requires-clause-room c =
     let room = rw (← c.self.view_is) at c.requires.room in
-    let le = sum_le highest c.self.inside.types c.args.stream c.kind_of.result c.index-self-kind_of.result c.self.invariant c.kind_of.ensures.value in
+    let le = sum_le highest c.self.inside.types c.args.stream c.type_of.result c.index-self-type_of.result c.self.invariant c.type_of.ensures.value in
     omega (arith, room, le)
 
 pub returns : goal.returns
-returns c = rw (← c.self.view_is) (updated_is c.self.inside.types c.args.stream c.kind_of.result c.index_of.result c.index-self-kind_of.result _ (λ l. stop l c.args.code) c.self.invariant c.kind_of.ensures.value c.index_of.ensures.value c.stop.ensures.after)
+returns c = rw (← c.self.view_is) (updated_is c.self.inside.types c.args.stream c.type_of.result c.index_of.result c.index-self-type_of.result _ (λ l. stop l c.args.code) c.self.invariant c.type_of.ensures.value c.index_of.ensures.value c.stop.ensures.after)

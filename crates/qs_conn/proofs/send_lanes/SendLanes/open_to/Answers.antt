@@ -11,13 +11,13 @@ loop-opened-preserved c =
     let is : c.new.result ≡ Some c.unwrap-id.result = search (rules, c.unwrap-id.ensures) in
     let id = id_is c.new.result c.unwrap-id.result _ is c.new.ensures.some in
     let len : c.len-before.result ≡ length c.self.inside.halves.items = omega (arith, c.len-before.ensures) in
-    let at = id ∙ ap (λ k. (k + c.loop-opened.opened) * 4 + c.args.kind) len in
+    let at = id ∙ ap (λ k. (k + c.loop-opened.opened) * 4 + c.args.stream_type) len in
     record { marks = c.loop-opened.invariant.marks; items = c.in_default.ensures.items ∙ opened_more _ _ _ _ _ c.loop-opened.invariant.items (c.new-fresh.ensures ∙ ap (λ k. new_sending k c.args.limit c.args.buffer) at) }
 
 pub returns-clause-ok : goal.returns-clause-ok
 returns-clause-ok c =
     let len : c.len-before.result ≡ length c.self.inside.halves.items = omega (arith, c.len-before.ensures) in
-    rw (← c.self.view_is) (opened_all c.self.inside.halves.items _ (λ (i : ℕ). new_sending (i * 4 + c.args.kind) c.args.limit c.args.buffer) _ _ _ _ c.loop-opened.invariant.items c.loop-opened.auto.opened-end c.loop-opened-test.false c.saturating_sub-missing.ensures len)
+    rw (← c.self.view_is) (opened_all c.self.inside.halves.items _ (λ (i : ℕ). new_sending (i * 4 + c.args.stream_type) c.args.limit c.args.buffer) _ _ _ _ c.loop-opened.invariant.items c.loop-opened.auto.opened-end c.loop-opened-test.false c.saturating_sub-missing.ensures len)
 
 pub invariant_of-self : goal.invariant_of-self
 invariant_of-self c =
@@ -32,6 +32,6 @@ invariant_of-self-in-Err-open_to c =
 pub invariant_of-self-in_default-open_to : goal.invariant_of-self-in_default-open_to
 invariant_of-self-in_default-open_to c =
     let len : c.len-before.result ≡ length c.self.inside.halves.items = omega (arith, c.len-before.ensures) in
-    all_opened c.args.kind c.args.limit c.args.buffer c.self.inside.halves.items c.loop-opened.self-inside.halves.items c.self.inside.marks c.open_to.new.self c.args.count c.loop-opened.opened c.saturating_sub-missing.result c.requires.count c.loop-opened.invariant.items
+    all_opened c.args.stream_type c.args.limit c.args.buffer c.self.inside.halves.items c.loop-opened.self-inside.halves.items c.self.inside.marks c.open_to.new.self c.args.count c.loop-opened.opened c.saturating_sub-missing.result c.requires.count c.loop-opened.invariant.items
     c.loop-opened.auto.opened-end c.loop-opened-test.false (c.saturating_sub-missing.ensures ∙ ap (λ k. c.args.count - k) len)
     (λ t. c.in_default-open_to.ensures.ok t ∙ ap (λ ms. marks_of ms t ++ replicate (c.args.count - length (marks_of ms t)) (begins t)) c.loop-opened.invariant.marks) c.self.invariant

@@ -1,9 +1,0 @@
-use Rattle.qs_conn.specs.Tasks.{HasTask}
-use Rattle.qs_conn.proofs.Least.{kind_some, kind_none}
-use Rattle.qs_conn.proofs.send_tables.SendTables.next_with_of.Goals as goal
-
-pub returns-in-Some-clause-least : goal.returns-in-Some-clause-least
-returns-in-Some-clause-least c = rw (← c.self.view_is) (kind_some (HasTask c.args.task) c.self.inside.types c.args.kind c.args.from _ c.in-Some.index c.index-self-kind.result c.self.invariant c.requires.kind c.index_from.ensures c.in-Some.ensures.least)
-
-pub returns-in-None-clause-least : goal.returns-in-None-clause-least
-returns-in-None-clause-least c = rw (← c.self.view_is) (kind_none (HasTask c.args.task) c.self.inside.types c.args.kind c.args.from _ c.index-self-kind.result c.self.invariant c.requires.kind c.index_from.ensures c.in-None.ensures.least)

@@ -1,6 +1,0 @@
-use Rattle.qs_conn.specs.Filling.{end_by}
-use Rattle.qs_conn.proofs.Slots.{stream_data_blocked_there}
-use Rattle.qs_conn.proofs.terms.stream_data_blocked.Goals as goal
-
-pub returns-clause-current : goal.returns-clause-current
-returns-clause-current c = λ t recvs e. stream_data_blocked_there (end_by t recvs c.args.outbox.now e) c.args.stream c.in_ok-limit.limit c.in_ok-limit.ensures.found

@@ -1,0 +1,205 @@
+//! Which control items an end has to tell.
+ghost use Rattle.std.specs.Prelude.{◌≡◌, ◌≤◌, ◌<◌, ◌↔◌, ◌^◌, IsTrue, ℕ, true, None, Some, IfSome};
+ghost use Rattle.qs_recv.specs.Lane.{RecvLane};
+ghost use Rattle.qs_conn.specs.declared.slot.Slot.TheVariants as slots;
+ghost use Rattle.qs_machine.specs.Tables.{Tables, lookup};
+ghost use Rattle.qs_machine.specs.Ends.{End, window_by};
+ghost use Rattle.qs_conn.specs.declared.limits.Limits.{Limits};
+ghost use Rattle.qs_machine.specs.Outgoing.{Outgoing};
+ghost use Rattle.qs_conn.specs.Filling.{end_by, IsCurrentIn, ItemFits, LimitsFit, AnyWantsMore};
+
+use crate::endpoint::{is_uni, role_bit};
+use crate::outbox::Outbox;
+use crate::places::type_of;
+use crate::recv_tables::RecvTables;
+use crate::send_marks::Task;
+use crate::slot::Slot;
+use qs_calls::Settings;
+use qs_send::Item;
+use qs_wire::{Dir, Role, StreamId};
+
+/// What an end has to tell beside what its streams have.
+#[derive(Clone, Copy, Drop)]
+pub(crate) struct Limits {
+    pub role: Role,
+    pub settings: Settings,
+    pub granted: u64,
+    pub granted_bidi: u64,
+    pub granted_uni: u64,
+    pub known_data: u64,
+    pub known_bidi: u64,
+    pub known_uni: u64,
+    pub wanted_bidi: Option<u64>,
+    pub wanted_uni: Option<u64>,
+}
+
+impl Limits {
+    /// The item of a slot that is to be told while no packet told it (RFC 9000, sections 4.1, 4.6 and 13.3).
+    pub(crate) fn current(&self, outbox: &Outbox, recvs: &RecvTables, slot: Slot) -> Option<Item>
+        requires { LimitsFit self.now }
+        ensures current { (e : End) → IsCurrentIn (end_by self.now recvs.now outbox.now e) slot result }
+        ensures fits { ItemFits result }
+    {
+        match slot {
+            Slot::MaxData => self.max_data(),
+            Slot::MaxStreamData(stream) => self.max_stream_data(recvs, stream),
+            Slot::MaxStreams(dir) => self.max_streams(dir),
+            Slot::ResetStream(stream) => reset_stream(outbox, stream),
+            Slot::StopSending(stream) => stop_sending(recvs, stream),
+            Slot::DataBlocked => self.data_blocked(outbox),
+            Slot::StreamDataBlocked(stream) => stream_data_blocked(outbox, stream),
+            Slot::StreamsBlocked(dir) => self.streams_blocked(dir),
+        }
+    }
+
+    /// Whether a look at few numbers tells that a slot of the connection has no item.
+    pub(crate) fn has_none(&self, outbox: &Outbox, slot: &Slot) -> bool
+        requires { LimitsFit self.now }
+        ensures { result ≡ true → (recvs : Tables RecvLane) (e : End) → IsCurrentIn (end_by self.now recvs outbox.now e) slot.now None }
+    {
+        match *slot {
+            Slot::MaxData => self.max_data().is_none(),
+            Slot::MaxStreams(dir) => self.max_streams(dir).is_none(),
+            Slot::DataBlocked => outbox.sent_sum() < self.known_data,
+            Slot::StreamsBlocked(dir) => self.streams_blocked(dir).is_none(),
+            _ => false,
+        }
+    }
+
+    // The connection's limit, once it was raised.
+    fn max_data(&self) -> Option<Item>
+        requires { LimitsFit self.now }
+        ensures current { (recvs : Tables RecvLane) (o : Outgoing) (e : End) → IsCurrentIn (end_by self.now recvs o e) slots.MaxData result }
+        ensures fits { ItemFits result }
+    {
+        if self.granted <= self.settings.conn_window {
+            return None;
+        }
+        Some(Item::MaxData {
+            maximum: self.granted,
+        })
+    }
+
+    // The count of streams granted, once it was raised.
+    #[tactic(auto, using(crate::proofs::Slots::max_streams_there, crate::proofs::Slots::max_streams_none))]
+    fn max_streams(&self, dir: Dir) -> Option<Item>
+        requires { LimitsFit self.now }
+        ensures current { (recvs : Tables RecvLane) (o : Outgoing) (e : End) → IsCurrentIn (end_by self.now recvs o e) (slots.MaxStreams dir) result }
+        ensures fits { ItemFits result }
+    {
+        let (first, count) = match dir {
+            Dir::Bidi => (self.settings.grant_bidi, self.granted_bidi),
+            Dir::Uni => (self.settings.grant_uni, self.granted_uni),
+        };
+        if count <= first {
+            return None;
+        }
+        Some(Item::MaxStreams { dir, count })
+    }
+
+    // A stream's limit, once it was raised, while no final size is known.
+    #[tactic(auto, using(crate::proofs::Slots::max_stream_data_there, crate::proofs::Slots::max_stream_data_none))]
+    fn max_stream_data(&self, recvs: &RecvTables, stream: StreamId) -> Option<Item>
+        ensures current { (o : Outgoing) (e : End) → IsCurrentIn (end_by self.now recvs.now o e) (slots.MaxStreamData stream) result }
+        ensures fits { ItemFits result }
+    {
+        match recvs.limit_to_tell(stream) {
+            Some(maximum) if self.window(stream) < maximum => {
+                Some(Item::MaxStreamData { stream, maximum })
+            }
+            _ => None,
+        }
+    }
+
+    /// The window of a receiving half.
+    pub(crate) fn window(&self, stream: StreamId) -> u64
+        ensures { result ≡ window_by self.now.role self.now.settings stream }
+    {
+        if is_uni(stream) {
+            self.settings.uni
+        } else if type_of(stream) % 2 == role_bit(self.role) {
+            self.settings.bidi_local
+        } else {
+            self.settings.bidi_remote
+        }
+    }
+
+    // The connection's limit, where it holds bytes of a stream back.
+    #[tactic(auto, using(crate::proofs::Slots::data_blocked_there, crate::proofs::Slots::data_blocked_none))]
+    fn data_blocked(&self, outbox: &Outbox) -> Option<Item>
+        requires { LimitsFit self.now }
+        ensures current { (recvs : Tables RecvLane) (e : End) → IsCurrentIn (end_by self.now recvs outbox.now e) slots.DataBlocked result }
+        ensures fits { ItemFits result }
+    {
+        if outbox.sent_sum() == self.known_data && any_wants_more(outbox) {
+            Some(Item::DataBlocked {
+                limit: self.known_data,
+            })
+        } else {
+            None
+        }
+    }
+
+    // The count of streams at which `open` was blocked, while it is the peer's.
+    #[tactic(auto, using(crate::proofs::Slots::streams_blocked_there, crate::proofs::Slots::streams_blocked_none))]
+    fn streams_blocked(&self, dir: Dir) -> Option<Item>
+        requires { LimitsFit self.now }
+        ensures current { (recvs : Tables RecvLane) (o : Outgoing) (e : End) → IsCurrentIn (end_by self.now recvs o e) (slots.StreamsBlocked dir) result }
+        ensures fits { ItemFits result }
+    {
+        let (wanted, count) = match dir {
+            Dir::Bidi => (self.wanted_bidi, self.known_bidi),
+            Dir::Uni => (self.wanted_uni, self.known_uni),
+        };
+        match wanted {
+            Some(blocked) if blocked == count => Some(Item::StreamsBlocked { dir, count }),
+            _ => None,
+        }
+    }
+}
+
+#[tactic(auto, using(crate::proofs::Slots::reset_there, crate::proofs::Slots::reset_none))]
+fn reset_stream(outbox: &Outbox, stream: StreamId) -> Option<Item>
+    ensures current { (t : Limits) (recvs : Tables RecvLane) (e : End) → IsCurrentIn (end_by t recvs outbox.now e) (slots.ResetStream stream) result }
+    ensures fits { ItemFits result }
+{
+    let reset = outbox.reset_of(stream)?;
+    Some(Item::ResetStream {
+        stream,
+        code: reset.code,
+        final_size: reset.size,
+    })
+}
+
+#[tactic(auto, using(crate::proofs::Slots::stop_there, crate::proofs::Slots::stop_none))]
+fn stop_sending(recvs: &RecvTables, stream: StreamId) -> Option<Item>
+    ensures current { (t : Limits) (o : Outgoing) (e : End) → IsCurrentIn (end_by t recvs.now o e) (slots.StopSending stream) result }
+    ensures fits { ItemFits result }
+{
+    let code = recvs.stop_to_tell(stream)?;
+    Some(Item::StopSending { stream, code })
+}
+
+#[tactic(auto, using(crate::proofs::Slots::stream_data_blocked_there, crate::proofs::Slots::stream_data_blocked_none))]
+fn stream_data_blocked(outbox: &Outbox, stream: StreamId) -> Option<Item>
+    ensures current { (t : Limits) (recvs : Tables RecvLane) (e : End) → IsCurrentIn (end_by t recvs outbox.now e) (slots.StreamDataBlocked stream) result }
+    ensures fits { ItemFits result }
+{
+    let limit = outbox.blocked_at(stream)?;
+    Some(Item::StreamDataBlocked { stream, limit })
+}
+
+// Whether the connection's credit alone holds bytes of some stream back.
+#[tactic(auto, using(crate::proofs::Quiets::none_wants, crate::proofs::Quiets::wants_next))]
+fn any_wants_more(outbox: &Outbox) -> bool
+    ensures { IsTrue result ↔ AnyWantsMore outbox.now.sends }
+{
+    let mut from = 0;
+    while let Some(stream) = outbox.next_marked(Task::Bytes, from) {
+        if outbox.wants_more(stream) {
+            return true;
+        }
+        from = stream.value() + 1;
+    }
+    false
+}

@@ -1,0 +1,118 @@
+//! The sending halves of an end, by the type of the stream and by its index: one that is named, and searches.
+ghost use Rattle.std.specs.Prelude.{◌≡◌, ◌≤◌, ◌<◌, ◌^◌, ℕ, length, is_some, true, false, Some, IfSome};
+ghost use Rattle.qs_send.specs.Lane.{Sending};
+ghost use Rattle.qs_machine.specs.Tables.{lookup};
+ghost use Rattle.qs_machine.specs.Sums.{tables_of};
+ghost use Rattle.qs_machine.specs.News.{IsLeast, IsHeld};
+ghost use Rattle.qs_conn.specs.Marks.{IsBefore, HaveTo, IsHeldOf};
+ghost use Rattle.qs_conn.specs.Tasks.{IsQuiet, HasTask};
+
+use crate::marks::least;
+use crate::places::{index_from, index_of, type_of};
+use crate::send_lanes::SendLanes;
+use crate::send_marks::Task;
+use qs_send::SendHalf;
+use qs_wire::StreamId;
+
+/// Whether the stream has a sending half.
+pub(super) fn is_open(types: &[SendLanes; 4], stream: StreamId) -> bool
+    requires { length types.now ≡ 4 }
+    ensures { result ≡ is_some (lookup (tables_of types.now) stream) }
+{
+    let lanes = &types[type_of(stream)];
+    index_of(stream) < lanes.len()
+}
+
+/// The half of an open stream.
+pub(super) fn half_of(types: &[SendLanes; 4], stream: StreamId) -> &SendHalf
+    requires len { length types.now ≡ 4 }
+    requires open { is_some (lookup (tables_of types.now) stream) ≡ true }
+    ensures { lookup (tables_of types.now) stream ≡ Some result.now }
+{
+    let lanes = &types[type_of(stream)];
+    lanes.get(index_of(stream))
+}
+
+/// Whether any half may have a task.
+pub(super) fn may_have(types: &[SendLanes; 4], task: Task) -> bool
+    requires { length types.now ≡ 4 }
+    ensures { result ≡ false → (n : ℕ) (s : Sending) → lookup (tables_of types.now) n ≡ Some s → IsQuiet task s }
+{
+    if types[0].may_have(task) {
+        return true;
+    }
+    if types[1].may_have(task) {
+        return true;
+    }
+    if types[2].may_have(task) {
+        return true;
+    }
+    types[3].may_have(task)
+}
+
+/// The least number from one on of a stream that may have a task. The halves of the streams between are quiet of it. It stands apart, so
+/// that where no half has a task a caller pays for the look at that alone.
+#[inline(never)]
+pub(super) fn least_marked(types: &[SendLanes; 4], task: Task, from: u64) -> Option<StreamId>
+    requires len { length types.now ≡ 4 }
+    requires from { from ≤ 2 ^ 62 }
+    ensures from { IfSome result (λ n. from ≤ n) }
+    ensures quiet { (n : ℕ) (s : Sending) → from ≤ n → IsBefore n result → lookup (tables_of types.now) n ≡ Some s → IsQuiet task s }
+{
+    let bidi = least(next_of(types, task, 0, from), next_of(types, task, 1, from));
+    let uni = least(next_of(types, task, 2, from), next_of(types, task, 3, from));
+    StreamId::new(least(bidi, uni)?)
+}
+
+// The least such number among the streams of a type.
+fn next_of(types: &[SendLanes; 4], task: Task, stream_type: usize, from: u64) -> Option<u64>
+    requires len { length types.now ≡ 4 }
+    requires stream_type { stream_type < 4 }
+    requires from { from ≤ 2 ^ 62 }
+    ensures found { IfSome result (λ n. (from ≤ n) × (n < 2 ^ 62)) }
+    ensures quiet { HaveTo (IsQuiet task) (tables_of types.now) from result stream_type }
+{
+    let lanes = &types[stream_type];
+    let index = lanes.next_marked(task, index_from(stream_type, from))?;
+    Some((index * 4 + stream_type) as u64)
+}
+
+/// The least number from one on of a stream whose half has something of a task.
+pub(super) fn next_with(types: &[SendLanes; 4], task: Task, from: u64) -> Option<StreamId>
+    requires len { length types.now ≡ 4 }
+    requires from { from ≤ 2 ^ 62 }
+    ensures { IsLeast (IsHeld (HasTask task) (tables_of types.now)) from result }
+{
+    let bidi = least(
+        next_with_of(types, task, 0, from),
+        next_with_of(types, task, 1, from),
+    );
+    let uni = least(
+        next_with_of(types, task, 2, from),
+        next_with_of(types, task, 3, from),
+    );
+    match least(bidi, uni) {
+        Some(number) => StreamId::new(number),
+        None => None,
+    }
+}
+
+/// The least such number among the streams of a type.
+pub(super) fn next_with_of(
+    types: &[SendLanes; 4],
+    task: Task,
+    stream_type: usize,
+    from: u64,
+) -> Option<u64>
+    requires len { length types.now ≡ 4 }
+    requires stream_type { stream_type < 4 }
+    requires from { from ≤ 2 ^ 62 }
+    ensures least { IsLeast (IsHeldOf (HasTask task) (tables_of types.now) stream_type) from result }
+    ensures small { IfSome result (λ n. n < 2 ^ 62) }
+{
+    let lanes = &types[stream_type];
+    match lanes.next_with(task, index_from(stream_type, from)) {
+        Some(index) => Some((index * 4 + stream_type) as u64),
+        None => None,
+    }
+}
