@@ -89,10 +89,12 @@ impl<T> Vec<T> {
         self.items.drain(range)
     }
 
-    /// Gives memory back that isn't used. Where the lesser memory is refused, the vector keeps what it has.
-    pub fn shrink_to_fit(&mut self) {
+    /// Gives memory back that isn't used, but for room for so many items. Where the lesser memory is refused, the vector keeps what it
+    /// has.
+    pub fn shrink_to(&mut self, count: usize) {
+        let room = self.items.len().max(count);
         let mut fitting = HeapVec::new();
-        if fitting.try_reserve_exact(self.items.len()).is_ok() {
+        if room < self.items.capacity() && fitting.try_reserve_exact(room).is_ok() {
             fitting.append(&mut self.items);
             self.items = fitting;
         }

@@ -1,7 +1,8 @@
 // Made from crates/qs_conn/src/ack_names.rt by rust/erase; not edited by hand.
 //! Which packet numbers the ACKs of a payload name.
 
-use crate::proved::qs_wire::{AckRanges, Frame, Frames};
+use crate::proved::qs_conn::seen::{SeenFrame, seen};
+use crate::proved::qs_wire::{AckRanges, Frames};
 
 /// The least number from one on that an ACK of the payload names. The reading ends at the first fault, and at a CONNECTION_CLOSE.
 pub(crate) fn next_named(payload: &[u8], from: u64) -> Option<u64> {
@@ -13,33 +14,15 @@ fn least_of_frames(payload: &[u8], from: u64) -> Option<u64> {
     let mut least = None;
     loop {
         match frames.next() {
-            Ok(Some(placed)) => {
-                if is_close(&placed.frame) {
-                    return least;
+            Ok(Some(placed)) => match seen(&placed.frame) {
+                SeenFrame::Close(_) => return least,
+                SeenFrame::Ack { largest, ranges } => {
+                    least = with_ranges(from, largest, ranges, least);
                 }
-                least = with_frame(from, &placed.frame, least);
-            }
+                _ => {}
+            },
             _ => return least,
         }
-    }
-}
-
-fn is_close(frame: &Frame<'_>) -> bool {
-    matches!(
-        *frame,
-        Frame::ConnectionClose { .. } | Frame::ApplicationClose { .. }
-    )
-}
-
-// With the ranges of a frame, where it is an ACK.
-fn with_frame(from: u64, frame: &Frame<'_>, least: Option<u64>) -> Option<u64> {
-    match *frame {
-        Frame::Ack {
-            largest,
-            ranges,
-            ..
-        } => with_ranges(from, largest, ranges, least),
-        _ => least,
     }
 }
 

@@ -2,7 +2,7 @@
 //! Flags of indexes, as bits of words.
 use crate::shim::Vec;
 
-use crate::proved::qs_ranges::NoMemory;
+use crate::proved::qs_ranges::{NoMemory, lowest_bit, with_bit};
 use crate::shim::alloc::Global;
 
 /// How many flags a word has.
@@ -107,28 +107,8 @@ fn has_bit(word: u64, bit: usize) -> bool {
     (word >> bit) & 1 == 1
 }
 
-/// A word with one of its bits set or cleared.
-fn with_bit(word: u64, bit: usize, is_set: bool) -> u64 {
-    debug_assert!(bit < 64);
-    if is_set {
-        word | (1 << bit)
-    } else {
-        word & !(1 << bit)
-    }
-}
-
 /// A word with its bits from one on cleared.
 fn cut_at(word: u64, bit: usize) -> u64 {
     debug_assert!(bit < 64);
     word & ((1 << bit) - 1)
-}
-
-/// The least bit that is set, from one on.
-fn lowest_bit(word: u64, from: usize) -> Option<usize> {
-    debug_assert!(from < 64);
-    let rest = word >> from;
-    if rest == 0 {
-        return None;
-    }
-    Some(from + rest.trailing_zeros() as usize)
 }

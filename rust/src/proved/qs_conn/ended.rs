@@ -3,7 +3,7 @@
 
 use crate::proved::qs_conn::endpoint::{is_uni, role_bit};
 use crate::proved::qs_conn::outbox::Outbox;
-use crate::proved::qs_conn::places::kind_of;
+use crate::proved::qs_conn::places::type_of;
 use crate::proved::qs_conn::recv_tables::RecvTables;
 use crate::proved::qs_wire::{Role, StreamId};
 
@@ -40,7 +40,7 @@ fn moved(count: u64, was: bool, is: bool) -> u64 {
 /// section 3).
 pub(crate) fn is_over(role: Role, recvs: &RecvTables, outbox: &Outbox, stream: StreamId) -> bool {
     recvs.are_few();
-    if kind_of(stream) % 2 == role_bit(role) {
+    if type_of(stream) % 2 == role_bit(role) {
         return false;
     }
     recvs.has_ended(stream) && (is_uni(stream) || outbox.has_ended(stream))

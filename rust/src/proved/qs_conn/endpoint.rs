@@ -3,8 +3,9 @@
 
 use crate::proved::qs_conn::ended::EndedStreams;
 use crate::proved::qs_conn::held::Held;
+use crate::proved::qs_conn::limits::Limits;
 use crate::proved::qs_conn::outbox::Outbox;
-use crate::proved::qs_conn::places::kind_of;
+use crate::proved::qs_conn::places::type_of;
 use crate::proved::qs_conn::recv_tables::RecvTables;
 use crate::proved::qs_conn::setup::setup_fault;
 use crate::proved::qs_conn::untold::Untold;
@@ -35,25 +36,16 @@ mod taking;
 ///
 /// Contracts see the end as a record.
 pub struct Endpoint {
-    role: Role,
-    settings: Settings,
+    limits: Limits,
     peer: PeerLimits,
     outbox: Outbox,
     recvs: RecvTables,
     untold: Untold,
-    granted: u64,
-    granted_bidi: u64,
-    granted_uni: u64,
     ended: EndedStreams,
     // Whether nothing that the limits and the counts of streams follow has moved since they were looked at.
     is_settled: bool,
-    known_data: u64,
-    known_bidi: u64,
-    known_uni: u64,
     accepted_bidi: u64,
     accepted_uni: u64,
-    wanted_bidi: Option<u64>,
-    wanted_uni: Option<u64>,
     done: RangeSet,
     floor: u64,
     ack_due: bool,
@@ -73,24 +65,26 @@ impl Endpoint {
             return Err(fault);
         }
         Ok(Endpoint {
-            role,
-            settings,
+            limits: Limits {
+                role,
+                settings,
+                granted: settings.conn_window,
+                granted_bidi: settings.grant_bidi,
+                granted_uni: settings.grant_uni,
+                known_data: peer.max_data,
+                known_bidi: peer.streams_bidi,
+                known_uni: peer.streams_uni,
+                wanted_bidi: None,
+                wanted_uni: None,
+            },
             peer,
             outbox: Outbox::new(alloc),
             recvs: RecvTables::new(alloc),
             untold: Untold::new(alloc),
-            granted: settings.conn_window,
-            granted_bidi: settings.grant_bidi,
-            granted_uni: settings.grant_uni,
             ended: EndedStreams { bidi: 0, uni: 0 },
             is_settled: false,
-            known_data: peer.max_data,
-            known_bidi: peer.streams_bidi,
-            known_uni: peer.streams_uni,
             accepted_bidi: 0,
             accepted_uni: 0,
-            wanted_bidi: None,
-            wanted_uni: None,
             done: RangeSet::new(alloc),
             floor: 0,
             ack_due: false,
@@ -100,7 +94,7 @@ impl Endpoint {
 
     /// How many bytes are stored: at most what was granted and isn't taken.
     pub fn stored(&self) -> u64 {
-        let _granted = self.granted;
+        let _granted = self.limits.granted;
         self.recvs.tally().stored
     }
 
@@ -109,7 +103,7 @@ impl Endpoint {
     /// times the connection's window, and 4,096 bytes for each receiving half that keeps bytes still. A sending half that was reset,
     /// or of which all that was written and the end were acknowledged, takes nothing.
     pub fn held(&self) -> Held {
-        let _granted = self.granted;
+        let _granted = self.limits.granted;
         Held {
             receiving: self.recvs.held(),
             sending: self.outbox.held(),
@@ -118,21 +112,21 @@ impl Endpoint {
 
     /// The connection limit granted to the peer (RFC 9000, section 4.1).
     pub fn granted(&self) -> u64 {
-        self.granted
+        self.limits.granted
     }
 
     /// How many streams of a direction the peer may open: the grant, and one more for each of its streams that came to its end, up to
     /// the lifetime's count (RFC 9000, section 4.6). It takes no memory.
     pub fn granted_streams(&self, dir: Dir) -> u64 {
         match dir {
-            Dir::Bidi => self.granted_bidi,
-            Dir::Uni => self.granted_uni,
+            Dir::Bidi => self.limits.granted_bidi,
+            Dir::Uni => self.limits.granted_uni,
         }
     }
 
     /// The sum of the highest offsets of all streams, which the connection limit bounds.
     pub fn spent(&self) -> u64 {
-        let _granted = self.granted;
+        let _granted = self.limits.granted;
         self.recvs.tally().spent
     }
 
@@ -152,31 +146,29 @@ impl Endpoint {
         }
         self.recvs.raise_all(&mut self.untold);
         let taken = self.recvs.tally().taken;
-        let settings = &self.settings;
-        self.granted = next_limit(self.granted, taken, settings.conn_window);
-        self.granted_bidi = next_count(
+        let settings = &self.limits.settings;
+        self.limits.granted = next_limit(self.limits.granted, taken, settings.conn_window);
+        self.limits.granted_bidi = next_count(
             settings.grant_bidi,
             settings.lifetime_bidi,
             self.ended.bidi,
         );
-        self.granted_uni = next_count(settings.grant_uni, settings.lifetime_uni, self.ended.uni);
+        self.limits.granted_uni = next_count(
+            settings.grant_uni,
+            settings.lifetime_uni,
+            self.ended.uni,
+        );
         self.is_settled = true;
     }
 
     // Whether this end opens the stream.
     fn is_own(&self, stream: StreamId) -> bool {
-        kind_of(stream) % 2 == role_bit(self.role)
+        type_of(stream) % 2 == role_bit(self.limits.role)
     }
 
     // The window of a receiving half, which is its first limit too.
     fn window(&self, stream: StreamId) -> u64 {
-        if is_uni(stream) {
-            self.settings.uni
-        } else if self.is_own(stream) {
-            self.settings.bidi_local
-        } else {
-            self.settings.bidi_remote
-        }
+        self.limits.window(stream)
     }
 
     // The limit with which a sending half begins.
@@ -201,7 +193,7 @@ pub(crate) fn role_bit(role: Role) -> usize {
 
 // Whether only the initiator sends (RFC 9000, section 2.1).
 pub(crate) fn is_uni(stream: StreamId) -> bool {
-    kind_of(stream) >= 2
+    type_of(stream) >= 2
 }
 
 // How many streams may be opened, where so many came to their end (RFC 9000, section 4.6).

@@ -1,11 +1,11 @@
 // Made from crates/qs_conn/src/filling.rt by rust/erase; not edited by hand.
 //! A packet is filled: what is due goes into a slice, frame by frame.
 
+use crate::proved::qs_conn::limits::Limits;
 use crate::proved::qs_conn::outbox::Outbox;
 use crate::proved::qs_conn::recv_tables::RecvTables;
 use crate::proved::qs_conn::send_marks::Task;
 use crate::proved::qs_conn::slot::{Kind, Slot};
-use crate::proved::qs_conn::terms::Terms;
 use crate::proved::qs_conn::untold::Untold;
 use crate::proved::qs_ranges::RangeSet;
 use crate::proved::qs_send::{Chunk, Item};
@@ -98,7 +98,7 @@ pub(crate) fn is_covered(outbox: &Outbox, item: &Item) -> bool {
 
 /// Puts the item of a slot into the packet, if it is due.
 pub(crate) fn put_slot(
-    terms: &Terms,
+    limits: &Limits,
     recvs: &RecvTables,
     outbox: &mut Outbox,
     slot: Slot,
@@ -108,7 +108,7 @@ pub(crate) fn put_slot(
     if packet.is_full {
         return packet;
     }
-    let Some(item) = terms.current(outbox, recvs, slot) else {
+    let Some(item) = limits.current(outbox, recvs, slot) else {
         return packet;
     };
     if is_covered(outbox, &item) {
@@ -119,17 +119,17 @@ pub(crate) fn put_slot(
 
 // Puts the item of a slot of the connection into the packet, if it is due. Mostly a look at two numbers tells that there is none.
 fn put_own_slot(
-    terms: &Terms,
+    limits: &Limits,
     recvs: &RecvTables,
     outbox: &mut Outbox,
     slot: Slot,
     out: &mut [u8],
     packet: Packet,
 ) -> Packet {
-    if terms.has_none(outbox, &slot) {
+    if limits.has_none(outbox, &slot) {
         return packet;
     }
-    put_slot(terms, recvs, outbox, slot, out, packet)
+    put_slot(limits, recvs, outbox, slot, out, packet)
 }
 
 /// The least number from one on of a stream that may have an item of a kind. Of the streams between none is due.
@@ -149,7 +149,7 @@ pub(crate) fn next_of_kind(
 
 /// Puts the items of a kind into the packet that are due, lower stream numbers first.
 pub(crate) fn put_kind(
-    terms: &Terms,
+    limits: &Limits,
     recvs: &RecvTables,
     untold: &Untold,
     outbox: &mut Outbox,
@@ -163,7 +163,7 @@ pub(crate) fn put_kind(
     let mut packet = packet;
     let mut from = 0;
     while let Some(stream) = next_of_kind(outbox, untold, kind, from) {
-        packet = put_slot(terms, recvs, outbox, kind.at(stream), out, packet);
+        packet = put_slot(limits, recvs, outbox, kind.at(stream), out, packet);
         if packet.is_full {
             return packet;
         }
@@ -174,22 +174,38 @@ pub(crate) fn put_kind(
 
 /// Puts the control items into the packet that are due.
 pub(crate) fn put_items(
-    terms: &Terms,
+    limits: &Limits,
     recvs: &RecvTables,
     untold: &Untold,
     outbox: &mut Outbox,
     out: &mut [u8],
     packet: Packet,
 ) -> Packet {
-    let packet = put_own_slot(terms, recvs, outbox, Slot::MaxData, out, packet);
+    let packet = put_own_slot(limits, recvs, outbox, Slot::MaxData, out, packet);
     let bidi_streams = Slot::MaxStreams(Dir::Bidi);
-    let packet = put_own_slot(terms, recvs, outbox, bidi_streams, out, packet);
+    let packet = put_own_slot(limits, recvs, outbox, bidi_streams, out, packet);
     let uni_streams = Slot::MaxStreams(Dir::Uni);
-    let packet = put_own_slot(terms, recvs, outbox, uni_streams, out, packet);
-    let packet = put_kind(terms, recvs, untold, outbox, Kind::ResetStream, out, packet);
-    let packet = put_kind(terms, recvs, untold, outbox, Kind::StopSending, out, packet);
+    let packet = put_own_slot(limits, recvs, outbox, uni_streams, out, packet);
     let packet = put_kind(
-        terms,
+        limits,
+        recvs,
+        untold,
+        outbox,
+        Kind::ResetStream,
+        out,
+        packet,
+    );
+    let packet = put_kind(
+        limits,
+        recvs,
+        untold,
+        outbox,
+        Kind::StopSending,
+        out,
+        packet,
+    );
+    let packet = put_kind(
+        limits,
         recvs,
         untold,
         outbox,
@@ -197,9 +213,9 @@ pub(crate) fn put_items(
         out,
         packet,
     );
-    let packet = put_own_slot(terms, recvs, outbox, Slot::DataBlocked, out, packet);
+    let packet = put_own_slot(limits, recvs, outbox, Slot::DataBlocked, out, packet);
     let packet = put_kind(
-        terms,
+        limits,
         recvs,
         untold,
         outbox,
@@ -208,9 +224,9 @@ pub(crate) fn put_items(
         packet,
     );
     let bidi_blocked = Slot::StreamsBlocked(Dir::Bidi);
-    let packet = put_own_slot(terms, recvs, outbox, bidi_blocked, out, packet);
+    let packet = put_own_slot(limits, recvs, outbox, bidi_blocked, out, packet);
     let uni_blocked = Slot::StreamsBlocked(Dir::Uni);
-    put_own_slot(terms, recvs, outbox, uni_blocked, out, packet)
+    put_own_slot(limits, recvs, outbox, uni_blocked, out, packet)
 }
 
 /// Puts a chunk into the packet that is known to fit, and answers how many bytes there are then.
@@ -234,7 +250,7 @@ pub(crate) fn put_chunk(
 
 /// Puts chunks of a stream into the packet, one for each run of due offsets, as far as the limits and the room allow.
 pub(crate) fn put_chunks(
-    terms: &Terms,
+    limits: &Limits,
     outbox: &mut Outbox,
     stream: StreamId,
     out: &mut [u8],
@@ -244,13 +260,13 @@ pub(crate) fn put_chunks(
         return packet;
     }
     let mut len = packet.len;
-    let mut fresh = terms.known_data - outbox.sent_sum();
+    let mut fresh = limits.known_data - outbox.sent_sum();
     while let Some(chunk) = outbox.next_chunk(stream, out.len() - len, fresh) {
         len = put_chunk(outbox, stream, chunk, out, len);
         if out.len() - len < LEAST_STREAM_FRAME {
             return Packet { len, is_full: true };
         }
-        fresh = terms.known_data - outbox.sent_sum();
+        fresh = limits.known_data - outbox.sent_sum();
     }
     let is_full = outbox.is_held_by_room(stream, out.len() - len, fresh);
     Packet { len, is_full }
@@ -258,14 +274,14 @@ pub(crate) fn put_chunks(
 
 // Puts chunks of a stream into the packet, if it is one that can send.
 fn put_open(
-    terms: &Terms,
+    limits: &Limits,
     outbox: &mut Outbox,
     stream: StreamId,
     out: &mut [u8],
     packet: Packet,
 ) -> Packet {
     if outbox.is_open(stream) {
-        return put_chunks(terms, outbox, stream, out, packet);
+        return put_chunks(limits, outbox, stream, out, packet);
     }
     packet
 }
@@ -286,7 +302,7 @@ fn is_on_way(around: bool, first: u64, stream: StreamId) -> bool {
 
 // Puts the bytes of the streams of a way into the packet, lower numbers first, as far as the limits and the room allow.
 fn put_way(
-    terms: &Terms,
+    limits: &Limits,
     outbox: &mut Outbox,
     first: u64,
     around: bool,
@@ -303,7 +319,7 @@ fn put_way(
         if !is_on_way(around, first, stream) {
             return packet;
         }
-        packet = put_open(terms, outbox, stream, out, packet);
+        packet = put_open(limits, outbox, stream, out, packet);
         if packet.is_full {
             return packet;
         }
@@ -315,18 +331,18 @@ fn put_way(
 /// Puts the bytes of all streams into the packet, those from `first` on before the others and lower numbers first, as far as the limits
 /// and the room allow.
 pub(crate) fn put_streams(
-    terms: &Terms,
+    limits: &Limits,
     outbox: &mut Outbox,
     first: u64,
     out: &mut [u8],
     packet: Packet,
 ) -> Packet {
     debug_assert!(first < 1 << 62);
-    let packet = put_way(terms, outbox, first, false, out, packet);
+    let packet = put_way(limits, outbox, first, false, out, packet);
     if packet.is_full {
         return packet;
     }
-    put_way(terms, outbox, first, true, out, packet)
+    put_way(limits, outbox, first, true, out, packet)
 }
 
 /// Writes an ACK of the kept numbers at the slice's front, which tells a delay, the highest ranges first and as many as fit, and answers
@@ -365,7 +381,7 @@ pub(crate) struct Wish {
 /// Fills a packet from its first byte on, and answers how many bytes it has: the ACK if one is due, control items, and the bytes of
 /// streams (RFC 9000, sections 4, 13.2 and 13.3).
 pub(crate) fn fill(
-    terms: &Terms,
+    limits: &Limits,
     recvs: &RecvTables,
     untold: &Untold,
     done: &RangeSet,
@@ -379,7 +395,7 @@ pub(crate) fn fill(
         len,
         is_full: false,
     };
-    let packet = put_items(terms, recvs, untold, outbox, out, start);
-    let packet = put_streams(terms, outbox, wish.first, out, packet);
+    let packet = put_items(limits, recvs, untold, outbox, out, start);
+    let packet = put_streams(limits, outbox, wish.first, out, packet);
     packet.len
 }

@@ -2,9 +2,11 @@
 //! The sending side of an end.
 use crate::shim::Vec;
 
-use crate::proved::qs_conn::send_tables::SendTables;
+use crate::proved::qs_conn::places::{index_of, type_of};
+use crate::proved::qs_conn::send_lanes::SendLanes;
 use crate::proved::qs_conn::told::ToldItems;
 use crate::proved::qs_conn::told_index::ToldIndex;
+use halves::{half_of, is_open};
 use crate::proved::qs_calls::SendReport;
 use crate::proved::qs_ranges::NoMemory;
 use crate::proved::qs_send::{LostRecords, Piece, Records, SendFault, SendState};
@@ -12,6 +14,7 @@ use crate::proved::qs_wire::StreamId;
 use crate::shim::alloc::Global;
 
 mod acks;
+mod halves;
 mod making;
 mod telling;
 
@@ -19,7 +22,8 @@ pub(crate) use acks::KeptPacket;
 
 /// What an end sends: its sending halves, what its packets carried, and what was acknowledged of them.
 pub(crate) struct Outbox {
-    sends: SendTables,
+    // Its sending halves, of each of the four types of streams in the order of their bits.
+    types: [SendLanes; 4],
     // The sum of all sent ends.
     sent: u64,
     records: Records,
@@ -38,7 +42,12 @@ pub(crate) struct Outbox {
 impl Outbox {
     pub(crate) fn new(alloc: Global) -> Self {
         Outbox {
-            sends: SendTables::new(alloc),
+            types: [
+                SendLanes::new(alloc),
+                SendLanes::new(alloc),
+                SendLanes::new(alloc),
+                SendLanes::new(alloc),
+            ],
             sent: 0,
             records: Records::new(alloc),
             lost: LostRecords::new(alloc),
@@ -58,41 +67,42 @@ impl Outbox {
     /// What holds of an open stream's half. It does nothing: a caller learns the clause.
     pub(crate) fn has_sending(&self, stream: StreamId) {
         let _next = self.next;
-        self.sends.get(stream).is_lawful();
+        half_of(&self.types, stream).is_lawful();
     }
 
     /// Whether the stream has a sending half.
     pub(crate) fn is_open(&self, stream: StreamId) -> bool {
-        self.sends.is_open(stream)
+        is_open(&self.types, stream)
     }
 
     /// How many streams of the type of this one are open.
     pub(crate) fn count(&self, stream: StreamId) -> usize {
-        self.sends.count(stream)
+        self.count_of(type_of(stream))
     }
 
     /// How many streams of a type are open.
-    pub(crate) fn count_of(&self, kind: usize) -> usize {
-        debug_assert!(kind < 4);
-        self.sends.count_of(kind)
+    pub(crate) fn count_of(&self, stream_type: usize) -> usize {
+        debug_assert!(stream_type < 4);
+        let lanes = &self.types[stream_type];
+        lanes.len()
     }
 
     /// Whether a stream's sending half is in Data Recvd or Reset Recvd (RFC 9000, section 3.1).
     pub(crate) fn has_ended(&self, stream: StreamId) -> bool {
-        if !self.sends.is_open(stream) {
+        if !is_open(&self.types, stream) {
             return false;
         }
-        let half = self.sends.get(stream);
+        let half = half_of(&self.types, stream);
         half.is_lawful();
         matches!(half.state(), SendState::DataRecvd | SendState::ResetRecvd)
     }
 
     /// How a stream's sending half stands, where it is open.
     pub(crate) fn report(&self, stream: StreamId) -> Option<SendReport> {
-        if !self.sends.is_open(stream) {
+        if !is_open(&self.types, stream) {
             return None;
         }
-        let half = self.sends.get(stream);
+        let half = half_of(&self.types, stream);
         Some(SendReport {
             state: half.state(),
             written: half.written(),
@@ -119,8 +129,9 @@ impl Outbox {
 
     /// What the buffers of all streams take, in bytes, by a walk over them. A sum that is no u64 is the greatest one.
     pub(crate) fn held(&self) -> u64 {
-        let _next = self.next;
-        self.sends.held()
+        let bidi = self.types[0].held().saturating_add(self.types[1].held());
+        let uni = self.types[2].held().saturating_add(self.types[3].held());
+        bidi.saturating_add(uni)
     }
 
     /// Opens a stream and all lower ones of its type.
@@ -131,56 +142,63 @@ impl Outbox {
         stream: StreamId,
     ) -> Result<(), NoMemory> {
         debug_assert!(limit <= 0x3fff_ffff_ffff_ffff);
-        self.sends.open_to(limit, buffer, stream)
+        let lanes = &mut self.types[type_of(stream)];
+        lanes.open_to(type_of(stream) as u64, limit, buffer, index_of(stream) + 1)
     }
 
     /// Takes the memory for the sending halves of a stream and of all lower ones of its type, and opens none.
     pub(crate) fn reserve(&mut self, stream: StreamId) -> Result<(), NoMemory> {
-        self.sends.reserve(stream)
+        let lanes = &mut self.types[type_of(stream)];
+        lanes.reserve_to(index_of(stream) + 1)
     }
 
     /// Takes the streams of the type of this one from a count on away. Nothing of them was sent.
     pub(crate) fn close_to(&mut self, stream: StreamId, count: usize) {
-        let _next = self.next;
-        self.sends.close_to(stream, count);
+        let lanes = &mut self.types[type_of(stream)];
+        lanes.close_to(count);
     }
 
     /// Accepts bytes at an open stream, as many as there is room for; or changes nothing.
     pub(crate) fn write(&mut self, stream: StreamId, bytes: &[u8]) -> Result<usize, SendFault> {
-        self.sends.get(stream).is_lawful();
-        self.sends.write(stream, bytes)
+        half_of(&self.types, stream).is_lawful();
+        let lanes = &mut self.types[type_of(stream)];
+        lanes.write(index_of(stream), bytes)
     }
 
     /// Asks for the end of an open stream.
     pub(crate) fn finish(&mut self, stream: StreamId) -> Result<(), SendFault> {
-        self.sends.get(stream).is_lawful();
-        self.sends.finish(stream)
+        half_of(&self.types, stream).is_lawful();
+        let lanes = &mut self.types[type_of(stream)];
+        lanes.finish(index_of(stream))
     }
 
     /// Breaks an open stream off.
     pub(crate) fn reset(&mut self, stream: StreamId, code: u64) -> Result<(), SendFault> {
         debug_assert!(code <= 0x3fff_ffff_ffff_ffff);
-        self.sends.reset(stream, code)
+        let lanes = &mut self.types[type_of(stream)];
+        lanes.reset(index_of(stream), code)
     }
 
     /// Takes in a STOP_SENDING of an open stream.
     pub(crate) fn stopped(&mut self, stream: StreamId, code: u64) {
         debug_assert!(code <= 0x3fff_ffff_ffff_ffff);
-        self.sends.stopped(stream, code);
+        let lanes = &mut self.types[type_of(stream)];
+        lanes.stopped(index_of(stream), code);
     }
 
     /// The code of the first STOP_SENDING that came of a stream.
     pub(crate) fn stop_code(&self, stream: StreamId) -> Option<u64> {
-        if !self.sends.is_open(stream) {
+        if !is_open(&self.types, stream) {
             return None;
         }
-        let half = self.sends.get(stream);
+        let half = half_of(&self.types, stream);
         half.stop_code()
     }
 
     /// Takes in that the peer allows the offsets of an open stream below a limit.
     pub(crate) fn allow(&mut self, stream: StreamId, limit: u64) {
         debug_assert!(limit <= 0x3fff_ffff_ffff_ffff);
-        self.sends.allow(stream, limit);
+        let lanes = &mut self.types[type_of(stream)];
+        lanes.allow(index_of(stream), limit);
     }
 }

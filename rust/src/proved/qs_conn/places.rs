@@ -4,7 +4,7 @@
 use crate::proved::qs_wire::StreamId;
 
 /// The type of a stream, 0 to 3: its two lowest bits (RFC 9000, section 2.1).
-pub(crate) fn kind_of(stream: StreamId) -> usize {
+pub(crate) fn type_of(stream: StreamId) -> usize {
     (stream.value() % 4) as usize
 }
 
@@ -14,8 +14,8 @@ pub(crate) fn index_of(stream: StreamId) -> usize {
 }
 
 /// The index of the least stream of a type from a number on.
-pub(crate) fn index_from(kind: usize, from: u64) -> usize {
-    debug_assert!(kind < 4);
+pub(crate) fn index_from(stream_type: usize, from: u64) -> usize {
+    debug_assert!(stream_type < 4);
     debug_assert!(from <= 1 << 62);
-    ((from + 3 - kind as u64) / 4) as usize
+    ((from + 3 - stream_type as u64) / 4) as usize
 }

@@ -253,9 +253,9 @@ impl RecvLanes {
 
     /// Each limit becomes the next one, and a stream whose limit rises is marked. Only lanes that were touched are looked at; `kind` is
     /// the type of their streams.
-    pub(crate) fn raise_all(&mut self, kind: usize, untold: &mut Untold) {
-        debug_assert!(kind < 4);
-        raise_touched(&mut self.halves, self.touched, kind, untold);
+    pub(crate) fn raise_all(&mut self, stream_type: usize, untold: &mut Untold) {
+        debug_assert!(stream_type < 4);
+        raise_touched(&mut self.halves, self.touched, stream_type, untold);
         self.touched = Touched::Nothing;
     }
 
@@ -310,34 +310,34 @@ fn touch(touched: Touched, index: usize) -> Touched {
     }
 }
 
-fn raise_touched(halves: &mut Vec<Half>, touched: Touched, kind: usize, untold: &mut Untold) {
-    debug_assert!(kind < 4);
+fn raise_touched(halves: &mut Vec<Half>, touched: Touched, stream_type: usize, untold: &mut Untold) {
+    debug_assert!(stream_type < 4);
     match touched {
         Touched::Nothing => {}
-        Touched::Lane(index) => raise_one(halves, index, kind, untold),
-        Touched::Several => raise_each(halves, kind, untold),
+        Touched::Lane(index) => raise_one(halves, index, stream_type, untold),
+        Touched::Several => raise_each(halves, stream_type, untold),
     }
 }
 
-fn raise_one(halves: &mut Vec<Half>, index: usize, kind: usize, untold: &mut Untold) {
-    debug_assert!(kind < 4);
+fn raise_one(halves: &mut Vec<Half>, index: usize, stream_type: usize, untold: &mut Untold) {
+    debug_assert!(stream_type < 4);
     if index < halves.len() {
-        raise_at(halves, index, kind, untold);
+        raise_at(halves, index, stream_type, untold);
     }
 }
 
-fn raise_each(halves: &mut Vec<Half>, kind: usize, untold: &mut Untold) {
-    debug_assert!(kind < 4);
+fn raise_each(halves: &mut Vec<Half>, stream_type: usize, untold: &mut Untold) {
+    debug_assert!(stream_type < 4);
     for index in 0..halves.len() {
-        raise_at(halves, index, kind, untold);
+        raise_at(halves, index, stream_type, untold);
     }
 }
 
-fn raise_at(halves: &mut Vec<Half>, index: usize, kind: usize, untold: &mut Untold) {
-    debug_assert!(kind < 4);
+fn raise_at(halves: &mut Vec<Half>, index: usize, stream_type: usize, untold: &mut Untold) {
+    debug_assert!(stream_type < 4);
     let half = &mut halves[index];
     if let Some(_limit) = half.raise() {
-        let stream = StreamId::new((index * 4 + kind) as u64).unwrap();
+        let stream = StreamId::new((index * 4 + stream_type) as u64).unwrap();
         untold.set(stream, true);
     }
 }

@@ -2,7 +2,7 @@
 //! The receiving halves of an end.
 
 use crate::proved::qs_conn::marks::least;
-use crate::proved::qs_conn::places::{index_from, index_of, kind_of};
+use crate::proved::qs_conn::places::{index_from, index_of, type_of};
 use crate::proved::qs_conn::recv_lanes::RecvLanes;
 use crate::proved::qs_conn::recv_marks::RecvTask;
 use crate::proved::qs_conn::untold::Untold;
@@ -33,7 +33,7 @@ impl RecvTables {
 
     /// Whether the stream has a receiving half.
     pub(crate) fn is_open(&self, stream: StreamId) -> bool {
-        let lanes = &self.types[kind_of(stream)];
+        let lanes = &self.types[type_of(stream)];
         index_of(stream) < lanes.len()
     }
 
@@ -48,7 +48,7 @@ impl RecvTables {
     ) -> Result<Highest, RecvFault> {
         debug_assert!(1 <= window);
         debug_assert!(window <= 1 << 20);
-        let lanes = &self.types[kind_of(stream)];
+        let lanes = &self.types[type_of(stream)];
         lanes.check_stream(window, index_of(stream), offset, len, fin)
     }
 
@@ -62,7 +62,7 @@ impl RecvTables {
     ) -> Result<(), RecvFault> {
         debug_assert!(1 <= window);
         debug_assert!(window <= 1 << 20);
-        let lanes = &self.types[kind_of(stream)];
+        let lanes = &self.types[type_of(stream)];
         lanes.check_bytes(window, index_of(stream), offset, bytes)
     }
 
@@ -76,31 +76,31 @@ impl RecvTables {
         debug_assert!(size <= 0x3fff_ffff_ffff_ffff);
         debug_assert!(1 <= window);
         debug_assert!(window <= 1 << 20);
-        let lanes = &self.types[kind_of(stream)];
+        let lanes = &self.types[type_of(stream)];
         lanes.check_reset(window, index_of(stream), size)
     }
 
     /// How many streams of the type of this one are open.
     pub(crate) fn count(&self, stream: StreamId) -> usize {
-        self.count_of(kind_of(stream))
+        self.count_of(type_of(stream))
     }
 
     /// How many streams of a type are open.
-    pub(crate) fn count_of(&self, kind: usize) -> usize {
-        debug_assert!(kind < 4);
-        let lanes = &self.types[kind];
+    pub(crate) fn count_of(&self, stream_type: usize) -> usize {
+        debug_assert!(stream_type < 4);
+        let lanes = &self.types[stream_type];
         lanes.len()
     }
 
     /// Takes the memory for a stream and all lower ones of its type, and opens none.
     pub(crate) fn reserve(&mut self, stream: StreamId) -> Result<(), NoMemory> {
-        let lanes = &mut self.types[kind_of(stream)];
+        let lanes = &mut self.types[type_of(stream)];
         lanes.reserve_to(index_of(stream) + 1)
     }
 
     /// Takes the streams of the type of this one from a count on away, which nothing came for.
     pub(crate) fn close_to(&mut self, stream: StreamId, count: usize) {
-        let lanes = &mut self.types[kind_of(stream)];
+        let lanes = &mut self.types[type_of(stream)];
         lanes.close_to(count);
     }
 
@@ -108,7 +108,7 @@ impl RecvTables {
     pub(crate) fn open_to(&mut self, window: u64, stream: StreamId) -> Result<(), NoMemory> {
         debug_assert!(1 <= window);
         debug_assert!(window <= 1 << 20);
-        let lanes = &mut self.types[kind_of(stream)];
+        let lanes = &mut self.types[type_of(stream)];
         lanes.open_to(window, index_of(stream) + 1)
     }
 
@@ -120,33 +120,33 @@ impl RecvTables {
         bytes: &[u8],
         fin: bool,
     ) -> Result<(), NoMemory> {
-        let lanes = &mut self.types[kind_of(stream)];
+        let lanes = &mut self.types[type_of(stream)];
         lanes.take_stream(index_of(stream), offset, bytes, fin)
     }
 
     /// Takes a reset that passed the check, at an open stream.
     pub(crate) fn take_reset(&mut self, stream: StreamId, code: u64, size: u64) {
         debug_assert!(size <= 0x3fff_ffff_ffff_ffff);
-        let lanes = &mut self.types[kind_of(stream)];
+        let lanes = &mut self.types[type_of(stream)];
         lanes.take_reset(index_of(stream), code, size);
     }
 
     /// Reads at an open stream.
     pub(crate) fn read(&mut self, stream: StreamId, into: &mut [u8]) -> Read {
-        let lanes = &mut self.types[kind_of(stream)];
+        let lanes = &mut self.types[type_of(stream)];
         lanes.read(index_of(stream), into)
     }
 
     /// Stops an open stream.
     pub(crate) fn stop(&mut self, stream: StreamId, code: u64) {
         debug_assert!(code <= 0x3fff_ffff_ffff_ffff);
-        let lanes = &mut self.types[kind_of(stream)];
+        let lanes = &mut self.types[type_of(stream)];
         lanes.stop(index_of(stream), code);
     }
 
     /// Whether a stream's receiving half is in Data Read or Reset Read (RFC 9000, section 3.2).
     pub(crate) fn has_ended(&self, stream: StreamId) -> bool {
-        let lanes = &self.types[kind_of(stream)];
+        let lanes = &self.types[type_of(stream)];
         lanes.has_ended(index_of(stream))
     }
 
@@ -160,19 +160,19 @@ impl RecvTables {
 
     /// How a stream stands, where it is open.
     pub(crate) fn report(&self, stream: StreamId) -> Option<RecvReport> {
-        let lanes = &self.types[kind_of(stream)];
+        let lanes = &self.types[type_of(stream)];
         lanes.report(index_of(stream))
     }
 
     /// The limit of an open stream of which no final size is known.
     pub(crate) fn limit_to_tell(&self, stream: StreamId) -> Option<u64> {
-        let lanes = &self.types[kind_of(stream)];
+        let lanes = &self.types[type_of(stream)];
         lanes.limit_to_tell(index_of(stream))
     }
 
     /// The code of a stop that the peer is to be told of.
     pub(crate) fn stop_to_tell(&self, stream: StreamId) -> Option<u64> {
-        let lanes = &self.types[kind_of(stream)];
+        let lanes = &self.types[type_of(stream)];
         lanes.stop_to_tell(index_of(stream))
     }
 
@@ -194,12 +194,12 @@ impl RecvTables {
     }
 
     /// The least such number among the streams of a type.
-    pub(crate) fn next_with_of(&self, task: RecvTask, kind: usize, from: u64) -> Option<u64> {
-        debug_assert!(kind < 4);
+    pub(crate) fn next_with_of(&self, task: RecvTask, stream_type: usize, from: u64) -> Option<u64> {
+        debug_assert!(stream_type < 4);
         debug_assert!(from <= 1 << 62);
-        let lanes = &self.types[kind];
-        match lanes.next_with(task, index_from(kind, from)) {
-            Some(index) => Some((index * 4 + kind) as u64),
+        let lanes = &self.types[stream_type];
+        match lanes.next_with(task, index_from(stream_type, from)) {
+            Some(index) => Some((index * 4 + stream_type) as u64),
             None => None,
         }
     }

@@ -48,18 +48,18 @@ impl SendLanes {
     /// Opens the halves of all indexes below a count, in streams of that type.
     pub(crate) fn open_to(
         &mut self,
-        kind: u64,
+        stream_type: u64,
         limit: u64,
         buffer: usize,
         count: usize,
     ) -> Result<(), NoMemory> {
-        debug_assert!(kind < 4);
+        debug_assert!(stream_type < 4);
         debug_assert!(limit <= 0x3fff_ffff_ffff_ffff);
         debug_assert!(count <= 1 << 60);
         let before = self.halves.len();
         let missing = count.saturating_sub(before);
         for opened in 0..missing {
-            let number = (before + opened) as u64 * 4 + kind;
+            let number = (before + opened) as u64 * 4 + stream_type;
             let id = StreamId::new(number).unwrap();
             let fresh = SendHalf::new(self.alloc, id, limit, buffer);
             if let Err(_refused) = self.halves.push(fresh) {

@@ -2,7 +2,7 @@
 //! Of which streams a stop or a limit may still have to be told.
 
 use crate::proved::qs_conn::marks::{Marks, least};
-use crate::proved::qs_conn::places::{index_from, index_of, kind_of};
+use crate::proved::qs_conn::places::{index_from, index_of, type_of};
 use crate::proved::qs_ranges::NoMemory;
 use crate::proved::qs_send::{Item, Piece};
 use crate::proved::qs_wire::StreamId;
@@ -65,19 +65,19 @@ impl Untold {
 
     /// Takes the memory for a stream and all lower ones of its type, and opens none.
     pub(crate) fn reserve(&mut self, stream: StreamId) -> Result<(), NoMemory> {
-        let lanes = &mut self.types[kind_of(stream)];
+        let lanes = &mut self.types[type_of(stream)];
         lanes.reserve(index_of(stream) + 1)
     }
 
     /// Makes room for a stream and all lower ones of its type: the new ones aren't marked.
     pub(crate) fn open_to(&mut self, stream: StreamId) -> Result<(), NoMemory> {
-        let lanes = &mut self.types[kind_of(stream)];
+        let lanes = &mut self.types[type_of(stream)];
         lanes.open_to(index_of(stream) + 1)
     }
 
     /// Marks a stream that has a place, or takes its mark away.
     pub(crate) fn set(&mut self, stream: StreamId, is_marked: bool) {
-        let lanes = &mut self.types[kind_of(stream)];
+        let lanes = &mut self.types[type_of(stream)];
         lanes.set(index_of(stream), is_marked);
     }
 
@@ -96,6 +96,13 @@ impl Untold {
         if !self.may_have() {
             return None;
         }
+        self.least_marked(from)
+    }
+
+    // The search. It stands apart, so that where no half has a mark a caller pays for the look above alone.
+    #[inline(never)]
+    fn least_marked(&self, from: u64) -> Option<StreamId> {
+        debug_assert!(from <= 1 << 62);
         let bidi = least(self.next_of(0, from), self.next_of(1, from));
         let uni = least(self.next_of(2, from), self.next_of(3, from));
         StreamId::new(least(bidi, uni)?)
@@ -116,11 +123,11 @@ impl Untold {
     }
 
     // The least such number among the streams of a type.
-    fn next_of(&self, kind: usize, from: u64) -> Option<u64> {
-        debug_assert!(kind < 4);
+    fn next_of(&self, stream_type: usize, from: u64) -> Option<u64> {
+        debug_assert!(stream_type < 4);
         debug_assert!(from <= 1 << 62);
-        let lanes = &self.types[kind];
-        let index = lanes.next(index_from(kind, from))?;
-        Some((index * 4 + kind) as u64)
+        let lanes = &self.types[stream_type];
+        let index = lanes.next(index_from(stream_type, from))?;
+        Some((index * 4 + stream_type) as u64)
     }
 }

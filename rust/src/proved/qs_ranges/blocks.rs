@@ -157,6 +157,7 @@ fn drop_blocks(blocks: &mut Vec<Block>, first: usize, last: usize) {
 }
 
 /// The runs that end at `low` or later and start below `high`: with no search where the last run or the first decides.
+#[inline(always)]
 pub(crate) fn span_of(blocks: &[Block], low: u64, high: u64) -> Span {
     debug_assert!(low <= high);
     let (block, from) = first_from(blocks, low);
@@ -185,6 +186,7 @@ pub(crate) fn span_of(blocks: &[Block], low: u64, high: u64) -> Span {
 }
 
 /// The first run that ends above `n`, and the one behind it.
+#[inline(never)]
 pub(crate) fn two_above(blocks: &[Block], n: u64) -> (Option<(u64, u64)>, Option<(u64, u64)>) {
     debug_assert!(n < 1 << 62);
     let (block, at) = first_from(blocks, n + 1);
@@ -207,6 +209,7 @@ fn run_behind(blocks: &[Block], block: usize, at: usize) -> Option<(u64, u64)> {
 }
 
 /// The place of the first run that ends at `low` or later. The last run and the first may decide it.
+#[inline]
 pub(crate) fn first_from(blocks: &[Block], low: u64) -> (usize, usize) {
     let count = blocks.len();
     if count == 0 {
@@ -226,6 +229,7 @@ pub(crate) fn first_from(blocks: &[Block], low: u64) -> (usize, usize) {
 }
 
 // The same by a search.
+#[inline(never)]
 fn search_from(blocks: &[Block], low: u64) -> (usize, usize) {
     let block = block_from(blocks, low);
     if block == blocks.len() {
@@ -260,6 +264,7 @@ fn behind(blocks: &[Block], block: usize, from: usize, high: u64) -> (usize, usi
 }
 
 // The first block from a number on whose first run starts at `high` or later.
+#[inline]
 fn block_behind(blocks: &[Block], at: usize, high: u64) -> usize {
     debug_assert!(at <= blocks.len());
     if at == blocks.len() || high <= blocks[at].first().0 {

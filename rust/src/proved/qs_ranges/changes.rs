@@ -8,6 +8,7 @@ use crate::proved::qs_ranges::blocks::{insert_at, replace, span_of, split, take_
 use crate::proved::qs_ranges::few::{Few, few_of};
 
 /// Adds a range to the runs of blocks.
+#[inline(never)]
 pub(crate) fn insert_many(
     few: &mut Few,
     blocks: &mut Vec<Block>,
@@ -29,6 +30,7 @@ pub(crate) fn insert_many(
 }
 
 /// Takes a range out of the runs of blocks.
+#[inline(never)]
 pub(crate) fn remove_many(
     few: &mut Few,
     blocks: &mut Vec<Block>,
@@ -74,6 +76,7 @@ fn settle(few: &mut Few, blocks: &mut Vec<Block>) {
 }
 
 /// Copies the runs of blocks to the slice's front.
+#[inline(never)]
 pub(crate) fn copy_runs(blocks: &[Block], into: &mut [(u64, u64)]) -> usize {
     let mut count = 0;
     for block in blocks {

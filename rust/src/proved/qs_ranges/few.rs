@@ -47,6 +47,7 @@ fn add_to_one(few: &mut Few, run: (u64, u64), lo: u64, hi: u64) {
 }
 
 // Adds a range to two runs.
+#[inline(never)]
 fn add_to_two(
     few: &mut Few,
     blocks: &mut Vec<Block>,
@@ -111,6 +112,7 @@ fn without_range_of(run: (u64, u64), lo: u64, hi: u64) -> Few {
 }
 
 // Takes a range out of two runs.
+#[inline(never)]
 fn take_from_two(
     few: &mut Few,
     blocks: &mut Vec<Block>,

@@ -9,6 +9,7 @@ use crate::proved::qs_ranges::changes::{copy_runs, count_runs, insert_many, remo
 use crate::proved::qs_ranges::few::{Few, copy_few, count_few, few_above, few_above_two, insert_few, remove_few};
 use crate::shim::alloc::{AllocError, AllocFailed, Global};
 
+mod bits;
 mod block;
 mod blocks;
 mod changes;
@@ -16,6 +17,7 @@ mod few;
 pub mod laws;
 mod maybe_number;
 
+pub use bits::{lowest_bit, with_bit};
 pub use maybe_number::MaybeNumber;
 
 /// No memory was left.

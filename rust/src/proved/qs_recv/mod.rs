@@ -7,6 +7,7 @@ mod half;
 pub mod laws;
 mod live;
 mod rest;
+mod ring;
 mod ring_assembly;
 
 pub use assembly::Assembly;

@@ -1,8 +1,8 @@
 // Made from crates/qs_recv/src/ring_assembly.rt by rust/erase; not edited by hand.
 //! An assembly that keeps what came in one ring: the byte of an offset stands at the offset modulo the ring's size.
-use crate::shim::Vec;
 
 use crate::proved::qs_recv::assembly::Assembly;
+use crate::proved::qs_recv::ring::Ring;
 use crate::proved::qs_ranges::{NoMemory, RangeSet};
 use crate::shim::alloc::Global;
 
@@ -21,7 +21,7 @@ const LEAST_SIZE: u64 = 4096;
 /// and a quarter of the ring at least was read before.
 pub struct RingAssembly {
     alloc: Global,
-    ring: Vec<u8>,
+    ring: Ring,
     received: RangeSet,
     read_count: u64,
     // One more than the largest offset that came, until bytes are thrown away.
@@ -35,7 +35,7 @@ impl Assembly for RingAssembly {
     fn new(alloc: Global, window: u64) -> Self {
         RingAssembly {
             alloc,
-            ring: Vec::new(alloc),
+            ring: Ring::none(alloc),
             received: RangeSet::new(alloc),
             read_count: 0,
             end: 0,
@@ -48,7 +48,7 @@ impl Assembly for RingAssembly {
     fn at_rest(alloc: Global, window: u64, read_count: u64, end: u64, discarding: bool) -> Self {
         RingAssembly {
             alloc,
-            ring: Vec::new(alloc),
+            ring: Ring::none(alloc),
             received: RangeSet::below(alloc, end),
             read_count,
             end,
@@ -85,7 +85,10 @@ impl Assembly for RingAssembly {
             self.end = self.end.max(end);
         } else {
             let size = size_for(span, self.window);
-            let mut wider = widened(self.alloc, &self.ring, self.read_count, size)?;
+            let kept = self.end - self.read_count;
+            let mut wider = self
+                .ring
+                .resized(self.alloc, self.read_count, kept as usize, size as usize)?;
             let count = store(&mut wider, &mut self.received, first, stop, offset, bytes)?;
             self.ring = wider;
             self.stored += count;
@@ -100,7 +103,7 @@ impl Assembly for RingAssembly {
         }
         let next = self.received.first_missing(self.read_count);
         let count = (next - self.read_count).min(into.len() as u64) as usize;
-        copy_out(&self.ring, self.read_count, &mut into[..count]);
+        self.ring.copy_out(self.read_count, &mut into[..count]);
         self.read_count += count as u64;
         self.stored -= count as u64;
         let span = self.end - self.read_count;
@@ -115,14 +118,14 @@ impl Assembly for RingAssembly {
     }
 
     fn discard(&mut self) {
-        self.ring = Vec::new(self.alloc);
+        self.ring = Ring::none(self.alloc);
         self.stored = 0;
         self.discarding = true;
     }
 
     fn give_back(&mut self) {
         if self.stored == 0 {
-            self.ring = Vec::new(self.alloc);
+            self.ring = Ring::none(self.alloc);
         }
     }
 
@@ -156,59 +159,27 @@ fn size_for(span: u64, window: u64) -> u64 {
     least.min(window)
 }
 
-// A ring of a larger size, with the byte of each offset from `from` on.
-fn widened(alloc: Global, ring: &[u8], from: u64, size: u64) -> Result<Vec<u8>, NoMemory> {
-    debug_assert!(size <= 1 << 20);
-    debug_assert!(from <= 1 << 62);
-    let mut wider = Vec::new(alloc);
-    wider.resize(size as usize, 0)?;
-    move_in(&mut wider, ring, from);
-    Ok(wider)
-}
-
-// Copies a ring into one that is no smaller: the byte of each offset from `from` on goes to its place there.
-fn move_in(into: &mut [u8], ring: &[u8], from: u64) {
-    debug_assert!(ring.len() <= into.len());
-    debug_assert!(from <= 1 << 62);
-    let len = ring.len();
-    if len == 0 {
-        return;
-    }
-    let (front, back) = ring.split_at(place_of(from, len));
-    copy_in(into, from, back);
-    copy_in(into, from + back.len() as u64, front);
-}
-
 // Lets go of what a ring of more than 4,096 bytes has too much: all of it where nothing is stored, and where it is larger than
 // four times the span from `from` to the end of what is, what lies past the least power of two that is twice that or more.
-fn shed(alloc: Global, ring: &mut Vec<u8>, from: u64, span: u64, window: u64) {
+fn shed(alloc: Global, ring: &mut Ring, from: u64, span: u64, window: u64) {
     debug_assert!(window <= 1 << 20);
+    debug_assert!(from <= 1 << 62);
     let len = ring.len() as u64;
     if len <= LEAST_SIZE.max(4 * span) {
         return;
     }
     if span == 0 {
-        *ring = Vec::new(alloc);
+        *ring = Ring::none(alloc);
         return;
     }
     let size = size_for(2 * span, window);
-    narrow(ring, from, size);
-}
-
-// Brings a ring to a smaller size in place: what it has then is what it had, the byte of each offset from `from` on.
-fn narrow(ring: &mut Vec<u8>, from: u64, size: u64) {
-    debug_assert!(0 < size);
-    let place = place_of(from, ring.len());
-    ring.rotate_left(place);
-    ring.truncate(size as usize);
-    ring.rotate_right(place_of(from, size as usize));
-    ring.shrink_to_fit();
+    ring.narrow(from, span as usize, size as usize);
 }
 
 // Stores the bytes at offsets that didn't come before, notes the offsets, and answers how many are new. The first such
 // offsets are those from `first` on and below `stop`.
 fn store(
-    ring: &mut Vec<u8>,
+    ring: &mut Ring,
     received: &mut RangeSet,
     first: u64,
     stop: u64,
@@ -226,7 +197,7 @@ fn store(
 // Writes the bytes at offsets that didn't come before to their places, and answers how many these are. The first such
 // offsets are those from `first` on and below `stop`.
 fn fill_gaps(
-    ring: &mut [u8],
+    ring: &mut Ring,
     received: &RangeSet,
     first: u64,
     stop: u64,
@@ -237,8 +208,7 @@ fn fill_gaps(
     debug_assert!(first < stop);
     let end = offset + bytes.len() as u64;
     if stop == end {
-        copy_in(
-            ring,
+        ring.write(
             first,
             &bytes[(first - offset) as usize..(stop - offset) as usize],
         );
@@ -248,11 +218,7 @@ fn fill_gaps(
     let mut to = stop;
     let mut count = 0;
     while at < end {
-        copy_in(
-            ring,
-            at,
-            &bytes[(at - offset) as usize..(to - offset) as usize],
-        );
+        ring.write(at, &bytes[(at - offset) as usize..(to - offset) as usize]);
         count += to - at;
         let (next, after) = next_gap(received, to, end);
         at = next;
@@ -290,56 +256,9 @@ fn next_run(received: &RangeSet, at: u64, end: u64) -> (u64, u64) {
     }
 }
 
-// The place of an offset in a ring of that size. Most are powers of two, at which no division is made.
-fn place_of(at: u64, size: usize) -> usize {
-    debug_assert!(0 < size);
-    if size.is_power_of_two() {
-        (at & (size as u64 - 1)) as usize
-    } else {
-        (at % size as u64) as usize
-    }
-}
-
-// Writes bytes to the places of the offsets from `at` on, in two pieces where these wrap.
-fn copy_in(ring: &mut [u8], at: u64, bytes: &[u8]) {
-    debug_assert!(0 < ring.len());
-    debug_assert!(bytes.len() <= ring.len());
-    let place = place_of(at, ring.len());
-    let room = ring.len() - place;
-    if bytes.len() <= room {
-        write_at(ring, place, bytes);
-    } else {
-        let (front, back) = bytes.split_at(room);
-        write_at(ring, place, front);
-        write_at(ring, 0, back);
-    }
-}
-
-// Writes bytes from a place on.
-fn write_at(into: &mut [u8], place: usize, bytes: &[u8]) {
-    into[place..place + bytes.len()].copy_from_slice(bytes);
-}
-
-// Copies the bytes of the offsets from `at` on out, in two pieces where their places wrap.
-fn copy_out(ring: &[u8], at: u64, into: &mut [u8]) {
-    debug_assert!(into.len() <= ring.len());
-    let len = into.len();
-    if len == 0 {
-        return;
-    }
-    let place = place_of(at, ring.len());
-    let room = ring.len() - place;
-    if len <= room {
-        into.copy_from_slice(&ring[place..place + len]);
-    } else {
-        write_at(into, 0, &ring[place..]);
-        write_at(into, room, &ring[..len - room]);
-    }
-}
-
 // Whether the bytes at those offsets from `start` on that came are the ones at their places. From `last` on none came.
 fn is_in_ring(
-    ring: &[u8],
+    ring: &Ring,
     received: &RangeSet,
     start: u64,
     last: u64,
@@ -355,26 +274,10 @@ fn is_in_ring(
             return true;
         }
         let run = &bytes[(from - offset) as usize..(to - offset) as usize];
-        if !are_at(ring, from, run) {
+        if !ring.are_at(from, run) {
             return false;
         }
         at = to;
     }
     true
-}
-
-// Whether bytes are the ones at the places of the offsets from `at` on, in two pieces where these wrap.
-fn are_at(ring: &[u8], at: u64, bytes: &[u8]) -> bool {
-    debug_assert!(bytes.len() <= ring.len());
-    let len = bytes.len();
-    if len == 0 {
-        return true;
-    }
-    let place = place_of(at, ring.len());
-    let room = ring.len() - place;
-    if len <= room {
-        return bytes == &ring[place..place + len];
-    }
-    let (front, back) = bytes.split_at(room);
-    front == &ring[place..] && back == &ring[..len - room]
 }

@@ -41,6 +41,11 @@ impl<'a> AckPass<'a> {
         }
     }
 
+    /// It gives no number from this one on any more.
+    pub fn below(&self) -> u64 {
+        self.below
+    }
+
     /// How many turns it took.
     pub fn turns(&self) -> u64 {
         self.turns

@@ -72,14 +72,39 @@ impl ByNumber {
         self.place_of(number).is_ok()
     }
 
-    /// The greatest number below `number` that has a record.
-    pub(crate) fn below(&self, number: u64) -> Option<u64> {
+    /// The greatest number below `number` that has a record. It is looked for at the place `near` first, and the next one below it
+    /// may stand at the place that `near` is then.
+    pub(crate) fn below(&self, number: u64, near: &mut usize) -> Option<u64> {
         let records = &self.records;
-        let count = self.count_below(number);
+        let count = self.count_near(number, *near);
         if count == 0 {
             return None;
         }
+        *near = count - 1;
         Some(records[count - 1].number())
+    }
+
+    // How many records are those of numbers below `number`: without a search where these are `near`.
+    fn count_near(&self, number: u64, near: usize) -> usize {
+        if self.parts_at(number, near) {
+            return near;
+        }
+        self.count_below(number)
+    }
+
+    // Whether the first `count` records are those of numbers below `number`.
+    fn parts_at(&self, number: u64, count: usize) -> bool {
+        let records = &self.records;
+        if count > records.len() {
+            return false;
+        }
+        if count > 0 && records[count - 1].number() >= number {
+            return false;
+        }
+        if count < records.len() && records[count].number() < number {
+            return false;
+        }
+        true
     }
 
     // How many records are those of numbers below `number`.

@@ -1,6 +1,7 @@
 // Made from crates/qs_send/src/gone.rt by rust/erase; not edited by hand.
 //! Which slots are empty, as far as it was noted: a bit for each, in words.
 
+use crate::proved::qs_ranges::{lowest_bit, with_bit};
 use crate::shim::collections::VecDeque;
 
 /// How many slots a word has bits for.
@@ -52,24 +53,4 @@ pub(crate) fn end_of_left(words: &VecDeque<u64>, low: usize, end: usize) -> usiz
 // The bit of an index in its word. The lower one's lies above, so that a search for the greatest index is one for the lowest bit.
 fn bit_of(index: usize) -> usize {
     PER_WORD - 1 - index % PER_WORD
-}
-
-// A word with one of its bits set or cleared.
-fn with_bit(word: u64, bit: usize, is_set: bool) -> u64 {
-    debug_assert!(bit < 64);
-    if is_set {
-        word | (1 << bit)
-    } else {
-        word & !(1 << bit)
-    }
-}
-
-// The least bit that is set, from one on.
-fn lowest_bit(word: u64, from: usize) -> Option<usize> {
-    debug_assert!(from < 64);
-    let rest = word >> from;
-    if rest == 0 {
-        return None;
-    }
-    Some(from + rest.trailing_zeros() as usize)
 }

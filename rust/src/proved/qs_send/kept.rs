@@ -43,7 +43,12 @@ impl Kept {
         let count = self.count + bytes.len();
         if count > self.ring.len() {
             let size = self.ring.len().saturating_mul(2).min(most).max(count);
-            return self.move_to(size, bytes);
+            if self.start > 0 {
+                return self.move_to(size, bytes);
+            }
+            grow(&mut self.ring, self.count, bytes, size)?;
+            self.count = count;
+            return Ok(());
         }
         write_behind(&mut self.ring, self.start, self.count, bytes);
         self.count = count;
@@ -115,6 +120,19 @@ fn pieces(ring: &[u8], start: usize, count: usize) -> (&[u8], &[u8]) {
     } else {
         (&ring[start..], &ring[..count - room])
     }
+}
+
+// Puts bytes behind the first `count` of a ring, which goes on where it stands, to so many places. Where memory is refused these
+// stay, if not all.
+fn grow(ring: &mut Vec<u8>, count: usize, bytes: &[u8], size: usize) -> Result<(), NoMemory> {
+    ring.reserve_exact(size - ring.len())?;
+    ring.truncate(count);
+    ring.extend_from_slice(bytes)?;
+    if ring.resize(size, 0).is_err() {
+        ring.truncate(count);
+        return Err(NoMemory);
+    }
+    Ok(())
 }
 
 // Writes bytes behind those that stand in a ring, in two pieces where they go around its end.

@@ -68,7 +68,14 @@ impl LostRecords {
 
     /// The greatest number below `number` that is held.
     pub fn below(&self, number: u64) -> Option<u64> {
-        self.list.below(number)
+        let mut near = 0;
+        self.below_near(number, &mut near)
+    }
+
+    /// The same for a pass from high numbers to low ones, which hands `near` on from each call to the next: it is where the search
+    /// begins.
+    pub(crate) fn below_near(&self, number: u64, near: &mut usize) -> Option<u64> {
+        self.list.below(number, near)
     }
 
     /// How many packets are held.

@@ -13,8 +13,7 @@ impl Endpoint {
         if self.closed.is_some() {
             return false;
         }
-        let terms = self.terms();
-        has_frame(&terms, &self.recvs, &self.untold, &self.outbox)
+        has_frame(&self.limits, &self.recvs, &self.untold, &self.outbox)
     }
 
     /// The code with which the peer closed, `None` where it didn't (RFC 9000, section 10.2).
@@ -29,23 +28,23 @@ impl Endpoint {
     /// none is left, a new connection is needed (RFC 9000, section 4.6). `granted_streams` tells how far it may go now.
     pub fn streams_left(&self, dir: Dir) -> u64 {
         let lifetime = match dir {
-            Dir::Bidi => self.settings.lifetime_bidi,
-            Dir::Uni => self.settings.lifetime_uni,
+            Dir::Bidi => self.limits.settings.lifetime_bidi,
+            Dir::Uni => self.limits.settings.lifetime_uni,
         };
-        lifetime.saturating_sub(self.opened_count(self.peer_kind(dir)) as u64)
+        lifetime.saturating_sub(self.opened_count(self.peer_type(dir)) as u64)
     }
 
     /// How many streams of a direction `open` may open by the count that the peer told last (RFC 9000, section 4.6). In all time to come
     /// it is bounded by 2^60 alone: what the peer grants later, this end can't know.
     pub fn open_left(&self, dir: Dir) -> u64 {
         let known = self.known_count(dir);
-        known.saturating_sub(self.opened_count(self.own_kind(dir)) as u64)
+        known.saturating_sub(self.opened_count(self.own_type(dir)) as u64)
     }
 
     /// Whether bytes were written to the stream that weren't sent, and credit alone holds them back: the stream's limit is reached, or
     /// the connection's credit is used up (RFC 9000, section 4.1). Bytes that were lost need no credit.
     pub fn is_blocked(&self, stream: StreamId) -> bool {
-        let is_used_up = self.outbox.sent_sum() == self.known_data;
+        let is_used_up = self.outbox.sent_sum() == self.limits.known_data;
         self.outbox.waits_for_credit(stream, is_used_up)
     }
 

@@ -2,8 +2,10 @@
 //! What the frames of a payload do.
 
 use super::{Endpoint, is_uni};
+use crate::proved::qs_conn::seen::SeenFrame;
 use crate::proved::qs_recv::{Highest, RecvFault};
-use crate::proved::qs_wire::{Frame, StreamId};
+use crate::proved::qs_send::Item;
+use crate::proved::qs_wire::StreamId;
 
 // Codes of errors (RFC 9000, section 20.1).
 const FLOW_CONTROL_ERROR: u64 = 0x03;
@@ -18,38 +20,28 @@ const PROTOCOL_VIOLATION: u64 = 0x0a;
 
 impl Endpoint {
     // The code with which a frame closes the connection.
-    pub(super) fn verdict(&self, frame: &Frame<'_>) -> Option<u64> {
-        match *frame {
-            Frame::Padding
-            | Frame::Ping
-            | Frame::Crypto { .. }
-            | Frame::NewToken { .. }
-            | Frame::MaxData { .. }
-            | Frame::MaxStreams { .. }
-            | Frame::DataBlocked { .. }
-            | Frame::StreamsBlocked { .. }
-            | Frame::NewConnectionId { .. }
-            | Frame::RetireConnectionId { .. }
-            | Frame::PathChallenge { .. }
-            | Frame::PathResponse { .. }
-            | Frame::ConnectionClose { .. }
-            | Frame::ApplicationClose { .. }
-            | Frame::HandshakeDone => None,
-            Frame::Ack { largest, .. } => self.ack_fault(largest),
-            Frame::Stream {
+    pub(super) fn verdict(&self, seen: &SeenFrame<'_>) -> Option<u64> {
+        match *seen {
+            SeenFrame::Ack { largest, .. } => self.ack_fault(largest),
+            SeenFrame::Stream {
                 stream,
                 offset,
-                fin,
                 bytes,
+                fin,
             } => self.stream_fault(stream, offset, bytes, fin),
-            Frame::ResetStream {
-                stream,
-                final_size,
-                ..
-            } => self.reset_fault(stream, final_size),
-            Frame::StreamDataBlocked { stream, .. } => self.state_fault_in(stream),
-            Frame::StopSending { stream, .. } => self.state_fault_out(stream),
-            Frame::MaxStreamData { stream, .. } => self.state_fault_out(stream),
+            SeenFrame::Control(
+                Item::ResetStream {
+                    stream,
+                    final_size,
+                    ..
+                },
+            ) => self.reset_fault(stream, final_size),
+            SeenFrame::Control(Item::StreamDataBlocked { stream, .. }) => {
+                self.state_fault_in(stream)
+            }
+            SeenFrame::Control(Item::StopSending { stream, .. }) => self.state_fault_out(stream),
+            SeenFrame::Control(Item::MaxStreamData { stream, .. }) => self.state_fault_out(stream),
+            SeenFrame::Control(_) | SeenFrame::Close(_) | SeenFrame::Plain { .. } => None,
         }
     }
 
@@ -127,7 +119,7 @@ impl Endpoint {
             Err(fault) => Some(code_of(fault)),
             Ok(highest) => {
                 let growth = highest.after.saturating_sub(highest.before);
-                if self.granted < self.spent() + growth {
+                if self.limits.granted < self.spent() + growth {
                     Some(FLOW_CONTROL_ERROR)
                 } else {
                     None
@@ -139,9 +131,9 @@ impl Endpoint {
     // How many streams of its type the peer may open (RFC 9000, section 4.6).
     fn grant(&self, stream: StreamId) -> u64 {
         if is_uni(stream) {
-            self.granted_uni
+            self.limits.granted_uni
         } else {
-            self.granted_bidi
+            self.limits.granted_bidi
         }
     }
 }

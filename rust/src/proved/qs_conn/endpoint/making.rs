@@ -4,7 +4,6 @@
 use super::Endpoint;
 use crate::proved::qs_conn::filling::{Wish, fill};
 use crate::proved::qs_conn::sendable::has_frame;
-use crate::proved::qs_conn::terms::Terms;
 use crate::proved::qs_conn::unmarking::unmark_told;
 use crate::proved::qs_calls::{Made, MakeFault};
 use crate::proved::qs_wire::StreamId;
@@ -55,7 +54,6 @@ impl Endpoint {
         if let Err(_refused) = self.outbox.begin(out.len() / 2) {
             return self.without_memory();
         }
-        let terms = self.terms();
         let wish = Wish {
             first,
             delay,
@@ -63,7 +61,7 @@ impl Endpoint {
         };
         let (recvs, untold) = (&self.recvs, &self.untold);
         let len = fill(
-            &terms,
+            &self.limits,
             recvs,
             untold,
             &self.done,
@@ -71,7 +69,7 @@ impl Endpoint {
             wish,
             out,
         );
-        unmark_told(&terms, &self.recvs, &self.outbox, &mut self.untold);
+        unmark_told(&self.limits, &self.recvs, &self.outbox, &mut self.untold);
         if len == 0 {
             return Ok(None);
         }
@@ -99,23 +97,6 @@ impl Endpoint {
         if self.ack_due {
             return true;
         }
-        let terms = self.terms();
-        has_frame(&terms, &self.recvs, &self.untold, &self.outbox)
-    }
-
-    // What is to be told beside what the streams have.
-    pub(super) fn terms(&self) -> Terms {
-        Terms {
-            role: self.role,
-            settings: self.settings,
-            granted: self.granted,
-            granted_bidi: self.granted_bidi,
-            granted_uni: self.granted_uni,
-            known_data: self.known_data,
-            known_bidi: self.known_bidi,
-            known_uni: self.known_uni,
-            wanted_bidi: self.wanted_bidi,
-            wanted_uni: self.wanted_uni,
-        }
+        has_frame(&self.limits, &self.recvs, &self.untold, &self.outbox)
     }
 }

@@ -57,12 +57,12 @@ impl Endpoint {
     }
 
     // The least such number among the bidirectional streams of a type.
-    fn next_bidi_ended(&self, kind: usize, from: u64) -> Option<u64> {
-        debug_assert!(kind < 2);
+    fn next_bidi_ended(&self, stream_type: usize, from: u64) -> Option<u64> {
+        debug_assert!(stream_type < 2);
         debug_assert!(from <= 1 << 62);
         let mut next = from;
-        while let Some(recv) = self.recvs.next_with_of(RecvTask::Ended, kind, next) {
-            let Some(send) = self.outbox.next_ended_of(kind, recv) else {
+        while let Some(recv) = self.recvs.next_with_of(RecvTask::Ended, stream_type, next) {
+            let Some(send) = self.outbox.next_ended_of(stream_type, recv) else {
                 return None;
             };
             if send == recv {
@@ -74,14 +74,14 @@ impl Endpoint {
     }
 
     // The least such number among the unidirectional streams of a type: those of this end only send.
-    fn next_uni_ended(&self, kind: usize, from: u64) -> Option<u64> {
-        debug_assert!(2 <= kind);
-        debug_assert!(kind < 4);
+    fn next_uni_ended(&self, stream_type: usize, from: u64) -> Option<u64> {
+        debug_assert!(2 <= stream_type);
+        debug_assert!(stream_type < 4);
         debug_assert!(from <= 1 << 62);
-        if kind % 2 == role_bit(self.role) {
-            self.outbox.next_ended_of(kind, from)
+        if stream_type % 2 == role_bit(self.limits.role) {
+            self.outbox.next_ended_of(stream_type, from)
         } else {
-            self.recvs.next_with_of(RecvTask::Ended, kind, from)
+            self.recvs.next_with_of(RecvTask::Ended, stream_type, from)
         }
     }
 }

@@ -18,15 +18,15 @@ impl Endpoint {
         if self.closed.is_some() {
             return Err(OpenFault::Closed);
         }
-        let kind = self.own_kind(dir);
-        let count = self.opened_count(kind);
+        let stream_type = self.own_type(dir);
+        let count = self.opened_count(stream_type);
         let known = self.known_count(dir);
         if known <= count as u64 {
             self.want(dir, known);
             self.settle();
             return Err(OpenFault::Blocked(known));
         }
-        let stream = StreamId::new(count as u64 * 4 + kind as u64).unwrap();
+        let stream = StreamId::new(count as u64 * 4 + stream_type as u64).unwrap();
         if let Err(_refused) = self.open_stream(stream) {
             return Err(OpenFault::NoMemory);
         }
@@ -39,14 +39,14 @@ impl Endpoint {
         if self.closed.is_some() {
             return None;
         }
-        let bidi = self.peer_kind(Dir::Bidi);
+        let bidi = self.peer_type(Dir::Bidi);
         if self.accepted_bidi < self.opened_count(bidi) as u64 {
             let stream = StreamId::new(self.accepted_bidi * 4 + bidi as u64).unwrap();
             self.accepted_bidi += 1;
             self.settle();
             return Some(stream);
         }
-        let uni = self.peer_kind(Dir::Uni);
+        let uni = self.peer_type(Dir::Uni);
         if self.accepted_uni < self.opened_count(uni) as u64 {
             let stream = StreamId::new(self.accepted_uni * 4 + uni as u64).unwrap();
             self.accepted_uni += 1;
@@ -86,7 +86,7 @@ impl Endpoint {
         let (uni, own) = (is_uni(stream), self.is_own(stream));
         let limit = self.first_send_limit(stream);
         let window = self.window(stream);
-        let buffer = self.settings.send_buffer;
+        let buffer = self.limits.settings.send_buffer;
         self.outbox.are_of_open();
         let before = self.outbox.count(stream);
         self.outbox.are_of_open();
@@ -117,38 +117,40 @@ impl Endpoint {
     // That another stream was wanted is noted.
     fn want(&mut self, dir: Dir, count: u64) {
         match dir {
-            Dir::Bidi => self.wanted_bidi = Some(count),
-            Dir::Uni => self.wanted_uni = Some(count),
+            Dir::Bidi => self.limits.wanted_bidi = Some(count),
+            Dir::Uni => self.limits.wanted_uni = Some(count),
         }
     }
 
     // How many streams of a direction the peer allows.
     pub(super) fn known_count(&self, dir: Dir) -> u64 {
         match dir {
-            Dir::Bidi => self.known_bidi,
-            Dir::Uni => self.known_uni,
+            Dir::Bidi => self.limits.known_bidi,
+            Dir::Uni => self.limits.known_uni,
         }
     }
 
     // How many streams of a type are open.
-    pub(super) fn opened_count(&self, kind: usize) -> usize {
-        debug_assert!(kind < 4);
-        self.outbox.count_of(kind).max(self.recvs.count_of(kind))
+    pub(super) fn opened_count(&self, stream_type: usize) -> usize {
+        debug_assert!(stream_type < 4);
+        self.outbox
+            .count_of(stream_type)
+            .max(self.recvs.count_of(stream_type))
     }
 
     // The type of the streams that this end opens.
-    pub(super) fn own_kind(&self, dir: Dir) -> usize {
+    pub(super) fn own_type(&self, dir: Dir) -> usize {
         match dir {
-            Dir::Bidi => role_bit(self.role),
-            Dir::Uni => 2 + role_bit(self.role),
+            Dir::Bidi => role_bit(self.limits.role),
+            Dir::Uni => 2 + role_bit(self.limits.role),
         }
     }
 
     // The type of the streams that the peer opens.
-    pub(super) fn peer_kind(&self, dir: Dir) -> usize {
+    pub(super) fn peer_type(&self, dir: Dir) -> usize {
         match dir {
-            Dir::Bidi => 1 - role_bit(self.role),
-            Dir::Uni => 3 - role_bit(self.role),
+            Dir::Bidi => 1 - role_bit(self.limits.role),
+            Dir::Uni => 3 - role_bit(self.limits.role),
         }
     }
 }

@@ -67,9 +67,9 @@ impl Endpoint {
         if let Some(fault) = self.no_receiver(stream) {
             return Err(fault);
         }
-        let was = is_over(self.role, &self.recvs, &self.outbox, stream);
+        let was = is_over(self.limits.role, &self.recvs, &self.outbox, stream);
         let answer = self.recvs.read(stream, into);
-        let is = is_over(self.role, &self.recvs, &self.outbox, stream);
+        let is = is_over(self.limits.role, &self.recvs, &self.outbox, stream);
         self.ended.recount(stream, was, is);
         self.is_settled = false;
         self.settle();

@@ -39,17 +39,17 @@ impl Endpoint {
     // The first limits and the counts are known, and the connection's limit; open streams aren't looked at.
     fn know_limits(&mut self, limits: &PeerLimits) {
         self.peer = greater_limits(&self.peer, limits);
-        self.known_data = self.known_data.max(limits.max_data);
-        self.known_bidi = self.known_bidi.max(limits.streams_bidi);
-        self.known_uni = self.known_uni.max(limits.streams_uni);
+        self.limits.known_data = self.limits.known_data.max(limits.max_data);
+        self.limits.known_bidi = self.limits.known_bidi.max(limits.streams_bidi);
+        self.limits.known_uni = self.limits.known_uni.max(limits.streams_uni);
     }
 
     // Each open half of a type may send what one may that opens now.
-    fn allow_type(&mut self, kind: usize) {
-        debug_assert!(kind < 4);
-        let limit = self.first_send_limit(StreamId::new(kind as u64).unwrap());
-        for index in 0..self.outbox.count_of(kind) {
-            let stream = StreamId::new((index * 4 + kind) as u64).unwrap();
+    fn allow_type(&mut self, stream_type: usize) {
+        debug_assert!(stream_type < 4);
+        let limit = self.first_send_limit(StreamId::new(stream_type as u64).unwrap());
+        for index in 0..self.outbox.count_of(stream_type) {
+            let stream = StreamId::new((index * 4 + stream_type) as u64).unwrap();
             self.allow_to(stream, limit);
         }
     }

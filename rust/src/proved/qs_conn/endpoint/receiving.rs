@@ -2,12 +2,13 @@
 //! A payload is taken in.
 
 use super::Endpoint;
+use crate::proved::qs_conn::seen::{SeenFrame, asks_ack, seen};
 use crate::proved::qs_calls::{Closed, Closing, Received};
-use crate::proved::qs_wire::{Frame, Frames, Placed, WireFault};
+use crate::proved::qs_wire::{Frames, Placed, WireFault};
 
-/// What one frame does to the processing of its payload.
+/// What one frame does to the processing of its payload. Where it goes on, the frame may ask for an ACK.
 pub(crate) enum Progress {
-    GoesOn,
+    GoesOn(bool),
     Ends(Result<Received, Closing>),
 }
 
@@ -55,7 +56,7 @@ impl Endpoint {
         loop {
             match frames.next() {
                 Ok(Some(placed)) => match self.take_placed(&placed) {
-                    Progress::GoesOn => asks |= asks_ack(&placed.frame),
+                    Progress::GoesOn(asks_ack) => asks |= asks_ack,
                     Progress::Ends(result) => return result,
                 },
                 Ok(None) => return Ok(self.record_all(number, asks)),
@@ -66,17 +67,18 @@ impl Endpoint {
 
     // One frame takes effect, or the processing ends with it.
     fn take_placed(&mut self, placed: &Placed<'_>) -> Progress {
-        if let Some(code) = close_code(&placed.frame) {
+        let seen = seen(&placed.frame);
+        if let SeenFrame::Close(code) = seen {
             self.closed = Some(Closed::ByPeer(code));
             return Progress::Ends(Ok(Received::PeerClosed(code)));
         }
-        if let Some(code) = self.verdict(&placed.frame) {
+        if let Some(code) = self.verdict(&seen) {
             return Progress::Ends(Err(self.close_at(placed, code)));
         }
-        if let Err(_refused) = self.on_frame(&placed.frame) {
+        if let Err(_refused) = self.on_frame(&seen) {
             return Progress::Ends(Ok(Received::NoMemory));
         }
-        Progress::GoesOn
+        Progress::GoesOn(asks_ack(&seen))
     }
 
     // No frame is left.
@@ -110,23 +112,4 @@ impl Endpoint {
         self.closed = Some(Closed::ByUs(closing));
         closing
     }
-}
-
-// The code of a CONNECTION_CLOSE.
-fn close_code(frame: &Frame<'_>) -> Option<u64> {
-    match *frame {
-        Frame::ConnectionClose { code, .. } | Frame::ApplicationClose { code, .. } => Some(code),
-        _ => None,
-    }
-}
-
-// Whether a frame asks for an ACK (RFC 9000, section 13.2).
-fn asks_ack(frame: &Frame<'_>) -> bool {
-    !matches!(
-        *frame,
-        Frame::Padding
-            | Frame::Ack { .. }
-            | Frame::ConnectionClose { .. }
-            | Frame::ApplicationClose { .. }
-    )
 }

@@ -3,60 +3,52 @@
 
 use super::Endpoint;
 use super::acking::ack_ranges;
+use crate::proved::qs_conn::seen::SeenFrame;
 use crate::proved::qs_ranges::NoMemory;
-use crate::proved::qs_wire::{Dir, Frame, StreamId};
+use crate::proved::qs_send::Item;
+use crate::proved::qs_wire::{Dir, StreamId};
 
 impl Endpoint {
     // A frame takes effect, or finds no memory and changes nothing; of an ACK some packets may be acknowledged then.
-    pub(super) fn on_frame(&mut self, frame: &Frame<'_>) -> Result<(), NoMemory> {
-        match *frame {
-            Frame::Padding
-            | Frame::Ping
-            | Frame::Crypto { .. }
-            | Frame::NewToken { .. }
-            | Frame::DataBlocked { .. }
-            | Frame::StreamsBlocked { .. }
-            | Frame::NewConnectionId { .. }
-            | Frame::RetireConnectionId { .. }
-            | Frame::PathChallenge { .. }
-            | Frame::PathResponse { .. }
-            | Frame::ConnectionClose { .. }
-            | Frame::ApplicationClose { .. }
-            | Frame::HandshakeDone => Ok(()),
-            Frame::Ack {
-                largest,
-                ranges,
-                ..
-            } => self.on_ack(largest, ranges),
-            Frame::MaxData { maximum } => {
-                self.known_data = self.known_data.max(maximum);
+    pub(super) fn on_frame(&mut self, seen: &SeenFrame<'_>) -> Result<(), NoMemory> {
+        match *seen {
+            SeenFrame::Ack { largest, ranges } => self.on_ack(largest, ranges),
+            SeenFrame::Stream {
+                stream,
+                offset,
+                bytes,
+                fin,
+            } => self.on_stream(stream, offset, bytes, fin),
+            SeenFrame::Control(Item::MaxData { maximum }) => {
+                self.limits.known_data = self.limits.known_data.max(maximum);
                 Ok(())
             }
-            Frame::MaxStreams { dir, count } => {
+            SeenFrame::Control(Item::MaxStreams { dir, count }) => {
                 self.on_max_streams(dir, count);
                 Ok(())
             }
-            Frame::MaxStreamData { stream, maximum } => self.on_max_stream_data(stream, maximum),
-            Frame::StopSending { stream, code } => self.on_stop_sending(stream, code),
-            Frame::StreamDataBlocked { stream, .. } => self.open_by_peer(stream),
-            Frame::ResetStream {
-                stream,
-                code,
-                final_size,
-            } => self.on_reset_stream(stream, code, final_size),
-            Frame::Stream {
-                stream,
-                offset,
-                fin,
-                bytes,
-            } => self.on_stream(stream, offset, bytes, fin),
+            SeenFrame::Control(Item::MaxStreamData { stream, maximum }) => {
+                self.on_max_stream_data(stream, maximum)
+            }
+            SeenFrame::Control(Item::StopSending { stream, code }) => {
+                self.on_stop_sending(stream, code)
+            }
+            SeenFrame::Control(Item::StreamDataBlocked { stream, .. }) => self.open_by_peer(stream),
+            SeenFrame::Control(
+                Item::ResetStream {
+                    stream,
+                    code,
+                    final_size,
+                },
+            ) => self.on_reset_stream(stream, code, final_size),
+            SeenFrame::Control(_) | SeenFrame::Close(_) | SeenFrame::Plain { .. } => Ok(()),
         }
     }
 
     // The packets that an ACK names are acknowledged, also those that were declared lost (RFC 9000, sections 13.2.1 and 13.3).
     fn on_ack(&mut self, largest: u64, ranges: &[u8]) -> Result<(), NoMemory> {
         debug_assert!(largest < 1 << 62);
-        let (role, recvs) = (self.role, &self.recvs);
+        let (role, recvs) = (self.limits.role, &self.recvs);
         let before = self.ended;
         let taken = ack_ranges(
             &mut self.outbox,
@@ -75,8 +67,8 @@ impl Endpoint {
     fn on_max_streams(&mut self, dir: Dir, count: u64) {
         debug_assert!(count <= 1 << 60);
         match dir {
-            Dir::Bidi => self.known_bidi = self.known_bidi.max(count),
-            Dir::Uni => self.known_uni = self.known_uni.max(count),
+            Dir::Bidi => self.limits.known_bidi = self.limits.known_bidi.max(count),
+            Dir::Uni => self.limits.known_uni = self.limits.known_uni.max(count),
         }
     }
 
@@ -99,7 +91,7 @@ impl Endpoint {
     // The peer broke a stream off.
     fn on_reset_stream(&mut self, stream: StreamId, code: u64, size: u64) -> Result<(), NoMemory> {
         debug_assert!(size <= 0x3fff_ffff_ffff_ffff);
-        let _granted = self.granted;
+        let _granted = self.limits.granted;
         self.open_by_peer(stream)?;
         self.recvs.take_reset(stream, code, size);
         self.is_settled = false;

@@ -2,11 +2,13 @@
 //! Packets are acknowledged and lost.
 
 use super::Outbox;
-use crate::proved::qs_conn::send_tables::SendTables;
+use super::halves::half_of;
+use crate::proved::qs_conn::places::{index_of, type_of};
+use crate::proved::qs_conn::send_lanes::SendLanes;
 use crate::proved::qs_conn::told::ToldItems;
 use crate::proved::qs_conn::told_index::ToldIndex;
 use crate::proved::qs_ranges::NoMemory;
-use crate::proved::qs_send::{AckPass, Item, Piece, Records, SendState};
+use crate::proved::qs_send::{AckPass, Chunk, Item, Piece, Records, SendState};
 use crate::proved::qs_wire::StreamId;
 
 /// A packet whose record is kept: of the outstanding ones, or of the lost ones, for which an acknowledgement comes late.
@@ -35,6 +37,10 @@ impl Outbox {
         if late {
             return pass.next_lost(&self.lost);
         }
+        // Below the first record there is none, however many ranges follow.
+        if pass.below() <= self.records.base() {
+            return None;
+        }
         pass.next(&self.records)
     }
 
@@ -59,6 +65,7 @@ impl Outbox {
     }
 
     /// The first piece of a packet of which a record is kept is acknowledged, or nothing changes.
+    #[inline]
     pub(crate) fn ack_kept(&mut self, packet: KeptPacket, piece: Piece) -> Result<(), NoMemory> {
         if packet.late {
             return self.ack_lost(packet.number, piece);
@@ -69,7 +76,7 @@ impl Outbox {
     // The first piece of an outstanding packet is acknowledged, or nothing changes.
     fn ack_outstanding(&mut self, number: u64, piece: Piece) -> Result<(), NoMemory> {
         let _next = self.next;
-        piece_acked(&mut self.sends, &mut self.told, &piece)?;
+        piece_acked(&mut self.types, &mut self.told, &piece)?;
         self.records.drop_first(number);
         forget(&mut self.index, piece);
         Ok(())
@@ -78,7 +85,7 @@ impl Outbox {
     // The first piece of a lost packet is acknowledged, or nothing changes.
     fn ack_lost(&mut self, number: u64, piece: Piece) -> Result<(), NoMemory> {
         let _next = self.next;
-        piece_acked(&mut self.sends, &mut self.told, &piece)?;
+        piece_acked(&mut self.types, &mut self.told, &piece)?;
         self.lost.drop_first(number);
         Ok(())
     }
@@ -88,7 +95,7 @@ impl Outbox {
     pub(crate) fn lose_first(&mut self, number: u64, piece: Piece) -> Result<(), NoMemory> {
         let _next = self.next;
         self.lost.make_room(number)?;
-        piece_lost(&mut self.sends, &piece)?;
+        piece_lost(&mut self.types, &piece)?;
         self.lost.add(number, piece);
         self.records.drop_first(number);
         forget(&mut self.index, piece);
@@ -110,35 +117,52 @@ fn next_held(records: &Records, from: u64) -> Option<u64> {
 }
 
 // A chunk, or an item, is acknowledged; or nothing changes.
-fn piece_acked(sends: &mut SendTables, told: &mut ToldItems, piece: &Piece) -> Result<(), NoMemory> {
+fn piece_acked(
+    types: &mut [SendLanes; 4],
+    told: &mut ToldItems,
+    piece: &Piece,
+) -> Result<(), NoMemory> {
     match *piece {
-        Piece::Data { stream, chunk } => sends.acked(stream, chunk),
-        Piece::Told(item) => item_acked(sends, told, item),
+        Piece::Data { stream, chunk } => chunk_acked(types, stream, chunk),
+        Piece::Told(item) => item_acked(types, told, item),
     }
 }
 
+// Takes in that a chunk is acknowledged, or changes nothing.
+fn chunk_acked(types: &mut [SendLanes; 4], stream: StreamId, chunk: Chunk) -> Result<(), NoMemory> {
+    let lanes = &mut types[type_of(stream)];
+    lanes.acked(index_of(stream), chunk)
+}
+
 // An item is acknowledged, or nothing changes. A RESET_STREAM is marked in its half, once.
-fn item_acked(sends: &mut SendTables, told: &mut ToldItems, item: Item) -> Result<(), NoMemory> {
+fn item_acked(types: &mut [SendLanes; 4], told: &mut ToldItems, item: Item) -> Result<(), NoMemory> {
     if let Item::ResetStream { stream, .. } = item {
-        reset_acked(sends, stream);
+        reset_acked(types, stream);
         return Ok(());
     }
     told.note(item)
 }
 
 // The RESET_STREAM of a half is acknowledged, once more or for the first time.
-fn reset_acked(sends: &mut SendTables, stream: StreamId) {
-    if matches!(sends.get(stream).state(), SendState::ResetSent) {
-        sends.reset_acked(stream);
+fn reset_acked(types: &mut [SendLanes; 4], stream: StreamId) {
+    if matches!(half_of(types, stream).state(), SendState::ResetSent) {
+        let lanes = &mut types[type_of(stream)];
+        lanes.reset_acked(index_of(stream));
     }
 }
 
 // A chunk is due again, or nothing changes. An item is due by itself.
-fn piece_lost(sends: &mut SendTables, piece: &Piece) -> Result<(), NoMemory> {
+fn piece_lost(types: &mut [SendLanes; 4], piece: &Piece) -> Result<(), NoMemory> {
     match *piece {
-        Piece::Data { stream, chunk } => sends.lost(stream, chunk),
+        Piece::Data { stream, chunk } => chunk_lost(types, stream, chunk),
         Piece::Told(_) => Ok(()),
     }
+}
+
+// Takes in that a chunk is lost, or changes nothing.
+fn chunk_lost(types: &mut [SendLanes; 4], stream: StreamId, chunk: Chunk) -> Result<(), NoMemory> {
+    let lanes = &mut types[type_of(stream)];
+    lanes.lost(index_of(stream), chunk)
 }
 
 // An item that left the records is told no more.

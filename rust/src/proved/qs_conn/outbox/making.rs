@@ -3,7 +3,9 @@
 use crate::shim::Vec;
 
 use super::Outbox;
-use crate::proved::qs_conn::send_tables::SendTables;
+use super::halves::{half_of, is_open};
+use crate::proved::qs_conn::places::{index_of, type_of};
+use crate::proved::qs_conn::send_lanes::SendLanes;
 use crate::proved::qs_ranges::NoMemory;
 use crate::proved::qs_send::{Chunk, Item, Piece, Records};
 use crate::proved::qs_wire::StreamId;
@@ -21,7 +23,7 @@ impl Outbox {
     /// The longest chunk of an open stream that may go out in a frame of at most `room` bytes, with `fresh` bytes of credit.
     pub(crate) fn next_chunk(&self, stream: StreamId, room: usize, fresh: u64) -> Option<Chunk> {
         let _next = self.next;
-        let half = self.sends.get(stream);
+        let half = half_of(&self.types, stream);
         half.is_lawful();
         half.next_chunk(room, fresh)
     }
@@ -29,23 +31,24 @@ impl Outbox {
     /// Whether the room alone holds a chunk of an open stream back.
     pub(crate) fn is_held_by_room(&self, stream: StreamId, room: usize, fresh: u64) -> bool {
         let _next = self.next;
-        let half = self.sends.get(stream);
+        let half = half_of(&self.types, stream);
         half.is_lawful();
         half.is_held_by_room(room, fresh)
     }
 
     /// The bytes of a chunk that is still in the buffer, in two pieces.
     pub(crate) fn bytes(&self, stream: StreamId, chunk: Chunk) -> (&[u8], &[u8]) {
-        self.sends.get(stream).bytes(chunk)
+        half_of(&self.types, stream).bytes(chunk)
     }
 
     /// The chunk stands in the packet in the making.
     pub(crate) fn put_chunk(&mut self, stream: StreamId, chunk: Chunk) {
-        let half = self.sends.get(stream);
+        let half = half_of(&self.types, stream);
         half.is_lawful();
         let before = half.sent_end();
-        self.sends.sent(stream, chunk);
-        let after = self.sends.get(stream).sent_end();
+        let lanes = &mut self.types[type_of(stream)];
+        lanes.sent(index_of(stream), chunk);
+        let after = half_of(&self.types, stream).sent_end();
         self.sent = self.sent - before + after;
         hold(&mut self.pending, Piece::Data { stream, chunk });
         self.spare -= 1;
@@ -54,7 +57,7 @@ impl Outbox {
     /// The item stands in the packet in the making. No outstanding packet told it with this value.
     pub(crate) fn put_item(&mut self, item: Item) {
         let _next = self.next;
-        note_told(&mut self.sends, &item);
+        note_told(&mut self.types, &item);
         hold(&mut self.pending, Piece::Told(item));
         self.index.insert(item);
         self.spare -= 1;
@@ -74,15 +77,16 @@ impl Outbox {
 }
 
 // That a STREAM_DATA_BLOCKED was sent is marked in its half.
-fn note_told(sends: &mut SendTables, item: &Item) {
+fn note_told(types: &mut [SendLanes; 4], item: &Item) {
     if let Item::StreamDataBlocked { stream, .. } = *item {
-        note_blocked(sends, stream);
+        note_blocked(types, stream);
     }
 }
 
-fn note_blocked(sends: &mut SendTables, stream: StreamId) {
-    if sends.is_open(stream) {
-        sends.note_blocked(stream);
+fn note_blocked(types: &mut [SendLanes; 4], stream: StreamId) {
+    if is_open(types, stream) {
+        let lanes = &mut types[type_of(stream)];
+        lanes.note_blocked(index_of(stream));
     }
 }
 

@@ -2,6 +2,7 @@
 //! What an end has to tell of its sending side.
 
 use super::Outbox;
+use super::halves::{half_of, is_open, least_marked, may_have, next_with, next_with_of};
 use crate::proved::qs_conn::send_marks::Task;
 use crate::proved::qs_send::{Item, Reset, SendState};
 use crate::proved::qs_wire::StreamId;
@@ -22,27 +23,27 @@ impl Outbox {
     }
 
     fn is_reset_acked(&self, stream: StreamId) -> bool {
-        if !self.sends.is_open(stream) {
+        if !is_open(&self.types, stream) {
             return false;
         }
-        matches!(self.sends.get(stream).state(), SendState::ResetRecvd)
+        matches!(half_of(&self.types, stream).state(), SendState::ResetRecvd)
     }
 
     /// The reset of a stream. A frame can tell it.
     pub(crate) fn reset_of(&self, stream: StreamId) -> Option<Reset> {
-        if !self.sends.is_open(stream) {
+        if !is_open(&self.types, stream) {
             return None;
         }
-        let half = self.sends.get(stream);
+        let half = half_of(&self.types, stream);
         reset_by(half.reset_code(), half.final_size())
     }
 
     /// The limit at which a stream is blocked. A frame can tell it.
     pub(crate) fn blocked_at(&self, stream: StreamId) -> Option<u64> {
-        if !self.sends.is_open(stream) {
+        if !is_open(&self.types, stream) {
             return None;
         }
-        let half = self.sends.get(stream);
+        let half = half_of(&self.types, stream);
         if let Some(_code) = half.reset_code() {
             return None;
         }
@@ -58,10 +59,10 @@ impl Outbox {
 
     /// Whether a stream has bytes that only the connection's credit holds back.
     pub(crate) fn wants_more(&self, stream: StreamId) -> bool {
-        if !self.sends.is_open(stream) {
+        if !is_open(&self.types, stream) {
             return false;
         }
-        let half = self.sends.get(stream);
+        let half = half_of(&self.types, stream);
         if let Some(_code) = half.reset_code() {
             return false;
         }
@@ -70,10 +71,10 @@ impl Outbox {
 
     /// Whether bytes of a stream weren't sent, and its limit alone holds them back, or that of the connection, where that is used up.
     pub(crate) fn waits_for_credit(&self, stream: StreamId, is_used_up: bool) -> bool {
-        if !self.sends.is_open(stream) {
+        if !is_open(&self.types, stream) {
             return false;
         }
-        let half = self.sends.get(stream);
+        let half = half_of(&self.types, stream);
         if let Some(_code) = half.reset_code() {
             return false;
         }
@@ -86,32 +87,34 @@ impl Outbox {
     /// The least number from one on of a stream that may have a task. The streams between have none of it.
     pub(crate) fn next_marked(&self, task: Task, from: u64) -> Option<StreamId> {
         debug_assert!(from <= 1 << 62);
-        let _next = self.next;
-        self.sends.next_marked(task, from)
+        if !may_have(&self.types, task) {
+            return None;
+        }
+        least_marked(&self.types, task, from)
     }
 
     /// The least number from one on of a stream that may be written to.
     pub(crate) fn next_writable(&self, from: u64) -> Option<StreamId> {
         debug_assert!(from <= 1 << 62);
         let _next = self.next;
-        self.sends.next_with(Task::Writable, from)
+        next_with(&self.types, Task::Writable, from)
     }
 
     /// The least number from one on of a stream of a type whose sending half came to its end.
-    pub(crate) fn next_ended_of(&self, kind: usize, from: u64) -> Option<u64> {
-        debug_assert!(kind < 4);
+    pub(crate) fn next_ended_of(&self, stream_type: usize, from: u64) -> Option<u64> {
+        debug_assert!(stream_type < 4);
         debug_assert!(from <= 1 << 62);
         let _next = self.next;
-        self.sends.next_with_of(Task::Ended, kind, from)
+        next_with_of(&self.types, Task::Ended, stream_type, from)
     }
 
     /// The least number from one on of a stream of which bytes or the end are due, which its own limit lets go.
     pub(crate) fn next_sendable(&self, from: u64) -> Option<StreamId> {
         debug_assert!(from <= 1 << 62);
         let _next = self.next;
-        match self.sends.next_with(Task::Bytes, from) {
+        match next_with(&self.types, Task::Bytes, from) {
             Some(stream) => {
-                self.sends.get(stream).is_lawful();
+                half_of(&self.types, stream).is_lawful();
                 Some(stream)
             }
             None => None,

@@ -15,8 +15,9 @@ impl<'a> AckPass<'a> {
         }
         // The number of the record that was looked at last; before the first look the bound itself.
         let mut seen = self.below;
+        let mut near = 0;
         loop {
-            if let Some(number) = self.lost_in_range(records, &mut seen) {
+            if let Some(number) = self.lost_in_range(records, &mut seen, &mut near) {
                 return Some(number);
             }
             if !self.read_range() {
@@ -27,12 +28,17 @@ impl<'a> AckPass<'a> {
     }
 
     // The greatest lost number of the range that was read last, below the one given last. Another record is looked at in one turn.
-    fn lost_in_range(&mut self, records: &LostRecords, seen: &mut u64) -> Option<u64> {
+    fn lost_in_range(
+        &mut self,
+        records: &LostRecords,
+        seen: &mut u64,
+        near: &mut usize,
+    ) -> Option<u64> {
         records.is_in_order();
         if self.below <= self.low {
             return None;
         }
-        let number = self.look(records, *seen)?;
+        let number = self.look(records, *seen, near)?;
         *seen = number;
         if number < self.low {
             return None;
@@ -43,11 +49,11 @@ impl<'a> AckPass<'a> {
 
     // The greatest lost number below the one given last: the one that was looked at last, where it lies below, else another one, in one
     // turn.
-    fn look(&mut self, records: &LostRecords, seen: u64) -> Option<u64> {
+    fn look(&mut self, records: &LostRecords, seen: u64, near: &mut usize) -> Option<u64> {
         if seen < self.below {
             return Some(seen);
         }
-        let number = records.below(self.below)?;
+        let number = records.below_near(self.below, near)?;
         self.turns = one_more(self.turns);
         Some(number)
     }

@@ -1,9 +1,9 @@
-// Made from crates/qs_conn/src/terms.rt by rust/erase; not edited by hand.
+// Made from crates/qs_conn/src/limits.rt by rust/erase; not edited by hand.
 //! Which control items an end has to tell.
 
 use crate::proved::qs_conn::endpoint::{is_uni, role_bit};
 use crate::proved::qs_conn::outbox::Outbox;
-use crate::proved::qs_conn::places::kind_of;
+use crate::proved::qs_conn::places::type_of;
 use crate::proved::qs_conn::recv_tables::RecvTables;
 use crate::proved::qs_conn::send_marks::Task;
 use crate::proved::qs_conn::slot::Slot;
@@ -13,7 +13,7 @@ use crate::proved::qs_wire::{Dir, Role, StreamId};
 
 /// What an end has to tell beside what its streams have.
 #[derive(Clone, Copy)]
-pub(crate) struct Terms {
+pub(crate) struct Limits {
     pub role: Role,
     pub settings: Settings,
     pub granted: u64,
@@ -26,7 +26,7 @@ pub(crate) struct Terms {
     pub wanted_uni: Option<u64>,
 }
 
-impl Terms {
+impl Limits {
     /// The item of a slot that is to be told while no packet told it (RFC 9000, sections 4.1, 4.6 and 13.3).
     pub(crate) fn current(&self, outbox: &Outbox, recvs: &RecvTables, slot: Slot) -> Option<Item> {
         match slot {
@@ -84,11 +84,11 @@ impl Terms {
         }
     }
 
-    // The window of a receiving half.
-    fn window(&self, stream: StreamId) -> u64 {
+    /// The window of a receiving half.
+    pub(crate) fn window(&self, stream: StreamId) -> u64 {
         if is_uni(stream) {
             self.settings.uni
-        } else if kind_of(stream) % 2 == role_bit(self.role) {
+        } else if type_of(stream) % 2 == role_bit(self.role) {
             self.settings.bidi_local
         } else {
             self.settings.bidi_remote

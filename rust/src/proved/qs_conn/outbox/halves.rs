@@ -1,0 +1,87 @@
+// Made from crates/qs_conn/src/outbox/halves.rt by rust/erase; not edited by hand.
+//! The sending halves of an end, by the type of the stream and by its index: one that is named, and searches.
+
+use crate::proved::qs_conn::marks::least;
+use crate::proved::qs_conn::places::{index_from, index_of, type_of};
+use crate::proved::qs_conn::send_lanes::SendLanes;
+use crate::proved::qs_conn::send_marks::Task;
+use crate::proved::qs_send::SendHalf;
+use crate::proved::qs_wire::StreamId;
+
+/// Whether the stream has a sending half.
+pub(super) fn is_open(types: &[SendLanes; 4], stream: StreamId) -> bool {
+    let lanes = &types[type_of(stream)];
+    index_of(stream) < lanes.len()
+}
+
+/// The half of an open stream.
+pub(super) fn half_of(types: &[SendLanes; 4], stream: StreamId) -> &SendHalf {
+    let lanes = &types[type_of(stream)];
+    lanes.get(index_of(stream))
+}
+
+/// Whether any half may have a task.
+pub(super) fn may_have(types: &[SendLanes; 4], task: Task) -> bool {
+    if types[0].may_have(task) {
+        return true;
+    }
+    if types[1].may_have(task) {
+        return true;
+    }
+    if types[2].may_have(task) {
+        return true;
+    }
+    types[3].may_have(task)
+}
+
+/// The least number from one on of a stream that may have a task. The halves of the streams between are quiet of it. It stands apart, so
+/// that where no half has a task a caller pays for the look at that alone.
+#[inline(never)]
+pub(super) fn least_marked(types: &[SendLanes; 4], task: Task, from: u64) -> Option<StreamId> {
+    debug_assert!(from <= 1 << 62);
+    let bidi = least(next_of(types, task, 0, from), next_of(types, task, 1, from));
+    let uni = least(next_of(types, task, 2, from), next_of(types, task, 3, from));
+    StreamId::new(least(bidi, uni)?)
+}
+
+// The least such number among the streams of a type.
+fn next_of(types: &[SendLanes; 4], task: Task, stream_type: usize, from: u64) -> Option<u64> {
+    debug_assert!(stream_type < 4);
+    debug_assert!(from <= 1 << 62);
+    let lanes = &types[stream_type];
+    let index = lanes.next_marked(task, index_from(stream_type, from))?;
+    Some((index * 4 + stream_type) as u64)
+}
+
+/// The least number from one on of a stream whose half has something of a task.
+pub(super) fn next_with(types: &[SendLanes; 4], task: Task, from: u64) -> Option<StreamId> {
+    debug_assert!(from <= 1 << 62);
+    let bidi = least(
+        next_with_of(types, task, 0, from),
+        next_with_of(types, task, 1, from),
+    );
+    let uni = least(
+        next_with_of(types, task, 2, from),
+        next_with_of(types, task, 3, from),
+    );
+    match least(bidi, uni) {
+        Some(number) => StreamId::new(number),
+        None => None,
+    }
+}
+
+/// The least such number among the streams of a type.
+pub(super) fn next_with_of(
+    types: &[SendLanes; 4],
+    task: Task,
+    stream_type: usize,
+    from: u64,
+) -> Option<u64> {
+    debug_assert!(stream_type < 4);
+    debug_assert!(from <= 1 << 62);
+    let lanes = &types[stream_type];
+    match lanes.next_with(task, index_from(stream_type, from)) {
+        Some(index) => Some((index * 4 + stream_type) as u64),
+        None => None,
+    }
+}

@@ -1,0 +1,22 @@
+// Made from crates/qs_ranges/src/bits.rt by rust/erase; not edited by hand.
+//! Bits of a word.
+
+/// A word with one of its bits set or cleared.
+pub fn with_bit(word: u64, bit: usize, is_set: bool) -> u64 {
+    debug_assert!(bit < 64);
+    if is_set {
+        word | (1 << bit)
+    } else {
+        word & !(1 << bit)
+    }
+}
+
+/// The least bit that is set, from one on.
+pub fn lowest_bit(word: u64, from: usize) -> Option<usize> {
+    debug_assert!(from < 64);
+    let rest = word >> from;
+    if rest == 0 {
+        return None;
+    }
+    Some(from + rest.trailing_zeros() as usize)
+}
