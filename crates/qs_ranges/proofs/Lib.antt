@@ -14,3 +14,4 @@ pub mod Pieces
 pub mod Found
 pub mod Sides
 pub mod OneWord
+pub mod Lengthened

@@ -24,6 +24,47 @@ pub(crate) fn insert_many(
     ensures err { OnErr result (runs_of blocks.new.items few.new ≡ all_runs blocks.old.items) }
     ensures touches_none { OnErr result ((n : ℕ) → lo - 1 ≤ n → n < hi + 1 → has_number (all_runs blocks.old.items) n ≡ false) }
 {
+    if lengthen_last(blocks, lo, hi) {
+        *few = Few::Empty;
+        return Ok(());
+    }
+    insert_anywhere(few, blocks, lo, hi)
+}
+
+// Makes the last run longer by a range that begins behind its first number and touches it, if the range does: packet numbers mostly
+// rise by one. It searches nothing and moves nothing.
+#[inline]
+fn lengthen_last(blocks: &mut Vec<Block>, lo: u64, hi: u64) -> bool
+    requires apart { AreApart (all_runs blocks.old.items) }
+    requires bound { All (λ run. run.1 ≤ 2 ^ 62) (all_runs blocks.old.items) }
+    requires some { lo < hi }
+    requires within { hi ≤ 2 ^ 62 }
+    ensures longer { result ≡ true → IsEdit (all_runs blocks.new.items) (2 ^ 62) (with_range (all_runs blocks.old.items) lo hi) }
+    ensures same { result ≡ false → blocks.new.items ≡ blocks.old.items }
+{
+    let count = blocks.len();
+    if count == 0 {
+        return false;
+    }
+    let at = blocks[count - 1].len() - 1;
+    let (start, end) = blocks[count - 1].run(at);
+    if lo <= start || end < lo {
+        return false;
+    }
+    blocks[count - 1].replace(at, at + 1, (start, hi.max(end)));
+    true
+}
+
+// Adds a range to the runs of blocks, wherever it goes.
+fn insert_anywhere(few: &mut Few, blocks: &mut Vec<Block>, lo: u64, hi: u64) -> Result<(), NoMemory>
+    requires apart { AreApart (all_runs blocks.old.items) }
+    requires bound { All (λ run. run.1 ≤ 2 ^ 62) (all_runs blocks.old.items) }
+    requires some { lo < hi }
+    requires within { hi ≤ 2 ^ 62 }
+    ensures ok { OnOk result (IsEdit (runs_of blocks.new.items few.new) (2 ^ 62) (with_range (all_runs blocks.old.items) lo hi)) }
+    ensures err { OnErr result (runs_of blocks.new.items few.new ≡ all_runs blocks.old.items) }
+    ensures touches_none { OnErr result ((n : ℕ) → lo - 1 ≤ n → n < hi + 1 → has_number (all_runs blocks.old.items) n ≡ false) }
+{
     *few = Few::Empty;
     let span = span_of(blocks, lo, hi + 1);
     if !span.some {

@@ -67,6 +67,14 @@ number_len bytes v after e =
     let len : s.0.1 ≡ length bytes - length after = omega (arith, varint_within bytes s.0 s.1, length-drop s.0.1 bytes, ap (λ (y : ℕ × List ℕ). length y.1) s.2) in
     s.1 ∙ ap (λ (k : ℕ). Some (k, s.0.1)) first ∙ ap (λ (n : ℕ). Some (v, n)) len
 
+pub number_rest : (bytes : List ℕ) (v : ℕ) (after : List ℕ) → number_at bytes ≡ Ok (v, after) → after ≡ drop (length bytes - length after) bytes
+unfolding number_at
+number_rest bytes v after e =
+    let s = split_is (varint_at bytes) bytes (v, after) e in
+    let is : drop s.0.1 bytes ≡ after = ap (λ (y : ℕ × List ℕ). y.1) s.2 in
+    let len : s.0.1 ≡ length bytes - length after = omega (arith, varint_within bytes s.0 s.1, length-drop s.0.1 bytes, ap length is) in
+    sym is ∙ ap (λ (n : ℕ). drop n bytes) len
+
 pub number_none : (bytes : List ℕ) (kind : FaultKind) → number_at bytes ≡ Err kind → varint_at bytes ≡ None
 unfolding number_at
 number_none bytes kind e = at (varint_at bytes) e

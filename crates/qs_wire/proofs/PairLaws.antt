@@ -1,8 +1,7 @@
 -- The numbers that spell ranges, and the ranges that numbers spell.
-use Rattle.std.proofs.Common.{◌≡◌, ℕ, zero, suc, get_or, ◌+◌, ◌-◌, ◌*◌, ◌/◌, ◌^◌, ◌<◌, ◌≤◌, List, [], ◌∷◌, ◌++◌, length, map, take, drop, refl, sym, ap, subst, ◌∙◌, append_assoc, arith, inl, inr}
+use Rattle.std.proofs.Common.{◌≡◌, ℕ, zero, suc, get_or, ◌+◌, ◌-◌, ◌*◌, ◌/◌, ◌^◌, ◌<◌, ◌≤◌, List, [], ◌∷◌, ◌++◌, length, map, take, drop, refl, sym, ap, ◌∙◌, append_assoc, arith}
 use Rattle.std.specs.List.{flat_map, AllByRecursion}
-use Rattle.std.proofs.lemmas.Bool.{cases_lt}
-use Rattle.std.proofs.lemmas.List.{append-nil, length-append, length-drop, length-take-le, take_more, take_all}
+use Rattle.std.proofs.lemmas.List.{append-nil, length-append, length-drop, length-take-le, take_more}
 use Rattle.std.proofs.lemmas.List.Concat.{flat_map-append}
 use Rattle.qs_wire.specs.Varint.{short}
 use Rattle.qs_wire.specs.Layout.{taken, ack_ranges_of}
@@ -90,13 +89,6 @@ text_grows smallest ps i n le =
       length-append (text_below smallest (take i ps)) (text_below (last_below smallest (take i ps)) more),
     )
 
-pub text_within : (smallest : ℕ) (ps : List (ℕ × ℕ)) (i : ℕ) → length (text_below smallest (take i ps)) ≤ length (text_below smallest ps)
-text_within smallest ps i =
-    elim (cases_lt i (length ps)) [
-      | inl lt ↦ omega (arith, text_grows smallest ps i (length ps) (omega arith), ap (λ (qs : List (ℕ × ℕ)). length (text_below smallest qs)) (take_all (length ps) ps (omega arith)))
-      | inr le ↦ omega (arith, ap (λ (qs : List (ℕ × ℕ)). length (text_below smallest qs)) (take_all i ps le))
-    ]
-
 -- where a range lies
 pub lies_below : (smallest : ℕ) (ps : List (ℕ × ℕ)) (i : ℕ) (d : ℕ × ℕ) → AreApartBelow smallest ps → i < length ps → LiesBelow (last_below smallest (take i ps)) (get_or ps i d)
 lies_below smallest [] i d h lt = absurd (omega arith)
@@ -107,11 +99,6 @@ pub last_le : (smallest : ℕ) (ps : List (ℕ × ℕ)) (i : ℕ) → AreApartBe
 last_le smallest ps zero h = omega arith
 last_le smallest [] (suc i) h = omega arith
 last_le smallest (p ∷ ps) (suc i) h = omega (arith, last_le p.0 ps i h.2, h.0, h.1)
-
-pub apart_take : (smallest : ℕ) (ps : List (ℕ × ℕ)) (i : ℕ) → AreApartBelow smallest ps → AreApartBelow smallest (take i ps)
-apart_take smallest ps zero h = tt
-apart_take smallest [] (suc i) h = tt
-apart_take smallest (p ∷ ps) (suc i) h = (h.0, h.1, apart_take p.0 ps i h.2)
 
 -- ---- the text of an ACK
 
@@ -171,10 +158,6 @@ pub length-ack_take : (delay : ℕ) (pairs others : List (ℕ × ℕ)) (k : ℕ)
 length-ack_take delay pairs others k h is le =
     let few : k < 64 = omega (arith, h.few, ap length is, length-drop 1 pairs) in
     omega (arith, ap length (ack_take delay pairs others k h.some is le), length-append (first_text delay (top pairs) k) (text_below (top pairs).0 (take k others)), length-first_text delay (top pairs) k few)
-
-pub apart_others : (pairs others : List (ℕ × ℕ)) (k : ℕ) → AreAckPairs pairs → others ≡ drop 1 pairs → AreApartBelow (top pairs).0 (take k others)
-apart_others [] others k h is = absurd (omega (arith, h.some))
-apart_others (p ∷ ps) others k h is = subst (λ (qs : List (ℕ × ℕ)). AreApartBelow p.0 (take k qs)) (sym is) (apart_take p.0 ps k h.apart.2)
 
 -- ---- the ranges of an ACK
 

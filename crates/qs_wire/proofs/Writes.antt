@@ -43,6 +43,15 @@ Puts-front text old new p = p.is ∙ ap (λ (n : ℕ). text ++ drop n old) (omeg
 pub Puts-at_front : (text old new : List ℕ) → length text ≤ length old → new ≡ text ++ drop (length text) old → Puts 0 text old new
 Puts-at_front text old new le e = record { room = omega arith; is = e ∙ ap (λ (n : ℕ). text ++ drop n old) (omega arith) }
 
+-- what is written at the front, before what was written behind it
+pub Puts-before : (at : ℕ) (first text old mid new : List ℕ) → length first ≡ at → Puts at text old mid → new ≡ first ++ drop at mid → new ≡ (first ++ text) ++ drop (length (first ++ text)) old
+Puts-before at first text old mid new len p is =
+    let rest = text ++ drop (at + length text) old in
+    let front : length (take at old) ≡ at = length-take-le at old (omega (arith, p.room)) in
+    let here : drop at mid ≡ rest = ap (drop at) p.is ∙ drop_at (take at old) rest at front in
+    is ∙ ap (λ (t : List ℕ). first ++ t) here ∙ sym (append_assoc first text (drop (at + length text) old))
+    ∙ ap (λ (n : ℕ). (first ++ text) ++ drop n old) (omega (arith, length-append first text, len))
+
 -- one byte counts an identifier
 pub identifier_text : (v : List ℕ) → IsIdentifierLength (length v) → short (length v) ++ v ≡ length v ∷ v
 identifier_text v h = ap (λ (t : List ℕ). t ++ v) (short_byte (length v) (omega (arith, h.1)))

@@ -1,15 +1,15 @@
 //! The ranges of an ACK frame (RFC 9000, section 19.3.1).
 
-ghost use Rattle.std.specs.Prelude.{◌≡◌, ℕ, ◌+◌, ◌-◌, ◌^◌, ◌<◌, ◌≤◌, [], ◌∷◌, ◌++◌, length, take, drop, MatchOption, IfSome, IfOk, IfErr};
+ghost use Rattle.std.specs.Prelude.{◌≡◌, ℕ, ◌+◌, ◌-◌, ◌^◌, ◌<◌, ◌≤◌, true, false, [], ◌∷◌, ◌++◌, length, take, drop, MatchOption, IfSome, IfOk, IfErr};
 ghost use Rattle.std.specs.List.{flat_map};
-ghost use Rattle.qs_wire.specs.Varint.{short, numbers_of};
+ghost use Rattle.qs_wire.specs.Varint.{short, short_len, numbers_of};
 ghost use Rattle.qs_wire.specs.Layout.{ack_ranges_of};
 ghost use Rattle.qs_wire.specs.Grammar.{canonical};
 ghost use Rattle.qs_wire.specs.Writing.{Puts};
 ghost use Rattle.qs_wire.specs.Acks.{LiesBelow, AreApartBelow, AreAckPairs, gaps_below, ack_of};
 
 use crate::fault::Full;
-use crate::varint::{read_varint, varint_len};
+use crate::varint::{number_at, varint_len};
 use crate::writing::{put_number, put_numbers};
 use std::marker::Model;
 
@@ -52,14 +52,13 @@ impl<'a> AckRanges<'a> {
         ensures ordered { IfSome result (λ range. (range.0 ≤ range.1) × (range.1 < 2 ^ 62)) }
     {
         let largest = self.largest;
-        let Some((len, used)) = read_varint(self.rest) else {
-            return None;
+        let (len, rest) = match number_at(self.rest) {
+            Ok(read) => read,
+            Err(_) => return None,
         };
-        let (_, rest) = self.rest.split_at(used);
         let smallest = largest.saturating_sub(len);
         self.rest = rest;
-        if let Some((gap, used)) = read_varint(rest) {
-            let (_, after) = rest.split_at(used);
+        if let Ok((gap, after)) = number_at(rest) {
             self.largest = smallest.saturating_sub(gap + 2);
             self.rest = after;
         }
@@ -79,46 +78,43 @@ fn gap_and_length(above: u64, pair: (u64, u64)) -> (u64, u64)
     (above - end - 1, end - 1 - start)
 }
 
-/// How many of the ranges below a number fit the room, and how many bytes they take.
-fn ranges_within(smallest: u64, pairs: &[(u64, u64)], room: usize) -> (usize, usize)
+/// Whether the shortest spellings of two numbers fit the room. They are measured only where it is scarce.
+#[inline]
+fn two_fit(a: u64, b: u64, room: usize) -> bool
+    requires small { (a < 2 ^ 62) × (b < 2 ^ 62) }
+    ensures fit { result ≡ true → short_len a + short_len b ≤ room }
+    ensures over { result ≡ false → room < short_len a + short_len b }
+{
+    if room >= 16 {
+        return true;
+    }
+    varint_len(a) + varint_len(b) <= room
+}
+
+/// Writes as many of the ranges below a number as fit, at a place, and answers how many these are and the place after them.
+fn put_ranges(smallest: u64, pairs: &[(u64, u64)], at: usize, out: &mut [u8]) -> (usize, usize)
     requires apart { AreApartBelow smallest pairs.now }
     requires below { smallest ≤ 2 ^ 62 }
+    requires room { at ≤ length out.old }
     ensures count { result.0 ≤ length pairs.now }
-    ensures len { result.1 ≡ length (flat_map short (gaps_below smallest (take result.0 pairs.now))) }
-    ensures within { result.1 ≤ room }
-    ensures most { (n : ℕ) → result.0 < n → n ≤ length pairs.now → room < length (flat_map short (gaps_below smallest (take n pairs.now))) }
+    ensures next { result.1 ≡ at + length (flat_map short (gaps_below smallest (take result.0 pairs.now))) }
+    ensures puts { Puts at (flat_map short (gaps_below smallest (take result.0 pairs.now))) out.old out.new }
+    ensures most { (n : ℕ) → result.0 < n → n ≤ length pairs.now → length out.old < at + length (flat_map short (gaps_below smallest (take n pairs.now))) }
 {
     let mut above = smallest;
     let mut count = 0;
-    let mut len = 0;
-    for pair in pairs {
-        let (gap, range) = gap_and_length(above, *pair);
-        let more = varint_len(gap) + varint_len(range);
-        if more > room - len {
-            return (count, len);
-        }
-        count += 1;
-        len += more;
-        above = pair.0;
-    }
-    (count, len)
-}
-
-/// Writes the ranges below a number, at a place.
-fn put_ranges(smallest: u64, pairs: &[(u64, u64)], at: usize, out: &mut [u8])
-    requires apart { AreApartBelow smallest pairs.now }
-    requires below { smallest ≤ 2 ^ 62 }
-    requires room { at + length (flat_map short (gaps_below smallest pairs.now)) ≤ length out.old }
-    ensures { Puts at (flat_map short (gaps_below smallest pairs.now)) out.old out.new }
-{
-    let mut above = smallest;
     let mut next = at;
     for pair in pairs {
         let (gap, range) = gap_and_length(above, *pair);
+        if !two_fit(gap, range, out.len() - next) {
+            return (count, next);
+        }
         next = put_number(gap, next, out);
         next = put_number(range, next, out);
+        count += 1;
         above = pair.0;
     }
+    (count, next)
 }
 
 const ACK: u64 = 0x02;
@@ -143,9 +139,7 @@ pub fn put_ack(pairs: &[(u64, u64)], delay: u64, out: &mut [u8]) -> Result<(usiz
     if first > out.len() {
         return Err(Full);
     }
-    let (count, len) = ranges_within(start, others, out.len() - first);
+    let (count, next) = put_ranges(start, others, first, out);
     put_numbers(&[ACK, end - 1, delay, count as u64, end - 1 - start], out);
-    let (fitting, _) = others.split_at(count);
-    put_ranges(start, fitting, first, out);
-    Ok((count + 1, first + len))
+    Ok((count + 1, next))
 }

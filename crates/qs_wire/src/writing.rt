@@ -72,6 +72,7 @@ impl<'a> Part<'a> {
 }
 
 /// Writes a number at a place, and answers the place after it.
+#[inline]
 pub(crate) fn put_number(value: u64, at: usize, out: &mut [u8]) -> usize
     requires below { value < 2 ^ 62 }
     requires room { at + length (short value) ≤ length out.old }

@@ -2,7 +2,6 @@ use Rattle.std.proofs.Common.{◌≡◌, ◌+◌, ◌++◌, ℕ, length, sym, ap
 use Rattle.std.proofs.lemmas.List.{length-append}
 use Rattle.qs_wire.specs.Varint.{short}
 use Rattle.qs_wire.specs.Writing.{Puts}
-use Rattle.qs_wire.proofs.Numbers.{length-short}
 use Rattle.qs_wire.proofs.Writes.{Puts-then}
 use Rattle.qs_wire.proofs.writing.put_pieces.Goals as goal
 

@@ -3,7 +3,7 @@ use Rattle.qs_ranges.specs.Runs.{IsSpan, start_at, end_at}
 use Rattle.qs_ranges.specs.Blocks.{all_runs, place, IsFound}
 use Rattle.qs_ranges.proofs.Found.{is_false, is_true, read_ends}
 use Rattle.qs_ranges.proofs.Sides.{no_value, put_apart, put_nowhere, put_over}
-use Rattle.qs_ranges.proofs.changes.insert_many.Goals as goal
+use Rattle.qs_ranges.proofs.changes.insert_anywhere.Goals as goal
 
 pub returns-then-not-span-clause-ok : goal.returns-then-not-span-clause-ok
 returns-then-not-span-clause-ok c =
