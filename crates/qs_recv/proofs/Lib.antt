@@ -10,6 +10,7 @@ pub mod RingCount
 pub mod RingLaws
 pub mod RingMoved
 pub mod RingPlaces
+pub mod RingReached
 pub mod RingShrunk
 pub mod RingTurned
 pub mod SameAgain

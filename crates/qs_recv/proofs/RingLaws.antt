@@ -4,7 +4,7 @@
 --     front_next, rest_next       what a read copies out and leaves
 --     IsPut       the ring before a put, with its memory taken, and with the bytes in its gaps
 --     put_stored, put_unseen       what a put stores, and that nothing shows before the offsets are noted
-use Rattle.std.specs.Prelude.{◌≡◌, ℕ, ◌+◌, ◌-◌, ◌/◌, ◌%◌, ◌^◌, ◌<◌, ◌≤◌, zero, suc, Bool, true, false, not, cond, if◌then◌else◌, ◌&&◌, ◌||◌, max, min, nat_eq, nat_le, nat_lt, List, [], ◌++◌, length, take, drop, slice_get, slice_index, Option, None, Some, is_some, Result, Ok, Err, OnOk, OnErr, refl}
+use Rattle.std.specs.Prelude.{◌≡◌, ℕ, ◌+◌, ◌-◌, ◌*◌, ◌/◌, ◌%◌, ◌^◌, ◌<◌, ◌≤◌, zero, suc, Bool, true, false, not, cond, if◌then◌else◌, ◌&&◌, ◌||◌, max, min, nat_eq, nat_le, nat_lt, List, [], ◌++◌, length, take, drop, slice_get, slice_index, Option, None, Some, is_some, Result, Ok, Err, OnOk, OnErr, refl}
 use Rattle.std.proofs.Common.{sym, ◌∙◌, ap, arith, inl, inr}
 use Rattle.std.specs.Int.{IsPowerOfTwo}
 use Rattle.std.specs.Ordering.{nat_cmp}
@@ -541,18 +541,6 @@ size_fits span window power least size two reaches near least_is size_is fits =
 pub sized_empty : (r : NumberSet) (from end stored window : ℕ) (off : Bool) → window ≤ 2 ^ 20 → (off ≡ false → end ≡ end_of r) → IsSized r 0 from end stored window off
 sized_empty r from end stored window off small ends = record { small_window = small; within = omega arith; bound = omega arith; idle = λ none. omega arith; ends = ends }
 
-pub sized_same : (r : NumberSet) (size new from end stored window : ℕ) (off : Bool) → IsSized r size from end stored window off → new ≡ size → IsSized r new from end stored window off
-sized_same r size new from end stored window off h is =
-    let bound = h.bound in
-    let within = h.within in
-    record {
-      small_window = h.small_window;
-      within = omega (arith, within, is);
-      bound = omega (arith, bound, is);
-      idle = λ none. (let idle = h.idle none in omega (arith, idle, is));
-      ends = h.ends;
-    }
-
 -- more came, and is noted at the end
 pub sized_more : (r s : NumberSet) (size new from end last stored count window : ℕ) (off : Bool) → IsSized r size from end stored window off → new ≡ size → (off ≡ false → last ≡ end_of (set.union r s))
     → IsSized (set.union r s) new from last (stored + count) window off
@@ -580,17 +568,16 @@ count_some r first n missing some =
 pub end_more : (r : NumberSet) (offset n end last : ℕ) → end ≡ end_of r → 0 < n → last ≡ max end (offset + n) → last ≡ end_of (with_run r offset n)
 end_more r offset n end last is some last_is = let ends = end_of-with_range r offset (offset + n) (omega arith) in omega (arith, is, last_is, ends)
 
-pub sized_grown : (r : NumberSet) (offset n from first size new last stored count window : ℕ) → IsSizeFor (offset + n - from) window size → IsLeastMissingFrom r (max offset from) first → first < offset + n → 0 < n → window ≤ 2 ^ 20
-    → new ≡ size → count ≡ missing_count r first (offset + n - first) → last ≡ end_of (with_run r offset n) → IsSized (with_run r offset n) new from last (stored + count) window false
-sized_grown r offset n from first size new last stored count window h least below some small is count_is ends =
+pub sized_grown : (r : NumberSet) (offset n from first size new last end stored count window : ℕ) → IsSized r size from end stored window false → new ≤ window → new ≤ max size (max 4096 (2 * (offset + n - from)))
+    → IsLeastMissingFrom r (max offset from) first → first < offset + n → 0 < n → count ≡ missing_count r first (offset + n - first) → last ≡ end_of (with_run r offset n) → IsSized (with_run r offset n) new from last (stored + count) window false
+sized_grown r offset n from first size new last end stored count window h within fits least below some count_is ends =
     let bound = h.bound in
-    let within = h.within in
     let more = end_of-with_range r offset (offset + n) (omega (arith, some)) in
     let new_one = count_some r first (offset + n - first) least.missing (omega (arith, below)) in
     record {
-      small_window = small;
-      within = omega (arith, within, is);
-      bound = omega (arith, bound, more, is);
+      small_window = h.small_window;
+      within = within;
+      bound = omega (arith, bound, more, fits);
       idle = λ none. absurd (omega (arith, none, new_one, count_is));
       ends = λ _. ends;
     }

@@ -4,6 +4,7 @@
 --     part_at, out_at      so many of them, in one piece or in two
 --     moved_down, rotated      these at the front
 --     begun      a ring that begins with these
+--     turned_by, turned_by_less, stayed      a ring that grew where it stands
 --     is_once, is_twice      bytes that are held against those at their places
 use Rattle.std.specs.Prelude.{◌≡◌, ℕ, ◌+◌, ◌-◌, ◌%◌, ◌/◌, ◌*◌, ◌<◌, ◌≤◌, true, false, Bool, if◌then◌else◌, List, ◌++◌, length, take, drop, replicate, slice_index, slice_index_or, min, refl, ◌⊎◌}
 use Rattle.std.proofs.Common.{sym, ◌∙◌, ap, arith, inl, inr, length-drop}
@@ -317,6 +318,37 @@ is_twice at turn size place room kept bytes front back r s pos turned within pla
           ap (λ xs. slice_index xs k) back_is ∙ get_or-drop room bytes k 0 ∙ all (room + k) (omega (arith, below, back_len))
           ∙ there_back at turn size place (room + k) kept pos turned within place_is (omega (arith, below, back_len, fits)) (omega (arith, rest, start)) ∙ ap (slice_index kept) back_k),
     )
+
+-- A ring that grew where it stands
+
+pub turned_by : (place from size part : ℕ) → place < size → part ≡ from % size → place + (size - part) ≤ size → place ≡ (from + (place + (size - part))) % size
+turned_by place from size part within is fits =
+    let pos : 0 < size = omega (arith, within) in
+    let a = mod_below from size pos in
+    let b = mod_below (from + (place + (size - part))) size pos in
+    elim (place_on from (place + (size - part)) size pos fits) [
+      | inl on ↦ omega (arith, a, b, on, is, within)
+      | inr around ↦ omega (arith, a, b, around, is, within)
+    ]
+
+pub turned_by_less : (place from size part : ℕ) → place < size → part ≡ from % size → size < place + (size - part) → place ≡ (from + (place + (size - part) - size)) % size
+turned_by_less place from size part within is over =
+    let pos : 0 < size = omega (arith, within) in
+    let a = mod_below from size pos in
+    let b = mod_below (from + (place + (size - part) - size)) size pos in
+    elim (place_on from (place + (size - part) - size) size pos (omega (arith, within, a, is))) [
+      | inl on ↦ omega (arith, a, b, on, is, within, over)
+      | inr around ↦ omega (arith, a, b, around, is, within, over)
+    ]
+
+pub stayed : (from turn size place count v start : ℕ) (bytes kept : List ℕ) → 0 < size → turn ≤ size → length bytes ≤ size → place ≡ (from + turn) % size → place + count ≤ size
+    → size ≤ v → start ≤ v → place ≡ (from + start) % v → kept ≡ bytes → IsMoved from count (places_of turn size bytes) (places_of start v kept)
+stayed from turn size place count v start bytes kept pos turned within place_is fits more start_fits start_is same q low high =
+    let at : from + (q - from) ≡ q = omega (arith, low) in
+    let old = there_front from turn size place (q - from) bytes pos turned within place_is (omega (arith, low, high, fits)) in
+    let new = there_front from start v place (q - from) kept (omega (arith, pos, more)) start_fits (rw same (omega (arith, within, more))) start_is (omega (arith, low, high, fits, more)) in
+    ap (λ n. slice_index (places_of start v kept) (n % length (places_of start v kept))) (sym at) ∙ new ∙ ap (λ xs. slice_index xs (place + (q - from))) same
+    ∙ sym old ∙ ap (λ n. slice_index (places_of turn size bytes) (n % length (places_of turn size bytes))) at
 
 -- Zeros
 

@@ -3,7 +3,7 @@
 --     padded, places_of, IsKept, around      the bytes that a ring keeps, and those of its places
 --     ring_bytes, stored_in_ring      each byte under its offset
 --     IsRing, IsSized       what holds of a ring assembly's fields at all times
---     IsSizeFor, IsMoved      a ring of another size
+--     IsSizeFor, IsMoved, IsReach      a ring of another size
 --     missing_count      how many offsets didn't come
 --     IsNextRun, IsNextGap      where the next offsets that came begin, and where they end, and the same for those that didn't
 --     IsInRing       bytes that stand at their places, as far as their offsets came
@@ -76,6 +76,14 @@ pub record IsSizeFor (span window size : ℕ) : Type 0 where
 -- a ring of another size has the bytes of so many offsets from `from` on
 abbrev pub IsMoved : ℕ → ℕ → List ℕ → List ℕ → Type 0
 IsMoved from count old new = (q : ℕ) → from ≤ q → q < from + count → slice_index new (q % length new) ≡ slice_index old (q % length old)
+
+-- a ring reaches so far past `from`, with the bytes of so many offsets, and is no larger than it was or is made to be
+pub record IsReach (from count span window : ℕ) (old new : List ℕ) : Type 0 where
+  pub reaches : span ≤ length new
+  pub more : length old ≤ length new
+  pub within : length new ≤ window
+  pub bound : length new ≤ max (length old) (max 4096 (2 * span))
+  pub moved : IsMoved from count old new
 
 -- how many of the n offsets from `from` on didn't come
 unfoldable pub missing_count : NumberSet → ℕ → ℕ → ℕ

@@ -1,5 +1,5 @@
 //! A ring of bytes of which only the written ones are kept, so that a new one needn't be filled.
-ghost use Rattle.std.specs.Prelude.{◌≡◌, if◌then◌else◌, ℕ, ◌+◌, ◌-◌, ◌%◌, ◌<◌, ◌≤◌, ◌^◌, [], ◌++◌, max, min, length, slice_index, IsTrue, ◌↔◌, IfOk, vec_len, vec_capacity};
+ghost use Rattle.std.specs.Prelude.{◌≡◌, if◌then◌else◌, ℕ, ◌+◌, ◌-◌, ◌%◌, ◌<◌, ◌≤◌, ◌^◌, [], ◌++◌, max, min, length, slice_index, IsTrue, ◌↔◌, IfOk, OnOk, OnErr, vec_len, vec_capacity};
 ghost use Rattle.qs_ranges.specs.Numbers.{is_within};
 ghost use Rattle.qs_recv.specs.Ring.{AreAt, IsMoved, IsWritten, around};
 
@@ -138,6 +138,40 @@ impl Ring {
         Ok(Ring { bytes, size, turn })
     }
 
+    /// Brings the ring to a larger size, with the bytes of so many offsets from `from` on: in memory that grows, where they keep
+    /// their place, unless they go around the ring's end.
+    #[inline(never)]
+    pub(crate) fn widen(
+        &mut self,
+        alloc: Global,
+        from: u64,
+        count: usize,
+        size: usize,
+    ) -> Result<(), NoMemory>
+        requires from_fits { from ≤ 2 ^ 62 }
+        requires some { 0 < size }
+        requires small { size ≤ 2 ^ 20 }
+        requires had { count ≤ length self.old }
+        requires more { length self.old ≤ size }
+        ensures len { OnOk result (length self.new ≡ size) }
+        ensures moved { OnOk result (IsMoved from count self.old self.new) }
+        ensures err { OnErr result (self.new ≡ self.old) }
+    {
+        if count == 0 {
+            *self = self.resized(alloc, from, count, size)?;
+            return Ok(());
+        }
+        let place = place_of(from + self.turn as u64, self.size);
+        if count > self.size - place {
+            *self = self.resized(alloc, from, count, size)?;
+            return Ok(());
+        }
+        self.bytes.reserve_exact(size - self.bytes.len())?;
+        self.size = size;
+        self.turn = turn_to(place, from, size);
+        Ok(())
+    }
+
     /// Brings the ring to a smaller size in place, with the bytes of so many offsets from `from` on.
     pub(crate) fn narrow(&mut self, from: u64, count: usize, size: usize)
         requires from_fits { from ≤ 2 ^ 62 }
@@ -167,6 +201,18 @@ fn place_of(at: u64, size: usize) -> usize
     } else {
         (at % size as u64) as usize
     }
+}
+
+// How far the places of a ring of that size lie further on, that an offset has the given one.
+#[tactic(auto, using(crate::proofs::RingTurned::turned_by, crate::proofs::RingTurned::turned_by_less))]
+fn turn_to(place: usize, from: u64, size: usize) -> usize
+    requires small { size ≤ 2 ^ 20 }
+    requires within { place < size }
+    ensures turned { result ≤ size }
+    ensures there { place ≡ (from + result) % size }
+{
+    let turn = place + (size - place_of(from, size));
+    if turn <= size { turn } else { turn - size }
 }
 
 // Makes that so many bytes from a place on are kept. Those that never were written are zero.
@@ -245,6 +291,7 @@ fn copied(
 }
 
 // Writes bytes from a place on, behind zeros where none were written before it.
+#[inline(always)]
 fn write_over(into: &mut Vec<u8>, place: usize, bytes: &[u8])
     requires { place + length bytes.now ≤ vec_capacity into.old }
     ensures len { vec_len into.new ≤ max (vec_len into.old) (place + length bytes.now) }

@@ -65,7 +65,7 @@ invariant_of-self c =
     (shed_is s.received s.ring new (s.read_count + n) (s.stored - n) (s.end - (s.read_count + n)) after (ap (λ e. e - (s.read_count + n)) (sized.ends refl)) (rw c.copy_out.ensures.same at c.shed.ensures.fewer) c.shed.ensures.reaches (rw c.copy_out.ensures.same at c.shed.ensures.moved)) in
     rw c.if-self.false (
       now,
-      sized_shed s.received new (length s.ring) (length new) s.read_count (s.read_count + n) s.end s.stored (s.stored - n) s.window sized now (rw c.copy_out.ensures.same at c.shed.ensures.fewer) c.shed.ensures.bound,
+      sized_shed s.received new (length s.ring) (length new) s.read_count (s.read_count + n) s.end s.stored (s.stored - n) s.window sized now (let wide = sized.within in let fewer = rw c.copy_out.ensures.same at c.shed.ensures.fewer in omega (arith, wide, fewer)) c.shed.ensures.bound,
     )
 
 pub returns-clause-count : goal.returns-clause-count
