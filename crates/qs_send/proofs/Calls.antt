@@ -17,7 +17,7 @@ use Rattle.qs_send.proofs.Steps.{lawful_write, lawful_reset, lawful_sent, lawful
 
 -- What isn't refused
 
-not_refused : (r f : Bool) → (if r then Some WasReset else (if f then Some Finished else None)) ≡ None → (r ≡ false) × (f ≡ false)
+pub not_refused : (r f : Bool) → (if r then Some WasReset else (if f then Some Finished else None)) ≡ None → (r ≡ false) × (f ≡ false)
 not_refused true f e = absurd (cc)
 not_refused false true e = absurd (cc)
 not_refused false false e = (refl, refl)

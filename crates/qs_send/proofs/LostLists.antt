@@ -1,5 +1,5 @@
 -- Records in a list that rises by number: what the map holds, and what each edit of the list makes of it.
-use Rattle.std.proofs.Common.{◌≡◌, ◌∙◌, ℕ, zero, suc, ◌+◌, ◌<◌, ◌≤◌, Bool, true, false, cond, nat_eq, List, [], ◌∷◌, ◌++◌, length, Option, None, Some, Result, Ok, Err, IsOk, IfOk, IfErr, drop, refl, sym, ap, arith, inl, inr, ◌⊎◌, subst, slice_set, slice_index_or}
+use Rattle.std.proofs.Common.{◌≡◌, ◌∙◌, ℕ, zero, suc, ◌+◌, ◌-◌, ◌<◌, ◌≤◌, Bool, true, false, cond, nat_eq, List, [], ◌∷◌, ◌++◌, length, Option, None, Some, Result, Ok, Err, IsOk, IfOk, IfErr, drop, refl, sym, ap, arith, inl, inr, ◌⊎◌, subst, slice_set, slice_index_or}
 use Rattle.std.specs.List.{insert, remove}
 use Rattle.std.specs.List.Sorted.{IsSearchInRange, IsBinarySearchResult}
 use Rattle.std.specs.Option.{is_some}
@@ -205,6 +205,20 @@ cut_by n low (r ∷ rs) (suc k) h le before behind =
     let same : x.0.number ≡ (slice_index_or (r ∷ rs) k x.0).number = ap (λ y. y.number) x.1 in
     let up : r.number ≤ (slice_index_or (r ∷ rs) k x.0).number = rises low (r ∷ rs) 0 k x.0 h (omega arith) (omega (arith, le)) in
     (omega (arith, up, same, x.2), cut_by n (r.number + 1) rs k h.2 (omega (arith, le)) (λ j is. before (suc j) (ap suc is)) (λ lt. behind (omega (arith, lt))))
+
+pub at_first : (n : ℕ) (rs : List Numbered) (x : Numbered) → 0 < length rs → x ≡ slice_index_or rs 0 x → x.number ≡ n → IsAt n rs 0
+at_first n [] x some of_x is = absurd (omega arith)
+at_first n (r ∷ rs) x some of_x is = sym is ∙ ap (λ y. y.number) of_x
+
+-- past the last record a number has none
+gap_end : (n : ℕ) (rs : List Numbered) → IsCut n rs (length rs) → IsGapAt n rs (length rs)
+gap_end n [] h = tt
+gap_end n (r ∷ rs) h = (h.0, gap_end n rs h.1)
+
+pub gap_past : (n : ℕ) (rs : List Numbered) (k : ℕ) (x : Numbered) → AreRising 0 rs → k ≡ length rs → 0 < k → x ≡ slice_index_or rs (k - 1) x → x.number < n → IsGapAt n rs k
+gap_past n rs k x rising is some of_x less =
+    let cut : IsCut n rs k = cut_by n 0 rs k rising (omega arith) (λ j at. let place : k - 1 ≡ j = omega arith in (x, subst (λ p. x ≡ slice_index_or rs p x) place of_x, less)) (λ more. absurd (omega arith)) in
+    subst (λ p. IsGapAt n rs p) (sym is) (gap_end n rs (subst (λ p. IsCut n rs p) is cut))
 
 -- without one before the place none is below
 none_before : (n low : ℕ) (rs : List Numbered) → AreRising low rs → IsCut n rs zero → (j : ℕ) → is_some (lookup j rs) ≡ true → n ≤ j

@@ -92,12 +92,12 @@ impl ByNumber {
         }
     }
 
-    /// Lets the record of a number go, if there is one.
+    /// Lets the record of a number go, if there is one. Its memory, if it is little, stays for the next one's pieces.
     pub(crate) fn remove(&mut self, number: u64)
         ensures { map_of self.new.records ≡ fmap.remove (map_of self.old.records) number }
     {
         if let Ok(place) = self.place_of(number) {
-            drop(self.records.remove(place));
+            self.spare = self.records.remove(place).emptied();
         }
     }
 
@@ -163,8 +163,30 @@ impl ByNumber {
         }
     }
 
-    // Where the record of a number is, or where it would go.
+    // Where the record of a number is, or where it would go: with no search past the last record and at the first, where a packet that
+    // is lost goes in mostly, and the oldest one out.
     fn place_of(&self, number: u64) -> Result<usize, usize>
+        ensures found { IfOk result (IsAt number self.now.records) }
+        ensures gap { IfErr result (IsGapAt number self.now.records) }
+        ensures is { is_ok result ≡ fmap.contains_key (map_of self.now.records) number }
+        ensures none { IfErr result (λ _. lookup number self.now.records ≡ None) }
+        ensures held { IfOk result (λ place. place < length self.now.records) }
+        ensures free { IfErr result (λ place. place ≤ length self.now.records) }
+    {
+        let records = &self.records;
+        let count = records.len();
+        if count > 0 && records[count - 1].number() < number {
+            return Err(count);
+        }
+        if count > 0 && records[0].number() == number {
+            return Ok(0);
+        }
+        self.search_for(number)
+    }
+
+    // The same by a search.
+    #[inline(never)]
+    fn search_for(&self, number: u64) -> Result<usize, usize>
         ensures found { IfOk result (IsAt number self.now.records) }
         ensures gap { IfErr result (IsGapAt number self.now.records) }
         ensures is { is_ok result ≡ fmap.contains_key (map_of self.now.records) number }

@@ -107,11 +107,8 @@ impl SendHalf {
         // Memory is taken only for bytes that are accepted.
         ensures grows { result ≡ Err SendFault.NoMemory → 0 < accepted self.old.lane (length bytes.now) }
     {
-        if self.was_reset() {
-            return Err(SendFault::WasReset);
-        }
-        if self.finished {
-            return Err(SendFault::Finished);
+        if let Some(fault) = self.refusal() {
+            return Err(fault);
         }
         let most = (self.room() as u64).min(MAX_VARINT - self.offsets.written());
         let len = bytes.len().min(most as usize);
@@ -132,11 +129,8 @@ impl SendHalf {
         ensures answer { result ≡ answer_of (refusal self.old.lane) }
         ensures after { self.new ≡ after_finish self.old }
     {
-        if self.was_reset() {
-            return Err(SendFault::WasReset);
-        }
-        if self.finished {
-            return Err(SendFault::Finished);
+        if let Some(fault) = self.refusal() {
+            return Err(fault);
         }
         self.finished = true;
         self.fin_noted = true;
@@ -339,15 +333,26 @@ impl SendHalf {
         self.offsets.held() as u64
     }
 
+    /// Why a write and a finish are refused, `None` where they aren't: `WasReset` after a reset, else `Finished` after `finish` (RFC 9000,
+    /// sections 2.4 and 3.1).
+    pub fn refusal(&self) -> Option<SendFault>
+        ensures { result ≡ refusal self.now.lane }
+    {
+        if self.was_reset() {
+            Some(SendFault::WasReset)
+        } else if self.finished {
+            Some(SendFault::Finished)
+        } else {
+            None
+        }
+    }
+
     /// Whether a write of one byte would be accepted, if there is memory for it: neither the end was asked for nor a reset made, and there
     /// is room (RFC 9000, sections 2.2, 2.4 and 3.1).
     pub fn is_writable(&self) -> bool
         ensures { result ≡ is_writable self.now.lane }
     {
-        if self.was_reset() {
-            return false;
-        }
-        if self.finished {
+        if self.refusal().is_some() {
             return false;
         }
         self.offsets.kept_len() < self.buffer && self.offsets.written() < MAX_VARINT

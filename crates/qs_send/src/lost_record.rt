@@ -6,6 +6,9 @@ use crate::piece::Piece;
 use qs_ranges::NoMemory;
 use std::marker::Model;
 
+// The memory for so many pieces goes from one record to the next.
+const FEW: usize = 4;
+
 /// The pieces of a packet in the order in which they were declared lost. The first `start` ones of the vector were let go.
 #[derive(Drop)]
 pub(crate) struct LostRecord {
@@ -81,6 +84,18 @@ impl LostRecord {
         ensures pieces { self.new.pieces ≡ self.old.pieces ++ piece ∷ [] }
     {
         hold(&mut self.pieces, piece);
+    }
+
+    /// The memory of the pieces, of which none is kept; none where it is for many, so that it doesn't stay for ever.
+    pub(crate) fn emptied(self) -> Vec<Piece>
+        ensures { result.items ≡ [] }
+    {
+        let mut pieces = self.pieces;
+        if pieces.capacity() > FEW {
+            return Vec::new(*pieces.allocator());
+        }
+        pieces.clear();
+        pieces
     }
 
     /// Lets the first piece go, of several.

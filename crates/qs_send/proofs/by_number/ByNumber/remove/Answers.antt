@@ -7,7 +7,7 @@ pub invariant_of-self : goal.invariant_of-self
 invariant_of-self c =
     let rs = c.self.inside.records.items in
     let place : IsAt c.args.number rs c.in-Ok.place = rw (← c.self.view_is) at c.in-Ok.ensures.found in
-    rw c.remove.ensures.items (rising-remove c.args.number 0 rs c.in-Ok.place c.self.invariant.0 place, c.self.invariant.1)
+    rw c.remove.ensures.items (rising-remove c.args.number 0 rs c.in-Ok.place c.self.invariant.0 place, c.emptied.ensures)
 
 pub returns-in-Ok : goal.returns-in-Ok
 returns-in-Ok c =

@@ -1,4 +1,5 @@
-use Rattle.std.proofs.Common.{arith, refl, sym}
+use Rattle.std.proofs.Common.{arith, refl, sym, ◌∙◌}
+use Rattle.qs_send.proofs.Calls.{not_refused}
 use Rattle.qs_send.proofs.Freed.{freed_open}
 use Rattle.qs_send.proofs.Steps.{lawful_write, write_nothing}
 use Rattle.qs_send.proofs.half.SendHalf.write.Goals as goal
@@ -7,29 +8,28 @@ pub invariant_of-self-2 : goal.invariant_of-self-2
 invariant_of-self-2 c =
     let h = c.self.invariant.0 in
     let room = rw (← c.self.view_is) at c.room.ensures in
-    let open_lane = rw (← c.self.view_is) at c.if-was_reset.ensures in
+    let told = rw (← c.self.view_is) at (sym c.refusal.ensures ∙ c.in_default.is) in
+    let (open_lane, unfinished) = not_refused _ _ told in
     let most = c.min-most.ensures in
     let len = c.min-len.ensures in
     let taken = c.split_at.ensures.front_len in
     let small = h.order.small in
     let buffered = h.bytes.buffered in
-    rw c.in_default.ensures.ok
-    (lawful_write _ _ (sym open_lane) c.if-self.false (omega (arith, taken, len, most, small)) (omega (arith, taken, len, most, room, buffered)) h, c.in_default.ensures.room (omega (arith, taken, len, most, room, buffered)) c.self.invariant.1, freed_open _ _ _ _ h (sym open_lane) c.if-self.false)
+    rw c.in_default-write.ensures.ok
+    (lawful_write _ _ open_lane unfinished (omega (arith, taken, len, most, small)) (omega (arith, taken, len, most, room, buffered)) h, c.in_default-write.ensures.room (omega (arith, taken, len, most, room, buffered)) c.self.invariant.1, freed_open _ _ _ _ h open_lane unfinished)
 
 pub returns-clause-accepted : goal.returns-clause-accepted
 returns-clause-accepted c =
-    let room = rw (← c.self.view_is) at c.room.ensures in
-    let open_lane = rw (← c.self.view_is) at c.if-was_reset.ensures in (
-      rw (← c.self.view_is, ← open_lane, c.if-self.false) refl,
+    let room = rw (← c.self.view_is) at c.room.ensures in (
+      sym c.refusal.ensures ∙ c.in_default.is,
       rw (← c.self.view_is, c.min-len.ensures, c.min-most.ensures, c.written.ensures.exact, room) refl,
-      rw (← c.self.view_is, c.in_default.ensures.ok, ← c.split_at.ensures.front, c.split_at.ensures.front_len) refl,
+      rw (← c.self.view_is, c.in_default-write.ensures.ok, ← c.split_at.ensures.front, c.split_at.ensures.front_len) refl,
     )
 
 pub returns-then-len-eq0-clause-accepted : goal.returns-then-len-eq0-clause-accepted
 returns-then-len-eq0-clause-accepted c =
-    let room = rw (← c.self.view_is) at c.room.ensures in
-    let open_lane = rw (← c.self.view_is) at c.if-was_reset.ensures in (
-      rw (← c.self.view_is, ← open_lane, c.if-self.false) refl,
+    let room = rw (← c.self.view_is) at c.room.ensures in (
+      sym c.refusal.ensures ∙ c.in_default.is,
       rw (← c.self.view_is, ← room, ← c.written.ensures.exact, ← c.min-most.ensures, ← c.min-len.ensures, c.if-len-eq0.true) refl,
       write_nothing _,
     )
