@@ -14,7 +14,7 @@ use Rattle.qs_ranges.proofs.Count.{len-run_starts}
 use Rattle.qs_wire.specs.Layout.{FrameValue, ack, ack_ranges_of}
 use Rattle.qs_wire.specs.Grammar.{Fits, canonical}
 use Rattle.qs_wire.specs.Acks.{AreAckPairs, AreApartBelow, gaps_below, ack_of, inclusive}
-use Rattle.qs_wire.proofs.PairLaws.{last_below, apart_take, ranges_of_pairs, ack_fits}
+use Rattle.qs_wire.proofs.PairLaws.{last_below, ranges_of_pairs, ack_fits}
 use Rattle.qs_send.specs.declared.piece.Piece.{Piece}
 use Rattle.qs_send.specs.declared.piece.Piece.TheVariants.{Data}
 use Rattle.qs_machine.specs.Ends.{End}
@@ -99,6 +99,11 @@ has_higher top (p ∷ ps) (suc n) j k a there le is =
 abbrev top_of : Runs → ℕ
 top_of [] = 0
 top_of (p ∷ ps) = p.1 - 1
+
+apart_take : (smallest : ℕ) (ps : Runs) (i : ℕ) → AreApartBelow smallest ps → AreApartBelow smallest (take i ps)
+apart_take smallest ps zero h = tt
+apart_take smallest [] (suc i) h = tt
+apart_take smallest (p ∷ ps) (suc i) h = (h.0, h.1, apart_take p.0 ps i h.2)
 
 -- an ACK of some ranges
 module _ (delay : ℕ) (old : End) (runs pairs : Runs) (is : AreRunsOf old.done runs) (highest : pairs ≡ reverse runs) (ok : AreAckPairs pairs) (due : old.ack_due ≡ true) (n : ℕ) (some : 0 < n) (within : n ≤ length pairs) where

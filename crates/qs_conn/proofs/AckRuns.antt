@@ -3,7 +3,7 @@ use Rattle.std.proofs.Common.{◌≡◌, ◌≢◌, ℕ, zero, suc, ◌+◌, ◌
 use Rattle.std.specs.Prelude.{reverse, flat_map, slice_get}
 use Rattle.std.specs.List.{filter}
 use Rattle.std.specs.FinMap as fmap
-use Rattle.std.proofs.lemmas.Bool.{both_ways, or_cases}
+use Rattle.std.proofs.lemmas.Bool.{both_ways, or_cases, and_parts, false_from_ne_true}
 use Rattle.std.proofs.lemmas.Bool.Decides.{nat_tests}
 use Rattle.std.specs.Option.{IfSome}
 use Rattle.qs_ranges.specs.declared.NoMemory.{NoMemory}
@@ -133,12 +133,9 @@ named_as [] k named = absurd named
 named_as (r ∷ rs) k (inl here) = let low = here.0 in let high = here.1 in grind (arith, nat_tests, low, high)
 named_as (r ∷ rs) k (inr later) = let rest = named_as rs k later in grind (arith, nat_tests, rest)
 
-within : (k low high : ℕ) → (nat_le low k && nat_le k high) ≡ true → (low ≤ k) × (k ≤ high)
-within k low high is = (grind (arith, nat_tests, is), grind (arith, nat_tests, is))
-
 as_named : (rs : List (ℕ × ℕ)) (k : ℕ) → is_named rs k ≡ true → IsNamed rs k
 as_named [] k is = absurd (both_ways false refl is)
-as_named (r ∷ rs) k is = elim (or_cases (nat_le r.0 k && nat_le k r.1) (is_named rs k) is) [ inl here ↦ inl (within k r.0 r.1 here) | inr later ↦ inr (as_named rs k later) ]
+as_named (r ∷ rs) k is = elim (or_cases (nat_le r.0 k && nat_le k r.1) (is_named rs k) is) [ inl here ↦ inl (grind (arith, nat_tests, here), grind (arith, nat_tests, here)) | inr later ↦ inr (as_named rs k later) ]
 
 ahead_as : (p : Passing) (k : ℕ) → IsAhead p k → is_ahead p k ≡ true
 ahead_as p k ahead = go ahead.1
@@ -148,28 +145,12 @@ ahead_as p k ahead = go ahead.1
     go (inr named) = let lt = ahead.0 in let is = named_as p.unread k named in grind (arith, nat_tests, is, lt)
 
 as_ahead : (p : Passing) (k : ℕ) → is_ahead p k ≡ true → IsAhead p k
-as_ahead p k is = (
-  below (nat_lt k p.below) refl is,
-  elim (or_cases (nat_le p.low k) (is_named p.unread k) (second (nat_lt k p.below) (nat_le p.low k || is_named p.unread k) is)) [ inl low ↦ inl (at_least p.low k low) | inr name ↦ inr (as_named p.unread k name) ],
-)
-  where
-    below : (b : Bool) → nat_lt k p.below ≡ b → (b && (nat_le p.low k || is_named p.unread k)) ≡ true → k < p.below
-    below true lt is = grind (arith, nat_tests, lt)
-    below false lt is = absurd (both_ways false refl is)
-
-    second : (a b : Bool) → (a && b) ≡ true → b ≡ true
-    second true b is = is
-    second false b is = absurd (both_ways false refl is)
-
-    at_least : (a b : ℕ) → nat_le a b ≡ true → a ≤ b
-    at_least a b is = grind (arith, nat_tests, is)
+as_ahead p k is =
+    let (before, rest) = and_parts (nat_lt k p.below) (nat_le p.low k || is_named p.unread k) is in
+    (grind (arith, nat_tests, before), elim (or_cases (nat_le p.low k) (is_named p.unread k) rest) [ inl low ↦ inl (grind (arith, nat_tests, low)) | inr name ↦ inr (as_named p.unread k name) ])
 
 not_ahead : (p : Passing) (k : ℕ) → (IsAhead p k → ⊥) → is_ahead p k ≡ false
-not_ahead p k not = go (is_ahead p k) refl
-  where
-    go : (b : Bool) → is_ahead p k ≡ b → is_ahead p k ≡ false
-    go true is = absurd (not (as_ahead p k is))
-    go false is = is
+not_ahead p k not = false_from_ne_true (is_ahead p k) (λ is. not (as_ahead p k is))
 
 -- The pass over an ACK
 

@@ -1,6 +1,6 @@
 -- What an end is asked: the next outstanding packet.
 use Rattle.std.proofs.Common.{◌≡◌, ℕ, ◌+◌, ◌<◌, ◌≤◌, Bool, true, false, max, None, Some, refl, sym, ◌∙◌, subst, arith, inl, inr}
-use Rattle.std.proofs.lemmas.Bool.{true≢false, cases_lt}
+use Rattle.std.proofs.lemmas.Bool.{true≢false, cases_lt, false_from_ne_true}
 use Rattle.std.specs.FinMap as fmap
 use Rattle.qs_send.specs.Records.{IsGreatest}
 use Rattle.qs_machine.specs.Ends.{Records}
@@ -31,11 +31,7 @@ next_step m from n before absent =
     )
 
 past_greatest : (m : Records) (end k : ℕ) → IsGreatest m end → end < k → fmap.contains_key m k ≡ false
-past_greatest m end k great lt = go (fmap.contains_key m k) refl
-  where
-    go : (b : Bool) → fmap.contains_key m k ≡ b → fmap.contains_key m k ≡ false
-    go true there = (let le = great.greatest k there in absurd (omega (arith, le, lt)))
-    go false absent = absent
+past_greatest m end k great lt = false_from_ne_true (fmap.contains_key m k) (λ there. (let le = great.greatest k there in omega (arith, le, lt)))
 
 pub next_end : (m : Records) (from n end : ℕ) → IsGreatest m end → end < n → (from ≤ n) × ((k : ℕ) → from ≤ k → k < n → fmap.contains_key m k ≡ false) → IsNextOutstanding m from None
 next_end m from n end great past before =

@@ -1,7 +1,7 @@
 -- A receiving half that changes has no more to tell than before, but where it is stopped or its limit rises.
 use Rattle.std.proofs.Common.{◌≡◌, ℕ, ◌+◌, Bool, true, false, ◌||◌, List, length, cond, Option, None, Some, is_some, refl, sym, ap, ◌∙◌, subst}
 use Rattle.std.specs.Prelude.{IsOk}
-use Rattle.std.proofs.lemmas.Bool.{both_ways, true≢false}
+use Rattle.std.proofs.lemmas.Bool.{both_ways, true≢false, false_from_ne_true, or_parts}
 use Rattle.std.proofs.lemmas.Option.{none-some}
 use Rattle.qs_wire.specs.declared.stream_id.Role.{Role}
 use Rattle.qs_calls.specs.declared.settings.Settings.{Settings}
@@ -19,18 +19,11 @@ use Rattle.qs_machine.specs.Standing.{KeepsCredit, HasLawfulLane}
 use Rattle.qs_machine.proofs.EndedHalves.{whole_stays}
 use Rattle.qs_machine.proofs.LanesAgain.{data_after}
 use Rattle.qs_conn.specs.Untold.{HasToTell, AreTold}
-use Rattle.qs_conn.proofs.Untolds.{told_updated}
+use Rattle.qs_conn.proofs.Untolds.{told_updated, to_tell}
 
 -- a half of which less is to be told
 calm : (w n : ℕ) (l k : RecvLane) → k.limit ≡ l.limit → k.stop_code ≡ l.stop_code → (k.final_size ≡ None → l.final_size ≡ None) → (k.reset_code ≡ None → l.reset_code ≡ None) → (is_whole k ≡ false → is_whole l ≡ false) → (i : Item) → HasToTell w n k i → HasToTell w n l i
-calm w n l k limit stop size reset whole (MaxStreamData j m) (same, is, more, none) = (same, is ∙ limit, more, size none)
-calm w n l k limit stop size reset whole (StopSending j code) (same, is, goes, part) = (same, sym stop ∙ is, reset goes, whole part)
-calm w n l k limit stop size reset whole (MaxData m2) has = absurd has
-calm w n l k limit stop size reset whole (MaxStreams d2 m2) has = absurd has
-calm w n l k limit stop size reset whole (ResetStream n2 code2 size2) has = absurd has
-calm w n l k limit stop size reset whole (DataBlocked m2) has = absurd has
-calm w n l k limit stop size reset whole (StreamDataBlocked n2 m2) has = absurd has
-calm w n l k limit stop size reset whole (StreamsBlocked d2 m2) has = absurd has
+calm w n l k limit stop size reset whole = to_tell (HasToTell w n l) w n k (λ j m (same, is, more, none). (same, is ∙ limit, more, size none)) (λ j code (same, is, goes, part). (same, sym stop ∙ is, reset goes, whole part))
 
 data_calm : (l : RecvLane) (offset : ℕ) (bytes : List ℕ) (fin : Bool) → IsLawful l → IsOk (check_stream l offset (length bytes) fin) → (w n : ℕ) (i : Item) → HasToTell w n (take_stream l offset bytes fin) i → HasToTell w n l i
 data_calm l offset bytes fin lawful ok w n = calm w n l (take_stream l offset bytes fin) refl refl (size fin) (λ is. is) part
@@ -40,24 +33,14 @@ data_calm l offset bytes fin lawful ok w n = calm w n l (take_stream l offset by
     size false is = is
 
     part : is_whole (take_stream l offset bytes fin) ≡ false → is_whole l ≡ false
-    part is = go (is_whole l) refl
-      where
-        go : (b : Bool) → is_whole l ≡ b → b ≡ false
-        go false at = refl
-        go true at =
-            let after = data_after l offset bytes fin lawful ok in
-            absurd (both_ways (is_whole (take_stream l offset bytes fin)) is (whole_stays l (take_stream l offset bytes fin) after.received after.size at))
+    part is = false_from_ne_true (is_whole l) (λ at. (let after = data_after l offset bytes fin lawful ok in both_ways (is_whole (take_stream l offset bytes fin)) is (whole_stays l (take_stream l offset bytes fin) after.received after.size at)))
 
 reset_calm : (l : RecvLane) (code size w n : ℕ) (i : Item) → HasToTell w n (take_reset l code size) i → HasToTell w n l i
 reset_calm l code size w n i = go (is_some l.reset_code || is_whole l) refl
   where
-    right_false : (a b : Bool) → (a || b) ≡ false → b ≡ false
-    right_false true b at = absurd (true≢false at)
-    right_false false b at = at
-
     go : (b : Bool) → (is_some l.reset_code || is_whole l) ≡ b → HasToTell w n (cond b l (record l { arrived = discard l.arrived; final_size = Some size; reset_code = Some code })) i → HasToTell w n l i
     go true at has = has
-    go false at has = calm w n l (record l { arrived = discard l.arrived; final_size = Some size; reset_code = Some code }) refl refl (λ is. absurd (none-some size (sym is))) (λ is. absurd (none-some code (sym is))) (λ is. right_false (is_some l.reset_code) (is_whole l) at) i has
+    go false at has = calm w n l (record l { arrived = discard l.arrived; final_size = Some size; reset_code = Some code }) refl refl (λ is. absurd (none-some size (sym is))) (λ is. absurd (none-some code (sym is))) (λ is. (or_parts (is_some l.reset_code) (is_whole l) at).1) i has
 
 read_calm : (l : RecvLane) (room w n : ℕ) (i : Item) → HasToTell w n (after_read l room) i → HasToTell w n l i
 read_calm l room w n = go (read_answer l room)

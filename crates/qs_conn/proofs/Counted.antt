@@ -4,15 +4,13 @@ use Rattle.std.specs.Prelude.{min, is_none, ◌==◌, Ok, IsOk}
 use Rattle.std.proofs.lemmas.Bool.{both_ways}
 use Rattle.std.proofs.lemmas.Option.{none-some, same_Some}
 use Rattle.qs_wire.specs.declared.stream_id.Role.{Role}
-use Rattle.qs_recv.specs.Lane.{RecvLane, stop, raise, after_read, take_stream, take_reset, check_stream, is_whole as recv_whole}
+use Rattle.qs_recv.specs.Lane.{RecvLane, stop, raise, after_read, take_stream, take_reset, check_stream, is_whole as recv_whole, new_lane as new_recv_lane}
 use Rattle.qs_recv.specs.Lawful.{IsLawful}
-use Rattle.qs_recv.specs.Lane.{new_lane as new_recv_lane}
 use Rattle.qs_recv.specs.Assembled.{discard}
-use Rattle.qs_send.specs.Lane.{new_lane as new_send_lane}
+use Rattle.qs_send.specs.Lane.{new_lane as new_send_lane, Sending, SendLane, is_whole, unacked_from, answer_of, write_lane, finish_lane, reset_lane, stopped_lane, reset_refusal, refusal, allow_lane, blocked_lane, sent_lane, acked_lane, reset_acked_lane}
 use Rattle.qs_send.specs.declared.parts.SendFault.{SendFault}
 use Rattle.qs_send.specs.declared.parts.SendFault.TheVariants.{Finished, WasReset}
 use Rattle.qs_send.specs.declared.parts.Reset.{Reset}
-use Rattle.qs_send.specs.Lane.{Sending, SendLane, is_whole, unacked_from, answer_of, write_lane, finish_lane, reset_lane, stopped_lane, reset_refusal, refusal, allow_lane, blocked_lane, sent_lane, acked_lane, reset_acked_lane}
 use Rattle.qs_send.specs.declared.piece.Item.TheVariants.{MaxData, MaxStreamData, MaxStreams, ResetStream, StopSending, DataBlocked, StreamDataBlocked, StreamsBlocked}
 use Rattle.qs_send.specs.declared.piece.Piece.{Piece}
 use Rattle.qs_send.specs.declared.piece.Piece.TheVariants.{Data, Told}
@@ -35,13 +33,13 @@ use Rattle.qs_machine.specs.Lawful.{Fills, frame_put, chunk_of}
 use Rattle.qs_machine.specs.Sums.{or_none}
 use Rattle.qs_machine.specs.Outgoing.{Outgoing, HasSending, first_acked_out, acked_at}
 use Rattle.qs_machine.proofs.TableLaws.{lookup_same}
-use Rattle.qs_conn.specs.declared.ended.EndedStreams.{EndedStreams}
+use Rattle.qs_conn.specs.declared.by_dir.ByDir.{ByDir}
 use Rattle.qs_conn.specs.Ended.{recv_over, send_over, over, is_over, recounted, half_of, AreAllCounted, IsToldOfEnd, CountsFit}
 use Rattle.qs_conn.proofs.Counting.{recv_recounted, send_recounted, nothing_recounted, recvs_opened, sends_opened, counted_raised, none_counted}
 
 -- Changes that end no half
 
-pub sends_same : (role : Role) (recvs : Tables RecvLane) (sends now : Tables SendLane) (n : ℕ) (f : SendLane → SendLane) (e : EndedStreams) → AreAllCounted role recvs sends e → now ≡ updated sends n f (lookup sends n)
+pub sends_same : (role : Role) (recvs : Tables RecvLane) (sends now : Tables SendLane) (n : ℕ) (f : SendLane → SendLane) (e : ByDir ℕ) → AreAllCounted role recvs sends e → now ≡ updated sends n f (lookup sends n)
     → ((l : SendLane) → lookup sends n ≡ Some l → send_ended (f l) ≡ send_ended l) → AreAllCounted role recvs now e
 sends_same role recvs sends now n f e h after same =
     subst (AreAllCounted role recvs now) (ap (λ a. recounted n (is_over role recvs sends n) a e) over_same ∙ nothing_recounted n (is_over role recvs sends n) e)
@@ -54,7 +52,7 @@ sends_same role recvs sends now n f e h after same =
     over_same : is_over role recvs now n ≡ is_over role recvs sends n
     over_same = ap (λ b. over role n (recv_over (lookup recvs n)) b) (at (lookup sends n) refl after)
 
-pub recvs_same : (role : Role) (recvs now : Tables RecvLane) (sends : Tables SendLane) (n : ℕ) (f : RecvLane → RecvLane) (e : EndedStreams) → AreAllCounted role recvs sends e → now ≡ updated recvs n f (lookup recvs n)
+pub recvs_same : (role : Role) (recvs now : Tables RecvLane) (sends : Tables SendLane) (n : ℕ) (f : RecvLane → RecvLane) (e : ByDir ℕ) → AreAllCounted role recvs sends e → now ≡ updated recvs n f (lookup recvs n)
     → ((l : RecvLane) → lookup recvs n ≡ Some l → recv_ended (f l) ≡ recv_ended l) → AreAllCounted role now sends e
 recvs_same role recvs now sends n f e h after same =
     subst (AreAllCounted role now sends) (ap (λ a. recounted n (is_over role recvs sends n) a e) over_same ∙ nothing_recounted n (is_over role recvs sends n) e)
@@ -87,11 +85,11 @@ ends_as_before : (code : ℕ) (l : SendLane) (t : Bool) → is_some (reset_refus
 ends_as_before code l true is = refl
 ends_as_before code l false is = open_still l.was_reset (is_whole l) l.finished l.reset_acked is
 
-module _ (role : Role) (s : Settings) (recvs : Tables RecvLane) (sends : Tables SendLane) (e : EndedStreams) (b u : ℕ) (h : CountsFit role s recvs sends e b u) where
-  pub fit_sends : (now : Tables SendLane) (e' : EndedStreams) → AreAllCounted role recvs now e' → CountsFit role s recvs now e' b u
+module _ (role : Role) (s : Settings) (recvs : Tables RecvLane) (sends : Tables SendLane) (e : ByDir ℕ) (b u : ℕ) (h : CountsFit role s recvs sends e b u) where
+  pub fit_sends : (now : Tables SendLane) (e' : ByDir ℕ) → AreAllCounted role recvs now e' → CountsFit role s recvs now e' b u
   fit_sends now e' is = record { counted = is; told = h.told; bidi = h.bidi; uni = h.uni }
 
-  pub fit_recvs : (now_r : Tables RecvLane) (now_s : Tables SendLane) (e' : EndedStreams) → AreAllCounted role now_r now_s e' → ((n : ℕ) → IsToldOfEnd (lookup now_r n)) → CountsFit role s now_r now_s e' b u
+  pub fit_recvs : (now_r : Tables RecvLane) (now_s : Tables SendLane) (e' : ByDir ℕ) → AreAllCounted role now_r now_s e' → ((n : ℕ) → IsToldOfEnd (lookup now_r n)) → CountsFit role s now_r now_s e' b u
   fit_recvs now_r now_s e' is told = record { counted = is; told = told; bidi = h.bidi; uni = h.uni }
 
   -- a half of which nothing is told, and which stays ended
@@ -128,7 +126,7 @@ module _ (role : Role) (s : Settings) (recvs : Tables RecvLane) (sends : Tables 
         unread now n (λ l. take_stream l offset bytes fin) is (λ l there. (refl, (data_after l offset bytes fin (lawful_at n l there) (subst (λ o. IsOk (check_stream (or_new o 0) offset (length bytes) fin)) there passed)).ended))
 
     -- a stream is read, and counted anew
-    pub fit_read : (now : Tables RecvLane) (n size : ℕ) (e' : EndedStreams) (was is : Bool) → now ≡ updated recvs n (λ l. after_read l size) (lookup recvs n) → was ≡ is_over role recvs sends n → is ≡ is_over role now sends n → e' ≡ recounted n was is e
+    pub fit_read : (now : Tables RecvLane) (n size : ℕ) (e' : ByDir ℕ) (was is : Bool) → now ≡ updated recvs n (λ l. after_read l size) (lookup recvs n) → was ≡ is_over role recvs sends n → is ≡ is_over role now sends n → e' ≡ recounted n was is e
         → CountsFit role s now sends e' b u
     fit_read now n size e' was is after before behind to =
         fit_recvs now sends e' (recv_recounted role recvs now sends n (λ l. after_read l size) e e' was is h.counted after before behind to) (told_read recvs now n size h.told after (lawful_at n))
@@ -194,7 +192,7 @@ within_counted e sound bidi uni =
 
 -- Streams that a frame opened are taken away
 
-opened_counted : (e : End) (n : ℕ) (c : EndedStreams) (own : Bool) → AreAllCounted e.role e.recvs e.sends c → AreAllCounted e.role (cond own e (opens n e)).recvs (cond own e (opens n e)).sends c
+opened_counted : (e : End) (n : ℕ) (c : ByDir ℕ) (own : Bool) → AreAllCounted e.role e.recvs e.sends c → AreAllCounted e.role (cond own e (opens n e)).recvs (cond own e (opens n e)).sends c
 opened_counted e n c true h = h
 opened_counted e n c false h =
     recvs_opened e.role e.recvs _ _ c n (window e n) (is_uni n && is_own e n) (sends_opened e.role e.recvs e.sends _ c n (first_send_limit e n) e.settings.send_buffer (is_uni n && not (is_own e n)) h refl) refl
@@ -203,7 +201,7 @@ same_role : (e : End) (n : ℕ) (own : Bool) → (cond own e (opens n e)).role �
 same_role e n true = refl
 same_role e n false = refl
 
-pub closed_counted : (e mid : End) (n : ℕ) (recvs : Tables RecvLane) (sends : Tables SendLane) (c c' : EndedStreams) → mid ≡ opened_by_peer n e → recvs ≡ e.recvs → sends ≡ e.sends → AreAllCounted e.role e.recvs e.sends c → AreAllCounted mid.role mid.recvs mid.sends c'
+pub closed_counted : (e mid : End) (n : ℕ) (recvs : Tables RecvLane) (sends : Tables SendLane) (c c' : ByDir ℕ) → mid ≡ opened_by_peer n e → recvs ≡ e.recvs → sends ≡ e.sends → AreAllCounted e.role e.recvs e.sends c → AreAllCounted mid.role mid.recvs mid.sends c'
     → AreAllCounted mid.role recvs sends c'
 closed_counted e mid n recvs sends c c' is r s h mid_h =
     let role : mid.role ≡ e.role = ap (λ (x : End). x.role) is ∙ same_role e n (is_own e n) in
@@ -214,7 +212,7 @@ closed_counted e mid n recvs sends c c' is r s h mid_h =
 
 -- A packet is filled
 
-put_counted : (role : Role) (e : End) (x : Seen) (c : EndedStreams) → AreAllCounted role e.recvs e.sends c → AreAllCounted role (frame_put x e).recvs (frame_put x e).sends c
+put_counted : (role : Role) (e : End) (x : Seen) (c : ByDir ℕ) → AreAllCounted role e.recvs e.sends c → AreAllCounted role (frame_put x e).recvs (frame_put x e).sends c
 unfolding frame_put
 put_counted role e (Ack largest ranges) c h = h
 put_counted role e (Stream n offset bytes fin) c h = sends_same role e.recvs e.sends _ n (λ l. sent_lane l (chunk_of offset bytes fin)) c h refl (λ l there. refl)
@@ -229,12 +227,12 @@ put_counted role e (Control (StreamsBlocked d m)) c h = h
 put_counted role e (Close code) c h = h
 put_counted role e (Plain asks) c h = h
 
-pub fills_counted : (role : Role) (old e mid : End) (fs : List Seen) (c : EndedStreams) → Fills old e fs mid → AreAllCounted role e.recvs e.sends c → AreAllCounted role mid.recvs mid.sends c
+pub fills_counted : (role : Role) (old e mid : End) (fs : List Seen) (c : ByDir ℕ) → Fills old e fs mid → AreAllCounted role e.recvs e.sends c → AreAllCounted role mid.recvs mid.sends c
 fills_counted role old e mid [] c is h = subst (λ (x : End). AreAllCounted role x.recvs x.sends c) (sym is) h
 fills_counted role old e mid (f ∷ fs) c (may, rest) h = fills_counted role old (frame_put f e) mid fs c rest (put_counted role e f c h)
 
 -- a piece of a stream is acknowledged, and the stream is counted anew
-pub piece_recounted : (role : Role) (recvs : Tables RecvLane) (late : Bool) (k n : ℕ) (p : Piece) (o new : Outgoing) (e e' : EndedStreams) (was is : Bool) → half_of p ≡ Some n → new ≡ first_acked_out (acked_at late k p) o → AreAllCounted role recvs o.sends e
+pub piece_recounted : (role : Role) (recvs : Tables RecvLane) (late : Bool) (k n : ℕ) (p : Piece) (o new : Outgoing) (e e' : ByDir ℕ) (was is : Bool) → half_of p ≡ Some n → new ≡ first_acked_out (acked_at late k p) o → AreAllCounted role recvs o.sends e
     → was ≡ is_over role recvs o.sends n → is ≡ is_over role recvs new.sends n → e' ≡ recounted n was is e → AreAllCounted role recvs new.sends e'
 piece_recounted role recvs late k n p o new e e' was is half after h before behind to = go p half (ap (λ (x : Outgoing). x.sends) after)
   where

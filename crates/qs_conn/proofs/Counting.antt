@@ -11,7 +11,7 @@ use Rattle.qs_machine.specs.Ends.{is_uni, role_bit}
 use Rattle.qs_machine.proofs.TableLaws.{lookup_same}
 use Rattle.qs_machine.specs.Credit.{recv_ended, send_ended, both_ended}
 use Rattle.qs_machine.proofs.Counts.{recvs_raised}
-use Rattle.qs_conn.specs.declared.ended.EndedStreams.{EndedStreams}
+use Rattle.qs_conn.specs.declared.by_dir.ByDir.{ByDir}
 use Rattle.qs_conn.specs.Ended.{one_if, recv_over, send_over, over, is_over, recounted, AreAllCounted}
 
 abbrev pairs : List RecvLane → List SendLane → ℕ
@@ -129,7 +129,7 @@ moves_send a rs ss i x y is there = moves a _ _ _ _ is (pairs_send rs ss i x y t
 -- Of a type
 
 -- a receiving half of a type changes
-recv_kind : (role : Role) (k i : ℕ) (recvs : Tables RecvLane) (sends : Tables SendLane) (e : EndedStreams) (x y : RecvLane) → k < 4 → slice_get (table recvs k) i ≡ Some x → AreAllCounted role recvs sends e
+recv_kind : (role : Role) (k i : ℕ) (recvs : Tables RecvLane) (sends : Tables SendLane) (e : ByDir ℕ) (x y : RecvLane) → k < 4 → slice_get (table recvs k) i ≡ Some x → AreAllCounted role recvs sends e
     → AreAllCounted role (with_table recvs k (slice_set (table recvs k) i y)) sends (recounted k (over role k (recv_ended x) (send_over (slice_get (table sends k) i))) (over role k (recv_ended y) (send_over (slice_get (table sends k) i))) e)
 recv_kind Client zero i recvs sends e x y lt is h = record { bidi = stays e.bidi _ _ h.bidi; uni = h.uni }
 recv_kind Client (suc zero) i recvs sends e x y lt is h = record { bidi = moves_recv e.bidi recvs.server_bidi sends.server_bidi i x y h.bidi is; uni = h.uni }
@@ -142,7 +142,7 @@ recv_kind Server (suc (suc (suc zero))) i recvs sends e x y lt is h = record { b
 recv_kind role (suc (suc (suc (suc k)))) i recvs sends e x y lt is h = absurd (omega (arith, lt))
 
 -- a sending half of a type changes
-send_kind : (role : Role) (k i : ℕ) (recvs : Tables RecvLane) (sends : Tables SendLane) (e : EndedStreams) (x y : SendLane) → k < 4 → slice_get (table sends k) i ≡ Some x → AreAllCounted role recvs sends e
+send_kind : (role : Role) (k i : ℕ) (recvs : Tables RecvLane) (sends : Tables SendLane) (e : ByDir ℕ) (x y : SendLane) → k < 4 → slice_get (table sends k) i ≡ Some x → AreAllCounted role recvs sends e
     → AreAllCounted role recvs (with_table sends k (slice_set (table sends k) i y)) (recounted k (over role k (recv_over (slice_get (table recvs k) i)) (send_ended x)) (over role k (recv_over (slice_get (table recvs k) i)) (send_ended y)) e)
 send_kind Client zero i recvs sends e x y lt is h = record { bidi = stays e.bidi _ _ h.bidi; uni = h.uni }
 send_kind Client (suc zero) i recvs sends e x y lt is h = record { bidi = moves_send e.bidi recvs.server_bidi sends.server_bidi i x y h.bidi is; uni = h.uni }
@@ -160,16 +160,16 @@ send_kind role (suc (suc (suc (suc k)))) i recvs sends e x y lt is h = absurd (o
 over_by_kind : (role : Role) (n : ℕ) (r s : Bool) → over role (n % 4) r s ≡ over role n r s
 over_by_kind role n r s = (let same : n % 4 % 4 ≡ n % 4 = omega arith in ap (λ k. cond (nat_eq (k % 2) (role_bit role)) false (r && (nat_le 2 k || s))) same)
 
-recounted_by_kind : (n : ℕ) (w v : Bool) (e : EndedStreams) → recounted (n % 4) w v e ≡ recounted n w v e
+recounted_by_kind : (n : ℕ) (w v : Bool) (e : ByDir ℕ) → recounted (n % 4) w v e ≡ recounted n w v e
 recounted_by_kind n w v e = (let same : n % 4 % 4 ≡ n % 4 = omega arith in ap (λ k. cond (nat_le 2 k) (record e { uni = e.uni + one_if v - one_if w }) (record e { bidi = e.bidi + one_if v - one_if w })) same)
 
-same_uni : (e : EndedStreams) (u : ℕ) → u ≡ e.uni → record e { uni = u } ≡ e
+same_uni : (e : ByDir ℕ) (u : ℕ) → u ≡ e.uni → record e { uni = u } ≡ e
 same_uni e u is = ap (λ (k : ℕ). record e { uni = k }) is
 
-same_bidi : (e : EndedStreams) (u : ℕ) → u ≡ e.bidi → record e { bidi = u } ≡ e
+same_bidi : (e : ByDir ℕ) (u : ℕ) → u ≡ e.bidi → record e { bidi = u } ≡ e
 same_bidi e u is = ap (λ (k : ℕ). record e { bidi = k }) is
 
-pub nothing_recounted : (n : ℕ) (b : Bool) (e : EndedStreams) → recounted n b b e ≡ e
+pub nothing_recounted : (n : ℕ) (b : Bool) (e : ByDir ℕ) → recounted n b b e ≡ e
 nothing_recounted n b e = go (is_uni n)
   where
     go : (u : Bool) → cond u (record e { uni = e.uni + one_if b - one_if b }) (record e { bidi = e.bidi + one_if b - one_if b }) ≡ e
@@ -177,7 +177,7 @@ nothing_recounted n b e = go (is_uni n)
     go false = same_bidi e _ (stays e.bidi e.bidi (one_if b) refl)
 
 -- a receiving half changed, and its stream was counted anew
-pub recv_recounted : (role : Role) (recvs now : Tables RecvLane) (sends : Tables SendLane) (n : ℕ) (f : RecvLane → RecvLane) (e e' : EndedStreams) (was is : Bool) → AreAllCounted role recvs sends e → now ≡ updated recvs n f (lookup recvs n)
+pub recv_recounted : (role : Role) (recvs now : Tables RecvLane) (sends : Tables SendLane) (n : ℕ) (f : RecvLane → RecvLane) (e e' : ByDir ℕ) (was is : Bool) → AreAllCounted role recvs sends e → now ≡ updated recvs n f (lookup recvs n)
     → was ≡ is_over role recvs sends n → is ≡ is_over role now sends n → e' ≡ recounted n was is e → AreAllCounted role now sends e'
 unfolding lookup update
 recv_recounted role recvs now sends n f e e' was is h after before behind to = go (lookup recvs n) refl after
@@ -200,7 +200,7 @@ recv_recounted role recvs now sends n f e e' was is h after before behind to = g
         (subst (AreAllCounted role (update recvs n (f l)) sends) (sym (counted (recv_ended l) (recv_ended (f l)) was_is is_is)) (recv_kind role (n % 4) (n / 4) recvs sends e l (f l) (omega arith) there h))
 
 -- a sending half changed, and its stream was counted anew
-pub send_recounted : (role : Role) (recvs : Tables RecvLane) (sends now : Tables SendLane) (n : ℕ) (f : SendLane → SendLane) (e e' : EndedStreams) (was is : Bool) → AreAllCounted role recvs sends e → now ≡ updated sends n f (lookup sends n)
+pub send_recounted : (role : Role) (recvs : Tables RecvLane) (sends now : Tables SendLane) (n : ℕ) (f : SendLane → SendLane) (e e' : ByDir ℕ) (was is : Bool) → AreAllCounted role recvs sends e → now ≡ updated sends n f (lookup sends n)
     → was ≡ is_over role recvs sends n → is ≡ is_over role recvs now n → e' ≡ recounted n was is e → AreAllCounted role recvs now e'
 unfolding lookup update
 send_recounted role recvs sends now n f e e' was is h after before behind to = go (lookup sends n) refl after
@@ -238,7 +238,7 @@ ended_part (r ∷ rs) (suc i) = omega (arith, ended_part rs i, len_cond (recv_en
 part_le : (a c v : ℕ) → a ≡ c → v ≤ c → v ≤ a
 part_le a c v is le = omega (arith, is, le)
 
-part_kind : (role : Role) (k i : ℕ) (recvs : Tables RecvLane) (sends : Tables SendLane) (e : EndedStreams) → k < 4 → AreAllCounted role recvs sends e
+part_kind : (role : Role) (k i : ℕ) (recvs : Tables RecvLane) (sends : Tables SendLane) (e : ByDir ℕ) → k < 4 → AreAllCounted role recvs sends e
     → one_if (over role k (recv_over (slice_get (table recvs k) i)) (send_over (slice_get (table sends k) i))) ≤ cond (is_uni k) e.uni e.bidi
 part_kind Client zero i recvs sends e lt h = omega arith
 part_kind Client (suc zero) i recvs sends e lt h = part_le e.bidi _ _ h.bidi (pairs_part recvs.server_bidi sends.server_bidi i)
@@ -250,7 +250,7 @@ part_kind Server (suc (suc zero)) i recvs sends e lt h = part_le e.uni _ _ h.uni
 part_kind Server (suc (suc (suc zero))) i recvs sends e lt h = omega arith
 part_kind role (suc (suc (suc (suc k)))) i recvs sends e lt h = absurd (omega (arith, lt))
 
-pub counted_part : (role : Role) (n : ℕ) (recvs : Tables RecvLane) (sends : Tables SendLane) (e : EndedStreams) (was : Bool) → AreAllCounted role recvs sends e → was ≡ is_over role recvs sends n → one_if was ≤ cond (is_uni n) e.uni e.bidi
+pub counted_part : (role : Role) (n : ℕ) (recvs : Tables RecvLane) (sends : Tables SendLane) (e : ByDir ℕ) (was : Bool) → AreAllCounted role recvs sends e → was ≡ is_over role recvs sends n → one_if was ≤ cond (is_uni n) e.uni e.bidi
 unfolding lookup
 counted_part role n recvs sends e was h is =
     let same : n % 4 % 4 ≡ n % 4 = omega arith in
@@ -258,7 +258,7 @@ counted_part role n recvs sends e was h is =
     subst (λ k. one_if was ≤ cond (nat_le 2 k) e.uni e.bidi) same (subst (λ b. one_if b ≤ cond (is_uni (n % 4)) e.uni e.bidi) (sym over_is) (part_kind role (n % 4) (n / 4) recvs sends e (omega arith) h))
 
 -- no more streams came to their end than are open
-pub counted_small : (role : Role) (recvs : Tables RecvLane) (sends : Tables SendLane) (e : EndedStreams) → AreAllCounted role recvs sends e → ((k : ℕ) → k < 4 → length (table recvs k) ≤ 2 ^ 60) → (e.bidi ≤ 2 ^ 60) × (e.uni ≤ 2 ^ 60)
+pub counted_small : (role : Role) (recvs : Tables RecvLane) (sends : Tables SendLane) (e : ByDir ℕ) → AreAllCounted role recvs sends e → ((k : ℕ) → k < 4 → length (table recvs k) ≤ 2 ^ 60) → (e.bidi ≤ 2 ^ 60) × (e.uni ≤ 2 ^ 60)
 counted_small role recvs sends e h few = (
   omega (arith, h.bidi, pairs_le (table recvs (1 - role_bit role)) (table sends (1 - role_bit role)), few (1 - role_bit role) (omega arith)),
   omega (arith, h.uni, ended_le (table recvs (3 - role_bit role)), few (3 - role_bit role) (omega arith)),
@@ -270,7 +270,7 @@ counted_small role recvs sends e h few = (
 
 -- Streams that open, and limits that rise, end nothing
 
-opened_recv_kind : {K : Type 0} (role : Role) (k : ℕ) (begin : K → RecvLane) (ks : List K) (recvs : Tables RecvLane) (sends : Tables SendLane) (e : EndedStreams) → k < 4 → ((j : K) → recv_ended (begin j) ≡ false) → AreAllCounted role recvs sends e
+opened_recv_kind : {K : Type 0} (role : Role) (k : ℕ) (begin : K → RecvLane) (ks : List K) (recvs : Tables RecvLane) (sends : Tables SendLane) (e : ByDir ℕ) → k < 4 → ((j : K) → recv_ended (begin j) ≡ false) → AreAllCounted role recvs sends e
     → AreAllCounted role (with_table recvs k (table recvs k ++ map begin ks)) sends e
 opened_recv_kind Client zero begin ks recvs sends e lt none h = record { bidi = h.bidi; uni = h.uni }
 opened_recv_kind Client (suc zero) begin ks recvs sends e lt none h = record { bidi = h.bidi ∙ sym (pairs_append_left begin ks recvs.server_bidi sends.server_bidi none); uni = h.uni }
@@ -282,7 +282,7 @@ opened_recv_kind Server (suc (suc zero)) begin ks recvs sends e lt none h = reco
 opened_recv_kind Server (suc (suc (suc zero))) begin ks recvs sends e lt none h = record { bidi = h.bidi; uni = h.uni }
 opened_recv_kind role (suc (suc (suc (suc k)))) begin ks recvs sends e lt none h = absurd (omega (arith, lt))
 
-opened_send_kind : {K : Type 0} (role : Role) (k : ℕ) (begin : K → SendLane) (ks : List K) (recvs : Tables RecvLane) (sends : Tables SendLane) (e : EndedStreams) → k < 4 → ((j : K) → send_ended (begin j) ≡ false) → AreAllCounted role recvs sends e
+opened_send_kind : {K : Type 0} (role : Role) (k : ℕ) (begin : K → SendLane) (ks : List K) (recvs : Tables RecvLane) (sends : Tables SendLane) (e : ByDir ℕ) → k < 4 → ((j : K) → send_ended (begin j) ≡ false) → AreAllCounted role recvs sends e
     → AreAllCounted role recvs (with_table sends k (table sends k ++ map begin ks)) e
 opened_send_kind Client zero begin ks recvs sends e lt none h = record { bidi = h.bidi; uni = h.uni }
 opened_send_kind Client (suc zero) begin ks recvs sends e lt none h = record { bidi = h.bidi ∙ sym (pairs_append_right begin ks recvs.server_bidi sends.server_bidi none); uni = h.uni }
@@ -294,19 +294,19 @@ opened_send_kind Server (suc (suc zero)) begin ks recvs sends e lt none h = reco
 opened_send_kind Server (suc (suc (suc zero))) begin ks recvs sends e lt none h = record { bidi = h.bidi; uni = h.uni }
 opened_send_kind role (suc (suc (suc (suc k)))) begin ks recvs sends e lt none h = absurd (omega (arith, lt))
 
-pub recvs_opened : (role : Role) (recvs now : Tables RecvLane) (sends : Tables SendLane) (e : EndedStreams) (n w : ℕ) (absent : Bool) → AreAllCounted role recvs sends e → now ≡ cond absent recvs (open_to recvs n (λ m. new_recv_lane w)) → AreAllCounted role now sends e
+pub recvs_opened : (role : Role) (recvs now : Tables RecvLane) (sends : Tables SendLane) (e : ByDir ℕ) (n w : ℕ) (absent : Bool) → AreAllCounted role recvs sends e → now ≡ cond absent recvs (open_to recvs n (λ m. new_recv_lane w)) → AreAllCounted role now sends e
 unfolding open_to
 recvs_opened role recvs now sends e n w true h is = subst (λ (t : Tables RecvLane). AreAllCounted role t sends e) (sym is) h
 recvs_opened role recvs now sends e n w false h is =
     subst (λ (t : Tables RecvLane). AreAllCounted role t sends e) (sym is) (opened_recv_kind role (n % 4) (λ (i : ℕ). new_recv_lane w) (range_with_len (length (table recvs (n % 4))) (n / 4 + 1 - length (table recvs (n % 4)))) recvs sends e (omega arith) (λ j. refl) h)
 
-pub sends_opened : (role : Role) (recvs : Tables RecvLane) (sends now : Tables SendLane) (e : EndedStreams) (n limit buffer : ℕ) (absent : Bool) → AreAllCounted role recvs sends e → now ≡ cond absent sends (open_to sends n (λ m. new_send_lane m limit buffer)) → AreAllCounted role recvs now e
+pub sends_opened : (role : Role) (recvs : Tables RecvLane) (sends now : Tables SendLane) (e : ByDir ℕ) (n limit buffer : ℕ) (absent : Bool) → AreAllCounted role recvs sends e → now ≡ cond absent sends (open_to sends n (λ m. new_send_lane m limit buffer)) → AreAllCounted role recvs now e
 unfolding open_to
 sends_opened role recvs sends now e n limit buffer true h is = subst (λ (t : Tables SendLane). AreAllCounted role recvs t e) (sym is) h
 sends_opened role recvs sends now e n limit buffer false h is =
     subst (λ (t : Tables SendLane). AreAllCounted role recvs t e) (sym is) (opened_send_kind role (n % 4) (λ (i : ℕ). new_send_lane (i * 4 + n % 4) limit buffer) (range_with_len (length (table sends (n % 4))) (n / 4 + 1 - length (table sends (n % 4)))) recvs sends e (omega arith) (λ j. refl) h)
 
-pub counted_raised : (role : Role) (recvs now : Tables RecvLane) (sends : Tables SendLane) (e : EndedStreams) → AreAllCounted role recvs sends e → now ≡ each raise recvs → AreAllCounted role now sends e
+pub counted_raised : (role : Role) (recvs now : Tables RecvLane) (sends : Tables SendLane) (e : ByDir ℕ) → AreAllCounted role recvs sends e → now ≡ each raise recvs → AreAllCounted role now sends e
 unfolding each
 counted_raised Client recvs now sends e h is =
     subst (λ (t : Tables RecvLane). AreAllCounted Client t sends e) (sym is) (record { bidi = h.bidi ∙ sym (pairs_raised recvs.server_bidi sends.server_bidi); uni = h.uni ∙ sym (recvs_raised recvs.server_uni) })

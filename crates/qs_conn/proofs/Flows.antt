@@ -38,6 +38,8 @@ use Rattle.qs_conn.proofs.Items.{fills_push, sum_by_base, known_by_base}
 use Rattle.qs_conn.proofs.Texts.{all_push, text_push, seen_push}
 use Rattle.qs_conn.proofs.Stages.{no_ack, turn_push}
 use Rattle.qs_conn.proofs.Chunks.{Ties, ties_of, same_truth, IsClear, may_carry, chunk_lane, chunk_sum, chunk_known, clear_old, clear_new, cut_last, goes_other, chunk_only, none_goes}
+use Rattle.qs_conn.proofs.Openings.{none_is}
+use Rattle.qs_conn.proofs.Sendables.{passed_all}
 
 -- A packet with the streams that had their turn before n, and some chunks of stream n: of these no later one begins where another ended,
 -- or none may follow.
@@ -105,22 +107,10 @@ flow_first first delay room old text e false s =
       turns = s.turns first;
       within = (let same = sum_by_base e old s.steady in let known = known_by_base e old s.steady in omega (arith, same, known, s.within));
       ack = s.ack;
-      items = λ i due. s.items i (passed i due) due;
+      items = λ i due. s.items i (passed_all i) due;
       over = λ n (ge, lt). absurd (omega (arith, ge, lt));
       untouched = λ n no c there. s.no_chunk n c there;
     }
-  where
-    passed : (i : Item) → IsDueItem old i → IsPassed all_items (slot_of i)
-    passed (MaxData m) due = inl (inl (inl (inl (inl (inl (inl (inl (inl (inr refl)))))))))
-    passed (MaxStreams Bidi m) due = inl (inl (inl (inl (inl (inl (inl (inl (inr refl))))))))
-    passed (MaxStreams Uni m) due = inl (inl (inl (inl (inl (inl (inl (inr refl)))))))
-    passed (ResetStream n code size) due = inl (inl (inl (inl (inl (inl (inr (n, refl)))))))
-    passed (StopSending n code) due = inl (inl (inl (inl (inl (inr (n, refl))))))
-    passed (MaxStreamData n m) due = inl (inl (inl (inl (inr (n, refl)))))
-    passed (DataBlocked m) due = inl (inl (inl (inr refl)))
-    passed (StreamDataBlocked n m) due = inl (inl (inr (n, refl)))
-    passed (StreamsBlocked Bidi m) due = inl (inr refl)
-    passed (StreamsBlocked Uni m) due = inr refl
 
 -- a stream begins
 pub chunking_begins : (delay room : ℕ) (old : End) (text : List ℕ) (e : End) (around : Bool) (first n : ℕ) → IsOnWay around first n → Flowing delay room old text e (turn_at around first n) → Chunking delay room old text e around first n
@@ -437,13 +427,9 @@ may_go o n s c left fresh h next has = record { half = s; there = h; chunk = nex
 pub sum_small : (o : Outgoing) (n : ℕ) (s : Sending) (c : Chunk) (left fresh known : ℕ) → HasSending o n s → IsNextChunk s left fresh c → fresh ≡ known - sent_sum o.sends → sent_sum o.sends ≤ known → known ≤ MAX_VARINT → sent_sum (on_lane n (λ l. sent_lane l c) o).sends ≤ MAX_VARINT
 sum_small o n s c left fresh known h next is le small = (let k : sent_sum (on_lane n (λ l. sent_lane l c) o).sends ≤ known = sum_within o n s c left fresh known h next is le in omega (arith, k, small))
 
-none_of : (o : Option SendLane) → is_some o ≡ false → o ≡ None
-none_of None is = refl
-none_of (Some l) is = absurd (true≢false is)
-
 pub flow_none : (delay room : ℕ) (old : End) (text : List ℕ) (e : End) (b : Bool) (around : Bool) (first n : ℕ) → is_some (send_lane e n) ≡ false → Flow delay room old text e b (turn_at around first n) → Flow delay room old text e b (turn_at around first (n + 1))
 flow_none delay room old text e true around first n none f = f
-flow_none delay room old text e false around first n none f = flow_absent delay room old text e around first n (none_of (send_lane e n) none) f
+flow_none delay room old text e false around first n none f = flow_absent delay room old text e around first n (none_is (send_lane e n) none) f
 
 -- a packet that is full needs no more
 pub flow_whole : (delay room : ℕ) (old : End) (text : List ℕ) (e : End) (b : Bool) (around : Bool) (first n : ℕ) → b ≡ true → Flow delay room old text e b (turn_at around first n) → Flow delay room old text e b (way_end around first)

@@ -25,6 +25,7 @@ use Rattle.qs_machine.proofs.RunLaws.{lowest_run, lowest_end_is}
 use Rattle.qs_conn.proofs.AckLaws.{count_runs}
 use Rattle.qs_conn.proofs.AckRuns.{all_ranges}
 use Rattle.qs_machine.proofs.Taken.{sum_open}
+use Rattle.qs_conn.proofs.EachItem.{each_item}
 
 -- A new end
 
@@ -89,14 +90,7 @@ funded_opened o new b n limit buffer k done due is h = funded_same o.sends new.s
 
 sum_piece : (p : Piece) (o : Outgoing) → sent_sum (piece_acked_out p o).sends ≡ sent_sum o.sends
 sum_piece (Data n c) o = sum_lane o.sends n (λ l. acked_lane l c) (λ l. refl)
-sum_piece (Told (ResetStream n code size)) o = sum_lane o.sends n reset_acked_lane (λ l. refl)
-sum_piece (Told (MaxData x)) o = refl
-sum_piece (Told (MaxStreamData n x)) o = refl
-sum_piece (Told (MaxStreams d x)) o = refl
-sum_piece (Told (StopSending n x)) o = refl
-sum_piece (Told (DataBlocked x)) o = refl
-sum_piece (Told (StreamDataBlocked n x)) o = refl
-sum_piece (Told (StreamsBlocked d x)) o = refl
+sum_piece (Told i) o = each_item (λ j. sent_sum (piece_acked_out (Told j) o).sends ≡ sent_sum o.sends) (λ m. refl) (λ n m. refl) (λ d m. refl) (λ n code size. sum_lane o.sends n reset_acked_lane (λ l. refl)) (λ n code. refl) (λ m. refl) (λ n m. refl) (λ d m. refl) i
 
 sum_acks : (ps : List AckedPiece) (o : Outgoing) → sent_sum (acks_out ps o).sends ≡ sent_sum o.sends
 unfolding acks_out
@@ -129,10 +123,6 @@ pub funded_lost : (j : ℕ) (o new : Outgoing) (result : Result (Unit {0}) NoMem
 funded_lost j o new result k done due lost h = subst (λ (t : Tables SendLane). IsFunded t k done due) (sym (sends_lost j o new result lost)) h
 
 -- The peer's credit rises
-
-pub funded_raised : (t : Tables SendLane) (k m r : ℕ) (done : NumberSet) (due : Bool) → r ≡ max k m → m ≤ MAX_VARINT → IsFunded t k done due → IsFunded t r done due
-funded_raised t k m r done due is small h =
-    (let c = h.credit in let f = h.known_fits in record { credit = omega (arith, is, c); known_fits = omega (arith, is, f, small); few = h.few; acks = h.acks })
 
 -- A packet's number is kept
 

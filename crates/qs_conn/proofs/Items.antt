@@ -19,6 +19,7 @@ use Rattle.qs_machine.specs.Lawful.{Fills, MayPut, frame_put, chunk_of}
 use Rattle.qs_conn.specs.Filling.{unmarked, base}
 use Rattle.qs_machine.proofs.TableLaws.{lookup_each, total_each}
 use Rattle.qs_conn.proofs.Pieces.{put_old, put_is, PieceOfFrame}
+use Rattle.qs_conn.proofs.EachItem.{each_item}
 
 -- What rests on the base alone
 
@@ -104,14 +105,7 @@ mark_base t n (Some l) is = mark_some t n l is
 
 pub base_item : (i : Item) (e : End) → base (frame_put (Control i) e) ≡ base e
 unfolding frame_put
-base_item (MaxData m) e = refl
-base_item (MaxStreamData n m) e = refl
-base_item (MaxStreams d m) e = refl
-base_item (ResetStream n code size) e = refl
-base_item (StopSending n code) e = refl
-base_item (DataBlocked m) e = refl
-base_item (StreamDataBlocked n m) e = ap (λ t. record (base e) { sends = t }) (mark_base e.sends n (send_lane e n) refl)
-base_item (StreamsBlocked d m) e = refl
+base_item i e = each_item (λ j. base (frame_put (Control j) e) ≡ base e) (λ m. refl) (λ n m. refl) (λ d m. refl) (λ n code size. refl) (λ n code. refl) (λ m. refl) (λ n m. ap (λ t. record (base e) { sends = t }) (mark_base e.sends n (send_lane e n) refl)) (λ d m. refl) i
 
 -- Over several frames
 

@@ -4,38 +4,25 @@ use Rattle.std.proofs.Math.ListN.{set}
 use Rattle.std.proofs.lemmas.Bool.{cases_lt, cases_eq}
 use Rattle.std.proofs.lemmas.Bool.Decides.{nat_tests}
 use Rattle.qs_machine.specs.Tables.{Tables, table, lookup, updated}
-use Rattle.qs_machine.specs.Sums.{tables_of}
+use Rattle.qs_machine.specs.Sums.{tables_of, changed}
 use Rattle.qs_machine.proofs.LanesAgain.{raise_after}
 use Rattle.qs_conn.specs.Untold.{HasMore, IsRaisedMarked, AreRaisedMarked}
 use Rattle.qs_conn.proofs.Settling.{settled_raise}
 use Rattle.qs_conn.proofs.Untolds.{is_marked_now, unmarked_before}
 use Rattle.std.proofs.lemmas.List.Edits.{map_over_more}
-use Rattle.std.proofs.lemmas.Option.{none-some, same_Some}
+use Rattle.std.proofs.lemmas.Option.{none-some, same_Some, slice_get_cases, get_or_from_slice_get, slice_get_within}
 use Rattle.qs_recv.specs.Lane.{RecvLane, raise, raise_answer, raised_limit}
 use Rattle.qs_machine.specs.declared.tally.Tally.{Tally}
 use Rattle.qs_conn.specs.declared.recv_lanes.Touched.{Touched}
-use Rattle.qs_machine.specs.Sums.{changed}
 use Rattle.qs_conn.specs.Layers.{AreCounted, IsSettled, EachSettled, SettledBut}
 
 -- one lane more is raised
 pub raised_more : (xs ys now : List RecvLane) (i : ℕ) → i < length ys → length ys ≡ length xs → ys ≡ map raise (take i xs) ++ drop i xs → now ≡ changed ys i raise (slice_get ys i) → now ≡ map raise (take (i + 1) xs) ++ drop (i + 1) xs
-raised_more xs ys now i lt same is at = go (slice_get ys i) refl
-  where
-    go : (o : Option RecvLane) → slice_get ys i ≡ o → now ≡ map raise (take (i + 1) xs) ++ drop (i + 1) xs
-    go None none = absurd (none_at ys i lt none)
-      where
-        none_at : (zs : List RecvLane) (k : ℕ) → k < length zs → slice_get zs k ≡ None → ⊥
-        none_at [] k less gone = omega (arith, less)
-        none_at (z ∷ zs) zero less gone = none-some z (sym gone)
-        none_at (z ∷ zs) (suc k) less gone = none_at zs k (omega (arith, less)) gone
-    go (Some x) there =
-        at ∙ ap (changed ys i raise) there
-        ∙ map_over_more raise xs ys i x (omega (arith, lt, same)) is (read ys i x there)
-      where
-        read : (zs : List RecvLane) (k : ℕ) (y : RecvLane) → slice_get zs k ≡ Some y → y ≡ get_or zs k y
-        read [] k y e = refl
-        read (z ∷ zs) zero y e = sym (same_Some z y e)
-        read (z ∷ zs) (suc k) y e = read zs k y e
+raised_more xs ys now i lt same is at =
+    elim (slice_get_cases ys i).1 [
+      | inl (x, in_list, there, read) ↦ at ∙ ap (changed ys i raise) there ∙ map_over_more raise xs ys i x (omega (arith, lt, same)) is (sym read)
+      | inr (past, none) ↦ absurd (omega (arith, lt, past))
+    ]
 
 -- what was opened is taken back
 pub lanes_undone : (xs now : List RecvLane) (t now_t : Tally) (touched now_touched : Touched) → now ≡ xs → now_t ≡ t → now_touched ≡ touched → AreCounted xs t touched → AreCounted now now_t now_touched
@@ -55,24 +42,14 @@ not_raised l unraised = go (nat_lt l.limit (raised_limit l)) refl unraised
         ap (λ k. record l { limit = k }) same
 
 pub raised_none : (kind : ℕ) (xs : List RecvLane) (marks : Tables Bool) (i : ℕ) (x : RecvLane) → i < length xs → x ≡ get_or xs i x → raise_answer x ≡ None → IsRaisedMarked kind xs marks i
-raised_none kind xs marks i x lt at none l there free = subst (λ k. raise k ≡ k) (at ∙ read xs i x l there) (not_raised x none)
-  where
-    read : (zs : List RecvLane) (k : ℕ) (d y : RecvLane) → slice_get zs k ≡ Some y → get_or zs k d ≡ y
-    read [] k d y e = absurd (none-some y e)
-    read (z ∷ zs) zero d y e = same_Some z y e
-    read (z ∷ zs) (suc k) d y e = read zs k d y e
+raised_none kind xs marks i x lt at none l there free = subst (λ k. raise k ≡ k) (at ∙ get_or_from_slice_get xs i l x there) (not_raised x none)
 
 pub raised_some : (kind : ℕ) (xs : List RecvLane) (marks marks' : Tables Bool) (i n : ℕ) → n ≡ i * 4 + kind → marks' ≡ updated marks n (λ b. true) (lookup marks n) → IsRaisedMarked kind xs marks' i
 raised_some kind xs marks marks' i n is are l there free =
     absurd (is_marked_now marks n (subst (λ (t : Tables Bool). lookup t n ≡ Some false) are (subst (λ k. lookup marks' k ≡ Some false) (sym is) free)))
 
 pub raised_past : (kind : ℕ) (xs : List RecvLane) (marks : Tables Bool) (i : ℕ) → length xs ≤ i → IsRaisedMarked kind xs marks i
-raised_past kind xs marks i le l there free = absurd (past xs i le there)
-  where
-    past : (zs : List RecvLane) (k : ℕ) → length zs ≤ k → slice_get zs k ≡ Some l → ⊥
-    past [] k less at = none-some l at
-    past (z ∷ zs) zero less at = omega (arith, less)
-    past (z ∷ zs) (suc k) less at = past zs k (omega (arith, less)) at
+raised_past kind xs marks i le l there free = absurd (omega (arith, le, slice_get_within xs i l there))
 
 -- one index more
 pub raised_next : (kind : ℕ) (xs ys : List RecvLane) (marks marks' : Tables Bool) (i : ℕ) → ys ≡ map raise (take i xs) ++ drop i xs → HasMore marks marks' → ((j : ℕ) → j < i → IsRaisedMarked kind xs marks j) → IsRaisedMarked kind ys marks' i → (j : ℕ) → j < i + 1

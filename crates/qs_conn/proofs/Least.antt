@@ -2,7 +2,7 @@
 use Rattle.std.proofs.Common.{◌≡◌, ℕ, zero, suc, ◌+◌, ◌-◌, ◌*◌, ◌/◌, ◌%◌, ◌<◌, ◌≤◌, ◌^◌, ◌⊎◌, min, Bool, false, List, [], ◌∷◌, length, get_or, Option, None, Some, slice_get, refl, sym, ap, ◌∙◌, subst, arith, inl, inr}
 use Rattle.std.specs.Option.{IfSome, IfNone}
 use Rattle.std.proofs.lemmas.Bool.{cases_lt, both_ways}
-use Rattle.std.proofs.lemmas.Option.{none-some, same_Some}
+use Rattle.std.proofs.lemmas.Option.{none-some, same_Some, slice_get_read}
 use Rattle.qs_machine.specs.News.{IsLeast, IsHeld}
 use Rattle.qs_machine.specs.Sums.{tables_of}
 use Rattle.qs_machine.specs.Tables.{Tables, type_of}
@@ -50,9 +50,7 @@ module _ {X : Type 0} (Q R : X → Type 0) (apart : (x : X) → Q x → R x → 
 
 -- a part is read
 pub part_at : {X : Type 0} (xs : List X) (i : ℕ) (x : X) → i < length xs → x ≡ get_or xs i x → slice_get xs i ≡ Some x
-part_at [] i x lt is = absurd (omega (arith, lt))
-part_at (y ∷ xs) zero x lt is = ap Some (sym is)
-part_at (y ∷ xs) (suc i) x lt is = part_at xs i x (omega (arith, lt)) is
+part_at xs i x lt is = slice_get_read xs (length xs) i x refl lt is
 
 module _ {X : Type 0} (R : X → Type 0) (xs : List X) where
   pub clear_past : (from index : ℕ) (x : X) → slice_get xs index ≡ Some x → (R x → ⊥) → IsClear (IsAt R xs) from index → IsClear (IsAt R xs) from (index + 1)

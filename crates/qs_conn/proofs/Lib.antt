@@ -8,6 +8,7 @@ pub mod Chunks
 pub mod Counting
 pub mod Counted
 pub mod DueTied
+pub mod EachItem
 pub mod Flows
 pub mod Funded
 pub mod Items

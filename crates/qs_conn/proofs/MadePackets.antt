@@ -17,7 +17,7 @@ use Rattle.qs_machine.specs.Making.{IsMade, MakeAt, MakeStep, make_refusal}
 use Rattle.qs_machine.specs.Outgoing.{Outgoing, sent_sum, with_outgoing}
 use Rattle.qs_conn.specs.Filling.{InPacket, end_by, Packed}
 use Rattle.qs_wire.specs.declared.stream_id.Role.{Role}
-use Rattle.qs_conn.specs.declared.ended.EndedStreams.{EndedStreams}
+use Rattle.qs_conn.specs.declared.by_dir.ByDir.{ByDir}
 use Rattle.qs_conn.specs.Ended.{AreAllCounted}
 use Rattle.qs_machine.specs.Tables.{Tables}
 use Rattle.qs_conn.specs.Untold.{AreTold, IsTold}
@@ -46,7 +46,7 @@ fills_next old e mid [] is = ap (λ (x : End). x.next) is
 fills_next old e mid (f ∷ fs) (may, rest) = fills_next old (frame_put f e) mid fs rest ∙ put_next f e
 
 abbrev pub limits_of : End → Limits
-limits_of v = record { role = v.role; settings = v.settings; granted = v.granted; granted_bidi = v.granted_bidi; granted_uni = v.granted_uni; known_data = v.known_data; known_bidi = v.known_bidi; known_uni = v.known_uni; wanted_bidi = v.wanted_bidi; wanted_uni = v.wanted_uni }
+limits_of v = record { role = v.role; settings = v.settings; granted = v.granted; known_data = v.known_data; granted_streams = record { bidi = v.granted_bidi; uni = v.granted_uni }; known_streams = record { bidi = v.known_bidi; uni = v.known_uni }; wanted_streams = record { bidi = v.wanted_bidi; uni = v.wanted_uni } }
 
 abbrev pub outgoing_of : ℕ → End → Outgoing
 outgoing_of spare v = record { sends = v.sends; next = v.next; outstanding = v.outstanding; lost = v.lost; acked = v.acked; spare = spare }
@@ -70,7 +70,7 @@ module _ (v old : End) (same : v ≡ old) (t : Limits) (o o' : Outgoing) (spare 
   pub filled_credit : sent_sum o'.sends ≤ v.known_data
   filled_credit = (let known : t.known_data ≡ v.known_data = ap (λ (x : Limits). x.known_data) t_is in omega (arith, known, packed.within))
 
-  pub filled_counted : (role : Role) (c : EndedStreams) → AreAllCounted role v.recvs v.sends c → AreAllCounted role v.recvs o'.sends c
+  pub filled_counted : (role : Role) (c : ByDir ℕ) → AreAllCounted role v.recvs v.sends c → AreAllCounted role v.recvs o'.sends c
   filled_counted role c h = fills_counted role v v filled (seen_all packed.frames) c packed.fills h
 
   -- what was told before stays so, whichever marks go then

@@ -4,9 +4,9 @@ use Rattle.std.specs.List.{range_with_len}
 use Rattle.std.specs.Option.{IfSome, IfNone}
 use Rattle.std.proofs.Math.ListN.{set}
 use Rattle.std.proofs.lemmas.Bool.{cases_lt, both_ways, true≢false}
-use Rattle.std.proofs.lemmas.List.{length-append, length-take, length-replicate}
+use Rattle.std.proofs.lemmas.List.{length-append, length-take, length-replicate, get_or_past, set-get_or, set-append_right}
 use Rattle.std.proofs.lemmas.List.FromFn.{length-map-range_with_len}
-use Rattle.std.proofs.lemmas.Option.{none-some, same_Some}
+use Rattle.std.proofs.lemmas.Option.{none-some, same_Some, get_or_from_slice_get}
 use Rattle.std.specs.Prelude.{Result, Ok, Err}
 use Rattle.std.specs.Result.{OnOk, OnErr}
 use Rattle.qs_conn.specs.Untold.{IsClear}
@@ -16,15 +16,11 @@ use Rattle.qs_machine.specs.Tables.{Tables, type_of, lookup, widened}
 use Rattle.qs_machine.proofs.TableEdits.{lookup_is}
 
 pub mark_past : (ms : List Bool) (i : ℕ) → length ms ≤ i → is_marked ms i ≡ false
-mark_past [] i le = refl
-mark_past (m ∷ ms) zero le = absurd (omega (arith, le))
-mark_past (m ∷ ms) (suc i) le = mark_past ms i (omega (arith, le))
+mark_past ms i le = get_or_past ms i false le
 
 -- a mark that is put where it stands already
 pub mark_kept : (ms : List Bool) (i : ℕ) → ms ≡ set ms i (is_marked ms i)
-mark_kept [] i = refl
-mark_kept (m ∷ ms) zero = refl
-mark_kept (m ∷ ms) (suc i) = ap (λ x. m ∷ x) (mark_kept ms i)
+mark_kept ms i = sym (set-get_or ms i false)
 
 module _ {X : Type 0} (Q : X → Type 0) where
   pub marked_len : (xs : List X) (ms : List Bool) → AreMarked Q xs ms → length ms ≡ length xs
@@ -122,15 +118,10 @@ module _ {X : Type 0} (Q : X → Type 0) where
 
 -- the next one of the new marks is set
 pub mark_more : (ms now : List Bool) (k n : ℕ) → k < n → now ≡ ms ++ (replicate k true ++ replicate (n - k) false) → set now (length ms + k) true ≡ ms ++ (replicate (k + 1) true ++ replicate (n - (k + 1)) false)
-mark_more ms now k n lt is = rw (is, left) (past ms (replicate k true ++ replicate (suc (n - (k + 1))) false) k (length ms + k) refl ∙ ap (λ xs. ms ++ xs) (at k (k + 1) (n - (k + 1)) refl))
+mark_more ms now k n lt is = rw (is, left) (set-append_right ms (replicate k true ++ replicate (suc (n - (k + 1))) false) (length ms) (length ms + k) true refl (omega arith) ∙ ap (λ j. ms ++ set (replicate k true ++ replicate (suc (n - (k + 1))) false) j true) (omega arith) ∙ ap (λ xs. ms ++ xs) (at k (k + 1) (n - (k + 1)) refl))
   where
     left : n - k ≡ suc (n - (k + 1))
     left = omega (arith, lt)
-
-    past : (xs ys : List Bool) (i j : ℕ) → j ≡ length xs + i → set (xs ++ ys) j true ≡ xs ++ set ys i true
-    past [] ys i j e = (let same : j ≡ i = omega (arith, e) in ap (λ k. set ys k true) same)
-    past (x ∷ xs) ys i zero e = absurd (omega (arith, e))
-    past (x ∷ xs) ys i (suc j) e = ap (λ zs. x ∷ zs) (past xs ys i j (omega (arith, e)))
 
     at : (i m j : ℕ) → m ≡ i + 1 → set (replicate i true ++ replicate (suc j) false) i true ≡ replicate m true ++ replicate j false
     at zero zero j e = absurd (omega (arith, e))
@@ -138,14 +129,6 @@ mark_more ms now k n lt is = rw (is, left) (past ms (replicate k true ++ replica
     at zero (suc (suc m)) j e = absurd (omega (arith, e))
     at (suc i) zero j e = absurd (omega (arith, e))
     at (suc i) (suc m) j e = ap (λ zs. true ∷ zs) (at i m j (omega (arith, e)))
-
--- what was opened beside the marks is taken back
-pub take_opened : {X : Type 0} (xs ys : List X) (n : ℕ) → n ≡ length xs → take n (xs ++ ys) ≡ xs
-take_opened xs ys n is = rw is (take_front xs ys)
-  where
-    take_front : {Y : Type 0} (us vs : List Y) → take (length us) (us ++ vs) ≡ us
-    take_front [] vs = refl
-    take_front (u ∷ us) vs = ap (λ ws. u ∷ ws) (take_front us vs)
 
 -- Marks alone
 
@@ -158,19 +141,14 @@ pub short_opened : {E : Type 0} (r : Result (Unit {0}) E) (ms now : List Bool) (
 short_opened (Ok done) ms now count small few ok err = let len = ap length ok in omega (arith, len, small, few, length-append ms (replicate (count - length ms) false), length-replicate (count - length ms) false)
 short_opened (Err e) ms now count small few ok err = let len = ap length err in omega (arith, len, few)
 
-mark_at : (ms : List Bool) (i : ℕ) (b : Bool) → slice_get ms i ≡ Some b → is_marked ms i ≡ b
-mark_at [] i b at = absurd (none-some b at)
-mark_at (m ∷ ms) zero b at = same_Some m b at
-mark_at (m ∷ ms) (suc i) b at = mark_at ms i b at
-
 -- a search jumps over indexes without a mark
 pub unmarked_passed : (ms : List Bool) (from : ℕ) (answer : Option ℕ) → IsNextMark ms from answer → (i : ℕ) (b : Bool) → from ≤ i → IsBefore i answer → slice_get ms i ≡ Some b → b ≡ false
-unmarked_passed ms from answer next i b le before at = sym (mark_at ms i b at) ∙ next.unmarked i le before
+unmarked_passed ms from answer next i b le before at = sym (get_or_from_slice_get ms i b false at) ∙ next.unmarked i le before
 
 -- no index has a mark
 
 pub none_at : (ms : List Bool) → IsClear ms → (i : ℕ) (b : Bool) → slice_get ms i ≡ Some b → b ≡ false
-none_at ms h i b at = sym (mark_at ms i b at) ∙ h i
+none_at ms h i b at = sym (get_or_from_slice_get ms i b false at) ∙ h i
 
 pub clear_next : (ms : List Bool) (from : ℕ) → IsClear ms → IsNextMark ms from None
 clear_next ms from h = record { found = λ n is. absurd (none-some n is); unmarked = λ i le before. h i }

@@ -1,7 +1,7 @@
 -- The least number that the ACKs of a payload name, and the least one that is outstanding, too.
 use Rattle.std.proofs.Common.{◌≡◌, ℕ, ◌≤◌, ◌⊎◌, min, max, nat_lt, nat_le, Bool, true, false, ◌&&◌, ◌||◌, if◌then◌else◌, List, [], ◌∷◌, Option, None, Some, refl, sym, ap, ◌∙◌, subst, arith, inl, inr}
 use Rattle.std.specs.FinMap as fmap
-use Rattle.std.proofs.lemmas.Bool.{cases_lt, true≢false}
+use Rattle.std.proofs.lemmas.Bool.{cases_lt, true≢false, or_cases, or_right}
 use Rattle.std.proofs.lemmas.Bool.Decides.{nat_tests}
 use Rattle.std.proofs.lemmas.Option.{none-some, same_Some}
 use Rattle.qs_wire.specs.Grammar.{frames_of}
@@ -13,6 +13,7 @@ use Rattle.qs_machine.specs.News.{IsLeast}
 use Rattle.qs_machine.specs.Newly.{IsNewlyAcked, payload_acks, acks_number}
 use Rattle.qs_machine.specs.Seen.{Seen, Ack, Stream, Control, Close, Plain, seen_all}
 use Rattle.qs_conn.specs.Named.{or_less, with_range, with_ranges, with_frames}
+use Rattle.qs_machine.proofs.Prefix.{or_false, or_twice}
 
 -- the answer is the least number of those that a test takes
 abbrev Least : (ℕ → Bool) → ℕ → Option ℕ → Type 0
@@ -31,20 +32,12 @@ least_same p q from least same h =
 abbrev in_range : ℕ × ℕ → ℕ → Bool
 in_range r n = nat_le r.0 n && nat_le n r.1
 
-either_of : (a b : Bool) → (a || b) ≡ true → (a ≡ true) ⊎ (b ≡ true)
-either_of true b e = inl refl
-either_of false b e = inr e
-
-or_true : (a b : Bool) → b ≡ true → (a || b) ≡ true
-or_true true b e = refl
-or_true false b e = e
-
 -- a range with no number from there on
 out_of_range : (p : ℕ → Bool) (from : ℕ) (r : ℕ × ℕ) (least : Option ℕ) → nat_lt r.1 (max r.0 from) ≡ true → Least p from least → Least (λ n. p n || in_range r n) from least
 out_of_range p from r least past h =
     record {
       found = λ n is. (let has = h.found n is in (has.0, ap (λ b. b || in_range r n) has.1));
-      least = λ n le has. elim (either_of (p n) (in_range r n) has) [
+      least = λ n le has. elim (or_cases (p n) (in_range r n) has) [
         | inl before ↦ h.least n le before
         | inr inside ↦ absurd (grind (arith, nat_tests, past, inside, le))
       ];
@@ -53,11 +46,11 @@ out_of_range p from r least past h =
 with_other : (p : ℕ → Bool) (from first : ℕ) (r : ℕ × ℕ) (least : Option ℕ) → first ≡ max r.0 from → nat_lt r.1 first ≡ false → Least p from least → Least (λ n. p n || in_range r n) from (or_less least first)
 with_other p from first r None is within h =
     record {
-      found = λ n same. (let eq : first ≡ n = same_Some first n same in (grind (arith, is, eq), or_true (p n) (in_range r n) (grind (arith, nat_tests, is, eq, within))));
+      found = λ n same. (let eq : first ≡ n = same_Some first n same in (grind (arith, is, eq), or_right (p n) (in_range r n) (grind (arith, nat_tests, is, eq, within))));
       least = λ n le has. (
         first,
         refl,
-        elim (either_of (p n) (in_range r n) has) [
+        elim (or_cases (p n) (in_range r n) has) [
           | inl before ↦ (let l = h.least n le before in absurd (none-some l.0 l.1))
           | inr inside ↦ grind (arith, nat_tests, is, inside, le)
         ],
@@ -69,7 +62,7 @@ with_other p from first r (Some k) is within h =
       least = λ n le has. (
         min k first,
         refl,
-        elim (either_of (p n) (in_range r n) has) [
+        elim (or_cases (p n) (in_range r n) has) [
           | inl before ↦ (let l = h.least n le before in let same : k ≡ l.0 = same_Some k l.0 l.1 in let less = l.2 in grind (arith, same, less))
           | inr inside ↦ grind (arith, nat_tests, is, inside, le)
         ],
@@ -79,7 +72,7 @@ with_other p from first r (Some k) is within h =
     lesser : (from ≤ k) × (p k ≡ true) → (from ≤ min k first) × ((p (min k first) || in_range r (min k first)) ≡ true)
     lesser has = elim (cases_lt k first) [
       | inl lt ↦ (let eq : k ≡ min k first = grind (arith, lt) in subst (λ m. (from ≤ m) × ((p m || in_range r m) ≡ true)) eq (has.0, ap (λ b. b || in_range r k) has.1))
-      | inr ge ↦ (let eq : first ≡ min k first = grind (arith, ge) in subst (λ m. (from ≤ m) × ((p m || in_range r m) ≡ true)) eq (grind (arith, is), or_true (p first) (in_range r first) (grind (arith, nat_tests, is, within))))
+      | inr ge ↦ (let eq : first ≡ min k first = grind (arith, ge) in subst (λ m. (from ≤ m) × ((p m || in_range r m) ≡ true)) eq (grind (arith, is), or_right (p first) (in_range r first) (grind (arith, nat_tests, is, within))))
     ]
 
 range_step : (p : ℕ → Bool) (from : ℕ) (r : ℕ × ℕ) (least : Option ℕ) → Least p from least → Least (λ n. p n || in_range r n) from (with_range from r least)
@@ -89,28 +82,20 @@ range_step p from r least h = go (nat_lt r.1 (max r.0 from)) refl
     go true past = out_of_range p from r least past h
     go false within = with_other p from (max r.0 from) r least refl within h
 
-or_right : (a b c : Bool) → ((a || b) || c) ≡ (a || (b || c))
-or_right true b c = refl
-or_right false b c = refl
-
-or_none : (a : Bool) → a ≡ (a || false)
-or_none true = refl
-or_none false = refl
-
 ranges_step : (p : ℕ → Bool) (from : ℕ) (rs : List (ℕ × ℕ)) (least : Option ℕ) → Least p from least → Least (λ n. p n || is_named rs n) from (with_ranges from rs least)
-ranges_step p from [] least h = least_same p (λ n. p n || false) from least (λ n. or_none (p n)) h
+ranges_step p from [] least h = least_same p (λ n. p n || false) from least (λ n. or_false (p n)) h
 ranges_step p from (r ∷ rs) least h =
-    least_same (λ n. (p n || in_range r n) || is_named rs n) (λ n. p n || (in_range r n || is_named rs n)) from (with_ranges from rs (with_range from r least)) (λ n. or_right (p n) (in_range r n) (is_named rs n))
+    least_same (λ n. (p n || in_range r n) || is_named rs n) (λ n. p n || (in_range r n || is_named rs n)) from (with_ranges from rs (with_range from r least)) (λ n. or_twice (p n) (in_range r n) (is_named rs n))
     (ranges_step (λ n. p n || in_range r n) from rs (with_range from r least) (range_step p from r least h))
 
 frames_step : (p : ℕ → Bool) (from : ℕ) (fs : List Seen) (least : Option ℕ) → Least p from least → Least (λ n. p n || acks_number fs n) from (with_frames from fs least)
-frames_step p from [] least h = least_same p (λ n. p n || false) from least (λ n. or_none (p n)) h
+frames_step p from [] least h = least_same p (λ n. p n || false) from least (λ n. or_false (p n)) h
 frames_step p from (Ack largest rs ∷ fs) least h =
-    least_same (λ n. (p n || is_named rs n) || acks_number fs n) (λ n. p n || (is_named rs n || acks_number fs n)) from (with_frames from fs (with_ranges from rs least)) (λ n. or_right (p n) (is_named rs n) (acks_number fs n))
+    least_same (λ n. (p n || is_named rs n) || acks_number fs n) (λ n. p n || (is_named rs n || acks_number fs n)) from (with_frames from fs (with_ranges from rs least)) (λ n. or_twice (p n) (is_named rs n) (acks_number fs n))
     (frames_step (λ n. p n || is_named rs n) from fs (with_ranges from rs least) (ranges_step p from rs least h))
 frames_step p from (Stream n offset bytes fin ∷ fs) least h = frames_step p from fs least h
 frames_step p from (Control item ∷ fs) least h = frames_step p from fs least h
-frames_step p from (Close code ∷ fs) least h = least_same p (λ n. p n || false) from least (λ n. or_none (p n)) h
+frames_step p from (Close code ∷ fs) least h = least_same p (λ n. p n || false) from least (λ n. or_false (p n)) h
 frames_step p from (Plain asks ∷ fs) least h = frames_step p from fs least h
 
 pub least_named : (payload : List ℕ) (from : ℕ) (result : Option ℕ) → result ≡ with_frames from (seen_all (frames_of (reading_of payload).left)) None → IsLeast (λ n. payload_acks payload n ≡ true) from result

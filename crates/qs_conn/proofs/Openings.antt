@@ -1,6 +1,6 @@
 -- Which streams a frame of the peer opens.
 use Rattle.std.proofs.Common.{◌≡◌, ℕ, Bool, true, false, not, ◌&&◌, ◌||◌, Option, None, Some, is_some, inl, inr, refl}
-use Rattle.std.proofs.lemmas.Bool.{both_ways}
+use Rattle.std.proofs.lemmas.Bool.{both_ways, or_parts}
 use Rattle.qs_machine.specs.Ends.{End, is_own, is_uni, send_lane, recv_lane, opened_by_peer}
 use Rattle.qs_machine.specs.Memory.{IsYetToOpen}
 use Rattle.qs_machine.proofs.Again.{opened_back}
@@ -8,7 +8,7 @@ use Rattle.qs_machine.proofs.Again.{opened_back}
 pub own_stays : (e : End) (n : ℕ) → is_own e n ≡ true → opened_by_peer n e ≡ e
 own_stays e n own = opened_back n e (λ other. absurd (both_ways (is_own e n) other own))
 
-none_is : {A : Type 0} (o : Option A) → is_some o ≡ false → o ≡ None
+pub none_is : {A : Type 0} (o : Option A) → is_some o ≡ false → o ≡ None
 none_is None h = refl
 none_is (Some a) h = absurd (both_ways true h refl)
 
@@ -29,12 +29,4 @@ pub none_in : (e : End) (n : ℕ) → is_own e n ≡ false → is_some (recv_lan
 none_in e n other none = (other, inl (none_is (recv_lane e n) none))
 
 pub none_out : (e : End) (n : ℕ) → is_own e n ≡ false → (is_uni n || is_some (send_lane e n)) ≡ false → IsYetToOpen e n
-none_out e n other none = (other, inr (uni (is_uni n) none, none_is (send_lane e n) (rest (is_uni n) none)))
-  where
-    uni : (b : Bool) → (b || is_some (send_lane e n)) ≡ false → b ≡ false
-    uni true h = absurd (both_ways true h refl)
-    uni false h = refl
-
-    rest : (b : Bool) → (b || is_some (send_lane e n)) ≡ false → is_some (send_lane e n) ≡ false
-    rest true h = absurd (both_ways true h refl)
-    rest false h = h
+none_out e n other none = (let (uni, rest) = or_parts (is_uni n) (is_some (send_lane e n)) none in (other, inr (uni, none_is (send_lane e n) rest)))

@@ -22,7 +22,8 @@ use Rattle.qs_machine.proofs.TableLaws.{total_update}
 use Rattle.qs_machine.proofs.Carried.{none_some, some_is, IsShorter, shortened_is, first_carried, get_new}
 use Rattle.qs_machine.proofs.Tied.{tied_late, tied_reset_acked}
 use Rattle.qs_machine.proofs.LaneTables.{lookup_lanes, lane_there, half_of, lanes_updated, update_lanes}
-use Rattle.qs_conn.proofs.Outboxes.{stays, update_itself, box_sends}
+use Rattle.qs_machine.proofs.TablesAfter.{update_back, updated_back}
+use Rattle.qs_conn.proofs.Outboxes.{box_sends}
 use Rattle.qs_machine.proofs.Ties.{ties_updated, ties_acked, ties_lost, ties_item_gone}
 
 -- No packet is in the making
@@ -180,7 +181,7 @@ lost_lanes (Data n c) t = go (lookup t n) refl
     go : (o : Option Sending) → lookup t n ≡ o → lanes_of (updated t n (λ s. after_lost s c) o) ≡ lanes_of t
     go None e = refl
     go (Some s) e =
-        update_lanes t n (after_lost s c) ∙ ap (update (lanes_of t) n) (lost_lane s c (is_some s.lane.was_reset)) ∙ update_itself (lanes_of t) n s.lane (lane_there t n s e)
+        update_lanes t n (after_lost s c) ∙ ap (update (lanes_of t) n) (lost_lane s c (is_some s.lane.was_reset)) ∙ update_back (lanes_of t) n s.lane (lane_there t n s e)
 
 pub lost_value : (k : ℕ) (p : Piece) (e now : Outgoing) (t t' : Tables Sending) (m m' : Records) (ps : List Piece) → e ≡ now → e.sends ≡ lanes_of t → e.outstanding ≡ with_pending m e.next ps → ps ≡ []
     → t' ≡ halves_lost p t → m' ≡ without_first m k (fmap.get m k) → (l : LostPackets) → l ≡ lost_with k p e.lost
@@ -232,7 +233,7 @@ first_in m k p first = first_carried m (without_first m k (fmap.get m k)) k p (s
 
 -- a RESET_STREAM that is acknowledged twice changes nothing more
 pub reset_again : (t : Tables Sending) (n : ℕ) (s : Sending) → lookup t n ≡ Some s → s.lane.reset_acked ≡ true → t ≡ updated t n after_reset_acked (lookup t n)
-reset_again t n s there acked = sym (stays t n s after_reset_acked there (ap (λ b. record s { lane = record s.lane { reset_acked = b } }) (sym acked)))
+reset_again t n s there acked = sym (updated_back t n after_reset_acked s there (ap (λ b. record s { lane = record s.lane { reset_acked = b } }) (sym acked)))
 
 pub not_sent_again : (t : Tables Sending) (n : ℕ) (s : Sending) (st : SendState) → lookup t n ≡ Some s → ((x : Sending) × (lookup t n ≡ Some x) × (is_some x.lane.was_reset ≡ true)) → st ≡ state s.lane → (st ≡ ResetSent → ⊥)
     → t ≡ updated t n after_reset_acked (lookup t n)

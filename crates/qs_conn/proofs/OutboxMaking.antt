@@ -1,6 +1,6 @@
 -- An outbox makes packets.
 use Rattle.std.proofs.Common.{◌≡◌, ℕ, ◌+◌, ◌-◌, ◌<◌, ◌≤◌, Bool, true, false, List, [], ◌∷◌, ◌++◌, length, Option, Some, None, is_some, nat_lt, refl, sym, ap, ◌∙◌, subst, inl, inr, arith, nat_cmp}
-use Rattle.std.proofs.lemmas.Bool.{both_ways, cases_eq}
+use Rattle.std.proofs.lemmas.Bool.{both_ways, cases_eq, true_from_ne_false, false_from_ne_true}
 use Rattle.std.proofs.lemmas.Bool.Decides.{nat_tests}
 use Rattle.std.specs.FinMap as fmap
 use Rattle.std.specs.FinMap.{nat_cmp-IsAntisymmetric}
@@ -28,6 +28,8 @@ use Rattle.qs_machine.proofs.LaneTables.{lane_there, lanes_updated, update_lanes
 use Rattle.qs_machine.proofs.Ties.{ties_updated, ties_chunk_put, ties_item_put}
 use Rattle.qs_conn.proofs.OutboxAcks.{none_above}
 use Rattle.qs_conn.proofs.Chunks.{same_truth}
+use Rattle.qs_conn.proofs.Openings.{none_is}
+use Rattle.qs_conn.proofs.EachItem.{each_item}
 
 pub chunk_found : (s : Sending) (room fresh : ℕ) (r : Option Chunk) → IfSome r (IsNextChunk s room fresh) → IfNone r (HasNoChunk s room fresh) → IfSome r (HasBytes s.lane) → ChunkFound s room fresh r
 chunk_found s room fresh None found none kept = none
@@ -40,10 +42,6 @@ piece_there m k (p ∷ ps) n is below = (let test : nat_lt 0 n ≡ true = grind 
 
 -- What is due is told by the lane and by what is outstanding
 
-pub unreset : (r : Option Reset) → is_some r ≡ false → r ≡ None
-unreset None is = refl
-unreset (Some r) is = absurd (both_ways true is refl)
-
 pub due_open : (s : Sending) → IsLawful s → (q : ℕ) → set.contains s.due.offsets q ≡ true → s.lane.was_reset ≡ None
 due_open s law q has = by_reset s.lane.was_reset refl
   where
@@ -52,31 +50,16 @@ due_open s law q has = by_reset s.lane.was_reset refl
     by_reset (Some r) e = absurd (both_ways (set.contains s.due.offsets q) (ap (λ (x : NumberSet). set.contains x q) (law.parts.none_due (ap is_some e)) ∙ set.contains-empty nat_cmp q) has)
 
 due_also : (m : Records) (n : ℕ) (s x : Sending) → IsLawful s → IsTied m n s → IsTied m n x → s.lane ≡ x.lane → (q : ℕ) → set.contains s.due.offsets q ≡ true → set.contains x.due.offsets q ≡ true
-due_also m n s x law t u same q has = by_test (set.contains x.due.offsets q) refl
-  where
-    by_test : (b : Bool) → set.contains x.due.offsets q ≡ b → set.contains x.due.offsets q ≡ true
-    by_test true e = e
-    by_test false e =
-        absurd
-        (both_ways (set.contains s.due.offsets q)
-        (t.not_due q
-        (u.flies q (ap (λ (l : SendLane). l.was_reset) (sym same) ∙ due_open s law q has) (subst (λ (l : SendLane). q < l.written) same (law.parts.due_written q has)) (subst (λ (l : SendLane). set.contains l.acked q ≡ false) same (law.parts.apart q has)) e)) has)
+due_also m n s x law t u same q has =
+    true_from_ne_false (set.contains x.due.offsets q) (λ e. both_ways (set.contains s.due.offsets q)
+    (t.not_due q
+    (u.flies q (ap (λ (l : SendLane). l.was_reset) (sym same) ∙ due_open s law q has) (subst (λ (l : SendLane). q < l.written) same (law.parts.due_written q has)) (subst (λ (l : SendLane). set.contains l.acked q ≡ false) same (law.parts.apart q has)) e)) has)
 
 end_also : (m : Records) (n : ℕ) (s x : Sending) → IsLawful s → IsTied m n s → IsTied m n x → s.lane ≡ x.lane → s.due.fin ≡ true → x.due.fin ≡ true
-end_also m n s x law t u same has = by_test x.due.fin refl
-  where
-    open_end : is_some s.lane.was_reset ≡ false
-    open_end = by_reset (is_some s.lane.was_reset) refl
-      where
-        by_reset : (b : Bool) → is_some s.lane.was_reset ≡ b → is_some s.lane.was_reset ≡ false
-        by_reset false e = e
-        by_reset true e = absurd (both_ways s.due.fin (law.ends.none_due e) has)
-
-    by_test : (b : Bool) → x.due.fin ≡ b → x.due.fin ≡ true
-    by_test true e = e
-    by_test false e =
-        (let f = u.end_flies (ap (λ (l : SendLane). l.was_reset) (sym same) ∙ unreset s.lane.was_reset open_end) (ap (λ (l : SendLane). l.finished) (sym same) ∙ law.ends.due_asked has) (ap (λ (l : SendLane). l.fin_acked) (sym same) ∙ law.ends.due_open has) e in
-        absurd (both_ways s.due.fin (t.end_not_due f.0 f.1 f.2) has))
+end_also m n s x law t u same has = true_from_ne_false x.due.fin (λ e.
+    let open_end = false_from_ne_true (is_some s.lane.was_reset) (λ was. both_ways s.due.fin (law.ends.none_due was) has) in
+    let f = u.end_flies (ap (λ (l : SendLane). l.was_reset) (sym same) ∙ none_is s.lane.was_reset open_end) (ap (λ (l : SendLane). l.finished) (sym same) ∙ law.ends.due_asked has) (ap (λ (l : SendLane). l.fin_acked) (sym same) ∙ law.ends.due_open has) e in
+    both_ways s.due.fin (t.end_not_due f.0 f.1 f.2) has)
 
 pub same_sending : (o : Outgoing) (n : ℕ) (s x : Sending) → HasSending o n s → HasSending o n x → s ≡ x
 same_sending o n s x h g =
@@ -112,11 +95,8 @@ one_more m k (q ∷ qs) p below = sym (ap (λ o. fmap.insert (fmap.insert m k (q
 pub has_room : (n room : ℕ) → n < room → nat_lt n room ≡ true
 has_room n room lt = grind (arith, nat_tests)
 
-pub room_is : (n room : ℕ) → nat_lt n room ≡ true → n < room
-room_is n room is = grind (arith, nat_tests)
-
 pub room_stays : (n room more : ℕ) → room ≤ more → nat_lt n room ≡ true → nat_lt n more ≡ true
-room_stays n room more le is = has_room n more (let lt = room_is n room is in omega arith)
+room_stays n room more le is = grind (arith, nat_tests)
 
 pub box_begun : (t : Tables Sending) (m m' : Records) (r r' : Bool) (ps qs : List Piece) (next sent spare free count free' : ℕ) → IsOutbox t m r ps next sent spare free → m' ≡ m → qs ≡ ps → r' ≡ true → count ≤ free' → IsOutbox t m' r' qs next sent count free'
 box_begun t m m' r r' ps qs next sent spare free count free' h same is ready room =
@@ -221,14 +201,7 @@ chunk_value e now t t' m ps qs n spare c is sends out below less halves pushed =
     ∙ ap (chunk_put n c) is
 
 told_lanes : (i : Item) (t : Tables Sending) → lanes_of (halves_told i t) ≡ blocked_noted i (lanes_of t)
-told_lanes (StreamDataBlocked n x) t = lanes_updated t n after_blocked blocked_lane (λ s there. refl)
-told_lanes (MaxData x) t = refl
-told_lanes (MaxStreamData n x) t = refl
-told_lanes (MaxStreams d x) t = refl
-told_lanes (ResetStream n x y) t = refl
-told_lanes (StopSending n x) t = refl
-told_lanes (DataBlocked x) t = refl
-told_lanes (StreamsBlocked d x) t = refl
+told_lanes i t = each_item (λ j. lanes_of (halves_told j t) ≡ blocked_noted j (lanes_of t)) (λ m. refl) (λ n m. refl) (λ d m. refl) (λ n code size. refl) (λ n code. refl) (λ m. refl) (λ n m. lanes_updated t n after_blocked blocked_lane (λ s there. refl)) (λ d m. refl) i
 
 pub item_value : (e now : Outgoing) (t t' : Tables Sending) (m : Records) (ps qs : List Piece) (spare : ℕ) (i : Item) → e ≡ now → e.sends ≡ lanes_of t → e.outstanding ≡ with_pending m e.next ps → AreBelow m e.next → spare ≡ e.spare - 1
     → t' ≡ halves_told i t → qs ≡ ps ++ Told i ∷ []

@@ -15,6 +15,7 @@ use Rattle.qs_calls.specs.declared.report.SendReport.{SendReport}
 use Rattle.qs_machine.specs.Reports.{send_report}
 use Rattle.qs_machine.specs.Sums.{or_none, or_no_sending}
 use Rattle.qs_machine.specs.Outgoing.{Outgoing, with_sends, on_lane, sent_sum, lanes_of, with_pending, AreOfOpen, AreTied, IsTied, IsOutbox, HasSending}
+use Rattle.qs_machine.proofs.TablesAfter.{updated_back}
 use Rattle.qs_machine.proofs.TableLaws.{total_update, total_open}
 use Rattle.qs_machine.proofs.Carried.{some_is}
 use Rattle.qs_machine.proofs.Tied.{tied_write, tied_finish, tied_reset, tied_stopped, tied_allow, tied_flight}
@@ -22,24 +23,6 @@ use Rattle.qs_machine.proofs.LaneTables.{lookup_lanes, lane_there, lanes_updated
 use Rattle.qs_machine.proofs.Ties.{ties_none, ties_updated, ties_opened, ties_closed}
 
 -- Tables
-
-set_got : {X : Type 0} (xs : List X) (i : ℕ) (x : X) → slice_get xs i ≡ Some x → slice_set xs i x ≡ xs
-set_got [] i x is = refl
-set_got (y ∷ xs) zero x is = ap (λ z. z ∷ xs) (some_is (Some y) x y is refl)
-set_got (y ∷ xs) (suc i) x is = ap (λ zs. y ∷ zs) (set_got xs i x is)
-
-with_itself : {X : Type 0} (t : Tables X) (k : ℕ) → with_table t k (table t k) ≡ t
-with_itself t zero = refl
-with_itself t (suc zero) = refl
-with_itself t (suc (suc zero)) = refl
-with_itself t (suc (suc (suc k))) = refl
-
-pub update_itself : {X : Type 0} (t : Tables X) (n : ℕ) (x : X) → lookup t n ≡ Some x → update t n x ≡ t
-unfolding lookup update
-update_itself t n x is = ap (with_table t (n % 4)) (set_got (table t (n % 4)) (n / 4) x is) ∙ with_itself t (n % 4)
-
-pub stays : {X : Type 0} (t : Tables X) (n : ℕ) (x : X) (f : X → X) → lookup t n ≡ Some x → f x ≡ x → updated t n f (lookup t n) ≡ t
-stays t n x f there same = ap (updated t n f) there ∙ ap (update t n) same ∙ update_itself t n x there
 
 pub half_found : (t : Tables Sending) (n : ℕ) → is_some (lookup t n) ≡ true → lookup t n ≡ Some (or_no_sending (lookup t n))
 half_found t n is = go (lookup t n) is
@@ -194,13 +177,13 @@ on_some (Some f) r P is p = rw is (p refl)
 pub finish_err : (t t' : Tables Sending) (n : ℕ) (r : Result (Unit {0}) SendFault) → is_some (lookup t n) ≡ true → t' ≡ updated t n after_finish (lookup t n) → r ≡ answer_of (refusal (or_no_sending (lookup t n)).lane) → OnErr r (t' ≡ t)
 finish_err t t' n r there is answer =
     let s = or_no_sending (lookup t n) in
-    on_some (refusal s.lane) r _ answer (λ some. is ∙ stays t n s after_finish (half_found t n there) (ap (λ b. cond b s (record { lane = finish_lane s.lane; due = record { offsets = s.due.offsets; fin = true } })) some))
+    on_some (refusal s.lane) r _ answer (λ some. is ∙ updated_back t n after_finish s (half_found t n there) (ap (λ b. cond b s (record { lane = finish_lane s.lane; due = record { offsets = s.due.offsets; fin = true } })) some))
 
 pub reset_err : (t t' : Tables Sending) (n code : ℕ) (r : Result (Unit {0}) SendFault) → is_some (lookup t n) ≡ true → t' ≡ updated t n (λ s. after_reset s code) (lookup t n) → r ≡ answer_of (reset_refusal (or_no_sending (lookup t n)).lane) → OnErr r (t' ≡ t)
 reset_err t t' n code r there is answer =
     let s = or_no_sending (lookup t n) in
     on_some (reset_refusal s.lane) r _ answer
-    (λ some. is ∙ stays t n s (λ s. after_reset s code) (half_found t n there) (unreset s (is_some (reset_refusal s.lane)) some))
+    (λ some. is ∙ updated_back t n (λ s. after_reset s code) s (half_found t n there) (unreset s (is_some (reset_refusal s.lane)) some))
   where
     unreset : (s : Sending) (b : Bool) → b ≡ true
         → ◌≡◌ {A = Sending}

@@ -1,6 +1,6 @@
 -- Streams that are over: both halves of a bidirectional one, and the only half of a unidirectional one.
 use Rattle.std.proofs.Common.{◌≡◌, ℕ, zero, suc, ◌<◌, ◌≤◌, ◌%◌, ◌==◌, ◌&&◌, not, nat_le, Bool, true, false, Option, Some, None, refl, sym, ap, ◌∙◌, subst, arith, inl, inr}
-use Rattle.std.proofs.lemmas.Bool.{both_ways, true≢false, cases_lt}
+use Rattle.std.proofs.lemmas.Bool.{both_ways, true≢false, cases_lt, and_left, eq-eqb, ne_eqb}
 use Rattle.std.proofs.lemmas.Bool.Decides.{nat_tests}
 use Rattle.std.proofs.lemmas.Option.{none-some, same_Some}
 use Rattle.qs_send.specs.Lane.{Sending}
@@ -37,29 +37,19 @@ uni_is : (n k : ℕ) (b : Bool) → type_of n ≡ k → nat_le 2 k ≡ b → is_
 uni_is n k b kind is = ap (nat_le 2) kind ∙ is
 
 bidi_below : (k : ℕ) → k < 2 → nat_le 2 k ≡ false
-bidi_below zero lt = refl
-bidi_below (suc zero) lt = refl
-bidi_below (suc (suc k)) lt = absurd (omega (arith, lt))
+bidi_below k lt = grind (arith, nat_tests)
 
 uni_above : (k : ℕ) → 2 ≤ k → k < 4 → nat_le 2 k ≡ true
-uni_above zero ge lt = absurd (omega (arith, ge))
-uni_above (suc zero) ge lt = absurd (omega (arith, ge))
-uni_above (suc (suc zero)) ge lt = refl
-uni_above (suc (suc (suc zero))) ge lt = refl
-uni_above (suc (suc (suc (suc k)))) ge lt = absurd (omega (arith, lt))
-
-not_both : (b c : Bool) → b ≡ false → (b && c) ≡ false
-not_both true c is = absurd (true≢false is)
-not_both false c is = refl
+uni_above k ge lt = grind (arith, nat_tests)
 
 -- Bidirectional streams
 
 module _ (e : End) (k : ℕ) (small : k < 2) where
   recv_of : (n : ℕ) → IsEndedOf e k n → IsHeldOf (HasOne recv_tasks.Ended) e.recvs k n
-  recv_of n (kind, over) = (kind, over.receiving (not_both (is_uni n) (is_own e n) (uni_is n k false kind (bidi_below k small))))
+  recv_of n (kind, over) = (kind, over.receiving (and_left (is_uni n) (is_own e n) (uni_is n k false kind (bidi_below k small))))
 
   sent_of : (n : ℕ) → IsEndedOf e k n → IsHeldOf HasSent e.sends k n
-  sent_of n (kind, over) = (kind, over.sending (not_both (is_uni n) (not (is_own e n)) (uni_is n k false kind (bidi_below k small))))
+  sent_of n (kind, over) = (kind, over.sending (and_left (is_uni n) (not (is_own e n)) (uni_is n k false kind (bidi_below k small))))
 
   both_of : (n : ℕ) → IsHeldOf (HasOne recv_tasks.Ended) e.recvs k n → IsHeldOf HasSent e.sends k n → IsEndedOf e k n
   both_of n (kind, recv) (same, sent) = (kind, record { receiving = λ h. recv; sending = λ h. sent })
@@ -103,23 +93,13 @@ module _ (e : End) (k : ℕ) (small : k < 2) where
 
 -- Unidirectional streams
 
-test_true : (a b : ℕ) → a ≡ b → (a == b) ≡ true
-test_true a b is = grind (arith, nat_tests, is)
-
-test_false : (a b : ℕ) → (a ≡ b → ⊥) → (a == b) ≡ false
-test_false a b apart = go (a == b) refl
-  where
-    go : (t : Bool) → (a == b) ≡ t → (a == b) ≡ false
-    go false is = is
-    go true is = absurd (apart (grind (arith, nat_tests, is)))
-
 module _ (e : End) (k from : ℕ) (r : Option ℕ) (ge2 : 2 ≤ k) (lt4 : k < 4) where
   own_is : (n : ℕ) (b : Bool) → type_of n ≡ k → (k % 2 == role_bit e.role) ≡ b → is_own e n ≡ b
   own_is n b kind is = ap (λ j. j % 2 == role_bit e.role) kind ∙ is
 
   pub own_least : k % 2 ≡ role_bit e.role → IsLeast (IsHeldOf HasSent e.sends k) from r → IsLeast (IsEndedOf e k) from r
   own_least bit h =
-      let own : (k % 2 == role_bit e.role) ≡ true = test_true (k % 2) (role_bit e.role) bit in
+      let own : (k % 2 == role_bit e.role) ≡ true = eq-eqb (k % 2) (role_bit e.role) bit in
       record {
         found = λ n is. (let f = h.found n is in (f.0, (f.1.0, record { receiving = λ no. absurd (both_ways (is_uni n && is_own e n) no (rw (uni_is n k true f.1.0 (uni_above k ge2 lt4), own_is n true f.1.0 own) refl)); sending = λ yes. f.1.1 })));
         least = λ n ge over. h.least n ge (over.0, over.1.sending (rw (own_is n true over.0 own, uni_is n k true over.0 (uni_above k ge2 lt4)) refl));
@@ -127,7 +107,7 @@ module _ (e : End) (k from : ℕ) (r : Option ℕ) (ge2 : 2 ≤ k) (lt4 : k < 4)
 
   pub peers_least : (k % 2 ≡ role_bit e.role → ⊥) → IsLeast (IsHeldOf (HasOne recv_tasks.Ended) e.recvs k) from r → IsLeast (IsEndedOf e k) from r
   peers_least bit h =
-      let own : (k % 2 == role_bit e.role) ≡ false = test_false (k % 2) (role_bit e.role) bit in
+      let own : (k % 2 == role_bit e.role) ≡ false = ne_eqb (k % 2) (role_bit e.role) bit in
       record {
         found = λ n is. (let f = h.found n is in (f.0, (f.1.0, record { receiving = λ yes. f.1.1; sending = λ no. absurd (both_ways (is_uni n && not (is_own e n)) no (rw (uni_is n k true f.1.0 (uni_above k ge2 lt4), own_is n false f.1.0 own) refl)) })));
         least = λ n ge over. h.least n ge (over.0, over.1.receiving (rw (own_is n false over.0 own, uni_is n k true over.0 (uni_above k ge2 lt4)) refl));

@@ -1,8 +1,10 @@
 -- The calls of an owner, by the parts that they change.
-use Rattle.std.proofs.Common.{◌≡◌, ℕ, ◌<◌, Bool, true, false, List, [], length, take, Option, Some, None, is_some, Result, Ok, Err, refl, ap, ◌∙◌, inl, inr, subst, unwrap_or, rules}
+use Rattle.std.proofs.Common.{◌≡◌, ℕ, ◌<◌, Bool, true, false, List, [], length, take, Option, Some, None, is_some, Result, Ok, Err, refl, ap, ◌∙◌, inl, inr, subst, unwrap_or, rules, sym}
 use Rattle.std.specs.Prelude.{is_none}
-use Rattle.qs_recv.specs.Lane.{RecvLane, read_answer, bytes_read, after_read, stop}
+use Rattle.std.proofs.lemmas.Option.{none-some}
+use Rattle.qs_recv.specs.Lane.{RecvLane, read_answer, bytes_of, bytes_read, after_answer, after_read, stop}
 use Rattle.qs_recv.specs.declared.half.Read.{Read}
+use Rattle.qs_recv.specs.declared.half.Read.TheVariants.{Wait}
 use Rattle.qs_send.specs.Lane.{SendLane, accepted, refusal, write_lane}
 use Rattle.qs_send.specs.declared.parts.SendFault.{SendFault}
 use Rattle.qs_send.specs.declared.parts.SendFault.TheVariants as sends
@@ -13,6 +15,11 @@ use Rattle.qs_machine.specs.Credit.{settle}
 use Rattle.qs_machine.specs.Verdicts.{or_new}
 use Rattle.qs_machine.specs.Owner.{Certain, Uncertain, first_refusal, refuse_if, no_half, half_refusal, use_fault, send_refusal, recv_refusal, AsksToKeep, WriteStep, StopStep, ReadStep}
 use Rattle.qs_machine.specs.Sums.{or_none}
+use Rattle.qs_machine.proofs.TablesAfter.{updated_back}
+use Rattle.qs_conn.specs.Ended.{IsToldOfEnd}
+use Rattle.qs_conn.specs.RecvTasks.{HasNone}
+use Rattle.qs_conn.specs.declared.recv_marks.RecvTask.{RecvTask}
+use Rattle.qs_conn.proofs.RecvNews.{waits}
 use Rattle.qs_conn.specs.Layers.{no_sender, no_receiver}
 
 -- A refusal, and no refusal
@@ -115,6 +122,24 @@ pub read_ok : (e now : End) (n size : ℕ) (answer : Read) (recvs : Tables RecvL
 read_ok e now n size answer recvs new is none told after settled =
     subst (λ (k : End). ReadStep k n size (Ok answer) (bytes_read (or_new (recv_lane e n) 0) size) new) is
     (read_done e n size answer recvs new (ap (λ k. no_receiver k n) is ∙ none) told after settled)
+
+pub read_none : (e now : End) (n size : ℕ) (new : End) → e ≡ now → no_receiver now n ≡ None → IsToldOfEnd (recv_lane e n) → ((t : RecvTask) → HasNone t (or_new (recv_lane e n) 0)) → new ≡ settle now → ReadStep now n size (Ok Wait) [] new
+read_none e now n size new is none told quiet settled = subst (λ (k : End). ReadStep k n size (Ok Wait) [] new) is (go (recv_lane e n) refl)
+  where
+    open_now : no_receiver e n ≡ None
+    open_now = ap (λ k. no_receiver k n) is ∙ none
+
+    go : (o : Option RecvLane) → recv_lane e n ≡ o → ReadStep e n size (Ok Wait) [] new
+    go None at = absurd (none-some _ (sym at ∙ receiver_there e n open_now))
+    go (Some l) at =
+        let waiting = waits l size (subst IsToldOfEnd at told) (subst (λ o. (t : RecvTask) → HasNone t (or_new o 0)) at quiet) in
+        rw (recv_refusal_is e n ∙ open_now) (
+          l,
+          at,
+          ap Ok (sym waiting),
+          sym (ap (λ a. bytes_of a l size) waiting),
+          settled ∙ ap settle (sym is) ∙ ap (λ t. settle (record e { recvs = t })) (sym (updated_back e.recvs n (λ m. after_read m size) l at (ap (λ a. after_answer a l size) waiting))),
+        )
 
 pub stop_ok : (e now : End) (n code : ℕ) (recvs : Tables RecvLane) (new : End) → e ≡ now → no_receiver now n ≡ None → recvs ≡ updated e.recvs n (λ l. stop l code) (recv_lane e n)
     → new ≡ settle (record e { recvs = recvs }) → StopStep now n code (Ok tt) new

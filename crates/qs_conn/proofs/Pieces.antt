@@ -17,6 +17,7 @@ use Rattle.qs_machine.specs.Due.{Among, IsOutstanding, IsDue, IsEndDue}
 use Rattle.qs_machine.specs.Lawful.{frame_put, item_put, noted, pieces_so_far, chunk_of}
 use Rattle.qs_machine.proofs.Carried.{get_new, get_other, among_push, among_more, among_last, so_far}
 use Rattle.qs_conn.specs.Filling.{InPacket}
+use Rattle.qs_conn.proofs.EachItem.{each_item}
 
 -- Where less is outstanding, more is due.
 module _ (e e' : End) (n : ℕ) (l : SendLane) (fewer : (c : Chunk) → IsOutstanding e' (Data n c) → IsOutstanding e (Data n c)) where
@@ -38,15 +39,12 @@ module _ (e e' : End) (n : ℕ) (l : SendLane) (fewer : (c : Chunk) → IsOutsta
         not_sent = λ offset len out. d.not_sent offset len (fewer _ out);
       }
 
-tied : (q k : ℕ) → eq_by_cmp nat_cmp q k ≡ true → q ≡ k
-tied q k e = eqb-true q k (sym (unsigned_tied q k) ∙ e)
-
 -- what a map has after an insert
 pub get_inserted : {X : Type 0} (m : fmap.FinMap nat_cmp X) (k : ℕ) (v : X) (q : ℕ) (b : X) → fmap.get (fmap.insert m k v) q ≡ Some b → (fmap.get m q ≡ Some b) ⊎ ((q ≡ k) × (v ≡ b))
 get_inserted m k v q b h = go (eq_by_cmp nat_cmp q k) refl
   where
     go : (t : Bool) → eq_by_cmp nat_cmp q k ≡ t → (fmap.get m q ≡ Some b) ⊎ ((q ≡ k) × (v ≡ b))
-    go true e = inr (tied q k e, same_Some v b (sym (fmap.get-insert nat_cmp_total m k v q ∙ ap (λ x. cond x (Some v) (fmap.get m q)) e) ∙ h))
+    go true e = inr (eqb-true q k (sym (unsigned_tied q k) ∙ e), same_Some v b (sym (fmap.get-insert nat_cmp_total m k v q ∙ ap (λ x. cond x (Some v) (fmap.get m q)) e) ∙ h))
     go false e = inl (sym (fmap.get-insert nat_cmp_total m k v q ∙ ap (λ x. cond x (Some v) (fmap.get m q)) e) ∙ h)
 
 -- The record of the packet in the making
@@ -82,34 +80,13 @@ noted_packet p e x a = among_push (pieces_so_far e e.next) p x (subst (λ o. Amo
 -- An item leaves the records as they are but for its own piece.
 
 pub item_out : (i : Item) (e : End) → (item_put i e).outstanding ≡ e.outstanding
-item_out (MaxData m) e = refl
-item_out (MaxStreamData n m) e = refl
-item_out (MaxStreams d m) e = refl
-item_out (ResetStream n code size) e = refl
-item_out (StopSending n code) e = refl
-item_out (DataBlocked m) e = refl
-item_out (StreamDataBlocked n m) e = refl
-item_out (StreamsBlocked d m) e = refl
+item_out i e = each_item (λ j. (item_put j e).outstanding ≡ e.outstanding) (λ m. refl) (λ n m. refl) (λ d m. refl) (λ n code size. refl) (λ n code. refl) (λ m. refl) (λ n m. refl) (λ d m. refl) i
 
 pub item_next : (i : Item) (e : End) → (item_put i e).next ≡ e.next
-item_next (MaxData m) e = refl
-item_next (MaxStreamData n m) e = refl
-item_next (MaxStreams d m) e = refl
-item_next (ResetStream n code size) e = refl
-item_next (StopSending n code) e = refl
-item_next (DataBlocked m) e = refl
-item_next (StreamDataBlocked n m) e = refl
-item_next (StreamsBlocked d m) e = refl
+item_next i e = each_item (λ j. (item_put j e).next ≡ e.next) (λ m. refl) (λ n m. refl) (λ d m. refl) (λ n code size. refl) (λ n code. refl) (λ m. refl) (λ n m. refl) (λ d m. refl) i
 
 pub item_ack_due : (i : Item) (e : End) → (item_put i e).ack_due ≡ e.ack_due
-item_ack_due (MaxData m) e = refl
-item_ack_due (MaxStreamData n m) e = refl
-item_ack_due (MaxStreams d m) e = refl
-item_ack_due (ResetStream n code size) e = refl
-item_ack_due (StopSending n code) e = refl
-item_ack_due (DataBlocked m) e = refl
-item_ack_due (StreamDataBlocked n m) e = refl
-item_ack_due (StreamsBlocked d m) e = refl
+item_ack_due i e = each_item (λ j. (item_put j e).ack_due ≡ e.ack_due) (λ m. refl) (λ n m. refl) (λ d m. refl) (λ n code size. refl) (λ n code. refl) (λ m. refl) (λ n m. refl) (λ d m. refl) i
 
 -- what a frame leaves in the packet's record
 abbrev pub PieceOfFrame : Seen → Piece → Type 0

@@ -24,6 +24,7 @@ use Rattle.qs_conn.proofs.Untolds.{fills_told}
 use Rattle.qs_conn.proofs.Stages.{begun_idle, begun_fewer, begun_absent, begun_covered, begun_item, begun_too_long}
 use Rattle.qs_conn.proofs.Slots.{end_put}
 use Rattle.qs_conn.proofs.Flows.{two}
+use Rattle.qs_conn.proofs.EachItem.{each_item}
 
 pub stage_fewer : (delay room : ℕ) (old : End) (text : List ℕ) (e : End) (b : Bool) (P Q : Passed) → ((s : Slot) → IsPassed Q s → IsPassed P s) → Stage delay room old text e b P → Stage delay room old text e b Q
 stage_fewer delay room old text e true P Q fewer s = s
@@ -103,14 +104,7 @@ below_next P kind n m slot s is next (inr (k, lt, at)) =
 
 pub item_some : (i : Item) → 2 ≤ length (canonical (frame_of_item i))
 unfolding canonical
-item_some (MaxData m) = two _ m _
-item_some (MaxStreamData n m) = two _ n _
-item_some (MaxStreams d m) = two _ m _
-item_some (ResetStream n code size) = two _ n _
-item_some (StopSending n code) = two _ n _
-item_some (DataBlocked m) = two _ m _
-item_some (StreamDataBlocked n m) = two _ n _
-item_some (StreamsBlocked d m) = two _ m _
+item_some i = each_item (λ j. 2 ≤ length (canonical (frame_of_item j))) (λ m. two _ m _) (λ n m. two _ n _) (λ d m. two _ m _) (λ n code size. two _ n _) (λ n code. two _ n _) (λ m. two _ m _) (λ n m. two _ n _) (λ d m. two _ m _) i
 
 -- items send no byte
 pub sum_put : (i : Item) (o : Outgoing) → sent_sum (item_put_out i o).sends ≡ sent_sum o.sends

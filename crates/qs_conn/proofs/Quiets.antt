@@ -23,7 +23,7 @@ use Rattle.qs_conn.specs.Marks.{IsIdle}
 use Rattle.qs_conn.specs.Tasks.{IsQuiet, IsQuietAt}
 use Rattle.qs_conn.proofs.DueTied.{is_due, is_end_due}
 use Rattle.qs_machine.proofs.LaneTables.{lookup_lanes}
-use Rattle.qs_conn.proofs.Slots.{of_reset_stream, of_stream_data_blocked}
+use Rattle.qs_conn.proofs.Slots.{of_slot}
 
 -- of a quiet half among the halves
 pub quiet_at : (task : Task) (v o : Outgoing) (t : Tables Sending) (n : ℕ) → v ≡ o → lanes_of t ≡ v.sends → ((s : Sending) → lookup t n ≡ Some s → IsTied v.outstanding n s) → ((s : Sending) → lookup t n ≡ Some s → IsQuiet task s) → IsQuietAt task o n
@@ -67,7 +67,7 @@ module _ (o : Outgoing) (n : ℕ) (t : Limits) (recvs : Tables RecvLane) (e : En
   there = end_by t recvs o e
 
   pub reset_idle : IsQuietAt tasks.Reset o n → IsIdle there (slots.ResetStream n)
-  reset_idle q = of_reset_stream (λ i. IsCurrent there i → IsCovered there i) n told
+  reset_idle q = of_slot (λ i. IsCurrent there i → IsCovered there i) (slots.ResetStream n) told
     where
       told : (code size : ℕ) → IsCurrent there (ResetStream n code size) → IsCovered there (ResetStream n code size)
       told code size (l, at, reset) =
@@ -75,7 +75,7 @@ module _ (o : Outgoing) (n : ℕ) (t : Limits) (recvs : Tables RecvLane) (e : En
           inr (l, at, ap (λ x. x.reset_acked) (sym is) ∙ quiet (ap (λ x. is_some x.was_reset) is ∙ ap is_some reset))
 
   pub blocked_idle : IsQuietAt tasks.Blocked o n → IsIdle there (slots.StreamDataBlocked n)
-  blocked_idle q = of_stream_data_blocked (λ i. IsCurrent there i → IsCovered there i) n (λ m (l, at, none, limit, more, sent). (
+  blocked_idle q = of_slot (λ i. IsCurrent there i → IsCovered there i) (slots.StreamDataBlocked n) (λ m (l, at, none, limit, more, sent). (
       let (s, is, tied, quiet) = q l at in
       absurd (quiet m (subst (λ x. IsBlockedAt (Some x) m) (sym is) (none, limit, more, sent)))))
 

@@ -1,27 +1,55 @@
 -- Marks of receiving halves that have an answer for their owner.
-use Rattle.std.proofs.Common.{◌≡◌, ℕ, ◌-◌, ◌≤◌, ◌<◌, ◌^◌, Bool, false, not, ◌&&◌, List, [], ◌∷◌, ◌++◌, length, map, take, replicate, Option, None, Some, refl, sym, ap, ◌∙◌, subst}
+use Rattle.std.proofs.Common.{◌≡◌, ℕ, zero, suc, ◌-◌, ◌≤◌, ◌<◌, ◌^◌, Bool, true, false, not, ◌&&◌, List, [], ◌∷◌, ◌++◌, length, map, take, replicate, Option, None, Some, is_some, slice_get, refl, sym, ap, ◌∙◌, subst, arith}
+use Rattle.std.proofs.lemmas.Bool.{true≢false, both_ways}
 use Rattle.std.specs.List.{range_with_len}
-use Rattle.std.specs.Prelude.{slice_set}
-use Rattle.std.specs.FinSet as fin_set
+use Rattle.std.specs.Prelude.{if◌then◌else◌, slice_set, slice_index_or}
+use Rattle.std.specs.FinSet as set
 use Rattle.std.specs.Ordering.{nat_cmp}
-use Rattle.std.proofs.Math.ListN.{set}
-use Rattle.qs_recv.specs.Lane.{RecvLane, new_lane, raise, answer_by}
-use Rattle.qs_recv.specs.declared.half.Read.TheVariants.{Wait}
+use Rattle.std.proofs.Math.ListN as list
+use Rattle.qs_recv.specs.Lane.{RecvLane, new_lane, raise, answer_by, read_answer, is_whole, at_final_size}
+use Rattle.qs_recv.specs.declared.half.Read.TheVariants.{Bytes, End, Wait}
 use Rattle.qs_recv.specs.News.{tells_something}
+use Rattle.qs_machine.specs.Credit.{recv_ended}
 use Rattle.qs_machine.proofs.Choices.{not_chosen}
-use Rattle.qs_conn.specs.Marks.{AreMarked}
+use Rattle.qs_conn.specs.Marks.{is_marked, AreMarked}
 use Rattle.qs_conn.specs.RecvTasks.{has, marks_of, HasNone, AreNoted}
 use Rattle.qs_conn.specs.declared.recv_marks.RecvTask.{RecvTask}
 use Rattle.qs_conn.specs.declared.recv_marks.RecvTask.TheVariants as tasks
 use Rattle.qs_conn.specs.declared.recv_marks.RecvMarks.{RecvMarks}
-use Rattle.qs_conn.proofs.Marked.{look_again, marked_take, mark_there, more_opened}
+use Rattle.qs_conn.proofs.Marked.{look_again, marked_take, mark_there, more_opened, unmarked_at}
+use Rattle.std.proofs.lemmas.Option.{slice_get-get_or}
 
 -- an index has a mark for each task
 pub noted_there : (xs : List RecvLane) (marks : RecvMarks) (i : ℕ) → AreNoted xs marks → i < length xs → (t : RecvTask) → i < length (marks_of marks t)
 noted_there xs marks i h there t = mark_there (HasNone t) xs (marks_of marks t) i (h t) there
 
+-- a lane without a mark for any task has no answer
+pub quiet_there : (xs : List RecvLane) (marks : RecvMarks) (i : ℕ) → AreNoted xs marks → i < length xs → ((t : RecvTask) → is_marked (marks_of marks t) i ≡ false) → (t : RecvTask) → HasNone t (slice_index_or xs i (new_lane 0))
+quiet_there xs marks i h there none t = unmarked_at (HasNone t) xs (marks_of marks t) i (slice_index_or xs i (new_lane 0)) (h t) (slice_get-get_or xs i (new_lane 0) there) (none t)
+
+-- A reader of such a lane waits, where what was told was an end or a reset (RFC 9000, sections 2.2 and 3.2)
+
+waits_open : (stopped whole over here : Bool) (n m : ℕ) → tells_something (if stopped then (if whole then End else Wait) else (if over then End else (if here then Bytes n else Wait))) ≡ false
+    → (if stopped then (if whole then End else Wait) else (if over then End else (if here then Bytes m else Wait))) ≡ Wait
+waits_open true true over here n m h = absurd (true≢false h)
+waits_open true false over here n m h = refl
+waits_open false whole true here n m h = absurd (true≢false h)
+waits_open false whole false true n m h = absurd (true≢false h)
+waits_open false whole false false n m h = refl
+
+waits_by : (o : Option ℕ) (l : RecvLane) (size : ℕ) → tells_something (answer_by o l 1) ≡ false → answer_by o l size ≡ Wait
+waits_by (Some code) l size h = absurd (true≢false h)
+waits_by None l size h = waits_open (is_some l.stop_code) (is_whole l) (at_final_size l.arrived.read_count l.final_size) (set.contains l.arrived.received l.arrived.read_count) _ _ h
+
+pub waits : (l : RecvLane) (size : ℕ) → (l.told ≡ true → recv_ended l ≡ true) → ((t : RecvTask) → HasNone t l) → read_answer l size ≡ Wait
+waits l size told none = go l.told refl
+  where
+    go : (b : Bool) → l.told ≡ b → read_answer l size ≡ Wait
+    go true is = absurd (both_ways (recv_ended l) (none tasks.Ended) (told is))
+    go false is = waits_by l.reset_code l size (ap (λ b. not b && tells_something (read_answer l 1)) (sym is) ∙ none tasks.Readable)
+
 -- a lane was changed and then looked at
-pub noted_again : (xs : List RecvLane) (old new : RecvMarks) (i : ℕ) (y : RecvLane) → ((t : RecvTask) → marks_of new t ≡ slice_set (marks_of old t) i (has t y)) → AreNoted xs old → AreNoted (set xs i y) new
+pub noted_again : (xs : List RecvLane) (old new : RecvMarks) (i : ℕ) (y : RecvLane) → ((t : RecvTask) → marks_of new t ≡ slice_set (marks_of old t) i (has t y)) → AreNoted xs old → AreNoted (list.set xs i y) new
 noted_again xs old new i y looked h t = look_again (HasNone t) xs (marks_of old t) (marks_of new t) i y (has t y) (λ is. is) (looked t) (h t)
 
 -- some lanes leave
@@ -34,7 +62,7 @@ noted_undone xs now old new is at h t = rw (is, at t) (h t)
 
 -- a lane begins without an answer
 pub begins_without : (t : RecvTask) (window : ℕ) → HasNone t (new_lane window)
-begins_without tasks.Readable window = ap tells_something (not_chosen _ _ Wait (fin_set.contains-empty nat_cmp 0))
+begins_without tasks.Readable window = ap tells_something (not_chosen _ _ Wait (set.contains-empty nat_cmp 0))
 begins_without tasks.Ended window = refl
 
 -- lanes open

@@ -1,5 +1,5 @@
 -- Sending halves are opened and edited.
-use Rattle.std.proofs.Common.{◌≡◌, ℕ, Bool, true, false, ◌&&◌, ◌||◌, cond, is_some, is_none, unwrap_or, ◌+◌, ◌-◌, subst, ◌<◌, ◌^◌, List, length, take, get_or, Option, Some, None, slice_get, Result, Ok, Err, refl, sym, ap, ◌∙◌, arith}
+use Rattle.std.proofs.Common.{◌≡◌, ℕ, nat_lt, Bool, true, false, ◌&&◌, ◌||◌, cond, is_some, is_none, unwrap_or, ◌+◌, ◌-◌, subst, ◌<◌, ◌^◌, List, length, take, get_or, Option, Some, None, slice_get, Result, Ok, Err, refl, sym, ap, ◌∙◌, arith}
 use Rattle.std.specs.Option.{IfSome}
 use Rattle.std.specs.Ordering.{nat_cmp}
 use Rattle.std.specs.Result.{OnOk, OnErr, IfOk, IfErr}
@@ -9,17 +9,22 @@ use Rattle.qs_machine.specs.Memory.{ChunkMayRunOut}
 use Rattle.std.proofs.Math.ListN.{set as set_list}
 use Rattle.std.specs.FinSet as set
 use Rattle.std.proofs.lemmas.Bool.{true≢false}
+use Rattle.std.proofs.lemmas.Bool.Decides.{nat_tests}
 use Rattle.std.proofs.lemmas.List.{get_or_default}
 use Rattle.qs_send.specs.declared.parts.SendFault.{SendFault}
 use Rattle.qs_send.specs.declared.parts.SendFault.TheVariants.{WasReset, Finished}
 use Rattle.qs_send.specs.declared.parts.SendFault.TheVariants as SendFaults
 use Rattle.std.proofs.lemmas.Option.{none-some}
-use Rattle.qs_send.specs.Lane.{Sending, new_sending, accepted, refusal, is_whole, write_lane, after_write, after_acked}
+use Rattle.qs_send.specs.Writable.{is_writable}
+use Rattle.qs_send.proofs.Steps.{write_nothing}
+use Rattle.qs_send.specs.Lane.{Sending, SendLane, new_sending, accepted, refusal, is_whole, write_lane, after_write, after_acked}
 use Rattle.qs_machine.specs.Sums.{changed, no_sending}
 use Rattle.qs_conn.specs.declared.send_marks.Task.{Task}
 use Rattle.qs_conn.specs.declared.send_marks.Task.TheVariants as tasks
 use Rattle.qs_conn.specs.Tasks.{IsQuiet, begins}
+use Rattle.qs_machine.proofs.TablesAfter.{set_back}
 use Rattle.qs_conn.proofs.LaneEdits.{changed_at}
+use Rattle.qs_conn.proofs.Least.{part_at}
 
 -- a sending half is opened: its number
 pub id_is : (r : Option ℕ) (id number : ℕ) → r ≡ Some id → IfSome r (λ k. (k ≡ number) × (number < 2 ^ 62)) → id ≡ number
@@ -43,6 +48,20 @@ wrote_at (Ok n) xs i x y bytes there at h =
     let same : x ≡ get_or xs i no_sending = at ∙ get_or_default xs i x no_sending there in
     (sym (ap (λ (s : Sending). refusal s.lane) same) ∙ h.0, h.1 ∙ ap (λ (s : Sending). accepted s.lane (length bytes)) same, changed_at xs i x y (λ s. after_write s (take n bytes)) there at h.2)
 wrote_at (Err e) xs i x y bytes there at h = tt
+
+-- nothing was written to a half that has no room
+full : (l : SendLane) (n : ℕ) → is_writable l ≡ false → refusal l ≡ None → 0 ≡ accepted l n
+full l n shut free =
+    let least : nat_lt 0 (accepted l 1) ≡ false = ap (λ o. is_none o && nat_lt 0 (accepted l 1)) (sym free) ∙ shut in
+    let none : accepted l 1 ≡ 0 = grind (arith, nat_tests, least) in
+    omega (arith, none)
+
+pub wrote_none : (r : Result ℕ SendFault) (xs : List Sending) (i : ℕ) (x : Sending) (bytes : List ℕ) → i < length xs → x ≡ get_or xs i x → is_writable x.lane ≡ false → IfOk r (λ n. (refusal x.lane ≡ None) × (n ≡ 0))
+    → IfOk r (λ n. (refusal (get_or xs i no_sending).lane ≡ None) × (n ≡ accepted (get_or xs i no_sending).lane (length bytes)) × (xs ≡ changed xs i (λ s. after_write s (take n bytes)) (slice_get xs i)))
+wrote_none (Ok n) xs i x bytes there at shut h =
+    let w = wrote_at (Ok n) xs i x x bytes there at (h.0, h.1 ∙ full x.lane (length bytes) shut h.0, rw h.1 (write_nothing x)) in
+    (w.0, w.1, sym (set_back xs i x (part_at xs i x there at)) ∙ w.2)
+wrote_none (Err e) xs i x bytes there at shut h = tt
 
 -- a half begins quiet
 pub begins_quiet : (t : Task) → begins t ≡ false → (id limit buffer : ℕ) → IsQuiet t (new_sending id limit buffer)

@@ -23,6 +23,7 @@ use Rattle.qs_conn.specs.Marks.{IsIdle}
 use Rattle.qs_conn.specs.Sending.{TellsDue, TellsGoing, TellsAnyGoing, TellsFrame}
 use Rattle.qs_conn.proofs.Chunks.{ties_of, none_goes, chunk_goes}
 use Rattle.qs_conn.proofs.MadePackets.{limits_of}
+use Rattle.qs_conn.proofs.Openings.{none_is}
 
 -- Control items
 
@@ -149,10 +150,6 @@ beside_frame v old t o b marks same open_still is out told tells = subst (λ e. 
     parts : end_by t v.recvs o v ≡ v
     parts = ap (λ (x : Limits). end_by x v.recvs o v) (is ∙ ap limits_of (sym same)) ∙ out
 
-    none_of : (x : Option Closed) → is_some x ≡ false → x ≡ None
-    none_of None h = refl
-    none_of (Some c) h = absurd (true≢false h)
-
     go : (c : Bool) → TellsFrame c v → IsTrue c ↔ GoesBesideAck v
-    go true some = ((λ h. (none_of v.closed open_still, some)), (λ h. refl))
+    go true some = ((λ h. (none_is v.closed open_still, some)), (λ h. refl))
     go false none = ((λ h. absurd (both_ways false refl h)), (λ h. absurd (none h.1)))

@@ -20,86 +20,41 @@ use Rattle.qs_machine.specs.Sums.{or_none}
 use Rattle.qs_conn.specs.Layers.{limit_to_tell, stop_to_tell}
 use Rattle.qs_machine.specs.Outgoing.{Outgoing, IsBlockedAt, WantsMore, MayTell, IsOfReset, IsAckedOut, IsAckedReset, item_put_out}
 use Rattle.qs_conn.specs.Filling.{slot_of, end_by, IsCurrentIn, AnyWantsMore}
+use Rattle.qs_conn.specs.declared.slot.Slot.{Slot}
 
 -- What is of a slot
 
-pub of_max_stream_data : (P : Item → Type 0) (n : ℕ) → ((m : ℕ) → P (MaxStreamData n m)) → (j : Item) → slot_of j ≡ slots.MaxStreamData n → P j
-of_max_stream_data P n p (MaxData m2) is = absurd (cc is)
-of_max_stream_data P n p (MaxStreamData k m) is = (let same : k ≡ n = cc in subst (λ x. P (MaxStreamData x m)) (sym same) (p m))
-of_max_stream_data P n p (MaxStreams d2 m2) is = absurd (cc is)
-of_max_stream_data P n p (ResetStream n2 code2 size2) is = absurd (cc is)
-of_max_stream_data P n p (StopSending n2 code2) is = absurd (cc is)
-of_max_stream_data P n p (DataBlocked m2) is = absurd (cc is)
-of_max_stream_data P n p (StreamDataBlocked n2 m2) is = absurd (cc is)
-of_max_stream_data P n p (StreamsBlocked d2 m2) is = absurd (cc is)
+-- each item of the slot has the property
+abbrev pub AtSlot : (Item → Type 0) → Slot → Type 0
+AtSlot P slots.MaxData = (m : ℕ) → P (MaxData m)
+AtSlot P (slots.MaxStreamData n) = (m : ℕ) → P (MaxStreamData n m)
+AtSlot P (slots.MaxStreams d) = (m : ℕ) → P (MaxStreams d m)
+AtSlot P (slots.ResetStream n) = (code : ℕ) (size : ℕ) → P (ResetStream n code size)
+AtSlot P (slots.StopSending n) = (code : ℕ) → P (StopSending n code)
+AtSlot P slots.DataBlocked = (m : ℕ) → P (DataBlocked m)
+AtSlot P (slots.StreamDataBlocked n) = (m : ℕ) → P (StreamDataBlocked n m)
+AtSlot P (slots.StreamsBlocked d) = (m : ℕ) → P (StreamsBlocked d m)
 
-pub of_reset_stream : (P : Item → Type 0) (n : ℕ) → ((code : ℕ) (size : ℕ) → P (ResetStream n code size)) → (j : Item) → slot_of j ≡ slots.ResetStream n → P j
-of_reset_stream P n p (MaxData m2) is = absurd (cc is)
-of_reset_stream P n p (MaxStreamData n2 m2) is = absurd (cc is)
-of_reset_stream P n p (MaxStreams d2 m2) is = absurd (cc is)
-of_reset_stream P n p (ResetStream k code size) is = (let same : k ≡ n = cc in subst (λ x. P (ResetStream x code size)) (sym same) (p code size))
-of_reset_stream P n p (StopSending n2 code2) is = absurd (cc is)
-of_reset_stream P n p (DataBlocked m2) is = absurd (cc is)
-of_reset_stream P n p (StreamDataBlocked n2 m2) is = absurd (cc is)
-of_reset_stream P n p (StreamsBlocked d2 m2) is = absurd (cc is)
-
-pub of_stop_sending : (P : Item → Type 0) (n : ℕ) → ((code : ℕ) → P (StopSending n code)) → (j : Item) → slot_of j ≡ slots.StopSending n → P j
-of_stop_sending P n p (MaxData m2) is = absurd (cc is)
-of_stop_sending P n p (MaxStreamData n2 m2) is = absurd (cc is)
-of_stop_sending P n p (MaxStreams d2 m2) is = absurd (cc is)
-of_stop_sending P n p (ResetStream n2 code2 size2) is = absurd (cc is)
-of_stop_sending P n p (StopSending k code) is = (let same : k ≡ n = cc in subst (λ x. P (StopSending x code)) (sym same) (p code))
-of_stop_sending P n p (DataBlocked m2) is = absurd (cc is)
-of_stop_sending P n p (StreamDataBlocked n2 m2) is = absurd (cc is)
-of_stop_sending P n p (StreamsBlocked d2 m2) is = absurd (cc is)
-
-of_data_blocked : (P : Item → Type 0) → ((m : ℕ) → P (DataBlocked m)) → (j : Item) → slot_of j ≡ slots.DataBlocked → P j
-of_data_blocked P p (MaxData m2) is = absurd (cc is)
-of_data_blocked P p (MaxStreamData n2 m2) is = absurd (cc is)
-of_data_blocked P p (MaxStreams d2 m2) is = absurd (cc is)
-of_data_blocked P p (ResetStream n2 code2 size2) is = absurd (cc is)
-of_data_blocked P p (StopSending n2 code2) is = absurd (cc is)
-of_data_blocked P p (DataBlocked m) is = p m
-of_data_blocked P p (StreamDataBlocked n2 m2) is = absurd (cc is)
-of_data_blocked P p (StreamsBlocked d2 m2) is = absurd (cc is)
-
-pub of_stream_data_blocked : (P : Item → Type 0) (n : ℕ) → ((m : ℕ) → P (StreamDataBlocked n m)) → (j : Item) → slot_of j ≡ slots.StreamDataBlocked n → P j
-of_stream_data_blocked P n p (MaxData m2) is = absurd (cc is)
-of_stream_data_blocked P n p (MaxStreamData n2 m2) is = absurd (cc is)
-of_stream_data_blocked P n p (MaxStreams d2 m2) is = absurd (cc is)
-of_stream_data_blocked P n p (ResetStream n2 code2 size2) is = absurd (cc is)
-of_stream_data_blocked P n p (StopSending n2 code2) is = absurd (cc is)
-of_stream_data_blocked P n p (DataBlocked m2) is = absurd (cc is)
-of_stream_data_blocked P n p (StreamDataBlocked k m) is = (let same : k ≡ n = cc in subst (λ x. P (StreamDataBlocked x m)) (sym same) (p m))
-of_stream_data_blocked P n p (StreamsBlocked d2 m2) is = absurd (cc is)
-
-of_streams_blocked : (P : Item → Type 0) (d : Dir) → ((m : ℕ) → P (StreamsBlocked d m)) → (j : Item) → slot_of j ≡ slots.StreamsBlocked d → P j
-of_streams_blocked P d p (MaxData m2) is = absurd (cc is)
-of_streams_blocked P d p (MaxStreamData n2 m2) is = absurd (cc is)
-of_streams_blocked P d p (MaxStreams d2 m2) is = absurd (cc is)
-of_streams_blocked P d p (ResetStream n2 code2 size2) is = absurd (cc is)
-of_streams_blocked P d p (StopSending n2 code2) is = absurd (cc is)
-of_streams_blocked P d p (DataBlocked m2) is = absurd (cc is)
-of_streams_blocked P d p (StreamDataBlocked n2 m2) is = absurd (cc is)
-of_streams_blocked P d p (StreamsBlocked k m) is = (let same : k ≡ d = cc in subst (λ x. P (StreamsBlocked x m)) (sym same) (p m))
-
-of_max_streams : (P : Item → Type 0) (d : Dir) → ((m : ℕ) → P (MaxStreams d m)) → (j : Item) → slot_of j ≡ slots.MaxStreams d → P j
-of_max_streams P d p (MaxData m2) is = absurd (cc is)
-of_max_streams P d p (MaxStreamData n2 m2) is = absurd (cc is)
-of_max_streams P d p (MaxStreams k m) is = (let same : k ≡ d = cc in subst (λ x. P (MaxStreams x m)) (sym same) (p m))
-of_max_streams P d p (ResetStream n2 code2 size2) is = absurd (cc is)
-of_max_streams P d p (StopSending n2 code2) is = absurd (cc is)
-of_max_streams P d p (DataBlocked m2) is = absurd (cc is)
-of_max_streams P d p (StreamDataBlocked n2 m2) is = absurd (cc is)
-of_max_streams P d p (StreamsBlocked d2 m2) is = absurd (cc is)
+pub of_slot : (P : Item → Type 0) (s : Slot) → AtSlot P s → (j : Item) → slot_of j ≡ s → P j
+of_slot P s p j is = go j (subst (AtSlot P) (sym is) p)
+  where
+    go : (i : Item) → AtSlot P (slot_of i) → P i
+    go (MaxData m) p = p m
+    go (MaxStreamData n m) p = p m
+    go (MaxStreams d m) p = p m
+    go (ResetStream n code size) p = p code size
+    go (StopSending n code) p = p code
+    go (DataBlocked m) p = p m
+    go (StreamDataBlocked n m) p = p m
+    go (StreamsBlocked d m) p = p m
 
 -- The current item, or that there is none
 
 pub max_streams_there : (e : End) (d : Dir) (m : ℕ) → m ≡ granted_streams e d → first_grant e.settings d < m → IsCurrentIn e (slots.MaxStreams d) (Some (MaxStreams d m))
-max_streams_there e d m is lt = ((is, lt), refl, of_max_streams (λ j. IsCurrent e j → j ≡ MaxStreams d m) d (λ k c. ap (MaxStreams d) (c.0 ∙ sym is)))
+max_streams_there e d m is lt = ((is, lt), refl, of_slot (λ j. IsCurrent e j → j ≡ MaxStreams d m) (slots.MaxStreams d) (λ k c. ap (MaxStreams d) (c.0 ∙ sym is)))
 
 pub max_streams_none : (e : End) (d : Dir) → granted_streams e d ≤ first_grant e.settings d → IsCurrentIn e (slots.MaxStreams d) None
-max_streams_none e d le = of_max_streams (λ j. IsCurrent e j → ⊥) d (λ k c. omega (arith, c.0, c.1, le))
+max_streams_none e d le = of_slot (λ j. IsCurrent e j → ⊥) (slots.MaxStreams d) (λ k c. omega (arith, c.0, c.1, le))
 
 limit_some : (o : Option RecvLane) (m : ℕ) → limit_to_tell o ≡ Some m → (l : RecvLane) × (o ≡ Some l) × (m ≡ l.limit) × (l.final_size ≡ None)
 limit_some None m is = absurd (none-some m is)
@@ -117,11 +72,11 @@ max_stream_data_there e n m tells lt =
     let (l, there, is, none) = limit_some (recv_lane e n) m tells in (
       (l, there, is, lt, none),
       refl,
-      of_max_stream_data (λ j. IsCurrent e j → j ≡ MaxStreamData n m) n (λ k (l2, there2, is2, lt2, none2). ap (MaxStreamData n) (is2 ∙ same_Some l2.limit m (sym (limit_of (recv_lane e n) l2 there2 none2) ∙ tells))),
+      of_slot (λ j. IsCurrent e j → j ≡ MaxStreamData n m) (slots.MaxStreamData n) (λ k (l2, there2, is2, lt2, none2). ap (MaxStreamData n) (is2 ∙ same_Some l2.limit m (sym (limit_of (recv_lane e n) l2 there2 none2) ∙ tells))),
     )
 
 pub max_stream_data_none : (e : End) (n : ℕ) → ((m : ℕ) → limit_to_tell (recv_lane e n) ≡ Some m → window e n < m → ⊥) → IsCurrentIn e (slots.MaxStreamData n) None
-max_stream_data_none e n none = of_max_stream_data (λ j. IsCurrent e j → ⊥) n (λ k (l, there, is, lt, no_size). none k (limit_of (recv_lane e n) l there no_size ∙ ap Some (sym is)) lt)
+max_stream_data_none e n none = of_slot (λ j. IsCurrent e j → ⊥) (slots.MaxStreamData n) (λ k (l, there, is, lt, no_size). none k (limit_of (recv_lane e n) l there no_size ∙ ap Some (sym is)) lt)
 
 pub reset_there : (e : End) (n : ℕ) (r : Reset) → (or_none (send_lane e n)).was_reset ≡ Some r → IsCurrentIn e (slots.ResetStream n) (Some (ResetStream n r.code r.size))
 reset_there e n r is = go (send_lane e n) refl is
@@ -131,14 +86,14 @@ reset_there e n r is = go (send_lane e n) refl is
     go (Some l) there at = (
       (l, there, at),
       refl,
-      of_reset_stream (λ j. IsCurrent e j → j ≡ ResetStream n r.code r.size) n (λ code size (k, there2, at2). (
+      of_slot (λ j. IsCurrent e j → j ≡ ResetStream n r.code r.size) (slots.ResetStream n) (λ code size (k, there2, at2). (
           let same : l ≡ k = same_Some l k (sym there ∙ there2) in
           let eq : r ≡ record { code = code; size = size } = same_Some r (record { code = code; size = size }) (sym at ∙ ap (λ x. x.was_reset) same ∙ at2) in
           ap (λ (x : Reset). ResetStream n x.code x.size) (sym eq))),
     )
 
 pub reset_none : (e : End) (n : ℕ) → (or_none (send_lane e n)).was_reset ≡ None → IsCurrentIn e (slots.ResetStream n) None
-reset_none e n is = of_reset_stream (λ j. IsCurrent e j → ⊥) n (λ code size (k, there, at). none-some (record { code = code; size = size }) (sym (sym (ap (λ o. (or_none o).was_reset) there) ∙ is) ∙ at))
+reset_none e n is = of_slot (λ j. IsCurrent e j → ⊥) (slots.ResetStream n) (λ code size (k, there, at). none-some (record { code = code; size = size }) (sym (sym (ap (λ o. (or_none o).was_reset) there) ∙ is) ∙ at))
 
 stop_some : (o : Option RecvLane) (m : ℕ) → stop_to_tell o ≡ Some m → (l : RecvLane) × (o ≡ Some l) × (l.stop_code ≡ Some m) × (l.reset_code ≡ None) × (is_whole l ≡ false)
 stop_some None m is = absurd (none-some m is)
@@ -156,17 +111,17 @@ pub stop_there : (e : End) (n m : ℕ) → stop_to_tell (recv_lane e n) ≡ Some
 stop_there e n m tells = (
   stop_some (recv_lane e n) m tells,
   refl,
-  of_stop_sending (λ j. IsCurrent e j → j ≡ StopSending n m) n (λ code (l, there, is, reset, whole). ap (StopSending n) (same_Some code m (sym (stop_of (recv_lane e n) l code there is reset whole) ∙ tells))),
+  of_slot (λ j. IsCurrent e j → j ≡ StopSending n m) (slots.StopSending n) (λ code (l, there, is, reset, whole). ap (StopSending n) (same_Some code m (sym (stop_of (recv_lane e n) l code there is reset whole) ∙ tells))),
 )
 
 pub stop_none : (e : End) (n : ℕ) → stop_to_tell (recv_lane e n) ≡ None → IsCurrentIn e (slots.StopSending n) None
-stop_none e n none = of_stop_sending (λ j. IsCurrent e j → ⊥) n (λ code (l, there, is, reset, whole). none-some code (sym none ∙ stop_of (recv_lane e n) l code there is reset whole))
+stop_none e n none = of_slot (λ j. IsCurrent e j → ⊥) (slots.StopSending n) (λ code (l, there, is, reset, whole). none-some code (sym none ∙ stop_of (recv_lane e n) l code there is reset whole))
 
 pub data_blocked_there : (e : End) (m : ℕ) → m ≡ e.known_data → all_sent e ≡ m → AnyWantsMore e.sends → IsCurrentIn e slots.DataBlocked (Some (DataBlocked m))
 data_blocked_there e m is sum (n, wants) = (
   lane (lookup e.sends n) refl wants,
   refl,
-  of_data_blocked (λ j. IsCurrent e j → j ≡ DataBlocked m) (λ k c. ap DataBlocked (c.0 ∙ sym is)),
+  of_slot (λ j. IsCurrent e j → j ≡ DataBlocked m) slots.DataBlocked (λ k c. ap DataBlocked (c.0 ∙ sym is)),
 )
   where
     lane : (o : Option SendLane) → lookup e.sends n ≡ o → WantsMore o → IsCurrent e (DataBlocked m)
@@ -177,7 +132,7 @@ wants_of : (e : End) (n : ℕ) (l : SendLane) → WantsCredit e n l → WantsMor
 wants_of e n l w = subst WantsMore (sym w.lane) (w.no_reset, w.more, w.below)
 
 pub data_blocked_none : (e : End) → (all_sent e ≡ e.known_data → AnyWantsMore e.sends → ⊥) → IsCurrentIn e slots.DataBlocked None
-data_blocked_none e none = of_data_blocked (λ j. IsCurrent e j → ⊥) (λ k (is, sum, (n, l, w)). none (sum ∙ is) (n, wants_of e n l w))
+data_blocked_none e none = of_slot (λ j. IsCurrent e j → ⊥) slots.DataBlocked (λ k (is, sum, (n, l, w)). none (sum ∙ is) (n, wants_of e n l w))
 
 pub stream_data_blocked_there : (e : End) (n m : ℕ) → IsBlockedAt (lookup e.sends n) m → IsCurrentIn e (slots.StreamDataBlocked n) (Some (StreamDataBlocked n m))
 stream_data_blocked_there e n m blocked = go (lookup e.sends n) refl blocked
@@ -187,17 +142,17 @@ stream_data_blocked_there e n m blocked = go (lookup e.sends n) refl blocked
     go (Some l) there (none, is, more, at) = (
       (l, there, none, is, more, at),
       refl,
-      of_stream_data_blocked (λ j. IsCurrent e j → j ≡ StreamDataBlocked n m) n (λ k (l2, there2, none2, is2, more2, at2). (let same : l2 ≡ l = same_Some l2 l (sym there2 ∙ there) in ap (StreamDataBlocked n) (is2 ∙ ap (λ x. x.limit) same ∙ sym is))),
+      of_slot (λ j. IsCurrent e j → j ≡ StreamDataBlocked n m) (slots.StreamDataBlocked n) (λ k (l2, there2, none2, is2, more2, at2). (let same : l2 ≡ l = same_Some l2 l (sym there2 ∙ there) in ap (StreamDataBlocked n) (is2 ∙ ap (λ x. x.limit) same ∙ sym is))),
     )
 
 pub stream_data_blocked_none : (e : End) (n : ℕ) → ((m : ℕ) → IsBlockedAt (lookup e.sends n) m → ⊥) → IsCurrentIn e (slots.StreamDataBlocked n) None
-stream_data_blocked_none e n none = of_stream_data_blocked (λ j. IsCurrent e j → ⊥) n (λ k (l, there, no_reset, is, more, at). none k (subst (λ o. IsBlockedAt o k) (sym there) (no_reset, is, more, at)))
+stream_data_blocked_none e n none = of_slot (λ j. IsCurrent e j → ⊥) (slots.StreamDataBlocked n) (λ k (l, there, no_reset, is, more, at). none k (subst (λ o. IsBlockedAt o k) (sym there) (no_reset, is, more, at)))
 
 pub streams_blocked_there : (e : End) (d : Dir) (m : ℕ) → wanted e d ≡ Some m → m ≡ known_count e d → IsCurrentIn e (slots.StreamsBlocked d) (Some (StreamsBlocked d m))
-streams_blocked_there e d m is at = ((is, at), refl, of_streams_blocked (λ j. IsCurrent e j → j ≡ StreamsBlocked d m) d (λ k c. ap (StreamsBlocked d) (c.1 ∙ sym at)))
+streams_blocked_there e d m is at = ((is, at), refl, of_slot (λ j. IsCurrent e j → j ≡ StreamsBlocked d m) (slots.StreamsBlocked d) (λ k c. ap (StreamsBlocked d) (c.1 ∙ sym at)))
 
 pub streams_blocked_none : (e : End) (d : Dir) → ((m : ℕ) → wanted e d ≡ Some m → m ≡ known_count e d → ⊥) → IsCurrentIn e (slots.StreamsBlocked d) None
-streams_blocked_none e d none = of_streams_blocked (λ j. IsCurrent e j → ⊥) d (λ k c. none k c.0 c.1)
+streams_blocked_none e d none = of_slot (λ j. IsCurrent e j → ⊥) (slots.StreamsBlocked d) (λ k c. none k c.0 c.1)
 
 -- Past the last stream
 

@@ -20,6 +20,7 @@ use Rattle.qs_conn.specs.Tasks.{IsQuiet, HasTask}
 use Rattle.qs_conn.specs.declared.send_marks.Task.{Task}
 use Rattle.qs_conn.specs.declared.send_marks.Task.TheVariants as tasks
 use Rattle.qs_conn.proofs.DueTied.{due_is, is_due, end_due_is, is_end_due}
+use Rattle.qs_conn.proofs.Openings.{none_is}
 
 -- no half both has something of a task and is quiet of it
 pub quiet_has_none : (t : Task) (s : Sending) → IsQuiet t s → HasTask t s → ⊥
@@ -70,16 +71,12 @@ lawful_found t m x there law n s is at = subst IsLawful (same_Some x s (sym ther
 
 -- Answers of an end that isn't closed
 
-unclosed : {X : Type 0} (o : Option X) (b : Bool) → b ≡ is_some o → b ≡ false → o ≡ None
-unclosed None b is none = refl
-unclosed (Some x) b is none = absurd (both_ways true (sym is ∙ none) refl)
-
 pub readable_least : (v old : End) (b : Bool) (at from : ℕ) (r : Option ℕ) → v ≡ old → b ≡ is_some v.closed → b ≡ false → at ≡ from → IsLeast (IsHeld (HasOne recv_tasks.Readable) v.recvs) at r → IsLeast (IsReadable old) from r
-readable_least v old b at from r same is none begin h = rw (← same, ← begin) (least_given (v.closed ≡ None) (IsHeld (HasOne recv_tasks.Readable) v.recvs) at r (unclosed v.closed b is none) h)
+readable_least v old b at from r same is none begin h = rw (← same, ← begin) (least_given (v.closed ≡ None) (IsHeld (HasOne recv_tasks.Readable) v.recvs) at r (none_is v.closed (sym is ∙ none)) h)
 
 pub sendable_least : (v old : End) (o : Outgoing) (b : Bool) (at from : ℕ) (r : Option ℕ) → v ≡ old → with_outgoing o v ≡ v → b ≡ is_some v.closed → b ≡ false → at ≡ from → ((e : End) → IsLeast (IsDueOf (with_outgoing o e)) at r) → IsLeast (IsSendable old) from r
 sendable_least v old o b at from r same out is none begin h =
-    rw (← same, ← begin) (least_given (v.closed ≡ None) (IsDueOf v) at r (unclosed v.closed b is none) (subst (λ x. IsLeast (IsDueOf x) at r) out (h v)))
+    rw (← same, ← begin) (least_given (v.closed ≡ None) (IsDueOf v) at r (none_is v.closed (sym is ∙ none)) (subst (λ x. IsLeast (IsDueOf x) at r) out (h v)))
 
 -- an answer about halves is one about their lanes
 pub lanes_least : (P : Sending → Type 0) (Q : SendLane → Type 0) → ((s : Sending) → P s → Q s.lane) → ((s : Sending) → Q s.lane → P s) → (v o : Outgoing) (t : Tables Sending) (from : ℕ) (r : Option ℕ) → v ≡ o → lanes_of t ≡ v.sends → IsLeast (IsHeld P t) from r → IsLeast (IsHeld Q o.sends) from r
@@ -97,4 +94,4 @@ lanes_least P Q to back v o t from r same lanes h = subst (λ (x : Outgoing). Is
         h.least n ge (s, there, back s (subst Q (sym is) q))
 
 pub writable_least : (v old : End) (b : Bool) (at from : ℕ) (r : Option ℕ) → v ≡ old → b ≡ is_some v.closed → b ≡ false → at ≡ from → IsLeast (IsHeld MayWrite v.sends) at r → IsLeast (IsWritable old) from r
-writable_least v old b at from r same is none begin h = rw (← same, ← begin) (least_given (v.closed ≡ None) (IsHeld MayWrite v.sends) at r (unclosed v.closed b is none) h)
+writable_least v old b at from r same is none begin h = rw (← same, ← begin) (least_given (v.closed ≡ None) (IsHeld MayWrite v.sends) at r (none_is v.closed (sym is ∙ none)) h)

@@ -1,7 +1,7 @@
 -- The stages of a packet in the making, and what comes of the last one.
 use Rattle.std.proofs.Common.{◌≡◌, ◌≢◌, ℕ, ◌+◌, ◌-◌, ◌<◌, ◌≤◌, Bool, true, false, ◌||◌, List, [], ◌∷◌, ◌++◌, ◌⊎◌, length, refl, sym, ap, ◌∙◌, subst, arith, inl, inr, None, is_some}
 use Rattle.std.specs.FinMap as fmap
-use Rattle.std.proofs.lemmas.Bool.{true≢false}
+use Rattle.std.proofs.lemmas.Bool.{true≢false, false_from_ne_true}
 use Rattle.std.proofs.lemmas.List.{length-append}
 use Rattle.qs_wire.specs.Layout.{FrameValue}
 use Rattle.qs_wire.specs.Grammar.{Fits, canonical, canonical_all}
@@ -22,6 +22,7 @@ use Rattle.qs_conn.specs.Filling.{InPacket, slot_of, frame_of_item, no_slot, IsP
 use Rattle.qs_conn.proofs.Pieces.{put_packet, due_more, end_due_more, item_ack_due}
 use Rattle.qs_conn.proofs.Items.{current_by_base, acked_by_base, sum_by_base, known_by_base, base_item, fills_push, out_old, out_is}
 use Rattle.qs_conn.proofs.Texts.{all_push, no_text, no_frames, text_push, seen_push, seen_item, item_most, plain_item, control_item}
+use Rattle.qs_machine.proofs.Prefix.{or_false}
 
 -- the frames with one more
 pushed : (frames : List FrameValue) (f : FrameValue) (s : Seen) → seen f ≡ s → (P : List Seen → Type 0) → P (seen_all frames ++ s ∷ []) → P (seen_all (frames ++ f ∷ []))
@@ -51,10 +52,6 @@ turned true true c = refl
 turned true false c = refl
 turned false true c = refl
 turned false false c = refl
-
-or_none : (b : Bool) → (b || false) ≡ b
-or_none true = refl
-or_none false = refl
 
 fills_ask : (old e mid : End) (fs : List Seen) → Fills old e fs mid → is_some (fmap.get mid.outstanding mid.next) ≡ (any_asks fs || is_some (fmap.get e.outstanding e.next))
 fills_ask old e mid [] is = ap (λ (x : End). is_some (fmap.get x.outstanding x.next)) is
@@ -222,14 +219,10 @@ ack_stays old (f ∷ fs) e mid (may, rest) due =
     (before, λ largest ranges a. elim a [ inl is ↦ not_this largest ranges is | inr there ↦ none largest ranges there ])
 
 pub no_ack : (old e : End) (fs : List Seen) → Fills old old fs e → (old.ack_due ≡ true → AcksAll old fs) → e.ack_due ≡ false
-no_ack old e fs fills acked = go e.ack_due refl
-  where
-    go : (b : Bool) → e.ack_due ≡ b → b ≡ false
-    go false is = refl
-    go true is =
-        let (before, none) = ack_stays old fs old e fills is in
-        let (largest, ranges, there, all) = acked before in
-        absurd (none largest ranges there)
+no_ack old e fs fills acked = false_from_ne_true e.ack_due (λ is.
+    let (before, none) = ack_stays old fs old e fills is in
+    let (largest, ranges, there, all) = acked before in
+    none largest ranges there)
 
 -- the end with another number for its next packet
 goes_same : (e : End) (k n : ℕ) → StreamGoes (record e { next = k }) n → StreamGoes e n
@@ -260,7 +253,7 @@ module _ (first delay room : ℕ) (old : End) (text : List ℕ) (e : End) (p : P
         len = count;
         fits = omega (arith, count, fits);
         frames = p.frames;
-        asks = asked ∙ fills_ask old old e (seen_all p.frames) p.fills ∙ ap (λ o. any_asks (seen_all p.frames) || is_some o) idle ∙ or_none (any_asks (seen_all p.frames));
+        asks = asked ∙ fills_ask old old e (seen_all p.frames) p.fills ∙ ap (λ o. any_asks (seen_all p.frames) || is_some o) idle ∙ sym (or_false (any_asks (seen_all p.frames)));
         spells = p.spells;
         acks = p.acks;
         turn = p.turns;

@@ -17,6 +17,7 @@ use Rattle.qs_machine.specs.Ends.{End}
 use Rattle.qs_machine.specs.Seen.{Control, seen, seen_all}
 use Rattle.qs_machine.specs.Making.{IsText, IsPlainAck, NamesMost}
 use Rattle.qs_conn.specs.Filling.{frame_of_item}
+use Rattle.qs_conn.proofs.EachItem.{each_item}
 
 pub all_push : {X : Type 0} (P : X → Type 0) (xs : List X) (x : X) → AllByRecursion P xs → P x → AllByRecursion P (xs ++ x ∷ [])
 all_push P [] x all p = (p, all)
@@ -40,45 +41,17 @@ seen_push frames f = map-append seen frames (f ∷ [])
 -- Items
 
 pub seen_item : (i : Item) → seen (frame_of_item i) ≡ Control i
-seen_item (MaxData m) = refl
-seen_item (MaxStreamData n m) = refl
-seen_item (MaxStreams d m) = refl
-seen_item (ResetStream n code size) = refl
-seen_item (StopSending n code) = refl
-seen_item (DataBlocked m) = refl
-seen_item (StreamDataBlocked n m) = refl
-seen_item (StreamsBlocked d m) = refl
+seen_item i = each_item (λ j. seen (frame_of_item j) ≡ Control j) (λ m. refl) (λ n m. refl) (λ d m. refl) (λ n code size. refl) (λ n code. refl) (λ m. refl) (λ n m. refl) (λ d m. refl) i
 
 pub plain_item : (delay : ℕ) (i : Item) → IsPlainAck delay (frame_of_item i)
-plain_item delay (MaxData m) = tt
-plain_item delay (MaxStreamData n m) = tt
-plain_item delay (MaxStreams d m) = tt
-plain_item delay (ResetStream n code size) = tt
-plain_item delay (StopSending n code) = tt
-plain_item delay (DataBlocked m) = tt
-plain_item delay (StreamDataBlocked n m) = tt
-plain_item delay (StreamsBlocked d m) = tt
+plain_item delay i = each_item (λ j. IsPlainAck delay (frame_of_item j)) (λ m. tt) (λ n m. tt) (λ d m. tt) (λ n code size. tt) (λ n code. tt) (λ m. tt) (λ n m. tt) (λ d m. tt) i
 
 -- no item is an ACK
 pub item_most : (old : End) (delay room : ℕ) (i : Item) → NamesMost old delay room (frame_of_item i)
-item_most old delay room (MaxData m) = tt
-item_most old delay room (MaxStreamData n m) = tt
-item_most old delay room (MaxStreams d m) = tt
-item_most old delay room (ResetStream n code size) = tt
-item_most old delay room (StopSending n code) = tt
-item_most old delay room (DataBlocked m) = tt
-item_most old delay room (StreamDataBlocked n m) = tt
-item_most old delay room (StreamsBlocked d m) = tt
+item_most old delay room i = each_item (λ j. NamesMost old delay room (frame_of_item j)) (λ m. tt) (λ n m. tt) (λ d m. tt) (λ n code size. tt) (λ n code. tt) (λ m. tt) (λ n m. tt) (λ d m. tt) i
 
 pub control_item : (i : Item) → IsControl (frame_of_item i)
-control_item (MaxData m) = tt
-control_item (MaxStreamData n m) = tt
-control_item (MaxStreams d m) = tt
-control_item (ResetStream n code size) = tt
-control_item (StopSending n code) = tt
-control_item (DataBlocked m) = tt
-control_item (StreamDataBlocked n m) = tt
-control_item (StreamsBlocked d m) = tt
+control_item i = each_item (λ j. IsControl (frame_of_item j)) (λ m. tt) (λ n m. tt) (λ d m. tt) (λ n code size. tt) (λ n code. tt) (λ m. tt) (λ n m. tt) (λ d m. tt) i
 
 -- Lengths
 

@@ -3,7 +3,7 @@ use Rattle.std.proofs.Common.{if◌then◌else◌, ◌≡◌, ◌≢◌, ℕ, ze
 use Rattle.std.specs.List.{range_with_len}
 use Rattle.std.specs.FinMap as fmap
 use Rattle.std.specs.FinSet as set
-use Rattle.std.proofs.lemmas.Bool.{both_ways, true≢false, cases_eq}
+use Rattle.std.proofs.lemmas.Bool.{both_ways, true≢false, cases_eq, or_right}
 use Rattle.std.proofs.lemmas.Option.{none-some, same_Some}
 use Rattle.qs_wire.specs.declared.stream_id.Role.{Role}
 use Rattle.qs_calls.specs.declared.settings.Settings.{Settings}
@@ -15,15 +15,13 @@ use Rattle.qs_send.specs.declared.piece.Piece.{Piece}
 use Rattle.qs_send.specs.declared.piece.Piece.TheVariants.{Data, Told}
 use Rattle.qs_wire.specs.declared.stream_id.Dir.TheVariants.{Bidi, Uni}
 use Rattle.qs_machine.specs.Tables.{Tables, table, with_table, lookup, update, updated, no_streams, open_to, each}
-use Rattle.qs_machine.specs.Ends.{End, Records, AckedItems, window_by}
+use Rattle.qs_machine.specs.Ends.{End, Records, AckedItems, window_by, on_send}
 use Rattle.qs_machine.specs.Told.{IsNoted, item_noted}
-use Rattle.qs_machine.specs.Outgoing.{Outgoing, first_acked_out, first_lost_out, acked_at}
+use Rattle.qs_machine.specs.Outgoing.{Outgoing, first_acked_out, first_lost_out, acked_at, items_acked, with_sends}
 use Rattle.qs_machine.proofs.Carried.{IsShorter, shortened_is, get_other, some_is}
-use Rattle.std.proofs.lemmas.Bool.{or_right}
 use Rattle.std.specs.Cmp.{nat_cmp_total}
 use Rattle.std.specs.Prelude.{Result, Ok, Err}
 use Rattle.std.specs.Result.{OnOk, OnErr}
-use Rattle.qs_machine.specs.Outgoing.{items_acked, with_sends}
 use Rattle.qs_send.specs.Lane.{SendLane, sent_lane}
 use Rattle.qs_conn.specs.Runs.{held_out}
 use Rattle.qs_conn.specs.declared.limits.Limits.{Limits}
@@ -33,17 +31,27 @@ use Rattle.qs_conn.specs.declared.slot.Slot.TheVariants as slots
 use Rattle.qs_conn.specs.declared.slot.Slot.{Slot}
 use Rattle.qs_conn.specs.Filling.{end_by, slot_at, IsCurrentIn}
 use Rattle.qs_conn.specs.Marks.{IsIdle}
-use Rattle.qs_conn.specs.Untold.{IsTold}
-use Rattle.qs_conn.proofs.Slots.{of_stop_sending, of_max_stream_data}
+use Rattle.qs_conn.specs.Untold.{IsTold, HasToTell, IsToldIn, HasTold, IsToldAt, AreTold, StayTold, marked_for, HasMoreAt, HasMore}
+use Rattle.qs_conn.proofs.Slots.{of_slot}
 use Rattle.qs_machine.specs.Due.{Among, IsCurrent, IsCovered}
 use Rattle.qs_machine.specs.Lawful.{Fills, frame_put, noted, item_put, chunk_of}
 use Rattle.qs_machine.specs.Seen.{Seen, Ack, Stream, Control, Close, Plain}
-use Rattle.qs_machine.specs.Ends.{on_send}
 use Rattle.qs_machine.proofs.Ties.{closed_at}
 use Rattle.qs_conn.proofs.Pieces.{noted_old}
 use Rattle.qs_machine.proofs.TableLaws.{lookup_same, lookup_other, lookup_each, lookup_open, lookup_in, with_same, slots_updated}
 use Rattle.qs_conn.proofs.Quiets.{window_same}
-use Rattle.qs_conn.specs.Untold.{HasToTell, IsToldIn, HasTold, IsToldAt, AreTold, StayTold, marked_for, HasMoreAt, HasMore}
+use Rattle.qs_conn.proofs.EachItem.{each_item}
+
+-- what a half has to tell is its next limit or its stop
+pub to_tell : (P : Item → Type 0) (w n : ℕ) (l : RecvLane) → ((k m : ℕ) → HasToTell w n l (MaxStreamData k m) → P (MaxStreamData k m)) → ((k code : ℕ) → HasToTell w n l (StopSending k code) → P (StopSending k code)) → (i : Item) → HasToTell w n l i → P i
+to_tell P w n l limit stop (MaxStreamData k m) has = limit k m has
+to_tell P w n l limit stop (StopSending k code) has = stop k code has
+to_tell P w n l limit stop (MaxData m2) has = absurd has
+to_tell P w n l limit stop (MaxStreams d2 m2) has = absurd has
+to_tell P w n l limit stop (ResetStream n2 code2 size2) has = absurd has
+to_tell P w n l limit stop (DataBlocked m2) has = absurd has
+to_tell P w n l limit stop (StreamDataBlocked n2 m2) has = absurd has
+to_tell P w n l limit stop (StreamsBlocked d2 m2) has = absurd has
 
 -- One stream
 
@@ -133,14 +141,7 @@ is_marked_now t k = go (lookup t k) refl
 
 pub has_for : (p : Piece) (t : Tables Bool) → HasMore t (marked_for p t)
 has_for (Data n c) t = has_same t
-has_for (Told (MaxData m)) t = has_same t
-has_for (Told (MaxStreamData n m)) t = has_marked t n
-has_for (Told (MaxStreams d m)) t = has_same t
-has_for (Told (ResetStream n code size)) t = has_same t
-has_for (Told (StopSending n code)) t = has_marked t n
-has_for (Told (DataBlocked m)) t = has_same t
-has_for (Told (StreamDataBlocked n m)) t = has_same t
-has_for (Told (StreamsBlocked d m)) t = has_same t
+has_for (Told i) t = each_item (λ j. HasMore t (marked_for (Told j) t)) (λ m. has_same t) (λ n m. has_marked t n) (λ d m. has_same t) (λ n code size. has_same t) (λ n code. has_marked t n) (λ m. has_same t) (λ n m. has_same t) (λ d m. has_same t) i
 
 -- All streams
 
@@ -227,17 +228,7 @@ opened_some t n m begin e le =
 at_begun : (w n : ℕ) (m : Records) (a : AckedItems) (k : Option Bool) → is_some k ≡ true → IsToldAt w n m a k (Some (new_lane w))
 at_begun w n m a None some = absurd (both_ways false refl some)
 at_begun w n m a (Some true) some = tt
-at_begun w n m a (Some false) some = told
-  where
-    told : (i : Item) → HasToTell w n (new_lane w) i → IsToldIn m a i
-    told (MaxStreamData k limit) (same, is, more, none) = absurd (omega (arith, is, more))
-    told (StopSending k code) (same, stop, goes, whole) = absurd (none-some code stop)
-    told (MaxData m2) has = absurd has
-    told (MaxStreams d2 m2) has = absurd has
-    told (ResetStream n2 code2 size2) has = absurd has
-    told (DataBlocked m2) has = absurd has
-    told (StreamDataBlocked n2 m2) has = absurd has
-    told (StreamsBlocked d2 m2) has = absurd has
+at_begun w n m a (Some false) some = to_tell (IsToldIn m a) w n (new_lane w) (λ k limit (same, is, more, none). absurd (omega (arith, is, more))) (λ k code (same, stop, goes, whole). absurd (none-some code stop))
 
 module _ (r : Role) (s : Settings) (recvs : Tables RecvLane) (m : Records) (a : AckedItems) (marks : Tables Bool) (h : AreTold r s recvs m a marks) (n : ℕ) where
   abbrev places : Tables Bool
@@ -289,14 +280,11 @@ told_same r s recvs now m a marks marks' is are h = rw (is, are) h
 
 -- what is told of a stream without a mark isn't what left
 not_left : (p : Piece) (t : Tables Bool) (n w : ℕ) (l : RecvLane) (i : Item) → lookup (marked_for p t) n ≡ Some false → HasToTell w n l i → Told i ≡ p → ⊥
-not_left p t n w l (MaxStreamData k m) free has is = is_marked_now t n (subst (λ j. lookup (updated t j (λ b. true) (lookup t j)) n ≡ Some false) has.0 (subst (λ q. lookup (marked_for q t) n ≡ Some false) (sym is) free))
-not_left p t n w l (StopSending k code) free has is = is_marked_now t n (subst (λ j. lookup (updated t j (λ b. true) (lookup t j)) n ≡ Some false) has.0 (subst (λ q. lookup (marked_for q t) n ≡ Some false) (sym is) free))
-not_left p t n w l (MaxData m2) free has is = absurd has
-not_left p t n w l (MaxStreams d2 m2) free has is = absurd has
-not_left p t n w l (ResetStream n2 code2 size2) free has is = absurd has
-not_left p t n w l (DataBlocked m2) free has is = absurd has
-not_left p t n w l (StreamDataBlocked n2 m2) free has is = absurd has
-not_left p t n w l (StreamsBlocked d2 m2) free has is = absurd has
+not_left p t n w l i free =
+    to_tell (λ i. Told i ≡ p → ⊥) w n l
+    (λ k m has is. is_marked_now t n (subst (λ j. lookup (updated t j (λ b. true) (lookup t j)) n ≡ Some false) has.0 (subst (λ q. lookup (marked_for q t) n ≡ Some false) (sym is) free)))
+    (λ k code has is. is_marked_now t n (subst (λ j. lookup (updated t j (λ b. true) (lookup t j)) n ≡ Some false) has.0 (subst (λ q. lookup (marked_for q t) n ≡ Some false) (sym is) free)))
+    i
 
 -- other pieces of the packet stay in it
 still_carried : (m m' : Records) (k : ℕ) (p q : Piece) → IsShorter m k p m' → (q ≡ p → ⊥) → IsCarried m q → IsCarried m' q
@@ -343,14 +331,11 @@ stop_noted (Told (StreamsBlocked Bidi v)) k a known = known
 stop_noted (Told (StreamsBlocked Uni v)) k a known = known
 
 still_noted : (p : Piece) (t : Tables Bool) (n w : ℕ) (l : RecvLane) (i : Item) (a : AckedItems) → lookup (marked_for p t) n ≡ Some false → HasToTell w n l i → IsNoted a i → IsNoted (items_acked p a) i
-still_noted p t n w l (MaxStreamData k m) a free has known = limit_noted p t k m a (subst (λ q. lookup (marked_for p t) q ≡ Some false) (sym has.0) free) known
-still_noted p t n w l (StopSending k code) a free has known = stop_noted p k a known
-still_noted p t n w l (MaxData m2) a free has known = absurd has
-still_noted p t n w l (MaxStreams d2 m2) a free has known = absurd has
-still_noted p t n w l (ResetStream n2 code2 size2) a free has known = absurd has
-still_noted p t n w l (DataBlocked m2) a free has known = absurd has
-still_noted p t n w l (StreamDataBlocked n2 m2) a free has known = absurd has
-still_noted p t n w l (StreamsBlocked d2 m2) a free has known = absurd has
+still_noted p t n w l i a free =
+    to_tell (λ i. IsNoted a i → IsNoted (items_acked p a) i) w n l
+    (λ k m has known. limit_noted p t k m a (subst (λ q. lookup (marked_for p t) q ≡ Some false) (sym has.0) free) known)
+    (λ k code has known. stop_noted p k a known)
+    i
 
 outstanding_acked : (late : Bool) (k : ℕ) (p : Piece) (o : Outgoing) → (first_acked_out (acked_at late k p) o).outstanding ≡ (if late then o.outstanding else without_first o.outstanding k (fmap.get o.outstanding k))
 outstanding_acked late k (Data n c) o = refl
@@ -442,9 +427,9 @@ module _ (t : Limits) (recvs : Tables RecvLane) (o : Outgoing) (e : End) (marks 
 
   pub unmarked_idle : (kind : Kind) → (kind ≡ kinds.StopSending) ⊎ (kind ≡ kinds.MaxStreamData) → IsIdle (end_by t recvs o e) (slot_at kind n)
   unmarked_idle kinds.StopSending is =
-      of_stop_sending (λ i. IsCurrent (end_by t recvs o e) i → IsCovered (end_by t recvs o e) i) n (λ code (l, at, stop, goes, whole). told_here l at (StopSending n code) (refl, stop, goes, whole))
+      of_slot (λ i. IsCurrent (end_by t recvs o e) i → IsCovered (end_by t recvs o e) i) (slots.StopSending n) (λ code (l, at, stop, goes, whole). told_here l at (StopSending n code) (refl, stop, goes, whole))
   unmarked_idle kinds.MaxStreamData is =
-      of_max_stream_data (λ i. IsCurrent (end_by t recvs o e) i → IsCovered (end_by t recvs o e) i) n (λ limit (l, at, same, more, none). told_here l at (MaxStreamData n limit) (refl, same, more, none))
+      of_slot (λ i. IsCurrent (end_by t recvs o e) i → IsCovered (end_by t recvs o e) i) (slots.MaxStreamData n) (λ limit (l, at, same, more, none). told_here l at (MaxStreamData n limit) (refl, same, more, none))
   unmarked_idle kinds.ResetStream is = absurd (elim is [ inl a ↦ (cc a) | inr b ↦ (cc b) ])
   unmarked_idle kinds.StreamDataBlocked is = absurd (elim is [ inl a ↦ (cc a) | inr b ↦ (cc b) ])
 
@@ -457,29 +442,15 @@ idle_covered e slot i current covered j at is = subst (IsCovered e) (sym (curren
 -- and where both are idle, no mark is needed
 pub idle_told : (t : Limits) (recvs : Tables RecvLane) (o : Outgoing) (e : End) (n : ℕ) → IsIdle (end_by t recvs o e) (slots.StopSending n) → IsIdle (end_by t recvs o e) (slots.MaxStreamData n)
     → (l : RecvLane) → lookup recvs n ≡ Some l → HasTold (window_by t.role t.settings n) n o.outstanding o.acked l
-idle_told t recvs o e n stop limit l at = told
-  where
-    told : (i : Item) → HasToTell (window_by t.role t.settings n) n l i → IsToldIn o.outstanding o.acked i
-    told (MaxStreamData k m) (same, is, more, none) = subst (λ j. IsToldIn o.outstanding o.acked (MaxStreamData j m)) (sym same) (limit (MaxStreamData n m) refl (l, at, is, more, none))
-    told (StopSending k code) (same, is, goes, whole) = subst (λ j. IsToldIn o.outstanding o.acked (StopSending j code)) (sym same) (stop (StopSending n code) refl (l, at, is, goes, whole))
-    told (MaxData m2) has = absurd has
-    told (MaxStreams d2 m2) has = absurd has
-    told (ResetStream n2 code2 size2) has = absurd has
-    told (DataBlocked m2) has = absurd has
-    told (StreamDataBlocked n2 m2) has = absurd has
-    told (StreamsBlocked d2 m2) has = absurd has
+idle_told t recvs o e n stop limit l at =
+    to_tell (IsToldIn o.outstanding o.acked) (window_by t.role t.settings n) n l
+    (λ k m (same, is, more, none). subst (λ j. IsToldIn o.outstanding o.acked (MaxStreamData j m)) (sym same) (limit (MaxStreamData n m) refl (l, at, is, more, none)))
+    (λ k code (same, is, goes, whole). subst (λ j. IsToldIn o.outstanding o.acked (StopSending j code)) (sym same) (stop (StopSending n code) refl (l, at, is, goes, whole)))
 
 -- A packet is filled
 
 item_told : (i : Item) (e : End) (marks : Tables Bool) → IsTold e marks → IsTold (item_put i e) marks
-item_told (MaxData m) e marks h = h
-item_told (MaxStreamData n m) e marks h = h
-item_told (MaxStreams d m) e marks h = h
-item_told (ResetStream n code size) e marks h = h
-item_told (StopSending n code) e marks h = h
-item_told (DataBlocked m) e marks h = h
-item_told (StreamDataBlocked n m) e marks h = h
-item_told (StreamsBlocked d m) e marks h = h
+item_told i e marks h = each_item (λ j. IsTold (item_put j e) marks) (λ m. h) (λ n m. h) (λ d m. h) (λ n code size. h) (λ n code. h) (λ m. h) (λ n m. h) (λ d m. h) i
 
 noted_told : (p : Piece) (e : End) (marks : Tables Bool) → IsTold e marks → IsTold (noted p e) marks
 noted_told p e marks h = told_carried e.role e.settings e.recvs e.outstanding e.acked marks h (noted p e).outstanding (noted_old p e)

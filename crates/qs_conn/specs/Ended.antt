@@ -9,7 +9,7 @@ use Rattle.qs_send.specs.declared.piece.Item.TheVariants.{ResetStream}
 use Rattle.qs_send.specs.declared.piece.Piece.{Piece}
 use Rattle.qs_send.specs.declared.piece.Piece.TheVariants.{Data, Told}
 use Rattle.qs_calls.specs.declared.settings.Settings.{Settings}
-use Rattle.qs_conn.specs.declared.ended.EndedStreams.{EndedStreams}
+use Rattle.qs_conn.specs.declared.by_dir.ByDir.{ByDir}
 use Rattle.qs_machine.specs.Tables.{Tables, table, lookup}
 use Rattle.qs_machine.specs.Ends.{role_bit, is_uni, is_own_by}
 use Rattle.qs_machine.specs.Credit.{recv_ended, send_ended, both_ended}
@@ -35,12 +35,12 @@ abbrev pub is_over : Role → Tables RecvLane → Tables SendLane → ℕ → Bo
 is_over role recvs sends n = over role n (recv_over (lookup recvs n)) (send_over (lookup sends n))
 
 -- the counts with what a stream adds, and without what it added
-abbrev pub recounted : ℕ → Bool → Bool → EndedStreams → EndedStreams
+abbrev pub recounted : ℕ → Bool → Bool → ByDir ℕ → ByDir ℕ
 recounted n was is e =
     if is_uni n then record e { uni = e.uni + one_if is - one_if was } else record e { bidi = e.bidi + one_if is - one_if was }
 
 -- the counts of the peer's streams that came to their end are right (RFC 9000, sections 3 and 4.6)
-pub record AreAllCounted (role : Role) (recvs : Tables RecvLane) (sends : Tables SendLane) (e : EndedStreams) : Type 0 where
+pub record AreAllCounted (role : Role) (recvs : Tables RecvLane) (sends : Tables SendLane) (e : ByDir ℕ) : Type 0 where
   pub bidi : e.bidi ≡ length (filter both_ended (zip (table recvs (1 - role_bit role)) (table sends (1 - role_bit role))))
   pub uni : e.uni ≡ length (filter recv_ended (table recvs (3 - role_bit role)))
 
@@ -56,7 +56,7 @@ IsToldOfEnd None = ⊤
 IsToldOfEnd (Some l) = l.told ≡ true → recv_ended l ≡ true
 
 -- what holds of an endpoint's counts: those of ended streams are right, and no granted one is above its lifetime's
-pub record CountsFit (role : Role) (s : Settings) (recvs : Tables RecvLane) (sends : Tables SendLane) (e : EndedStreams) (granted_bidi granted_uni : ℕ) : Type 0 where
+pub record CountsFit (role : Role) (s : Settings) (recvs : Tables RecvLane) (sends : Tables SendLane) (e : ByDir ℕ) (granted_bidi granted_uni : ℕ) : Type 0 where
   pub counted : AreAllCounted role recvs sends e
   pub told : (n : ℕ) → IsToldOfEnd (lookup recvs n)
   pub bidi : granted_bidi ≤ s.lifetime_bidi

@@ -63,13 +63,13 @@ end_by t recvs o e =
       settings = t.settings;
       recvs = recvs;
       granted = t.granted;
-      granted_bidi = t.granted_bidi;
-      granted_uni = t.granted_uni;
+      granted_bidi = t.granted_streams.bidi;
+      granted_uni = t.granted_streams.uni;
       known_data = t.known_data;
-      known_bidi = t.known_bidi;
-      known_uni = t.known_uni;
-      wanted_bidi = t.wanted_bidi;
-      wanted_uni = t.wanted_uni;
+      known_bidi = t.known_streams.bidi;
+      known_uni = t.known_streams.uni;
+      wanted_bidi = t.wanted_streams.bidi;
+      wanted_uni = t.wanted_streams.uni;
       sends = o.sends;
       next = o.next;
       outstanding = o.outstanding;
@@ -90,11 +90,11 @@ ItemFits (Some i) = Fits (frame_of_item i)
 -- what an end has to tell has a text
 pub record LimitsFit (t : Limits) : Type 0 where
   pub granted : t.granted ≤ MAX_VARINT
-  pub granted_bidi : t.granted_bidi ≤ 2 ^ 60
-  pub granted_uni : t.granted_uni ≤ 2 ^ 60
+  pub granted_bidi : t.granted_streams.bidi ≤ 2 ^ 60
+  pub granted_uni : t.granted_streams.uni ≤ 2 ^ 60
   pub known : t.known_data ≤ MAX_VARINT
-  pub bidi : t.known_bidi ≤ 2 ^ 60
-  pub uni : t.known_uni ≤ 2 ^ 60
+  pub bidi : t.known_streams.bidi ≤ 2 ^ 60
+  pub uni : t.known_streams.uni ≤ 2 ^ 60
 
 -- the connection's credit alone holds bytes of some stream back
 abbrev pub AnyWantsMore : Tables SendLane → Type 0

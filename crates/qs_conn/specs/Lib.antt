@@ -1,4 +1,5 @@
 pub mod Layers
+pub mod ByDir
 pub mod Ended
 pub mod ItemOrder
 pub mod Filling

@@ -4,22 +4,17 @@ ghost use Rattle.qs_machine.specs.Tables.{table};
 ghost use Rattle.qs_machine.specs.Ends.{is_uni};
 ghost use Rattle.qs_conn.specs.Ended.{is_over, one_if, recounted};
 
+use crate::by_dir::ByDir;
 use crate::endpoint::{is_uni, role_bit};
 use crate::outbox::Outbox;
 use crate::places::type_of;
 use crate::recv_tables::RecvTables;
 use qs_wire::{Role, StreamId};
 
-/// How many streams of the peer came to their end, of each direction (RFC 9000, sections 3 and 4.6).
-#[derive(Clone, Copy, Drop)]
-pub(crate) struct EndedStreams {
-    pub bidi: u64,
-    pub uni: u64,
-}
-
-impl EndedStreams {
+// How many streams of the peer came to their end, of each direction (RFC 9000, sections 3 and 4.6).
+impl ByDir<u64> {
     /// Whether the counts are the same as others.
-    pub(crate) fn is_same(&self, other: EndedStreams) -> bool
+    pub(crate) fn is_same(&self, other: ByDir<u64>) -> bool
         ensures { result ≡ true → self.now ≡ other }
     {
         self.bidi == other.bidi && self.uni == other.uni

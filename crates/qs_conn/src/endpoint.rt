@@ -9,7 +9,7 @@ ghost use Rattle.qs_conn.specs.Layers.{ClosingFits};
 ghost use Rattle.qs_conn.specs.Held.{IsHeldBy};
 ghost use Rattle.qs_machine.specs.Standing.{IsSound, IsWithinCredit};
 
-use crate::ended::EndedStreams;
+use crate::by_dir::ByDir;
 use crate::held::Held;
 use crate::limits::Limits;
 use crate::outbox::Outbox;
@@ -51,11 +51,10 @@ pub struct Endpoint {
     outbox: Outbox,
     recvs: RecvTables,
     untold: Untold,
-    ended: EndedStreams,
+    ended: ByDir<u64>,
     // Whether nothing that the limits and the counts of streams follow has moved since they were looked at.
     is_settled: bool,
-    accepted_bidi: u64,
-    accepted_uni: u64,
+    accepted: ByDir<u64>,
     done: RangeSet,
     floor: u64,
     ack_due: bool,
@@ -83,15 +82,15 @@ impl Model for Endpoint {
       sends = e.outbox.sends;
       recvs = e.recvs;
       granted = e.limits.granted;
-      granted_bidi = e.limits.granted_bidi;
-      granted_uni = e.limits.granted_uni;
+      granted_bidi = e.limits.granted_streams.bidi;
+      granted_uni = e.limits.granted_streams.uni;
       known_data = e.limits.known_data;
-      known_bidi = e.limits.known_bidi;
-      known_uni = e.limits.known_uni;
-      accepted_bidi = e.accepted_bidi;
-      accepted_uni = e.accepted_uni;
-      wanted_bidi = e.limits.wanted_bidi;
-      wanted_uni = e.limits.wanted_uni;
+      known_bidi = e.limits.known_streams.bidi;
+      known_uni = e.limits.known_streams.uni;
+      accepted_bidi = e.accepted.bidi;
+      accepted_uni = e.accepted.uni;
+      wanted_bidi = e.limits.wanted_streams.bidi;
+      wanted_uni = e.limits.wanted_streams.uni;
       done = e.done;
       floor = e.floor;
       ack_due = e.ack_due;
@@ -104,7 +103,7 @@ impl Model for Endpoint {
 
     // Between calls no packet is in the making, and one may be made; the counts of streams are right; of a stream without a mark
     // nothing is to be told that wasn't; and where nothing moved each limit is the next one already.
-    ghost invariant = { λ e. IsKept e.limits.role e.limits.settings e.peer e.recvs e.limits.granted e.limits.known_bidi e.limits.known_uni e.closed × IsIdle e.outbox × IsFunded e.outbox.sends e.limits.known_data e.done e.ack_due × CountsFit e.limits.role e.limits.settings e.recvs e.outbox.sends e.ended e.limits.granted_bidi e.limits.granted_uni × AreTold e.limits.role e.limits.settings e.recvs e.outbox.outstanding e.outbox.acked e.untold × AreNextWhere e.is_settled e.limits.settings e.recvs e.ended e.limits.granted e.limits.granted_bidi e.limits.granted_uni };
+    ghost invariant = { λ e. IsKept e.limits.role e.limits.settings e.peer e.recvs e.limits.granted e.limits.known_streams.bidi e.limits.known_streams.uni e.closed × IsIdle e.outbox × IsFunded e.outbox.sends e.limits.known_data e.done e.ack_due × CountsFit e.limits.role e.limits.settings e.recvs e.outbox.sends e.ended e.limits.granted_streams.bidi e.limits.granted_streams.uni × AreTold e.limits.role e.limits.settings e.recvs e.outbox.outstanding e.outbox.acked e.untold × AreNextWhere e.is_settled e.limits.settings e.recvs e.ended e.limits.granted e.limits.granted_streams.bidi e.limits.granted_streams.uni };
 }
 
 impl Endpoint {
@@ -126,22 +125,18 @@ impl Endpoint {
                 role,
                 settings,
                 granted: settings.conn_window,
-                granted_bidi: settings.grant_bidi,
-                granted_uni: settings.grant_uni,
                 known_data: peer.max_data,
-                known_bidi: peer.streams_bidi,
-                known_uni: peer.streams_uni,
-                wanted_bidi: None,
-                wanted_uni: None,
+                granted_streams: ByDir::new(settings.grant_bidi, settings.grant_uni),
+                known_streams: ByDir::new(peer.streams_bidi, peer.streams_uni),
+                wanted_streams: ByDir::new(None, None),
             },
             peer,
             outbox: Outbox::new(alloc),
             recvs: RecvTables::new(alloc),
             untold: Untold::new(alloc),
-            ended: EndedStreams { bidi: 0, uni: 0 },
+            ended: ByDir::new(0, 0),
             is_settled: false,
-            accepted_bidi: 0,
-            accepted_uni: 0,
+            accepted: ByDir::new(0, 0),
             done: RangeSet::new(alloc),
             floor: 0,
             ack_due: false,
@@ -184,10 +179,7 @@ impl Endpoint {
     pub fn granted_streams(&self, dir: Dir) -> u64
         ensures { result ≡ granted_streams self.now dir }
     {
-        match dir {
-            Dir::Bidi => self.limits.granted_bidi,
-            Dir::Uni => self.limits.granted_uni,
-        }
+        self.limits.granted_streams.of(dir)
     }
 
     /// The sum of the highest offsets of all streams, which the connection limit bounds.
@@ -220,16 +212,10 @@ impl Endpoint {
         let taken = self.recvs.tally().taken;
         let settings = &self.limits.settings;
         self.limits.granted = next_limit(self.limits.granted, taken, settings.conn_window);
-        self.limits.granted_bidi = next_count(
-            settings.grant_bidi,
-            settings.lifetime_bidi,
-            self.ended.bidi,
-        );
-        self.limits.granted_uni = next_count(
-            settings.grant_uni,
-            settings.lifetime_uni,
-            self.ended.uni,
-        );
+        self.limits.granted_streams = ByDir {
+            bidi: next_count(settings.grant_bidi, settings.lifetime_bidi, self.ended.bidi),
+            uni: next_count(settings.grant_uni, settings.lifetime_uni, self.ended.uni),
+        };
         self.is_settled = true;
     }
 

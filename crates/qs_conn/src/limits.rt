@@ -8,6 +8,7 @@ ghost use Rattle.qs_conn.specs.declared.limits.Limits.{Limits};
 ghost use Rattle.qs_machine.specs.Outgoing.{Outgoing};
 ghost use Rattle.qs_conn.specs.Filling.{end_by, IsCurrentIn, ItemFits, LimitsFit, AnyWantsMore};
 
+use crate::by_dir::ByDir;
 use crate::endpoint::{is_uni, role_bit};
 use crate::outbox::Outbox;
 use crate::places::type_of;
@@ -18,19 +19,17 @@ use qs_calls::Settings;
 use qs_send::Item;
 use qs_wire::{Dir, Role, StreamId};
 
-/// What an end has to tell beside what its streams have.
+/// An end's role and settings, and the limits on the connection and on counts of streams: those that it granted, and those of its peer,
+/// with the counts at which `open` was blocked (RFC 9000, sections 4.1 and 4.6).
 #[derive(Clone, Copy, Drop)]
 pub(crate) struct Limits {
     pub role: Role,
     pub settings: Settings,
     pub granted: u64,
-    pub granted_bidi: u64,
-    pub granted_uni: u64,
     pub known_data: u64,
-    pub known_bidi: u64,
-    pub known_uni: u64,
-    pub wanted_bidi: Option<u64>,
-    pub wanted_uni: Option<u64>,
+    pub granted_streams: ByDir<u64>,
+    pub known_streams: ByDir<u64>,
+    pub wanted_streams: ByDir<Option<u64>>,
 }
 
 impl Limits {
@@ -88,8 +87,8 @@ impl Limits {
         ensures fits { ItemFits result }
     {
         let (first, count) = match dir {
-            Dir::Bidi => (self.settings.grant_bidi, self.granted_bidi),
-            Dir::Uni => (self.settings.grant_uni, self.granted_uni),
+            Dir::Bidi => (self.settings.grant_bidi, self.granted_streams.bidi),
+            Dir::Uni => (self.settings.grant_uni, self.granted_streams.uni),
         };
         if count <= first {
             return None;
@@ -147,11 +146,8 @@ impl Limits {
         ensures current { (recvs : Tables RecvLane) (o : Outgoing) (e : End) → IsCurrentIn (end_by self.now recvs o e) (slots.StreamsBlocked dir) result }
         ensures fits { ItemFits result }
     {
-        let (wanted, count) = match dir {
-            Dir::Bidi => (self.wanted_bidi, self.known_bidi),
-            Dir::Uni => (self.wanted_uni, self.known_uni),
-        };
-        match wanted {
+        let count = self.known_streams.of(dir);
+        match self.wanted_streams.of(dir) {
             Some(blocked) if blocked == count => Some(Item::StreamsBlocked { dir, count }),
             _ => None,
         }

@@ -1,6 +1,6 @@
 //! Which streams of one type may have something to send or to tell.
 ghost use Rattle.std.specs.Prelude.{◌≡◌, ◌++◌, ◌*◌, ◌-◌, ◌<◌, ◌^◌, [], true, false, length, take, slice_set, replicate, OnOk, OnErr};
-ghost use Rattle.qs_conn.specs.Marks.{IsNextMark, HasNoMark, least_of};
+ghost use Rattle.qs_conn.specs.Marks.{is_marked, IsNextMark, HasNoMark, least_of};
 ghost use Rattle.qs_conn.specs.Untold.{IsClear};
 
 use crate::bits::{Bits, FLAGS_PER_WORD};
@@ -50,6 +50,14 @@ impl Marks {
         ensures { result ≡ false → IsClear self.now }
     {
         self.most > 0
+    }
+
+    /// Whether an index is marked.
+    pub(crate) fn has(&self, index: usize) -> bool
+        requires { index < length self.now }
+        ensures { result ≡ is_marked self.now index }
+    {
+        self.marks.has(index)
     }
 
     /// How many indexes there are.

@@ -15,7 +15,7 @@ ghost use Rattle.qs_conn.specs.Layers.{limit_to_tell, stop_to_tell, AreSettled, 
 ghost use Rattle.qs_machine.specs.News.{IsLeast};
 ghost use Rattle.qs_conn.specs.Marks.{IsAt};
 ghost use Rattle.qs_conn.specs.Untold.{HasMore, IsRaisedMarked, AreRaisedMarked};
-ghost use Rattle.qs_conn.specs.RecvTasks.{HasOne};
+ghost use Rattle.qs_conn.specs.RecvTasks.{HasOne, HasNone};
 
 use crate::recv_marks::{RecvMarks, RecvTask, has};
 use crate::untold::Untold;
@@ -266,6 +266,14 @@ impl RecvLanes {
         let is = measure(half);
         self.news.look(index, half);
         self.tally = moved(self.tally, was, is);
+    }
+
+    /// Whether a reader of an open lane may be told something. It looks at marks alone.
+    pub(crate) fn may_tell(&self, index: usize) -> bool
+        requires { index < length self.now }
+        ensures { result ≡ false → (t : RecvTask) → HasNone t (slice_index_or self.now index (new_lane 0)) }
+    {
+        self.news.may_tell(index)
     }
 
     /// Reads at an open lane.

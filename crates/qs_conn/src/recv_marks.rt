@@ -2,7 +2,7 @@
 ghost use Rattle.std.specs.Prelude.{◌≡◌, ◌++◌, ◌-◌, ◌<◌, [], false, length, take, slice_set, replicate, OnOk, OnErr};
 ghost use Rattle.qs_recv.specs.News.{is_readable};
 ghost use Rattle.qs_machine.specs.Credit.{recv_ended};
-ghost use Rattle.qs_conn.specs.Marks.{IsNextMark};
+ghost use Rattle.qs_conn.specs.Marks.{is_marked, IsNextMark};
 ghost use Rattle.qs_conn.specs.RecvTasks.{has, marks_of};
 
 use crate::marks::Marks;
@@ -73,6 +73,14 @@ impl RecvMarks {
     {
         self.readable.set(index, half.is_readable());
         self.ended.set(index, has_ended(half));
+    }
+
+    /// Whether a half may have an answer of any kind.
+    pub(crate) fn may_tell(&self, index: usize) -> bool
+        requires { (t : RecvTask) → index < length (marks_of self.now t) }
+        ensures { result ≡ false → (t : RecvTask) → is_marked (marks_of self.now t) index ≡ false }
+    {
+        self.readable.has(index) || self.ended.has(index)
     }
 
     /// The least marked index from one on.

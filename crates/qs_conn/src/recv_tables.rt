@@ -13,7 +13,7 @@ ghost use Rattle.qs_conn.specs.Layers.{limit_to_tell, stop_to_tell};
 ghost use Rattle.qs_machine.specs.News.{IsLeast, IsHeld};
 ghost use Rattle.qs_conn.specs.Marks.{IsHeldOf};
 ghost use Rattle.qs_conn.specs.Untold.{HasMore};
-ghost use Rattle.qs_conn.specs.RecvTasks.{HasOne};
+ghost use Rattle.qs_conn.specs.RecvTasks.{HasOne, HasNone};
 
 use crate::marks::least;
 use crate::places::{index_from, index_of, type_of};
@@ -202,6 +202,15 @@ impl RecvTables {
     {
         let lanes = &mut self.types[type_of(stream)];
         lanes.take_reset(index_of(stream), code, size);
+    }
+
+    /// Whether a reader of an open stream may be told something. It looks at marks alone.
+    pub(crate) fn may_tell(&self, stream: StreamId) -> bool
+        requires { is_some (lookup self.now stream) ≡ true }
+        ensures { result ≡ false → (t : RecvTask) → HasNone t (or_new (lookup self.now stream) 0) }
+    {
+        let lanes = &self.types[type_of(stream)];
+        lanes.may_tell(index_of(stream))
     }
 
     /// Reads at an open stream.

@@ -145,6 +145,10 @@ impl SendLanes {
             IfErr result (λ fault. (self.new ≡ self.old) × (fault ≡ unwrap_or (refusal half.lane) SendFault.NoMemory)) }
         ensures grows { result ≡ Err SendFault.NoMemory → 0 < accepted (slice_index_or self.old index no_sending).lane (length bytes.now) }
     {
+        // Of a half without room no more than the refusal is looked at.
+        if !self.marks.may_write(index) {
+            return write_none(&self.halves[index]);
+        }
         let half = &mut self.halves[index];
         let answer = half.write(bytes);
         self.marks.look_written(index, half);
@@ -289,5 +293,16 @@ impl SendLanes {
             next = index + 1;
         }
         None
+    }
+}
+
+// A write to a half that has no room: no byte is accepted.
+fn write_none(half: &SendHalf) -> Result<usize, SendFault>
+    ensures accepted { IfOk result (λ n. (refusal half.now.lane ≡ None) × (n ≡ 0)) }
+    ensures refused { IfErr result (λ fault. refusal half.now.lane ≡ Some fault) }
+{
+    match half.refusal() {
+        Some(fault) => Err(fault),
+        None => Ok(0),
     }
 }

@@ -1,7 +1,7 @@
 //! Which sending halves of one type have something for a packet, by what it is.
 ghost use Rattle.std.specs.Prelude.{◌≡◌, ◌++◌, ◌-◌, ◌<◌, [], true, false, length, take, replicate, OnOk, OnErr};
 ghost use Rattle.qs_machine.specs.Credit.{send_ended};
-ghost use Rattle.qs_conn.specs.Marks.{IsNextMark};
+ghost use Rattle.qs_conn.specs.Marks.{is_marked, IsNextMark};
 ghost use Rattle.qs_conn.specs.Tasks.{IsQuiet, IsLooked, IsStill, HasTask, begins, marks_of};
 ghost use Rattle.qs_conn.specs.Untold.{IsClear};
 ghost use Rattle.qs_conn.specs.declared.send_marks.Task.TheVariants as tasks;
@@ -150,6 +150,14 @@ impl SendMarks {
         self.bytes.set(index, may_send(half));
         self.writable.set(index, half.is_writable());
         self.ended.set(index, has_ended(half));
+    }
+
+    /// Whether a half may have room for its owner to write.
+    pub(crate) fn may_write(&self, index: usize) -> bool
+        requires { index < length self.now.writable }
+        ensures { result ≡ is_marked self.now.writable index }
+    {
+        self.writable.has(index)
     }
 
     /// Whether any index may be marked.

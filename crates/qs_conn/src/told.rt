@@ -7,10 +7,11 @@ ghost use Rattle.qs_machine.specs.FrameStep.{greatest};
 ghost use Rattle.qs_machine.specs.Memory.{NoteMayRunOut};
 ghost use Rattle.qs_machine.specs.Told.{item_noted, IsNoted};
 
+use crate::by_dir::ByDir;
 use crate::stream_values::StreamValues;
 use qs_ranges::{NoMemory, RangeSet};
 use qs_send::Item;
-use qs_wire::{Dir, StreamId};
+use qs_wire::StreamId;
 use std::alloc::Global;
 use std::marker::Model;
 
@@ -22,10 +23,8 @@ pub(crate) struct ToldItems {
     stop_sending: RangeSet,
     data_blocked: Option<u64>,
     stream_data_blocked: StreamValues,
-    bidi_blocked: Option<u64>,
-    uni_blocked: Option<u64>,
-    bidi_streams: Option<u64>,
-    uni_streams: Option<u64>,
+    blocked: ByDir<Option<u64>>,
+    streams: ByDir<Option<u64>>,
 }
 
 impl Model for ToldItems {
@@ -42,10 +41,10 @@ impl Model for ToldItems {
       stop_sending = t.stop_sending;
       data_blocked = t.data_blocked;
       stream_data_blocked = t.stream_data_blocked;
-      bidi_blocked = t.bidi_blocked;
-      uni_blocked = t.uni_blocked;
-      bidi_streams = t.bidi_streams;
-      uni_streams = t.uni_streams;
+      bidi_blocked = t.blocked.bidi;
+      uni_blocked = t.blocked.uni;
+      bidi_streams = t.streams.bidi;
+      uni_streams = t.streams.uni;
     } };
 }
 
@@ -60,10 +59,8 @@ impl ToldItems {
             stop_sending: RangeSet::new(alloc),
             data_blocked: None,
             stream_data_blocked: StreamValues::new(alloc),
-            bidi_blocked: None,
-            uni_blocked: None,
-            bidi_streams: None,
-            uni_streams: None,
+            blocked: ByDir::new(None, None),
+            streams: ByDir::new(None, None),
         }
     }
 
@@ -75,33 +72,27 @@ impl ToldItems {
     {
         match item {
             Item::MaxData { maximum } => {
-                raise(&mut self.max_data, maximum);
+                self.max_data = greatest(self.max_data, maximum);
                 Ok(())
             }
             Item::MaxStreamData { stream, maximum } => {
                 self.max_stream_data.raise(stream, maximum)
             }
             Item::MaxStreams { dir, count } => {
-                match dir {
-                    Dir::Bidi => raise(&mut self.bidi_streams, count),
-                    Dir::Uni => raise(&mut self.uni_streams, count),
-                }
+                self.streams.set(dir, greatest(self.streams.of(dir), count));
                 Ok(())
             }
             Item::ResetStream { .. } => Ok(()),
             Item::StopSending { stream, .. } => add(&mut self.stop_sending, stream),
             Item::DataBlocked { limit } => {
-                raise(&mut self.data_blocked, limit);
+                self.data_blocked = greatest(self.data_blocked, limit);
                 Ok(())
             }
             Item::StreamDataBlocked { stream, limit } => {
                 self.stream_data_blocked.raise(stream, limit)
             }
             Item::StreamsBlocked { dir, count } => {
-                match dir {
-                    Dir::Bidi => raise(&mut self.bidi_blocked, count),
-                    Dir::Uni => raise(&mut self.uni_blocked, count),
-                }
+                self.blocked.set(dir, greatest(self.blocked.of(dir), count));
                 Ok(())
             }
         }
@@ -116,32 +107,26 @@ impl ToldItems {
             Item::MaxStreamData { stream, maximum } => {
                 self.max_stream_data.is_greatest(stream, maximum)
             }
-            Item::MaxStreams { dir, count } => match dir {
-                Dir::Bidi => self.bidi_streams == Some(count),
-                Dir::Uni => self.uni_streams == Some(count),
-            },
+            Item::MaxStreams { dir, count } => self.streams.of(dir) == Some(count),
             Item::ResetStream { .. } => false,
             Item::StopSending { stream, .. } => self.stop_sending.has(stream.value()),
             Item::DataBlocked { limit } => self.data_blocked == Some(limit),
             Item::StreamDataBlocked { stream, limit } => {
                 self.stream_data_blocked.is_greatest(stream, limit)
             }
-            Item::StreamsBlocked { dir, count } => match dir {
-                Dir::Bidi => self.bidi_blocked == Some(count),
-                Dir::Uni => self.uni_blocked == Some(count),
-            },
+            Item::StreamsBlocked { dir, count } => self.blocked.of(dir) == Some(count),
         }
     }
 }
 
-// Keeps the value, where it is greater than the one known.
-fn raise(known: &mut Option<u64>, value: u64)
-    ensures { known.new ≡ greatest known.old value }
+// The value, or the one known where that is greater.
+fn greatest(known: Option<u64>, value: u64) -> Option<u64>
+    ensures { result ≡ greatest known value }
 {
-    *known = match *known {
+    match known {
         Some(before) => Some(before.max(value)),
         None => Some(value),
-    };
+    }
 }
 
 // Adds the stream's number.

@@ -57,7 +57,7 @@ module _ {X : Type 0} where
   table_back t (suc (suc zero)) = refl
   table_back t (suc (suc (suc k))) = refl
 
-  set_back : (xs : List X) (i : ℕ) (x : X) → slice_get xs i ≡ Some x → slice_set xs i x ≡ xs
+  pub set_back : (xs : List X) (i : ℕ) (x : X) → slice_get xs i ≡ Some x → slice_set xs i x ≡ xs
   set_back [] i x is = refl
   set_back (y ∷ xs) zero x is = ap (λ z. z ∷ xs) (sym (same_Some y x is))
   set_back (y ∷ xs) (suc i) x is = ap (λ zs. y ∷ zs) (set_back xs i x is)

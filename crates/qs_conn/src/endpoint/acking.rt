@@ -9,7 +9,8 @@ ghost use Rattle.qs_conn.specs.Ended.{AreAllCounted, half_of};
 ghost use Rattle.qs_conn.specs.Untold.{StayTold};
 ghost use Rattle.qs_conn.specs.Runs.{AcksAhead, AcksNamed, AcksPacket, AcksRanges, held_out};
 
-use crate::ended::{EndedStreams, is_over};
+use crate::by_dir::ByDir;
+use crate::ended::is_over;
 use crate::outbox::{KeptPacket, Outbox};
 use crate::recv_tables::RecvTables;
 use crate::untold::Untold;
@@ -23,7 +24,7 @@ pub(super) fn ack_ranges(
     outbox: &mut Outbox,
     role: Role,
     recvs: &RecvTables,
-    ended: &mut EndedStreams,
+    ended: &mut ByDir<u64>,
     untold: &mut Untold,
     largest: u64,
     ranges: &[u8],
@@ -62,7 +63,7 @@ fn ack_all(
     outbox: &mut Outbox,
     role: Role,
     recvs: &RecvTables,
-    ended: &mut EndedStreams,
+    ended: &mut ByDir<u64>,
     untold: &mut Untold,
     late: bool,
     ranges: AckRanges<'_>,
@@ -86,7 +87,7 @@ fn ack_named(
     outbox: &mut Outbox,
     role: Role,
     recvs: &RecvTables,
-    ended: &mut EndedStreams,
+    ended: &mut ByDir<u64>,
     untold: &mut Untold,
     late: bool,
     pass: &mut AckPass<'_>,
@@ -111,7 +112,7 @@ fn ack_packet(
     outbox: &mut Outbox,
     role: Role,
     recvs: &RecvTables,
-    ended: &mut EndedStreams,
+    ended: &mut ByDir<u64>,
     untold: &mut Untold,
     packet: KeptPacket,
 ) -> Result<(), NoMemory>
@@ -134,7 +135,7 @@ fn ack_piece(
     outbox: &mut Outbox,
     role: Role,
     recvs: &RecvTables,
-    ended: &mut EndedStreams,
+    ended: &mut ByDir<u64>,
     untold: &mut Untold,
     packet: KeptPacket,
     piece: Piece,

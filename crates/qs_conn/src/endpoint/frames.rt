@@ -156,9 +156,9 @@ impl Endpoint {
         ensures { result ≡ grant self.now stream }
     {
         if is_uni(stream) {
-            self.limits.granted_uni
+            self.limits.granted_streams.uni
         } else {
-            self.limits.granted_bidi
+            self.limits.granted_streams.bidi
         }
     }
 }

@@ -75,12 +75,17 @@ impl Endpoint {
     /// Reads the bytes that are next, or tells how the stream stands (RFC 9000, section 2.2).
     ///
     /// Refused, and then unchanged: `Closed`; `NoSuchStream` or `WrongDirection` where the stream has no receiving half.
-    #[tactic(auto, using(crate::proofs::OwnerSteps::read_ok))]
+    #[tactic(auto, using(crate::proofs::OwnerSteps::read_ok, crate::proofs::OwnerSteps::read_none))]
     pub fn read(&mut self, stream: StreamId, into: &mut [u8]) -> Result<Read, UseFault>
         ensures { (bytes : List ℕ) × (into.new ≡ bytes ++ drop (length bytes) into.old) × ReadStep self.old stream (length into.old) result bytes self.new }
     {
         if let Some(fault) = self.no_receiver(stream) {
             return Err(fault);
+        }
+        // To look at a stream without news costs no more than its marks.
+        if !self.recvs.may_tell(stream) {
+            self.settle();
+            return Ok(Read::Wait);
         }
         let was = is_over(self.limits.role, &self.recvs, &self.outbox, stream);
         let answer = self.recvs.read(stream, into);

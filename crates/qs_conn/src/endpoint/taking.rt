@@ -88,10 +88,8 @@ impl Endpoint {
         requires { count ≤ 2 ^ 60 }
         ensures { self.new ≡ item_taken (items.MaxStreams dir count) self.old }
     {
-        match dir {
-            Dir::Bidi => self.limits.known_bidi = self.limits.known_bidi.max(count),
-            Dir::Uni => self.limits.known_uni = self.limits.known_uni.max(count),
-        }
+        let known = &mut self.limits.known_streams;
+        known.set(dir, known.of(dir).max(count));
     }
 
     // The peer allows the offsets of a stream below a limit.

@@ -1,6 +1,5 @@
-use Rattle.std.proofs.Common.{◌∙◌}
+use Rattle.std.proofs.Common.{◌∙◌, length}
 use Rattle.qs_conn.proofs.Stages.{begun_none}
-use Rattle.std.proofs.Common.{length}
 use Rattle.qs_conn.proofs.filling.put_ack_if.Goals as goal
 
 pub returns-clause-begun : goal.returns-clause-begun

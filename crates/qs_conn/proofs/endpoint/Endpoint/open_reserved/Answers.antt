@@ -44,7 +44,7 @@ invariant_of-self-in-Err c =
       rw c.in-Err.ensures.err c.self.invariant.0,
       subst (λ (o : Outgoing). IsIdle o) (sym back) c.self.invariant.1,
       subst (λ (o : Outgoing). IsFunded o.sends c.self.inside.limits.known_data c.self.inside.done c.self.inside.ack_due) (sym back) c.self.invariant.2,
-      rw c.in-Err.ensures.err (subst (λ (o : Outgoing). CountsFit c.self.inside.limits.role c.self.inside.limits.settings c.self.inside.recvs o.sends c.self.inside.ended c.self.inside.limits.granted_bidi c.self.inside.limits.granted_uni) (sym back) c.self.invariant.3),
+      rw c.in-Err.ensures.err (subst (λ (o : Outgoing). CountsFit c.self.inside.limits.role c.self.inside.limits.settings c.self.inside.recvs o.sends c.self.inside.ended c.self.inside.limits.granted_streams.bidi c.self.inside.limits.granted_streams.uni) (sym back) c.self.invariant.3),
       subst (λ (o : Outgoing). AreTold c.self.inside.limits.role c.self.inside.limits.settings c.open_recvs.new.recvs o.outstanding o.acked c.open_recvs.new.untold) (sym back)
           (c.in-Err.ensures.told c.self.inside.limits.role c.self.inside.limits.settings c.self.inside.outbox (c.window-window.ensures.value ∙ ap (λ (e : End). window e c.args.stream) (sym c.self.view_is)) c.self.invariant.4),
       λ on. absurd (true≢false (sym on)),

@@ -1,9 +1,10 @@
-use Rattle.std.proofs.Common.{sym}
+use Rattle.std.proofs.Common.{[], length, refl, sym, ◌∙◌}
 use Rattle.std.proofs.lemmas.Bool.{true≢false}
 use Rattle.qs_conn.proofs.Kept.{kept_read}
 use Rattle.qs_conn.proofs.Counting.{counted_small, counted_part}
 use Rattle.qs_conn.proofs.Counted.{fit_read}
 use Rattle.qs_conn.proofs.Calm.{told_read}
+use Rattle.qs_conn.proofs.OwnerSteps.{read_none}
 use Rattle.qs_conn.proofs.endpoint.Endpoint.read.Goals as goal
 
 pub recount-requires-clause-small : goal.recount-requires-clause-small
@@ -21,3 +22,7 @@ invariant_of-self c = (
   told_read c.self.inside.limits.role c.self.inside.limits.settings c.self.inside.recvs c.self.inside.outbox.outstanding c.self.inside.outbox.acked c.self.inside.untold c.self.invariant.4 c.read-answer.new.self c.args.stream _ c.read-answer.ensures.after,
   λ on. absurd (true≢false (sym on)),
 )
+
+pub returns-then-not-may_tell : goal.returns-then-not-may_tell
+returns-then-not-may_tell c =
+    ([], refl, read_none _ _ c.args.stream (length c.args.into.now) c.settle.new.self c.self.view_is (sym c.no_receiver.ensures ∙ c.in_default.is) (c.self.invariant.3.told c.args.stream) (c.if-not-may_tell.ensures refl) c.settle.ensures)

@@ -37,9 +37,9 @@ invariant_of-self c =
       },
       c.self.invariant.1,
       c.self.invariant.2,
-      fit_settled _ _ _ _ _ _ _ c.self.invariant.3 _ _ _ c.raise_all.ensures.after c.next_count-self-inside.ensures c.next_count-self-inside-2.ensures,
+      fit_settled _ _ _ _ _ _ _ c.self.invariant.3 _ _ _ c.raise_all.ensures.after c.next_count.ensures c.next_count-2.ensures,
       told_raised inside.limits.role inside.limits.settings inside.recvs inside.outbox.outstanding inside.outbox.acked inside.untold c.self.invariant.4 c.raise_all.new.self c.raise_all.new.untold c.raise_all.ensures.after c.raise_all.ensures.marks c.raise_all.ensures.marked,
-      λ _. next_now inside.limits.settings inside.recvs c.raise_all.new.self inside.ended inside.limits.granted _ _ _ c.raise_all.ensures.after limit c.next_count-self-inside.ensures c.next_count-self-inside-2.ensures,
+      λ _. next_now inside.limits.settings inside.recvs c.raise_all.new.self inside.ended inside.limits.granted _ _ _ c.raise_all.ensures.after limit c.next_count.ensures c.next_count-2.ensures,
     )
 
 pub returns : goal.returns
@@ -47,15 +47,15 @@ returns c =
     let inside = c.self.inside in
     let paid = c.tally-taken.ensures.taken ∙ ap (total taken) c.raise_all.ensures.after ∙ total_each taken raise inside.recvs (λ l. refl) in
     let limit = c.next_limit-self-inside.ensures.value ∙ ap (λ k. next_limit inside.limits.granted k inside.limits.settings.conn_window) paid in
-    let bidi = c.next_count-self-inside.ensures ∙ ap (λ k. min inside.limits.settings.lifetime_bidi (inside.limits.settings.grant_bidi + k)) c.self.invariant.3.counted.bidi in
-    let uni = c.next_count-self-inside-2.ensures ∙ ap (λ k. min inside.limits.settings.lifetime_uni (inside.limits.settings.grant_uni + k)) c.self.invariant.3.counted.uni in
+    let bidi = c.next_count.ensures ∙ ap (λ k. min inside.limits.settings.lifetime_bidi (inside.limits.settings.grant_bidi + k)) c.self.invariant.3.counted.bidi in
+    let uni = c.next_count-2.ensures ∙ ap (λ k. min inside.limits.settings.lifetime_uni (inside.limits.settings.grant_uni + k)) c.self.invariant.3.counted.uni in
     rw (← c.self.view_is, limit, c.raise_all.ensures.after, bidi, uni) refl
 
-pub next_count-self-inside-requires : goal.next_count-self-inside-requires
-next_count-self-inside-requires c = (grants_fit c.self.inside.limits.settings c.self.invariant.0.sound.settings).0
+pub next_count-requires : goal.next_count-requires
+next_count-requires c = (grants_fit c.self.inside.limits.settings c.self.invariant.0.sound.settings).0
 
-pub next_count-self-inside-requires-2 : goal.next_count-self-inside-requires-2
-next_count-self-inside-requires-2 c = (grants_fit c.self.inside.limits.settings c.self.invariant.0.sound.settings).1
+pub next_count-requires-2 : goal.next_count-requires-2
+next_count-requires-2 c = (grants_fit c.self.inside.limits.settings c.self.invariant.0.sound.settings).1
 
 pub returns-then-self : goal.returns-then-self
 returns-then-self c = rw (← c.self.view_is) (settled_already _ c.self.inside.ended c.self.invariant.3.counted (c.self.invariant.5 c.if-self.true))

@@ -6,9 +6,6 @@ use Rattle.qs_machine.proofs.LostSent.{sent_acked}
 use Rattle.qs_machine.specs.Sums.{tables_of}
 use Rattle.qs_conn.proofs.outbox.Outbox.ack_outstanding.Goals as goal
 
-kept : {a b : ℕ} → a ≡ b → b ≤ a
-kept e = omega (arith, e)
-
 pub piece_acked-requires : goal.piece_acked-requires
 piece_acked-requires c =
     sent_piece (tables_of c.self.inside.types) c.self.inside.records.pieces c.args.number c.args.piece
@@ -16,18 +13,14 @@ piece_acked-requires c =
     (first_at _ c.args.self.now c.self.inside.records.pieces c.self.inside.pending.items c.args.number c.args.piece c.self.view_is refl c.requires.idle c.requires.first)
 
 pub invariant_of-self-2 : goal.invariant_of-self-2
-invariant_of-self-2 c = (
-  box_acked _ _ _ _ _ _ _ _ _ _ _ c.args.number c.args.piece c.self.invariant.0
-      (idle_none _ c.args.self.now c.self.inside.records.pieces c.self.inside.pending.items c.self.view_is refl c.requires.idle)
-      (first_at _ c.args.self.now c.self.inside.records.pieces c.self.inside.pending.items c.args.number c.args.piece c.self.view_is refl c.requires.idle c.requires.first)
-      c.in_ok-piece_acked.ensures.halves c.drop_first.ensures.pieces (room_stays c.self.inside.next c.self.inside.records.room c.drop_first.new.self.room (kept c.drop_first.ensures.room)),
-  indexed_first_gone _ _ _ c.args.number c.args.piece _ _ _ _ _ _ c.self.invariant.1 c.self.invariant.0.tied.apart
-      (idle_none _ c.args.self.now c.self.inside.records.pieces c.self.inside.pending.items c.self.view_is refl c.requires.idle)
-      (first_at _ c.args.self.now c.self.inside.records.pieces c.self.inside.pending.items c.args.number c.args.piece c.self.view_is refl c.requires.idle c.requires.first)
-      c.drop_first.ensures.pieces c.forget.ensures.items c.forget.ensures.spare,
-  sent_acked (tables_of c.self.inside.types) (tables_of c.piece_acked.new.types) _ c.self.invariant.2 c.args.piece c.in_ok-piece_acked.ensures.halves,
-  c.piece_acked.ensures.len,
-)
+invariant_of-self-2 c =
+    let none = idle_none _ c.args.self.now c.self.inside.records.pieces c.self.inside.pending.items c.self.view_is refl c.requires.idle in
+    let first = first_at _ c.args.self.now c.self.inside.records.pieces c.self.inside.pending.items c.args.number c.args.piece c.self.view_is refl c.requires.idle c.requires.first in (
+      box_acked _ _ _ _ _ _ _ _ _ _ _ c.args.number c.args.piece c.self.invariant.0 none first c.in_ok-piece_acked.ensures.halves c.drop_first.ensures.pieces (room_stays c.self.inside.next c.self.inside.records.room c.drop_first.new.self.room (let same = c.drop_first.ensures.room in omega (arith, same))),
+      indexed_first_gone _ _ _ c.args.number c.args.piece _ _ _ _ _ _ c.self.invariant.1 c.self.invariant.0.tied.apart none first c.drop_first.ensures.pieces c.forget.ensures.items c.forget.ensures.spare,
+      sent_acked (tables_of c.self.inside.types) (tables_of c.piece_acked.new.types) _ c.self.invariant.2 c.args.piece c.in_ok-piece_acked.ensures.halves,
+      c.piece_acked.ensures.len,
+    )
 
 pub returns-clause-ok : goal.returns-clause-ok
 returns-clause-ok c =
@@ -37,12 +30,9 @@ returns-clause-ok c =
 
 pub returns-clause-idle : goal.returns-clause-idle
 returns-clause-idle c =
-    let held =
-    box_acked _ _ _ _ _ _ _ _ _ _ _ c.args.number c.args.piece c.self.invariant.0
-    (idle_none _ c.args.self.now c.self.inside.records.pieces c.self.inside.pending.items c.self.view_is refl c.requires.idle)
-    (first_at _ c.args.self.now c.self.inside.records.pieces c.self.inside.pending.items c.args.number c.args.piece c.self.view_is refl c.requires.idle c.requires.first)
-    c.in_ok-piece_acked.ensures.halves c.drop_first.ensures.pieces (room_stays c.self.inside.next c.self.inside.records.room c.drop_first.new.self.room (kept c.drop_first.ensures.room)) in
-    idle_after _ _ _ held.below (idle_none _ c.args.self.now c.self.inside.records.pieces c.self.inside.pending.items c.self.view_is refl c.requires.idle)
+    let none = idle_none _ c.args.self.now c.self.inside.records.pieces c.self.inside.pending.items c.self.view_is refl c.requires.idle in
+    let held = box_acked _ _ _ _ _ _ _ _ _ _ _ c.args.number c.args.piece c.self.invariant.0 none (first_at _ c.args.self.now c.self.inside.records.pieces c.self.inside.pending.items c.args.number c.args.piece c.self.view_is refl c.requires.idle c.requires.first) c.in_ok-piece_acked.ensures.halves c.drop_first.ensures.pieces (room_stays c.self.inside.next c.self.inside.records.room c.drop_first.new.self.room (let same = c.drop_first.ensures.room in omega (arith, same))) in
+    idle_after _ _ _ held.below none
 
 pub returns-in_err-piece_acked-clause-asks : goal.returns-in_err-piece_acked-clause-asks
 returns-in_err-piece_acked-clause-asks c = stop_asks c.from_residual.result _ c.args.self.now c.args.piece c.self.view_is c.in_err-piece_acked.ensures.asks

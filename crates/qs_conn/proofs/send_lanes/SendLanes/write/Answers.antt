@@ -1,13 +1,25 @@
-use Rattle.std.proofs.Common.{◌<◌, length, ◌∙◌, subst}
+use Rattle.std.proofs.Common.{◌<◌, length, sym, ◌∙◌, subst}
 use Rattle.std.proofs.lemmas.List.{get_or_default}
 use Rattle.qs_send.specs.Lane.{Sending, accepted}
 use Rattle.qs_machine.specs.Sums.{no_sending}
 use Rattle.qs_conn.specs.declared.send_marks.Task.TheVariants as tasks
 use Rattle.qs_conn.specs.Tasks.{IsQuiet, marks_of}
-use Rattle.qs_conn.proofs.SendEdits.{wrote_at, wrote_keeps}
-use Rattle.qs_conn.proofs.Marked.{mark_there}
+use Rattle.qs_conn.proofs.SendEdits.{wrote_at, wrote_none, wrote_keeps}
+use Rattle.qs_conn.proofs.Marked.{mark_there, unmarked_at}
+use Rattle.qs_conn.proofs.Least.{part_at}
 use Rattle.qs_conn.proofs.Tasks.{all_looked, still_quiet}
 use Rattle.qs_conn.proofs.send_lanes.SendLanes.write.Goals as goal
+
+pub may_write-requires : goal.may_write-requires
+may_write-requires c = mark_there (IsQuiet tasks.Writable) c.self.inside.halves.items c.self.inside.marks.writable c.args.index (c.self.invariant.1 tasks.Writable) (rw c.self.view_is c.requires)
+
+pub returns-then-not-may_write-clause-accepted : goal.returns-then-not-may_write-clause-accepted
+returns-then-not-may_write-clause-accepted c =
+    let there : c.args.index < length c.self.inside.halves.items = rw c.self.view_is c.requires in
+    let at = part_at c.self.inside.halves.items c.args.index c.index.result.now there c.index.ensures in
+    rw (← c.self.view_is)
+    (wrote_none c.write_none.result c.self.inside.halves.items c.args.index c.index.result.now c.args.bytes.now there c.index.ensures
+    (unmarked_at (IsQuiet tasks.Writable) c.self.inside.halves.items c.self.inside.marks.writable c.args.index c.index.result.now (c.self.invariant.1 tasks.Writable) at (sym c.if-not-may_write.ensures)) c.write_none.ensures.accepted)
 
 pub look_written-requires-clause-there : goal.look_written-requires-clause-there
 look_written-requires-clause-there c = λ t. mark_there (IsQuiet t) c.self.inside.halves.items (marks_of c.self.inside.marks t) c.args.index (c.self.invariant.1 t) (rw c.self.view_is c.requires)

@@ -1,0 +1,15 @@
+use Rattle.std.proofs.Common.{sym, subst}
+use Rattle.qs_recv.specs.Lane.{RecvLane}
+use Rattle.qs_machine.proofs.TableEdits.{open_there, lane_is}
+use Rattle.qs_conn.specs.declared.recv_marks.RecvTask.{RecvTask}
+use Rattle.qs_conn.specs.RecvTasks.{HasNone}
+use Rattle.qs_conn.proofs.recv_tables.RecvTables.may_tell.Goals as goal
+
+pub may_tell-requires : goal.may_tell-requires
+may_tell-requires c =
+    open_there c.self.inside.types c.args.stream c.type_of.result c.index_of.result c.index-self-type_of.result c.self.invariant c.type_of.ensures.value c.index_of.ensures.value (rw (← c.self.view_is) at c.requires)
+
+pub returns : goal.returns
+returns c none t =
+    rw (← c.self.view_is)
+    (subst (HasNone t) (sym (lane_is c.self.inside.types c.args.stream c.type_of.result c.index_of.result c.index-self-type_of.result 0 c.self.invariant c.type_of.ensures.value c.index_of.ensures.value)) (c.may_tell.ensures none t))
