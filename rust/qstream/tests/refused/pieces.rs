@@ -152,6 +152,41 @@ fn a_receiving_half_survives_refusals() {
     assert!(each_refused(receiving_half_goes_on::<ChunkAssembly>) >= 4);
 }
 
+/// A ring grows over bytes that go around its end, and then where it stands, with a run more beside it; what it takes stays within the
+/// bound, and each byte comes out right.
+fn ring_grows() -> usize {
+    let source: Vec<u8> = (0..101_000).map(|n: u32| (n % 251) as u8).collect();
+    let mut ring = RingAssembly::new(Global, 1 << 17);
+    let mut into = vec![0; 101_000];
+    let (mut refusals, mut read, mut end) = (0, 0, 0);
+    for (from, to, room) in [
+        (0, 4000, 3000),
+        (4000, 6000, 0),
+        (9000, 9001, 400),
+        (100_000, 101_000, 0),
+        (3500, 100_001, 101_000),
+    ] {
+        let look = |ring: &RingAssembly| {
+            assert!(ring.held() <= 4096.max(4 * (end - read)));
+            (ring.stored(), pairs(ring.received()))
+        };
+        refusals += tries(&mut ring, look, |ring| {
+            ring.put(from, &source[from as usize..to as usize])
+        });
+        end = end.max(to);
+        let count = ring.take(&mut into[..room]);
+        assert_eq!(into[..count], source[read as usize..][..count]);
+        read += count as u64;
+    }
+    assert_eq!(read, 101_000);
+    refusals
+}
+
+#[test]
+fn a_ring_survives_refusals() {
+    assert!(each_refused(ring_grows) >= 4);
+}
+
 /// What an end keeps of each stream that is over, or never carried a byte.
 #[test]
 fn a_receiving_half_takes_56_bytes() {

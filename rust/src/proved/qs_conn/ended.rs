@@ -1,22 +1,17 @@
 // Made from crates/qs_conn/src/ended.rt by rust/erase; not edited by hand.
 //! Which streams of the peer came to their end.
 
+use crate::proved::qs_conn::by_dir::ByDir;
 use crate::proved::qs_conn::endpoint::{is_uni, role_bit};
 use crate::proved::qs_conn::outbox::Outbox;
 use crate::proved::qs_conn::places::type_of;
 use crate::proved::qs_conn::recv_tables::RecvTables;
 use crate::proved::qs_wire::{Role, StreamId};
 
-/// How many streams of the peer came to their end, of each direction (RFC 9000, sections 3 and 4.6).
-#[derive(Clone, Copy)]
-pub(crate) struct EndedStreams {
-    pub bidi: u64,
-    pub uni: u64,
-}
-
-impl EndedStreams {
+// How many streams of the peer came to their end, of each direction (RFC 9000, sections 3 and 4.6).
+impl ByDir<u64> {
     /// Whether the counts are the same as others.
-    pub(crate) fn is_same(&self, other: EndedStreams) -> bool {
+    pub(crate) fn is_same(&self, other: ByDir<u64>) -> bool {
         self.bidi == other.bidi && self.uni == other.uni
     }
 

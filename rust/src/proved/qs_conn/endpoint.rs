@@ -1,7 +1,7 @@
 // Made from crates/qs_conn/src/endpoint.rt by rust/erase; not edited by hand.
 //! One end of a connection.
 
-use crate::proved::qs_conn::ended::EndedStreams;
+use crate::proved::qs_conn::by_dir::ByDir;
 use crate::proved::qs_conn::held::Held;
 use crate::proved::qs_conn::limits::Limits;
 use crate::proved::qs_conn::outbox::Outbox;
@@ -41,11 +41,10 @@ pub struct Endpoint {
     outbox: Outbox,
     recvs: RecvTables,
     untold: Untold,
-    ended: EndedStreams,
+    ended: ByDir<u64>,
     // Whether nothing that the limits and the counts of streams follow has moved since they were looked at.
     is_settled: bool,
-    accepted_bidi: u64,
-    accepted_uni: u64,
+    accepted: ByDir<u64>,
     done: RangeSet,
     floor: u64,
     ack_due: bool,
@@ -69,22 +68,18 @@ impl Endpoint {
                 role,
                 settings,
                 granted: settings.conn_window,
-                granted_bidi: settings.grant_bidi,
-                granted_uni: settings.grant_uni,
                 known_data: peer.max_data,
-                known_bidi: peer.streams_bidi,
-                known_uni: peer.streams_uni,
-                wanted_bidi: None,
-                wanted_uni: None,
+                granted_streams: ByDir::new(settings.grant_bidi, settings.grant_uni),
+                known_streams: ByDir::new(peer.streams_bidi, peer.streams_uni),
+                wanted_streams: ByDir::new(None, None),
             },
             peer,
             outbox: Outbox::new(alloc),
             recvs: RecvTables::new(alloc),
             untold: Untold::new(alloc),
-            ended: EndedStreams { bidi: 0, uni: 0 },
+            ended: ByDir::new(0, 0),
             is_settled: false,
-            accepted_bidi: 0,
-            accepted_uni: 0,
+            accepted: ByDir::new(0, 0),
             done: RangeSet::new(alloc),
             floor: 0,
             ack_due: false,
@@ -118,10 +113,7 @@ impl Endpoint {
     /// How many streams of a direction the peer may open: the grant, and one more for each of its streams that came to its end, up to
     /// the lifetime's count (RFC 9000, section 4.6). It takes no memory.
     pub fn granted_streams(&self, dir: Dir) -> u64 {
-        match dir {
-            Dir::Bidi => self.limits.granted_bidi,
-            Dir::Uni => self.limits.granted_uni,
-        }
+        self.limits.granted_streams.of(dir)
     }
 
     /// The sum of the highest offsets of all streams, which the connection limit bounds.
@@ -148,16 +140,10 @@ impl Endpoint {
         let taken = self.recvs.tally().taken;
         let settings = &self.limits.settings;
         self.limits.granted = next_limit(self.limits.granted, taken, settings.conn_window);
-        self.limits.granted_bidi = next_count(
-            settings.grant_bidi,
-            settings.lifetime_bidi,
-            self.ended.bidi,
-        );
-        self.limits.granted_uni = next_count(
-            settings.grant_uni,
-            settings.lifetime_uni,
-            self.ended.uni,
-        );
+        self.limits.granted_streams = ByDir {
+            bidi: next_count(settings.grant_bidi, settings.lifetime_bidi, self.ended.bidi),
+            uni: next_count(settings.grant_uni, settings.lifetime_uni, self.ended.uni),
+        };
         self.is_settled = true;
     }
 

@@ -1,6 +1,7 @@
 // Made from crates/qs_conn/src/limits.rt by rust/erase; not edited by hand.
 //! Which control items an end has to tell.
 
+use crate::proved::qs_conn::by_dir::ByDir;
 use crate::proved::qs_conn::endpoint::{is_uni, role_bit};
 use crate::proved::qs_conn::outbox::Outbox;
 use crate::proved::qs_conn::places::type_of;
@@ -11,19 +12,17 @@ use crate::proved::qs_calls::Settings;
 use crate::proved::qs_send::Item;
 use crate::proved::qs_wire::{Dir, Role, StreamId};
 
-/// What an end has to tell beside what its streams have.
+/// An end's role and settings, and the limits on the connection and on counts of streams: those that it granted, and those of its peer,
+/// with the counts at which `open` was blocked (RFC 9000, sections 4.1 and 4.6).
 #[derive(Clone, Copy)]
 pub(crate) struct Limits {
     pub role: Role,
     pub settings: Settings,
     pub granted: u64,
-    pub granted_bidi: u64,
-    pub granted_uni: u64,
     pub known_data: u64,
-    pub known_bidi: u64,
-    pub known_uni: u64,
-    pub wanted_bidi: Option<u64>,
-    pub wanted_uni: Option<u64>,
+    pub granted_streams: ByDir<u64>,
+    pub known_streams: ByDir<u64>,
+    pub wanted_streams: ByDir<Option<u64>>,
 }
 
 impl Limits {
@@ -65,8 +64,8 @@ impl Limits {
     // The count of streams granted, once it was raised.
     fn max_streams(&self, dir: Dir) -> Option<Item> {
         let (first, count) = match dir {
-            Dir::Bidi => (self.settings.grant_bidi, self.granted_bidi),
-            Dir::Uni => (self.settings.grant_uni, self.granted_uni),
+            Dir::Bidi => (self.settings.grant_bidi, self.granted_streams.bidi),
+            Dir::Uni => (self.settings.grant_uni, self.granted_streams.uni),
         };
         if count <= first {
             return None;
@@ -108,11 +107,8 @@ impl Limits {
 
     // The count of streams at which `open` was blocked, while it is the peer's.
     fn streams_blocked(&self, dir: Dir) -> Option<Item> {
-        let (wanted, count) = match dir {
-            Dir::Bidi => (self.wanted_bidi, self.known_bidi),
-            Dir::Uni => (self.wanted_uni, self.known_uni),
-        };
-        match wanted {
+        let count = self.known_streams.of(dir);
+        match self.wanted_streams.of(dir) {
             Some(blocked) if blocked == count => Some(Item::StreamsBlocked { dir, count }),
             _ => None,
         }

@@ -30,6 +30,11 @@ impl Marks {
         self.most > 0
     }
 
+    /// Whether an index is marked.
+    pub(crate) fn has(&self, index: usize) -> bool {
+        self.marks.has(index)
+    }
+
     /// How many indexes there are.
     pub(crate) fn len(&self) -> usize {
         self.marks.len()

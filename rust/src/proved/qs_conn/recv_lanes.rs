@@ -187,6 +187,11 @@ impl RecvLanes {
         self.tally = moved(self.tally, was, is);
     }
 
+    /// Whether a reader of an open lane may be told something. It looks at marks alone.
+    pub(crate) fn may_tell(&self, index: usize) -> bool {
+        self.news.may_tell(index)
+    }
+
     /// Reads at an open lane.
     pub(crate) fn read(&mut self, index: usize, into: &mut [u8]) -> Read {
         let half = &mut self.halves[index];

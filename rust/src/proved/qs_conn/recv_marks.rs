@@ -58,6 +58,11 @@ impl RecvMarks {
         self.ended.set(index, has_ended(half));
     }
 
+    /// Whether a half may have an answer of any kind.
+    pub(crate) fn may_tell(&self, index: usize) -> bool {
+        self.readable.has(index) || self.ended.has(index)
+    }
+
     /// The least marked index from one on.
     pub(crate) fn next(&self, task: RecvTask, from: usize) -> Option<usize> {
         match task {

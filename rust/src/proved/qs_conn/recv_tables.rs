@@ -131,6 +131,12 @@ impl RecvTables {
         lanes.take_reset(index_of(stream), code, size);
     }
 
+    /// Whether a reader of an open stream may be told something. It looks at marks alone.
+    pub(crate) fn may_tell(&self, stream: StreamId) -> bool {
+        let lanes = &self.types[type_of(stream)];
+        lanes.may_tell(index_of(stream))
+    }
+
     /// Reads at an open stream.
     pub(crate) fn read(&mut self, stream: StreamId, into: &mut [u8]) -> Read {
         let lanes = &mut self.types[type_of(stream)];

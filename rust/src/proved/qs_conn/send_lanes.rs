@@ -91,6 +91,10 @@ impl SendLanes {
 
     /// Accepts bytes at an open half, as many as there is room for; or changes nothing.
     pub(crate) fn write(&mut self, index: usize, bytes: &[u8]) -> Result<usize, SendFault> {
+        // Of a half without room no more than the refusal is looked at.
+        if !self.marks.may_write(index) {
+            return write_none(&self.halves[index]);
+        }
         let half = &mut self.halves[index];
         let answer = half.write(bytes);
         self.marks.look_written(index, half);
@@ -190,5 +194,13 @@ impl SendLanes {
             next = index + 1;
         }
         None
+    }
+}
+
+// A write to a half that has no room: no byte is accepted.
+fn write_none(half: &SendHalf) -> Result<usize, SendFault> {
+    match half.refusal() {
+        Some(fault) => Err(fault),
+        None => Ok(0),
     }
 }

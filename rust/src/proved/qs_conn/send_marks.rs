@@ -118,6 +118,11 @@ impl SendMarks {
         self.ended.set(index, has_ended(half));
     }
 
+    /// Whether a half may have room for its owner to write.
+    pub(crate) fn may_write(&self, index: usize) -> bool {
+        self.writable.has(index)
+    }
+
     /// Whether any index may be marked.
     pub(crate) fn may_have(&self, task: Task) -> bool {
         match task {

@@ -1,10 +1,11 @@
 // Made from crates/qs_conn/src/told.rt by rust/erase; not edited by hand.
 //! What was acknowledged of control items.
 
+use crate::proved::qs_conn::by_dir::ByDir;
 use crate::proved::qs_conn::stream_values::StreamValues;
 use crate::proved::qs_ranges::{NoMemory, RangeSet};
 use crate::proved::qs_send::Item;
-use crate::proved::qs_wire::{Dir, StreamId};
+use crate::proved::qs_wire::StreamId;
 use crate::shim::alloc::Global;
 
 /// The greatest acknowledged value of each control item. Of a reset the stream's sending half tells it.
@@ -14,10 +15,8 @@ pub(crate) struct ToldItems {
     stop_sending: RangeSet,
     data_blocked: Option<u64>,
     stream_data_blocked: StreamValues,
-    bidi_blocked: Option<u64>,
-    uni_blocked: Option<u64>,
-    bidi_streams: Option<u64>,
-    uni_streams: Option<u64>,
+    blocked: ByDir<Option<u64>>,
+    streams: ByDir<Option<u64>>,
 }
 
 impl ToldItems {
@@ -29,10 +28,8 @@ impl ToldItems {
             stop_sending: RangeSet::new(alloc),
             data_blocked: None,
             stream_data_blocked: StreamValues::new(alloc),
-            bidi_blocked: None,
-            uni_blocked: None,
-            bidi_streams: None,
-            uni_streams: None,
+            blocked: ByDir::new(None, None),
+            streams: ByDir::new(None, None),
         }
     }
 
@@ -40,33 +37,27 @@ impl ToldItems {
     pub(crate) fn note(&mut self, item: Item) -> Result<(), NoMemory> {
         match item {
             Item::MaxData { maximum } => {
-                raise(&mut self.max_data, maximum);
+                self.max_data = greatest(self.max_data, maximum);
                 Ok(())
             }
             Item::MaxStreamData { stream, maximum } => {
                 self.max_stream_data.raise(stream, maximum)
             }
             Item::MaxStreams { dir, count } => {
-                match dir {
-                    Dir::Bidi => raise(&mut self.bidi_streams, count),
-                    Dir::Uni => raise(&mut self.uni_streams, count),
-                }
+                self.streams.set(dir, greatest(self.streams.of(dir), count));
                 Ok(())
             }
             Item::ResetStream { .. } => Ok(()),
             Item::StopSending { stream, .. } => add(&mut self.stop_sending, stream),
             Item::DataBlocked { limit } => {
-                raise(&mut self.data_blocked, limit);
+                self.data_blocked = greatest(self.data_blocked, limit);
                 Ok(())
             }
             Item::StreamDataBlocked { stream, limit } => {
                 self.stream_data_blocked.raise(stream, limit)
             }
             Item::StreamsBlocked { dir, count } => {
-                match dir {
-                    Dir::Bidi => raise(&mut self.bidi_blocked, count),
-                    Dir::Uni => raise(&mut self.uni_blocked, count),
-                }
+                self.blocked.set(dir, greatest(self.blocked.of(dir), count));
                 Ok(())
             }
         }
@@ -79,30 +70,24 @@ impl ToldItems {
             Item::MaxStreamData { stream, maximum } => {
                 self.max_stream_data.is_greatest(stream, maximum)
             }
-            Item::MaxStreams { dir, count } => match dir {
-                Dir::Bidi => self.bidi_streams == Some(count),
-                Dir::Uni => self.uni_streams == Some(count),
-            },
+            Item::MaxStreams { dir, count } => self.streams.of(dir) == Some(count),
             Item::ResetStream { .. } => false,
             Item::StopSending { stream, .. } => self.stop_sending.has(stream.value()),
             Item::DataBlocked { limit } => self.data_blocked == Some(limit),
             Item::StreamDataBlocked { stream, limit } => {
                 self.stream_data_blocked.is_greatest(stream, limit)
             }
-            Item::StreamsBlocked { dir, count } => match dir {
-                Dir::Bidi => self.bidi_blocked == Some(count),
-                Dir::Uni => self.uni_blocked == Some(count),
-            },
+            Item::StreamsBlocked { dir, count } => self.blocked.of(dir) == Some(count),
         }
     }
 }
 
-// Keeps the value, where it is greater than the one known.
-fn raise(known: &mut Option<u64>, value: u64) {
-    *known = match *known {
+// The value, or the one known where that is greater.
+fn greatest(known: Option<u64>, value: u64) -> Option<u64> {
+    match known {
         Some(before) => Some(before.max(value)),
         None => Some(value),
-    };
+    }
 }
 
 // Adds the stream's number.

@@ -47,7 +47,6 @@ fn add_to_one(few: &mut Few, run: (u64, u64), lo: u64, hi: u64) {
 }
 
 // Adds a range to two runs.
-#[inline(never)]
 fn add_to_two(
     few: &mut Few,
     blocks: &mut Vec<Block>,

@@ -99,6 +99,34 @@ impl Ring {
         Ok(Ring { bytes, size, turn })
     }
 
+    /// Brings the ring to a larger size, with the bytes of so many offsets from `from` on: in memory that grows, where they keep
+    /// their place, unless they go around the ring's end.
+    #[inline(never)]
+    pub(crate) fn widen(
+        &mut self,
+        alloc: Global,
+        from: u64,
+        count: usize,
+        size: usize,
+    ) -> Result<(), NoMemory> {
+        debug_assert!(from <= 1 << 62);
+        debug_assert!(0 < size);
+        debug_assert!(size <= 1 << 20);
+        if count == 0 {
+            *self = self.resized(alloc, from, count, size)?;
+            return Ok(());
+        }
+        let place = place_of(from + self.turn as u64, self.size);
+        if count > self.size - place {
+            *self = self.resized(alloc, from, count, size)?;
+            return Ok(());
+        }
+        self.bytes.reserve_exact(size - self.bytes.len())?;
+        self.size = size;
+        self.turn = turn_to(place, from, size);
+        Ok(())
+    }
+
     /// Brings the ring to a smaller size in place, with the bytes of so many offsets from `from` on.
     pub(crate) fn narrow(&mut self, from: u64, count: usize, size: usize) {
         debug_assert!(from <= 1 << 62);
@@ -121,6 +149,14 @@ fn place_of(at: u64, size: usize) -> usize {
     } else {
         (at % size as u64) as usize
     }
+}
+
+// How far the places of a ring of that size lie further on, that an offset has the given one.
+fn turn_to(place: usize, from: u64, size: usize) -> usize {
+    debug_assert!(size <= 1 << 20);
+    debug_assert!(place < size);
+    let turn = place + (size - place_of(from, size));
+    if turn <= size { turn } else { turn - size }
 }
 
 // Makes that so many bytes from a place on are kept. Those that never were written are zero.
@@ -178,6 +214,7 @@ fn copied(
 }
 
 // Writes bytes from a place on, behind zeros where none were written before it.
+#[inline(always)]
 fn write_over(into: &mut Vec<u8>, place: usize, bytes: &[u8]) {
     if place + bytes.len() <= into.len() {
         write_at(into, place, bytes);

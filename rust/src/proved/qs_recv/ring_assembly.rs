@@ -10,10 +10,11 @@ use crate::shim::alloc::Global;
 const LEAST_SIZE: u64 = 4096;
 
 /// A ring beside the set of every offset that came. As bytes are stored that lie past it, it grows to reach from what was
-/// read to the last of them: to a power of two, less than twice as far or 4,096 bytes, and never past the window. As bytes are
-/// read and it is larger than 4,096 bytes and than four times as far, it shrinks in place, to twice as far at least. It is
-/// given back where bytes are thrown away, and where nothing is stored: at once if it is larger than 4,096 bytes, else once
-/// that is asked for.
+/// read to the last of them: to a power of two, less than twice as far or 4,096 bytes, and never past the window. What is stored
+/// keeps its place in memory that grows, unless it goes around the ring's end; where its offsets can't be noted, the ring shrinks
+/// again. As bytes are read and it is larger than 4,096 bytes and than four times as far, it shrinks in place, to twice as far
+/// at least. It is given back where bytes are thrown away, and where nothing is stored: at once if it is larger than 4,096
+/// bytes, else once that is asked for.
 ///
 /// A put searches the set once for each gap that it fills, and once behind the last if more came there, but not for bytes past
 /// all that came; it copies the bytes of each gap, and notes the offsets by one insert. A take is one search and one copy. A
@@ -71,30 +72,28 @@ impl Assembly for RingAssembly {
         if first >= end {
             return Ok(());
         }
-        let span = end - self.read_count;
-        if span <= self.ring.len() as u64 {
-            let count = store(
-                &mut self.ring,
-                &mut self.received,
-                first,
-                stop,
-                offset,
-                bytes,
-            )?;
-            self.stored += count;
-            self.end = self.end.max(end);
-        } else {
-            let size = size_for(span, self.window);
-            let kept = self.end - self.read_count;
-            let mut wider = self
-                .ring
-                .resized(self.alloc, self.read_count, kept as usize, size as usize)?;
-            let count = store(&mut wider, &mut self.received, first, stop, offset, bytes)?;
-            self.ring = wider;
-            self.stored += count;
-            self.end = self.end.max(end);
+        let from = self.read_count;
+        let kept = self.end - from;
+        let span = end - from;
+        reach(self.alloc, &mut self.ring, from, kept, span, self.window)?;
+        match store(
+            &mut self.ring,
+            &mut self.received,
+            first,
+            stop,
+            offset,
+            bytes,
+        ) {
+            Ok(count) => {
+                self.stored += count;
+                self.end = self.end.max(end);
+                Ok(())
+            }
+            Err(refused) => {
+                shed(self.alloc, &mut self.ring, from, kept, self.window);
+                Err(refused)
+            }
         }
-        Ok(())
     }
 
     fn take(&mut self, into: &mut [u8]) -> usize {
@@ -159,8 +158,28 @@ fn size_for(span: u64, window: u64) -> u64 {
     least.min(window)
 }
 
+// Lets a ring reach so many offsets past `from`, with the bytes of the first `kept` of these.
+fn reach(
+    alloc: Global,
+    ring: &mut Ring,
+    from: u64,
+    kept: u64,
+    span: u64,
+    window: u64,
+) -> Result<(), NoMemory> {
+    debug_assert!(window <= 1 << 20);
+    debug_assert!(from <= 1 << 62);
+    debug_assert!(span <= window);
+    if span <= ring.len() as u64 {
+        return Ok(());
+    }
+    let size = size_for(span, window);
+    ring.widen(alloc, from, kept as usize, size as usize)
+}
+
 // Lets go of what a ring of more than 4,096 bytes has too much: all of it where nothing is stored, and where it is larger than
 // four times the span from `from` to the end of what is, what lies past the least power of two that is twice that or more.
+#[inline(always)]
 fn shed(alloc: Global, ring: &mut Ring, from: u64, span: u64, window: u64) {
     debug_assert!(window <= 1 << 20);
     debug_assert!(from <= 1 << 62);

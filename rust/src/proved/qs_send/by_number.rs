@@ -60,10 +60,10 @@ impl ByNumber {
         }
     }
 
-    /// Lets the record of a number go, if there is one.
+    /// Lets the record of a number go, if there is one. Its memory, if it is little, stays for the next one's pieces.
     pub(crate) fn remove(&mut self, number: u64) {
         if let Ok(place) = self.place_of(number) {
-            drop(self.records.remove(place));
+            self.spare = self.records.remove(place).emptied();
         }
     }
 
@@ -115,8 +115,23 @@ impl ByNumber {
         }
     }
 
-    // Where the record of a number is, or where it would go.
+    // Where the record of a number is, or where it would go: with no search past the last record and at the first, where a packet that
+    // is lost goes in mostly, and the oldest one out.
     fn place_of(&self, number: u64) -> Result<usize, usize> {
+        let records = &self.records;
+        let count = records.len();
+        if count > 0 && records[count - 1].number() < number {
+            return Err(count);
+        }
+        if count > 0 && records[0].number() == number {
+            return Ok(0);
+        }
+        self.search_for(number)
+    }
+
+    // The same by a search.
+    #[inline(never)]
+    fn search_for(&self, number: u64) -> Result<usize, usize> {
         self.records
             .binary_search_by_key(&number, |record| record.number())
     }

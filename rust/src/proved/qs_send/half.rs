@@ -66,11 +66,8 @@ impl SendHalf {
     /// Refused, and then unchanged: `WasReset` after a reset, else `Finished` after `finish`, else
     /// `NoMemory` where memory was refused.
     pub fn write(&mut self, bytes: &[u8]) -> Result<usize, SendFault> {
-        if self.was_reset() {
-            return Err(SendFault::WasReset);
-        }
-        if self.finished {
-            return Err(SendFault::Finished);
+        if let Some(fault) = self.refusal() {
+            return Err(fault);
         }
         let most = (self.room() as u64).min(MAX_VARINT - self.offsets.written());
         let len = bytes.len().min(most as usize);
@@ -88,11 +85,8 @@ impl SendHalf {
     ///
     /// Refused, and then unchanged: `WasReset` after a reset, else `Finished` after another `finish`.
     pub fn finish(&mut self) -> Result<(), SendFault> {
-        if self.was_reset() {
-            return Err(SendFault::WasReset);
-        }
-        if self.finished {
-            return Err(SendFault::Finished);
+        if let Some(fault) = self.refusal() {
+            return Err(fault);
         }
         self.finished = true;
         self.fin_noted = true;
@@ -236,13 +230,22 @@ impl SendHalf {
         self.offsets.held() as u64
     }
 
+    /// Why a write and a finish are refused, `None` where they aren't: `WasReset` after a reset, else `Finished` after `finish` (RFC 9000,
+    /// sections 2.4 and 3.1).
+    pub fn refusal(&self) -> Option<SendFault> {
+        if self.was_reset() {
+            Some(SendFault::WasReset)
+        } else if self.finished {
+            Some(SendFault::Finished)
+        } else {
+            None
+        }
+    }
+
     /// Whether a write of one byte would be accepted, if there is memory for it: neither the end was asked for nor a reset made, and there
     /// is room (RFC 9000, sections 2.2, 2.4 and 3.1).
     pub fn is_writable(&self) -> bool {
-        if self.was_reset() {
-            return false;
-        }
-        if self.finished {
+        if self.refusal().is_some() {
             return false;
         }
         self.offsets.kept_len() < self.buffer && self.offsets.written() < MAX_VARINT

@@ -5,6 +5,9 @@ use crate::shim::Vec;
 use crate::proved::qs_send::piece::Piece;
 use crate::proved::qs_ranges::NoMemory;
 
+// The memory for so many pieces goes from one record to the next.
+const FEW: usize = 4;
+
 /// The pieces of a packet in the order in which they were declared lost. The first `start` ones of the vector were let go.
 pub(crate) struct LostRecord {
     number: u64,
@@ -46,6 +49,16 @@ impl LostRecord {
     /// One piece more. It takes no memory.
     pub(crate) fn push(&mut self, piece: Piece) {
         hold(&mut self.pieces, piece);
+    }
+
+    /// The memory of the pieces, of which none is kept; none where it is for many, so that it doesn't stay for ever.
+    pub(crate) fn emptied(self) -> Vec<Piece> {
+        let mut pieces = self.pieces;
+        if pieces.capacity() > FEW {
+            return Vec::new(*pieces.allocator());
+        }
+        pieces.clear();
+        pieces
     }
 
     /// Lets the first piece go, of several.

@@ -2,7 +2,7 @@
 //! The ranges of an ACK frame (RFC 9000, section 19.3.1).
 
 use crate::proved::qs_wire::fault::Full;
-use crate::proved::qs_wire::varint::{read_varint, varint_len};
+use crate::proved::qs_wire::varint::{number_at, varint_len};
 use crate::proved::qs_wire::writing::{put_number, put_numbers};
 
 /// Gives the ranges of an ACK frame as smallest and largest packet number, the highest first.
@@ -26,14 +26,13 @@ impl<'a> AckRanges<'a> {
     /// below zero, which no frame has that was read, begins at 0.
     pub fn next(&mut self) -> Option<(u64, u64)> {
         let largest = self.largest;
-        let Some((len, used)) = read_varint(self.rest) else {
-            return None;
+        let (len, rest) = match number_at(self.rest) {
+            Ok(read) => read,
+            Err(_) => return None,
         };
-        let (_, rest) = self.rest.split_at(used);
         let smallest = largest.saturating_sub(len);
         self.rest = rest;
-        if let Some((gap, used)) = read_varint(rest) {
-            let (_, after) = rest.split_at(used);
+        if let Ok((gap, after)) = number_at(rest) {
             self.largest = smallest.saturating_sub(gap + 2);
             self.rest = after;
         }
@@ -48,36 +47,35 @@ fn gap_and_length(above: u64, pair: (u64, u64)) -> (u64, u64) {
     (above - end - 1, end - 1 - start)
 }
 
-/// How many of the ranges below a number fit the room, and how many bytes they take.
-fn ranges_within(smallest: u64, pairs: &[(u64, u64)], room: usize) -> (usize, usize) {
-    debug_assert!(smallest <= 1 << 62);
-    let mut above = smallest;
-    let mut count = 0;
-    let mut len = 0;
-    for pair in pairs {
-        let (gap, range) = gap_and_length(above, *pair);
-        let more = varint_len(gap) + varint_len(range);
-        if more > room - len {
-            return (count, len);
-        }
-        count += 1;
-        len += more;
-        above = pair.0;
+/// Whether the shortest spellings of two numbers fit the room. They are measured only where it is scarce.
+#[inline]
+fn two_fit(a: u64, b: u64, room: usize) -> bool {
+    debug_assert!(a < 1 << 62);
+    debug_assert!(b < 1 << 62);
+    if room >= 16 {
+        return true;
     }
-    (count, len)
+    varint_len(a) + varint_len(b) <= room
 }
 
-/// Writes the ranges below a number, at a place.
-fn put_ranges(smallest: u64, pairs: &[(u64, u64)], at: usize, out: &mut [u8]) {
+/// Writes as many of the ranges below a number as fit, at a place, and answers how many these are and the place after them.
+fn put_ranges(smallest: u64, pairs: &[(u64, u64)], at: usize, out: &mut [u8]) -> (usize, usize) {
     debug_assert!(smallest <= 1 << 62);
+    debug_assert!(at <= out.len());
     let mut above = smallest;
+    let mut count = 0;
     let mut next = at;
     for pair in pairs {
         let (gap, range) = gap_and_length(above, *pair);
+        if !two_fit(gap, range, out.len() - next) {
+            return (count, next);
+        }
         next = put_number(gap, next, out);
         next = put_number(range, next, out);
+        count += 1;
         above = pair.0;
     }
+    (count, next)
 }
 
 const ACK: u64 = 0x02;
@@ -94,9 +92,7 @@ pub fn put_ack(pairs: &[(u64, u64)], delay: u64, out: &mut [u8]) -> Result<(usiz
     if first > out.len() {
         return Err(Full);
     }
-    let (count, len) = ranges_within(start, others, out.len() - first);
+    let (count, next) = put_ranges(start, others, first, out);
     put_numbers(&[ACK, end - 1, delay, count as u64, end - 1 - start], out);
-    let (fitting, _) = others.split_at(count);
-    put_ranges(start, fitting, first, out);
-    Ok((count + 1, first + len))
+    Ok((count + 1, next))
 }

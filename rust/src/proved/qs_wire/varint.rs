@@ -72,24 +72,29 @@ pub fn write_varint(value: u64, out: &mut [u8]) -> Option<usize> {
 }
 
 /// Writes the shortest spelling at the front and answers its length.
+#[inline]
 pub(crate) fn spell(value: u64, out: &mut [u8]) -> usize {
     debug_assert!(value < 1 << 62);
-    match varint_len(value) {
-        1 => {
-            out[0] = value as u8;
-            1
-        }
-        2 => {
-            BigEndian::write_u16(out, 0x4000 + value as u16);
-            2
-        }
-        4 => {
-            BigEndian::write_u32(out, 0x8000_0000 + value as u32);
-            4
-        }
-        _ => {
-            BigEndian::write_u64(out, 0xc000_0000_0000_0000 + value);
-            8
-        }
+    if value < 0x40 {
+        out[0] = value as u8;
+        return 1;
     }
+    if value < 0x4000 {
+        BigEndian::write_u16(out, 0x4000 + value as u16);
+        return 2;
+    }
+    spell_long(value, out)
+}
+
+// The same of a number that takes four bytes or eight.
+#[inline(never)]
+fn spell_long(value: u64, out: &mut [u8]) -> usize {
+    debug_assert!(16384 <= value);
+    debug_assert!(value < 1 << 62);
+    if value < 0x4000_0000 {
+        BigEndian::write_u32(out, 0x8000_0000 + value as u32);
+        return 4;
+    }
+    BigEndian::write_u64(out, 0xc000_0000_0000_0000 + value);
+    8
 }

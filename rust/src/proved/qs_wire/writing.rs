@@ -58,6 +58,7 @@ impl<'a> Part<'a> {
 }
 
 /// Writes a number at a place, and answers the place after it.
+#[inline]
 pub(crate) fn put_number(value: u64, at: usize, out: &mut [u8]) -> usize {
     debug_assert!(value < 1 << 62);
     at + spell(value, &mut out[at..])

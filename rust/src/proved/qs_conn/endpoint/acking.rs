@@ -1,7 +1,8 @@
 // Made from crates/qs_conn/src/endpoint/acking.rt by rust/erase; not edited by hand.
 //! Packets are acknowledged.
 
-use crate::proved::qs_conn::ended::{EndedStreams, is_over};
+use crate::proved::qs_conn::by_dir::ByDir;
+use crate::proved::qs_conn::ended::is_over;
 use crate::proved::qs_conn::outbox::{KeptPacket, Outbox};
 use crate::proved::qs_conn::recv_tables::RecvTables;
 use crate::proved::qs_conn::untold::Untold;
@@ -14,7 +15,7 @@ pub(super) fn ack_ranges(
     outbox: &mut Outbox,
     role: Role,
     recvs: &RecvTables,
-    ended: &mut EndedStreams,
+    ended: &mut ByDir<u64>,
     untold: &mut Untold,
     largest: u64,
     ranges: &[u8],
@@ -45,7 +46,7 @@ fn ack_all(
     outbox: &mut Outbox,
     role: Role,
     recvs: &RecvTables,
-    ended: &mut EndedStreams,
+    ended: &mut ByDir<u64>,
     untold: &mut Untold,
     late: bool,
     ranges: AckRanges<'_>,
@@ -61,7 +62,7 @@ fn ack_named(
     outbox: &mut Outbox,
     role: Role,
     recvs: &RecvTables,
-    ended: &mut EndedStreams,
+    ended: &mut ByDir<u64>,
     untold: &mut Untold,
     late: bool,
     pass: &mut AckPass<'_>,
@@ -78,7 +79,7 @@ fn ack_packet(
     outbox: &mut Outbox,
     role: Role,
     recvs: &RecvTables,
-    ended: &mut EndedStreams,
+    ended: &mut ByDir<u64>,
     untold: &mut Untold,
     packet: KeptPacket,
 ) -> Result<(), NoMemory> {
@@ -93,7 +94,7 @@ fn ack_piece(
     outbox: &mut Outbox,
     role: Role,
     recvs: &RecvTables,
-    ended: &mut EndedStreams,
+    ended: &mut ByDir<u64>,
     untold: &mut Untold,
     packet: KeptPacket,
     piece: Piece,

@@ -131,9 +131,9 @@ impl Endpoint {
     // How many streams of its type the peer may open (RFC 9000, section 4.6).
     fn grant(&self, stream: StreamId) -> u64 {
         if is_uni(stream) {
-            self.limits.granted_uni
+            self.limits.granted_streams.uni
         } else {
-            self.limits.granted_bidi
+            self.limits.granted_streams.bidi
         }
     }
 }

@@ -40,16 +40,16 @@ impl Endpoint {
             return None;
         }
         let bidi = self.peer_type(Dir::Bidi);
-        if self.accepted_bidi < self.opened_count(bidi) as u64 {
-            let stream = StreamId::new(self.accepted_bidi * 4 + bidi as u64).unwrap();
-            self.accepted_bidi += 1;
+        if self.accepted.bidi < self.opened_count(bidi) as u64 {
+            let stream = StreamId::new(self.accepted.bidi * 4 + bidi as u64).unwrap();
+            self.accepted.bidi += 1;
             self.settle();
             return Some(stream);
         }
         let uni = self.peer_type(Dir::Uni);
-        if self.accepted_uni < self.opened_count(uni) as u64 {
-            let stream = StreamId::new(self.accepted_uni * 4 + uni as u64).unwrap();
-            self.accepted_uni += 1;
+        if self.accepted.uni < self.opened_count(uni) as u64 {
+            let stream = StreamId::new(self.accepted.uni * 4 + uni as u64).unwrap();
+            self.accepted.uni += 1;
             self.settle();
             return Some(stream);
         }
@@ -116,18 +116,12 @@ impl Endpoint {
 
     // That another stream was wanted is noted.
     fn want(&mut self, dir: Dir, count: u64) {
-        match dir {
-            Dir::Bidi => self.limits.wanted_bidi = Some(count),
-            Dir::Uni => self.limits.wanted_uni = Some(count),
-        }
+        self.limits.wanted_streams.set(dir, Some(count));
     }
 
     // How many streams of a direction the peer allows.
     pub(super) fn known_count(&self, dir: Dir) -> u64 {
-        match dir {
-            Dir::Bidi => self.limits.known_bidi,
-            Dir::Uni => self.limits.known_uni,
-        }
+        self.limits.known_streams.of(dir)
     }
 
     // How many streams of a type are open.

@@ -67,6 +67,11 @@ impl Endpoint {
         if let Some(fault) = self.no_receiver(stream) {
             return Err(fault);
         }
+        // To look at a stream without news costs no more than its marks.
+        if !self.recvs.may_tell(stream) {
+            self.settle();
+            return Ok(Read::Wait);
+        }
         let was = is_over(self.limits.role, &self.recvs, &self.outbox, stream);
         let answer = self.recvs.read(stream, into);
         let is = is_over(self.limits.role, &self.recvs, &self.outbox, stream);

@@ -40,8 +40,8 @@ impl Endpoint {
     fn know_limits(&mut self, limits: &PeerLimits) {
         self.peer = greater_limits(&self.peer, limits);
         self.limits.known_data = self.limits.known_data.max(limits.max_data);
-        self.limits.known_bidi = self.limits.known_bidi.max(limits.streams_bidi);
-        self.limits.known_uni = self.limits.known_uni.max(limits.streams_uni);
+        self.limits.known_streams.bidi = self.limits.known_streams.bidi.max(limits.streams_bidi);
+        self.limits.known_streams.uni = self.limits.known_streams.uni.max(limits.streams_uni);
     }
 
     // Each open half of a type may send what one may that opens now.

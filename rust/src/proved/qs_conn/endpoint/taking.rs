@@ -66,10 +66,8 @@ impl Endpoint {
     // The peer allows so many streams of a direction.
     fn on_max_streams(&mut self, dir: Dir, count: u64) {
         debug_assert!(count <= 1 << 60);
-        match dir {
-            Dir::Bidi => self.limits.known_bidi = self.limits.known_bidi.max(count),
-            Dir::Uni => self.limits.known_uni = self.limits.known_uni.max(count),
-        }
+        let known = &mut self.limits.known_streams;
+        known.set(dir, known.of(dir).max(count));
     }
 
     // The peer allows the offsets of a stream below a limit.

@@ -15,7 +15,8 @@ impl<'a> AckPass<'a> {
         }
         // The number of the record that was looked at last; before the first look the bound itself.
         let mut seen = self.below;
-        let mut near = 0;
+        // The highest range mostly lies above all of them.
+        let mut near = records.len();
         loop {
             if let Some(number) = self.lost_in_range(records, &mut seen, &mut near) {
                 return Some(number);
