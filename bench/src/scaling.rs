@@ -6,6 +6,7 @@ use crate::pattern::{self, Source};
 use crate::whole::transfer;
 use crate::{Row, Run};
 use gotsavena::{Dir, Endpoint, Read, Role, Settings};
+use std::hint::black_box;
 use std::sync::Barrier;
 use std::time::{Duration, Instant};
 
@@ -50,6 +51,44 @@ fn carried(streams: u64) -> Run {
     Run {
         time: spent,
         units: pair.made,
+    }
+}
+
+// The two copies of `carried` by themselves: out of as many sending buffers, and into as many rings, each in turn.
+fn copied(streams: usize) -> Run {
+    const EACH: usize = 1200;
+    const BURST: usize = 10;
+    let mut buffers = vec![vec![1u8; 16 << 10]; streams];
+    let mut rings = vec![vec![0; 2 << 10]; streams];
+    let mut payloads = vec![vec![0; EACH]; BURST];
+    let written = vec![2; EACH];
+    let mut out = vec![0; EACH];
+    let place = |copies: usize, size: usize| copies * EACH % (size - EACH);
+    let (mut made, mut spent) = (0, Duration::ZERO);
+    while made * EACH < 32 << 20 {
+        let burst = (made..made + BURST).map(|number| (number % streams, number / streams));
+        spent += time(|| {
+            for ((stream, copies), payload) in burst.clone().zip(&mut payloads) {
+                let from = place(copies, 16 << 10);
+                payload.copy_from_slice(&buffers[stream][from..from + EACH]);
+            }
+            for ((stream, copies), payload) in burst.clone().zip(&payloads) {
+                let to = place(copies, 2 << 10);
+                rings[stream][to..to + EACH].copy_from_slice(payload);
+            }
+        });
+        // What was sent is read, and its room written to again.
+        for (stream, copies) in burst {
+            let (from, to) = (place(copies, 2 << 10), place(copies, 16 << 10));
+            out.copy_from_slice(&rings[stream][from..from + EACH]);
+            buffers[stream][to..to + EACH].copy_from_slice(&written);
+        }
+        black_box(&out);
+        made += BURST;
+    }
+    Run {
+        time: spent,
+        units: made as u64,
     }
 }
 
@@ -238,6 +277,10 @@ pub fn rows() -> Vec<Row> {
         row("carried-64", "packet", || carried(64)),
         row("carried-1000", "packet", || carried(1000)),
         row("carried-4096", "packet", || carried(4096)),
+        row("copied-1", "packet", || copied(1)),
+        row("copied-64", "packet", || copied(64)),
+        row("copied-1000", "packet", || copied(1000)),
+        row("copied-4096", "packet", || copied(4096)),
         row("raised-1", "packet", || raised(1)),
         row("raised-64", "packet", || raised(64)),
         row("raised-1000", "packet", || raised(1000)),
