@@ -1,8 +1,8 @@
--- The last run made longer.
-use Rattle.std.proofs.Common.{◌≡◌, ℕ, ◌+◌, ◌-◌, ◌<◌, ◌≤◌, get_or, ◌∷◌, ◌++◌, length, take, drop, max, All, sym, subst, ap, ◌∙◌, arith}
-use Rattle.qs_ranges.specs.Runs.{AreApart, start_at, end_at}
+-- The last run made longer: there are as many runs then.
+use Rattle.std.proofs.Common.{◌≡◌, ℕ, zero, suc, ◌+◌, ◌-◌, ◌<◌, ◌≤◌, get_or, [], ◌∷◌, ◌++◌, length, take, drop, max, All, refl, sym, subst, ap, ◌∙◌, arith}
+use Rattle.qs_ranges.specs.Runs.{Runs, AreApart, start_at, end_at}
 use Rattle.qs_ranges.specs.Blocks.{Blocks, all_runs, block_at, place, IsFirstFrom, IsFound, IsEdit, with_range}
-use Rattle.qs_ranges.proofs.Places.{run_at_place}
+use Rattle.qs_ranges.proofs.Places.{place_within, run_at_place}
 use Rattle.qs_ranges.proofs.Found.{first_last, span_found}
 use Rattle.qs_ranges.proofs.Sides.{put_over}
 
@@ -25,3 +25,14 @@ lengthened bs new b i lo hi limit run end apart all some fits last ends_block is
     put_over (all_runs bs) new lo hi limit (place bs b i) (place bs b (i + 1)) apart all some run.0 end fits span (omega arith)
     (let first_number : run.0 ≡ start_at (all_runs bs) (place bs b i) = ap (λ r. r.0) read in omega (arith, first_number))
     (top ∙ ap (max hi) (ap (λ r. r.1) read ∙ ap (λ k. end_at (all_runs bs) k) one)) edit
+
+one_replaced : (p : ℕ) (xs : Runs) (run : ℕ × ℕ) → p < length xs → length (take p xs ++ run ∷ drop (suc p) xs) ≡ length xs
+one_replaced p [] run lt = absurd (omega (arith, lt))
+one_replaced zero (x ∷ xs) run lt = refl
+one_replaced (suc p) (x ∷ xs) run lt = ap suc (one_replaced p xs run (omega (arith, lt)))
+
+pub as_many : (bs new : Blocks) (b i : ℕ) (run : ℕ × ℕ) → i < length (block_at bs b) → all_runs new ≡ take (place bs b i) (all_runs bs) ++ run ∷ drop (place bs b (i + 1)) (all_runs bs) → length (all_runs new) ≡ length (all_runs bs)
+as_many bs new b i run lt edit =
+    let within = place_within bs b (i + 1) (omega (arith, lt)) in
+    let next : place bs b (i + 1) ≡ suc (place bs b i) = omega arith in
+    ap length (edit ∙ ap (λ k. take (place bs b i) (all_runs bs) ++ run ∷ drop k (all_runs bs)) next) ∙ one_replaced (place bs b i) (all_runs bs) run (omega (arith, within))

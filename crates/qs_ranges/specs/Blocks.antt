@@ -25,6 +25,10 @@ abbrev pub runs_of : Blocks → Few → Runs
 runs_of [] value = few_runs value
 runs_of (b ∷ bs) value = all_runs (b ∷ bs)
 
+-- a set has blocks only for two runs or more
+abbrev pub AreMany : Blocks → Type 0
+AreMany bs = 0 < length bs → 1 < length (all_runs bs)
+
 -- the runs of the block with a number
 abbrev pub block_at : Blocks → ℕ → Runs
 block_at bs k = slice_index_or bs k []

@@ -1,7 +1,7 @@
 //! The runs of a set that are more than two, in blocks.
 ghost use Rattle.std.specs.Prelude.{◌≡◌, ℕ, ◌+◌, ◌-◌, ◌^◌, ◌≤◌, ◌<◌, All, Option, None, OnOk, OnErr, false, true, [], ◌∷◌, ◌++◌, length, take, drop};
 ghost use Rattle.qs_ranges.specs.Runs.{AreApart, has_number};
-ghost use Rattle.qs_ranges.specs.Blocks.{IsEdit, all_runs, few_runs, runs_of, with_range, without_range};
+ghost use Rattle.qs_ranges.specs.Blocks.{AreMany, IsEdit, all_runs, few_runs, runs_of, with_range, without_range};
 
 use crate::NoMemory;
 use crate::block::Block;
@@ -18,11 +18,13 @@ pub(crate) fn insert_many(
 ) -> Result<(), NoMemory>
     requires apart { AreApart (all_runs blocks.old.items) }
     requires bound { All (λ run. run.1 ≤ 2 ^ 62) (all_runs blocks.old.items) }
+    requires many { 1 < length (all_runs blocks.old.items) }
     requires some { lo < hi }
     requires within { hi ≤ 2 ^ 62 }
     ensures ok { OnOk result (IsEdit (runs_of blocks.new.items few.new) (2 ^ 62) (with_range (all_runs blocks.old.items) lo hi)) }
     ensures err { OnErr result (runs_of blocks.new.items few.new ≡ all_runs blocks.old.items) }
     ensures touches_none { OnErr result ((n : ℕ) → lo - 1 ≤ n → n < hi + 1 → has_number (all_runs blocks.old.items) n ≡ false) }
+    ensures many { AreMany blocks.new.items }
 {
     if lengthen_last(blocks, lo, hi) {
         *few = Few::Empty;
@@ -41,6 +43,7 @@ fn lengthen_last(blocks: &mut Vec<Block>, lo: u64, hi: u64) -> bool
     requires within { hi ≤ 2 ^ 62 }
     ensures longer { result ≡ true → IsEdit (all_runs blocks.new.items) (2 ^ 62) (with_range (all_runs blocks.old.items) lo hi) }
     ensures same { result ≡ false → blocks.new.items ≡ blocks.old.items }
+    ensures count { length (all_runs blocks.new.items) ≡ length (all_runs blocks.old.items) }
 {
     let count = blocks.len();
     if count == 0 {
@@ -59,11 +62,13 @@ fn lengthen_last(blocks: &mut Vec<Block>, lo: u64, hi: u64) -> bool
 fn insert_anywhere(few: &mut Few, blocks: &mut Vec<Block>, lo: u64, hi: u64) -> Result<(), NoMemory>
     requires apart { AreApart (all_runs blocks.old.items) }
     requires bound { All (λ run. run.1 ≤ 2 ^ 62) (all_runs blocks.old.items) }
+    requires many { 1 < length (all_runs blocks.old.items) }
     requires some { lo < hi }
     requires within { hi ≤ 2 ^ 62 }
     ensures ok { OnOk result (IsEdit (runs_of blocks.new.items few.new) (2 ^ 62) (with_range (all_runs blocks.old.items) lo hi)) }
     ensures err { OnErr result (runs_of blocks.new.items few.new ≡ all_runs blocks.old.items) }
     ensures touches_none { OnErr result ((n : ℕ) → lo - 1 ≤ n → n < hi + 1 → has_number (all_runs blocks.old.items) n ≡ false) }
+    ensures many { AreMany blocks.new.items }
 {
     *few = Few::Empty;
     let span = span_of(blocks, lo, hi + 1);
@@ -92,6 +97,7 @@ pub(crate) fn remove_many(
     ensures ok { OnOk result (IsEdit (runs_of blocks.new.items few.new) (2 ^ 62) (without_range (all_runs blocks.old.items) lo hi)) }
     ensures err { OnErr result (runs_of blocks.new.items few.new ≡ all_runs blocks.old.items) }
     ensures inside { OnErr result ((0 < lo) × ((n : ℕ) → lo - 1 ≤ n → n < hi + 1 → has_number (all_runs blocks.old.items) n ≡ true)) }
+    ensures many { AreMany blocks.new.items }
 {
     *few = Few::Empty;
     let done = cut_blocks(blocks, lo, hi);
@@ -127,15 +133,28 @@ fn cut_blocks(blocks: &mut Vec<Block>, lo: u64, hi: u64) -> Result<(), NoMemory>
 // Two runs, or one, come back into the value, and their block goes.
 fn settle(few: &mut Few, blocks: &mut Vec<Block>)
     requires { few_runs few.old ≡ [] }
-    ensures { runs_of blocks.new.items few.new ≡ all_runs blocks.old.items }
+    ensures runs { runs_of blocks.new.items few.new ≡ all_runs blocks.old.items }
+    ensures many { AreMany blocks.new.items }
 {
-    if blocks.len() != 1 {
+    if blocks.is_empty() {
+        return;
+    }
+    if blocks.len() > 1 {
+        each_has_runs(blocks);
         return;
     }
     if let Some(runs) = few_of(&blocks[0]) {
         *few = runs;
         *blocks = Vec::new(*blocks.allocator());
     }
+}
+
+// Each block has a run. It does nothing: a proof calls it for what it ensures.
+fn each_has_runs(blocks: &[Block])
+    requires { 1 < length blocks.now }
+    ensures { 1 < length (all_runs blocks.now) }
+{
+    let _some = (blocks[0].len(), blocks[1].len());
 }
 
 /// Copies the runs of blocks to the slice's front.

@@ -1,7 +1,7 @@
 //! A set of two runs at most, in a value.
-ghost use Rattle.std.specs.Prelude.{◌≡◌, ℕ, ◌+◌, ◌-◌, ◌^◌, ◌≤◌, ◌<◌, All, OnOk, OnErr, IfSome, false, true, [], ◌∷◌, length, take};
+ghost use Rattle.std.specs.Prelude.{◌≡◌, ℕ, ◌+◌, ◌-◌, ◌^◌, ◌≤◌, ◌<◌, All, OnOk, OnErr, IfSome, IfNone, false, true, [], ◌∷◌, length, take};
 ghost use Rattle.qs_ranges.specs.Runs.{AreApart, has_number};
-ghost use Rattle.qs_ranges.specs.Blocks.{IsEdit, few_runs, first_run_above, runs_of, with_range, without_range};
+ghost use Rattle.qs_ranges.specs.Blocks.{AreMany, IsEdit, few_runs, first_run_above, runs_of, with_range, without_range};
 
 use crate::NoMemory;
 use crate::block::Block;
@@ -29,6 +29,8 @@ pub(crate) fn insert_few(
     ensures ok { OnOk result (IsEdit (runs_of blocks.new.items few.new) (2 ^ 62) (with_range (few_runs few.old) lo hi)) }
     ensures err { OnErr result (runs_of blocks.new.items few.new ≡ few_runs few.old) }
     ensures touches_none { OnErr result ((n : ℕ) → lo - 1 ≤ n → n < hi + 1 → has_number (few_runs few.old) n ≡ false) }
+    ensures two { OnErr result (1 < length (few_runs few.old)) }
+    ensures many { AreMany blocks.new.items }
 {
     match *few {
         Few::Empty => *few = Few::One((lo, hi)),
@@ -77,6 +79,7 @@ fn add_to_two(
     ensures ok { OnOk result (IsEdit (runs_of blocks.new.items few.new) (2 ^ 62) (with_range (low ∷ high ∷ []) lo hi)) }
     ensures err { OnErr result (runs_of blocks.new.items few.new ≡ low ∷ high ∷ []) }
     ensures touches_none { OnErr result ((n : ℕ) → lo - 1 ≤ n → n < hi + 1 → has_number (low ∷ high ∷ []) n ≡ false) }
+    ensures many { AreMany blocks.new.items }
 {
     if low.1 < lo {
         if high.1 < lo {
@@ -114,6 +117,7 @@ pub(crate) fn remove_few(
     ensures ok { OnOk result (IsEdit (runs_of blocks.new.items few.new) (2 ^ 62) (without_range (few_runs few.old) lo hi)) }
     ensures err { OnErr result (runs_of blocks.new.items few.new ≡ few_runs few.old) }
     ensures inside { OnErr result ((0 < lo) × ((n : ℕ) → lo - 1 ≤ n → n < hi + 1 → has_number (few_runs few.old) n ≡ true)) }
+    ensures many { AreMany blocks.new.items }
 {
     match *few {
         Few::Empty => {}
@@ -161,6 +165,7 @@ fn take_from_two(
     ensures ok { OnOk result (IsEdit (runs_of blocks.new.items few.new) (2 ^ 62) (without_range (low ∷ high ∷ []) lo hi)) }
     ensures err { OnErr result (runs_of blocks.new.items few.new ≡ low ∷ high ∷ []) }
     ensures inside { OnErr result ((0 < lo) × ((n : ℕ) → lo - 1 ≤ n → n < hi + 1 → has_number (low ∷ high ∷ []) n ≡ true)) }
+    ensures many { AreMany blocks.new.items }
 {
     if hi <= high.0 {
         return take_from_low(few, blocks, low, high, lo, hi);
@@ -196,6 +201,7 @@ fn take_from_low(
     ensures ok { OnOk result (IsEdit (runs_of blocks.new.items few.new) (2 ^ 62) (without_range (low ∷ high ∷ []) lo hi)) }
     ensures err { OnErr result (runs_of blocks.new.items few.new ≡ low ∷ high ∷ []) }
     ensures inside { OnErr result ((0 < lo) × ((n : ℕ) → lo - 1 ≤ n → n < hi + 1 → has_number (low ∷ high ∷ []) n ≡ true)) }
+    ensures many { AreMany blocks.new.items }
 {
     if hi <= low.0 || low.1 <= lo {
         return Ok(());
@@ -228,6 +234,7 @@ fn take_from_high(
     ensures ok { OnOk result (IsEdit (runs_of blocks.new.items few.new) (2 ^ 62) (without_range (low ∷ high ∷ []) lo hi)) }
     ensures err { OnErr result (runs_of blocks.new.items few.new ≡ low ∷ high ∷ []) }
     ensures inside { OnErr result ((0 < lo) × ((n : ℕ) → lo - 1 ≤ n → n < hi + 1 → has_number (low ∷ high ∷ []) n ≡ true)) }
+    ensures many { AreMany blocks.new.items }
 {
     if hi <= high.0 || high.1 <= lo {
         return Ok(());
@@ -251,6 +258,7 @@ fn put_three(
     requires { blocks.old.items ≡ [] }
     ensures ok { OnOk result (blocks.new.items ≡ (low ∷ middle ∷ high ∷ []) ∷ []) }
     ensures err { OnErr result (blocks.new.items ≡ []) }
+    ensures many { AreMany blocks.new.items }
 {
     let mut block = Block::of(*blocks.allocator(), low)?;
     block.insert(1, middle)?;
@@ -261,7 +269,8 @@ fn put_three(
 
 /// The runs of a block, where they are few.
 pub(crate) fn few_of(block: &Block) -> Option<Few>
-    ensures { IfSome result (λ few. few_runs few ≡ block.now) }
+    ensures few { IfSome result (λ few. few_runs few ≡ block.now) }
+    ensures many { IfNone result (2 < length block.now) }
 {
     match block.len() {
         1 => Some(Few::One(block.run(0))),

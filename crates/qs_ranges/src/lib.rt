@@ -67,7 +67,7 @@ impl Model for RangeSet {
     ghost use Rattle.std.specs.Coded.{coded_ℕ};
     ghost use Rattle.qs_ranges.specs.Numbers.{NumberSet};
     ghost use Rattle.qs_ranges.specs.Runs.{AreApart, set_of};
-    ghost use Rattle.qs_ranges.specs.Blocks.{runs_of};
+    ghost use Rattle.qs_ranges.specs.Blocks.{AreMany, runs_of};
 
     ghost Value = { NumberSet };
 
@@ -75,7 +75,7 @@ impl Model for RangeSet {
 
     ghost view = { λ a. set_of (runs_of a.blocks.items a.few) };
 
-    ghost invariant = { λ a. AreApart (runs_of a.blocks.items a.few) × All (λ run. run.1 ≤ 2 ^ 62) (runs_of a.blocks.items a.few) };
+    ghost invariant = { λ a. AreApart (runs_of a.blocks.items a.few) × All (λ run. run.1 ≤ 2 ^ 62) (runs_of a.blocks.items a.few) × AreMany a.blocks.items };
 }
 
 impl RangeSet {
@@ -110,8 +110,9 @@ impl RangeSet {
         ensures ok { OnOk result (self.new ≡ set.union self.old (numbers lo hi)) }
         ensures err { OnErr result (self.new ≡ self.old) }
 
-        // Memory is taken only for a range that touches no member.
+        // Memory is taken only for a range that touches no member, and only of a set of two runs or more.
         ensures touches_none { OnErr result (MissesRange self.old (lo - 1) (hi + 1)) }
+        ensures two { OnErr result (1 < set.len (run_starts self.old)) }
     {
         if lo == hi {
             return Ok(());

@@ -96,13 +96,23 @@ fn cut_blocks(blocks: &mut Vec<Block>, lo: u64, hi: u64) -> Result<(), NoMemory>
 
 // Two runs, or one, come back into the value, and their block goes.
 fn settle(few: &mut Few, blocks: &mut Vec<Block>) {
-    if blocks.len() != 1 {
+    if blocks.is_empty() {
+        return;
+    }
+    if blocks.len() > 1 {
+        each_has_runs(blocks);
         return;
     }
     if let Some(runs) = few_of(&blocks[0]) {
         *few = runs;
         *blocks = Vec::new(*blocks.allocator());
     }
+}
+
+// Each block has a run. It does nothing: a proof calls it for what it ensures.
+fn each_has_runs(blocks: &[Block]) {
+    debug_assert!(1 < blocks.len());
+    let _some = (blocks[0].len(), blocks[1].len());
 }
 
 /// Copies the runs of blocks to the slice's front.

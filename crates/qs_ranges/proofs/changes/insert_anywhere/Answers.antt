@@ -30,4 +30,4 @@ returns-clause-ok c =
     let ends = read_ends bs s.block s.from s.last s.to c.index.result.now c.index-2.result.now c.run-start.result c.run-end.result found c.index.ensures c.run-start.ensures c.index-2.ensures c.run-end.ensures in
     let start : c.min.result ≡ min c.args.lo (start_at (all_runs bs) (place bs s.block s.from)) = c.min.ensures ∙ ap (min c.args.lo) ends.start in
     let end : c.max.result ≡ max c.args.hi (end_at (all_runs bs) (place bs s.last s.to - 1)) = c.max.ensures ∙ ap (max c.args.hi) ends.end in
-    rw c.settle.ensures (put_over (all_runs bs) c.replace.new.blocks.items c.args.lo c.args.hi (2 ^ 62) (place bs s.block s.from) (place bs s.last s.to) c.requires.apart c.requires.bound c.requires.some c.min.result c.max.result c.requires.within span ends.some start end c.replace.ensures)
+    rw c.settle.ensures.runs (put_over (all_runs bs) c.replace.new.blocks.items c.args.lo c.args.hi (2 ^ 62) (place bs s.block s.from) (place bs s.last s.to) c.requires.apart c.requires.bound c.requires.some c.min.result c.max.result c.requires.within span ends.some start end c.replace.ensures)
