@@ -112,13 +112,13 @@ record FromHere (r : Recorded) (p : Passing) (ks : List ℕ) (q : Passing) : Typ
   given : (j : ℕ) → Among j ks → IsAhead p j × (fmap.contains_key r.pieces j ≡ true)
   all : (j : ℕ) → IsAhead p j → fmap.contains_key r.pieces j ≡ true → Among j ks
   turns : q.turns + turns_ahead q r ≤ p.turns + turns_ahead p r
-  each : q.turns ≡ more_turns p.turns (length ks + length p.unread)
+  each : more_turns p.turns (length ks + length p.unread) ≤ q.turns
 
 same_turns : (p : Passing) (r s : Recorded) → s.base ≡ r.base → s.slots ≡ r.slots → turns_ahead p s ≡ turns_ahead p r
 same_turns p r s base slots = ap (λ x. min (p.below - x) s.slots + length p.unread) base ∙ ap (λ x. min (p.below - r.base) x + length p.unread) slots
 
 -- a number is given, after some ranges were read, and then the rest
-turns_then : (a b c given left later : ℕ) → later ≤ left → b ≡ more_turns a (1 + (left - later)) → c ≡ more_turns b (given + later) → c ≡ more_turns a (suc given + left)
+turns_then : (a b c given left later : ℕ) → later ≤ left → more_turns a (1 + (left - later)) ≤ b → more_turns b (given + later) ≤ c → more_turns a (suc given + left) ≤ c
 turns_then a b c given left later le first second = omega (arith, le, first, second)
 
 one_given : (r s : Recorded) (p next q : Passing) (k : ℕ) (ks : List ℕ) → Falls p → IsNext r p (Some k) next → MayEmpty r k s → FromHere s next ks q → FromHere r p (k ∷ ks) q

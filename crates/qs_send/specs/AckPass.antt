@@ -66,20 +66,20 @@ turns_ahead p r = min (p.below - r.base) r.slots + length p.unread
 abbrev pub more_turns : ℕ → ℕ → ℕ
 more_turns turns more = min (turns + more) PAST_NUMBERS
 
--- a number that is given takes a turn
+-- a number that is given takes a turn at least
 abbrev pub turns_given : Option ℕ → ℕ
 turns_given None = 0
 turns_given (Some k) = 1
 
--- What one answer says of the records and of the pass before and after it. A turn is one slot or one range less that is ahead; the
--- number that is given and each range that was read take one.
+-- What one answer says of the records and of the pass before and after it. A turn is one slot or one range less that is ahead: a pass
+-- looks at no slot twice. The number that is given and each range that was read are counted.
 pub record IsNext (r : Recorded) (p : Passing) (given : Option ℕ) (q : Passing) : Type 0 where
   pub answer : Falls p → IsNextNamed r.pieces p given q
   pub falls : Falls p → Falls q
   pub below : IfSome given (λ k. (q.below ≡ k) × (k < p.below))
   pub turns : q.turns + turns_ahead q r ≤ p.turns + turns_ahead p r
   pub counted : p.turns ≤ q.turns
-  pub each : q.turns ≡ more_turns p.turns (turns_given given + (length p.unread - length q.unread))
+  pub each : more_turns p.turns (turns_given given + (length p.unread - length q.unread)) ≤ q.turns
   pub reads : length q.unread ≤ length p.unread
   pub ended : given ≡ None → q.unread ≡ []
 
@@ -108,13 +108,13 @@ abbrev pub AreFalling : ℕ → List ℕ → Type 0
 AreFalling bound [] = Unit {0}
 AreFalling bound (k ∷ ks) = (k < bound) × AreFalling k ks
 
--- A pass gives the outstanding numbers that the ranges name, each once and the highest first, in one turn for each of them and one for
--- each range: in no more turns than there are slots and ranges.
+-- A pass gives the outstanding numbers that the ranges name, each once and the highest first, in no more turns than there are slots and
+-- ranges, and in one at least for each number and each range.
 pub record GivesAllNamed (r : Recorded) (ranges : List (ℕ × ℕ)) (ks : List ℕ) (q : Passing) : Type 0 where
   pub falling : AreFalling PAST_NUMBERS ks
   pub all_named : (k : ℕ) → Among k ks ↔ (IsNamed ranges k × (fmap.contains_key r.pieces k ≡ true))
   pub turns : q.turns ≤ r.slots + length ranges
-  pub each : q.turns ≡ more_turns 0 (length ks + length ranges)
+  pub each : more_turns 0 (length ks + length ranges) ≤ q.turns
 
 abbrev pub PassGivesAllNamed : Type 0
 PassGivesAllNamed =

@@ -21,16 +21,13 @@ pub struct AckPass<'a> {
 }
 
 impl<'a> Model for AckPass<'a> {
-    ghost use Rattle.std.specs.Prelude.{◌≤◌};
-    ghost use Rattle.qs_send.specs.AckPass.{Passing, passing_code, PAST_NUMBERS};
+    ghost use Rattle.qs_send.specs.AckPass.{Passing, passing_code};
 
     ghost Value = { Passing };
 
     ghost coded = { passing_code };
 
     ghost view = { λ p. record { low = p.low; below = p.below; unread = p.ranges; turns = p.turns } };
-
-    ghost invariant = { λ p. p.turns ≤ PAST_NUMBERS };
 }
 
 impl<'a> AckPass<'a> {
@@ -46,8 +43,8 @@ impl<'a> AckPass<'a> {
         }
     }
 
-    /// The greatest outstanding number that the ranges name below the one given last, `None` where there is none. Each number that it
-    /// gives and each range that it reads takes one turn, and after each turn comes one search.
+    /// The greatest outstanding number that the ranges name below the one given last, `None` where there is none. A turn is a range that
+    /// it reads, or a look below the last one: at a word of bits, together with the slot that it leads to, or at a slot without a bit.
     pub fn next(&mut self, records: &Records) -> Option<u64>
         ensures { IsNext records.now self.old result self.new }
     {
@@ -91,21 +88,28 @@ impl<'a> AckPass<'a> {
         true
     }
 
-    // The greatest outstanding number of the range that was read last, below the one given last. One that is found takes a turn.
+    // The greatest outstanding number of the range that was read last, below the one given last.
     fn in_range(&mut self, records: &Records) -> Option<u64>
         ensures same { (self.new.low ≡ self.old.low) × (self.new.unread ≡ self.old.unread) }
         ensures below { self.new.below ≤ self.old.below }
         ensures found { IfSome result (λ k. (self.new.below ≡ k) × (k < self.old.below) × (self.old.low ≤ k) × (fmap.contains_key records.now.pieces k ≡ true)) }
         ensures above { IfSome result (λ k. (j : ℕ) → k < j → j < self.old.below → fmap.contains_key records.now.pieces j ≡ false) }
         ensures none { IfNone result ((j : ℕ) → self.old.low ≤ j → j < self.old.below → fmap.contains_key records.now.pieces j ≡ false) }
-        ensures stays { IfNone result (self.new ≡ self.old) }
+        ensures past { IfNone result ((j : ℕ) → self.new.below ≤ j → j < self.old.below → fmap.contains_key records.now.pieces j ≡ false) }
         ensures turns { self.new.turns + min (self.new.below - records.now.base) records.now.slots ≤ self.old.turns + min (self.old.below - records.now.base) records.now.slots }
-        ensures each { IfSome result (λ _. self.new.turns ≡ more_turns self.old.turns 1) }
+        ensures one { IfSome result (λ _. more_turns self.old.turns 1 ≤ self.new.turns) }
+        ensures counted { self.old.turns ≤ self.new.turns }
     {
-        let number = records.within(self.low, self.below)?;
-        self.turns = one_more(self.turns);
-        self.below = number;
-        Some(number)
+        match records.within(self.low, self.below, &mut self.turns) {
+            Some(number) => {
+                self.below = number;
+                Some(number)
+            }
+            None => {
+                self.below = self.below.min(self.low);
+                None
+            }
+        }
     }
 }
 

@@ -1,7 +1,9 @@
 //! Which slots are empty, as far as it was noted: a bit for each, in words.
-ghost use Rattle.std.specs.Prelude.{◌≡◌, ◌≤◌, ◌<◌, ◌≢◌, ◌-◌, ◌%◌, ℕ, true, false};
+ghost use Rattle.std.specs.Prelude.{◌≡◌, ◌≤◌, ◌<◌, ◌≢◌, ◌+◌, ◌-◌, ◌%◌, ℕ, max, true, false};
+ghost use Rattle.qs_send.specs.AckPass.{more_turns};
 ghost use Rattle.qs_send.specs.Gone.{is_gone};
 
+use crate::ack_pass::one_more;
 use qs_ranges::{lowest_bit, with_bit};
 use std::collections::VecDeque;
 
@@ -41,13 +43,18 @@ pub(crate) fn note(words: &mut VecDeque<u64>, index: usize)
     }
 }
 
-/// An end as low as can be, down to `low`, behind which all indexes below `end` are noted as empty.
-pub(crate) fn end_of_left(words: &VecDeque<u64>, low: usize, end: usize) -> usize
+/// An end as low as can be, down to `low`, behind which all indexes below `end` are noted as empty. Each look is one more of `looks`: at
+/// a word, together with the slot before the end that it leads to, or at that slot where it has no bit.
+pub(crate) fn end_of_left(words: &VecDeque<u64>, low: usize, end: usize, looks: &mut u64) -> usize
     ensures below { result ≤ end }
     ensures gone { (i : ℕ) → result ≤ i → i < end → is_gone words.now.items i ≡ true }
+    ensures looks { looks.new + max low (result - 1) ≤ looks.old + max low end }
+    ensures one { low < end → more_turns looks.old 1 ≤ looks.new }
+    ensures counted { looks.old ≤ looks.new }
 {
     let mut left = end;
     while left > low {
+        *looks = one_more(*looks);
         let last = left - 1;
         let place = last / PER_WORD;
         if place >= words.len() {

@@ -1,8 +1,10 @@
 //! What the outstanding packets carried.
-ghost use Rattle.std.specs.Prelude.{◌≡◌, ℕ, ◌+◌, ◌-◌, ◌^◌, ◌<◌, ◌≤◌, ◌↔◌, IsTrue, IfSome, IfNone, OnOk, OnErr, min, [], length, true, false};
+ghost use Rattle.std.specs.Prelude.{◌≡◌, ℕ, ◌+◌, ◌-◌, ◌^◌, ◌<◌, ◌≤◌, ◌↔◌, IsTrue, IfSome, IfNone, OnOk, OnErr, min, max, [], length, true, false};
 ghost use Rattle.std.specs.FinMap as fmap;
+ghost use Rattle.qs_send.specs.AckPass.{more_turns};
 ghost use Rattle.qs_send.specs.Records.{Among, AreBelow, IsCarried, IsGreatest, IsGreatestBelow, IsSlotOf, NoneEmpty, first_piece, slot_at, with_record, without_first};
 
+use crate::ack_pass::one_more;
 use crate::carried::Carried;
 use crate::gone;
 use crate::piece::Piece;
@@ -189,20 +191,25 @@ impl Records {
         self.base
     }
 
-    /// The greatest number from `low` on and below `below` that is held.
-    pub(crate) fn within(&self, low: u64, below: u64) -> Option<u64>
+    /// The greatest number from `low` on and below `below` that is held. Each look is one more of `looks`: at a word of bits, together
+    /// with the slot that it leads to, or at a slot without a bit.
+    pub(crate) fn within(&self, low: u64, below: u64, looks: &mut u64) -> Option<u64>
         ensures found { IfSome result (λ k. (low ≤ k) × (k < below) × (fmap.contains_key self.now.pieces k ≡ true)) }
         ensures slot { IfSome result (λ k. (self.now.base ≤ k) × (k < self.now.base + self.now.slots)) }
         ensures above { IfSome result (λ k. (j : ℕ) → k < j → j < below → fmap.contains_key self.now.pieces j ≡ false) }
         ensures none { IfNone result ((j : ℕ) → low ≤ j → j < below → fmap.contains_key self.now.pieces j ≡ false) }
+        ensures given { IfSome result (λ k. looks.new + (k - self.now.base) ≤ looks.old + min (below - self.now.base) self.now.slots) }
+        ensures past { IfNone result (looks.new + min (low - self.now.base) (min (below - self.now.base) self.now.slots) ≤ looks.old + min (below - self.now.base) self.now.slots) }
+        ensures one { IfSome result (λ _. more_turns looks.old 1 ≤ looks.new) }
+        ensures counted { looks.old ≤ looks.new }
     {
         let from = low.saturating_sub(self.base) as usize;
         let below = below.saturating_sub(self.base) as usize;
         let count = below.min(self.slots.len());
         if self.slots.len() < gone::PER_WORD {
-            return self.last_looked_at(from, count);
+            return self.last_looked_at(from, count, looks);
         }
-        self.last_from(from, count)
+        self.last_from(from, count, looks)
     }
 
     // The place of a number's slot. A number without one isn't held.
@@ -228,19 +235,23 @@ impl Records {
         ensures none { IfNone result ((k : ℕ) → k < self.now.base + count → fmap.contains_key self.now.pieces k ≡ false) }
     {
         let _slots = &self.slots;
-        self.last_from(0, count)
+        self.last_from(0, count, &mut 0)
     }
 
     // The greatest number that is held in the first slots, from one of them on.
-    fn last_from(&self, from: usize, count: usize) -> Option<u64>
+    fn last_from(&self, from: usize, count: usize, looks: &mut u64) -> Option<u64>
         requires { count ≤ self.now.slots }
         ensures found { IfSome result (λ k. (self.now.base + from ≤ k) × (k < self.now.base + count) × (fmap.contains_key self.now.pieces k ≡ true)) }
         ensures above { IfSome result (λ k. (j : ℕ) → k < j → j < self.now.base + count → fmap.contains_key self.now.pieces j ≡ false) }
         ensures none { IfNone result ((j : ℕ) → self.now.base + from ≤ j → j < self.now.base + count → fmap.contains_key self.now.pieces j ≡ false) }
+        ensures given { IfSome result (λ k. looks.new + (k - self.now.base) ≤ looks.old + count) }
+        ensures past { IfNone result (looks.new + min from count ≤ looks.old + count) }
+        ensures one { IfSome result (λ _. more_turns looks.old 1 ≤ looks.new) }
+        ensures counted { looks.old ≤ looks.new }
     {
         let mut place = count;
         while place > from {
-            let end = self.end_of_left(from, place);
+            let end = self.end_of_left(from, place, looks);
             if end <= from {
                 return None;
             }
@@ -253,14 +264,19 @@ impl Records {
     }
 
     // The same by a look at each slot.
-    fn last_looked_at(&self, from: usize, count: usize) -> Option<u64>
+    fn last_looked_at(&self, from: usize, count: usize, looks: &mut u64) -> Option<u64>
         requires { count ≤ self.now.slots }
         ensures found { IfSome result (λ k. (self.now.base + from ≤ k) × (k < self.now.base + count) × (fmap.contains_key self.now.pieces k ≡ true)) }
         ensures above { IfSome result (λ k. (j : ℕ) → k < j → j < self.now.base + count → fmap.contains_key self.now.pieces j ≡ false) }
         ensures none { IfNone result ((j : ℕ) → self.now.base + from ≤ j → j < self.now.base + count → fmap.contains_key self.now.pieces j ≡ false) }
+        ensures given { IfSome result (λ k. looks.new + (k - self.now.base) ≤ looks.old + count) }
+        ensures past { IfNone result (looks.new + min from count ≤ looks.old + count) }
+        ensures one { IfSome result (λ _. more_turns looks.old 1 ≤ looks.new) }
+        ensures counted { looks.old ≤ looks.new }
     {
         let mut place = count;
         while place > from {
+            *looks = one_more(*looks);
             place -= 1;
             if self.is_filled(place) {
                 return Some(self.base + place as u64);
@@ -269,19 +285,24 @@ impl Records {
         None
     }
 
-    // An end of the first slots behind which none that is below `count` has a record, as low as the bits tell, down to `from`.
-    fn end_of_left(&self, from: usize, count: usize) -> usize
-        requires { count ≤ self.now.slots }
+    // An end of the first slots behind which none that is below `count` has a record, as low as the bits tell, down to `from`. Each look
+    // is counted, also that at the slot before the end.
+    fn end_of_left(&self, from: usize, count: usize, looks: &mut u64) -> usize
+        requires some { from < count }
+        requires within { count ≤ self.now.slots }
         ensures below { result ≤ count }
         ensures gone { (k : ℕ) → self.now.base + result ≤ k → k < self.now.base + count → fmap.contains_key self.now.pieces k ≡ false }
+        ensures looks { looks.new + max from (result - 1) ≤ looks.old + count }
+        ensures one { more_turns looks.old 1 ≤ looks.new }
+        ensures counted { looks.old ≤ looks.new }
     {
-        if count <= from {
-            return count;
-        }
         let skew = (self.base - self.first) as usize;
         match skew.checked_add(count) {
-            Some(end) => gone::end_of_left(&self.gone, skew + from, end).saturating_sub(skew),
-            None => count,
+            Some(end) => gone::end_of_left(&self.gone, skew + from, end, looks).saturating_sub(skew),
+            None => {
+                *looks = one_more(*looks);
+                count
+            }
         }
     }
 

@@ -27,8 +27,8 @@ impl<'a> AckPass<'a> {
         }
     }
 
-    /// The greatest outstanding number that the ranges name below the one given last, `None` where there is none. Each number that it
-    /// gives and each range that it reads takes one turn, and after each turn comes one search.
+    /// The greatest outstanding number that the ranges name below the one given last, `None` where there is none. A turn is a range that
+    /// it reads, or a look below the last one: at a word of bits, together with the slot that it leads to, or at a slot without a bit.
     pub fn next(&mut self, records: &Records) -> Option<u64> {
         let _turns = self.turns;
         loop {
@@ -62,12 +62,18 @@ impl<'a> AckPass<'a> {
         true
     }
 
-    // The greatest outstanding number of the range that was read last, below the one given last. One that is found takes a turn.
+    // The greatest outstanding number of the range that was read last, below the one given last.
     fn in_range(&mut self, records: &Records) -> Option<u64> {
-        let number = records.within(self.low, self.below)?;
-        self.turns = one_more(self.turns);
-        self.below = number;
-        Some(number)
+        match records.within(self.low, self.below, &mut self.turns) {
+            Some(number) => {
+                self.below = number;
+                Some(number)
+            }
+            None => {
+                self.below = self.below.min(self.low);
+                None
+            }
+        }
     }
 }
 

@@ -1,6 +1,7 @@
 // Made from crates/qs_send/src/gone.rt by rust/erase; not edited by hand.
 //! Which slots are empty, as far as it was noted: a bit for each, in words.
 
+use crate::proved::qs_send::ack_pass::one_more;
 use crate::proved::qs_ranges::{lowest_bit, with_bit};
 use crate::shim::collections::VecDeque;
 
@@ -33,10 +34,12 @@ pub(crate) fn note(words: &mut VecDeque<u64>, index: usize) {
     }
 }
 
-/// An end as low as can be, down to `low`, behind which all indexes below `end` are noted as empty.
-pub(crate) fn end_of_left(words: &VecDeque<u64>, low: usize, end: usize) -> usize {
+/// An end as low as can be, down to `low`, behind which all indexes below `end` are noted as empty. Each look is one more of `looks`: at
+/// a word, together with the slot before the end that it leads to, or at that slot where it has no bit.
+pub(crate) fn end_of_left(words: &VecDeque<u64>, low: usize, end: usize, looks: &mut u64) -> usize {
     let mut left = end;
     while left > low {
+        *looks = one_more(*looks);
         let last = left - 1;
         let place = last / PER_WORD;
         if place >= words.len() {

@@ -11,6 +11,7 @@ mod half;
 mod kept;
 pub mod laws;
 mod live_offsets;
+mod lost_pass;
 mod lost_record;
 mod lost_records;
 mod offsets;
@@ -21,6 +22,7 @@ mod remaining;
 
 pub use ack_pass::AckPass;
 pub use half::{MAX_VARINT, SendHalf};
+pub use lost_pass::LostPass;
 pub use lost_records::LostRecords;
 pub use parts::{Chunk, Reset, SendFault, SendState};
 pub use piece::{Item, Piece};

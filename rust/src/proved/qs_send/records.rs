@@ -2,6 +2,7 @@
 //! What the outstanding packets carried.
 use crate::shim::Vec;
 
+use crate::proved::qs_send::ack_pass::one_more;
 use crate::proved::qs_send::carried::Carried;
 use crate::proved::qs_send::gone;
 use crate::proved::qs_send::piece::Piece;
@@ -120,15 +121,16 @@ impl Records {
         self.base
     }
 
-    /// The greatest number from `low` on and below `below` that is held.
-    pub(crate) fn within(&self, low: u64, below: u64) -> Option<u64> {
+    /// The greatest number from `low` on and below `below` that is held. Each look is one more of `looks`: at a word of bits, together
+    /// with the slot that it leads to, or at a slot without a bit.
+    pub(crate) fn within(&self, low: u64, below: u64, looks: &mut u64) -> Option<u64> {
         let from = low.saturating_sub(self.base) as usize;
         let below = below.saturating_sub(self.base) as usize;
         let count = below.min(self.slots.len());
         if self.slots.len() < gone::PER_WORD {
-            return self.last_looked_at(from, count);
+            return self.last_looked_at(from, count, looks);
         }
-        self.last_from(from, count)
+        self.last_from(from, count, looks)
     }
 
     // The place of a number's slot. A number without one isn't held.
@@ -147,14 +149,14 @@ impl Records {
     // The greatest number that is held in the first slots.
     fn last_of(&self, count: usize) -> Option<u64> {
         let _slots = &self.slots;
-        self.last_from(0, count)
+        self.last_from(0, count, &mut 0)
     }
 
     // The greatest number that is held in the first slots, from one of them on.
-    fn last_from(&self, from: usize, count: usize) -> Option<u64> {
+    fn last_from(&self, from: usize, count: usize, looks: &mut u64) -> Option<u64> {
         let mut place = count;
         while place > from {
-            let end = self.end_of_left(from, place);
+            let end = self.end_of_left(from, place, looks);
             if end <= from {
                 return None;
             }
@@ -167,9 +169,10 @@ impl Records {
     }
 
     // The same by a look at each slot.
-    fn last_looked_at(&self, from: usize, count: usize) -> Option<u64> {
+    fn last_looked_at(&self, from: usize, count: usize, looks: &mut u64) -> Option<u64> {
         let mut place = count;
         while place > from {
+            *looks = one_more(*looks);
             place -= 1;
             if self.is_filled(place) {
                 return Some(self.base + place as u64);
@@ -178,15 +181,17 @@ impl Records {
         None
     }
 
-    // An end of the first slots behind which none that is below `count` has a record, as low as the bits tell, down to `from`.
-    fn end_of_left(&self, from: usize, count: usize) -> usize {
-        if count <= from {
-            return count;
-        }
+    // An end of the first slots behind which none that is below `count` has a record, as low as the bits tell, down to `from`. Each look
+    // is counted, also that at the slot before the end.
+    fn end_of_left(&self, from: usize, count: usize, looks: &mut u64) -> usize {
+        debug_assert!(from < count);
         let skew = (self.base - self.first) as usize;
         match skew.checked_add(count) {
-            Some(end) => gone::end_of_left(&self.gone, skew + from, end).saturating_sub(skew),
-            None => count,
+            Some(end) => gone::end_of_left(&self.gone, skew + from, end, looks).saturating_sub(skew),
+            None => {
+                *looks = one_more(*looks);
+                count
+            }
         }
     }
 

@@ -2,7 +2,7 @@
 //! Each test is a list of steps, played by one function: so no test's proof follows the records' value.
 use crate::shim::{HostRuntime, assert, assert_eq};
 use crate::proved::qs_ranges::NoMemory;
-use crate::proved::qs_send::{AckPass, Item, LostRecords, Piece};
+use crate::proved::qs_send::{Item, LostPass, LostRecords, Piece};
 use crate::proved::qs_wire::AckRanges;
 use crate::shim::test::Fail;
 
@@ -122,12 +122,8 @@ fn the_oldest_packet_goes() -> Result<(), Fail> {
     Ok(())
 }
 
-fn next_three(pass: &mut AckPass<'_>, records: &LostRecords) -> [Option<u64>; 3] {
-    [
-        pass.next_lost(records),
-        pass.next_lost(records),
-        pass.next_lost(records),
-    ]
+fn next_three(pass: &mut LostPass<'_>, records: &LostRecords) -> [Option<u64>; 3] {
+    [pass.next(records), pass.next(records), pass.next(records)]
 }
 
 // The ranges 8 to 9 and 2 to 4, of which 3 and 9 were lost, and 0 and 6 beside: each record is looked at once, and each range read.
@@ -143,7 +139,7 @@ fn a_late_pass_gives_what_the_ranges_name() -> Result<(), Fail> {
     ];
     assert_eq!(rt; played(&mut records, &steps)?, steps.len());
     let ranges = [1, 2, 2];
-    let mut pass = AckPass::new(AckRanges::new(9, &ranges));
+    let mut pass = LostPass::new(AckRanges::new(9, &ranges));
     assert!(rt; next_three(&mut pass, &records) == [Some(9), Some(3), None]);
     assert!(rt; pass.turns() == 6);
     Ok(())

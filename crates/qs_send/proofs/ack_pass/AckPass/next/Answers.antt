@@ -1,5 +1,4 @@
 use Rattle.std.proofs.Common.{◌≡◌, ◌∷◌, length, ap, arith}
-use Rattle.qs_send.specs.AckPass.{Passing}
 use Rattle.qs_send.proofs.Passing.{passed_range, turns_read, given_number, passed_falls}
 use Rattle.qs_send.proofs.ack_pass.AckPass.next.Goals as goal
 
@@ -19,7 +18,8 @@ returns-in-Some c =
     let turns_now = was.turns in
     let turns_before = so_far.turns in
     let len : length cut.unread ≡ length q.unread = ap length was.same.1 in
-    let one = was.each in
+    let one = was.one in
+    let rise = was.counted in
     let until = so_far.counted in
     let each = so_far.each in
     let reads = so_far.reads in
@@ -28,7 +28,7 @@ returns-in-Some c =
       falls = passed_falls m.pieces start q cut was.same.0 was.same.1 so_far.passed;
       below = (is, omega (arith, lt, lower));
       turns = omega (arith, turns_now, turns_before, len);
-      counted = omega (arith, one, each, until);
+      counted = omega (arith, rise, until);
       each = omega (arith, one, each, len, reads);
       reads = omega (arith, reads, len);
       ended = λ none. absurd cc;
@@ -47,8 +47,7 @@ loop-number-preserved c =
     let less = was.below in
     let so_far = c.loop-number.invariant in
     let lower = so_far.below in
-    let same : cut.below ≡ q.below = ap (λ (p : Passing). p.below) was.stays in
-    let same_turns : cut.turns ≡ q.turns = ap (λ (p : Passing). p.turns) was.stays in
+    let rise = was.counted in
     let len : length cut.unread ≡ length q.unread = ap length was.same.1 in
     let left : length cut.unread ≡ length (read.0 ∷ after.unread) = ap length read.1.unread in
     let one = read.1.turns in
@@ -56,10 +55,10 @@ loop-number-preserved c =
     let each = so_far.each in
     let reads = so_far.reads in
     record {
-      passed = λ falls. passed_range m.pieces start q cut was.same.0 was.same.1 was.below was.none (λ j ge lt. absurd (omega (arith, ge, lt, same))) read.0 after read.1 (so_far.passed falls);
+      passed = λ falls. passed_range m.pieces start q cut was.same.0 was.same.1 was.below was.none was.past read.0 after read.1 (so_far.passed falls);
       below = omega (arith, bound, less, lower);
       turns = turns_read start q cut after m read.0 was.same.1 was.turns read.1 so_far.turns;
-      counted = omega (arith, one, same_turns, until, each);
-      each = omega (arith, one, same_turns, each, len, left, reads);
+      counted = omega (arith, one, rise, until);
+      each = omega (arith, one, rise, each, len, left, reads);
       reads = omega (arith, reads, len, left);
     }

@@ -1,4 +1,4 @@
-use Rattle.std.proofs.Common.{◌≡◌, ◌≤◌, ◌+◌, ◌-◌, length}
+use Rattle.std.proofs.Common.{◌≤◌, ◌+◌, ◌-◌, length}
 use Rattle.qs_send.specs.AckPass.{Falls, HasPassed, turns_ahead, more_turns}
 use Rattle.qs_send.proofs.ack_pass.AckPass.next.Given as goal
 
@@ -8,7 +8,7 @@ invariant-loop-number l = record {
   below : l.self.below ≤ l.fn.self.below;
   turns : l.self.turns + turns_ahead l.self l.records ≤ l.fn.self.turns + turns_ahead l.fn.self l.records;
   counted : l.fn.self.turns ≤ l.self.turns;
-  each : l.self.turns ≡ more_turns l.fn.self.turns (length l.fn.self.unread - length l.self.unread);
+  each : more_turns l.fn.self.turns (length l.fn.self.unread - length l.self.unread) ≤ l.self.turns;
   reads : length l.self.unread ≤ length l.fn.self.unread;
 }
 
