@@ -43,3 +43,5 @@ pub mod ExclusionsNews
 pub mod SettledLimits
 pub mod OffsetParts
 pub mod Claims
+pub mod AckPackets
+pub mod Plains

@@ -1,6 +1,6 @@
 -- Of laws.
 -- Laws on ends and their calls.
-use Rattle.std.specs.Prelude.{◌≡◌, ℕ, ◌≤◌, Bool, true, false, List, ◌++◌, None, is_some, Result, Ok, Err}
+use Rattle.std.specs.Prelude.{◌≡◌, ℕ, ◌≤◌, Bool, true, false, List, [], ◌++◌, length, ◌⊎◌, Option, None, is_some, Result, Ok, Err}
 use Rattle.std.specs.FinMap as fmap
 use Rattle.qs_wire.specs.Layout.{PlacedValue}
 use Rattle.qs_wire.specs.Grammar.{frames_of}
@@ -18,6 +18,8 @@ use Rattle.qs_calls.specs.declared.settings.PeerLimits.{PeerLimits}
 use Rattle.qs_calls.specs.declared.closing.Closing.{Closing}
 use Rattle.qs_calls.specs.declared.closing.Received.{Received}
 use Rattle.qs_calls.specs.declared.closing.Received.TheVariants.{Done}
+use Rattle.qs_calls.specs.declared.making.Made.{Made}
+use Rattle.qs_calls.specs.declared.making.MakeFault.{MakeFault}
 use Rattle.qs_calls.specs.declared.making.LostFault.{LostFault}
 use Rattle.qs_calls.specs.declared.making.LostFault.TheVariants.{NotOutstanding}
 use Rattle.qs_machine.specs.Ends.{End, end_made}
@@ -26,7 +28,7 @@ use Rattle.qs_machine.specs.Seen.{Seen, Ack, seen_all, any_asks}
 use Rattle.qs_machine.specs.Verdicts.{verdict}
 use Rattle.qs_machine.specs.FrameStep.{NoFault, frames_taken}
 use Rattle.qs_machine.specs.Receiving.{TakesPayload, EndsBy, ReceiveStep}
-use Rattle.qs_machine.specs.Making.{ClaimStep, LoseStep}
+use Rattle.qs_machine.specs.Making.{MakeStep, MakeAckStep, ClaimStep, LoseStep}
 use Rattle.qs_machine.specs.EndStep.{Call, Answer, EndStep, Claim}
 use Rattle.qs_machine.specs.Standing.{IsSound, IsWithinCredit, CountsAreSettled, LimitsRise, CountsRise}
 use Rattle.qs_machine.specs.Repeats.{SentWasWritten, AreAmong, Resumes, OnlyRecords}
@@ -85,6 +87,13 @@ StaysButNumber old call new = new ≡ old
 abbrev pub ClosedEndsStay : Type 0
 ClosedEndsStay =
     (old : End) (call : Call) (answer : Answer call) (new : End) → is_some old.closed ≡ true → EndStep old call answer new → StaysButNumber old call new
+
+-- A payload with an ACK alone is a packet of `make_packet` with no more room than it takes, or there was none to make and nothing changed
+-- (RFC 9000, section 13.2).
+abbrev pub AnAckIsAPacket : Type 0
+AnAckIsAPacket =
+    (old new : End) (first delay room : ℕ) (answer : Result (Option Made) MakeFault) (text : List ℕ) → MakeAckStep old delay room answer text new →
+    MakeStep old first delay (length text) answer text new ⊎ ((answer ≡ Ok None) × (text ≡ []) × (new ≡ old))
 
 -- once a number was claimed
 pub record ClaimedNumbersAreKnown : Type 0 where

@@ -19,6 +19,7 @@ pub mod Newly
 pub mod Raising
 pub mod EndStep
 pub mod Standing
+pub mod Plains
 pub mod Laws
 pub mod Examples
 pub mod EndCodes

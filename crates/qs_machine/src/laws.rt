@@ -1,6 +1,7 @@
 //! Laws on ends and their calls, each the contract of a function.
 
-ghost use Rattle.qs_machine.specs.Laws.{NewEndsAreSound, CallsKeepEndsSound, StoredBytesWereGranted, EndedIsLastState, NewEndsSettleCounts, CallsSettleCounts, CountsNeverFall, LimitsNeverFall, ClosedEndsStay, ClaimedNumbersAreKnown, PayloadsAreTakenInOrder, EffectsRepeat, PayloadsRepeat, ProcessedPayloadsRepeat, NewEndsSentNothing, CallsSendWhatWasWritten};
+ghost use Rattle.qs_machine.specs.Laws.{NewEndsAreSound, CallsKeepEndsSound, StoredBytesWereGranted, EndedIsLastState, NewEndsSettleCounts, CallsSettleCounts, CountsNeverFall, LimitsNeverFall, ClosedEndsStay, AnAckIsAPacket, ClaimedNumbersAreKnown, PayloadsAreTakenInOrder, EffectsRepeat, PayloadsRepeat, ProcessedPayloadsRepeat, NewEndsSentNothing, CallsSendWhatWasWritten};
+ghost use Rattle.qs_machine.specs.Plains.{PlainFramesTellNothing};
 ghost use Rattle.qs_machine.specs.SettledLimits.{NewEndsSettleLimits, CallsSettleLimits};
 ghost use Rattle.qs_machine.specs.OffsetParts.{OffsetsAreInOnePart};
 ghost use Rattle.qs_machine.specs.Examples.{Examples};
@@ -53,6 +54,16 @@ pub fn limits_never_fall()
 /// After a closing nothing changes any more, but the number of the next packet where one is claimed.
 pub fn closed_ends_stay()
     ensures { ClosedEndsStay }
+{}
+
+/// What `make_ack` makes is a packet of `make_packet` with no more room than it takes.
+pub fn an_ack_is_a_packet()
+    ensures { AnAckIsAPacket }
+{}
+
+/// PADDING, PING and the frames that are carried for others change nothing but whether an ACK is due.
+pub fn plain_frames_tell_nothing()
+    ensures { PlainFramesTellNothing }
 {}
 
 /// An ACK that names a claimed number doesn't close the end, and no packet of that number is outstanding.

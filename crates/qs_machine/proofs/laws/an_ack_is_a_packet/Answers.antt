@@ -1,0 +1,5 @@
+use Rattle.qs_machine.proofs.AckPackets.{ack_packet}
+use Rattle.qs_machine.proofs.laws.an_ack_is_a_packet.Goals as goal
+
+pub returns : goal.returns
+returns c = ack_packet
