@@ -30,6 +30,7 @@ pub mod Payloads
 pub mod Pieces
 pub mod Putting
 pub mod Refusals
+pub mod Rests
 pub mod Runs
 pub mod AckRuns
 pub mod SendEdits

@@ -1,11 +1,9 @@
 -- Of private contracts.
 -- A packet in the making: what holds of it so far.
-use Rattle.std.specs.Prelude.{◌≡◌, ℕ, ◌+◌, ◌-◌, ◌*◌, ◌<◌, ◌≤◌, ◌^◌, Bool, true, false, List, [], ◌∷◌, ◌++◌, ◌⊎◌, length, take, Option, None, Some, Result, Ok, Err}
+use Rattle.std.specs.Prelude.{◌≡◌, ℕ, ◌+◌, ◌-◌, ◌*◌, ◌<◌, ◌≤◌, ◌^◌, Bool, true, false, List, [], ◌∷◌, ◌++◌, ◌⊎◌, length, take, drop, Option, None, Some}
 use Rattle.std.specs.List.{AllByRecursion}
 use Rattle.std.specs.FinMap as fmap
 use Rattle.std.specs.FinSet as set
-use Rattle.qs_calls.specs.declared.making.Made.{Made}
-use Rattle.qs_calls.specs.declared.making.MakeFault.{MakeFault}
 use Rattle.qs_ranges.specs.Numbers.{MAX_VARINT, NumberSet, run_starts}
 use Rattle.qs_wire.specs.declared.stream_id.Dir.TheVariants.{Bidi, Uni}
 use Rattle.qs_wire.specs.Grammar.{Fits, canonical}
@@ -32,6 +30,7 @@ use Rattle.qs_machine.specs.Outgoing.{Outgoing, sent_sum, HasSending, WantsMore,
 use Rattle.qs_machine.specs.Sums.{or_none}
 use Rattle.qs_machine.specs.Lawful.{MayAck, Fills, AcksAll, HasAll, AreInTurn, pieces_so_far}
 use Rattle.qs_machine.specs.Making.{IsText, NamesMost}
+pub use Rattle.qs_conn.specs.Written.{made_text}
 
 -- what an item speaks of
 abbrev pub slot_of : Item → Slot
@@ -134,6 +133,10 @@ all_items =
 -- there is room for a piece of two bytes or more for each that may come
 abbrev pub HasSpare : ℕ → ℕ → ℕ → Type 0
 HasSpare room len spare = room ≤ len + 2 * spare + 1
+
+-- there are no fewer bytes than there were, and behind them the slice is as it was
+abbrev pub LeavesRest : (len : ℕ) → (before : List ℕ) → (end : ℕ) → (after : List ℕ) → Type 0
+LeavesRest len before end after = (len ≤ end) × (drop end after ≡ drop end before)
 
 -- an item went in behind the bytes that were there, or didn't fit
 abbrev pub PutsItem : Item → List ℕ → ℕ → Outgoing → List ℕ → ℕ → Outgoing → Bool → Type 0
@@ -257,9 +260,3 @@ pub record IsFunded (sends : Tables SendLane) (known_data : ℕ) (done : NumberS
   pub known_fits : known_data ≤ MAX_VARINT
   pub few : set.len (run_starts done) ≤ 32
   pub acks : ack_due ≡ true → 0 < set.len (run_starts done)
-
--- the payload that was written
-abbrev pub made_text : Result (Option Made) MakeFault → List ℕ → List ℕ
-made_text (Ok (Some made)) out = take made.len out
-made_text (Ok None) out = []
-made_text (Err fault) out = []

@@ -2,6 +2,7 @@ pub mod Layers
 pub mod ByDir
 pub mod Ended
 pub mod ItemOrder
+pub mod Written
 pub mod Filling
 pub mod Runs
 pub mod Marks

@@ -18,7 +18,7 @@ ghost use Rattle.qs_machine.specs.Outgoing.{IsCarried, MayTell, sent_sum, on_lan
 ghost use Rattle.qs_machine.specs.Sums.{or_none};
 ghost use Rattle.qs_conn.specs.Marks.{IsBefore, IsIdle};
 ghost use Rattle.qs_conn.specs.Untold.{IsTold};
-ghost use Rattle.qs_conn.specs.Filling.{frame_of_item, slot_at, end_by, LimitsFit, HasSpare, PutsItem, Passed, no_slot, and_slot, and_kind, all_items, Stage, Flow, Packed, InPacket, Begun, IsAckText, IsPassed, MayGo, stream_frame, turn_at, start_of, way_end, IsOnWay};
+ghost use Rattle.qs_conn.specs.Filling.{frame_of_item, slot_at, end_by, LimitsFit, HasSpare, LeavesRest, PutsItem, Passed, no_slot, and_slot, and_kind, all_items, Stage, Flow, Packed, InPacket, Begun, IsAckText, IsPassed, MayGo, stream_frame, turn_at, start_of, way_end, IsOnWay};
 
 use crate::limits::Limits;
 use crate::outbox::Outbox;
@@ -75,6 +75,7 @@ fn put_data(
     ensures text { IfSome result (λ end. take end out.new ≡ take len out.old ++ canonical (stream id chunk.offset chunk.fin (front.now ++ back.now))) }
     ensures end { IfSome result (λ end. end ≡ len + length (canonical (stream id chunk.offset chunk.fin (front.now ++ back.now)))) }
     ensures inside { IfSome result (λ end. end ≤ length out.old) }
+    ensures rest { IfSome result (λ end. drop end out.new ≡ drop end out.old) }
     ensures full { IfNone result (length out.old - len < length (canonical (stream id chunk.offset chunk.fin (front.now ++ back.now)))) }
     ensures room { length out.new ≡ length out.old }
 {
@@ -120,6 +121,7 @@ fn put_item(outbox: &mut Outbox, item: &Item, out: &mut [u8], packet: Packet) ->
     ensures sum { sent_sum outbox.new.sends ≡ sent_sum outbox.old.sends }
     ensures within { result.len ≤ length out.new }
     ensures spare { HasSpare (length out.new) result.len outbox.new.spare }
+    ensures rest { LeavesRest packet.len out.old result.len out.new }
     ensures room { length out.new ≡ length out.old }
 {
     match put_frame(&frame_of(item), out, packet.len) {
@@ -167,6 +169,7 @@ pub(crate) fn put_slot(
     ensures sum { sent_sum outbox.new.sends ≡ sent_sum outbox.old.sends }
     ensures within { result.len ≤ length out.new }
     ensures spare { HasSpare (length out.new) result.len outbox.new.spare }
+    ensures rest { LeavesRest packet.len out.old result.len out.new }
     ensures room { length out.new ≡ length out.old }
 {
     if packet.is_full {
@@ -199,6 +202,7 @@ fn put_own_slot(
     ensures sum { sent_sum outbox.new.sends ≡ sent_sum outbox.old.sends }
     ensures within { result.len ≤ length out.new }
     ensures spare { HasSpare (length out.new) result.len outbox.new.spare }
+    ensures rest { LeavesRest packet.len out.old result.len out.new }
     ensures room { length out.new ≡ length out.old }
 {
     if limits.has_none(outbox, &slot) {
@@ -245,6 +249,7 @@ pub(crate) fn put_kind(
     ensures sum { sent_sum outbox.new.sends ≡ sent_sum outbox.old.sends }
     ensures within { result.len ≤ length out.new }
     ensures spare { HasSpare (length out.new) result.len outbox.new.spare }
+    ensures rest { LeavesRest packet.len out.old result.len out.new }
     ensures room { length out.new ≡ length out.old }
 {
     if packet.is_full {
@@ -280,6 +285,7 @@ pub(crate) fn put_items(
     ensures sum { sent_sum outbox.new.sends ≡ sent_sum outbox.old.sends }
     ensures within { result.len ≤ length out.new }
     ensures spare { HasSpare (length out.new) result.len outbox.new.spare }
+    ensures rest { LeavesRest packet.len out.old result.len out.new }
     ensures room { length out.new ≡ length out.old }
 {
     let packet = put_own_slot(limits, recvs, outbox, Slot::MaxData, out, packet);
@@ -349,6 +355,7 @@ pub(crate) fn put_chunk(
     ensures end { result ≡ len + frame_len stream chunk.offset chunk.len }
     ensures within { result ≤ length out.new }
     ensures spare { HasSpare (length out.new) result outbox.new.spare }
+    ensures rest { LeavesRest len out.old result out.new }
     ensures room { length out.new ≡ length out.old }
 {
     let (front, back) = outbox.bytes(stream, chunk);
@@ -381,6 +388,7 @@ pub(crate) fn put_chunks(
     ensures credit { sent_sum outbox.new.sends ≤ limits.now.known_data }
     ensures within { result.len ≤ length out.new }
     ensures spare { HasSpare (length out.new) result.len outbox.new.spare }
+    ensures rest { LeavesRest packet.len out.old result.len out.new }
     ensures room { length out.new ≡ length out.old }
 {
     if packet.is_full {
@@ -418,6 +426,7 @@ fn put_open(
     ensures credit { sent_sum outbox.new.sends ≤ limits.now.known_data }
     ensures within { result.len ≤ length out.new }
     ensures spare { HasSpare (length out.new) result.len outbox.new.spare }
+    ensures rest { LeavesRest packet.len out.old result.len out.new }
     ensures room { length out.new ≡ length out.old }
 {
     if outbox.is_open(stream) {
@@ -465,6 +474,7 @@ fn put_way(
     ensures credit { sent_sum outbox.new.sends ≤ limits.now.known_data }
     ensures within { result.len ≤ length out.new }
     ensures spare { HasSpare (length out.new) result.len outbox.new.spare }
+    ensures rest { LeavesRest packet.len out.old result.len out.new }
     ensures room { length out.new ≡ length out.old }
 {
     if packet.is_full {
@@ -504,6 +514,7 @@ pub(crate) fn put_streams(
         → Packed first delay room old (take result.len out.new) (end_by limits.now recvs outbox.new e) }
     ensures within { result.len ≤ length out.new }
     ensures spare { HasSpare (length out.new) result.len outbox.new.spare }
+    ensures rest { LeavesRest packet.len out.old result.len out.new }
     ensures room { length out.new ≡ length out.old }
 {
     let packet = put_way(limits, outbox, first, false, out, packet);
@@ -524,6 +535,7 @@ pub(crate) fn put_kept(done: &RangeSet, delay: u64, out: &mut [u8]) -> usize
         → Begun delay (length out.old) old (take result out.new) (record old { ack_due = false }) (IsPassed no_slot) }
     ensures alone { (old : End) → old.done ≡ done.now → old.ack_due ≡ true → IsAckText delay (length out.old) old (take result out.new) }
     ensures within { result ≤ length out.new }
+    ensures rest { drop result out.new ≡ drop result out.old }
     ensures room { length out.new ≡ length out.old }
 {
     let mut pairs = [(0, 0); 32];
@@ -545,6 +557,7 @@ fn put_ack_if(done: &RangeSet, ack_due: bool, delay: u64, out: &mut [u8]) -> usi
     ensures begun { (old : End) → old.done ≡ done.now → old.ack_due ≡ ack_due → all_sent old ≤ old.known_data → ((x : Piece) → InPacket old x → ⊥)
         → Begun delay (length out.old) old (take result out.new) (record old { ack_due = false }) (IsPassed no_slot) }
     ensures within { result ≤ length out.new }
+    ensures rest { drop result out.new ≡ drop result out.old }
     ensures room { length out.new ≡ length out.old }
 {
     if ack_due {
@@ -584,6 +597,7 @@ pub(crate) fn fill(
         → ((x : Piece) → InPacket old x → ⊥) → IsTold old untold.now
         → Packed wish.first wish.delay (length out.old) old (take result out.new) (end_by limits.now recvs.now outbox.new (record old { ack_due = false })) }
     ensures within { result ≤ length out.new }
+    ensures rest { drop result out.new ≡ drop result out.old }
     ensures room { length out.new ≡ length out.old }
 {
     let len = put_ack_if(done, wish.ack_due, wish.delay, out);

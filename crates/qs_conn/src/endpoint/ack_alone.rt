@@ -1,7 +1,7 @@
 //! Packets of an ACK alone.
 ghost use Rattle.std.specs.Prelude.{◌≡◌, ◌≤◌, ◌<◌, ◌^◌, length};
 ghost use Rattle.qs_machine.specs.Making.{MakeAckStep};
-ghost use Rattle.qs_conn.specs.Filling.{made_text};
+ghost use Rattle.qs_conn.specs.Written.{made_text, KeepsRest};
 
 use super::Endpoint;
 use crate::filling::put_kept;
@@ -18,7 +18,8 @@ impl Endpoint {
         requires delay { delay < 2 ^ 62 }
         requires least { 128 ≤ length out.old }
         requires most { length out.old ≤ 16383 }
-        ensures { MakeAckStep self.old delay (length out.old) result (made_text result out.new) self.new }
+        ensures step { MakeAckStep self.old delay (length out.old) result (made_text result out.new) self.new }
+        ensures rest { KeepsRest result out.old out.new }
     {
         if self.closed.is_some() {
             return Err(MakeFault::Closed);

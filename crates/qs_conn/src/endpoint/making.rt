@@ -2,7 +2,7 @@
 ghost use Rattle.std.specs.Prelude.{◌≡◌, ◌≤◌, ◌<◌, ◌^◌, ◌↔◌, ℕ, IsTrue, List, [], length};
 ghost use Rattle.qs_machine.specs.Due.{Sendable};
 ghost use Rattle.qs_machine.specs.Making.{MakeBy, MakeStep};
-ghost use Rattle.qs_conn.specs.Filling.{made_text};
+ghost use Rattle.qs_conn.specs.Written.{made_text, KeepsRest};
 
 use super::Endpoint;
 use crate::filling::{Wish, fill};
@@ -24,7 +24,8 @@ impl Endpoint {
     pub fn make_packet(&mut self, out: &mut [u8]) -> Result<Option<Made>, MakeFault>
         requires least { 128 ≤ length out.old }
         requires most { length out.old ≤ 16383 }
-        ensures { MakeStep self.old 0 0 (length out.old) result (made_text result out.new) self.new }
+        ensures step { MakeStep self.old 0 0 (length out.old) result (made_text result out.new) self.new }
+        ensures rest { KeepsRest result out.old out.new }
     {
         self.make(0, 0, out)
     }
@@ -41,7 +42,8 @@ impl Endpoint {
         requires delay { delay < 2 ^ 62 }
         requires least { 128 ≤ length out.old }
         requires most { length out.old ≤ 16383 }
-        ensures { MakeStep self.old first delay (length out.old) result (made_text result out.new) self.new }
+        ensures step { MakeStep self.old first delay (length out.old) result (made_text result out.new) self.new }
+        ensures rest { KeepsRest result out.old out.new }
     {
         self.make(first.value(), delay, out)
     }
@@ -51,7 +53,8 @@ impl Endpoint {
         requires first { first < 2 ^ 62 }
         requires delay { delay < 2 ^ 62 }
         requires least { 128 ≤ length out.old }
-        ensures { MakeStep self.old first delay (length out.old) result (made_text result out.new) self.new }
+        ensures step { MakeStep self.old first delay (length out.old) result (made_text result out.new) self.new }
+        ensures rest { KeepsRest result out.old out.new }
     {
         if self.closed.is_some() {
             return Err(MakeFault::Closed);

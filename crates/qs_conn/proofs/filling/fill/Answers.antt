@@ -3,6 +3,7 @@ use Rattle.qs_machine.specs.Ends.{End}
 use Rattle.qs_machine.specs.Credit.{all_sent}
 use Rattle.qs_machine.specs.Outgoing.{sent_sum}
 use Rattle.qs_conn.specs.Filling.{end_by, no_slot, IsPassed, Begun}
+use Rattle.qs_conn.proofs.Rests.{rest_on}
 use Rattle.qs_conn.proofs.Flows.{flow_first}
 use Rattle.qs_conn.proofs.filling.fill.Goals as goal
 
@@ -24,3 +25,8 @@ returns-clause-packed c = λ old parts same due fresh told.
     let items = c.put_items-packet.ensures.stage delay room old begins (sym c.put_ack_if-len.ensures.room) told stage in
     let flow = flow_first first delay room old (take c.put_items-packet.result.len c.put_items-packet.new.out) (end_by t recvs c.put_items-packet.new.outbox begins) c.put_items-packet.result.is_full items in
     c.put_streams-packet.ensures.packed recvs delay room old begins (sym (c.put_items-packet.ensures.room ∙ c.put_ack_if-len.ensures.room)) flow
+
+pub returns-clause-rest : goal.returns-clause-rest
+returns-clause-rest c =
+    let first = rest_on 0 _ _ _ _ _ (omega arith, c.put_ack_if-len.ensures.rest) c.put_items-packet.ensures.rest in
+    (rest_on _ _ _ _ _ _ first c.put_streams-packet.ensures.rest).1

@@ -21,3 +21,6 @@ returns-in-None-clause-text c = absurd (omega (arith, c.in-None.ensures.full, fr
 
 pub returns-in-None-clause-end : goal.returns-in-None-clause-end
 returns-in-None-clause-end c = absurd (omega (arith, c.in-None.ensures.full, frame_size c.args.stream c.args.chunk (c.bytes.result.0.now ++ c.bytes.result.1.now) c.bytes.ensures.len, c.requires.may.fits))
+
+pub returns-in-None-clause-rest : goal.returns-in-None-clause-rest
+returns-in-None-clause-rest c = absurd (omega (arith, c.in-None.ensures.full, frame_size c.args.stream c.args.chunk (c.bytes.result.0.now ++ c.bytes.result.1.now) c.bytes.ensures.len, c.requires.may.fits))

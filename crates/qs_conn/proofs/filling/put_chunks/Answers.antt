@@ -2,6 +2,7 @@ use Rattle.std.proofs.Common.{◌≡◌, ◌+◌, ◌≤◌, ◌-◌, true, None
 use Rattle.qs_machine.specs.Tables.{lookup}
 use Rattle.qs_machine.specs.Outgoing.{sent_sum}
 use Rattle.qs_conn.specs.Filling.{end_by}
+use Rattle.qs_conn.proofs.Rests.{rest_same, rest_on}
 use Rattle.qs_conn.proofs.Flows.{Chunking, flow_begins, may_go, sum_within, sum_small, chunking_put, still_open, none_stays, flow_few, flow_ends}
 use Rattle.qs_conn.proofs.filling.put_chunks.Goals as goal
 
@@ -15,6 +16,7 @@ loop-chunk-init c =
       fresh = ap (λ k. c.args.limits.now.known_data - k) c.sent_sum.ensures.value;
       within = c.requires.within;
       spare = c.requires.spare;
+      rest = rest_same _ _;
       room = refl;
     }
 
@@ -51,6 +53,7 @@ loop-chunk-preserved c =
       fresh = ap (λ k. known - k) c.sent_sum-in-Some.ensures.value;
       within = c.put_chunk-len.ensures.within;
       spare = c.put_chunk-len.ensures.spare;
+      rest = rest_on _ _ _ _ _ _ c.loop-chunk.invariant.rest c.put_chunk-len.ensures.rest;
       room = c.put_chunk-len.ensures.room ∙ c.loop-chunk.invariant.room;
     }
 
@@ -80,3 +83,6 @@ returns-clause-flow c = λ around first recvs delay room old e at on f.
     let held = c.is_held_by_room-is_full.ensures in
     flow_ends around first c.args.limits.now recvs c.loop-chunk.outbox e delay room old c.loop-chunk.out c.loop-chunk.len c.args.stream left c.loop-chunk.fresh none.0 held.0 c.is_held_by_room-is_full.result
     none.1 none.2 held.1 held.2 c.loop-chunk.invariant.within (at ∙ sym c.loop-chunk.invariant.room) refl c.loop-chunk.invariant.fresh (c.loop-chunk.invariant.chunking around first recvs delay room old e at on f)
+
+pub returns-then-out-len-lt-LEAST_STREAM_FRAME-clause-rest : goal.returns-then-out-len-lt-LEAST_STREAM_FRAME-clause-rest
+returns-then-out-len-lt-LEAST_STREAM_FRAME-clause-rest c = rest_on _ _ _ _ _ _ c.loop-chunk.invariant.rest c.put_chunk-len.ensures.rest

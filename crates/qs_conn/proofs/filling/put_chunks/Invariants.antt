@@ -3,7 +3,7 @@ use Rattle.qs_recv.specs.Lane.{RecvLane}
 use Rattle.qs_machine.specs.Tables.{Tables, lookup}
 use Rattle.qs_machine.specs.Ends.{End}
 use Rattle.qs_machine.specs.Outgoing.{sent_sum}
-use Rattle.qs_conn.specs.Filling.{end_by, HasSpare, Flow, IsOnWay, turn_at}
+use Rattle.qs_conn.specs.Filling.{end_by, HasSpare, LeavesRest, Flow, IsOnWay, turn_at}
 use Rattle.qs_conn.proofs.Flows.{Chunking}
 use Rattle.qs_conn.proofs.filling.put_chunks.Given as goal
 
@@ -19,6 +19,7 @@ invariant-loop-chunk l =
       fresh : l.fresh ≡ l.fn.limits.known_data - sent_sum l.outbox.sends;
       within : l.len ≤ length l.out;
       spare : HasSpare (length l.out) l.len l.outbox.spare;
+      rest : LeavesRest l.fn.packet.len l.fn.out l.len l.out;
       room : length l.out ≡ length l.fn.out;
     }
 

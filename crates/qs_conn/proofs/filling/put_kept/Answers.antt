@@ -1,5 +1,5 @@
 use Rattle.std.proofs.Common.{◌≡◌, ◌≤◌, arith, sym, ap, subst, ◌∙◌, take, drop, length, reverse}
-use Rattle.std.proofs.lemmas.List.{length-take-le, take_at}
+use Rattle.std.proofs.lemmas.List.{length-take-le, take_at, drop_at}
 use Rattle.qs_ranges.specs.Runs.{AreRunsOf}
 use Rattle.qs_wire.specs.Acks.{AreAckPairs, ack_of}
 use Rattle.qs_wire.specs.Grammar.{canonical}
@@ -57,3 +57,8 @@ returns-in-Err-clause-alone c = λ old same due.
     let highest : pairs ≡ reverse runs = c.reverse.ensures.after in
     let ok : AreAckPairs pairs = subst AreAckPairs (sym highest) (pairs_ok c.args.done.now runs c.copy_pairs-count.ensures.runs c.copy_pairs-count.ensures.within (omega (arith, count, c.requires.some)) (omega (arith, count, c.requires.few))) in
     absurd (omega (arith, c.in-Err.ensures.full.0, ack_one c.args.delay pairs c.requires.delay ok, c.requires.space))
+
+pub returns-in-Ok-clause-rest : goal.returns-in-Ok-clause-rest
+returns-in-Ok-clause-rest c =
+    let text = canonical (ack_of c.args.delay (take c.in-Ok._count c.reverse.new.self)) in
+    ap (drop c.in-Ok.len) c.in-Ok.ensures.written.2 ∙ drop_at text (drop c.in-Ok.len c.args.out.now) c.in-Ok.len (sym c.in-Ok.ensures.written.0)

@@ -1,5 +1,6 @@
 use Rattle.std.proofs.Common.{◌+◌, ◌∙◌, arith, sym, ap, take}
 use Rattle.qs_conn.specs.Filling.{end_by, and_slot, and_below}
+use Rattle.qs_conn.proofs.Rests.{rest_on}
 use Rattle.qs_conn.proofs.Putting.{stage_fewer, stage_idle_told, stage_kind_told, below_next}
 use Rattle.qs_conn.proofs.filling.put_kind.Goals as goal
 
@@ -18,6 +19,7 @@ loop-stream-preserved c =
       within = c.put_slot-packet.ensures.within;
       spare = c.put_slot-packet.ensures.spare;
       sum = c.put_slot-packet.ensures.sum ∙ c.loop-stream.invariant.sum;
+      rest = rest_on _ _ _ _ _ _ c.loop-stream.invariant.rest c.put_slot-packet.ensures.rest;
       room = c.put_slot-packet.ensures.room ∙ c.loop-stream.invariant.room;
     }
 
@@ -25,3 +27,6 @@ pub returns-clause-stage : goal.returns-clause-stage
 returns-clause-stage c = λ delay room old e passed at told start.
     stage_kind_told c.args.untold.now delay room old (take c.loop-stream.packet.len c.loop-stream.out) (end_by c.args.limits.now c.args.recvs.now c.loop-stream.outbox e) c.loop-stream.packet.is_full passed c.args.kind c.loop-stream.from told
     (λ now n le. c.in_default.ensures.idle c.args.limits.now c.args.recvs.now n e now le tt) (c.loop-stream.invariant.stage delay room old e passed at told start)
+
+pub returns-then-packet-2-clause-rest : goal.returns-then-packet-2-clause-rest
+returns-then-packet-2-clause-rest c = rest_on _ _ _ _ _ _ c.loop-stream.invariant.rest c.put_slot-packet.ensures.rest

@@ -1,7 +1,7 @@
 use Rattle.std.proofs.Common.{◌≡◌, ℕ, ◌-◌, ◌≤◌, ◌^◌, length, take}
 use Rattle.qs_machine.specs.Ends.{End}
 use Rattle.qs_machine.specs.Outgoing.{sent_sum}
-use Rattle.qs_conn.specs.Filling.{end_by, HasSpare, Passed, and_below, Stage}
+use Rattle.qs_conn.specs.Filling.{end_by, HasSpare, LeavesRest, Passed, and_below, Stage}
 use Rattle.qs_conn.specs.Untold.{IsTold}
 use Rattle.qs_conn.proofs.filling.put_kind.Given as goal
 
@@ -15,6 +15,7 @@ invariant-loop-stream l =
       within : l.packet.len ≤ length l.out;
       spare : HasSpare (length l.out) l.packet.len l.outbox.spare;
       sum : sent_sum l.outbox.sends ≡ sent_sum l.fn.outbox.sends;
+      rest : LeavesRest l.fn.packet.len l.fn.out l.packet.len l.out;
       room : length l.out ≡ length l.fn.out;
     }
 

@@ -1,5 +1,6 @@
 use Rattle.std.proofs.Common.{◌∙◌, sym, true, take}
 use Rattle.qs_conn.specs.Filling.{end_by}
+use Rattle.qs_conn.proofs.Rests.{rest_on}
 use Rattle.qs_conn.proofs.Flows.{flow_packed, flow_whole}
 use Rattle.qs_conn.proofs.filling.put_streams.Goals as goal
 
@@ -15,3 +16,6 @@ returns-clause-packed c = λ recvs delay room old e at start.
     let one = c.put_way-packet.ensures.flow recvs delay room old e at start in
     let two = c.put_way.ensures.flow recvs delay room old e (at ∙ sym c.put_way-packet.ensures.room) one in
     flow_packed c.args.first delay room old (take c.put_way.result.len c.put_way.new.out) (end_by c.args.limits.now recvs c.put_way.new.outbox e) c.put_way.result.is_full two
+
+pub returns-clause-rest : goal.returns-clause-rest
+returns-clause-rest c = rest_on _ _ _ _ _ _ c.put_way-packet.ensures.rest c.put_way.ensures.rest

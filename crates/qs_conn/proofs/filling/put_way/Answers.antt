@@ -1,6 +1,7 @@
 use Rattle.std.proofs.Common.{◌≡◌, ◌≤◌, ◌+◌, ◌∙◌, arith, subst, sym, refl, take}
 use Rattle.std.proofs.lemmas.Bool.{true≢false}
 use Rattle.qs_conn.specs.Filling.{end_by, Flow, turn_at, start_of}
+use Rattle.qs_conn.proofs.Rests.{rest_same, rest_on}
 use Rattle.qs_conn.proofs.Flows.{flow_idle, flow_way, flow_whole, off_way}
 use Rattle.qs_conn.proofs.Quiets.{no_goes}
 use Rattle.qs_conn.proofs.filling.put_way.Goals as goal
@@ -19,6 +20,7 @@ loop-stream-init c =
       credit = c.requires.credit;
       within = c.requires.within;
       spare = c.requires.spare;
+      rest = rest_same _ _;
       room = refl;
     }
 
@@ -39,6 +41,7 @@ loop-stream-preserved c =
       credit = c.put_open-packet.ensures.credit;
       within = c.put_open-packet.ensures.within;
       spare = c.put_open-packet.ensures.spare;
+      rest = rest_on _ _ _ _ _ _ c.loop-stream.invariant.rest c.put_open-packet.ensures.rest;
       room = c.put_open-packet.ensures.room ∙ c.loop-stream.invariant.room;
     }
 
@@ -64,3 +67,6 @@ returns-clause-flow c = λ recvs delay room old e at start.
     flow_way delay room old (take c.loop-stream.packet.len c.loop-stream.out) (end_by c.args.limits.now recvs c.loop-stream.outbox e) c.loop-stream.packet.is_full c.args.around c.args.first c.loop-stream.from
     (λ n le on. no_goes c.loop-stream.outbox n (c.in_default.ensures.quiet n le tt) c.args.limits.now recvs e)
     (c.loop-stream.invariant.flow recvs delay room old e at start)
+
+pub returns-then-packet-2-clause-rest : goal.returns-then-packet-2-clause-rest
+returns-then-packet-2-clause-rest c = rest_on _ _ _ _ _ _ c.loop-stream.invariant.rest c.put_open-packet.ensures.rest

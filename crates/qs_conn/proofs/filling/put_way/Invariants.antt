@@ -3,7 +3,7 @@ use Rattle.qs_recv.specs.Lane.{RecvLane}
 use Rattle.qs_machine.specs.Tables.{Tables}
 use Rattle.qs_machine.specs.Ends.{End}
 use Rattle.qs_machine.specs.Outgoing.{sent_sum}
-use Rattle.qs_conn.specs.Filling.{end_by, HasSpare, Flow, turn_at, start_of}
+use Rattle.qs_conn.specs.Filling.{end_by, HasSpare, LeavesRest, Flow, turn_at, start_of}
 use Rattle.qs_conn.proofs.filling.put_way.Given as goal
 
 abbrev pub invariant-loop-stream : goal.invariant-loop-stream
@@ -17,6 +17,7 @@ invariant-loop-stream l =
       credit : sent_sum l.outbox.sends ≤ l.fn.limits.known_data;
       within : l.packet.len ≤ length l.out;
       spare : HasSpare (length l.out) l.packet.len l.outbox.spare;
+      rest : LeavesRest l.fn.packet.len l.fn.out l.packet.len l.out;
       room : length l.out ≡ length l.fn.out;
     }
 

@@ -1,0 +1,30 @@
+-- What stands in the slice behind a packet in the making stays as it was.
+use Rattle.std.proofs.Common.{◌≡◌, ℕ, ◌+◌, ◌-◌, ◌≤◌, List, [], ◌++◌, length, take, drop, sym, ap, ◌∙◌, arith, refl, Option, Some}
+use Rattle.std.specs.Prelude.{Result, Ok}
+use Rattle.std.proofs.lemmas.List.{drop-drop, take-append-drop, length-take-le}
+use Rattle.qs_calls.specs.declared.making.Made.{Made}
+use Rattle.qs_calls.specs.declared.making.MakeFault.{MakeFault}
+use Rattle.qs_conn.specs.Written.{made_text, KeepsRest}
+use Rattle.qs_conn.specs.Filling.{LeavesRest}
+
+pub rest_same : (len : ℕ) (out : List ℕ) → LeavesRest len out len out
+rest_same len out = (omega arith, refl)
+
+-- what stays behind some bytes stays behind more of them
+fewer : (a b : ℕ) (xs ys : List ℕ) → a ≤ b → drop a xs ≡ drop a ys → drop b xs ≡ drop b ys
+fewer a b xs ys le same =
+    let more : b ≡ a + (b - a) = omega (arith, le) in
+    ap (λ k. drop k xs) more ∙ sym (drop-drop (b - a) a xs) ∙ ap (drop (b - a)) same ∙ drop-drop (b - a) a ys ∙ ap (λ k. drop k ys) (sym more)
+
+-- one step after the other
+pub rest_on : (a b c : ℕ) (xs ys zs : List ℕ) → LeavesRest a xs b ys → LeavesRest b ys c zs → LeavesRest a xs c zs
+rest_on a b c xs ys zs (le, first) (more, next) = (omega (arith, le, more), next ∙ fewer b c ys xs more first)
+
+-- the slice with a packet in it
+pub rest_kept : (made : Made) (before after : List ℕ) → made.len ≤ length after → drop made.len after ≡ drop made.len before → KeepsRest (Ok (Some made)) before after
+rest_kept made before after within same =
+    sym (take-append-drop made.len after) ∙ ap (λ x. take made.len after ++ x) (same ∙ ap (λ k. drop k before) (sym (length-take-le made.len after within)))
+
+-- the slice without one
+pub rest_none : (answer : Result (Option Made) MakeFault) (out : List ℕ) → made_text answer out ≡ [] → KeepsRest answer out out
+rest_none answer out none = sym (ap (λ t. t ++ drop (length t) out) none)

@@ -1,0 +1,15 @@
+-- Of public contracts.
+-- What a call that makes a packet leaves in its slice (ours: RFC 9000 knows no slices).
+use Rattle.std.specs.Prelude.{◌≡◌, ℕ, List, [], ◌++◌, length, take, drop, Option, None, Some, Result, Ok, Err}
+use Rattle.qs_calls.specs.declared.making.Made.{Made}
+use Rattle.qs_calls.specs.declared.making.MakeFault.{MakeFault}
+
+-- the payload that was written
+abbrev pub made_text : Result (Option Made) MakeFault → List ℕ → List ℕ
+made_text (Ok (Some made)) out = take made.len out
+made_text (Ok None) out = []
+made_text (Err fault) out = []
+
+-- The payload stands at the slice's front, and behind it the slice is as it was; so is all of it where no packet was made.
+abbrev pub KeepsRest : Result (Option Made) MakeFault → (before after : List ℕ) → Type 0
+KeepsRest answer before after = after ≡ made_text answer after ++ drop (length (made_text answer after)) before
