@@ -19,10 +19,10 @@ from requires import with_tests
 
 AUDIT = Path(__file__).resolve().parent
 ROOT = AUDIT.parent.parent
-FOLDERS = ("rust/src/proved", "rust/qstream/src/proved")
+FOLDERS = ("rust/src/proved", "rust/capi/src/proved", "rust/qstream/src/proved")
 KINDS = AUDIT / "kinds.txt"
-# Crates of which nothing is made in Rust: the calls for C, and an example of a use from Rattle.
-RATTLE_ALONE = {"qs_c", "qs_example"}
+# The crate of which nothing is made in Rust: an example of a use from Rattle.
+RATTLE_ALONE = {"qs_example"}
 # Crates that are nothing but tests: they aren't proved, and stand elsewhere, in files of another suffix.
 TESTS = {"qs_ends", "qs_tests", "qs_units"}
 # Crates that only tests use.
@@ -128,7 +128,7 @@ def _end_of_allow(words, listed, name, seen):
 def audit_list(text, made, folder, listed):
     """Whether the list of modules names each folder, in order, and has nothing beside but lints that may be allowed.
 
-    The list of the program names the library's modules first, each by the path of its file; what only tests use is for tests.
+    The lists of the program and of the calls for C name the library's modules first, each by the path of its file; what only tests use is for tests.
     """
     name = made.relative_to(ROOT)
     words = _words(rust_lexer.tokens(text))

@@ -32,6 +32,9 @@ pub fn erase(place: &Place<'_>, text: &str) -> Erased<String> {
     let mut eraser = Eraser {
         place,
         text,
+        has_exports: tokens
+            .iter()
+            .any(|it| &text[it.start..it.end] == "no_mangle"),
         tokens,
         edits: Vec::new(),
         shim: Vec::new(),
@@ -75,6 +78,8 @@ pub struct Eraser<'a> {
     place: &'a Place<'a>,
     pub text: &'a str,
     pub tokens: Vec<Token>,
+    /// Whether the file has calls for C.
+    has_exports: bool,
     edits: Vec<Edit>,
     /// The names of the shim's prelude that the file needs.
     shim: Vec<&'static str>,
@@ -93,6 +98,8 @@ impl<'a> Eraser<'a> {
             "fn" if self.is_name(at + 1) => self.function(at),
             "use" => self.import_of(at),
             "Drop" => self.bound(at),
+            "extern" => self.export(at),
+            "mod" if self.has_exports && self.is_name(at + 1) => Ok(self.open_module(at)),
             "requires" | "ensures" | "invariant" | "prove" => self.unknown(at, "a clause here"),
             _ if self.tokens[at].kind == Kind::Name => self.name(at),
             sign if sign.is_ascii() => Ok(at + 1),
@@ -113,7 +120,10 @@ impl<'a> Eraser<'a> {
         if self.word(at + 3) != "{" {
             return self.unknown(at, "a ghost without braces");
         }
-        let end = self.close(at + 3)? + 1;
+        let mut end = self.close(at + 3)? + 1;
+        if self.word(end) == "by" && self.word(end + 1) == "{" {
+            end = self.close(end + 1)? + 1;
+        }
         match self.word(end) {
             ";" | "," => Ok(self.cut_item(at, end)),
             _ => self.unknown(end, "an end of a ghost"),
@@ -129,10 +139,13 @@ impl<'a> Eraser<'a> {
         let close = self.close(open)?;
         match self.word(open + 1) {
             "tactic" => Ok(self.cut_lines(at, close)),
+            "unsafe" if self.words(open + 2, close) == ["(", "no_mangle", ")"] => {
+                Ok(self.cut_lines(at, close))
+            }
             "error" => Ok(self.cut_item(at, close)),
             "derive" => self.derive(at, open + 2, close),
             "test" => self.test(close + 1),
-            "cfg" | "default" | "inline" => Ok(close + 1),
+            "cfg" | "default" | "inline" | "repr" => Ok(close + 1),
             _ => self.unknown(open + 1, "an attribute"),
         }
     }
@@ -286,6 +299,24 @@ impl<'a> Eraser<'a> {
         }
         self.signature(at + 1, end)?;
         Ok(end)
+    }
+
+    /// A call for C is a plain function: the package for C, by hand, has one of that name that C can call.
+    fn export(&mut self, at: usize) -> Erased<usize> {
+        if self.words(at + 1, at + 3) != ["\"C\"", "fn"] {
+            return self.unknown(at, "a function of another language");
+        }
+        let (start, end) = (self.tokens[at].start, self.tokens[at + 2].start);
+        self.edits.push(edit(start, end, String::new()));
+        Ok(at + 2)
+    }
+
+    /// That one names the types of what C passes, so their modules are open to it.
+    fn open_module(&mut self, at: usize) -> usize {
+        let start = self.tokens[at].start;
+        self.edits
+            .push(edit(start, start, "pub(crate) ".to_owned()));
+        at + 1
     }
 
     /// `Drop` as a bound or the base of a trait.

@@ -1,7 +1,7 @@
 //! Makes the Rust sources of gotsavena from the proved ones, with their ghosts erased.
 //!
-//! It reads `crates/*/src/**/*.rt`, and of the tests that aren't proved `tests/units/*/src/**/*.rattle`, and writes `rust/src/proved` and
-//! `rust/qstream/src/proved`. With the word `--check` it writes nothing, and fails where a file isn't what it would write.
+//! It reads `crates/*/src/**/*.rt`, and of the tests that aren't proved `tests/units/*/src/**/*.rattle`, and writes `rust/src/proved`,
+//! `rust/qstream/src/proved` and `rust/capi/src/proved`. With the word `--check` it writes nothing, and fails where a file isn't what it would write.
 
 mod display;
 mod erase;
@@ -37,6 +37,11 @@ const TESTS: [&str; 3] = ["qs_units", "qs_ends", "qs_tests"];
 
 const PROGRAM_FOLDER: &str = "rust/qstream/src/proved";
 
+/// The calls for C.
+const CALLS: [&str; 1] = ["qs_c"];
+
+const CALLS_FOLDER: &str = "rust/capi/src/proved";
+
 /// Where crates stand, and how their files end.
 struct Sources {
     folder: &'static str,
@@ -69,8 +74,9 @@ fn main() -> ExitCode {
 }
 
 fn run(top: &Path, is_check: bool) -> Result<usize, String> {
-    let sets: [(&[&str], &Sources, &str); 3] = [
+    let sets: [(&[&str], &Sources, &str); 4] = [
         (&LIBRARY, &PROVED, LIBRARY_FOLDER),
+        (&CALLS, &PROVED, CALLS_FOLDER),
         (&PROGRAM, &PROVED, PROGRAM_FOLDER),
         (&TESTS, &TRIED, PROGRAM_FOLDER),
     ];
@@ -81,7 +87,7 @@ fn run(top: &Path, is_check: bool) -> Result<usize, String> {
             make(top, krate, sources, &erased, folder, &mut made)?;
         }
     }
-    for folder in [LIBRARY_FOLDER, PROGRAM_FOLDER] {
+    for folder in [LIBRARY_FOLDER, CALLS_FOLDER, PROGRAM_FOLDER] {
         keep_only(top, Path::new(folder), &made, is_check)?;
     }
     for (path, text) in &made {

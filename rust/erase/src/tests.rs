@@ -71,6 +71,25 @@ fn an_error_has_its_message() {
 }
 
 #[test]
+fn a_call_for_c_is_a_plain_function() {
+    is_made(
+        "mod answers;\n\n#[unsafe(no_mangle)]\npub extern \"C\" fn f(a: u8) -> u8\n    ensures { result ≡ a }\n{\n    a\n}\n",
+        "pub(crate) mod answers;\n\npub fn f(a: u8) -> u8 {\n    a\n}\n",
+    );
+    is_made("mod answers;\n", "mod answers;\n");
+    stops("pub extern \"system\" fn f() {}\n", "extern");
+    stops("#[unsafe(link_section)]\nfn f() {}\n", "unsafe");
+}
+
+#[test]
+fn a_ghost_field_goes_with_its_code() {
+    is_made(
+        "struct S {\n    a: u8,\n    pub(crate) ghost value: { N } by { coded n },\n}\n",
+        "struct S {\n    a: u8,\n}\n",
+    );
+}
+
+#[test]
 fn a_hint_on_inlining_stays() {
     is_made(
         "#[inline(never)]\nfn f()\n    requires { a }\n{}\n",

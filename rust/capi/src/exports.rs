@@ -1,0 +1,106 @@
+//! What C calls. A reference is a pointer that isn't null, to a whole value; two numbers, an address and a count, are a slice.
+
+use crate::proved::qs_c;
+use crate::proved::qs_c::acks::GvRange;
+use crate::proved::qs_c::frame::{GvFault, GvFrame};
+use crate::proved::qs_c::handle::Handle;
+use crate::proved::qs_c::lane::GvLane;
+use crate::proved::qs_c::structs::{GvClosing, GvLimits, GvMade, GvSettings};
+use crate::shim::alloc::Global;
+use core::slice;
+
+/// Exports a call of each name: what C passes, and what the proved call is handed.
+macro_rules! exports {
+    ($($name:ident ($($param:ident: $kind:ty),*) = ($($given:expr),*);)*) => {$(
+        /// The proved call of this name.
+        ///
+        /// # Safety
+        ///
+        /// Each address is of as many values as the count behind it says, which nothing writes during the call, or, where the call
+        /// writes them, nothing else reads.
+        #[unsafe(no_mangle)]
+        pub unsafe extern "C" fn $name($($param: $kind),*) -> u32 {
+            qs_c::$name($($given),*)
+        }
+    )*};
+}
+
+/// The values that C passes.
+macro_rules! read {
+    ($at:ident, $count:ident) => {
+        // SAFETY: as the export asks.
+        unsafe { slice::from_raw_parts($at, $count) }
+    };
+}
+
+/// Those that a call writes.
+macro_rules! write {
+    ($at:ident, $count:ident) => {
+        // SAFETY: as the export asks.
+        unsafe { slice::from_raw_parts_mut($at, $count) }
+    };
+}
+
+exports! {
+    gvp_new(end: &mut Handle, role: u32, settings: &GvSettings, peer: &GvLimits) = (Global, end, role, settings, peer);
+    gvp_receive(end: &mut Handle, number: u64, payload: *const u8, len: usize, closing: &mut GvClosing)
+        = (Global, end, number, read!(payload, len), closing);
+    gvp_make_packet_from(end: &mut Handle, first: u64, delay: u64, out: *mut u8, room: usize, made: &mut GvMade)
+        = (Global, end, first, delay, write!(out, room), made);
+    gvp_make_ack(end: &mut Handle, delay: u64, out: *mut u8, room: usize, made: &mut GvMade)
+        = (Global, end, delay, write!(out, room), made);
+    gvp_declare_lost(end: &mut Handle, number: u64) = (Global, end, number);
+    gvp_claim_number(end: &mut Handle, number: &mut u64) = (Global, end, number);
+    gvp_raise_limits(end: &mut Handle, limits: &GvLimits) = (Global, end, limits);
+
+    gvp_open(end: &mut Handle, dir: u32, number: &mut u64) = (Global, end, dir, number);
+    gvp_accept(end: &mut Handle, stream: &mut u64) = (Global, end, stream);
+    gvp_write(end: &mut Handle, stream: u64, bytes: *const u8, len: usize, count: &mut usize)
+        = (Global, end, stream, read!(bytes, len), count);
+    gvp_finish(end: &mut Handle, stream: u64) = (Global, end, stream);
+    gvp_reset(end: &mut Handle, stream: u64, code: u64) = (Global, end, stream, code);
+    gvp_stop(end: &mut Handle, stream: u64, code: u64) = (Global, end, stream, code);
+    gvp_read(end: &mut Handle, stream: u64, into: *mut u8, size: usize, number: &mut u64)
+        = (Global, end, stream, write!(into, size), number);
+
+    gvp_closing(end: &mut Handle, closing: &mut GvClosing) = (Global, end, closing);
+    gvp_close_payload(end: &mut Handle, out: *mut u8, room: usize, len: &mut usize)
+        = (Global, end, write!(out, room), len);
+    gvp_peer_closed(end: &mut Handle, code: &mut u64) = (Global, end, code);
+    gvp_next_readable(end: &mut Handle, from: u64, stream: &mut u64) = (Global, end, from, stream);
+    gvp_next_writable(end: &mut Handle, from: u64, stream: &mut u64) = (Global, end, from, stream);
+    gvp_next_sendable(end: &mut Handle, from: u64, stream: &mut u64) = (Global, end, from, stream);
+    gvp_next_ended(end: &mut Handle, from: u64, stream: &mut u64) = (Global, end, from, stream);
+    gvp_lane_report(end: &mut Handle, stream: u64, lane: &mut GvLane) = (Global, end, stream, lane);
+    gvp_stopped_with(end: &mut Handle, stream: u64, code: &mut u64) = (Global, end, stream, code);
+    gvp_is_sendable(end: &mut Handle, answer: &mut bool) = (Global, end, answer);
+    gvp_is_blocked(end: &mut Handle, stream: u64, answer: &mut bool) = (Global, end, stream, answer);
+    gvp_ack_is_due(end: &mut Handle, answer: &mut bool) = (Global, end, answer);
+    gvp_streams_left(end: &mut Handle, dir: u32, count: &mut u64) = (Global, end, dir, count);
+    gvp_open_left(end: &mut Handle, dir: u32, count: &mut u64) = (Global, end, dir, count);
+    gvp_granted_streams(end: &mut Handle, dir: u32, count: &mut u64) = (Global, end, dir, count);
+    gvp_stored(end: &mut Handle, count: &mut u64) = (Global, end, count);
+    gvp_held(end: &mut Handle, receiving: &mut u64, sending: &mut u64) = (Global, end, receiving, sending);
+    gvp_granted(end: &mut Handle, count: &mut u64) = (Global, end, count);
+    gvp_spent(end: &mut Handle, count: &mut u64) = (Global, end, count);
+    gvp_next_number(end: &mut Handle, number: &mut u64) = (Global, end, number);
+    gvp_next_outstanding(end: &mut Handle, from: u64, number: &mut u64) = (Global, end, from, number);
+    gvp_next_newly_acked(end: &mut Handle, payload: *const u8, len: usize, from: u64, number: &mut u64)
+        = (Global, end, read!(payload, len), from, number);
+
+    gvp_last_stream(payload: *const u8, len: usize, stream: &mut u64) = (read!(payload, len), stream);
+    gvp_frames_next(payload: *const u8, len: usize, place: &mut usize, frame: &mut GvFrame, fault: &mut GvFault)
+        = (read!(payload, len), place, frame, fault);
+    gvp_ack_next(bytes: *const u8, len: usize, largest: &mut u64, used: &mut usize, range: &mut GvRange)
+        = (read!(bytes, len), largest, used, range);
+    gvp_put(frame: &GvFrame, bytes: *const u8, len: usize, token: *const u8, token_len: usize, out: *mut u8, room: usize, written: &mut usize)
+        = (frame, read!(bytes, len), read!(token, token_len), write!(out, room), written);
+    gvp_put_ack(ranges: *const GvRange, count: usize, delay: u64, out: *mut u8, room: usize, taken: &mut usize, len: &mut usize)
+        = (read!(ranges, count), delay, write!(out, room), taken, len);
+}
+
+/// Drops the end that a handle holds.
+#[unsafe(no_mangle)]
+pub extern "C" fn gvp_free(end: &mut Handle) {
+    qs_c::gvp_free(Global, end);
+}

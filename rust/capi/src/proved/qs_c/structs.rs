@@ -1,0 +1,94 @@
+// Made from crates/qs_c/src/structs.rt by rust/erase; not edited by hand.
+//! The structs that C passes.
+
+use crate::proved::qs_conn::{Closing, Made, PeerLimits, Settings};
+
+#[repr(C)]
+#[derive(Clone, Copy)]
+pub struct GvSettings {
+    pub conn_window: u64,
+    pub bidi_local: u64,
+    pub bidi_remote: u64,
+    pub uni: u64,
+    pub send_buffer: usize,
+    pub grant_bidi: u64,
+    pub grant_uni: u64,
+    pub lifetime_bidi: u64,
+    pub lifetime_uni: u64,
+}
+
+#[repr(C)]
+#[derive(Clone, Copy)]
+pub struct GvLimits {
+    pub max_data: u64,
+    pub bidi_local: u64,
+    pub bidi_remote: u64,
+    pub uni: u64,
+    pub streams_bidi: u64,
+    pub streams_uni: u64,
+}
+
+#[repr(C)]
+#[derive(Clone, Copy)]
+pub struct GvMade {
+    pub number: u64,
+    pub len: usize,
+    pub is_ack_eliciting: bool,
+}
+
+#[repr(C)]
+#[derive(Clone, Copy)]
+pub struct GvClosing {
+    pub code: u64,
+    pub frame_type: u64,
+    pub place: usize,
+}
+
+impl GvMade {
+    pub(crate) fn of(made: Made) -> GvMade {
+        GvMade {
+            number: made.number,
+            len: made.len,
+            is_ack_eliciting: made.is_ack_eliciting,
+        }
+    }
+}
+
+impl GvClosing {
+    pub(crate) fn of(closing: Closing) -> GvClosing {
+        GvClosing {
+            code: closing.code,
+            frame_type: closing.frame_type,
+            place: closing.place,
+        }
+    }
+}
+
+impl GvSettings {
+    pub(crate) fn settings(&self) -> Settings {
+        Settings {
+            conn_window: self.conn_window,
+            bidi_local: self.bidi_local,
+            bidi_remote: self.bidi_remote,
+            uni: self.uni,
+            send_buffer: self.send_buffer,
+            grant_bidi: self.grant_bidi,
+            grant_uni: self.grant_uni,
+            lifetime_bidi: self.lifetime_bidi,
+            lifetime_uni: self.lifetime_uni,
+        }
+    }
+}
+
+impl GvLimits {
+    pub(crate) fn limits(&self) -> PeerLimits {
+        PeerLimits {
+            max_data: self.max_data,
+            bidi_local: self.bidi_local,
+            bidi_remote: self.bidi_remote,
+            uni: self.uni,
+            streams_bidi: self.streams_bidi,
+            streams_uni: self.streams_uni,
+        }
+    }
+}
