@@ -1,4 +1,4 @@
-/* The rows of the whole loop over our library for C, which the prover's compiler built. */
+/* The rows of the whole loop over our library for C. */
 /* Needed for the heap's figures. */
 #define _GNU_SOURCE
 
@@ -58,12 +58,12 @@ static struct run hostile(size_t which) {
   struct payload *packets = room_of(HOSTILE_PACKETS, sizeof *packets);
   size_t count = hostile_packets(packets);
   gv_settings settings = settings_of(1 << 20, HOSTILE_WINDOW, HOSTILE_WINDOW, 8);
-  gv_endpoint *end = end_of(GV_SERVER, &settings);
+  gv_endpoint *end = end_of(GV_ROLE_SERVER, &settings);
   double before = now();
   for (size_t i = 0; i < count; ++i) receive(end, i, packets[i].bytes, packets[i].len);
   struct run run = {now() - before, (double)count};
-  uint64_t read = 0;
-  want(gv_read(end, 2, out, sizeof out, &read) == GV_OK && read == sizeof out, "other bytes come out than went in");
+  size_t read = 0;
+  want(gv_read(end, 2, out, sizeof out, &read, NULL) == GV_OK && read == sizeof out, "other bytes come out than went in");
   check(0, out, sizeof out);
   gv_endpoint_free(end);
   free(packets);
@@ -209,7 +209,7 @@ static struct run idle(size_t count) {
   gv_settings settings = settings_of(1 << 20, 1 << 16, 1 << 16, 100);
   gv_endpoint **ends = room_of(count, sizeof *ends);
   double before = held();
-  for (size_t i = 0; i < count; ++i) ends[i] = end_of(GV_SERVER, &settings);
+  for (size_t i = 0; i < count; ++i) ends[i] = end_of(GV_ROLE_SERVER, &settings);
   struct run run = {held() - before, (double)count};
   for (size_t i = 0; i < count; ++i) gv_endpoint_free(ends[i]);
   free(ends);
@@ -222,7 +222,7 @@ static struct run idle(size_t count) {
 static void carry_with_holes(struct pair *pair, uint64_t packets) {
   uint8_t payload[1200];
   for (uint64_t i = 0; i < packets; ++i) {
-    gv_made made;
+    gv_made made = {.size = sizeof made};
     pair_write(pair);
     want(gv_make_packet(pair->sender, payload, sizeof payload, &made) == GV_OK, "bytes are due");
     if (i + 9600 < packets || i % 300 != 0) receive(pair->reader, made.number, payload, made.len);
@@ -236,7 +236,7 @@ static struct run same_ack(size_t packets) {
   struct pair *pair = pair_new(load);
   carry_with_holes(pair, packets);
   uint8_t ack[1200];
-  gv_made made;
+  gv_made made = {.size = sizeof made};
   want(gv_make_packet(pair->reader, ack, sizeof ack, &made) == GV_OK, "an ACK is due");
   receive(pair->sender, 0, ack, made.len);
   uint64_t times = 2000;
@@ -254,10 +254,10 @@ enum { ANSWER = 1024 };
 /* Reads so many bytes, and then the end. */
 static void read_to_end(gv_endpoint *end, uint64_t stream, uint64_t len) {
   uint8_t bytes[2048];
-  uint64_t count = 0;
-  want(gv_read(end, stream, bytes, sizeof bytes, &count) == GV_OK && count == len, "other bytes come out than went in");
+  size_t count = 0;
+  want(gv_read(end, stream, bytes, sizeof bytes, &count, NULL) == GV_OK && count == len, "other bytes come out than went in");
   check(0, bytes, len);
-  want(gv_read(end, stream, bytes, sizeof bytes, &count) == GV_END, "the end is missing");
+  want(gv_read(end, stream, bytes, sizeof bytes, &count, NULL) == GV_END_OF_STREAM, "the end is missing");
 }
 
 static void write_and_finish(gv_endpoint *end, uint64_t stream, size_t len) {
@@ -268,7 +268,7 @@ static void write_and_finish(gv_endpoint *end, uint64_t stream, size_t len) {
 
 static void request(gv_endpoint *client, gv_endpoint *server) {
   uint64_t stream = 0, asked = 0;
-  want(gv_open(client, GV_BIDI, &stream) == GV_OK, "the count didn't grow as streams ended");
+  want(gv_open(client, GV_DIR_BIDI, &stream, NULL) == GV_OK, "the count didn't grow as streams ended");
   write_and_finish(client, stream, 1);
   hand_on(client, server);
   want(gv_accept(server, &asked) == GV_OK && asked == stream, "the request didn't come");
@@ -281,7 +281,7 @@ static void request(gv_endpoint *client, gv_endpoint *server) {
 
 static struct run request_after(size_t ended) {
   gv_settings settings = settings_of(1 << 20, 4096, 4096, 100);
-  gv_endpoint *client = end_of(GV_CLIENT, &settings), *server = end_of(GV_SERVER, &settings);
+  gv_endpoint *client = end_of(GV_ROLE_CLIENT, &settings), *server = end_of(GV_ROLE_SERVER, &settings);
   size_t timed = 1000;
   double before = 0;
   for (size_t i = 0; i < ended + timed; ++i) {

@@ -11,17 +11,17 @@ struct load plain(void) {
 }
 
 gv_settings settings_of(uint64_t conn_window, uint64_t window, size_t send_buffer, uint64_t streams) {
-  gv_settings settings = {conn_window, window, window, window, send_buffer, streams, streams, 1 << 16, 1 << 16};
+  gv_settings settings = {sizeof settings, conn_window, window, window, window, send_buffer, streams, streams, 1 << 16, 1 << 16};
   return settings;
 }
 
 gv_limits limits_of(const gv_settings *settings) {
-  gv_limits limits = {settings->conn_window, settings->bidi_local, settings->bidi_remote,
-                      settings->uni,         settings->grant_bidi, settings->grant_uni};
+  gv_limits limits = {.size = sizeof limits};
+  want(gv_limits_of(settings, &limits) == GV_OK, "limits can't be made");
   return limits;
 }
 
-gv_endpoint *end_of(uint32_t role, const gv_settings *settings) {
+gv_endpoint *end_of(gv_role role, const gv_settings *settings) {
   gv_limits limits = limits_of(settings);
   gv_endpoint *end = NULL;
   want(gv_endpoint_new(role, settings, &limits, &end) == GV_OK, "an end can't be made");
@@ -32,8 +32,8 @@ struct pair *pair_new(struct load load) {
   struct pair *pair = room_of(1, sizeof *pair);
   gv_settings settings = settings_of(16 << 20, load.window, (size_t)load.window, MOST_OF_A_DIRECTION);
   pair->load = load;
-  pair->sender = end_of(GV_CLIENT, &settings);
-  pair->reader = end_of(GV_SERVER, &settings);
+  pair->sender = end_of(GV_ROLE_CLIENT, &settings);
+  pair->reader = end_of(GV_ROLE_SERVER, &settings);
   pair->streams = room_of(load.active, sizeof *pair->streams);
   pair->given = room_of(load.active, sizeof *pair->given);
   pair->taken = room_of(load.active, sizeof *pair->taken);
@@ -41,10 +41,13 @@ struct pair *pair_new(struct load load) {
   pair->payloads = room_of(load.burst, load.room);
   pair->lost = room_of(load.burst, sizeof *pair->lost);
   pair->out = room_of(OUT, 1);
-  for (size_t i = 0; i < load.burst; ++i) pair->packets[i].bytes = pair->payloads + i * load.room;
+  for (size_t i = 0; i < load.burst; ++i) {
+    pair->packets[i].bytes = pair->payloads + i * load.room;
+    pair->packets[i].made.size = sizeof pair->packets[i].made;
+  }
   for (size_t i = 0; i < load.open; ++i) {
     uint64_t stream = 0;
-    want(gv_open(pair->sender, i < MOST_OF_A_DIRECTION ? GV_UNI : GV_BIDI, &stream) == GV_OK, "a stream can't be opened");
+    want(gv_open(pair->sender, i < MOST_OF_A_DIRECTION ? GV_DIR_UNI : GV_DIR_BIDI, &stream, NULL) == GV_OK, "a stream can't be opened");
     if (i < load.active) pair->streams[i] = stream;
   }
   return pair;
@@ -78,8 +81,7 @@ void pair_write(struct pair *pair) {
 }
 
 void receive(gv_endpoint *end, uint64_t number, const uint8_t *payload, size_t len) {
-  gv_closing_info closing;
-  want(gv_receive(end, number, payload, len, &closing) == GV_OK, "an honest packet is refused");
+  want(gv_receive(end, number, payload, len) == GV_OK, "an honest packet is refused");
 }
 
 /* Makes a burst of packets, loses some, and delivers the others. */
@@ -107,9 +109,9 @@ uint64_t pair_read(struct pair *pair) {
   while (gv_accept(pair->reader, &stream) == GV_OK) {
   }
   for (size_t i = 0; i < pair->load.active; ++i) {
-    uint64_t some = 0;
-    while (gv_read(pair->reader, pair->streams[i], pair->out, OUT, &some) == GV_OK) {
-      check(pair->taken[i], pair->out, (size_t)some);
+    size_t some = 0;
+    while (gv_read(pair->reader, pair->streams[i], pair->out, OUT, &some, NULL) == GV_OK) {
+      check(pair->taken[i], pair->out, some);
       pair->taken[i] += some;
       count += some;
     }
@@ -119,7 +121,7 @@ uint64_t pair_read(struct pair *pair) {
 
 /* The reader's next packet comes to the sender, and then the losses are declared. */
 void pair_answer(struct pair *pair) {
-  gv_made made;
+  gv_made made = {.size = sizeof made};
   if (gv_make_packet(pair->reader, pair->payloads, pair->load.room, &made) == GV_OK) {
     receive(pair->sender, made.number, pair->payloads, made.len);
   }
@@ -130,6 +132,6 @@ void pair_answer(struct pair *pair) {
 
 void hand_on(gv_endpoint *from, gv_endpoint *to) {
   uint8_t payload[1200];
-  gv_made made;
+  gv_made made = {.size = sizeof made};
   while (gv_make_packet(from, payload, sizeof payload, &made) == GV_OK) receive(to, made.number, payload, made.len);
 }

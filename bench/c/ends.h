@@ -45,7 +45,7 @@ struct pair {
 
 gv_settings settings_of(uint64_t conn_window, uint64_t window, size_t send_buffer, uint64_t streams);
 gv_limits limits_of(const gv_settings *settings);
-gv_endpoint *end_of(uint32_t role, const gv_settings *settings);
+gv_endpoint *end_of(gv_role role, const gv_settings *settings);
 
 struct pair *pair_new(struct load load);
 void pair_free(struct pair *pair);

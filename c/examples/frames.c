@@ -54,7 +54,7 @@ static void ranges(const gv_frame *frame) {
 }
 
 static void show_streams(const gv_frame *frame) {
-  printf(" dir=%s", frame->dir == GV_BIDI ? "bidi" : "uni");
+  printf(" dir=%s", frame->dir == GV_DIR_BIDI ? "bidi" : "uni");
   number("count", frame->limit);
 }
 
@@ -129,8 +129,8 @@ int main(int count, char **words) {
   static uint8_t payload[MOST], canonical[9 * MOST];
   size_t all = 0, written = 0;
   gv_frames frames = {payload, 0, 0};
-  gv_frame frame;
-  gv_fault fault;
+  gv_frame frame = {.size = sizeof frame};
+  gv_fault fault = {.size = sizeof fault};
   gv_status status;
   if (count != 2 || !parse(words[1], payload, &frames.len)) {
     fprintf(stderr, "frames HEX: shows the frames of a payload\n");
@@ -141,8 +141,8 @@ int main(int count, char **words) {
     if (gv_put(&frame, canonical + all, sizeof canonical - all, &written) != GV_OK) return 3;
     all += written;
   }
-  if (status == GV_FAULT) {
-    printf("fault %" PRIu64 " place %zu code 0x%02" PRIx64 " type 0x%02" PRIx64 "\n", fault.kind, fault.place, fault.code, fault.type);
+  if (status == GV_BAD_FRAME) {
+    printf("fault %d place %zu code 0x%02" PRIx64 " type 0x%02" PRIx64 "\n", (int)fault.kind, fault.place, fault.code, fault.type);
     return 1;
   }
   printf("canonical ");

@@ -17,7 +17,7 @@ static uint8_t byte_at(size_t offset) { return (uint8_t)(offset * 31 + (offset >
 
 static void want(gv_status status, gv_status wanted, const char *what) {
   if (status != wanted) {
-    fprintf(stderr, "%s: status %d\n", what, (int)status);
+    fprintf(stderr, "%s: %s\n", what, gv_strerror(status));
     exit(1);
   }
 }
@@ -25,15 +25,14 @@ static void want(gv_status status, gv_status wanted, const char *what) {
 /* What one end has to send goes to the other, or is lost. */
 static bool carry(gv_endpoint *from, gv_endpoint *to) {
   uint8_t payload[ROOM];
-  gv_made made;
-  gv_closing_info closing;
+  gv_made made = {.size = sizeof made};
   gv_status status = gv_make_packet(from, payload, sizeof payload, &made);
   if (status == GV_NONE) return false;
   want(status, GV_OK, "make");
   if (is_lost()) {
     if (made.is_ack_eliciting) want(gv_declare_lost(from, made.number), GV_OK, "lose");
   } else {
-    want(gv_receive(to, made.number, payload, made.len, &closing), GV_OK, "receive");
+    want(gv_receive(to, made.number, payload, made.len), GV_OK, "receive");
   }
   return true;
 }
@@ -50,25 +49,29 @@ static size_t write_some(gv_endpoint *end, uint64_t stream, size_t sent) {
 /* Reads what came; true once the stream ended. */
 static bool read_some(gv_endpoint *end, uint64_t stream, size_t *got) {
   uint8_t bytes[4096];
-  uint64_t count;
+  size_t count;
   gv_status status;
-  while ((status = gv_read(end, stream, bytes, sizeof bytes, &count)) == GV_OK)
-    for (uint64_t i = 0; i < count; i++)
+  while ((status = gv_read(end, stream, bytes, sizeof bytes, &count, NULL)) == GV_OK)
+    for (size_t i = 0; i < count; i++)
       if (bytes[i] != byte_at((*got)++)) want(GV_INVALID, GV_OK, "byte");
-  if (status != GV_WAIT) want(status, GV_END, "read");
-  return status == GV_END;
+  if (status != GV_NOTHING_YET) want(status, GV_END_OF_STREAM, "read");
+  return status == GV_END_OF_STREAM;
 }
 
 int main(void) {
-  gv_settings settings = {65536, 32768, 32768, 32768, 65536, 8, 8, 8, 8};
-  gv_limits limits = {65536, 32768, 32768, 32768, 8, 8};
+  gv_settings settings;
+  gv_limits limits = {.size = sizeof limits};
   gv_endpoint *client, *server;
   uint64_t stream, other = 1;
   size_t sent = 0, got = 0;
   bool is_over = false, is_open = false;
-  want(gv_endpoint_new(GV_CLIENT, &settings, &limits, &client), GV_OK, "client");
-  want(gv_endpoint_new(GV_SERVER, &settings, &limits, &server), GV_OK, "server");
-  want(gv_open(client, GV_BIDI, &stream), GV_OK, "open");
+  want(gv_settings_init(&settings, sizeof settings), GV_OK, "settings");
+  settings.conn_window = settings.send_buffer = 65536;
+  settings.bidi_remote = 32768;
+  want(gv_limits_of(&settings, &limits), GV_OK, "limits");
+  want(gv_endpoint_new(GV_ROLE_CLIENT, &settings, &limits, &client), GV_OK, "client");
+  want(gv_endpoint_new(GV_ROLE_SERVER, &settings, &limits, &server), GV_OK, "server");
+  want(gv_open(client, GV_DIR_BIDI, &stream, NULL), GV_OK, "open");
   while (!is_over) {
     if (sent < TOTAL) sent = write_some(client, stream, sent);
     while (carry(client, server) || carry(server, client)) {}

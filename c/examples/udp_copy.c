@@ -51,7 +51,7 @@ static void fail(const char *what) {
 
 static void want(gv_status status, gv_status wanted, const char *what) {
   if (status != wanted) {
-    fprintf(stderr, "udp_copy: %s: status %d\n", what, (int)status);
+    fprintf(stderr, "udp_copy: %s: %s\n", what, gv_strerror(status));
     exit(1);
   }
 }
@@ -113,7 +113,7 @@ static bool is_outstanding(session *s, uint64_t number) {
 /* Sends what may go. What an ACK alone holds may go where the window is full. */
 static void send_all(session *s) {
   uint8_t bytes[HEADER + ROOM];
-  gv_made made;
+  gv_made made = {.size = sizeof made};
   if (!s->wire->has_peer) return;
   for (;;) {
     gv_status status = s->count < WINDOW ? gv_make_packet(s->end, bytes + HEADER, ROOM, &made)
@@ -159,11 +159,10 @@ static bool receive_all(session *s, int milliseconds) {
   size_t len;
   bool some = false;
   while ((len = take(s->wire, bytes, sizeof bytes, some ? 0 : milliseconds)) > 0) {
-    gv_closing_info closing;
     uint64_t number = 0;
     for (int i = 0; i < HEADER; i++) number = number << 8 | bytes[i];
-    gv_status status = gv_receive(s->end, number, bytes + HEADER, len - HEADER, &closing);
-    if (status != GV_DUPLICATE && status != GV_BELOW_FLOOR && status != GV_INVALID) want(status, GV_OK, "receive");
+    gv_status status = gv_receive(s->end, number, bytes + HEADER, len - HEADER);
+    if (status != GV_DUPLICATE && status != GV_TOO_OLD && status != GV_INVALID) want(status, GV_OK, "receive");
     some = true;
   }
   return some;
@@ -183,10 +182,12 @@ static bool turn(session *s, uint64_t *heard, bool may_end) {
   return false;
 }
 
-static session start(uint32_t role, wire *wire) {
-  gv_settings settings = {1 << 20, 1 << 18, 1 << 18, 1 << 18, 1 << 18, 1, 1, 1, 1};
-  gv_limits limits = {1 << 20, 1 << 18, 1 << 18, 1 << 18, 1, 1};
+static session start(gv_role role, wire *wire) {
+  gv_settings settings;
+  gv_limits limits = {.size = sizeof limits};
   session s = {NULL, wire, {0}, 0};
+  want(gv_settings_init(&settings, sizeof settings), GV_OK, "settings");
+  want(gv_limits_of(&settings, &limits), GV_OK, "limits");
   want(gv_endpoint_new(role, &settings, &limits, &s.end), GV_OK, "new");
   return s;
 }
@@ -222,10 +223,10 @@ static void fill(session *s, uint64_t stream, source *in) {
 
 static void send_file(FILE *file, wire *wire) {
   static source in;
-  session s = start(GV_CLIENT, wire);
+  session s = start(GV_ROLE_CLIENT, wire);
   uint64_t stream, over, heard = now();
   in.file = file;
-  want(gv_open(s.end, GV_UNI, &stream), GV_OK, "open");
+  want(gv_open(s.end, GV_DIR_UNI, &stream, NULL), GV_OK, "open");
   while (gv_next_ended(s.end, stream, &over) != GV_OK) {
     fill(&s, stream, &in);
     (void)turn(&s, &heard, false);
@@ -235,15 +236,16 @@ static void send_file(FILE *file, wire *wire) {
 
 static void receive_file(FILE *file, wire *wire) {
   static uint8_t block[BLOCK];
-  session s = start(GV_SERVER, wire);
+  session s = start(GV_ROLE_SERVER, wire);
   const uint64_t stream = 2; /* the client's first unidirectional one */
-  uint64_t count, heard = now(), ended = 0;
+  uint64_t heard = now(), ended = 0;
+  size_t count;
   for (bool goes_on = true; goes_on;) {
     gv_status status;
-    while ((status = gv_read(s.end, stream, block, sizeof block, &count)) == GV_OK)
-      if (fwrite(block, 1, (size_t)count, file) != count) fail("the file can't be written");
-    if (status == GV_END && ended == 0) ended = now();
-    if (status != GV_NO_SUCH_STREAM && status != GV_WAIT) want(status, GV_END, "read");
+    while ((status = gv_read(s.end, stream, block, sizeof block, &count, NULL)) == GV_OK)
+      if (fwrite(block, 1, count, file) != count) fail("the file can't be written");
+    if (status == GV_END_OF_STREAM && ended == 0) ended = now();
+    if (status != GV_NO_SUCH_STREAM && status != GV_NOTHING_YET) want(status, GV_END_OF_STREAM, "read");
     goes_on = turn(&s, &heard, ended != 0);
     /* The last ACK may be lost, so the end stays a while, as long as the sender is heard of. */
     if (ended != 0 && now() - heard > LINGER) goes_on = false;

@@ -35,8 +35,8 @@ static void check(bool holds, const char *what) {
   abort();
 }
 
-static bool is_closed(gv_endpoint *end) {
-  gv_closing_info closing;
+static bool is_closed(const gv_endpoint *end) {
+  gv_closing_info closing = {.size = sizeof closing};
   uint64_t code;
   return gv_closing(end, &closing) == GV_OK || gv_peer_closed(end, &code) == GV_OK;
 }
@@ -68,11 +68,11 @@ static void check_ack(const gv_frame *frame) {
     if (count < SOME) ranges[count++] = range;
   }
   uint8_t out[32 * SOME];
-  gv_fault fault;
+  gv_fault fault = {.size = sizeof fault};
   check(gv_put_ack(ranges, count, frame->delay, out, 4 * frame->len + 24 < sizeof out ? 4 * frame->len + 24 : sizeof out, &written, &len)
           == GV_OK && written > 0 && written <= count, "an ACK is written");
   gv_frames again = {out, len, 0};
-  gv_frame second;
+  gv_frame second = {.size = sizeof second};
   check(gv_frames_next(&again, &second, &fault) == GV_OK && again.place == len && second.delay == frame->delay, "it is read");
   gv_acked own = {second.bytes, second.len, second.largest};
   for (size_t i = 0; i < written; i++)
@@ -83,8 +83,8 @@ static void check_ack(const gv_frame *frame) {
 static void check_frames(const uint8_t *payload, size_t len) {
   static uint8_t out[4 * MOST];
   gv_frames frames = {payload, len, 0};
-  gv_frame frame, second;
-  gv_fault fault;
+  gv_frame frame = {.size = sizeof frame}, second = {.size = sizeof second};
+  gv_fault fault = {.size = sizeof fault};
   gv_status status;
   size_t before = 0, size = 0;
   while ((status = gv_frames_next(&frames, &frame, &fault)) == GV_OK) {
@@ -94,20 +94,19 @@ static void check_frames(const uint8_t *payload, size_t len) {
     check(gv_put(&frame, out, sizeof out, &size) == GV_OK && size > 0, "a frame is written");
     gv_frames again = {out, size, 0};
     check(gv_frames_next(&again, &second, &fault) == GV_OK && again.place == size && is_same(&frame, &second), "it is read as the same");
-    check(gv_put(&frame, out, size - 1, &size) == GV_FULL, "a frame doesn't fit");
+    check(gv_put(&frame, out, size - 1, &size) == GV_NO_ROOM, "a frame doesn't fit");
     if (frame.kind == GV_FRAME_ACK) check_ack(&frame);
   }
   check(frames.place == before, "the place stays");
-  check(status == GV_NONE ? before == len && len > 0 : status == GV_FAULT && fault.place == before && fault.kind > 0, "the end");
+  check(status == GV_NONE ? before == len && len > 0 : status == GV_BAD_FRAME && fault.place == before && fault.kind > 0, "the end");
 }
 
 static void receive(gv_endpoint *end, input *in) {
-  gv_closing_info closing;
   uint64_t number = next_number(in);
   size_t len = 8 * (size_t)next_byte(in);
   if (len > in->len) len = in->len;
   check_frames(in->at, len);
-  gv_status status = gv_receive(end, number, in->at, len, &closing);
+  gv_status status = gv_receive(end, number, in->at, len);
   check(status != GV_INVALID || number >> 62 != 0, "a payload is refused");
   in->at += len;
   in->len -= len;
@@ -115,10 +114,10 @@ static void receive(gv_endpoint *end, input *in) {
 
 static void make(gv_endpoint *end, input *in) {
   uint8_t out[MOST];
-  gv_made made;
+  gv_made made = {.size = sizeof made};
   size_t room = 128 + 4 * (size_t)next_byte(in);
   gv_status status = gv_make_packet_from(end, next_byte(in), next_byte(in), out, room, &made);
-  check(status == GV_OK || status == GV_NONE || status == GV_CLOSED || status == GV_EXHAUSTED, "a packet");
+  check(status == GV_OK || status == GV_NONE || status == GV_CONNECTION_CLOSED || status == GV_NUMBERS_EXHAUSTED, "a packet");
   check(status != GV_OK || (made.len > 0 && made.len <= room), "its length");
 }
 
@@ -135,13 +134,13 @@ static void use(gv_endpoint *end, unsigned call, input *in) {
   uint64_t number, stream = next_number(in);
   size_t count = 0;
   switch (call) {
-    case 0: (void)gv_open(end, next_byte(in) % 3, &number); break;
+    case 0: (void)gv_open(end, (gv_dir)(next_byte(in) % 3), &number, NULL); break;
     case 1: (void)gv_accept(end, &number); break;
     case 2: (void)gv_write(end, stream, zeros, 4 * (size_t)next_byte(in), &count); break;
     case 3: (void)gv_finish(end, stream); break;
     case 4: (void)gv_reset(end, stream, next_number(in)); break;
     case 5: (void)gv_stop(end, stream, next_number(in)); break;
-    case 6: (void)gv_read(end, stream, into, 4 * (size_t)next_byte(in), &number); break;
+    case 6: (void)gv_read(end, stream, into, 4 * (size_t)next_byte(in), &count, &number); break;
     case 7: (void)gv_declare_lost(end, stream); break;
     case 8: (void)gv_claim_number(end, &number); break;
     default: close_text(end); break;
@@ -160,12 +159,12 @@ static void look(gv_endpoint *end, bool *was_closed) {
 }
 
 static int run(const uint8_t *bytes, size_t len) {
-  gv_settings settings = {CONN_WINDOW, STREAM_WINDOW, STREAM_WINDOW, STREAM_WINDOW, 2048, 8, 8, 16, 16};
-  gv_limits limits = {4096, 1024, 1024, 1024, 8, 8};
+  gv_settings settings = {sizeof settings, CONN_WINDOW, STREAM_WINDOW, STREAM_WINDOW, STREAM_WINDOW, 2048, 8, 8, 16, 16};
+  gv_limits limits = {sizeof limits, 4096, 1024, 1024, 1024, 8, 8};
   input in = {bytes, len};
   gv_endpoint *end;
   bool was_closed = false;
-  check(gv_endpoint_new(next_byte(&in) % 2, &settings, &limits, &end) == GV_OK, "new");
+  check(gv_endpoint_new((gv_role)(next_byte(&in) % 2), &settings, &limits, &end) == GV_OK, "new");
   while (in.len > 0) {
     unsigned call = next_byte(&in);
     if (call % 16 < 5) {

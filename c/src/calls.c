@@ -1,272 +1,529 @@
-/* The public calls: each tests its pointers, and hands on to the proved library, which tests the numbers. */
-#include <stdlib.h>
+/* The public calls. Each tests its pointers, copies between the public structs and those of the library below, which tests the numbers,
+ * and has the memory of its end used while it runs. */
+#include <stdalign.h>
+#include <string.h>
 
+#include "memory.h"
 #include "proved.h"
 
-/* A slice of no bytes may have no address, and the proved library wants one. */
-static uint8_t none[1];
+struct gv_endpoint {
+  gvp_handle handle;
+  gv_allocator memory;
+  const gv_allocator *outer; /* from where the thread takes memory again once the call ends */
+};
 
-static bool is_slice(const void *at, size_t len) {
-  return (at != NULL || len == 0) && len <= (size_t)PTRDIFF_MAX;
+/* What a struct takes up to a field, and it: what it took in the version of which this was the last field. */
+#define UP_TO(type, field) (offsetof(type, field) + sizeof((type *)0)->field)
+
+/* No later field may stand where a struct of today has nothing. */
+#define ENDS_WITH(type, field) _Static_assert(sizeof(type) == UP_TO(type, field), #type " ends with " #field)
+ENDS_WITH(gv_settings, lifetime_uni);
+ENDS_WITH(gv_limits, streams_uni);
+ENDS_WITH(gv_allocator, release);
+ENDS_WITH(gv_made, len);
+ENDS_WITH(gv_sending, reset_code);
+ENDS_WITH(gv_receiving, reset_code);
+ENDS_WITH(gv_closing_info, place);
+ENDS_WITH(gv_frame, token);
+ENDS_WITH(gv_fault, place);
+
+enum { MOST_SIZE = 4096, TOKEN_LEN = 16 };
+
+static size_t least(size_t a, size_t b) { return a < b ? a : b; }
+
+static size_t size_of(const void *at) {
+  size_t size;
+  memcpy(&size, at, sizeof size);
+  return size;
 }
 
-gv_status gv_endpoint_new(uint32_t role, const gv_settings *settings, const gv_limits *peer, gv_endpoint **out) {
-  if (settings == NULL || peer == NULL || out == NULL) return GV_INVALID;
-  gv_endpoint *end = malloc(sizeof *end);
+/* Whether a caller's struct is there, and has a size that one may have: at least that of version 0.1. */
+static bool is_sized(const void *at, size_t first) { return at != NULL && size_of(at) >= first && size_of(at) <= MOST_SIZE; }
+
+/* Copies a caller's struct. What it hasn't is 0; false where it has something that isn't known here. */
+static bool copy_in(void *to, size_t known, const void *from, size_t first) {
+  static const uint8_t zeros[MOST_SIZE];
+  if (!is_sized(from, first)) return false;
+  size_t size = size_of(from);
+  memset(to, 0, known);
+  memcpy(to, from, least(size, known));
+  return size <= known || memcmp((const uint8_t *)from + known, zeros, size - known) == 0;
+}
+
+/* Copies to a caller's struct what it has room for, but for its size. */
+static void copy_out(void *to, const void *from, size_t known) {
+  size_t skipped = sizeof(size_t);
+  memcpy((uint8_t *)to + skipped, (const uint8_t *)from + skipped, least(size_of(to), known) - skipped);
+}
+
+/* A slice of no bytes may have no address, and the library below wants one. */
+static uint8_t none[1];
+
+static bool is_slice(const void *at, size_t len) { return (at != NULL || len == 0) && len <= (size_t)PTRDIFF_MAX; }
+
+static const uint8_t *read_from(const uint8_t *at, size_t len) { return len == 0 ? none : at; }
+
+static uint8_t *written_to(uint8_t *at, size_t len) { return len == 0 ? none : at; }
+
+/* A call of an end begins: until leave() memory is the end's. A question is no other: its end is const in the header alone. */
+static gvp_handle *enter(const gv_endpoint *end) {
+  gv_endpoint *own = (gv_endpoint *)end;
+  own->outer = gvp_take_from(&own->memory);
+  return &own->handle;
+}
+
+static gv_status leave(const gv_endpoint *end, uint32_t status) {
+  (void)gvp_take_from(end->outer);
+  return (gv_status)status;
+}
+
+/* The shapes of calls that a number or a bool answers. */
+
+static gv_status ask(uint32_t (*call)(gvp_handle *, uint64_t *), const gv_endpoint *end, uint64_t *answer) {
+  uint64_t got = 0;
+  if (end == NULL || answer == NULL) return GV_INVALID;
+  gv_status status = leave(end, call(enter(end), &got));
+  if (status == GV_OK) *answer = got;
+  return status;
+}
+
+static gv_status ask_of(uint32_t (*call)(gvp_handle *, uint64_t, uint64_t *), const gv_endpoint *end, uint64_t of, uint64_t *answer) {
+  uint64_t got = 0;
+  if (end == NULL || answer == NULL) return GV_INVALID;
+  gv_status status = leave(end, call(enter(end), of, &got));
+  if (status == GV_OK) *answer = got;
+  return status;
+}
+
+static gv_status ask_of_dir(uint32_t (*call)(gvp_handle *, uint32_t, uint64_t *), const gv_endpoint *end, gv_dir dir, uint64_t *answer) {
+  uint64_t got = 0;
+  if (end == NULL || answer == NULL) return GV_INVALID;
+  gv_status status = leave(end, call(enter(end), (uint32_t)dir, &got));
+  if (status == GV_OK) *answer = got;
+  return status;
+}
+
+static gv_status ask_whether(uint32_t (*call)(gvp_handle *, bool *), const gv_endpoint *end, bool *answer) {
+  bool got = false;
+  if (end == NULL || answer == NULL) return GV_INVALID;
+  gv_status status = leave(end, call(enter(end), &got));
+  if (status == GV_OK) *answer = got;
+  return status;
+}
+
+/* An end. */
+
+gv_status gv_settings_init(gv_settings *settings, size_t size) {
+  const gv_settings first = {size, 1 << 20, 1 << 18, 1 << 18, 1 << 18, 1 << 18, 100, 100, 1 << 16, 1 << 16};
+  if (settings == NULL || size < UP_TO(gv_settings, lifetime_uni) || size > MOST_SIZE) return GV_INVALID;
+  memset(settings, 0, size);
+  memcpy(settings, &first, least(size, sizeof first));
+  return GV_OK;
+}
+
+gv_status gv_limits_init(gv_limits *limits, size_t size) {
+  if (limits == NULL || size < UP_TO(gv_limits, streams_uni) || size > MOST_SIZE) return GV_INVALID;
+  memset(limits, 0, size);
+  limits->size = size;
+  return GV_OK;
+}
+
+static bool take_settings(gvp_settings *to, const gv_settings *from) {
+  gv_settings s;
+  if (!copy_in(&s, sizeof s, from, UP_TO(gv_settings, lifetime_uni))) return false;
+  gvp_settings own = {
+    s.conn_window, s.bidi_local, s.bidi_remote, s.uni, s.send_buffer, s.grant_bidi, s.grant_uni, s.lifetime_bidi, s.lifetime_uni,
+  };
+  *to = own;
+  return true;
+}
+
+static bool take_limits(gvp_limits *to, const gv_limits *from) {
+  gv_limits l;
+  if (!copy_in(&l, sizeof l, from, UP_TO(gv_limits, streams_uni))) return false;
+  gvp_limits own = {l.max_data, l.bidi_local, l.bidi_remote, l.uni, l.streams_bidi, l.streams_uni};
+  *to = own;
+  return true;
+}
+
+gv_status gv_limits_of(const gv_settings *settings, gv_limits *limits) {
+  gvp_settings s;
+  if (!take_settings(&s, settings) || !is_sized(limits, UP_TO(gv_limits, streams_uni))) return GV_INVALID;
+  gv_limits granted = {0, s.conn_window, s.bidi_local, s.bidi_remote, s.uni, s.grant_bidi, s.grant_uni};
+  copy_out(limits, &granted, sizeof granted);
+  return GV_OK;
+}
+
+static bool take_allocator(gv_allocator *to, const gv_allocator *from) {
+  return copy_in(to, sizeof *to, from, UP_TO(gv_allocator, release)) && to->allocate != NULL && to->release != NULL;
+}
+
+gv_status gv_endpoint_new_with(gv_role role, const gv_settings *settings, const gv_limits *peer, const gv_allocator *allocator,
+                               gv_endpoint **out) {
+  gvp_settings own;
+  gvp_limits limits;
+  gv_allocator memory = gvp_of_c;
+  if (out == NULL || !take_settings(&own, settings) || !take_limits(&limits, peer)) return GV_INVALID;
+  if (allocator != NULL && !take_allocator(&memory, allocator)) return GV_INVALID;
+  gv_endpoint *end = memory.allocate(memory.context, sizeof *end, alignof(gv_endpoint));
   if (end == NULL) return GV_NO_MEMORY;
-  end->live = false;
-  end->at = NULL;
-  gv_status status = (gv_status)gvp_new(end, role, settings, peer);
+  gv_endpoint fresh = {{false, NULL}, memory, NULL};
+  *end = fresh;
+  gv_status status = leave(end, gvp_new(enter(end), (uint32_t)role, &own, &limits));
   if (status == GV_OK) {
     *out = end;
   } else {
-    free(end);
+    memory.release(memory.context, end, sizeof *end, alignof(gv_endpoint));
   }
   return status;
 }
 
-void gv_endpoint_free(gv_endpoint *end) {
-  if (end == NULL) return;
-  gvp_free(end);
-  free(end);
+gv_status gv_endpoint_new(gv_role role, const gv_settings *settings, const gv_limits *peer, gv_endpoint **out) {
+  return gv_endpoint_new_with(role, settings, peer, NULL, out);
 }
 
-gv_status gv_receive(gv_endpoint *end, uint64_t number, const uint8_t *payload, size_t len, gv_closing_info *closing) {
-  if (end == NULL || closing == NULL || !is_slice(payload, len)) return GV_INVALID;
-  return (gv_status)gvp_receive(end, number, len == 0 ? none : payload, len, closing);
+void gv_endpoint_free(gv_endpoint *end) {
+  if (end == NULL) return;
+  gv_allocator memory = end->memory;
+  gvp_free(enter(end));
+  (void)leave(end, GV_OK);
+  memory.release(memory.context, end, sizeof *end, alignof(gv_endpoint));
+}
+
+gv_status gv_raise_limits(gv_endpoint *end, const gv_limits *peer) {
+  gvp_limits limits;
+  if (end == NULL || !take_limits(&limits, peer)) return GV_INVALID;
+  return leave(end, gvp_raise_limits(enter(end), &limits));
+}
+
+/* Packets. */
+
+gv_status gv_receive(gv_endpoint *end, uint64_t number, const uint8_t *payload, size_t len) {
+  gvp_closing_info told = {0, 0, 0};
+  if (end == NULL || !is_slice(payload, len)) return GV_INVALID;
+  return leave(end, gvp_receive(enter(end), number, read_from(payload, len), len, &told));
+}
+
+static gv_status give_made(gv_made *to, gv_status status, gvp_made made) {
+  gv_made got = {0, made.is_ack_eliciting, made.number, made.len};
+  if (status == GV_OK) copy_out(to, &got, sizeof got);
+  return status;
 }
 
 gv_status gv_make_packet_from(gv_endpoint *end, uint64_t first, uint64_t delay, uint8_t *out, size_t room, gv_made *made) {
-  if (end == NULL || made == NULL || out == NULL || !is_slice(out, room)) return GV_INVALID;
-  gv_made got = {0, 0, false};
-  gv_status status = (gv_status)gvp_make_packet_from(end, first, delay, out, room, &got);
-  if (status == GV_OK) *made = got;
-  return status;
+  gvp_made got = {0, 0, false};
+  if (end == NULL || out == NULL || !is_slice(out, room) || !is_sized(made, UP_TO(gv_made, len))) return GV_INVALID;
+  gv_status status = leave(end, gvp_make_packet_from(enter(end), first, delay, out, room, &got));
+  return give_made(made, status, got);
 }
 
 gv_status gv_make_packet(gv_endpoint *end, uint8_t *out, size_t room, gv_made *made) {
   return gv_make_packet_from(end, 0, 0, out, room, made);
 }
 
-gv_status gv_open(gv_endpoint *end, uint32_t dir, uint64_t *number) {
-  if (end == NULL || number == NULL) return GV_INVALID;
-  return (gv_status)gvp_open(end, dir, number);
-}
-
-gv_status gv_accept(gv_endpoint *end, uint64_t *stream) {
-  if (end == NULL || stream == NULL) return GV_INVALID;
-  return (gv_status)gvp_accept(end, stream);
-}
-
-gv_status gv_write(gv_endpoint *end, uint64_t stream, const uint8_t *bytes, size_t len, size_t *count) {
-  if (end == NULL || count == NULL || !is_slice(bytes, len)) return GV_INVALID;
-  return (gv_status)gvp_write(end, stream, len == 0 ? none : bytes, len, count);
-}
-
-gv_status gv_finish(gv_endpoint *end, uint64_t stream) {
-  if (end == NULL) return GV_INVALID;
-  return (gv_status)gvp_finish(end, stream);
-}
-
-gv_status gv_reset(gv_endpoint *end, uint64_t stream, uint64_t code) {
-  if (end == NULL) return GV_INVALID;
-  return (gv_status)gvp_reset(end, stream, code);
-}
-
-gv_status gv_stop(gv_endpoint *end, uint64_t stream, uint64_t code) {
-  if (end == NULL) return GV_INVALID;
-  return (gv_status)gvp_stop(end, stream, code);
-}
-
-gv_status gv_read(gv_endpoint *end, uint64_t stream, uint8_t *into, size_t size, uint64_t *number) {
-  if (end == NULL || number == NULL || !is_slice(into, size)) return GV_INVALID;
-  return (gv_status)gvp_read(end, stream, size == 0 ? none : into, size, number);
+gv_status gv_make_ack(gv_endpoint *end, uint64_t delay, uint8_t *out, size_t room, gv_made *made) {
+  gvp_made got = {0, 0, false};
+  if (end == NULL || out == NULL || !is_slice(out, room) || !is_sized(made, UP_TO(gv_made, len))) return GV_INVALID;
+  gv_status status = leave(end, gvp_make_ack(enter(end), delay, out, room, &got));
+  return give_made(made, status, got);
 }
 
 gv_status gv_declare_lost(gv_endpoint *end, uint64_t number) {
   if (end == NULL) return GV_INVALID;
-  return (gv_status)gvp_declare_lost(end, number);
+  return leave(end, gvp_declare_lost(enter(end), number));
 }
 
-gv_status gv_closing(gv_endpoint *end, gv_closing_info *closing) {
-  if (end == NULL || closing == NULL) return GV_INVALID;
-  return (gv_status)gvp_closing(end, closing);
+gv_status gv_claim_number(gv_endpoint *end, uint64_t *number) { return ask(gvp_claim_number, end, number); }
+
+gv_status gv_next_number(const gv_endpoint *end, uint64_t *number) { return ask(gvp_next_number, end, number); }
+
+gv_status gv_is_sendable(const gv_endpoint *end, bool *answer) { return ask_whether(gvp_is_sendable, end, answer); }
+
+gv_status gv_ack_is_due(const gv_endpoint *end, bool *answer) { return ask_whether(gvp_ack_is_due, end, answer); }
+
+gv_status gv_next_outstanding(const gv_endpoint *end, uint64_t from, uint64_t *number) {
+  return ask_of(gvp_next_outstanding, end, from, number);
 }
 
-gv_status gv_close_payload(gv_endpoint *end, uint8_t *out, size_t room, size_t *len) {
-  if (end == NULL || len == NULL || !is_slice(out, room)) return GV_INVALID;
-  return (gv_status)gvp_close_payload(end, room == 0 ? none : out, room, len);
-}
-
-gv_status gv_peer_closed(gv_endpoint *end, uint64_t *code) {
-  if (end == NULL || code == NULL) return GV_INVALID;
-  return (gv_status)gvp_peer_closed(end, code);
-}
-
-gv_status gv_next_readable(gv_endpoint *end, uint64_t from, uint64_t *stream) {
-  if (end == NULL || stream == NULL) return GV_INVALID;
-  return (gv_status)gvp_next_readable(end, from, stream);
-}
-
-gv_status gv_next_writable(gv_endpoint *end, uint64_t from, uint64_t *stream) {
-  if (end == NULL || stream == NULL) return GV_INVALID;
-  return (gv_status)gvp_next_writable(end, from, stream);
-}
-
-gv_status gv_next_sendable(gv_endpoint *end, uint64_t from, uint64_t *stream) {
-  if (end == NULL || stream == NULL) return GV_INVALID;
-  return (gv_status)gvp_next_sendable(end, from, stream);
-}
-
-gv_status gv_next_ended(gv_endpoint *end, uint64_t from, uint64_t *stream) {
-  if (end == NULL || stream == NULL) return GV_INVALID;
-  return (gv_status)gvp_next_ended(end, from, stream);
-}
-
-gv_status gv_lane_report(gv_endpoint *end, uint64_t stream, gv_lane *lane) {
-  static const gv_lane nothing;
-  if (end == NULL || lane == NULL) return GV_INVALID;
-  gv_lane got = nothing;
-  gv_status status = (gv_status)gvp_lane_report(end, stream, &got);
-  if (status == GV_OK) *lane = got;
-  return status;
-}
-
-gv_status gv_stopped_with(gv_endpoint *end, uint64_t stream, uint64_t *code) {
-  if (end == NULL || code == NULL) return GV_INVALID;
-  return (gv_status)gvp_stopped_with(end, stream, code);
-}
-
-gv_status gv_is_sendable(gv_endpoint *end, bool *answer) {
-  if (end == NULL || answer == NULL) return GV_INVALID;
-  bool got = false;
-  gv_status status = (gv_status)gvp_is_sendable(end, &got);
-  if (status == GV_OK) *answer = got;
-  return status;
-}
-
-gv_status gv_is_blocked(gv_endpoint *end, uint64_t stream, bool *answer) {
-  if (end == NULL || answer == NULL) return GV_INVALID;
-  bool got = false;
-  gv_status status = (gv_status)gvp_is_blocked(end, stream, &got);
-  if (status == GV_OK) *answer = got;
-  return status;
-}
-
-gv_status gv_ack_is_due(gv_endpoint *end, bool *answer) {
-  if (end == NULL || answer == NULL) return GV_INVALID;
-  bool got = false;
-  gv_status status = (gv_status)gvp_ack_is_due(end, &got);
-  if (status == GV_OK) *answer = got;
-  return status;
-}
-
-gv_status gv_streams_left(gv_endpoint *end, uint32_t dir, uint64_t *count) {
-  if (end == NULL || count == NULL) return GV_INVALID;
-  return (gv_status)gvp_streams_left(end, dir, count);
-}
-
-gv_status gv_open_left(gv_endpoint *end, uint32_t dir, uint64_t *count) {
-  if (end == NULL || count == NULL) return GV_INVALID;
-  return (gv_status)gvp_open_left(end, dir, count);
-}
-
-gv_status gv_granted_streams(gv_endpoint *end, uint32_t dir, uint64_t *count) {
-  if (end == NULL || count == NULL) return GV_INVALID;
-  return (gv_status)gvp_granted_streams(end, dir, count);
-}
-
-gv_status gv_stored(gv_endpoint *end, uint64_t *count) {
-  if (end == NULL || count == NULL) return GV_INVALID;
-  return (gv_status)gvp_stored(end, count);
-}
-
-gv_status gv_held(gv_endpoint *end, uint64_t *receiving, uint64_t *sending) {
-  if (end == NULL || receiving == NULL || sending == NULL) return GV_INVALID;
-  return (gv_status)gvp_held(end, receiving, sending);
-}
-
-gv_status gv_granted(gv_endpoint *end, uint64_t *count) {
-  if (end == NULL || count == NULL) return GV_INVALID;
-  return (gv_status)gvp_granted(end, count);
-}
-
-gv_status gv_spent(gv_endpoint *end, uint64_t *count) {
-  if (end == NULL || count == NULL) return GV_INVALID;
-  return (gv_status)gvp_spent(end, count);
-}
-
-gv_status gv_raise_limits(gv_endpoint *end, const gv_limits *peer) {
-  if (end == NULL || peer == NULL) return GV_INVALID;
-  return (gv_status)gvp_raise_limits(end, peer);
-}
-
-gv_status gv_make_ack(gv_endpoint *end, uint64_t delay, uint8_t *out, size_t room, gv_made *made) {
-  if (end == NULL || made == NULL || out == NULL || !is_slice(out, room)) return GV_INVALID;
-  gv_made got = {0, 0, false};
-  gv_status status = (gv_status)gvp_make_ack(end, delay, out, room, &got);
-  if (status == GV_OK) *made = got;
-  return status;
-}
-
-gv_status gv_next_number(gv_endpoint *end, uint64_t *number) {
-  if (end == NULL || number == NULL) return GV_INVALID;
-  return (gv_status)gvp_next_number(end, number);
-}
-
-gv_status gv_claim_number(gv_endpoint *end, uint64_t *number) {
-  if (end == NULL || number == NULL) return GV_INVALID;
-  return (gv_status)gvp_claim_number(end, number);
-}
-
-gv_status gv_next_outstanding(gv_endpoint *end, uint64_t from, uint64_t *number) {
-  if (end == NULL || number == NULL) return GV_INVALID;
-  return (gv_status)gvp_next_outstanding(end, from, number);
-}
-
-gv_status gv_next_newly_acked(gv_endpoint *end, const uint8_t *payload, size_t len, uint64_t from, uint64_t *number) {
+gv_status gv_next_newly_acked(const gv_endpoint *end, const uint8_t *payload, size_t len, uint64_t from, uint64_t *number) {
+  uint64_t got = 0;
   if (end == NULL || number == NULL || !is_slice(payload, len)) return GV_INVALID;
-  return (gv_status)gvp_next_newly_acked(end, len == 0 ? none : payload, len, from, number);
+  gv_status status = leave(end, gvp_next_newly_acked(enter(end), read_from(payload, len), len, from, &got));
+  if (status == GV_OK) *number = got;
+  return status;
 }
 
-gv_status gv_last_stream(const uint8_t *payload, size_t len, uint64_t *stream) {
-  if (stream == NULL || !is_slice(payload, len)) return GV_INVALID;
-  return (gv_status)gvp_last_stream(len == 0 ? none : payload, len, stream);
+/* Streams. */
+
+gv_status gv_open(gv_endpoint *end, gv_dir dir, uint64_t *stream, uint64_t *limit) {
+  uint64_t got = 0;
+  if (end == NULL || stream == NULL) return GV_INVALID;
+  gv_status status = leave(end, gvp_open(enter(end), (uint32_t)dir, &got));
+  if (status == GV_OK) *stream = got;
+  if (status == GV_STREAM_LIMIT && limit != NULL) *limit = got;
+  return status;
 }
 
-gv_status gv_frames_next(gv_frames *frames, gv_frame *frame, gv_fault *fault) {
-  static const gv_frame nothing;
-  if (frames == NULL || frame == NULL || fault == NULL || !is_slice(frames->payload, frames->len)) return GV_INVALID;
-  const uint8_t *payload = frames->len == 0 ? none : frames->payload;
-  gv_frame got = nothing;
-  gv_status status = (gv_status)gvp_frames_next(payload, frames->len, &frames->place, &got, fault);
+gv_status gv_accept(gv_endpoint *end, uint64_t *stream) { return ask(gvp_accept, end, stream); }
+
+gv_status gv_write(gv_endpoint *end, uint64_t stream, const uint8_t *bytes, size_t len, size_t *count) {
+  size_t got = 0;
+  if (end == NULL || count == NULL || !is_slice(bytes, len)) return GV_INVALID;
+  gv_status status = leave(end, gvp_write(enter(end), stream, read_from(bytes, len), len, &got));
+  if (status == GV_OK) *count = got;
+  return status;
+}
+
+gv_status gv_finish(gv_endpoint *end, uint64_t stream) {
+  if (end == NULL) return GV_INVALID;
+  return leave(end, gvp_finish(enter(end), stream));
+}
+
+gv_status gv_reset(gv_endpoint *end, uint64_t stream, uint64_t code) {
+  if (end == NULL) return GV_INVALID;
+  return leave(end, gvp_reset(enter(end), stream, code));
+}
+
+gv_status gv_stop(gv_endpoint *end, uint64_t stream, uint64_t code) {
+  if (end == NULL) return GV_INVALID;
+  return leave(end, gvp_stop(enter(end), stream, code));
+}
+
+gv_status gv_read(gv_endpoint *end, uint64_t stream, uint8_t *into, size_t size, size_t *count, uint64_t *code) {
+  uint64_t got = 0;
+  if (end == NULL || count == NULL || !is_slice(into, size)) return GV_INVALID;
+  gv_status status = leave(end, gvp_read(enter(end), stream, written_to(into, size), size, &got));
+  if (status == GV_OK) *count = (size_t)got;
+  if (status == GV_RESET_BY_PEER && code != NULL) *code = got;
+  return status;
+}
+
+gv_status gv_next_readable(const gv_endpoint *end, uint64_t from, uint64_t *stream) {
+  return ask_of(gvp_next_readable, end, from, stream);
+}
+
+gv_status gv_next_writable(const gv_endpoint *end, uint64_t from, uint64_t *stream) {
+  return ask_of(gvp_next_writable, end, from, stream);
+}
+
+gv_status gv_next_sendable(const gv_endpoint *end, uint64_t from, uint64_t *stream) {
+  return ask_of(gvp_next_sendable, end, from, stream);
+}
+
+gv_status gv_next_ended(const gv_endpoint *end, uint64_t from, uint64_t *stream) { return ask_of(gvp_next_ended, end, from, stream); }
+
+/* How a stream stands: GV_NO_SUCH_STREAM where it isn't open. */
+static gv_status lane_of(const gv_endpoint *end, uint64_t stream, gvp_lane *lane) {
+  memset(lane, 0, sizeof *lane);
+  gv_status status = leave(end, gvp_lane_report(enter(end), stream, lane));
+  return status == GV_NONE ? GV_NO_SUCH_STREAM : status;
+}
+
+gv_status gv_sending_report(const gv_endpoint *end, uint64_t stream, gv_sending *sending) {
+  gvp_lane lane;
+  if (end == NULL || !is_sized(sending, UP_TO(gv_sending, reset_code))) return GV_INVALID;
+  gv_status status = lane_of(end, stream, &lane);
   if (status != GV_OK) return status;
-  got.bytes = payload + got.bytes_at;
-  got.token = got.kind == GV_FRAME_NEW_CONNECTION_ID ? payload + got.token_at : NULL;
-  *frame = got;
+  if (!lane.has_sending) return GV_WRONG_DIRECTION;
+  const gvp_sending *s = &lane.sending;
+  gv_sending got = {0, (gv_send_state)s->state, s->has_final_size, s->was_reset, s->written, s->limit, s->final_size, s->reset_code};
+  copy_out(sending, &got, sizeof got);
   return GV_OK;
 }
 
+gv_status gv_receiving_report(const gv_endpoint *end, uint64_t stream, gv_receiving *receiving) {
+  gvp_lane lane;
+  if (end == NULL || !is_sized(receiving, UP_TO(gv_receiving, reset_code))) return GV_INVALID;
+  gv_status status = lane_of(end, stream, &lane);
+  if (status != GV_OK) return status;
+  if (!lane.has_receiving) return GV_WRONG_DIRECTION;
+  const gvp_receiving *r = &lane.receiving;
+  gv_receiving got = {
+    0, (gv_recv_state)r->state, r->has_final_size, r->was_reset, r->read_count, r->highest, r->limit, r->final_size, r->reset_code,
+  };
+  copy_out(receiving, &got, sizeof got);
+  return GV_OK;
+}
+
+gv_status gv_stopped_with(const gv_endpoint *end, uint64_t stream, uint64_t *code) { return ask_of(gvp_stopped_with, end, stream, code); }
+
+gv_status gv_is_blocked(const gv_endpoint *end, uint64_t stream, bool *answer) {
+  bool got = false;
+  if (end == NULL || answer == NULL) return GV_INVALID;
+  gv_status status = leave(end, gvp_is_blocked(enter(end), stream, &got));
+  if (status == GV_OK) *answer = got;
+  return status;
+}
+
+/* Credit. */
+
+gv_status gv_streams_left(const gv_endpoint *end, gv_dir dir, uint64_t *count) { return ask_of_dir(gvp_streams_left, end, dir, count); }
+
+gv_status gv_open_left(const gv_endpoint *end, gv_dir dir, uint64_t *count) { return ask_of_dir(gvp_open_left, end, dir, count); }
+
+gv_status gv_granted_streams(const gv_endpoint *end, gv_dir dir, uint64_t *count) {
+  return ask_of_dir(gvp_granted_streams, end, dir, count);
+}
+
+gv_status gv_stored(const gv_endpoint *end, uint64_t *count) { return ask(gvp_stored, end, count); }
+
+gv_status gv_held(const gv_endpoint *end, uint64_t *receiving, uint64_t *sending) {
+  uint64_t rings = 0, buffers = 0;
+  if (end == NULL || receiving == NULL || sending == NULL) return GV_INVALID;
+  gv_status status = leave(end, gvp_held(enter(end), &rings, &buffers));
+  if (status != GV_OK) return status;
+  *receiving = rings;
+  *sending = buffers;
+  return GV_OK;
+}
+
+gv_status gv_granted(const gv_endpoint *end, uint64_t *count) { return ask(gvp_granted, end, count); }
+
+gv_status gv_spent(const gv_endpoint *end, uint64_t *count) { return ask(gvp_spent, end, count); }
+
+/* Closing. */
+
+gv_status gv_closing(const gv_endpoint *end, gv_closing_info *closing) {
+  gvp_closing_info told = {0, 0, 0};
+  if (end == NULL || !is_sized(closing, UP_TO(gv_closing_info, place))) return GV_INVALID;
+  gv_status status = leave(end, gvp_closing(enter(end), &told));
+  gv_closing_info got = {0, told.code, told.frame_type, told.place};
+  if (status == GV_OK) copy_out(closing, &got, sizeof got);
+  return status;
+}
+
+gv_status gv_close_payload(const gv_endpoint *end, uint8_t *out, size_t room, size_t *len) {
+  size_t got = 0;
+  if (end == NULL || len == NULL || !is_slice(out, room)) return GV_INVALID;
+  gv_status status = leave(end, gvp_close_payload(enter(end), written_to(out, room), room, &got));
+  if (status == GV_OK) *len = got;
+  return status;
+}
+
+gv_status gv_peer_closed(const gv_endpoint *end, uint64_t *code) { return ask(gvp_peer_closed, end, code); }
+
+/* Frames. */
+
+gv_status gv_last_stream(const uint8_t *payload, size_t len, uint64_t *stream) {
+  uint64_t got = 0;
+  if (stream == NULL || !is_slice(payload, len)) return GV_INVALID;
+  gv_status status = (gv_status)gvp_last_stream(read_from(payload, len), len, &got);
+  if (status == GV_OK) *stream = got;
+  return status;
+}
+
+/* A frame of a payload. */
+static gv_frame frame_in(const uint8_t *payload, const gvp_frame *f) {
+  gv_frame got;
+  memset(&got, 0, sizeof got);
+  got.kind = (gv_frame_kind)f->kind;
+  got.dir = (gv_dir)f->dir;
+  got.fin = f->fin;
+  got.has_ecn = f->has_ecn;
+  got.place = f->place;
+  got.type = f->frame_type;
+  got.stream = f->stream;
+  got.offset = f->offset;
+  got.code = f->code;
+  got.final_size = f->final_size;
+  got.limit = f->limit;
+  got.largest = f->largest;
+  got.delay = f->delay;
+  got.ect0 = f->ect0;
+  got.ect1 = f->ect1;
+  got.ce = f->ce;
+  got.sequence = f->sequence;
+  got.retire = f->retire;
+  got.at_fault = f->at_fault;
+  got.len = f->len;
+  got.bytes = payload + f->bytes_at;
+  got.token = got.kind == GV_FRAME_NEW_CONNECTION_ID ? payload + f->token_at : NULL;
+  return got;
+}
+
+/* A frame to be written. */
+static gvp_frame frame_of(const gv_frame *f) {
+  gvp_frame given;
+  memset(&given, 0, sizeof given);
+  given.kind = (uint32_t)f->kind;
+  given.dir = (uint32_t)f->dir;
+  given.fin = f->fin;
+  given.has_ecn = f->has_ecn;
+  given.stream = f->stream;
+  given.offset = f->offset;
+  given.code = f->code;
+  given.final_size = f->final_size;
+  given.limit = f->limit;
+  given.largest = f->largest;
+  given.delay = f->delay;
+  given.ect0 = f->ect0;
+  given.ect1 = f->ect1;
+  given.ce = f->ce;
+  given.sequence = f->sequence;
+  given.retire = f->retire;
+  given.at_fault = f->at_fault;
+  return given;
+}
+
+gv_status gv_frames_next(gv_frames *frames, gv_frame *frame, gv_fault *fault) {
+  gvp_frame got;
+  gvp_fault why = {0, 0, 0, 0};
+  if (frames == NULL || !is_slice(frames->payload, frames->len)) return GV_INVALID;
+  if (!is_sized(frame, UP_TO(gv_frame, token)) || !is_sized(fault, UP_TO(gv_fault, place))) return GV_INVALID;
+  const uint8_t *payload = read_from(frames->payload, frames->len);
+  memset(&got, 0, sizeof got);
+  gv_status status = (gv_status)gvp_frames_next(payload, frames->len, &frames->place, &got, &why);
+  if (status == GV_OK) {
+    gv_frame read = frame_in(payload, &got);
+    copy_out(frame, &read, sizeof read);
+  } else if (status == GV_BAD_FRAME) {
+    gv_fault told = {0, (gv_fault_kind)why.kind, why.code, why.frame_type, why.place};
+    copy_out(fault, &told, sizeof told);
+  }
+  return status;
+}
+
 gv_status gv_ack_next(gv_acked *ranges, gv_range *range) {
-  if (ranges == NULL || range == NULL || !is_slice(ranges->bytes, ranges->len)) return GV_INVALID;
-  const uint8_t *bytes = ranges->len == 0 ? none : ranges->bytes;
+  gvp_range got = {0, 0};
   size_t used = 0;
-  gv_status status = (gv_status)gvp_ack_next(bytes, ranges->len, &ranges->largest, &used, range);
+  if (ranges == NULL || range == NULL || !is_slice(ranges->bytes, ranges->len)) return GV_INVALID;
+  const uint8_t *bytes = read_from(ranges->bytes, ranges->len);
+  gv_status status = (gv_status)gvp_ack_next(bytes, ranges->len, &ranges->largest, &used, &got);
   if (status != GV_OK) return status;
   ranges->bytes = bytes + used;
   ranges->len -= used;
+  range->smallest = got.smallest;
+  range->largest = got.largest;
   return GV_OK;
 }
 
 gv_status gv_put(const gv_frame *frame, uint8_t *out, size_t room, size_t *len) {
-  if (frame == NULL || len == NULL || !is_slice(out, room) || !is_slice(frame->bytes, frame->len)) return GV_INVALID;
-  const uint8_t *bytes = frame->len == 0 ? none : frame->bytes, *token = frame->token == NULL ? none : frame->token;
-  size_t token_len = frame->token == NULL ? 0 : 16;
-  return (gv_status)gvp_put(frame, bytes, frame->len, token, token_len, room == 0 ? none : out, room, len);
+  gv_frame f;
+  size_t got = 0;
+  if (len == NULL || !is_slice(out, room) || !copy_in(&f, sizeof f, frame, UP_TO(gv_frame, token))) return GV_INVALID;
+  if (!is_slice(f.bytes, f.len)) return GV_INVALID;
+  gvp_frame given = frame_of(&f);
+  const uint8_t *token = f.token == NULL ? none : f.token;
+  size_t token_len = f.token == NULL ? 0 : TOKEN_LEN;
+  gv_status status =
+    (gv_status)gvp_put(&given, read_from(f.bytes, f.len), f.len, token, token_len, written_to(out, room), room, &got);
+  if (status == GV_OK) *len = got;
+  return status;
 }
 
 gv_status gv_put_ack(const gv_range *ranges, size_t count, uint64_t delay, uint8_t *out, size_t room, size_t *written, size_t *len) {
-  if (written == NULL || len == NULL || !is_slice(out, room)) return GV_INVALID;
-  if (ranges == NULL || count > (size_t)PTRDIFF_MAX / sizeof *ranges) return GV_INVALID;
-  return (gv_status)gvp_put_ack(ranges, count, delay, room == 0 ? none : out, room, written, len);
+  enum { MOST_RANGES = 32 };
+  gvp_range given[MOST_RANGES];
+  size_t taken = 0, got = 0;
+  if (ranges == NULL || written == NULL || len == NULL || !is_slice(out, room)) return GV_INVALID;
+  if (count > MOST_RANGES) return GV_INVALID;
+  for (size_t i = 0; i < count; i++) {
+    given[i].smallest = ranges[i].smallest;
+    given[i].largest = ranges[i].largest;
+  }
+  gv_status status = (gv_status)gvp_put_ack(given, count, delay, written_to(out, room), room, &taken, &got);
+  if (status != GV_OK) return status;
+  *written = taken;
+  *len = got;
+  return GV_OK;
 }

@@ -1,58 +1,158 @@
-/* The exports of the proved library, crates/qs_c. Its contracts say what each answers. */
+/* What stands below the calls of C: the exports of crates/qs_c, whose contracts say what each answers, or those of rust/capi, which are the
+ * same source with its ghosts erased. tests/c/declared holds the declarations against that source. */
 #ifndef GVP_PROVED_H
 #define GVP_PROVED_H
 
-#include "gotsavena.h"
+#include <stdbool.h>
+#include <stddef.h>
+#include <stdint.h>
 
 /* A handle: whether it holds an end, and its address. */
-struct gv_endpoint {
+typedef struct gvp_handle {
   bool live;
   void *at;
-};
+} gvp_handle;
 
-uint32_t gvp_new(gv_endpoint *end, uint32_t role, const gv_settings *settings, const gv_limits *peer);
-void gvp_free(gv_endpoint *end);
-uint32_t gvp_receive(gv_endpoint *end, uint64_t number, const uint8_t *payload, size_t len, gv_closing_info *closing);
-uint32_t gvp_make_packet_from(gv_endpoint *end, uint64_t first, uint64_t delay, uint8_t *out, size_t room, gv_made *made);
-uint32_t gvp_open(gv_endpoint *end, uint32_t dir, uint64_t *number);
-uint32_t gvp_accept(gv_endpoint *end, uint64_t *stream);
-uint32_t gvp_write(gv_endpoint *end, uint64_t stream, const uint8_t *bytes, size_t len, size_t *count);
-uint32_t gvp_finish(gv_endpoint *end, uint64_t stream);
-uint32_t gvp_reset(gv_endpoint *end, uint64_t stream, uint64_t code);
-uint32_t gvp_stop(gv_endpoint *end, uint64_t stream, uint64_t code);
-uint32_t gvp_read(gv_endpoint *end, uint64_t stream, uint8_t *into, size_t size, uint64_t *number);
-uint32_t gvp_declare_lost(gv_endpoint *end, uint64_t number);
-uint32_t gvp_closing(gv_endpoint *end, gv_closing_info *closing);
-uint32_t gvp_close_payload(gv_endpoint *end, uint8_t *out, size_t room, size_t *len);
-uint32_t gvp_peer_closed(gv_endpoint *end, uint64_t *code);
-uint32_t gvp_next_readable(gv_endpoint *end, uint64_t from, uint64_t *stream);
-uint32_t gvp_next_writable(gv_endpoint *end, uint64_t from, uint64_t *stream);
-uint32_t gvp_next_sendable(gv_endpoint *end, uint64_t from, uint64_t *stream);
-uint32_t gvp_next_ended(gv_endpoint *end, uint64_t from, uint64_t *stream);
-uint32_t gvp_lane_report(gv_endpoint *end, uint64_t stream, gv_lane *lane);
-uint32_t gvp_stopped_with(gv_endpoint *end, uint64_t stream, uint64_t *code);
-uint32_t gvp_is_sendable(gv_endpoint *end, bool *answer);
-uint32_t gvp_is_blocked(gv_endpoint *end, uint64_t stream, bool *answer);
-uint32_t gvp_streams_left(gv_endpoint *end, uint32_t dir, uint64_t *count);
-uint32_t gvp_open_left(gv_endpoint *end, uint32_t dir, uint64_t *count);
-uint32_t gvp_granted_streams(gv_endpoint *end, uint32_t dir, uint64_t *count);
-uint32_t gvp_stored(gv_endpoint *end, uint64_t *count);
-uint32_t gvp_held(gv_endpoint *end, uint64_t *receiving, uint64_t *sending);
-uint32_t gvp_granted(gv_endpoint *end, uint64_t *count);
-uint32_t gvp_spent(gv_endpoint *end, uint64_t *count);
-uint32_t gvp_raise_limits(gv_endpoint *end, const gv_limits *limits);
-uint32_t gvp_ack_is_due(gv_endpoint *end, bool *answer);
-uint32_t gvp_make_ack(gv_endpoint *end, uint64_t delay, uint8_t *out, size_t room, gv_made *made);
-uint32_t gvp_next_number(gv_endpoint *end, uint64_t *number);
-uint32_t gvp_claim_number(gv_endpoint *end, uint64_t *number);
-uint32_t gvp_next_outstanding(gv_endpoint *end, uint64_t from, uint64_t *number);
-uint32_t gvp_next_newly_acked(gv_endpoint *end, const uint8_t *payload, size_t len, uint64_t from, uint64_t *number);
+typedef struct gvp_settings {
+  uint64_t conn_window;
+  uint64_t bidi_local;
+  uint64_t bidi_remote;
+  uint64_t uni;
+  size_t send_buffer;
+  uint64_t grant_bidi;
+  uint64_t grant_uni;
+  uint64_t lifetime_bidi;
+  uint64_t lifetime_uni;
+} gvp_settings;
+
+typedef struct gvp_limits {
+  uint64_t max_data;
+  uint64_t bidi_local;
+  uint64_t bidi_remote;
+  uint64_t uni;
+  uint64_t streams_bidi;
+  uint64_t streams_uni;
+} gvp_limits;
+
+typedef struct gvp_made {
+  uint64_t number;
+  size_t len;
+  bool is_ack_eliciting;
+} gvp_made;
+
+typedef struct gvp_closing_info {
+  uint64_t code;
+  uint64_t frame_type;
+  size_t place;
+} gvp_closing_info;
+
+typedef struct gvp_sending {
+  uint32_t state;
+  bool has_final_size;
+  bool was_reset;
+  uint64_t written;
+  uint64_t limit;
+  uint64_t final_size;
+  uint64_t reset_code;
+} gvp_sending;
+
+typedef struct gvp_receiving {
+  uint32_t state;
+  bool has_final_size;
+  bool was_reset;
+  uint64_t read_count;
+  uint64_t highest;
+  uint64_t limit;
+  uint64_t final_size;
+  uint64_t reset_code;
+} gvp_receiving;
+
+typedef struct gvp_lane {
+  bool has_sending;
+  bool has_receiving;
+  gvp_sending sending;
+  gvp_receiving receiving;
+} gvp_lane;
+
+typedef struct gvp_frame {
+  uint32_t kind;
+  uint32_t dir;
+  bool fin;
+  bool has_ecn;
+  size_t place;
+  uint64_t frame_type;
+  uint64_t stream;
+  uint64_t offset;
+  uint64_t code;
+  uint64_t final_size;
+  uint64_t limit;
+  uint64_t largest;
+  uint64_t delay;
+  uint64_t ect0;
+  uint64_t ect1;
+  uint64_t ce;
+  uint64_t sequence;
+  uint64_t retire;
+  uint64_t at_fault;
+  size_t bytes_at;
+  size_t len;
+  size_t token_at;
+} gvp_frame;
+
+typedef struct gvp_fault {
+  uint64_t kind;
+  uint64_t code;
+  uint64_t frame_type;
+  size_t place;
+} gvp_fault;
+
+typedef struct gvp_range {
+  uint64_t smallest;
+  uint64_t largest;
+} gvp_range;
+
+uint32_t gvp_new(gvp_handle *end, uint32_t role, const gvp_settings *settings, const gvp_limits *peer);
+void gvp_free(gvp_handle *end);
+uint32_t gvp_receive(gvp_handle *end, uint64_t number, const uint8_t *payload, size_t len, gvp_closing_info *closing);
+uint32_t gvp_make_packet_from(gvp_handle *end, uint64_t first, uint64_t delay, uint8_t *out, size_t room, gvp_made *made);
+uint32_t gvp_open(gvp_handle *end, uint32_t dir, uint64_t *number);
+uint32_t gvp_accept(gvp_handle *end, uint64_t *stream);
+uint32_t gvp_write(gvp_handle *end, uint64_t stream, const uint8_t *bytes, size_t len, size_t *count);
+uint32_t gvp_finish(gvp_handle *end, uint64_t stream);
+uint32_t gvp_reset(gvp_handle *end, uint64_t stream, uint64_t code);
+uint32_t gvp_stop(gvp_handle *end, uint64_t stream, uint64_t code);
+uint32_t gvp_read(gvp_handle *end, uint64_t stream, uint8_t *into, size_t size, uint64_t *number);
+uint32_t gvp_declare_lost(gvp_handle *end, uint64_t number);
+uint32_t gvp_closing(gvp_handle *end, gvp_closing_info *closing);
+uint32_t gvp_close_payload(gvp_handle *end, uint8_t *out, size_t room, size_t *len);
+uint32_t gvp_peer_closed(gvp_handle *end, uint64_t *code);
+uint32_t gvp_next_readable(gvp_handle *end, uint64_t from, uint64_t *stream);
+uint32_t gvp_next_writable(gvp_handle *end, uint64_t from, uint64_t *stream);
+uint32_t gvp_next_sendable(gvp_handle *end, uint64_t from, uint64_t *stream);
+uint32_t gvp_next_ended(gvp_handle *end, uint64_t from, uint64_t *stream);
+uint32_t gvp_lane_report(gvp_handle *end, uint64_t stream, gvp_lane *lane);
+uint32_t gvp_stopped_with(gvp_handle *end, uint64_t stream, uint64_t *code);
+uint32_t gvp_is_sendable(gvp_handle *end, bool *answer);
+uint32_t gvp_is_blocked(gvp_handle *end, uint64_t stream, bool *answer);
+uint32_t gvp_streams_left(gvp_handle *end, uint32_t dir, uint64_t *count);
+uint32_t gvp_open_left(gvp_handle *end, uint32_t dir, uint64_t *count);
+uint32_t gvp_granted_streams(gvp_handle *end, uint32_t dir, uint64_t *count);
+uint32_t gvp_stored(gvp_handle *end, uint64_t *count);
+uint32_t gvp_held(gvp_handle *end, uint64_t *receiving, uint64_t *sending);
+uint32_t gvp_granted(gvp_handle *end, uint64_t *count);
+uint32_t gvp_spent(gvp_handle *end, uint64_t *count);
+uint32_t gvp_raise_limits(gvp_handle *end, const gvp_limits *limits);
+uint32_t gvp_ack_is_due(gvp_handle *end, bool *answer);
+uint32_t gvp_make_ack(gvp_handle *end, uint64_t delay, uint8_t *out, size_t room, gvp_made *made);
+uint32_t gvp_next_number(gvp_handle *end, uint64_t *number);
+uint32_t gvp_claim_number(gvp_handle *end, uint64_t *number);
+uint32_t gvp_next_outstanding(gvp_handle *end, uint64_t from, uint64_t *number);
+uint32_t gvp_next_newly_acked(gvp_handle *end, const uint8_t *payload, size_t len, uint64_t from, uint64_t *number);
 uint32_t gvp_last_stream(const uint8_t *payload, size_t len, uint64_t *stream);
-/* Of a gv_frame the library knows all but the two pointers, which stand last. */
-uint32_t gvp_frames_next(const uint8_t *payload, size_t len, size_t *place, gv_frame *frame, gv_fault *fault);
-uint32_t gvp_ack_next(const uint8_t *bytes, size_t len, uint64_t *largest, size_t *used, gv_range *range);
-uint32_t gvp_put(const gv_frame *frame, const uint8_t *bytes, size_t bytes_len, const uint8_t *token, size_t token_len, uint8_t *out,
+uint32_t gvp_frames_next(const uint8_t *payload, size_t len, size_t *place, gvp_frame *frame, gvp_fault *fault);
+uint32_t gvp_ack_next(const uint8_t *bytes, size_t len, uint64_t *largest, size_t *used, gvp_range *range);
+uint32_t gvp_put(const gvp_frame *frame, const uint8_t *bytes, size_t bytes_len, const uint8_t *token, size_t token_len, uint8_t *out,
                  size_t room, size_t *len);
-uint32_t gvp_put_ack(const gv_range *ranges, size_t count, uint64_t delay, uint8_t *out, size_t room, size_t *written, size_t *len);
+uint32_t gvp_put_ack(const gvp_range *ranges, size_t count, uint64_t delay, uint8_t *out, size_t room, size_t *taken, size_t *len);
 
 #endif

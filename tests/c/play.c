@@ -63,23 +63,23 @@ static const char *name_of(gv_status status) {
   switch (status) {
     case GV_OK: return "ok";
     case GV_NO_MEMORY: return "no-memory";
-    case GV_CLOSED: return "closed";
+    case GV_CONNECTION_CLOSED: return "closed";
     case GV_NO_SUCH_STREAM: return "no-such-stream";
     case GV_WRONG_DIRECTION: return "wrong-direction";
-    case GV_FINISHED: return "finished";
-    case GV_WAS_RESET: return "was-reset";
-    case GV_EXHAUSTED: return "exhausted";
+    case GV_SENDING_FINISHED: return "finished";
+    case GV_SENDING_RESET: return "was-reset";
+    case GV_NUMBERS_EXHAUSTED: return "exhausted";
     case GV_NOT_OUTSTANDING: return "not-outstanding";
     case GV_DUPLICATE: return "duplicate";
-    case GV_BELOW_FLOOR: return "below-floor";
-    case GV_WAIT: return "wait";
-    case GV_END: return "end";
+    case GV_TOO_OLD: return "below-floor";
+    case GV_NOTHING_YET: return "wait";
+    case GV_END_OF_STREAM: return "end";
     default: fail("a status that no call may answer here"); return "";
   }
 }
 
 /* Whether a question about a number is answered with the number itself. */
-static bool names(gv_status (*next)(gv_endpoint *, uint64_t, uint64_t *), gv_endpoint *end, uint64_t number) {
+static bool names(gv_status (*next)(const gv_endpoint *, uint64_t, uint64_t *), const gv_endpoint *end, uint64_t number) {
   uint64_t found = 0;
   gv_status status = next(end, number, &found);
   check(status == GV_OK || status == GV_NONE, "a question is answered");
@@ -87,25 +87,25 @@ static bool names(gv_status (*next)(gv_endpoint *, uint64_t, uint64_t *), gv_end
   return status == GV_OK && found == number;
 }
 
-static bool is_closed(gv_endpoint *end) {
-  gv_closing_info closing;
+static bool is_closed(const gv_endpoint *end) {
+  gv_closing_info closing = {.size = sizeof closing};
   uint64_t code;
   return gv_closing(end, &closing) == GV_OK || gv_peer_closed(end, &code) == GV_OK;
 }
 
 static void open_stream(gv_endpoint *end, const char *word) {
-  uint32_t dir = strcmp(word, "bidi") == 0 ? GV_BIDI : GV_UNI;
-  uint64_t number, left, after;
+  gv_dir dir = strcmp(word, "bidi") == 0 ? GV_DIR_BIDI : GV_DIR_UNI;
+  uint64_t number, limit = 0, left, after;
   check(gv_open_left(end, dir, &left) == GV_OK, "open_left");
   bool closed = is_closed(end);
-  gv_status status = gv_open(end, dir, &number);
+  gv_status status = gv_open(end, dir, &number, &limit);
   check(gv_open_left(end, dir, &after) == GV_OK, "open_left");
   check(after == left - (status == GV_OK), "a stream that opened is counted");
-  check(closed || (status == GV_BLOCKED) == (left == 0), "none is left where it is blocked");
+  check(closed || (status == GV_STREAM_LIMIT) == (left == 0), "none is left where it is blocked");
   if (status == GV_OK) {
     print("stream %" PRIu64, number);
-  } else if (status == GV_BLOCKED) {
-    print("blocked %" PRIu64, number);
+  } else if (status == GV_STREAM_LIMIT) {
+    print("blocked %" PRIu64, limit);
   } else {
     print("%s", name_of(status));
   }
@@ -138,15 +138,16 @@ static void write_stream(gv_endpoint *end, uint64_t stream, const uint8_t *bytes
 static void read_stream(gv_endpoint *end, uint64_t stream, size_t size) {
   static uint8_t into[MOST];
   bool has = names(gv_next_readable, end, stream);
-  uint64_t number = 0;
-  gv_status status = gv_read(end, stream, into, size, &number);
-  if (has) check(status == GV_OK || status == GV_END || status == GV_RESET, "a readable stream has news");
-  if (status == GV_WAIT) check(!has, "what waits has no news");
+  size_t count = 0;
+  uint64_t code = 0;
+  gv_status status = gv_read(end, stream, into, size, &count, &code);
+  if (has) check(status == GV_OK || status == GV_END_OF_STREAM || status == GV_RESET_BY_PEER, "a readable stream has news");
+  if (status == GV_NOTHING_YET) check(!has, "what waits has no news");
   if (status == GV_OK) {
     print("bytes ");
-    print_hex(into, (size_t)number);
-  } else if (status == GV_RESET) {
-    print("reset %" PRIu64, number);
+    print_hex(into, count);
+  } else if (status == GV_RESET_BY_PEER) {
+    print("reset %" PRIu64, code);
   } else {
     print("%s", name_of(status));
   }
@@ -166,7 +167,7 @@ static void make_packet(int side, size_t room) {
   static uint8_t out[16383];
   gv_endpoint *end = ends[side];
   bool goes = false, ack = false;
-  gv_made got;
+  gv_made got = {.size = sizeof got};
   uint64_t next;
   check(gv_is_sendable(end, &goes) == GV_OK && gv_ack_is_due(end, &ack) == GV_OK, "questions before a packet");
   check(gv_next_number(end, &next) == GV_OK, "next_number");
@@ -191,7 +192,7 @@ static void make_packet(int side, size_t room) {
 static void lose_packet(gv_endpoint *end, uint64_t number) {
   bool held = names(gv_next_outstanding, end, number);
   gv_status status = gv_declare_lost(end, number);
-  check(status == GV_CLOSED || held == (status == GV_OK), "what is lost was outstanding");
+  check(status == GV_CONNECTION_CLOSED || held == (status == GV_OK), "what is lost was outstanding");
   print("%s", name_of(status));
 }
 
@@ -227,39 +228,54 @@ static void deliver(int side, uint64_t number) {
   const packet *it = &made[side][number];
   const uint8_t *payload = it->bytes == NULL ? &ping : it->bytes;
   gv_endpoint *end = ends[1 - side];
-  gv_closing_info closing;
+  gv_closing_info closing = {.size = sizeof closing};
   uint64_t code = 0;
   bool *left = left_by(1 - side, payload, it->len);
-  gv_status status = gv_receive(end, number, payload, it->len, &closing);
+  gv_status status = gv_receive(end, number, payload, it->len);
   for (uint64_t i = 0; status == GV_OK && i < made_count[1 - side]; i++)
     check(names(gv_next_outstanding, end, i) == left[i], "what a payload newly acknowledges is outstanding no more");
   free(left);
-  check((status == GV_PEER_CLOSED) == (gv_peer_closed(end, &code) == GV_OK), "the peer closed");
+  check((status == GV_CLOSED_BY_PEER) == (gv_peer_closed(end, &code) == GV_OK), "the peer closed");
   if (status == GV_OK) {
     print("done");
-  } else if (status == GV_PEER_CLOSED) {
-    check(code == closing.code, "with that code");
+  } else if (status == GV_CLOSED_BY_PEER) {
     print("peer-closed %" PRIu64, code);
-  } else if (status == GV_CLOSING) {
+  } else if (status == GV_PROTOCOL_ERROR) {
+    check(gv_closing(end, &closing) == GV_OK, "an end that closed tells why");
     print_closing(closing);
   } else {
     print("%s", name_of(status));
   }
 }
 
-static bool report_of(int side, uint64_t stream, gv_lane *lane) {
+/* How the halves of a stream stand at an end, and whether they are there. */
+typedef struct lane {
+  bool has_sending, has_receiving;
+  gv_sending sending;
+  gv_receiving receiving;
+} lane;
+
+static lane report_of(int side, uint64_t stream) {
+  lane all = {.sending.size = sizeof all.sending, .receiving.size = sizeof all.receiving};
   uint64_t code;
-  gv_status status = gv_lane_report(ends[side], stream, lane);
+  gv_status sends = gv_sending_report(ends[side], stream, &all.sending);
+  gv_status receives = gv_receiving_report(ends[side], stream, &all.receiving);
+  all.has_sending = sends == GV_OK;
+  all.has_receiving = receives == GV_OK;
+  check((sends == GV_NO_SUCH_STREAM) == (receives == GV_NO_SUCH_STREAM), "a stream is open or isn't");
+  check(all.has_sending || sends == GV_NO_SUCH_STREAM || (sends == GV_WRONG_DIRECTION && all.has_receiving), "a report");
+  check(all.has_receiving || receives == GV_NO_SUCH_STREAM || (receives == GV_WRONG_DIRECTION && all.has_sending), "another report");
   bool is_stopped = gv_stopped_with(ends[side], stream, &code) == GV_OK;
-  check(!is_stopped || (status == GV_OK && lane->has_sending), "what was stopped has a sending half");
-  check(!is_stopped || lane->sending.was_reset || lane->sending.state == GV_DATA_RECVD, "and sends no more");
-  check(status == GV_OK || status == GV_NONE, "a report");
-  if (status == GV_OK) {
-    bool sent = !lane->has_sending || lane->sending.state == GV_DATA_RECVD || lane->sending.state == GV_RESET_RECVD;
-    bool read = !lane->has_receiving || lane->receiving.state == GV_ALL_READ || lane->receiving.state == GV_PEER_RESET_READ;
+  check(!is_stopped || all.has_sending, "what was stopped has a sending half");
+  check(!is_stopped || all.sending.was_reset || all.sending.state == GV_SEND_STATE_DATA_RECVD, "and sends no more");
+  if (all.has_sending || all.has_receiving) {
+    gv_send_state of_sending = all.sending.state;
+    gv_recv_state of_receiving = all.receiving.state;
+    bool sent = !all.has_sending || of_sending == GV_SEND_STATE_DATA_RECVD || of_sending == GV_SEND_STATE_RESET_RECVD;
+    bool read = !all.has_receiving || of_receiving == GV_RECV_STATE_DATA_READ || of_receiving == GV_RECV_STATE_RESET_READ;
     check(names(gv_next_ended, ends[side], stream) == (sent && read), "a stream is over where its halves are");
   }
-  return status == GV_OK;
+  return all;
 }
 
 static void print_size(const char *what, bool is_known, uint64_t size) {
@@ -271,13 +287,12 @@ static void print_size(const char *what, bool is_known, uint64_t size) {
 }
 
 static bool print_lane(uint64_t stream, int side) {
-  gv_lane from = {0}, to = {0};
-  bool has_from = report_of(side, stream, &from) && from.has_sending;
-  bool has_to = report_of(1 - side, stream, &to) && to.has_receiving;
+  lane from = report_of(side, stream), to = report_of(1 - side, stream);
+  bool has_from = from.has_sending, has_to = to.has_receiving;
   if (!has_from && !has_to) return false;
   print("lane %c %" PRIu64 " written %" PRIu64, "AB"[side], stream, has_from ? from.sending.written : 0);
   print(" read %" PRIu64, has_to ? to.receiving.read_count : 0);
-  print(" received %s", has_from && from.sending.state == GV_DATA_RECVD ? "yes" : "no");
+  print(" received %s", has_from && from.sending.state == GV_SEND_STATE_DATA_RECVD ? "yes" : "no");
   print_size("declared", has_from && from.sending.has_final_size, from.sending.final_size);
   print_size("known", has_to && to.receiving.has_final_size, to.receiving.final_size);
   print("\n");
@@ -295,7 +310,7 @@ static void report(void) {
   }
   for (int side = 0; side < 2; side++) {
     uint64_t spent = 0, granted = 0, stored = 0;
-    gv_closing_info closing;
+    gv_closing_info closing = {.size = sizeof closing};
     check(gv_spent(ends[side], &spent) == GV_OK, "spent");
     check(gv_granted(ends[side], &granted) == GV_OK, "granted");
     check(gv_stored(ends[side], &stored) == GV_OK, "stored");
@@ -391,10 +406,10 @@ static bool split(char *line, char *words[WORDS]) {
 }
 
 static void start(uint64_t grant, uint64_t lifetime) {
-  gv_settings settings = {4096, 1024, 1024, 1024, 2048, grant, grant, lifetime, lifetime};
-  gv_limits limits = {4096, 1024, 1024, 1024, grant, grant};
-  check(gv_endpoint_new(GV_CLIENT, &settings, &limits, &ends[0]) == GV_OK, "the client");
-  check(gv_endpoint_new(GV_SERVER, &settings, &limits, &ends[1]) == GV_OK, "the server");
+  gv_settings settings = {sizeof settings, 4096, 1024, 1024, 1024, 2048, grant, grant, lifetime, lifetime};
+  gv_limits limits = {sizeof limits, 4096, 1024, 1024, 1024, grant, grant};
+  check(gv_endpoint_new(GV_ROLE_CLIENT, &settings, &limits, &ends[0]) == GV_OK, "the client");
+  check(gv_endpoint_new(GV_ROLE_SERVER, &settings, &limits, &ends[1]) == GV_OK, "the server");
 }
 
 static void finish(char *script) {

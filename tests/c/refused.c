@@ -1,16 +1,11 @@
 /* Each allocation of a transfer between two ends is refused, one after the other: a call that wants memory answers GV_NO_MEMORY, may
- * be made again, and every byte comes out right. It is linked with --wrap=malloc and --wrap=realloc. */
+ * be made again, and every byte comes out right. Once memory comes anew where it grows, and once it is made larger. */
 #include <stdio.h>
 #include <stdlib.h>
 
 #include "gotsavena.h"
 
 enum { TOTAL = 20000, ROOM = 600 };
-
-void *__real_malloc(size_t size);
-void *__real_realloc(void *at, size_t size);
-void *__wrap_malloc(size_t size);
-void *__wrap_realloc(void *at, size_t size);
 
 static unsigned long asked, refused_one, refusals;
 
@@ -21,9 +16,27 @@ static bool is_refused(void) {
   return true;
 }
 
-void *__wrap_malloc(size_t size) { return is_refused() ? NULL : __real_malloc(size); }
+static void *allocate(void *context, size_t size, size_t align) {
+  (void)context;
+  (void)align;
+  return is_refused() ? NULL : malloc(size);
+}
 
-void *__wrap_realloc(void *at, size_t size) { return is_refused() ? NULL : __real_realloc(at, size); }
+static void *reallocate(void *context, void *at, size_t old_size, size_t new_size, size_t align) {
+  (void)context;
+  (void)old_size;
+  (void)align;
+  return is_refused() ? NULL : realloc(at, new_size);
+}
+
+static void release(void *context, void *at, size_t size, size_t align) {
+  (void)context;
+  (void)size;
+  (void)align;
+  free(at);
+}
+
+static gv_allocator allocator = {sizeof allocator, NULL, allocate, reallocate, release};
 
 static unsigned long answered;
 
@@ -42,12 +55,12 @@ static void want(gv_status status, gv_status wanted, const char *what) {
 
 static uint8_t byte_at(size_t offset) { return (uint8_t)(offset * 31 + (offset >> 8)); }
 
-static gv_endpoint *new_end(uint32_t role) {
-  gv_settings settings = {8192, 4096, 4096, 4096, 4096, 8, 8, 8, 8};
-  gv_limits limits = {8192, 4096, 4096, 4096, 8, 8};
+static gv_endpoint *new_end(gv_role role) {
+  gv_settings settings = {sizeof settings, 8192, 4096, 4096, 4096, 4096, 8, 8, 8, 8};
+  gv_limits limits = {sizeof limits, 8192, 4096, 4096, 4096, 8, 8};
   gv_endpoint *end = NULL;
   gv_status status;
-  AGAIN(status, gv_endpoint_new(role, &settings, &limits, &end));
+  AGAIN(status, gv_endpoint_new_with(role, &settings, &limits, &allocator, &end));
   want(status, GV_OK, "new");
   return end;
 }
@@ -55,14 +68,13 @@ static gv_endpoint *new_end(uint32_t role) {
 /* Each third packet is lost. */
 static bool carry(gv_endpoint *from, gv_endpoint *to) {
   uint8_t payload[ROOM];
-  gv_made made;
-  gv_closing_info closing;
+  gv_made made = {.size = sizeof made};
   gv_status status;
   AGAIN(status, gv_make_packet(from, payload, sizeof payload, &made));
   if (status == GV_NONE) return false;
   want(status, GV_OK, "make");
   if (made.number % 3 != 1) {
-    AGAIN(status, gv_receive(to, made.number, payload, made.len, &closing));
+    AGAIN(status, gv_receive(to, made.number, payload, made.len));
     want(status, GV_OK, "receive");
   } else if (made.is_ack_eliciting) {
     AGAIN(status, gv_declare_lost(from, made.number));
@@ -84,24 +96,24 @@ static size_t write_some(gv_endpoint *end, uint64_t stream, size_t sent) {
 
 static bool read_some(gv_endpoint *end, uint64_t stream, size_t *got) {
   uint8_t bytes[700];
-  uint64_t count;
+  size_t count;
   gv_status status;
   for (;;) {
-    AGAIN(status, gv_read(end, stream, bytes, sizeof bytes, &count));
+    AGAIN(status, gv_read(end, stream, bytes, sizeof bytes, &count, NULL));
     if (status != GV_OK) break;
-    for (uint64_t i = 0; i < count; i++)
+    for (size_t i = 0; i < count; i++)
       if (bytes[i] != byte_at((*got)++)) want(GV_INVALID, GV_OK, "byte");
   }
-  if (status != GV_WAIT) want(status, GV_END, "read");
-  return status == GV_END;
+  if (status != GV_NOTHING_YET) want(status, GV_END_OF_STREAM, "read");
+  return status == GV_END_OF_STREAM;
 }
 
 static void transfer(void) {
-  gv_endpoint *client = new_end(GV_CLIENT), *server = new_end(GV_SERVER);
+  gv_endpoint *client = new_end(GV_ROLE_CLIENT), *server = new_end(GV_ROLE_SERVER);
   uint64_t stream, other = 0;
   size_t sent = 0, got = 0;
   gv_status status;
-  AGAIN(status, gv_open(client, GV_BIDI, &stream));
+  AGAIN(status, gv_open(client, GV_DIR_BIDI, &stream, NULL));
   want(status, GV_OK, "open");
   for (bool is_open = false, is_over = false; !is_over;) {
     if (sent < TOTAL) sent = write_some(client, stream, sent);
@@ -114,13 +126,21 @@ static void transfer(void) {
   gv_endpoint_free(server);
 }
 
-int main(void) {
+static bool refuse_each(void) {
+  unsigned long all, before = refusals;
+  refused_one = asked = 0;
   transfer();
-  unsigned long all = asked;
+  all = asked;
   for (refused_one = 1; refused_one <= all; refused_one++) {
     asked = 0;
     transfer();
   }
-  printf("%lu allocations, each refused once: %lu refusals, %lu calls without memory\n", all, refusals, answered);
-  return refusals == all ? 0 : 1;
+  printf("%lu allocations, each refused once: %lu refusals, %lu calls without memory\n", all, refusals - before, answered);
+  return refusals - before == all;
+}
+
+int main(void) {
+  bool is_good = refuse_each();
+  allocator.reallocate = NULL;
+  return refuse_each() && is_good ? 0 : 1;
 }

@@ -1,0 +1,131 @@
+/* Structs that may grow, each with bytes behind it that no call may touch: of this header, or with GROWN of one whose structs have one
+ * field more. `grown later` runs over a library that has that field, `grown` over one that hasn't. What it prints is the same for all. */
+#include <inttypes.h>
+#include <stdio.h>
+#include <stdlib.h>
+#include <string.h>
+
+#include "gotsavena.h"
+
+enum { BEHIND = 64, UNTOUCHED = 0xa5 };
+
+static bool has_later; /* whether the library has the field */
+
+static void check(bool holds, const char *what) {
+  if (holds) return;
+  fprintf(stderr, "%s\n", what);
+  exit(1);
+}
+
+static void *block_of(size_t size) {
+  uint8_t *at = malloc(size + BEHIND);
+  check(at != NULL, "memory");
+  memset(at, UNTOUCHED, size + BEHIND);
+  memcpy(at, &size, sizeof size);
+  return at;
+}
+
+/* The bytes behind a struct are as they were; then it goes. */
+static void drop(void *at, size_t size) {
+  for (size_t i = 0; i < BEHIND; i++) check(((uint8_t *)at)[size + i] == UNTOUCHED, "a call wrote behind a struct");
+  free(at);
+}
+
+#define NEW(type) ((type *)block_of(sizeof(type)))
+
+#ifdef GROWN
+/* A field that the library doesn't know is left alone. */
+#define LATER(at) check((at)->later == (has_later ? 0 : UINT64_C(0xa5a5a5a5a5a5a5a5)), "the later field")
+#else
+#define LATER(at) (void)has_later
+#endif
+#define DROP(at) (LATER(at), drop((at), sizeof *(at)))
+
+static gv_endpoint *new_end(gv_role role, uint64_t grant) {
+  gv_settings *settings = block_of(sizeof *settings);
+  gv_limits *limits = block_of(sizeof *limits), *none = block_of(sizeof *none);
+  gv_endpoint *end = NULL;
+  check(gv_settings_init(settings, sizeof *settings) == GV_OK && settings->size == sizeof *settings, "settings");
+  check(gv_limits_init(none, sizeof *none) == GV_OK && none->max_data == 0 && none->streams_uni == 0, "limits of nothing");
+  settings->grant_bidi = grant;
+  memset((uint8_t *)limits + sizeof(size_t), 0, sizeof *limits - sizeof(size_t));
+  check(gv_limits_of(settings, limits) == GV_OK && limits->streams_bidi == grant && limits->max_data == settings->conn_window, "limits");
+#ifdef GROWN
+  settings->later = 1;
+  check(gv_endpoint_new(role, settings, limits, &end) == (has_later ? GV_OK : GV_INVALID), "a setting that isn't known");
+  gv_endpoint_free(end);
+  settings->later = 0;
+#endif
+  check(gv_endpoint_new(role, settings, limits, &end) == GV_OK && gv_raise_limits(end, limits) == GV_OK, "an end");
+  settings->size = 79;
+  check(gv_endpoint_new(role, settings, limits, &end) == GV_INVALID, "too small a struct");
+  settings->size = 4097;
+  check(gv_endpoint_new(role, settings, limits, &end) == GV_INVALID, "too great a struct");
+  drop(settings, sizeof *settings);
+  drop(limits, sizeof *limits);
+  drop(none, sizeof *none);
+  return end;
+}
+
+static void of_packets(gv_endpoint *from, gv_endpoint *to, uint64_t stream) {
+  uint8_t payload[1200];
+  gv_made *made = NEW(gv_made);
+  gv_sending *sending = NEW(gv_sending);
+  gv_receiving *receiving = NEW(gv_receiving);
+  size_t size = made->size;
+  made->size = 31;
+  check(gv_make_packet(from, payload, sizeof payload, made) == GV_INVALID, "a struct without room");
+  made->size = size;
+  check(gv_make_packet(from, payload, sizeof payload, made) == GV_OK && made->size == size, "a packet");
+  printf("packet %" PRIu64 " of %zu bytes, asks %d\n", made->number, made->len, made->is_ack_eliciting);
+  check(gv_receive(to, made->number, payload, made->len) == GV_OK, "receive");
+  check(gv_sending_report(from, stream, sending) == GV_OK && gv_receiving_report(to, stream, receiving) == GV_OK, "reports");
+  printf("sending: state %d, written %" PRIu64 ", limit %" PRIu64 "\n", (int)sending->state, sending->written, sending->limit);
+  printf("receiving: state %d, highest %" PRIu64 ", size known %d\n", (int)receiving->state, receiving->highest, receiving->has_final_size);
+  DROP(made);
+  DROP(sending);
+  DROP(receiving);
+}
+
+static void of_frames(void) {
+  static const uint8_t payload[] = {0x18, 0x05, 0x02, 0x01, 0x77, 1, 2, 3, 4, 5, 6, 7, 8, 9, 10, 11, 12, 13, 14, 15, 16, 0xff};
+  gv_frame *frame = NEW(gv_frame);
+  gv_fault *fault = NEW(gv_fault);
+  gv_frames frames = {payload, sizeof payload, 0};
+  uint8_t out[64];
+  size_t len = 0;
+  check(gv_frames_next(&frames, frame, fault) == GV_OK, "a frame");
+  printf("frame %d: sequence %" PRIu64 ", identifier %02x, token %d\n", (int)frame->kind, frame->sequence, frame->bytes[0], frame->token[15]);
+  LATER(frame);
+#ifdef GROWN
+  frame->later = 0;
+#endif
+  check(gv_put(frame, out, sizeof out, &len) == GV_OK && len == 21 && memcmp(out, payload, len) == 0, "it is written");
+  check(gv_frames_next(&frames, frame, fault) == GV_BAD_FRAME, "a fault");
+  printf("fault %d at %zu, code %" PRIu64 "\n", (int)fault->kind, fault->place, fault->code);
+  drop(frame, sizeof *frame);
+  DROP(fault);
+}
+
+static void of_closing(gv_endpoint *end) {
+  static const uint8_t payload[] = {0x01, 0xff};
+  gv_closing_info *closing = NEW(gv_closing_info);
+  check(gv_receive(end, 77, payload, sizeof payload) == GV_PROTOCOL_ERROR && gv_closing(end, closing) == GV_OK, "closing");
+  printf("closing %" PRIu64 " of type %" PRIu64 " at %zu\n", closing->code, closing->frame_type, closing->place);
+  DROP(closing);
+}
+
+int main(int count, char **words) {
+  uint64_t stream = 0;
+  size_t taken = 0;
+  has_later = count > 1 && strcmp(words[1], "later") == 0;
+  gv_endpoint *client = new_end(GV_ROLE_CLIENT, 3), *server = new_end(GV_ROLE_SERVER, 3);
+  check(gv_open(client, GV_DIR_BIDI, &stream, NULL) == GV_OK, "open");
+  check(gv_write(client, stream, (const uint8_t *)"hello", 5, &taken) == GV_OK && gv_finish(client, stream) == GV_OK, "write");
+  of_packets(client, server, stream);
+  of_frames();
+  of_closing(server);
+  gv_endpoint_free(client);
+  gv_endpoint_free(server);
+  return 0;
+}

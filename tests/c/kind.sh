@@ -1,0 +1,197 @@
+# Read by tests/c/run, for each kind of library: what is built in c/build/KIND is used. Its reader sets root, tests, work, kind, qstream, C,
+# strict, warned and sanitize, and has try and has.
+# shellcheck shell=bash
+# shellcheck disable=SC2154  # (see above)
+libs=$root/c/build/$kind
+archive=$libs/libgotsavena.a
+shared=$libs/libgotsavena.so
+room=$work/$kind
+below=$libs/cargo/c/libgotsavena_c.a
+if [ "$kind" = proved ]; then below=$root/crates/qs_c/out/libqs_c.a; fi
+
+# What can be seen from without is what the header declares, and nothing else.
+sed -n 's/^GV_API .*\b\(gv_[a-z_]*\)(.*/\1/p' "$root/c/include/gotsavena.h" | sort >"$room/wanted"
+names() { awk '$2 ~ /[A-Z]/ { print $3 }' | sort | cmp - "$room/wanted"; }
+seen_in_archive() { nm -g --defined-only "$archive" | grep -v '^$\|:$' | names; }
+seen_in_shared() { nm -D --defined-only "$shared" | names; }
+in_symbols() { sed -n 's/^ \(gv_[a-z_]*\)@Base .*/\1/p' "$root/debian/libgotsavena0.symbols" | sort | cmp - "$room/wanted"; }
+try 'what the archive shows' seen_in_archive
+try 'what the shared library shows' seen_in_shared
+try 'what the list of symbols has' in_symbols
+has_soname() { readelf -d "$shared" >"$room/dynamic" && grep -q 'SONAME.*\[libgotsavena\.so\.0\]' "$room/dynamic" && ! grep -q TEXTREL "$room/dynamic"; }
+try 'the name of the shared library, and no text that moves' has_soname
+
+# With the C of the library under the sanitizers, too.
+for name in calls memory about; do
+  try "src/$name.c" "$C" "${strict[@]}" -DGV_KIND="\"$kind\"" "${sanitize[@]}" -c "$root/c/src/$name.c" -o "$room/$name.o"
+done
+compile() {
+  local name
+  name=$(basename "$1" .c)
+  shift
+  try "$name.c" "$C" "${strict[@]}" "${sanitize[@]}" "$@" "$room/calls.o" "$room/memory.o" "$room/about.o" "$below" -o "$room/$name"
+}
+compile pipe "$root/c/examples/pipe.c"
+compile udp_copy "$root/c/examples/udp_copy.c"
+compile frames "$root/c/examples/frames.c"
+compile arguments "$tests/arguments.c"
+compile written "$tests/written.c"
+compile play "$tests/play.c"
+compile payloads "$root/c/fuzz/payloads.c"
+compile refused "$tests/refused.c"
+compile allocators "$tests/allocators.c" -pthread -Wl,--wrap=malloc -Wl,--wrap=realloc
+for name in pipe arguments written refused allocators; do
+  try "$name" timeout 300 "$room/$name"
+done
+try 'payloads' timeout 300 "$room/payloads" "$root"/c/fuzz/inputs/*
+
+# Over the libraries as they are: the archive, and the shared one.
+plain() {
+  local name=$1
+  shift
+  try "$name over the archive" "$C" "${strict[@]}" "$@" "$archive" -o "$room/$name-a"
+  try "$name over the shared library" "$C" "${strict[@]}" "$@" "-L$libs" -lgotsavena "-Wl,-rpath,$libs" -o "$room/$name-so"
+}
+sed -n '/^```c$/,/^```$/p' "$root/README.md" | sed '/^```/d' >"$room/readme.c"
+plain readme "$room/readme.c"
+plain pipe "$root/c/examples/pipe.c"
+plain refused "$tests/refused.c"
+says_hello() { [ "$("$1")" = hello ]; }
+for form in a so; do
+  try "what the README prints ($form)" says_hello "$room/readme-$form"
+  for name in pipe refused; do
+    if has valgrind "$name under valgrind"; then
+      try "$name under valgrind ($form)" timeout 600 valgrind -q --error-exitcode=1 --leak-check=full "$room/$name-$form"
+    fi
+  done
+done
+if has g++ 'a program in C++'; then
+  try 'plus.cpp' g++ -std=c++17 "${warned[@]}" "$tests/plus.cpp" "$archive" -o "$room/plus"
+  try 'a program in C++' "$room/plus"
+fi
+if has rustc 'another library of Rust beside'; then
+  try 'another library of Rust' rustc --edition 2024 -O --crate-type staticlib "$tests/beside.rs" -o "$room/libbeside.a"
+  for order in "$archive $room/libbeside.a" "$room/libbeside.a $archive"; do
+    # shellcheck disable=SC2086  # (two words)
+    try 'a program over both' "$C" "${strict[@]}" "$tests/beside.c" $order -lpthread -ldl -lm -o "$room/beside"
+    try 'which runs' env RUST_BACKTRACE=0 "$room/beside"
+  done
+fi
+
+# A header and a library of a later version, whose structs have one field more: each program runs over each library.
+later=$room/later
+mkdir -p "$later/include" "$later/src"
+cp "$root"/c/src/*.[ch] "$later/src"
+sed 's/^} gv_\(settings\|limits\|allocator\|made\|sending\|receiving\|closing_info\|frame\|fault\);/  uint64_t later;\n&/' "$root/c/include/gotsavena.h" >"$later/include/gotsavena.h"
+sed -i 's/^ENDS_WITH(\([a-z_]*\), .*/ENDS_WITH(\1, later);/' "$later/src/calls.c"
+has_grown() { [ "$(grep -c '^  uint64_t later;' "$later/include/gotsavena.h")" = 9 ] && [ "$(grep -c ', later);' "$later/src/calls.c")" = 9 ]; }
+try 'nine structs of the later header have one field more' has_grown
+make_later() {
+  local name
+  for name in calls memory about; do
+    "$C" -std=c11 -O2 -g -fPIC -fvisibility=hidden -DGV_KIND="\"$kind\"" -I"$later/include" -c "$later/src/$name.c" -o "$later/$name.o" || return 1
+  done
+  ld -r -o "$later/all.o" "$later"/{calls,memory,about}.o "$below" && objcopy --keep-global-symbols="$libs/names" "$later/all.o" &&
+    "$C" -shared -Wl,-soname,libgotsavena.so.0 -o "$later/libgotsavena.so.0" "$later/all.o"
+}
+try 'the later library' make_later
+try 'a program of this header' "$C" "${strict[@]}" "$tests/grown.c" "-L$libs" -lgotsavena -o "$room/grown"
+try 'a program of the later header' "$C" -std=c11 -g -DGROWN "-I$later/include" "$tests/grown.c" "-L$libs" -lgotsavena -o "$later/grown"
+checked=()
+if has valgrind 'structs under valgrind'; then checked=(valgrind -q --error-exitcode=1); fi
+# over FOLDER PROGRAM WORD ..: what the program prints over the library there.
+over() {
+  LD_LIBRARY_PATH=$1 "${checked[@]}" "${@:2}" >"$room/answers" && [ -s "$room/answers" ] && cmp "$room/answers" "$room/grown.wanted"
+}
+LD_LIBRARY_PATH=$libs "$room/grown" >"$room/grown.wanted"
+try 'this header over this library' over "$libs" "$room/grown"
+try 'this header over the later library' over "$later" "$room/grown" later
+try 'the later header over this library' over "$libs" "$later/grown"
+try 'the later header over the later library' over "$later" "$later/grown" later
+if has abidiff 'that no symbol goes'; then
+  none_went() { abidiff "$shared" "$later/libgotsavena.so.0" >"$room/abi"; grep -q 'Functions changes summary: 0 Removed' "$room/abi"; }
+  try 'no symbol goes' none_went
+fi
+
+# What `qstream play` prints of a script.
+play() {
+  local script=$1 wanted=0 got=0
+  shift
+  "$qstream" play "$script" >"$work/wanted" || wanted=$?
+  "$room/play" "$@" <"$script" >"$work/got" || got=$?
+  [ "$wanted" = "$got" ] && cmp "$work/wanted" "$work/got"
+}
+play_random() {
+  local seed
+  for seed in $(seq 200); do
+    "$qstream" random "$seed" $((50 + seed % 7 * 75)) >"$work/script" || return 1
+    play "$work/script" || { echo "of seed $seed"; return 1; }
+  done
+}
+# What `qstream frames` prints of each payload; `-` is the one of no byte.
+show() {
+  local hex=$1 wanted=0 got=0
+  if [ "$hex" = - ]; then hex=; fi
+  "$qstream" frames "$hex" >"$work/wanted" || wanted=$?
+  "$room/frames" "$hex" >"$work/got" || got=$?
+  [ "$wanted" = "$got" ] && cmp "$work/wanted" "$work/got"
+}
+if [ -n "$qstream" ]; then
+  try '200 random scripts' play_random
+  for script in "$tests"/scripts/*; do
+    try "the script $(basename "$script")" play "$script"
+  done
+  while read -r payload; do
+    try "the frames of $payload" show "$payload"
+  done <"$tests/payloads"
+fi
+
+# 8 MiB over the loopback, with datagrams lost, repeated and reordered at both ends.
+copy_over_udp() {
+  local port=$((20000 + RANDOM % 20000)) bad=(--lose 5 --repeat 1 --reorder 5) receiver
+  head -c 8388608 /dev/urandom >"$work/file"
+  timeout 100 "$room/udp_copy" "${bad[@]}" receive "$work/copy" "$port" &
+  receiver=$!
+  sleep 0.5
+  timeout 100 "$room/udp_copy" "${bad[@]}" send "$work/file" 127.0.0.1 "$port" && wait "$receiver" && cmp "$work/file" "$work/copy"
+}
+try 'a copy over UDP' copy_over_udp
+
+# Installed, used by pkg-config and by CMake, and taken away.
+usr=$room/usr
+try 'lib/' make -s -C "$root/c" PROVED="$is_proved"
+try 'install' make -s -C "$root/c" install "PREFIX=$usr"
+if has pkg-config 'a program by pkg-config'; then
+  by_pkg_config() {
+    local -x PKG_CONFIG_PATH=$usr/lib/pkgconfig
+    [ "$(pkg-config --variable=build gotsavena)" = "$kind" ] && [ "$(pkg-config --modversion gotsavena)" = 0.1.0 ] || return 1
+    # shellcheck disable=SC2046  # (words)
+    "$C" -std=c11 "$root/c/examples/pipe.c" $(pkg-config --cflags --libs gotsavena) "-Wl,-rpath,$usr/lib" -o "$room/by-pkg-config" &&
+      "$C" -std=c11 -static "$root/c/examples/pipe.c" $(pkg-config --static --cflags --libs gotsavena) -o "$room/by-pkg-config-static" &&
+      "$room/by-pkg-config" && "$room/by-pkg-config-static"
+  }
+  try 'programs by pkg-config' by_pkg_config
+fi
+if has cmake 'a program by CMake'; then
+  by_cmake() {
+    cmake -S "$tests/cmake" -B "$room/$1" "${@:2}" && cmake --build "$room/$1" && "$room/$1/pipe" && "$room/$1/pipe-static"
+  }
+  try 'a program by CMake, of what make installed' by_cmake found "-DCMAKE_PREFIX_PATH=$usr"
+  if [ "$kind" = erased ]; then
+    try 'a program by CMake, of the sources' by_cmake beneath "-DGOTSAVENA_SOURCE=$root/c"
+    try 'install by CMake' cmake --install "$room/beneath" --prefix "$room/by-cmake"
+    try 'a program by CMake, of what CMake installed' by_cmake again "-DCMAKE_PREFIX_PATH=$room/by-cmake"
+  fi
+fi
+python=/usr/bin/python3
+if [ -x "$python" ] && "$python" -c 'import cffi' 2>/dev/null; then
+  in_python() {
+    [ "$(GOTSAVENA_HEADER=$usr/include/gotsavena.h GOTSAVENA_LIBRARY=$usr/lib/libgotsavena.so.0 PYTHONDONTWRITEBYTECODE=1 "$python" "$root/c/python/hello.py")" = "hello $kind" ]
+  }
+  try 'the example in Python' in_python
+else
+  echo 'skipped: the example in Python (no python3-cffi)'
+fi
+try 'uninstall' make -s -C "$root/c" uninstall "PREFIX=$usr"
+nothing_left() { [ -z "$(find "$usr" ! -type d)" ]; }
+try 'nothing is left' nothing_left
