@@ -1,5 +1,7 @@
 /* What a caller may not pass is answered with GV_INVALID, and nothing changes. */
 #include <stdio.h>
+#include <stdlib.h>
+#include <string.h>
 
 #include "gotsavena.h"
 
@@ -9,6 +11,56 @@ static void want(gv_status status, gv_status wanted, const char *what) {
   if (status == wanted) return;
   fprintf(stderr, "%s: %s, not %s\n", what, gv_strerror(status), gv_strerror(wanted));
   failed = 1;
+}
+
+static void *no_memory(void *context, size_t size, size_t align) {
+  (void)context;
+  (void)size;
+  (void)align;
+  return NULL;
+}
+
+static void no_release(void *context, void *at, size_t size, size_t align) {
+  (void)context;
+  (void)at;
+  (void)size;
+  (void)align;
+  abort();
+}
+
+/* The library as a whole, structs that are set up, and allocators. */
+static void beside_ends(void) {
+  gv_settings settings;
+  gv_limits limits = {.size = sizeof limits};
+  gv_allocator from = {.size = sizeof from, .allocate = no_memory, .release = no_release};
+  gv_endpoint *end = NULL;
+  want(gv_version() == GV_VERSION ? GV_OK : GV_INVALID, GV_OK, "version");
+  want(strcmp(gv_build(), "proved") == 0 || strcmp(gv_build(), "erased") == 0 ? GV_OK : GV_INVALID, GV_OK, "build");
+  want(strcmp(gv_strerror((gv_status)999), gv_strerror(GV_OK)) != 0 ? GV_OK : GV_INVALID, GV_OK, "words of no status");
+  want(gv_settings_init(NULL, sizeof settings), GV_INVALID, "no settings");
+  want(gv_settings_init(&settings, sizeof settings - 1), GV_INVALID, "small settings");
+  want(gv_settings_init(&settings, sizeof settings), GV_OK, "settings");
+  want(gv_limits_init(NULL, sizeof limits), GV_INVALID, "no limits");
+  want(gv_limits_init(&limits, sizeof limits - 1), GV_INVALID, "small limits");
+  want(gv_limits_of(NULL, &limits), GV_INVALID, "limits of nothing");
+  want(gv_limits_of(&settings, NULL), GV_INVALID, "limits to null");
+  limits.size = 0;
+  want(gv_limits_of(&settings, &limits), GV_INVALID, "limits without a size");
+  limits.size = sizeof limits;
+  want(gv_limits_of(&settings, &limits), GV_OK, "limits");
+  want(limits.streams_bidi == 100 && limits.bidi_local == 1 << 18 ? GV_OK : GV_INVALID, GV_OK, "which they are");
+  want(gv_endpoint_new_with(GV_ROLE_CLIENT, &settings, &limits, &from, &end), GV_NO_MEMORY, "no memory");
+  from.allocate = NULL;
+  want(gv_endpoint_new_with(GV_ROLE_CLIENT, &settings, &limits, &from, &end), GV_INVALID, "no function that gives memory");
+  from.allocate = no_memory;
+  from.release = NULL;
+  want(gv_endpoint_new_with(GV_ROLE_CLIENT, &settings, &limits, &from, &end), GV_INVALID, "no function that takes it back");
+  from.release = no_release;
+  from.size = 8;
+  want(gv_endpoint_new_with(GV_ROLE_CLIENT, &settings, &limits, &from, &end), GV_INVALID, "a small allocator");
+  want(end == NULL ? GV_OK : GV_INVALID, GV_OK, "no end was made");
+  want(gv_endpoint_new_with(GV_ROLE_SERVER, &settings, &limits, NULL, &end), GV_OK, "memory of the C library");
+  gv_endpoint_free(end);
 }
 
 int main(void) {
@@ -27,6 +79,7 @@ int main(void) {
   static const uint8_t stream_frame[] = {0x08, 0x06, 0x61};
   static const uint8_t ack_of_2[] = {0x02, 0x02, 0x00, 0x00, 0x00};
   static const uint8_t stops[] = {0x05, 0x02, 0x07, 0x05, 0x02, 0x08};
+  beside_ends();
   want(gv_endpoint_new((gv_role)2, &settings, &limits, &end), GV_INVALID, "role");
   want(gv_endpoint_new(GV_ROLE_CLIENT, NULL, &limits, &end), GV_INVALID, "no settings");
   settings.conn_window = 0;
