@@ -1,6 +1,6 @@
 /* Two ends, each with an allocator of its own that counts, are handed from thread to thread: each byte goes back where it was taken, with
- * the size and the alignment that it was asked for with, on the thread of the call. It is linked with --wrap=malloc and --wrap=realloc:
- * the library takes no memory beside. */
+ * the size and the alignment that it was asked for with, on the thread of the call. Now and then an allocator makes an end of its own, in
+ * the middle of the call that it serves. It is linked with --wrap=malloc and --wrap=realloc: the library takes no memory beside. */
 #include <pthread.h>
 #include <stdio.h>
 #include <stdlib.h>
@@ -51,9 +51,12 @@ static void take_part(pool *own) {
   check(own->is_in_call && pthread_equal(own->thread, pthread_self()), "memory is asked for by a call of the end, on its thread");
 }
 
+static void use_another_end(void);
+
 static void *allocate(void *context, size_t size, size_t align) {
   pool *own = context;
   take_part(own);
+  if (own->calls % 16 == 1) use_another_end();
   check(size > 0 && align > 0 && align <= _Alignof(max_align_t), "a size and an alignment");
   head *at = __real_malloc(sizeof *at + size);
   if (at == NULL) return NULL;
@@ -85,7 +88,8 @@ static void *reallocate(void *context, void *at, size_t old_size, size_t new_siz
   return found;
 }
 
-static pool pools[2];
+/* The last one is that of the ends which the others make. */
+static pool pools[3];
 static gv_endpoint *ends[2];
 static uint64_t streams[STREAMS];
 static size_t sent[STREAMS], got[STREAMS], all_sent;
@@ -107,6 +111,21 @@ static void make_end(int side) {
   check(gv_settings_init(&settings, sizeof settings) == GV_OK && gv_limits_of(&settings, &limits) == GV_OK, "settings");
   gv_role role = side == 0 ? GV_ROLE_CLIENT : GV_ROLE_SERVER;
   check(CALL(side, gv_endpoint_new_with(role, &settings, &limits, &from, &ends[side])) == GV_OK, "an end");
+}
+
+static void use_another_end(void) {
+  gv_settings settings;
+  gv_limits limits = {.size = sizeof limits};
+  gv_allocator from = {sizeof from, &pools[2], allocate, reallocate, release};
+  gv_endpoint *end = NULL;
+  uint64_t stream;
+  if (pools[2].is_in_call) return;
+  check(gv_settings_init(&settings, sizeof settings) == GV_OK && gv_limits_of(&settings, &limits) == GV_OK, "settings");
+  check(CALL(2, gv_endpoint_new_with(GV_ROLE_CLIENT, &settings, &limits, &from, &end)) == GV_OK, "another end");
+  check(CALL(2, gv_open(end, GV_DIR_UNI, &stream, NULL)) == GV_OK, "open");
+  pools[2].is_in_call = true;
+  gv_endpoint_free(end);
+  pools[2].is_in_call = false;
 }
 
 static void write_some(size_t i) {
@@ -173,7 +192,7 @@ int main(void) {
   for (int i = 0; i < ROUNDS; i++) on_a_thread(round_of);
   check(all_sent > TOTAL && pools[0].most > 100000 && pools[1].most > 10000, "memory was taken");
   on_a_thread(free_both);
-  for (int side = 0; side < 2; side++) {
+  for (int side = 0; side < 3; side++) {
     check(pools[side].blocks == 0 && pools[side].bytes == 0, "each byte was given back");
     printf("end %d: %zu calls of its allocator, at most %zu bytes\n", side, pools[side].calls, pools[side].most);
   }
