@@ -56,10 +56,11 @@ sed -n '/^```c$/,/^```$/p' "$root/README.md" | sed '/^```/d' >"$room/readme.c"
 plain readme "$room/readme.c"
 plain pipe "$root/c/examples/pipe.c"
 plain refused "$tests/refused.c"
+plain allocators "$tests/allocators.c" -pthread -Wl,--wrap=malloc -Wl,--wrap=realloc
 says_hello() { [ "$("$1")" = hello ]; }
 for form in a so; do
   try "what the README prints ($form)" says_hello "$room/readme-$form"
-  for name in pipe refused; do
+  for name in pipe refused allocators; do
     if has valgrind "$name under valgrind"; then
       try "$name under valgrind ($form)" timeout 600 valgrind -q --error-exitcode=1 --leak-check=full "$room/$name-$form"
     fi
