@@ -1,8 +1,8 @@
 //! The calls `gvp_*`, over which `c/src/calls.c` offers the library for C: those of `crates/qs_c`, **the proved source with its ghosts
 //! erased**. `c/src/proved.h` declares them.
 //!
-//! `unsafe` stands here alone, where C's pointers are read ([`exports`]), where memory comes from C ([`memory`]), and where an end is held by
-//! its address (`shim::Box`). Nothing else of C's is read or called, and nothing of std is in it.
+//! `unsafe` stands in this package alone: where C's pointers are read ([`exports`]), where memory comes from C ([`memory`]), where a box is
+//! made of its address (`shim::Box`), and where the proved source does that (`loose`). Nothing of std is in it.
 #![no_std]
 #![deny(missing_docs)]
 
