@@ -1,9 +1,10 @@
 //! Loss detection (RFC 9002, sections 5 and 6): which packets are in flight, which are acknowledged or lost, the round trip's
 //! time, and when to probe.
 
-use crate::congestion::NewReno;
+use crate::congestion::{Cubic, first_window};
+use crate::pacing::Pacer;
 use crate::packet::Level;
-use std::collections::BTreeMap;
+use std::collections::{BTreeMap, BTreeSet};
 use std::ops::Range;
 use std::time::{Duration, Instant};
 
@@ -51,6 +52,8 @@ struct Space {
     largest_acked: Option<u64>,
     last_asked: Option<Instant>,
     lost_at: Option<Instant>,
+    /// Numbers above the lowest one in flight that were acknowledged.
+    acked: BTreeSet<u64>,
 }
 
 /// What the timers depend on beside the packets.
@@ -67,7 +70,8 @@ pub struct Standing {
 #[derive(Debug)]
 pub struct Recovery {
     spaces: [Space; 3],
-    pub congestion: NewReno,
+    pub congestion: Cubic,
+    pacer: Pacer,
     latest: Duration,
     smoothed: Duration,
     variation: Duration,
@@ -77,11 +81,43 @@ pub struct Recovery {
     first_sample: Option<Instant>,
 }
 
+impl Space {
+    // Answers the largest number that is acknowledged.
+    fn take_acked(
+        &mut self,
+        ranges: impl Iterator<Item = (u64, u64)>,
+        news: &mut News,
+    ) -> Option<u64> {
+        let mut largest = None;
+        for (low, high) in ranges {
+            largest = largest.max(Some(high));
+            let numbers: Vec<u64> = self.sent.range(low..=high).map(|(n, _)| *n).collect();
+            for number in numbers {
+                if let Some(sent) = self.sent.remove(&number) {
+                    self.asking -= usize::from(sent.asks);
+                    self.acked.insert(number);
+                    news.acked.push((number, sent));
+                }
+            }
+        }
+        self.largest_acked = self.largest_acked.max(largest);
+        largest
+    }
+
+    fn let_acked_go(&mut self) {
+        self.acked = match self.sent.keys().next() {
+            Some(lowest) => self.acked.split_off(lowest),
+            None => BTreeSet::new(),
+        };
+    }
+}
+
 impl Recovery {
     pub fn new(datagram: usize) -> Recovery {
         Recovery {
             spaces: Default::default(),
-            congestion: NewReno::new(datagram),
+            congestion: Cubic::new(datagram),
+            pacer: Pacer::new(datagram, first_window(datagram)),
             latest: Duration::ZERO,
             smoothed: FIRST_ROUND_TRIP,
             variation: FIRST_ROUND_TRIP / 2,
@@ -112,6 +148,7 @@ impl Recovery {
             space.last_asked = Some(sent.at);
         }
         self.congestion.sent(sent.size);
+        self.pacer.sent(sent.size);
         space.sent.insert(number, sent);
     }
 
@@ -127,32 +164,25 @@ impl Recovery {
         level: Level,
         ranges: impl Iterator<Item = (u64, u64)>,
         delay: Duration,
+        standing: Standing,
         now: Instant,
     ) -> News {
-        let space = &mut self.spaces[level as usize];
         let mut news = News::default();
-        let mut largest = None;
-        for (low, high) in ranges {
-            largest = largest.max(Some(high));
-            let numbers: Vec<u64> = space.sent.range(low..=high).map(|(n, _)| *n).collect();
-            for number in numbers {
-                if let Some(sent) = space.sent.remove(&number) {
-                    space.asking -= usize::from(sent.asks);
-                    news.acked.push((number, sent));
-                }
-            }
-        }
-        space.largest_acked = space.largest_acked.max(largest);
+        let largest = self.spaces[level as usize].take_acked(ranges, &mut news);
         if news.acked.is_empty() {
             return news;
         }
-        let is_used = self.congestion.is_used();
         self.take_sample(level, &news, largest, delay, now);
         news.lost = self.detect(level, now);
         for (_, sent) in &news.acked {
-            self.congestion.acked(sent.size, sent.at, is_used);
+            self.congestion
+                .acked(sent.size, sent.at, now, self.smoothed);
         }
-        self.probes = 0;
+        self.spaces[level as usize].let_acked_go();
+        // Its Initial's ACK doesn't tell a client that the server knows its address (section 6.2.1).
+        if standing.peer_validated {
+            self.probes = 0;
+        }
         news
     }
 
@@ -219,11 +249,11 @@ impl Recovery {
                 out.push((number, sent));
             }
         }
-        self.count_losses(&out, now);
+        self.count_losses(level, &out, now);
         out
     }
 
-    fn count_losses(&mut self, lost: &[(u64, Sent)], now: Instant) {
+    fn count_losses(&mut self, level: Level, lost: &[(u64, Sent)], now: Instant) {
         for (_, sent) in lost {
             self.congestion.forget(sent.size);
         }
@@ -231,31 +261,30 @@ impl Recovery {
             return;
         };
         self.congestion.lost(last, now);
-        if self.is_persistent(lost) {
+        if self.is_persistent(level, lost) {
             self.congestion.collapse();
+            // Where the path is another one now, so is its least round trip (section 5.2).
+            self.least = Some(self.latest);
         }
     }
 
     // Whether packets that ask for ACKs are lost over a long time, with none between them that came (section 7.6).
-    fn is_persistent(&self, lost: &[(u64, Sent)]) -> bool {
+    fn is_persistent(&self, level: Level, lost: &[(u64, Sent)]) -> bool {
         let Some(first_sample) = self.first_sample else {
             return false;
         };
+        let acked = &self.spaces[level as usize].acked;
         let long = 3 * (self.smoothed + (4 * self.variation).max(GRANULARITY) + self.max_ack_delay);
-        let mut began: Option<(u64, Instant)> = None;
-        for (number, sent) in lost
-            .iter()
-            .filter(|(_, sent)| sent.asks && sent.at > first_sample)
-        {
-            match began {
-                Some((before, at)) if before + 1 == *number => {
-                    if sent.at - at > long {
-                        return true;
-                    }
-                    began = Some((*number, at));
-                }
-                _ => began = Some((*number, sent.at)),
+        let mut began: Option<Instant> = None;
+        let mut before = 0;
+        for (number, sent) in lost.iter().filter(|(_, sent)| sent.at > first_sample) {
+            if acked.range(before..*number).next().is_some() {
+                began = None;
             }
+            if sent.at - *began.get_or_insert(sent.at) > long {
+                return true;
+            }
+            before = *number;
         }
         false
     }
@@ -276,6 +305,11 @@ impl Recovery {
 
     /// When time is up next (section 6.2 and A.8).
     pub fn timer(&self, standing: Standing, now: Instant) -> Option<Instant> {
+        let timer = self.own_timer(standing, now).into_iter();
+        timer.chain(self.pacer.held()).min()
+    }
+
+    fn own_timer(&self, standing: Standing, now: Instant) -> Option<Instant> {
         if let Some((at, _)) = self.loss_time() {
             return Some(at);
         }
@@ -319,8 +353,24 @@ impl Recovery {
         times.into_iter().min()
     }
 
+    /// Whether a packet that asks for an ACK may go now. Where pacing holds it back, the timer tells until when.
+    pub fn allows(&mut self, now: Instant) -> bool {
+        self.pacer.release();
+        let congestion = &self.congestion;
+        congestion.allows() && self.pacer.allows(congestion.window(), self.smoothed, now)
+    }
+
+    /// Nothing is there to go, though it might.
+    pub fn rest(&mut self) {
+        self.congestion.leave_unused();
+        if self.congestion.in_flight() == 0 {
+            self.pacer.rest();
+        }
+    }
+
     /// Time may be up: what is lost by it, or which level is to be probed.
     pub fn time_is_up(&mut self, standing: Standing, now: Instant) -> Option<Due> {
+        self.pacer.release();
         if let Some((at, level)) = self.loss_time() {
             return (at <= now).then(|| Due::Lost(level, self.detect(level, now)));
         }
@@ -339,6 +389,7 @@ impl Recovery {
 #[cfg(test)]
 mod tests {
     use super::*;
+    use std::ops::RangeInclusive;
 
     fn sent(at: Instant) -> Sent {
         Sent {
@@ -357,13 +408,23 @@ mod tests {
         is_held_back: false,
     };
 
+    fn acked(
+        recovery: &mut Recovery,
+        level: Level,
+        numbers: RangeInclusive<u64>,
+        now: Instant,
+    ) -> News {
+        let ranges = [(*numbers.start(), *numbers.end())].into_iter();
+        recovery.acked(level, ranges, Duration::ZERO, CONFIRMED, now)
+    }
+
     #[test]
     fn packets_are_lost_by_number_and_by_time() {
         let begin = Instant::now();
         let after = |millis| begin + Duration::from_millis(millis);
         let mut recovery = Recovery::new(1200);
         (0..6).for_each(|number| recovery.sent(Level::Data, number, sent(begin)));
-        let news = recovery.acked(Level::Data, [(4, 4)].into_iter(), Duration::ZERO, after(8));
+        let news = acked(&mut recovery, Level::Data, 4..=4, after(8));
         assert_eq!(news.acked.len(), 1);
         let lost: Vec<u64> = news.lost.iter().map(|(number, _)| *number).collect();
         assert_eq!(lost, [0, 1]);
@@ -387,5 +448,91 @@ mod tests {
             Some(Due::Probe(Level::Initial))
         ));
         assert_eq!(recovery.timer(CONFIRMED, begin), Some(begin + 2 * first));
+    }
+
+    // Packets go every 100 ms, of which some come, and the last one. Answers the window then.
+    fn window_after_silence(came_between: &[u64], last: u64) -> usize {
+        let begin = Instant::now();
+        let after = |millis| begin + Duration::from_millis(millis);
+        let mut recovery = Recovery::new(1200);
+        recovery.sent(Level::Data, 0, sent(begin));
+        acked(&mut recovery, Level::Data, 0..=0, after(50));
+        for number in 1..=last {
+            recovery.sent(Level::Data, number, sent(after(100 * number)));
+            if number == last || came_between.contains(&number) {
+                acked(
+                    &mut recovery,
+                    Level::Data,
+                    number..=number,
+                    after(100 * number + 50),
+                );
+            }
+        }
+        recovery.congestion.window()
+    }
+
+    #[test]
+    fn a_long_time_without_an_ack_collapses_the_window() {
+        // The round trip is 50 ms and its variation 25 ms at first: longer than 3 * (50 + 4 * 25) ms is persistent (section 7.6.1).
+        // The least window has two datagrams, and what the ACK names is added.
+        assert_eq!(window_after_silence(&[], 10), 3600);
+        // 300 ms between the first and the last one that are lost is not: 0.7 of 11 datagrams and more stay.
+        assert!(window_after_silence(&[], 5) >= 9240);
+        // One that came between parts them: 0.49 of 11 datagrams and more.
+        assert!(window_after_silence(&[5], 10) >= 6468);
+    }
+
+    #[test]
+    fn an_ack_of_an_initial_does_not_end_the_back_off_of_a_client_whose_address_is_not_known() {
+        let begin = Instant::now();
+        let mut recovery = Recovery::new(1200);
+        let unknown = Standing {
+            has_handshake_keys: false,
+            is_confirmed: false,
+            peer_validated: false,
+            is_held_back: false,
+        };
+        recovery.sent(Level::Initial, 0, sent(begin));
+        assert!(matches!(
+            recovery.time_is_up(unknown, begin + Duration::from_millis(999)),
+            Some(Due::Probe(Level::Initial))
+        ));
+        let now = begin + Duration::from_secs(1);
+        recovery.acked(
+            Level::Initial,
+            [(0, 0)].into_iter(),
+            Duration::ZERO,
+            unknown,
+            now,
+        );
+        // A round trip of 1 s, 4 * 0.5 s of variation, doubled once, from the time of the last packet on (sections 5.3 and 6.2.1).
+        let timer = recovery.timer(unknown, now);
+        assert_eq!(timer, Some(begin + Duration::from_secs(6)));
+    }
+
+    #[test]
+    fn pacing_sets_the_timer_where_packets_wait() {
+        let begin = Instant::now();
+        let mut recovery = Recovery::new(1200);
+        for number in 0..10 {
+            assert!(recovery.allows(begin));
+            recovery.sent(Level::Data, number, sent(begin));
+        }
+        let now = begin + Duration::from_millis(100);
+        acked(&mut recovery, Level::Data, 0..=4, now);
+        // 15,000 bytes of window in 100 ms, a quarter faster, are 7.68 ms a packet (section 7.7): two are due by now.
+        for number in 10..12 {
+            assert!(recovery.allows(now));
+            recovery.sent(Level::Data, number, sent(now));
+        }
+        assert!(!recovery.allows(now));
+        let wait = recovery.timer(CONFIRMED, now).unwrap() - now;
+        assert!(
+            wait.abs_diff(Duration::from_micros(5333)) < Duration::from_micros(10),
+            "{wait:?}"
+        );
+        recovery.rest();
+        assert!(recovery.time_is_up(CONFIRMED, now + wait).is_none());
+        assert!(recovery.allows(now + wait));
     }
 }

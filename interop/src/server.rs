@@ -11,6 +11,7 @@ use std::collections::{BTreeSet, HashMap};
 use std::io::{self, ErrorKind};
 use std::net::{SocketAddr, UdpSocket};
 use std::sync::Arc;
+use std::thread;
 use std::time::{Duration, Instant};
 
 /// How many datagrams of a socket are taken in at once, and of a connection sent at once.
@@ -21,6 +22,11 @@ const LEAST_FIRST_ID: usize = 8;
 
 /// How long a socket waits where no timer runs.
 const LONG: Duration = Duration::from_secs(3600);
+
+/// How much later than asked for a socket's wait ends at the most: the kernel counts it in ticks. The rest of a wait is slept in small
+/// pieces, between which the socket is looked at.
+const COARSE: Duration = Duration::from_millis(9);
+const FINE: Duration = Duration::from_micros(500);
 
 pub struct Server<A> {
     socket: UdpSocket,
@@ -48,14 +54,20 @@ pub fn receive_batch(
     let wait = until.map_or(LONG, |until| {
         until.saturating_duration_since(Instant::now())
     });
-    socket.set_nonblocking(wait.is_zero())?;
-    socket.set_read_timeout(Some(wait.max(Duration::from_micros(1))))?;
+    let long = wait.saturating_sub(COARSE);
+    socket.set_nonblocking(long.is_zero())?;
+    if !long.is_zero() {
+        socket.set_read_timeout(Some(long))?;
+    }
     let mut buffer = [0; 65_536];
     for place in 0..BATCH {
         match socket.recv_from(&mut buffer) {
             Ok((len, from)) => take(&mut buffer[..len], from),
             Err(error) => match error.kind() {
                 ErrorKind::WouldBlock | ErrorKind::TimedOut | ErrorKind::Interrupted => {
+                    if place == 0 && long.is_zero() {
+                        thread::sleep(wait.min(FINE));
+                    }
                     return Ok(());
                 }
                 // The peer's socket is gone; its silence will tell.

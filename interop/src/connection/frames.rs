@@ -72,7 +72,8 @@ impl Connection {
         now: Instant,
     ) {
         let ranges = AckRanges::new(largest, ranges).into_iter().flatten();
-        let News { lost, .. } = self.recovery.acked(level, ranges, delay, now);
+        let standing = self.standing();
+        let News { lost, .. } = self.recovery.acked(level, ranges, delay, standing, now);
         self.lose(level, lost);
     }
 

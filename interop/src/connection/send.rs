@@ -125,7 +125,7 @@ impl Connection {
     fn plan_handshake(&mut self, level: Level, out: &mut Vec<u8>, now: Instant) -> Option<Planned> {
         let space = &self.spaces[level as usize];
         space.keys.as_ref()?;
-        let may_ask = self.recovery.congestion.allows() || space.probes > 0;
+        let may_ask = self.recovery.allows(now) || space.probes > 0;
         if !(space.is_ack_due || may_ask && (space.out.is_due() || space.probes > 0)) {
             return None;
         }
@@ -170,7 +170,7 @@ impl Connection {
         }
         let draft = header.write(out);
         let probes = self.space(Level::Data).probes;
-        if self.recovery.congestion.allows() || probes > 0 {
+        if self.recovery.allows(now) || probes > 0 {
             return self.fill_data(draft, room, out, now);
         }
         self.acknowledge(draft, room, out, now)
@@ -189,6 +189,7 @@ impl Connection {
         let own = self.own_frames(room - MIN_ROOM - 1);
         let made = self.make(out, room - own.payload.len() - 1)?;
         if !made && own.payload.is_empty() && probes == 0 {
+            self.recovery.rest();
             out.truncate(draft.start);
             return Ok(None);
         }
