@@ -173,7 +173,7 @@ gv_status gv_endpoint_new_with(gv_role role, const gv_settings *settings, const 
   if (status == GV_OK) {
     *out = end;
   } else {
-    memory.release(memory.context, end, sizeof *end, alignof(gv_endpoint));
+    gv_endpoint_free(end);
   }
   return status;
 }
