@@ -73,9 +73,22 @@ impl Cubic {
         self.in_flight
     }
 
-    /// Whether a datagram may go.
+    /// Whether a datagram may go. Part of one can't: so whole ones are counted, to the nearest. Of a window of six and a half a part
+    /// that is always cut off would cost as much as a loss in ten.
     pub fn allows(&self) -> bool {
-        self.may_exceed || self.in_flight + self.datagram <= self.window()
+        let whole = self.window.round() as usize * self.datagram;
+        self.may_exceed || self.in_flight + self.datagram <= whole
+    }
+
+    /// Datagrams have another length: what may be in flight stays as many bytes.
+    pub fn resize(&mut self, datagram: usize) {
+        let scale = self.datagram as f64 / datagram as f64;
+        self.datagram = datagram;
+        self.window = (self.window * scale).max(LEAST);
+        self.threshold *= scale;
+        self.plateau *= scale;
+        self.before *= scale;
+        self.stage = None;
     }
 
     pub fn sent(&mut self, size: usize) {
@@ -348,6 +361,37 @@ mod tests {
         used.acked(DATAGRAM, later, begin, ROUND_TRIP);
         paused.acked(DATAGRAM, later + pause, later + pause, ROUND_TRIP);
         assert_eq!(paused.window(), used.window());
+    }
+
+    #[test]
+    fn larger_datagrams_leave_as_many_bytes() {
+        let begin = Instant::now();
+        let mut cubic = after_loss(100, begin);
+        cubic.resize(1452);
+        assert_eq!(cubic.window(), 84_000);
+        cubic.acked(0, begin + ROUND_TRIP, begin, ROUND_TRIP);
+        let now = begin + Duration::from_secs(2);
+        cubic.acked(1452, now, now, ROUND_TRIP);
+        // W_max is 120,000 / 1452 = 82.6446 datagrams, the window 57.8512: K is the third root of 61.9835, 3.95754 seconds.
+        let target = 0.4 * (2.1 - 3.957_54_f64).powi(3) + 82.644_628;
+        let grown = 57.851_240 + (target - 57.851_240) / 57.851_240;
+        assert!((cubic.window() as f64 / 1452.0 - grown).abs() < 0.002);
+    }
+
+    #[test]
+    fn a_window_is_used_to_the_nearest_datagram() {
+        let now = Instant::now();
+        let mut cubic = Cubic::new(DATAGRAM);
+        cubic.lost(now - ROUND_TRIP, now);
+        // 0.7 * 10, and once more 4.9: five go.
+        cubic.sent(DATAGRAM);
+        cubic.lost(now + ROUND_TRIP, now + ROUND_TRIP);
+        cubic.sent(DATAGRAM);
+        assert_eq!(cubic.window(), 5_880);
+        cubic.sent(2 * DATAGRAM);
+        assert!(cubic.allows());
+        cubic.sent(DATAGRAM);
+        assert!(!cubic.allows());
     }
 
     #[test]

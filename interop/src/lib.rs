@@ -23,6 +23,7 @@ pub mod ids;
 pub mod pacing;
 pub mod packet;
 pub mod parameters;
+pub mod path_size;
 pub mod program;
 pub mod protection;
 pub mod ranges;

@@ -48,6 +48,11 @@ impl Pacer {
         self.held.is_none()
     }
 
+    /// Datagrams have another length.
+    pub fn resize(&mut self, datagram: usize) {
+        self.datagram = datagram;
+    }
+
     pub fn sent(&mut self, size: usize) {
         self.credit -= size as f64;
     }

@@ -4,12 +4,15 @@
 use crate::congestion::{Cubic, first_window};
 use crate::pacing::Pacer;
 use crate::packet::Level;
+use crate::path_size::PathSize;
 use std::collections::{BTreeMap, BTreeSet};
 use std::ops::Range;
 use std::time::{Duration, Instant};
 
 const PACKET_THRESHOLD: u64 = 3;
 const GRANULARITY: Duration = Duration::from_millis(1);
+/// The path is probed where so many datagrams are in flight.
+const BUSY: usize = 3;
 const FIRST_ROUND_TRIP: Duration = Duration::from_millis(333);
 
 /// A frame of the transport's own in a 1-RTT packet, which goes again where its packet is lost.
@@ -72,6 +75,7 @@ pub struct Recovery {
     spaces: [Space; 3],
     pub congestion: Cubic,
     pacer: Pacer,
+    pub path: PathSize,
     latest: Duration,
     smoothed: Duration,
     variation: Duration,
@@ -118,6 +122,7 @@ impl Recovery {
             spaces: Default::default(),
             congestion: Cubic::new(datagram),
             pacer: Pacer::new(datagram, first_window(datagram)),
+            path: PathSize::new(),
             latest: Duration::ZERO,
             smoothed: FIRST_ROUND_TRIP,
             variation: FIRST_ROUND_TRIP / 2,
@@ -179,6 +184,15 @@ impl Recovery {
                 .acked(sent.size, sent.at, now, self.smoothed);
         }
         self.spaces[level as usize].let_acked_go();
+        if level == Level::Data
+            && news
+                .acked
+                .iter()
+                .any(|(number, _)| self.path.is_probe(*number))
+        {
+            self.path.came();
+            self.resize();
+        }
         // Its Initial's ACK doesn't tell a client that the server knows its address (section 6.2.1).
         if standing.peer_validated {
             self.probes = 0;
@@ -257,15 +271,35 @@ impl Recovery {
         for (_, sent) in lost {
             self.congestion.forget(sent.size);
         }
-        let Some(last) = lost.iter().map(|(_, sent)| sent.at).max() else {
+        let is_probe = |number| level == Level::Data && self.path.is_probe(number);
+        let told = lost.iter().filter(|(number, _)| !is_probe(*number));
+        let last = told.map(|(_, sent)| sent.at).max();
+        if lost.iter().any(|(number, _)| is_probe(*number)) {
+            self.path.was_lost();
+        }
+        let Some(last) = last else {
             return;
         };
         self.congestion.lost(last, now);
         if self.is_persistent(level, lost) {
             self.congestion.collapse();
+            self.path.narrow();
+            self.resize();
             // Where the path is another one now, so is its least round trip (section 5.2).
             self.least = Some(self.latest);
         }
+    }
+
+    // Windows and pacing count datagrams of the size that the path has now.
+    fn resize(&mut self) {
+        self.congestion.resize(self.path.size());
+        self.pacer.resize(self.path.size());
+    }
+
+    /// The size of a probe of the path, where one is due and much goes.
+    pub fn path_probe(&self) -> Option<usize> {
+        let is_busy = self.congestion.in_flight() >= BUSY * self.path.size();
+        self.path.due().filter(|_| is_busy)
     }
 
     // Whether packets that ask for ACKs are lost over a long time, with none between them that came (section 7.6).

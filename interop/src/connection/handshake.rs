@@ -70,6 +70,7 @@ impl Connection {
             Fault::new(code, 0, &fault.to_string())
         })?;
         self.recovery.max_ack_delay = peer.max_ack_delay;
+        self.recovery.path.most = peer.max_datagram;
         if let Some(token) = peer.reset_token {
             self.peer_ids.set_first_token(token);
         }

@@ -30,8 +30,7 @@ use std::collections::VecDeque;
 use std::sync::Arc;
 use std::time::{Duration, Instant};
 
-/// The least datagram that every path carries (RFC 9000, section 14).
-pub const DATAGRAM: usize = 1200;
+pub use crate::path_size::DATAGRAM;
 
 /// How late an ACK is at the most (RFC 9000, section 13.2.1). One is due with each packet: it waits for the loop's turn alone.
 const MAX_ACK_DELAY: Duration = Duration::from_millis(5);

@@ -119,7 +119,8 @@ impl Connection {
 
     /// How many bytes of frames a packet of the level has room for behind what is in the datagram.
     fn room(&self, header: &Header<'_>, out: &[u8]) -> usize {
-        DATAGRAM.saturating_sub(out.len() + header.len() + TAG_LEN)
+        let size = self.recovery.path.size();
+        size.saturating_sub(out.len() + header.len() + TAG_LEN)
     }
 
     fn plan_handshake(&mut self, level: Level, out: &mut Vec<u8>, now: Instant) -> Option<Planned> {
@@ -170,10 +171,33 @@ impl Connection {
         }
         let draft = header.write(out);
         let probes = self.space(Level::Data).probes;
-        if self.recovery.allows(now) || probes > 0 {
+        let may_ask = self.recovery.allows(now);
+        if let (true, true, Some(size)) = (may_ask, probes == 0, self.recovery.path_probe())
+            && self.known.is_confirmed
+        {
+            return self.probe_path(draft, size, out, now).map(Some);
+        }
+        if may_ask || probes > 0 {
             return self.fill_data(draft, room, out, now);
         }
         self.acknowledge(draft, room, out, now)
+    }
+
+    // A datagram of a size that the path may not carry, alone: a PING, and PADDING.
+    fn probe_path(
+        &mut self,
+        mut draft: Draft,
+        size: usize,
+        out: &mut Vec<u8>,
+        now: Instant,
+    ) -> Result<Planned, Fault> {
+        draft.number = self.claim()?;
+        push_frame(out, &Frame::Ping);
+        draft.finish(out);
+        draft.pad(out, size);
+        self.recovery.path.sent(draft.number);
+        let sent = sent_now(now, true, Vec::new(), Vec::new());
+        Ok(Planned { draft, sent })
     }
 
     // A 1-RTT packet: what the stream layer has to say, and behind it the transport's own frames. Where the stream layer has

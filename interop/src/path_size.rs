@@ -1,0 +1,110 @@
+//! How large a datagram may be on the path: a search by probes, where much goes (RFC 9000, section 14.3; RFC 8899).
+
+/// The least datagram that every path carries (RFC 9000, section 14).
+pub const DATAGRAM: usize = 1200;
+
+/// What is tried: what Ethernet carries beside the headers of IPv6 and UDP, and what a tunnel leaves of that.
+const SIZES: [usize; 2] = [1452, 1350];
+
+/// How often each is tried (RFC 8899, section 5.1.2).
+const TRIES: usize = 3;
+
+#[derive(Clone, Debug)]
+pub struct PathSize {
+    size: usize,
+    /// What the peer takes.
+    pub most: u64,
+    tried: usize,
+    probe: Option<u64>,
+}
+
+impl PathSize {
+    pub fn new() -> PathSize {
+        PathSize {
+            size: DATAGRAM,
+            most: 0,
+            tried: 0,
+            probe: None,
+        }
+    }
+
+    /// How large datagrams are.
+    pub fn size(&self) -> usize {
+        self.size
+    }
+
+    /// The size of the next probe, where one is due.
+    pub fn due(&self) -> Option<usize> {
+        let size = *SIZES.get(self.tried / TRIES)?;
+        (self.probe.is_none() && size as u64 <= self.most).then_some(size)
+    }
+
+    pub fn sent(&mut self, number: u64) {
+        self.probe = Some(number);
+    }
+
+    /// Whether a packet is the probe that is in flight. Its loss tells nothing of congestion (RFC 9000, section 14.4).
+    pub fn is_probe(&self, number: u64) -> bool {
+        self.probe == Some(number)
+    }
+
+    /// The probe came: datagrams are as large from now on.
+    pub fn came(&mut self) {
+        self.size = SIZES[self.tried / TRIES];
+        self.stop();
+    }
+
+    pub fn was_lost(&mut self) {
+        self.probe = None;
+        self.tried += 1;
+    }
+
+    /// Large datagrams come no more: a path of small ones (RFC 8899, section 4.3).
+    pub fn narrow(&mut self) {
+        self.size = DATAGRAM;
+        self.stop();
+    }
+
+    fn stop(&mut self) {
+        self.probe = None;
+        self.tried = TRIES * SIZES.len();
+    }
+}
+
+impl Default for PathSize {
+    fn default() -> PathSize {
+        PathSize::new()
+    }
+}
+
+#[cfg(test)]
+mod tests {
+    use super::*;
+
+    #[test]
+    fn a_size_is_tried_three_times_and_then_a_smaller_one() {
+        let mut path = PathSize::new();
+        assert_eq!(path.due(), None);
+        path.most = 65_527;
+        for number in 0..3 {
+            assert_eq!(path.due(), Some(1452));
+            path.sent(number);
+            assert_eq!(path.due(), None);
+            path.was_lost();
+        }
+        assert_eq!(path.due(), Some(1350));
+        path.sent(3);
+        assert!(path.is_probe(3) && !path.is_probe(2));
+        path.came();
+        assert_eq!((path.size(), path.due()), (1350, None));
+        path.narrow();
+        assert_eq!((path.size(), path.due()), (1200, None));
+    }
+
+    #[test]
+    fn nothing_is_tried_that_the_peer_does_not_take() {
+        let mut path = PathSize::new();
+        path.most = 1451;
+        assert_eq!(path.due(), None);
+    }
+}
