@@ -3,7 +3,8 @@
 # the repository's top folder, in strict mode. Each program is ended by its own process number.
 
 interop=$PWD/interop
-registry=/usr/share/cargo/registry
+# shellcheck source=interop/debian.sh
+. interop/debian.sh
 room=$(mktemp -d)
 # How the programs are built, and where they stand then.
 profile=${profile:-quick}
@@ -54,10 +55,6 @@ ends() {
   [ "$status" = "$wanted" ] && grep -qF -- "$text" "$room/err"
 }
 
-is_installed() {
-  dpkg-query -W -f '${Status}' "$1" 2>/dev/null | grep -q 'install ok installed'
-}
-
 # Debian's packages of these names are there, or are installed; else the test is skipped.
 need() {
   local name missing=()
@@ -68,47 +65,27 @@ need() {
   [ "${#missing[@]}" = 0 ] && return
   if command -v apt-get >/dev/null && [ "$(id -u)" = 0 ]; then
     echo "installing ${missing[*]}"
-    install_packages "${missing[@]}" || update_and_install "${missing[@]}" || true
+    install_packages "${missing[@]}" >/dev/null 2>&1 || update_and_install "${missing[@]}" || true
   fi
   for name in "${missing[@]}"; do
     is_installed "$name" || skip "the package $name is not installed: apt-get install ${missing[*]}"
   done
 }
 
-install_packages() {
-  DEBIAN_FRONTEND=noninteractive timeout 90 apt-get install -qq -y --no-install-recommends "$@" >/dev/null 2>&1
-}
-
 # The list of packages may be old, or not there at all.
 update_and_install() {
-  timeout 60 apt-get update -qq >/dev/null 2>&1 && install_packages "$@"
+  timeout 60 apt-get update -qq >/dev/null 2>&1 && install_packages "$@" >/dev/null 2>&1
 }
 
 # The versions are those for which the example is written.
 need_versions() {
-  local crate
-  for crate in "$@"; do
-    compgen -G "$registry/$crate*" >/dev/null || skip "the packages have no crate $crate of Rust"
-  done
-  grep -qF '"0.8.' /usr/include/nghttp3/version.h || skip 'nghttp3 is not of version 0.8'
-}
-
-# Cargo, with the crates that Debian packages in place of the registry. Both packages share what they build of these.
-debian_cargo() {
-  mkdir -p "$room/cargo"
-  cat >"$room/cargo/config.toml" <<TOML
-[source.crates-io]
-replace-with = "debian"
-[source.debian]
-directory = "$registry"
-[net]
-offline = true
-TOML
-  CARGO_HOME=$room/cargo CARGO_TARGET_DIR=$interop/target CARGO_TERM_COLOR=never CARGO_NET_OFFLINE=true cargo "$@"
+  local others
+  others=$(other_versions "$@" | paste -sd , -)
+  [ -z "$others" ] || skip "the packages are of other versions than $others"
 }
 
 in_package() {
-  (cd "$interop/$1" && debian_cargo "${@:2}")
+  (cd "$interop/$1" && debian_cargo "$room/cargo" "${@:2}")
 }
 
 build() {
@@ -125,8 +102,8 @@ start() {
   started=$!
   running+=("$started")
   address=
-  while [ "$tries" -lt 200 ] && kill -0 "$started" 2>/dev/null; do
-    address=$(sed -n 's/^listening on //p' "$room/$name.out")
+  while [ "$tries" -lt 1200 ] && kill -0 "$started" 2>/dev/null; do
+    address=$(sed -n 's/^listening on //p' "$room/$name.out" | head -n 1)
     [ -n "$address" ] && return
     sleep 0.05
     tries=$((tries + 1))
@@ -140,6 +117,11 @@ start() {
 end() {
   kill "$1" 2>/dev/null || true
   wait "$1" 2>/dev/null || true
+}
+
+# How much memory a process has, in KiB.
+memory() {
+  sed -n 's/^VmRSS:[[:space:]]*\([0-9]*\) kB$/\1/p' "/proc/$1/status"
 }
 
 # Makes a file of so many bytes that don't repeat.

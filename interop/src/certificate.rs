@@ -1,12 +1,22 @@
-//! A certificate that signs itself, for `localhost`, made as a program begins (RFC 5280). No one has a reason to trust it.
+//! What a server is known by: a certificate and its key, of files (PEM), or a certificate that signs itself, for `localhost`, which no
+//! one has a reason to trust (RFC 5280).
 
+use crate::program::Refusal;
+use ring::digest::{SHA256, digest};
 use ring::error::Unspecified;
 use ring::rand::SystemRandom;
 use ring::signature::{ECDSA_P256_SHA256_ASN1_SIGNING, EcdsaKeyPair, KeyPair};
+use rustls_pemfile::Item;
+use std::fmt::Display;
+use std::fs::{File, OpenOptions, create_dir_all};
+use std::io::{self, BufReader, Write};
+use std::os::unix::fs::OpenOptionsExt;
+use std::path::Path;
 
-/// A certificate and its private key (PKCS #8), both as DER.
+/// A certificate, those that lead on from it, and its private key, all as DER.
+#[derive(Debug)]
 pub struct Identity {
-    pub certificate: Vec<u8>,
+    pub certificates: Vec<Vec<u8>>,
     pub key: Vec<u8>,
 }
 
@@ -17,6 +27,7 @@ const OCTET_STRING: u8 = 0x04;
 const UTF8: u8 = 0x0c;
 const TIME: u8 = 0x18;
 const INTEGER: u8 = 0x02;
+const VERSION: u8 = 0xa0;
 
 // Object identifiers, with their tag and length.
 const ECDSA_WITH_SHA256: &[u8] = &[0x06, 8, 0x2a, 0x86, 0x48, 0xce, 0x3d, 4, 3, 2];
@@ -39,10 +50,110 @@ impl Identity {
         let algorithm = der(SEQUENCE, &[ECDSA_WITH_SHA256]);
         let bits = der(BIT_STRING, &[&[0], signature.as_ref()]);
         Ok(Identity {
-            certificate: der(SEQUENCE, &[&body, &algorithm, &bits]),
+            certificates: vec![der(SEQUENCE, &[&body, &algorithm, &bits])],
             key: key.as_ref().to_vec(),
         })
     }
+
+    /// That of two files.
+    pub fn read(certificate: &Path, key: &Path) -> Result<Identity, Refusal> {
+        let certificates = items(certificate)?
+            .into_iter()
+            .filter_map(|item| match item {
+                Item::X509Certificate(der) => Some(der),
+                _ => None,
+            });
+        let certificates: Vec<Vec<u8>> = certificates.collect();
+        if certificates.is_empty() {
+            return Err(lacks(certificate, "no certificate"));
+        }
+        let mut keys = items(key)?.into_iter().filter_map(|item| match item {
+            Item::PKCS8Key(der) | Item::ECKey(der) | Item::RSAKey(der) => Some(der),
+            _ => None,
+        });
+        let key = keys.next().ok_or_else(|| lacks(key, "no private key"))?;
+        Ok(Identity { certificates, key })
+    }
+
+    /// That which is kept in a folder: it is made where it isn't there.
+    pub fn kept(folder: &Path) -> Result<Identity, Refusal> {
+        let [certificate, key] = ["cert.pem", "key.pem"].map(|name| folder.join(name));
+        if !certificate.exists() {
+            let made = Identity::new().map_err(|_| Refusal::failure("no random bytes"))?;
+            let wrong = |error| refused(folder, "written", error);
+            create_dir_all(folder).map_err(wrong)?;
+            write_pem(&key, "PRIVATE KEY", &made.key).map_err(wrong)?;
+            write_pem(&certificate, "CERTIFICATE", &made.certificates[0]).map_err(wrong)?;
+        }
+        Identity::read(&certificate, &key)
+    }
+
+    /// The hash of the certificate's public key, as browsers name it (RFC 7469, section 2.4); `None` where it has none.
+    pub fn key_hash(&self) -> Option<String> {
+        let mut certificate = self.certificates.first()?.as_slice();
+        let mut whole = content(&mut certificate)?;
+        let mut body = content(&mut whole)?;
+        // The version may be left out; the key's place is behind number, algorithm, issuer, validity and subject (RFC 5280, 4.1).
+        if body.first() == Some(&VERSION) {
+            content(&mut body)?;
+        }
+        for _ in 0..5 {
+            content(&mut body)?;
+        }
+        let from = body;
+        content(&mut body)?;
+        let key = &from[..from.len() - body.len()];
+        Some(base64::encode(digest(&SHA256, key)))
+    }
+}
+
+fn refused(path: &Path, what: &str, error: impl Display) -> Refusal {
+    Refusal::Failure(format!("{} can't be {what}: {error}", path.display()))
+}
+
+fn lacks(path: &Path, what: &str) -> Refusal {
+    Refusal::Failure(format!("{} has {what} (PEM)", path.display()))
+}
+
+fn items(path: &Path) -> Result<Vec<Item>, Refusal> {
+    let wrong = |error| refused(path, "read", error);
+    let mut file = BufReader::new(File::open(path).map_err(wrong)?);
+    rustls_pemfile::read_all(&mut file).map_err(wrong)
+}
+
+// Only the owner may read it.
+fn write_pem(path: &Path, what: &str, der: &[u8]) -> io::Result<()> {
+    let mut options = OpenOptions::new();
+    let mut file = options
+        .write(true)
+        .create(true)
+        .truncate(true)
+        .mode(0o600)
+        .open(path)?;
+    writeln!(file, "-----BEGIN {what}-----")?;
+    for line in base64::encode(der).as_bytes().chunks(64) {
+        file.write_all(line)?;
+        file.write_all(b"\n")?;
+    }
+    writeln!(file, "-----END {what}-----")
+}
+
+/// The content of the first value, which is taken off the front: its tag, its length and as many bytes.
+fn content<'a>(rest: &mut &'a [u8]) -> Option<&'a [u8]> {
+    let [_, first, after @ ..] = *rest else {
+        return None;
+    };
+    let (len, after) = match *first {
+        len @ 0..=0x7f => (usize::from(len), after),
+        count => {
+            let (digits, after) = after.split_at_checked(usize::from(count & 0x7f))?;
+            let push = |len: usize, digit: &u8| len.checked_mul(256)?.checked_add((*digit).into());
+            (digits.iter().try_fold(0, push)?, after)
+        }
+    };
+    let (content, after) = after.split_at_checked(len)?;
+    *rest = after;
+    Some(content)
 }
 
 /// One value: its tag, its length and its parts.
@@ -59,7 +170,7 @@ fn der(tag: u8, parts: &[&[u8]]) -> Vec<u8> {
 }
 
 fn to_be_signed(public_key: &[u8]) -> Vec<u8> {
-    let version = der(0xa0, &[&der(INTEGER, &[&[2]])]);
+    let version = der(VERSION, &[&der(INTEGER, &[&[2]])]);
     let serial = der(INTEGER, &[&[1]]);
     let algorithm = der(SEQUENCE, &[ECDSA_WITH_SHA256]);
     let attribute = der(SEQUENCE, &[COMMON_NAME, &der(UTF8, &[NAME])]);
@@ -86,4 +197,44 @@ fn to_be_signed(public_key: &[u8]) -> Vec<u8> {
         &extensions,
     ];
     der(SEQUENCE, &parts)
+}
+
+#[cfg(test)]
+mod tests {
+    use super::*;
+
+    #[test]
+    fn an_identity_is_kept() {
+        let folder = std::env::temp_dir().join(format!("gotsavena-kept-{}", std::process::id()));
+        let made = Identity::kept(&folder).unwrap();
+        let again = Identity::kept(&folder).unwrap();
+        assert_eq!(made.key, again.key);
+        assert_eq!(made.certificates, again.certificates);
+        let key = folder.join("key.pem");
+        let wrong = Identity::read(&key, &key).unwrap_err();
+        assert!(
+            matches!(wrong, Refusal::Failure(text) if text.ends_with("has no certificate (PEM)"))
+        );
+        std::fs::remove_dir_all(folder).unwrap();
+    }
+
+    #[test]
+    fn a_key_has_its_hash() {
+        let identity = Identity::new().unwrap();
+        let certificate = &identity.certificates[0];
+        // Of a P-256 key it is 91 bytes long, of which the first 27 are always the same (RFC 5480, section 2).
+        let head = der(SEQUENCE, &[&[0; 89]])[..2].to_vec();
+        let head = [head, der(SEQUENCE, &[EC_PUBLIC_KEY, P256])].concat();
+        let at = certificate
+            .windows(head.len())
+            .position(|window| window == head);
+        let key = &certificate[at.unwrap()..][..91];
+        let hash = base64::encode(digest(&SHA256, key));
+        assert_eq!(identity.key_hash(), Some(hash));
+        let none = Identity {
+            certificates: vec![vec![0x30, 0x83, 1]],
+            key: Vec::new(),
+        };
+        assert_eq!(none.key_hash(), None);
+    }
 }

@@ -2,11 +2,18 @@
 
 use crate::connection::Connection;
 use crate::fault::Outcome;
+use crate::program::{Refusal, tell_more};
 use crate::server::{receive_batch, turn};
 use crate::streams::Application;
-use std::io;
+use std::io::{self, ErrorKind};
 use std::net::{SocketAddr, UdpSocket};
-use std::time::Instant;
+use std::time::{Duration, Instant};
+
+/// How long a server may be silent where its name has another address.
+const PATIENCE: Duration = Duration::from_secs(3);
+
+/// How long a client waits for streams alone.
+const STREAM_PATIENCE: Duration = Duration::from_secs(1);
 
 /// A socket to a server.
 pub fn connect(server: SocketAddr) -> io::Result<UdpSocket> {
@@ -19,29 +26,145 @@ pub fn connect(server: SocketAddr) -> io::Result<UdpSocket> {
     Ok(socket)
 }
 
+/// Goes to the first of a server's addresses that answers, with a connection that is made for each, and on until it ends.
+pub fn visit<A: Application>(
+    addresses: &[SocketAddr],
+    make: impl Fn() -> Result<Connection, Refusal>,
+    application: &mut A,
+) -> Result<Outcome, Refusal> {
+    let mut rest = addresses.iter();
+    while let Some(address) = rest.next() {
+        let is_last = rest.len() == 0;
+        let mut connection = make()?;
+        let until = (!is_last).then(|| Instant::now() + PATIENCE);
+        let ended = connect(*address)
+            .and_then(|socket| run_until(&socket, &mut connection, application, until));
+        match ended {
+            Ok(outcome) if is_last || connection.has_peer() => return Ok(outcome),
+            Err(error) if is_last => return Err(Refusal::failure(error)),
+            Ok(outcome) => tell_more(&format!("{address}: {outcome}")),
+            Err(error) => tell_more(&format!("{address}: {error}")),
+        }
+    }
+    Err(Refusal::failure("a server without an address"))
+}
+
+/// What a client does over as many connections as the server asks for.
+pub trait Errand: Application {
+    fn is_over(&self) -> bool;
+
+    /// How much of it is done.
+    fn done(&self) -> usize;
+
+    /// Goes on with a new connection: what wasn't answered is asked for again.
+    fn begin_anew(&mut self);
+}
+
+/// Does an errand, and answers over how many connections. Each ends with this code, by either end's wish, or, where something was done
+/// on it, by silence: a close may be lost.
+pub fn run_errand<E: Errand>(
+    addresses: &[SocketAddr],
+    make: impl Fn() -> Result<Connection, Refusal>,
+    errand: &mut E,
+    no_error: u64,
+) -> Result<usize, Refusal> {
+    for connections in 1.. {
+        let before = errand.done();
+        let outcome = visit(addresses, &make, errand)?;
+        let ended_well = match &outcome {
+            Outcome::Closed(close) => close.code == no_error,
+            Outcome::PeerClosed {
+                by_application,
+                code,
+                ..
+            } => *by_application && *code == no_error,
+            _ => false,
+        };
+        match ended_well {
+            true if errand.is_over() => return Ok(connections),
+            _ if errand.done() > before && (ended_well || outcome == Outcome::Idle) => {
+                errand.begin_anew();
+            }
+            _ => {
+                let reason = format!("the connection ended: {outcome}");
+                return Err(Refusal::Failure(reason));
+            }
+        }
+    }
+    Ok(0)
+}
+
 /// Goes on until the connection ends, and answers how.
 pub fn run<A: Application>(
     socket: &UdpSocket,
     connection: &mut Connection,
     application: &mut A,
 ) -> io::Result<Outcome> {
+    run_until(socket, connection, application, None)
+}
+
+/// How long a client waits where a connection may bring nothing more.
+struct Patience {
+    /// Until when the server has to say something, where its name has another address.
+    word_until: Option<Instant>,
+    /// Until when it has to grant a stream, where the client waits for nothing else: its close may be lost.
+    stream_until: Option<Instant>,
+}
+
+impl Patience {
+    fn until<A: Application>(
+        &mut self,
+        connection: &mut Connection,
+        application: &A,
+        now: Instant,
+    ) -> Option<Instant> {
+        let waits = connection.end().is_some() && application.waits_for_streams();
+        self.stream_until = waits.then(|| self.stream_until.unwrap_or(now + STREAM_PATIENCE));
+        let word_until = self.word_until.filter(|_| !connection.has_peer());
+        word_until.or(self.stream_until)
+    }
+}
+
+fn is_refusal(sent: &io::Result<usize>) -> bool {
+    matches!(sent, Err(error) if error.kind() == ErrorKind::ConnectionRefused)
+}
+
+// Where the server was silent until a time, or no one listens there, the connection ends, too.
+fn run_until<A: Application>(
+    socket: &UdpSocket,
+    connection: &mut Connection,
+    application: &mut A,
+    silent_until: Option<Instant>,
+) -> io::Result<Outcome> {
     let mut out = Vec::new();
+    let mut patience = Patience {
+        word_until: silent_until,
+        stream_until: None,
+    };
     loop {
+        let mut is_refused = false;
         let more = turn(connection, application, &mut out, |bytes| {
-            socket.send(bytes)
+            let sent = socket.send(bytes);
+            is_refused |= is_refusal(&sent);
+            sent
         })?;
         if let (Some(outcome), false) = (connection.outcome(), more) {
             return Ok(outcome.clone());
         }
         let now = Instant::now();
-        let until = if more {
-            Some(now)
-        } else {
-            connection.timer(now)
-        };
-        receive_batch(socket, until, |datagram, _from| {
+        let patient_until = patience.until(connection, application, now);
+        if patient_until.is_some_and(|at| at <= now) {
+            return Ok(Outcome::Idle);
+        }
+        let timers = connection.timer(now).into_iter().chain(patient_until);
+        let until = timers.chain(more.then_some(now)).min();
+        is_refused |= receive_batch(socket, until, |datagram, _from| {
             connection.receive(datagram, Instant::now());
         })?;
+        // Of a server that answered before, silence tells.
+        if is_refused && !connection.has_peer() {
+            return Ok(Outcome::Refused);
+        }
         let now = Instant::now();
         if connection.timer(now).is_some_and(|at| at <= now) {
             connection.time_is_up(now);

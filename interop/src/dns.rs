@@ -17,11 +17,17 @@ pub const TYPE_SOA: u16 = 6;
 pub const TYPE_TXT: u16 = 16;
 pub const TYPE_AAAA: u16 = 28;
 const TYPE_OPT: u16 = 41;
+/// The transfers of a zone (RFC 1995, RFC 5936), which are no types of records.
+pub const TYPE_IXFR: u16 = 251;
+pub const TYPE_AXFR: u16 = 252;
+/// All records of a name (RFC 1035, section 3.2.3).
+pub const TYPE_ANY: u16 = 255;
 
 const CLASS_IN: u16 = 1;
 const IS_RESPONSE: u16 = 0x8000;
 const IS_AUTHORITATIVE: u16 = 0x0400;
 const OPCODE: u16 = 0x7800;
+const CODE: u16 = 0x000f;
 const RECURSION_DESIRED: u16 = 0x0100;
 
 /// The longest name (RFC 1035, section 2.3.4).
@@ -183,6 +189,60 @@ pub fn message_id(message: &[u8]) -> Option<u16> {
     Reader::new(message).u16()
 }
 
+/// A query for the records of a name and type, which may ask for a name server that looks elsewhere, too.
+pub fn query(name: &Name, kind: u16) -> Vec<u8> {
+    let mut out = Vec::new();
+    for number in [0, RECURSION_DESIRED, 1, 0, 0, 0] {
+        out.extend_from_slice(&number.to_be_bytes());
+    }
+    out.extend_from_slice(name.as_slice());
+    out.extend_from_slice(&kind.to_be_bytes());
+    out.extend_from_slice(&CLASS_IN.to_be_bytes());
+    out
+}
+
+/// What an answer says.
+#[derive(Debug, PartialEq, Eq)]
+pub struct Reply {
+    pub code: u16,
+    /// The types and data of its records.
+    pub records: Vec<(u16, Vec<u8>)>,
+}
+
+/// Reads an answer; `None` where it is none.
+pub fn read_reply(message: &[u8]) -> Option<Reply> {
+    let mut rest = Reader::new(message);
+    let head = read_head(&mut rest)?;
+    if head.flags & IS_RESPONSE == 0 {
+        return None;
+    }
+    for _ in 0..head.counts[0] {
+        skip_name(&mut rest)?;
+        rest.take(4)?;
+    }
+    let mut records = Vec::new();
+    for _ in 0..head.counts[1] {
+        skip_name(&mut rest)?;
+        let kind = rest.u16()?;
+        rest.take(6)?;
+        let len = usize::from(rest.u16()?);
+        records.push((kind, rest.take(len)?.to_vec()));
+    }
+    let code = head.flags & CODE;
+    Some(Reply { code, records })
+}
+
+// A name ends with a zero or with a pointer to the rest of another (RFC 1035, section 4.1.4).
+fn skip_name(rest: &mut Reader<'_>) -> Option<()> {
+    loop {
+        match rest.byte()? {
+            0 => return Some(()),
+            0xc0.. => return rest.byte().map(|_| ()),
+            len => rest.take(usize::from(len))?,
+        };
+    }
+}
+
 /// The answer to a query. `None` for what is no query at all.
 pub fn answer(zone: &Zone, query: &[u8]) -> Option<Vec<u8>> {
     let mut rest = Reader::new(query);
@@ -198,11 +258,15 @@ pub fn answer(zone: &Zone, query: &[u8]) -> Option<Vec<u8>> {
     let (code, answers, authority) = match &question {
         _ if head.flags & OPCODE != 0 => (NOT_IMPLEMENTED, Vec::new(), None),
         None => (FORMAT_ERROR, Vec::new(), None),
-        Some(question) if question.class != CLASS_IN => (REFUSED, Vec::new(), None),
-        Some(question) => look_up(zone, &question.name, question.kind),
+        Some(question) => look_up(zone, question),
     };
     let mut out = Vec::new();
-    let flags = IS_RESPONSE | IS_AUTHORITATIVE | head.flags & (OPCODE | RECURSION_DESIRED) | code;
+    // Only what the zone says is said with authority (RFC 1035, section 4.1.1).
+    let authoritative = match code {
+        NO_ERROR | NAME_ERROR => IS_AUTHORITATIVE,
+        _ => 0,
+    };
+    let flags = IS_RESPONSE | authoritative | head.flags & (OPCODE | RECURSION_DESIRED) | code;
     let counts = [
         u16::from(question.is_some()),
         answers.len() as u16,
@@ -213,22 +277,24 @@ pub fn answer(zone: &Zone, query: &[u8]) -> Option<Vec<u8>> {
         out.extend_from_slice(&number.to_be_bytes());
     }
     out.extend_from_slice(question.map_or(&[], |question| question.text));
-    answers
-        .into_iter()
-        .chain(authority)
-        .for_each(|record| push_record(&mut out, record));
+    for record in answers.into_iter().chain(authority) {
+        push_record(&mut out, record);
+    }
     if has_opt {
         push_opt(&mut out);
     }
     Some(out)
 }
 
+// A code, answers and a record of authority. A zone isn't transferred.
 fn look_up<'a>(
     zone: &'a Zone,
-    name: &Name,
-    kind: u16,
+    question: &Question<'_>,
 ) -> (u16, Vec<&'a Record>, Option<&'a Record>) {
-    match zone.find(name, kind) {
+    if question.class != CLASS_IN || matches!(question.kind, TYPE_IXFR | TYPE_AXFR) {
+        return (REFUSED, Vec::new(), None);
+    }
+    match zone.find(&question.name, question.kind) {
         Found::Records(records) => (NO_ERROR, records, None),
         Found::NoRecords => (NO_ERROR, Vec::new(), zone.soa()),
         Found::NoName => (NAME_ERROR, Vec::new(), zone.soa()),
@@ -263,11 +329,7 @@ mod tests {
     }
 
     fn query(name: &str, kind: u16) -> Vec<u8> {
-        let mut out = vec![0, 0, 1, 0, 0, 1, 0, 0, 0, 0, 0, 0];
-        out.extend_from_slice(Name::of_text(name, &Name::root()).unwrap().as_slice());
-        out.extend_from_slice(&kind.to_be_bytes());
-        out.extend_from_slice(&[0, 1]);
-        out
+        super::query(&Name::of_text(name, &Name::root()).unwrap(), kind)
     }
 
     #[test]
@@ -279,12 +341,54 @@ mod tests {
     }
 
     #[test]
+    fn a_query_has_the_layout_of_the_standard() {
+        // RFC 1035, section 4.1.
+        let text = b"\0\0\x01\0\0\x01\0\0\0\0\0\0\x03www\x07example\0\0\x01\0\x01";
+        assert_eq!(query("www.example.", TYPE_A), text);
+    }
+
+    #[test]
+    fn an_answer_is_read() {
+        // Two records, whose names are a pointer to the question's and a label before one.
+        let mut text = b"\0\0\x81\0\0\x01\0\x02\0\0\0\0\x01a\0\0\x01\0\x01".to_vec();
+        text.extend_from_slice(b"\xc0\x0c\0\x01\0\x01\0\0\0\x3c\0\x04\x01\x02\x03\x04");
+        text.extend_from_slice(b"\x01b\xc0\x0c\0\x10\0\x01\0\0\0\x3c\0\x02\x01t");
+        let records = vec![(TYPE_A, vec![1, 2, 3, 4]), (TYPE_TXT, vec![1, b't'])];
+        assert_eq!(read_reply(&text), Some(Reply { code: 0, records }));
+        for len in 0..text.len() {
+            assert_eq!(read_reply(&text[..len]), None, "{len}");
+        }
+        assert_eq!(read_reply(&query("a.", TYPE_A)), None);
+    }
+
+    #[test]
+    fn all_records_of_a_name_are_answered() {
+        let text = "$ORIGIN example.\n@ SOA ns hostmaster 1 2 3 4 5\nwww A 192.0.2.1\n A 192.0.2.2\n TXT t\n";
+        let zone = Zone::read(text).unwrap();
+        let kinds = |name| {
+            let told = answer(&zone, &query(name, TYPE_ANY)).unwrap();
+            let kinds = read_reply(&told).unwrap().records.into_iter();
+            kinds.map(|(kind, _)| kind).collect::<Vec<_>>()
+        };
+        assert_eq!(kinds("www.example."), [TYPE_A, TYPE_A, TYPE_TXT]);
+        assert_eq!(kinds("example."), [TYPE_SOA]);
+    }
+
+    #[test]
     fn what_is_not_there_is_told() {
         let code = |name, kind| answer(&zone(), &query(name, kind)).unwrap()[3] & 15;
         assert_eq!(code("www.example.", TYPE_TXT), 0);
         assert_eq!(code("no.example.", TYPE_A), 3);
         assert_eq!(code("example.org.", TYPE_A), 5);
         assert!(answer(&zone(), b"short").is_none());
+        // AA is set where the zone has the last word alone.
+        let has_authority = |name, kind| answer(&zone(), &query(name, kind)).unwrap()[2] & 4 != 0;
+        assert!(has_authority("no.example.", TYPE_A));
+        assert!(!has_authority("example.org.", TYPE_A));
+        for kind in [TYPE_AXFR, TYPE_IXFR] {
+            assert_eq!(code("example.", kind), 5);
+            assert!(!has_authority("example.", kind));
+        }
         let broken = &query("www.example.", TYPE_A)[..20];
         assert_eq!(answer(&zone(), broken).unwrap()[3] & 15, 1);
     }

@@ -1,11 +1,12 @@
 //! DNS over dedicated QUIC connections (RFC 9250): one query and its answer on each stream.
 
-use crate::dns::{answer, message_id};
+use crate::client::Errand;
+use crate::dns::{Name, Reply, answer, message_id, query, read_reply};
 use crate::fault::Close;
-use crate::streams::{Application, Came, Outgoing, abandon, read_more};
+use crate::streams::{Application, Body, Came, Outgoing, abandon, read_more};
 use crate::zone::Zone;
-use gotsavena::{Endpoint, StreamId, UseFault};
-use std::collections::BTreeMap;
+use gotsavena::{Dir, Endpoint, OpenFault, SendState, StreamId, UseFault};
+use std::collections::{BTreeMap, VecDeque};
 use std::sync::Arc;
 
 /// The name of the protocol (RFC 9250, section 4.1.1).
@@ -29,6 +30,8 @@ pub struct NameServer {
 enum Query {
     Comes(Vec<u8>),
     IsAnswered(Outgoing),
+    /// All of the answer was written.
+    IsWritten,
 }
 
 impl NameServer {
@@ -74,7 +77,11 @@ impl Application for NameServer {
                 Err(close) => return Err(close),
             }
         }
-        Ok(())
+        // Where the client can open no more streams, and knows all answers, a new connection helps it (RFC 9250, section 5.4).
+        match self.queries.is_empty() && end.streams_left(Dir::Bidi) == 0 {
+            true => Err(Close::new(NO_ERROR, "a new connection is needed")),
+            false => Ok(()),
+        }
     }
 }
 
@@ -105,19 +112,116 @@ impl Query {
             let Some(answer) = answer(zone, message(bytes)?) else {
                 return Err(Close::new(PROTOCOL_ERROR, "a message that is no query"));
             };
-            let mut text = (answer.len() as u16).to_be_bytes().to_vec();
-            text.extend_from_slice(&answer);
-            *self = Query::IsAnswered(Outgoing::new(text));
+            *self = Query::IsAnswered(Outgoing::new(Body::of_bytes(with_len(&answer))));
         }
-        let Query::IsAnswered(outgoing) = self else {
-            return Ok(false);
-        };
-        match outgoing.write(end, stream) {
-            // The client asked to stop: the stream layer has reset the half.
-            Err(UseFault::WasReset) => Ok(true),
-            other => other.map_err(internal),
+        if let Query::IsAnswered(outgoing) = self {
+            match outgoing.write(end, stream, INTERNAL_ERROR) {
+                Ok(true) => *self = Query::IsWritten,
+                Ok(false) => return Ok(false),
+                // The client asked to stop: the stream layer has reset the half.
+                Err(UseFault::WasReset) => return Ok(true),
+                Err(fault) => return Err(internal(fault)),
+            }
+        }
+        Ok(is_known(end, stream))
+    }
+}
+
+// Whether the client knows all that was sent on a stream.
+fn is_known(end: &Endpoint, stream: StreamId) -> bool {
+    let send = end.report(stream).and_then(|report| report.send);
+    send.is_none_or(|send| matches!(send.state, SendState::DataRecvd | SendState::ResetRecvd))
+}
+
+/// A client that asks for the records of names, of one type.
+pub struct Asker {
+    kind: u16,
+    wanted: VecDeque<Name>,
+    running: BTreeMap<StreamId, (Name, Vec<u8>)>,
+    pub answers: Vec<(Name, Reply)>,
+}
+
+impl Asker {
+    pub fn new(names: Vec<Name>, kind: u16) -> Asker {
+        Asker {
+            kind,
+            wanted: names.into(),
+            running: BTreeMap::new(),
+            answers: Vec::new(),
         }
     }
+
+    fn begin(&mut self, end: &mut Endpoint) -> Result<(), Close> {
+        while let Some(name) = self.wanted.front() {
+            let stream = match end.open(Dir::Bidi) {
+                Ok(stream) => stream,
+                Err(OpenFault::Blocked(_)) => return Ok(()),
+                Err(fault) => return Err(Close::new(INTERNAL_ERROR, &fault.to_string())),
+            };
+            // A query is short, and a new stream has room for it.
+            let text = with_len(&query(name, self.kind));
+            end.write(stream, &text).map_err(internal)?;
+            end.finish(stream).map_err(internal)?;
+            let name = self.wanted.pop_front();
+            self.running
+                .extend(name.map(|name| (stream, (name, Vec::new()))));
+        }
+        Ok(())
+    }
+
+    fn take(&mut self, name: Name, bytes: &[u8]) -> Result<(), Close> {
+        let reply = read_reply(message(bytes)?);
+        let reply = reply.ok_or_else(|| Close::new(PROTOCOL_ERROR, "an answer that is none"))?;
+        self.answers.push((name, reply));
+        Ok(())
+    }
+}
+
+impl Application for Asker {
+    fn progress(&mut self, end: &mut Endpoint) -> Result<(), Close> {
+        for (stream, (name, mut bytes)) in std::mem::take(&mut self.running) {
+            match read_more(end, stream, &mut bytes, MOST_BYTES).map_err(internal)? {
+                Came::All => self.take(name, &bytes)?,
+                Came::Some => {
+                    self.running.insert(stream, (name, bytes));
+                }
+                Came::Reset(_) => self.wanted.push_back(name),
+                Came::TooMuch => return Err(Close::new(PROTOCOL_ERROR, "bytes behind an answer")),
+            }
+        }
+        self.begin(end)?;
+        match self.is_over() {
+            true => Err(Close::new(NO_ERROR, "all is answered")),
+            false => Ok(()),
+        }
+    }
+
+    fn waits_for_streams(&self) -> bool {
+        self.running.is_empty() && !self.wanted.is_empty()
+    }
+}
+
+impl Errand for Asker {
+    fn is_over(&self) -> bool {
+        self.wanted.is_empty() && self.running.is_empty()
+    }
+
+    fn done(&self) -> usize {
+        self.answers.len()
+    }
+
+    fn begin_anew(&mut self) {
+        for (name, _) in std::mem::take(&mut self.running).into_values() {
+            self.wanted.push_front(name);
+        }
+    }
+}
+
+// A message behind its length (RFC 9250, section 4.2).
+fn with_len(message: &[u8]) -> Vec<u8> {
+    let mut out = (message.len() as u16).to_be_bytes().to_vec();
+    out.extend_from_slice(message);
+    out
 }
 
 fn internal(fault: UseFault) -> Close {
@@ -127,30 +231,53 @@ fn internal(fault: UseFault) -> Close {
 #[cfg(test)]
 mod tests {
     use super::*;
-    use gotsavena::{Dir, Role, Settings};
+    use gotsavena::{Role, Settings};
 
-    // What a server does with the bytes of a stream, and what comes back.
+    struct Pair {
+        client: Endpoint,
+        server: Endpoint,
+        application: NameServer,
+    }
+
+    impl Pair {
+        fn new(settings: Settings) -> Pair {
+            let zone = Zone::read("example. 60 SOA ns hostmaster 1 2 3 4 5").unwrap();
+            let [client, server] = [Role::Client, Role::Server]
+                .map(|role| Endpoint::new(role, settings, settings.limits()).unwrap());
+            Pair {
+                client,
+                server,
+                application: NameServer::new(Arc::new(zone)),
+            }
+        }
+
+        // What a server does with the bytes of a stream, and what comes back.
+        fn ask(&mut self, bytes: &[u8]) -> Result<Vec<u8>, Close> {
+            let stream = self.client.open(Dir::Bidi).unwrap();
+            self.client.write(stream, bytes).unwrap();
+            self.client.finish(stream).unwrap();
+            let mut payload = [0; 1200];
+            // (the second time brings the client's ACK)
+            for _ in 0..2 {
+                while let Some(made) = self.client.make_packet(&mut payload).unwrap() {
+                    let payload = &payload[..made.len];
+                    self.server.receive(made.number, payload).unwrap();
+                }
+                self.application.progress(&mut self.server)?;
+                while let Some(made) = self.server.make_packet(&mut payload).unwrap() {
+                    let payload = &payload[..made.len];
+                    self.client.receive(made.number, payload).unwrap();
+                }
+            }
+            let mut answer = Vec::new();
+            let came = read_more(&mut self.client, stream, &mut answer, MOST_BYTES);
+            assert_eq!(came, Ok(Came::All));
+            Ok(answer)
+        }
+    }
+
     fn ask(bytes: &[u8]) -> Result<Vec<u8>, Close> {
-        let zone = Zone::read("example. 60 SOA ns hostmaster 1 2 3 4 5").unwrap();
-        let settings = Settings::default();
-        let [mut client, mut server] = [Role::Client, Role::Server]
-            .map(|role| Endpoint::new(role, settings, settings.limits()).unwrap());
-        let mut application = NameServer::new(Arc::new(zone));
-        let stream = client.open(Dir::Bidi).unwrap();
-        client.write(stream, bytes).unwrap();
-        client.finish(stream).unwrap();
-        let mut payload = [0; 1200];
-        while let Some(made) = client.make_packet(&mut payload).unwrap() {
-            server.receive(made.number, &payload[..made.len]).unwrap();
-        }
-        application.progress(&mut server)?;
-        while let Some(made) = server.make_packet(&mut payload).unwrap() {
-            client.receive(made.number, &payload[..made.len]).unwrap();
-        }
-        let mut answer = Vec::new();
-        let came = read_more(&mut client, stream, &mut answer, MOST_BYTES);
-        assert_eq!(came, Ok(Came::All));
-        Ok(answer)
+        Pair::new(Settings::default()).ask(bytes)
     }
 
     const QUERY: &[u8] = b"\0\x19\0\0\x01\0\0\x01\0\0\0\0\0\0\x07example\0\0\x06\0\x01";
@@ -161,6 +288,19 @@ mod tests {
         let len = usize::from(u16::from_be_bytes([answer[0], answer[1]]));
         assert_eq!(answer.len(), 2 + len);
         assert_eq!(answer[4..10], [0x85, 0, 0, 1, 0, 1]);
+    }
+
+    #[test]
+    fn a_connection_closes_once_its_last_query_is_answered() {
+        let mut pair = Pair::new(Settings::default().bidi_streams(2, 3));
+        assert!(pair.ask(QUERY).is_ok());
+        assert!(pair.ask(QUERY).is_ok());
+        // The answer went and is acknowledged: only then it closes, without a fault.
+        assert_eq!(pair.ask(QUERY).unwrap_err().code, NO_ERROR);
+        let stream = StreamId::new(8).unwrap();
+        let mut answer = Vec::new();
+        let came = read_more(&mut pair.client, stream, &mut answer, MOST_BYTES);
+        assert_eq!((came, answer.len() > QUERY.len()), (Ok(Came::All), true));
     }
 
     #[test]

@@ -63,6 +63,8 @@ pub enum Outcome {
     Idle,
     /// The peer lost what it knew of the connection (section 10.3).
     Reset,
+    /// No program listens on the server's port.
+    Refused,
     /// The peer speaks no version that is spoken here (section 6).
     NoVersion,
 }
@@ -98,6 +100,7 @@ impl fmt::Display for Outcome {
             }
             Outcome::Idle => f.write_str("nothing came for too long"),
             Outcome::Reset => f.write_str("the peer reset the connection"),
+            Outcome::Refused => f.write_str("no program listens on that port"),
             Outcome::NoVersion => f.write_str("the peer does not speak QUIC version 1"),
         }
     }

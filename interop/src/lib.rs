@@ -20,6 +20,7 @@ pub mod files;
 #[cfg(feature = "http3")]
 pub mod h3;
 pub mod ids;
+pub mod log;
 pub mod pacing;
 pub mod packet;
 pub mod parameters;

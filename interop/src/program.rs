@@ -1,17 +1,23 @@
 //! What the programs have in common: words of the command line, messages and statuses.
 
+use crate::certificate::Identity;
 use crate::connection::{ClientSetup, Config, Connection};
 use crate::fault::Outcome;
+use crate::log::say;
 use crate::packet::VERSION_1;
 use crate::tls::client_config;
 use gotsavena::Settings;
 use std::collections::BTreeMap;
 use std::fmt::Display;
+use std::io::ErrorKind;
 use std::net::{SocketAddr, ToSocketAddrs, UdpSocket};
 use std::path::Path;
 use std::process::ExitCode;
 use std::sync::atomic::{AtomicBool, Ordering};
 use std::time::{Duration, Instant};
+
+/// How many streams the stream layer allows in a connection's life.
+const MOST_STREAMS: u64 = 65_536;
 
 static TELLS_MORE: AtomicBool = AtomicBool::new(false);
 
@@ -34,6 +40,8 @@ impl Refusal {
 #[derive(Debug, Default)]
 pub struct Words {
     options: BTreeMap<String, String>,
+    asks_for_help: bool,
+    asks_for_version: bool,
     pub rest: Vec<String>,
 }
 
@@ -42,16 +50,28 @@ pub fn tell(line: &str) {
     eprintln!("{line}");
 }
 
-/// The same, where `--verbose yes` asks for it.
+/// The same, where `--verbose` asks for it.
 pub fn tell_more(line: &str) {
     if TELLS_MORE.load(Ordering::Relaxed) {
         tell(line);
     }
 }
 
-/// Runs a program: `usage` is told where its words make no sense.
+/// Runs a program: `usage`, which begins with its name, is told where its words make no sense. Every program knows `--help`,
+/// `--version` and `--verbose`.
 pub fn run(usage: &str, main: impl FnOnce(Words) -> Result<(), Refusal>) -> ExitCode {
-    match words(std::env::args().skip(1)).and_then(main) {
+    let answer = |words: Words| {
+        if words.asks_for_help {
+            println!("usage: {usage} [--verbose] [--help] [--version]");
+        } else if words.asks_for_version {
+            let name = usage.split(' ').next().unwrap_or_default();
+            println!("{name} {}", env!("CARGO_PKG_VERSION"));
+        } else {
+            return main(words);
+        }
+        Ok(())
+    };
+    match words(std::env::args().skip(1)).and_then(answer) {
         Ok(()) => ExitCode::SUCCESS,
         Err(Refusal::Usage(reason)) => {
             tell(&format!("{reason}\nusage: {usage}"));
@@ -72,13 +92,16 @@ fn words(given: impl Iterator<Item = String>) -> Result<Words, Refusal> {
             words.rest.push(word);
             continue;
         };
-        let value = given
-            .next()
-            .ok_or_else(|| Refusal::Usage(format!("--{name} lacks its value")))?;
-        words.options.insert(name.to_owned(), value);
-    }
-    if words.options.remove("verbose").is_some() {
-        TELLS_MORE.store(true, Ordering::Relaxed);
+        match name {
+            "help" => words.asks_for_help = true,
+            "version" => words.asks_for_version = true,
+            "verbose" => TELLS_MORE.store(true, Ordering::Relaxed),
+            _ => {
+                let lacking = || Refusal::Usage(format!("--{name} lacks its value"));
+                let value = given.next().ok_or_else(lacking)?;
+                words.options.insert(name.to_owned(), value);
+            }
+        }
     }
     Ok(words)
 }
@@ -107,12 +130,29 @@ impl Words {
         rest.map_err(|_| Refusal::Usage(format!("{count} words where {N} are expected")))
     }
 
-    /// The version that a client tries first: `--version HEX`.
-    pub fn version(&mut self) -> Result<u32, Refusal> {
-        match self.option("version") {
+    /// The version that a client tries first: `--quic-version HEX`.
+    pub fn quic_version(&mut self) -> Result<u32, Refusal> {
+        match self.option("quic-version") {
             Some(text) => u32::from_str_radix(&text, 16)
-                .map_err(|_| Refusal::Usage(format!("--version {text} is no version"))),
+                .map_err(|_| Refusal::Usage(format!("--quic-version {text} is no version"))),
             None => Ok(VERSION_1),
+        }
+    }
+
+    /// What a server is known by: `--cert FILE` with `--key FILE`, or `--identity FOLDER`, in which it is kept; else it is made anew.
+    pub fn identity(&mut self) -> Result<Identity, Refusal> {
+        let options = ["cert", "key", "identity"].map(|name| self.option(name));
+        match options
+            .each_ref()
+            .map(|option| option.as_ref().map(Path::new))
+        {
+            [Some(certificate), Some(key), None] => Identity::read(certificate, key),
+            [None, None, Some(folder)] => Identity::kept(folder),
+            [None, None, None] => Identity::new().map_err(|_| Refusal::failure("no random bytes")),
+            _ => {
+                let reason = "--cert and --key go together, and --identity without these";
+                Err(Refusal::Usage(reason.to_owned()))
+            }
         }
     }
 
@@ -124,13 +164,21 @@ impl Words {
     }
 }
 
+/// The addresses that a text names, in the system's order.
+pub fn addresses(text: &str) -> Result<Vec<SocketAddr>, Refusal> {
+    let found = text.to_socket_addrs().into_iter().flatten();
+    let found: Vec<SocketAddr> = found.collect();
+    match found.is_empty() {
+        true => Err(Refusal::Usage(format!(
+            "{text} is no address, such as 127.0.0.1:8853"
+        ))),
+        false => Ok(found),
+    }
+}
+
 /// The first address that a text names.
 pub fn address(text: &str) -> Result<SocketAddr, Refusal> {
-    let found = text
-        .to_socket_addrs()
-        .ok()
-        .and_then(|mut found| found.next());
-    found.ok_or_else(|| Refusal::Usage(format!("{text} is no address, such as 127.0.0.1:8853")))
+    addresses(text).map(|found| found[0])
 }
 
 /// A socket on an address, which is told on standard output: with the port 0 the system chooses one.
@@ -139,31 +187,77 @@ pub fn listen(text: &str) -> Result<UdpSocket, Refusal> {
     let socket = UdpSocket::bind(wanted)
         .map_err(|error| Refusal::Failure(format!("{wanted} can't be listened on: {error}")))?;
     let own = socket.local_addr().map_err(Refusal::failure)?;
-    println!("listening on {own}");
+    say(format_args!("listening on {own}"));
     Ok(socket)
 }
 
-/// What a connection for files is made with: `--window BYTES` is the window of the connection, and of a stream as far as one goes;
+/// Sockets on some addresses, where the port 0 of a later one is the port of the first. One that the system has not, such as `[::1]`
+/// where there is no IPv6, is left out and told. A warning tells of one that isn't of the loopback.
+pub fn listen_on_all(texts: &[String]) -> Result<Vec<UdpSocket>, Refusal> {
+    let mut sockets: Vec<UdpSocket> = Vec::new();
+    for text in texts {
+        let mut wanted = address(text)?;
+        if let (Some(first), 0) = (sockets.first(), wanted.port()) {
+            wanted.set_port(first.local_addr().map_err(Refusal::failure)?.port());
+        }
+        if !wanted.ip().is_loopback() {
+            tell(&format!(
+                "warning: {wanted} is not of the loopback: whoever reaches it is served, by an example"
+            ));
+        }
+        let refused = |error| Refusal::Failure(format!("{wanted} can't be listened on: {error}"));
+        match UdpSocket::bind(wanted) {
+            Ok(socket) => sockets.push(socket),
+            Err(error) if error.kind() == ErrorKind::AddrNotAvailable && !sockets.is_empty() => {
+                tell(&format!("{wanted} isn't listened on: {error}"));
+            }
+            Err(error) => return Err(refused(error)),
+        }
+    }
+    for socket in &sockets {
+        let own = socket.local_addr().map_err(Refusal::failure)?;
+        say(format_args!("listening on {own}"));
+    }
+    Ok(sockets)
+}
+
+/// What a connection for files is made with: `--window BYTES` is the window of the connection, and of a stream as far as one goes,
+/// where `--stream-window BYTES` doesn't say otherwise;
 /// `--streams N` how many the peer may open at once, of which the stream layer allows 65,536 in all; `--idle SECONDS` after how long a
 /// silence it ends.
 pub fn config(words: &mut Words) -> Result<Config, Refusal> {
     let window = words.number("window", 1 << 22)?;
-    let streams = words.number("streams", 100)?;
+    let stream_window = words.number("stream-window", window.min(1 << 20))?;
+    let (streams, lifetime) = streams(words)?;
     let idle = words.number("idle", 30)?;
-    if !(1..=1 << 24).contains(&window) || !(1..=4096).contains(&streams) {
-        let reason = "a window has 1 to 16777216 bytes, and the peer may open 1 to 4096 streams";
+    if !(1..=1 << 24).contains(&window) || !(1..=1 << 20).contains(&stream_window) {
+        let reason = "a window has 1 to 16777216 bytes, and that of a stream 1 to 1048576";
         return Err(Refusal::Usage(reason.to_owned()));
     }
     let settings = Settings::default()
         .conn_window(window)
-        .stream_windows(window.min(1 << 20))
-        .bidi_remote_window(window.min(1 << 16))
-        .send_buffer(1 << 20)
-        .streams(streams, 65_536);
+        .stream_windows(stream_window)
+        .bidi_remote_window(stream_window.min(1 << 16))
+        .send_buffer(1 << 18)
+        .bidi_streams(streams, lifetime)
+        .uni_streams(streams, MOST_STREAMS);
     Ok(Config {
         settings,
         idle: Duration::from_secs(idle),
     })
+}
+
+/// How many streams the peer may open at once, `--streams N`, and in all, `--lifetime N`.
+pub fn streams(words: &mut Words) -> Result<(u64, u64), Refusal> {
+    let streams = words.number("streams", 100)?;
+    let lifetime = words.number("lifetime", MOST_STREAMS)?;
+    if !(1..=4096).contains(&streams) || !(1..=MOST_STREAMS).contains(&lifetime) {
+        let reason = format!(
+            "the peer may open 1 to 4096 streams at once, and 1 to {MOST_STREAMS} in a connection's life"
+        );
+        return Err(Refusal::Usage(reason));
+    }
+    Ok((streams.min(lifetime), lifetime))
 }
 
 /// A client's connection to a server of a name.

@@ -58,13 +58,13 @@ impl Answer {
                     return abandon(end, stream, NO_FILE).map(|()| true);
                 }
             }
-            let Some(bytes) = folder.read(&String::from_utf8_lossy(path)) else {
+            let Some(found) = folder.plain(&String::from_utf8_lossy(path)) else {
                 return abandon(end, stream, NO_FILE).map(|()| true);
             };
-            *self = Answer::Goes(Outgoing::new(bytes));
+            *self = Answer::Goes(Outgoing::new(found.body()));
         }
         match self {
-            Answer::Goes(outgoing) => outgoing.write(end, stream),
+            Answer::Goes(outgoing) => outgoing.write(end, stream, INTERNAL_ERROR),
             Answer::PathComes(_) => Ok(false),
         }
     }

@@ -32,7 +32,7 @@ pub struct Server<A> {
     socket: UdpSocket,
     tls: Arc<ServerConfig>,
     config: Config,
-    make: Box<dyn Fn() -> A>,
+    make: Box<dyn Fn(SocketAddr) -> A>,
     // (boxed: a table that grew keeps its places)
     served: HashMap<u64, Box<Served<A>>>,
     ids: HashMap<ConnectionId, u64>,
@@ -43,14 +43,18 @@ struct Served<A> {
     connection: Connection,
     peer: SocketAddr,
     application: A,
+    /// Whether the application was told how the connection ended.
+    was_told: bool,
 }
 
-/// Takes in what a socket has: it waits for the first datagram until a time. `take` has each with its sender.
+/// Takes in what a socket has: it waits for the first datagram until a time. `take` has each with its sender. Answers whether the
+/// system told that no one listens on the peer's port.
 pub fn receive_batch(
     socket: &UdpSocket,
     until: Option<Instant>,
     mut take: impl FnMut(&mut [u8], SocketAddr),
-) -> io::Result<()> {
+) -> io::Result<bool> {
+    let mut is_refused = false;
     let wait = until.map_or(LONG, |until| {
         until.saturating_duration_since(Instant::now())
     });
@@ -68,10 +72,9 @@ pub fn receive_batch(
                     if place == 0 && long.is_zero() {
                         thread::sleep(wait.min(FINE));
                     }
-                    return Ok(());
+                    return Ok(is_refused);
                 }
-                // The peer's socket is gone; its silence will tell.
-                ErrorKind::ConnectionRefused => {}
+                ErrorKind::ConnectionRefused => is_refused = true,
                 _ => return Err(error),
             },
         }
@@ -79,7 +82,7 @@ pub fn receive_batch(
             socket.set_nonblocking(true)?;
         }
     }
-    Ok(())
+    Ok(is_refused)
 }
 
 /// Lets an application go on, and sends what there is. Answers whether there is more.
@@ -111,12 +114,12 @@ pub fn turn<A: Application>(
 }
 
 impl<A: Application> Server<A> {
-    /// `make` makes what runs over each connection.
+    /// `make` makes what runs over each connection, with the peer of an address.
     pub fn new(
         socket: UdpSocket,
         tls: Arc<ServerConfig>,
         config: Config,
-        make: impl Fn() -> A + 'static,
+        make: impl Fn(SocketAddr) -> A + 'static,
     ) -> Server<A> {
         Server {
             socket,
@@ -139,7 +142,8 @@ impl<A: Application> Server<A> {
                 true => self.next_timer(),
                 false => Some(Instant::now()),
             };
-            receive_batch(&socket, until, |datagram, from| {
+            // Where a client's socket is gone its silence tells.
+            _ = receive_batch(&socket, until, |datagram, from| {
                 busy.extend(self.take(datagram, from, &mut out));
             })?;
             busy.extend(self.timers_are_up());
@@ -210,11 +214,12 @@ impl<A: Application> Server<A> {
         for id in connection.ids() {
             self.ids.insert(id, key);
         }
-        let application = (self.make)();
+        let application = (self.make)(from);
         let served = Served {
             connection,
             peer: from,
             application,
+            was_told: false,
         };
         self.served.insert(key, Box::new(served));
         Some(key)
@@ -228,16 +233,19 @@ impl<A: Application> Server<A> {
             connection,
             peer,
             application,
+            was_told,
         } = &mut **served;
         let more = turn(connection, application, out, |bytes| {
             self.socket.send_to(bytes, *peer)
         })?;
+        if let (Some(outcome), false) = (connection.outcome(), *was_told) {
+            *was_told = true;
+            application.ended(connection.last_end(), outcome);
+            program::tell_more(&format!("connection with {peer} ended: {outcome}"));
+        }
         if connection.is_gone() {
             for id in connection.ids() {
                 self.ids.remove(&id);
-            }
-            if let Some(outcome) = connection.outcome() {
-                program::tell_more(&format!("connection with {peer} ended: {outcome}"));
             }
             self.served.remove(&key);
             return Ok(false);

@@ -1,8 +1,8 @@
 //! What the applications do with streams: read one to its end, write bytes as room comes.
 
-use crate::fault::Close;
+use crate::fault::{Close, Outcome};
 use gotsavena::{Endpoint, Read, StreamId, UseFault};
-use std::sync::Arc;
+use std::io;
 
 /// What runs over the streams of a connection.
 pub trait Application {
@@ -12,6 +12,14 @@ pub trait Application {
     ///
     /// What the connection is closed with: a client that has what it wanted closes it so, too.
     fn progress(&mut self, end: &mut Endpoint) -> Result<(), Close>;
+
+    /// Whether it waits for nothing but streams that it may open.
+    fn waits_for_streams(&self) -> bool {
+        false
+    }
+
+    /// The connection ended so. Its end, if it had one, tells how streams stood then.
+    fn ended(&mut self, _end: Option<&Endpoint>, _outcome: &Outcome) {}
 }
 
 /// How a stream stands after what is there was read.
@@ -54,30 +62,114 @@ pub fn abandon(end: &mut Endpoint, stream: StreamId, code: u64) -> Result<(), Us
     }
 }
 
-/// Bytes that are written to a stream and then end it.
-#[derive(Clone, Debug)]
+/// How many bytes of a body are read at once.
+const PIECE: u64 = 1 << 14;
+
+/// The bytes of an answer or a request, read in pieces as the stream takes them.
+pub struct Body {
+    source: Box<dyn io::Read>,
+    left: u64,
+}
+
+impl Body {
+    /// So many bytes of a source.
+    pub fn new(source: impl io::Read + 'static, len: u64) -> Body {
+        Body {
+            source: Box::new(source),
+            left: len,
+        }
+    }
+
+    pub fn of_bytes(bytes: Vec<u8>) -> Body {
+        let len = bytes.len() as u64;
+        Body::new(io::Cursor::new(bytes), len)
+    }
+
+    /// The next piece; one without bytes where there are no more.
+    ///
+    /// # Errors
+    ///
+    /// Of the source, which may have become shorter than it was.
+    pub fn next_piece(&mut self) -> io::Result<Vec<u8>> {
+        let mut piece = vec![0; self.left.min(PIECE) as usize];
+        self.source.read_exact(&mut piece)?;
+        self.left -= piece.len() as u64;
+        Ok(piece)
+    }
+
+    /// Whether all of it was read.
+    pub fn is_over(&self) -> bool {
+        self.left == 0
+    }
+}
+
+/// A body that is written to a stream and then ends it.
 pub struct Outgoing {
-    bytes: Arc<[u8]>,
+    body: Body,
+    /// What was read of the body, and how much of that was written.
+    piece: Vec<u8>,
     written: usize,
 }
 
 impl Outgoing {
-    pub fn new(bytes: impl Into<Arc<[u8]>>) -> Outgoing {
+    pub fn new(body: Body) -> Outgoing {
         Outgoing {
-            bytes: bytes.into(),
+            body,
+            piece: Vec::new(),
             written: 0,
         }
     }
 
-    /// Writes as many as there is room for. Answers whether the stream was finished.
-    pub fn write(&mut self, end: &mut Endpoint, stream: StreamId) -> Result<bool, UseFault> {
-        while self.written < self.bytes.len() {
-            match end.write(stream, &self.bytes[self.written..])? {
-                0 => return Ok(false),
-                count => self.written += count,
+    /// Writes as much as there is room for. Answers whether the stream was finished, or reset with this code since its source
+    /// failed.
+    pub fn write(
+        &mut self,
+        end: &mut Endpoint,
+        stream: StreamId,
+        code: u64,
+    ) -> Result<bool, UseFault> {
+        loop {
+            if self.written < self.piece.len() {
+                match end.write(stream, &self.piece[self.written..])? {
+                    0 => return Ok(false),
+                    count => self.written += count,
+                }
+            } else if self.body.is_over() {
+                return end.finish(stream).map(|()| true);
+            } else {
+                let Ok(piece) = self.body.next_piece() else {
+                    return abandon(end, stream, code).map(|()| true);
+                };
+                (self.piece, self.written) = (piece, 0);
             }
         }
-        end.finish(stream)?;
-        Ok(true)
+    }
+}
+
+#[cfg(test)]
+mod tests {
+    use super::*;
+    use gotsavena::{Dir, Role, Settings};
+
+    fn write_all(source: &'static [u8], len: u64) -> (u64, Option<u64>) {
+        let settings = Settings::default().send_buffer(1 << 16);
+        let mut end = Endpoint::new(Role::Client, settings, settings.limits()).unwrap();
+        let stream = end.open(Dir::Uni).unwrap();
+        let mut outgoing = Outgoing::new(Body::new(source, len));
+        assert_eq!(outgoing.write(&mut end, stream, 9), Ok(true));
+        let send = end.report(stream).unwrap().send.unwrap();
+        (send.written, send.reset_code)
+    }
+
+    #[test]
+    fn a_body_ends_its_stream() {
+        assert_eq!(write_all(&[7; 40_000], 40_000), (40_000, None));
+        assert_eq!(write_all(&[7; 40_000], 20_000), (20_000, None));
+        assert_eq!(write_all(&[], 0), (0, None));
+    }
+
+    #[test]
+    fn a_source_that_ends_too_soon_breaks_its_stream_off() {
+        assert_eq!(write_all(&[7; 20_000], 40_000).1, Some(9));
     }
 }

@@ -2,6 +2,7 @@
 
 use crate::certificate::Identity;
 use crate::fault::{CRYPTO_ERROR, Fault, INTERNAL_ERROR};
+use crate::program::Refusal;
 use rustls::client::{ServerCertVerified, ServerCertVerifier};
 use rustls::quic::{ClientQuicExt, KeyChange, QuicExt, ServerQuicExt, Version};
 use rustls::{
@@ -12,17 +13,16 @@ use std::sync::Arc;
 use std::time::SystemTime;
 
 /// What TLS needs of a server: a certificate, and the names of the protocols that are spoken over the streams.
-pub fn server_config(protocols: &[&[u8]]) -> Result<Arc<ServerConfig>, Fault> {
-    let identity = Identity::new()
-        .map_err(|_| Fault::new(INTERNAL_ERROR, 0, "no certificate could be made"))?;
+pub fn server_config(
+    identity: Identity,
+    protocols: &[&[u8]],
+) -> Result<Arc<ServerConfig>, Refusal> {
+    let certificates = identity.certificates.into_iter().map(Certificate);
     let mut config = ServerConfig::builder()
         .with_safe_defaults()
         .with_no_client_auth()
-        .with_single_cert(
-            vec![Certificate(identity.certificate)],
-            PrivateKey(identity.key),
-        )
-        .map_err(|error| Fault::new(INTERNAL_ERROR, 0, &error.to_string()))?;
+        .with_single_cert(certificates.collect(), PrivateKey(identity.key))
+        .map_err(|error| Refusal::Failure(format!("the certificate or its key: {error}")))?;
     config.alpn_protocols = protocols.iter().map(|name| name.to_vec()).collect();
     config.key_log = Arc::new(KeyLogFile::new());
     Ok(Arc::new(config))

@@ -1,7 +1,7 @@
 //! A zone's file (RFC 1035, section 5), in small: `$ORIGIN`, `$TTL`, and records of A, AAAA, TXT, SOA, NS and CNAME, over several
 //! lines where parentheses hold them together.
 
-use crate::dns::{Name, TYPE_A, TYPE_AAAA, TYPE_CNAME, TYPE_NS, TYPE_SOA, TYPE_TXT};
+use crate::dns::{Name, TYPE_A, TYPE_AAAA, TYPE_ANY, TYPE_CNAME, TYPE_NS, TYPE_SOA, TYPE_TXT};
 use std::collections::{BTreeMap, BTreeSet};
 use std::fmt;
 use std::net::{Ipv4Addr, Ipv6Addr};
@@ -106,6 +106,16 @@ impl Zone {
         found.map_or(&[], Vec::as_slice)
     }
 
+    // All records of a name.
+    fn all(&self, name: &Name) -> Found<'_> {
+        let from = (name.clone(), 0)..=(name.clone(), u16::MAX);
+        let records: Vec<&Record> = self.records.range(from).flat_map(|(_, of)| of).collect();
+        match records.is_empty() {
+            true => Found::NoRecords,
+            false => Found::Records(records),
+        }
+    }
+
     /// The records of a name and type, behind the aliases that lead to them.
     pub fn find(&self, name: &Name, kind: u16) -> Found<'_> {
         if !name.is_within(&self.origin) {
@@ -113,6 +123,9 @@ impl Zone {
         }
         if !self.names.contains(name) {
             return Found::NoName;
+        }
+        if kind == TYPE_ANY {
+            return self.all(name);
         }
         let mut records = Vec::new();
         let mut target = name.clone();

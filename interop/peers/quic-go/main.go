@@ -230,7 +230,7 @@ func breakOff(client *http3.RoundTripper, url string, stops bool) error {
 	reader, writer := io.Pipe()
 	context, giveUp := context.WithCancel(context.Background())
 	defer giveUp()
-	request, err := http.NewRequestWithContext(context, http.MethodPost, url, reader)
+	request, err := http.NewRequestWithContext(context, http.MethodGet, url, reader)
 	if err != nil {
 		return err
 	}

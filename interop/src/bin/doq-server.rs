@@ -3,7 +3,7 @@
 use gotsavena::Settings;
 use gotsavena_interop::connection::Config;
 use gotsavena_interop::doq::{NameServer, PROTOCOL};
-use gotsavena_interop::program::{self, Refusal, Words, listen};
+use gotsavena_interop::program::{self, Refusal, Words, listen, streams};
 use gotsavena_interop::server::Server;
 use gotsavena_interop::tls::server_config;
 use gotsavena_interop::zone::Zone;
@@ -12,28 +12,33 @@ use std::sync::Arc;
 use std::time::Duration;
 
 fn main() -> ExitCode {
-    program::run("doq-server [--verbose yes] ZONEFILE ADDR", serve)
+    program::run(
+        "doq-server [--cert FILE --key FILE | --identity FOLDER] [--streams N] [--lifetime N] ZONEFILE ADDR",
+        serve,
+    )
 }
 
-fn serve(words: Words) -> Result<(), Refusal> {
+fn serve(mut words: Words) -> Result<(), Refusal> {
+    let identity = words.identity()?;
+    let (at_once, lifetime) = streams(&mut words)?;
     let [file, address] = words.exactly()?;
     let text = std::fs::read_to_string(&file)
         .map_err(|error| Refusal::Failure(format!("{file} can't be read: {error}")))?;
     let zone = Zone::read(&text).map_err(|fault| Refusal::Failure(format!("{file}, {fault}")))?;
     let zone = Arc::new(zone);
-    let tls = server_config(&[PROTOCOL]).map_err(Refusal::failure)?;
+    let tls = server_config(identity, &[PROTOCOL])?;
     // Queries are short: a small window for each stream, and many streams in a connection's life.
     let settings = Settings::default()
         .conn_window(1 << 18)
         .stream_windows(1 << 12)
         .send_buffer(1 << 16)
-        .bidi_streams(100, 65_536)
+        .bidi_streams(at_once, lifetime)
         .uni_streams(0, 0);
     let config = Config {
         settings,
         idle: Duration::from_secs(30),
     };
     let socket = listen(&address)?;
-    let mut server = Server::new(socket, tls, config, move || NameServer::new(zone.clone()));
+    let mut server = Server::new(socket, tls, config, move |_| NameServer::new(zone.clone()));
     server.run().map_err(Refusal::failure)
 }

@@ -1,30 +1,55 @@
-//! An HTTP/3 client: loads files of one server, all at once on one connection, into a folder. With `--stop-after BYTES` it stops each
-//! file in the middle; with `--resets N` it begins N requests before each file that it breaks off in the middle.
+//! An HTTP/3 client: loads files of one server, all at once, into a folder, on one connection or as many as the server asks for. With `--stop-after BYTES` it stops each
+//! file in the middle; with `--resets N` it begins N requests before each file that it breaks off in the middle; with `--unread N` it
+//! asks N times for the first file, reads nothing of the answers, and loads the others.
 
-use gotsavena_interop::client::{connect, run};
-use gotsavena_interop::h3::client::{Loader, Url};
+use gotsavena_interop::client::run_errand;
+use gotsavena_interop::h3::client::{Loader, Manners, Url};
 use gotsavena_interop::h3::{NO_ERROR, PROTOCOL};
-use gotsavena_interop::program::{
-    self, Refusal, Words, address, client, config, expect_close, save,
-};
+use gotsavena_interop::program::{self, Refusal, Words, addresses, client, config, save};
 use std::process::ExitCode;
 use std::time::Instant;
 
 fn main() -> ExitCode {
     program::run(
-        "h3-client [--download DIR] [--stop-after BYTES] [--resets N] [--window BYTES] [--streams N] [--idle SECONDS] [--version HEX] URL..",
+        "h3-client [--download DIR] [--stop-after BYTES] [--resets N] [--unread N] [--window BYTES] [--stream-window BYTES] [--streams N] [--idle SECONDS] [--quic-version HEX] URL..",
         load,
     )
 }
 
 fn load(mut words: Words) -> Result<(), Refusal> {
     let config = config(&mut words)?;
-    let version = words.version()?;
+    let version = words.quic_version()?;
     let folder = words.option("download");
     let stop_after = words.number("stop-after", u64::MAX)?;
-    let resets = words.number("resets", 0)?;
+    let resets = words.number("resets", 0)? as usize;
+    let unread = words.number("unread", 0)? as usize;
     words.no_more_options()?;
-    let urls = words.rest.iter().map(|text| {
+    let (first, urls) = urls(&words.rest)?;
+    let begin = Instant::now();
+    let manners = Manners {
+        stop_after: stop_after as usize,
+        resets,
+        unread,
+    };
+    let mut loader = Loader::new(urls, manners);
+    let make = || client(PROTOCOL, first.host(), version, config);
+    let server = addresses(&first.authority)?;
+    let connections = run_errand(&server, make, &mut loader, NO_ERROR)?;
+    let time = begin.elapsed();
+    finish(&loader, folder.as_deref(), stop_after)?;
+    if connections > 1 {
+        println!("over {connections} connections");
+    }
+    program::tell_speed(
+        loader.loaded.iter().map(|loaded| loaded.body.len()).sum(),
+        time,
+    );
+    Ok(())
+}
+
+// The first URL, and all of them, which are of one server.
+fn urls(texts: &[String]) -> Result<(Url, Vec<Url>), Refusal> {
+    let urls = texts.iter().map(|text| {
         Url::read(text)
             .ok_or_else(|| Refusal::Usage(format!("{text} isn't https://HOST:PORT/PATH")))
     });
@@ -35,19 +60,7 @@ fn load(mut words: Words) -> Result<(), Refusal> {
     if urls.iter().any(|url| url.authority != first.authority) {
         return Err(Refusal::Usage("all URLs are of one server".to_owned()));
     }
-    let begin = Instant::now();
-    let socket = connect(address(&first.authority)?).map_err(Refusal::failure)?;
-    let mut connection = client(PROTOCOL, first.host(), version, config)?;
-    let mut loader = Loader::new(urls, stop_after as usize, resets as usize);
-    let outcome = run(&socket, &mut connection, &mut loader).map_err(Refusal::failure)?;
-    expect_close(&outcome, NO_ERROR)?;
-    let time = begin.elapsed();
-    finish(&loader, folder.as_deref(), stop_after)?;
-    program::tell_speed(
-        loader.loaded.iter().map(|loaded| loaded.body.len()).sum(),
-        time,
-    );
-    Ok(())
+    Ok((first, urls))
 }
 
 // Saves what came whole. What didn't, unasked, is a failure.

@@ -1,27 +1,76 @@
-//! An HTTP/3 server of the files of a folder.
+//! An HTTP/3 server of the files of a folder, on one address or several. It tells how Chromium is led to it.
 
+use gotsavena_interop::connection::Config;
 use gotsavena_interop::files::Folder;
 use gotsavena_interop::h3::PROTOCOL;
 use gotsavena_interop::h3::server::FileServer;
-use gotsavena_interop::program::{self, Refusal, Words, config, listen};
+use gotsavena_interop::log::say;
+use gotsavena_interop::program::{self, Refusal, Words, config, listen_on_all};
 use gotsavena_interop::server::Server;
 use gotsavena_interop::tls::server_config;
+use rustls::ServerConfig;
+use std::net::UdpSocket;
 use std::process::ExitCode;
+use std::sync::Arc;
+use std::sync::mpsc::channel;
+use std::thread;
 
 fn main() -> ExitCode {
     program::run(
-        "h3-server [--window BYTES] [--streams N] [--idle SECONDS] [--verbose yes] DIR ADDR",
+        "h3-server [--cert FILE --key FILE | --identity FOLDER] [--window BYTES] [--stream-window BYTES] [--streams N] [--idle SECONDS] DIR ADDR..",
         serve,
     )
 }
 
 fn serve(mut words: Words) -> Result<(), Refusal> {
     let config = config(&mut words)?;
-    let [root, address] = words.exactly()?;
-    let folder = Folder::open(&root)
+    let identity = words.identity()?;
+    words.no_more_options()?;
+    let [root, addresses @ ..] = words.rest.as_slice() else {
+        return Err(Refusal::Usage(
+            "a folder and addresses are expected".to_owned(),
+        ));
+    };
+    if addresses.is_empty() {
+        return Err(Refusal::Usage("an address is expected".to_owned()));
+    }
+    let folder = Folder::open(root)
         .map_err(|error| Refusal::Failure(format!("{root} can't be opened: {error}")))?;
-    let tls = server_config(&[PROTOCOL]).map_err(Refusal::failure)?;
-    let socket = listen(&address)?;
-    let mut server = Server::new(socket, tls, config, move || FileServer::new(folder.clone()));
+    let hash = identity.key_hash();
+    let tls = server_config(identity, &[PROTOCOL])?;
+    let sockets = listen_on_all(addresses)?;
+    if let (Some(hash), Some(socket)) = (hash, sockets.first()) {
+        tell_browsers(&hash, socket)?;
+    }
+    // Each socket has a thread, and the connections that come by it.
+    let (failed, first) = channel();
+    for socket in sockets {
+        let (tls, folder, failed) = (tls.clone(), folder.clone(), failed.clone());
+        thread::spawn(move || failed.send(serve_socket(socket, tls, config, folder)));
+    }
+    first.recv().map_err(Refusal::failure)?
+}
+
+fn serve_socket(
+    socket: UdpSocket,
+    tls: Arc<ServerConfig>,
+    config: Config,
+    folder: Folder,
+) -> Result<(), Refusal> {
+    let make = move |peer| FileServer::new(folder.clone(), peer);
+    let mut server = Server::new(socket, tls, config, make);
     server.run().map_err(Refusal::failure)
+}
+
+// A browser takes a certificate that it can't know by the hash of its key.
+fn tell_browsers(hash: &str, socket: &UdpSocket) -> Result<(), Refusal> {
+    let port = socket.local_addr().map_err(Refusal::failure)?.port();
+    let url = format!("https://localhost:{port}/");
+    say(format_args!("{url}"));
+    say(format_args!("the key of the certificate: sha256/{hash}"));
+    say(format_args!(
+        "chromium --user-data-dir=/tmp/gotsavena-chromium --origin-to-force-quic-on=localhost:{port} \
+         --ignore-certificate-errors-spki-list={hash} {url}"
+    ));
+    Ok(())
 }

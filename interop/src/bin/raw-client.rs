@@ -1,8 +1,8 @@
 //! A client of files without HTTP: loads each path into a folder, under the path's last part.
 
-use gotsavena_interop::client::{connect, run};
+use gotsavena_interop::client::visit;
 use gotsavena_interop::program::{
-    self, Refusal, Words, address, client, config, expect_close, save,
+    self, Refusal, Words, addresses, client, config, expect_close, save,
 };
 use gotsavena_interop::raw::{NO_ERROR, PROTOCOL, RawClient};
 use std::process::ExitCode;
@@ -10,14 +10,14 @@ use std::time::Instant;
 
 fn main() -> ExitCode {
     program::run(
-        "raw-client [--window BYTES] [--streams N] [--idle SECONDS] [--version HEX] ADDR DIR PATH..",
+        "raw-client [--window BYTES] [--stream-window BYTES] [--streams N] [--idle SECONDS] [--quic-version HEX] ADDR DIR PATH..",
         load,
     )
 }
 
 fn load(mut words: Words) -> Result<(), Refusal> {
     let config = config(&mut words)?;
-    let version = words.version()?;
+    let version = words.quic_version()?;
     words.no_more_options()?;
     let [server, folder, paths @ ..] = words.rest.as_slice() else {
         return Err(Refusal::Usage(
@@ -28,10 +28,9 @@ fn load(mut words: Words) -> Result<(), Refusal> {
         return Err(Refusal::Usage("a path is expected".to_owned()));
     }
     let begin = Instant::now();
-    let socket = connect(address(server)?).map_err(Refusal::failure)?;
-    let mut connection = client(PROTOCOL, "localhost", version, config)?;
     let mut loader = RawClient::new(paths.to_vec());
-    let outcome = run(&socket, &mut connection, &mut loader).map_err(Refusal::failure)?;
+    let make = || client(PROTOCOL, "localhost", version, config);
+    let outcome = visit(&addresses(server)?, make, &mut loader)?;
     expect_close(&outcome, NO_ERROR)?;
     let time = begin.elapsed();
     let mut bytes = 0;

@@ -9,18 +9,19 @@ use std::process::ExitCode;
 
 fn main() -> ExitCode {
     program::run(
-        "raw-server [--window BYTES] [--streams N] [--idle SECONDS] [--verbose yes] DIR ADDR",
+        "raw-server [--cert FILE --key FILE | --identity FOLDER] [--window BYTES] [--stream-window BYTES] [--streams N] [--idle SECONDS] DIR ADDR",
         serve,
     )
 }
 
 fn serve(mut words: Words) -> Result<(), Refusal> {
     let config = config(&mut words)?;
+    let identity = words.identity()?;
     let [root, address] = words.exactly()?;
     let folder = Folder::open(&root)
         .map_err(|error| Refusal::Failure(format!("{root} can't be opened: {error}")))?;
-    let tls = server_config(&[PROTOCOL]).map_err(Refusal::failure)?;
+    let tls = server_config(identity, &[PROTOCOL])?;
     let socket = listen(&address)?;
-    let mut server = Server::new(socket, tls, config, move || RawServer::new(folder.clone()));
+    let mut server = Server::new(socket, tls, config, move |_| RawServer::new(folder.clone()));
     server.run().map_err(Refusal::failure)
 }

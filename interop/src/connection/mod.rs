@@ -9,6 +9,7 @@ mod frames;
 mod handshake;
 mod receive;
 mod send;
+mod stopped;
 #[cfg(test)]
 mod tests;
 
@@ -26,7 +27,7 @@ use gotsavena::{Endpoint, Role, Settings, StreamId};
 use ring::rand::{SecureRandom, SystemRandom};
 use rustls::quic::{Keys, Version};
 use rustls::{ClientConfig, ServerConfig};
-use std::collections::VecDeque;
+use std::collections::{HashMap, VecDeque};
 use std::sync::Arc;
 use std::time::{Duration, Instant};
 
@@ -100,6 +101,8 @@ pub struct Connection {
     /// One more than the largest number of a 1-RTT packet that came.
     expected: u64,
     early: Vec<Vec<u8>>,
+    /// The streams that this end stopped, each with how many frames came on it that left or filled a gap.
+    stopped: HashMap<StreamId, usize>,
     recovery: Recovery,
     own_id: ConnectionId,
     first_destination: ConnectionId,
@@ -188,6 +191,7 @@ impl Connection {
             turn: stream_behind(None),
             expected: 0,
             early: Vec::new(),
+            stopped: HashMap::new(),
             recovery: Recovery::new(DATAGRAM),
             own_id,
             first_destination: destination,
@@ -217,6 +221,11 @@ impl Connection {
             State::Open if self.session.is_done() => self.end.as_mut(),
             _ => None,
         }
+    }
+
+    /// The stream layer's end, if there was one, whatever became of the connection: to look at.
+    pub fn last_end(&self) -> Option<&Endpoint> {
+        self.end.as_ref()
     }
 
     /// The name of the protocol over the streams that both ends agreed on.

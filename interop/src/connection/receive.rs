@@ -115,7 +115,13 @@ impl Connection {
     }
 
     // The stream layer takes the payload in first; the frames that aren't its own are the transport's.
-    fn take_data(&mut self, number: u64, payload: &[u8], now: Instant) -> Result<(), Fault> {
+    pub(super) fn take_data(
+        &mut self,
+        number: u64,
+        payload: &[u8],
+        now: Instant,
+    ) -> Result<(), Fault> {
+        self.count_gaps(payload)?;
         let Some(end) = &mut self.end else {
             return Ok(());
         };

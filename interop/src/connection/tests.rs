@@ -1,10 +1,12 @@
 //! Two connections, with the network and the clock of the test between them.
 
 use super::{ClientSetup, Config, Connection};
-use crate::fault::{Close, Outcome};
+use crate::certificate::Identity;
+use crate::crypto::push_frame;
+use crate::fault::{Close, Fault, Outcome, PROTOCOL_VIOLATION};
 use crate::packet::{VERSION_1, read_packet};
 use crate::tls::{client_config, server_config};
-use gotsavena::{Dir, Read, Settings, StreamId};
+use gotsavena::{Dir, Frame, Read, Settings, StreamId};
 use std::collections::VecDeque;
 use std::time::{Duration, Instant};
 
@@ -104,7 +106,7 @@ impl World {
     fn deliver(&mut self, place: usize, datagram: &mut [u8]) {
         if self.ends[place].is_none() {
             let packet = read_packet(datagram).unwrap();
-            let tls = server_config(PROTOCOL).unwrap();
+            let tls = server_config(Identity::new().unwrap(), PROTOCOL).unwrap();
             let (destination, source) = (packet.destination, packet.source);
             let server = Connection::server(tls, self.config, destination, source, self.now);
             self.ends[place] = Some(server.unwrap());
@@ -282,4 +284,37 @@ fn a_mebibyte_comes_soon_where_5_of_100_datagrams_are_lost() {
     let packets = (3.0_f64 / (2.0 * 0.05)).sqrt();
     let ideal = f64::from(1 << 20) / (packets * 1150.0 / 0.05);
     assert!(times[4].as_secs_f64() < 1.1 * ideal, "{times:?}");
+}
+
+// What a server says to frames of one byte each on a stream that it stopped, at every so many offsets.
+fn send_on(step: u64, count: u64) -> Result<(), Fault> {
+    let mut world = World::new(0, Duration::from_secs(30));
+    world.connect();
+    let stream = world.end(0).end().unwrap().open(Dir::Bidi).unwrap();
+    world.end(0).end().unwrap().write(stream, b"begun").unwrap();
+    world.until(|world| world.end(1).end().unwrap().accept() == Some(stream));
+    let (now, mut out) = (world.now, Vec::new());
+    let server = world.end(1);
+    server.end().unwrap().stop(stream, 7).unwrap();
+    while server.send(&mut out, now) {}
+    for place in 0..count {
+        let mut payload = Vec::new();
+        let offset = 5 + step * place;
+        let frame = Frame::Stream {
+            stream,
+            offset,
+            fin: false,
+            bytes: b"x",
+        };
+        push_frame(&mut payload, &frame);
+        server.take_data(1_000_000 + place, &payload, now)?;
+    }
+    Ok(())
+}
+
+#[test]
+fn gaps_on_a_stream_that_was_stopped_close_in_the_end() {
+    assert_eq!(send_on(1, 40_000), Ok(()));
+    assert_eq!(send_on(2, 16_000), Ok(()));
+    assert_eq!(send_on(2, 40_000).unwrap_err().code, PROTOCOL_VIOLATION);
 }

@@ -1,12 +1,12 @@
 //! A client that loads files.
 
-use super::NO_ERROR;
 use super::session::{Event, Session};
+use super::{NO_ERROR, REQUEST_REJECTED};
+use crate::client::Errand;
 use crate::fault::Close;
-use crate::streams::Application;
+use crate::streams::{Application, Body};
 use gotsavena::{Endpoint, Role, SendState, StreamId};
 use std::collections::{BTreeSet, HashMap, VecDeque};
-use std::sync::Arc;
 
 /// What goes at most of the body of a request that is broken off.
 const BEGUN: usize = 20_000;
@@ -63,6 +63,8 @@ enum Wanted {
     File(Url),
     /// A request that is given up under way.
     Nothing(Url),
+    /// A request of which no answer is read.
+    Unread(Url),
 }
 
 pub struct Loader {
@@ -72,15 +74,36 @@ pub struct Loader {
     /// The streams of requests that are given up once something of them went, until the peer knows.
     given_up: BTreeSet<StreamId>,
     pub loaded: Vec<Loaded>,
+    /// Whether it stays once there is nothing more to load.
+    stays: bool,
+    /// Whether the server takes no new requests on this connection.
+    is_away: bool,
     /// After so many bytes of a body no more is wanted.
     stop_after: usize,
 }
 
-impl Loader {
+/// What a client does beside loading files.
+#[derive(Clone, Copy, Debug)]
+pub struct Manners {
+    /// After so many bytes of a body no more is wanted.
+    pub stop_after: usize,
     /// Before each file so many requests are begun, with a body, that are broken off in the middle.
-    pub fn new(urls: Vec<Url>, stop_after: usize, resets: usize) -> Loader {
-        let mut wanted = VecDeque::new();
-        for url in urls {
+    pub resets: usize,
+    /// So many requests for the first file are sent of which no answer is read. Without another file the client stays then.
+    pub unread: usize,
+}
+
+impl Loader {
+    pub fn new(urls: Vec<Url>, manners: Manners) -> Loader {
+        let Manners {
+            stop_after,
+            resets,
+            unread,
+        } = manners;
+        let stays = unread > 0 && urls.len() == 1;
+        let first = urls.iter().take(1).cycle().take(unread);
+        let mut wanted: VecDeque<Wanted> = first.cloned().map(Wanted::Unread).collect();
+        for url in urls.into_iter().skip(usize::from(unread > 0)) {
             wanted.extend((0..resets).map(|_| Wanted::Nothing(url.clone())));
             wanted.push_back(Wanted::File(url));
         }
@@ -91,14 +114,32 @@ impl Loader {
             given_up: BTreeSet::new(),
             loaded: Vec::new(),
             stop_after,
+            stays,
+            is_away: false,
+        }
+    }
+
+    // The server takes no new requests, and won't answer those from a stream on.
+    fn go_away(&mut self, first: StreamId) {
+        self.is_away = true;
+        let refused = self.running.keys().filter(|stream| **stream >= first);
+        for stream in refused.copied().collect::<Vec<_>>() {
+            self.ask_again(stream);
+        }
+    }
+
+    // The server won't answer a request: another connection is asked for it.
+    fn ask_again(&mut self, stream: StreamId) {
+        if let Some(loaded) = self.running.remove(&stream) {
+            self.wanted.push_front(Wanted::File(loaded.url));
         }
     }
 
     fn begin(&mut self, session: &mut Session, end: &mut Endpoint) -> Result<(), Close> {
-        while let Some(wanted) = self.wanted.front() {
+        while let (Some(wanted), false) = (self.wanted.front(), self.is_away) {
             let (method, url, begun) = match wanted {
-                Wanted::File(url) => ("GET", url, None),
-                Wanted::Nothing(url) => ("POST", url, Some(Arc::from([0; BEGUN]))),
+                Wanted::File(url) | Wanted::Unread(url) => ("GET", url, None),
+                Wanted::Nothing(url) => ("GET", url, Some(Body::of_bytes(vec![0; BEGUN]))),
             };
             let fields = [
                 (":method", method),
@@ -116,6 +157,7 @@ impl Loader {
                 Some(Wanted::File(url)) => {
                     self.running.insert(stream, Loaded::new(url));
                 }
+                Some(Wanted::Unread(_)) => session.leave_unread(stream),
                 _ => {
                     self.given_up.insert(stream);
                 }
@@ -163,7 +205,17 @@ impl Loader {
                     self.loaded.push(loaded);
                 }
             }
+            Event::Broken(stream, REQUEST_REJECTED) => {
+                self.is_away = true;
+                self.ask_again(stream);
+            }
+            Event::GoAway(first) => self.go_away(first),
             Event::Broken(stream, _) => self.loaded.extend(self.running.remove(&stream)),
+            // A response that is too large is dropped (RFC 9114, section 4.2.2).
+            Event::TooManyFields(stream) => {
+                session.cancel(end, stream)?;
+                self.loaded.extend(self.running.remove(&stream));
+            }
             Event::FieldsEnd(_) => {}
         }
         Ok(())
@@ -190,9 +242,35 @@ impl Application for Loader {
         self.begin(&mut session, end)?;
         session.write(end)?;
         self.session = Some(session);
-        match self.wanted.is_empty() && self.running.is_empty() && self.given_up.is_empty() {
-            true => Err(Close::new(NO_ERROR, "all is loaded")),
+        if self.is_over() && !self.stays {
+            return Err(Close::new(NO_ERROR, "all is loaded"));
+        }
+        match self.is_away && self.running.is_empty() && self.given_up.is_empty() {
+            true => Err(Close::new(NO_ERROR, "a new connection is needed")),
             false => Ok(()),
+        }
+    }
+
+    fn waits_for_streams(&self) -> bool {
+        self.running.is_empty() && self.given_up.is_empty() && !self.wanted.is_empty()
+    }
+}
+
+impl Errand for Loader {
+    fn is_over(&self) -> bool {
+        self.wanted.is_empty() && self.running.is_empty() && self.given_up.is_empty()
+    }
+
+    fn done(&self) -> usize {
+        self.loaded.len()
+    }
+
+    fn begin_anew(&mut self) {
+        self.session = None;
+        self.is_away = false;
+        self.given_up.clear();
+        for loaded in std::mem::take(&mut self.running).into_values() {
+            self.wanted.push_front(Wanted::File(loaded.url));
         }
     }
 }

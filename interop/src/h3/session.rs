@@ -4,14 +4,13 @@
 //! lives as long as `conn` does, and run only within calls on it, during which no reference to it is held here.
 
 use super::declarations::*;
-use super::{INTERNAL_ERROR, REQUEST_CANCELLED};
+use super::{CLOSED_CRITICAL_STREAM, INTERNAL_ERROR, NO_ERROR, REQUEST_CANCELLED};
 use crate::fault::Close;
-use crate::streams::abandon;
+use crate::streams::{Body, abandon};
 use gotsavena::{Dir, Endpoint, OpenFault, Read, Role, StreamId, UseFault};
 use std::collections::{BTreeSet, HashMap, VecDeque};
 use std::ffi::{CStr, c_int, c_void};
 use std::ptr;
-use std::sync::Arc;
 
 /// A field of a request or response.
 pub type Field = (Vec<u8>, Vec<u8>);
@@ -20,24 +19,37 @@ pub type Field = (Vec<u8>, Vec<u8>);
 #[derive(Debug, PartialEq, Eq)]
 pub enum Event {
     Field(StreamId, Field),
-    /// All fields came; whether the stream ends with them.
+    /// All fields came.
     FieldsEnd(StreamId),
+    /// More fields came than fit in what was announced: the rest of them is thrown away.
+    TooManyFields(StreamId),
     Data(StreamId, Vec<u8>),
     End(StreamId),
     /// The peer broke the stream off, or asked to stop.
     Broken(StreamId, u64),
+    /// The peer takes no new request on this connection, and won't answer those on this stream and on higher ones.
+    GoAway(StreamId),
 }
 
-/// How many bytes of a body are given at once, so that streams go by turns.
+/// How many bytes of a stream are read at once.
 const TURN: usize = 1 << 16;
 
 /// How many parts of a stream are written at once.
 const PARTS: usize = 16;
 
-struct Body {
-    bytes: Arc<[u8]>,
-    given: usize,
-    /// Whether the stream ends with them.
+/// How much the fields of a request or response may take (RFC 9114, section 4.2.2).
+const MOST_FIELDS: usize = 1 << 16;
+
+/// What a field takes beside its name and value (RFC 9114, section 4.2.2).
+const FIELD_COST: usize = 32;
+
+struct Outgoing {
+    body: Body,
+    /// What was read of the body and isn't written whole. The library looks at these bytes.
+    pieces: VecDeque<Vec<u8>>,
+    /// How many bytes of the first piece were written.
+    written: usize,
+    /// Whether the stream ends with the body.
     is_whole: bool,
 }
 
@@ -45,7 +57,11 @@ struct Body {
 #[derive(Default)]
 struct Shared {
     events: VecDeque<Event>,
-    bodies: HashMap<i64, Body>,
+    bodies: HashMap<i64, Outgoing>,
+    /// Streams whose bodies can't be read any more.
+    failed: Vec<i64>,
+    /// How much the fields of a stream take that came so far.
+    field_sizes: HashMap<i64, usize>,
     stops: Vec<(i64, u64)>,
     resets: Vec<(i64, u64)>,
 }
@@ -59,6 +75,10 @@ pub struct Session {
     written: BTreeSet<StreamId>,
     /// Streams that the library knows no more, and whose ends weren't read.
     closed: BTreeSet<StreamId>,
+    /// Streams of which no more was wanted, and that are answered nevertheless.
+    refused: BTreeSet<StreamId>,
+    /// The streams that this end opened for itself.
+    own: Vec<StreamId>,
     blocked: Vec<i64>,
 }
 
@@ -89,8 +109,16 @@ extern "C" fn on_header(
     _of_stream: *mut c_void,
 ) -> c_int {
     // Sound: as of `on_data`, and the buffers live during the call.
-    let (shared, field) = unsafe { (shared_of(shared), (bytes_of(name), bytes_of(value))) };
-    shared.events.push_back(Event::Field(id(stream), field));
+    let (shared, (name, value)) = unsafe { (shared_of(shared), (bytes_of(name), bytes_of(value))) };
+    let size = shared.field_sizes.entry(stream).or_default();
+    let had_room = *size <= MOST_FIELDS;
+    *size = size.saturating_add(name.len() + value.len() + FIELD_COST);
+    if *size <= MOST_FIELDS {
+        let field = Event::Field(id(stream), (name, value));
+        shared.events.push_back(field);
+    } else if had_room {
+        shared.events.push_back(Event::TooManyFields(id(stream)));
+    }
     0
 }
 
@@ -103,6 +131,7 @@ extern "C" fn on_headers_end(
 ) -> c_int {
     // Sound: as of `on_data`.
     let shared = unsafe { shared_of(shared) };
+    shared.field_sizes.remove(&stream);
     shared.events.push_back(Event::FieldsEnd(id(stream)));
     0
 }
@@ -144,6 +173,49 @@ extern "C" fn on_reset(
     0
 }
 
+extern "C" fn on_shutdown(_conn: *mut Conn, stream: i64, shared: *mut c_void) -> c_int {
+    // Sound: as of `on_data`.
+    let shared = unsafe { shared_of(shared) };
+    shared.events.push_back(Event::GoAway(id(stream)));
+    0
+}
+
+extern "C" fn on_written(
+    _conn: *mut Conn,
+    stream: i64,
+    count: u64,
+    shared: *mut c_void,
+    _of_stream: *mut c_void,
+) -> c_int {
+    // Sound: as of `on_data`.
+    let shared = unsafe { shared_of(shared) };
+    if let Some(outgoing) = shared.bodies.get_mut(&stream) {
+        outgoing.drop_written(count as usize);
+    }
+    0
+}
+
+impl Outgoing {
+    fn new(body: Body, is_whole: bool) -> Outgoing {
+        Outgoing {
+            body,
+            pieces: VecDeque::new(),
+            written: 0,
+            is_whole,
+        }
+    }
+
+    fn drop_written(&mut self, count: usize) {
+        self.written += count;
+        while let Some(first) = self.pieces.front()
+            && first.len() <= self.written
+        {
+            self.written -= first.len();
+            self.pieces.pop_front();
+        }
+    }
+}
+
 extern "C" fn read_data(
     _conn: *mut Conn,
     stream: i64,
@@ -155,26 +227,28 @@ extern "C" fn read_data(
 ) -> isize {
     // Sound: as of `on_data`.
     let shared = unsafe { shared_of(shared) };
-    let Some(body) = shared.bodies.get_mut(&stream).filter(|_| count > 0) else {
+    let Some(outgoing) = shared.bodies.get_mut(&stream).filter(|_| count > 0) else {
         return ERR_WOULDBLOCK;
     };
-    let part = &body.bytes[body.given..body.bytes.len().min(body.given + TURN)];
-    body.given += part.len();
-    if part.is_empty() && !body.is_whole {
+    let Ok(piece) = outgoing.body.next_piece() else {
+        shared.failed.push(stream);
+        return ERR_WOULDBLOCK;
+    };
+    if piece.is_empty() && !outgoing.is_whole {
         return ERR_WOULDBLOCK;
     }
-    // Sound: there is at least one part, and the flags are the library's. The bytes stay until the stream is closed, and the
-    // library only reads them.
+    let (base, len) = (piece.as_ptr().cast_mut(), piece.len());
+    let given = isize::from(len > 0);
+    outgoing.pieces.extend((len > 0).then_some(piece));
+    // Sound: there is at least one part, and the flags are the library's. The bytes stay until they are acknowledged to it or the
+    // stream is closed, and the library only reads them.
     unsafe {
-        *parts = Bytes {
-            base: part.as_ptr().cast_mut(),
-            len: part.len(),
-        };
-        if body.is_whole && body.given == body.bytes.len() {
+        *parts = Bytes { base, len };
+        if outgoing.is_whole && outgoing.body.is_over() {
             *flags |= DATA_FLAG_EOF;
         }
     }
-    isize::from(!part.is_empty())
+    given
 }
 
 /// # Safety
@@ -235,25 +309,28 @@ fn internal(fault: UseFault) -> Close {
     Close::new(INTERNAL_ERROR, &fault.to_string())
 }
 
+const SETTINGS: Settings = Settings {
+    max_field_section_size: MOST_FIELDS as u64,
+    qpack_max_dtable_capacity: 4096,
+    // No field waits for the encoder's stream: the stream layer sends lower streams first, so that a body could use up the
+    // connection's credit before the instructions went on which its own fields depend (RFC 9204, section 2.1.3).
+    qpack_encoder_max_dtable_capacity: 0,
+    qpack_blocked_streams: 100,
+    enable_connect_protocol: 0,
+};
+
 // A connection of the library, which is null where an error is told.
 fn new_conn(role: Role, shared: *mut Shared) -> (*mut Conn, c_int) {
     let callbacks = Callbacks {
+        acked_stream_data: Some(on_written),
         recv_data: Some(on_data),
         recv_header: Some(on_header),
         end_headers: Some(on_headers_end),
         end_stream: Some(on_end),
         stop_sending: Some(on_stop),
         reset_stream: Some(on_reset),
+        shutdown: Some(on_shutdown),
         ..Callbacks::default()
-    };
-    let settings = Settings {
-        max_field_section_size: 1 << 16,
-        qpack_max_dtable_capacity: 4096,
-        // No field waits for the encoder's stream: the stream layer sends lower streams first, so that a body could use up the
-        // connection's credit before the instructions went on which its own fields depend (RFC 9204, section 2.1.3).
-        qpack_encoder_max_dtable_capacity: 0,
-        qpack_blocked_streams: 100,
-        enable_connect_protocol: 0,
     };
     let mut conn = ptr::null_mut();
     // Sound: the versions are those of the declarations, and the library copies callbacks and settings.
@@ -267,7 +344,7 @@ fn new_conn(role: Role, shared: *mut Shared) -> (*mut Conn, c_int) {
             CALLBACKS_VERSION,
             &callbacks,
             SETTINGS_VERSION,
-            &settings,
+            &SETTINGS,
             nghttp3_mem_default(),
             shared.cast(),
         )
@@ -287,6 +364,8 @@ impl Session {
             read: BTreeSet::new(),
             written: BTreeSet::new(),
             closed: BTreeSet::new(),
+            refused: BTreeSet::new(),
+            own: Vec::new(),
             blocked: Vec::new(),
         };
         check(error)?;
@@ -295,12 +374,12 @@ impl Session {
     }
 
     fn bind(&mut self, role: Role, end: &mut Endpoint) -> Result<(), Close> {
-        let mut open = || {
-            end.open(Dir::Uni)
-                .map(number)
-                .map_err(|fault| Close::new(INTERNAL_ERROR, &fault.to_string()))
-        };
-        let (control, encoder, decoder) = (open()?, open()?, open()?);
+        for _ in 0..3 {
+            let opened = end.open(Dir::Uni);
+            let stream = opened.map_err(|fault| Close::new(INTERNAL_ERROR, &fault.to_string()))?;
+            self.own.push(stream);
+        }
+        let [control, encoder, decoder] = [0, 1, 2].map(|place| number(self.own[place]));
         // Sound: `conn` is alive, here and below.
         check(unsafe { nghttp3_conn_bind_control_stream(self.conn, control) })?;
         check(unsafe { nghttp3_conn_bind_qpack_streams(self.conn, encoder, decoder) })?;
@@ -320,13 +399,13 @@ impl Session {
         self.shared().events.pop_front()
     }
 
-    /// Opens a stream with a request: without a body, or with one that begins with these bytes and doesn't end. `None` where the
+    /// Opens a stream with a request: without a body, or with one that begins with this one and doesn't end. `None` where the
     /// peer allows no more for now.
     pub fn request(
         &mut self,
         end: &mut Endpoint,
         fields: &[Field],
-        begun: Option<Arc<[u8]>>,
+        begun: Option<Body>,
     ) -> Result<Option<StreamId>, Close> {
         let stream = match end.open(Dir::Bidi) {
             Ok(stream) => stream,
@@ -335,10 +414,11 @@ impl Session {
         };
         self.reading.insert(stream);
         let reader = DataReader { read_data };
-        let source = match self.has_body(stream, begun, false) {
-            true => &raw const reader,
-            false => ptr::null(),
+        let source = match begun {
+            Some(_) => &raw const reader,
+            None => ptr::null(),
         };
+        self.keep_body(stream, begun, false);
         let fields = name_values(fields);
         // Sound: the library copies fields and reader.
         let error = unsafe {
@@ -355,13 +435,14 @@ impl Session {
         &mut self,
         stream: StreamId,
         fields: &[Field],
-        body: Option<Arc<[u8]>>,
+        body: Option<Body>,
     ) -> Result<(), Close> {
         let reader = DataReader { read_data };
-        let source = match self.has_body(stream, body, true) {
-            true => &raw const reader,
-            false => ptr::null(),
+        let source = match body {
+            Some(_) => &raw const reader,
+            None => ptr::null(),
         };
+        self.keep_body(stream, body, true);
         let fields = name_values(fields);
         // Sound: the library copies fields and reader.
         let error = unsafe {
@@ -378,21 +459,44 @@ impl Session {
         }
     }
 
-    // Keeps what a stream has for a body. Answers whether it has one.
-    fn has_body(&mut self, stream: StreamId, bytes: Option<Arc<[u8]>>, is_whole: bool) -> bool {
-        let body = bytes.map(|bytes| Body {
-            bytes,
-            given: 0,
-            is_whole,
-        });
-        let has_body = body.is_some();
-        let bodies = &mut self.shared().bodies;
-        bodies.extend(body.map(|body| (number(stream), body)));
-        has_body
+    fn keep_body(&mut self, stream: StreamId, body: Option<Body>, is_whole: bool) {
+        let outgoing = body.map(|body| (number(stream), Outgoing::new(body, is_whole)));
+        self.shared().bodies.extend(outgoing);
     }
 
-    /// Takes in what came, and writes what there is room for.
+    /// Asks the peer to send no more of a request that is answered before all of it came (RFC 9114, section 4.1).
+    pub fn refuse_rest(&mut self, end: &mut Endpoint, stream: StreamId) -> Result<(), Close> {
+        if self.read.contains(&stream) || self.closed.contains(&stream) {
+            return Ok(());
+        }
+        end.stop(stream, NO_ERROR).map_err(internal)?;
+        self.refused.insert(stream);
+        self.read_no_more(stream)
+    }
+
+    /// Tells the peer that it is to send no new requests on this connection (RFC 9114, section 5.2).
+    pub fn go_away(&mut self) -> Result<(), Close> {
+        // Sound: `conn` is alive.
+        check(unsafe { nghttp3_conn_submit_shutdown_notice(self.conn) })
+    }
+
+    /// Whether no request comes.
+    pub fn has_no_request(&self) -> bool {
+        !self.reading.iter().any(|stream| stream.dir() == Dir::Bidi)
+    }
+
+    /// Leaves a stream unread: what comes on it takes up its window.
+    pub fn leave_unread(&mut self, stream: StreamId) {
+        self.reading.remove(&stream);
+    }
+
+    /// Takes in what came.
     pub fn progress(&mut self, end: &mut Endpoint) -> Result<(), Close> {
+        // The peer doesn't ask for that (RFC 9114, section 6.2.1; RFC 9204, section 4.2).
+        if self.own.iter().any(|own| end.stopped_with(*own).is_some()) {
+            let reason = "a stream that a connection needs was stopped";
+            return Err(Close::new(CLOSED_CRITICAL_STREAM, reason));
+        }
         while let Some(stream) = end.accept() {
             self.reading.insert(stream);
         }
@@ -453,6 +557,9 @@ impl Session {
             return Ok(());
         }
         self.read.insert(stream);
+        if self.refused.remove(&stream) {
+            return self.close_if_over(stream);
+        }
         if stream.dir() == Dir::Bidi {
             abandon(end, stream, REQUEST_CANCELLED).map_err(internal)?;
             self.read_no_more(stream)?;
@@ -501,10 +608,19 @@ impl Session {
                 return Err(close_of(count as c_int));
             }
             if stream < 0 {
-                return Ok(());
+                return self.break_failed(end);
             }
             self.write_parts(end, stream, &parts[..count as usize], fin != 0)?;
         }
+    }
+
+    // A file that can't be read any more breaks its stream off.
+    fn break_failed(&mut self, end: &mut Endpoint) -> Result<(), Close> {
+        for stream in std::mem::take(&mut self.shared().failed) {
+            abandon(end, id(stream), INTERNAL_ERROR).map_err(internal)?;
+            self.stopped(stream)?;
+        }
+        Ok(())
     }
 
     fn write_parts(
@@ -560,7 +676,7 @@ impl Session {
     fn close_if_over(&mut self, stream: StreamId) -> Result<(), Close> {
         let is_written = stream.dir() == Dir::Uni || self.written.contains(&stream);
         match is_written && self.read.contains(&stream) {
-            true => self.close(stream, super::NO_ERROR),
+            true => self.close(stream, NO_ERROR),
             false => Ok(()),
         }
     }
@@ -568,12 +684,14 @@ impl Session {
     // The library forgets the stream. What it told before stays.
     fn close(&mut self, stream: StreamId, code: u64) -> Result<(), Close> {
         self.written.remove(&stream);
+        self.refused.remove(&stream);
         if !self.read.remove(&stream) {
             self.closed.insert(stream);
         }
         // Sound: as above.
         let error = unsafe { nghttp3_conn_close_stream(self.conn, number(stream), code) };
         self.shared().bodies.remove(&number(stream));
+        self.shared().field_sizes.remove(&number(stream));
         match error {
             ERR_STREAM_NOT_FOUND => Ok(()),
             error => check(error),

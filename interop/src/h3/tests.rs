@@ -1,0 +1,257 @@
+//! A client's session and a server of files, with payloads that go from one to the other as they are made.
+
+use super::server::FileServer;
+use super::session::{Event, Field, Session};
+use super::{CLOSED_CRITICAL_STREAM, NO_ERROR};
+use crate::fault::Close;
+use crate::files::Folder;
+use crate::streams::{Application, Body};
+use gotsavena::{Dir, Endpoint, Role, Settings, StreamId};
+use std::collections::{BTreeMap, HashMap};
+
+const FILE: &str = "/Cargo.toml";
+
+const GET: [(&str, &str); 4] = [
+    (":method", "GET"),
+    (":scheme", "https"),
+    (":authority", "localhost"),
+    (":path", FILE),
+];
+
+struct Pair {
+    client: Endpoint,
+    server: Endpoint,
+    session: Session,
+    application: FileServer,
+    came: HashMap<StreamId, Came>,
+    /// The stream from which on the server answers no more.
+    away: Option<StreamId>,
+}
+
+#[derive(Default)]
+struct Came {
+    fields: BTreeMap<String, String>,
+    body: Vec<u8>,
+    is_whole: bool,
+    broken: Option<u64>,
+}
+
+impl Pair {
+    fn new() -> Pair {
+        Pair::with_lifetime(1000)
+    }
+
+    fn with_lifetime(lifetime: u64) -> Pair {
+        let settings = Settings::default()
+            .conn_window(1 << 20)
+            .stream_windows(1 << 16)
+            .send_buffer(1 << 16)
+            .bidi_streams(20, lifetime);
+        let [mut client, server] = [Role::Client, Role::Server]
+            .map(|role| Endpoint::new(role, settings, settings.limits()).unwrap());
+        let folder = Folder::open(env!("CARGO_MANIFEST_DIR")).unwrap();
+        Pair {
+            session: Session::new(Role::Client, &mut client).unwrap(),
+            client,
+            server,
+            application: FileServer::new(folder, "127.0.0.1:1".parse().unwrap()),
+            came: HashMap::new(),
+            away: None,
+        }
+    }
+
+    fn ask(&mut self, fields: &[(&str, &str)], begun: Option<Body>) -> StreamId {
+        let fields: Vec<Field> = fields
+            .iter()
+            .map(|(name, value)| (name.as_bytes().to_vec(), value.as_bytes().to_vec()))
+            .collect();
+        let stream = self.session.request(&mut self.client, &fields, begun);
+        stream.unwrap().unwrap()
+    }
+
+    // What comes of a request, without a body or with one that begins.
+    fn load(&mut self, method: &str, path: &str, begun: Option<Body>) -> Came {
+        let fields = [
+            (":method", method),
+            (":scheme", "https"),
+            (":authority", "localhost"),
+            (":path", path),
+        ];
+        let stream = self.ask(&fields, begun);
+        self.run().unwrap();
+        self.came.remove(&stream).unwrap()
+    }
+
+    // Both go on until nothing more goes.
+    fn run(&mut self) -> Result<(), Close> {
+        (0..100).try_for_each(|_| self.exchange())
+    }
+
+    fn exchange(&mut self) -> Result<(), Close> {
+        let mut payload = [0; 1200];
+        self.session.write(&mut self.client)?;
+        while let Some(made) = self.client.make_packet(&mut payload).unwrap() {
+            let payload = &payload[..made.len];
+            self.server.receive(made.number, payload).unwrap();
+        }
+        self.application.progress(&mut self.server)?;
+        while let Some(made) = self.server.make_packet(&mut payload).unwrap() {
+            let payload = &payload[..made.len];
+            self.client.receive(made.number, payload).unwrap();
+        }
+        self.session.progress(&mut self.client)?;
+        while let Some(event) = self.session.next_event() {
+            self.take(event);
+        }
+        Ok(())
+    }
+
+    fn take(&mut self, event: Event) {
+        match event {
+            Event::Field(stream, (name, value)) => {
+                let [name, value] = [name, value].map(|text| String::from_utf8(text).unwrap());
+                self.came
+                    .entry(stream)
+                    .or_default()
+                    .fields
+                    .insert(name, value);
+            }
+            Event::Data(stream, bytes) => self.came.entry(stream).or_default().body.extend(bytes),
+            Event::End(stream) => self.came.entry(stream).or_default().is_whole = true,
+            Event::Broken(stream, code) => {
+                self.came.entry(stream).or_default().broken = Some(code);
+            }
+            Event::GoAway(stream) => self.away = Some(stream),
+            Event::FieldsEnd(_) | Event::TooManyFields(_) => {}
+        }
+    }
+}
+
+impl Came {
+    fn field(&self, name: &str) -> Option<&str> {
+        self.fields.get(name).map(String::as_str)
+    }
+}
+
+#[test]
+fn a_file_comes_with_its_type_and_length() {
+    let text = std::fs::read(concat!(env!("CARGO_MANIFEST_DIR"), "/src/h3/session.rs")).unwrap();
+    let len = text.len().to_string();
+    let mut pair = Pair::new();
+    let got = pair.load("GET", "/src/h3/session%2ers", None);
+    assert_eq!(got.field(":status"), Some("200"));
+    assert_eq!(got.field("content-type"), Some("application/octet-stream"));
+    assert_eq!(got.field("content-length"), Some(len.as_str()));
+    assert!(got.is_whole && got.body == text);
+    // A HEAD has the same fields and no body (RFC 9110, section 8.6).
+    let mut head = pair.load("HEAD", "/src/h3/session.rs", None);
+    assert!(head.is_whole && head.body.is_empty());
+    assert_eq!(head.fields, got.fields);
+    head = pair.load("HEAD", "/none", None);
+    assert_eq!(head.field(":status"), Some("404"));
+    let slash = pair.load("GET", "/src", None);
+    assert_eq!(slash.field(":status"), Some("301"));
+    assert_eq!(slash.field("location"), Some("./src/"));
+}
+
+#[test]
+fn a_method_that_files_have_not_is_refused_before_its_body() {
+    let mut pair = Pair::new();
+    let begun = Body::of_bytes(vec![0; 10_000]);
+    let got = pair.load("POST", "/Cargo.toml", Some(begun));
+    assert_eq!(got.field(":status"), Some("405"));
+    assert_eq!(got.field("allow"), Some("GET, HEAD"));
+    // All of the answer comes, and the request's half is stopped without a fault (RFC 9114, section 4.1).
+    assert!(got.is_whole && got.broken.is_none_or(|code| code == NO_ERROR));
+    let stream = StreamId::new(0).unwrap();
+    assert_eq!(pair.client.stopped_with(stream), Some(NO_ERROR));
+    // Its stream comes to its end, so that it gives its place to another.
+    assert_eq!(pair.server.next_ended(stream), Some(stream));
+    for _ in 0..30 {
+        let begun = Body::of_bytes(vec![0; 10_000]);
+        let got = pair.load("PUT", "/", Some(begun));
+        assert_eq!(got.field(":status"), Some("405"));
+    }
+    assert_eq!(pair.load("GET", FILE, None).field(":status"), Some("200"));
+}
+
+#[test]
+fn connect_is_answered() {
+    let mut pair = Pair::new();
+    let fields = [(":method", "CONNECT"), (":authority", "example.org:443")];
+    // Its stream stays open for the bytes of the tunnel (RFC 9114, section 4.4).
+    let stream = pair.ask(&fields, Some(Body::of_bytes(Vec::new())));
+    pair.run().unwrap();
+    let got = &pair.came[&stream];
+    assert_eq!(got.field(":status"), Some("405"));
+    assert!(got.is_whole);
+}
+
+#[test]
+fn fields_that_take_too_much_are_refused() {
+    let mut pair = Pair::new();
+    let value = "v".repeat(1000);
+    let mut ask = |count: usize| {
+        let mut fields = vec![
+            (":method", "GET"),
+            (":scheme", "https"),
+            (":authority", "localhost"),
+            (":path", "/Cargo.toml"),
+        ];
+        fields.extend((0..count).map(|_| ("x-long", value.as_str())));
+        let stream = pair.ask(&fields, None);
+        pair.run().unwrap();
+        pair.came[&stream].field(":status").map(str::to_owned)
+    };
+    // Each takes 1,038 of the 65,536 that are told (RFC 9114, section 4.2.2).
+    assert_eq!(ask(60).as_deref(), Some("200"));
+    assert_eq!(ask(64).as_deref(), Some("431"));
+    assert_eq!(ask(200).as_deref(), Some("431"));
+    assert_eq!(ask(1).as_deref(), Some("200"));
+}
+
+#[test]
+fn a_stop_of_a_stream_that_a_connection_needs_closes() {
+    for place in 0..3 {
+        let mut pair = Pair::new();
+        pair.load("GET", FILE, None);
+        let stream = StreamId::new(3 + 4 * place).unwrap();
+        assert_eq!(stream.dir(), Dir::Uni);
+        pair.client.stop(stream, NO_ERROR).unwrap();
+        assert_eq!(pair.run().unwrap_err().code, CLOSED_CRITICAL_STREAM);
+    }
+}
+
+#[test]
+fn a_client_is_told_in_time_to_take_another_connection() {
+    let mut pair = Pair::with_lifetime(40);
+    pair.run().unwrap();
+    for _ in 0..29 {
+        assert_eq!(pair.load("GET", FILE, None).field(":status"), Some("200"));
+        assert_eq!(pair.away, None);
+    }
+    // Ten are left, a quarter of all. The GOAWAY refuses none of those that may be under way (RFC 9114, section 5.2).
+    assert_eq!(pair.load("GET", FILE, None).field(":status"), Some("200"));
+    assert!(pair.away.is_some_and(|first| first.value() >= 4 * 40));
+}
+
+#[test]
+fn a_client_that_waits_for_streams_is_told_once_none_is_left() {
+    let mut pair = Pair::with_lifetime(40);
+    pair.run().unwrap();
+    // It opens all that it may: it never can open at once what it wants to.
+    let mut asked = 0;
+    while asked < 40 {
+        assert_eq!(pair.away, None, "after {asked}");
+        while pair.client.open_left(Dir::Bidi) > 0 {
+            pair.ask(&GET, None);
+            asked += 1;
+        }
+        pair.session.write(&mut pair.client).unwrap();
+        pair.exchange().unwrap();
+    }
+    // All are answered, and then the connection ends without a fault.
+    assert_eq!(pair.run().unwrap_err().code, NO_ERROR);
+    assert!(pair.away.is_some());
+    assert_eq!(pair.came.values().filter(|came| came.is_whole).count(), 40);
+}
