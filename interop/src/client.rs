@@ -171,3 +171,70 @@ fn run_until<A: Application>(
         }
     }
 }
+
+#[cfg(test)]
+mod tests {
+    use super::*;
+    use crate::certificate::Identity;
+    use crate::connection::Config;
+    use crate::files::Folder;
+    use crate::packet::VERSION_1;
+    use crate::program::client;
+    use crate::raw::{PROTOCOL, RawClient, RawServer};
+    use crate::server::Server;
+    use crate::tls::server_config;
+    use gotsavena::Settings;
+    use std::thread;
+
+    const FILE: &str = "src/client.rs";
+
+    fn config() -> Config {
+        let settings = Settings::default()
+            .conn_window(1 << 20)
+            .stream_windows(1 << 16);
+        let idle = Duration::from_secs(30);
+        Config { settings, idle }
+    }
+
+    // The address of a server of files, which goes with the test.
+    fn begin_server() -> SocketAddr {
+        let socket = UdpSocket::bind("127.0.0.1:0").unwrap();
+        let address = socket.local_addr().unwrap();
+        let folder = Folder::open(env!("CARGO_MANIFEST_DIR")).unwrap();
+        let tls = server_config(Identity::new().unwrap(), &[PROTOCOL]).unwrap();
+        thread::spawn(move || {
+            let make = move |_| RawServer::new(folder.clone());
+            Server::new(socket, tls, config(), make).run()
+        });
+        address
+    }
+
+    #[test]
+    fn addresses_are_tried_in_order() {
+        let make = || client(PROTOCOL, "localhost", VERSION_1, config());
+        let load = |addresses: &[SocketAddr]| {
+            let begin = Instant::now();
+            let mut loader = RawClient::new(vec![FILE.to_owned()]);
+            let outcome = visit(addresses, make, &mut loader).unwrap();
+            (outcome, loader.loaded, begin.elapsed())
+        };
+        let server = begin_server();
+        let silent = UdpSocket::bind("127.0.0.1:0").unwrap();
+        let silent = (silent.local_addr().unwrap(), silent);
+        // No one listens there once the socket is gone.
+        let gone = UdpSocket::bind("127.0.0.1:0").unwrap().local_addr();
+        let gone = gone.unwrap();
+
+        let (outcome, loaded, _) = load(&[gone, server, silent.0]);
+        assert!(matches!(outcome, Outcome::Closed(_)));
+        let text = std::fs::read(concat!(env!("CARGO_MANIFEST_DIR"), "/src/client.rs")).unwrap();
+        assert_eq!(loaded, [(FILE.to_owned(), Some(text))]);
+        let (outcome, loaded, time) = load(&[silent.0, gone, server]);
+        assert!(matches!(outcome, Outcome::Closed(_)));
+        assert_eq!(loaded.len(), 1);
+        assert!(time >= PATIENCE && time < 4 * PATIENCE, "{time:?}");
+        let (outcome, _, time) = load(&[gone, gone]);
+        assert_eq!(outcome, Outcome::Refused);
+        assert!(time < Duration::from_secs(1), "{time:?}");
+    }
+}
