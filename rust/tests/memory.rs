@@ -1,9 +1,9 @@
 //! Each allocation is refused in turn: nothing aborts, the call answers that it found no memory, and after one more try
-//! every later answer is the same.
+//! every later answer is the same. And no call asks for memory but those that are listed.
 
 mod support;
 
-use gotsavena::Settings;
+use gotsavena::{Dir, Endpoint, Role, Settings, StreamId};
 use std::alloc::{GlobalAlloc, Layout, System};
 use std::cell::Cell;
 use support::{Player, Random};
@@ -149,4 +149,89 @@ fn each_allocation_may_be_refused() {
     }
     assert!(all > 300 && told > 200, "{all} allocations, {told} told");
     println!("{all} allocations were refused in turn; {told} times a call told so");
+}
+
+/// The calls of an end that take memory, as scripts name them; the last is what the peer's `receive` takes.
+const TAKING: [&str; 5] = ["open", "write", "make", "lose", "deliver"];
+
+/// Scripts in which a packet is lost and sent again, its acknowledgement comes late, and a reset overtakes its bytes.
+const SHORT: [&str; 3] = [
+    "open A bidi,write A 0 68656c6c6f,finish A 0,make A 1200,lose A 0,make A 1200,deliver A 1,deliver A 0,accept B,read B 0 16,read B 0 16,make B 1200,deliver B 0",
+    "open A bidi,write A 0 68656c6c6f,finish A 0,make A 1200,lose A 0,make A 1200,deliver A 0,accept B,read B 0 16,read B 0 16,make B 1200,deliver B 0",
+    "open A bidi,write A 0 616263,make A 1200,reset A 0 7,make A 1200,deliver A 1,deliver A 0,read B 0 16,make B 1200,deliver B 0",
+];
+
+// What an end is asked takes no memory, and neither does what it writes of itself.
+fn questions(end: &mut Endpoint, number: u64) {
+    let stream = StreamId::new(number).expect("a stream's number");
+    let mut out = [0; 64];
+    _ = (end.stored(), end.granted(), end.spent(), end.held());
+    _ = (end.report(stream), end.closing(), end.peer_closed());
+    _ = (end.close_payload(&mut out), end.next_number());
+    _ = (end.granted_streams(Dir::Bidi), end.streams_left(Dir::Uni));
+    _ = (end.open_left(Dir::Bidi), end.stopped_with(stream));
+    _ = (end.is_sendable(), end.is_blocked(stream), end.ack_is_due());
+    _ = (end.next_readable(stream), end.next_sendable(stream));
+    _ = (end.next_writable(stream), end.next_ended(stream));
+    _ = (
+        end.next_outstanding(number),
+        end.next_newly_acked(&[2, 0, 0, 0, 0], number),
+    );
+    _ = end.raise_limits(Settings::default().limits());
+}
+
+// How often each of the calls that may ask for memory asked.
+fn counted(lines: &[String], asked: &mut [u64; 5]) {
+    let mut player = Player::new(Settings::default());
+    player.around = |begins| IS_CALLED.set(begins);
+    for line in lines {
+        ASKED.set(0);
+        player.line(line);
+        let word = line.split(' ').next().expect("a word");
+        match TAKING.iter().position(|taking| *taking == word) {
+            Some(place) => asked[place] += ASKED.get(),
+            None => assert_eq!(ASKED.get(), 0, "{line}"),
+        }
+        ASKED.set(0);
+        IS_CALLED.set(true);
+        for end in &mut player.ends {
+            (0..4).for_each(|number| questions(end, number));
+        }
+        IS_CALLED.set(false);
+        assert_eq!(ASKED.get(), 0, "a question behind {line}");
+    }
+    IS_CALLED.set(true);
+    for end in &mut player.ends {
+        let made = end.make_ack(0, &mut [0; 128]);
+        assert!(made.is_ok() && end.claim_number().is_ok());
+    }
+    IS_CALLED.set(false);
+    assert_eq!(
+        ASKED.get(),
+        0,
+        "an ACK alone, or a number of another packet"
+    );
+}
+
+#[test]
+fn no_call_asks_but_those_that_are_listed() {
+    REFUSED.set(u64::MAX);
+    ASKED.set(0);
+    IS_CALLED.set(true);
+    let settings = Settings::default();
+    let ends =
+        [Role::Client, Role::Server].map(|role| Endpoint::new(role, settings, settings.limits()));
+    IS_CALLED.set(false);
+    assert!(ends.iter().all(Result::is_ok));
+    assert_eq!(ASKED.get(), 0, "a new end");
+    let mut asked = [0; 5];
+    for row in SHORT {
+        let lines: Vec<String> = row.split(',').map(String::from).collect();
+        counted(&lines, &mut asked);
+    }
+    for seed in 0..200 {
+        counted(&script(seed, 300), &mut asked);
+    }
+    assert!(asked.iter().all(|count| *count > 0), "{asked:?}");
+    println!("{TAKING:?} asked {asked:?} times");
 }
