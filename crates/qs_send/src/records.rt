@@ -239,6 +239,7 @@ impl Records {
     }
 
     // The greatest number that is held in the first slots, from one of them on.
+    #[inline(always)]
     fn last_from(&self, from: usize, count: usize, looks: &mut u64) -> Option<u64>
         requires { count ≤ self.now.slots }
         ensures found { IfSome result (λ k. (self.now.base + from ≤ k) × (k < self.now.base + count) × (fmap.contains_key self.now.pieces k ≡ true)) }
@@ -298,7 +299,9 @@ impl Records {
     {
         let skew = (self.base - self.first) as usize;
         match skew.checked_add(count) {
-            Some(end) => gone::end_of_left(&self.gone, skew + from, end, looks).saturating_sub(skew),
+            Some(end) => gone::end_of_left(&self.gone, skew + from, end, looks).saturating_sub(
+                skew,
+            ),
             None => {
                 *looks = one_more(*looks);
                 count

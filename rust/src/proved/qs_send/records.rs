@@ -153,6 +153,7 @@ impl Records {
     }
 
     // The greatest number that is held in the first slots, from one of them on.
+    #[inline(always)]
     fn last_from(&self, from: usize, count: usize, looks: &mut u64) -> Option<u64> {
         let mut place = count;
         while place > from {
@@ -187,7 +188,9 @@ impl Records {
         debug_assert!(from < count);
         let skew = (self.base - self.first) as usize;
         match skew.checked_add(count) {
-            Some(end) => gone::end_of_left(&self.gone, skew + from, end, looks).saturating_sub(skew),
+            Some(end) => gone::end_of_left(&self.gone, skew + from, end, looks).saturating_sub(
+                skew,
+            ),
             None => {
                 *looks = one_more(*looks);
                 count
