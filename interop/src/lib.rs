@@ -27,6 +27,7 @@ pub mod parameters;
 pub mod path_size;
 pub mod program;
 pub mod protection;
+pub mod qlog;
 pub mod ranges;
 pub mod raw;
 pub mod recovery;

@@ -103,6 +103,9 @@ fn words(given: impl Iterator<Item = String>) -> Result<Words, Refusal> {
             }
         }
     }
+    if let Some(folder) = words.options.remove("qlog") {
+        crate::qlog::write_into(&folder);
+    }
     Ok(words)
 }
 

@@ -55,7 +55,10 @@ impl Connection {
             return;
         }
         match self.recovery.time_is_up(self.standing(), now) {
-            Some(Due::Lost(level, lost)) => self.lose(level, lost),
+            Some(Due::Lost(level, lost)) => {
+                self.tell_lost(level, &lost, now);
+                self.lose(level, lost);
+            }
             Some(Due::Probe(Level::Data)) => self.probe_data(),
             Some(Due::Probe(_)) => self.probe_handshake(),
             None => {}
@@ -120,7 +123,14 @@ impl Connection {
         }
     }
 
+    fn tell_closed(&mut self, now: Instant) {
+        if let (Some(trace), Some(outcome)) = (&mut self.trace, &self.outcome) {
+            trace.closed(outcome, now);
+        }
+    }
+
     fn begin_closing(&mut self, now: Instant) {
+        self.tell_closed(now);
         self.state = State::Closing {
             until: self.linger(now),
             is_due: true,
@@ -131,6 +141,7 @@ impl Connection {
 
     pub(super) fn drain(&mut self, outcome: Outcome, now: Instant) {
         self.outcome = Some(outcome);
+        self.tell_closed(now);
         self.state = State::Draining {
             until: self.linger(now),
         };

@@ -74,7 +74,16 @@ impl Connection {
         let ranges = AckRanges::new(largest, ranges).into_iter().flatten();
         let standing = self.standing();
         let News { lost, .. } = self.recovery.acked(level, ranges, delay, standing, now);
+        self.tell_lost(level, &lost, now);
         self.lose(level, lost);
+    }
+
+    pub(super) fn tell_lost(&mut self, level: Level, lost: &[(u64, Sent)], now: Instant) {
+        for (number, _) in lost {
+            if let Some(trace) = &mut self.trace {
+                trace.lost(level, *number, now);
+            }
+        }
     }
 
     /// Packets are lost: what they carried goes again (RFC 9000, section 13.3).

@@ -19,6 +19,7 @@ use crate::ids::{ACTIVE_IDS, PeerIds};
 use crate::packet::{ConnectionId, Level, OWN_ID_LEN, VERSION_1};
 use crate::parameters::Parameters;
 use crate::protection::DataKeys;
+use crate::qlog::Trace;
 use crate::ranges::Numbers;
 use crate::recovery::{Control, Recovery, Standing};
 use crate::tls::Session;
@@ -118,6 +119,7 @@ pub struct Connection {
     asked_since_active: bool,
     state: State,
     outcome: Option<Outcome>,
+    trace: Option<Trace>,
 }
 
 // The stream behind one, and the least where there is none.
@@ -207,6 +209,7 @@ impl Connection {
             asked_since_active: false,
             state: State::Open,
             outcome: None,
+            trace: Trace::begin(role, destination, now),
         }
     }
 

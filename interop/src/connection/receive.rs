@@ -4,6 +4,7 @@ use super::{Connection, MOST_EARLY, State};
 use crate::fault::{Fault, INTERNAL_ERROR, Outcome, PROTOCOL_VIOLATION};
 use crate::packet::{Kind, Level, Packet, VERSION_1, read_packet};
 use crate::protection::{self, Opened};
+use crate::qlog::Dropped;
 use gotsavena::{ReceiveFault, Received, Role};
 use ring::aead::{AES_128_GCM, Aad, LessSafeKey, Nonce, UnboundKey};
 use rustls::quic::{Keys, Version};
@@ -68,6 +69,9 @@ impl Connection {
         self.last_active = now;
         self.asked_since_active = false;
         let payload = &bytes[opened.payload.clone()];
+        if let Some(trace) = &mut self.trace {
+            trace.received(level, opened.number, payload, now);
+        }
         if level == Level::Data {
             self.take_data(opened.number, payload, now)?;
         } else {
@@ -99,7 +103,7 @@ impl Connection {
         now: Instant,
     ) -> Result<(), Fault> {
         if self.space(level).received.has(number) {
-            return Ok(());
+            return self.tell_dropped(level, number, Dropped::Duplicate, now);
         }
         if !self.known.has_peer_id {
             self.known.has_peer_id = true;
@@ -128,13 +132,34 @@ impl Connection {
         self.expected = self.expected.max(number + 1);
         match end.receive(number, payload) {
             Ok(Received::Done | Received::PeerClosed(_)) => self.take_data_frames(payload, now),
-            Ok(Received::Duplicate | Received::BelowFloor | Received::NoMemory) => Ok(()),
+            Ok(Received::Duplicate) => {
+                self.tell_dropped(Level::Data, number, Dropped::Duplicate, now)
+            }
+            Ok(Received::BelowFloor) => {
+                self.tell_dropped(Level::Data, number, Dropped::BelowFloor, now)
+            }
+            Ok(Received::NoMemory) => {
+                self.tell_dropped(Level::Data, number, Dropped::NoMemory, now)
+            }
             Err(ReceiveFault::Closing(closing)) => {
                 let reason = "the stream layer refuses a frame";
                 Err(Fault::new(closing.code, closing.frame_type, reason))
             }
             Err(fault) => Err(Fault::new(INTERNAL_ERROR, 0, &fault.to_string())),
         }
+    }
+
+    fn tell_dropped(
+        &mut self,
+        level: Level,
+        number: u64,
+        why: Dropped,
+        now: Instant,
+    ) -> Result<(), Fault> {
+        if let Some(trace) = &mut self.trace {
+            trace.dropped(level, number, why, now);
+        }
+        Ok(())
     }
 
     // What came too soon is taken in once the handshake is done.

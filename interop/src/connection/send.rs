@@ -36,6 +36,9 @@ impl Connection {
         if self.standing().is_held_back {
             return false;
         }
+        if let (Some(trace), Some(end)) = (&mut self.trace, &self.end) {
+            trace.moves(end, now);
+        }
         let planned = match self.state {
             State::Open => self.plan(out, now),
             State::Closing { .. } => self.plan_closing(out, now),
@@ -85,6 +88,10 @@ impl Connection {
 
     fn note_sent(&mut self, plan: Planned, out: &mut [u8]) {
         let Planned { draft, mut sent } = plan;
+        if let Some(trace) = &mut self.trace {
+            let payload = &out[draft.payload_at()..draft.end];
+            trace.sent(draft.level, draft.number, payload, sent.at);
+        }
         match (
             draft.level,
             &self.data_keys,
