@@ -4,9 +4,9 @@ use Rattle.qs_calls.specs.declared.settings.Settings.{Settings}
 use Rattle.qs_calls.specs.declared.event.Event.{Event}
 use Rattle.qs_world.specs.declared.report.Report.{Report}
 use Rattle.qs_world.specs.declared.report.PlayFault.TheVariants.{NoSuchPacket}
-use Rattle.qs_world.specs.declared.script.ScriptFault.{ScriptFault}
+use Rattle.qs_script.specs.declared.script.ScriptFault.{ScriptFault}
 use Rattle.qs_world.specs.declared.world.draining.Drained.{Drained}
-use Rattle.qs_world.specs.Scripts.{IsFaultOf}
+use Rattle.qs_script.specs.Scripts.{IsFaultOf}
 use Rattle.qs_world.specs.Plays.{PlayOf}
 use Rattle.qs_world.specs.Draining.{DrainedPlayOf}
 use Rattle.qs_cli.specs.declared.status.Status.{Status}

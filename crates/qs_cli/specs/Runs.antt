@@ -9,16 +9,17 @@ use Rattle.qs_calls.specs.declared.settings.Settings.{Settings}
 use Rattle.qs_calls.specs.declared.event.Event.{Event}
 use Rattle.qs_world.specs.declared.report.Report.{Report}
 use Rattle.qs_world.specs.declared.report.PlayFault.TheVariants.{NoSuchPacket}
-use Rattle.qs_world.specs.declared.script.Reason.TheVariants as reasons
-use Rattle.qs_world.specs.declared.script.ScriptFault.{ScriptFault}
+use Rattle.qs_script.specs.declared.script.Reason.TheVariants as reasons
+use Rattle.qs_script.specs.declared.script.ScriptFault.{ScriptFault}
 use Rattle.qs_calls.specs.Events.{fits}
-use Rattle.qs_world.specs.Scripts.{script_of, said, reason_number}
+use Rattle.qs_script.specs.Scripts.{script_of, said, reason_number}
 use Rattle.qs_world.specs.Plays.{PlayOf}
 use Rattle.qs_world.specs.Randoms.{IsRandomScript, seeded}
-use Rattle.qs_world.specs.PlayText.{play_text, script_text}
+use Rattle.qs_text.specs.EventText.{script_text}
+use Rattle.qs_world.specs.PlayText.{play_text}
 use Rattle.qs_cli.specs.declared.status.Status.{Status}
 use Rattle.qs_cli.specs.declared.status.Status.TheVariants.{Success, FaultShown, BadUsage, NoMemory, Failed}
-use Rattle.qs_cli.specs.FrameText.{payload_text}
+use Rattle.qs_text.specs.FrameText.{payload_text}
 
 -- the number that the process ends with
 abbrev pub exit_code : Status → ℕ

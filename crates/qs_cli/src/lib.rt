@@ -3,15 +3,11 @@
 
 mod carrying;
 mod draining;
-mod fields;
-mod frame_text;
 mod frames;
-mod largest;
 mod memory_wire;
 mod report_text;
 mod scripts;
 mod status;
-mod text;
 mod udp_wire;
 mod wire;
 
@@ -19,7 +15,8 @@ pub use carrying::{run_udp, udp_events};
 pub use draining::run_drained;
 pub use frames::run_frames;
 pub use memory_wire::MemoryWire;
-pub use report_text::{play_text, script_text};
+pub use qs_text::script_text;
+pub use report_text::play_text;
 pub use scripts::{run_events, run_play, run_play_with, run_random};
 pub use status::Status;
 pub use udp_wire::UdpWire;

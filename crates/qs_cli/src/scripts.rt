@@ -10,8 +10,9 @@ ghost use Rattle.qs_world.specs.PlayText.{play_text};
 ghost use Rattle.qs_cli.specs.declared.status.Status.TheVariants.{Success, FaultShown};
 ghost use Rattle.qs_cli.specs.Runs.{AnswersEvents, AnswersPlay, AnswersRandom, Shows, ShowsScriptFault, missing_line, script_fault_line, written};
 
-use crate::report_text::{play_text, script_text};
+use crate::report_text::play_text;
 use crate::status::Status;
+use qs_text::script_text;
 use qs_world::{
     Event, PlayFault, Reason, Report, ScriptFault, Settings, parse_script, play, random_script,
     standard_settings,

@@ -3,18 +3,17 @@
 
 ghost use Rattle.std.specs.Prelude.{◌≡◌, true};
 ghost use Rattle.qs_calls.specs.Settings.{are_in_range};
-ghost use Rattle.qs_tool.specs.Requests.{IsPlayable};
+ghost use Rattle.qs_request.specs.Requests.{IsPlayable};
 
 mod input;
-mod request;
 #[cfg(test)]
 mod tests;
 mod traces;
 
 use crate::input::read_file;
-use crate::request::Request;
 use crate::traces::write_traces;
 use qs_cli::{Status, UdpWire, run_drained, run_frames, run_play_with, run_random, run_udp};
+use qs_request::{Refusal, Request};
 use qs_world::{Report, Settings};
 use std::process::ExitCode;
 use std::{env, io};
@@ -39,7 +38,8 @@ fn run(rt: &HostRuntime) -> Status {
     };
     match Request::parse(rt.alloc(), &words) {
         Ok(request) => answer(rt, request),
-        Err(status) => status,
+        Err(Refusal::BadUsage) => Status::BadUsage,
+        Err(Refusal::NoMemory) => Status::NoMemory,
     }
 }
 

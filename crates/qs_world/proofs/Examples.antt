@@ -1,4 +1,4 @@
--- The lines compute.
+-- The lines of a report compute, and a run of one step.
 use Rattle.std.proofs.Common.{◌≡◌, ℕ, [], ◌∷◌, refl, sym, ap, subst, arith, inl, inr}
 use Rattle.std.specs.Prelude.{Result, Ok, Err}
 use Rattle.qs_wire.specs.declared.stream_id.Role.TheVariants.{Client, Server}
@@ -14,8 +14,7 @@ use Rattle.qs_calls.specs.declared.event.Act.TheVariants as acts
 use Rattle.qs_calls.specs.declared.answer.Answer.TheVariants as answers
 use Rattle.qs_runs.specs.Worlds.{World, WorldStep, Run}
 use Rattle.std.specs.Fmt.{digits}
-use Rattle.hex.specs.Hex.{encode_with}
-use Rattle.qs_world.specs.Examples.{StreamsBeginAtZero, EventLines, AnswerLines, ReportLines, Examples}
+use Rattle.qs_world.specs.Examples.{StreamsBeginAtZero, ReportLines, Examples}
 
 client_begins : End
 client_begins = new_end Client standard (limits_of standard)
@@ -52,17 +51,9 @@ opened_zero =
       not_four = not_four;
     }
 
-event_lines : EventLines
-unfolding digits
-event_lines = record { opens = refl; accepts = refl; resets = refl; reads = refl; makes = refl; claims = refl; delivers = refl }
-
-answer_lines : AnswerLines
-unfolding digits encode_with
-answer_lines = record { blocked = refl; none = refl; wrong_way = refl; gave = refl; gave_none = refl; packet = refl; not_outstanding = refl; number = refl; exhausted = refl; closing = refl }
-
 report_lines : ReportLines
 unfolding digits
 report_lines = record { lane = refl; other_lane = refl; end = refl; closed_end = refl }
 
 pub examples_hold : Examples
-examples_hold = record { first_stream = opened_zero; events = event_lines; answers = answer_lines; reports = report_lines }
+examples_hold = record { first_stream = opened_zero; reports = report_lines }

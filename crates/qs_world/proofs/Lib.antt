@@ -8,8 +8,4 @@ pub mod LogCopies
 pub mod OneMore
 pub mod Places
 pub mod PlayedRuns
-pub mod PrintedScripts
-pub mod ScriptDigits
-pub mod ScriptLines
-pub mod ScriptWords
 pub mod Sides

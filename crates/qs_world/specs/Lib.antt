@@ -1,4 +1,3 @@
-pub mod Scripts
 pub mod Draws
 pub mod Randoms
 pub mod Reports
@@ -10,5 +9,4 @@ pub mod Copies
 pub mod Places
 pub mod Buffers
 pub mod PlayText
-pub mod ScriptLaws
 pub mod Examples

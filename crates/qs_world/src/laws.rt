@@ -1,7 +1,6 @@
 //! Laws of the definitions alone: those of runs, and of what is printed.
 
 ghost use Rattle.qs_world.specs.Examples.{Examples};
-ghost use Rattle.qs_world.specs.ScriptLaws.{PrintedScriptsParse};
 
 pub use qs_runs::laws::{
     acked_was_processed, claims_tell_nothing, every_run_agrees, final_size_is_declared,
@@ -11,13 +10,9 @@ pub use qs_runs::laws::{
     repeats_spend_nothing, reset_code_is_the_senders, sent_is_within_known, spent_is_below_sent,
     steps_keep_invariant, stored_is_written, what_is_known_stays,
 };
+pub use qs_script::laws::printed_scripts_parse;
 
-/// Printed lines, computed by the definitions.
+/// A run of one step, and the lines of a report, computed by the definitions.
 pub fn examples()
     ensures { Examples }
-{}
-
-/// The printed script of events that may be played says exactly these events.
-pub fn printed_scripts_parse()
-    ensures { PrintedScriptsParse }
 {}

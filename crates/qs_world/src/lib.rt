@@ -9,7 +9,6 @@ mod playing;
 mod random;
 mod report;
 mod reporting;
-mod script;
 mod world;
 
 pub use copies::copy_event;
@@ -20,8 +19,8 @@ pub use qs_conn::{
     Closing, LostFault, Made, MakeFault, OpenFault, Received, Settings, SetupFault, UseFault,
 };
 pub use qs_recv::Read;
+pub use qs_script::{Reason, ScriptFault, parse_script, standard_settings};
 pub use qs_wire::{Dir, StreamId};
-pub use random::{random_script, standard_settings};
+pub use random::random_script;
 pub use report::{EndTotals, LaneTotals, PlayFault, Report};
-pub use script::{Reason, ScriptFault, parse_script};
 pub use world::{Drained, World};

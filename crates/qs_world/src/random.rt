@@ -1,7 +1,6 @@
 //! Scripts of random events.
 ghost use Rattle.std.specs.Prelude.{◌≡◌, true, map, IfOk, IfErr, OnOk};
 ghost use Rattle.std.specs.List.{list_all};
-ghost use Rattle.qs_machine.specs.Examples.{standard};
 ghost use Rattle.qs_calls.specs.Events.{fits};
 ghost use Rattle.qs_world.specs.Randoms.{IsRandomScript, DrawnStep, seeded};
 ghost use Rattle.qs_world.specs.declared.report.PlayFault.TheVariants.{NoMemory};
@@ -10,26 +9,9 @@ use crate::draws::{draw_act, draw_side};
 use crate::report::PlayFault;
 use crate::world::World;
 use qs_calls::{Answer, Event};
-use qs_conn::Settings;
+use qs_script::standard_settings;
 use rand_pcg::Lcg64Xsh32;
 use std::alloc::Global;
-
-/// The settings of both ends in a script that the program plays.
-pub fn standard_settings() -> Settings
-    ensures { result ≡ standard }
-{
-    Settings {
-        conn_window: 4096,
-        bidi_local: 1024,
-        bidi_remote: 1024,
-        uni: 1024,
-        send_buffer: 2048,
-        grant_bidi: 8,
-        grant_uni: 8,
-        lifetime_bidi: 8,
-        lifetime_uni: 8,
-    }
-}
 
 /// So many random events between two ends of the standard settings. Each is drawn from the words of a generator that the seed
 /// determines, and from how many packets its end has made by then.

@@ -54,9 +54,6 @@ const PRELUDE: &str = "Box HostRuntime String Vec assert! assert_eq! format! pan
 /// Crates for which a module of the shim stands.
 const SHIMMED: [&str; 6] = ["std", "byteorder", "hex", "rand_core", "rand_pcg", "clap"];
 
-/// Crates of laws alone.
-const LAWS: [&str; 1] = ["qs_runs"];
-
 /// Calls that take an allocator and that Rust has under the same name without one: the shim's names for them, and the traits that have
 /// them.
 const CALLS: [(&str, &str, &str); 2] = [
@@ -292,9 +289,8 @@ impl<'a> Eraser<'a> {
         let path = self.words(at + 1, end).concat();
         let is_public = self.word(at - usize::from(at > 0)) == "pub";
         let first = at - usize::from(is_public);
-        if matches!(path.as_str(), "std::marker::Model" | "thiserror::Error")
-            || LAWS.contains(&self.word(at + 1))
-        {
+        let hands_on_laws = self.place.laws && is_public && path.contains("::laws::");
+        if hands_on_laws || matches!(path.as_str(), "std::marker::Model" | "thiserror::Error") {
             return Ok(self.cut_item(first, end));
         }
         self.signature(at + 1, end)?;

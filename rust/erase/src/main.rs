@@ -30,7 +30,16 @@ const LIBRARY: [&str; 7] = [
 const LIBRARY_FOLDER: &str = "rust/src/proved";
 
 /// The crates of the program, and one that tests use.
-const PROGRAM: [&str; 5] = ["qs_world", "qs_trace", "qs_cli", "qs_tool", "qs_chunks"];
+const PROGRAM: [&str; 8] = [
+    "qs_text",
+    "qs_script",
+    "qs_request",
+    "qs_world",
+    "qs_trace",
+    "qs_cli",
+    "qs_tool",
+    "qs_chunks",
+];
 
 /// The crates that are nothing but tests, and aren't proved.
 const TESTS: [&str; 3] = ["qs_units", "qs_ends", "qs_tests"];

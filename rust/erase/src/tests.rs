@@ -55,6 +55,23 @@ fn paths_have_their_roots() {
 }
 
 #[test]
+fn laws_that_are_handed_on_go() {
+    let rattle = "use qs_other::C;\npub use qs_other::laws::{a, b};\n";
+    let place = Place {
+        laws: true,
+        ..PLACE
+    };
+    assert_eq!(
+        erase(&place, rattle).map_err(|unknown| unknown.what),
+        Ok("use crate::proved::qs_other::C;\n".to_owned())
+    );
+    is_made(
+        rattle,
+        "use crate::proved::qs_other::C;\npub use crate::proved::qs_other::laws::{a, b};\n",
+    );
+}
+
+#[test]
 fn text_and_characters_stay() {
     is_made(
         "const A: &str = \"ghost // requires \\\" {\";\nconst B: u8 = b'\\'';\nconst C: char = '{';\n",

@@ -1,8 +1,8 @@
 //! Which command lines make sense.
 
 use crate::input::read_whole;
-use crate::request::Request;
 use qs_cli::Status;
+use qs_request::{Refusal, Request};
 use qs_world::standard_settings;
 use std::alloc::Global;
 use std::process::Abort;
@@ -51,13 +51,13 @@ fn other_command_lines_make_no_sense(rt: HostRuntime) -> Result<(), Fail> {
     ];
     for line in lines {
         let line = words(rt.alloc(), line)?;
-        assert!(rt; matches!(Request::parse(rt.alloc(), &line), Err(Status::BadUsage)));
+        assert!(rt; matches!(Request::parse(rt.alloc(), &line), Err(Refusal::BadUsage)));
     }
     Ok(())
 }
 
 /// Whether both ends are to be led to rest, where `a file` is to be played between those of the standard settings, without traces.
-fn asks_for_rest(request: Result<Request, Status>) -> Option<bool> {
+fn asks_for_rest(request: Result<Request, Refusal>) -> Option<bool> {
     match request {
         Ok(
             Request::Play {

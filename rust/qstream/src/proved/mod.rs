@@ -39,8 +39,11 @@ mod qs_chunks;
 pub(crate) mod qs_cli;
 #[cfg(test)]
 mod qs_ends;
+pub(crate) mod qs_request;
+pub(crate) mod qs_script;
 #[cfg(test)]
 mod qs_tests;
+pub(crate) mod qs_text;
 pub(crate) mod qs_tool;
 pub(crate) mod qs_trace;
 #[cfg(test)]

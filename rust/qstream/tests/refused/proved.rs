@@ -17,8 +17,12 @@ pub(crate) mod qs_machine;
 pub(crate) mod qs_ranges;
 #[path = "../../../src/proved/qs_recv/mod.rs"]
 pub(crate) mod qs_recv;
+#[path = "../../src/proved/qs_script/mod.rs"]
+pub(crate) mod qs_script;
 #[path = "../../../src/proved/qs_send/mod.rs"]
 pub(crate) mod qs_send;
+#[path = "../../src/proved/qs_text/mod.rs"]
+pub(crate) mod qs_text;
 #[path = "../../../src/proved/qs_wire/mod.rs"]
 pub(crate) mod qs_wire;
 #[path = "../../src/proved/qs_world/mod.rs"]

@@ -1,7 +1,8 @@
 use Rattle.std.proofs.Common.{◌≡◌, ◌++◌, take}
 use Rattle.std.specs.List.{flat_map}
 use Rattle.std.specs.String.{string_bytes}
-use Rattle.qs_world.specs.PlayText.{line, lane_text}
+use Rattle.qs_text.specs.EventText.{line}
+use Rattle.qs_world.specs.PlayText.{lane_text}
 use Rattle.qs_cli.proofs.report_text.push_lanes.Given as goal
 
 -- the lines so far are appended

@@ -1,5 +1,5 @@
 use Rattle.std.proofs.Common.{ap, ◌∙◌}
-use Rattle.qs_world.specs.PlayText.{script_text}
+use Rattle.qs_text.specs.EventText.{script_text}
 use Rattle.qs_cli.proofs.Answered.{answered_random}
 use Rattle.qs_cli.proofs.scripts.run_random.Goals as goal
 

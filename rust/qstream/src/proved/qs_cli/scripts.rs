@@ -3,8 +3,9 @@
 
 use crate::shim::{String, Vec, format};
 
-use crate::proved::qs_cli::report_text::{play_text, script_text};
+use crate::proved::qs_cli::report_text::play_text;
 use crate::proved::qs_cli::status::Status;
+use crate::proved::qs_text::script_text;
 use crate::proved::qs_world::{
     Event, PlayFault, Reason, Report, ScriptFault, Settings, parse_script, play, random_script,
     standard_settings,

@@ -4,15 +4,14 @@
 use crate::shim::{HostRuntime, IteratorCalls, String, Vec};
 
 mod input;
-mod request;
 #[cfg(test)]
 mod tests;
 mod traces;
 
 use crate::proved::qs_tool::input::read_file;
-use crate::proved::qs_tool::request::Request;
 use crate::proved::qs_tool::traces::write_traces;
 use crate::proved::qs_cli::{Status, UdpWire, run_drained, run_frames, run_play_with, run_random, run_udp};
+use crate::proved::qs_request::{Refusal, Request};
 use crate::proved::qs_world::{Report, Settings};
 use crate::shim::process::ExitCode;
 use crate::shim::{env, io};
@@ -37,7 +36,8 @@ fn run(rt: &HostRuntime) -> Status {
     };
     match Request::parse(rt.alloc(), &words) {
         Ok(request) => answer(rt, request),
-        Err(status) => status,
+        Err(Refusal::BadUsage) => Status::BadUsage,
+        Err(Refusal::NoMemory) => Status::NoMemory,
     }
 }
 

@@ -6,24 +6,9 @@ use crate::proved::qs_world::draws::{draw_act, draw_side};
 use crate::proved::qs_world::report::PlayFault;
 use crate::proved::qs_world::world::World;
 use crate::proved::qs_calls::{Answer, Event};
-use crate::proved::qs_conn::Settings;
+use crate::proved::qs_script::standard_settings;
 use crate::shim::rand_pcg::Lcg64Xsh32;
 use crate::shim::alloc::Global;
-
-/// The settings of both ends in a script that the program plays.
-pub fn standard_settings() -> Settings {
-    Settings {
-        conn_window: 4096,
-        bidi_local: 1024,
-        bidi_remote: 1024,
-        uni: 1024,
-        send_buffer: 2048,
-        grant_bidi: 8,
-        grant_uni: 8,
-        lifetime_bidi: 8,
-        lifetime_uni: 8,
-    }
-}
 
 /// So many random events between two ends of the standard settings. Each is drawn from the words of a generator that the seed
 /// determines, and from how many packets its end has made by then.

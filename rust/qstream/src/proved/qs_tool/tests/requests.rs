@@ -3,8 +3,8 @@
 
 use crate::shim::{HostRuntime, String, Vec, assert, panic, vec};
 use crate::proved::qs_tool::input::read_whole;
-use crate::proved::qs_tool::request::Request;
 use crate::proved::qs_cli::Status;
+use crate::proved::qs_request::{Refusal, Request};
 use crate::proved::qs_world::standard_settings;
 use crate::shim::alloc::Global;
 use crate::shim::process::Abort;
@@ -55,13 +55,13 @@ fn other_command_lines_make_no_sense() -> Result<(), Fail> {
     ];
     for line in lines {
         let line = words(rt.alloc(), line)?;
-        assert!(rt; matches!(Request::parse(rt.alloc(), &line), Err(Status::BadUsage)));
+        assert!(rt; matches!(Request::parse(rt.alloc(), &line), Err(Refusal::BadUsage)));
     }
     Ok(())
 }
 
 /// Whether both ends are to be led to rest, where `a file` is to be played between those of the standard settings, without traces.
-fn asks_for_rest(request: Result<Request, Status>) -> Option<bool> {
+fn asks_for_rest(request: Result<Request, Refusal>) -> Option<bool> {
     match request {
         Ok(
             Request::Play {

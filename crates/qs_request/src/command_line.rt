@@ -1,0 +1,194 @@
+//! What the command line asks for.
+
+ghost use Rattle.std.specs.Prelude.{◌≡◌, true, IfOk, IfSome};
+ghost use Rattle.qs_calls.specs.Settings.{are_in_range};
+ghost use Rattle.qs_request.specs.Requests.{IsPlayable};
+
+use clap::error::ErrorKind;
+use clap::{Arg, ArgAction, ArgMatches, Command, Error};
+use qs_calls::Settings;
+use qs_script::standard_settings;
+use std::alloc::{AllocError, Global};
+
+/// The most events of a random script.
+const MAX_EVENTS: u64 = 10_000;
+
+/// How many streams of each direction an end grants at first, at most and where nothing else is asked for.
+const MAX_GRANT: u64 = 4096;
+
+const USUAL_GRANT: u64 = 8;
+
+/// How many it grants in all, at most.
+const MAX_LIFETIME: u64 = 65_536;
+
+/// Why the words ask for nothing.
+#[derive(Clone, Copy, Debug, PartialEq, Eq)]
+pub enum Refusal {
+    /// They make no sense.
+    BadUsage,
+    /// Memory was refused.
+    NoMemory,
+}
+
+/// What the program is asked to do.
+#[derive(Clone, Copy)]
+pub enum Request<'a> {
+    /// Show the frames of the payload that the word spells in hex.
+    Frames(&'a str),
+    /// Play the script in the file of that name, between two ends of these settings, and lead them to rest where that is asked for. The
+    /// traces of both ends go to files, where a name is given for these.
+    Play {
+        file: &'a str,
+        settings: Settings,
+        drain: bool,
+        qlog: Option<&'a str>,
+    },
+    /// Play the script in the file of that name, with its packets over UDP. The traces of both ends go to files, as above.
+    Udp {
+        file: &'a str,
+        qlog: Option<&'a str>,
+    },
+    /// Show a script of `n` random events, at most 10,000, which the seed determines.
+    Random {
+        seed: u64,
+        n: usize,
+    },
+}
+
+impl<'a> Request<'a> {
+    /// What the words ask for, the program's name first. `BadUsage` where they make no sense, as a request
+    /// for help does not either, and `NoMemory` where memory was refused.
+    pub fn parse(alloc: Global, words: &'a [String]) -> Result<Request<'a>, Refusal>
+        ensures { IfOk result IsPlayable }
+    {
+        let Ok(command) = command(alloc) else {
+            return Err(Refusal::NoMemory);
+        };
+        let matches = match command.try_get_matches_from(words) {
+            Ok(matches) => matches,
+            Err(error) => return Err(refusal_of(&error)),
+        };
+        match matches.subcommand() {
+            Some((name, found)) => asked_for(name, found).ok_or(Refusal::BadUsage),
+            None => Err(Refusal::BadUsage),
+        }
+    }
+}
+
+/// What a subcommand of that name asks for with these arguments.
+fn asked_for<'a>(name: &str, found: &ArgMatches<'a>) -> Option<Request<'a>>
+    ensures { IfSome result IsPlayable }
+{
+    match name {
+        "frames" => Some(Request::Frames(found.get_str("hex")?)),
+        "play" => {
+            let settings = settings(found.get_str("grant"), found.get_str("lifetime"))?;
+            Some(Request::Play {
+                file: found.get_str("file")?,
+                settings,
+                drain: found.get_flag("drain"),
+                qlog: found.get_str("qlog"),
+            })
+        }
+        "udp" => Some(Request::Udp {
+            file: found.get_str("file")?,
+            qlog: found.get_str("qlog"),
+        }),
+        "random" => random(found.get_str("seed")?, found.get_str("n")?),
+        _ => None,
+    }
+}
+
+/// Those of ends that grant so many streams of each direction at first, and so many in all. Where these aren't named, 8 at first, and 8 in
+/// all or as many as at first.
+fn settings(grant: Option<&str>, lifetime: Option<&str>) -> Option<Settings>
+    ensures { IfSome result (λ settings. are_in_range settings ≡ true) }
+{
+    let grant = number_or(grant, USUAL_GRANT)?;
+    let lifetime = number_or(lifetime, grant.max(USUAL_GRANT))?;
+    if grant > MAX_GRANT || lifetime < grant || lifetime > MAX_LIFETIME {
+        return None;
+    }
+    Some(Settings {
+        grant_bidi: grant,
+        grant_uni: grant,
+        lifetime_bidi: lifetime,
+        lifetime_uni: lifetime,
+        ..standard_settings()
+    })
+}
+
+/// The number that the word spells, or the usual one where there is no word.
+fn number_or(word: Option<&str>, usual: u64) -> Option<u64> {
+    match word {
+        Some(word) => number(word),
+        None => Some(usual),
+    }
+}
+
+fn random<'a>(seed: &str, n: &str) -> Option<Request<'a>>
+    ensures { IfSome result IsPlayable }
+{
+    let (seed, n) = (number(seed)?, number(n)?);
+    if n > MAX_EVENTS {
+        return None;
+    }
+    Some(Request::Random {
+        seed,
+        n: n as usize,
+    })
+}
+
+/// A number in decimal digits alone. Leading zeros are allowed, a sign isn't.
+fn number(word: &str) -> Option<u64> {
+    if word.bytes().all(|byte| byte.is_ascii_digit()) {
+        word.parse().ok()
+    } else {
+        None
+    }
+}
+
+fn frames_command<'a>(alloc: Global) -> Result<Command<'a>, AllocError> {
+    Command::new(alloc, "frames").arg(Arg::new(alloc, "hex").required(true))
+}
+
+/// A subcommand that plays the script in a file.
+fn script_command<'a>(alloc: Global, name: &'a str) -> Result<Command<'a>, AllocError> {
+    Command::new(alloc, name)
+        .arg(Arg::new(alloc, "file").required(true))?
+        .arg(Arg::new(alloc, "qlog").long("qlog"))
+}
+
+fn play_command<'a>(alloc: Global) -> Result<Command<'a>, AllocError> {
+    script_command(alloc, "play")?
+        .arg(Arg::new(alloc, "grant").long("grant"))?
+        .arg(Arg::new(alloc, "lifetime").long("lifetime"))?
+        .arg(
+            Arg::new(alloc, "drain")
+                .long("drain")
+                .action(ArgAction::SetTrue),
+        )
+}
+
+fn random_command<'a>(alloc: Global) -> Result<Command<'a>, AllocError> {
+    Command::new(alloc, "random")
+        .arg(Arg::new(alloc, "seed").required(true))?
+        .arg(Arg::new(alloc, "n").required(true))
+}
+
+fn command<'a>(alloc: Global) -> Result<Command<'a>, AllocError> {
+    Command::new(alloc, "qstream")
+        .subcommand_required(true)
+        .subcommand(frames_command(alloc)?)?
+        .subcommand(play_command(alloc)?)?
+        .subcommand(script_command(alloc, "udp")?)?
+        .subcommand(random_command(alloc)?)
+}
+
+fn refusal_of(error: &Error) -> Refusal {
+    if error.kind() == ErrorKind::OutOfMemory {
+        Refusal::NoMemory
+    } else {
+        Refusal::BadUsage
+    }
+}

@@ -1,0 +1,6 @@
+//! The command line of the program.
+#![tactic(auto)]
+
+mod command_line;
+
+pub use command_line::{Refusal, Request};

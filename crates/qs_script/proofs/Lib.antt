@@ -1,0 +1,4 @@
+pub mod PrintedScripts
+pub mod ScriptDigits
+pub mod ScriptLines
+pub mod ScriptWords

@@ -1,0 +1,4 @@
+pub mod EventText
+pub mod Examples
+pub mod Fields
+pub mod FrameText

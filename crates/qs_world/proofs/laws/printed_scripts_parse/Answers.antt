@@ -1,5 +1,0 @@
-use Rattle.qs_world.proofs.PrintedScripts.{printed_scripts_hold}
-use Rattle.qs_world.proofs.laws.printed_scripts_parse.Goals as goal
-
-pub returns : goal.returns
-returns c = printed_scripts_hold
