@@ -15,6 +15,9 @@ use crate::proved::qs_recv::Read;
 /// No bytes of a call are more.
 const ROOM: usize = 1200;
 
+/// What a slice has in each place before a packet is made in it.
+const BEFORE: u8 = 0xa5;
+
 /// Makes the call that the words name, and tells what it answers.
 pub(super) fn call(end: &mut Endpoint, words: Words, answer: &mut String) -> Result<(), RowFault> {
     match words[0] {
@@ -75,7 +78,7 @@ fn receive(end: &mut Endpoint, words: Words, answer: &mut String) -> Result<(), 
 }
 
 fn make(end: &mut Endpoint, words: Words, answer: &mut String) -> Result<(), RowFault> {
-    let mut room = [0u8; ROOM];
+    let mut room = [BEFORE; ROOM];
     let Some(out) = room.get_mut(..size(words[1])?) else {
         return Err(RowFault::Unreadable);
     };
@@ -85,7 +88,7 @@ fn make(end: &mut Endpoint, words: Words, answer: &mut String) -> Result<(), Row
 
 // The room, the stream that goes first, and the delay that an ACK tells.
 fn make_from(end: &mut Endpoint, words: Words, answer: &mut String) -> Result<(), RowFault> {
-    let mut room = [0u8; ROOM];
+    let mut room = [BEFORE; ROOM];
     let Some(out) = room.get_mut(..size(words[1])?) else {
         return Err(RowFault::Unreadable);
     };
@@ -93,11 +96,19 @@ fn make_from(end: &mut Endpoint, words: Words, answer: &mut String) -> Result<()
     tell_made(answer, made, out)
 }
 
+// Behind the payload, and where there is none, the slice stays as it was.
 fn tell_made(
     answer: &mut String,
     made: Result<Option<Made>, MakeFault>,
     out: &[u8],
 ) -> Result<(), RowFault> {
+    let len = match made {
+        Ok(Some(made)) => made.len,
+        Ok(None) | Err(_) => 0,
+    };
+    if !is_untouched(out, len) {
+        return tell_word(answer, "scribbled");
+    }
     match made {
         Ok(Some(made)) => {
             let Some(payload) = out.get(..made.len) else {
@@ -110,6 +121,18 @@ fn tell_made(
         Ok(None) => tell_word(answer, "none"),
         Err(fault) => tell_word(answer, make_fault(fault)),
     }
+}
+
+fn is_untouched(out: &[u8], from: usize) -> bool {
+    let Some(rest) = out.get(from..) else {
+        return false;
+    };
+    for byte in rest {
+        if *byte != BEFORE {
+            return false;
+        }
+    }
+    true
 }
 
 fn lose(end: &mut Endpoint, words: Words, answer: &mut String) -> Result<(), RowFault> {
