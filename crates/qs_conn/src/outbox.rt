@@ -10,6 +10,7 @@ ghost use Rattle.qs_conn.specs.Ended.{send_over};
 ghost use Rattle.qs_conn.specs.Held.{kept_on, most_buffered};
 ghost use Rattle.qs_machine.specs.Outgoing.{no_packets, with_sends, on_lane, sent_sum, HasSending, AreOfOpen};
 
+use crate::piece_room::PieceRoom;
 use crate::places::{index_of, type_of};
 use crate::send_lanes::SendLanes;
 use crate::told::ToldItems;
@@ -41,6 +42,8 @@ pub(crate) struct Outbox {
     lost: LostRecords,
     // The pieces of the packet in the making.
     pending: Vec<Piece>,
+    // Memory in which they will be kept.
+    room: PieceRoom,
     // The items that outstanding packets and the one in the making told.
     index: ToldIndex,
     // For how many more pieces there is memory.
@@ -91,6 +94,7 @@ impl Outbox {
             spare: 0,
             next: 0,
             told: ToldItems::new(alloc),
+            room: PieceRoom::new(alloc),
         }
     }
 

@@ -1,12 +1,10 @@
 //! What one packet carried.
-ghost use Rattle.std.specs.Prelude.{◌≡◌, ◌↔◌, IsTrue, [], length, drop, Some};
+ghost use Rattle.std.specs.Prelude.{◌≡◌, ◌↔◌, IsTrue, [], ◌∷◌, length, drop, Some};
 ghost use Rattle.qs_send.specs.Records.{Among, first_piece};
 
 use crate::piece::Piece;
 use crate::remaining::Remaining;
-use std::alloc::Global;
 use std::marker::Model;
-use std::mem;
 
 /// The pieces of a packet that were not let go.
 #[derive(Drop)]
@@ -46,22 +44,21 @@ impl Carried {
         }
     }
 
-    /// The pieces of a buffer, in which none is left.
-    pub(crate) fn taken_from(alloc: Global, buffer: &mut Vec<Piece>) -> Self
-        ensures pieces { result ≡ buffer.old.items }
-        ensures left { buffer.new.items ≡ [] }
+    /// One piece.
+    pub(crate) fn one(piece: Piece) -> Self
+        ensures { result ≡ piece ∷ [] }
     {
-        if buffer.len() > 1 {
-            let pieces = hand_over(alloc, buffer);
-            return Carried {
-                pieces: Pieces::Several(Remaining::new(pieces)),
-            };
+        Carried {
+            pieces: Pieces::One(piece),
         }
-        match buffer.pop() {
-            Some(piece) => Carried {
-                pieces: Pieces::One(piece),
-            },
-            None => Carried::empty(),
+    }
+
+    /// Pieces that come with their memory.
+    pub(crate) fn several(pieces: Vec<Piece>) -> Self
+        ensures { result ≡ pieces.items }
+    {
+        Carried {
+            pieces: Pieces::Several(Remaining::new(pieces)),
         }
     }
 
@@ -106,20 +103,5 @@ impl Carried {
             Pieces::One(one) => *one == piece,
             Pieces::Several(pieces) => pieces.has(piece),
         }
-    }
-}
-
-// The pieces of a buffer, in no more memory than they need: the buffer stays for the next packet, so that a steady flow doesn't take it
-// anew. Where that memory is refused, the buffer itself goes.
-fn hand_over(alloc: Global, buffer: &mut Vec<Piece>) -> Vec<Piece>
-    ensures pieces { result.items ≡ buffer.old.items }
-    ensures left { buffer.new.items ≡ [] }
-{
-    match buffer.to_vec(alloc) {
-        Ok(pieces) => {
-            buffer.clear();
-            pieces
-        }
-        Err(_refused) => mem::replace(buffer, Vec::new(alloc)),
     }
 }

@@ -1,5 +1,5 @@
 //! What the outstanding packets carried.
-ghost use Rattle.std.specs.Prelude.{◌≡◌, ℕ, ◌+◌, ◌-◌, ◌^◌, ◌<◌, ◌≤◌, ◌↔◌, IsTrue, IfSome, IfNone, OnOk, OnErr, min, max, [], length, true, false};
+ghost use Rattle.std.specs.Prelude.{◌≡◌, ℕ, ◌+◌, ◌-◌, ◌^◌, ◌<◌, ◌≤◌, ◌↔◌, IsTrue, IfSome, IfNone, OnOk, OnErr, min, max, [], ◌∷◌, length, true, false};
 ghost use Rattle.std.specs.FinMap as fmap;
 ghost use Rattle.qs_send.specs.AckPass.{more_turns};
 ghost use Rattle.qs_send.specs.Records.{Among, AreBelow, IsCarried, IsGreatest, IsGreatestBelow, IsSlotOf, NoneEmpty, first_piece, slot_at, with_record, without_first};
@@ -18,7 +18,6 @@ use std::marker::Model;
 /// Each number from `base` on has a slot, up to the last one that was put in. A slot with no piece is empty.
 #[derive(Drop)]
 pub struct Records {
-    alloc: Global,
     base: u64,
     slots: VecDeque<Carried>,
     // Which slots are empty, as bits, of which the first is that of number `first`: a search looks at one word for 64 of them. Where
@@ -55,7 +54,6 @@ impl Records {
         ensures slots { result.slots ≡ 0 }
     {
         Records {
-            alloc,
             base: 0,
             slots: VecDeque::new(alloc),
             first: 0,
@@ -91,19 +89,31 @@ impl Records {
         Ok(())
     }
 
-    /// Holds the pieces of a packet that stand in a buffer, and leaves none there. It needs no memory.
-    pub fn put(&mut self, number: u64, buffer: &mut Vec<Piece>)
+    /// Holds the pieces of a packet, which come with their memory. It takes none.
+    pub fn put(&mut self, number: u64, pieces: Vec<Piece>)
         requires ready { number < self.old.room }
         requires above { AreBelow self.old.pieces number }
-        requires some { 0 < length buffer.old.items }
-        ensures pieces { self.new.pieces ≡ fmap.insert self.old.pieces number buffer.old.items }
-        ensures left { buffer.new.items ≡ [] }
+        requires some { 0 < length pieces.items }
+        ensures pieces { self.new.pieces ≡ fmap.insert self.old.pieces number pieces.items }
         ensures end { self.new.base + self.new.slots ≡ number + 1 }
     {
         self.drop_empty_end();
         self.start_at(number);
         self.fill_to(number);
-        self.push_slot(Carried::taken_from(self.alloc, buffer));
+        self.push_slot(Carried::several(pieces));
+    }
+
+    /// Holds the one piece of a packet, in its slot: so a steady flow takes no memory for it.
+    pub fn put_one(&mut self, number: u64, piece: Piece)
+        requires ready { number < self.old.room }
+        requires above { AreBelow self.old.pieces number }
+        ensures pieces { self.new.pieces ≡ fmap.insert self.old.pieces number (piece ∷ []) }
+        ensures end { self.new.base + self.new.slots ≡ number + 1 }
+    {
+        self.drop_empty_end();
+        self.start_at(number);
+        self.fill_to(number);
+        self.push_slot(Carried::one(piece));
     }
 
     /// The first piece of a packet, `None` where the number isn't held.

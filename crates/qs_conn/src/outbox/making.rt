@@ -11,6 +11,7 @@ ghost use Rattle.qs_machine.specs.Outgoing.{on_lane, sent_sum, chunk_put, item_p
 
 use super::Outbox;
 use super::halves::{half_of, is_open};
+use crate::piece_room::PieceRoom;
 use crate::places::{index_of, type_of};
 use crate::send_lanes::SendLanes;
 use qs_ranges::NoMemory;
@@ -26,6 +27,7 @@ impl Outbox {
         self.records.make_room(self.next)?;
         self.pending.reserve(count)?;
         self.index.reserve(count)?;
+        self.room.prepare()?;
         self.spare = count;
         Ok(())
     }
@@ -107,7 +109,12 @@ impl Outbox {
         ensures after { self.new ≡ record self.old { next = self.old.next + 1; spare = 0 } }
         ensures idle { IsIdle self.new }
     {
-        put_pieces(&mut self.records, self.next, &mut self.pending);
+        put_pieces(
+            &mut self.records,
+            self.next,
+            &mut self.pending,
+            &mut self.room,
+        );
         self.next += 1;
         self.spare = 0;
     }
@@ -133,15 +140,19 @@ fn note_blocked(types: &mut [SendLanes; 4], stream: StreamId)
     }
 }
 
-// The pieces of the packet in the making are kept, where it has some, and none is left in the making.
-fn put_pieces(records: &mut Records, number: u64, pending: &mut Vec<Piece>)
+// The pieces of the packet in the making are kept, where it has some, and none is left in the making. It takes no memory.
+fn put_pieces(records: &mut Records, number: u64, pending: &mut Vec<Piece>, room: &mut PieceRoom)
     requires ready { 0 < length pending.old.items → number < records.old.room }
     requires above { AreBelow records.old.pieces number }
     ensures kept { records.new.pieces ≡ with_pending records.old.pieces number pending.old.items }
     ensures left { pending.new.items ≡ [] }
 {
-    if pending.len() > 0 {
-        records.put(number, pending);
+    if pending.len() > 1 {
+        records.put(number, room.hand_over(pending));
+        return;
+    }
+    if let Some(piece) = pending.pop() {
+        records.put_one(number, piece);
     }
 }
 

@@ -4,6 +4,7 @@
 
 #[rustfmt::skip]
 mod proved;
+mod listed;
 mod pieces;
 mod refusing;
 #[allow(dead_code, unused_imports, unused_macros)]

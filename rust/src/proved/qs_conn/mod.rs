@@ -11,6 +11,7 @@ mod held;
 mod limits;
 mod marks;
 mod outbox;
+mod piece_room;
 mod places;
 mod recv_lanes;
 mod recv_marks;

@@ -2,6 +2,7 @@
 //! The sending side of an end.
 use crate::shim::Vec;
 
+use crate::proved::qs_conn::piece_room::PieceRoom;
 use crate::proved::qs_conn::places::{index_of, type_of};
 use crate::proved::qs_conn::send_lanes::SendLanes;
 use crate::proved::qs_conn::told::ToldItems;
@@ -31,6 +32,8 @@ pub(crate) struct Outbox {
     lost: LostRecords,
     // The pieces of the packet in the making.
     pending: Vec<Piece>,
+    // Memory in which they will be kept.
+    room: PieceRoom,
     // The items that outstanding packets and the one in the making told.
     index: ToldIndex,
     // For how many more pieces there is memory.
@@ -56,6 +59,7 @@ impl Outbox {
             spare: 0,
             next: 0,
             told: ToldItems::new(alloc),
+            room: PieceRoom::new(alloc),
         }
     }
 

@@ -1,11 +1,9 @@
 // Made from crates/qs_send/src/carried.rt by rust/erase; not edited by hand.
 //! What one packet carried.
-use crate::shim::{SliceCalls, Vec};
+use crate::shim::Vec;
 
 use crate::proved::qs_send::piece::Piece;
 use crate::proved::qs_send::remaining::Remaining;
-use crate::shim::alloc::Global;
-use crate::shim::mem;
 
 /// The pieces of a packet that were not let go.
 pub(crate) struct Carried {
@@ -27,19 +25,17 @@ impl Carried {
         }
     }
 
-    /// The pieces of a buffer, in which none is left.
-    pub(crate) fn taken_from(alloc: Global, buffer: &mut Vec<Piece>) -> Self {
-        if buffer.len() > 1 {
-            let pieces = hand_over(alloc, buffer);
-            return Carried {
-                pieces: Pieces::Several(Remaining::new(pieces)),
-            };
+    /// One piece.
+    pub(crate) fn one(piece: Piece) -> Self {
+        Carried {
+            pieces: Pieces::One(piece),
         }
-        match buffer.pop() {
-            Some(piece) => Carried {
-                pieces: Pieces::One(piece),
-            },
-            None => Carried::empty(),
+    }
+
+    /// Pieces that come with their memory.
+    pub(crate) fn several(pieces: Vec<Piece>) -> Self {
+        Carried {
+            pieces: Pieces::Several(Remaining::new(pieces)),
         }
     }
 
@@ -76,17 +72,5 @@ impl Carried {
             Pieces::One(one) => *one == piece,
             Pieces::Several(pieces) => pieces.has(piece),
         }
-    }
-}
-
-// The pieces of a buffer, in no more memory than they need: the buffer stays for the next packet, so that a steady flow doesn't take it
-// anew. Where that memory is refused, the buffer itself goes.
-fn hand_over(alloc: Global, buffer: &mut Vec<Piece>) -> Vec<Piece> {
-    match buffer.copied_in(alloc) {
-        Ok(pieces) => {
-            buffer.clear();
-            pieces
-        }
-        Err(_refused) => mem::replace(buffer, Vec::new(alloc)),
     }
 }

@@ -14,7 +14,6 @@ use crate::shim::collections::VecDeque;
 ///
 /// Each number from `base` on has a slot, up to the last one that was put in. A slot with no piece is empty.
 pub struct Records {
-    alloc: Global,
     base: u64,
     slots: VecDeque<Carried>,
     // Which slots are empty, as bits, of which the first is that of number `first`: a search looks at one word for 64 of them. Where
@@ -27,7 +26,6 @@ impl Records {
     /// No records. It takes no memory.
     pub fn new(alloc: Global) -> Self {
         Records {
-            alloc,
             base: 0,
             slots: VecDeque::new(alloc),
             first: 0,
@@ -55,12 +53,20 @@ impl Records {
         Ok(())
     }
 
-    /// Holds the pieces of a packet that stand in a buffer, and leaves none there. It needs no memory.
-    pub fn put(&mut self, number: u64, buffer: &mut Vec<Piece>) {
+    /// Holds the pieces of a packet, which come with their memory. It takes none.
+    pub fn put(&mut self, number: u64, pieces: Vec<Piece>) {
         self.drop_empty_end();
         self.start_at(number);
         self.fill_to(number);
-        self.push_slot(Carried::taken_from(self.alloc, buffer));
+        self.push_slot(Carried::several(pieces));
+    }
+
+    /// Holds the one piece of a packet, in its slot: so a steady flow takes no memory for it.
+    pub fn put_one(&mut self, number: u64, piece: Piece) {
+        self.drop_empty_end();
+        self.start_at(number);
+        self.fill_to(number);
+        self.push_slot(Carried::one(piece));
     }
 
     /// The first piece of a packet, `None` where the number isn't held.

@@ -67,7 +67,16 @@ fn grow(records: &mut Records, number: u64) -> Result<(), NoMemory> {
     records.make_room(number)
 }
 
-fn put(records: &mut Records, number: u64, pieces: &mut Vec<Piece>) -> bool {
+// One piece alone goes into its slot.
+fn hold(records: &mut Records, number: u64, pieces: Vec<Piece>) {
+    if pieces.len() == 1 {
+        records.put_one(number, pieces[0]);
+    } else if !pieces.is_empty() {
+        records.put(number, pieces);
+    }
+}
+
+fn put(records: &mut Records, number: u64, pieces: Vec<Piece>) -> bool {
     if pieces.is_empty() || records.make_room(number).is_err() {
         return false;
     }
@@ -76,9 +85,9 @@ fn put(records: &mut Records, number: u64, pieces: &mut Vec<Piece>) -> bool {
             if last >= number {
                 return false;
             }
-            records.put(number, pieces);
+            hold(records, number, pieces);
         }
-        None => records.put(number, pieces),
+        None => hold(records, number, pieces),
     }
     true
 }
@@ -90,10 +99,9 @@ fn puts(
     first: u32,
     more: u32,
 ) -> Result<bool, NoMemory> {
-    let mut pieces = pieces_from(alloc, first, more)?;
+    let pieces = pieces_from(alloc, first, more)?;
     grow(records, number)?;
-    let is_put = put(records, number, &mut pieces);
-    Ok(is_put && pieces.is_empty())
+    Ok(put(records, number, pieces))
 }
 
 fn is_first(records: &Records, number: u64, expected: Option<u32>) -> bool {

@@ -4,6 +4,7 @@ use crate::shim::Vec;
 
 use super::Outbox;
 use super::halves::{half_of, is_open};
+use crate::proved::qs_conn::piece_room::PieceRoom;
 use crate::proved::qs_conn::places::{index_of, type_of};
 use crate::proved::qs_conn::send_lanes::SendLanes;
 use crate::proved::qs_ranges::NoMemory;
@@ -16,6 +17,7 @@ impl Outbox {
         self.records.make_room(self.next)?;
         self.pending.reserve(count)?;
         self.index.reserve(count)?;
+        self.room.prepare()?;
         self.spare = count;
         Ok(())
     }
@@ -70,7 +72,12 @@ impl Outbox {
 
     /// The packet is made, and the next one has the next number.
     pub(crate) fn commit(&mut self) {
-        put_pieces(&mut self.records, self.next, &mut self.pending);
+        put_pieces(
+            &mut self.records,
+            self.next,
+            &mut self.pending,
+            &mut self.room,
+        );
         self.next += 1;
         self.spare = 0;
     }
@@ -90,10 +97,14 @@ fn note_blocked(types: &mut [SendLanes; 4], stream: StreamId) {
     }
 }
 
-// The pieces of the packet in the making are kept, where it has some, and none is left in the making.
-fn put_pieces(records: &mut Records, number: u64, pending: &mut Vec<Piece>) {
-    if pending.len() > 0 {
-        records.put(number, pending);
+// The pieces of the packet in the making are kept, where it has some, and none is left in the making. It takes no memory.
+fn put_pieces(records: &mut Records, number: u64, pending: &mut Vec<Piece>, room: &mut PieceRoom) {
+    if pending.len() > 1 {
+        records.put(number, room.hand_over(pending));
+        return;
+    }
+    if let Some(piece) = pending.pop() {
+        records.put_one(number, piece);
     }
 }
 

@@ -16,6 +16,19 @@ invariant_of-self-in_err-reserve-2 c =
       c.self.invariant.3,
     )
 
+pub invariant_of-self-in_err-prepare : goal.invariant_of-self-in_err-prepare
+invariant_of-self-in_err-prepare c =
+    let was = c.self.invariant.0.room in
+    let more = c.reserve.ensures.capacity in
+    let len = c.reserve.ensures.len in
+    let room = c.self.invariant.1.room in
+    let kept = c.reserve-2.ensures.kept in (
+      box_begun _ _ _ _ _ _ _ _ _ _ _ _ _ c.self.invariant.0 c.make_room.ensures.same c.reserve.ensures.items (has_room _ _ c.in_ok-make_room.ensures.ok) (omega (arith, was, more, len)),
+      indexed_begun _ _ _ _ _ _ _ _ _ _ _ c.self.invariant.1 c.make_room.ensures.same c.reserve.ensures.items c.reserve-2.ensures.items (omega (arith, room, kept)),
+      c.self.invariant.2,
+      c.self.invariant.3,
+    )
+
 pub invariant_of-self-2 : goal.invariant_of-self-2
 invariant_of-self-2 c =
     let enough = c.in_ok-reserve.ensures.ok in (
