@@ -100,6 +100,7 @@ impl Cubic {
     /// Nothing goes though it might: a window that isn't used doesn't grow (RFC 9002, section 7.8).
     pub fn leave_unused(&mut self) {
         self.is_used = false;
+        self.may_exceed = false;
     }
 
     /// A packet is in flight no more, and nothing is to be learned of that.

@@ -26,7 +26,7 @@ const LONG: Duration = Duration::from_secs(3600);
 /// How much later than asked for a socket's wait ends at the most: the kernel counts it in ticks. The rest of a wait is slept in small
 /// pieces, between which the socket is looked at.
 const COARSE: Duration = Duration::from_millis(9);
-const FINE: Duration = Duration::from_micros(500);
+const FINE: Duration = Duration::from_micros(100);
 
 pub struct Server<A> {
     socket: UdpSocket,
