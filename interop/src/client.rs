@@ -36,9 +36,12 @@ pub fn visit<A: Application>(
     while let Some(address) = rest.next() {
         let is_last = rest.len() == 0;
         let mut connection = make()?;
-        let until = (!is_last).then(|| Instant::now() + PATIENCE);
+        let patience = Patience {
+            word_until: (!is_last).then(|| Instant::now() + PATIENCE),
+            stream_until: None,
+        };
         let ended = connect(*address)
-            .and_then(|socket| run_until(&socket, &mut connection, application, until));
+            .and_then(|socket| run_until(&socket, &mut connection, application, patience));
         match ended {
             Ok(outcome) if is_last || connection.has_peer() => return Ok(outcome),
             Err(error) if is_last => return Err(Refusal::failure(error)),
@@ -94,15 +97,6 @@ pub fn run_errand<E: Errand>(
     Ok(0)
 }
 
-/// Goes on until the connection ends, and answers how.
-pub fn run<A: Application>(
-    socket: &UdpSocket,
-    connection: &mut Connection,
-    application: &mut A,
-) -> io::Result<Outcome> {
-    run_until(socket, connection, application, None)
-}
-
 /// How long a client waits where a connection may bring nothing more.
 struct Patience {
     /// Until when the server has to say something, where its name has another address.
@@ -129,18 +123,14 @@ fn is_refusal(sent: &io::Result<usize>) -> bool {
     matches!(sent, Err(error) if error.kind() == ErrorKind::ConnectionRefused)
 }
 
-// Where the server was silent until a time, or no one listens there, the connection ends, too.
+// Goes on until the connection ends, which it does, too, where there is no patience any more, or no one listens there.
 fn run_until<A: Application>(
     socket: &UdpSocket,
     connection: &mut Connection,
     application: &mut A,
-    silent_until: Option<Instant>,
+    mut patience: Patience,
 ) -> io::Result<Outcome> {
     let mut out = Vec::new();
-    let mut patience = Patience {
-        word_until: silent_until,
-        stream_until: None,
-    };
     loop {
         let mut is_refused = false;
         let more = turn(connection, application, &mut out, |bytes| {

@@ -261,12 +261,7 @@ pub fn answer(zone: &Zone, query: &[u8]) -> Option<Vec<u8>> {
         Some(question) => look_up(zone, question),
     };
     let mut out = Vec::new();
-    // Only what the zone says is said with authority (RFC 1035, section 4.1.1).
-    let authoritative = match code {
-        NO_ERROR | NAME_ERROR => IS_AUTHORITATIVE,
-        _ => 0,
-    };
-    let flags = IS_RESPONSE | authoritative | head.flags & (OPCODE | RECURSION_DESIRED) | code;
+    let flags = head.flags & (OPCODE | RECURSION_DESIRED) | IS_RESPONSE | authority_of(code) | code;
     let counts = [
         u16::from(question.is_some()),
         answers.len() as u16,
@@ -284,6 +279,14 @@ pub fn answer(zone: &Zone, query: &[u8]) -> Option<Vec<u8>> {
         push_opt(&mut out);
     }
     Some(out)
+}
+
+// Only what the zone says is said with authority (RFC 1035, section 4.1.1).
+fn authority_of(code: u16) -> u16 {
+    match code {
+        NO_ERROR | NAME_ERROR => IS_AUTHORITATIVE,
+        _ => 0,
+    }
 }
 
 // A code, answers and a record of authority. A zone isn't transferred.

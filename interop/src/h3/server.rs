@@ -128,6 +128,7 @@ impl FileServer {
             Event::Field(stream, field) => self.requests.entry(stream).or_default().take(field),
             // What can't be answered is refused at once, and the rest of it isn't wanted.
             Event::TooManyFields(stream) => {
+                self.requests.entry(stream).or_default();
                 self.respond(session, stream, |_| Answer::of("431", &[]))?;
                 session.refuse_rest(end, stream)?;
             }
@@ -145,17 +146,19 @@ impl FileServer {
                 let folder = self.folder.clone();
                 self.respond(session, stream, |request| request.answer(&folder))?;
             }
-            Event::Broken(stream, code) => {
-                // (of one that was answered the stream layer tells)
-                let request = self.requests.remove(&stream).unwrap_or_default();
-                if !self.answered.contains_key(&stream) {
-                    self.entry(&request, "-", 0).broken(code, 0);
-                }
-            }
+            Event::Broken(stream, code) => self.break_off(stream, code),
             // What a request brings beside its fields isn't used.
             Event::FieldsEnd(_) | Event::Data(..) | Event::GoAway(_) => {}
         }
         Ok(())
+    }
+
+    // Of a request that was answered the stream layer tells.
+    fn break_off(&mut self, stream: StreamId, code: u64) {
+        let request = self.requests.remove(&stream).unwrap_or_default();
+        if !self.answered.contains_key(&stream) {
+            self.entry(&request, "-", 0).broken(code, 0);
+        }
     }
 
     // One that was answered before, or isn't known, isn't answered.

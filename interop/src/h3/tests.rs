@@ -208,6 +208,12 @@ fn fields_that_take_too_much_are_refused() {
     assert_eq!(ask(64).as_deref(), Some("431"));
     assert_eq!(ask(200).as_deref(), Some("431"));
     assert_eq!(ask(1).as_deref(), Some("200"));
+    // One field that takes too much is the first that comes, and is answered, too.
+    let path = format!("/{}", "p".repeat(65_500));
+    let fields = [(":path", path.as_str()), GET[0], GET[1], GET[2]];
+    let stream = pair.ask(&fields, None);
+    pair.run().unwrap();
+    assert_eq!(pair.came[&stream].field(":status"), Some("431"));
 }
 
 #[test]
