@@ -24,6 +24,7 @@ use Rattle.qs_machine.specs.FrameStep.{is_named}
 use Rattle.qs_machine.specs.Lawful.{MayAck, Fills, AreInTurn, frame_put}
 use Rattle.qs_machine.specs.Making.{IsText, IsPlainAck, NamesMost}
 use Rattle.qs_conn.specs.Filling.{InPacket, IsAckText, Begun, IsPassed, no_slot}
+use Rattle.qs_conn.proofs.PacketOrder.{order_first}
 use Rattle.qs_conn.proofs.Texts.{no_text, text_push, ack_left}
 
 -- How many ranges there are
@@ -229,6 +230,7 @@ module _ (delay : ℕ) (old : End) (runs pairs : Runs) (is : AreRunsOf old.done 
         spells = subst (IsText delay (begins ∷ [])) (sym written) (text_push delay [] [] begins (no_text delay) (ack_fits delay (take n pairs) small first_ok) (plain delay (take n pairs) first_ok));
         acks = (more_than room most, tt);
         turns = λ first. subst (λ f. AreInTurn first old (f ∷ [])) (sym (seen_is delay old runs pairs is highest ok due n some within)) (tt, tt);
+        order = order_first old fresh;
         steady = refl;
         within = sent;
         ack = λ x. elim (cases_lt n (length pairs)) [

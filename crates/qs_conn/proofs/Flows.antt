@@ -30,13 +30,15 @@ use Rattle.qs_machine.specs.Ends.{End, send_lane}
 use Rattle.qs_machine.specs.Credit.{all_sent}
 use Rattle.qs_machine.specs.Seen.{Seen, Ack, Stream, Control, seen_all}
 use Rattle.qs_machine.specs.Due.{Among, IsDueItem, IsDue, IsEndDue, StreamGoes}
-use Rattle.qs_machine.specs.Lawful.{Fills, AcksAll, AreInTurn, ComesBefore, frame_put}
+use Rattle.qs_machine.specs.Lawful.{Fills, AcksAll, AreInTurn, ComesBefore, frame_put, pieces_so_far}
+use Rattle.qs_machine.specs.InOrder.{AreInOrder}
 use Rattle.qs_machine.specs.Making.{IsText, NamesMost}
 use Rattle.qs_machine.proofs.Carried.{among_more}
 use Rattle.qs_conn.specs.Filling.{end_by, MayGo, stream_frame, InPacket, slot_of, IsPassed, all_items, turn_at, HadTurn, IsOnWay, start_of, way_end, Flowing, Flow, Packed, Stage}
 use Rattle.qs_conn.proofs.Items.{fills_push, sum_by_base, known_by_base}
 use Rattle.qs_conn.proofs.Texts.{all_push, text_push, seen_push}
 use Rattle.qs_conn.proofs.Stages.{no_ack, turn_push}
+use Rattle.qs_conn.proofs.PacketOrder.{order_chunk}
 use Rattle.qs_conn.proofs.Chunks.{Ties, ties_of, same_truth, IsClear, may_carry, chunk_lane, chunk_sum, chunk_known, clear_old, clear_new, cut_last, goes_other, chunk_only, none_goes}
 use Rattle.qs_conn.proofs.Openings.{none_is}
 use Rattle.qs_conn.proofs.Sendables.{passed_all}
@@ -49,6 +51,7 @@ pub record Chunking (delay room : ℕ) (old : End) (text : List ℕ) (e : End) (
   pub spells : IsText delay frames text
   pub acks : AllByRecursion (NamesMost old delay room) frames
   pub turns : AreInTurn first old (seen_all frames)
+  pub order : AreInOrder old [] (pieces_so_far e e.next)
   pub within : all_sent e ≤ e.known_data
   pub ack : old.ack_due ≡ true → (room < length text + 25) ⊎ AcksAll old (seen_all frames)
   pub items : (i : Item) → IsDueItem old i → Among (Control i) (seen_all frames)
@@ -105,6 +108,7 @@ flow_first first delay room old text e false s =
       spells = s.spells;
       acks = s.acks;
       turns = s.turns first;
+      order = s.order;
       within = (let same = sum_by_base e old s.steady in let known = known_by_base e old s.steady in omega (arith, same, known, s.within));
       ack = s.ack;
       items = λ i due. s.items i (passed_all i) due;
@@ -121,6 +125,7 @@ chunking_begins delay room old text e around first n on f =
       spells = f.spells;
       acks = f.acks;
       turns = f.turns;
+      order = f.order;
       within = f.within;
       ack = f.ack;
       items = f.items;
@@ -140,6 +145,7 @@ module _ (delay room : ℕ) (old : End) (text : List ℕ) (e : End) (around : Bo
         spells = k.spells;
         acks = k.acks;
         turns = k.turns;
+        order = k.order;
         within = k.within;
         ack = k.ack;
         items = k.items;
@@ -154,7 +160,7 @@ module _ (delay room : ℕ) (old : End) (text : List ℕ) (e : End) (around : Bo
   pub chunking_full : HasNoChunk s (room - length text) (e.known_data - all_sent e) → IsHeldByRoom s (room - length text) (e.known_data - all_sent e) → Packed first delay room old text e
   chunking_full none held =
       let few : room - length text < 19 = (held_by_room_or_limits s (room - length text) (e.known_data - all_sent e) t.lawful none).0 held in
-      record { frames = k.frames; fills = k.fills; spells = k.spells; acks = k.acks; turns = k.turns; within = k.within; whole = λ left. absurd (omega (arith, few, left, fits)) }
+      record { frames = k.frames; fills = k.fills; spells = k.spells; acks = k.acks; turns = k.turns; order = k.order; within = k.within; whole = λ left. absurd (omega (arith, few, left, fits)) }
 
   module _ (c : Chunk) (next : IsNextChunk s (room - length text) (e.known_data - all_sent e) c) (has : HasBytes s.lane c) (bytes : List ℕ) (is : bytes ≡ bytes_of s.lane c) (count : length bytes ≡ c.len) where
     abbrev frame : FrameValue
@@ -206,6 +212,7 @@ module _ (delay room : ℕ) (old : End) (text : List ℕ) (e : End) (around : Bo
           spells = text_push delay k.frames text frame k.spells chunk_fits tt;
           acks = all_push (NamesMost old delay room) k.frames frame k.acks tt;
           turns = subst (AreInTurn first old) (sym (seen_push k.frames frame)) (turn_push first old old (seen_all k.frames) (Stream n c.offset bytes c.fin) e k.fills k.turns (λ m before. k.over m (comes_before around first m n k.on_way before)));
+          order = order_chunk old e (seen_all k.frames) n c.offset bytes c.fin k.fills k.items k.order;
           within = omega (arith, chunk_known e n s t c next.allowed.chunk bytes count, chunk_sum e n s t c next.allowed.chunk bytes count, k.within, next.allowed.within_credit);
           ack = λ due. elim (k.ack due) [ inl full ↦ inl (omega (arith, len', full)) | inr (largest, ranges, there, all) ↦ inr (largest, ranges, more (Ack largest ranges) there, all) ];
           items = λ i due. more (Control i) (k.items i due);
@@ -227,6 +234,7 @@ flow_absent delay room old text e around first n none f =
       spells = f.spells;
       acks = f.acks;
       turns = f.turns;
+      order = f.order;
       within = f.within;
       ack = f.ack;
       items = f.items;
@@ -244,6 +252,7 @@ flow_idle delay room old text e false around first done next le idle f =
       spells = f.spells;
       acks = f.acks;
       turns = f.turns;
+      order = f.order;
       within = f.within;
       ack = f.ack;
       items = f.items;
@@ -262,6 +271,7 @@ flow_way delay room old text e false false first done past f =
       spells = f.spells;
       acks = f.acks;
       turns = f.turns;
+      order = f.order;
       within = f.within;
       ack = f.ack;
       items = f.items;
@@ -278,6 +288,7 @@ flow_way delay room old text e false true first done past f =
       spells = f.spells;
       acks = f.acks;
       turns = f.turns;
+      order = f.order;
       within = f.within;
       ack = f.ack;
       items = f.items;
@@ -298,6 +309,7 @@ flow_packed first delay room old text e false f =
       spells = f.spells;
       acks = f.acks;
       turns = f.turns;
+      order = f.order;
       within = f.within;
       whole = λ left. record {
         ack = acked left;
@@ -388,7 +400,7 @@ flow_ends around first t recvs o e delay room old before len n left fresh s s' f
 pub flow_few : (around : Bool) (first next : ℕ) (e : End) (delay room : ℕ) (old : End) (before : List ℕ) (len n : ℕ) → len ≤ length before → room ≡ length before → length before - len < 25 →
     Chunking delay room old (take len before) e around first n → Flow delay room old (take len before) e true (turn_at around first next)
 flow_few around first next e delay room old before len n within at few k =
-    record { frames = k.frames; fills = k.fills; spells = k.spells; acks = k.acks; turns = k.turns; within = k.within; whole = λ left. absurd (omega (arith, few, left, at, length-take-le len before within)) }
+    record { frames = k.frames; fills = k.fills; spells = k.spells; acks = k.acks; turns = k.turns; order = k.order; within = k.within; whole = λ left. absurd (omega (arith, few, left, at, length-take-le len before within)) }
 
 -- a stream's chunk opens no stream
 pub none_stays : (o : Outgoing) (n m : ℕ) (c : Chunk) → lookup o.sends m ≡ None → lookup (chunk_put n c o).sends m ≡ None

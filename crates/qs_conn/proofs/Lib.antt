@@ -20,6 +20,8 @@ pub mod Helds
 pub mod Indexed
 pub mod ItemOrders
 pub mod Ordered
+pub mod PacketOrder
+pub mod Passing
 pub mod OutboxAcks
 pub mod Over
 pub mod OutboxMaking

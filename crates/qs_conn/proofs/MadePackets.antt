@@ -12,8 +12,9 @@ use Rattle.qs_machine.specs.Ends.{End}
 use Rattle.qs_machine.specs.Credit.{settle}
 use Rattle.qs_machine.specs.Seen.{Seen, seen_all}
 use Rattle.qs_machine.specs.Due.{Among, Sendable}
-use Rattle.qs_machine.specs.Lawful.{Fills, frame_put}
+use Rattle.qs_machine.specs.Lawful.{Fills, frame_put, pieces_so_far}
 use Rattle.qs_machine.specs.Making.{IsMade, MakeAt, MakeStep, make_refusal}
+use Rattle.qs_machine.specs.InOrder.{AreInOrder, NothingStarves}
 use Rattle.qs_machine.specs.Outgoing.{Outgoing, sent_sum, with_outgoing}
 use Rattle.qs_conn.specs.Filling.{InPacket, end_by, Packed}
 use Rattle.qs_wire.specs.declared.stream_id.Role.{Role}
@@ -103,3 +104,14 @@ module _ (v old : End) (same : v ≡ old) (t : Limits) (o o' : Outgoing) (spare 
       let end : new ≡ settle (record filled { next = v.next + 1 }) = settled ∙ ap settle mid in
       subst (λ e. MakeStep e first delay room (Ok (Some (record { number = number; len = len; is_ack_eliciting = asks }))) (take len out) new) same
       (subst (λ r. MakeAt r v first delay room (Ok (Some (record { number = number; len = len; is_ack_eliciting = asks }))) (take len out) new) (sym (no_refusal v clear le)) (subst (IsMade v first delay room (record { number = number; len = len; is_ack_eliciting = asks }) (take len out)) (sym end) made))
+
+  -- what its record holds is in order, and no ACK is due any more
+  pub make_order : (new : End) (o'' : Outgoing) (number : ℕ) (asks : Bool) → number ≡ v.next → o'' ≡ record o' { next = o'.next + 1; spare = 0 } → new ≡ settle (with_outgoing o'' (record v { ack_due = false }))
+      → NothingStarves old (Ok (Some (record { number = number; len = len; is_ack_eliciting = asks }))) new
+  make_order new o'' number asks is after settled =
+      let mid : with_outgoing o'' (record v { ack_due = false }) ≡ record filled { next = v.next + 1 } = rw (after, t_is, filled_next) refl in
+      let end : new ≡ settle (record filled { next = v.next + 1 }) = settled ∙ ap settle mid in
+      let pieces : pieces_so_far new number ≡ pieces_so_far filled filled.next = ap (λ (x : End). pieces_so_far x number) end ∙ ap (pieces_so_far filled) (is ∙ sym filled_next) in (
+        ap (λ (x : End). x.ack_due) end,
+        subst (λ e. AreInOrder e [] (pieces_so_far new number)) same (subst (AreInOrder v []) (sym pieces) packed.order),
+      )

@@ -1,5 +1,5 @@
 -- Items are put into a packet that is in a slice.
-use Rattle.std.proofs.Common.{◌≡◌, ℕ, ◌+◌, ◌<◌, ◌≤◌, Bool, true, false, List, ◌++◌, ◌⊎◌, length, take, refl, sym, ap, ◌∙◌, arith, inl, inr, Option, None, Some}
+use Rattle.std.proofs.Common.{◌≡◌, ℕ, ◌+◌, ◌<◌, ◌≤◌, Bool, true, false, List, ◌++◌, ◌⊎◌, length, take, refl, sym, ap, ◌∙◌, subst, arith, inl, inr, Option, None, Some}
 use Rattle.std.proofs.lemmas.Bool.{true≢false, cases_lt}
 use Rattle.std.proofs.lemmas.List.{length-take-le}
 use Rattle.qs_wire.specs.Grammar.{Fits, canonical}
@@ -16,19 +16,26 @@ use Rattle.qs_machine.specs.Ends.{End}
 use Rattle.qs_machine.specs.Seen.{Control, seen_all}
 use Rattle.qs_machine.specs.Due.{IsCurrent, IsCovered}
 use Rattle.qs_machine.specs.Lawful.{frame_put}
+use Rattle.qs_machine.specs.InOrder.{IsLower, item_place}
 use Rattle.qs_machine.specs.Outgoing.{Outgoing, item_put_out, sent_sum}
-use Rattle.qs_conn.specs.Filling.{slot_of, slot_at, frame_of_item, end_by, IsCurrentIn, PutsItem, Begun, Packed, Passed, and_slot, and_kind, and_below, IsPassed, Stage}
+use Rattle.qs_conn.specs.Filling.{slot_of, slot_at, frame_of_item, end_by, IsCurrentIn, PutsItem, Begun, Packed, Passed, HasPassedTo, slot_place, and_slot, and_kind, and_below, IsPassed, Stage}
 use Rattle.qs_conn.specs.Marks.{IsIdle}
 use Rattle.qs_conn.specs.Untold.{IsTold}
 use Rattle.qs_conn.proofs.Untolds.{fills_told}
 use Rattle.qs_conn.proofs.Stages.{begun_idle, begun_fewer, begun_absent, begun_covered, begun_item, begun_too_long}
 use Rattle.qs_conn.proofs.Slots.{end_put}
+use Rattle.qs_conn.proofs.Passing.{place_of_item}
 use Rattle.qs_conn.proofs.Flows.{two}
 use Rattle.qs_conn.proofs.EachItem.{each_item}
 
 pub stage_fewer : (delay room : ℕ) (old : End) (text : List ℕ) (e : End) (b : Bool) (P Q : Passed) → ((s : Slot) → IsPassed Q s → IsPassed P s) → Stage delay room old text e b P → Stage delay room old text e b Q
 stage_fewer delay room old text e true P Q fewer s = s
 stage_fewer delay room old text e false P Q fewer s = begun_fewer delay room old text e (IsPassed P) s (IsPassed Q) fewer
+
+-- a packet that is full needs no slot more
+pub stage_full : (delay room : ℕ) (old : End) (text : List ℕ) (e : End) (b : Bool) (P Q : Passed) → b ≡ true → Stage delay room old text e b P → Stage delay room old text e b Q
+stage_full delay room old text e true P Q is s = s
+stage_full delay room old text e false P Q is s = absurd (true≢false (sym is))
 
 pub stage_absent : (delay room : ℕ) (old : End) (text : List ℕ) (e : End) (b : Bool) (P : Passed) (s : Slot) → IsCurrentIn e s None → Stage delay room old text e b P → Stage delay room old text e b (and_slot P s)
 stage_absent delay room old text e true P s none b = b
@@ -44,22 +51,26 @@ module _ (delay room : ℕ) (old : End) (text : List ℕ) (e : End) (P : Slot �
   slot_covered : IsCovered e i → Begun delay room old text e (λ t. P t ⊎ (t ≡ s))
   slot_covered covered = at_slot text e (begun_covered delay room old text e P b i only covered)
 
-  slot_put : (IsCovered e i → ⊥) → Fits (frame_of_item i) → Begun delay room old (text ++ canonical (frame_of_item i)) (frame_put (Control i) e) (λ t. P t ⊎ (t ≡ s))
-  slot_put free fits = at_slot (text ++ canonical (frame_of_item i)) (frame_put (Control i) e) (begun_item delay room old text e P b i only (c.0, free) fits)
+  -- what comes before the item is of slots that come before its own
+  comes : ((t : Slot) → IsLower (slot_place t) (slot_place s) → P t) → (j : Item) → IsLower (item_place j) (item_place i) → P (slot_of j)
+  comes passed j lower = passed (slot_of j) (subst (λ p. IsLower p (slot_place s)) (sym (place_of_item j)) (subst (IsLower (item_place j)) (sym (place_of_item i) ∙ ap slot_place c.1) lower))
+
+  slot_put : ((t : Slot) → IsLower (slot_place t) (slot_place s) → P t) → (IsCovered e i → ⊥) → Fits (frame_of_item i) → Begun delay room old (text ++ canonical (frame_of_item i)) (frame_put (Control i) e) (λ t. P t ⊎ (t ≡ s))
+  slot_put passed free fits = at_slot (text ++ canonical (frame_of_item i)) (frame_put (Control i) e) (begun_item delay room old text e P b i only (comes passed) (c.0, free) fits)
 
 pub stage_covered : (delay room : ℕ) (old : End) (text : List ℕ) (e : End) (b : Bool) (P : Passed) (s : Slot) (i : Item) → IsCurrentIn e s (Some i) → IsCovered e i → Stage delay room old text e b P → Stage delay room old text e b (and_slot P s)
 stage_covered delay room old text e true P s i c covered b = b
 stage_covered delay room old text e false P s i c covered b = slot_covered delay room old text e (IsPassed P) s i c b covered
 
 pub stage_put : (delay room : ℕ) (old : End) (t : Limits) (recvs : Tables RecvLane) (o new : Outgoing) (e : End) (before after : List ℕ) (len end : ℕ) (b full : Bool) (P : Passed) (s : Slot) (i : Item) →
-    b ≡ false → room ≡ length before → len ≤ length before → IsCurrentIn (end_by t recvs o e) s (Some i) → (IsCovered (end_by t recvs o e) i → ⊥) → Fits (frame_of_item i) → PutsItem i before len o after end new full →
+    b ≡ false → room ≡ length before → HasPassedTo P s → len ≤ length before → IsCurrentIn (end_by t recvs o e) s (Some i) → (IsCovered (end_by t recvs o e) i → ⊥) → Fits (frame_of_item i) → PutsItem i before len o after end new full →
     Stage delay room old (take len before) (end_by t recvs o e) b P → Stage delay room old (take end after) (end_by t recvs new e) full (and_slot P s)
-stage_put delay room old t recvs o new e before after len end true full P s i is at le c free fits puts st = absurd (true≢false is)
-stage_put delay room old t recvs o new e before after len end false true P s i is at le c free fits (same, text, out, long) st =
+stage_put delay room old t recvs o new e before after len end true full P s i is at passed le c free fits puts st = absurd (true≢false is)
+stage_put delay room old t recvs o new e before after len end false true P s i is at passed le c free fits (same, text, out, long) st =
     let full : (first : ℕ) → Packed first delay room old (take len before) (end_by t recvs o e) = begun_too_long delay room old (take len before) (end_by t recvs o e) (IsPassed P) st i fits (omega (arith, length-take-le len before le, at)) (omega (arith, length-take-le len before le, at, long)) in
     rw (same, text, out) full
-stage_put delay room old t recvs o new e before after len end false false P s i is at le c free fits (text, out) st =
-    let put = slot_put delay room old (take len before) (end_by t recvs o e) (IsPassed P) s i c st free fits in
+stage_put delay room old t recvs o new e before after len end false false P s i is at passed le c free fits (text, out) st =
+    let put = slot_put delay room old (take len before) (end_by t recvs o e) (IsPassed P) s i c st passed free fits in
     rw (text, out, end_put t recvs o e i) put
 
 -- streams whose items of a kind are told already, up to a number

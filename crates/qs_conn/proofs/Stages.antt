@@ -17,9 +17,11 @@ use Rattle.qs_machine.specs.Seen.{Seen, Ack, Stream, Control, Close, Plain, seen
 use Rattle.qs_machine.specs.Due.{Among, IsCurrent, IsCovered, IsDueItem, StreamGoes, Sendable}
 use Rattle.qs_machine.specs.Lawful.{MayPut, Fills, AcksAll, IsWhole, IsInTurn, AreInTurn, frame_put}
 use Rattle.qs_machine.specs.Making.{IsMade, NamesMost}
+use Rattle.qs_machine.specs.InOrder.{IsLower, item_place}
 use Rattle.qs_machine.proofs.Carried.{get_new, among_more, among_last}
 use Rattle.qs_conn.specs.Filling.{InPacket, slot_of, frame_of_item, no_slot, IsPassed, Begun, Packed}
 use Rattle.qs_conn.proofs.Pieces.{put_packet, due_more, end_due_more, item_ack_due}
+use Rattle.qs_conn.proofs.PacketOrder.{order_first, order_item}
 use Rattle.qs_conn.proofs.Items.{current_by_base, acked_by_base, sum_by_base, known_by_base, base_item, fills_push, out_old, out_is}
 use Rattle.qs_conn.proofs.Texts.{all_push, no_text, no_frames, text_push, seen_push, seen_item, item_most, plain_item, control_item}
 use Rattle.qs_machine.proofs.Prefix.{or_false}
@@ -69,6 +71,7 @@ begun_first delay room old within none fresh =
       spells = no_text delay;
       acks = tt;
       turns = λ first. tt;
+      order = order_first old fresh;
       steady = refl;
       within = within;
       ack = λ due. absurd (true≢false (sym due ∙ none));
@@ -100,7 +103,7 @@ module _ (delay room : ℕ) (old : End) (text : List ℕ) (e : End) (P : Slot �
 
   -- fewer slots
   pub begun_fewer : (Q : Slot → Type 0) → ((s : Slot) → Q s → P s) → Begun delay room old text e Q
-  begun_fewer Q fewer = record { frames = b.frames; fills = b.fills; spells = b.spells; acks = b.acks; turns = b.turns; steady = b.steady; within = b.within; ack = b.ack; items = λ i q due. b.items i (fewer (slot_of i) q) due; no_chunk = b.no_chunk }
+  begun_fewer Q fewer = record { frames = b.frames; fills = b.fills; spells = b.spells; acks = b.acks; turns = b.turns; order = b.order; steady = b.steady; within = b.within; ack = b.ack; items = λ i q due. b.items i (fewer (slot_of i) q) due; no_chunk = b.no_chunk }
 
   -- a slot of which nothing is current
   pub begun_absent : (s : Slot) → ((j : Item) → slot_of j ≡ s → IsCurrent e j → ⊥) → Begun delay room old text e (λ t. P t ⊎ (t ≡ s))
@@ -111,6 +114,7 @@ module _ (delay room : ℕ) (old : End) (text : List ℕ) (e : End) (P : Slot �
         spells = b.spells;
         acks = b.acks;
         turns = b.turns;
+        order = b.order;
         steady = b.steady;
         within = b.within;
         ack = b.ack;
@@ -127,6 +131,7 @@ module _ (delay room : ℕ) (old : End) (text : List ℕ) (e : End) (P : Slot �
         spells = b.spells;
         acks = b.acks;
         turns = b.turns;
+        order = b.order;
         steady = b.steady;
         within = b.within;
         ack = b.ack;
@@ -144,6 +149,7 @@ module _ (delay room : ℕ) (old : End) (text : List ℕ) (e : End) (P : Slot �
           spells = b.spells;
           acks = b.acks;
           turns = b.turns;
+          order = b.order;
           steady = b.steady;
           within = b.within;
           ack = b.ack;
@@ -156,14 +162,15 @@ module _ (delay room : ℕ) (old : End) (text : List ℕ) (e : End) (P : Slot �
             elim (covered_first i covered) [ inl before ↦ absurd (due.1 (subst (IsCovered old) (sym same) before)) | inr a ↦ subst (λ k. Among (Control k) (seen_all b.frames)) (sym same) a ]
 
     -- its item is put
-    pub begun_item : IsDueItem e i → Fits (frame_of_item i) → Begun delay room old (text ++ canonical (frame_of_item i)) (frame_put (Control i) e) (λ t. P t ⊎ (t ≡ slot_of i))
-    begun_item due fits =
+    pub begun_item : ((j : Item) → IsLower (item_place j) (item_place i) → P (slot_of j)) → IsDueItem e i → Fits (frame_of_item i) → Begun delay room old (text ++ canonical (frame_of_item i)) (frame_put (Control i) e) (λ t. P t ⊎ (t ≡ slot_of i))
+    begun_item passed due fits =
         record {
           frames = b.frames ++ frame_of_item i ∷ [];
           fills = pushed b.frames (frame_of_item i) (Control i) (seen_item i) (λ fs. Fills old old fs (frame_put (Control i) e)) (fills_push old old e (seen_all b.frames) (Control i) b.fills (due_first i due, due));
           spells = text_push delay b.frames text (frame_of_item i) b.spells fits (plain_item delay i);
           acks = all_push (NamesMost old delay room) b.frames (frame_of_item i) b.acks (item_most old delay room i);
           turns = λ first. pushed b.frames (frame_of_item i) (Control i) (seen_item i) (AreInTurn first old) (turn_push first old old (seen_all b.frames) (Control i) e b.fills (b.turns first) tt);
+          order = order_item old e (seen_all b.frames) i b.fills (λ j lower is. b.items j (passed j lower) is) b.order;
           steady = base_item i e ∙ b.steady;
           within = b.within;
           ack = λ is. elim (b.ack is) [
@@ -189,6 +196,7 @@ module _ (delay room : ℕ) (old : End) (text : List ℕ) (e : End) (P : Slot �
         spells = b.spells;
         acks = b.acks;
         turns = b.turns first;
+        order = b.order;
         within = (let same = sum_by_base e old b.steady in let known = known_by_base e old b.steady in omega (arith, same, known, b.within));
         whole = λ left. absurd (omega (arith, full, left));
       }

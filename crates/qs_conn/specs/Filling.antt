@@ -11,6 +11,7 @@ use Rattle.qs_wire.specs.Layout.{FrameValue, stream, reset_stream, stop_sending,
 use Rattle.qs_recv.specs.Lane.{RecvLane}
 use Rattle.qs_send.specs.Lane.{SendLane, Sending, bytes_of}
 use Rattle.qs_send.specs.Chunks.{IsDueChunk, HasBytes, frame_len}
+use Rattle.qs_send.specs.PieceCodes.{dir_number}
 use Rattle.qs_send.specs.declared.parts.Chunk.{Chunk}
 use Rattle.qs_send.specs.declared.piece.Piece.{Piece}
 use Rattle.qs_send.specs.declared.piece.Piece.TheVariants.{Data}
@@ -30,6 +31,7 @@ use Rattle.qs_machine.specs.Outgoing.{Outgoing, sent_sum, HasSending, WantsMore,
 use Rattle.qs_machine.specs.Sums.{or_none}
 use Rattle.qs_machine.specs.Lawful.{MayAck, Fills, AcksAll, HasAll, AreInTurn, pieces_so_far}
 use Rattle.qs_machine.specs.Making.{IsText, NamesMost}
+use Rattle.qs_machine.specs.InOrder.{IsLower, AreInOrder}
 pub use Rattle.qs_conn.specs.Written.{made_text}
 
 -- what an item speaks of
@@ -112,6 +114,20 @@ IsOfKind kind s = (n : ℕ) × (s ≡ slot_at kind n)
 abbrev pub IsBelow : Kind → ℕ → Slot → Type 0
 IsBelow kind b s = (n : ℕ) × (n < b) × (s ≡ slot_at kind n)
 
+-- a slot's kind, and its stream or direction: the place of its items
+abbrev pub slot_place : Slot → ℕ × ℕ
+slot_place slots.MaxData = (0, 0)
+slot_place (slots.MaxStreams d) = (1, dir_number d)
+slot_place (slots.ResetStream n) = (2, n)
+slot_place (slots.StopSending n) = (3, n)
+slot_place (slots.MaxStreamData n) = (4, n)
+slot_place slots.DataBlocked = (5, 0)
+slot_place (slots.StreamDataBlocked n) = (6, n)
+slot_place (slots.StreamsBlocked d) = (7, dir_number d)
+
+abbrev pub kind_place : Kind → ℕ
+kind_place kind = (slot_place (slot_at kind 0)).0
+
 -- the slots that were passed: some one by one, of some kinds all, of some those of the streams below a number
 pub data Passed : Type 0 where
   no_slot : Passed
@@ -124,6 +140,14 @@ IsPassed no_slot s = ⊥
 IsPassed (and_slot passed slot) s = IsPassed passed s ⊎ (s ≡ slot)
 IsPassed (and_kind passed kind) s = IsPassed passed s ⊎ IsOfKind kind s
 IsPassed (and_below passed kind bound) s = IsPassed passed s ⊎ IsBelow kind bound s
+
+-- all slots that come before this one were passed
+abbrev pub HasPassedTo : Passed → Slot → Type 0
+HasPassedTo passed slot = (s : Slot) → IsLower (slot_place s) (slot_place slot) → IsPassed passed s
+
+-- all slots of earlier kinds were
+abbrev pub HasPassedKinds : Passed → ℕ → Type 0
+HasPassedKinds passed kind = (s : Slot) → (slot_place s).0 < kind → IsPassed passed s
 
 -- all slots, in the order in which they are passed
 abbrev pub all_items : Passed
@@ -156,13 +180,14 @@ base e = record e { sends = each unmarked e.sends; outstanding = fmap.empty; ack
 abbrev pub InPacket : End → Piece → Type 0
 InPacket e x = Among x (pieces_so_far e e.next)
 
--- A packet so far: an ACK and control items. Of the slots that were passed, all that was due is in it.
+-- A packet so far: an ACK and control items, in order. Of the slots that were passed, all that was due is in it.
 pub record Begun (delay room : ℕ) (old : End) (text : List ℕ) (e : End) (P : Slot → Type 0) : Type 0 where
   pub frames : List FrameValue
   pub fills : Fills old old (seen_all frames) e
   pub spells : IsText delay frames text
   pub acks : AllByRecursion (NamesMost old delay room) frames
   pub turns : (first : ℕ) → AreInTurn first old (seen_all frames)
+  pub order : AreInOrder old [] (pieces_so_far e e.next)
   pub steady : base e ≡ base old
   pub within : all_sent old ≤ old.known_data
   pub ack : old.ack_due ≡ true → (room < length text + 25) ⊎ AcksAll old (seen_all frames)
@@ -206,6 +231,7 @@ pub record Flowing (delay room : ℕ) (old : End) (text : List ℕ) (e : End) (t
   pub spells : IsText delay frames text
   pub acks : AllByRecursion (NamesMost old delay room) frames
   pub turns : AreInTurn t.first old (seen_all frames)
+  pub order : AreInOrder old [] (pieces_so_far e e.next)
   pub within : all_sent e ≤ e.known_data
   pub ack : old.ack_due ≡ true → (room < length text + 25) ⊎ AcksAll old (seen_all frames)
   pub items : (i : Item) → IsDueItem old i → Among (Control i) (seen_all frames)
@@ -219,6 +245,7 @@ pub record Packed (first delay room : ℕ) (old : End) (text : List ℕ) (e : En
   pub spells : IsText delay frames text
   pub acks : AllByRecursion (NamesMost old delay room) frames
   pub turns : AreInTurn first old (seen_all frames)
+  pub order : AreInOrder old [] (pieces_so_far e e.next)
   pub within : all_sent e ≤ e.known_data
   pub whole : HasAll room (length text) old (seen_all frames) e
 

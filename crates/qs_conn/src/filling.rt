@@ -18,7 +18,7 @@ ghost use Rattle.qs_machine.specs.Outgoing.{IsCarried, MayTell, sent_sum, on_lan
 ghost use Rattle.qs_machine.specs.Sums.{or_none};
 ghost use Rattle.qs_conn.specs.Marks.{IsBefore, IsIdle};
 ghost use Rattle.qs_conn.specs.Untold.{IsTold};
-ghost use Rattle.qs_conn.specs.Filling.{frame_of_item, slot_at, end_by, LimitsFit, HasSpare, LeavesRest, PutsItem, Passed, no_slot, and_slot, and_kind, all_items, Stage, Flow, Packed, InPacket, Begun, IsAckText, IsPassed, MayGo, stream_frame, turn_at, start_of, way_end, IsOnWay};
+ghost use Rattle.qs_conn.specs.Filling.{frame_of_item, slot_at, end_by, LimitsFit, HasSpare, LeavesRest, PutsItem, Passed, HasPassedTo, HasPassedKinds, kind_place, no_slot, and_slot, and_kind, all_items, Stage, Flow, Packed, InPacket, Begun, IsAckText, IsPassed, MayGo, stream_frame, turn_at, start_of, way_end, IsOnWay};
 
 use crate::limits::Limits;
 use crate::outbox::Outbox;
@@ -163,7 +163,7 @@ pub(crate) fn put_slot(
     requires limits { LimitsFit limits.now }
     requires within { packet.len ≤ length out.old }
     requires spare { HasSpare (length out.old) packet.len outbox.old.spare }
-    ensures stage { (delay room : ℕ) (old e : End) (passed : Passed) → room ≡ length out.old
+    ensures stage { (delay room : ℕ) (old e : End) (passed : Passed) → room ≡ length out.old → HasPassedTo passed slot
         → Stage delay room old (take packet.len out.old) (end_by limits.now recvs.now outbox.old e) packet.is_full passed
         → Stage delay room old (take result.len out.new) (end_by limits.now recvs.now outbox.new e) result.is_full (and_slot passed slot) }
     ensures sum { sent_sum outbox.new.sends ≡ sent_sum outbox.old.sends }
@@ -196,7 +196,7 @@ fn put_own_slot(
     requires limits { LimitsFit limits.now }
     requires within { packet.len ≤ length out.old }
     requires spare { HasSpare (length out.old) packet.len outbox.old.spare }
-    ensures stage { (delay room : ℕ) (old e : End) (passed : Passed) → room ≡ length out.old
+    ensures stage { (delay room : ℕ) (old e : End) (passed : Passed) → room ≡ length out.old → HasPassedTo passed slot
         → Stage delay room old (take packet.len out.old) (end_by limits.now recvs.now outbox.old e) packet.is_full passed
         → Stage delay room old (take result.len out.new) (end_by limits.now recvs.now outbox.new e) result.is_full (and_slot passed slot) }
     ensures sum { sent_sum outbox.new.sends ≡ sent_sum outbox.old.sends }
@@ -243,7 +243,7 @@ pub(crate) fn put_kind(
     requires limits { LimitsFit limits.now }
     requires within { packet.len ≤ length out.old }
     requires spare { HasSpare (length out.old) packet.len outbox.old.spare }
-    ensures stage { (delay room : ℕ) (old e : End) (passed : Passed) → room ≡ length out.old → IsTold old untold.now
+    ensures stage { (delay room : ℕ) (old e : End) (passed : Passed) → room ≡ length out.old → HasPassedKinds passed (kind_place kind) → IsTold old untold.now
         → Stage delay room old (take packet.len out.old) (end_by limits.now recvs.now outbox.old e) packet.is_full passed
         → Stage delay room old (take result.len out.new) (end_by limits.now recvs.now outbox.new e) result.is_full (and_kind passed kind) }
     ensures sum { sent_sum outbox.new.sends ≡ sent_sum outbox.old.sends }

@@ -12,6 +12,7 @@ pub mod Lawful
 pub mod Owner
 pub mod Receiving
 pub mod Making
+pub mod InOrder
 pub mod Reports
 pub mod News
 pub mod Asking
@@ -30,6 +31,7 @@ pub mod Told
 pub mod SmallEnds
 pub mod ExclusionsDue
 pub mod ExclusionsMaking
+pub mod ExclusionsInOrder
 pub mod ExclusionsMemory
 pub mod ExclusionsReceiving
 pub mod ExclusionsOwner

@@ -1,7 +1,9 @@
 //! Packets are made.
 ghost use Rattle.std.specs.Prelude.{◌≡◌, ◌≤◌, ◌<◌, ◌^◌, ◌↔◌, ℕ, IsTrue, List, [], length};
+ghost use Rattle.qs_machine.specs.Ends.{End};
 ghost use Rattle.qs_machine.specs.Due.{Sendable};
 ghost use Rattle.qs_machine.specs.Making.{MakeBy, MakeStep};
+ghost use Rattle.qs_machine.specs.InOrder.{NothingStarves};
 ghost use Rattle.qs_conn.specs.Written.{made_text, KeepsRest};
 
 use super::Endpoint;
@@ -25,6 +27,7 @@ impl Endpoint {
         requires least { 128 ≤ length out.old }
         requires most { length out.old ≤ 16383 }
         ensures step { MakeStep self.old 0 0 (length out.old) result (made_text result out.new) self.new }
+        ensures order { NothingStarves self.old result self.new }
         ensures rest { KeepsRest result out.old out.new }
     {
         self.make(0, 0, out)
@@ -43,6 +46,7 @@ impl Endpoint {
         requires least { 128 ≤ length out.old }
         requires most { length out.old ≤ 16383 }
         ensures step { MakeStep self.old first delay (length out.old) result (made_text result out.new) self.new }
+        ensures order { NothingStarves self.old result self.new }
         ensures rest { KeepsRest result out.old out.new }
     {
         self.make(first.value(), delay, out)
@@ -54,6 +58,7 @@ impl Endpoint {
         requires delay { delay < 2 ^ 62 }
         requires least { 128 ≤ length out.old }
         ensures step { MakeStep self.old first delay (length out.old) result (made_text result out.new) self.new }
+        ensures order { NothingStarves self.old result self.new }
         ensures rest { KeepsRest result out.old out.new }
     {
         if self.closed.is_some() {
@@ -99,6 +104,7 @@ impl Endpoint {
     // What a call answers that found no memory for a packet: where nothing may go, it needs none.
     fn without_memory(&self) -> Result<Option<Made>, MakeFault>
         ensures by { (first delay room : ℕ) → MakeBy self.now first delay room result [] self.now }
+        ensures order { (old new : End) → NothingStarves old result new }
         ensures text { (out : List ℕ) → made_text result out ≡ [] }
     {
         if self.may_make() {

@@ -1,7 +1,7 @@
 use Rattle.std.proofs.Common.{◌≡◌, ℕ, ◌-◌, ◌≤◌, ◌^◌, length, take}
 use Rattle.qs_machine.specs.Ends.{End}
 use Rattle.qs_machine.specs.Outgoing.{sent_sum}
-use Rattle.qs_conn.specs.Filling.{end_by, HasSpare, LeavesRest, Passed, and_below, Stage}
+use Rattle.qs_conn.specs.Filling.{end_by, HasSpare, LeavesRest, Passed, HasPassedKinds, kind_place, and_below, Stage}
 use Rattle.qs_conn.specs.Untold.{IsTold}
 use Rattle.qs_conn.proofs.filling.put_kind.Given as goal
 
@@ -9,7 +9,7 @@ abbrev pub invariant-loop-stream : goal.invariant-loop-stream
 invariant-loop-stream l =
     record {
       small : l.from ≤ 2 ^ 62;
-      stage : (delay room : ℕ) (old e : End) (passed : Passed) → room ≡ length l.fn.out → IsTold old l.fn.untold
+      stage : (delay room : ℕ) (old e : End) (passed : Passed) → room ≡ length l.fn.out → HasPassedKinds passed (kind_place l.fn.kind) → IsTold old l.fn.untold
           → Stage delay room old (take l.fn.packet.len l.fn.out) (end_by l.fn.limits l.fn.recvs l.fn.outbox e) l.fn.packet.is_full passed
           → Stage delay room old (take l.packet.len l.out) (end_by l.fn.limits l.fn.recvs l.outbox e) l.packet.is_full (and_below passed l.fn.kind l.from);
       within : l.packet.len ≤ length l.out;

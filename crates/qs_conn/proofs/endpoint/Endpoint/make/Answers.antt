@@ -1,6 +1,6 @@
 use Rattle.std.proofs.Common.{◌≡◌, ℕ, ◌/◌, ◌∙◌, arith, refl, sym, subst, length, drop}
 use Rattle.std.proofs.lemmas.Bool.{true≢false}
-use Rattle.qs_conn.proofs.MadePackets.{make_exhausted, make_none, idle_none, make_some, filled_next, filled_credit, filled_counted, filled_told}
+use Rattle.qs_conn.proofs.MadePackets.{make_exhausted, make_none, idle_none, make_some, make_order, filled_next, filled_credit, filled_counted, filled_told}
 use Rattle.qs_conn.proofs.Counted.{fit_sends}
 use Rattle.qs_conn.proofs.Rests.{rest_none, rest_kept}
 use Rattle.qs_conn.proofs.endpoint.Endpoint.make.Goals as goal
@@ -63,3 +63,11 @@ returns-then-len-eq0-clause-rest c = subst (λ (k : ℕ). drop k c.fill-len.new.
 
 pub returns-clause-rest : goal.returns-clause-rest
 returns-clause-rest c = rest_kept (record { number = c.next-number.result; len = c.fill-len.result; is_ack_eliciting = c.has_piece-is_ack_eliciting.result }) c.args.out.now c.fill-len.new.out c.fill-len.ensures.within c.fill-len.ensures.rest
+
+pub returns-in-Err-clause-order : goal.returns-in-Err-clause-order
+returns-in-Err-clause-order c = c.without_memory.ensures.order _ _
+
+pub returns-clause-order : goal.returns-clause-order
+returns-clause-order c =
+    make_order _ c.args.self.now c.self.view_is c.self.inside.limits c.begin.new.self c.fill-len.new.outbox (length c.args.out.now / 2) c.args.first c.args.delay (length c.args.out.now) c.fill-len.result c.fill-len.new.out c.self.invariant.1 refl c.in_default.ensures.ok c.self.inside.untold c.self.invariant.4 c.fill-len.ensures.packed
+    c.settle.new.self c.commit.new.self c.next-number.result c.has_piece-is_ack_eliciting.result c.next-number.ensures c.commit.ensures.after c.settle.ensures
