@@ -14,7 +14,7 @@ use Rattle.qs_world.specs.declared.report.Report.{Report}
 use Rattle.qs_world.specs.declared.report.PlayFault.{PlayFault}
 use Rattle.qs_world.specs.declared.report.PlayFault.TheVariants as faults
 use Rattle.qs_calls.specs.Events.{act_fits}
-use Rattle.qs_runs.specs.Logs.{History, payload}
+use Rattle.qs_runs.specs.Logs.{Did, Log, happened, payload}
 use Rattle.qs_runs.specs.Worlds.{WorldStep}
 use Rattle.qs_world.specs.Copies.{SameEvent, IsReportOf}
 use Rattle.qs_world.specs.Plays.{AgreeingRun, Played, IsMissing}
@@ -58,17 +58,17 @@ after_recv (Err error) f = recv_failed f
 
 -- A datagram is the packet that an end made under that number: the number in eight bytes, the most significant one first, and then the
 -- payload.
-abbrev pub IsPacketOf : Side → History → ℕ → List ℕ → Type 0
+abbrev pub IsPacketOf : Side → Log → ℕ → List ℕ → Type 0
 IsPacketOf s h k datagram =
-    (8 ≤ length datagram) × (k ≡ from_be_bytes w64 (take 8 datagram)) × (act_fits (Deliver k) ≡ true) × (payload s k h ≡ Some (drop 8 datagram))
+    (8 ≤ length datagram) × (k ≡ from_be_bytes w64 (take 8 datagram)) × (act_fits (Deliver k) ≡ true) × (payload s k (happened h) ≡ Some (drop 8 datagram))
 
 -- a datagram is none of an end's packets
-abbrev pub IsStranger : Side → History → List ℕ → Type 0
+abbrev pub IsStranger : Side → Log → List ℕ → Type 0
 IsStranger s h datagram = (k : ℕ) → IsPacketOf s h k datagram → ⊥
 
 -- an event happens, and is logged with its answer
 abbrev pub Happens : Played → Event → Played → Type 0
-Happens old event new = (answer : Answer) × (new.log ≡ (event, answer) ∷ old.log) × WorldStep old.log old.ends event answer new.ends
+Happens old event new = (answer : Answer) × (new.log ≡ (event, answer) ∷ old.log) × WorldStep (happened old.log) old.ends (Did event answer) new.ends
 
 -- An event happens, and no stranger's datagram came; or a packet that wasn't made was to be delivered; or there was no memory.
 abbrev pub StepsBy : Played → Event → Result Bool PlayFault → Played → Type 0

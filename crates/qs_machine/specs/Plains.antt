@@ -1,4 +1,4 @@
--- Of laws.
+-- Trusted.
 -- Frames that tell nothing to streams (RFC 9000, sections 13.2.1, 19.1 and 19.2, for the whole file).
 use Rattle.std.specs.Prelude.{◌≡◌, ℕ, List, ◌++◌, None, Result}
 use Rattle.std.specs.List.{AllByRecursion}

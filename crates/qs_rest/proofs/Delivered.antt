@@ -18,14 +18,14 @@ use Rattle.qs_runs.specs.Pasts.{past}
 use Rattle.qs_runs.specs.Clauses.{sending, receiving}
 use Rattle.qs_runs.specs.Invariant.{WorldOk, RecvSlot}
 use Rattle.qs_runs.proofs.Lists.{same_length_prefix}
-use Rattle.qs_runs.proofs.Runs.{run_keeps, ends_face}
+use Rattle.qs_runs.proofs.Runs.{run_keeps}
 use Rattle.qs_runs.proofs.Agrees.{prefix}
 use Rattle.qs_rest.specs.Invariant.{RestOk}
 use Rattle.qs_rest.specs.Rest.{AtRest}
-use Rattle.qs_rest.specs.Resting.{AtEachRest, HasRoom, IsReadAtBoth, IsAhead, HasCreditAhead, AllIsDelivered}
+use Rattle.qs_rest.specs.Resting.{AtEachRest, OnceTold, KnowsFirstLimits, HasRoom, IsReadAtBoth, IsAhead, HasCreditAhead, AllIsDelivered}
 use Rattle.qs_rest.proofs.EveryRun.{every_run_keeps}
 use Rattle.qs_rest.proofs.Lanes.{full, ahead, all_or_limit, end_acked}
-use Rattle.qs_rest.proofs.Resting.{limits_known}
+use Rattle.qs_rest.proofs.Resting.{limits_known, window_known}
 use Rattle.qs_rest.proofs.Streams.{lawful, sender_ok, reader_ok, no_reset_known, acked_sent, end_sent, sent_alone, taken_sent, all_was_taken, is_read}
 
 -- each window is at least one byte
@@ -37,14 +37,14 @@ some_window role s n h =
 some_conn_window : (s : Settings) → are_in_range s ≡ true → 1 ≤ s.conn_window
 some_conn_window s h = grind (arith, nat_tests, h)
 
-module _ (a b : Settings) (h : History) (w : World) (ok : WorldOk a b h w) (keeps : (s : Side) → RestOk (past s h) (end_of w s)) (rest : (s : Side) → AtRest (end_of w s)) (s : Side) where
+module _ (a b : Settings) (h : History) (w : World) (ok : WorldOk a b h w) (keeps : (s : Side) → RestOk (past s h) (end_of w s)) (rest : (s : Side) → AtRest (end_of w s)) (s : Side) (told : KnowsFirstLimits w s) where
   -- the connection's limit isn't used up
   has_credit : HasRoom w s → all_sent (end_of w s) < (end_of w s).known_data
   has_credit room =
       elim (cases_lt (all_sent (end_of w s)) (end_of w s).known_data) [
         | inl lt ↦ lt
         | inr le ↦ (
-            let grants : (end_of w s).known_data ≡ (end_of w (other s)).granted = (limits_known a b h w ok keeps rest s).connection in
+            let grants : (end_of w s).known_data ≡ (end_of w (other s)).granted = (limits_known a b h w ok keeps rest s told).connection in
             let within : all_sent (end_of w s) ≤ (end_of w s).known_data = (ok.ends s).credit.sent_known in
             let paid : all_taken (end_of w (other s)) ≡ all_sent (end_of w s) = all_was_taken a b h w ok keeps rest s in
             let same : all_taken (end_of w (other s)) ≡ (end_of w (other s)).granted = omega (arith, le, grants, within, paid) in
@@ -57,7 +57,7 @@ module _ (a b : Settings) (h : History) (w : World) (ok : WorldOk a b h w) (keep
   -- the sender has credit ahead
   conn_ahead : IsAhead (all_sent (end_of w s)) (end_of w s).known_data (end_of w (other s)).settings.conn_window
   conn_ahead =
-      let grants : (end_of w s).known_data ≡ (end_of w (other s)).granted = (limits_known a b h w ok keeps rest s).connection in
+      let grants : (end_of w s).known_data ≡ (end_of w (other s)).granted = (limits_known a b h w ok keeps rest s told).connection in
       let paid : all_taken (end_of w (other s)) ≡ all_sent (end_of w s) = all_was_taken a b h w ok keeps rest s in
       let some : 1 ≤ (end_of w (other s)).settings.conn_window = some_conn_window (end_of w (other s)).settings (ok.sound (other s)).0.settings in
       elim (ahead (end_of w (other s)).granted (all_taken (end_of w (other s))) (end_of w (other s)).settings.conn_window some (keeps (other s)).limits.connection) [
@@ -67,7 +67,7 @@ module _ (a b : Settings) (h : History) (w : World) (ok : WorldOk a b h w) (keep
 
   stream_ahead : (n : ℕ) (l : SendLane) (r : RecvLane) → sending w s n ≡ Some l → receiving w s n ≡ Some r → r.final_size ≡ None → IsAhead l.sent_end l.limit r.arrived.window
   stream_ahead n l r at is e =
-      let known : l.limit ≡ r.limit = (limits_known a b h w ok keeps rest s).streams n l r at is e in
+      let known : l.limit ≡ r.limit = (limits_known a b h w ok keeps rest s told).streams n l r at is e in
       let paid : taken r ≡ l.sent_end = taken_sent a b h w ok keeps rest s n l r at is in
       elim (ahead r.limit (taken r) r.arrived.window (lawful a b h w ok keeps rest s n r is).some_window ((keeps (other s)).limits.streams n r is e)) [
         | inl more ↦ inl (omega (arith, more, known, paid))
@@ -83,7 +83,7 @@ module _ (a b : Settings) (h : History) (w : World) (ok : WorldOk a b h w) (keep
         omega (
           arith,
           some_window (end_of w (other s)).role (end_of w (other s)).settings n (windows_fit (end_of w (other s)).settings (ok.sound (other s)).0.settings),
-          (ends_face a b h w ok s).first_limit n,
+          window_known a b h w ok keeps rest s told n,
           ((keeps s).sends n l at).first_limit,
         )
 
@@ -96,7 +96,7 @@ module _ (a b : Settings) (h : History) (w : World) (ok : WorldOk a b h w) (keep
 
         raised : (r : RecvLane) → receiving w s n ≡ Some r → r.final_size ≡ None → ⊥
         raised r is e =
-            let known : l.limit ≡ r.limit = (limits_known a b h w ok keeps rest s).streams n l r at is e in
+            let known : l.limit ≡ r.limit = (limits_known a b h w ok keeps rest s told).streams n l r at is e in
             let paid : taken r ≡ l.sent_end = taken_sent a b h w ok keeps rest s n l r at is in
             let same : taken r ≡ r.limit = omega (arith, known, paid, blocked, at_limit) in
             let settled : next_limit r.limit r.limit r.arrived.window ≡ r.limit = subst (λ t. next_limit r.limit t r.arrived.window ≡ r.limit) same ((keeps (other s)).limits.streams n r is e) in
@@ -156,8 +156,8 @@ module _ (a b : Settings) (h : History) (w : World) (ok : WorldOk a b h w) (keep
         is_ended = λ finished. all_has_ended n l at none room finished;
       }
 
-pub each_credit_ahead : AtEachRest HasCreditAhead
-each_credit_ahead a b h w run rest s = credit_ahead a b h w (run_keeps a b h w run) (every_run_keeps a b h w run) rest s
+pub each_credit_ahead : AtEachRest (OnceTold HasCreditAhead)
+each_credit_ahead a b h w run rest s told = credit_ahead a b h w (run_keeps a b h w run) (every_run_keeps a b h w run) rest s told
 
-pub each_delivered : AtEachRest AllIsDelivered
-each_delivered a b h w run rest s = all_is_delivered a b h w (run_keeps a b h w run) (every_run_keeps a b h w run) rest s
+pub each_delivered : AtEachRest (OnceTold AllIsDelivered)
+each_delivered a b h w run rest s told = all_is_delivered a b h w (run_keeps a b h w run) (every_run_keeps a b h w run) rest s told

@@ -71,7 +71,7 @@ module _ (P : End → Type 0) (old : End) (edits : Edits P old) where
   read_by (Some fault) n size answer bytes new step = becomes new step.2
   read_by None n size answer bytes new (l, is, told, given, after) = settled (on_recv n (λ m. after_read m size) old) new (edits.reads n size) after
 
-  make_by : (r : Option MakeFault) (first delay room : ℕ) (answer : Result (Option Made) MakeFault) (text : List ℕ) (new : End) → MakeAt r old first delay room answer text new → P new
+  pub make_by : (r : Option MakeFault) (first delay room : ℕ) (answer : Result (Option Made) MakeFault) (text : List ℕ) (new : End) → MakeAt r old first delay room answer text new → P new
   make_by (Some fault) first delay room answer text new step = becomes new step.2
   make_by None first delay room (Ok (Some made)) text new step =
       let (mid, fills, after) = step.lawful.filled in

@@ -1,5 +1,5 @@
 -- Every run keeps what a rest needs, of both ends.
-use Rattle.std.proofs.Common.{◌≡◌, ℕ, ◌/◌, ◌%◌, zero, suc, [], ◌∷◌, None, Ok, false, slice_get, refl, sym, ap, ◌∙◌, subst, arith, nat_cmp}
+use Rattle.std.proofs.Common.{◌≡◌, ℕ, ◌/◌, ◌%◌, zero, suc, List, [], ◌∷◌, map, Option, None, Some, Result, Ok, false, slice_get, refl, sym, ap, ◌∙◌, subst, arith, nat_cmp}
 use Rattle.std.proofs.lemmas.Option.{none-some}
 use Rattle.std.proofs.lemmas.Bool.{false≢true}
 use Rattle.std.specs.FinSet as set
@@ -8,7 +8,11 @@ use Rattle.qs_wire.specs.declared.stream_id.Role.{Role}
 use Rattle.qs_wire.specs.declared.stream_id.Role.TheVariants.{Client, Server}
 use Rattle.qs_calls.specs.declared.settings.Settings.{Settings}
 use Rattle.qs_calls.specs.declared.settings.PeerLimits.{PeerLimits}
-use Rattle.qs_calls.specs.Settings.{limits_of}
+use Rattle.qs_calls.specs.declared.settings.RaiseFault.{RaiseFault}
+use Rattle.qs_calls.specs.declared.making.Made.{Made}
+use Rattle.qs_calls.specs.declared.making.MakeFault.{MakeFault}
+use Rattle.qs_calls.specs.declared.closing.Closing.{Closing}
+use Rattle.qs_calls.specs.declared.closing.Received.{Received}
 use Rattle.qs_calls.specs.declared.event.Side.{Side}
 use Rattle.qs_calls.specs.declared.event.Side.TheVariants.{A, B}
 use Rattle.qs_calls.specs.declared.event.Act.{Act}
@@ -17,19 +21,24 @@ use Rattle.qs_calls.specs.declared.answer.Answer.{Answer}
 use Rattle.qs_calls.specs.declared.answer.Answer.TheVariants as answers
 use Rattle.qs_send.specs.Lane.{SendLane}
 use Rattle.qs_machine.specs.Tables.{table, lookup, no_streams}
-use Rattle.qs_machine.specs.Ends.{new_end, end_made}
+use Rattle.qs_machine.specs.Ends.{End, new_end, end_made}
+use Rattle.qs_machine.specs.Receiving.{ReceiveStep}
+use Rattle.qs_machine.specs.Making.{MakeAckStep}
+use Rattle.qs_machine.specs.Raising.{RaiseStep}
+use Rattle.qs_machine.proofs.Plains.{plain_nothing}
 use Rattle.qs_machine.proofs.SettledLimits.{new_ends_settled}
 use Rattle.qs_machine.proofs.Bounds.{no_lane, new_ends_settled as new_counts_settled}
-use Rattle.qs_runs.specs.Logs.{History, other, is_delivery, processed, own_calls}
-use Rattle.qs_runs.specs.Worlds.{World, world_made, end_of, OwnStep, DeliverStep, StepBy}
-use Rattle.qs_runs.specs.Pasts.{Past, past, seen_by}
+use Rattle.qs_runs.specs.Logs.{Happening, Did, MadeAck, RaisedLimits, CameWith, History, other, is_delivery, texts_of, payload, processed, own_calls}
+use Rattle.qs_runs.specs.Worlds.{World, Begins, end_of, OwnStep, DeliverStep, ComeWithStep, EventStep, WorldStep}
+use Rattle.qs_runs.specs.Agree.{frames_in}
+use Rattle.qs_runs.specs.Pasts.{Past, packets_of, past, seen_by}
 use Rattle.qs_runs.specs.Invariant.{WorldOk}
-use Rattle.qs_runs.proofs.Histories.{past_own, past_peer, past_sender, past_receiver, does, theirs_mine, payload_seen}
+use Rattle.qs_runs.proofs.Histories.{past_own, past_peer, past_sender, past_receiver, past_acked, past_peer_acked, past_raised, past_came, did, theirs_mine, payload_seen}
 use Rattle.qs_runs.proofs.NewEnds.{first_world, made_first, ends_made}
 use Rattle.qs_runs.proofs.Runs.{two_sides, run_keeps, moved}
 use Rattle.qs_rest.specs.Invariant.{RestOk}
 use Rattle.qs_rest.specs.Rest.{EveryRunKeeps}
-use Rattle.qs_rest.proofs.Runs.{own_rests, receive_rests, peer_rests}
+use Rattle.qs_rest.proofs.Runs.{own_rests, ack_rests, raise_rests, due_rests, receive_rests, peer_rests}
 
 no_table : (k : ℕ) → table (no_streams {X = SendLane}) k ≡ []
 no_table zero = refl
@@ -61,32 +70,68 @@ first_rests role s peer p none made =
       counts = new_counts_settled role s peer (new_end role s peer) made;
     }
 
-first_ends : (a b : Settings) → world_made a b ≡ Ok (first_world a b) → (s : Side) → RestOk (past s []) (end_of (first_world a b) s)
-unfolding own_calls processed
-first_ends a b is A = first_rests Client a (limits_of b) (past A []) (λ k. refl) (ends_made a b (first_world a b) is).0
-first_ends a b is B = first_rests Server b (limits_of a) (past B []) (λ k. refl) (ends_made a b (first_world a b) is).1
+first_ends : (a b : Settings) (w : World) → Begins a b w → (s : Side) → RestOk (past s []) (end_of w s)
+unfolding own_calls packets_of processed
+first_ends a b w begins s = subst (λ x. RestOk (past s []) (end_of x s)) (sym is) (two_sides (λ t. RestOk (past t []) (end_of (first_world a b begins.of_a begins.of_b) t)) A (first_rests Client a begins.of_b (past A []) (λ k. refl) begun.0) (first_rests Server b begins.of_a (past B []) (λ k. refl) begun.1) s)
+  where
+    is : w ≡ first_world a b begins.of_a begins.of_b
+    is = made_first a b begins.of_a begins.of_b w begins.begun
+
+    begun : (end_made Client a begins.of_b ≡ Ok (new_end Client a begins.of_b)) × (end_made Server b begins.of_a ≡ Ok (new_end Server b begins.of_a))
+    begun = ends_made a b begins.of_a begins.of_b (first_world a b begins.of_a begins.of_b) (begins.begun ∙ ap Ok (made_first a b begins.of_a begins.of_b w begins.begun))
 
 module _ (a b : Settings) (h : History) (v w : World) (s : Side) (ok : WorldOk a b h v) (rests : (t : Side) → RestOk (past t h) (end_of v t)) where
-  own_step : (act : Act) (answer : Answer) → is_delivery act ≡ false → OwnStep (end_of v s) act answer (end_of w s) → end_of w (other s) ≡ end_of v (other s) → (t : Side) → RestOk (past t ((does s act, answer) ∷ h)) (end_of w t)
+  both : (x : Happening) → RestOk (past s (x ∷ h)) (end_of w s) → RestOk (past (other s) (x ∷ h)) (end_of w (other s)) → (t : Side) → RestOk (past t (x ∷ h)) (end_of w t)
+  both x own peer = two_sides (λ t. RestOk (past t (x ∷ h)) (end_of w t)) s own peer
+
+  own_step : (act : Act) (answer : Answer) → is_delivery act ≡ false → OwnStep (end_of v s) act answer (end_of w s) → end_of w (other s) ≡ end_of v (other s) → (t : Side) → RestOk (past t (did s act answer ∷ h)) (end_of w t)
   own_step act answer own step same =
-      two_sides (λ t. RestOk (past t ((does s act, answer) ∷ h)) (end_of w t)) s
+      both (did s act answer)
       (moved (λ p. RestOk p (end_of w s)) _ _ (past_own s act answer h own) (own_rests (past s h) (end_of v s) (end_of w s) (ok.sound s) (ok.sent s) (rests s) act answer step))
       (moved (λ p. RestOk p (end_of w (other s))) _ _ (past_peer s act answer h own) (moved (RestOk _) _ _ same (peer_rests (past (other s) h) (seen_by act answer) (end_of v (other s)) (rests (other s)))))
 
-  deliver_step : (k : ℕ) (answer : Answer) → DeliverStep h v s k answer w → (t : Side) → RestOk (past t ((does s (acts.Deliver k), answer) ∷ h)) (end_of w t)
-  deliver_step k (answers.Deliver result) (text, is, step, same) =
+  ack_step : (room : ℕ) (result : Result (Option Made) MakeFault) (text : List ℕ) (delay : ℕ) → MakeAckStep (end_of v s) delay room result text (end_of w s) → end_of w (other s) ≡ end_of v (other s) → (t : Side) → RestOk (past t (MadeAck s room result text ∷ h)) (end_of w t)
+  ack_step room result text delay step same =
+      both (MadeAck s room result text)
+      (moved (λ p. RestOk p (end_of w s)) _ _ (past_acked s room result text h) (ack_rests (past s h) (map frames_in (texts_of result text)) (end_of v s) (end_of w s) (ok.sound s) (ok.sent s) (rests s) delay room result text step))
+      (moved (λ p. RestOk p (end_of w (other s))) _ _ (past_peer_acked s room result text h) (moved (RestOk _) _ _ same (peer_rests (past (other s) h) (map frames_in (texts_of result text)) (end_of v (other s)) (rests (other s)))))
+
+  raise_step : (limits : PeerLimits) (result : Result (Unit {0}) RaiseFault) → RaiseStep (end_of v s) limits result (end_of w s) → end_of w (other s) ≡ end_of v (other s) → (t : Side) → RestOk (past t (RaisedLimits s limits result ∷ h)) (end_of w t)
+  raise_step limits result step same =
+      both (RaisedLimits s limits result)
+      (moved (λ p. RestOk p (end_of w s)) _ _ (past_raised s s limits result h) (raise_rests (past s h) (end_of v s) (end_of w s) limits result (ok.sound s) (ok.sent s) (rests s) step))
+      (moved (λ p. RestOk p (end_of w (other s))) _ _ (past_raised (other s) s limits result h) (moved (RestOk _) _ _ same (rests (other s))))
+
+  received : (k : ℕ) (text : List ℕ) (result : Result Received Closing) (new : End) → payload s k h ≡ Some text → ReceiveStep (end_of v (other s)) k text result new → RestOk (past (other s) (did s (acts.Deliver k) (answers.Deliver result) ∷ h)) new
+  received k text result new is step =
       let there = ap (λ x. slice_get x k) (theirs_mine s h) ∙ payload_seen s k h text is in
-      two_sides (λ t. RestOk (past t ((does s (acts.Deliver k), answers.Deliver result) ∷ h)) (end_of w t)) s
+      moved (λ p. RestOk p new) _ _ (past_receiver s k result h) (receive_rests (past (other s) h) (end_of v (other s)) new k text result (ok.ends (other s)) (rests (other s)) there step)
+
+  deliver_step : (k : ℕ) (answer : Answer) → DeliverStep h v s k answer w → (t : Side) → RestOk (past t (did s (acts.Deliver k) answer ∷ h)) (end_of w t)
+  deliver_step k (answers.Deliver result) (text, is, step, same) =
+      both (did s (acts.Deliver k) (answers.Deliver result))
       (moved (λ p. RestOk p (end_of w s)) _ _ (past_sender s k (answers.Deliver result) h) (moved (RestOk _) _ _ same (rests s)))
-      (moved (λ p. RestOk p (end_of w (other s))) _ _ (past_receiver s k result h) (receive_rests (past (other s) h) (end_of v (other s)) (end_of w (other s)) k text result (ok.ends (other s)) (rests (other s)) there step))
+      (received k text result (end_of w (other s)) is step)
   deliver_step k answer step = absurd step
 
-  step_by : (act : Act) (answer : Answer) → StepBy h v s act answer w → (t : Side) → RestOk (past t ((does s act, answer) ∷ h)) (end_of w t)
-  step_by (acts.Deliver k) answer step = deliver_step k answer step
-  step_by act answer step = own_step act answer refl step.0 step.1
+  -- plain frames come with it: the end is what it is without them, but for whether an ACK is due
+  came_step : (k : ℕ) (bytes : List ℕ) (result : Result Received Closing) → ComeWithStep h v s k bytes result w → (t : Side) → RestOk (past t (CameWith s k bytes result ∷ h)) (end_of w t)
+  came_step k bytes result (text, is, differ, step, same) =
+      let (bare, without, alike) = plain_nothing (end_of v (other s)) (end_of w (other s)) k bytes text result differ step in
+      both (CameWith s k bytes result)
+      (moved (λ p. RestOk p (end_of w s)) _ _ (past_came s s k bytes result h ∙ past_sender s k (answers.Deliver result) h) (moved (RestOk _) _ _ same (rests s)))
+      (moved (λ p. RestOk p (end_of w (other s))) _ _ (past_came (other s) s k bytes result h) (moved (RestOk _) _ _ alike (due_rests _ bare (end_of w (other s)).ack_due (received k text result bare is without))))
+
+  event_step : (act : Act) (answer : Answer) → EventStep h v s act answer w → (t : Side) → RestOk (past t (did s act answer ∷ h)) (end_of w t)
+  event_step (acts.Deliver k) answer step = deliver_step k answer step
+  event_step act answer step = own_step act answer refl step.0 step.1
+
+step_rests : (a b : Settings) (h : History) (v w : World) (x : Happening) → WorldOk a b h v → ((t : Side) → RestOk (past t h) (end_of v t)) → WorldStep h v x w → (t : Side) → RestOk (past t (x ∷ h)) (end_of w t)
+step_rests a b h v w (Did event answer) ok rests step = event_step a b h v w event.end ok rests event.act answer step
+step_rests a b h v w (MadeAck s room result text) ok rests ((delay, step), same) = ack_step a b h v w s ok rests room result text delay step same
+step_rests a b h v w (RaisedLimits s limits result) ok rests ((granted, step), same) = raise_step a b h v w s ok rests limits result step same
+step_rests a b h v w (CameWith s k bytes result) ok rests step = came_step a b h v w s ok rests k bytes result step
 
 pub every_run_keeps : EveryRunKeeps
-every_run_keeps a b [] w is =
-    let at = made_first a b w is in
-    subst (λ x. (s : Side) → RestOk (past s []) (end_of x s)) (sym at) (first_ends a b (subst (λ x. world_made a b ≡ Ok x) at is))
-every_run_keeps a b ((event, answer) ∷ h) w (v, before, step) = step_by a b h v w event.end (run_keeps a b h v before) (every_run_keeps a b h v before) event.act answer step
+every_run_keeps a b [] w begins = first_ends a b w begins
+every_run_keeps a b (x ∷ h) w (v, before, step) = step_rests a b h v w x (run_keeps a b h v before) (every_run_keeps a b h v before) step

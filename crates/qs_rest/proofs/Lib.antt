@@ -8,6 +8,7 @@ pub mod Payloads
 pub mod Telling
 pub mod Runs
 pub mod EveryRun
+pub mod FirstLimits
 pub mod Lanes
 pub mod Resting
 pub mod Streams

@@ -1,5 +1,5 @@
 -- At rest all that is to be told is known at the peer, and so is each limit.
-use Rattle.std.proofs.Common.{◌≡◌, ℕ, ◌≤◌, true, Some, None, List, slice_get, refl, sym, ap, ◌∙◌, arith, inl, inr}
+use Rattle.std.proofs.Common.{◌≡◌, ℕ, ◌≤◌, Bool, true, false, not, if◌then◌else◌, Some, None, List, slice_get, refl, sym, ap, ◌∙◌, arith, inl, inr}
 use Rattle.std.proofs.lemmas.Option.{same_Some}
 use Rattle.std.proofs.lemmas.Bool.{cases_lt}
 use Rattle.std.specs.List.{AllByRecursion}
@@ -13,7 +13,7 @@ use Rattle.qs_send.specs.declared.piece.Piece.TheVariants.{Told}
 use Rattle.qs_calls.specs.declared.settings.Settings.{Settings}
 use Rattle.qs_calls.specs.declared.event.Side.{Side}
 use Rattle.qs_calls.specs.declared.event.Side.TheVariants.{A, B}
-use Rattle.qs_machine.specs.Ends.{End, window}
+use Rattle.qs_machine.specs.Ends.{End, first_send_limit, window, is_uni, is_own}
 use Rattle.qs_machine.specs.Credit.{next_count}
 use Rattle.qs_machine.specs.Due.{known_count}
 use Rattle.qs_machine.specs.Seen.{Seen, Control}
@@ -23,15 +23,19 @@ use Rattle.qs_runs.specs.Pasts.{past, Holds, TellsAck}
 use Rattle.qs_runs.specs.Clauses.{sending, receiving}
 use Rattle.qs_runs.specs.Invariant.{WorldOk}
 use Rattle.qs_runs.proofs.Lists.{All_at}
-use Rattle.qs_runs.proofs.Unharmed.{Facing}
 use Rattle.qs_runs.proofs.Histories.{theirs_mine}
-use Rattle.qs_runs.proofs.Runs.{run_keeps, ends_face, told_limits, known_counts}
+use Rattle.qs_runs.proofs.Runs.{run_keeps, opposite, known_counts}
 use Rattle.qs_runs.proofs.Clauses.{known_is_within_granted}
 use Rattle.qs_rest.specs.Invariant.{WasTold, ItemTaken, RestOk}
 use Rattle.qs_rest.specs.Rest.{AtRest}
-use Rattle.qs_rest.specs.Resting.{ItemsAreAcked, ToldIsTaken, AtEachRest, KnowsItsLimits}
+use Rattle.qs_rest.specs.Resting.{ItemsAreAcked, ToldIsTaken, AtEachRest, OnceTold, KnowsFirstLimits, KnowsItsLimits}
 use Rattle.qs_rest.proofs.ItemParts.{item_part}
 use Rattle.qs_rest.proofs.EveryRun.{every_run_keeps}
+
+limit_by : (u b : Bool) (x y z : ℕ) → (if u then x else (if not b then y else z)) ≡ (if u then x else (if b then z else y))
+limit_by true b x y z = refl
+limit_by false true x y z = refl
+limit_by false false x y z = refl
 
 pub items_acked : ItemsAreAcked
 items_acked e i rest current =
@@ -59,21 +63,25 @@ module _ (a b : Settings) (h : History) (w : World) (ok : WorldOk a b h w) (keep
   taken_here A i told = taken B i told
   taken_here B i told = taken A i told
 
-  module _ (rest : (s : Side) → AtRest (end_of w s)) (s : Side) where
+  module _ (rest : (s : Side) → AtRest (end_of w s)) (s : Side) (told : KnowsFirstLimits w s) where
     abbrev here : End
     here = end_of w s
 
     abbrev there : End
     there = end_of w (other s)
 
-    face : Facing there here
-    face = ends_face a b h w ok s
+    -- the first limit of each half is the window of the other
+    first_limit : (n : ℕ) → first_send_limit here n ≡ window there n
+    first_limit n = rw (told, opposite a b h w ok s n) (limit_by (is_uni n) (is_own there n) there.settings.uni there.settings.bidi_remote there.settings.bidi_local)
+
+    pub window_known : (n : ℕ) → window there n ≤ first_send_limit here n
+    window_known n = omega (arith, first_limit n)
 
     data_known : there.granted ≤ here.known_data
     data_known =
         elim (cases_lt there.settings.conn_window there.granted) [
           | inl more ↦ taken_here s (MaxData there.granted) ((keeps (other s)).acked.conn there.granted (items_acked there (MaxData there.granted) (rest (other s)) (refl, more)))
-          | inr first ↦ omega (arith, first, face.first_data, (keeps s).conn)
+          | inr first ↦ (let limit = ap (λ x. x.max_data) told in omega (arith, first, limit, (keeps s).conn))
         ]
 
     stream_known : (n : ℕ) (l : SendLane) (r : RecvLane) → sending w s n ≡ Some l → receiving w s n ≡ Some r → r.final_size ≡ None → r.limit ≤ l.limit
@@ -84,21 +92,21 @@ module _ (a b : Settings) (h : History) (w : World) (ok : WorldOk a b h w) (keep
               let (m, found, le) = taken_here s (MaxStreamData n r.limit) ((keeps (other s)).acked.streams n r.limit acked) in
               let same : m ≡ l = same_Some m l (sym found ∙ at) in
               rw same at le)
-          | inr first ↦ omega (arith, first, face.first_limit n, ((keeps s).sends n l at).first_limit)
+          | inr first ↦ omega (arith, first, window_known n, ((keeps s).sends n l at).first_limit)
         ]
 
     bidi_known : there.granted_bidi ≤ here.known_bidi
     bidi_known =
         elim (cases_lt there.settings.grant_bidi there.granted_bidi) [
           | inl more ↦ taken_here s (MaxStreams Bidi there.granted_bidi) ((keeps (other s)).acked.bidi there.granted_bidi (items_acked there (MaxStreams Bidi there.granted_bidi) (rest (other s)) (refl, more)))
-          | inr first ↦ (let told = ap (λ x. x.streams_bidi) (told_limits a b h w ok s) in omega (arith, first, told, (keeps s).bidi))
+          | inr first ↦ (let count = ap (λ x. x.streams_bidi) told in omega (arith, first, count, (keeps s).bidi))
         ]
 
     uni_known : there.granted_uni ≤ here.known_uni
     uni_known =
         elim (cases_lt there.settings.grant_uni there.granted_uni) [
           | inl more ↦ taken_here s (MaxStreams Uni there.granted_uni) ((keeps (other s)).acked.uni there.granted_uni (items_acked there (MaxStreams Uni there.granted_uni) (rest (other s)) (refl, more)))
-          | inr first ↦ (let told = ap (λ x. x.streams_uni) (told_limits a b h w ok s) in omega (arith, first, told, (keeps s).uni))
+          | inr first ↦ (let count = ap (λ x. x.streams_uni) told in omega (arith, first, count, (keeps s).uni))
         ]
 
     counts_known : (d : Dir) → known_count here d ≡ next_count there d
@@ -116,5 +124,5 @@ module _ (a b : Settings) (h : History) (w : World) (ok : WorldOk a b h w) (keep
 pub told_taken : ToldIsTaken
 told_taken a b h w run s i told = taken a b h w (run_keeps a b h w run) (every_run_keeps a b h w run) s i told
 
-pub each_limit_known : AtEachRest KnowsItsLimits
-each_limit_known a b h w run rest s = limits_known a b h w (run_keeps a b h w run) (every_run_keeps a b h w run) rest s
+pub each_limit_known : AtEachRest (OnceTold KnowsItsLimits)
+each_limit_known a b h w run rest s told = limits_known a b h w (run_keeps a b h w run) (every_run_keeps a b h w run) rest s told

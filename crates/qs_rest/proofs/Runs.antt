@@ -1,23 +1,34 @@
 -- In every run each end keeps what holds of it beside the invariant of qs_runs.
-use Rattle.std.proofs.Common.{◌≡◌, ℕ, ◌≤◌, Bool, true, false, ◌==◌, ◌&&◌, List, [], ◌⊎◌, Option, Some, None, Result, Ok, Err, slice_get, refl, sym, ap, ◌∙◌, subst, arith, inl, inr}
+use Rattle.std.proofs.Common.{◌≡◌, ℕ, ◌≤◌, Bool, true, false, ◌==◌, ◌&&◌, List, [], ◌⊎◌, length, option_map, Option, Some, None, Result, Ok, Err, slice_get, refl, sym, ap, ◌∙◌, subst, arith, inl, inr}
 use Rattle.std.specs.Prelude.{cond}
 use Rattle.std.proofs.lemmas.Bool.{eqb-true}
 use Rattle.qs_wire.specs.Reading.{reading_of}
 use Rattle.qs_recv.specs.Lane.{raise}
-use Rattle.qs_send.specs.Lane.{SendLane}
+use Rattle.qs_send.specs.Lane.{SendLane, allow_lane}
 use Rattle.qs_send.specs.declared.piece.Item.{Item}
 use Rattle.qs_calls.specs.declared.closing.Closing.{Closing}
 use Rattle.qs_calls.specs.declared.closing.Closed.{Closed}
 use Rattle.qs_calls.specs.declared.closing.Closed.TheVariants.{ByUs, ByPeer}
 use Rattle.qs_calls.specs.declared.closing.Received.{Received}
 use Rattle.qs_calls.specs.declared.closing.Received.TheVariants.{Duplicate, BelowFloor, PeerClosed}
+use Rattle.qs_calls.specs.declared.making.Made.{Made}
+use Rattle.qs_calls.specs.declared.making.MakeFault.{MakeFault}
+use Rattle.qs_calls.specs.declared.settings.PeerLimits.{PeerLimits}
+use Rattle.qs_calls.specs.declared.settings.RaiseFault.{RaiseFault}
 use Rattle.qs_calls.specs.declared.event.Act.{Act}
 use Rattle.qs_calls.specs.declared.answer.Answer.{Answer}
 use Rattle.qs_calls.specs.declared.answer.Answer.TheVariants as answers
 use Rattle.qs_machine.specs.Tables.{lookup}
 use Rattle.qs_machine.specs.Ends.{End, AckedItems, first_send_limit}
 use Rattle.qs_machine.specs.Receiving.{ReceiveStep, ReceiveBy}
-use Rattle.qs_machine.specs.EndStep.{Receive}
+use Rattle.qs_machine.specs.Credit.{settle}
+use Rattle.qs_machine.specs.Making.{MakeStep, MakeAckStep, make_refusal}
+use Rattle.qs_machine.specs.Raising.{RaiseStep, knows_limits, limits_raised, raise_refusal}
+use Rattle.qs_machine.specs.EndStep.{Call, Answer as CallAnswer, EndStep, Receive, Make, RaiseLimits}
+use Rattle.qs_machine.specs.SettledLimits.{LimitsAreSettled}
+use Rattle.qs_machine.proofs.AckPackets.{ack_packet}
+use Rattle.qs_machine.proofs.Raised.{kept_raised}
+use Rattle.qs_machine.proofs.TablesAfter.{KeptIn}
 use Rattle.qs_machine.proofs.EveryCall.{by_open}
 use Rattle.qs_machine.proofs.SettledLimits.{calls_settle}
 use Rattle.qs_machine.proofs.CallsCounts.{settled_call}
@@ -31,17 +42,20 @@ use Rattle.qs_runs.proofs.Past.{Holds-more, TellsAck-more}
 use Rattle.qs_runs.proofs.Changes.{AllGrow, all_grow_refl}
 use Rattle.qs_runs.proofs.Settling.{each_grows, raise_grows}
 use Rattle.qs_runs.proofs.Granting.{own_call}
-use Rattle.qs_machine.specs.Standing.{IsSound}
+use Rattle.qs_machine.specs.Standing.{IsSound, CountsAreSettled}
 use Rattle.qs_machine.specs.Repeats.{SentWasWritten}
 use Rattle.qs_runs.proofs.Lasting.{call_grows}
-use Rattle.qs_runs.proofs.OwnMoves.{with_call}
+use Rattle.qs_runs.proofs.OwnMoves.{with_call, with_packets}
+use Rattle.qs_runs.proofs.Raising.{allowed_at}
+use Rattle.qs_runs.proofs.Standing.{certain_cases}
 use Rattle.qs_runs.proofs.PeerMoves.{with_theirs}
 use Rattle.qs_runs.proofs.Receives.{with_received}
 use Rattle.qs_rest.specs.Invariant.{WasTold, AckedTrue, HalfTrue, RestOk}
-use Rattle.qs_rest.proofs.EachCall.{each_own}
+use Rattle.qs_rest.proofs.Halves.{Lasts, lasts_same, lasts_twice, allow_lasts}
+use Rattle.qs_rest.proofs.EachCall.{each_own, make_by}
 use Rattle.qs_rest.proofs.Moves.{AllTrue, SlotTrue, Moved, moved_same, moved_edits}
 use Rattle.qs_rest.proofs.Effects.{items_stay}
-use Rattle.qs_rest.proofs.Telling.{all_told, told_at, own_told, received_held, receive_told}
+use Rattle.qs_rest.proofs.Telling.{AllTold, all_told, told_at, own_told, packet_told, told_settles, received_held, receive_told}
 use Rattle.qs_rest.proofs.Payloads.{After, takes, settled, not_done}
 
 -- The past goes on
@@ -106,23 +120,118 @@ module _ (p : Past) (e new : End) (ok : RestOk p e) (m : Moved p e new) where
   known_uni : new.peer.streams_uni ≤ new.known_uni
   known_uni = (let same = ap (λ x. x.streams_uni) m.peer in omega (arith, ok.uni, m.uni, same))
 
+-- a call that adds to the past only what was made, written or read
+module _ (p q : Past) (theirs : q.theirs ≡ p.theirs) (same : q.processed ≡ p.processed) (more : (i : Item) → WasTold p i → WasTold q i) (e new : End) (sound : IsSound e) (sent : SentWasWritten e) (ok : RestOk p e) where
+  call_rests : (call : Call) (given : CallAnswer call) → EndStep e call given new → Moved p e new → AllTold new.recvs → RestOk q new
+  call_rests call given is m told =
+      let grow = call_grows e new sound sent call given is in
+      record {
+        conn = known_conn p e new ok m;
+        bidi = known_bidi p e new ok m;
+        uni = known_uni p e new ok m;
+        sends = λ n l at. half_more p q more n _ l (slot_at p new m.halves n l at);
+        acked = acked_more p q more new.acked m.acked;
+        told = told_at new told;
+        taken = λ k done. (
+            let (fs, there, all) = ok.taken k (ap (λ d. d k) (sym same) ∙ done) in
+            (fs, ap (λ ps. slice_get ps k) theirs ∙ there, items_stay e new m.conn m.bidi m.uni m.sends grow fs all)
+            );
+        limits = calls_settle e call given new ok.limits is;
+        counts = settled_call e call given new ok.counts is;
+      }
+
 pub own_rests : (p : Past) (e new : End) → IsSound e → SentWasWritten e → RestOk p e → (act : Act) (answer : Answer) → OwnStep e act answer new → RestOk (with_call p act answer) new
 own_rests p e new sound sent ok act answer step =
     let (call, given, is, own) = own_call e new act answer step in
-    let m : Moved p e new = each_own (Moved p e) e (moved_edits p e (slots p e ok) ok.acked) act answer new step in
-    let grow = call_grows e new sound sent call given is in
-    let q : Past = with_call p act answer in
+    call_rests p (with_call p act answer) refl refl (told_call p act answer) e new sound sent ok call given is (each_own (Moved p e) e (moved_edits p e (slots p e ok) ok.acked) act answer new step) (own_told e new (all_told e ok.told) act answer step)
+
+told_packets : (p : Past) (packets : Packets) (i : Item) → WasTold p i → WasTold (with_packets p packets) i
+told_packets p packets i (k, holds, ack) = (k, Holds-more p.mine packets k _ holds, ack)
+
+packet_rests : (p : Past) (packets : Packets) (e new : End) → IsSound e → SentWasWritten e → RestOk p e → (first delay room : ℕ) (result : Result (Option Made) MakeFault) (text : List ℕ) → MakeStep e first delay room result text new → RestOk (with_packets p packets) new
+packet_rests p packets e new sound sent ok first delay room result text step =
+    call_rests p (with_packets p packets) refl refl (told_packets p packets) e new sound sent ok (Make first delay room) (result, text) step
+    (make_by (Moved p e) e (moved_edits p e (slots p e ok) ok.acked) (make_refusal e) first delay room result text new step) (packet_told e new (all_told e ok.told) first delay room result text step)
+
+-- nothing changes but the past
+same_rests : (p : Past) (packets : Packets) (e : End) → RestOk p e → RestOk (with_packets p packets) e
+same_rests p packets e ok =
     record {
-      conn = known_conn p e new ok m;
-      bidi = known_bidi p e new ok m;
-      uni = known_uni p e new ok m;
-      sends = λ n l at. half_more p q (told_call p act answer) n _ l (slot_at p new m.halves n l at);
-      acked = acked_more p q (told_call p act answer) new.acked m.acked;
-      told = told_at new (own_told e new (all_told e ok.told) act answer step);
-      taken = λ k done. (let (fs, there, all) = ok.taken k done in (fs, there, items_stay e new m.conn m.bidi m.uni m.sends grow fs all));
-      limits = calls_settle e call given new ok.limits is;
-      counts = settled_call e call given new ok.counts is;
+      conn = ok.conn;
+      bidi = ok.bidi;
+      uni = ok.uni;
+      sends = λ n l at. half_more p (with_packets p packets) (told_packets p packets) n _ l (ok.sends n l at);
+      acked = acked_more p (with_packets p packets) (told_packets p packets) e.acked ok.acked;
+      told = ok.told;
+      taken = ok.taken;
+      limits = ok.limits;
+      counts = ok.counts;
     }
+
+-- An ACK alone is a packet of a shorter room, or nothing changes.
+pub ack_rests : (p : Past) (packets : Packets) (e new : End) → IsSound e → SentWasWritten e → RestOk p e → (delay room : ℕ) (result : Result (Option Made) MakeFault) (text : List ℕ) → MakeAckStep e delay room result text new → RestOk (with_packets p packets) new
+ack_rests p packets e new sound sent ok delay room result text step =
+    elim (ack_packet e new 0 delay room result text step) [
+      | inl made ↦ packet_rests p packets e new sound sent ok 0 delay (length text) result text made
+      | inr none ↦ subst (RestOk (with_packets p packets)) (sym none.2) (same_rests p packets e ok)
+    ]
+
+-- whether an ACK is due doesn't matter
+pub due_rests : (p : Past) (e : End) (due : Bool) → RestOk p e → RestOk p (record e { ack_due = due })
+due_rests p e due ok =
+    record {
+      conn = ok.conn;
+      bidi = ok.bidi;
+      uni = ok.uni;
+      sends = ok.sends;
+      acked = ok.acked;
+      told = ok.told;
+      taken = λ k done. (
+          let (fs, there, all) = ok.taken k done in
+          (fs, there, items_stay e (record e { ack_due = due }) (omega arith) (omega arith) (omega arith) (moved_same p e (slots p e ok) ok.acked).sends (all_grow_refl e.recvs) fs all)
+          );
+      limits = record { connection = ok.limits.connection; streams = ok.limits.streams };
+      counts = ok.counts;
+    }
+
+-- Limits of the peer are taken in
+
+module _ (p : Past) (e : End) (limits : PeerLimits) (ok : RestOk p e) where
+  abbrev raised : End
+  raised = limits_raised limits e
+
+  slot_raised : (n : ℕ) (o : Option SendLane) → SlotTrue p n (first_send_limit e n) o → SlotTrue p n (first_send_limit (knows_limits limits e) n) (option_map (λ (l : SendLane). allow_lane l (first_send_limit (knows_limits limits e) n)) o)
+  slot_raised n None h = tt
+  slot_raised n (Some l) h = record { first_limit = omega arith; small = h.small; reset_told = h.reset_told }
+
+  slots_raised : (n : ℕ) (l : SendLane) → lookup raised.sends n ≡ Some l → HalfTrue p n (first_send_limit (knows_limits limits e) n) l
+  slots_raised n l at =
+      subst (SlotTrue p n (first_send_limit (knows_limits limits e) n)) at
+      (subst (SlotTrue p n (first_send_limit (knows_limits limits e) n)) (sym (allowed_at (knows_limits limits e) n)) (slot_raised n (lookup e.sends n) (slots p e ok n)))
+
+  raised_rests : (new : End) → IsSound e → SentWasWritten e → new ≡ settle raised → EndStep e (RaiseLimits limits) (Ok tt) new → RestOk p new
+  raised_rests new sound sent is step =
+      let kept : KeptIn Lasts e.sends raised.sends = kept_raised Lasts lasts_same lasts_twice (λ limit l. allow_lasts l limit) limits e in
+      let grow = call_grows e new sound sent (RaiseLimits limits) (Ok tt) step in
+      let settled : End = settle raised in
+      subst (RestOk p) (sym is) (record {
+        conn = omega (arith, ok.conn);
+        bidi = omega (arith, ok.bidi);
+        uni = omega (arith, ok.uni);
+        sends = slots_raised;
+        acked = ok.acked;
+        told = told_at settled (told_settles raised (all_told e ok.told));
+        taken = λ k done. (let (fs, there, all) = ok.taken k done in (fs, there, items_stay e settled (omega arith) (omega arith) (omega arith) kept (subst (λ x. AllGrow e.recvs x.recvs) is grow) fs all));
+        limits = subst LimitsAreSettled is (calls_settle e (RaiseLimits limits) (Ok tt) new ok.limits step);
+        counts = subst CountsAreSettled is (settled_call e (RaiseLimits limits) (Ok tt) new ok.counts step);
+      })
+
+pub raise_rests : (p : Past) (e new : End) (limits : PeerLimits) (result : Result (Unit {0}) RaiseFault) → IsSound e → SentWasWritten e → RestOk p e → RaiseStep e limits result new → RestOk p new
+raise_rests p e new limits result sound sent ok step =
+    elim (certain_cases (raise_refusal e limits) e result new _ step) [
+      | inl (fault, is, same) ↦ subst (RestOk p) (sym same) ok
+      | inr (allowed, (is, same)) ↦ raised_rests p e limits ok new sound sent same (subst (λ r. RaiseStep e limits r new) is step)
+    ]
 
 -- A payload of the peer
 

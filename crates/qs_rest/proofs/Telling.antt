@@ -15,6 +15,9 @@ use Rattle.qs_recv.specs.declared.half.Read.{Read}
 use Rattle.qs_recv.specs.declared.half.Read.TheVariants as reads
 use Rattle.qs_send.specs.declared.piece.Item.{Item}
 use Rattle.qs_send.specs.declared.piece.Item.TheVariants.{MaxData, MaxStreamData, MaxStreams, ResetStream, StopSending, DataBlocked, StreamDataBlocked, StreamsBlocked}
+use Rattle.qs_calls.specs.declared.making.Made.{Made}
+use Rattle.qs_calls.specs.declared.making.MakeFault.{MakeFault}
+use Rattle.qs_machine.specs.Making.{MakeStep, make_refusal}
 use Rattle.qs_calls.specs.declared.closing.Closing.{Closing}
 use Rattle.qs_calls.specs.declared.closing.Received.{Received}
 use Rattle.qs_calls.specs.declared.closing.Closed.{Closed}
@@ -35,7 +38,7 @@ use Rattle.qs_machine.proofs.EveryCall.{by_open, closed_same}
 use Rattle.qs_machine.proofs.Leaves.{acks_leave, fills_leave, losses_leave, wanted_leaves, stops_leave, end_leaves}
 use Rattle.qs_rest.specs.Invariant.{IsToldOf, ToldTrue}
 use Rattle.qs_rest.specs.Rest.{TellsNoNews}
-use Rattle.qs_rest.proofs.EachCall.{Edits, each_own}
+use Rattle.qs_rest.proofs.EachCall.{make_by, Edits, each_own}
 
 -- One half
 
@@ -170,7 +173,7 @@ told_opens n e all =
     cond_both (is_uni n && is_own e n) e.recvs (open_to e.recvs n (λ m. new_recv_lane (window e n))) AllTold (λ _. all)
     (λ _. slots_opened (λ m o. ToldSlot o) e.recvs n (λ m. new_recv_lane (window e n)) all (λ m none kind. new_told (window e n)))
 
-told_settles : (e : End) → AllTold e.recvs → AllTold (settle e).recvs
+pub told_settles : (e : End) → AllTold e.recvs → AllTold (settle e).recvs
 told_settles e all = slots_each (λ m o. ToldSlot o) raise e.recvs (λ m. go (lookup e.recvs m) (all m))
   where
     go : (o : Option RecvLane) → ToldSlot o → ToldSlot (option_map raise o)
@@ -196,6 +199,9 @@ told_edits old all =
 
 pub own_told : (old new : End) → AllTold old.recvs → (act : Act) (answer : Answer) → OwnStep old act answer new → AllTold new.recvs
 own_told old new all act answer step = each_own (λ mid. AllTold mid.recvs) old (told_edits old all) act answer new step
+
+pub packet_told : (old new : End) → AllTold old.recvs → (first delay room : ℕ) (answer : Result (Option Made) MakeFault) (text : List ℕ) → MakeStep old first delay room answer text new → AllTold new.recvs
+packet_told old new all first delay room answer text step = make_by (λ mid. AllTold mid.recvs) old (told_edits old all) (make_refusal old) first delay room answer text new step
 
 -- What a payload leaves: a half whose reader was told is one of before
 

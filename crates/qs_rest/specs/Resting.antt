@@ -1,6 +1,6 @@
 -- Trusted.
 -- What holds of two ends at rest, in every run (the whole file is ours, but that each clause names its section of RFC 9000).
-use Rattle.std.specs.Prelude.{◌≡◌, ℕ, ◌+◌, ◌*◌, ◌<◌, ◌≤◌, true, false, ◌⊎◌, None, Some, is_some}
+use Rattle.std.specs.Prelude.{◌≡◌, ℕ, ◌+◌, ◌*◌, ◌<◌, ◌≤◌, true, false, ◌⊎◌, None, Some, is_some, Ok}
 use Rattle.std.specs.FinMap as fmap
 use Rattle.qs_ranges.specs.Numbers.{MAX_VARINT}
 use Rattle.qs_wire.specs.declared.stream_id.Dir.{Dir}
@@ -9,14 +9,15 @@ use Rattle.qs_recv.specs.declared.half.RecvState.TheVariants.{DataRead, ResetRea
 use Rattle.qs_send.specs.Lane.{SendLane, state as send_state}
 use Rattle.qs_send.specs.declared.parts.SendState.TheVariants.{DataRecvd, ResetRecvd}
 use Rattle.qs_send.specs.declared.piece.Item.{Item}
+use Rattle.qs_calls.specs.Settings.{limits_of}
 use Rattle.qs_calls.specs.declared.settings.Settings.{Settings}
 use Rattle.qs_calls.specs.declared.event.Side.{Side}
 use Rattle.qs_machine.specs.Ends.{End, send_lane, recv_lane}
 use Rattle.qs_machine.specs.Credit.{spent, all_taken, all_stored, all_sent, next_count}
 use Rattle.qs_machine.specs.Due.{IsCurrent, IsAcked, known_count}
 use Rattle.qs_machine.specs.Seen.{Control}
-use Rattle.qs_runs.specs.Logs.{History, other, own_calls, stopped_in, written, read}
-use Rattle.qs_runs.specs.Worlds.{World, end_of, Run}
+use Rattle.qs_runs.specs.Logs.{Happening, RaisedLimits, History, Log, other, own_calls, stopped_in, written, read}
+use Rattle.qs_runs.specs.Worlds.{World, end_of, WorldStep, Run, EventRun}
 use Rattle.qs_runs.specs.Pasts.{past}
 use Rattle.qs_rest.specs.Invariant.{WasTold, ItemTaken}
 use Rattle.qs_rest.specs.Rest.{AtRest}
@@ -32,6 +33,27 @@ ToldIsTaken = (a b : Settings) (h : History) (w : World) → Run a b h w → (s 
 -- what holds of side s as a sender in every run that leaves both ends at rest
 abbrev pub AtEachRest : (History → World → Side → Type 0) → Type 0
 AtEachRest P = (a b : Settings) (h : History) (w : World) → Run a b h w → ((s : Side) → AtRest (end_of w s)) → (s : Side) → P h w s
+
+-- the end was told its peer's true limits, as it was made or later (RFC 9000, sections 7.4.1 and 18.2)
+abbrev pub KnowsFirstLimits : World → Side → Type 0
+KnowsFirstLimits w s = (end_of w s).peer ≡ limits_of (end_of w (other s)).settings
+
+-- what holds of a sender that was told them (RFC 9000, section 7.4.1)
+abbrev pub OnceTold : (History → World → Side → Type 0) → History → World → Side → Type 0
+OnceTold P h w s = KnowsFirstLimits w s → P h w s
+
+-- whatever happens, an end that was told them knows them
+abbrev pub FirstLimitsStay : Type 0
+FirstLimitsStay = (a b : Settings) (h : History) (v w : World) (x : Happening) → Run a b h v → WorldStep h v x w → (s : Side) → KnowsFirstLimits v s → KnowsFirstLimits w s
+
+-- and so does one that takes them in
+abbrev pub TakenInIsTold : Type 0
+TakenInIsTold =
+    (a b : Settings) (h : History) (v w : World) (s : Side) → Run a b h v → WorldStep h v (RaisedLimits s (limits_of (end_of v (other s)).settings) (Ok tt)) w → KnowsFirstLimits w s
+
+-- so in each run of events alone both ends know them
+abbrev pub EventRunsTell : Type 0
+EventRunsTell = (a b : Settings) (log : Log) (w : World) → EventRun a b log w → (s : Side) → KnowsFirstLimits w s
 
 -- A sender knows what its peer grants (RFC 9000, sections 4.1 and 4.6).
 pub record KnowsItsLimits (h : History) (w : World) (s : Side) : Type 0 where

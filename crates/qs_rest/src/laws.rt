@@ -3,7 +3,7 @@
 ghost use Rattle.qs_rest.specs.Laws.{ItemsAreInOnePart, AllButAcksAsk, StopsGiveBack};
 ghost use Rattle.qs_rest.specs.Rest.{EveryRunKeeps, IdleIsRest};
 ghost use Rattle.qs_rest.specs.Exclusions.{Exclusions};
-ghost use Rattle.qs_rest.specs.Resting.{ItemsAreAcked, ToldIsTaken, AtEachRest, KnowsItsLimits, CreditIsWhole, HasCreditAhead, ResetsAreFinal, AllIsDelivered};
+ghost use Rattle.qs_rest.specs.Resting.{ItemsAreAcked, ToldIsTaken, AtEachRest, OnceTold, FirstLimitsStay, TakenInIsTold, EventRunsTell, KnowsItsLimits, CreditIsWhole, HasCreditAhead, ResetsAreFinal, AllIsDelivered};
 
 /// Each item that is to be told is in an outstanding packet, or was acknowledged, or is due.
 pub fn items_are_in_one_part()
@@ -40,9 +40,17 @@ pub fn told_is_taken()
     ensures { ToldIsTaken }
 {}
 
-/// At rest each limit that is granted is known, and each count of streams, and that is the next one.
+/// An end that was told its peer's true limits, as it was made or later, knows them from then on, as both ends of a run of events alone do.
+pub fn first_limits_stay()
+    ensures stay { FirstLimitsStay }
+    ensures taken_in { TakenInIsTold }
+    ensures events { EventRunsTell }
+{}
+
+/// At rest each limit that is granted is known, and each count of streams, and that is the next one; of an end that was told its peer's
+/// true limits.
 pub fn limits_are_known()
-    ensures { AtEachRest KnowsItsLimits }
+    ensures { AtEachRest (OnceTold KnowsItsLimits) }
 {}
 
 /// At rest all credit is paid back, of the connection and of each stream.
@@ -50,9 +58,10 @@ pub fn credit_is_whole()
     ensures { AtEachRest CreditIsWhole }
 {}
 
-/// At rest more than half of each window is left to its sender, and so a byte at least, unless the limit is the greatest one.
+/// At rest more than half of each window is left to its sender, and so a byte at least, unless the limit is the greatest one; of an end that
+/// was told its peer's true limits.
 pub fn credit_is_ahead()
-    ensures { AtEachRest HasCreditAhead }
+    ensures { AtEachRest (OnceTold HasCreditAhead) }
 {}
 
 /// At rest each stream that was reset, or whose reader stopped, has come to its end at both ends.
@@ -60,9 +69,10 @@ pub fn resets_are_final()
     ensures { AtEachRest ResetsAreFinal }
 {}
 
-/// At rest no limit holds a stream back that wasn't reset: what was written was read, and a stream that was finished is delivered.
+/// At rest no limit holds a stream back that wasn't reset: what was written was read, and a stream that was finished is delivered; of an end
+/// that was told its peer's true limits.
 pub fn all_is_delivered()
-    ensures { AtEachRest AllIsDelivered }
+    ensures { AtEachRest (OnceTold AllIsDelivered) }
 {}
 
 /// Small ends that are at rest, and one that isn't for each clause.

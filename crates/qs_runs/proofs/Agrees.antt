@@ -1,20 +1,24 @@
 -- What agrees in a world that meets the invariant, and at each step from it.
-use Rattle.std.proofs.Common.{◌≡◌, ℕ, List, Some, sym, subst, refl, ap, ◌∙◌, slice_get}
+use Rattle.std.proofs.Common.{◌≡◌, ℕ, List, Some, Result, true, sym, subst, refl, ap, ◌∙◌, slice_get}
 use Rattle.std.proofs.lemmas.Option.{same_Some}
 use Rattle.std.specs.List.{AllByRecursion}
 use Rattle.qs_calls.specs.declared.settings.Settings.{Settings}
+use Rattle.qs_calls.specs.declared.closing.Closing.{Closing}
+use Rattle.qs_calls.specs.declared.closing.Received.{Received}
 use Rattle.qs_machine.specs.Tables.{lookup}
 use Rattle.qs_machine.specs.Ends.{End, first_send_limit, window}
+use Rattle.qs_machine.specs.Credit.{spent}
+use Rattle.qs_machine.specs.Receiving.{ReceiveStep}
+use Rattle.qs_machine.proofs.Plains.{plain_nothing}
 use Rattle.qs_calls.specs.declared.event.Side.{Side}
 use Rattle.qs_calls.specs.declared.event.Side.TheVariants.{A, B}
 use Rattle.qs_calls.specs.declared.event.Act.{Act}
 use Rattle.qs_calls.specs.declared.event.Act.TheVariants as acts
-use Rattle.qs_calls.specs.declared.event.Event.{Event}
 use Rattle.qs_calls.specs.declared.answer.Answer.{Answer}
 use Rattle.qs_calls.specs.declared.answer.Answer.TheVariants as answers
-use Rattle.qs_runs.specs.Logs.{History, other, payload}
-use Rattle.qs_runs.specs.Worlds.{World, end_of, StepBy, WorldStep}
-use Rattle.qs_runs.specs.Agree.{Agree, PrefixAgrees, WholeAgrees, FinalSizesAgree, CreditAgrees, StaysOpen, RepeatAgrees, StepAgrees, StepAgreesBy, EveryRunAgrees, IsOld, frames_in}
+use Rattle.qs_runs.specs.Logs.{Happening, Did, CameWith, History, other, payload, processed}
+use Rattle.qs_runs.specs.Worlds.{World, end_of, DeliverStep, ComeWithStep, EventStep, WorldStep}
+use Rattle.qs_runs.specs.Agree.{Agree, PrefixAgrees, WholeAgrees, FinalSizesAgree, CreditAgrees, StaysOpen, RepeatAgrees, EventAgrees, StepAgrees, EveryRunAgrees, IsOld, frames_in}
 use Rattle.qs_runs.specs.Invariant.{WorldOk, SendSlot, RecvSlot}
 use Rattle.qs_runs.proofs.Unharmed.{spent_le}
 use Rattle.qs_runs.proofs.Agreement.{prefix_agrees, whole_agrees, received_agrees, size_agrees, reset_agrees}
@@ -62,28 +66,44 @@ module _ (a b : Settings) (h : History) (w : World) (ok : WorldOk a b h w) where
   pub agrees : Agree h w
   agrees = record { prefix = prefix; credit = credit; whole = whole; final_sizes = final_sizes; stays_open = stays_open }
 
-  repeat_agrees : (s : Side) (k : ℕ) (answer : Answer) (new : World) → StepBy h w s (acts.Deliver k) answer new → RepeatAgrees h w new (other s) k
-  repeat_agrees s k (answers.Deliver result) new (text, is, step, same) =
+  -- a packet that was processed comes again, with whatever bytes
+  again_at : (s : Side) (k : ℕ) (bytes : List ℕ) (result : Result Received Closing) (new : End) → ReceiveStep (end_of w (other s)) k bytes result new → processed (other s) k h ≡ true → new ≡ end_of w (other s)
+  again_at s k bytes result new step done = repeats (past (other s) h) (end_of w (other s)) new k bytes result (ok.ends (other s)) (is_open_end a b h w ok (other s)) step done
+
+  -- its payload tells nothing new
+  old_news_at : (s : Side) (k : ℕ) (text : List ℕ) (result : Result Received Closing) (new : End) → payload s k h ≡ Some text → ReceiveStep (end_of w (other s)) k text result new →
+      (t : List ℕ) → payload (other (other s)) k h ≡ Some t → AllByRecursion (IsOld (end_of w (other s))) (frames_in t) → spent new ≡ spent (end_of w (other s))
+  old_news_at s k text result new is step t at all =
       let there = ap (λ x. slice_get x k) (theirs_mine s h) ∙ payload_seen s k h text is in
-      record {
-        again = λ done. repeats (past (other s) h) (end_of w (other s)) (end_of new (other s)) k text result (ok.ends (other s)) (is_open_end a b h w ok (other s)) step done;
-        old_news = λ t at all. spends_nothing (past (other s) h) (end_of w (other s)) (end_of new (other s)) k text result (ok.ends (other s)) there (is_open_end a b h w ok (other s)) step
-            (subst (λ x. AllByRecursion (IsOld (end_of w (other s))) (frames_in x)) (same_text s t text at is) all);
-      }
+      spends_nothing (past (other s) h) (end_of w (other s)) new k text result (ok.ends (other s)) there (is_open_end a b h w ok (other s)) step
+      (subst (λ x. AllByRecursion (IsOld (end_of w (other s))) (frames_in x)) (same_text s at is) all)
     where
-      same_text : (s : Side) (t text : List ℕ) → payload (other (other s)) k h ≡ Some t → payload s k h ≡ Some text → t ≡ text
-      same_text A t text x y = same_Some t text (sym x ∙ y)
-      same_text B t text x y = same_Some t text (sym x ∙ y)
+      same_text : (s : Side) → payload (other (other s)) k h ≡ Some t → payload s k h ≡ Some text → t ≡ text
+      same_text A x y = same_Some t text (sym x ∙ y)
+      same_text B x y = same_Some t text (sym x ∙ y)
+
+  repeat_agrees : (s : Side) (k : ℕ) (answer : Answer) (new : World) → DeliverStep h w s k answer new → RepeatAgrees h w new (other s) k
+  repeat_agrees s k (answers.Deliver result) new (text, is, step, same) = record { again = again_at s k text result (end_of new (other s)) step; old_news = old_news_at s k text result (end_of new (other s)) is step }
   repeat_agrees s k answer new step = absurd step
 
-  step_agrees_by : (s : Side) (act : Act) (answer : Answer) (new : World) → StepBy h w s act answer new → StepAgreesBy h w s act new
-  step_agrees_by s (acts.Deliver k) answer new step = repeat_agrees s k answer new step
-  step_agrees_by s act answer new step = tt
+  came_agrees : (s : Side) (k : ℕ) (bytes : List ℕ) (result : Result Received Closing) (new : World) → ComeWithStep h w s k bytes result new → RepeatAgrees h w new (other s) k
+  came_agrees s k bytes result new (text, is, differ, step, same) =
+      let (bare, received, alike) = plain_nothing (end_of w (other s)) (end_of new (other s)) k bytes text result differ step in
+      record {
+        again = again_at s k bytes result (end_of new (other s)) step;
+        old_news = λ t at all. ap spent alike ∙ old_news_at s k text result bare is received t at all;
+      }
 
-  pub step_agrees : (event : Event) (answer : Answer) (new : World) → WorldStep h w event answer new → StepAgrees h w event new
-  step_agrees event answer new step = step_agrees_by event.end event.act answer new step
+  event_agrees : (s : Side) (act : Act) (answer : Answer) (new : World) → EventStep h w s act answer new → EventAgrees h w s act new
+  event_agrees s (acts.Deliver k) answer new step = repeat_agrees s k answer new step
+  event_agrees s act answer new step = tt
+
+  pub step_agrees : (x : Happening) (new : World) → WorldStep h w x new → StepAgrees h w x new
+  step_agrees (Did event answer) new step = event_agrees event.end event.act answer new step
+  step_agrees (CameWith s k bytes result) new step = came_agrees s k bytes result new step
+  step_agrees x new step = tt
 
 pub every_run_agrees : EveryRunAgrees
 every_run_agrees a b h w run =
     let ok : WorldOk a b h w = run_keeps a b h w run in
-    (agrees a b h w ok, λ event answer new s. step_agrees a b h w ok event answer new s)
+    (agrees a b h w ok, λ x new s. step_agrees a b h w ok x new s)

@@ -1,5 +1,5 @@
 -- What comes of a packet of a claimed number.
-use Rattle.std.proofs.Common.{◌≡◌, ℕ, ◌+◌, true, false, List, [], ◌∷◌, ◌++◌, ◌⊎◌, length, Option, Some, None, Result, Ok, Err, slice_get, refl, sym, ap, ◌∙◌, subst, inl, inr}
+use Rattle.std.proofs.Common.{◌≡◌, ℕ, ◌+◌, Bool, true, false, List, [], ◌∷◌, ◌++◌, ◌⊎◌, length, Option, Some, None, Result, Ok, Err, slice_get, refl, sym, ap, ◌∙◌, subst, inl, inr}
 use Rattle.std.proofs.lemmas.Option.{none-some}
 use Rattle.std.proofs.lemmas.List.{length-map}
 use Rattle.qs_wire.specs.Layout.{PlacedValue}
@@ -9,7 +9,6 @@ use Rattle.qs_wire.specs.declared.fault.WireFault.{WireFault}
 use Rattle.qs_wire.specs.declared.stream_id.Role.{Role}
 use Rattle.qs_wire.specs.declared.stream_id.Role.TheVariants.{Client, Server}
 use Rattle.qs_wire.specs.declared.stream_id.Dir.TheVariants.{Bidi, Uni}
-use Rattle.qs_calls.specs.Settings.{limits_of}
 use Rattle.qs_calls.specs.declared.settings.Settings.{Settings}
 use Rattle.qs_calls.specs.declared.settings.PeerLimits.{PeerLimits}
 use Rattle.qs_calls.specs.declared.closing.Closing.{Closing}
@@ -31,24 +30,25 @@ use Rattle.qs_machine.specs.FrameStep.{frame_taken}
 use Rattle.qs_machine.specs.Recording.{recorded}
 use Rattle.qs_machine.specs.Receiving.{ReceiveStep, ReceiveBy, Takes, Stops, GoesOn, AtEnd}
 use Rattle.qs_machine.specs.Making.{ClaimStep, claim_refusal, first_lost}
-use Rattle.qs_machine.specs.EndStep.{Call, Answer as CallAnswer, EndStep, Receive}
+use Rattle.qs_machine.specs.EndStep.{Call, Answer as CallAnswer, EndStep, Receive, MakeAck, RaiseLimits}
 use Rattle.qs_machine.specs.Repeats.{OnlyRecords}
 use Rattle.qs_machine.proofs.Bounds.{new_ends_settled as new_counts_settled}
 use Rattle.qs_machine.proofs.EveryCall.{ends_by, by_open}
 use Rattle.qs_machine.proofs.ProcessedAgain.{settle_twice}
 use Rattle.qs_machine.proofs.SettledLimits.{new_ends_settled}
-use Rattle.qs_runs.specs.Logs.{History, other, own_calls, made, payload, ping_text}
-use Rattle.qs_runs.specs.Worlds.{World, end_of, world_made, OwnStep, StepBy, Run}
+use Rattle.qs_machine.proofs.Plains.{plain_nothing}
+use Rattle.qs_runs.specs.Logs.{Happening, Did, MadeAck, RaisedLimits, CameWith, History, other, made, payload, ping_text}
+use Rattle.qs_runs.specs.Worlds.{World, end_of, Begins, EventStep, WorldStep, Run}
 use Rattle.qs_runs.specs.Agree.{frames_in}
 use Rattle.qs_runs.specs.Invariant.{WorldOk}
-use Rattle.qs_runs.specs.Claims.{claimed, ChangesNumbers, ClaimsAlwaysTellNothing}
+use Rattle.qs_runs.specs.Claims.{claimed, came, ChangesNumbers, ClaimsAlwaysTellNothing}
 use Rattle.qs_runs.proofs.Lists.{slice_get-last}
 use Rattle.qs_runs.proofs.Standing.{certain_cases}
 use Rattle.qs_runs.proofs.Wire.{ping_seen, ping_faultless}
 use Rattle.qs_runs.proofs.Granting.{own_call}
-use Rattle.qs_runs.proofs.Histories.{seen_made}
+use Rattle.qs_runs.proofs.Histories.{seen_made, made_own}
 use Rattle.qs_runs.proofs.NewEnds.{first_world, made_first, ends_made}
-use Rattle.qs_runs.proofs.Runs.{two_sides, run_keeps, is_open_end, made_own}
+use Rattle.qs_runs.proofs.Runs.{two_sides, run_keeps, is_open_end}
 
 -- In every run each end stands as its last call left it.
 
@@ -63,30 +63,38 @@ call_settled : (old : End) (call : Call) (answer : CallAnswer call) (new : End) 
 call_settled old call answer new h step =
     ends_by (λ e. settle e ≡ e) old h settle_twice (λ k p e is. ap (first_lost k p) is) (ap (λ (e : End). record e { next = e.next + 1 }) h) call answer new step
 
-first_settled : (a b : Settings) → world_made a b ≡ Ok (first_world a b) → (s : Side) → settle (end_of (first_world a b) s) ≡ end_of (first_world a b) s
-first_settled a b is A = begun_settled Client a (limits_of b) (ends_made a b (first_world a b) is).0
-first_settled a b is B = begun_settled Server b (limits_of a) (ends_made a b (first_world a b) is).1
+first_settled : (a b : Settings) (w : World) → Begins a b w → (s : Side) → settle (end_of w s) ≡ end_of w s
+first_settled a b w begins s =
+    let is = made_first a b begins.of_a begins.of_b w begins.begun in
+    let begun = ends_made a b begins.of_a begins.of_b (first_world a b begins.of_a begins.of_b) (begins.begun ∙ ap Ok is) in
+    subst (λ x. settle (end_of x s) ≡ end_of x s) (sym is) (two_sides (λ t. settle (end_of (first_world a b begins.of_a begins.of_b) t) ≡ end_of (first_world a b begins.of_a begins.of_b) t) A (begun_settled Client a begins.of_b begun.0) (begun_settled Server b begins.of_a begun.1) s)
 
 same_settled : (e new : End) → new ≡ e → settle e ≡ e → settle new ≡ new
 same_settled e new is h = subst (λ x. settle x ≡ x) (sym is) h
 
 module _ (h : History) (v w : World) (s : Side) (settled : (t : Side) → settle (end_of v t) ≡ end_of v t) where
-  own_settled : (act : Act) (answer : Answer) → OwnStep (end_of v s) act answer (end_of w s) → end_of w (other s) ≡ end_of v (other s) → (t : Side) → settle (end_of w t) ≡ end_of w t
-  own_settled act answer step same =
-      let (call, given, is, own) = own_call (end_of v s) (end_of w s) act answer step in
-      two_sides (λ t. settle (end_of w t) ≡ end_of w t) s (call_settled (end_of v s) call given (end_of w s) (settled s) is) (same_settled (end_of v (other s)) (end_of w (other s)) same (settled (other s)))
+  alone_settled : (call : Call) (answer : CallAnswer call) → EndStep (end_of v s) call answer (end_of w s) → end_of w (other s) ≡ end_of v (other s) → (t : Side) → settle (end_of w t) ≡ end_of w t
+  alone_settled call answer step same =
+      two_sides (λ t. settle (end_of w t) ≡ end_of w t) s (call_settled (end_of v s) call answer (end_of w s) (settled s) step) (same_settled (end_of v (other s)) (end_of w (other s)) same (settled (other s)))
 
-  step_settled : (act : Act) (answer : Answer) → StepBy h v s act answer w → (t : Side) → settle (end_of w t) ≡ end_of w t
-  step_settled (acts.Deliver k) (answers.Deliver result) (text, is, step, same) =
-      two_sides (λ t. settle (end_of w t) ≡ end_of w t) s (same_settled (end_of v s) (end_of w s) same (settled s)) (call_settled (end_of v (other s)) (Receive k text) result (end_of w (other s)) (settled (other s)) step)
-  step_settled (acts.Deliver k) answer step = absurd step
-  step_settled act answer step = own_settled act answer step.0 step.1
+  comes_settled : (k : ℕ) (bytes : List ℕ) (result : Result Received Closing) → ReceiveStep (end_of v (other s)) k bytes result (end_of w (other s)) → end_of w s ≡ end_of v s → (t : Side) → settle (end_of w t) ≡ end_of w t
+  comes_settled k bytes result step same =
+      two_sides (λ t. settle (end_of w t) ≡ end_of w t) s (same_settled (end_of v s) (end_of w s) same (settled s)) (call_settled (end_of v (other s)) (Receive k bytes) result (end_of w (other s)) (settled (other s)) step)
+
+  event_settled : (act : Act) (answer : Answer) → EventStep h v s act answer w → (t : Side) → settle (end_of w t) ≡ end_of w t
+  event_settled (acts.Deliver k) (answers.Deliver result) (text, is, step, same) = comes_settled k text result step same
+  event_settled (acts.Deliver k) answer step = absurd step
+  event_settled act answer step = (let (call, given, is, own) = own_call (end_of v s) (end_of w s) act answer step.0 in alone_settled call given is step.1)
+
+step_settled : (h : History) (v w : World) → ((t : Side) → settle (end_of v t) ≡ end_of v t) → (x : Happening) → WorldStep h v x w → (t : Side) → settle (end_of w t) ≡ end_of w t
+step_settled h v w settled (Did event answer) step = event_settled h v w event.end settled event.act answer step
+step_settled h v w settled (MadeAck s room result text) ((delay, step), same) = alone_settled h v w s settled (MakeAck delay room) (result, text) step same
+step_settled h v w settled (RaisedLimits s limits result) ((granted, step), same) = alone_settled h v w s settled (RaiseLimits limits) result step same
+step_settled h v w settled (CameWith s k bytes result) (text, is, differ, step, same) = comes_settled h v w s settled k bytes result step same
 
 run_settled : (a b : Settings) (h : History) (w : World) → Run a b h w → (s : Side) → settle (end_of w s) ≡ end_of w s
-run_settled a b [] w is =
-    let at = made_first a b w is in
-    subst (λ x. (s : Side) → settle (end_of x s) ≡ end_of x s) (sym at) (first_settled a b (subst (λ x. world_made a b ≡ Ok x) at is))
-run_settled a b ((event, answer) ∷ h) w (v, before, step) = step_settled h v w event.end (run_settled a b h v before) event.act answer step
+run_settled a b [] w begins = first_settled a b w begins
+run_settled a b (x ∷ h) w (v, before, step) = step_settled h v w (run_settled a b h v before) x step
 
 -- A PING comes
 
@@ -126,6 +134,9 @@ records_numbers k (Ok Done) old new is = subst (ChangesNumbers old) (sym is) ref
 records_numbers k (Ok received) old new is = subst (ChangesNumbers old) (sym is) refl
 records_numbers k (Err closing) old new is = absurd is
 
+due_numbers : (old new : End) (due : Bool) → ChangesNumbers old new → ChangesNumbers old (record new { ack_due = due })
+due_numbers old new due is = ap (λ (e : End). record e { ack_due = due }) is
+
 -- A number is claimed
 
 abbrev number_in : Result ℕ MakeFault → ℕ
@@ -135,7 +146,7 @@ number_in (Err fault) = 0
 -- it is that of the next packet
 module _ (a b : Settings) (h : History) (v : World) (s : Side) (ok : WorldOk a b h v) where
   made_so_far : (end_of v s).next ≡ length (made s h)
-  made_so_far = (ok.ends s).packets.count ∙ ap length (seen_made (own_calls s h)) ∙ length-map (made s h) frames_in
+  made_so_far = (ok.ends s).packets.count ∙ ap length (seen_made s h) ∙ length-map (made s h) frames_in
 
   claimed_is : (number : ℕ) (new : End) → ClaimStep (end_of v s) (Ok number) new → number ≡ length (made s h)
   claimed_is number new step =
@@ -146,7 +157,7 @@ module _ (a b : Settings) (h : History) (v : World) (s : Side) (ok : WorldOk a b
 
   claimed_ping : (number : ℕ) (new : End) → ClaimStep (end_of v s) (Ok number) new → payload s number (claimed s number ∷ h) ≡ Some ping_text
   claimed_ping number new step =
-      ap (λ ts. slice_get ts number) (made_own s acts.Claim (answers.Claim (Ok number)) h refl)
+      ap (λ ts. slice_get ts number) (made_own s acts.Claim (answers.Claim (Ok number)) h)
       ∙ ap (slice_get (made s h ++ ping_text ∷ [])) (claimed_is number new step)
       ∙ slice_get-last (made s h) ping_text
 
@@ -155,15 +166,22 @@ text_is s k h text ping is = cc (sym is ∙ ping)
 
 pub claims_tell_nothing : ClaimsAlwaysTellNothing
 claims_tell_nothing a b h v w s number run =
-    let ok : WorldOk a b h v = run_keeps a b h v run in
     record {
-      ping = λ step. claimed_ping a b h v s ok number (end_of w s) step.0;
-      recorded = records;
+      ping = λ step. claimed_ping a b h v s (run_keeps a b h v run) number (end_of w s) step.0;
+      recorded = λ result ping step. records result ping step;
       rest = λ result ping step. records_numbers number result (end_of v (other s)) (end_of w (other s)) (records result ping step);
+      others = λ bytes result ping step. others bytes result ping step;
     }
   where
-    records : (result : Result Received Closing) → payload s number h ≡ Some ping_text → StepBy h v s (acts.Deliver number) (answers.Deliver result) w → OnlyRecords number true result (end_of v (other s)) (end_of w (other s))
-    records result ping (text, is, step, same) =
-        let ok : WorldOk a b h v = run_keeps a b h v run in
-        ping_received number (end_of v (other s)) (end_of w (other s)) result (is_open_end a b h v ok (other s)) (run_settled a b h v run (other s))
-        (subst (λ t. ReceiveStep (end_of v (other s)) number t result (end_of w (other s))) (text_is s number h text ping is) step)
+    ping_recorded : (new : End) (text : List ℕ) (result : Result Received Closing) → payload s number h ≡ Some ping_text → payload s number h ≡ Some text → ReceiveStep (end_of v (other s)) number text result new → OnlyRecords number true result (end_of v (other s)) new
+    ping_recorded new text result ping is step =
+        ping_received number (end_of v (other s)) new result (is_open_end a b h v (run_keeps a b h v run) (other s)) (run_settled a b h v run (other s))
+        (subst (λ t. ReceiveStep (end_of v (other s)) number t result new) (text_is s number h text ping is) step)
+
+    records : (result : Result Received Closing) → payload s number h ≡ Some ping_text → WorldStep h v (came s number result) w → OnlyRecords number true result (end_of v (other s)) (end_of w (other s))
+    records result ping (text, is, step, same) = ping_recorded (end_of w (other s)) text result ping is step
+
+    others : (bytes : List ℕ) (result : Result Received Closing) → payload s number h ≡ Some ping_text → WorldStep h v (CameWith s number bytes result) w → ChangesNumbers (end_of v (other s)) (end_of w (other s))
+    others bytes result ping (text, is, differ, step, same) =
+        let (bare, received, alike) = plain_nothing (end_of v (other s)) (end_of w (other s)) number bytes text result differ step in
+        subst (ChangesNumbers (end_of v (other s))) (sym alike) (due_numbers (end_of v (other s)) bare (end_of w (other s)).ack_due (records_numbers number result (end_of v (other s)) bare (ping_recorded bare text result ping is received)))

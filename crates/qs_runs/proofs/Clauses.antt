@@ -10,7 +10,7 @@ use Rattle.qs_machine.specs.Ends.{End, first_send_limit, window, is_own, is_uni}
 use Rattle.qs_send.specs.Records.{Among}
 use Rattle.qs_machine.specs.Seen.{Seen, Stream, Control}
 use Rattle.qs_calls.specs.declared.event.Side.{Side}
-use Rattle.qs_runs.specs.Logs.{History, other, processed, written, made, own_calls}
+use Rattle.qs_runs.specs.Logs.{History, other, processed, written, made}
 use Rattle.qs_runs.specs.Worlds.{World, end_of}
 use Rattle.qs_runs.specs.Agree.{frames_in}
 use Rattle.qs_runs.specs.Pasts.{past, Holds, Tells, IsNamed}
@@ -32,7 +32,7 @@ carries_holds s h k f (text, is, a) = (frames_in text, payload_seen s k h text i
 
 holds_carries : (s : Side) (h : History) (k : ℕ) (f : Seen) → Holds (past s h).mine k f → Carries h s k f
 holds_carries s h k f (fs, is, a) =
-    let seen : option_map frames_in (slice_get (made s h) k) ≡ Some fs = sym (ap (λ x. slice_get x k) (seen_made (own_calls s h)) ∙ slice_get-map frames_in (made s h) k) ∙ is in
+    let seen : option_map frames_in (slice_get (made s h) k) ≡ Some fs = sym (ap (λ x. slice_get x k) (seen_made s h) ∙ slice_get-map frames_in (made s h) k) ∙ is in
     let (text, there, same) = mapped_some frames_in (slice_get (made s h) k) fs seen in
     (text, there, subst (Among f) (sym same) a)
 

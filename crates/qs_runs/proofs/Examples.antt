@@ -1,12 +1,12 @@
 -- The readers of a log compute.
-use Rattle.std.proofs.Common.{◌≡◌, ℕ, ◌++◌, [], take, refl, ap}
+use Rattle.std.proofs.Common.{◌≡◌, ℕ, List, ◌++◌, [], take, refl, ap}
 use Rattle.std.specs.Global.{Vec}
 use Rattle.qs_machine.specs.SmallEnds.{abc}
-use Rattle.qs_runs.specs.Logs.{own_calls, processed}
-use Rattle.qs_runs.specs.Examples.{StoryIsRead, LogsAreRead, Examples}
+use Rattle.qs_runs.specs.Logs.{own_calls, made, processed}
+use Rattle.qs_runs.specs.Examples.{StoryIsRead, LogsAreRead, OthersAreRead, Examples}
 
 story : (bytes text none : Vec ℕ) → bytes.items ≡ abc → StoryIsRead bytes text none
-unfolding own_calls processed
+unfolding own_calls made processed
 story bytes text none is =
     record {
       written_there = ap (λ bs. take 3 bs ++ []) is;
@@ -25,9 +25,9 @@ story bytes text none is =
       not_another_whole = refl;
     }
 
-others : (bytes none : Vec ℕ) → bytes.items ≡ abc → LogsAreRead bytes none
-unfolding own_calls processed
-others bytes none is =
+logs : (bytes none : Vec ℕ) → bytes.items ≡ abc → LogsAreRead bytes none
+unfolding own_calls made processed
+logs bytes none is =
     record {
       in_part = ap (take 2) is;
       in_order = ap (λ bs. take 3 bs ++ take 1 bs) is;
@@ -40,5 +40,10 @@ others bytes none is =
       stopped_after = refl;
     }
 
+others : (text : List ℕ) → OthersAreRead text
+unfolding made processed
+others text =
+    record { ack = refl; ack_not_there = refl; no_ack = refl; with_more = refl; not_another = refl; twice = refl; not_there = refl; none_made = refl; none_raised = λ limits. refl }
+
 pub examples_hold : Examples
-examples_hold = record { story = story; others = others }
+examples_hold = record { story = story; logs = logs; others = others }

@@ -1,5 +1,5 @@
 -- Each clause of what agrees excludes something.
-use Rattle.std.proofs.Common.{◌≡◌, ℕ, ◌+◌, ◌<◌, ◌≤◌, List, [], ◌∷◌, ◌++◌, length, take, true, cond, ◌&&◌, ◌==◌, Some, slice_index_or, refl, sym, ap, ◌∙◌, arith, subst}
+use Rattle.std.proofs.Common.{◌≡◌, ℕ, ◌+◌, ◌<◌, ◌≤◌, List, [], ◌∷◌, ◌++◌, ◌⊎◌, inl, inr, length, take, drop, true, cond, ◌&&◌, ◌==◌, Option, Some, None, is_some, option_map, Result, Ok, slice_index_or, refl, sym, ap, ◌∙◌, arith, subst}
 use Rattle.std.specs.Global.{Vec}
 use Rattle.std.specs.FinSet as set
 use Rattle.std.proofs.lemmas.Option.{same_Some, none-some}
@@ -11,17 +11,38 @@ use Rattle.qs_recv.specs.Lane.{RecvLane}
 use Rattle.qs_send.specs.Lane.{SendLane, state, unacked_from, declared_size}
 use Rattle.qs_send.specs.declared.parts.Reset.{Reset}
 use Rattle.qs_send.specs.declared.parts.SendState.TheVariants.{DataRecvd, DataSent}
+use Rattle.std.proofs.lemmas.List.{map-append}
+use Rattle.qs_wire.specs.Layout.{FrameValue, PlacedValue, padding, ping, max_data}
+use Rattle.qs_wire.specs.Grammar.{frames_of}
+use Rattle.qs_wire.specs.Varint.{varint_at, short_len}
+use Rattle.qs_wire.specs.Reading.{reading_from, frames_at, frame_at, number_of_type_at, body_at, number_at}
+use Rattle.qs_send.specs.declared.piece.Item.TheVariants.{MaxData}
+use Rattle.qs_machine.specs.Seen.{Seen, Stream, Control, Plain, seen, seen_all}
+use Rattle.qs_machine.specs.Plains.{IsPlain, DifferInPlain}
+use Rattle.qs_calls.specs.Settings.{limits_fault}
+use Rattle.qs_calls.specs.declared.settings.PeerLimits.{PeerLimits}
+use Rattle.qs_calls.specs.declared.settings.RaiseFault.{RaiseFault}
+use Rattle.qs_calls.specs.declared.settings.RaiseFault.TheVariants as raising
+use Rattle.qs_calls.specs.declared.making.Made.{Made}
+use Rattle.qs_calls.specs.declared.making.MakeFault.{MakeFault}
+use Rattle.qs_calls.specs.declared.closing.Closed.TheVariants.{ByPeer}
 use Rattle.qs_calls.specs.declared.event.Side.TheVariants.{A, B}
 use Rattle.qs_machine.specs.Tables.{lookup, total}
 use Rattle.qs_machine.specs.Ends.{End}
-use Rattle.qs_machine.specs.Credit.{spent}
+use Rattle.qs_machine.specs.Credit.{spent, settle}
+use Rattle.qs_machine.specs.Owner.{Certain, first_refusal, refuse_if}
+use Rattle.qs_machine.specs.Making.{MakeAckAt, make_refusal}
+use Rattle.qs_machine.specs.Raising.{RaiseStep, limits_raised}
+use Rattle.qs_machine.specs.Examples.{standard, server, client_of}
 use Rattle.qs_machine.specs.SmallEnds.{server_with, abc, sent, fresh, all_came}
 use Rattle.qs_machine.proofs.Claims.{gave}
-use Rattle.qs_wire.specs.Reading.{reading_from}
-use Rattle.qs_runs.specs.Agree.{IsOld, frames_in}
+use Rattle.qs_runs.specs.Agree.{RepeatAgrees, IsOld, frames_in}
 use Rattle.std.specs.List.{AllByRecursion}
-use Rattle.qs_runs.specs.Logs.{own_calls, processed}
-use Rattle.qs_runs.specs.Exclusions.{ReadIsNoPrefix, WholeIsMissing, SizesDiffer, WorldsDiffer, NewsIsNotOld, RepeatsSpend, NothingHappens, Exclusions, acknowledged, first_of_three}
+use Rattle.qs_runs.specs.Logs.{own_calls, made, processed, ping_text}
+use Rattle.qs_runs.specs.Worlds.{World}
+use Rattle.qs_runs.specs.Examples.{story, packet}
+use Rattle.qs_runs.specs.Exclusions.{ReadIsNoPrefix, WholeIsMissing, SizesDiffer, WorldsDiffer, NewsIsNotOld, RepeatsSpend, NothingHappens, NothingElseHappens, Differ, OtherBytesCome, LimitsAreAbove, NoneBegin, Exclusions, both, acknowledged, first_of_three}
+use Rattle.qs_runs.proofs.NewEnds.{made_first}
 
 prefix : (bytes other none : Vec ℕ) → bytes.items ≡ abc → other.items ≡ 97 ∷ 120 ∷ [] → ReadIsNoPrefix bytes other none
 unfolding own_calls
@@ -108,25 +129,131 @@ unfolding total
 nothing_spent = rw end_of-empty refl
 
 repeats : (bytes text none : Vec ℕ) → RepeatsSpend bytes text none
-unfolding own_calls processed reading_from total
-repeats bytes text none =
-    record {
-      again = λ agrees. (let e : 1 ≡ 0 = ap (λ (e : End). length e.recvs.client_bidi) (agrees.again refl) in omega arith);
-      old_news = λ is agrees. (let e : 3 ≡ spent (server_with fresh) = agrees.old_news text.items refl (subst (λ bs. AllByRecursion (IsOld (server_with fresh)) (frames_in bs)) (sym is) tt) in let f : 3 ≡ 0 = e ∙ nothing_spent in omega arith);
-    }
+unfolding made processed reading_from total
+repeats bytes text none = record { again = λ agrees. again agrees; old_news = λ is agrees. news is agrees; again_with = λ agrees. again agrees; old_news_with = λ is agrees. news is agrees }
+  where
+    again : RepeatAgrees (story bytes text none) (both (client_of standard) (server standard)) (both (client_of standard) (server_with fresh)) B 0 → ⊥
+    again agrees = (let e : ◌≡◌ {A = ℕ} 1 0 = ap (λ (x : End). length x.recvs.client_bidi) (agrees.again refl) in omega (arith, e))
+
+    news : text.items ≡ [] → RepeatAgrees (packet A text ∷ []) (both (client_of standard) (server_with fresh)) (both (client_of standard) (server_with all_came)) B 0 → ⊥
+    news is agrees = (let e : ◌≡◌ {A = ℕ} 3 (spent (server_with fresh)) = agrees.old_news text.items refl (subst (λ bs. AllByRecursion (IsOld (server_with fresh)) (frames_in bs)) (sym is) tt) in let f : ◌≡◌ {A = ℕ} 3 0 = e ∙ nothing_spent in omega (arith, f))
 
 steps : (bytes text none : Vec ℕ) → NothingHappens bytes text none
-unfolding own_calls
+unfolding made
 steps bytes text none =
     record {
-      unmade = λ v w (payload, made, taken, same). none-some payload made;
-      not_its = λ v w (payload, made, taken, same). none-some payload made;
-      sender = λ v w (payload, made, taken, same) changed. changed same;
+      unmade = λ v w (payload, is, taken, same). none-some payload is;
+      not_its = λ v w (payload, is, taken, same). none-some payload is;
+      sender = λ v w (payload, is, taken, same) changed. changed same;
       other = λ v w step changed. changed step.1;
       unused = λ v w number step same. (let (is, new) = gave v.a w.a number step.0 in omega (arith, same, ap (λ (e : End). e.next) new));
       not_next = λ v w step. (let (is, new) = gave v.a w.a (v.a.next + 1) step.0 in omega (arith, is));
       other_answer = λ v w step. step.0;
     }
 
+-- an ACK that was made fits its room
+ack_fits : (o : Option MakeFault) (e new : End) (delay : ℕ) (made : Made) → MakeAckAt o e delay 0 (Ok (Some made)) (1 ∷ []) new → ⊥
+ack_fits (Some fault) e new delay made h = cc (h.0)
+ack_fits None e new delay made h = (let le : 1 ≤ 0 = h.fits in omega arith)
+
+-- an end that closed takes no limits in
+refused : (p : PeerLimits) (e new : End) → e.closed ≡ Some (ByPeer 0) → RaiseStep e p (Ok tt) new → ⊥
+refused p e new shut step =
+    let h : Certain (first_refusal (refuse_if (is_some (Some (ByPeer 0))) raising.Closed) (option_map raising.Refused (limits_fault p))) e (Ok tt) new (◌≡◌ {A = Result (Unit {0}) RaiseFault} (Ok tt) (Ok tt) × (new ≡ settle (limits_raised p e))) =
+    subst (λ o. Certain (first_refusal (refuse_if (is_some o) raising.Closed) (option_map raising.Refused (limits_fault p))) e (Ok tt) new (◌≡◌ {A = Result (Unit {0}) RaiseFault} (Ok tt) (Ok tt) × (new ≡ settle (limits_raised p e)))) shut step in
+    cc (h.0)
+
+others : (bytes text none : Vec ℕ) → NothingElseHappens bytes text none
+unfolding made
+others bytes text none =
+    record {
+      unmade = λ v w (payload, is, differ, step, same). none-some payload is;
+      sender = λ v w (payload, is, differ, step, same) changed. changed same;
+      others = λ v w bytes r differs (payload, is, differ, step, same). differs (subst (DifferInPlain bytes) (sym (same_Some text.items payload is)) differ);
+      too_long = λ v w made ((delay, step), same). ack_fits (make_refusal v.a) v.a w.a delay made step;
+      ack_other = λ v w step changed. changed step.1;
+      ungranted = λ v w p r refuses ((granted, step), same). refuses granted;
+      closed = λ v w p shut ((granted, step), same). refused p v.a w.a shut step;
+      raised_other = λ v w p r step changed. changed step.1;
+    }
+
+-- the limit that the first frame tells
+abbrev told : List Seen → ℕ
+told (Control (MaxData m) ∷ fs) = m
+told fs = 0
+
+-- the frames that both have, and the plain ones behind them
+parts : (fs gs : List Seen) → Differ fs gs → (front : List Seen) × (mine theirs : List Seen) × (fs ≡ front ++ mine) × (gs ≡ front ++ theirs) × AllByRecursion IsPlain mine × AllByRecursion IsPlain theirs
+parts fs gs (text, other, is, is_other, d) = (
+  seen_all (frames_of d.front),
+  seen_all (frames_of d.behind),
+  seen_all (frames_of d.others),
+  sym is ∙ ap (λ r. seen_all (frames_of r.left)) d.reads ∙ joined d.front d.behind,
+  sym is_other ∙ ap (λ r. seen_all (frames_of r.left)) d.reads_other ∙ joined d.front d.others,
+  d.plain,
+  d.plain_other,
+)
+  where
+    joined : (ps qs : List PlacedValue) → seen_all (frames_of (ps ++ qs)) ≡ seen_all (frames_of ps) ++ seen_all (frames_of qs)
+    joined ps qs = ap seen_all (map-append (λ (p : PlacedValue). p.frame) ps qs) ∙ map-append seen (frames_of ps) (frames_of qs)
+
+-- a frame at its place
+abbrev placed : ℕ → FrameValue → ℕ → PlacedValue
+placed place frame type = record { place = place; frame = frame; frame_type = type }
+
+behind_max_data : DifferInPlain (0x10 ∷ 5 ∷ 1 ∷ []) (0x10 ∷ 5 ∷ [])
+unfolding reading_from frames_at frame_at number_of_type_at body_at number_at varint_at short_len
+behind_max_data =
+    record { front = placed 0 (max_data 5) 0x10 ∷ []; behind = placed 2 ping 1 ∷ []; others = []; reads = refl; reads_other = refl; plain = (tt, tt); plain_other = tt }
+
+place_of_ping : DifferInPlain (0 ∷ []) ping_text
+unfolding reading_from frames_at frame_at number_of_type_at body_at varint_at short_len
+place_of_ping = record { front = []; behind = placed 0 padding 0 ∷ []; others = placed 0 ping 1 ∷ []; reads = refl; reads_other = refl; plain = (tt, tt); plain_other = (tt, tt) }
+
+bytes_come : OtherBytesCome
+bytes_come =
+    record {
+      not_plain = λ d. (let (front, mine, theirs, is, is_other, plain, plain_other) = parts _ _ d in more front mine theirs is is_other plain);
+      left_out = λ d. (let (front, mine, theirs, is, is_other, plain, plain_other) = parts _ _ d in out front mine theirs is is_other plain_other);
+      another = λ d. (let (front, mine, theirs, is, is_other, plain, plain_other) = parts _ _ d in other_one front mine theirs is is_other plain);
+      fault = λ text other f is d. none-some f (sym (ap (λ r. r.fault) d.reads) ∙ is);
+      fault_other = λ text other f is d. none-some f (sym (ap (λ r. r.fault) d.reads_other) ∙ is);
+      behind = behind_max_data;
+      in_place = place_of_ping;
+    }
+  where
+    more : (front mine theirs : List Seen) → Control (MaxData 5) ∷ Stream 0 0 [] true ∷ [] ≡ front ++ mine → Control (MaxData 5) ∷ [] ≡ front ++ theirs → AllByRecursion IsPlain mine → ⊥
+    more [] mine theirs is is_other plain = (subst (AllByRecursion IsPlain) (sym is) plain).0
+    more (f ∷ []) mine theirs is is_other plain = (let same : Stream 0 0 [] true ∷ [] ≡ mine = ap (drop 1) is in (subst (AllByRecursion IsPlain) (sym same) plain).0)
+    more (f ∷ g ∷ front) mine theirs is is_other plain = (let none : [] ≡ g ∷ (front ++ theirs) = ap (drop 1) is_other in cc none)
+
+    out : (front mine theirs : List Seen) → Plain true ∷ [] ≡ front ++ mine → Control (MaxData 5) ∷ [] ≡ front ++ theirs → AllByRecursion IsPlain theirs → ⊥
+    out [] mine theirs is is_other plain = (subst (AllByRecursion IsPlain) (sym is_other) plain).0
+    out (f ∷ front) mine theirs is is_other plain = (let five : ◌≡◌ {A = ℕ} 0 5 = ap told (ap (take 1) is ∙ sym (ap (take 1) is_other)) in omega arith)
+
+    other_one : (front mine theirs : List Seen) → Control (MaxData 6) ∷ Plain true ∷ [] ≡ front ++ mine → Control (MaxData 5) ∷ [] ≡ front ++ theirs → AllByRecursion IsPlain mine → ⊥
+    other_one [] mine theirs is is_other plain = (subst (AllByRecursion IsPlain) (sym is) plain).0
+    other_one (f ∷ front) mine theirs is is_other plain = (let six : ◌≡◌ {A = ℕ} 6 5 = ap told (ap (take 1) is ∙ sym (ap (take 1) is_other)) in omega arith)
+
+limits : LimitsAreAbove
+limits =
+    record {
+      max_data = λ g. (let le : 4097 ≤ 4096 = g.max_data in omega arith);
+      bidi_local = λ g. (let le : 1025 ≤ 1024 = g.bidi_local in omega arith);
+      bidi_remote = λ g. (let le : 1025 ≤ 1024 = g.bidi_remote in omega arith);
+      uni = λ g. (let le : 1025 ≤ 1024 = g.uni in omega arith);
+      streams_bidi = λ g. (let le : 9 ≤ 8 = g.streams_bidi in omega arith);
+      streams_uni = λ g. (let le : 9 ≤ 8 = g.streams_uni in omega arith);
+    }
+
+begins : NoneBegin
+begins =
+    record {
+      server_told = λ w b is. (let same = ap (λ (x : World). x.b.peer.max_data) (made_first standard standard b.of_a b.of_b w b.begun) in let le : b.of_a.max_data ≤ 4096 = b.granted_a.max_data in omega (arith, same, is));
+      client_told = λ w b is. (let same = ap (λ (x : World). x.a.peer.max_data) (made_first standard standard b.of_a b.of_b w b.begun) in let le : b.of_b.max_data ≤ 4096 = b.granted_b.max_data in omega (arith, same, is));
+      made = λ w b is. (let same = ap (λ (x : World). x.a.next) (made_first standard standard b.of_a b.of_b w b.begun) in omega (arith, same, is));
+    }
+
 pub exclusions_hold : Exclusions
-exclusions_hold = record { prefix = prefix; whole = whole; final_sizes = final_sizes; worlds = worlds; news = news; repeats = repeats; steps = steps }
+exclusions_hold =
+    record { prefix = prefix; whole = whole; final_sizes = final_sizes; worlds = worlds; news = news; repeats = repeats; steps = steps; others = others; bytes = bytes_come; limits = limits; begins = begins }

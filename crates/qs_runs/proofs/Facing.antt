@@ -10,7 +10,8 @@ use Rattle.qs_wire.specs.declared.stream_id.Role.TheVariants.{Client, Server}
 use Rattle.qs_calls.specs.declared.closing.Closing.{Closing}
 use Rattle.qs_calls.specs.declared.closing.Received.{Received}
 use Rattle.qs_calls.specs.declared.closing.Received.TheVariants.{Done, PeerClosed, NoMemory}
-use Rattle.qs_calls.specs.Settings.{limits_of}
+use Rattle.qs_calls.specs.declared.settings.Settings.{Settings}
+use Rattle.qs_calls.specs.declared.settings.PeerLimits.{PeerLimits}
 use Rattle.qs_machine.specs.Ends.{End, is_own, is_own_by, is_uni}
 use Rattle.qs_machine.specs.Seen.{Seen, Ack, Close, seen, seen_all, asks_ack}
 use Rattle.qs_machine.specs.Verdicts.{verdict}
@@ -18,6 +19,7 @@ use Rattle.qs_machine.specs.FrameStep.{named, frame_taken}
 use Rattle.qs_send.specs.Records.{Among}
 use Rattle.qs_machine.specs.Receiving.{ReceiveStep, ReceiveBy, Takes, Stops, AtEnd}
 use Rattle.qs_machine.proofs.EveryCall.{no_fault_there, by_open}
+use Rattle.qs_runs.specs.Worlds.{AreGranted}
 use Rattle.qs_runs.specs.Agree.{frames_in}
 use Rattle.qs_runs.specs.Pasts.{Past, Tells}
 use Rattle.qs_runs.specs.Invariant.{EndOk}
@@ -38,23 +40,23 @@ opposite_bits x lt =
 pub opposite_roles : (n : ℕ) → (is_own_by Server n ≡ not (is_own_by Client n)) × (is_own_by Client n ≡ not (is_own_by Server n))
 opposite_roles n = opposite_bits (n % 4 % 2) (omega arith)
 
-limit_by : (u b : Bool) (x y z : ℕ) → (if u then x else (if not b then y else z)) ≡ (if u then x else (if b then z else y))
-limit_by true b x y z = refl
-limit_by false true x y z = refl
-limit_by false false x y z = refl
+limit_by : (u b : Bool) (p : PeerLimits) (s : Settings) → AreGranted p s → (if u then p.uni else (if not b then p.bidi_remote else p.bidi_local)) ≤ (if u then s.uni else (if b then s.bidi_local else s.bidi_remote))
+limit_by true b p s granted = granted.uni
+limit_by false true p s granted = granted.bidi_local
+limit_by false false p s granted = granted.bidi_remote
 
-pub facing : (e f : End) → ((n : ℕ) → is_own_by f.role n ≡ not (is_own_by e.role n)) → f.peer ≡ limits_of e.settings → f.known_bidi ≤ e.granted_bidi → f.known_uni ≤ e.granted_uni → Facing e f
+pub facing : (e f : End) → ((n : ℕ) → is_own_by f.role n ≡ not (is_own_by e.role n)) → AreGranted f.peer e.settings → f.known_bidi ≤ e.granted_bidi → f.known_uni ≤ e.granted_uni → Facing e f
 facing e f opposite peer bidi uni =
     record {
       opposite = opposite;
-      first_limit = λ n. rw (peer, opposite n) (limit_by (is_uni n) (is_own e n) e.settings.uni e.settings.bidi_remote e.settings.bidi_local);
-      first_data = ap (λ x. x.max_data) peer;
+      first_limit = λ n. rw (opposite n) (limit_by (is_uni n) (is_own e n) f.peer e.settings peer);
+      first_data = peer.max_data;
       bidi = bidi;
       uni = uni;
     }
 
 module _ (p q : Past) (e f : End) (their : EndOk q f) (from : p.theirs ≡ q.mine) (back : q.theirs ≡ p.mine)
-    (opposite : (n : ℕ) → is_own_by f.role n ≡ not (is_own_by e.role n)) (peer : f.peer ≡ limits_of e.settings) (bidi : f.known_bidi ≤ e.granted_bidi) (uni : f.known_uni ≤ e.granted_uni) where
+    (opposite : (n : ℕ) → is_own_by f.role n ≡ not (is_own_by e.role n)) (peer : AreGranted f.peer e.settings) (bidi : f.known_bidi ≤ e.granted_bidi) (uni : f.known_uni ≤ e.granted_uni) where
   -- at every moment of a payload the end stands as it did, and grants as many streams
   abbrev IsThere : End → Type 0
   IsThere mid = (standing mid ≡ standing e) × (mid.granted_bidi ≡ e.granted_bidi) × (mid.granted_uni ≡ e.granted_uni)
@@ -62,7 +64,7 @@ module _ (p q : Past) (e f : End) (their : EndOk q f) (from : p.theirs ≡ q.min
   -- so the two ends face each other
   fine_now : (mid : End) → EndOk p mid → IsThere mid → (g : Seen) → Tells p.theirs g → verdict mid g ≡ None
   fine_now mid ok same g t =
-      let faces : Facing mid f = facing mid f (λ n. opposite n ∙ ap (λ x. not (is_own_by x.role n)) (sym same.0)) (peer ∙ ap (λ x. limits_of x.settings) (sym same.0)) (omega (arith, bidi, same.1)) (omega (arith, uni, same.2)) in
+      let faces : Facing mid f = facing mid f (λ n. opposite n ∙ ap (λ x. not (is_own_by x.role n)) (sym same.0)) (subst (λ x. AreGranted f.peer x.settings) (sym same.0) peer) (omega (arith, bidi, same.1)) (omega (arith, uni, same.2)) in
       told_fine p q from back mid f faces ok their g (subst (λ x. Tells x g) from t)
 
   stops_stand : (v : PlacedValue) (g : Seen) (mid : End) (result : Result Received Closing) (new : End) → EndOk p mid → IsThere mid → Tells p.theirs g → Stops v g mid result new → standing new ≡ standing e

@@ -75,7 +75,7 @@ module _ (p : Past) where
       by false is = open_at e.recvs n (new_recvs e n)
 
   -- a limit or a count that the peer told
-  told_max : (known first m : ℕ) (f : ℕ → Seen) → (known ≡ first) ⊎ Tells p.theirs (f known) → Tells p.theirs (f m) → (max known m ≡ first) ⊎ Tells p.theirs (f (max known m))
+  told_max : (known first m : ℕ) (f : ℕ → Seen) → (known ≤ first) ⊎ Tells p.theirs (f known) → Tells p.theirs (f m) → (max known m ≤ first) ⊎ Tells p.theirs (f (max known m))
   told_max known first m f old new =
       elim (cases_lt known m) [
         | inl lt ↦ (let e : max known m ≡ m = omega arith in inr (rw e new))

@@ -1,7 +1,6 @@
 -- The counts of streams that an end tells are at most those that it grants, and these never fall.
-use Rattle.std.proofs.Common.{◌≡◌, ℕ, zero, suc, ◌≤◌, List, [], ◌∷◌, ◌++◌, ◌⊎◌, Option, Some, None, Result, Ok, Err, refl, sym, ap, subst, arith, inl, inr}
+use Rattle.std.proofs.Common.{◌≡◌, ℕ, zero, suc, ◌≤◌, List, [], ◌∷◌, ◌++◌, map, ◌⊎◌, Option, Some, None, Result, Ok, Err, refl, sym, ap, subst, arith, inl, inr}
 use Rattle.std.proofs.lemmas.Option.{none-some, same_Some}
-use Rattle.std.specs.Global.{Vec}
 use Rattle.qs_wire.specs.declared.stream_id.Dir.{Dir}
 use Rattle.qs_wire.specs.declared.stream_id.Dir.TheVariants.{Bidi, Uni}
 use Rattle.qs_send.specs.declared.piece.Item.{Item}
@@ -10,7 +9,6 @@ use Rattle.qs_send.specs.Records.{Among}
 use Rattle.qs_calls.specs.declared.settings.Settings.{Settings}
 use Rattle.qs_calls.specs.declared.making.Made.{Made}
 use Rattle.qs_calls.specs.declared.making.MakeFault.{MakeFault}
-use Rattle.qs_calls.specs.Settings.{limits_of}
 use Rattle.qs_calls.specs.declared.event.Act.{Act}
 use Rattle.qs_calls.specs.declared.event.Act.TheVariants as acts
 use Rattle.qs_calls.specs.declared.answer.Answer.{Answer}
@@ -19,11 +17,13 @@ use Rattle.qs_machine.specs.Ends.{End}
 use Rattle.qs_machine.specs.Credit.{first_grant, granted_streams}
 use Rattle.qs_machine.specs.Seen.{Seen, Control, seen_all}
 use Rattle.qs_machine.specs.Lawful.{MayPut, Fills, frame_put}
-use Rattle.qs_machine.specs.Making.{MakeAt, make_refusal, IsMade}
+use Rattle.qs_machine.specs.Making.{MakeStep, MakeAt, make_refusal, IsMade}
 use Rattle.qs_machine.specs.EndStep.{Call, Answer as CallAnswer, EndStep, Open, Accept, Write, Finish, Reset, Stop, ReadUpTo, Make, Lose, Claim}
 use Rattle.qs_machine.specs.Standing.{CountsRise}
 use Rattle.qs_machine.proofs.EveryCall.{MovesStanding}
-use Rattle.qs_runs.specs.Worlds.{OwnStep}
+use Rattle.qs_runs.specs.Logs.{texts_of}
+use Rattle.qs_runs.specs.Worlds.{OwnStep, AreGranted}
+use Rattle.qs_runs.specs.Agree.{frames_in}
 use Rattle.qs_runs.specs.Pasts.{Packets, Past, Tells, seen_by}
 use Rattle.qs_runs.specs.Invariant.{EndOk, CountsTrue, CountsOk}
 use Rattle.qs_runs.proofs.NewEnds.{tells_nothing}
@@ -65,30 +65,37 @@ filled_count old e mid [] d count fills a = absurd a
 filled_count old e mid (f ∷ fs) d count fills (inl is) = put_count old e f d count fills.0 (sym is)
 filled_count old e mid (f ∷ fs) d count fills (inr a) = filled_count old (frame_put f e) mid fs d count fills.1 a
 
-made_count : (e new : End) (first delay room : ℕ) (made : Made) (text : Vec ℕ) (d : Dir) (count : ℕ) → IsMade e first delay room made text.items new → Tells (seen_by (acts.Make room) (answers.Make (Ok (Some made)) text)) (Control (MaxStreams d count)) → count ≤ granted_streams e d
+made_count : (e new : End) (first delay room : ℕ) (made : Made) (text : List ℕ) (d : Dir) (count : ℕ) → IsMade e first delay room made text new → Tells (map frames_in (text ∷ [])) (Control (MaxStreams d count)) → count ≤ granted_streams e d
 made_count e new first delay room made text d count h t =
     let (last, fills, is) = h.lawful.filled in
     filled_count e e last (seen_all h.frames) d count fills
-    (subst (Among (Control (MaxStreams d count))) (text_seen delay h.frames text.items h.lawful.some h.spells) (told_one _ (Control (MaxStreams d count)) t))
+    (subst (Among (Control (MaxStreams d count))) (text_seen delay h.frames text h.lawful.some h.spells) (told_one _ (Control (MaxStreams d count)) t))
 
-make_count : (o : Option MakeFault) (e new : End) (first delay room : ℕ) (r : Result (Option Made) MakeFault) (text : Vec ℕ) (d : Dir) (count : ℕ) → MakeAt o e first delay room r text.items new
-    → Tells (seen_by (acts.Make room) (answers.Make r text)) (Control (MaxStreams d count)) → count ≤ granted_streams e d
+make_count : (o : Option MakeFault) (e new : End) (first delay room : ℕ) (r : Result (Option Made) MakeFault) (text : List ℕ) (d : Dir) (count : ℕ) → MakeAt o e first delay room r text new
+    → Tells (map frames_in (texts_of r text)) (Control (MaxStreams d count)) → count ≤ granted_streams e d
 make_count None e new first delay room (Ok (Some made)) text d count h t = made_count e new first delay room made text d count h t
 make_count None e new first delay room (Ok None) text d count h t = absurd (tells_nothing _ _ refl t)
 make_count None e new first delay room (Err fault) text d count h t = absurd (tells_nothing _ _ refl t)
-make_count (Some fault) e new first delay room r text d count h t = absurd (tells_nothing _ _ (ap (λ x. seen_by (acts.Make room) (answers.Make x text)) h.0) t)
+make_count (Some fault) e new first delay room r text d count h t = absurd (tells_nothing _ _ (ap (λ x. map frames_in (texts_of x text)) h.0) t)
+
+-- each count that these packets tell is at most the granted one
+abbrev pub TellCounts : End → Packets → Type 0
+TellCounts e packets = (d : Dir) (count : ℕ) → Tells packets (Control (MaxStreams d count)) → count ≤ granted_streams e d
+
+pub packet_counts : (e new : End) (first delay room : ℕ) (r : Result (Option Made) MakeFault) (text : List ℕ) → MakeStep e first delay room r text new → TellCounts e (map frames_in (texts_of r text))
+packet_counts e new first delay room r text step d count t = make_count (make_refusal e) e new first delay room r text d count step t
 
 -- a claimed number's packet tells no control item
 claim_tells : (r : Result ℕ MakeFault) (i : Item) → Tells (seen_by acts.Claim (answers.Claim r)) (Control i) → ⊥
 claim_tells (Ok number) i t = elim (subst (Among (Control i)) ping_seen (told_one _ (Control i) t)) [ inl is ↦ cc | inr none ↦ none ]
 claim_tells (Err fault) i t = tells_nothing _ _ refl t
 
-told_now : (e new : End) (act : Act) (answer : Answer) (d : Dir) (count : ℕ) → OwnStep e act answer new → Tells (seen_by act answer) (Control (MaxStreams d count)) → count ≤ granted_streams e d
-told_now e new (acts.Make room) (answers.Make r text) d count (first, delay, step) t = make_count (make_refusal e) e new first delay room r text d count step t
-told_now e new (acts.Make room) answer d count step t = absurd step
-told_now e new acts.Claim (answers.Claim r) d count step t = absurd (claim_tells r (MaxStreams d count) t)
-told_now e new acts.Claim answer d count step t = absurd step
-told_now e new act answer d count step t = absurd (tells_nothing (seen_by act answer) (Control (MaxStreams d count)) refl t)
+pub own_counts : (e new : End) (act : Act) (answer : Answer) → OwnStep e act answer new → TellCounts e (seen_by act answer)
+own_counts e new (acts.Make room) (answers.Make r text) (first, delay, step) = packet_counts e new first delay room r text.items step
+own_counts e new (acts.Make room) answer step = absurd step
+own_counts e new acts.Claim (answers.Claim r) step = λ d count t. absurd (claim_tells r (MaxStreams d count) t)
+own_counts e new acts.Claim answer step = absurd step
+own_counts e new act answer step = λ d count t. absurd (tells_nothing (seen_by act answer) (Control (MaxStreams d count)) refl t)
 
 -- The clause on counts
 
@@ -101,28 +108,28 @@ module _ (mine : Packets) (e new : End) (ok : CountsTrue mine e.settings (grante
   counts_stay = record { first_granted = first_stays; told = λ d count t. omega (arith, ok.told d count t, rise d) }
 
   -- and one that may
-  pub counts_told : (act : Act) (answer : Answer) → OwnStep e act answer new → CountsTrue (mine ++ seen_by act answer) new.settings (granted_streams new)
-  counts_told act answer step =
+  pub counts_told : (packets : Packets) → TellCounts e packets → CountsTrue (mine ++ packets) new.settings (granted_streams new)
+  counts_told packets tells =
       record {
         first_granted = first_stays;
-        told = λ d count t. elim (told_split mine (seen_by act answer) (Control (MaxStreams d count)) t) [
+        told = λ d count t. elim (told_split mine packets (Control (MaxStreams d count)) t) [
           | inl old ↦ omega (arith, ok.told d count old, rise d)
-          | inr now ↦ omega (arith, told_now e new act answer d count step now, rise d)
+          | inr now ↦ omega (arith, tells d count now, rise d)
         ];
       }
 
 -- what the peer knows of its counts is at most what this end grants
-pub known_within : (p q : Past) (e f : End) → q.theirs ≡ p.mine → CountsOk p e → EndOk q f → f.peer ≡ limits_of e.settings → (f.known_bidi ≤ e.granted_bidi) × (f.known_uni ≤ e.granted_uni)
+pub known_within : (p q : Past) (e f : End) → q.theirs ≡ p.mine → CountsOk p e → EndOk q f → AreGranted f.peer e.settings → (f.known_bidi ≤ e.granted_bidi) × (f.known_uni ≤ e.granted_uni)
 known_within p q e f back ok their peer = (bidi, uni)
   where
     bidi : f.known_bidi ≤ e.granted_bidi
     bidi = elim their.streams.bidi_told [
-      | inl first ↦ (let limit = ap (λ x. x.streams_bidi) peer in omega (arith, first, limit, ok.first_granted Bidi))
+      | inl first ↦ omega (arith, first, peer.streams_bidi, ok.first_granted Bidi)
       | inr told ↦ ok.told Bidi f.known_bidi (subst (λ x. Tells x (Control (MaxStreams Bidi f.known_bidi))) back told)
     ]
 
     uni : f.known_uni ≤ e.granted_uni
     uni = elim their.streams.uni_told [
-      | inl first ↦ (let limit = ap (λ x. x.streams_uni) peer in omega (arith, first, limit, ok.first_granted Uni))
+      | inl first ↦ omega (arith, first, peer.streams_uni, ok.first_granted Uni)
       | inr told ↦ ok.told Uni f.known_uni (subst (λ x. Tells x (Control (MaxStreams Uni f.known_uni))) back told)
     ]

@@ -13,6 +13,7 @@ pub mod Unharmed
 pub mod Standing
 pub mod Frames
 pub mod Receives
+pub mod Raising
 pub mod Wire
 pub mod Writing
 pub mod Reading

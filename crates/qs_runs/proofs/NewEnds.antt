@@ -9,20 +9,21 @@ use Rattle.qs_wire.specs.declared.stream_id.Role.TheVariants.{Client, Server}
 use Rattle.qs_recv.specs.Lane.{RecvLane}
 use Rattle.qs_send.specs.Lane.{SendLane}
 use Rattle.qs_calls.specs.declared.settings.Settings.{Settings}
+use Rattle.qs_calls.specs.declared.settings.PeerLimits.{PeerLimits}
 use Rattle.qs_calls.specs.declared.settings.SetupFault.{SetupFault}
 use Rattle.qs_calls.specs.Settings.{limits_of, setup_fault}
 use Rattle.qs_machine.specs.Tables.{total, no_streams}
 use Rattle.qs_machine.specs.Ends.{End, first_send_limit, window, new_end, end_made, end_unless}
 use Rattle.qs_machine.specs.Seen.{Seen}
 use Rattle.qs_machine.proofs.Ties.{nowhere}
-use Rattle.qs_runs.specs.Worlds.{World, world_made, both_made}
+use Rattle.qs_runs.specs.Worlds.{World, AreGranted, Begins, begun_with, world_made, both_made}
 use Rattle.qs_runs.specs.Pasts.{Packets, Past, Tells}
 use Rattle.qs_runs.specs.Invariant.{EndOk, SendSlot, RecvSlot, is_open}
 
 pub tells_nothing : (ms : Packets) (f : Seen) → ms ≡ [] → Tells ms f → ⊥
 tells_nothing ms f none (k, (fs, at, a)) = none-some fs (rw none at at)
 
-module _ (role : Role) (own theirs : Settings) (p : Past) (made : p.mine ≡ []) (wrote : (n : ℕ) → p.bytes n ≡ []) (gave : (n : ℕ) → p.gave n ≡ []) (stopped : (n : ℕ) → p.stopped n ≡ false) (ended : (n : ℕ) → p.ended n ≡ false) (processed : (k : ℕ) → p.processed k ≡ false) where
+module _ (role : Role) (own : Settings) (told : PeerLimits) (p : Past) (made : p.mine ≡ []) (wrote : (n : ℕ) → p.bytes n ≡ []) (gave : (n : ℕ) → p.gave n ≡ []) (stopped : (n : ℕ) → p.stopped n ≡ false) (ended : (n : ℕ) → p.ended n ≡ false) (processed : (k : ℕ) → p.processed k ≡ false) where
   new_send : (n limit : ℕ) → SendSlot p n limit None
   new_send n limit =
       record {
@@ -45,12 +46,12 @@ module _ (role : Role) (own theirs : Settings) (p : Past) (made : p.mine ≡ [])
   not_open : (X : Type 0) (n : ℕ) → is_open (no_streams {X = X}) n ≡ true → ⊥
   not_open X n is = false≢true (sym (ap is_some (nowhere {X = X} n)) ∙ is)
 
-  pub new_ok : EndOk p (new_end role own (limits_of theirs))
+  pub new_ok : EndOk p (new_end role own told)
   unfolding total
   new_ok =
       record {
-        sends = λ n. subst (SendSlot p n (first_send_limit (new_end role own (limits_of theirs)) n)) (sym (nowhere n)) (new_send n (first_send_limit (new_end role own (limits_of theirs)) n));
-        recvs = λ n. subst (RecvSlot p n (window (new_end role own (limits_of theirs)) n)) (sym (nowhere n)) (new_recv n (window (new_end role own (limits_of theirs)) n));
+        sends = λ n. subst (SendSlot p n (first_send_limit (new_end role own told) n)) (sym (nowhere n)) (new_send n (first_send_limit (new_end role own told) n));
+        recvs = λ n. subst (RecvSlot p n (window (new_end role own told) n)) (sym (nowhere n)) (new_recv n (window (new_end role own told) n));
         packets = record {
           count = sym (ap length made);
           records = λ k ps x is a. absurd (none-some ps (sym (fmap.get-empty nat_cmp k) ∙ is));
@@ -62,34 +63,33 @@ module _ (role : Role) (own theirs : Settings) (p : Past) (made : p.mine ≡ [])
           kept = λ k is. absurd (false≢true (sym (processed k) ∙ is));
         };
         taken = λ k is. absurd (false≢true (sym (processed k) ∙ is));
-        credit = record { sent_known = omega arith; known_told = inl refl; window_granted = omega arith; granted_told = λ limit t. absurd (tells_nothing p.mine _ made t) };
+        credit = record { sent_known = omega arith; known_told = inl (omega arith); window_granted = omega arith; granted_told = λ limit t. absurd (tells_nothing p.mine _ made t) };
         streams = record {
           own_send = λ n is o. absurd (not_open SendLane n is);
           own_recv = λ n is o. absurd (not_open RecvLane n is);
           own_both = λ n is o b. absurd (not_open SendLane n is);
           their_send = λ n is o. absurd (not_open SendLane n is);
           their_recv = λ n is o. absurd (not_open RecvLane n is);
-          bidi_told = inl refl;
-          uni_told = inl refl;
+          bidi_told = inl (omega arith);
+          uni_told = inl (omega arith);
         };
       }
 
--- the two ends that the first world has
-abbrev pub first_world : Settings → Settings → World
-first_world a b = record { a = new_end Client a (limits_of b); b = new_end Server b (limits_of a) }
+-- the two ends that the first world has, each told limits of the other
+abbrev pub first_world : Settings → Settings → (of_a of_b : PeerLimits) → World
+first_world a b of_a of_b = record { a = new_end Client a of_b; b = new_end Server b of_a }
 
-pub made_first : (a b : Settings) (w : World) → world_made a b ≡ Ok w → w ≡ first_world a b
-made_first a b w is = go (setup_fault a (limits_of b)) (setup_fault b (limits_of a)) is
+pub made_first : (a b : Settings) (of_a of_b : PeerLimits) (w : World) → begun_with a b of_a of_b ≡ Ok w → w ≡ first_world a b of_a of_b
+made_first a b of_a of_b w is = go (setup_fault a of_b) (setup_fault b of_a) is
   where
-    go : (x y : Option SetupFault) →
-        both_made (end_unless x (new_end Client a (limits_of b))) (end_unless y (new_end Server b (limits_of a))) ≡ Ok w → w ≡ first_world a b
+    go : (x y : Option SetupFault) → both_made (end_unless x (new_end Client a of_b)) (end_unless y (new_end Server b of_a)) ≡ Ok w → w ≡ first_world a b of_a of_b
     go (Some fault) y e = absurd (cc)
     go None (Some fault) e = absurd (cc)
     go None None e = cc
 
 -- each end of it was made
-pub ends_made : (a b : Settings) (w : World) → world_made a b ≡ Ok w → (end_made Client a (limits_of b) ≡ Ok w.a) × (end_made Server b (limits_of a) ≡ Ok w.b)
-ends_made a b w is = go (end_made Client a (limits_of b)) (end_made Server b (limits_of a)) is
+pub ends_made : (a b : Settings) (of_a of_b : PeerLimits) (w : World) → begun_with a b of_a of_b ≡ Ok w → (end_made Client a of_b ≡ Ok w.a) × (end_made Server b of_a ≡ Ok w.b)
+ends_made a b of_a of_b w is = go (end_made Client a of_b) (end_made Server b of_a) is
   where
     go : (x y : Result End SetupFault) → both_made x y ≡ Ok w → (x ≡ Ok w.a) × (y ≡ Ok w.b)
     go (Err fault) y e = absurd (cc)
@@ -97,3 +97,10 @@ ends_made a b w is = go (end_made Client a (limits_of b)) (end_made Server b (li
     go (Ok c) (Ok s) e =
         let same : record { a = c; b = s } ≡ w = cc in
         (ap (λ (x : World). Ok x.a) same, ap (λ (x : World). Ok x.b) same)
+
+-- an end grants its own limits
+pub all_granted : (s : Settings) → AreGranted (limits_of s) s
+all_granted s = record { max_data = omega arith; bidi_local = omega arith; bidi_remote = omega arith; uni = omega arith; streams_bidi = omega arith; streams_uni = omega arith }
+
+pub begins_true : (a b : Settings) (w : World) → world_made a b ≡ Ok w → Begins a b w
+begins_true a b w is = record { of_a = limits_of a; of_b = limits_of b; granted_a = all_granted a; granted_b = all_granted b; begun = is }

@@ -31,7 +31,7 @@ new_send_ok p n id limit buffer h =
       told_reset = λ code size t. absurd (h.no_reset code size t);
       acked = λ q is. absurd (false≢true (sym (set.contains-empty nat_cmp q) ∙ is));
       end_acked = λ is. absurd (false≢true is);
-      limit_told = inl refl;
+      limit_told = inl (omega arith);
     }
 
 new_recv_ok : (p : Past) (n window : ℕ) → NotReceived p n → RecvOk p n window (new_recv_lane window)

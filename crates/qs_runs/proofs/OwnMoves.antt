@@ -1,5 +1,5 @@
 -- Each call of its owner keeps the invariant of an end.
-use Rattle.std.proofs.Common.{◌≡◌, ◌≢◌, ℕ, ◌+◌, ◌*◌, Bool, true, false, not, ◌&&◌, List, [], ◌∷◌, ◌++◌, length, take, Option, Some, None, Result, Ok, Err, is_some, refl, sym, ap, ◌∙◌, subst, inl, inr, if◌then◌else◌, ◌==◌, append-nil, MatchBool, nat_le}
+use Rattle.std.proofs.Common.{◌≡◌, ◌≢◌, ℕ, ◌+◌, ◌*◌, Bool, true, false, not, ◌&&◌, List, [], ◌∷◌, ◌++◌, map, length, take, Option, Some, None, Result, Ok, Err, is_some, refl, sym, ap, ◌∙◌, subst, inl, inr, if◌then◌else◌, ◌==◌, append-nil, MatchBool, nat_le}
 use Rattle.std.proofs.lemmas.Option.{none-some}
 use Rattle.std.proofs.lemmas.Bool.{eq-eqb, ne_eqb, leb-false}
 use Rattle.std.specs.Global.{Vec}
@@ -30,10 +30,11 @@ use Rattle.qs_calls.specs.declared.event.Act.{Act}
 use Rattle.qs_calls.specs.declared.event.Act.TheVariants as acts
 use Rattle.qs_calls.specs.declared.answer.Answer.{Answer}
 use Rattle.qs_calls.specs.declared.answer.Answer.TheVariants as answers
-use Rattle.qs_runs.specs.Logs.{wrote_by, read_by, is_stop, is_end}
+use Rattle.qs_runs.specs.Logs.{texts_of, wrote_by, read_by, is_stop, is_end}
 use Rattle.qs_runs.specs.Worlds.{OwnStep}
+use Rattle.qs_runs.specs.Agree.{frames_in}
 use Rattle.qs_runs.proofs.Lists.{Among_take}
-use Rattle.qs_runs.specs.Pasts.{seen_by, Past, TellsEnd}
+use Rattle.qs_runs.specs.Pasts.{Packets, seen_by, Past, TellsEnd}
 use Rattle.qs_runs.specs.Invariant.{EndOk, RecvTrue, RecvSlot, RecvOk}
 use Rattle.qs_runs.proofs.Changes.{Grows, Grows_refl, send_kept}
 use Rattle.qs_runs.proofs.Settling.{settle_ok}
@@ -56,6 +57,10 @@ with_call p act answer =
       stopped = λ n. if is_stop n act answer then true else p.stopped n;
       ended = λ n. if is_end n act answer && not (p.stopped n) then true else p.ended n;
     }
+
+-- what it lived through, with these packets made
+abbrev pub with_packets : Past → Packets → Past
+with_packets p packets = record p { mine = p.mine ++ packets }
 
 -- A call that writes, reads, stops and makes nothing leaves it as it was.
 quiet : (p : Past) (act : Act) (answer : Answer) → seen_by act answer ≡ [] → ((n : ℕ) → wrote_by n act answer ≡ []) → ((n : ℕ) → read_by n act answer ≡ []) →
@@ -248,26 +253,31 @@ module _ (p : Past) (e new : End) (ok : EndOk p e) where
 
   -- Packets
 
-  made_moves : (first delay room : ℕ) (made : Made) (text : Vec ℕ) → IsMade e first delay room made text.items new → EndOk (with_call p (acts.Make room) (answers.Make (Ok (Some made)) text)) new
+  made_moves : (first delay room : ℕ) (made : Made) (text : List ℕ) → IsMade e first delay room made text new → EndOk (with_packets p (map frames_in (text ∷ []))) new
   made_moves first delay room made text h =
       let frames : List Seen = seen_all h.frames in
-      subst (λ x. EndOk x new)
-      (λ i. record { mine = p.mine ++ sym (text_seen delay h.frames text.items h.lawful.some h.spells) i ∷ []; theirs = p.theirs; bytes = λ m. sym (append-nil (p.bytes m)) i; gave = λ m. sym (append-nil (p.gave m)) i; stopped = p.stopped; ended = p.ended; processed = p.processed })
-      (ended_by _ _ new h.after (made_ok p e h.mid frames ok h.lawful))
+      subst (λ x. EndOk (with_packets p (x ∷ [])) new) (sym (text_seen delay h.frames text h.lawful.some h.spells)) (ended_by _ _ new h.after (made_ok p e h.mid frames ok h.lawful))
 
-  make_moves : (first delay room : ℕ) (answer : Result (Option Made) MakeFault) (text : Vec ℕ) → MakeStep e first delay room answer text.items new → EndOk (with_call p (acts.Make room) (answers.Make answer text)) new
-  make_moves first delay room answer text step = by (make_refusal e) answer step
+  -- nothing is made
+  pub silent : (packets : Packets) → packets ≡ [] → new ≡ e → EndOk (with_packets p packets) new
+  silent packets none same = subst (λ x. EndOk (record p { mine = x }) new) (sym (append-nil p.mine) ∙ ap (λ x. p.mine ++ x) (sym none)) (ended_by p e new same ok)
+
+  pub packet_moves : (first delay room : ℕ) (answer : Result (Option Made) MakeFault) (text : List ℕ) → MakeStep e first delay room answer text new → EndOk (with_packets p (map frames_in (texts_of answer text))) new
+  packet_moves first delay room answer text step = by (make_refusal e) answer step
     where
-      silent : (answer : Result (Option Made) MakeFault) → seen_by (acts.Make room) (answers.Make answer text) ≡ [] → new ≡ e → EndOk (with_call p (acts.Make room) (answers.Make answer text)) new
-      silent answer none same = quiet_moves (acts.Make room) (answers.Make answer text) (quiet p (acts.Make room) (answers.Make answer text) none (λ m. refl) (λ m. refl) (λ m. refl) (λ m. refl)) (ended_by p e new same ok)
-
-      by : (o : Option MakeFault) (answer : Result (Option Made) MakeFault) → MakeAt o e first delay room answer text.items new → EndOk (with_call p (acts.Make room) (answers.Make answer text)) new
-      by (Some fault) answer h = subst (λ a. EndOk (with_call p (acts.Make room) (answers.Make a text)) new) (sym h.0) (silent (Err fault) refl h.2)
+      by : (o : Option MakeFault) (answer : Result (Option Made) MakeFault) → MakeAt o e first delay room answer text new → EndOk (with_packets p (map frames_in (texts_of answer text))) new
+      by (Some fault) answer h = silent _ (ap (λ x. map frames_in (texts_of x text)) h.0) h.2
       by None (Ok (Some made)) h = made_moves first delay room made text h
-      by None (Ok None) h = silent (Ok None) refl h.2
-      by None (Err making.NoMemory) h = silent (Err making.NoMemory) refl h.2
+      by None (Ok None) h = silent _ refl h.2
+      by None (Err making.NoMemory) h = silent _ refl h.2
       by None (Err making.Closed) h = absurd h
       by None (Err making.Exhausted) h = absurd h
+
+  make_moves : (first delay room : ℕ) (answer : Result (Option Made) MakeFault) (text : Vec ℕ) → MakeStep e first delay room answer text.items new → EndOk (with_call p (acts.Make room) (answers.Make answer text)) new
+  make_moves first delay room answer text step =
+      subst (λ x. EndOk x new)
+      (λ i. record { mine = p.mine ++ map frames_in (texts_of answer text.items); theirs = p.theirs; bytes = λ m. sym (append-nil (p.bytes m)) i; gave = λ m. sym (append-nil (p.gave m)) i; stopped = p.stopped; ended = p.ended; processed = p.processed })
+      (packet_moves first delay room answer text.items step)
 
   lose_moves : (k : ℕ) (answer : Result (Unit {0}) LostFault) → LoseStep e k answer new → EndOk p new
   lose_moves k answer step =

@@ -6,46 +6,46 @@ use Rattle.qs_runs.proofs.Agrees.{prefix, credit, whole, final_sizes, stays_open
 use Rattle.qs_runs.proofs.Clauses.{pieces_are_written, received_is_below_sent, stored_is_written, read_is_written, processed_was_taken, processed_reset_was_taken, acked_was_processed, final_size_is_declared, reset_code_is_the_senders, sent_is_within_known, known_is_within_granted, is_open_at_initiator, opened_is_below_known}
 
 pub law_new_ends_meet_invariant : NewEndsMeetInvariant
-law_new_ends_meet_invariant = λ a b w is. start a b w is
+law_new_ends_meet_invariant = λ a b w begins. start a b w begins
 
 pub law_steps_keep_invariant : StepsKeepInvariant
 law_steps_keep_invariant = step_keeps
 
 pub law_pieces_are_written : PiecesAreAlwaysWritten
-law_pieces_are_written = λ a b h v w event answer ok step s n. pieces_are_written a b ((event, answer) ∷ h) w (step_keeps a b h v w event answer ok step) s n
+law_pieces_are_written = λ a b h v w x ok step s n. pieces_are_written a b (x ∷ h) w (step_keeps a b h v w x ok step) s n
 
 pub law_received_is_below_sent : ReceivedIsAlwaysBelowSent
-law_received_is_below_sent = λ a b h v w event answer ok step s n. received_is_below_sent a b ((event, answer) ∷ h) w (step_keeps a b h v w event answer ok step) s n
+law_received_is_below_sent = λ a b h v w x ok step s n. received_is_below_sent a b (x ∷ h) w (step_keeps a b h v w x ok step) s n
 
 pub law_stored_is_written : StoredIsAlwaysWritten
-law_stored_is_written = λ a b h v w event answer ok step s n. stored_is_written a b ((event, answer) ∷ h) w (step_keeps a b h v w event answer ok step) s n
+law_stored_is_written = λ a b h v w x ok step s n. stored_is_written a b (x ∷ h) w (step_keeps a b h v w x ok step) s n
 
 pub law_read_is_written : ReadIsAlwaysWritten
-law_read_is_written = λ a b h v w event answer ok step s n. read_is_written a b ((event, answer) ∷ h) w (step_keeps a b h v w event answer ok step) s n
+law_read_is_written = λ a b h v w x ok step s n. read_is_written a b (x ∷ h) w (step_keeps a b h v w x ok step) s n
 
 pub law_processed_was_taken : ProcessedWasAlwaysTaken
-law_processed_was_taken = λ a b h v w event answer ok step s n. (processed_was_taken a b ((event, answer) ∷ h) w (step_keeps a b h v w event answer ok step) s n, processed_reset_was_taken a b ((event, answer) ∷ h) w (step_keeps a b h v w event answer ok step) s n)
+law_processed_was_taken = λ a b h v w x ok step s n. (processed_was_taken a b (x ∷ h) w (step_keeps a b h v w x ok step) s n, processed_reset_was_taken a b (x ∷ h) w (step_keeps a b h v w x ok step) s n)
 
 pub law_acked_was_processed : AckedWasAlwaysProcessed
-law_acked_was_processed = λ a b h v w event answer ok step s n. acked_was_processed a b ((event, answer) ∷ h) w (step_keeps a b h v w event answer ok step) s n
+law_acked_was_processed = λ a b h v w x ok step s n. acked_was_processed a b (x ∷ h) w (step_keeps a b h v w x ok step) s n
 
 pub law_final_size_is_declared : FinalSizeIsAlwaysDeclared
-law_final_size_is_declared = λ a b h v w event answer ok step s n. final_size_is_declared a b ((event, answer) ∷ h) w (step_keeps a b h v w event answer ok step) s n
+law_final_size_is_declared = λ a b h v w x ok step s n. final_size_is_declared a b (x ∷ h) w (step_keeps a b h v w x ok step) s n
 
 pub law_reset_code_is_the_senders : ResetCodeIsAlwaysTheSenders
-law_reset_code_is_the_senders = λ a b h v w event answer ok step s n. reset_code_is_the_senders a b ((event, answer) ∷ h) w (step_keeps a b h v w event answer ok step) s n
+law_reset_code_is_the_senders = λ a b h v w x ok step s n. reset_code_is_the_senders a b (x ∷ h) w (step_keeps a b h v w x ok step) s n
 
 pub law_sent_is_within_known : SentIsAlwaysWithinKnown
-law_sent_is_within_known = λ a b h v w event answer ok step s. sent_is_within_known a b ((event, answer) ∷ h) w (step_keeps a b h v w event answer ok step) s
+law_sent_is_within_known = λ a b h v w x ok step s. sent_is_within_known a b (x ∷ h) w (step_keeps a b h v w x ok step) s
 
 pub law_known_is_within_granted : KnownIsAlwaysWithinGranted
-law_known_is_within_granted = λ a b h v w event answer ok step s. known_is_within_granted a b ((event, answer) ∷ h) w (step_keeps a b h v w event answer ok step) s
+law_known_is_within_granted = λ a b h v w x ok step s. known_is_within_granted a b (x ∷ h) w (step_keeps a b h v w x ok step) s
 
 pub law_open_at_initiator : StreamsAreOpenAtInitiator
-law_open_at_initiator = λ a b h v w event answer ok step s n. is_open_at_initiator a b ((event, answer) ∷ h) w (step_keeps a b h v w event answer ok step) s n
+law_open_at_initiator = λ a b h v w x ok step s n. is_open_at_initiator a b (x ∷ h) w (step_keeps a b h v w x ok step) s n
 
 pub law_opened_is_below_known : OpenedIsAlwaysBelowKnown
-law_opened_is_below_known = λ a b h v w event answer ok step s. opened_is_below_known a b ((event, answer) ∷ h) w (step_keeps a b h v w event answer ok step) s
+law_opened_is_below_known = λ a b h v w x ok step s. opened_is_below_known a b (x ∷ h) w (step_keeps a b h v w x ok step) s
 
 pub law_read_is_a_prefix : ReadIsAPrefix
 law_read_is_a_prefix = λ a b h w ok s n. prefix a b h w ok s n
@@ -54,7 +54,7 @@ pub law_spent_is_below_sent : SpentIsBelowSent
 law_spent_is_below_sent = λ a b h w ok s. credit a b h w ok s
 
 pub law_repeats_spend_nothing : RepeatsSpendNothing
-law_repeats_spend_nothing = λ a b h v w event answer ok step. step_agrees a b h v ok event answer w step
+law_repeats_spend_nothing = λ a b h v w x ok step. step_agrees a b h v ok x w step
 
 pub law_received_is_whole : ReceivedIsWhole
 law_received_is_whole = λ a b h w ok s n. whole a b h w ok s n

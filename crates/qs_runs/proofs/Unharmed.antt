@@ -28,11 +28,11 @@ use Rattle.qs_runs.proofs.Opening.{opened_ok, named_by, lane_opened}
 abbrev sent_of : Option SendLane → ℕ
 sent_of o = value (λ l. l.sent_end) o
 
--- Two ends that face each other: f's first limits are what e granted, and f knows of no more streams than e grants.
+-- Two ends that face each other: f's first limits are at most what e granted, and f knows of no more streams than e grants.
 pub record Facing (e f : End) : Type 0 where
   pub opposite : (n : ℕ) → is_own f n ≡ not (is_own e n)
-  pub first_limit : (n : ℕ) → first_send_limit f n ≡ window e n
-  pub first_data : f.peer.max_data ≡ e.settings.conn_window
+  pub first_limit : (n : ℕ) → first_send_limit f n ≤ window e n
+  pub first_data : f.peer.max_data ≤ e.settings.conn_window
   pub bidi : f.known_bidi ≤ e.granted_bidi
   pub uni : f.known_uni ≤ e.granted_uni
 

@@ -16,9 +16,7 @@ use Rattle.qs_machine.specs.Seen.{Seen, Stream, Control, seen_all}
 use Rattle.qs_calls.specs.declared.event.Side.{Side}
 use Rattle.qs_calls.specs.declared.event.Act.{Act}
 use Rattle.qs_calls.specs.declared.event.Act.TheVariants as acts
-use Rattle.qs_calls.specs.declared.event.Event.{Event}
-use Rattle.qs_calls.specs.declared.answer.Answer.{Answer}
-use Rattle.qs_runs.specs.Logs.{History, other, written, read, payload, processed, read_whole}
+use Rattle.qs_runs.specs.Logs.{Happening, Did, CameWith, History, other, written, read, payload, processed, read_whole}
 use Rattle.qs_runs.specs.Worlds.{World, end_of, WorldStep, Run}
 
 -- xs is how ys begins (RFC 9000, section 2.2)
@@ -91,15 +89,18 @@ pub record RepeatAgrees (h : History) (old new : World) (s : Side) (k : ℕ) : T
   pub old_news : (text : List ℕ) → payload (other s) k h ≡ Some text → AllByRecursion (IsOld (end_of old s)) (frames_in text) → spent (end_of new s) ≡ spent (end_of old s)
 
 -- a delivery spends no credit again; of other steps nothing is said (RFC 9000, sections 4.1 and 12.3)
-abbrev pub StepAgreesBy : History → World → Side → Act → World → Type 0
-StepAgreesBy h old s (acts.Deliver k) new = RepeatAgrees h old new (other s) k
-StepAgreesBy h old s act new = ⊤
+abbrev pub EventAgrees : History → World → Side → Act → World → Type 0
+EventAgrees h old s (acts.Deliver k) new = RepeatAgrees h old new (other s) k
+EventAgrees h old s act new = ⊤
 
-abbrev pub StepAgrees : History → World → Event → World → Type 0
-StepAgrees h old event new = StepAgreesBy h old event.end event.act new
+-- the same, whatever plain frames come with it (RFC 9000, sections 4.1 and 12.3)
+abbrev pub StepAgrees : History → World → Happening → World → Type 0
+StepAgrees h old (Did event answer) new = EventAgrees h old event.end event.act new
+StepAgrees h old (CameWith s k bytes r) new = RepeatAgrees h old new (other s) k
+StepAgrees h old x new = ⊤
 
 -- every world of a run agrees, and so does every step
 abbrev pub EveryRunAgrees : Type 0
 EveryRunAgrees =
     (a b : Settings) (h : History) (w : World) → Run a b h w →
-    Agree h w × ((event : Event) (answer : Answer) (new : World) → WorldStep h w event answer new → StepAgrees h w event new)
+    Agree h w × ((x : Happening) (new : World) → WorldStep h w x new → StepAgrees h w x new)

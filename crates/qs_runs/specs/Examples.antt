@@ -1,8 +1,10 @@
 -- Of laws.
 -- What is read off a small log.
-use Rattle.std.specs.Prelude.{◌≡◌, ℕ, true, false, [], ◌∷◌, None, Some, Ok, Err}
+use Rattle.std.specs.Prelude.{◌≡◌, ℕ, true, false, List, [], ◌∷◌, None, Some, Ok, Err}
 use Rattle.std.specs.Global.{Vec}
 use Rattle.qs_recv.specs.declared.half.Read.TheVariants.{Bytes, End}
+use Rattle.qs_calls.specs.declared.settings.PeerLimits.{PeerLimits}
+use Rattle.qs_calls.specs.declared.closing.Received.{Received}
 use Rattle.qs_calls.specs.declared.closing.Received.TheVariants.{Done, Duplicate}
 use Rattle.qs_calls.specs.declared.making.MakeFault.TheVariants.{Exhausted}
 use Rattle.qs_calls.specs.declared.event.Side.{Side}
@@ -10,36 +12,47 @@ use Rattle.qs_calls.specs.declared.event.Side.TheVariants.{A, B}
 use Rattle.qs_calls.specs.declared.event.Act.{Act}
 use Rattle.qs_calls.specs.declared.event.Act.TheVariants.{Write, Stop, ReadUpTo, Make, Claim, Deliver}
 use Rattle.qs_calls.specs.declared.event.Event.{Event}
-use Rattle.qs_calls.specs.declared.answer.Answer.{Answer}
 use Rattle.qs_calls.specs.declared.answer.Answer.TheVariants as answers
 use Rattle.qs_machine.specs.SmallEnds.{abc}
-use Rattle.qs_runs.specs.Logs.{History, written, read, made, payload, processed, read_whole}
+use Rattle.qs_runs.specs.Logs.{Happening, Did, MadeAck, RaisedLimits, CameWith, History, written, read, made, payload, processed, read_whole}
 
 abbrev pub at : Side → Act → Event
 at side act = record { end = side; act = act }
 
 -- `write` on stream 0 accepted so many of these bytes
-abbrev pub wrote : Side → Vec ℕ → ℕ → Event × Answer
-wrote side bytes count = (at side (Write 0 bytes), answers.Write (Ok count))
+abbrev pub wrote : Side → Vec ℕ → ℕ → Happening
+wrote side bytes count = Did (at side (Write 0 bytes)) (answers.Write (Ok count))
 
 -- `read` on stream 0 gave these bytes
-abbrev pub got : Side → Vec ℕ → Event × Answer
-got side bytes = (at side (ReadUpTo 0 10), answers.ReadUpTo (Ok (Bytes 3)) bytes)
+abbrev pub got : Side → Vec ℕ → Happening
+got side bytes = Did (at side (ReadUpTo 0 10)) (answers.ReadUpTo (Ok (Bytes 3)) bytes)
 
 -- or told the end
-abbrev pub told_end : Side → Vec ℕ → Event × Answer
-told_end side none = (at side (ReadUpTo 0 10), answers.ReadUpTo (Ok End) none)
+abbrev pub told_end : Side → Vec ℕ → Happening
+told_end side none = Did (at side (ReadUpTo 0 10)) (answers.ReadUpTo (Ok End) none)
 
 -- `make_packet` made packet 0 of this text
-abbrev pub packet : Side → Vec ℕ → Event × Answer
-packet side text = (at side (Make 1200), answers.Make (Ok (Some (record { number = 0; len = 8; is_ack_eliciting = true }))) text)
+abbrev pub packet : Side → Vec ℕ → Happening
+packet side text = Did (at side (Make 1200)) (answers.Make (Ok (Some (record { number = 0; len = 8; is_ack_eliciting = true }))) text)
+
+-- the end's packet came to its peer
+abbrev pub came : Side → ℕ → Received → Happening
+came side number answer = Did (at side (Deliver number)) (answers.Deliver (Ok answer))
+
+-- in these bytes
+abbrev pub came_with : Side → ℕ → List ℕ → Received → Happening
+came_with side number bytes answer = CameWith side number bytes (Ok answer)
+
+-- `make_ack` made packet 0 of this text
+abbrev pub acked : Side → List ℕ → Happening
+acked side text = MadeAck side 1200 (Ok (Some (record { number = 0; len = 8; is_ack_eliciting = false }))) text
 
 -- A writes bytes, makes packet 0 of them, which comes to B, and B reads them and then the end; the newest first
 abbrev pub story : Vec ℕ → Vec ℕ → Vec ℕ → History
 story bytes text none =
     told_end B none
     ∷ got B bytes
-    ∷ (at A (Deliver 0), answers.Deliver (Ok Done))
+    ∷ came A 0 Done
     ∷ packet A text
     ∷ wrote A bytes 3
     ∷ []
@@ -71,18 +84,37 @@ pub record LogsAreRead (bytes none : Vec ℕ) : Type 0 where
   -- as does what was read later
   pub read_in_order : read B 0 (got B bytes ∷ told_end B none ∷ got B bytes ∷ []) ≡ 97 ∷ 98 ∷ 99 ∷ 97 ∷ 98 ∷ 99 ∷ []
   -- under a claimed number a PING goes
-  pub claimed : payload A 0 ((at A Claim, answers.Claim (Ok 0)) ∷ []) ≡ Some (1 ∷ [])
+  pub claimed : payload A 0 (Did (at A Claim) (answers.Claim (Ok 0)) ∷ []) ≡ Some (1 ∷ [])
   -- and no packet where none was left to claim
-  pub none_claimed : made A ((at A Claim, answers.Claim (Err Exhausted)) ∷ []) ≡ []
+  pub none_claimed : made A (Did (at A Claim) (answers.Claim (Err Exhausted)) ∷ []) ≡ []
   -- a packet that came twice was processed once
-  pub twice : processed B 0 ((at A (Deliver 0), answers.Deliver (Ok Duplicate)) ∷ []) ≡ false
+  pub twice : processed B 0 (came A 0 Duplicate ∷ []) ≡ false
   -- a reader that was told no end wasn't told the whole
   pub no_end : read_whole B 0 (got B bytes ∷ []) ≡ false
   -- nor was one that had stopped before
-  pub stopped_before : read_whole B 0 (told_end B none ∷ (at B (Stop 0 7), answers.Stop (Ok tt)) ∷ []) ≡ false
+  pub stopped_before : read_whole B 0 (told_end B none ∷ Did (at B (Stop 0 7)) (answers.Stop (Ok tt)) ∷ []) ≡ false
   -- one that stopped afterwards was
-  pub stopped_after : read_whole B 0 ((at B (Stop 0 7), answers.Stop (Ok tt)) ∷ told_end B none ∷ []) ≡ true
+  pub stopped_after : read_whole B 0 (Did (at B (Stop 0 7)) (answers.Stop (Ok tt)) ∷ told_end B none ∷ []) ≡ true
+
+-- What scripts don't have
+pub record OthersAreRead (text : List ℕ) : Type 0 where
+  -- an ACK alone is a packet of its end
+  pub ack : made A (acked A text ∷ []) ≡ text ∷ []
+  -- and not of the other
+  pub ack_not_there : made B (acked A text ∷ []) ≡ []
+  -- where none was made there is none
+  pub no_ack : made A (MadeAck A 1200 (Ok None) text ∷ []) ≡ []
+  -- a packet that came with other frames was processed
+  pub with_more : processed B 0 (came_with A 0 text Done ∷ []) ≡ true
+  -- that one alone, once, and not by its sender
+  pub not_another : processed B 1 (came_with A 0 text Done ∷ []) ≡ false
+  pub twice : processed B 0 (came_with A 0 text Duplicate ∷ []) ≡ false
+  pub not_there : processed A 0 (came_with A 0 text Done ∷ []) ≡ false
+  -- nothing is made by it, nor by limits that are taken in
+  pub none_made : made A (came_with A 0 text Done ∷ []) ≡ []
+  pub none_raised : (limits : PeerLimits) → made A (RaisedLimits A limits (Ok tt) ∷ []) ≡ []
 
 pub record Examples : Type 0 where
   pub story : (bytes text none : Vec ℕ) → bytes.items ≡ abc → StoryIsRead bytes text none
-  pub others : (bytes none : Vec ℕ) → bytes.items ≡ abc → LogsAreRead bytes none
+  pub logs : (bytes none : Vec ℕ) → bytes.items ≡ abc → LogsAreRead bytes none
+  pub others : (text : List ℕ) → OthersAreRead text

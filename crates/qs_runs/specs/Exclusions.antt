@@ -1,24 +1,33 @@
 -- Of laws.
 -- What two ends that agree exclude: beside each clause a small history, and a world, that lacks it (RFC 9000, sections 2.2, 3 and 4).
-use Rattle.std.specs.Prelude.{◌≡◌, ℕ, ◌+◌, true, false, [], ◌∷◌, None, Some, Ok}
+use Rattle.std.specs.Prelude.{◌≡◌, ℕ, ◌+◌, true, false, List, [], ◌∷◌, None, Some, Result, Ok}
 use Rattle.std.specs.Global.{Vec}
 use Rattle.qs_ranges.specs.Numbers.{numbers}
 use Rattle.qs_recv.specs.Lane.{RecvLane}
 use Rattle.qs_send.specs.Lane.{SendLane}
-use Rattle.qs_send.specs.declared.piece.Item.TheVariants.{ResetStream}
+use Rattle.qs_send.specs.declared.piece.Item.TheVariants.{MaxData, ResetStream}
+use Rattle.qs_wire.specs.Reading.{reading_of}
+use Rattle.qs_wire.specs.declared.fault.WireFault.{WireFault}
+use Rattle.qs_calls.specs.Settings.{limits_of}
+use Rattle.qs_calls.specs.declared.settings.PeerLimits.{PeerLimits}
+use Rattle.qs_calls.specs.declared.settings.RaiseFault.{RaiseFault}
+use Rattle.qs_calls.specs.declared.making.Made.{Made}
+use Rattle.qs_calls.specs.declared.closing.Closing.{Closing}
 use Rattle.qs_calls.specs.declared.closing.Closed.TheVariants.{ByPeer}
+use Rattle.qs_calls.specs.declared.closing.Received.{Received}
 use Rattle.qs_calls.specs.declared.closing.Received.TheVariants.{Done}
 use Rattle.qs_calls.specs.declared.event.Side.TheVariants.{A, B}
-use Rattle.qs_calls.specs.declared.event.Act.TheVariants.{Accept, Claim, Deliver}
+use Rattle.qs_calls.specs.declared.event.Act.TheVariants.{Accept, Claim}
 use Rattle.qs_calls.specs.declared.answer.Answer.TheVariants as answers
 use Rattle.qs_machine.specs.Ends.{End}
-use Rattle.qs_machine.specs.Seen.{Stream, Control}
+use Rattle.qs_machine.specs.Seen.{Seen, Stream, Control, Plain}
+use Rattle.qs_machine.specs.Plains.{DifferInPlain}
 use Rattle.qs_machine.specs.Examples.{standard, server, client_of}
 use Rattle.qs_machine.specs.SmallEnds.{client_with, server_with, abc, wrote as wrote_half, sent, fresh, all_came}
-use Rattle.qs_runs.specs.Logs.{History}
-use Rattle.qs_runs.specs.Worlds.{World, WorldStep}
-use Rattle.qs_runs.specs.Agree.{PrefixAgrees, WholeAgrees, FinalSizesAgree, Agree, IsOld, StepAgrees}
-use Rattle.qs_runs.specs.Examples.{at, wrote, got, told_end, story, packet}
+use Rattle.qs_runs.specs.Logs.{Did, MadeAck, RaisedLimits, CameWith, History, ping_text}
+use Rattle.qs_runs.specs.Worlds.{World, AreGranted, WorldStep, Begins}
+use Rattle.qs_runs.specs.Agree.{PrefixAgrees, WholeAgrees, FinalSizesAgree, Agree, IsOld, StepAgrees, frames_in}
+use Rattle.qs_runs.specs.Examples.{at, wrote, got, told_end, story, packet, came, came_with}
 
 -- It doesn't agree (section 2.2) that what was read
 pub record ReadIsNoPrefix (bytes other none : Vec ℕ) : Type 0 where
@@ -89,26 +98,89 @@ pub record NewsIsNotOld : Type 0 where
 -- A repeat doesn't agree
 pub record RepeatsSpend (bytes text none : Vec ℕ) : Type 0 where
   -- where a packet that was processed changes the end
-  pub again : StepAgrees (story bytes text none) (both (client_of standard) (server standard)) (at A (Deliver 0)) (both (client_of standard) (server_with fresh)) → ⊥
+  pub again : StepAgrees (story bytes text none) (both (client_of standard) (server standard)) (came A 0 Done) (both (client_of standard) (server_with fresh)) → ⊥
   -- where a packet that tells nothing spends credit
-  pub old_news : text.items ≡ [] → StepAgrees (packet A text ∷ []) (both (client_of standard) (server_with fresh)) (at A (Deliver 0)) (both (client_of standard) (server_with all_came)) → ⊥
+  pub old_news : text.items ≡ [] → StepAgrees (packet A text ∷ []) (both (client_of standard) (server_with fresh)) (came A 0 Done) (both (client_of standard) (server_with all_came)) → ⊥
+  -- and so with frames of the layer beneath
+  pub again_with : StepAgrees (story bytes text none) (both (client_of standard) (server standard)) (came_with A 0 text.items Done) (both (client_of standard) (server_with fresh)) → ⊥
+  pub old_news_with : text.items ≡ [] → StepAgrees (packet A text ∷ []) (both (client_of standard) (server_with fresh)) (came_with A 0 text.items Done) (both (client_of standard) (server_with all_came)) → ⊥
 
 -- Nothing of this happens in a world
 pub record NothingHappens (bytes text none : Vec ℕ) : Type 0 where
   -- a packet comes that wasn't made
-  pub unmade : (v w : World) → WorldStep (story bytes text none) v (at A (Deliver 1)) (answers.Deliver (Ok Done)) w → ⊥
+  pub unmade : (v w : World) → WorldStep (story bytes text none) v (came A 1 Done) w → ⊥
   -- or that was made by the other end
-  pub not_its : (v w : World) → WorldStep (story bytes text none) v (at B (Deliver 0)) (answers.Deliver (Ok Done)) w → ⊥
+  pub not_its : (v w : World) → WorldStep (story bytes text none) v (came B 0 Done) w → ⊥
   -- a packet that comes changes its sender
-  pub sender : (v w : World) → WorldStep (story bytes text none) v (at A (Deliver 0)) (answers.Deliver (Ok Done)) w → (w.a ≡ v.a → ⊥) → ⊥
+  pub sender : (v w : World) → WorldStep (story bytes text none) v (came A 0 Done) w → (w.a ≡ v.a → ⊥) → ⊥
   -- a call of one end changes the other
-  pub other : (v w : World) → WorldStep (story bytes text none) v (at A Accept) (answers.Accept None) w → (w.b ≡ v.b → ⊥) → ⊥
+  pub other : (v w : World) → WorldStep (story bytes text none) v (Did (at A Accept) (answers.Accept None)) w → (w.b ≡ v.b → ⊥) → ⊥
   -- a number is claimed and stays unused
-  pub unused : (v w : World) (number : ℕ) → WorldStep (story bytes text none) v (at A Claim) (answers.Claim (Ok number)) w → w.a.next ≡ v.a.next → ⊥
+  pub unused : (v w : World) (number : ℕ) → WorldStep (story bytes text none) v (Did (at A Claim) (answers.Claim (Ok number))) w → w.a.next ≡ v.a.next → ⊥
   -- or isn't the next one
-  pub not_next : (v w : World) → WorldStep (story bytes text none) v (at A Claim) (answers.Claim (Ok (v.a.next + 1))) w → ⊥
+  pub not_next : (v w : World) → WorldStep (story bytes text none) v (Did (at A Claim) (answers.Claim (Ok (v.a.next + 1)))) w → ⊥
   -- a call answers as another one does
-  pub other_answer : (v w : World) → WorldStep (story bytes text none) v (at A Accept) (answers.Finish (Ok tt)) w → ⊥
+  pub other_answer : (v w : World) → WorldStep (story bytes text none) v (Did (at A Accept) (answers.Finish (Ok tt))) w → ⊥
+
+-- Nor of this, which scripts don't have
+pub record NothingElseHappens (bytes text none : Vec ℕ) : Type 0 where
+  -- with frames of the layer beneath a packet comes that wasn't made
+  pub unmade : (v w : World) → WorldStep (story bytes text none) v (came_with A 1 text.items Done) w → ⊥
+  -- or it changes its sender
+  pub sender : (v w : World) → WorldStep (story bytes text none) v (came_with A 0 text.items Done) w → (w.a ≡ v.a → ⊥) → ⊥
+  -- or in bytes that differ in more
+  pub others : (v w : World) (bytes : List ℕ) (r : Result Received Closing) → (DifferInPlain bytes text.items → ⊥) → WorldStep (packet A text ∷ []) v (CameWith A 0 bytes r) w → ⊥
+  -- an ACK alone has more bytes than its room
+  pub too_long : (v w : World) (made : Made) → WorldStep [] v (MadeAck A 0 (Ok (Some made)) (1 ∷ [])) w → ⊥
+  -- or changes the other end
+  pub ack_other : (v w : World) → WorldStep [] v (MadeAck A 1200 (Ok None) []) w → (w.b ≡ v.b → ⊥) → ⊥
+  -- limits are taken in that the peer doesn't grant
+  pub ungranted : (v w : World) (p : PeerLimits) (r : Result (Unit {0}) RaiseFault) → (AreGranted p v.b.settings → ⊥) → WorldStep [] v (RaisedLimits A p r) w → ⊥
+  -- by an end that closed
+  pub closed : (v w : World) (p : PeerLimits) → v.a.closed ≡ Some (ByPeer 0) → WorldStep [] v (RaisedLimits A p (Ok tt)) w → ⊥
+  -- or the other end changes
+  pub raised_other : (v w : World) (p : PeerLimits) (r : Result (Unit {0}) RaiseFault) → WorldStep [] v (RaisedLimits A p r) w → (w.b ≡ v.b → ⊥) → ⊥
+
+-- two payloads differ in plain frames alone (RFC 9000, section 12.4), where the one has these frames and the other those
+abbrev pub Differ : List Seen → List Seen → Type 0
+Differ fs gs = (text other : List ℕ) × (frames_in text ≡ fs) × (frames_in other ≡ gs) × DifferInPlain text other
+
+-- They don't
+pub record OtherBytesCome : Type 0 where
+  -- where a frame stands behind that does something
+  pub not_plain : Differ (Control (MaxData 5) ∷ Stream 0 0 [] true ∷ []) (Control (MaxData 5) ∷ []) → ⊥
+  -- where a frame that does something is left out
+  pub left_out : Differ (Plain true ∷ []) (Control (MaxData 5) ∷ []) → ⊥
+  -- where another one stands there
+  pub another : Differ (Control (MaxData 6) ∷ Plain true ∷ []) (Control (MaxData 5) ∷ []) → ⊥
+  -- where one has a fault, as an empty payload has
+  pub fault : (text other : List ℕ) (f : WireFault) → (reading_of text).fault ≡ Some f → DifferInPlain text other → ⊥
+  pub fault_other : (text other : List ℕ) (f : WireFault) → (reading_of other).fault ≡ Some f → DifferInPlain text other → ⊥
+  -- though a PING may stand behind a MAX_DATA
+  pub behind : DifferInPlain (0x10 ∷ 5 ∷ 1 ∷ []) (0x10 ∷ 5 ∷ [])
+  -- and PADDING in the place of a PING
+  pub in_place : DifferInPlain (0 ∷ []) ping_text
+
+abbrev pub first : PeerLimits
+first = limits_of standard
+
+-- It isn't granted (sections 4.1, 4.6 and 18.2)
+pub record LimitsAreAbove : Type 0 where
+  pub max_data : AreGranted (record first { max_data = 4097 }) standard → ⊥
+  pub bidi_local : AreGranted (record first { bidi_local = 1025 }) standard → ⊥
+  pub bidi_remote : AreGranted (record first { bidi_remote = 1025 }) standard → ⊥
+  pub uni : AreGranted (record first { uni = 1025 }) standard → ⊥
+  pub streams_bidi : AreGranted (record first { streams_bidi = 9 }) standard → ⊥
+  pub streams_uni : AreGranted (record first { streams_uni = 9 }) standard → ⊥
+
+-- No two ends begin so
+pub record NoneBegin : Type 0 where
+  -- the server was told a higher limit than the client grants (section 4.1)
+  pub server_told : (w : World) → Begins standard standard w → w.b.peer.max_data ≡ 4097 → ⊥
+  -- or the client than the server grants
+  pub client_told : (w : World) → Begins standard standard w → w.a.peer.max_data ≡ 4097 → ⊥
+  -- or an end made a packet
+  pub made : (w : World) → Begins standard standard w → w.a.next ≡ 1 → ⊥
 
 pub record Exclusions : Type 0 where
   pub prefix : (bytes other none : Vec ℕ) → bytes.items ≡ abc → other.items ≡ 97 ∷ 120 ∷ [] → ReadIsNoPrefix bytes other none
@@ -118,3 +190,7 @@ pub record Exclusions : Type 0 where
   pub news : NewsIsNotOld
   pub repeats : (bytes text none : Vec ℕ) → RepeatsSpend bytes text none
   pub steps : (bytes text none : Vec ℕ) → NothingHappens bytes text none
+  pub others : (bytes text none : Vec ℕ) → NothingElseHappens bytes text none
+  pub bytes : OtherBytesCome
+  pub limits : LimitsAreAbove
+  pub begins : NoneBegin

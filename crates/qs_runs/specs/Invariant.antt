@@ -26,12 +26,11 @@ use Rattle.qs_wire.specs.Reading.{reading_of}
 use Rattle.qs_calls.specs.declared.settings.Settings.{Settings}
 use Rattle.qs_calls.specs.declared.settings.PeerLimits.{PeerLimits}
 use Rattle.qs_calls.specs.declared.closing.Closed.{Closed}
-use Rattle.qs_calls.specs.Settings.{limits_of}
 use Rattle.qs_wire.specs.declared.stream_id.Role.TheVariants.{Client, Server}
 use Rattle.qs_calls.specs.declared.event.Side.{Side}
 use Rattle.qs_calls.specs.declared.event.Side.TheVariants.{A, B}
 use Rattle.qs_runs.specs.Logs.{History, other, made}
-use Rattle.qs_runs.specs.Worlds.{World, end_of}
+use Rattle.qs_runs.specs.Worlds.{World, end_of, AreGranted}
 use Rattle.qs_runs.specs.Pasts.{Packets, Past, past, Holds, Tells, TellsOffset, TellsByte, TellsEnd, TellsReset, TellsAck, PieceOf, IsNamed}
 
 -- Sending
@@ -56,7 +55,7 @@ pub record SendTrue (mine theirs : Packets) (all : List ℕ) (n limit : ℕ) (l 
   pub acked : (q : ℕ) → set.contains l.acked q ≡ true →
       (k offset : ℕ) × (bytes : List ℕ) × (fin : Bool) × Holds mine k (Stream n offset bytes fin) × (offset ≤ q) × (q < offset + length bytes) × TellsAck theirs k
   pub end_acked : l.fin_acked ≡ true → (k offset : ℕ) × (bytes : List ℕ) × Holds mine k (Stream n offset bytes true) × TellsAck theirs k
-  pub limit_told : (l.limit ≡ limit) ⊎ Tells theirs (Control (MaxStreamData n l.limit))
+  pub limit_told : (l.limit ≤ limit) ⊎ Tells theirs (Control (MaxStreamData n l.limit))
 
 abbrev pub SendOk : Past → ℕ → ℕ → SendLane → Type 0
 SendOk p n limit l = SendTrue p.mine p.theirs (p.bytes n) n limit l
@@ -157,7 +156,7 @@ TakenOk p t = (k : ℕ) → p.processed k ≡ true → (fs : List Seen) × (slic
 -- The connection's own credit: what was sent is within what is known, that was told, and what is granted never falls below what was told.
 pub record CreditTrue (mine theirs : Packets) (sent known granted first window : ℕ) : Type 0 where
   pub sent_known : sent ≤ known
-  pub known_told : (known ≡ first) ⊎ Tells theirs (Control (MaxData known))
+  pub known_told : (known ≤ first) ⊎ Tells theirs (Control (MaxData known))
   pub window_granted : window ≤ granted
   pub granted_told : (limit : ℕ) → Tells mine (Control (MaxData limit)) → limit ≤ granted
 
@@ -171,8 +170,8 @@ pub record OpenTrue (theirs : Packets) (role : Role) (first_bidi first_uni known
   pub own_both : (n : ℕ) → sends n ≡ true → is_own_by role n ≡ true → is_uni n ≡ false → recvs n ≡ true
   pub their_send : (n : ℕ) → sends n ≡ true → is_own_by role n ≡ false → (is_uni n ≡ false) × IsNamed theirs n
   pub their_recv : (n : ℕ) → recvs n ≡ true → is_own_by role n ≡ false → IsNamed theirs n
-  pub bidi_told : (known_bidi ≡ first_bidi) ⊎ Tells theirs (Control (MaxStreams Bidi known_bidi))
-  pub uni_told : (known_uni ≡ first_uni) ⊎ Tells theirs (Control (MaxStreams Uni known_uni))
+  pub bidi_told : (known_bidi ≤ first_bidi) ⊎ Tells theirs (Control (MaxStreams Bidi known_bidi))
+  pub uni_told : (known_uni ≤ first_uni) ⊎ Tells theirs (Control (MaxStreams Uni known_uni))
 
 abbrev pub OpenOk : Past → Role → ℕ → ℕ → ℕ → ℕ → (ℕ → Bool) → (ℕ → Bool) → Type 0
 OpenOk p = OpenTrue p.theirs
@@ -221,19 +220,20 @@ abbrev pub settings_of : Settings → Settings → Side → Settings
 settings_of a b A = a
 settings_of a b B = b
 
--- an end from the first to the last: told the other's limits, and open
-abbrev pub stands_as : Settings → Settings → Side → Standing
-stands_as a b s = record { role = role_of s; settings = settings_of a b s; peer = limits_of (settings_of a b (other s)); closed = None }
+-- an end from the first to the last, with the limits that it was told: open
+abbrev pub stands_as : Settings → Settings → Side → PeerLimits → Standing
+stands_as a b s told = record { role = role_of s; settings = settings_of a b s; peer = told; closed = None }
 
 abbrev pub HasNoFault : List ℕ → Type 0
 HasNoFault text = (reading_of text).fault ≡ None
 
--- The invariant of a world: that of each end, about what it lived through; each end is sound, and what it sent was written; and each
--- payload that was made has no fault.
+-- The invariant of a world: that of each end, about what it lived through; each end is sound, and what it sent was written; the limits
+-- that it was told are granted; and each payload that was made has no fault.
 pub record WorldOk (a b : Settings) (h : History) (w : World) : Type 0 where
   pub ends : (s : Side) → EndOk (past s h) (end_of w s)
   pub counts : (s : Side) → CountsOk (past s h) (end_of w s)
   pub sound : (s : Side) → IsSound (end_of w s)
   pub sent : (s : Side) → SentWasWritten (end_of w s)
-  pub stand : (s : Side) → standing (end_of w s) ≡ stands_as a b s
+  pub stand : (s : Side) → standing (end_of w s) ≡ stands_as a b s (end_of w s).peer
+  pub peers : (s : Side) → AreGranted (end_of w s).peer (settings_of a b (other s))
   pub texts : (s : Side) → AllByRecursion HasNoFault (made s h)

@@ -1,12 +1,10 @@
 -- Of laws.
 -- Laws on two ends: the invariant, its clauses, and what agrees.
-use Rattle.std.specs.Prelude.{◌≡◌, ℕ, [], ◌∷◌, Ok}
+use Rattle.std.specs.Prelude.{ℕ, [], ◌∷◌}
 use Rattle.qs_calls.specs.declared.settings.Settings.{Settings}
 use Rattle.qs_calls.specs.declared.event.Side.{Side}
-use Rattle.qs_calls.specs.declared.event.Event.{Event}
-use Rattle.qs_calls.specs.declared.answer.Answer.{Answer}
-use Rattle.qs_runs.specs.Logs.{History}
-use Rattle.qs_runs.specs.Worlds.{World, world_made, WorldStep}
+use Rattle.qs_runs.specs.Logs.{Happening, History, Log, happened}
+use Rattle.qs_runs.specs.Worlds.{World, Begins, WorldStep, Run, EventRun}
 use Rattle.qs_runs.specs.Agree.{PrefixAgrees, CreditAgrees, WholeAgrees, FinalSizesAgree, StaysOpen, StepAgrees}
 use Rattle.qs_runs.specs.Invariant.{WorldOk}
 use Rattle.qs_runs.specs.Clauses.{PiecesAreWritten, ReceivedIsBelowSent, StoredIsWritten, ReadIsWritten, ProcessedWasTaken, ProcessedResetWasTaken, AckedWasProcessed, FinalSizeIsDeclared, AllKeepWhatTheyKnow, ResetCodeIsTheSenders, SentIsWithinKnown, KnownIsWithinGranted, IsOpenAtInitiator, OpenedIsBelowKnown}
@@ -14,8 +12,8 @@ use Rattle.qs_runs.specs.Clauses.{PiecesAreWritten, ReceivedIsBelowSent, StoredI
 -- whatever happens in a world that meets the invariant, the world after it has the clause
 abbrev pub AfterStep : (History → World → Type 0) → Type 0
 AfterStep Clause =
-    (a b : Settings) (h : History) (v w : World) (event : Event) (answer : Answer) →
-    WorldOk a b h v → WorldStep h v event answer w → Clause ((event, answer) ∷ h) w
+    (a b : Settings) (h : History) (v w : World) (x : Happening) →
+    WorldOk a b h v → WorldStep h v x w → Clause (x ∷ h) w
 
 -- a world that meets the invariant has it
 abbrev pub InEachWorld : (History → World → Type 0) → Type 0
@@ -23,13 +21,17 @@ InEachWorld Clause = (a b : Settings) (h : History) (w : World) → WorldOk a b 
 
 -- two new ends meet the invariant
 abbrev pub NewEndsMeetInvariant : Type 0
-NewEndsMeetInvariant = (a b : Settings) (w : World) → world_made a b ≡ Ok w → WorldOk a b [] w
+NewEndsMeetInvariant = (a b : Settings) (w : World) → Begins a b w → WorldOk a b [] w
 
 -- and each step keeps it
 abbrev pub StepsKeepInvariant : Type 0
 StepsKeepInvariant =
-    (a b : Settings) (h : History) (v w : World) (event : Event) (answer : Answer) →
-    WorldOk a b h v → WorldStep h v event answer w → WorldOk a b ((event, answer) ∷ h) w
+    (a b : Settings) (h : History) (v w : World) (x : Happening) →
+    WorldOk a b h v → WorldStep h v x w → WorldOk a b (x ∷ h) w
+
+-- every run of events alone is a run
+abbrev pub EventRunsAreRuns : Type 0
+EventRunsAreRuns = (a b : Settings) (log : Log) (w : World) → EventRun a b log w → Run a b (happened log) w
 
 -- The ten clauses
 
@@ -56,8 +58,8 @@ FinalSizeIsAlwaysDeclared = AfterStep (λ h w. (s : Side) (n : ℕ) → FinalSiz
 
 abbrev pub WhatIsKnownStays : Type 0
 WhatIsKnownStays =
-    (a b : Settings) (h : History) (v w : World) (event : Event) (answer : Answer) →
-    WorldOk a b h v → WorldStep h v event answer w → (s : Side) (n : ℕ) → AllKeepWhatTheyKnow v w s n
+    (a b : Settings) (h : History) (v w : World) (x : Happening) →
+    WorldOk a b h v → WorldStep h v x w → (s : Side) (n : ℕ) → AllKeepWhatTheyKnow v w s n
 
 abbrev pub ResetCodeIsAlwaysTheSenders : Type 0
 ResetCodeIsAlwaysTheSenders = AfterStep (λ h w. (s : Side) (n : ℕ) → ResetCodeIsTheSenders w s n)
@@ -84,7 +86,7 @@ SpentIsBelowSent = InEachWorld (λ h w. (s : Side) → CreditAgrees w s)
 
 abbrev pub RepeatsSpendNothing : Type 0
 RepeatsSpendNothing =
-    (a b : Settings) (h : History) (v w : World) (event : Event) (answer : Answer) → WorldOk a b h v → WorldStep h v event answer w → StepAgrees h v event w
+    (a b : Settings) (h : History) (v w : World) (x : Happening) → WorldOk a b h v → WorldStep h v x w → StepAgrees h v x w
 
 abbrev pub ReceivedIsWhole : Type 0
 ReceivedIsWhole = InEachWorld (λ h w. (s : Side) (n : ℕ) → WholeAgrees h w s n)

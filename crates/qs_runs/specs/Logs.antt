@@ -1,8 +1,14 @@
 -- Trusted.
--- What can be read off a log: what was written, read, made and processed. The whole file is ours:
+-- What happened to two ends, and what can be read off it: what was written, read, made and processed. The whole file is ours:
 -- RFC 9000 has no log.
-use Rattle.std.specs.Prelude.{ℕ, Bool, true, false, not, ◌&&◌, ◌==◌, List, [], ◌∷◌, ◌++◌, take, Option, Some, Ok, slice_get, if◌then◌else◌}
+use Rattle.std.specs.Prelude.{ℕ, Bool, true, false, not, ◌&&◌, ◌==◌, List, [], ◌∷◌, ◌++◌, map, take, Option, None, Some, Result, Ok, Err, slice_get, if◌then◌else◌}
+use Rattle.qs_calls.specs.declared.closing.Closing.{Closing}
+use Rattle.qs_calls.specs.declared.closing.Received.{Received}
 use Rattle.qs_calls.specs.declared.closing.Received.TheVariants.{Done}
+use Rattle.qs_calls.specs.declared.making.Made.{Made}
+use Rattle.qs_calls.specs.declared.making.MakeFault.{MakeFault}
+use Rattle.qs_calls.specs.declared.settings.PeerLimits.{PeerLimits}
+use Rattle.qs_calls.specs.declared.settings.RaiseFault.{RaiseFault}
 use Rattle.qs_recv.specs.declared.half.Read.TheVariants.{Bytes, End}
 use Rattle.qs_calls.specs.declared.event.Side.{Side}
 use Rattle.qs_calls.specs.declared.event.Side.TheVariants.{A, B}
@@ -12,9 +18,25 @@ use Rattle.qs_calls.specs.declared.event.Event.{Event}
 use Rattle.qs_calls.specs.declared.answer.Answer.{Answer}
 use Rattle.qs_calls.specs.declared.answer.Answer.TheVariants as answers
 
+-- One thing that happens, with its answer: an event as scripts have them; or, of what they don't have, a payload with an ACK alone is
+-- made, limits of the handshake are taken in, or an end's packet comes to the other end in these bytes, with frames of the layer beneath.
+pub data Happening : Type 0 where
+  Did : (event : Event) (answer : Answer) → Happening
+  MadeAck : (end : Side) (room : ℕ) (result : Result (Option Made) MakeFault) (text : List ℕ) → Happening
+  RaisedLimits : (end : Side) (limits : PeerLimits) (result : Result (Unit {0}) RaiseFault) → Happening
+  CameWith : (end : Side) (number : ℕ) (bytes : List ℕ) (result : Result Received Closing) → Happening
+
 -- what happened, the newest first
 abbrev pub History : Type 0
-History = List (Event × Answer)
+History = List Happening
+
+-- the events of a script, with their answers, the newest first
+abbrev pub Log : Type 0
+Log = List (Event × Answer)
+
+-- they are what happened
+abbrev pub happened : Log → History
+happened log = map (λ x. Did x.0 x.1) log
 
 abbrev pub other : Side → Side
 other A = B
@@ -30,11 +52,15 @@ abbrev pub is_delivery : Act → Bool
 is_delivery (acts.Deliver k) = true
 is_delivery act = false
 
--- what the owner of one end did, with the answers, the newest first
+-- a call that the owner of one end made of those that scripts have, with its answer
+abbrev pub own_of : Side → Happening → List (Act × Answer)
+own_of s (Did event answer) = if same_side s event.end && not (is_delivery event.act) then (event.act, answer) ∷ [] else []
+own_of s x = []
+
+-- all of them, the newest first
 unfoldable pub own_calls : Side → History → List (Act × Answer)
 own_calls s [] = []
-own_calls s (x ∷ h) =
-    if same_side s x.0.end && not (is_delivery x.0.act) then (x.0.act, x.1) ∷ own_calls s h else own_calls s h
+own_calls s (x ∷ h) = own_of s x ++ own_calls s h
 
 -- the bytes of a stream that a call had accepted
 abbrev pub wrote_by : ℕ → Act → Answer → List ℕ
@@ -50,11 +76,23 @@ read_by n act answer = []
 abbrev pub ping_text : List ℕ
 ping_text = 1 ∷ []
 
+-- the payload that was made, where one was
+abbrev pub texts_of : Result (Option Made) MakeFault → List ℕ → List (List ℕ)
+texts_of (Ok (Some made)) text = text ∷ []
+texts_of (Ok None) text = []
+texts_of (Err fault) text = []
+
 -- the payload that a call made, or that goes under the number that it claimed
 abbrev pub made_by : Act → Answer → List (List ℕ)
-made_by (acts.Make room) (answers.Make (Ok (Some made)) payload) = payload.items ∷ []
+made_by (acts.Make room) (answers.Make result payload) = texts_of result payload.items
 made_by acts.Claim (answers.Claim (Ok number)) = ping_text ∷ []
 made_by act answer = []
+
+-- the same of whatever happened, where that was at this side
+abbrev pub made_now : Side → Happening → List (List ℕ)
+made_now s (Did event answer) = if same_side s event.end then made_by event.act answer else []
+made_now s (MadeAck end room result text) = if same_side s end then texts_of result text else []
+made_now s x = []
 
 abbrev pub wrote : ℕ → List (Act × Answer) → List ℕ
 wrote n [] = []
@@ -63,10 +101,6 @@ wrote n (c ∷ cs) = wrote n cs ++ wrote_by n c.0 c.1
 abbrev pub gave : ℕ → List (Act × Answer) → List ℕ
 gave n [] = []
 gave n (c ∷ cs) = gave n cs ++ read_by n c.0 c.1
-
-abbrev pub made_in : List (Act × Answer) → List (List ℕ)
-made_in [] = []
-made_in (c ∷ cs) = made_in cs ++ made_by c.0 c.1
 
 -- the bytes of a stream that `write` accepted at one end, joined
 abbrev pub written : Side → ℕ → History → List ℕ
@@ -77,8 +111,9 @@ abbrev pub read : Side → ℕ → History → List ℕ
 read s n h = gave n (own_calls s h)
 
 -- the payloads of the packets that one end's side sent, its own and those under claimed numbers, in order: packet numbers count from 0
-abbrev pub made : Side → History → List (List ℕ)
-made s h = made_in (own_calls s h)
+unfoldable pub made : Side → History → List (List ℕ)
+made s [] = []
+made s (x ∷ h) = made s h ++ made_now s x
 
 abbrev pub payload : Side → ℕ → History → Option (List ℕ)
 payload s k h = slice_get (made s h) k
@@ -91,11 +126,16 @@ abbrev pub delivers : ℕ → Act → Bool
 delivers k (acts.Deliver j) = k == j
 delivers k act = false
 
--- the peer's packet k was delivered to one end and taken in whole
+-- the peer's packet k comes to one end, and is taken in whole
+abbrev pub takes_in : Side → ℕ → Happening → Bool
+takes_in s k (Did event answer) = same_side (other s) event.end && delivers k event.act && is_done answer
+takes_in s k (CameWith end number bytes result) = same_side (other s) end && delivers k (acts.Deliver number) && is_done (answers.Deliver result)
+takes_in s k x = false
+
+-- it came so
 unfoldable pub processed : Side → ℕ → History → Bool
 processed s k [] = false
-processed s k (x ∷ h) =
-    if same_side (other s) x.0.end && delivers k x.0.act && is_done x.1 then true else processed s k h
+processed s k (x ∷ h) = if takes_in s k x then true else processed s k h
 
 -- the call stopped the stream's reader
 abbrev pub is_stop : ℕ → Act → Answer → Bool

@@ -10,7 +10,7 @@ use Rattle.qs_send.specs.Records.{Among}
 use Rattle.qs_calls.specs.declared.event.Side.{Side}
 use Rattle.qs_calls.specs.declared.event.Act.{Act}
 use Rattle.qs_calls.specs.declared.answer.Answer.{Answer}
-use Rattle.qs_runs.specs.Logs.{History, other, own_calls, processed, wrote, gave, made_by, stopped_in, ended_in}
+use Rattle.qs_runs.specs.Logs.{History, other, own_calls, processed, wrote, gave, made_by, made_now, stopped_in, ended_in}
 use Rattle.qs_runs.specs.Agree.{frames_in}
 
 -- the frames of the packets of an end, by packet number
@@ -80,15 +80,15 @@ IsNamed packets n = (f : Seen) × (m : ℕ) × Tells packets f × Names f m × (
 abbrev pub seen_by : Act → Answer → Packets
 seen_by act answer = map frames_in (made_by act answer)
 
--- the frames of the payloads that were made, in order
-abbrev pub seen_in : List (Act × Answer) → Packets
-seen_in [] = []
-seen_in (c ∷ cs) = seen_in cs ++ seen_by c.0 c.1
+-- the frames of the payloads that one end made, in order
+unfoldable pub packets_of : Side → History → Packets
+packets_of s [] = []
+packets_of s (x ∷ h) = packets_of s h ++ map frames_in (made_now s x)
 
-abbrev pub past_of : List (Act × Answer) → Packets → (ℕ → Bool) → Past
-past_of calls theirs done =
+abbrev pub past_of : List (Act × Answer) → (mine theirs : Packets) → (ℕ → Bool) → Past
+past_of calls mine theirs done =
     record {
-      mine = seen_in calls;
+      mine = mine;
       theirs = theirs;
       bytes = λ n. wrote n calls;
       gave = λ n. gave n calls;
@@ -99,4 +99,4 @@ past_of calls theirs done =
 
 -- what one end lived through, as the history tells
 abbrev pub past : Side → History → Past
-past s h = past_of (own_calls s h) (seen_in (own_calls (other s) h)) (λ k. processed s k h)
+past s h = past_of (own_calls s h) (packets_of s h) (packets_of (other s) h) (λ k. processed s k h)

@@ -1,15 +1,20 @@
 -- Trusted.
--- Two ends, each of which was told the other's limits, and what may happen to them. The whole file is ours, but that an
--- end is the client, the other the server, and each knows the other's limits (RFC 9000, sections 2.1 and 18.2).
-use Rattle.std.specs.Prelude.{◌≡◌, ℕ, List, [], ◌∷◌, Some, Result, Ok, Err}
+-- Two ends, each of which was told limits that the other grants, and what may happen to them. The whole file is ours, but that an
+-- end is the client, the other the server, and each knows limits of the other (RFC 9000, sections 2.1, 7.4.1 and 18.2).
+use Rattle.std.specs.Prelude.{◌≡◌, ℕ, ◌≤◌, List, [], ◌∷◌, Some, Result, Ok, Err}
 use Rattle.qs_wire.specs.declared.stream_id.Role.TheVariants.{Client, Server}
+use Rattle.qs_calls.specs.declared.closing.Closing.{Closing}
+use Rattle.qs_calls.specs.declared.closing.Received.{Received}
 use Rattle.qs_calls.specs.declared.settings.Settings.{Settings}
+use Rattle.qs_calls.specs.declared.settings.PeerLimits.{PeerLimits}
 use Rattle.qs_calls.specs.declared.settings.SetupFault.{SetupFault}
 use Rattle.qs_calls.specs.Settings.{limits_of}
 use Rattle.qs_machine.specs.Ends.{End, end_made}
+use Rattle.qs_machine.specs.Plains.{DifferInPlain}
 use Rattle.qs_machine.specs.Owner.{OpenStep, AcceptStep, WriteStep, FinishStep, ResetStep, StopStep, ReadStep}
 use Rattle.qs_machine.specs.Receiving.{ReceiveStep}
-use Rattle.qs_machine.specs.Making.{MakeStep, LoseStep, ClaimStep}
+use Rattle.qs_machine.specs.Making.{MakeStep, MakeAckStep, LoseStep, ClaimStep}
+use Rattle.qs_machine.specs.Raising.{RaiseStep}
 use Rattle.qs_calls.specs.declared.event.Side.{Side}
 use Rattle.qs_calls.specs.declared.event.Side.TheVariants.{A, B}
 use Rattle.qs_calls.specs.declared.event.Act.{Act}
@@ -17,7 +22,7 @@ use Rattle.qs_calls.specs.declared.event.Act.TheVariants as acts
 use Rattle.qs_calls.specs.declared.event.Event.{Event}
 use Rattle.qs_calls.specs.declared.answer.Answer.{Answer}
 use Rattle.qs_calls.specs.declared.answer.Answer.TheVariants as answers
-use Rattle.qs_runs.specs.Logs.{History, other, payload}
+use Rattle.qs_runs.specs.Logs.{Happening, Did, MadeAck, RaisedLimits, CameWith, History, Log, happened, other, payload}
 
 pub record World : Type 0 where
   pub a : End
@@ -32,9 +37,22 @@ both_made (Err fault) b = Err fault
 both_made (Ok a) (Err fault) = Err fault
 both_made (Ok a) (Ok b) = Ok (record { a = a; b = b })
 
--- what comes of making two ends, of which A is the client, each with the other's limits
+-- what comes of making two ends, of which A is the client, each told limits of the other
+abbrev pub begun_with : Settings → Settings → (of_a of_b : PeerLimits) → Result World SetupFault
+begun_with a b of_a of_b = both_made (end_made Client a of_b) (end_made Server b of_a)
+
+-- the same, each told the other's true limits
 abbrev pub world_made : Settings → Settings → Result World SetupFault
-world_made a b = both_made (end_made Client a (limits_of b)) (end_made Server b (limits_of a))
+world_made a b = begun_with a b (limits_of a) (limits_of b)
+
+-- no limit is above the one that an end of these settings grants from the start
+pub record AreGranted (p : PeerLimits) (s : Settings) : Type 0 where
+  pub max_data : p.max_data ≤ s.conn_window
+  pub bidi_local : p.bidi_local ≤ s.bidi_local
+  pub bidi_remote : p.bidi_remote ≤ s.bidi_remote
+  pub uni : p.uni ≤ s.uni
+  pub streams_bidi : p.streams_bidi ≤ s.grant_bidi
+  pub streams_uni : p.streams_uni ≤ s.grant_uni
 
 -- what an end's owner does, and what the end answers; a packet may be made from any stream on, and an ACK tell any delay
 abbrev pub OwnStep : End → Act → Answer → End → Type 0
@@ -58,15 +76,45 @@ DeliverStep h old s k (answers.Deliver r) new =
     × (end_of new s ≡ end_of old s)
 DeliverStep h old s k answer new = ⊥
 
-abbrev pub StepBy : History → World → Side → Act → Answer → World → Type 0
-StepBy h old s (acts.Deliver k) answer new = DeliverStep h old s k answer new
-StepBy h old s act answer new = OwnStep (end_of old s) act answer (end_of new s) × (end_of new (other s) ≡ end_of old (other s))
+-- an owner's call: the other end stays as it is
+abbrev pub OwnCall : World → Side → World → Type 0 → Type 0
+OwnCall old s new Step = Step × (end_of new (other s) ≡ end_of old (other s))
 
--- one thing happens in a world with this history
-abbrev pub WorldStep : History → World → Event → Answer → World → Type 0
-WorldStep h old event answer new = StepBy h old event.end event.act answer new
+-- an event as scripts have them
+abbrev pub EventStep : History → World → Side → Act → Answer → World → Type 0
+EventStep h old s (acts.Deliver k) answer new = DeliverStep h old s k answer new
+EventStep h old s act answer new = OwnCall old s new (OwnStep (end_of old s) act answer (end_of new s))
+
+-- a payload comes to the other end with plain frames of the layer beneath behind it, or in the place of the PING of a claimed number
+-- (RFC 9000, sections 13.2.1 and 19)
+abbrev pub ComeWithStep : History → World → Side → ℕ → List ℕ → Result Received Closing → World → Type 0
+ComeWithStep h old s k bytes r new =
+    (text : List ℕ) × (payload s k h ≡ Some text) × DifferInPlain bytes text
+    × ReceiveStep (end_of old (other s)) k bytes r (end_of new (other s))
+    × (end_of new s ≡ end_of old s)
+
+-- one thing happens in a world with this history; an ACK may tell any delay, and limits are taken in that the peer grants
+abbrev pub WorldStep : History → World → Happening → World → Type 0
+WorldStep h old (Did event answer) new = EventStep h old event.end event.act answer new
+WorldStep h old (MadeAck s room r text) new = OwnCall old s new ((delay : ℕ) × MakeAckStep (end_of old s) delay room r text (end_of new s))
+WorldStep h old (RaisedLimits s p r) new = OwnCall old s new (AreGranted p (end_of old (other s)).settings × RaiseStep (end_of old s) p r (end_of new s))
+WorldStep h old (CameWith s k bytes r) new = ComeWithStep h old s k bytes r new
+
+-- Two ends were made, each told limits that the other grants: the true ones, or lower ones that it remembers from a connection before
+-- (RFC 9000, section 7.4.1).
+pub record Begins (a b : Settings) (w : World) : Type 0 where
+  pub of_a : PeerLimits
+  pub of_b : PeerLimits
+  pub granted_a : AreGranted of_a a
+  pub granted_b : AreGranted of_b b
+  pub begun : begun_with a b of_a of_b ≡ Ok w
 
 -- the world comes from the first one by what happened
 abbrev pub Run : Settings → Settings → History → World → Type 0
-Run a b [] w = world_made a b ≡ Ok w
-Run a b (x ∷ h) w = (v : World) × Run a b h v × WorldStep h v x.0 x.1 w
+Run a b [] w = Begins a b w
+Run a b (x ∷ h) w = (v : World) × Run a b h v × WorldStep h v x w
+
+-- a run of events alone, of ends that were told the true limits
+abbrev pub EventRun : Settings → Settings → Log → World → Type 0
+EventRun a b [] w = world_made a b ≡ Ok w
+EventRun a b (x ∷ log) w = (v : World) × EventRun a b log v × WorldStep (happened log) v (Did x.0 x.1) w

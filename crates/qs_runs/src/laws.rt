@@ -5,9 +5,9 @@ ghost use Rattle.qs_runs.specs.Agree.{EveryRunAgrees};
 ghost use Rattle.qs_runs.specs.Claims.{ClaimsAlwaysTellNothing};
 ghost use Rattle.qs_runs.specs.Examples.{Examples};
 ghost use Rattle.qs_runs.specs.Exclusions.{Exclusions};
-ghost use Rattle.qs_runs.specs.Laws.{NewEndsMeetInvariant, StepsKeepInvariant, PiecesAreAlwaysWritten, ReceivedIsAlwaysBelowSent, StoredIsAlwaysWritten, ReadIsAlwaysWritten, ProcessedWasAlwaysTaken, AckedWasAlwaysProcessed, FinalSizeIsAlwaysDeclared, WhatIsKnownStays, ResetCodeIsAlwaysTheSenders, SentIsAlwaysWithinKnown, KnownIsAlwaysWithinGranted, StreamsAreOpenAtInitiator, OpenedIsAlwaysBelowKnown, ReadIsAPrefix, SpentIsBelowSent, RepeatsSpendNothing, ReceivedIsWhole, FinalSizesAlwaysAgree, NoEndCloses};
+ghost use Rattle.qs_runs.specs.Laws.{NewEndsMeetInvariant, StepsKeepInvariant, EventRunsAreRuns, PiecesAreAlwaysWritten, ReceivedIsAlwaysBelowSent, StoredIsAlwaysWritten, ReadIsAlwaysWritten, ProcessedWasAlwaysTaken, AckedWasAlwaysProcessed, FinalSizeIsAlwaysDeclared, WhatIsKnownStays, ResetCodeIsAlwaysTheSenders, SentIsAlwaysWithinKnown, KnownIsAlwaysWithinGranted, StreamsAreOpenAtInitiator, OpenedIsAlwaysBelowKnown, ReadIsAPrefix, SpentIsBelowSent, RepeatsSpendNothing, ReceivedIsWhole, FinalSizesAlwaysAgree, NoEndCloses};
 
-/// Two new ends, each told the other's limits, meet the invariant.
+/// Two new ends, each told limits that the other grants, meet the invariant.
 pub fn new_ends_meet_invariant()
     ensures { NewEndsMeetInvariant }
 {}
@@ -15,6 +15,11 @@ pub fn new_ends_meet_invariant()
 /// Whatever happens, the invariant stays.
 pub fn steps_keep_invariant()
     ensures { StepsKeepInvariant }
+{}
+
+/// Every run of events alone, of ends that were told the true limits, is a run.
+pub fn event_runs_are_runs()
+    ensures { EventRunsAreRuns }
 {}
 
 /// What ever stood in a packet are the bytes that were written at its offsets, below the sent end.
@@ -117,8 +122,8 @@ pub fn every_run_agrees()
     ensures { EveryRunAgrees }
 {}
 
-/// The packet of a number that the layer beneath claimed is a PING, and one that comes changes nothing at the peer but which numbers it
-/// keeps, from which one on, and whether an ACK is due.
+/// The packet of a number that the layer beneath claimed is a PING, and one that comes, or plain frames in its place, changes nothing at
+/// the peer but which numbers it keeps, from which one on, and whether an ACK is due.
 pub fn claims_tell_nothing()
     ensures { ClaimsAlwaysTellNothing }
 {}

@@ -9,7 +9,7 @@ use Rattle.qs_calls.specs.declared.event.Act.TheVariants as acts
 use Rattle.qs_calls.specs.declared.event.Event.{Event}
 use Rattle.qs_calls.specs.declared.answer.Answer.{Answer}
 use Rattle.qs_calls.specs.declared.answer.Answer.TheVariants as answers
-use Rattle.qs_runs.specs.Logs.{History, same_side, made}
+use Rattle.qs_runs.specs.Logs.{Log, happened, same_side, made}
 use Rattle.qs_trace.specs.Items.{Item, sent, received, lost, traced}
 
 -- the payload of an item that tells of a packet sent
@@ -45,7 +45,7 @@ declared_at s x = if same_side s x.0.end then declared_by x.0.act x.1 else []
 
 -- the payloads that a trace tells as sent are those that the end's side sent, in order
 abbrev pub SentIsMade : Type 0
-SentIsMade = (s : Side) (h : History) → flat_map sent_by (traced s (reverse h)) ≡ made s h
+SentIsMade = (s : Side) (log : Log) → flat_map sent_by (traced s (reverse log)) ≡ made s (happened log)
 
 -- the numbers that it tells as received are those of the peer's packets that were delivered, in order, each as often as it was
 abbrev pub ReceivedIsDelivered : Type 0

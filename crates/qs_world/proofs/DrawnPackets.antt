@@ -13,7 +13,7 @@ use Rattle.qs_world.specs.declared.draws.Kind.TheVariants as kinds
 use Rattle.qs_world.specs.declared.report.PlayFault.{PlayFault}
 use Rattle.qs_world.specs.declared.report.PlayFault.TheVariants as faults
 use Rattle.qs_world.specs.Draws.{draw, after, end_of_stream, of_packets, IsChosen, IsDrawn}
-use Rattle.qs_runs.specs.Logs.{History, made}
+use Rattle.qs_runs.specs.Logs.{Log, happened, made}
 use Rattle.qs_world.specs.Plays.{Played, IsMissing, IsMissingBy, PlayStep}
 
 draw_below : (m : ℕ) (g : Lcg) → 0 < m → draw m g < m
@@ -55,10 +55,10 @@ there : (xs : List (List ℕ)) (k : ℕ) → k < length xs → slice_get xs k �
 there xs k lt none = none-some _ (sym none ∙ slice_get-get_or xs k [] lt)
 
 -- nothing that is drawn is missing
-pub not_missing : (h : History) (s : Side) (kind : Kind) (m : ℕ) (g new : Lcg) (act : Act)
-    → m ≡ length (made s h) → IsDrawn kind m g act new → IsMissingBy h s act → ⊥
+pub not_missing : (h : Log) (s : Side) (kind : Kind) (m : ℕ) (g new : Lcg) (act : Act)
+    → m ≡ length (made s (happened h)) → IsDrawn kind m g act new → IsMissingBy h s act → ⊥
 not_missing h s kind m g new (acts.Deliver k) count drawn missing =
-    there (made s h) k (let lt = delivers_made kind m k g new drawn in omega (arith, lt, count)) missing
+    there (made s (happened h)) k (let lt = delivers_made kind m k g new drawn in omega (arith, lt, count)) missing
 not_missing h s kind m g new act count drawn missing = missing
 
 -- a step that is refused found no memory, where nothing is missing

@@ -12,7 +12,8 @@ use Rattle.qs_wire.specs.declared.stream_id.Dir.TheVariants.{Bidi}
 use Rattle.qs_calls.specs.declared.event.Side.TheVariants.{A}
 use Rattle.qs_calls.specs.declared.event.Act.TheVariants as acts
 use Rattle.qs_calls.specs.declared.answer.Answer.TheVariants as answers
-use Rattle.qs_runs.specs.Worlds.{World, WorldStep, Run}
+use Rattle.qs_runs.specs.Logs.{Did}
+use Rattle.qs_runs.specs.Worlds.{World, WorldStep, EventRun}
 use Rattle.std.specs.Fmt.{digits}
 use Rattle.qs_world.specs.Examples.{StreamsBeginAtZero, ReportLines, Examples}
 
@@ -32,11 +33,11 @@ four_is_not n e differs = differs e
 same_world : (v w : World) → ◌≡◌ {A = Result World SetupFault} (Ok v) (Ok w) → v ≡ w
 same_world v w e = cc
 
-not_four : (w : World) → Run standard standard ((record { end = A; act = acts.OpenStream Bidi }, answers.OpenStream (Ok 4)) ∷ []) w → ⊥
+not_four : (w : World) → EventRun standard standard ((record { end = A; act = acts.OpenStream Bidi }, answers.OpenStream (Ok 4)) ∷ []) w → ⊥
 not_four w (v, first, step) =
     let begins : World = record { a = new_end Client standard (limits_of standard); b = new_end Server standard (limits_of standard) } in
     let same : begins ≡ v = same_world begins v first in
-    let at : WorldStep [] begins (record { end = A; act = acts.OpenStream Bidi }) (answers.OpenStream (Ok 4)) w = subst (λ x. WorldStep [] x (record { end = A; act = acts.OpenStream Bidi }) (answers.OpenStream (Ok 4)) w) (sym same) step in
+    let at : WorldStep [] begins (Did (record { end = A; act = acts.OpenStream Bidi }) (answers.OpenStream (Ok 4))) w = subst (λ x. WorldStep [] x (Did (record { end = A; act = acts.OpenStream Bidi }) (answers.OpenStream (Ok 4))) w) (sym same) step in
     elim at.0 [
       | inl none ↦ four_is_not 9 (ap number_in none.0) (omega arith)
       | inr opened ↦ four_is_not 0 (ap number_in opened.0) (omega arith)

@@ -1,5 +1,5 @@
 -- The places of the payloads in a log, and one event more.
-use Rattle.std.proofs.Common.{◌≡◌, ℕ, zero, suc, Bool, true, false, not, ◌&&◌, List, [], ◌∷◌, ◌++◌, length, reverse, Option, Some, None, Ok, slice_get, IfSome, IfNone, refl, sym, ap, ◌∙◌, subst, if◌then◌else◌, append-nil}
+use Rattle.std.proofs.Common.{◌≡◌, ℕ, zero, suc, Bool, true, false, ◌&&◌, List, [], ◌∷◌, ◌++◌, length, reverse, Option, Some, None, Ok, slice_get, IfSome, IfNone, refl, sym, ap, ◌∙◌, subst, if◌then◌else◌, append-nil}
 use Rattle.std.proofs.lemmas.List.{reverse-append}
 use Rattle.std.proofs.lemmas.Option.{none-some, same_Some}
 use Rattle.qs_calls.specs.declared.event.Side.{Side}
@@ -8,7 +8,7 @@ use Rattle.qs_calls.specs.declared.event.Act.TheVariants as acts
 use Rattle.qs_calls.specs.declared.event.Event.{Event}
 use Rattle.qs_calls.specs.declared.answer.Answer.{Answer}
 use Rattle.qs_calls.specs.declared.answer.Answer.TheVariants as answers
-use Rattle.qs_runs.specs.Logs.{History, payload, same_side, is_delivery, own_calls, made, made_in, made_by, ping_text}
+use Rattle.qs_runs.specs.Logs.{Log, happened, payload, same_side, made, made_by, ping_text}
 use Rattle.qs_world.specs.Places.{makes, makes_by, text_of, IsPlace, ArePlaces, IsPlaceOf}
 use Rattle.qs_runs.proofs.Lists.{slice_get-append, slice_get-last}
 
@@ -16,16 +16,10 @@ use Rattle.qs_runs.proofs.Lists.{slice_get-append, slice_get-last}
 abbrev pub made_at : Side → Event → Answer → List (List ℕ)
 made_at s event answer = if same_side s event.end then made_by event.act answer else []
 
-no_delivery_makes : (act : Act) (answer : Answer) (b : Bool) (h : List (Act × Answer)) →
-    made_in (if b && not (is_delivery act) then (act, answer) ∷ h else h) ≡ made_in h ++ (if b then made_by act answer else [])
-no_delivery_makes act answer false h = sym (append-nil (made_in h))
-no_delivery_makes (acts.Deliver k) answer true h = sym (append-nil (made_in h))
-no_delivery_makes act answer true h = refl
-
 -- what an end made, after one event more
-pub made_more : (s : Side) (event : Event) (answer : Answer) (h : History) → made s ((event, answer) ∷ h) ≡ made s h ++ made_at s event answer
-unfolding own_calls
-made_more s event answer h = no_delivery_makes event.act answer (same_side s event.end) (own_calls s h)
+pub made_more : (s : Side) (event : Event) (answer : Answer) (h : Log) → made s (happened ((event, answer) ∷ h)) ≡ made s (happened h) ++ made_at s event answer
+unfolding made
+made_more s event answer h = refl
 
 -- Places
 
@@ -78,48 +72,48 @@ made_nothing acts.Claim (answers.Claim (Ok number)) is = absurd (cc)
 made_nothing act answer is = refl
 
 -- what an end made, and where, after one event more
-pub places_kept : (s : Side) (log : List (Event × Answer)) (places : List ℕ) (event : Event) (answer : Answer) → ArePlaces log places (made s (reverse log)) →
-    ArePlaces (log ++ (event, answer) ∷ []) (if makes s event answer then places ++ length log ∷ [] else places) (made s (reverse (log ++ (event, answer) ∷ [])))
+pub places_kept : (s : Side) (log : List (Event × Answer)) (places : List ℕ) (event : Event) (answer : Answer) → ArePlaces log places (made s (happened (reverse log))) →
+    ArePlaces (log ++ (event, answer) ∷ []) (if makes s event answer then places ++ length log ∷ [] else places) (made s (happened (reverse (log ++ (event, answer) ∷ []))))
 places_kept s log places event answer h =
-    subst (λ r. ArePlaces (log ++ (event, answer) ∷ []) (if makes s event answer then places ++ length log ∷ [] else places) (made s r)) (sym (reverse-append log ((event, answer) ∷ [])))
+    subst (λ r. ArePlaces (log ++ (event, answer) ∷ []) (if makes s event answer then places ++ length log ∷ [] else places) (made s (happened r))) (sym (reverse-append log ((event, answer) ∷ [])))
     (subst (λ ts. ArePlaces (log ++ (event, answer) ∷ []) (if makes s event answer then places ++ length log ∷ [] else places) ts) (sym (made_more s event answer (reverse log)))
     (go (same_side s event.end) _ refl))
   where
-    old : ArePlaces (log ++ (event, answer) ∷ []) places (made s (reverse log))
-    old = Places_more log ((event, answer) ∷ []) places (made s (reverse log)) h
+    old : ArePlaces (log ++ (event, answer) ∷ []) places (made s (happened (reverse log)))
+    old = Places_more log ((event, answer) ∷ []) places (made s (happened (reverse log))) h
 
-    same : (ts : List (List ℕ)) → ts ≡ [] → ArePlaces (log ++ (event, answer) ∷ []) places (made s (reverse log) ++ ts)
-    same ts e = subst (λ x. ArePlaces (log ++ (event, answer) ∷ []) places (made s (reverse log) ++ x)) (sym e) (subst (λ x. ArePlaces (log ++ (event, answer) ∷ []) places x) (sym (append-nil (made s (reverse log)))) old)
+    same : (ts : List (List ℕ)) → ts ≡ [] → ArePlaces (log ++ (event, answer) ∷ []) places (made s (happened (reverse log)) ++ ts)
+    same ts e = subst (λ x. ArePlaces (log ++ (event, answer) ∷ []) places (made s (happened (reverse log)) ++ x)) (sym e) (subst (λ x. ArePlaces (log ++ (event, answer) ∷ []) places x) (sym (append-nil (made s (happened (reverse log))))) old)
 
     go : (b c : Bool) → makes_by event.act answer ≡ c →
-        ArePlaces (log ++ (event, answer) ∷ []) (if b && c then places ++ length log ∷ [] else places) (made s (reverse log) ++ (if b then made_by event.act answer else []))
+        ArePlaces (log ++ (event, answer) ∷ []) (if b && c then places ++ length log ∷ [] else places) (made s (happened (reverse log)) ++ (if b then made_by event.act answer else []))
     go false c e = same [] refl
     go true false e = same (made_by event.act answer) (made_nothing event.act answer e)
     go true true e =
         let (text, is, there) = made_once event.act answer e in
-        subst (λ x. ArePlaces (log ++ (event, answer) ∷ []) (places ++ length log ∷ []) (made s (reverse log) ++ x)) (sym is)
-        (Places_push (log ++ (event, answer) ∷ []) places (made s (reverse log)) (length log) text old ((event, answer), slice_get-last log (event, answer), there))
+        subst (λ x. ArePlaces (log ++ (event, answer) ∷ []) (places ++ length log ∷ []) (made s (happened (reverse log)) ++ x)) (sym is)
+        (Places_push (log ++ (event, answer) ∷ []) places (made s (happened (reverse log))) (length log) text old ((event, answer), slice_get-last log (event, answer), there))
 
 -- the same, where the parts are known by equations
-pub kept_by : (s : Side) (log new : List (Event × Answer)) (places after : List ℕ) (event : Event) (answer : Answer) (place : ℕ) (noted : Bool) → ArePlaces log places (made s (reverse log)) →
-    new ≡ log ++ (event, answer) ∷ [] → after ≡ (if noted then places ++ place ∷ [] else places) → noted ≡ makes s event answer → place ≡ length log → ArePlaces new after (made s (reverse new))
+pub kept_by : (s : Side) (log new : List (Event × Answer)) (places after : List ℕ) (event : Event) (answer : Answer) (place : ℕ) (noted : Bool) → ArePlaces log places (made s (happened (reverse log))) →
+    new ≡ log ++ (event, answer) ∷ [] → after ≡ (if noted then places ++ place ∷ [] else places) → noted ≡ makes s event answer → place ≡ length log → ArePlaces new after (made s (happened (reverse new)))
 kept_by s log new places after event answer place noted h is_new is_after is_noted is_place =
-    subst (λ x. ArePlaces x after (made s (reverse x))) (sym is_new)
-    (subst (λ x. ArePlaces (log ++ (event, answer) ∷ []) x (made s (reverse (log ++ (event, answer) ∷ [])))) (sym (is_after ∙ ap (λ b. if b then places ++ place ∷ [] else places) is_noted ∙ ap (λ q. if makes s event answer then places ++ q ∷ [] else places) is_place))
+    subst (λ x. ArePlaces x after (made s (happened (reverse x)))) (sym is_new)
+    (subst (λ x. ArePlaces (log ++ (event, answer) ∷ []) x (made s (happened (reverse (log ++ (event, answer) ∷ []))))) (sym (is_after ∙ ap (λ b. if b then places ++ place ∷ [] else places) is_noted ∙ ap (λ q. if makes s event answer then places ++ q ∷ [] else places) is_place))
     (places_kept s log places event answer h))
 
 -- where nothing has happened
-pub no_places : (s : Side) (log : List (Event × Answer)) (places : List ℕ) → log ≡ [] → places ≡ [] → ArePlaces log places (made s (reverse log))
-unfolding own_calls
+pub no_places : (s : Side) (log : List (Event × Answer)) (places : List ℕ) → log ≡ [] → places ≡ [] → ArePlaces log places (made s (happened (reverse log)))
+unfolding made
 no_places s log places e f =
-    subst (λ x. ArePlaces x places (made s (reverse x))) (sym e) (subst (λ x. ArePlaces [] x (made s [])) (sym f) tt)
+    subst (λ x. ArePlaces x places (made s (happened (reverse x)))) (sym e) (subst (λ x. ArePlaces [] x (made s (happened []))) (sym f) tt)
 
 -- A look-up
 
-pub is_place_of : (s : Side) (h : History) (places : List ℕ) (k : ℕ) (found : Option ℕ) → ArePlaces (reverse h) places (made s h) → found ≡ slice_get places k → IfSome found (IsPlaceOf s k h)
+pub is_place_of : (s : Side) (h : Log) (places : List ℕ) (k : ℕ) (found : Option ℕ) → ArePlaces (reverse h) places (made s (happened h)) → found ≡ slice_get places k → IfSome found (IsPlaceOf s k h)
 is_place_of s h places k None are is = tt
-is_place_of s h places k (Some place) are is = place_found (reverse h) places (made s h) k place are (sym is)
+is_place_of s h places k (Some place) are is = place_found (reverse h) places (made s (happened h)) k place are (sym is)
 
-pub no_place_of : (s : Side) (h : History) (places : List ℕ) (k : ℕ) (found : Option ℕ) → ArePlaces (reverse h) places (made s h) → found ≡ slice_get places k → IfNone found (payload s k h ≡ None)
+pub no_place_of : (s : Side) (h : Log) (places : List ℕ) (k : ℕ) (found : Option ℕ) → ArePlaces (reverse h) places (made s (happened h)) → found ≡ slice_get places k → IfNone found (payload s k (happened h) ≡ None)
 no_place_of s h places k (Some place) are is = tt
-no_place_of s h places k None are is = place_none (reverse h) places (made s h) k are (sym is)
+no_place_of s h places k None are is = place_none (reverse h) places (made s (happened h)) k are (sym is)

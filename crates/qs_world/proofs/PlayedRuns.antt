@@ -13,18 +13,16 @@ use Rattle.qs_world.specs.declared.report.Report.{Report}
 use Rattle.qs_world.specs.declared.report.PlayFault.{PlayFault}
 use Rattle.qs_world.specs.declared.report.PlayFault.TheVariants as faults
 use Rattle.qs_calls.specs.Events.{fits}
-use Rattle.qs_runs.specs.Logs.{History}
+use Rattle.qs_runs.specs.Logs.{Log}
 use Rattle.qs_runs.specs.Worlds.{World, world_made}
 use Rattle.qs_world.specs.Reports.{IsReport}
 use Rattle.qs_world.specs.Plays.{events_of, AgreeingRun, Played, HasPlayed, begun, PlayStep, PlayOf}
-use Rattle.qs_world.proofs.OneMore.{one_more}
-use Rattle.qs_runs.proofs.Runs.{run_keeps}
-use Rattle.qs_runs.proofs.Agrees.{agrees}
+use Rattle.qs_world.proofs.OneMore.{run_agrees, one_more}
 
 -- Runs
 
 agreeing_start : (a b : Settings) (w : World) → world_made a b ≡ Ok w → AgreeingRun a b [] w
-agreeing_start a b w is = (is, agrees a b [] w (run_keeps a b [] w is))
+agreeing_start a b w is = run_agrees a b [] w is
 
 -- Events
 
@@ -37,7 +35,7 @@ are_push : (xs : List (Event × Answer)) (x : Event × Answer) → events_of (xs
 are_push [] x = refl
 are_push (y ∷ xs) x = ap (λ l. y.0 ∷ l) (are_push xs x)
 
-are_more : (h : History) (events : List Event) (event : Event) (answer : Answer) → events_of (reverse h) ≡ events → events_of (reverse ((event, answer) ∷ h)) ≡ events ++ event ∷ []
+are_more : (h : Log) (events : List Event) (event : Event) (answer : Answer) → events_of (reverse h) ≡ events → events_of (reverse ((event, answer) ∷ h)) ≡ events ++ event ∷ []
 are_more h events event answer are =
     let log : reverse ((event, answer) ∷ h) ≡ reverse h ++ (event, answer) ∷ [] = reverse_onto h (event, answer) [] in
     ap events_of log ∙ are_push (reverse h) (event, answer) ∙ ap (λ l. l ++ event ∷ []) are

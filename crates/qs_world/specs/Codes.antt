@@ -6,11 +6,11 @@ use Rattle.qs_machine.specs.EndCodes.{end_code}
 use Rattle.qs_machine.specs.Ends.{End}
 use Rattle.qs_calls.specs.declared.event.Event.{Event}
 use Rattle.qs_calls.specs.declared.answer.Answer.{Answer}
-use Rattle.qs_runs.specs.Logs.{History}
+use Rattle.qs_runs.specs.Logs.{Log}
 use Rattle.qs_world.specs.Plays.{Played}
 
 abbrev pub played_code : Coded Event → Coded Answer → Coded Played
 played_code event answer =
-    code_by (History × (End × End)) (coded× (coded_list (coded× event answer)) (coded× end_code end_code)) (λ p. (p.log, (p.ends.a, p.ends.b)))
+    code_by (Log × (End × End)) (coded× (coded_list (coded× event answer)) (coded× end_code end_code)) (λ p. (p.log, (p.ends.a, p.ends.b)))
     (λ p. record { log = p.0; ends = record { a = p.1.0; b = p.1.1 } })
     (λ _. refl)

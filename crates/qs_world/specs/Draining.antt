@@ -13,7 +13,7 @@ use Rattle.qs_calls.specs.declared.event.Act.TheVariants as acts
 use Rattle.qs_calls.specs.declared.event.Event.{Event}
 use Rattle.qs_calls.specs.declared.answer.Answer.{Answer}
 use Rattle.qs_calls.specs.declared.answer.Answer.TheVariants as answers
-use Rattle.qs_runs.specs.Logs.{History}
+use Rattle.qs_runs.specs.Logs.{Did, Log, happened}
 use Rattle.qs_runs.specs.Worlds.{World, end_of, WorldStep}
 use Rattle.qs_world.specs.declared.report.PlayFault.{PlayFault}
 use Rattle.qs_world.specs.declared.report.PlayFault.TheVariants as faults
@@ -40,7 +40,7 @@ MadeBy (answers.Make (Ok (Some made)) text) k = made.number ≡ k
 MadeBy answer k = ⊥
 
 -- the newest event of a log made packet k of that end
-abbrev pub HasJustMade : Side → ℕ → History → Type 0
+abbrev pub HasJustMade : Side → ℕ → Log → Type 0
 HasJustMade s k [] = ⊥
 HasJustMade s k (x ∷ h) = (x.0.end ≡ s) × MadeBy x.1 k
 
@@ -56,7 +56,7 @@ IsPlain p s act = ⊥
 -- one more plain event happened, and is logged with its answer
 abbrev pub PlainStep : Played → Played → Type 0
 PlainStep old new =
-    (event : Event) × (answer : Answer) × IsPlain old event.end event.act × (new.log ≡ (event, answer) ∷ old.log) × WorldStep old.log old.ends event answer new.ends
+    (event : Event) × (answer : Answer) × IsPlain old event.end event.act × (new.log ≡ (event, answer) ∷ old.log) × WorldStep (happened old.log) old.ends (Did event answer) new.ends
 
 -- so many plain events happened, one after the other
 abbrev pub PlainSteps : Played → ℕ → Played → Type 0

@@ -6,7 +6,7 @@ use Rattle.qs_calls.specs.declared.event.Side.TheVariants.{A, B}
 use Rattle.qs_calls.specs.declared.event.Act.TheVariants as acts
 use Rattle.qs_calls.specs.declared.answer.Answer.TheVariants as answers
 use Rattle.qs_machine.specs.Examples.{standard}
-use Rattle.qs_runs.specs.Worlds.{World, Run}
+use Rattle.qs_runs.specs.Worlds.{World, EventRun}
 use Rattle.qs_world.specs.PlayText.{lane_text, end_text}
 
 pub record ReportLines : Type 0 where
@@ -21,8 +21,8 @@ pub record ReportLines : Type 0 where
 -- A opens a stream, and may be answered number 0 alone.
 pub record StreamsBeginAtZero : Type 0 where
   pub world : World
-  pub runs : Run standard standard ((record { end = A; act = acts.OpenStream Bidi }, answers.OpenStream (Ok 0)) ∷ []) world
-  pub not_four : (w : World) → Run standard standard ((record { end = A; act = acts.OpenStream Bidi }, answers.OpenStream (Ok 4)) ∷ []) w → ⊥
+  pub runs : EventRun standard standard ((record { end = A; act = acts.OpenStream Bidi }, answers.OpenStream (Ok 0)) ∷ []) world
+  pub not_four : (w : World) → EventRun standard standard ((record { end = A; act = acts.OpenStream Bidi }, answers.OpenStream (Ok 4)) ∷ []) w → ⊥
 
 pub record Examples : Type 0 where
   pub first_stream : StreamsBeginAtZero

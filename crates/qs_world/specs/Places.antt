@@ -8,17 +8,17 @@ use Rattle.qs_calls.specs.declared.event.Act.TheVariants as acts
 use Rattle.qs_calls.specs.declared.event.Event.{Event}
 use Rattle.qs_calls.specs.declared.answer.Answer.{Answer}
 use Rattle.qs_calls.specs.declared.answer.Answer.TheVariants as answers
-use Rattle.qs_runs.specs.Logs.{History, same_side, payload, ping_text}
+use Rattle.qs_runs.specs.Logs.{Log, happened, same_side, payload, ping_text}
 
 -- what happened, and whether there is room for one event more
 pub record Logged : Type 0 where
-  pub history : History
+  pub history : Log
   pub ready : Bool
 
 -- it is stored as the pair of its fields
 abbrev pub logged_code : Coded Event → Coded Answer → Coded Logged
 logged_code event answer =
-    code_by (History × Bool) (coded× (coded_list (coded× event answer)) coded_bool) (λ l. (l.history, l.ready)) (λ p. record { history = p.0; ready = p.1 }) (λ _. refl)
+    code_by (Log × Bool) (coded× (coded_list (coded× event answer)) coded_bool) (λ l. (l.history, l.ready)) (λ p. record { history = p.0; ready = p.1 }) (λ _. refl)
 
 -- the call made a packet, or claimed a number for one
 abbrev pub makes_by : Act → Answer → Bool
@@ -41,8 +41,8 @@ abbrev pub IsPlace : List (Event × Answer) → ℕ → List ℕ → Type 0
 IsPlace log place text = (x : Event × Answer) × (slice_get log place ≡ Some x) × (text_of x.1 ≡ Some text)
 
 -- and there the payload of that end's packet stands
-abbrev pub IsPlaceOf : Side → ℕ → History → ℕ → Type 0
-IsPlaceOf s k h place = (text : List ℕ) × (payload s k h ≡ Some text) × IsPlace (reverse h) place text
+abbrev pub IsPlaceOf : Side → ℕ → Log → ℕ → Type 0
+IsPlaceOf s k log place = (text : List ℕ) × (payload s k (happened log) ≡ Some text) × IsPlace (reverse log) place text
 
 -- the places of payloads in the log, in order
 abbrev pub ArePlaces : List (Event × Answer) → List ℕ → List (List ℕ) → Type 0

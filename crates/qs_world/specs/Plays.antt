@@ -14,7 +14,7 @@ use Rattle.qs_calls.specs.declared.answer.Answer.{Answer}
 use Rattle.qs_world.specs.declared.report.Report.{Report}
 use Rattle.qs_world.specs.declared.report.PlayFault.{PlayFault}
 use Rattle.qs_world.specs.declared.report.PlayFault.TheVariants as faults
-use Rattle.qs_runs.specs.Logs.{History, payload}
+use Rattle.qs_runs.specs.Logs.{Did, Log, happened, payload}
 use Rattle.qs_runs.specs.Worlds.{World, world_made, WorldStep}
 use Rattle.qs_runs.specs.Agree.{Agree, StepAgrees}
 use Rattle.qs_world.specs.Reports.{IsReport}
@@ -25,14 +25,16 @@ events_of log = map (λ x. x.0) log
 
 -- Runs
 
--- A run in which each world agrees with what happened until then, and each step agrees.
-abbrev pub AgreeingRun : Settings → Settings → History → World → Type 0
+-- A run of events in which each world agrees with what happened until then, and each step agrees; each end was told the other's true
+-- limits.
+abbrev pub AgreeingRun : Settings → Settings → Log → World → Type 0
 AgreeingRun a b [] w = (world_made a b ≡ Ok w) × Agree [] w
-AgreeingRun a b (x ∷ h) w = (v : World) × AgreeingRun a b h v × WorldStep h v x.0 x.1 w × StepAgrees h v x.0 w × Agree (x ∷ h) w
+AgreeingRun a b (x ∷ log) w =
+    (v : World) × AgreeingRun a b log v × WorldStep (happened log) v (Did x.0 x.1) w × StepAgrees (happened log) v (Did x.0 x.1) w × Agree (happened (x ∷ log)) w
 
 -- two ends, and what happened to them, the newest first
 pub record Played : Type 0 where
-  pub log : History
+  pub log : Log
   pub ends : World
 
 -- two ends, of which one stands at that side
@@ -51,16 +53,16 @@ begun (Err fault) = Err fault
 begun (Ok w) = Ok (record { log = []; ends = w })
 
 -- the act delivers a packet that the end hasn't made
-abbrev pub IsMissingBy : History → Side → Act → Type 0
-IsMissingBy h s (acts.Deliver k) = payload s k h ≡ None
-IsMissingBy h s act = ⊥
+abbrev pub IsMissingBy : Log → Side → Act → Type 0
+IsMissingBy log s (acts.Deliver k) = payload s k (happened log) ≡ None
+IsMissingBy log s act = ⊥
 
-abbrev pub IsMissing : History → Event → Type 0
-IsMissing h event = IsMissingBy h event.end event.act
+abbrev pub IsMissing : Log → Event → Type 0
+IsMissing log event = IsMissingBy log event.end event.act
 
 -- One more event: it happened, and is logged with its answer; or a packet that wasn't made was to be delivered; or the log found no memory.
 abbrev pub PlayStep : {X : Type 0} → Played → Event → Result X PlayFault → Played → Type 0
-PlayStep old event (Ok done) new = (answer : Answer) × (new.log ≡ (event, answer) ∷ old.log) × WorldStep old.log old.ends event answer new.ends
+PlayStep old event (Ok done) new = (answer : Answer) × (new.log ≡ (event, answer) ∷ old.log) × WorldStep (happened old.log) old.ends (Did event answer) new.ends
 PlayStep old event (Err (faults.NoSuchPacket k)) new = (new ≡ old) × IsMissing old.log event × (k ≡ suc (length old.log))
 PlayStep old event (Err faults.NoMemory) new = (new ≡ old) × (IsMissing old.log event → ⊥)
 PlayStep old event (Err (faults.Setup fault)) new = ⊥
@@ -69,10 +71,10 @@ PlayStep old event (Err (faults.Setup fault)) new = ⊥
 -- wasn't made.
 abbrev pub PlayOf : Settings → Settings → List Event → Result Report PlayFault → Type 0
 PlayOf a b events (Ok report) =
-    (h : History) × (w : World) × AgreeingRun a b h w × (events_of (reverse h) ≡ events) × IsReport h w report
+    (log : Log) × (w : World) × AgreeingRun a b log w × (events_of (reverse log) ≡ events) × IsReport log w report
 PlayOf a b events (Err (faults.NoSuchPacket k)) =
-    (h : History) × (w : World) × (before after : List Event) × (event : Event)
-    × (events ≡ before ++ event ∷ after) × AgreeingRun a b h w × (events_of (reverse h) ≡ before) × IsMissing h event × (k ≡ suc (length before))
+    (log : Log) × (w : World) × (before after : List Event) × (event : Event)
+    × (events ≡ before ++ event ∷ after) × AgreeingRun a b log w × (events_of (reverse log) ≡ before) × IsMissing log event × (k ≡ suc (length before))
 PlayOf a b events (Err (faults.Setup fault)) = world_made a b ≡ Err fault
 PlayOf a b events (Err faults.NoMemory) = ⊤
 

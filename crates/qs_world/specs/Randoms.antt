@@ -9,8 +9,8 @@ use Rattle.qs_calls.specs.declared.event.Event.{Event}
 use Rattle.qs_world.specs.Draws.{draw, after, side_drawn, kind_of, IsDrawn}
 use Rattle.qs_calls.specs.declared.answer.Answer.{Answer}
 use Rattle.qs_calls.specs.Events.{fits}
-use Rattle.qs_runs.specs.Logs.{History, made}
-use Rattle.qs_runs.specs.Worlds.{World, Run, WorldStep}
+use Rattle.qs_runs.specs.Logs.{Did, Log, happened, made}
+use Rattle.qs_runs.specs.Worlds.{World, EventRun, WorldStep}
 use Rattle.qs_world.specs.Plays.{Played}
 
 -- the generator that a seed determines
@@ -18,12 +18,12 @@ abbrev pub seeded : ℕ → Lcg
 seeded seed = started 64 multiplier_64 seed (increment_of 64 0)
 
 -- The event is the one that the generator's next words choose, after what happened before; the generator is the latter after it.
-abbrev pub IsNext : History → Lcg → Event → Lcg → Type 0
-IsNext h g event new =
-    (event.end ≡ side_drawn g) × IsDrawn (kind_of (draw 16 (after g))) (length (made (side_drawn g) h)) (after (after g)) event.act new
+abbrev pub IsNext : Log → Lcg → Event → Lcg → Type 0
+IsNext log g event new =
+    (event.end ≡ side_drawn g) × IsDrawn (kind_of (draw 16 (after g))) (length (made (side_drawn g) (happened log))) (after (after g)) event.act new
 
 -- the events of a log, the newest first, were drawn one after the other from the first generator on
-abbrev pub IsDrawnLog : Lcg → History → Lcg → Type 0
+abbrev pub IsDrawnLog : Lcg → Log → Lcg → Type 0
 IsDrawnLog first [] last = last ≡ first
 IsDrawnLog first (x ∷ h) last = (g : Lcg) × IsDrawnLog first h g × IsNext h g x.0 last
 
@@ -31,12 +31,12 @@ IsDrawnLog first (x ∷ h) last = (g : Lcg) × IsDrawnLog first h g × IsNext h 
 abbrev pub DrawnStep : Played → Lcg → Played → Lcg → Type 0
 DrawnStep old g new last =
     (event : Event) × (answer : Answer)
-    × (new.log ≡ (event, answer) ∷ old.log) × WorldStep old.log old.ends event answer new.ends × IsNext old.log g event last × (fits event ≡ true)
+    × (new.log ≡ (event, answer) ∷ old.log) × WorldStep (happened old.log) old.ends (Did event answer) new.ends × IsNext old.log g event last × (fits event ≡ true)
 
 -- So many events happened, each of which fits, between two ends of the standard settings: they were drawn one after the other from the
 -- first generator on.
 pub record IsDrawnRun (first : Lcg) (n : ℕ) (p : Played) (last : Lcg) : Type 0 where
-  pub run : Run standard standard p.log p.ends
+  pub run : EventRun standard standard p.log p.ends
   pub drawn : IsDrawnLog first p.log last
   pub count : length p.log ≡ n
   pub fit : list_all (λ x. fits x.0) p.log ≡ true
@@ -44,5 +44,5 @@ pub record IsDrawnRun (first : Lcg) (n : ℕ) (p : Played) (last : Lcg) : Type 0
 -- n events, drawn one after the other, each by the packets made in a run of those before it between two ends of the standard settings
 abbrev pub IsRandomScript : Lcg → ℕ → List Event → Type 0
 IsRandomScript first n events =
-    (h : History) × (w : World) × (last : Lcg)
-    × Run standard standard h w × IsDrawnLog first h last × (events ≡ map (λ x. x.0) (reverse h)) × (length events ≡ n)
+    (log : Log) × (w : World) × (last : Lcg)
+    × EventRun standard standard log w × IsDrawnLog first log last × (events ≡ map (λ x. x.0) (reverse log)) × (length events ≡ n)

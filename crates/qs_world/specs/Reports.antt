@@ -15,7 +15,7 @@ use Rattle.qs_calls.specs.declared.event.Side.TheVariants.{A, B}
 use Rattle.qs_world.specs.declared.report.LaneTotals.{LaneTotals}
 use Rattle.qs_world.specs.declared.report.EndTotals.{EndTotals}
 use Rattle.qs_world.specs.declared.report.Report.{Report}
-use Rattle.qs_runs.specs.Logs.{History, other}
+use Rattle.qs_runs.specs.Logs.{Log, other}
 use Rattle.qs_runs.specs.Worlds.{World, end_of}
 
 abbrev pub is_received : SendState → Bool
@@ -67,8 +67,8 @@ all_lanes w = flat_map (λ n. lane_totals w A n ++ lane_totals w B n) (range_wit
 abbrev pub end_totals : End → EndTotals
 end_totals e = record { spent = spent e; granted = e.granted; stored = all_stored e; closing = own_closing e.closed }
 
--- the report of a world and its history: the log has the oldest first
-pub record IsReport (h : History) (w : World) (report : Report) : Type 0 where
+-- the report of a world and its log: it has the oldest event first
+pub record IsReport (h : Log) (w : World) (report : Report) : Type 0 where
   pub log : report.log.items ≡ reverse h
   pub lanes : report.lanes.items ≡ all_lanes w
   pub ends : report.ends ≡ end_totals w.a ∷ end_totals w.b ∷ []

@@ -1,7 +1,7 @@
 //! Two ends, and what happened to them.
 ghost use Rattle.std.specs.Prelude.{◌≡◌, length, reverse, true, Some, None, IfSome, IfNone, IfOk, IfErr};
 ghost use Rattle.qs_calls.specs.Events.{fits};
-ghost use Rattle.qs_runs.specs.Logs.{made, payload};
+ghost use Rattle.qs_runs.specs.Logs.{happened, made, payload};
 ghost use Rattle.qs_runs.specs.Worlds.{world_made};
 ghost use Rattle.qs_world.specs.Reports.{IsReport};
 ghost use Rattle.qs_world.specs.Copies.{IsReportOf};
@@ -102,15 +102,15 @@ impl World {
 
     /// How many packets an end has made, with those of the numbers that it claimed. Their numbers begin at 0.
     pub fn made(&self, end: Side) -> u64
-        ensures { result ≡ length (made end self.now.log) }
+        ensures { result ≡ length (made end (happened self.now.log)) }
     {
         self.log.made(end)
     }
 
     /// The payload of a packet that the end made, or a PING where it claimed the number.
     pub fn payload(&self, end: Side, number: u64) -> Option<&[u8]>
-        ensures found { IfSome result (λ text. payload end number self.now.log ≡ Some text.now) }
-        ensures none { IfNone result (payload end number self.now.log ≡ None) }
+        ensures found { IfSome result (λ text. payload end number (happened self.now.log) ≡ Some text.now) }
+        ensures none { IfNone result (payload end number (happened self.now.log) ≡ None) }
     {
         self.log.payload(end, number)
     }

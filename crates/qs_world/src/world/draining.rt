@@ -3,7 +3,7 @@ ghost use Rattle.std.specs.Prelude.{◌≡◌, ◌+◌, ◌<◌, ◌≤◌, true
 ghost use Rattle.qs_machine.specs.News.{IsLeast, IsReadable};
 ghost use Rattle.qs_ranges.specs.Numbers.{MAX_VARINT};
 ghost use Rattle.qs_calls.specs.Events.{fits};
-ghost use Rattle.qs_runs.specs.Logs.{payload};
+ghost use Rattle.qs_runs.specs.Logs.{happened, payload};
 ghost use Rattle.qs_runs.specs.Worlds.{end_of};
 ghost use Rattle.qs_world.specs.Plays.{HasAgreed, IsMissing};
 ghost use Rattle.qs_world.specs.declared.world.draining.Turn.TheVariants.{Lose, Read};
@@ -157,7 +157,7 @@ impl World {
 
     // The packet of that end that the newest event made.
     fn just_made(&self, end: Side) -> Option<u64>
-        ensures { IfSome result (λ k. HasJustMade end k self.now.log × (k ≤ MAX_VARINT) × (payload end k self.now.log ≡ None → ⊥)) }
+        ensures { IfSome result (λ k. HasJustMade end k self.now.log × (k ≤ MAX_VARINT) × (payload end k (happened self.now.log) ≡ None → ⊥)) }
     {
         match self.log.entries().last() {
             Some((event, Answer::Make(Ok(Some(made)), _))) => {

@@ -3,9 +3,9 @@ ghost use Rattle.std.specs.Prelude.{◌≡◌, ◌≤◌, ◌<◌, ◌^◌, List
 ghost use Rattle.qs_machine.specs.Receiving.{ReceiveStep};
 ghost use Rattle.qs_world.specs.Buffers.{room_of};
 ghost use Rattle.qs_calls.specs.Events.{act_fits, fits};
-ghost use Rattle.qs_runs.specs.Logs.{payload};
+ghost use Rattle.qs_runs.specs.Logs.{Did, happened, payload};
 ghost use Rattle.qs_world.specs.Plays.{IsMissing, IsMissingBy, world_by};
-ghost use Rattle.qs_runs.specs.Worlds.{WorldStep, StepBy};
+ghost use Rattle.qs_runs.specs.Worlds.{WorldStep, EventStep};
 
 use super::calls::own_call;
 use super::log::Log;
@@ -41,7 +41,7 @@ pub(crate) fn happen(
     requires there { IsMissing log.now.history event.now → ⊥ }
     requires fits { fits event.now ≡ true }
     requires room { length buffer.items ≡ room_of event.now.act }
-    ensures { WorldStep log.now.history (record { a = a.old; b = b.old }) event.now result (record { a = a.new; b = b.new }) }
+    ensures { WorldStep (happened log.now.history) (record { a = a.old; b = b.old }) (Did event.now result) (record { a = a.new; b = b.new }) }
 {
     match event.end {
         Side::A => happen_at(log, Side::A, a, b, &event.act, buffer),
@@ -62,7 +62,7 @@ fn happen_at(
     requires there { IsMissingBy log.now.history side act.now → ⊥ }
     requires fits { act_fits act.now ≡ true }
     requires room { length buffer.items ≡ room_of act.now }
-    ensures { StepBy log.now.history (world_by side own.old peer.old) side act.now result (world_by side own.new peer.new) }
+    ensures { EventStep (happened log.now.history) (world_by side own.old peer.old) side act.now result (world_by side own.new peer.new) }
 {
     match act {
         Act::Deliver(number) => Answer::Deliver(deliver(log, side, peer, *number)),
@@ -72,9 +72,9 @@ fn happen_at(
 
 // The payload that one end made under that number comes to the other.
 fn deliver(log: &Log, from: Side, to: &mut Endpoint, number: u64) -> Result<Received, Closing>
-    requires there { payload from number log.now.history ≡ None → ⊥ }
+    requires there { payload from number (happened log.now.history) ≡ None → ⊥ }
     requires small { number < 2 ^ 62 }
-    ensures { (text : List ℕ) × (payload from number log.now.history ≡ Some text) × ReceiveStep to.old number text result to.new }
+    ensures { (text : List ℕ) × (payload from number (happened log.now.history) ≡ Some text) × ReceiveStep to.old number text result to.new }
 {
     let Some(text) = log.payload(from, number) else {
         unreachable!()

@@ -1,6 +1,6 @@
 //! The log of a world, in which a payload is found by its number.
 ghost use Rattle.std.specs.Prelude.{◌≡◌, ◌+◌, ◌<◌, ◌≤◌, ◌^◌, ◌++◌, ◌∷◌, [], length, reverse, true, Some, None, IfSome, IfNone, OnOk, OnErr, vec_len, vec_capacity, slice_get, if◌then◌else◌};
-ghost use Rattle.qs_runs.specs.Logs.{made, payload, same_side, ping_text};
+ghost use Rattle.qs_runs.specs.Logs.{happened, made, payload, same_side, ping_text};
 ghost use Rattle.qs_world.specs.Places.{ArePlaces, IsPlaceOf, makes, makes_by, text_of};
 
 use qs_calls::{Act, Answer, Event, Side};
@@ -20,7 +20,7 @@ pub(crate) struct Log {
 impl Model for Log {
     ghost use Rattle.std.specs.Prelude.{◌&&◌, reverse, nat_lt, vec_len, vec_capacity};
     ghost use Rattle.qs_calls.specs.declared.event.Side.TheVariants.{A, B};
-    ghost use Rattle.qs_runs.specs.Logs.{made};
+    ghost use Rattle.qs_runs.specs.Logs.{happened, made};
     ghost use Rattle.qs_world.specs.Places.{Logged, logged_code, ArePlaces};
     ghost use Rattle.qs_calls.specs.contracts.event.Event as event;
     ghost use Rattle.qs_calls.specs.contracts.answer.Answer as answer;
@@ -34,7 +34,7 @@ impl Model for Log {
       ready = nat_lt (vec_len l.entries) (vec_capacity l.entries) && (nat_lt (vec_len l.made_a) (vec_capacity l.made_a) && nat_lt (vec_len l.made_b) (vec_capacity l.made_b));
     } };
 
-    ghost invariant = { λ l. ArePlaces l.entries.items l.made_a.items (made A (reverse l.entries.items)) × ArePlaces l.entries.items l.made_b.items (made B (reverse l.entries.items)) };
+    ghost invariant = { λ l. ArePlaces l.entries.items l.made_a.items (made A (happened (reverse l.entries.items))) × ArePlaces l.entries.items l.made_b.items (made B (happened (reverse l.entries.items))) };
 }
 
 impl Log {
@@ -60,15 +60,15 @@ impl Log {
     /// How many packets an end has made.
     #[tactic(auto, using(crate::proofs::Places::places_count))]
     pub(crate) fn made(&self, end: Side) -> u64
-        ensures { result ≡ length (made end self.now.history) }
+        ensures { result ≡ length (made end (happened self.now.history)) }
     {
         self.places(end).len() as u64
     }
 
     /// The payload of a packet that the end made.
     pub(crate) fn payload(&self, end: Side, number: u64) -> Option<&[u8]>
-        ensures found { IfSome result (λ text. payload end number self.now.history ≡ Some text.now) }
-        ensures none { IfNone result (payload end number self.now.history ≡ None) }
+        ensures found { IfSome result (λ text. payload end number (happened self.now.history) ≡ Some text.now) }
+        ensures none { IfNone result (payload end number (happened self.now.history) ≡ None) }
     {
         let Some(place) = self.place(end, number) else {
             return None;
@@ -80,14 +80,14 @@ impl Log {
     #[tactic(auto, using(crate::proofs::Places::is_place_of, crate::proofs::Places::no_place_of))]
     fn place(&self, end: Side, number: u64) -> Option<usize>
         ensures found { IfSome result (IsPlaceOf end number self.now.history) }
-        ensures none { IfNone result (payload end number self.now.history ≡ None) }
+        ensures none { IfNone result (payload end number (happened self.now.history) ≡ None) }
     {
         nth(self.places(end), number)
     }
 
     // Where the payloads stand that the end made.
     fn places(&self, end: Side) -> &[usize]
-        ensures { ArePlaces (reverse self.now.history) result.now (made end self.now.history) }
+        ensures { ArePlaces (reverse self.now.history) result.now (made end (happened self.now.history)) }
     {
         match end {
             Side::A => &self.made_a,
