@@ -30,7 +30,7 @@ def failures(tool):
             to = crate / it.relative_to(sample).with_suffix(".antt")
             to.parent.mkdir(parents=True, exist_ok=True)
             shutil.copy(it, to)
-        shutil.copy(sample / "crates.txt", root)
+        (root / "crates.txt").write_text("sample:\n")
         found = tool.try_all(tool.Repository(root), [], True)
     wrong = [name for name, text in WANTED.items() if not found[f"sample/{name}"].text.startswith(text)]
     for name in wrong:
