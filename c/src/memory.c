@@ -51,25 +51,55 @@ static struct got got(void *at) {
   return answer;
 }
 
-/* No size is 0. */
-static size_t some(size_t size, size_t align) { return size != 0 ? size : align; }
+/* The proved library doesn't say how large a block is as it gives it back. So where memory is the caller's its size stands before it. */
+typedef struct head {
+  _Alignas(max_align_t) size_t size;
+} head;
 
-static void *moved(const gv_allocator *from, void *at, size_t was, size_t size, size_t align) {
-  void *found = from->allocate(from->context, size, align);
+static bool is_of_c(const gv_allocator *from) { return from->allocate == allocate_of_c; }
+
+static void *behind(head *at, size_t size) {
+  if (at == NULL) return NULL;
+  at->size = size;
+  return at + 1;
+}
+
+static head *moved(const gv_allocator *from, head *at, size_t size) {
+  head *found = from->allocate(from->context, size, _Alignof(head));
   if (found == NULL) return NULL;
-  memcpy(found, at, was < size ? was : size);
-  from->release(from->context, at, was, align);
+  memcpy(found, at, at->size < size ? at->size : size);
+  from->release(from->context, at, at->size, _Alignof(head));
   return found;
 }
 
-struct got rattle_alloc(size_t size, size_t align) { return got(current->allocate(current->context, some(size, align), align)); }
+struct got rattle_alloc(size_t size, size_t align) {
+  const gv_allocator *from = current;
+  if (size > SIZE_MAX - sizeof(head)) return got(NULL);
+  if (is_of_c(from)) return got(malloc(size != 0 ? size : align));
+  size += sizeof(head);
+  return got(behind(from->allocate(from->context, size, _Alignof(head)), size));
+}
 
 struct got rattle_realloc(void *at, size_t was, size_t size, size_t align) {
   const gv_allocator *from = current;
-  was = some(was, align);
-  size = some(size, align);
-  if (from->reallocate == NULL) return got(moved(from, at, was, size, align));
-  return got(from->reallocate(from->context, at, was, size, align));
+  (void)was;
+  if (size > SIZE_MAX - sizeof(head)) return got(NULL);
+  if (is_of_c(from)) return got(realloc(at, size != 0 ? size : align));
+  size += sizeof(head);
+  head *old = (head *)at - 1;
+  if (from->reallocate == NULL) return got(behind(moved(from, old, size), size));
+  return got(behind(from->reallocate(from->context, old, old->size, size, _Alignof(head)), size));
 }
 
-void rattle_dealloc(void *at, size_t size, size_t align) { current->release(current->context, at, some(size, align), align); }
+/* Only the address is sure to be told. */
+void rattle_dealloc(void *at, size_t size, size_t align) {
+  const gv_allocator *from = current;
+  (void)size;
+  (void)align;
+  if (is_of_c(from)) {
+    free(at);
+    return;
+  }
+  head *old = (head *)at - 1;
+  from->release(from->context, old, old->size, _Alignof(head));
+}
