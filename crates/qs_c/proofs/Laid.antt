@@ -12,7 +12,8 @@ use Rattle.qs_wire.proofs.Numbers.{IsBytes, varint_again, short_spells, short_by
 use Rattle.qs_wire.proofs.Ranges.{numbers_of-next, numbers_of-none}
 use Rattle.qs_wire.proofs.Types.{by_test, type_again, type_below}
 use Rattle.qs_wire.proofs.Shapes.{frame_takes}
-use Rattle.qs_c.specs.Places.{Has, skip_then, skip_of, lead_of, laid_of, Sizes, sized, sizes_of}
+use Rattle.qs_c.specs.Frames.{Has}
+use Rattle.qs_c.specs.Places.{skip_then, skip_of, lead_of, laid_of, Sizes, sized, sizes_of}
 
 -- ---- numbers are skipped
 
@@ -235,6 +236,8 @@ ncid_fields n vs body after bytes lead is h =
     let d1 = skips_drop 4 bytes rest s in
     let end : ℕ = ((a + 0) + (length id + length token)) + 0 in
     let plus : 0 + length id ≡ length id = omega arith in
+    let there : take 16 (drop ((a + 0) + length id) bytes) ≡ token =
+    ap (take 16) (ap (λ (k : ℕ). drop k bytes) (omega arith) ∙ sym (drops a (length id) bytes) ∙ ap (drop (length id)) d1 ∙ drop_at id (token ++ after) (length id) refl) ∙ take_at token after 16 len in
     record {
       at = a;
       ranges = 0;
@@ -244,7 +247,8 @@ ncid_fields n vs body after bytes lead is h =
       within = omega (arith, room);
       has = (
         ap (λ (k : ℕ). take k (drop a bytes)) plus ∙ ap (take (length id)) d1 ∙ take_at id (token ++ after) (length id) refl,
-        ap (take 16) (ap (λ (k : ℕ). drop k bytes) (omega arith) ∙ sym (drops a (length id) bytes) ∙ ap (drop (length id)) d1 ∙ drop_at id (token ++ after) (length id) refl) ∙ take_at token after 16 len,
+        there,
+        ap length there ∙ len,
       );
     }
 
@@ -273,30 +277,30 @@ shape_laid n frame text after bytes s num e is = subst (λ (f : FrameValue). IsL
 
     go : (vs : Values (layout s.type)) → FieldsText (layout s.type) vs body after → IsLaid n (frame_of s.type vs) after bytes
     go =
-        by_test (eqb n 0x00) _ _ (Some s.type) _ e (λ _ f. at_type layout frame_of number_of_type n body after bytes _ s.type f num (λ m vs h. simple n 1 _ bytes [] after (sym (ap lead_of m)) refl (λ _ _ _. tt) (typed 0 n body after bytes after is (last body after h)))) (λ _ e.
-        by_test (eqb n 0x01) _ _ (Some s.type) _ e (λ _ f. at_type layout frame_of number_of_type n body after bytes _ s.type f num (λ m vs h. simple n 1 _ bytes [] after (sym (ap lead_of m)) refl (λ _ _ _. tt) (typed 0 n body after bytes after is (last body after h)))) (λ _ e.
+        by_test (eqb n 0x00) _ _ (Some s.type) _ e (λ _ f. at_type layout frame_of number_of_type n body after bytes _ s.type f num (λ m vs h. simple n 1 _ bytes [] after (sym (ap lead_of m)) refl (λ _ _ b. b) (typed 0 n body after bytes after is (last body after h)))) (λ _ e.
+        by_test (eqb n 0x01) _ _ (Some s.type) _ e (λ _ f. at_type layout frame_of number_of_type n body after bytes _ s.type f num (λ m vs h. simple n 1 _ bytes [] after (sym (ap lead_of m)) refl (λ _ _ b. b) (typed 0 n body after bytes after is (last body after h)))) (λ _ e.
         by_test (eqb n 0x02) _ _ (Some s.type) _ e (λ _ f. at_type layout frame_of number_of_type n body after bytes _ s.type f num (λ m vs h. ack_fields false n vs body after bytes (sym (ap lead_of m)) is h)) (λ _ e.
         by_test (eqb n 0x03) _ _ (Some s.type) _ e (λ _ f. at_type layout frame_of number_of_type n body after bytes _ s.type f num (λ m vs h. ack_fields true n vs body after bytes (sym (ap lead_of m)) is h)) (λ _ e.
-        by_test (eqb n 0x04) _ _ (Some s.type) _ e (λ _ f. at_type layout frame_of number_of_type n body after bytes _ s.type f num (λ m vs h. simple n 4 _ bytes [] after (sym (ap lead_of m)) refl (λ _ _ _. tt) (typed 3 n body after bytes after is (one 2 vs.0 h.0 h.1 body after after h.2 h.3 (one 1 vs.1.0 h.4.0 h.4.1 h.1 after after h.4.2 h.4.3 (one 0 vs.1.1.0 h.4.4.0 h.4.4.1 h.4.1 after after h.4.4.2 h.4.4.3 (last h.4.4.1 after h.4.4.4))))))) (λ _ e.
-        by_test (eqb n 0x05) _ _ (Some s.type) _ e (λ _ f. at_type layout frame_of number_of_type n body after bytes _ s.type f num (λ m vs h. simple n 3 _ bytes [] after (sym (ap lead_of m)) refl (λ _ _ _. tt) (typed 2 n body after bytes after is (one 1 vs.0 h.0 h.1 body after after h.2 h.3 (one 0 vs.1.0 h.4.0 h.4.1 h.1 after after h.4.2 h.4.3 (last h.4.1 after h.4.4)))))) (λ _ e.
+        by_test (eqb n 0x04) _ _ (Some s.type) _ e (λ _ f. at_type layout frame_of number_of_type n body after bytes _ s.type f num (λ m vs h. simple n 4 _ bytes [] after (sym (ap lead_of m)) refl (λ _ _ b. b) (typed 3 n body after bytes after is (one 2 vs.0 h.0 h.1 body after after h.2 h.3 (one 1 vs.1.0 h.4.0 h.4.1 h.1 after after h.4.2 h.4.3 (one 0 vs.1.1.0 h.4.4.0 h.4.4.1 h.4.1 after after h.4.4.2 h.4.4.3 (last h.4.4.1 after h.4.4.4))))))) (λ _ e.
+        by_test (eqb n 0x05) _ _ (Some s.type) _ e (λ _ f. at_type layout frame_of number_of_type n body after bytes _ s.type f num (λ m vs h. simple n 3 _ bytes [] after (sym (ap lead_of m)) refl (λ _ _ b. b) (typed 2 n body after bytes after is (one 1 vs.0 h.0 h.1 body after after h.2 h.3 (one 0 vs.1.0 h.4.0 h.4.1 h.1 after after h.4.2 h.4.3 (last h.4.1 after h.4.4)))))) (λ _ e.
         by_test (eqb n 0x06) _ _ (Some s.type) _ e (λ _ f. at_type layout frame_of number_of_type n body after bytes _ s.type f num (λ m vs h. simple n 3 _ bytes vs.1.0 after (sym (ap lead_of m)) refl (λ _ _ b. b) (typed 2 n body after bytes _ is (one 1 vs.0 h.0 h.1 body after _ h.2 h.3 (counted_end vs.1.0 h.4.0 h.4.1 h.1 after h.4.2 h.4.3 h.4.4))))) (λ _ e.
         by_test (eqb n 0x07) _ _ (Some s.type) _ e (λ _ f. at_type layout frame_of number_of_type n body after bytes _ s.type f num (λ m vs h. simple n 2 _ bytes vs.0 after (sym (ap lead_of m)) refl (λ _ _ b. b) (typed 1 n body after bytes _ is (counted_end vs.0 h.0 h.1 body after h.2 h.3 h.4)))) (λ _ e.
         by_test (leb 0x08 n && leb n 0x0f) _ _ (Some s.type) _ e (λ _ f. at_type layout frame_of number_of_type n body after bytes _ s.type f num (λ m vs h. stream_laid _ _ _ n vs body after bytes m is h)) (λ _ e.
-        by_test (eqb n 0x10) _ _ (Some s.type) _ e (λ _ f. at_type layout frame_of number_of_type n body after bytes _ s.type f num (λ m vs h. simple n 2 _ bytes [] after (sym (ap lead_of m)) refl (λ _ _ _. tt) (typed 1 n body after bytes after is (one 0 vs.0 h.0 h.1 body after after h.2 h.3 (last h.1 after h.4))))) (λ _ e.
-        by_test (eqb n 0x11) _ _ (Some s.type) _ e (λ _ f. at_type layout frame_of number_of_type n body after bytes _ s.type f num (λ m vs h. simple n 3 _ bytes [] after (sym (ap lead_of m)) refl (λ _ _ _. tt) (typed 2 n body after bytes after is (one 1 vs.0 h.0 h.1 body after after h.2 h.3 (one 0 vs.1.0 h.4.0 h.4.1 h.1 after after h.4.2 h.4.3 (last h.4.1 after h.4.4)))))) (λ _ e.
-        by_test (eqb n 0x12) _ _ (Some s.type) _ e (λ _ f. at_type layout frame_of number_of_type n body after bytes _ s.type f num (λ m vs h. simple n 2 _ bytes [] after (sym (ap lead_of m)) refl (λ _ _ _. tt) (typed 1 n body after bytes after is (one 0 vs.0 h.0 h.1 body after after h.2 h.3 (last h.1 after h.4))))) (λ _ e.
-        by_test (eqb n 0x13) _ _ (Some s.type) _ e (λ _ f. at_type layout frame_of number_of_type n body after bytes _ s.type f num (λ m vs h. simple n 2 _ bytes [] after (sym (ap lead_of m)) refl (λ _ _ _. tt) (typed 1 n body after bytes after is (one 0 vs.0 h.0 h.1 body after after h.2 h.3 (last h.1 after h.4))))) (λ _ e.
-        by_test (eqb n 0x14) _ _ (Some s.type) _ e (λ _ f. at_type layout frame_of number_of_type n body after bytes _ s.type f num (λ m vs h. simple n 2 _ bytes [] after (sym (ap lead_of m)) refl (λ _ _ _. tt) (typed 1 n body after bytes after is (one 0 vs.0 h.0 h.1 body after after h.2 h.3 (last h.1 after h.4))))) (λ _ e.
-        by_test (eqb n 0x15) _ _ (Some s.type) _ e (λ _ f. at_type layout frame_of number_of_type n body after bytes _ s.type f num (λ m vs h. simple n 3 _ bytes [] after (sym (ap lead_of m)) refl (λ _ _ _. tt) (typed 2 n body after bytes after is (one 1 vs.0 h.0 h.1 body after after h.2 h.3 (one 0 vs.1.0 h.4.0 h.4.1 h.1 after after h.4.2 h.4.3 (last h.4.1 after h.4.4)))))) (λ _ e.
-        by_test (eqb n 0x16) _ _ (Some s.type) _ e (λ _ f. at_type layout frame_of number_of_type n body after bytes _ s.type f num (λ m vs h. simple n 2 _ bytes [] after (sym (ap lead_of m)) refl (λ _ _ _. tt) (typed 1 n body after bytes after is (one 0 vs.0 h.0 h.1 body after after h.2 h.3 (last h.1 after h.4))))) (λ _ e.
-        by_test (eqb n 0x17) _ _ (Some s.type) _ e (λ _ f. at_type layout frame_of number_of_type n body after bytes _ s.type f num (λ m vs h. simple n 2 _ bytes [] after (sym (ap lead_of m)) refl (λ _ _ _. tt) (typed 1 n body after bytes after is (one 0 vs.0 h.0 h.1 body after after h.2 h.3 (last h.1 after h.4))))) (λ _ e.
+        by_test (eqb n 0x10) _ _ (Some s.type) _ e (λ _ f. at_type layout frame_of number_of_type n body after bytes _ s.type f num (λ m vs h. simple n 2 _ bytes [] after (sym (ap lead_of m)) refl (λ _ _ b. b) (typed 1 n body after bytes after is (one 0 vs.0 h.0 h.1 body after after h.2 h.3 (last h.1 after h.4))))) (λ _ e.
+        by_test (eqb n 0x11) _ _ (Some s.type) _ e (λ _ f. at_type layout frame_of number_of_type n body after bytes _ s.type f num (λ m vs h. simple n 3 _ bytes [] after (sym (ap lead_of m)) refl (λ _ _ b. b) (typed 2 n body after bytes after is (one 1 vs.0 h.0 h.1 body after after h.2 h.3 (one 0 vs.1.0 h.4.0 h.4.1 h.1 after after h.4.2 h.4.3 (last h.4.1 after h.4.4)))))) (λ _ e.
+        by_test (eqb n 0x12) _ _ (Some s.type) _ e (λ _ f. at_type layout frame_of number_of_type n body after bytes _ s.type f num (λ m vs h. simple n 2 _ bytes [] after (sym (ap lead_of m)) refl (λ _ _ b. b) (typed 1 n body after bytes after is (one 0 vs.0 h.0 h.1 body after after h.2 h.3 (last h.1 after h.4))))) (λ _ e.
+        by_test (eqb n 0x13) _ _ (Some s.type) _ e (λ _ f. at_type layout frame_of number_of_type n body after bytes _ s.type f num (λ m vs h. simple n 2 _ bytes [] after (sym (ap lead_of m)) refl (λ _ _ b. b) (typed 1 n body after bytes after is (one 0 vs.0 h.0 h.1 body after after h.2 h.3 (last h.1 after h.4))))) (λ _ e.
+        by_test (eqb n 0x14) _ _ (Some s.type) _ e (λ _ f. at_type layout frame_of number_of_type n body after bytes _ s.type f num (λ m vs h. simple n 2 _ bytes [] after (sym (ap lead_of m)) refl (λ _ _ b. b) (typed 1 n body after bytes after is (one 0 vs.0 h.0 h.1 body after after h.2 h.3 (last h.1 after h.4))))) (λ _ e.
+        by_test (eqb n 0x15) _ _ (Some s.type) _ e (λ _ f. at_type layout frame_of number_of_type n body after bytes _ s.type f num (λ m vs h. simple n 3 _ bytes [] after (sym (ap lead_of m)) refl (λ _ _ b. b) (typed 2 n body after bytes after is (one 1 vs.0 h.0 h.1 body after after h.2 h.3 (one 0 vs.1.0 h.4.0 h.4.1 h.1 after after h.4.2 h.4.3 (last h.4.1 after h.4.4)))))) (λ _ e.
+        by_test (eqb n 0x16) _ _ (Some s.type) _ e (λ _ f. at_type layout frame_of number_of_type n body after bytes _ s.type f num (λ m vs h. simple n 2 _ bytes [] after (sym (ap lead_of m)) refl (λ _ _ b. b) (typed 1 n body after bytes after is (one 0 vs.0 h.0 h.1 body after after h.2 h.3 (last h.1 after h.4))))) (λ _ e.
+        by_test (eqb n 0x17) _ _ (Some s.type) _ e (λ _ f. at_type layout frame_of number_of_type n body after bytes _ s.type f num (λ m vs h. simple n 2 _ bytes [] after (sym (ap lead_of m)) refl (λ _ _ b. b) (typed 1 n body after bytes after is (one 0 vs.0 h.0 h.1 body after after h.2 h.3 (last h.1 after h.4))))) (λ _ e.
         by_test (eqb n 0x18) _ _ (Some s.type) _ e (λ _ f. at_type layout frame_of number_of_type n body after bytes _ s.type f num (λ m vs h. ncid_fields n vs body after bytes (sym (ap lead_of m)) is h)) (λ _ e.
-        by_test (eqb n 0x19) _ _ (Some s.type) _ e (λ _ f. at_type layout frame_of number_of_type n body after bytes _ s.type f num (λ m vs h. simple n 2 _ bytes [] after (sym (ap lead_of m)) refl (λ _ _ _. tt) (typed 1 n body after bytes after is (one 0 vs.0 h.0 h.1 body after after h.2 h.3 (last h.1 after h.4))))) (λ _ e.
+        by_test (eqb n 0x19) _ _ (Some s.type) _ e (λ _ f. at_type layout frame_of number_of_type n body after bytes _ s.type f num (λ m vs h. simple n 2 _ bytes [] after (sym (ap lead_of m)) refl (λ _ _ b. b) (typed 1 n body after bytes after is (one 0 vs.0 h.0 h.1 body after after h.2 h.3 (last h.1 after h.4))))) (λ _ e.
         by_test (eqb n 0x1a) _ _ (Some s.type) _ e (λ _ f. at_type layout frame_of number_of_type n body after bytes _ s.type f num (λ m vs h. simple n 1 _ bytes vs.0 after (sym (ap lead_of m)) refl (λ _ _ b. b) (typed 0 n body after bytes _ is (skips_none _ _ (plain_end vs.0 h.0 h.1 body after h.2 h.3.1 h.4))))) (λ _ e.
         by_test (eqb n 0x1b) _ _ (Some s.type) _ e (λ _ f. at_type layout frame_of number_of_type n body after bytes _ s.type f num (λ m vs h. simple n 1 _ bytes vs.0 after (sym (ap lead_of m)) refl (λ _ _ b. b) (typed 0 n body after bytes _ is (skips_none _ _ (plain_end vs.0 h.0 h.1 body after h.2 h.3.1 h.4))))) (λ _ e.
         by_test (eqb n 0x1c) _ _ (Some s.type) _ e (λ _ f. at_type layout frame_of number_of_type n body after bytes _ s.type f num (λ m vs h. simple n 4 _ bytes vs.1.1.0 after (sym (ap lead_of m)) refl (λ _ _ b. b) (typed 3 n body after bytes _ is (one 2 vs.0 h.0 h.1 body after _ h.2 h.3 (one 1 vs.1.0 h.4.0 h.4.1 h.1 after _ h.4.2 h.4.3 (counted_end vs.1.1.0 h.4.4.0 h.4.4.1 h.4.1 after h.4.4.2 h.4.4.3 h.4.4.4)))))) (λ _ e.
         by_test (eqb n 0x1d) _ _ (Some s.type) _ e (λ _ f. at_type layout frame_of number_of_type n body after bytes _ s.type f num (λ m vs h. simple n 3 _ bytes vs.1.0 after (sym (ap lead_of m)) refl (λ _ _ b. b) (typed 2 n body after bytes _ is (one 1 vs.0 h.0 h.1 body after _ h.2 h.3 (counted_end vs.1.0 h.4.0 h.4.1 h.1 after h.4.2 h.4.3 h.4.4))))) (λ _ e.
-        by_test (eqb n 0x1e) _ _ (Some s.type) _ e (λ _ f. at_type layout frame_of number_of_type n body after bytes _ s.type f num (λ m vs h. simple n 1 _ bytes [] after (sym (ap lead_of m)) refl (λ _ _ _. tt) (typed 0 n body after bytes after is (last body after h)))) (λ _ e.
+        by_test (eqb n 0x1e) _ _ (Some s.type) _ e (λ _ f. at_type layout frame_of number_of_type n body after bytes _ s.type f num (λ m vs h. simple n 1 _ bytes [] after (sym (ap lead_of m)) refl (λ _ _ b. b) (typed 0 n body after bytes after is (last body after h)))) (λ _ e.
         absurd cc))))))))))))))))))))))))
 
 pub frame_laid : (bytes : List ℕ) (x : ℕ × FrameValue × List ℕ) → IsBytes bytes → frame_at bytes ≡ Ok x → IsLaid x.0 x.1 x.2 bytes

@@ -10,7 +10,7 @@ use Rattle.qs_wire.specs.Acks.{AreApartBelow, AreAckPairs}
 use Rattle.qs_wire.proofs.Numbers.{IsBytes, IsBytes-drop, parse_in_range}
 use Rattle.qs_wire.proofs.Ranges.{numbers_of-next, numbers_of-none}
 use Rattle.qs_c.specs.declared.acks.GvRange.{GvRange}
-use Rattle.qs_c.specs.Acks.{pair_of, are_apart}
+use Rattle.qs_c.specs.Acks.{pair_of, are_apart, RangeOut, RangeStep}
 use Rattle.qs_c.specs.Places.{skip_of}
 use Rattle.qs_c.proofs.Laid.{skip_more, skip_none, skip_zero, drops}
 
@@ -87,22 +87,22 @@ tails : (p q : ℕ × ℕ) (ps qs : List (ℕ × ℕ)) → p ∷ ps ≡ q ∷ qs
 tails p q ps qs e = cc
 
 left_two : (largest : ℕ) (bytes : List ℕ) (a r : ℕ × ℕ) (rest : List (ℕ × ℕ)) (o : Option (ℕ × ℕ)) → varint_at bytes ≡ Some a → varint_at (drop a.1 bytes) ≡ o → ack_ranges_of largest (numbers_of bytes) ≡ r ∷ rest
-    → (next : ℕ) × (rest ≡ ack_ranges_of next (numbers_of (drop (skip_of 2 bytes) bytes)))
+    → (next : ℕ) × (next ≤ largest) × (rest ≡ ack_ranges_of next (numbers_of (drop (skip_of 2 bytes) bytes)))
 left_two largest bytes a r rest None e f is =
     let ns : numbers_of bytes ≡ a.0 ∷ [] = numbers_of-next bytes a e ∙ ap (λ (t : List ℕ). a.0 ∷ t) (numbers_of-none (drop a.1 bytes) f) in
     let empty = tails (largest - a.0, largest) r [] rest (sym (ap (ack_ranges_of largest) ns) ∙ is) in
     let used : skip_of 2 bytes ≡ a.1 = omega (arith, skip_more 1 bytes a e, skip_none 1 (drop a.1 bytes) f) in
-    (0, empty ∙ sym (ap (ack_ranges_of 0) (ap (λ (k : ℕ). numbers_of (drop k bytes)) used ∙ numbers_of-none (drop a.1 bytes) f)))
+    (0, omega arith, empty ∙ sym (ap (ack_ranges_of 0) (ap (λ (k : ℕ). numbers_of (drop k bytes)) used ∙ numbers_of-none (drop a.1 bytes) f)))
 left_two largest bytes a r rest (Some b) e f is =
     let after : List ℕ = drop b.1 (drop a.1 bytes) in
     let ns : numbers_of bytes ≡ a.0 ∷ b.0 ∷ numbers_of after = numbers_of-next bytes a e ∙ ap (λ (t : List ℕ). a.0 ∷ t) (numbers_of-next (drop a.1 bytes) b f) in
     let next : ℕ = (largest - a.0) - (b.0 + 2) in
     let left = tails (largest - a.0, largest) r (ack_ranges_of next (numbers_of after)) rest (sym (ap (ack_ranges_of largest) ns) ∙ is) in
     let used : skip_of 2 bytes ≡ a.1 + b.1 = omega (arith, skip_more 1 bytes a e, skip_more 0 (drop a.1 bytes) b f, skip_zero after) in
-    (next, left ∙ ap (λ (t : List ℕ). ack_ranges_of next (numbers_of t)) (drops a.1 b.1 bytes ∙ ap (λ (k : ℕ). drop k bytes) (sym used)))
+    (next, omega arith, left ∙ ap (λ (t : List ℕ). ack_ranges_of next (numbers_of t)) (drops a.1 b.1 bytes ∙ ap (λ (k : ℕ). drop k bytes) (sym used)))
 
 left_is : (largest : ℕ) (bytes : List ℕ) (r : ℕ × ℕ) (rest : List (ℕ × ℕ)) (o : Option (ℕ × ℕ)) → varint_at bytes ≡ o → ack_ranges_of largest (numbers_of bytes) ≡ r ∷ rest
-    → (next : ℕ) × (rest ≡ ack_ranges_of next (numbers_of (drop (skip_of 2 bytes) bytes)))
+    → (next : ℕ) × (next ≤ largest) × (rest ≡ ack_ranges_of next (numbers_of (drop (skip_of 2 bytes) bytes)))
 left_is largest bytes r rest None e is = let empty : [] ≡ r ∷ rest = sym (ap (ack_ranges_of largest) (numbers_of-none bytes e)) ∙ is in absurd cc
 left_is largest bytes r rest (Some a) e is = left_two largest bytes a r rest (varint_at (drop a.1 bytes)) e refl is
 
@@ -117,14 +117,20 @@ none_is next below (v ∷ []) e = absurd cc
 none_is next below (v ∷ g ∷ vs) e = absurd cc
 
 pub more_ranges : (largest : ℕ) (bytes : List ℕ) (r : ℕ × ℕ) (rest : List (ℕ × ℕ)) (x below : ℕ) (more : List (ℕ × ℕ)) → ack_ranges_of largest (numbers_of bytes) ≡ r ∷ rest → rest ≡ (x, below) ∷ more
-    → ack_ranges_of largest (numbers_of bytes) ≡ r ∷ ack_ranges_of below (numbers_of (drop (skip_of 2 bytes) bytes))
+    → (below ≤ largest) × (ack_ranges_of largest (numbers_of bytes) ≡ r ∷ ack_ranges_of below (numbers_of (drop (skip_of 2 bytes) bytes)))
 more_ranges largest bytes r rest x below more is next =
     let l = left_is largest bytes r rest (varint_at bytes) refl is in
-    let same = below_is l.0 x below more _ (sym next ∙ l.1) in
-    is ∙ ap (λ (t : List (ℕ × ℕ)). r ∷ t) (l.1 ∙ ap (λ (k : ℕ). ack_ranges_of k (numbers_of (drop (skip_of 2 bytes) bytes))) (sym same))
+    let same = below_is l.0 x below more _ (sym next ∙ l.2) in
+    (omega (arith, same, l.1), is ∙ ap (λ (t : List (ℕ × ℕ)). r ∷ t) (l.2 ∙ ap (λ (k : ℕ). ack_ranges_of k (numbers_of (drop (skip_of 2 bytes) bytes))) (sym same)))
 
 pub last_range : (largest : ℕ) (bytes : List ℕ) (r : ℕ × ℕ) (rest : List (ℕ × ℕ)) → ack_ranges_of largest (numbers_of bytes) ≡ r ∷ rest → rest ≡ []
     → ack_ranges_of largest (numbers_of bytes) ≡ r ∷ ack_ranges_of 0 (numbers_of (drop (skip_of 2 bytes) bytes))
 last_range largest bytes r rest is none =
     let l = left_is largest bytes r rest (varint_at bytes) refl is in
-    is ∙ ap (λ (t : List (ℕ × ℕ)). r ∷ t) (none ∙ none_is l.0 0 _ (sym none ∙ l.1))
+    is ∙ ap (λ (t : List (ℕ × ℕ)). r ∷ t) (none ∙ none_is l.0 0 _ (sym none ∙ l.2))
+
+-- the first of the ranges is told, and those behind it are left
+pub first_told : (ranges : List (ℕ × ℕ)) (r : ℕ × ℕ) (bytes : List ℕ) (old new : RangeOut) (used : ℕ) → ranges ≡ r ∷ ack_ranges_of new.largest (numbers_of (drop used bytes)) → new.range ≡ record { smallest = r.0; largest = r.1 }
+    → new.used ≡ used → new.used ≤ length bytes → new.largest ≤ old.largest → RangeStep ranges bytes 0 old new
+first_told ranges r bytes old new used is range all within below =
+    subst (λ (t : List (ℕ × ℕ)). RangeStep t bytes 0 old new) (sym is) (refl, range, within, below, ap (λ (k : ℕ). ack_ranges_of new.largest (numbers_of (drop k bytes))) all)

@@ -1,15 +1,16 @@
 -- The frame that a payload has at a place, as C is told it.
-use Rattle.std.proofs.Common.{◌≡◌, ℕ, ◌+◌, ◌-◌, Bool, true, List, [], ◌∷◌, length, take, drop, Option, Some, None, Result, Ok, Err, refl, sym, ap, subst, ◌∙◌, arith}
+use Rattle.std.proofs.Common.{◌≡◌, ℕ, ◌+◌, ◌-◌, ◌≤◌, Bool, true, List, [], ◌∷◌, length, take, drop, Option, Some, None, Result, Ok, Err, refl, sym, ap, subst, ◌∙◌, arith}
 use Rattle.std.specs.Prelude.{MatchBool}
 use Rattle.std.proofs.lemmas.List.{length-drop, take_all}
 use Rattle.qs_wire.specs.declared.fault.WireFault.{WireFault}
 use Rattle.qs_wire.specs.Layout.{FrameValue, PlacedValue}
 use Rattle.qs_wire.specs.Reading.{Reading, reading_from, reading_of, with_first, placed_at, frame_at}
 use Rattle.qs_wire.proofs.Numbers.{IsBytes}
-use Rattle.qs_wire.proofs.Payloads.{one_more, at_fault, at_start}
+use Rattle.qs_wire.proofs.Payloads.{one_more, is_shorter, at_fault, at_start}
 use Rattle.qs_c.specs.declared.frame.GvFrame.{GvFrame}
-use Rattle.qs_c.specs.Frames.{frame_in, part_of, placed_in, reading_at}
-use Rattle.qs_c.specs.Places.{Has, fault_from, lead_of, laid_of, Sizes, sizes_of}
+use Rattle.qs_c.specs.declared.frame.GvFault.{GvFault}
+use Rattle.qs_c.specs.Frames.{numbers_told, Has, part_of, fault_of, Walk, MovesOn, NextFrame}
+use Rattle.qs_c.specs.Places.{IsNext, fault_from, lead_of, laid_of, Sizes, sizes_of}
 use Rattle.qs_c.proofs.Laid.{IsLaid, frame_laid, drops}
 
 by_result : {A E : Type 0} (r : Result A E) (P : Type 0) → ((x : A) → r ≡ Ok x → P) → ((e : E) → r ≡ Err e → P) → P
@@ -40,10 +41,8 @@ laid_at : (bytes : List ℕ) (t : ℕ) (frame : FrameValue) (rest : List ℕ) (z
     → o ≡ laid_of (lead_of t) z.mid (z.bytes + z.token) z.trail bytes → o ≡ Some (l.at, l.ranges, l.end)
 laid_at bytes t frame rest z l o size e = e ∙ ap (λ (s : Sizes). laid_of (lead_of t) s.mid (s.bytes + s.token) s.trail bytes) size ∙ l.laid
 
-some_parts : (x y : ℕ × ℕ × ℕ) → Some x ≡ Some y → (x.0 ≡ y.0) × (x.1 ≡ y.1) × (x.2 ≡ y.2)
-some_parts x y is =
-    let same : x ≡ y = cc in
-    (ap (λ (z : ℕ × ℕ × ℕ). z.0) same, ap (λ (z : ℕ × ℕ × ℕ). z.1) same, ap (λ (z : ℕ × ℕ × ℕ). z.2) same)
+some_same : (x y : ℕ × ℕ × ℕ) → Some x ≡ Some y → x ≡ y
+some_same x y is = cc
 
 none_some : (x : ℕ × ℕ × ℕ) (P : Type 0) → None ≡ Some x → P
 none_some x P e = absurd cc
@@ -54,55 +53,73 @@ never bytes place t frame r z P fits e size none =
     let f = first_read bytes (record { place = place; frame = frame; frame_type = t }) r fits e in
     none_some _ P (laid_at bytes t frame f.0 z (frame_laid bytes (t, frame, f.0) fits f.1) None size none)
 
+-- a frame's numbers, told of a place
+abbrev told_at : GvFrame → (place type bytes_at len token_at : ℕ) → GvFrame
+told_at o place type bytes_at len token_at = record o { place = place; frame_type = type; bytes_at = bytes_at; len = len; token_at = token_at }
+
 -- the frame at a place, where its bytes are laid out
-read_at : (payload bytes : List ℕ) (at t : ℕ) (frame : FrameValue) (rest : List ℕ) (l : IsLaid t frame rest bytes) (len : ℕ) (f : GvFrame)
-    → IsBytes bytes → frame_at bytes ≡ Ok (t, frame, rest) → len ≡ (sizes_of frame).bytes → ((b tok : List ℕ) → Has frame b tok → frame_in f b tok ≡ frame)
-    → f.place ≡ at → f.frame_type ≡ t → f.bytes_at ≡ at + l.at → f.len ≡ l.ranges + len → f.token_at ≡ ((at + l.at) + l.ranges) + len
-    → drop at payload ≡ bytes → reading_at payload at ≡ with_first (placed_in f payload) (reading_at payload (at + l.end))
-read_at payload bytes at t frame rest l len f fits is size of at_is t_is bytes_is len_is token_is stands =
+read_at : (payload bytes : List ℕ) (at t : ℕ) (frame : FrameValue) (rest : List ℕ) (l : IsLaid t frame rest bytes) (o : GvFrame) (len : ℕ)
+    → IsBytes bytes → frame_at bytes ≡ Ok (t, frame, rest) → len ≡ (sizes_of frame).bytes → o ≡ numbers_told frame → (l.at + l.ranges) + len ≤ length bytes
+    → drop at payload ≡ bytes → at ≤ length payload → IsNext payload at (told_at o at t (at + l.at) (l.ranges + len) (((at + l.at) + l.ranges) + len)) (at + l.end)
+read_at payload bytes at t frame rest l o len fits is size of room stands le =
     let n : ℕ = (sizes_of frame).bytes in
-    let bytes_there : part_of payload f.bytes_at f.len ≡ take (l.ranges + n) (drop l.at bytes) =
-    ap (λ (k : ℕ). take f.len (drop k payload)) bytes_is ∙ ap (take f.len) (sym (drops at l.at payload) ∙ ap (drop l.at) stands)
-    ∙ ap (λ (k : ℕ). take k (drop l.at bytes)) (omega (arith, len_is, size)) in
+    let bytes_there : part_of payload (at + l.at) (l.ranges + len) ≡ take (l.ranges + n) (drop l.at bytes) =
+    ap (take (l.ranges + len)) (sym (drops at l.at payload) ∙ ap (drop l.at) stands) ∙ ap (λ (k : ℕ). take k (drop l.at bytes)) (omega (arith, size)) in
     let behind : ℕ = (l.at + l.ranges) + n in
-    let token_there : part_of payload f.token_at 16 ≡ take 16 (drop behind bytes) =
-    ap (λ (k : ℕ). take 16 (drop k payload)) (omega (arith, token_is, size)) ∙ ap (take 16) (sym (drops at behind payload) ∙ ap (drop behind) stands) in
-    let frame_is : frame_in f (part_of payload f.bytes_at f.len) (part_of payload f.token_at 16) ≡ frame =
-    ap (λ (v : List ℕ). frame_in f v (part_of payload f.token_at 16)) bytes_there ∙ ap (frame_in f (take (l.ranges + n) (drop l.at bytes))) token_there ∙ of _ _ l.has in
-    let first : placed_at at t frame ≡ placed_in f payload =
-    ap (λ (k : ℕ). placed_at at k frame) (sym t_is) ∙ ap (placed_at at f.frame_type) (sym frame_is)
-    ∙ ap (λ (k : ℕ). placed_at k f.frame_type (frame_in f (part_of payload f.bytes_at f.len) (part_of payload f.token_at 16))) (sym at_is) in
+    let token_there : part_of payload (((at + l.at) + l.ranges) + len) 16 ≡ take 16 (drop behind bytes) =
+    ap (λ (k : ℕ). take 16 (drop k payload)) (omega (arith, size)) ∙ ap (take 16) (sym (drops at behind payload) ∙ ap (drop behind) stands) in
+    let whole : length payload ≡ at + length bytes = omega (arith, ap length stands, length-drop at payload, le) in
     let gone : at + (length bytes - length rest) ≡ at + l.end = omega (arith, ap length l.left, length-drop l.end bytes, l.within) in
     let left : rest ≡ drop (at + l.end) payload = l.left ∙ ap (drop l.end) (sym stands) ∙ drops at l.end payload in
-    ap (reading_from at) stands ∙ one_more at bytes (t, frame, rest) fits is
-    ∙ ap (λ (p : PlacedValue). with_first p (reading_from (at + (length bytes - length rest)) rest)) first
-    ∙ ap (with_first (placed_in f payload)) (ap (λ (k : ℕ). reading_from k rest) gone ∙ ap (reading_from (at + l.end)) left)
+    record {
+      first = placed_at at t frame;
+      reading = ap (reading_from at) stands ∙ one_more at bytes (t, frame, rest) fits is
+          ∙ ap (with_first (placed_at at t frame)) (ap (λ (k : ℕ). reading_from k rest) gone ∙ ap (reading_from (at + l.end)) left);
+      told = record {
+        numbers = ap (λ (x : GvFrame). told_at x at t (at + l.at) (l.ranges + len) (((at + l.at) + l.ranges) + len)) of;
+        within = omega (arith, whole, room);
+        has = subst (λ (b : List ℕ). Has frame b (part_of payload (((at + l.at) + l.ranges) + len) 16)) (sym bytes_there)
+            (subst (Has frame (take (l.ranges + n) (drop l.at bytes))) (sym token_there) l.has);
+      };
+      further = omega (arith, is_shorter bytes (t, frame, rest) fits is, ap length l.left, length-drop l.end bytes);
+      within = omega (arith, whole, l.within);
+    }
 
-pub read_is : (payload bytes : List ℕ) (at place t : ℕ) (frame : FrameValue) (r : Reading) (start ranges end : ℕ) (z : Sizes) (f : GvFrame)
+pub read_is : (payload bytes : List ℕ) (at place t : ℕ) (frame : FrameValue) (r : Reading) (x : ℕ × ℕ × ℕ) (z : Sizes) (o : GvFrame)
     → IsBytes bytes → reading_of bytes ≡ with_first (record { place = place; frame = frame; frame_type = t }) r → z ≡ sizes_of frame
-    → Some (start, ranges, end) ≡ laid_of (lead_of t) z.mid (z.bytes + z.token) z.trail bytes
-    → ((b tok : List ℕ) → Has frame b tok → frame_in f b tok ≡ frame)
-    → f.place ≡ at → f.frame_type ≡ t → f.bytes_at ≡ at + start → f.len ≡ ranges + z.bytes → f.token_at ≡ ((at + start) + ranges) + z.bytes
-    → drop at payload ≡ bytes → reading_at payload at ≡ with_first (placed_in f payload) (reading_at payload (at + end))
-read_is payload bytes at place t frame r start ranges end z f fits e size laid of at_is t_is bytes_is len_is token_is stands =
+    → Some x ≡ laid_of (lead_of t) z.mid (z.bytes + z.token) z.trail bytes → o ≡ numbers_told frame → (x.0 + x.1) + z.bytes ≤ length bytes
+    → drop at payload ≡ bytes → at ≤ length payload → IsNext payload at (told_at o at t (at + x.0) (x.1 + z.bytes) (((at + x.0) + x.1) + z.bytes)) (at + x.2)
+read_is payload bytes at place t frame r x z o fits e size laid of room stands le =
     let g = first_read bytes (record { place = place; frame = frame; frame_type = t }) r fits e in
     let l = frame_laid bytes (t, frame, g.0) fits g.1 in
-    let s = some_parts (start, ranges, end) (l.at, l.ranges, l.end) (laid_at bytes t frame g.0 z l (Some (start, ranges, end)) size laid) in
-    read_at payload bytes at t frame g.0 l z.bytes f fits g.1 (ap (λ (x : Sizes). x.bytes) size) of at_is t_is
-    (bytes_is ∙ ap (λ (k : ℕ). at + k) s.0) (len_is ∙ ap (λ (k : ℕ). k + z.bytes) s.1)
-    (token_is ∙ ap (λ (k : ℕ). ((at + k) + ranges) + z.bytes) s.0 ∙ ap (λ (k : ℕ). ((at + l.at) + k) + z.bytes) s.1) stands
-    ∙ ap (λ (k : ℕ). with_first (placed_in f payload) (reading_at payload (at + k))) (sym s.2)
+    let y : ℕ × ℕ × ℕ = (l.at, l.ranges, l.end) in
+    let same : x ≡ y = some_same x y (laid_at bytes t frame g.0 z l (Some x) size laid) in
+    let fits_there : (l.at + l.ranges) + z.bytes ≤ length bytes = subst (λ (w : ℕ × ℕ × ℕ). (w.0 + w.1) + z.bytes ≤ length bytes) same room in
+    subst (λ (w : ℕ × ℕ × ℕ). IsNext payload at (told_at o at t (at + w.0) (w.1 + z.bytes) (((at + w.0) + w.1) + z.bytes)) (at + w.2)) (sym same)
+    (read_at payload bytes at t frame g.0 l o z.bytes fits g.1 (ap (λ (s : Sizes). s.bytes) size) of fits_there stands le)
+
+-- the walk moves on
+pub next_frame : (r : Reading) (p : PlacedValue) (left : Reading) (payload : List ℕ) (old new : Walk) → r ≡ with_first p left → MovesOn payload p left old new → NextFrame r.left r.fault payload 0 old new
+next_frame r p left payload old new is moves = subst (λ (x : Reading). NextFrame x.left x.fault payload 0 old new) (sym is) (refl, moves)
 
 -- ---- the other answers
+
+abbrev fault_alone : WireFault → Reading
+fault_alone w = record { left = []; fault = Some w }
+
+pub next_none : (r : Reading) (payload : List ℕ) (old new : Walk) → r ≡ record { left = []; fault = None } → new ≡ old → NextFrame r.left r.fault payload 15 old new
+next_none r payload old new is stays = subst (λ (x : Reading). NextFrame x.left x.fault payload 15 old new) (sym is) (refl, stays)
+
+pub next_fault : (r : Reading) (w : WireFault) (payload : List ℕ) (old new : Walk) → r ≡ fault_alone w → new.fault ≡ fault_of w → new.place ≡ old.place → new.frame ≡ old.frame → NextFrame r.left r.fault payload 21 old new
+next_fault r w payload old new is fault place frame =
+    let same : new ≡ record old { fault = fault_of w } = ap (λ (x : ℕ × GvFrame × GvFault). record { place = x.0; frame = x.1; fault = x.2 }) (λ i. (place i, frame i, fault i)) in
+    subst (λ (x : Reading). NextFrame x.left x.fault payload 21 old new) (sym is) (refl, same)
 
 pub by_true : (b : Bool) (P Q : Type 0) → b ≡ true → P → MatchBool b P Q
 by_true b P Q is p = subst (λ (t : Bool). MatchBool t P Q) (sym is) p
 
 pub slice_from : (at : ℕ) (xs : List ℕ) → take (length xs - at) (drop at xs) ≡ drop at xs
 slice_from at xs = take_all (length xs - at) (drop at xs) (omega (arith, length-drop at xs))
-
-abbrev fault_alone : WireFault → Reading
-fault_alone w = record { left = []; fault = Some w }
 
 same_fault : (v w : WireFault) → fault_alone v ≡ fault_alone w → v ≡ w
 same_fault v w e = let both : Some v ≡ Some w = ap (λ (r : Reading). r.fault) e in cc

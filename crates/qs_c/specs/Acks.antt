@@ -6,7 +6,7 @@ use Rattle.qs_wire.specs.Layout.{ack_ranges_of}
 use Rattle.qs_wire.specs.Grammar.{canonical}
 use Rattle.qs_wire.specs.Acks.{ack_of}
 use Rattle.qs_c.specs.declared.acks.GvRange.{GvRange}
-use Rattle.qs_c.specs.Statuses.{is_small}
+use Rattle.qs_c.specs.Statuses.{Invalid, is_small}
 
 -- the same numbers, half-open
 abbrev pub pair_of : GvRange → ℕ × ℕ
@@ -21,20 +21,40 @@ are_apart high (r ∷ rs) = nat_le r.smallest r.largest && nat_lt (r.largest + 1
 abbrev pub are_ranges : List GvRange → Bool
 are_ranges rs = nat_lt 0 (length rs) && nat_le (length rs) 32 && are_apart (2 ^ 62 + 1) rs
 
--- As many ranges as fit are written, and more would not fit; where not even one fits, none is.
-abbrev pub AckAnswer : List (ℕ × ℕ) → ℕ → ℕ → ℕ → ℕ → List ℕ → List ℕ → Type 0
-AckAnswer pairs delay status count len old new =
-    MatchBool (nat_eq status 0)
-    ((0 < count) × (count ≤ length pairs) × (len ≡ length (canonical (ack_of delay (take count pairs)))) × (len ≤ length old)
-    × (new ≡ canonical (ack_of delay (take count pairs)) ++ drop len old)
-    × ((n : ℕ) → count < n → n ≤ length pairs → length old < length (canonical (ack_of delay (take n pairs)))))
-    ((status ≡ 22) × (length old < length (canonical (ack_of delay (take 1 pairs)))) × (new ≡ old))
+-- What a call that writes an ACK writes: how many ranges, how many bytes, and these.
+pub record AckOut : Type 0 where
+  pub count : ℕ
+  pub len : ℕ
+  pub bytes : List ℕ
 
--- The ranges below a number that the bytes spell: this one and those that are left; or none.
-abbrev pub RangeStep : List ℕ → ℕ → ℕ → ℕ → ℕ → GvRange → Type 0
-RangeStep bytes old status new used r =
-    MatchBool (nat_eq status 0) (ack_ranges_of old (numbers_of bytes) ≡ (r.smallest, r.largest) ∷ ack_ranges_of new (numbers_of (drop used bytes)))
-    ((status ≡ 15) × (ack_ranges_of old (numbers_of bytes) ≡ []) × (new ≡ old))
+-- As many ranges as fit are written, and more would not fit.
+pub record AckWritten (pairs : List (ℕ × ℕ)) (delay : ℕ) (old new : AckOut) : Type 0 where
+  pub some : 0 < new.count
+  pub among : new.count ≤ length pairs
+  pub len : new.len ≡ length (canonical (ack_of delay (take new.count pairs)))
+  pub fits : new.len ≤ length old.bytes
+  pub bytes : new.bytes ≡ canonical (ack_of delay (take new.count pairs)) ++ drop new.len old.bytes
+  pub most : (n : ℕ) → new.count < n → n ≤ length pairs → length old.bytes < length (canonical (ack_of delay (take n pairs)))
 
-abbrev pub RangeAnswer : List ℕ → ℕ → ℕ → ℕ → ℕ → GvRange → Type 0
-RangeAnswer bytes old status new used r = MatchBool (is_small old) (RangeStep bytes old status new used r) ((status ≡ 1) × (new ≡ old))
+-- Where not even one range fits, none is written.
+abbrev pub AckAnswer : List (ℕ × ℕ) → ℕ → ℕ → AckOut → AckOut → Type 0
+AckAnswer pairs delay status old new =
+    MatchBool (nat_eq status 0) (AckWritten pairs delay old new)
+    ((status ≡ 22) × (length old.bytes < length (canonical (ack_of delay (take 1 pairs)))) × (new ≡ old))
+
+-- What a walk over the ranges of an ACK writes: the largest number of those that are left, how many bytes were used up, and a range.
+pub record RangeOut : Type 0 where
+  pub largest : ℕ
+  pub used : ℕ
+  pub range : GvRange
+
+-- Of the ranges that the bytes spell below a number the first is told, and those behind it are what is left; or there is none.
+abbrev pub RangeStep : List (ℕ × ℕ) → List ℕ → ℕ → RangeOut → RangeOut → Type 0
+RangeStep [] bytes status old new = (status ≡ 15) × (new ≡ old)
+RangeStep (r ∷ rs) bytes status old new =
+    (status ≡ 0) × (new.range ≡ record { smallest = r.0; largest = r.1 }) × (new.used ≤ length bytes) × (new.largest ≤ old.largest)
+    × (ack_ranges_of new.largest (numbers_of (drop new.used bytes)) ≡ rs)
+
+abbrev pub RangeAnswer : List ℕ → ℕ → RangeOut → RangeOut → Type 0
+RangeAnswer bytes status old new =
+    MatchBool (is_small old.largest) (RangeStep (ack_ranges_of old.largest (numbers_of bytes)) bytes status old new) (Invalid status old new)

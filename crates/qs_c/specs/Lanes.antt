@@ -1,6 +1,6 @@
 -- Of public contracts.
--- What C's struct of a stream stands for: each half, where it is there. All of it is ours.
-use Rattle.std.specs.Prelude.{ℕ, Bool, Option, Some, None, nat_eq, if◌then◌else◌}
+-- How C is told how a stream stands: each half by a struct, all 0 where the half isn't there. All of it is ours.
+use Rattle.std.specs.Prelude.{ℕ, false, Option, Some, None, is_some, unwrap_or}
 use Rattle.qs_c.specs.declared.lane.GvSending.{GvSending}
 use Rattle.qs_c.specs.declared.lane.GvReceiving.{GvReceiving}
 use Rattle.qs_c.specs.declared.lane.GvLane.{GvLane}
@@ -12,30 +12,29 @@ use Rattle.qs_calls.specs.declared.report.LaneReport.{LaneReport}
 use Rattle.qs_calls.specs.declared.report.SendReport.{SendReport}
 use Rattle.qs_calls.specs.declared.report.RecvReport.{RecvReport}
 
-abbrev pub some_if : {A : Type 0} → Bool → A → Option A
-some_if there a = if there then Some a else None
+abbrev pub send_number : SendState → ℕ
+send_number sending.Ready = 0
+send_number sending.Send = 1
+send_number sending.DataSent = 2
+send_number sending.DataRecvd = 3
+send_number sending.ResetSent = 4
+send_number sending.ResetRecvd = 5
 
-abbrev pub send_state_of : ℕ → SendState
-send_state_of n =
-    if nat_eq n 0 then sending.Ready else
-    if nat_eq n 1 then sending.Send else
-    if nat_eq n 2 then sending.DataSent else
-    if nat_eq n 3 then sending.DataRecvd else
-    if nat_eq n 4 then sending.ResetSent else sending.ResetRecvd
+abbrev pub recv_number : RecvState → ℕ
+recv_number receiving.Recv = 0
+recv_number receiving.SizeKnown = 1
+recv_number receiving.DataRecvd = 2
+recv_number receiving.DataRead = 3
+recv_number receiving.ResetRecvd = 4
+recv_number receiving.ResetRead = 5
 
-abbrev pub recv_state_of : ℕ → RecvState
-recv_state_of n =
-    if nat_eq n 0 then receiving.Recv else
-    if nat_eq n 1 then receiving.SizeKnown else
-    if nat_eq n 2 then receiving.DataRecvd else
-    if nat_eq n 3 then receiving.DataRead else
-    if nat_eq n 4 then receiving.ResetRecvd else receiving.ResetRead
+abbrev pub sending_of : Option SendReport → GvSending
+sending_of None = record { state = 0; has_final_size = false; was_reset = false; written = 0; limit = 0; final_size = 0; reset_code = 0 }
+sending_of (Some r) = record { state = send_number r.state; has_final_size = is_some r.final_size; was_reset = is_some r.reset_code; written = r.written; limit = r.limit; final_size = unwrap_or r.final_size 0; reset_code = unwrap_or r.reset_code 0 }
 
-abbrev pub sending_in : GvSending → SendReport
-sending_in s = record { state = send_state_of s.state; written = s.written; final_size = some_if s.has_final_size s.final_size; reset_code = some_if s.was_reset s.reset_code; limit = s.limit }
+abbrev pub receiving_of : Option RecvReport → GvReceiving
+receiving_of None = record { state = 0; has_final_size = false; was_reset = false; read_count = 0; highest = 0; limit = 0; final_size = 0; reset_code = 0 }
+receiving_of (Some r) = record { state = recv_number r.state; has_final_size = is_some r.final_size; was_reset = is_some r.reset_code; read_count = r.read_count; highest = r.highest; limit = r.limit; final_size = unwrap_or r.final_size 0; reset_code = unwrap_or r.reset_code 0 }
 
-abbrev pub receiving_in : GvReceiving → RecvReport
-receiving_in r = record { state = recv_state_of r.state; read_count = r.read_count; highest = r.highest; limit = r.limit; final_size = some_if r.has_final_size r.final_size; reset_code = some_if r.was_reset r.reset_code }
-
-abbrev pub lane_in : GvLane → LaneReport
-lane_in l = record { send = some_if l.has_sending (sending_in l.sending); recv = some_if l.has_receiving (receiving_in l.receiving) }
+abbrev pub lane_of : LaneReport → GvLane
+lane_of r = record { has_sending = is_some r.send; has_receiving = is_some r.recv; sending = sending_of r.send; receiving = receiving_of r.recv }

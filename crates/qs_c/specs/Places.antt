@@ -1,22 +1,20 @@
 -- Of private contracts.
--- Where in a payload the bytes of a frame stand: behind so many numbers.
-use Rattle.std.specs.Prelude.{◌≡◌, ℕ, zero, suc, ◌+◌, ◌-◌, List, length, drop, Option, Some, None, is_some, nat_eq, nat_lt, nat_le, if◌then◌else◌}
+-- Where in a payload a frame and its bytes stand: behind so many numbers.
+use Rattle.std.specs.Prelude.{◌≡◌, ℕ, zero, suc, ◌+◌, ◌-◌, ◌<◌, ◌≤◌, List, length, drop, Option, Some, None, is_some, nat_eq, nat_lt, nat_le, if◌then◌else◌}
 use Rattle.qs_wire.specs.declared.fault.WireFault.{WireFault}
-use Rattle.qs_wire.specs.Varint.{varint_at, numbers_of}
-use Rattle.qs_wire.specs.Layout.{FrameValue, ack, crypto, new_token, stream, new_connection_id, path_challenge, path_response, connection_close, application_close}
+use Rattle.qs_wire.specs.Varint.{varint_at}
+use Rattle.qs_wire.specs.Layout.{FrameValue, PlacedValue, ack, crypto, new_token, stream, new_connection_id, path_challenge, path_response, connection_close, application_close}
+use Rattle.qs_wire.specs.Reading.{with_first}
+use Rattle.qs_c.specs.declared.frame.GvFrame.{GvFrame}
+use Rattle.qs_c.specs.Frames.{IsTold, reading_at}
 
--- the bytes and the token of a frame, where it has them
-abbrev pub Has : FrameValue → List ℕ → List ℕ → Type 0
-Has (ack largest delay ranges ecn) bytes token = numbers_of bytes ≡ ranges
-Has (crypto offset b) bytes token = bytes ≡ b
-Has (new_token b) bytes token = bytes ≡ b
-Has (stream s offset fin b) bytes token = bytes ≡ b
-Has (new_connection_id sequence retire id t) bytes token = (bytes ≡ id) × (token ≡ t)
-Has (path_challenge b) bytes token = bytes ≡ b
-Has (path_response b) bytes token = bytes ≡ b
-Has (connection_close code type reason) bytes token = bytes ≡ reason
-Has (application_close code reason) bytes token = bytes ≡ reason
-Has _ bytes token = Unit {0}
+-- At a place of a payload stands a frame, as it is told, and behind it, at another place, what is left.
+pub record IsNext (payload : List ℕ) (at : ℕ) (f : GvFrame) (next : ℕ) : Type 0 where
+  pub first : PlacedValue
+  pub reading : reading_at payload at ≡ with_first first (reading_at payload next)
+  pub told : IsTold payload first f
+  pub further : at < next
+  pub within : next ≤ length payload
 
 -- a fault of what stands at a place
 abbrev pub fault_from : ℕ → WireFault → WireFault

@@ -1,6 +1,7 @@
 -- Of public contracts.
--- What the calls of C answer: a number, and what stands in its place where the endpoint's own call answers. All of it is ours.
-use Rattle.std.specs.Prelude.{◌≡◌, ℕ, ◌^◌, Bool, Option, Some, None, Result, Ok, Err, nat_lt, nat_le, nat_eq, ◌&&◌, ◌⊎◌, MatchBool, if◌then◌else◌}
+-- How the calls of C tell what an end answers: by a status, and by what they write through their pointers. The statuses are those of the
+-- header, and what isn't written stays. All of it is ours.
+use Rattle.std.specs.Prelude.{◌≡◌, ℕ, ◌^◌, Bool, Option, Some, None, Result, Ok, Err, nat_lt, nat_le, nat_eq, ◌&&◌, MatchBool, if◌then◌else◌}
 use Rattle.qs_wire.specs.declared.stream_id.Role.{Role}
 use Rattle.qs_wire.specs.declared.stream_id.Role.TheVariants.{Client, Server}
 use Rattle.qs_wire.specs.declared.stream_id.Dir.{Dir}
@@ -20,25 +21,35 @@ use Rattle.qs_calls.specs.declared.closing.Closing.{Closing}
 use Rattle.qs_calls.specs.declared.closing.Received.{Received}
 use Rattle.qs_calls.specs.declared.closing.Received.TheVariants as received
 use Rattle.qs_calls.specs.declared.settings.SetupFault.{SetupFault}
+use Rattle.qs_calls.specs.declared.settings.SetupFault.TheVariants.{OutOfRange, TooManyStreams}
 use Rattle.qs_calls.specs.declared.settings.RaiseFault.{RaiseFault}
 use Rattle.qs_calls.specs.declared.settings.RaiseFault.TheVariants as raising
-use Rattle.qs_calls.specs.declared.settings.SetupFault.TheVariants.{OutOfRange, TooManyStreams}
 use Rattle.qs_machine.specs.Ends.{End}
+use Rattle.qs_c.specs.declared.structs.GvMade.{GvMade}
+use Rattle.qs_c.specs.declared.structs.GvClosing.{GvClosing}
+use Rattle.qs_c.specs.Structs.{made_of, closing_of}
 
--- a handle without an end, or a number out of its range: nothing changes
-abbrev pub INVALID : ℕ
-INVALID = 1
+-- A call whose numbers are in their ranges; or they aren't, and it is refused, and the end stays.
+abbrev pub Tested : Bool → End → End → Type 0 → Type 0 → Type 0
+Tested fits old new Refused Step = MatchBool fits Step (Refused × (new ≡ old))
 
--- A call that an end takes: refused where the handle holds none.
-abbrev pub Called : Option End → ℕ → Option End → (End → End → Type 0) → Type 0
-Called None status None Step = status ≡ INVALID
-Called None status (Some f) Step = ⊥
-Called (Some e) status None Step = ⊥
-Called (Some e) status (Some f) Step = Step e f
+-- A call that changes the end of a handle; refused, too, where the handle holds none.
+abbrev pub Called : Option End → Option End → Bool → Type 0 → (End → End → Type 0) → Type 0
+Called None None fits Refused Step = Refused
+Called None (Some f) fits Refused Step = ⊥
+Called (Some e) None fits Refused Step = ⊥
+Called (Some e) (Some f) fits Refused Step = Tested fits e f Refused (Step e f)
 
--- A call whose numbers may be out of their ranges.
-abbrev pub Tested : Bool → ℕ → End → End → Type 0 → Type 0
-Tested fits status old new Step = MatchBool fits Step ((status ≡ INVALID) × (new ≡ old))
+-- A call that asks the end of a handle, which stays.
+abbrev pub Asked : Option End → Option End → Bool → Type 0 → (End → Type 0) → Type 0
+Asked None None fits Refused Answer = Refused
+Asked None (Some f) fits Refused Answer = ⊥
+Asked (Some e) None fits Refused Answer = ⊥
+Asked (Some e) (Some f) fits Refused Answer = (f ≡ e) × MatchBool fits (Answer e) Refused
+
+-- A refusal for a handle without an end, or for a number out of its range.
+abbrev pub Invalid : {A : Type 0} → ℕ → A → A → Type 0
+Invalid status old new = (status ≡ 1) × (new ≡ old)
 
 -- below 2^62
 abbrev pub is_small : ℕ → Bool
@@ -48,78 +59,91 @@ is_small n = nat_lt n (2 ^ 62)
 abbrev pub is_room : ℕ → Bool
 is_room n = nat_le 128 n && nat_le n 16383
 
+-- a role, or a direction
 abbrev pub is_flag : ℕ → Bool
 is_flag n = nat_lt n 2
 
+-- of a number that is one
 abbrev pub role_of : ℕ → Role
 role_of n = if nat_eq n 0 then Client else Server
 
+-- of a number that is one
 abbrev pub dir_of : ℕ → Dir
 dir_of n = if nat_eq n 0 then Bidi else Uni
 
 -- why a stream cannot be used so
-abbrev pub use_fault_of : ℕ → UseFault
-use_fault_of s =
-    if nat_eq s 2 then uses.NoMemory else
-    if nat_eq s 3 then uses.Closed else
-    if nat_eq s 4 then uses.NoSuchStream else
-    if nat_eq s 5 then uses.WrongDirection else
-    if nat_eq s 6 then uses.Finished else uses.WasReset
+abbrev pub use_status : UseFault → ℕ
+use_status uses.NoMemory = 2
+use_status uses.Closed = 3
+use_status uses.NoSuchStream = 4
+use_status uses.WrongDirection = 5
+use_status uses.Finished = 6
+use_status uses.WasReset = 7
 
-abbrev pub use_answer : {A : Type 0} → ℕ → A → Result A UseFault
-use_answer s a = if nat_eq s 0 then Ok a else Err (use_fault_of s)
+-- why no packet was made, or no number given
+abbrev pub make_status : MakeFault → ℕ
+make_status making.NoMemory = 2
+make_status making.Closed = 3
+make_status making.Exhausted = 9
 
-abbrev pub read_answer : ℕ → ℕ → Result Read UseFault
-read_answer s n =
-    if nat_eq s 0 then Ok (reads.Bytes n) else
-    if nat_eq s 17 then Ok reads.End else
-    if nat_eq s 18 then Ok (reads.Reset n) else
-    if nat_eq s 16 then Ok reads.Wait else Err (use_fault_of s)
+abbrev pub lost_status : LostFault → ℕ
+lost_status losing.NoMemory = 2
+lost_status losing.Closed = 3
+lost_status losing.NotOutstanding = 10
 
-abbrev pub open_answer : ℕ → ℕ → Result ℕ OpenFault
-open_answer s n =
-    if nat_eq s 0 then Ok n else
-    if nat_eq s 2 then Err opening.NoMemory else
-    if nat_eq s 3 then Err opening.Closed else Err (opening.Blocked n)
+abbrev pub setup_status : SetupFault → ℕ
+setup_status OutOfRange = 19
+setup_status TooManyStreams = 20
 
-abbrev pub some_answer : {A : Type 0} → ℕ → A → Option A
-some_answer s a = if nat_eq s 0 then Some a else None
+abbrev pub raise_status : RaiseFault → ℕ
+raise_status raising.Closed = 3
+raise_status (raising.Refused fault) = setup_status fault
 
-abbrev pub lost_answer : ℕ → Result (Unit {0}) LostFault
-lost_answer s =
-    if nat_eq s 0 then Ok tt else
-    if nat_eq s 2 then Err losing.NoMemory else
-    if nat_eq s 3 then Err losing.Closed else Err losing.NotOutstanding
+-- an answer that writes nothing
+abbrev pub status_of : {F : Type 0} → (F → ℕ) → Result (Unit {0}) F → ℕ
+status_of fault_status (Ok done) = 0
+status_of fault_status (Err fault) = fault_status fault
 
-abbrev pub made_answer : ℕ → Made → Result (Option Made) MakeFault
-made_answer s made =
-    if nat_eq s 0 then Ok (Some made) else
-    if nat_eq s 15 then Ok None else
-    if nat_eq s 2 then Err making.NoMemory else
-    if nat_eq s 3 then Err making.Closed else Err making.Exhausted
+-- an answer that writes what was asked for
+abbrev pub told : {A F : Type 0} → (F → ℕ) → Result A F → A → ℕ × A
+told fault_status (Ok a) old = (0, a)
+told fault_status (Err fault) old = (fault_status fault, old)
 
-abbrev pub claim_answer : ℕ → ℕ → Result ℕ MakeFault
-claim_answer s n =
-    if nat_eq s 0 then Ok n else
-    if nat_eq s 2 then Err making.NoMemory else
-    if nat_eq s 3 then Err making.Closed else Err making.Exhausted
+-- an answer that writes what was found
+abbrev pub found : {A : Type 0} → Option A → A → ℕ × A
+found (Some a) old = (0, a)
+found None old = (15, old)
 
-abbrev pub raise_answer : ℕ → Result (Unit {0}) RaiseFault
-raise_answer s =
-    if nat_eq s 0 then Ok tt else
-    if nat_eq s 3 then Err raising.Closed else
-    if nat_eq s 19 then Err (raising.Refused OutOfRange) else Err (raising.Refused TooManyStreams)
+-- a read writes how many bytes it gave, or the code of the reset
+abbrev pub read_told : Result Read UseFault → ℕ → ℕ × ℕ
+read_told (Ok (reads.Bytes n)) old = (0, n)
+read_told (Ok reads.Wait) old = (16, old)
+read_told (Ok reads.End) old = (17, old)
+read_told (Ok (reads.Reset code)) old = (18, code)
+read_told (Err fault) old = (use_status fault, old)
 
-abbrev pub received_answer : ℕ → Closing → Result Received Closing
-received_answer s closing =
-    if nat_eq s 0 then Ok received.Done else
-    if nat_eq s 2 then Ok received.NoMemory else
-    if nat_eq s 11 then Ok received.Duplicate else
-    if nat_eq s 12 then Ok received.BelowFloor else
-    if nat_eq s 13 then Ok (received.PeerClosed closing.code) else Err closing
+-- an opening writes the stream, or how many the peer allows
+abbrev pub open_told : Result ℕ OpenFault → ℕ → ℕ × ℕ
+open_told (Ok stream) old = (0, stream)
+open_told (Err (opening.Blocked count)) old = (8, count)
+open_told (Err opening.Closed) old = (3, old)
+open_told (Err opening.NoMemory) old = (2, old)
 
--- A new end, or the refusal, or there is no memory for it; then the handle stays as it is.
-abbrev pub Starts : Result End SetupFault → ℕ → Option End → Option End → Type 0
-Starts (Ok e) s old new = ((s ≡ 0) × (new ≡ Some e)) ⊎ ((s ≡ 2) × (new ≡ old))
-Starts (Err OutOfRange) s old new = (s ≡ 19) × (new ≡ old)
-Starts (Err TooManyStreams) s old new = (s ≡ 20) × (new ≡ old)
+abbrev pub made_told : Result (Option Made) MakeFault → GvMade → ℕ × GvMade
+made_told (Ok (Some made)) old = (0, made_of made)
+made_told (Ok None) old = (15, old)
+made_told (Err fault) old = (make_status fault, old)
+
+-- a payload writes why this end closed, or the peer's code alone
+abbrev pub received_told : Result Received Closing → GvClosing → ℕ × GvClosing
+received_told (Ok received.Done) old = (0, old)
+received_told (Ok received.NoMemory) old = (2, old)
+received_told (Ok received.Duplicate) old = (11, old)
+received_told (Ok received.BelowFloor) old = (12, old)
+received_told (Ok (received.PeerClosed code)) old = (13, record old { code = code })
+received_told (Err closing) old = (14, closing_of closing)
+
+-- A new end, or the settings are refused, and the end stays.
+abbrev pub Starts : Result End SetupFault → ℕ → End → End → Type 0
+Starts (Ok made) status old new = (status ≡ 0) × (new ≡ made)
+Starts (Err fault) status old new = (status ≡ setup_status fault) × (new ≡ old)

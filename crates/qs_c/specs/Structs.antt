@@ -1,5 +1,5 @@
 -- Of public contracts.
--- What the structs of C stand for, field by field. All of it is ours.
+-- What the structs of C stand for, and how they tell what they stand for, field by field. All of it is ours.
 use Rattle.qs_c.specs.declared.structs.GvSettings.{GvSettings}
 use Rattle.qs_calls.specs.declared.settings.Settings.{Settings}
 use Rattle.qs_c.specs.declared.structs.GvLimits.{GvLimits}
@@ -15,8 +15,8 @@ settings_in s = record { conn_window = s.conn_window; bidi_local = s.bidi_local;
 abbrev pub limits_in : GvLimits → PeerLimits
 limits_in s = record { max_data = s.max_data; bidi_local = s.bidi_local; bidi_remote = s.bidi_remote; uni = s.uni; streams_bidi = s.streams_bidi; streams_uni = s.streams_uni }
 
-abbrev pub made_in : GvMade → Made
-made_in s = record { number = s.number; len = s.len; is_ack_eliciting = s.is_ack_eliciting }
+abbrev pub made_of : Made → GvMade
+made_of m = record { number = m.number; len = m.len; is_ack_eliciting = m.is_ack_eliciting }
 
-abbrev pub closing_in : GvClosing → Closing
-closing_in s = record { code = s.code; frame_type = s.frame_type; place = s.place }
+abbrev pub closing_of : Closing → GvClosing
+closing_of c = record { code = c.code; frame_type = c.frame_type; place = c.place }

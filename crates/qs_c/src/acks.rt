@@ -1,6 +1,6 @@
 //! The ranges of an ACK frame.
 ghost use Rattle.std.specs.Prelude.{◌≡◌, ◌+◌, ◌^◌, ◌<◌, ◌&&◌, ◌≤◌, true, length, take, map, MatchBool};
-ghost use Rattle.qs_c.specs.Statuses.{is_small};
+ghost use Rattle.qs_c.specs.Statuses.{Invalid, is_small};
 ghost use Rattle.qs_c.specs.Acks.{pair_of, are_apart, are_ranges, AckAnswer, RangeAnswer};
 
 use crate::answers::{FULL, INVALID, NONE, OK};
@@ -27,7 +27,7 @@ pub(crate) fn put(
     count: &mut usize,
     len: &mut usize,
 ) -> u32
-    ensures { MatchBool (are_ranges ranges.now && is_small delay) (AckAnswer (map pair_of ranges.now) delay result count.new len.new out.old out.new) ((result ≡ 1) × (out.new ≡ out.old)) }
+    ensures { MatchBool (are_ranges ranges.now && is_small delay) (AckAnswer (map pair_of ranges.now) delay result (record { count = count.old; len = len.old; bytes = out.old }) (record { count = count.new; len = len.new; bytes = out.new })) (Invalid result count.old count.new × (len.new ≡ len.old) × (out.new ≡ out.old)) }
 {
     if delay >= LIMIT || ranges.is_empty() || ranges.len() > MOST || !is_apart(ranges) {
         return INVALID;
@@ -78,7 +78,7 @@ pub(crate) fn next_range(
     used: &mut usize,
     range: &mut GvRange,
 ) -> u32
-    ensures { RangeAnswer bytes.now largest.old result largest.new used.new range.new }
+    ensures { RangeAnswer bytes.now result (record { largest = largest.old; used = used.old; range = range.old }) (record { largest = largest.new; used = used.new; range = range.new }) }
 {
     if *largest >= LIMIT {
         return INVALID;

@@ -1,8 +1,8 @@
 //! The numbers that the calls answer.
-ghost use Rattle.std.specs.Prelude.{◌≡◌, ℕ, Err};
-ghost use Rattle.qs_c.specs.Statuses.{use_answer, read_answer, open_answer, some_answer, lost_answer, claim_answer, raise_answer, made_answer, received_answer};
-ghost use Rattle.qs_c.specs.Structs.{made_in, closing_in};
-ghost use Rattle.qs_c.specs.Lanes.{lane_in};
+ghost use Rattle.std.specs.Prelude.{◌≡◌, option_map};
+ghost use Rattle.qs_c.specs.Statuses.{use_status, lost_status, make_status, setup_status, raise_status, status_of, told, found, read_told, open_told, made_told, received_told};
+ghost use Rattle.qs_c.specs.Structs.{closing_of};
+ghost use Rattle.qs_c.specs.Lanes.{lane_of};
 
 use crate::lane::GvLane;
 use crate::structs::{GvClosing, GvMade};
@@ -60,9 +60,7 @@ pub(crate) const FAULT: u32 = 21;
 pub(crate) const FULL: u32 = 22;
 
 fn of_fault(fault: UseFault) -> u32
-    ensures unit { (u : Unit {0}) → use_answer result u ≡ Err fault }
-    ensures count { (n : ℕ) → use_answer result n ≡ Err fault }
-    ensures read { (n : ℕ) → read_answer result n ≡ Err fault }
+    ensures { result ≡ use_status fault }
 {
     match fault {
         UseFault::NoMemory => NO_MEMORY,
@@ -75,7 +73,7 @@ fn of_fault(fault: UseFault) -> u32
 }
 
 pub(crate) fn of_use(answer: Result<(), UseFault>) -> u32
-    ensures { use_answer result tt ≡ answer }
+    ensures { result ≡ status_of use_status answer }
 {
     match answer {
         Ok(()) => OK,
@@ -84,7 +82,7 @@ pub(crate) fn of_use(answer: Result<(), UseFault>) -> u32
 }
 
 pub(crate) fn of_count(answer: Result<usize, UseFault>, count: &mut usize) -> u32
-    ensures { use_answer result count.new ≡ answer }
+    ensures { (result, count.new) ≡ told use_status answer count.old }
 {
     match answer {
         Ok(accepted) => {
@@ -96,7 +94,7 @@ pub(crate) fn of_count(answer: Result<usize, UseFault>, count: &mut usize) -> u3
 }
 
 pub(crate) fn of_read(answer: Result<Read, UseFault>, number: &mut u64) -> u32
-    ensures { read_answer result number.new ≡ answer }
+    ensures { (result, number.new) ≡ read_told answer number.old }
 {
     match answer {
         Ok(Read::Bytes(count)) => {
@@ -114,7 +112,7 @@ pub(crate) fn of_read(answer: Result<Read, UseFault>, number: &mut u64) -> u32
 }
 
 pub(crate) fn of_open(answer: Result<StreamId, OpenFault>, number: &mut u64) -> u32
-    ensures { open_answer result number.new ≡ answer }
+    ensures { (result, number.new) ≡ open_told answer number.old }
 {
     match answer {
         Ok(stream) => {
@@ -131,7 +129,7 @@ pub(crate) fn of_open(answer: Result<StreamId, OpenFault>, number: &mut u64) -> 
 }
 
 pub(crate) fn of_stream(answer: Option<StreamId>, number: &mut u64) -> u32
-    ensures { some_answer result number.new ≡ answer }
+    ensures { (result, number.new) ≡ found answer number.old }
 {
     match answer {
         Some(stream) => {
@@ -143,7 +141,7 @@ pub(crate) fn of_stream(answer: Option<StreamId>, number: &mut u64) -> u32
 }
 
 pub(crate) fn of_len(answer: Option<usize>, len: &mut usize) -> u32
-    ensures { some_answer result len.new ≡ answer }
+    ensures { (result, len.new) ≡ found answer len.old }
 {
     match answer {
         Some(written) => {
@@ -155,7 +153,7 @@ pub(crate) fn of_len(answer: Option<usize>, len: &mut usize) -> u32
 }
 
 pub(crate) fn of_lost(answer: Result<(), LostFault>) -> u32
-    ensures { lost_answer result ≡ answer }
+    ensures { result ≡ status_of lost_status answer }
 {
     match answer {
         Ok(()) => OK,
@@ -166,7 +164,7 @@ pub(crate) fn of_lost(answer: Result<(), LostFault>) -> u32
 }
 
 pub(crate) fn of_made(answer: Result<Option<Made>, MakeFault>, made: &mut GvMade) -> u32
-    ensures { made_answer result (made_in made.new) ≡ answer }
+    ensures { (result, made.new) ≡ made_told answer made.old }
 {
     match answer {
         Ok(Some(packet)) => {
@@ -181,7 +179,7 @@ pub(crate) fn of_made(answer: Result<Option<Made>, MakeFault>, made: &mut GvMade
 }
 
 pub(crate) fn of_received(answer: Result<Received, Closing>, closing: &mut GvClosing) -> u32
-    ensures { received_answer result (closing_in closing.new) ≡ answer }
+    ensures { (result, closing.new) ≡ received_told answer closing.old }
 {
     match answer {
         Ok(Received::Done) => OK,
@@ -200,7 +198,7 @@ pub(crate) fn of_received(answer: Result<Received, Closing>, closing: &mut GvClo
 }
 
 pub(crate) fn of_closing(answer: Option<Closing>, closing: &mut GvClosing) -> u32
-    ensures { some_answer result (closing_in closing.new) ≡ answer }
+    ensures { (result, closing.new) ≡ found (option_map closing_of answer) closing.old }
 {
     match answer {
         Some(own) => {
@@ -212,7 +210,7 @@ pub(crate) fn of_closing(answer: Option<Closing>, closing: &mut GvClosing) -> u3
 }
 
 pub(crate) fn of_number(answer: Option<u64>, number: &mut u64) -> u32
-    ensures { some_answer result number.new ≡ answer }
+    ensures { (result, number.new) ≡ found answer number.old }
 {
     match answer {
         Some(found) => {
@@ -224,7 +222,7 @@ pub(crate) fn of_number(answer: Option<u64>, number: &mut u64) -> u32
 }
 
 pub(crate) fn of_claim(answer: Result<u64, MakeFault>, number: &mut u64) -> u32
-    ensures { claim_answer result number.new ≡ answer }
+    ensures { (result, number.new) ≡ told make_status answer number.old }
 {
     match answer {
         Ok(claimed) => {
@@ -237,19 +235,27 @@ pub(crate) fn of_claim(answer: Result<u64, MakeFault>, number: &mut u64) -> u32
     }
 }
 
+pub(crate) fn of_setup(fault: SetupFault) -> u32
+    ensures { result ≡ setup_status fault }
+{
+    match fault {
+        SetupFault::OutOfRange => OUT_OF_RANGE,
+        SetupFault::TooManyStreams => TOO_MANY_STREAMS,
+    }
+}
+
 pub(crate) fn of_raise(answer: Result<(), RaiseFault>) -> u32
-    ensures { raise_answer result ≡ answer }
+    ensures { result ≡ status_of raise_status answer }
 {
     match answer {
         Ok(()) => OK,
         Err(RaiseFault::Closed) => CLOSED,
-        Err(RaiseFault::Refused(SetupFault::OutOfRange)) => OUT_OF_RANGE,
-        Err(RaiseFault::Refused(SetupFault::TooManyStreams)) => TOO_MANY_STREAMS,
+        Err(RaiseFault::Refused(fault)) => of_setup(fault),
     }
 }
 
 pub(crate) fn of_lane(answer: Option<LaneReport>, lane: &mut GvLane) -> u32
-    ensures { some_answer result (lane_in lane.new) ≡ answer }
+    ensures { (result, lane.new) ≡ found (option_map lane_of answer) lane.old }
 {
     match answer {
         Some(report) => {

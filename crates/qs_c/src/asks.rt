@@ -1,13 +1,13 @@
 //! What the calls ask of an end. Nothing changes.
-ghost use Rattle.std.specs.Prelude.{◌≡◌, ◌↔◌, IsTrue, MatchBool};
+ghost use Rattle.std.specs.Prelude.{◌≡◌, ◌↔◌, ℕ, Option, option_map, IsTrue, MatchBool};
 ghost use Rattle.qs_machine.specs.News.{IsLeast, IsReadable, IsWritable, IsSendable, IsEnded};
 ghost use Rattle.qs_machine.specs.Asking.{GoesBesideAck, peer_closing, streams_left, open_left, is_blocked, stopped_with, IsNextOutstanding};
 ghost use Rattle.qs_machine.specs.Newly.{IsNewlyAcked};
 ghost use Rattle.qs_machine.specs.Credit.{spent, all_stored, granted_streams};
 ghost use Rattle.qs_machine.specs.Reports.{lane_report};
 ghost use Rattle.qs_conn.specs.Held.{IsHeldBy};
-ghost use Rattle.qs_c.specs.Statuses.{is_small, is_flag, dir_of, some_answer};
-ghost use Rattle.qs_c.specs.Lanes.{lane_in};
+ghost use Rattle.qs_c.specs.Statuses.{Invalid, is_small, is_flag, dir_of, found};
+ghost use Rattle.qs_c.specs.Lanes.{lane_of};
 
 use crate::answers::{INVALID, OK, of_lane, of_number, of_stream};
 use crate::calls::dir_of;
@@ -17,7 +17,7 @@ use qs_wire::StreamId;
 
 impl Thing {
     pub(crate) fn next_readable(&self, from: u64, stream: &mut u64) -> u32
-        ensures { MatchBool (is_small from) (IsLeast (IsReadable self.now) from (some_answer result stream.new)) (result ≡ 1) }
+        ensures { MatchBool (is_small from) ((a : Option ℕ) × ((result, stream.new) ≡ found a stream.old) × IsLeast (IsReadable self.now) from a) (Invalid result stream.old stream.new) }
     {
         let Some(id) = StreamId::new(from) else {
             return INVALID;
@@ -26,7 +26,7 @@ impl Thing {
     }
 
     pub(crate) fn next_writable(&self, from: u64, stream: &mut u64) -> u32
-        ensures { MatchBool (is_small from) (IsLeast (IsWritable self.now) from (some_answer result stream.new)) (result ≡ 1) }
+        ensures { MatchBool (is_small from) ((a : Option ℕ) × ((result, stream.new) ≡ found a stream.old) × IsLeast (IsWritable self.now) from a) (Invalid result stream.old stream.new) }
     {
         let Some(id) = StreamId::new(from) else {
             return INVALID;
@@ -35,7 +35,7 @@ impl Thing {
     }
 
     pub(crate) fn next_sendable(&self, from: u64, stream: &mut u64) -> u32
-        ensures { MatchBool (is_small from) (IsLeast (IsSendable self.now) from (some_answer result stream.new)) (result ≡ 1) }
+        ensures { MatchBool (is_small from) ((a : Option ℕ) × ((result, stream.new) ≡ found a stream.old) × IsLeast (IsSendable self.now) from a) (Invalid result stream.old stream.new) }
     {
         let Some(id) = StreamId::new(from) else {
             return INVALID;
@@ -44,7 +44,7 @@ impl Thing {
     }
 
     pub(crate) fn next_ended(&self, from: u64, stream: &mut u64) -> u32
-        ensures { MatchBool (is_small from) (IsLeast (IsEnded self.now) from (some_answer result stream.new)) (result ≡ 1) }
+        ensures { MatchBool (is_small from) ((a : Option ℕ) × ((result, stream.new) ≡ found a stream.old) × IsLeast (IsEnded self.now) from a) (Invalid result stream.old stream.new) }
     {
         let Some(id) = StreamId::new(from) else {
             return INVALID;
@@ -60,7 +60,7 @@ impl Thing {
     }
 
     pub(crate) fn is_blocked(&self, stream: u64, answer: &mut bool) -> u32
-        ensures { MatchBool (is_small stream) ((result ≡ 0) × (answer.new ≡ is_blocked self.now stream)) (result ≡ 1) }
+        ensures { MatchBool (is_small stream) ((result ≡ 0) × (answer.new ≡ is_blocked self.now stream)) (Invalid result answer.old answer.new) }
     {
         let Some(id) = StreamId::new(stream) else {
             return INVALID;
@@ -77,7 +77,7 @@ impl Thing {
     }
 
     pub(crate) fn streams_left(&self, dir: u32, count: &mut u64) -> u32
-        ensures { MatchBool (is_flag dir) ((result ≡ 0) × (count.new ≡ streams_left self.now (dir_of dir))) (result ≡ 1) }
+        ensures { MatchBool (is_flag dir) ((result ≡ 0) × (count.new ≡ streams_left self.now (dir_of dir))) (Invalid result count.old count.new) }
     {
         let Some(way) = dir_of(dir) else {
             return INVALID;
@@ -87,7 +87,7 @@ impl Thing {
     }
 
     pub(crate) fn open_left(&self, dir: u32, count: &mut u64) -> u32
-        ensures { MatchBool (is_flag dir) ((result ≡ 0) × (count.new ≡ open_left self.now (dir_of dir))) (result ≡ 1) }
+        ensures { MatchBool (is_flag dir) ((result ≡ 0) × (count.new ≡ open_left self.now (dir_of dir))) (Invalid result count.old count.new) }
     {
         let Some(way) = dir_of(dir) else {
             return INVALID;
@@ -97,7 +97,7 @@ impl Thing {
     }
 
     pub(crate) fn granted_streams(&self, dir: u32, count: &mut u64) -> u32
-        ensures { MatchBool (is_flag dir) ((result ≡ 0) × (count.new ≡ granted_streams self.now (dir_of dir))) (result ≡ 1) }
+        ensures { MatchBool (is_flag dir) ((result ≡ 0) × (count.new ≡ granted_streams self.now (dir_of dir))) (Invalid result count.old count.new) }
     {
         let Some(way) = dir_of(dir) else {
             return INVALID;
@@ -144,13 +144,13 @@ impl Thing {
     }
 
     pub(crate) fn peer_closed(&self, code: &mut u64) -> u32
-        ensures { some_answer result code.new ≡ peer_closing self.now.closed }
+        ensures { (result, code.new) ≡ found (peer_closing self.now.closed) code.old }
     {
         of_number(self.end.peer_closed(), code)
     }
 
     pub(crate) fn stopped_with(&self, stream: u64, code: &mut u64) -> u32
-        ensures { MatchBool (is_small stream) (some_answer result code.new ≡ stopped_with self.now stream) (result ≡ 1) }
+        ensures { MatchBool (is_small stream) ((result, code.new) ≡ found (stopped_with self.now stream) code.old) (Invalid result code.old code.new) }
     {
         let Some(id) = StreamId::new(stream) else {
             return INVALID;
@@ -159,19 +159,19 @@ impl Thing {
     }
 
     pub(crate) fn next_outstanding(&self, from: u64, number: &mut u64) -> u32
-        ensures { IsNextOutstanding self.now.outstanding from (some_answer result number.new) }
+        ensures { (a : Option ℕ) × ((result, number.new) ≡ found a number.old) × IsNextOutstanding self.now.outstanding from a }
     {
         of_number(self.end.next_outstanding(from), number)
     }
 
     pub(crate) fn next_newly_acked(&self, payload: &[u8], from: u64, number: &mut u64) -> u32
-        ensures { IsLeast (IsNewlyAcked self.now payload.now) from (some_answer result number.new) }
+        ensures { (a : Option ℕ) × ((result, number.new) ≡ found a number.old) × IsLeast (IsNewlyAcked self.now payload.now) from a }
     {
         of_number(self.end.next_newly_acked(payload, from), number)
     }
 
     pub(crate) fn lane_report(&self, stream: u64, lane: &mut GvLane) -> u32
-        ensures { MatchBool (is_small stream) (some_answer result (lane_in lane.new) ≡ lane_report self.now stream) (result ≡ 1) }
+        ensures { MatchBool (is_small stream) ((result, lane.new) ≡ found (option_map lane_of (lane_report self.now stream)) lane.old) (Invalid result lane.old lane.new) }
     {
         let Some(id) = StreamId::new(stream) else {
             return INVALID;

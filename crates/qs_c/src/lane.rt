@@ -1,6 +1,6 @@
 //! How a stream stands, as C is told it.
 ghost use Rattle.std.specs.Prelude.{◌≡◌};
-ghost use Rattle.qs_c.specs.Lanes.{some_if, send_state_of, recv_state_of, sending_in, receiving_in, lane_in};
+ghost use Rattle.qs_c.specs.Lanes.{send_number, recv_number, sending_of, receiving_of, lane_of};
 
 use qs_conn::{LaneReport, RecvReport, SendReport};
 use qs_recv::RecvState;
@@ -42,15 +42,13 @@ pub struct GvLane {
 
 impl GvLane {
     pub(crate) fn of(report: LaneReport) -> GvLane
-        ensures { lane_in result ≡ report }
+        ensures { result ≡ lane_of report }
     {
-        let (has_sending, sending) = sending_of(report.send);
-        let (has_receiving, receiving) = receiving_of(report.recv);
         GvLane {
-            has_sending,
-            has_receiving,
-            sending,
-            receiving,
+            has_sending: report.send.is_some(),
+            has_receiving: report.recv.is_some(),
+            sending: sending_of(report.send),
+            receiving: receiving_of(report.recv),
         }
     }
 }
@@ -76,58 +74,43 @@ const NOT_RECEIVING: GvReceiving = GvReceiving {
     reset_code: 0,
 };
 
-fn sending_of(report: Option<SendReport>) -> (bool, GvSending)
-    ensures { some_if result.0 (sending_in result.1) ≡ report }
+fn sending_of(report: Option<SendReport>) -> GvSending
+    ensures { result ≡ sending_of report }
 {
     let Some(half) = report else {
-        return (false, NOT_SENDING);
+        return NOT_SENDING;
     };
-    let (has_final_size, final_size) = parts_of(half.final_size);
-    let (was_reset, reset_code) = parts_of(half.reset_code);
-    let sending = GvSending {
-        state: send_state(half.state),
-        has_final_size,
-        was_reset,
+    GvSending {
+        state: send_number(half.state),
+        has_final_size: half.final_size.is_some(),
+        was_reset: half.reset_code.is_some(),
         written: half.written,
         limit: half.limit,
-        final_size,
-        reset_code,
-    };
-    (true, sending)
-}
-
-fn receiving_of(report: Option<RecvReport>) -> (bool, GvReceiving)
-    ensures { some_if result.0 (receiving_in result.1) ≡ report }
-{
-    let Some(half) = report else {
-        return (false, NOT_RECEIVING);
-    };
-    let (has_final_size, final_size) = parts_of(half.final_size);
-    let (was_reset, reset_code) = parts_of(half.reset_code);
-    let receiving = GvReceiving {
-        state: recv_state(half.state),
-        has_final_size,
-        was_reset,
-        read_count: half.read_count,
-        highest: half.highest,
-        limit: half.limit,
-        final_size,
-        reset_code,
-    };
-    (true, receiving)
-}
-
-fn parts_of(number: Option<u64>) -> (bool, u64)
-    ensures { some_if result.0 result.1 ≡ number }
-{
-    match number {
-        Some(value) => (true, value),
-        None => (false, 0),
+        final_size: half.final_size.unwrap_or(0),
+        reset_code: half.reset_code.unwrap_or(0),
     }
 }
 
-fn send_state(state: SendState) -> u32
-    ensures { send_state_of result ≡ state }
+fn receiving_of(report: Option<RecvReport>) -> GvReceiving
+    ensures { result ≡ receiving_of report }
+{
+    let Some(half) = report else {
+        return NOT_RECEIVING;
+    };
+    GvReceiving {
+        state: recv_number(half.state),
+        has_final_size: half.final_size.is_some(),
+        was_reset: half.reset_code.is_some(),
+        read_count: half.read_count,
+        highest: half.highest,
+        limit: half.limit,
+        final_size: half.final_size.unwrap_or(0),
+        reset_code: half.reset_code.unwrap_or(0),
+    }
+}
+
+fn send_number(state: SendState) -> u32
+    ensures { result ≡ send_number state }
 {
     match state {
         SendState::Ready => 0,
@@ -139,8 +122,8 @@ fn send_state(state: SendState) -> u32
     }
 }
 
-fn recv_state(state: RecvState) -> u32
-    ensures { recv_state_of result ≡ state }
+fn recv_number(state: RecvState) -> u32
+    ensures { result ≡ recv_number state }
 {
     match state {
         RecvState::Recv => 0,

@@ -1,7 +1,7 @@
 //! The calls of C: the front of Gotsavena's endpoint for the C layer in `c/src`, which offers them as `gv_*`.
 //!
-//! Each takes a handle, tests what the endpoint's own call requires, and answers a number of `specs/Statuses`. Its contract is that
-//! of the endpoint's call, with that number in place of the answer.
+//! Each takes a handle, tests what the endpoint's own call requires, and tells the answer by a number of `specs/Statuses` and through
+//! its pointers. Its contract is that of the endpoint's call, with how the answer is told.
 #![tactic(auto)]
 
 mod acks;
@@ -19,10 +19,19 @@ mod starts;
 mod structs;
 mod thing;
 
-ghost use Rattle.std.specs.Prelude.{◌≡◌, ◌++◌, ◌&&◌, List, ℕ, length, map, drop, None, MatchBool, ◌↔◌, IsTrue};
+ghost use Rattle.std.specs.Prelude.{◌≡◌, ◌++◌, ◌&&◌, List, ℕ, true, length, map, drop, Option, None, option_map, Result, MatchBool, ◌↔◌, IsTrue, is_some, nat_eq};
 ghost use Rattle.qs_wire.specs.Grammar.{frames_of};
 ghost use Rattle.qs_wire.specs.Reading.{reading_of};
 ghost use Rattle.qs_wire.specs.LastStream.{last_stream_of};
+ghost use Rattle.qs_recv.specs.declared.half.Read.{Read};
+ghost use Rattle.qs_calls.specs.declared.uses.UseFault.{UseFault};
+ghost use Rattle.qs_calls.specs.declared.uses.OpenFault.{OpenFault};
+ghost use Rattle.qs_calls.specs.declared.making.LostFault.{LostFault};
+ghost use Rattle.qs_calls.specs.declared.making.MakeFault.{MakeFault};
+ghost use Rattle.qs_calls.specs.declared.making.Made.{Made};
+ghost use Rattle.qs_calls.specs.declared.closing.Closing.{Closing};
+ghost use Rattle.qs_calls.specs.declared.closing.Received.{Received};
+ghost use Rattle.qs_calls.specs.declared.settings.RaiseFault.{RaiseFault};
 ghost use Rattle.qs_machine.specs.Owner.{WriteStep, FinishStep, ResetStep, StopStep, ReadStep, OpenStep, AcceptStep};
 ghost use Rattle.qs_machine.specs.Receiving.{ReceiveStep};
 ghost use Rattle.qs_machine.specs.Making.{MakeStep, MakeAckStep, ClaimStep, LoseStep, ClosePayload};
@@ -34,9 +43,9 @@ ghost use Rattle.qs_machine.specs.Credit.{spent, all_stored, granted_streams};
 ghost use Rattle.qs_machine.specs.Reports.{own_closing, lane_report};
 ghost use Rattle.qs_conn.specs.Filling.{made_text};
 ghost use Rattle.qs_conn.specs.Held.{IsHeldBy};
-ghost use Rattle.qs_c.specs.Statuses.{Called, Tested, Starts, role_of, is_small, is_room, is_flag, dir_of, use_answer, read_answer, open_answer, some_answer, lost_answer, claim_answer, raise_answer, made_answer, received_answer};
-ghost use Rattle.qs_c.specs.Structs.{made_in, closing_in, settings_in, limits_in};
-ghost use Rattle.qs_c.specs.Lanes.{lane_in};
+ghost use Rattle.qs_c.specs.Statuses.{Called, Asked, Invalid, Starts, role_of, is_small, is_room, is_flag, dir_of, use_status, lost_status, make_status, raise_status, status_of, told, found, read_told, open_told, made_told, received_told};
+ghost use Rattle.qs_c.specs.Structs.{closing_of, settings_in, limits_in};
+ghost use Rattle.qs_c.specs.Lanes.{lane_of};
 ghost use Rattle.qs_c.specs.Frames.{NextAnswer, GivenAnswer};
 ghost use Rattle.qs_c.specs.Acks.{pair_of, are_ranges, AckAnswer, RangeAnswer};
 ghost use Rattle.qs_machine.specs.Ends.{end_made};
@@ -50,7 +59,15 @@ use crate::structs::{GvClosing, GvLimits, GvMade, GvSettings};
 use qs_wire::last_stream;
 use std::alloc::Global;
 
-/// Makes an end. A handle that holds one loses it.
+/// Takes the memory for an end: the handle holds one then, which `gvp_new` makes another. A handle that holds one loses it.
+#[unsafe(no_mangle)]
+pub extern "C" fn gvp_reserve(alloc: Global, end: &mut Handle) -> u32
+    ensures { MatchBool (nat_eq result 0) (is_some end.new.cell.value ≡ true) ((result ≡ 2) × (end.new.cell.value ≡ end.old.cell.value)) }
+{
+    starts::reserve(alloc, end)
+}
+
+/// Makes the end that a handle holds a new one. It takes no memory.
 #[unsafe(no_mangle)]
 pub extern "C" fn gvp_new(
     alloc: Global,
@@ -59,9 +76,14 @@ pub extern "C" fn gvp_new(
     settings: &GvSettings,
     peer: &GvLimits,
 ) -> u32
-    ensures { MatchBool (is_flag role) (Starts (end_made (role_of role) (settings_in settings.now) (limits_in peer.now)) result end.old.cell.value end.new.cell.value) ((result ≡ 1) × (end.new.cell.value ≡ end.old.cell.value)) }
+    ensures { Called end.old.cell.value end.new.cell.value (is_flag role) (result ≡ 1) (λ e f. Starts (end_made (role_of role) (settings_in settings.now) (limits_in peer.now)) result e f) }
 {
-    starts::start(alloc, end, role, settings, peer)
+    let Some(mut thing) = end.take(alloc) else {
+        return INVALID;
+    };
+    let status = thing.start(alloc, role, settings, peer);
+    end.put(thing);
+    status
 }
 
 /// Drops the end that a handle holds.
@@ -80,7 +102,7 @@ pub extern "C" fn gvp_receive(
     payload: &[u8],
     closing: &mut GvClosing,
 ) -> u32
-    ensures { Called end.old.cell.value result end.new.cell.value (λ e f. Tested (is_small number) result e f (ReceiveStep e number payload.now (received_answer result (closing_in closing.new)) f)) }
+    ensures { Called end.old.cell.value end.new.cell.value (is_small number) (Invalid result closing.old closing.new) (λ e f. (a : Result Received Closing) × ((result, closing.new) ≡ received_told a closing.old) × ReceiveStep e number payload.now a f) }
 {
     let Some(mut thing) = end.take(alloc) else {
         return INVALID;
@@ -99,7 +121,7 @@ pub extern "C" fn gvp_make_packet_from(
     out: &mut [u8],
     made: &mut GvMade,
 ) -> u32
-    ensures { Called end.old.cell.value result end.new.cell.value (λ e f. Tested (is_small first && is_small delay && is_room (length out.old)) result e f (MakeStep e first delay (length out.old) (made_answer result (made_in made.new)) (made_text (made_answer result (made_in made.new)) out.new) f)) }
+    ensures { Called end.old.cell.value end.new.cell.value (is_small first && is_small delay && is_room (length out.old)) (Invalid result made.old made.new × (out.new ≡ out.old)) (λ e f. (a : Result (Option Made) MakeFault) × ((result, made.new) ≡ made_told a made.old) × MakeStep e first delay (length out.old) a (made_text a out.new) f) }
 {
     let Some(mut thing) = end.take(alloc) else {
         return INVALID;
@@ -111,7 +133,7 @@ pub extern "C" fn gvp_make_packet_from(
 
 #[unsafe(no_mangle)]
 pub extern "C" fn gvp_open(alloc: Global, end: &mut Handle, dir: u32, number: &mut u64) -> u32
-    ensures { Called end.old.cell.value result end.new.cell.value (λ e f. Tested (is_flag dir) result e f (OpenStep e (dir_of dir) (open_answer result number.new) f)) }
+    ensures { Called end.old.cell.value end.new.cell.value (is_flag dir) (Invalid result number.old number.new) (λ e f. (a : Result ℕ OpenFault) × ((result, number.new) ≡ open_told a number.old) × OpenStep e (dir_of dir) a f) }
 {
     let Some(mut thing) = end.take(alloc) else {
         return INVALID;
@@ -123,7 +145,7 @@ pub extern "C" fn gvp_open(alloc: Global, end: &mut Handle, dir: u32, number: &m
 
 #[unsafe(no_mangle)]
 pub extern "C" fn gvp_accept(alloc: Global, end: &mut Handle, stream: &mut u64) -> u32
-    ensures { Called end.old.cell.value result end.new.cell.value (λ e f. AcceptStep e (some_answer result stream.new) f) }
+    ensures { Called end.old.cell.value end.new.cell.value true (Invalid result stream.old stream.new) (λ e f. (a : Option ℕ) × ((result, stream.new) ≡ found a stream.old) × AcceptStep e a f) }
 {
     let Some(mut thing) = end.take(alloc) else {
         return INVALID;
@@ -141,7 +163,7 @@ pub extern "C" fn gvp_write(
     bytes: &[u8],
     count: &mut usize,
 ) -> u32
-    ensures { Called end.old.cell.value result end.new.cell.value (λ e f. Tested (is_small stream) result e f (WriteStep e stream bytes.now (use_answer result count.new) f)) }
+    ensures { Called end.old.cell.value end.new.cell.value (is_small stream) (Invalid result count.old count.new) (λ e f. (a : Result ℕ UseFault) × ((result, count.new) ≡ told use_status a count.old) × WriteStep e stream bytes.now a f) }
 {
     let Some(mut thing) = end.take(alloc) else {
         return INVALID;
@@ -153,7 +175,7 @@ pub extern "C" fn gvp_write(
 
 #[unsafe(no_mangle)]
 pub extern "C" fn gvp_finish(alloc: Global, end: &mut Handle, stream: u64) -> u32
-    ensures { Called end.old.cell.value result end.new.cell.value (λ e f. Tested (is_small stream) result e f (FinishStep e stream (use_answer result tt) f)) }
+    ensures { Called end.old.cell.value end.new.cell.value (is_small stream) (result ≡ 1) (λ e f. (a : Result (Unit {0}) UseFault) × (result ≡ status_of use_status a) × FinishStep e stream a f) }
 {
     let Some(mut thing) = end.take(alloc) else {
         return INVALID;
@@ -165,7 +187,7 @@ pub extern "C" fn gvp_finish(alloc: Global, end: &mut Handle, stream: u64) -> u3
 
 #[unsafe(no_mangle)]
 pub extern "C" fn gvp_reset(alloc: Global, end: &mut Handle, stream: u64, code: u64) -> u32
-    ensures { Called end.old.cell.value result end.new.cell.value (λ e f. Tested (is_small stream && is_small code) result e f (ResetStep e stream code (use_answer result tt) f)) }
+    ensures { Called end.old.cell.value end.new.cell.value (is_small stream && is_small code) (result ≡ 1) (λ e f. (a : Result (Unit {0}) UseFault) × (result ≡ status_of use_status a) × ResetStep e stream code a f) }
 {
     let Some(mut thing) = end.take(alloc) else {
         return INVALID;
@@ -177,7 +199,7 @@ pub extern "C" fn gvp_reset(alloc: Global, end: &mut Handle, stream: u64, code: 
 
 #[unsafe(no_mangle)]
 pub extern "C" fn gvp_stop(alloc: Global, end: &mut Handle, stream: u64, code: u64) -> u32
-    ensures { Called end.old.cell.value result end.new.cell.value (λ e f. Tested (is_small stream && is_small code) result e f (StopStep e stream code (use_answer result tt) f)) }
+    ensures { Called end.old.cell.value end.new.cell.value (is_small stream && is_small code) (result ≡ 1) (λ e f. (a : Result (Unit {0}) UseFault) × (result ≡ status_of use_status a) × StopStep e stream code a f) }
 {
     let Some(mut thing) = end.take(alloc) else {
         return INVALID;
@@ -195,7 +217,7 @@ pub extern "C" fn gvp_read(
     into: &mut [u8],
     number: &mut u64,
 ) -> u32
-    ensures { Called end.old.cell.value result end.new.cell.value (λ e f. Tested (is_small stream) result e f ((bytes : List ℕ) × (into.new ≡ bytes ++ drop (length bytes) into.old) × ReadStep e stream (length into.old) (read_answer result number.new) bytes f)) }
+    ensures { Called end.old.cell.value end.new.cell.value (is_small stream) (Invalid result number.old number.new × (into.new ≡ into.old)) (λ e f. (a : Result Read UseFault) × (bytes : List ℕ) × ((result, number.new) ≡ read_told a number.old) × (into.new ≡ bytes ++ drop (length bytes) into.old) × ReadStep e stream (length into.old) a bytes f) }
 {
     let Some(mut thing) = end.take(alloc) else {
         return INVALID;
@@ -207,7 +229,7 @@ pub extern "C" fn gvp_read(
 
 #[unsafe(no_mangle)]
 pub extern "C" fn gvp_declare_lost(alloc: Global, end: &mut Handle, number: u64) -> u32
-    ensures { Called end.old.cell.value result end.new.cell.value (λ e f. LoseStep e number (lost_answer result) f) }
+    ensures { Called end.old.cell.value end.new.cell.value true (result ≡ 1) (λ e f. (a : Result (Unit {0}) LostFault) × (result ≡ status_of lost_status a) × LoseStep e number a f) }
 {
     let Some(mut thing) = end.take(alloc) else {
         return INVALID;
@@ -219,7 +241,7 @@ pub extern "C" fn gvp_declare_lost(alloc: Global, end: &mut Handle, number: u64)
 
 #[unsafe(no_mangle)]
 pub extern "C" fn gvp_closing(alloc: Global, end: &mut Handle, closing: &mut GvClosing) -> u32
-    ensures { Called end.old.cell.value result end.new.cell.value (λ e f. (f ≡ e) × (some_answer result (closing_in closing.new) ≡ own_closing e.closed)) }
+    ensures { Asked end.old.cell.value end.new.cell.value true (Invalid result closing.old closing.new) (λ e. (result, closing.new) ≡ found (option_map closing_of (own_closing e.closed)) closing.old) }
 {
     let Some(thing) = end.take(alloc) else {
         return INVALID;
@@ -236,7 +258,7 @@ pub extern "C" fn gvp_close_payload(
     out: &mut [u8],
     len: &mut usize,
 ) -> u32
-    ensures { Called end.old.cell.value result end.new.cell.value (λ e f. (f ≡ e) × (ClosePayload e out.old (some_answer result len.new) out.new)) }
+    ensures { Asked end.old.cell.value end.new.cell.value true (Invalid result len.old len.new × (out.new ≡ out.old)) (λ e. (a : Option ℕ) × ((result, len.new) ≡ found a len.old) × ClosePayload e out.old a out.new) }
 {
     let Some(thing) = end.take(alloc) else {
         return INVALID;
@@ -253,7 +275,7 @@ pub extern "C" fn gvp_next_readable(
     from: u64,
     stream: &mut u64,
 ) -> u32
-    ensures { Called end.old.cell.value result end.new.cell.value (λ e f. (f ≡ e) × MatchBool (is_small from) (IsLeast (IsReadable e) from (some_answer result stream.new)) (result ≡ 1)) }
+    ensures { Asked end.old.cell.value end.new.cell.value (is_small from) (Invalid result stream.old stream.new) (λ e. (a : Option ℕ) × ((result, stream.new) ≡ found a stream.old) × IsLeast (IsReadable e) from a) }
 {
     let Some(thing) = end.take(alloc) else {
         return INVALID;
@@ -270,7 +292,7 @@ pub extern "C" fn gvp_next_writable(
     from: u64,
     stream: &mut u64,
 ) -> u32
-    ensures { Called end.old.cell.value result end.new.cell.value (λ e f. (f ≡ e) × MatchBool (is_small from) (IsLeast (IsWritable e) from (some_answer result stream.new)) (result ≡ 1)) }
+    ensures { Asked end.old.cell.value end.new.cell.value (is_small from) (Invalid result stream.old stream.new) (λ e. (a : Option ℕ) × ((result, stream.new) ≡ found a stream.old) × IsLeast (IsWritable e) from a) }
 {
     let Some(thing) = end.take(alloc) else {
         return INVALID;
@@ -287,7 +309,7 @@ pub extern "C" fn gvp_next_sendable(
     from: u64,
     stream: &mut u64,
 ) -> u32
-    ensures { Called end.old.cell.value result end.new.cell.value (λ e f. (f ≡ e) × MatchBool (is_small from) (IsLeast (IsSendable e) from (some_answer result stream.new)) (result ≡ 1)) }
+    ensures { Asked end.old.cell.value end.new.cell.value (is_small from) (Invalid result stream.old stream.new) (λ e. (a : Option ℕ) × ((result, stream.new) ≡ found a stream.old) × IsLeast (IsSendable e) from a) }
 {
     let Some(thing) = end.take(alloc) else {
         return INVALID;
@@ -304,7 +326,7 @@ pub extern "C" fn gvp_next_ended(
     from: u64,
     stream: &mut u64,
 ) -> u32
-    ensures { Called end.old.cell.value result end.new.cell.value (λ e f. (f ≡ e) × MatchBool (is_small from) (IsLeast (IsEnded e) from (some_answer result stream.new)) (result ≡ 1)) }
+    ensures { Asked end.old.cell.value end.new.cell.value (is_small from) (Invalid result stream.old stream.new) (λ e. (a : Option ℕ) × ((result, stream.new) ≡ found a stream.old) × IsLeast (IsEnded e) from a) }
 {
     let Some(thing) = end.take(alloc) else {
         return INVALID;
@@ -316,7 +338,7 @@ pub extern "C" fn gvp_next_ended(
 
 #[unsafe(no_mangle)]
 pub extern "C" fn gvp_is_sendable(alloc: Global, end: &mut Handle, answer: &mut bool) -> u32
-    ensures { Called end.old.cell.value result end.new.cell.value (λ e f. (f ≡ e) × ((result ≡ 0) × (IsTrue answer.new ↔ GoesBesideAck e))) }
+    ensures { Asked end.old.cell.value end.new.cell.value true (Invalid result answer.old answer.new) (λ e. (result ≡ 0) × (IsTrue answer.new ↔ GoesBesideAck e)) }
 {
     let Some(thing) = end.take(alloc) else {
         return INVALID;
@@ -333,7 +355,7 @@ pub extern "C" fn gvp_is_blocked(
     stream: u64,
     answer: &mut bool,
 ) -> u32
-    ensures { Called end.old.cell.value result end.new.cell.value (λ e f. (f ≡ e) × MatchBool (is_small stream) ((result ≡ 0) × (answer.new ≡ is_blocked e stream)) (result ≡ 1)) }
+    ensures { Asked end.old.cell.value end.new.cell.value (is_small stream) (Invalid result answer.old answer.new) (λ e. (result ≡ 0) × (answer.new ≡ is_blocked e stream)) }
 {
     let Some(thing) = end.take(alloc) else {
         return INVALID;
@@ -345,7 +367,7 @@ pub extern "C" fn gvp_is_blocked(
 
 #[unsafe(no_mangle)]
 pub extern "C" fn gvp_ack_is_due(alloc: Global, end: &mut Handle, answer: &mut bool) -> u32
-    ensures { Called end.old.cell.value result end.new.cell.value (λ e f. (f ≡ e) × ((result ≡ 0) × (answer.new ≡ e.ack_due))) }
+    ensures { Asked end.old.cell.value end.new.cell.value true (Invalid result answer.old answer.new) (λ e. (result ≡ 0) × (answer.new ≡ e.ack_due)) }
 {
     let Some(thing) = end.take(alloc) else {
         return INVALID;
@@ -362,7 +384,7 @@ pub extern "C" fn gvp_streams_left(
     dir: u32,
     count: &mut u64,
 ) -> u32
-    ensures { Called end.old.cell.value result end.new.cell.value (λ e f. (f ≡ e) × MatchBool (is_flag dir) ((result ≡ 0) × (count.new ≡ streams_left e (dir_of dir))) (result ≡ 1)) }
+    ensures { Asked end.old.cell.value end.new.cell.value (is_flag dir) (Invalid result count.old count.new) (λ e. (result ≡ 0) × (count.new ≡ streams_left e (dir_of dir))) }
 {
     let Some(thing) = end.take(alloc) else {
         return INVALID;
@@ -374,7 +396,7 @@ pub extern "C" fn gvp_streams_left(
 
 #[unsafe(no_mangle)]
 pub extern "C" fn gvp_open_left(alloc: Global, end: &mut Handle, dir: u32, count: &mut u64) -> u32
-    ensures { Called end.old.cell.value result end.new.cell.value (λ e f. (f ≡ e) × MatchBool (is_flag dir) ((result ≡ 0) × (count.new ≡ open_left e (dir_of dir))) (result ≡ 1)) }
+    ensures { Asked end.old.cell.value end.new.cell.value (is_flag dir) (Invalid result count.old count.new) (λ e. (result ≡ 0) × (count.new ≡ open_left e (dir_of dir))) }
 {
     let Some(thing) = end.take(alloc) else {
         return INVALID;
@@ -391,7 +413,7 @@ pub extern "C" fn gvp_granted_streams(
     dir: u32,
     count: &mut u64,
 ) -> u32
-    ensures { Called end.old.cell.value result end.new.cell.value (λ e f. (f ≡ e) × MatchBool (is_flag dir) ((result ≡ 0) × (count.new ≡ granted_streams e (dir_of dir))) (result ≡ 1)) }
+    ensures { Asked end.old.cell.value end.new.cell.value (is_flag dir) (Invalid result count.old count.new) (λ e. (result ≡ 0) × (count.new ≡ granted_streams e (dir_of dir))) }
 {
     let Some(thing) = end.take(alloc) else {
         return INVALID;
@@ -403,7 +425,7 @@ pub extern "C" fn gvp_granted_streams(
 
 #[unsafe(no_mangle)]
 pub extern "C" fn gvp_stored(alloc: Global, end: &mut Handle, count: &mut u64) -> u32
-    ensures { Called end.old.cell.value result end.new.cell.value (λ e f. (f ≡ e) × ((result ≡ 0) × (count.new ≡ all_stored e))) }
+    ensures { Asked end.old.cell.value end.new.cell.value true (Invalid result count.old count.new) (λ e. (result ≡ 0) × (count.new ≡ all_stored e)) }
 {
     let Some(thing) = end.take(alloc) else {
         return INVALID;
@@ -420,7 +442,7 @@ pub extern "C" fn gvp_held(
     receiving: &mut u64,
     sending: &mut u64,
 ) -> u32
-    ensures { Called end.old.cell.value result end.new.cell.value (λ e f. (f ≡ e) × ((result ≡ 0) × IsHeldBy e (record { receiving = receiving.new; sending = sending.new }))) }
+    ensures { Asked end.old.cell.value end.new.cell.value true (Invalid result receiving.old receiving.new × (sending.new ≡ sending.old)) (λ e. (result ≡ 0) × IsHeldBy e (record { receiving = receiving.new; sending = sending.new })) }
 {
     let Some(thing) = end.take(alloc) else {
         return INVALID;
@@ -432,7 +454,7 @@ pub extern "C" fn gvp_held(
 
 #[unsafe(no_mangle)]
 pub extern "C" fn gvp_granted(alloc: Global, end: &mut Handle, count: &mut u64) -> u32
-    ensures { Called end.old.cell.value result end.new.cell.value (λ e f. (f ≡ e) × ((result ≡ 0) × (count.new ≡ e.granted))) }
+    ensures { Asked end.old.cell.value end.new.cell.value true (Invalid result count.old count.new) (λ e. (result ≡ 0) × (count.new ≡ e.granted)) }
 {
     let Some(thing) = end.take(alloc) else {
         return INVALID;
@@ -444,7 +466,7 @@ pub extern "C" fn gvp_granted(alloc: Global, end: &mut Handle, count: &mut u64) 
 
 #[unsafe(no_mangle)]
 pub extern "C" fn gvp_spent(alloc: Global, end: &mut Handle, count: &mut u64) -> u32
-    ensures { Called end.old.cell.value result end.new.cell.value (λ e f. (f ≡ e) × ((result ≡ 0) × (count.new ≡ spent e))) }
+    ensures { Asked end.old.cell.value end.new.cell.value true (Invalid result count.old count.new) (λ e. (result ≡ 0) × (count.new ≡ spent e)) }
 {
     let Some(thing) = end.take(alloc) else {
         return INVALID;
@@ -456,7 +478,7 @@ pub extern "C" fn gvp_spent(alloc: Global, end: &mut Handle, count: &mut u64) ->
 
 #[unsafe(no_mangle)]
 pub extern "C" fn gvp_next_number(alloc: Global, end: &mut Handle, number: &mut u64) -> u32
-    ensures { Called end.old.cell.value result end.new.cell.value (λ e f. (f ≡ e) × ((result ≡ 0) × (number.new ≡ e.next))) }
+    ensures { Asked end.old.cell.value end.new.cell.value true (Invalid result number.old number.new) (λ e. (result ≡ 0) × (number.new ≡ e.next)) }
 {
     let Some(thing) = end.take(alloc) else {
         return INVALID;
@@ -468,7 +490,7 @@ pub extern "C" fn gvp_next_number(alloc: Global, end: &mut Handle, number: &mut 
 
 #[unsafe(no_mangle)]
 pub extern "C" fn gvp_peer_closed(alloc: Global, end: &mut Handle, code: &mut u64) -> u32
-    ensures { Called end.old.cell.value result end.new.cell.value (λ e f. (f ≡ e) × (some_answer result code.new ≡ peer_closing e.closed)) }
+    ensures { Asked end.old.cell.value end.new.cell.value true (Invalid result code.old code.new) (λ e. (result, code.new) ≡ found (peer_closing e.closed) code.old) }
 {
     let Some(thing) = end.take(alloc) else {
         return INVALID;
@@ -485,7 +507,7 @@ pub extern "C" fn gvp_stopped_with(
     stream: u64,
     code: &mut u64,
 ) -> u32
-    ensures { Called end.old.cell.value result end.new.cell.value (λ e f. (f ≡ e) × MatchBool (is_small stream) (some_answer result code.new ≡ stopped_with e stream) (result ≡ 1)) }
+    ensures { Asked end.old.cell.value end.new.cell.value (is_small stream) (Invalid result code.old code.new) (λ e. (result, code.new) ≡ found (stopped_with e stream) code.old) }
 {
     let Some(thing) = end.take(alloc) else {
         return INVALID;
@@ -502,7 +524,7 @@ pub extern "C" fn gvp_next_outstanding(
     from: u64,
     number: &mut u64,
 ) -> u32
-    ensures { Called end.old.cell.value result end.new.cell.value (λ e f. (f ≡ e) × (IsNextOutstanding e.outstanding from (some_answer result number.new))) }
+    ensures { Asked end.old.cell.value end.new.cell.value true (Invalid result number.old number.new) (λ e. (a : Option ℕ) × ((result, number.new) ≡ found a number.old) × IsNextOutstanding e.outstanding from a) }
 {
     let Some(thing) = end.take(alloc) else {
         return INVALID;
@@ -520,7 +542,7 @@ pub extern "C" fn gvp_next_newly_acked(
     from: u64,
     number: &mut u64,
 ) -> u32
-    ensures { Called end.old.cell.value result end.new.cell.value (λ e f. (f ≡ e) × (IsLeast (IsNewlyAcked e payload.now) from (some_answer result number.new))) }
+    ensures { Asked end.old.cell.value end.new.cell.value true (Invalid result number.old number.new) (λ e. (a : Option ℕ) × ((result, number.new) ≡ found a number.old) × IsLeast (IsNewlyAcked e payload.now) from a) }
 {
     let Some(thing) = end.take(alloc) else {
         return INVALID;
@@ -537,7 +559,7 @@ pub extern "C" fn gvp_lane_report(
     stream: u64,
     lane: &mut GvLane,
 ) -> u32
-    ensures { Called end.old.cell.value result end.new.cell.value (λ e f. (f ≡ e) × MatchBool (is_small stream) (some_answer result (lane_in lane.new) ≡ lane_report e stream) (result ≡ 1)) }
+    ensures { Asked end.old.cell.value end.new.cell.value (is_small stream) (Invalid result lane.old lane.new) (λ e. (result, lane.new) ≡ found (option_map lane_of (lane_report e stream)) lane.old) }
 {
     let Some(thing) = end.take(alloc) else {
         return INVALID;
@@ -549,7 +571,7 @@ pub extern "C" fn gvp_lane_report(
 
 #[unsafe(no_mangle)]
 pub extern "C" fn gvp_claim_number(alloc: Global, end: &mut Handle, number: &mut u64) -> u32
-    ensures { Called end.old.cell.value result end.new.cell.value (λ e f. ClaimStep e (claim_answer result number.new) f) }
+    ensures { Called end.old.cell.value end.new.cell.value true (Invalid result number.old number.new) (λ e f. (a : Result ℕ MakeFault) × ((result, number.new) ≡ told make_status a number.old) × ClaimStep e a f) }
 {
     let Some(mut thing) = end.take(alloc) else {
         return INVALID;
@@ -567,7 +589,7 @@ pub extern "C" fn gvp_make_ack(
     out: &mut [u8],
     made: &mut GvMade,
 ) -> u32
-    ensures { Called end.old.cell.value result end.new.cell.value (λ e f. Tested (is_small delay && is_room (length out.old)) result e f (MakeAckStep e delay (length out.old) (made_answer result (made_in made.new)) (made_text (made_answer result (made_in made.new)) out.new) f)) }
+    ensures { Called end.old.cell.value end.new.cell.value (is_small delay && is_room (length out.old)) (Invalid result made.old made.new × (out.new ≡ out.old)) (λ e f. (a : Result (Option Made) MakeFault) × ((result, made.new) ≡ made_told a made.old) × MakeAckStep e delay (length out.old) a (made_text a out.new) f) }
 {
     let Some(mut thing) = end.take(alloc) else {
         return INVALID;
@@ -579,7 +601,7 @@ pub extern "C" fn gvp_make_ack(
 
 #[unsafe(no_mangle)]
 pub extern "C" fn gvp_raise_limits(alloc: Global, end: &mut Handle, limits: &GvLimits) -> u32
-    ensures { Called end.old.cell.value result end.new.cell.value (λ e f. RaiseStep e (limits_in limits.now) (raise_answer result) f) }
+    ensures { Called end.old.cell.value end.new.cell.value true (result ≡ 1) (λ e f. (a : Result (Unit {0}) RaiseFault) × (result ≡ status_of raise_status a) × RaiseStep e (limits_in limits.now) a f) }
 {
     let Some(mut thing) = end.take(alloc) else {
         return INVALID;
@@ -592,7 +614,7 @@ pub extern "C" fn gvp_raise_limits(alloc: Global, end: &mut Handle, limits: &GvL
 /// The stream of the last STREAM frame in a payload.
 #[unsafe(no_mangle)]
 pub extern "C" fn gvp_last_stream(payload: &[u8], stream: &mut u64) -> u32
-    ensures { some_answer result stream.new ≡ last_stream_of None (frames_of (reading_of payload.now).left) }
+    ensures { (result, stream.new) ≡ found (last_stream_of None (frames_of (reading_of payload.now).left)) stream.old }
 {
     of_stream(last_stream(payload), stream)
 }
@@ -605,7 +627,7 @@ pub extern "C" fn gvp_frames_next(
     frame: &mut GvFrame,
     fault: &mut GvFault,
 ) -> u32
-    ensures { NextAnswer payload.now place.old result frame.new fault.new place.new }
+    ensures { NextAnswer payload.now result (record { place = place.old; frame = frame.old; fault = fault.old }) (record { place = place.new; frame = frame.new; fault = fault.new }) }
 {
     reads::next(payload, place, frame, fault)
 }
@@ -619,7 +641,7 @@ pub extern "C" fn gvp_put(
     out: &mut [u8],
     len: &mut usize,
 ) -> u32
-    ensures { GivenAnswer frame.now bytes.now token.now result len.new out.old out.new }
+    ensures { GivenAnswer frame.now bytes.now token.now (result, len.new, out.new) len.old out.old }
 {
     puts::put_frame(frame, bytes, token, out, len)
 }
@@ -633,7 +655,7 @@ pub extern "C" fn gvp_put_ack(
     count: &mut usize,
     len: &mut usize,
 ) -> u32
-    ensures { MatchBool (are_ranges ranges.now && is_small delay) (AckAnswer (map pair_of ranges.now) delay result count.new len.new out.old out.new) ((result ≡ 1) × (out.new ≡ out.old)) }
+    ensures { MatchBool (are_ranges ranges.now && is_small delay) (AckAnswer (map pair_of ranges.now) delay result (record { count = count.old; len = len.old; bytes = out.old }) (record { count = count.new; len = len.new; bytes = out.new })) (Invalid result count.old count.new × (len.new ≡ len.old) × (out.new ≡ out.old)) }
 {
     acks::put(ranges, delay, out, count, len)
 }
@@ -646,7 +668,7 @@ pub extern "C" fn gvp_ack_next(
     used: &mut usize,
     range: &mut GvRange,
 ) -> u32
-    ensures { RangeAnswer bytes.now largest.old result largest.new used.new range.new }
+    ensures { RangeAnswer bytes.now result (record { largest = largest.old; used = used.old; range = range.old }) (record { largest = largest.new; used = used.new; range = range.new }) }
 {
     acks::next_range(bytes, largest, used, range)
 }

@@ -4,8 +4,7 @@ ghost use Rattle.qs_wire.specs.Varint.{numbers_of};
 ghost use Rattle.qs_wire.specs.Layout.{view, taken};
 ghost use Rattle.qs_wire.specs.Grammar.{Fits, AreRanges, CountsFit};
 ghost use Rattle.qs_c.specs.Statuses.{dir_of};
-ghost use Rattle.qs_c.specs.Lanes.{some_if};
-ghost use Rattle.qs_c.specs.Frames.{frame_in, counts_in, GivenAnswer};
+ghost use Rattle.qs_c.specs.Frames.{some_if, frame_in, counts_in, GivenAnswer};
 
 use crate::answers::{FULL, INVALID, OK};
 use crate::frame::GvFrame;
@@ -26,7 +25,7 @@ pub(crate) fn put_frame(
     out: &mut [u8],
     len: &mut usize,
 ) -> u32
-    ensures { GivenAnswer frame.now bytes.now token.now result len.new out.old out.new }
+    ensures { GivenAnswer frame.now bytes.now token.now (result, len.new, out.new) len.old out.old }
 {
     if frame.kind > HANDSHAKE_DONE || frame.dir > 1 {
         return INVALID;

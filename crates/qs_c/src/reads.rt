@@ -3,11 +3,11 @@ ghost use Rattle.std.specs.Prelude.{◌≡◌, ℕ, ◌+◌, ◌^◌, ◌<◌, �
 ghost use Rattle.qs_wire.specs.Varint.{numbers_of};
 ghost use Rattle.qs_wire.specs.Layout.{view};
 ghost use Rattle.qs_wire.specs.Reading.{Reading, reading_of, with_first, view_placed};
-ghost use Rattle.qs_c.specs.Frames.{placed_in, reading_at, NextAnswer};
-ghost use Rattle.qs_c.specs.Places.{skip_of, lead_of, laid_of, sizes_of, as_sizes};
+ghost use Rattle.qs_c.specs.Frames.{NextAnswer};
+ghost use Rattle.qs_c.specs.Places.{IsNext, skip_of, lead_of, laid_of, sizes_of, as_sizes};
 
 use crate::answers::{FAULT, INVALID, NONE, OK};
-use crate::frame::{GvFault, GvFrame, NOTHING};
+use crate::frame::{GvFault, GvFrame, of_kind};
 use qs_wire::{Frame, Frames, Placed, read_varint};
 
 /// Gives the frame that stands in a payload at a place, and moves on behind it.
@@ -17,7 +17,7 @@ pub(crate) fn next(
     frame: &mut GvFrame,
     fault: &mut GvFault,
 ) -> u32
-    ensures { NextAnswer payload.now place.old result frame.new fault.new place.new }
+    ensures { NextAnswer payload.now result (record { place = place.old; frame = frame.old; fault = fault.old }) (record { place = place.new; frame = frame.new; fault = fault.new }) }
 {
     let at = *place;
     if at > payload.len() {
@@ -46,12 +46,12 @@ pub(crate) fn next(
 fn told_of(placed: &Placed, at: usize, bytes: &[u8]) -> (GvFrame, usize)
     requires first { (r : Reading) × (reading_of bytes.now ≡ with_first (view_placed placed.now) r) }
     requires room { at + length bytes.now < 2 ^ 63 }
-    ensures { (payload : List ℕ) → drop at payload ≡ bytes.now → reading_at payload at ≡ with_first (placed_in result.0 payload) (reading_at payload result.1) }
+    ensures { (payload : List ℕ) → drop at payload ≡ bytes.now → at ≤ length payload → IsNext payload at result.0 result.1 }
 {
     let (mid, len, token, trail) = sizes(&placed.frame);
     let numbers = lead(placed.frame_type);
     let Some((start, ranges, end)) = laid(numbers, mid, len, token, trail, bytes) else {
-        return (NOTHING, at);
+        return (of_kind(0), at);
     };
     let told = GvFrame {
         place: at,

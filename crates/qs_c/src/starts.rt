@@ -1,44 +1,77 @@
 //! An end is made.
-ghost use Rattle.std.specs.Prelude.{◌≡◌, MatchBool, Some, None, Ok, if◌then◌else◌};
+ghost use Rattle.std.specs.Prelude.{◌≡◌, true, MatchBool, Some, None, Ok, is_some, nat_eq, if◌then◌else◌};
 ghost use Rattle.qs_machine.specs.Ends.{end_made};
-ghost use Rattle.qs_c.specs.Statuses.{Starts, is_flag, role_of};
+ghost use Rattle.qs_c.specs.Statuses.{Tested, Starts, setup_status, is_flag, role_of};
 ghost use Rattle.qs_c.specs.Structs.{settings_in, limits_in};
 
-use crate::answers::{INVALID, NO_MEMORY, OK, OUT_OF_RANGE, TOO_MANY_STREAMS};
+use crate::answers::{INVALID, NO_MEMORY, OK, of_setup};
 use crate::handle::Handle;
 use crate::structs::{GvLimits, GvSettings};
 use crate::thing::Thing;
-use qs_conn::{Endpoint, SetupFault};
+use qs_conn::{Endpoint, PeerLimits, Settings};
 use qs_wire::Role;
 use std::alloc::Global;
 
-pub(crate) fn start(
-    alloc: Global,
-    end: &mut Handle,
-    role: u32,
-    settings: &GvSettings,
-    peer: &GvLimits,
-) -> u32
-    ensures { MatchBool (is_flag role) (Starts (end_made (role_of role) (settings_in settings.now) (limits_in peer.now)) result end.old.cell.value end.new.cell.value) ((result ≡ 1) × (end.new.cell.value ≡ end.old.cell.value)) }
-{
-    let Some(side) = role_of(role) else {
-        return INVALID;
-    };
-    match Endpoint::new(alloc, side, settings.settings(), peer.limits()) {
-        Ok(made) => keep(alloc, end, made),
-        Err(SetupFault::OutOfRange) => OUT_OF_RANGE,
-        Err(SetupFault::TooManyStreams) => TOO_MANY_STREAMS,
-    }
-}
+/// The least that an end may be set to. An end of it holds the memory until there is another one.
+const LEAST: Settings = Settings {
+    conn_window: 1,
+    bidi_local: 1,
+    bidi_remote: 1,
+    uni: 1,
+    send_buffer: 1,
+    grant_bidi: 0,
+    grant_uni: 0,
+    lifetime_bidi: 0,
+    lifetime_uni: 0,
+};
 
-fn keep(alloc: Global, end: &mut Handle, made: Endpoint) -> u32
-    ensures { Starts (Ok made) result end.old.cell.value end.new.cell.value }
+const NOTHING_GRANTED: PeerLimits = PeerLimits {
+    max_data: 0,
+    bidi_local: 0,
+    bidi_remote: 0,
+    uni: 0,
+    streams_bidi: 0,
+    streams_uni: 0,
+};
+
+pub(crate) fn reserve(alloc: Global, end: &mut Handle) -> u32
+    ensures { MatchBool (nat_eq result 0) (is_some end.new.cell.value ≡ true) ((result ≡ 2) × (end.new.cell.value ≡ end.old.cell.value)) }
 {
-    let Ok(boxed) = Box::new(alloc, Thing { end: made }) else {
+    let Ok(least) = Endpoint::new(alloc, Role::Client, LEAST, NOTHING_GRANTED) else {
+        return NO_MEMORY;
+    };
+    let Ok(boxed) = Box::new(alloc, Thing { end: least }) else {
         return NO_MEMORY;
     };
     end.put(boxed);
     OK
+}
+
+impl Thing {
+    pub(crate) fn start(
+        &mut self,
+        alloc: Global,
+        role: u32,
+        settings: &GvSettings,
+        peer: &GvLimits,
+    ) -> u32
+        ensures { Tested (is_flag role) self.old self.new (result ≡ 1) (Starts (end_made (role_of role) (settings_in settings.now) (limits_in peer.now)) result self.old self.new) }
+    {
+        let Some(side) = role_of(role) else {
+            return INVALID;
+        };
+        match Endpoint::new(alloc, side, settings.settings(), peer.limits()) {
+            Ok(made) => self.begin(made),
+            Err(fault) => of_setup(fault),
+        }
+    }
+
+    fn begin(&mut self, made: Endpoint) -> u32
+        ensures { Starts (Ok made) result self.old self.new }
+    {
+        self.end = made;
+        OK
+    }
 }
 
 fn role_of(role: u32) -> Option<Role>

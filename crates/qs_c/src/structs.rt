@@ -1,6 +1,6 @@
 //! The structs that C passes.
 ghost use Rattle.std.specs.Prelude.{◌≡◌};
-ghost use Rattle.qs_c.specs.Structs.{made_in, closing_in, settings_in, limits_in};
+ghost use Rattle.qs_c.specs.Structs.{made_of, closing_of, settings_in, limits_in};
 
 use qs_conn::{Closing, Made, PeerLimits, Settings};
 
@@ -47,7 +47,7 @@ pub struct GvClosing {
 
 impl GvMade {
     pub(crate) fn of(made: Made) -> GvMade
-        ensures { made_in result ≡ made }
+        ensures { result ≡ made_of made }
     {
         GvMade {
             number: made.number,
@@ -59,7 +59,7 @@ impl GvMade {
 
 impl GvClosing {
     pub(crate) fn of(closing: Closing) -> GvClosing
-        ensures { closing_in result ≡ closing }
+        ensures { result ≡ closing_of closing }
     {
         GvClosing {
             code: closing.code,

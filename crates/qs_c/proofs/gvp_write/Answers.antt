@@ -3,4 +3,4 @@ use Rattle.qs_c.proofs.Steps.{called}
 use Rattle.qs_c.proofs.gvp_write.Goals as goal
 
 pub returns : goal.returns
-returns c = called c.args.end.now.cell.value c.put.new.self.cell.value _ c.deref_mut.result.now c.write-status.new.self _ (search rules) (search rules) c.write-status.ensures
+returns c = called c.args.end.now.cell.value c.put.new.self.cell.value c.deref_mut.result.now c.write-status.new.self _ _ _ (search rules) (search rules) c.write-status.ensures

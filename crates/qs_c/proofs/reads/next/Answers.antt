@@ -5,7 +5,7 @@ use Rattle.qs_wire.specs.declared.fault.WireFault.{WireFault}
 use Rattle.qs_wire.specs.Reading.{Reading, reading_of}
 use Rattle.qs_wire.proofs.Numbers.{IsBytes, IsBytes-drop}
 use Rattle.qs_wire.proofs.Payloads.{at_end}
-use Rattle.qs_c.proofs.Told.{by_true, slice_from, fault_again}
+use Rattle.qs_c.proofs.Told.{by_true, slice_from, fault_again, next_frame, next_none, next_fault}
 use Rattle.qs_c.proofs.reads.next.Goals.{else-at-payload-2-via-then-at-payload-2+else-at-gt0, else-at-payload-2-via-else-at-payload-2}
 use Rattle.qs_c.proofs.reads.next.Goals as goal
 
@@ -14,20 +14,15 @@ returns-then-at-gt0 c =
     let payload : List ℕ = c.args.payload.now in
     let at : ℕ = c.args.place.now in
     by_true _ _ _ (le-leb at (length payload) c.if-at-payload.false)
-    (record {
-      left = at_end at (drop at payload) c.if-at-gt0.true (omega (arith, length-drop at payload, c.if-at-payload-2.true));
-      stays = λ _. refl;
-    })
+    (next_none _ payload _ _ (at_end at (drop at payload) c.if-at-gt0.true (omega (arith, length-drop at payload, c.if-at-payload-2.true))) refl)
 
 pub returns-in-Ok-Some : goal.returns-in-Ok-Some
 returns-in-Ok-Some c =
     let payload : List ℕ = c.args.payload.now in
     let at : ℕ = c.args.place.now in
+    let n = c.told_of-end.ensures payload (sym (slice_from at payload)) c.if-at-payload.false in
     by_true _ _ _ (le-leb at (length payload) c.if-at-payload.false)
-    (record {
-      left = c.told_of-end.ensures payload (sym (slice_from at payload));
-      stays = λ e. absurd cc;
-    })
+    (next_frame _ n.first _ payload _ _ n.reading (record { frame = n.told; further = n.further; within = n.within; left = refl; fault = refl }))
 
 pub returns-in-Err : goal.returns-in-Err
 returns-in-Err c =
@@ -40,10 +35,5 @@ returns-in-Err c =
       | else-at-payload-2-via-then-at-payload-2+else-at-gt0 w ↦ omega (arith, w.if-at-gt0.false)
       | else-at-payload-2-via-else-at-payload-2 w ↦ absurd (w.if-at-payload-2.false (omega (arith, none, length-drop at payload, c.if-at-payload.false)))
     ] in
-    let alone : WireFault → Reading = λ w. record { left = []; fault = Some w } in
     by_true _ _ _ (le-leb at (length payload) c.if-at-payload.false)
-    (record {
-      left = fault_again (drop at payload) at c.in-Err.wire fits empty (ap reading_of (sym same) ∙ sym c.new.ensures.exact ∙ c.in-Err.ensures.step.0)
-          ∙ ap (λ (w : WireFault). alone w) (sym c.of.ensures);
-      stays = λ _. refl;
-    })
+    (next_fault _ _ payload _ _ (fault_again (drop at payload) at c.in-Err.wire fits empty (ap reading_of (sym same) ∙ sym c.new.ensures.exact ∙ c.in-Err.ensures.step.0)) c.of.ensures refl refl)
