@@ -206,12 +206,18 @@ pub(crate) fn of_claim(answer: Result<u64, MakeFault>, number: &mut u64) -> u32 
     }
 }
 
+pub(crate) fn of_setup(fault: SetupFault) -> u32 {
+    match fault {
+        SetupFault::OutOfRange => OUT_OF_RANGE,
+        SetupFault::TooManyStreams => TOO_MANY_STREAMS,
+    }
+}
+
 pub(crate) fn of_raise(answer: Result<(), RaiseFault>) -> u32 {
     match answer {
         Ok(()) => OK,
         Err(RaiseFault::Closed) => CLOSED,
-        Err(RaiseFault::Refused(SetupFault::OutOfRange)) => OUT_OF_RANGE,
-        Err(RaiseFault::Refused(SetupFault::TooManyStreams)) => TOO_MANY_STREAMS,
+        Err(RaiseFault::Refused(fault)) => of_setup(fault),
     }
 }
 

@@ -40,64 +40,43 @@ pub struct GvFault {
     pub place: usize,
 }
 
-pub(crate) const NOTHING: GvFrame = GvFrame {
-    kind: 0,
-    dir: 0,
-    fin: false,
-    has_ecn: false,
-    place: 0,
-    frame_type: 0,
-    stream: 0,
-    offset: 0,
-    code: 0,
-    final_size: 0,
-    limit: 0,
-    largest: 0,
-    delay: 0,
-    ect0: 0,
-    ect1: 0,
-    ce: 0,
-    sequence: 0,
-    retire: 0,
-    at_fault: 0,
-    bytes_at: 0,
-    len: 0,
-    token_at: 0,
-};
-
 impl GvFrame {
     /// A frame's kind and numbers.
     pub(crate) fn of(frame: &Frame) -> GvFrame {
         match *frame {
-            Frame::Padding => NOTHING,
+            Frame::Padding => of_kind(0),
             Frame::Ping => of_kind(1),
             Frame::Ack {
                 largest,
                 delay,
                 ecn,
                 ..
-            } => of_ack(largest, delay, ecn),
+            } => with_counts(
+                ecn,
+                GvFrame {
+                    largest,
+                    delay,
+                    ..of_kind(2)
+                },
+            ),
             Frame::ResetStream {
                 stream,
                 code,
                 final_size,
             } => GvFrame {
-                kind: 3,
                 stream: stream.value(),
                 code,
                 final_size,
-                ..NOTHING
+                ..of_kind(3)
             },
             Frame::StopSending { stream, code } => GvFrame {
-                kind: 4,
                 stream: stream.value(),
                 code,
-                ..NOTHING
+                ..of_kind(4)
             },
             Frame::Crypto { offset, .. } => GvFrame {
-                kind: 5,
                 offset,
-                ..NOTHING
+                ..of_kind(5)
             },
             Frame::NewToken { .. } => of_kind(6),
             Frame::Stream {
@@ -106,42 +85,51 @@ impl GvFrame {
                 fin,
                 ..
             } => GvFrame {
-                kind: 7,
                 stream: stream.value(),
                 offset,
                 fin,
-                ..NOTHING
+                ..of_kind(7)
             },
-            Frame::MaxData { maximum } => of_limit(8, maximum),
+            Frame::MaxData { maximum } => GvFrame {
+                limit: maximum,
+                ..of_kind(8)
+            },
             Frame::MaxStreamData { stream, maximum } => GvFrame {
-                kind: 9,
                 stream: stream.value(),
                 limit: maximum,
-                ..NOTHING
+                ..of_kind(9)
             },
-            Frame::MaxStreams { dir, count } => of_count(10, dir, count),
-            Frame::DataBlocked { limit } => of_limit(11, limit),
+            Frame::MaxStreams { dir, count } => GvFrame {
+                dir: dir_number(dir),
+                limit: count,
+                ..of_kind(10)
+            },
+            Frame::DataBlocked { limit } => GvFrame {
+                limit,
+                ..of_kind(11)
+            },
             Frame::StreamDataBlocked { stream, limit } => GvFrame {
-                kind: 12,
                 stream: stream.value(),
                 limit,
-                ..NOTHING
+                ..of_kind(12)
             },
-            Frame::StreamsBlocked { dir, count } => of_count(13, dir, count),
+            Frame::StreamsBlocked { dir, count } => GvFrame {
+                dir: dir_number(dir),
+                limit: count,
+                ..of_kind(13)
+            },
             Frame::NewConnectionId {
                 sequence,
                 retire,
                 ..
             } => GvFrame {
-                kind: 14,
                 sequence,
                 retire,
-                ..NOTHING
+                ..of_kind(14)
             },
             Frame::RetireConnectionId { sequence } => GvFrame {
-                kind: 15,
                 sequence,
-                ..NOTHING
+                ..of_kind(15)
             },
             Frame::PathChallenge { .. } => of_kind(16),
             Frame::PathResponse { .. } => of_kind(17),
@@ -150,61 +138,64 @@ impl GvFrame {
                 frame_type,
                 ..
             } => GvFrame {
-                kind: 18,
                 code,
                 at_fault: frame_type,
-                ..NOTHING
+                ..of_kind(18)
             },
             Frame::ApplicationClose { code, .. } => GvFrame {
-                kind: 19,
                 code,
-                ..NOTHING
+                ..of_kind(19)
             },
             Frame::HandshakeDone => of_kind(20),
         }
     }
 }
 
-fn of_kind(kind: u32) -> GvFrame {
-    GvFrame { kind, ..NOTHING }
-}
-
-fn of_limit(kind: u32, limit: u64) -> GvFrame {
+/// A frame of a kind that has no number.
+pub(crate) fn of_kind(kind: u32) -> GvFrame {
     GvFrame {
         kind,
-        limit,
-        ..NOTHING
+        dir: 0,
+        fin: false,
+        has_ecn: false,
+        place: 0,
+        frame_type: 0,
+        stream: 0,
+        offset: 0,
+        code: 0,
+        final_size: 0,
+        limit: 0,
+        largest: 0,
+        delay: 0,
+        ect0: 0,
+        ect1: 0,
+        ce: 0,
+        sequence: 0,
+        retire: 0,
+        at_fault: 0,
+        bytes_at: 0,
+        len: 0,
+        token_at: 0,
     }
 }
 
-fn of_count(kind: u32, dir: Dir, count: u64) -> GvFrame {
-    GvFrame {
-        kind,
-        dir: match dir {
-            Dir::Bidi => 0,
-            Dir::Uni => 1,
-        },
-        limit: count,
-        ..NOTHING
+fn dir_number(dir: Dir) -> u32 {
+    match dir {
+        Dir::Bidi => 0,
+        Dir::Uni => 1,
     }
 }
 
-fn of_ack(largest: u64, delay: u64, ecn: Option<EcnCounts>) -> GvFrame {
-    let plain = GvFrame {
-        kind: 2,
-        largest,
-        delay,
-        ..NOTHING
-    };
+fn with_counts(ecn: Option<EcnCounts>, frame: GvFrame) -> GvFrame {
     match ecn {
         Some(counts) => GvFrame {
             has_ecn: true,
             ect0: counts.ect0,
             ect1: counts.ect1,
             ce: counts.ce,
-            ..plain
+            ..frame
         },
-        None => plain,
+        None => frame,
     }
 }
 

@@ -41,13 +41,11 @@ pub struct GvLane {
 
 impl GvLane {
     pub(crate) fn of(report: LaneReport) -> GvLane {
-        let (has_sending, sending) = sending_of(report.send);
-        let (has_receiving, receiving) = receiving_of(report.recv);
         GvLane {
-            has_sending,
-            has_receiving,
-            sending,
-            receiving,
+            has_sending: report.send.is_some(),
+            has_receiving: report.recv.is_some(),
+            sending: sending_of(report.send),
+            receiving: receiving_of(report.recv),
         }
     }
 }
@@ -73,51 +71,38 @@ const NOT_RECEIVING: GvReceiving = GvReceiving {
     reset_code: 0,
 };
 
-fn sending_of(report: Option<SendReport>) -> (bool, GvSending) {
+fn sending_of(report: Option<SendReport>) -> GvSending {
     let Some(half) = report else {
-        return (false, NOT_SENDING);
+        return NOT_SENDING;
     };
-    let (has_final_size, final_size) = parts_of(half.final_size);
-    let (was_reset, reset_code) = parts_of(half.reset_code);
-    let sending = GvSending {
-        state: send_state(half.state),
-        has_final_size,
-        was_reset,
+    GvSending {
+        state: send_number(half.state),
+        has_final_size: half.final_size.is_some(),
+        was_reset: half.reset_code.is_some(),
         written: half.written,
         limit: half.limit,
-        final_size,
-        reset_code,
-    };
-    (true, sending)
-}
-
-fn receiving_of(report: Option<RecvReport>) -> (bool, GvReceiving) {
-    let Some(half) = report else {
-        return (false, NOT_RECEIVING);
-    };
-    let (has_final_size, final_size) = parts_of(half.final_size);
-    let (was_reset, reset_code) = parts_of(half.reset_code);
-    let receiving = GvReceiving {
-        state: recv_state(half.state),
-        has_final_size,
-        was_reset,
-        read_count: half.read_count,
-        highest: half.highest,
-        limit: half.limit,
-        final_size,
-        reset_code,
-    };
-    (true, receiving)
-}
-
-fn parts_of(number: Option<u64>) -> (bool, u64) {
-    match number {
-        Some(value) => (true, value),
-        None => (false, 0),
+        final_size: half.final_size.unwrap_or(0),
+        reset_code: half.reset_code.unwrap_or(0),
     }
 }
 
-fn send_state(state: SendState) -> u32 {
+fn receiving_of(report: Option<RecvReport>) -> GvReceiving {
+    let Some(half) = report else {
+        return NOT_RECEIVING;
+    };
+    GvReceiving {
+        state: recv_number(half.state),
+        has_final_size: half.final_size.is_some(),
+        was_reset: half.reset_code.is_some(),
+        read_count: half.read_count,
+        highest: half.highest,
+        limit: half.limit,
+        final_size: half.final_size.unwrap_or(0),
+        reset_code: half.reset_code.unwrap_or(0),
+    }
+}
+
+fn send_number(state: SendState) -> u32 {
     match state {
         SendState::Ready => 0,
         SendState::Send => 1,
@@ -128,7 +113,7 @@ fn send_state(state: SendState) -> u32 {
     }
 }
 
-fn recv_state(state: RecvState) -> u32 {
+fn recv_number(state: RecvState) -> u32 {
     match state {
         RecvState::Recv => 0,
         RecvState::SizeKnown => 1,

@@ -1,8 +1,8 @@
 // Made from crates/qs_c/src/lib.rt by rust/erase; not edited by hand.
 //! The calls of C: the front of Gotsavena's endpoint for the C layer in `c/src`, which offers them as `gv_*`.
 //!
-//! Each takes a handle, tests what the endpoint's own call requires, and answers a number of `specs/Statuses`. Its contract is that
-//! of the endpoint's call, with that number in place of the answer.
+//! Each takes a handle, tests what the endpoint's own call requires, and tells the answer by a number of `specs/Statuses` and through
+//! its pointers. Its contract is that of the endpoint's call, with how the answer is told.
 
 pub(crate) mod acks;
 pub(crate) mod answers;
@@ -28,7 +28,12 @@ use crate::proved::qs_c::structs::{GvClosing, GvLimits, GvMade, GvSettings};
 use crate::proved::qs_wire::last_stream;
 use crate::shim::alloc::Global;
 
-/// Makes an end. A handle that holds one loses it.
+/// Takes the memory for an end: the handle holds one then, which `gvp_new` makes another. A handle that holds one loses it.
+pub fn gvp_reserve(alloc: Global, end: &mut Handle) -> u32 {
+    starts::reserve(alloc, end)
+}
+
+/// Makes the end that a handle holds a new one. It takes no memory.
 pub fn gvp_new(
     alloc: Global,
     end: &mut Handle,
@@ -36,7 +41,12 @@ pub fn gvp_new(
     settings: &GvSettings,
     peer: &GvLimits,
 ) -> u32 {
-    starts::start(alloc, end, role, settings, peer)
+    let Some(mut thing) = end.take(alloc) else {
+        return INVALID;
+    };
+    let status = thing.start(alloc, role, settings, peer);
+    end.put(thing);
+    status
 }
 
 /// Drops the end that a handle holds.

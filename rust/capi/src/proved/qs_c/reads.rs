@@ -2,7 +2,7 @@
 //! The next frame of a payload.
 
 use crate::proved::qs_c::answers::{FAULT, INVALID, NONE, OK};
-use crate::proved::qs_c::frame::{GvFault, GvFrame, NOTHING};
+use crate::proved::qs_c::frame::{GvFault, GvFrame, of_kind};
 use crate::proved::qs_wire::{Frame, Frames, Placed, read_varint};
 
 /// Gives the frame that stands in a payload at a place, and moves on behind it.
@@ -40,7 +40,7 @@ fn told_of(placed: &Placed, at: usize, bytes: &[u8]) -> (GvFrame, usize) {
     let (mid, len, token, trail) = sizes(&placed.frame);
     let numbers = lead(placed.frame_type);
     let Some((start, ranges, end)) = laid(numbers, mid, len, token, trail, bytes) else {
-        return (NOTHING, at);
+        return (of_kind(0), at);
     };
     let told = GvFrame {
         place: at,

@@ -2,37 +2,68 @@
 //! An end is made.
 use crate::shim::Box;
 
-use crate::proved::qs_c::answers::{INVALID, NO_MEMORY, OK, OUT_OF_RANGE, TOO_MANY_STREAMS};
+use crate::proved::qs_c::answers::{INVALID, NO_MEMORY, OK, of_setup};
 use crate::proved::qs_c::handle::Handle;
 use crate::proved::qs_c::structs::{GvLimits, GvSettings};
 use crate::proved::qs_c::thing::Thing;
-use crate::proved::qs_conn::{Endpoint, SetupFault};
+use crate::proved::qs_conn::{Endpoint, PeerLimits, Settings};
 use crate::proved::qs_wire::Role;
 use crate::shim::alloc::Global;
 
-pub(crate) fn start(
-    alloc: Global,
-    end: &mut Handle,
-    role: u32,
-    settings: &GvSettings,
-    peer: &GvLimits,
-) -> u32 {
-    let Some(side) = role_of(role) else {
-        return INVALID;
-    };
-    match Endpoint::new(alloc, side, settings.settings(), peer.limits()) {
-        Ok(made) => keep(alloc, end, made),
-        Err(SetupFault::OutOfRange) => OUT_OF_RANGE,
-        Err(SetupFault::TooManyStreams) => TOO_MANY_STREAMS,
-    }
-}
+/// The least that an end may be set to. An end of it holds the memory until there is another one.
+const LEAST: Settings = Settings {
+    conn_window: 1,
+    bidi_local: 1,
+    bidi_remote: 1,
+    uni: 1,
+    send_buffer: 1,
+    grant_bidi: 0,
+    grant_uni: 0,
+    lifetime_bidi: 0,
+    lifetime_uni: 0,
+};
 
-fn keep(alloc: Global, end: &mut Handle, made: Endpoint) -> u32 {
-    let Ok(boxed) = Box::new(alloc, Thing { end: made }) else {
+const NOTHING_GRANTED: PeerLimits = PeerLimits {
+    max_data: 0,
+    bidi_local: 0,
+    bidi_remote: 0,
+    uni: 0,
+    streams_bidi: 0,
+    streams_uni: 0,
+};
+
+pub(crate) fn reserve(alloc: Global, end: &mut Handle) -> u32 {
+    let Ok(least) = Endpoint::new(alloc, Role::Client, LEAST, NOTHING_GRANTED) else {
+        return NO_MEMORY;
+    };
+    let Ok(boxed) = Box::new(alloc, Thing { end: least }) else {
         return NO_MEMORY;
     };
     end.put(boxed);
     OK
+}
+
+impl Thing {
+    pub(crate) fn start(
+        &mut self,
+        alloc: Global,
+        role: u32,
+        settings: &GvSettings,
+        peer: &GvLimits,
+    ) -> u32 {
+        let Some(side) = role_of(role) else {
+            return INVALID;
+        };
+        match Endpoint::new(alloc, side, settings.settings(), peer.limits()) {
+            Ok(made) => self.begin(made),
+            Err(fault) => of_setup(fault),
+        }
+    }
+
+    fn begin(&mut self, made: Endpoint) -> u32 {
+        self.end = made;
+        OK
+    }
 }
 
 fn role_of(role: u32) -> Option<Role> {
