@@ -169,7 +169,8 @@ gv_status gv_endpoint_new_with(gv_role role, const gv_settings *settings, const 
   if (end == NULL) return GV_NO_MEMORY;
   gv_endpoint fresh = {{false, NULL}, memory, NULL};
   *end = fresh;
-  gv_status status = leave(end, gvp_new(enter(end), (uint32_t)role, &own, &limits));
+  gv_status status = leave(end, gvp_reserve(enter(end)));
+  if (status == GV_OK) status = leave(end, gvp_new(enter(end), (uint32_t)role, &own, &limits));
   if (status == GV_OK) {
     *out = end;
   } else {

@@ -111,6 +111,7 @@ typedef struct gvp_range {
   uint64_t largest;
 } gvp_range;
 
+uint32_t gvp_reserve(gvp_handle *end);
 uint32_t gvp_new(gvp_handle *end, uint32_t role, const gvp_settings *settings, const gvp_limits *peer);
 void gvp_free(gvp_handle *end);
 uint32_t gvp_receive(gvp_handle *end, uint64_t number, const uint8_t *payload, size_t len, gvp_closing_info *closing);

@@ -42,6 +42,7 @@ macro_rules! write {
 }
 
 exports! {
+    gvp_reserve(end: &mut Handle) = (Global, end);
     gvp_new(end: &mut Handle, role: u32, settings: &GvSettings, peer: &GvLimits) = (Global, end, role, settings, peer);
     gvp_receive(end: &mut Handle, number: u64, payload: *const u8, len: usize, closing: &mut GvClosing)
         = (Global, end, number, read!(payload, len), closing);
