@@ -1,14 +1,20 @@
 -- What runs answer.
-use Rattle.std.proofs.Common.{◌≡◌, ℕ, ◌/◌, ◌%◌, ◌<◌, ◌≤◌, List, length, Option, Result, Ok, Err, true, false, inl, inr, sym, ◌∙◌, subst, arith}
+use Rattle.std.proofs.Common.{◌≡◌, ℕ, ◌/◌, ◌%◌, ◌<◌, ◌≤◌, List, length, Option, Some, None, Result, Ok, Err, true, false, inl, inr, refl, sym, ◌∙◌, subst, arith}
 use Rattle.std.specs.Io.KnownBytes.{Appends}
 use Rattle.std.specs.List.{list_all}
+use Rattle.std.proofs.lemmas.Bool.Decides.{nat_tests}
 use Rattle.std.proofs.lemmas.List.Sums.{list_all-from_AllPass}
 use Rattle.hex.specs.Hex.{is_hex_digit}
 use Rattle.hex.proofs.HexLemmas.{decode_of-ok}
 use Rattle.qs_calls.specs.declared.settings.Settings.{Settings}
 use Rattle.qs_calls.specs.declared.event.Event.{Event}
 use Rattle.qs_world.specs.declared.report.Report.{Report}
-use Rattle.qs_world.specs.declared.report.PlayFault.TheVariants.{NoSuchPacket}
+use Rattle.qs_calls.specs.declared.settings.SetupFault.{SetupFault}
+use Rattle.qs_calls.specs.Settings.{are_in_range, are_spellable, are_countable, limits_of, setup_fault}
+use Rattle.qs_machine.specs.Ends.{End, end_unless}
+use Rattle.qs_runs.specs.Worlds.{both_made}
+use Rattle.qs_world.specs.declared.report.PlayFault.{PlayFault}
+use Rattle.qs_world.specs.declared.report.PlayFault.TheVariants as faults
 use Rattle.qs_script.specs.declared.script.ScriptFault.{ScriptFault}
 use Rattle.qs_script.specs.Scripts.{IsFaultOf}
 use Rattle.qs_world.specs.Plays.{PlayOf}
@@ -18,7 +24,7 @@ use Rattle.qs_world.specs.Randoms.{IsRandomScript, seeded}
 use Rattle.qs_script.proofs.ScriptDigits.{decodes, hex_even}
 use Rattle.qs_cli.specs.declared.status.Status.{Status}
 use Rattle.qs_cli.specs.declared.status.Status.TheVariants.{Success, FaultShown, BadUsage, NoMemory, Failed}
-use Rattle.qs_cli.specs.Runs.{AnswersEvents, AnswersPlay, AnswersRandom, IsPayload, IsScriptOf, Shows, ShowsScriptFault, missing_line, written}
+use Rattle.qs_cli.specs.Runs.{AnswersEvents, AnswersPlay, AnswersRandom, EndsAs, IsPayload, IsScriptOf, Shows, ShowsPlayFault, ShowsScriptFault, missing_line, status_of, written}
 use Rattle.qs_cli.specs.Carrying.{Failings, AnswersCarried, AnswersUdp}
 
 -- What is so of the text that was written, of want of memory and of a writer that failed is so of the answer.
@@ -30,7 +36,7 @@ by_shown text status answer old new P (inr (inr is)) done none failed = subst P 
 
 -- a script is answered as its events are
 pub events_answer : (answer : Result Report Status) (s : Settings) (script : List ℕ) (events : List Event) (old new : Option (List ℕ))
-    → IsScriptOf script events → AnswersEvents answer s events old new → AnswersPlay answer s script old new
+    → IsScriptOf script events → AnswersEvents (PlayOf s s events) answer old new → AnswersPlay answer s script old new
 events_answer (Ok report) s script events old new is shown = (events, is, shown)
 events_answer (Err FaultShown) s script events old new is shown = inl (events, is, shown)
 events_answer (Err Success) s script events old new is shown = shown
@@ -64,18 +70,63 @@ fault_carried status script fault before after old new (inr out) (inl (other, sa
 fault_carried status script fault before after old new is (inr (inl (same, none))) = subst (λ a. AnswersUdp (Err a) script before after old new) (sym same) none
 fault_carried status script fault before after old new is (inr (inr same)) = subst (λ a. AnswersUdp (Err a) script before after old new) (sym same) tt
 
--- a report of the events was written
-pub answered_report : (answer : Result Report Status) (status : Status) (s : Settings) (events : List Event) (report : Report) (old new : Option (List ℕ))
-    → PlayOf s s events (Ok report) → Shows (play_text report) Success old new status → answer ≡ written report status → AnswersEvents answer s events old new
-answered_report answer status s events report old new played shown is =
-    subst (λ a. AnswersEvents a s events old new) (sym is)
-    (by_shown (play_text report) Success status old new (λ a. AnswersEvents (written report a) s events old new) shown (λ text. (played, text)) (λ same. same) tt)
+-- what was played
+module _ (Played : Result Report PlayFault → Type 0) where
+  -- a report of it was written
+  pub answered_report : (answer : Result Report Status) (status : Status) (report : Report) (old new : Option (List ℕ))
+      → Played (Ok report) → Shows (play_text report) Success old new status → answer ≡ written report status → AnswersEvents Played answer old new
+  answered_report answer status report old new played shown is =
+      subst (λ a. AnswersEvents Played a old new) (sym is)
+      (by_shown (play_text report) Success status old new (λ a. AnswersEvents Played (written report a) old new) shown (λ text. (played, text)) (λ same. same) tt)
 
--- a packet that wasn't made was named
-pub answered_none : (status : Status) (s : Settings) (events : List Event) (k : ℕ) (old new : Option (List ℕ))
-    → PlayOf s s events (Err (NoSuchPacket k)) → Shows (missing_line k) FaultShown old new status → AnswersEvents (Err status) s events old new
-answered_none status s events k old new stops shown =
-    by_shown (missing_line k) FaultShown status old new (λ a. AnswersEvents (Err a) s events old new) shown (λ text. (k, stops, text)) (λ same. same) tt
+  -- a packet that wasn't made was named
+  answered_none : (status : Status) (k : ℕ) (old new : Option (List ℕ))
+      → Played (Err (faults.NoSuchPacket k)) → Shows (missing_line k) FaultShown old new status → AnswersEvents Played (Err status) old new
+  answered_none status k old new stops shown =
+      by_shown (missing_line k) FaultShown status old new (λ a. AnswersEvents Played (Err a) old new) shown (λ text. (k, stops, text)) (λ same. same) tt
+
+  -- or want of memory answered
+  pub answered_fault : (status : Status) (fault : PlayFault) (old new : Option (List ℕ))
+      → Played (Err fault) → ShowsPlayFault fault old new status → AnswersEvents Played (Err status) old new
+  answered_fault status (faults.NoSuchPacket k) old new stops shown = answered_none status k old new stops shown
+  answered_fault status faults.NoMemory old new stops (is, same) = subst (λ a. AnswersEvents Played (Err a) old new) (sym is) same
+  answered_fault status (faults.Setup setup) old new stops shown = absurd shown
+
+  -- what holds of the one result that was shown
+  pub answered_by : (played : Result Report PlayFault) (answer : Result Report Status) (old new : Option (List ℕ))
+      → Played played → AnswersEvents (λ r. r ≡ played) answer old new → AnswersEvents Played answer old new
+  answered_by played (Ok report) old new is (same, text) = (subst Played (sym same) is, text)
+  answered_by played (Err FaultShown) old new is (k, same, text) = (k, subst Played (sym same) is, text)
+  answered_by played (Err Success) old new is shown = shown
+  answered_by played (Err BadUsage) old new is shown = shown
+  answered_by played (Err NoMemory) old new is shown = shown
+  answered_by played (Err Failed) old new is shown = tt
+
+-- between ends of settings in their ranges no fault is that of the settings
+pub no_setup : (s : Settings) (events : List Event) (played : Result Report PlayFault) → are_in_range s ≡ true → PlayOf s s events played
+    → (fault : SetupFault) → played ≡ Err (faults.Setup fault) → ⊥
+no_setup s events played range is fault same =
+    go fault (setup_fault s (limits_of s)) _ _ (no_fault s range) (subst (PlayOf s s events) same is)
+  where
+    no_fault : (s : Settings) → are_in_range s ≡ true → setup_fault s (limits_of s) ≡ None
+    no_fault s range =
+        let spelled : are_spellable (limits_of s) ≡ true = grind (arith, nat_tests, range) in
+        let counted : are_countable (limits_of s) ≡ true = grind (arith, nat_tests, range) in
+        rw (range, spelled, counted) refl
+
+    go : (fault : SetupFault) (o : Option SetupFault) (x y : End) → o ≡ None → both_made (end_unless o x) (end_unless o y) ≡ Err fault → ⊥
+    go fault None x y none e = absurd (cc e)
+    go fault (Some other) x y none e = absurd (cc none)
+
+-- the status of what is so of an answer
+pub ends_as : (Answers : Result Report Status → Type 0) (answer : Result Report Status) (status : Status)
+    → (Answers (Err Success) → ⊥) → status ≡ status_of answer → Answers answer → EndsAs Answers status
+ends_as Answers (Ok report) status not is h = subst (EndsAs Answers) (sym is) (report, h)
+ends_as Answers (Err Success) status not is h = absurd (not h)
+ends_as Answers (Err FaultShown) status not is h = subst (EndsAs Answers) (sym is) h
+ends_as Answers (Err BadUsage) status not is h = subst (EndsAs Answers) (sym is) h
+ends_as Answers (Err NoMemory) status not is h = subst (EndsAs Answers) (sym is) h
+ends_as Answers (Err Failed) status not is h = subst (EndsAs Answers) (sym is) h
 
 -- random events were written
 pub answered_random : (answer : Status) (seed n : ℕ) (events : List Event) (text : List ℕ) (old new : Option (List ℕ))

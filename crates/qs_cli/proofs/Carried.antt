@@ -1,5 +1,5 @@
 -- What takes place of events over a wire.
-use Rattle.std.proofs.Common.{◌≡◌, ℕ, zero, suc, ◌+◌, ◌<◌, List, [], ◌∷◌, ◌++◌, length, take, drop, get_or, reverse, ◌-◌, Bool, Option, Result, Ok, Err, refl, sym, ap, ◌∙◌, subst, inl, inr, arith}
+use Rattle.std.proofs.Common.{◌≡◌, ℕ, suc, ◌+◌, ◌<◌, List, [], ◌∷◌, ◌++◌, length, take, drop, get_or, reverse, ◌-◌, Bool, Option, Result, Ok, Err, refl, sym, ap, ◌∙◌, subst, inl, inr}
 use Rattle.std.proofs.lemmas.List.{take_more, reverse-append}
 use Rattle.qs_machine.specs.Examples.{standard}
 use Rattle.qs_calls.specs.declared.settings.SetupFault.{SetupFault}
@@ -8,6 +8,7 @@ use Rattle.qs_calls.specs.declared.event.Act.{Act}
 use Rattle.qs_calls.specs.declared.event.Act.TheVariants as acts
 use Rattle.qs_calls.specs.declared.event.Act.TheVariants.{Lose, Deliver}
 use Rattle.qs_calls.specs.declared.event.Event.{Event}
+use Rattle.qs_world.proofs.PlayedCopies.{split_at}
 use Rattle.qs_world.specs.declared.report.Report.{Report}
 use Rattle.qs_world.specs.declared.report.PlayFault.{PlayFault}
 use Rattle.qs_world.specs.declared.report.PlayFault.TheVariants as faults
@@ -74,11 +75,6 @@ carried_more before mid after events i event stranger n old new lt is had step =
       run = carries_on event.end event.act old new mid after stranger had.run step;
       carried = subst (λ es. Carried before es new after (counted stranger n)) (sym (reverse_last events i event lt is)) carried;
     }
-
-split_at : {X : Type 0} (xs : List X) (i : ℕ) (d : X) → i < length xs → xs ≡ take i xs ++ get_or xs i d ∷ drop (suc i) xs
-split_at [] i d lt = absurd (omega arith)
-split_at (x ∷ xs) zero d lt = refl
-split_at (x ∷ xs) (suc i) d lt = ap (λ l. x ∷ l) (split_at xs i d (omega arith))
 
 -- the events stop at one
 pub carrying_stops : (before mid after : Failings) (events : List Event) (i : ℕ) (event : Event) (n : ℕ) (fault : PlayFault) (old new : Played)

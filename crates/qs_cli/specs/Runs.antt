@@ -8,7 +8,8 @@ use Rattle.qs_wire.specs.Reading.{reading_of}
 use Rattle.qs_calls.specs.declared.settings.Settings.{Settings}
 use Rattle.qs_calls.specs.declared.event.Event.{Event}
 use Rattle.qs_world.specs.declared.report.Report.{Report}
-use Rattle.qs_world.specs.declared.report.PlayFault.TheVariants.{NoSuchPacket}
+use Rattle.qs_world.specs.declared.report.PlayFault.{PlayFault}
+use Rattle.qs_world.specs.declared.report.PlayFault.TheVariants as faults
 use Rattle.qs_script.specs.declared.script.Reason.TheVariants as reasons
 use Rattle.qs_script.specs.declared.script.ScriptFault.{ScriptFault}
 use Rattle.qs_calls.specs.Events.{fits}
@@ -60,6 +61,12 @@ AnswersFrames Failed word old new = IsPayload word
 abbrev pub missing_line : ℕ → List ℕ
 missing_line event = codes "fault: no such packet at event " ++ decimal event ++ codes "\n"
 
+-- the event whose packet wasn't made was named; or memory was wanting, and nothing was written
+abbrev pub ShowsPlayFault : PlayFault → Option (List ℕ) → Option (List ℕ) → Status → Type 0
+ShowsPlayFault (faults.NoSuchPacket k) old new answer = Shows (missing_line k) FaultShown old new answer
+ShowsPlayFault faults.NoMemory old new answer = (answer ≡ NoMemory) × (new ≡ old)
+ShowsPlayFault (faults.Setup setup) old new answer = ⊥
+
 -- the line that names the first line of a script that is no event, and why it is none
 abbrev pub script_fault_line : ScriptFault → List ℕ
 script_fault_line fault = codes "fault: line " ++ decimal fault.line ++ codes " reason " ++ decimal (reason_number fault.reason) ++ codes "\n"
@@ -72,15 +79,28 @@ written report BadUsage = Err BadUsage
 written report NoMemory = Err NoMemory
 written report Failed = Err Failed
 
--- The text of a report of the events that were played was written, or the line that names a packet that wasn't made; where memory was
--- refused nothing was.
-abbrev pub AnswersEvents : Result Report Status → Settings → List Event → Option (List ℕ) → Option (List ℕ) → Type 0
-AnswersEvents (Ok report) s events old new = PlayOf s s events (Ok report) × Appends old new (play_text report)
-AnswersEvents (Err FaultShown) s events old new = (k : ℕ) × PlayOf s s events (Err (NoSuchPacket k)) × Appends old new (missing_line k)
-AnswersEvents (Err Success) s events old new = ⊥
-AnswersEvents (Err BadUsage) s events old new = ⊥
-AnswersEvents (Err NoMemory) s events old new = new ≡ old
-AnswersEvents (Err Failed) s events old new = ⊤
+-- the status of a run that answers the report that it wrote
+abbrev pub status_of : Result Report Status → Status
+status_of (Ok report) = Success
+status_of (Err status) = status
+
+-- what holds of the answer of such a run, where its status is all that is answered
+abbrev pub EndsAs : (Result Report Status → Type 0) → Status → Type 0
+EndsAs Answers Success = (report : Report) × Answers (Ok report)
+EndsAs Answers FaultShown = Answers (Err FaultShown)
+EndsAs Answers BadUsage = Answers (Err BadUsage)
+EndsAs Answers NoMemory = Answers (Err NoMemory)
+EndsAs Answers Failed = Answers (Err Failed)
+
+-- The text of a report that playing came to was written, or the line that names a packet that wasn't made; where memory was refused
+-- nothing was.
+abbrev pub AnswersEvents : (Result Report PlayFault → Type 0) → Result Report Status → Option (List ℕ) → Option (List ℕ) → Type 0
+AnswersEvents Played (Ok report) old new = Played (Ok report) × Appends old new (play_text report)
+AnswersEvents Played (Err FaultShown) old new = (k : ℕ) × Played (Err (faults.NoSuchPacket k)) × Appends old new (missing_line k)
+AnswersEvents Played (Err Success) old new = ⊥
+AnswersEvents Played (Err BadUsage) old new = ⊥
+AnswersEvents Played (Err NoMemory) old new = new ≡ old
+AnswersEvents Played (Err Failed) old new = ⊤
 
 -- the events are those that the script says, and their numbers lie in their ranges
 abbrev pub IsScriptOf : List ℕ → List Event → Type 0
@@ -97,9 +117,9 @@ NamesFault script old new = (fault : ScriptFault) × (script_of script ≡ Err (
 
 -- The events of the script were played, or its first line that is no event was named; where memory was refused nothing was written.
 abbrev pub AnswersPlay : Result Report Status → Settings → List ℕ → Option (List ℕ) → Option (List ℕ) → Type 0
-AnswersPlay (Ok report) s script old new = (events : List Event) × IsScriptOf script events × AnswersEvents (Ok report) s events old new
+AnswersPlay (Ok report) s script old new = (events : List Event) × IsScriptOf script events × AnswersEvents (PlayOf s s events) (Ok report) old new
 AnswersPlay (Err FaultShown) s script old new =
-    ((events : List Event) × IsScriptOf script events × AnswersEvents (Err FaultShown) s events old new) ⊎ NamesFault script old new
+    ((events : List Event) × IsScriptOf script events × AnswersEvents (PlayOf s s events) (Err FaultShown) old new) ⊎ NamesFault script old new
 AnswersPlay (Err Success) s script old new = ⊥
 AnswersPlay (Err BadUsage) s script old new = ⊥
 AnswersPlay (Err NoMemory) s script old new = new ≡ old

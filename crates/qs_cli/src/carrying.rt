@@ -7,12 +7,12 @@ ghost use Rattle.std.specs.String.{string_bytes};
 ghost use Rattle.qs_calls.specs.Events.{fits, act_fits};
 ghost use Rattle.qs_world.specs.PlayText.{play_text};
 ghost use Rattle.qs_calls.specs.declared.event.Act.TheVariants.{Lose, Deliver};
-ghost use Rattle.qs_cli.specs.Runs.{Shows};
+ghost use Rattle.qs_cli.specs.Runs.{EndsAs, Shows};
 ghost use Rattle.qs_cli.specs.declared.status.Status.TheVariants.{Success};
 ghost use Rattle.qs_cli.specs.Carrying.{IsPacketOf, IsStranger, StepsBy, CarryStep, CarryOf, HasCarried, ShowsWorld, AnswersCarried, AnswersUdp, counted, wire_line};
 
 use crate::report_text::play_text;
-use crate::scripts::{show, show_missing, show_script_fault, written};
+use crate::scripts::{show, show_missing, show_script_fault, status_of, written};
 use crate::status::Status;
 use crate::wire::{Wire, one_more, other_side};
 use qs_world::{
@@ -31,22 +31,48 @@ pub fn run_udp<Wi: Wire, W: io::Write>(
     script: &[u8],
     wire: &mut Wi,
     out: &mut W,
+) -> Status
+    ensures { EndsAs (λ answer. AnswersUdp answer script.now (Wi.failed wire.old) (Wi.failed wire.new) (W.contents out.old) (W.contents out.new)) result }
+{
+    status_of(report_udp(alloc, script, wire, out))
+}
+
+/// As [`run_udp`], and it answers the report that it wrote.
+pub fn report_udp<Wi: Wire, W: io::Write>(
+    alloc: Global,
+    script: &[u8],
+    wire: &mut Wi,
+    out: &mut W,
 ) -> Result<Report, Status>
     ensures { AnswersUdp result script.now (Wi.failed wire.old) (Wi.failed wire.new) (W.contents out.old) (W.contents out.new) }
 {
     match parse_script(alloc, script) {
-        Ok(events) => udp_events(alloc, &events, wire, out),
+        Ok(events) => report_carried(alloc, &events, wire, out),
         Err(fault) => Err(show_script_fault(alloc, fault, out)),
     }
 }
 
-/// Plays events between two ends of the standard settings, whose packets go over a wire. It writes and answers the report of what took
-/// place, as [`crate::scripts::run_events`] does, and writes then how many calls of the wire failed and how many datagrams were a stranger's.
+/// Plays events between two ends of the standard settings, whose packets go over a wire. It writes the report of what took place, as
+/// [`crate::scripts::run_events`] does, and then how many calls of the wire failed and how many datagrams were a stranger's, and answers
+/// the exit status.
 ///
 /// To deliver a packet its datagram is sent, which is the number in eight bytes and then the payload, and one datagram is received at the
 /// other end. Where sending fails the packet is declared lost. Where receiving fails nothing happens. A datagram that is no packet which
 /// the sender made is a stranger's and is dropped, and any other is delivered under the number that it bears.
 pub fn udp_events<Wi: Wire, W: io::Write>(
+    alloc: Global,
+    events: &[Event],
+    wire: &mut Wi,
+    out: &mut W,
+) -> Status
+    requires { list_all fits events.now ≡ true }
+    ensures { EndsAs (λ answer. AnswersCarried answer events.now (Wi.failed wire.old) (Wi.failed wire.new) (W.contents out.old) (W.contents out.new)) result }
+{
+    status_of(report_carried(alloc, events, wire, out))
+}
+
+/// As [`udp_events`], and it answers the report that it wrote.
+pub fn report_carried<Wi: Wire, W: io::Write>(
     alloc: Global,
     events: &[Event],
     wire: &mut Wi,
@@ -290,8 +316,8 @@ fn step(world: &mut World, event: Event) -> Result<bool, PlayFault>
     requires { fits event ≡ true }
     ensures { StepsBy world.old event result world.new }
 {
-    match world.step(event) {
-        Ok(_) => Ok(false),
+    match world.happen(event) {
+        Ok(()) => Ok(false),
         Err(fault) => Err(fault),
     }
 }

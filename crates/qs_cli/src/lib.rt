@@ -11,13 +11,14 @@ mod status;
 mod udp_wire;
 mod wire;
 
-pub use carrying::{run_udp, udp_events};
-pub use draining::run_drained;
+pub use carrying::{report_carried, report_udp, run_udp, udp_events};
+pub use draining::report_drained;
 pub use frames::run_frames;
 pub use memory_wire::MemoryWire;
+pub use qs_ranges::NoMemory;
 pub use qs_text::script_text;
 pub use report_text::play_text;
-pub use scripts::{run_events, run_play, run_play_with, run_random};
+pub use scripts::{report_events, report_play, run_events, run_play, run_play_with, run_random};
 pub use status::Status;
 pub use udp_wire::UdpWire;
 pub use wire::{Wire, WireError};

@@ -4,8 +4,9 @@ ghost use Rattle.std.specs.Prelude.{◌≡◌, ◌≤◌, length, OnOk, OnErr};
 ghost use Rattle.qs_cli.specs.Waiting.{nothing_waits, waiting_with};
 
 use crate::wire::{Failures, Wire, WireError, other_side};
+use qs_ranges::NoMemory;
 use qs_world::Side;
-use std::alloc::{AllocError, Global};
+use std::alloc::Global;
 use std::collections::VecDeque;
 use std::marker::Model;
 
@@ -55,7 +56,7 @@ impl<'a> MemoryWire<'a> {
     }
 
     /// A stranger's datagram waits at an end, behind those that wait there. Where memory is refused nothing changed.
-    pub fn inject(&mut self, at: Side, bytes: &[u8]) -> Result<(), AllocError>
+    pub fn inject(&mut self, at: Side, bytes: &[u8]) -> Result<(), NoMemory>
         ensures ok { OnOk result (self.new ≡ waiting_with at bytes.now self.old) }
         ensures err { OnErr result (self.new ≡ self.old) }
     {

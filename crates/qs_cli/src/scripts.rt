@@ -1,31 +1,50 @@
 //! Plays events and scripts, and makes scripts of random events.
 
-ghost use Rattle.std.specs.Prelude.{◌≡◌, true, IfOk};
+ghost use Rattle.std.specs.Prelude.{◌≡◌, true, Err, IfOk};
 ghost use Rattle.std.specs.List.{list_all};
 ghost use Rattle.std.specs.String.{string_bytes};
 ghost use Rattle.qs_calls.specs.Settings.{are_in_range};
 ghost use Rattle.qs_machine.specs.Examples.{standard};
 ghost use Rattle.qs_calls.specs.Events.{fits};
+ghost use Rattle.qs_calls.specs.declared.settings.SetupFault.{SetupFault};
+ghost use Rattle.qs_world.specs.declared.report.PlayFault.TheVariants.{Setup};
+ghost use Rattle.qs_world.specs.Plays.{PlayOf};
+ghost use Rattle.qs_world.specs.Copies.{PlayOfCopies};
 ghost use Rattle.qs_world.specs.PlayText.{play_text};
 ghost use Rattle.qs_cli.specs.declared.status.Status.TheVariants.{Success, FaultShown};
-ghost use Rattle.qs_cli.specs.Runs.{AnswersEvents, AnswersPlay, AnswersRandom, Shows, ShowsScriptFault, missing_line, script_fault_line, written};
+ghost use Rattle.qs_cli.specs.Runs.{AnswersEvents, AnswersPlay, AnswersRandom, EndsAs, Shows, ShowsPlayFault, ShowsScriptFault, missing_line, script_fault_line, status_of, written};
 
 use crate::report_text::play_text;
 use crate::status::Status;
 use qs_text::script_text;
 use qs_world::{
-    Event, PlayFault, Reason, Report, ScriptFault, Settings, parse_script, play, random_script,
-    standard_settings,
+    Event, PlayFault, Reason, Report, ScriptFault, Settings, parse_script, play, play_all,
+    random_script, standard_settings,
 };
 use std::alloc::{AllocError, Global};
 use std::io;
 
 /// Plays events between two ends of these settings, and writes the report: a line for each event with its answer, for each lane and for
-/// each end. It answers that report. An event that delivers a packet which wasn't made is named in place of it all.
+/// each end. It answers the exit status. An event that delivers a packet which wasn't made is named in place of it all.
 ///
 /// It is written once the text stands whole: `NoMemory` where memory was refused, and then nothing was written, and `Failed` where
 /// writing failed.
 pub fn run_events<W: io::Write>(
+    alloc: Global,
+    settings: Settings,
+    events: &[Event],
+    out: &mut W,
+) -> Status
+    requires fit { list_all fits events.now ≡ true }
+    requires range { are_in_range settings ≡ true }
+    ensures { EndsAs (λ answer. AnswersEvents (PlayOfCopies settings settings events.now) answer (W.contents out.old) (W.contents out.new)) result }
+{
+    let played = play(alloc, settings, settings, events);
+    status_of(show_played(alloc, played, out))
+}
+
+/// As [`run_events`], of the events themselves, and it answers the report that it wrote.
+pub fn report_events<W: io::Write>(
     alloc: Global,
     settings: Settings,
     events: Vec<Event>,
@@ -33,16 +52,39 @@ pub fn run_events<W: io::Write>(
 ) -> Result<Report, Status>
     requires fit { list_all fits events.items ≡ true }
     requires range { are_in_range settings ≡ true }
-    ensures { AnswersEvents result settings events.items (W.contents out.old) (W.contents out.new) }
+    ensures { AnswersEvents (PlayOf settings settings events.items) result (W.contents out.old) (W.contents out.new) }
 {
-    match play(alloc, settings, settings, events) {
+    let played = play_all(alloc, settings, settings, events);
+    show_played(alloc, played, out)
+}
+
+/// Writes the report of what was played, or names the event whose packet wasn't made.
+fn show_played<W: io::Write>(
+    alloc: Global,
+    played: Result<Report, PlayFault>,
+    out: &mut W,
+) -> Result<Report, Status>
+    requires { (fault : SetupFault) → played ≡ Err (Setup fault) → ⊥ }
+    ensures { AnswersEvents (λ answer. answer ≡ played) result (W.contents out.old) (W.contents out.new) }
+{
+    match played {
         Ok(report) => {
             let status = show_report(alloc, &report, out);
             written(report, status)
         }
-        Err(PlayFault::NoSuchPacket { event }) => Err(show_missing(alloc, event, out)),
-        Err(PlayFault::NoMemory) => Err(Status::NoMemory),
-        Err(PlayFault::Setup(_)) => unreachable!(),
+        Err(fault) => Err(show_play_fault(alloc, fault, out)),
+    }
+}
+
+/// Names the event whose packet wasn't made, unless memory was wanting.
+fn show_play_fault<W: io::Write>(alloc: Global, fault: PlayFault, out: &mut W) -> Status
+    requires { (setup : SetupFault) → fault ≡ Setup setup → ⊥ }
+    ensures { ShowsPlayFault fault (W.contents out.old) (W.contents out.new) result }
+{
+    match fault {
+        PlayFault::NoSuchPacket { event } => show_missing(alloc, event, out),
+        PlayFault::NoMemory => Status::NoMemory,
+        PlayFault::Setup(_) => unreachable!(),
     }
 }
 
@@ -52,6 +94,16 @@ fn show_report<W: io::Write>(alloc: Global, report: &Report, out: &mut W) -> Sta
     match play_text(alloc, report) {
         Ok(text) => show(&text, Status::Success, out),
         Err(_) => Status::NoMemory,
+    }
+}
+
+/// The exit status of a run that answers the report that it wrote.
+pub fn status_of(answer: Result<Report, Status>) -> Status
+    ensures { result ≡ status_of answer }
+{
+    match answer {
+        Ok(_) => Status::Success,
+        Err(status) => status,
     }
 }
 
@@ -86,8 +138,8 @@ pub fn show<W: io::Write>(text: &String, status: Status, out: &mut W) -> Status
 }
 
 /// Plays a script between two ends of the standard settings, as [`run_play_with`] does.
-pub fn run_play<W: io::Write>(alloc: Global, script: &[u8], out: &mut W) -> Result<Report, Status>
-    ensures { AnswersPlay result standard script.now (W.contents out.old) (W.contents out.new) }
+pub fn run_play<W: io::Write>(alloc: Global, script: &[u8], out: &mut W) -> Status
+    ensures { EndsAs (λ answer. AnswersPlay answer standard script.now (W.contents out.old) (W.contents out.new)) result }
 {
     run_play_with(alloc, standard_settings(), script, out)
 }
@@ -99,12 +151,25 @@ pub fn run_play_with<W: io::Write>(
     settings: Settings,
     script: &[u8],
     out: &mut W,
+) -> Status
+    requires range { are_in_range settings ≡ true }
+    ensures { EndsAs (λ answer. AnswersPlay answer settings script.now (W.contents out.old) (W.contents out.new)) result }
+{
+    status_of(report_play(alloc, settings, script, out))
+}
+
+/// As [`run_play_with`], and it answers the report that it wrote.
+pub fn report_play<W: io::Write>(
+    alloc: Global,
+    settings: Settings,
+    script: &[u8],
+    out: &mut W,
 ) -> Result<Report, Status>
     requires range { are_in_range settings ≡ true }
     ensures { AnswersPlay result settings script.now (W.contents out.old) (W.contents out.new) }
 {
     match parse_script(alloc, script) {
-        Ok(events) => run_events(alloc, settings, events, out),
+        Ok(events) => report_events(alloc, settings, events, out),
         Err(fault) => Err(show_script_fault(alloc, fault, out)),
     }
 }

@@ -12,7 +12,7 @@ mod traces;
 
 use crate::input::read_file;
 use crate::traces::write_traces;
-use qs_cli::{Status, UdpWire, run_drained, run_frames, run_play_with, run_random, run_udp};
+use qs_cli::{Status, UdpWire, report_drained, report_play, report_udp, run_frames, run_random};
 use qs_request::{Refusal, Request};
 use qs_world::{Report, Settings};
 use std::process::ExitCode;
@@ -76,15 +76,15 @@ fn play<W: io::Write>(
     requires { are_in_range settings ≡ true }
 {
     if drain {
-        run_drained(rt.alloc(), settings, script, out)
+        report_drained(rt.alloc(), settings, script, out)
     } else {
-        run_play_with(rt.alloc(), settings, script, out)
+        report_play(rt.alloc(), settings, script, out)
     }
 }
 
 fn over_udp<W: io::Write>(rt: &HostRuntime, script: &[u8], out: &mut W) -> Result<Report, Status> {
     match UdpWire::bind(rt) {
-        Ok(mut wire) => run_udp(rt.alloc(), script, &mut wire, out),
+        Ok(mut wire) => report_udp(rt.alloc(), script, &mut wire, out),
         Err(_) => Err(Status::Failed),
     }
 }

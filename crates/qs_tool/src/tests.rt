@@ -1,7 +1,6 @@
 //! What the program prints.
 
 use qs_cli::{Status, run_frames};
-use qs_world::Report;
 use std::alloc::Global;
 use std::process::Abort;
 use std::test::Fail;
@@ -11,14 +10,6 @@ mod requests;
 mod scripts;
 mod wires;
 mod writers;
-
-/// The status of a run that answers the report that it wrote.
-fn status_of(answer: Result<Report, Status>) -> Status {
-    match answer {
-        Ok(_) => Status::Success,
-        Err(status) => status,
-    }
-}
 
 /// The run on the word ends so and writes the text.
 fn shows(rt: &impl Abort, alloc: Global, word: &str, status: Status, text: &str) {

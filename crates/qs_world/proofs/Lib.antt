@@ -4,8 +4,10 @@ pub mod DrawnPackets
 pub mod DrawnRuns
 pub mod Examples
 pub mod LaneLists
+pub mod LastAnswers
 pub mod LogCopies
 pub mod OneMore
 pub mod Places
+pub mod PlayedCopies
 pub mod PlayedRuns
 pub mod Sides

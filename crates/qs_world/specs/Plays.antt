@@ -1,7 +1,7 @@
 -- Trusted.
 -- Events are played: what two ends have come to, and what happened to them. The whole file is ours:
 -- RFC 9000 has no runs.
-use Rattle.std.specs.Prelude.{◌≡◌, suc, List, [], ◌∷◌, ◌++◌, length, map, reverse, None, Result, Ok, Err, ⊤, refl}
+use Rattle.std.specs.Prelude.{◌≡◌, suc, List, [], ◌∷◌, ◌++◌, length, map, reverse, None, Result, Ok, Err, ⊤}
 use Rattle.qs_machine.specs.Ends.{End}
 use Rattle.qs_calls.specs.declared.settings.Settings.{Settings}
 use Rattle.qs_calls.specs.declared.settings.SetupFault.{SetupFault}

@@ -1,6 +1,7 @@
 //! Copies of what happened, in memory of their own.
-ghost use Rattle.std.specs.Prelude.{IfOk};
+ghost use Rattle.std.specs.Prelude.{◌≡◌, ◌≤◌, [], IfOk, length, vec_capacity};
 ghost use Rattle.qs_world.specs.Copies.{SameEvent, SameAct, SameAnswer, SameLog};
+ghost use Rattle.qs_world.specs.Buffers.{bytes_of};
 
 use qs_calls::{Act, Answer, Event};
 use std::alloc::{AllocError, Global};
@@ -17,24 +18,53 @@ pub fn copy_event(alloc: Global, event: &Event) -> Result<Event, AllocError>
 }
 
 /// A copy of an answer. It takes memory for the bytes of a read and for a payload alone.
-pub(crate) fn copy_answer(alloc: Global, answer: &Answer) -> Result<Answer, AllocError>
+fn copy_answer(alloc: Global, answer: &Answer) -> Result<Answer, AllocError>
     ensures { IfOk result (λ copy. SameAnswer copy answer.now) }
 {
-    Ok(match answer {
+    let room = Vec::with_capacity(alloc, bytes_of(answer).len())?;
+    Ok(copy_into(room, answer))
+}
+
+/// The bytes of a read, or the payload.
+fn bytes_of(answer: &Answer) -> &[u8]
+    ensures { result.now ≡ bytes_of answer.now }
+{
+    match answer {
+        Answer::ReadUpTo(_, bytes) => bytes,
+        Answer::Make(_, payload) => payload,
+        _ => &[],
+    }
+}
+
+/// A copy of an answer, its bytes in a vector that has room for them. It takes no memory.
+pub(crate) fn copy_into(room: Vec<u8>, answer: &Answer) -> Answer
+    requires empty { room.items ≡ [] }
+    requires room { length (bytes_of answer.now) ≤ vec_capacity room }
+    ensures { SameAnswer result answer.now }
+{
+    match answer {
         Answer::OpenStream(result) => Answer::OpenStream(*result),
         Answer::Accept(stream) => Answer::Accept(*stream),
         Answer::Write(result) => Answer::Write(*result),
         Answer::Finish(result) => Answer::Finish(*result),
         Answer::Reset(result) => Answer::Reset(*result),
         Answer::Stop(result) => Answer::Stop(*result),
-        Answer::ReadUpTo(result, bytes) => {
-            Answer::ReadUpTo(*result, Vec::from_slice(alloc, bytes)?)
-        }
-        Answer::Make(result, payload) => Answer::Make(*result, Vec::from_slice(alloc, payload)?),
+        Answer::ReadUpTo(result, bytes) => Answer::ReadUpTo(*result, filled(room, bytes)),
+        Answer::Make(result, payload) => Answer::Make(*result, filled(room, payload)),
         Answer::Lose(result) => Answer::Lose(*result),
         Answer::Claim(result) => Answer::Claim(*result),
         Answer::Deliver(result) => Answer::Deliver(*result),
-    })
+    }
+}
+
+/// The bytes, in a vector that has room for them.
+fn filled(mut room: Vec<u8>, bytes: &[u8]) -> Vec<u8>
+    requires empty { room.items ≡ [] }
+    requires room { length bytes.now ≤ vec_capacity room }
+    ensures { result.items ≡ bytes.now }
+{
+    let _ = room.extend_from_slice(bytes);
+    room
 }
 
 /// A copy of a log, in the same order.

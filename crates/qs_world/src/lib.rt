@@ -13,7 +13,7 @@ mod world;
 
 pub use copies::copy_event;
 pub use drained::play_drained;
-pub use playing::play;
+pub use playing::{play, play_all};
 pub use qs_calls::{Act, Answer, Event, Side};
 pub use qs_conn::{
     Closing, LostFault, Made, MakeFault, OpenFault, Received, Settings, SetupFault, UseFault,

@@ -4,22 +4,44 @@ ghost use Rattle.std.specs.List.{list_all};
 ghost use Rattle.qs_calls.specs.Events.{fits};
 ghost use Rattle.qs_calls.specs.declared.settings.Settings.{Settings};
 ghost use Rattle.qs_world.specs.Plays.{PlayOf, HasPlayed};
+ghost use Rattle.qs_world.specs.Copies.{HasPlayedCopies, PlayOfCopies};
 
+use crate::copies::copy_event;
 use crate::report::{PlayFault, Report};
 use crate::world::World;
 use qs_calls::Event;
 use qs_conn::Settings;
 use std::alloc::Global;
 
-/// Plays the events between two new ends, in order, and reports what came of it. The events go into the log as they are: none is copied.
+/// Plays events between two new ends, in order, and reports what came of it. Each event goes into the log as a copy.
 ///
 /// What happened is a run of the two ends that agrees: what is read is a prefix of what was written, and all of it once the end was told
 /// to a reader that hadn't stopped; a repeat spends no credit; a stream that counts as received was taken in whole; final sizes that are
 /// known are the sender's; and neither end closes.
 ///
 /// Refused: `Setup` as [`crate::World::new`]; `NoSuchPacket` at the first event that delivers a packet which its end hasn't made; and
-/// `NoMemory` where the log found none.
-pub fn play(
+/// `NoMemory` where the log or a copy found none.
+pub fn play(alloc: Global, a: Settings, b: Settings, events: &[Event]) -> Result<Report, PlayFault>
+    requires { list_all fits events.now ≡ true }
+    ensures { PlayOfCopies a b events.now result }
+{
+    let mut world = match World::new(alloc, a, b) {
+        Ok(world) => world,
+        Err(fault) => return Err(PlayFault::Setup(fault)),
+    };
+    match play_copies(alloc, &mut world, events) {
+        Ok(()) => world.into_report(),
+        Err(fault) => {
+            world.discard();
+            Err(fault)
+        }
+    }
+}
+
+/// Plays the events themselves, as [`play`] does copies of them: they go into the log as they are.
+///
+/// Refused as there, but that `NoMemory` comes where the log found none.
+pub fn play_all(
     alloc: Global,
     a: Settings,
     b: Settings,
@@ -41,6 +63,23 @@ pub fn play(
     }
 }
 
+// Plays copies of the events in order, up to the first that is refused.
+fn play_copies(alloc: Global, world: &mut World, events: &[Event]) -> Result<(), PlayFault>
+    requires { list_all fits events.now ≡ true }
+    ensures ok { OnOk result (HasPlayedCopies events.now world.old world.new) }
+    ensures err { IfErr result (λ fault. (a b : Settings) → HasPlayed a b [] world.old → PlayOfCopies a b events.now (Err fault)) }
+{
+    for event in events {
+        let Ok(copy) = copy_event(alloc, event) else {
+            return Err(PlayFault::NoMemory);
+        };
+        if let Err(fault) = world.happen(copy) {
+            return Err(fault);
+        }
+    }
+    Ok(())
+}
+
 // Plays the events in order, up to the first that is refused.
 pub(crate) fn play_each(world: &mut World, events: Vec<Event>) -> Result<(), PlayFault>
     requires { list_all fits events.items ≡ true }
@@ -48,7 +87,7 @@ pub(crate) fn play_each(world: &mut World, events: Vec<Event>) -> Result<(), Pla
     ensures err { IfErr result (λ fault. (a b : Settings) → HasPlayed a b [] world.old → PlayOf a b events.items (Err fault)) }
 {
     for event in events {
-        if let Err(fault) = world.step(event) {
+        if let Err(fault) = world.happen(event) {
             return Err(fault);
         }
     }

@@ -46,7 +46,7 @@ fn draw_step(alloc: Global, world: &mut World, words: &mut Lcg64Xsh32) -> Result
     let made = world.made(end);
     match draw_act(alloc, words, made) {
         Ok(act) => {
-            world.step(Event { end, act })?;
+            world.happen(Event { end, act })?;
             Ok(())
         }
         Err(_) => Err(PlayFault::NoMemory),

@@ -1,13 +1,15 @@
 //! Two ends, and what happened to them.
-ghost use Rattle.std.specs.Prelude.{◌≡◌, length, reverse, true, Some, None, IfSome, IfNone, IfOk, IfErr};
+ghost use Rattle.std.specs.Prelude.{◌≡◌, [], length, reverse, true, vec_capacity, Some, None, IfSome, IfNone, IfOk, IfErr};
 ghost use Rattle.qs_calls.specs.Events.{fits};
 ghost use Rattle.qs_runs.specs.Logs.{happened, made, payload};
 ghost use Rattle.qs_runs.specs.Worlds.{world_made};
 ghost use Rattle.qs_world.specs.Reports.{IsReport};
-ghost use Rattle.qs_world.specs.Copies.{IsReportOf};
+ghost use Rattle.qs_world.specs.Copies.{IsReportOf, IsLastAnswer};
 ghost use Rattle.qs_world.specs.Plays.{begun, PlayStep, HasAgreed};
+ghost use Rattle.qs_world.specs.Buffers.{LastFits};
 ghost use Rattle.qs_world.specs.declared.report.PlayFault.TheVariants.{NoMemory};
 
+use crate::copies::copy_into;
 use crate::report::{PlayFault, Report};
 use crate::reporting::{all_lanes, end_totals, report_of};
 use calls::room_of;
@@ -68,11 +70,41 @@ impl World {
         })
     }
 
+    /// One event happens, as by [`World::happen`], and its answer is handed out, with bytes of its own.
+    ///
+    /// Refused, and then nothing changed: `NoSuchPacket` as there; and `NoMemory` where the log or those bytes found none.
+    pub fn step(&mut self, event: Event) -> Result<Answer, PlayFault>
+        requires { fits event ≡ true }
+        ensures step { PlayStep self.old event result self.new }
+        ensures answer { IfOk result (λ answer. IsLastAnswer answer self.new.log) }
+        ensures agrees { HasAgreed self.new }
+    {
+        let Ok(room) = Vec::with_capacity(self.alloc, room_of(&event.act)) else {
+            return Err(PlayFault::NoMemory);
+        };
+        match self.happen(event) {
+            Ok(()) => Ok(self.last_answer(room)),
+            Err(fault) => Err(fault),
+        }
+    }
+
+    // A copy of the newest answer, its bytes in a vector that has room for them.
+    fn last_answer(&self, room: Vec<u8>) -> Answer
+        requires empty { room.items ≡ [] }
+        requires room { LastFits (vec_capacity room) self.now.log }
+        ensures { IsLastAnswer result self.now.log }
+    {
+        match self.log.entries().last() {
+            Some((_, answer)) => copy_into(room, answer),
+            None => unreachable!(),
+        }
+    }
+
     /// One event happens, and stands with its answer last in [`World::log`]. A refusal of memory by an end is an answer.
     ///
     /// Refused, and then nothing changed: `NoSuchPacket` where a packet is to be delivered that its end hasn't made, with one more than
     /// the events so far; and `NoMemory` where the log found none.
-    pub fn step(&mut self, event: Event) -> Result<(), PlayFault>
+    pub fn happen(&mut self, event: Event) -> Result<(), PlayFault>
         requires { fits event ≡ true }
         ensures step { PlayStep self.old event result self.new }
         ensures agrees { HasAgreed self.new }

@@ -1,6 +1,5 @@
 //! What scripts are answered with.
 
-use super::status_of;
 use qs_cli::{Status, run_events, run_play, run_play_with, run_random};
 use qs_world::{Settings, parse_script, random_script, standard_settings};
 use std::alloc::Global;
@@ -11,7 +10,7 @@ use std::test::Fail;
 fn plays(rt: &impl Abort, alloc: Global, script: &[u8], status: Status, text: &str) {
     let mut out = Vec::new(alloc);
     assert!(rt;
-        status_of(run_play(alloc, script, &mut out)) == status,
+        run_play(alloc, script, &mut out) == status,
         "status of {script:?}"
     );
     assert!(rt; out.as_slice() == text.as_bytes(), "text of {script:?}");
@@ -239,7 +238,7 @@ fn a_stream_more_for_one_that_ended(rt: HostRuntime) {
     };
     let mut out = Vec::new(rt.alloc());
     let answer = run_play_with(rt.alloc(), settings, OPENING_SCRIPT, &mut out);
-    assert!(rt; status_of(answer) == Status::Success);
+    assert!(rt; answer == Status::Success);
     assert!(rt; out.starts_with(OPENING.as_bytes()));
 }
 
@@ -259,13 +258,8 @@ fn a_script_without_events(rt: HostRuntime) {
         NOTHING_HAPPENED,
     );
     let mut out = Vec::new(rt.alloc());
-    let answer = run_events(
-        rt.alloc(),
-        standard_settings(),
-        Vec::new(rt.alloc()),
-        &mut out,
-    );
-    assert!(rt; status_of(answer) == Status::Success);
+    let answer = run_events(rt.alloc(), standard_settings(), &[], &mut out);
+    assert!(rt; answer == Status::Success);
     assert!(rt; out.as_slice() == NOTHING_HAPPENED.as_bytes());
 }
 
@@ -325,10 +319,10 @@ fn a_printed_random_script_is_read_as_its_events(rt: HostRuntime) -> Result<(), 
 fn a_writer_that_fails(rt: HostRuntime) {
     let mut room = [0; 8];
     let mut out = room.as_mut_slice();
-    assert!(rt; status_of(run_play(rt.alloc(), b"knock A", &mut out)) == Status::Failed);
+    assert!(rt; run_play(rt.alloc(), b"knock A", &mut out) == Status::Failed);
     let mut room = [0; 8];
     let mut out = room.as_mut_slice();
-    assert!(rt; status_of(run_play(rt.alloc(), b"", &mut out)) == Status::Failed);
+    assert!(rt; run_play(rt.alloc(), b"", &mut out) == Status::Failed);
     let mut room = [0; 8];
     let mut out = room.as_mut_slice();
     assert!(rt; run_random(rt.alloc(), 1, 9, &mut out) == Status::Failed);

@@ -1,6 +1,5 @@
 //! What scripts come to over a wire.
 
-use super::status_of;
 use qs_cli::{MemoryWire, Status, UdpWire, Wire, run_udp};
 use qs_world::Side;
 use std::alloc::{AllocError, Global};
@@ -91,7 +90,7 @@ fn comes_to<Wi: Wire>(
     outcome: &Outcome,
 ) -> Result<(), Fail> {
     let mut out = Vec::new(alloc);
-    assert!(rt; status_of(run_udp(alloc, SCRIPT, wire, &mut out)) == Status::Success);
+    assert!(rt; run_udp(alloc, SCRIPT, wire, &mut out) == Status::Success);
     assert!(rt; out.as_slice() == outcome.text(alloc)?.as_bytes());
     Ok(())
 }
@@ -157,7 +156,7 @@ fn loopback(rt: HostRuntime) -> Result<(), Fail> {
 fn names(rt: &impl Abort, alloc: Global, script: &[u8], text: &str) {
     let mut wire = MemoryWire::new(alloc, &[1], &[]);
     let mut out = Vec::new(alloc);
-    assert!(rt; status_of(run_udp(alloc, script, &mut wire, &mut out)) == Status::FaultShown);
+    assert!(rt; run_udp(alloc, script, &mut wire, &mut out) == Status::FaultShown);
     assert!(rt; out.as_slice() == text.as_bytes());
     assert!(rt; wire.failures() == 0);
 }
@@ -174,5 +173,5 @@ fn a_writer_that_fails(rt: HostRuntime) {
     let mut wire = MemoryWire::new(rt.alloc(), &[], &[]);
     let mut room = [0; 8];
     let mut out = room.as_mut_slice();
-    assert!(rt; status_of(run_udp(rt.alloc(), b"", &mut wire, &mut out)) == Status::Failed);
+    assert!(rt; run_udp(rt.alloc(), b"", &mut wire, &mut out) == Status::Failed);
 }

@@ -1,6 +1,5 @@
 //! Runs over a writer that has no room for all that they write.
 
-use super::status_of;
 use qs_cli::{
     MemoryWire, Status, run_events, run_frames, run_play, run_random, run_udp, udp_events,
 };
@@ -13,11 +12,11 @@ fn run<W: io::Write>(alloc: Global, number: usize, out: &mut W) -> Status {
     match number {
         0 => run_frames(alloc, "010b0003616263", out),
         1 => run_frames(alloc, "011f", out),
-        2 => status_of(run_play(alloc, b"accept A\n", out)),
-        3 => status_of(run_play(alloc, b"jump A", out)),
-        4 => status_of(run_play(alloc, b"deliver A 0", out)),
+        2 => run_play(alloc, b"accept A\n", out),
+        3 => run_play(alloc, b"jump A", out),
+        4 => run_play(alloc, b"deliver A 0", out),
         5 => run_random(alloc, 1, 3, out),
-        6 => status_of(run_events(alloc, standard_settings(), Vec::new(alloc), out)),
+        6 => run_events(alloc, standard_settings(), &[], out),
         _ => run_over_wire(alloc, number, out),
     }
 }
@@ -25,10 +24,10 @@ fn run<W: io::Write>(alloc: Global, number: usize, out: &mut W) -> Status {
 fn run_over_wire<W: io::Write>(alloc: Global, number: usize, out: &mut W) -> Status {
     let mut wire = MemoryWire::new(alloc, &[], &[]);
     match number {
-        7 => status_of(run_udp(alloc, b"accept A\n", &mut wire, out)),
-        8 => status_of(run_udp(alloc, b"jump A", &mut wire, out)),
-        9 => status_of(run_udp(alloc, b"deliver A 0", &mut wire, out)),
-        _ => status_of(udp_events(alloc, &[], &mut wire, out)),
+        7 => run_udp(alloc, b"accept A\n", &mut wire, out),
+        8 => run_udp(alloc, b"jump A", &mut wire, out),
+        9 => run_udp(alloc, b"deliver A 0", &mut wire, out),
+        _ => udp_events(alloc, &[], &mut wire, out),
     }
 }
 

@@ -61,7 +61,7 @@ impl Turn {
 impl World {
     /// Plays plain rounds until both ends are at rest, or until that many events happened. In a round each end declares lost all that is
     /// outstanding, then each makes packets until none is made, each of which is delivered at once, and then the owner of each reads all
-    /// that there is to read. Each event stands in [`World::log`] with its answer, as by [`World::step`].
+    /// that there is to read. Each event stands in [`World::log`] with its answer, as by [`World::happen`].
     ///
     /// At rest nothing that was asked for is left undone: `qs_rest::laws` say what that comes to.
     ///
@@ -78,7 +78,7 @@ impl World {
             }
             match self.next_event(turn) {
                 Some(event) => {
-                    if let Err(fault) = self.step(event) {
+                    if let Err(fault) = self.happen(event) {
                         return Err(fault);
                     }
                     left -= 1;

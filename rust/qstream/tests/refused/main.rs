@@ -77,11 +77,7 @@ fn copied(event: &Event) -> Event {
 
 /// What comes of the events where an allocation is refused to `play` alone.
 fn played(events: &[Event]) -> Result<Report, PlayFault> {
-    let mut handed_in = shim::Vec::new(Global);
-    for event in events {
-        handed_in.push(copied(event)).expect("none is refused here");
-    }
-    watched(|| play(Global, standard_settings(), standard_settings(), handed_in))
+    watched(|| play(Global, standard_settings(), standard_settings(), events))
 }
 
 /// An end found no memory.
@@ -228,14 +224,6 @@ fn short_runs_agree() {
     assert!(told.no_memory > 20 && told.no_packet > 5 && told.short > 20);
 }
 
-/// The end found no memory for the newest event.
-fn newest_ran_short(world: &World) -> bool {
-    world
-        .log()
-        .last()
-        .is_some_and(|(_, answer)| ran_short(answer))
-}
-
 /// An event happens, and once more where memory was refused.
 fn step_twice(world: &mut World, event: &Event) -> bool {
     for again in [false, true] {
@@ -243,8 +231,13 @@ fn step_twice(world: &mut World, event: &Event) -> bool {
         match watched(|| world.step(event)) {
             Err(PlayFault::NoMemory) => {}
             Err(fault) => panic!("{fault}"),
-            Ok(()) if newest_ran_short(world) => {}
-            Ok(()) => return again,
+            Ok(answer) => {
+                let newest = world.log().last().map(|(_, answer)| answer);
+                assert_eq!(newest, Some(&answer));
+                if !ran_short(&answer) {
+                    return again;
+                }
+            }
         }
     }
     panic!("memory was refused twice");

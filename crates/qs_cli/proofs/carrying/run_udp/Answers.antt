@@ -1,12 +1,9 @@
-use Rattle.std.proofs.Common.{◌≡◌, true}
-use Rattle.qs_cli.specs.Runs.{IsScriptOf}
-use Rattle.qs_cli.proofs.Answered.{carried_answer, fault_carried}
+use Rattle.qs_cli.specs.Carrying.{AnswersUdp}
+use Rattle.qs_cli.proofs.Answered.{ends_as}
 use Rattle.qs_cli.proofs.carrying.run_udp.Goals as goal
 
-pub returns-in-Ok : goal.returns-in-Ok
-returns-in-Ok g c =
-    let is : IsScriptOf c.args.script.now c.deref.result.now = rw c.deref.ensures.value (c.in-Ok.ensures.events, c.in-Ok.ensures.fit) in
-    carried_answer _ _ _ _ _ _ _ is c.udp_events.ensures
-
-pub returns-in-Err : goal.returns-in-Err
-returns-in-Err g c = fault_carried _ _ c.in-Err.fault _ _ _ _ c.in-Err.ensures.fault c.show_script_fault.ensures
+pub returns : goal.returns
+returns g c =
+    ends_as (λ answer. AnswersUdp answer c.args.script.now (g.Wi.Wire.failed c.args.wire.now) (g.Wi.Wire.failed c.report_udp.new.wire)
+    (g.W.Write.contents c.args.out.now) (g.W.Write.contents c.report_udp.new.out))
+    c.report_udp.result _ (λ none. none) c.status_of.ensures c.report_udp.ensures

@@ -1,10 +1,17 @@
-use Rattle.qs_cli.proofs.Answered.{answered_report, answered_none}
+use Rattle.qs_world.specs.Copies.{PlayOfCopies}
+use Rattle.qs_cli.specs.Runs.{AnswersEvents}
+use Rattle.qs_cli.proofs.Answered.{answered_by, ends_as, no_setup}
 use Rattle.qs_cli.proofs.scripts.run_events.Goals as goal
 
-pub returns-in-Ok : goal.returns-in-Ok
-returns-in-Ok g c = answered_report _ c.show_report-status.result c.args.settings c.args.events.items c.in-Ok.report _ _ c.in-Ok.ensures c.show_report-status.ensures c.written.ensures
+pub show_played-requires : goal.show_played-requires
+show_played-requires g c =
+    let (copies, same, played) = c.play-played.ensures in
+    no_setup c.args.settings copies c.play-played.result c.requires.range played
 
-pub returns-in-Err-NoSuchPacket : goal.returns-in-Err-NoSuchPacket
-returns-in-Err-NoSuchPacket g c =
-    answered_none c.show_missing.result c.args.settings c.args.events.items c.in-Err-NoSuchPacket.event _ _
-    (rw c.in-Err-NoSuchPacket.field-0-is at c.in-Err-NoSuchPacket.ensures) c.show_missing.ensures
+pub returns : goal.returns
+returns g c =
+    let Played = PlayOfCopies c.args.settings c.args.settings c.args.events.now in
+    let old = g.W.Write.contents c.args.out.now in
+    let new = g.W.Write.contents c.show_played.new.out in
+    ends_as (λ answer. AnswersEvents Played answer old new) c.show_played.result _ (λ none. none) c.status_of.ensures
+    (answered_by Played c.play-played.result c.show_played.result old new c.play-played.ensures c.show_played.ensures)

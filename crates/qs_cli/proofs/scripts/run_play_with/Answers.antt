@@ -1,8 +1,8 @@
-use Rattle.qs_cli.proofs.Answered.{events_answer, fault_answer}
+use Rattle.qs_cli.specs.Runs.{AnswersPlay}
+use Rattle.qs_cli.proofs.Answered.{ends_as}
 use Rattle.qs_cli.proofs.scripts.run_play_with.Goals as goal
 
-pub returns-in-Ok : goal.returns-in-Ok
-returns-in-Ok g c = events_answer _ _ _ _ _ _ (c.in-Ok.ensures.events, c.in-Ok.ensures.fit) c.run_events.ensures
-
-pub returns-in-Err : goal.returns-in-Err
-returns-in-Err g c = fault_answer _ _ _ c.in-Err.fault _ _ c.in-Err.ensures.fault c.show_script_fault.ensures
+pub returns : goal.returns
+returns g c =
+    ends_as (λ answer. AnswersPlay answer c.args.settings c.args.script.now (g.W.Write.contents c.args.out.now) (g.W.Write.contents c.report_play.new.out))
+    c.report_play.result _ (λ none. none) c.status_of.ensures c.report_play.ensures

@@ -6,8 +6,8 @@ use Rattle.qs_world.specs.Plays.{HasPlayed}
 use Rattle.qs_world.proofs.PlayedRuns.{next_fits, nothing_left, played_more, play_stops}
 use Rattle.qs_world.proofs.playing.play_each.Goals as goal
 
-pub step-requires : goal.step-requires
-step-requires c =
+pub happen-requires : goal.happen-requires
+happen-requires c =
     let at = c.loop-event in
     let steps : into_iter_items at.event-iterator ≡ c.in-Some.event ∷ into_iter_items c.next.new.self = c.in-Some.ensures.steps.0 in
     let all : at.yielded ++ (c.in-Some.event ∷ into_iter_items c.next.new.self) ≡ c.args.events.items =
@@ -20,7 +20,7 @@ returns-in-Err-clause-err c =
     let steps : into_iter_items at.event-iterator ≡ c.in-Some.event ∷ into_iter_items c.next.new.self = c.in-Some.ensures.steps.0 in
     let all : at.yielded ++ (c.in-Some.event ∷ into_iter_items c.next.new.self) ≡ c.args.events.items =
     rw (← steps) at.invariant.0 ∙ c.into_iter-event-iterator.ensures.into_iter_gives.0 in
-    λ a b first. play_stops a b c.args.events.items at.yielded (into_iter_items c.next.new.self) c.in-Some.event c.in-Err.fault at.world c.step.new.self
+    λ a b first. play_stops a b c.args.events.items at.yielded (into_iter_items c.next.new.self) c.in-Some.event c.in-Err.fault at.world c.happen.new.self
     (sym all) (at.invariant.2 a b first) c.in-Err.ensures.step
 
 pub loop-event-preserved : goal.loop-event-preserved
@@ -33,7 +33,7 @@ loop-event-preserved c =
           let gone = c.in-Some.ensures.steps.1 in
           let short = ap length steps in
           omega arith,
-      λ a b first. played_more a b at.yielded x at.world c.step.new.self (at.invariant.2 a b first) c.in_default.ensures.step,
+      λ a b first. played_more a b at.yielded x at.world c.happen.new.self (at.invariant.2 a b first) c.in_default.ensures.step,
     )
 
 pub returns-clause-ok : goal.returns-clause-ok

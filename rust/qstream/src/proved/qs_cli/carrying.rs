@@ -4,7 +4,7 @@
 use crate::shim::{String, Vec};
 
 use crate::proved::qs_cli::report_text::play_text;
-use crate::proved::qs_cli::scripts::{show, show_missing, show_script_fault, written};
+use crate::proved::qs_cli::scripts::{show, show_missing, show_script_fault, status_of, written};
 use crate::proved::qs_cli::status::Status;
 use crate::proved::qs_cli::wire::{Wire, one_more, other_side};
 use crate::proved::qs_world::{
@@ -23,20 +23,41 @@ pub fn run_udp<Wi: Wire, W: io::Write>(
     script: &[u8],
     wire: &mut Wi,
     out: &mut W,
+) -> Status {
+    status_of(report_udp(alloc, script, wire, out))
+}
+
+/// As [`run_udp`], and it answers the report that it wrote.
+pub fn report_udp<Wi: Wire, W: io::Write>(
+    alloc: Global,
+    script: &[u8],
+    wire: &mut Wi,
+    out: &mut W,
 ) -> Result<Report, Status> {
     match parse_script(alloc, script) {
-        Ok(events) => udp_events(alloc, &events, wire, out),
+        Ok(events) => report_carried(alloc, &events, wire, out),
         Err(fault) => Err(show_script_fault(alloc, fault, out)),
     }
 }
 
-/// Plays events between two ends of the standard settings, whose packets go over a wire. It writes and answers the report of what took
-/// place, as [`crate::proved::qs_cli::scripts::run_events`] does, and writes then how many calls of the wire failed and how many datagrams were a stranger's.
+/// Plays events between two ends of the standard settings, whose packets go over a wire. It writes the report of what took place, as
+/// [`crate::proved::qs_cli::scripts::run_events`] does, and then how many calls of the wire failed and how many datagrams were a stranger's, and answers
+/// the exit status.
 ///
 /// To deliver a packet its datagram is sent, which is the number in eight bytes and then the payload, and one datagram is received at the
 /// other end. Where sending fails the packet is declared lost. Where receiving fails nothing happens. A datagram that is no packet which
 /// the sender made is a stranger's and is dropped, and any other is delivered under the number that it bears.
 pub fn udp_events<Wi: Wire, W: io::Write>(
+    alloc: Global,
+    events: &[Event],
+    wire: &mut Wi,
+    out: &mut W,
+) -> Status {
+    status_of(report_carried(alloc, events, wire, out))
+}
+
+/// As [`udp_events`], and it answers the report that it wrote.
+pub fn report_carried<Wi: Wire, W: io::Write>(
     alloc: Global,
     events: &[Event],
     wire: &mut Wi,
@@ -235,8 +256,8 @@ fn lose(end: Side, number: u64) -> Event {
 
 /// An event takes place. No stranger's datagram came.
 fn step(world: &mut World, event: Event) -> Result<bool, PlayFault> {
-    match world.step(event) {
-        Ok(_) => Ok(false),
+    match world.happen(event) {
+        Ok(()) => Ok(false),
         Err(fault) => Err(fault),
     }
 }

@@ -14,8 +14,8 @@ use crate::shim::io;
 const MOST_DRAINED: u64 = 1_000_000;
 
 /// Plays a script between two ends of these settings, and then plain rounds until both ends are at rest or 1,000,000 events more happened.
-/// It writes the report of it all, as [`crate::proved::qs_cli::run_play_with`] does, and at last the line `at rest` or `not at rest`. It answers that report.
-pub fn run_drained<W: io::Write>(
+/// It writes the report of it all, as [`crate::proved::qs_cli::report_play`] does, and at last the line `at rest` or `not at rest`. It answers that report.
+pub fn report_drained<W: io::Write>(
     alloc: Global,
     settings: Settings,
     script: &[u8],

@@ -4,8 +4,9 @@
 use crate::shim::Vec;
 
 use crate::proved::qs_cli::wire::{Failures, Wire, WireError, other_side};
+use crate::proved::qs_ranges::NoMemory;
 use crate::proved::qs_world::Side;
-use crate::shim::alloc::{AllocError, Global};
+use crate::shim::alloc::Global;
 use crate::shim::collections::VecDeque;
 
 /// A wire in memory. Datagrams wait at an end in the order in which they were sent to it.
@@ -36,7 +37,7 @@ impl<'a> MemoryWire<'a> {
     }
 
     /// A stranger's datagram waits at an end, behind those that wait there. Where memory is refused nothing changed.
-    pub fn inject(&mut self, at: Side, bytes: &[u8]) -> Result<(), AllocError> {
+    pub fn inject(&mut self, at: Side, bytes: &[u8]) -> Result<(), NoMemory> {
         let datagram = Vec::from_slice(self.alloc, bytes)?;
         match at {
             Side::A => self.at_a.push_back(datagram)?,

@@ -7,31 +7,59 @@ use crate::proved::qs_cli::report_text::play_text;
 use crate::proved::qs_cli::status::Status;
 use crate::proved::qs_text::script_text;
 use crate::proved::qs_world::{
-    Event, PlayFault, Reason, Report, ScriptFault, Settings, parse_script, play, random_script,
-    standard_settings,
+    Event, PlayFault, Reason, Report, ScriptFault, Settings, parse_script, play, play_all,
+    random_script, standard_settings,
 };
 use crate::shim::alloc::{AllocError, Global};
 use crate::shim::io;
 
 /// Plays events between two ends of these settings, and writes the report: a line for each event with its answer, for each lane and for
-/// each end. It answers that report. An event that delivers a packet which wasn't made is named in place of it all.
+/// each end. It answers the exit status. An event that delivers a packet which wasn't made is named in place of it all.
 ///
 /// It is written once the text stands whole: `NoMemory` where memory was refused, and then nothing was written, and `Failed` where
 /// writing failed.
 pub fn run_events<W: io::Write>(
     alloc: Global,
     settings: Settings,
+    events: &[Event],
+    out: &mut W,
+) -> Status {
+    let played = play(alloc, settings, settings, events);
+    status_of(show_played(alloc, played, out))
+}
+
+/// As [`run_events`], of the events themselves, and it answers the report that it wrote.
+pub fn report_events<W: io::Write>(
+    alloc: Global,
+    settings: Settings,
     events: Vec<Event>,
     out: &mut W,
 ) -> Result<Report, Status> {
-    match play(alloc, settings, settings, events) {
+    let played = play_all(alloc, settings, settings, events);
+    show_played(alloc, played, out)
+}
+
+/// Writes the report of what was played, or names the event whose packet wasn't made.
+fn show_played<W: io::Write>(
+    alloc: Global,
+    played: Result<Report, PlayFault>,
+    out: &mut W,
+) -> Result<Report, Status> {
+    match played {
         Ok(report) => {
             let status = show_report(alloc, &report, out);
             written(report, status)
         }
-        Err(PlayFault::NoSuchPacket { event }) => Err(show_missing(alloc, event, out)),
-        Err(PlayFault::NoMemory) => Err(Status::NoMemory),
-        Err(PlayFault::Setup(_)) => unreachable!(),
+        Err(fault) => Err(show_play_fault(alloc, fault, out)),
+    }
+}
+
+/// Names the event whose packet wasn't made, unless memory was wanting.
+fn show_play_fault<W: io::Write>(alloc: Global, fault: PlayFault, out: &mut W) -> Status {
+    match fault {
+        PlayFault::NoSuchPacket { event } => show_missing(alloc, event, out),
+        PlayFault::NoMemory => Status::NoMemory,
+        PlayFault::Setup(_) => unreachable!(),
     }
 }
 
@@ -39,6 +67,14 @@ fn show_report<W: io::Write>(alloc: Global, report: &Report, out: &mut W) -> Sta
     match play_text(alloc, report) {
         Ok(text) => show(&text, Status::Success, out),
         Err(_) => Status::NoMemory,
+    }
+}
+
+/// The exit status of a run that answers the report that it wrote.
+pub fn status_of(answer: Result<Report, Status>) -> Status {
+    match answer {
+        Ok(_) => Status::Success,
+        Err(status) => status,
     }
 }
 
@@ -67,7 +103,7 @@ pub fn show<W: io::Write>(text: &String, status: Status, out: &mut W) -> Status 
 }
 
 /// Plays a script between two ends of the standard settings, as [`run_play_with`] does.
-pub fn run_play<W: io::Write>(alloc: Global, script: &[u8], out: &mut W) -> Result<Report, Status> {
+pub fn run_play<W: io::Write>(alloc: Global, script: &[u8], out: &mut W) -> Status {
     run_play_with(alloc, standard_settings(), script, out)
 }
 
@@ -78,9 +114,19 @@ pub fn run_play_with<W: io::Write>(
     settings: Settings,
     script: &[u8],
     out: &mut W,
+) -> Status {
+    status_of(report_play(alloc, settings, script, out))
+}
+
+/// As [`run_play_with`], and it answers the report that it wrote.
+pub fn report_play<W: io::Write>(
+    alloc: Global,
+    settings: Settings,
+    script: &[u8],
+    out: &mut W,
 ) -> Result<Report, Status> {
     match parse_script(alloc, script) {
-        Ok(events) => run_events(alloc, settings, events, out),
+        Ok(events) => report_events(alloc, settings, events, out),
         Err(fault) => Err(show_script_fault(alloc, fault, out)),
     }
 }

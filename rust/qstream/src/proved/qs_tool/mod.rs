@@ -10,7 +10,7 @@ mod traces;
 
 use crate::proved::qs_tool::input::read_file;
 use crate::proved::qs_tool::traces::write_traces;
-use crate::proved::qs_cli::{Status, UdpWire, run_drained, run_frames, run_play_with, run_random, run_udp};
+use crate::proved::qs_cli::{Status, UdpWire, report_drained, report_play, report_udp, run_frames, run_random};
 use crate::proved::qs_request::{Refusal, Request};
 use crate::proved::qs_world::{Report, Settings};
 use crate::shim::process::ExitCode;
@@ -70,15 +70,15 @@ fn play<W: io::Write>(
     out: &mut W,
 ) -> Result<Report, Status> {
     if drain {
-        run_drained(rt.alloc(), settings, script, out)
+        report_drained(rt.alloc(), settings, script, out)
     } else {
-        run_play_with(rt.alloc(), settings, script, out)
+        report_play(rt.alloc(), settings, script, out)
     }
 }
 
 fn over_udp<W: io::Write>(rt: &HostRuntime, script: &[u8], out: &mut W) -> Result<Report, Status> {
     match UdpWire::bind(rt) {
-        Ok(mut wire) => run_udp(rt.alloc(), script, &mut wire, out),
+        Ok(mut wire) => report_udp(rt.alloc(), script, &mut wire, out),
         Err(_) => Err(Status::Failed),
     }
 }

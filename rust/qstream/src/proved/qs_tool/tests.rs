@@ -3,7 +3,6 @@
 
 use crate::shim::{HostRuntime, String, Vec, assert, format};
 use crate::proved::qs_cli::{Status, run_frames};
-use crate::proved::qs_world::Report;
 use crate::shim::alloc::Global;
 use crate::shim::process::Abort;
 use crate::shim::test::Fail;
@@ -13,14 +12,6 @@ mod requests;
 mod scripts;
 mod wires;
 mod writers;
-
-/// The status of a run that answers the report that it wrote.
-fn status_of(answer: Result<Report, Status>) -> Status {
-    match answer {
-        Ok(_) => Status::Success,
-        Err(status) => status,
-    }
-}
 
 /// The run on the word ends so and writes the text.
 fn shows(rt: &impl Abort, alloc: Global, word: &str, status: Status, text: &str) {

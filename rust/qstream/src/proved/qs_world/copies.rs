@@ -15,22 +15,41 @@ pub fn copy_event(alloc: Global, event: &Event) -> Result<Event, AllocError> {
 }
 
 /// A copy of an answer. It takes memory for the bytes of a read and for a payload alone.
-pub(crate) fn copy_answer(alloc: Global, answer: &Answer) -> Result<Answer, AllocError> {
-    Ok(match answer {
+fn copy_answer(alloc: Global, answer: &Answer) -> Result<Answer, AllocError> {
+    let room = Vec::with_capacity(alloc, bytes_of(answer).len())?;
+    Ok(copy_into(room, answer))
+}
+
+/// The bytes of a read, or the payload.
+fn bytes_of(answer: &Answer) -> &[u8] {
+    match answer {
+        Answer::ReadUpTo(_, bytes) => bytes,
+        Answer::Make(_, payload) => payload,
+        _ => &[],
+    }
+}
+
+/// A copy of an answer, its bytes in a vector that has room for them. It takes no memory.
+pub(crate) fn copy_into(room: Vec<u8>, answer: &Answer) -> Answer {
+    match answer {
         Answer::OpenStream(result) => Answer::OpenStream(*result),
         Answer::Accept(stream) => Answer::Accept(*stream),
         Answer::Write(result) => Answer::Write(*result),
         Answer::Finish(result) => Answer::Finish(*result),
         Answer::Reset(result) => Answer::Reset(*result),
         Answer::Stop(result) => Answer::Stop(*result),
-        Answer::ReadUpTo(result, bytes) => {
-            Answer::ReadUpTo(*result, Vec::from_slice(alloc, bytes)?)
-        }
-        Answer::Make(result, payload) => Answer::Make(*result, Vec::from_slice(alloc, payload)?),
+        Answer::ReadUpTo(result, bytes) => Answer::ReadUpTo(*result, filled(room, bytes)),
+        Answer::Make(result, payload) => Answer::Make(*result, filled(room, payload)),
         Answer::Lose(result) => Answer::Lose(*result),
         Answer::Claim(result) => Answer::Claim(*result),
         Answer::Deliver(result) => Answer::Deliver(*result),
-    })
+    }
+}
+
+/// The bytes, in a vector that has room for them.
+fn filled(mut room: Vec<u8>, bytes: &[u8]) -> Vec<u8> {
+    let _ = room.extend_from_slice(bytes);
+    room
 }
 
 /// A copy of a log, in the same order.

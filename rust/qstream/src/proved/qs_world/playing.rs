@@ -2,21 +2,39 @@
 //! Events are played.
 use crate::shim::Vec;
 
+use crate::proved::qs_world::copies::copy_event;
 use crate::proved::qs_world::report::{PlayFault, Report};
 use crate::proved::qs_world::world::World;
 use crate::proved::qs_calls::Event;
 use crate::proved::qs_conn::Settings;
 use crate::shim::alloc::Global;
 
-/// Plays the events between two new ends, in order, and reports what came of it. The events go into the log as they are: none is copied.
+/// Plays events between two new ends, in order, and reports what came of it. Each event goes into the log as a copy.
 ///
 /// What happened is a run of the two ends that agrees: what is read is a prefix of what was written, and all of it once the end was told
 /// to a reader that hadn't stopped; a repeat spends no credit; a stream that counts as received was taken in whole; final sizes that are
 /// known are the sender's; and neither end closes.
 ///
 /// Refused: `Setup` as [`crate::proved::qs_world::World::new`]; `NoSuchPacket` at the first event that delivers a packet which its end hasn't made; and
-/// `NoMemory` where the log found none.
-pub fn play(
+/// `NoMemory` where the log or a copy found none.
+pub fn play(alloc: Global, a: Settings, b: Settings, events: &[Event]) -> Result<Report, PlayFault> {
+    let mut world = match World::new(alloc, a, b) {
+        Ok(world) => world,
+        Err(fault) => return Err(PlayFault::Setup(fault)),
+    };
+    match play_copies(alloc, &mut world, events) {
+        Ok(()) => world.into_report(),
+        Err(fault) => {
+            world.discard();
+            Err(fault)
+        }
+    }
+}
+
+/// Plays the events themselves, as [`play`] does copies of them: they go into the log as they are.
+///
+/// Refused as there, but that `NoMemory` comes where the log found none.
+pub fn play_all(
     alloc: Global,
     a: Settings,
     b: Settings,
@@ -35,10 +53,23 @@ pub fn play(
     }
 }
 
+// Plays copies of the events in order, up to the first that is refused.
+fn play_copies(alloc: Global, world: &mut World, events: &[Event]) -> Result<(), PlayFault> {
+    for event in events {
+        let Ok(copy) = copy_event(alloc, event) else {
+            return Err(PlayFault::NoMemory);
+        };
+        if let Err(fault) = world.happen(copy) {
+            return Err(fault);
+        }
+    }
+    Ok(())
+}
+
 // Plays the events in order, up to the first that is refused.
 pub(crate) fn play_each(world: &mut World, events: Vec<Event>) -> Result<(), PlayFault> {
     for event in events {
-        if let Err(fault) = world.step(event) {
+        if let Err(fault) = world.happen(event) {
             return Err(fault);
         }
     }

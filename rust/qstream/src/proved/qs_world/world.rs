@@ -2,6 +2,7 @@
 //! Two ends, and what happened to them.
 use crate::shim::Vec;
 
+use crate::proved::qs_world::copies::copy_into;
 use crate::proved::qs_world::report::{PlayFault, Report};
 use crate::proved::qs_world::reporting::{all_lanes, end_totals, report_of};
 use calls::room_of;
@@ -43,11 +44,32 @@ impl World {
         })
     }
 
+    /// One event happens, as by [`World::happen`], and its answer is handed out, with bytes of its own.
+    ///
+    /// Refused, and then nothing changed: `NoSuchPacket` as there; and `NoMemory` where the log or those bytes found none.
+    pub fn step(&mut self, event: Event) -> Result<Answer, PlayFault> {
+        let Ok(room) = Vec::with_capacity(self.alloc, room_of(&event.act)) else {
+            return Err(PlayFault::NoMemory);
+        };
+        match self.happen(event) {
+            Ok(()) => Ok(self.last_answer(room)),
+            Err(fault) => Err(fault),
+        }
+    }
+
+    // A copy of the newest answer, its bytes in a vector that has room for them.
+    fn last_answer(&self, room: Vec<u8>) -> Answer {
+        match self.log.entries().last() {
+            Some((_, answer)) => copy_into(room, answer),
+            None => unreachable!(),
+        }
+    }
+
     /// One event happens, and stands with its answer last in [`World::log`]. A refusal of memory by an end is an answer.
     ///
     /// Refused, and then nothing changed: `NoSuchPacket` where a packet is to be delivered that its end hasn't made, with one more than
     /// the events so far; and `NoMemory` where the log found none.
-    pub fn step(&mut self, event: Event) -> Result<(), PlayFault> {
+    pub fn happen(&mut self, event: Event) -> Result<(), PlayFault> {
         if is_missing(&self.log, &event) {
             return Err(PlayFault::NoSuchPacket {
                 event: self.log.len() + 1,

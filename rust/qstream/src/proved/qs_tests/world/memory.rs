@@ -15,7 +15,7 @@ fn found_memory(report: &Report) -> bool {
 
 fn drawn_once(alloc: Global, seed: u64) -> Result<bool, PlayFault> {
     let events = random_script(alloc, seed, 400)?;
-    let report = play(alloc, standard_settings(), standard_settings(), events)?;
+    let report = play(alloc, standard_settings(), standard_settings(), &events)?;
     Ok(found_memory(&report))
 }
 
@@ -37,7 +37,7 @@ fn random_runs_find_memory() -> Result<(), Fail> {
 
 fn played_once(alloc: Global, settings: Settings, script: &[u8]) -> Result<bool, PlayFault> {
     match parse_script(alloc, script) {
-        Ok(events) => Ok(found_memory(&play(alloc, settings, settings, events)?)),
+        Ok(events) => Ok(found_memory(&play(alloc, settings, settings, &events)?)),
         Err(_) => Err(PlayFault::NoMemory),
     }
 }

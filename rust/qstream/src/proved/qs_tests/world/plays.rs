@@ -1,6 +1,6 @@
 // Made from tests/units/qs_tests/src/world/plays.rattle by rust/erase; not edited by hand.
 //! Scripts that are played, and what comes of them. Where memory was refused, a script that should succeed is played once more.
-use crate::shim::{HostRuntime, Vec, assert};
+use crate::shim::{HostRuntime, assert};
 use crate::proved::qs_world::{
     Answer, EndTotals, LaneTotals, LostFault, MakeFault, OpenFault, PlayFault, Received, Report,
     Settings, SetupFault, Side, StreamId, UseFault, parse_script, play, standard_settings,
@@ -11,7 +11,7 @@ use crate::shim::test::Fail;
 
 fn play_once(alloc: Global, script: &[u8]) -> Result<Report, PlayFault> {
     match parse_script(alloc, script) {
-        Ok(events) => play(alloc, standard_settings(), standard_settings(), events),
+        Ok(events) => play(alloc, standard_settings(), standard_settings(), &events),
         Err(_) => Err(PlayFault::NoMemory),
     }
 }
@@ -203,19 +203,9 @@ fn ends_need_lawful_settings() {
     let alloc = rt.alloc();
     let refused = Err(PlayFault::Setup(SetupFault::OutOfRange));
     assert!(rt;
-        play(
-            alloc,
-            without_window(),
-            standard_settings(),
-            Vec::new(alloc)
-        ) == refused
+        play(alloc, without_window(), standard_settings(), &[]) == refused
     );
     assert!(rt;
-        play(
-            alloc,
-            standard_settings(),
-            without_window(),
-            Vec::new(alloc)
-        ) == refused
+        play(alloc, standard_settings(), without_window(), &[]) == refused
     );
 }

@@ -11,7 +11,7 @@ use crate::shim::alloc::Global;
 use crate::shim::test::Fail;
 
 /// An event that keeps to its bounds happens; no other one does.
-fn step_if_it_fits(world: &mut World, event: Event) -> Result<(), PlayFault> {
+fn step_if_it_fits(world: &mut World, event: Event) -> Result<Answer, PlayFault> {
     if event.fits() {
         world.step(event)
     } else {
@@ -20,7 +20,7 @@ fn step_if_it_fits(world: &mut World, event: Event) -> Result<(), PlayFault> {
 }
 
 /// The event of a line happens.
-fn step_once(alloc: Global, world: &mut World, line: &[u8]) -> Result<(), PlayFault> {
+fn step_once(alloc: Global, world: &mut World, line: &[u8]) -> Result<Answer, PlayFault> {
     let Ok(mut events) = parse_script(alloc, line) else {
         return Err(PlayFault::NoMemory);
     };
@@ -30,34 +30,34 @@ fn step_once(alloc: Global, world: &mut World, line: &[u8]) -> Result<(), PlayFa
     }
 }
 
-/// The log found no memory, or an end found none for the newest event.
-fn found_no_memory(world: &World, stepped: &Result<(), PlayFault>) -> bool {
+/// The log or the answer's copy found no memory, or an end found none.
+fn found_no_memory(stepped: &Result<Answer, PlayFault>) -> bool {
     match stepped {
-        Ok(()) => match world.log().last() {
-            Some((_, answer)) => ran_short(answer),
-            None => false,
-        },
+        Ok(answer) => ran_short(answer),
         Err(fault) => *fault == PlayFault::NoMemory,
     }
 }
 
 /// The event of a line happens, once more where memory was refused.
-fn step_twice(alloc: Global, world: &mut World, line: &[u8]) -> Result<(), PlayFault> {
+fn step_twice(alloc: Global, world: &mut World, line: &[u8]) -> Result<Answer, PlayFault> {
     let stepped = step_once(alloc, world, line);
-    if found_no_memory(world, &stepped) {
+    if found_no_memory(&stepped) {
         return step_once(alloc, world, line);
     }
     stepped
 }
 
-/// The event of a line happens, and memory isn't refused twice.
+/// The event of a line happens, its answer is that of the log, and memory isn't refused twice.
 fn step(alloc: Global, world: &mut World, line: &[u8]) -> Result<(), Fail> {
     let stepped = step_twice(alloc, world, line);
-    if found_no_memory(world, &stepped) {
+    if found_no_memory(&stepped) {
         return Err(Fail::new("memory was refused twice"));
     }
-    stepped?;
-    Ok(())
+    let answer = stepped?;
+    match world.log().last() {
+        Some((_, last)) if *last == answer => Ok(()),
+        _ => Err(Fail::new("the answer isn't that of the log")),
+    }
 }
 
 fn report(world: &World) -> Result<Report, PlayFault> {

@@ -2,7 +2,6 @@
 //! What scripts are answered with.
 
 use crate::shim::{HostRuntime, Vec, assert, panic};
-use super::status_of;
 use crate::proved::qs_cli::{Status, run_events, run_play, run_play_with, run_random};
 use crate::proved::qs_world::{Settings, parse_script, random_script, standard_settings};
 use crate::shim::alloc::Global;
@@ -13,7 +12,7 @@ use crate::shim::test::Fail;
 fn plays(rt: &impl Abort, alloc: Global, script: &[u8], status: Status, text: &str) {
     let mut out = Vec::new(alloc);
     assert!(rt;
-        status_of(run_play(alloc, script, &mut out)) == status,
+        run_play(alloc, script, &mut out) == status,
         "status of {script:?}"
     );
     assert!(rt; out.as_slice() == text.as_bytes(), "text of {script:?}");
@@ -246,7 +245,7 @@ fn a_stream_more_for_one_that_ended() {
     };
     let mut out = Vec::new(rt.alloc());
     let answer = run_play_with(rt.alloc(), settings, OPENING_SCRIPT, &mut out);
-    assert!(rt; status_of(answer) == Status::Success);
+    assert!(rt; answer == Status::Success);
     assert!(rt; out.starts_with(OPENING.as_bytes()));
 }
 
@@ -267,13 +266,8 @@ fn a_script_without_events() {
         NOTHING_HAPPENED,
     );
     let mut out = Vec::new(rt.alloc());
-    let answer = run_events(
-        rt.alloc(),
-        standard_settings(),
-        Vec::new(rt.alloc()),
-        &mut out,
-    );
-    assert!(rt; status_of(answer) == Status::Success);
+    let answer = run_events(rt.alloc(), standard_settings(), &[], &mut out);
+    assert!(rt; answer == Status::Success);
     assert!(rt; out.as_slice() == NOTHING_HAPPENED.as_bytes());
 }
 
@@ -338,10 +332,10 @@ fn a_writer_that_fails() {
     let rt = HostRuntime::new();
     let mut room = [0; 8];
     let mut out = room.as_mut_slice();
-    assert!(rt; status_of(run_play(rt.alloc(), b"knock A", &mut out)) == Status::Failed);
+    assert!(rt; run_play(rt.alloc(), b"knock A", &mut out) == Status::Failed);
     let mut room = [0; 8];
     let mut out = room.as_mut_slice();
-    assert!(rt; status_of(run_play(rt.alloc(), b"", &mut out)) == Status::Failed);
+    assert!(rt; run_play(rt.alloc(), b"", &mut out) == Status::Failed);
     let mut room = [0; 8];
     let mut out = room.as_mut_slice();
     assert!(rt; run_random(rt.alloc(), 1, 9, &mut out) == Status::Failed);

@@ -2,7 +2,6 @@
 //! What scripts come to over a wire.
 
 use crate::shim::{HostRuntime, String, Vec, assert};
-use super::status_of;
 use crate::proved::qs_cli::{MemoryWire, Status, UdpWire, Wire, run_udp};
 use crate::proved::qs_world::Side;
 use crate::shim::alloc::{AllocError, Global};
@@ -93,7 +92,7 @@ fn comes_to<Wi: Wire>(
     outcome: &Outcome,
 ) -> Result<(), Fail> {
     let mut out = Vec::new(alloc);
-    assert!(rt; status_of(run_udp(alloc, SCRIPT, wire, &mut out)) == Status::Success);
+    assert!(rt; run_udp(alloc, SCRIPT, wire, &mut out) == Status::Success);
     assert!(rt; out.as_slice() == outcome.text(alloc)?.as_bytes());
     Ok(())
 }
@@ -166,7 +165,7 @@ fn loopback() -> Result<(), Fail> {
 fn names(rt: &impl Abort, alloc: Global, script: &[u8], text: &str) {
     let mut wire = MemoryWire::new(alloc, &[1], &[]);
     let mut out = Vec::new(alloc);
-    assert!(rt; status_of(run_udp(alloc, script, &mut wire, &mut out)) == Status::FaultShown);
+    assert!(rt; run_udp(alloc, script, &mut wire, &mut out) == Status::FaultShown);
     assert!(rt; out.as_slice() == text.as_bytes());
     assert!(rt; wire.failures() == 0);
 }
@@ -185,5 +184,5 @@ fn a_writer_that_fails() {
     let mut wire = MemoryWire::new(rt.alloc(), &[], &[]);
     let mut room = [0; 8];
     let mut out = room.as_mut_slice();
-    assert!(rt; status_of(run_udp(rt.alloc(), b"", &mut wire, &mut out)) == Status::Failed);
+    assert!(rt; run_udp(rt.alloc(), b"", &mut wire, &mut out) == Status::Failed);
 }
