@@ -14,7 +14,7 @@ ghost use Rattle.qs_machine.specs.Receiving.{ReceiveStep};
 ghost use Rattle.qs_machine.specs.Making.{MakeStep, MakeAckStep, ClaimStep, LoseStep, ClosePayload};
 ghost use Rattle.qs_machine.specs.Raising.{RaiseStep};
 ghost use Rattle.qs_machine.specs.Reports.{own_closing};
-ghost use Rattle.qs_conn.specs.Filling.{made_text};
+ghost use Rattle.qs_conn.specs.Written.{made_text, KeepsRest};
 ghost use Rattle.qs_c.specs.Statuses.{Tested, Invalid, is_small, is_room, is_flag, dir_of, use_status, lost_status, make_status, raise_status, status_of, told, found, read_told, open_told, made_told, received_told};
 ghost use Rattle.qs_c.specs.Structs.{closing_of, limits_in};
 
@@ -49,7 +49,7 @@ impl Thing {
         out: &mut [u8],
         made: &mut GvMade,
     ) -> u32
-        ensures { Tested (is_small first && is_small delay && is_room (length out.old)) self.old self.new (Invalid result made.old made.new × (out.new ≡ out.old)) ((a : Result (Option Made) MakeFault) × ((result, made.new) ≡ made_told a made.old) × MakeStep self.old first delay (length out.old) a (made_text a out.new) self.new) }
+        ensures { Tested (is_small first && is_small delay && is_room (length out.old)) self.old self.new (Invalid result made.old made.new × (out.new ≡ out.old)) ((a : Result (Option Made) MakeFault) × ((result, made.new) ≡ made_told a made.old) × MakeStep self.old first delay (length out.old) a (made_text a out.new) self.new × KeepsRest a out.old out.new) }
     {
         let Some(id) = StreamId::new(first) else {
             return INVALID;
@@ -139,7 +139,7 @@ impl Thing {
     }
 
     pub(crate) fn make_ack(&mut self, delay: u64, out: &mut [u8], made: &mut GvMade) -> u32
-        ensures { Tested (is_small delay && is_room (length out.old)) self.old self.new (Invalid result made.old made.new × (out.new ≡ out.old)) ((a : Result (Option Made) MakeFault) × ((result, made.new) ≡ made_told a made.old) × MakeAckStep self.old delay (length out.old) a (made_text a out.new) self.new) }
+        ensures { Tested (is_small delay && is_room (length out.old)) self.old self.new (Invalid result made.old made.new × (out.new ≡ out.old)) ((a : Result (Option Made) MakeFault) × ((result, made.new) ≡ made_told a made.old) × MakeAckStep self.old delay (length out.old) a (made_text a out.new) self.new × KeepsRest a out.old out.new) }
     {
         if delay >= LIMIT || out.len() < MIN_ROOM || out.len() > MAX_ROOM {
             return INVALID;

@@ -41,7 +41,7 @@ ghost use Rattle.qs_machine.specs.Asking.{GoesBesideAck, peer_closing, streams_l
 ghost use Rattle.qs_machine.specs.Newly.{IsNewlyAcked};
 ghost use Rattle.qs_machine.specs.Credit.{spent, all_stored, granted_streams};
 ghost use Rattle.qs_machine.specs.Reports.{own_closing, lane_report};
-ghost use Rattle.qs_conn.specs.Filling.{made_text};
+ghost use Rattle.qs_conn.specs.Written.{made_text, KeepsRest};
 ghost use Rattle.qs_conn.specs.Held.{IsHeldBy};
 ghost use Rattle.qs_c.specs.Statuses.{Called, Asked, Invalid, Starts, role_of, is_small, is_room, is_flag, dir_of, use_status, lost_status, make_status, raise_status, status_of, told, found, read_told, open_told, made_told, received_told};
 ghost use Rattle.qs_c.specs.Structs.{closing_of, settings_in, limits_in};
@@ -121,7 +121,7 @@ pub extern "C" fn gvp_make_packet_from(
     out: &mut [u8],
     made: &mut GvMade,
 ) -> u32
-    ensures { Called end.old.cell.value end.new.cell.value (is_small first && is_small delay && is_room (length out.old)) (Invalid result made.old made.new × (out.new ≡ out.old)) (λ e f. (a : Result (Option Made) MakeFault) × ((result, made.new) ≡ made_told a made.old) × MakeStep e first delay (length out.old) a (made_text a out.new) f) }
+    ensures { Called end.old.cell.value end.new.cell.value (is_small first && is_small delay && is_room (length out.old)) (Invalid result made.old made.new × (out.new ≡ out.old)) (λ e f. (a : Result (Option Made) MakeFault) × ((result, made.new) ≡ made_told a made.old) × MakeStep e first delay (length out.old) a (made_text a out.new) f × KeepsRest a out.old out.new) }
 {
     let Some(mut thing) = end.take(alloc) else {
         return INVALID;
@@ -589,7 +589,7 @@ pub extern "C" fn gvp_make_ack(
     out: &mut [u8],
     made: &mut GvMade,
 ) -> u32
-    ensures { Called end.old.cell.value end.new.cell.value (is_small delay && is_room (length out.old)) (Invalid result made.old made.new × (out.new ≡ out.old)) (λ e f. (a : Result (Option Made) MakeFault) × ((result, made.new) ≡ made_told a made.old) × MakeAckStep e delay (length out.old) a (made_text a out.new) f) }
+    ensures { Called end.old.cell.value end.new.cell.value (is_small delay && is_room (length out.old)) (Invalid result made.old made.new × (out.new ≡ out.old)) (λ e f. (a : Result (Option Made) MakeFault) × ((result, made.new) ≡ made_told a made.old) × MakeAckStep e delay (length out.old) a (made_text a out.new) f × KeepsRest a out.old out.new) }
 {
     let Some(mut thing) = end.take(alloc) else {
         return INVALID;
