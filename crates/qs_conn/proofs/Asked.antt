@@ -1,5 +1,5 @@
 -- What an end is asked: the next outstanding packet.
-use Rattle.std.proofs.Common.{◌≡◌, ℕ, ◌+◌, ◌<◌, ◌≤◌, Bool, true, false, max, None, Some, refl, sym, ◌∙◌, subst, arith, inl, inr}
+use Rattle.std.proofs.Common.{◌≡◌, ℕ, ◌+◌, ◌<◌, ◌≤◌, true, false, max, None, Some, sym, ◌∙◌, subst, arith, inl, inr}
 use Rattle.std.proofs.lemmas.Bool.{true≢false, cases_lt, false_from_ne_true}
 use Rattle.std.specs.FinMap as fmap
 use Rattle.qs_send.specs.Records.{IsGreatest}

@@ -1,5 +1,5 @@
 -- What of a half is due, is due by the definition, and nothing else is.
-use Rattle.std.proofs.Common.{◌≡◌, ℕ, Bool, true, false, is_some, refl, subst}
+use Rattle.std.proofs.Common.{◌≡◌, ℕ, true, is_some, refl, subst}
 use Rattle.std.proofs.lemmas.Bool.{both_ways, true_from_ne_false, false_from_ne_true}
 use Rattle.std.specs.FinSet as set
 use Rattle.qs_send.specs.declared.piece.Piece.TheVariants.{Data}

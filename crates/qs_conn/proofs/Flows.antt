@@ -9,13 +9,11 @@ use Rattle.qs_wire.specs.Layout.{FrameValue, stream}
 use Rattle.qs_wire.specs.Varint.{short}
 use Rattle.qs_wire.proofs.Numbers.{short_positive}
 use Rattle.qs_wire.specs.Grammar.{Fits, canonical}
-use Rattle.qs_wire.specs.declared.stream_id.Dir.TheVariants.{Bidi, Uni}
 use Rattle.qs_send.specs.Lane.{SendLane, Sending, sent_lane, bytes_of}
 use Rattle.qs_send.specs.Chunks.{IsNextChunk, HasNoChunk, HasBytes, IsHeldByRoom, frame_len}
 use Rattle.qs_send.specs.Laws.{fresh_after}
 use Rattle.qs_send.specs.declared.parts.Chunk.{Chunk}
 use Rattle.qs_send.specs.declared.piece.Item.{Item}
-use Rattle.qs_send.specs.declared.piece.Item.TheVariants.{MaxData, MaxStreamData, MaxStreams, ResetStream, StopSending, DataBlocked, StreamDataBlocked, StreamsBlocked}
 use Rattle.qs_send.specs.declared.piece.Piece.TheVariants.{Data}
 use Rattle.qs_send.proofs.Canonical.{frame_len_is_canonical}
 use Rattle.qs_send.proofs.Held.{held_by_room_or_limits}
@@ -34,7 +32,7 @@ use Rattle.qs_machine.specs.Lawful.{Fills, AcksAll, AreInTurn, ComesBefore, fram
 use Rattle.qs_machine.specs.InOrder.{AreInOrder}
 use Rattle.qs_machine.specs.Making.{IsText, NamesMost}
 use Rattle.qs_machine.proofs.Carried.{among_more}
-use Rattle.qs_conn.specs.Filling.{end_by, MayGo, stream_frame, InPacket, slot_of, IsPassed, all_items, turn_at, HadTurn, IsOnWay, start_of, way_end, Flowing, Flow, Packed, Stage}
+use Rattle.qs_conn.specs.Filling.{end_by, MayGo, stream_frame, InPacket, all_items, turn_at, HadTurn, IsOnWay, start_of, way_end, Flowing, Flow, Packed, Stage}
 use Rattle.qs_conn.proofs.Items.{fills_push, sum_by_base, known_by_base}
 use Rattle.qs_conn.proofs.Texts.{all_push, text_push, seen_push}
 use Rattle.qs_conn.proofs.Stages.{no_ack, turn_push}

@@ -1,5 +1,5 @@
 -- The four lists of sending halves of an outbox: what a call of one list is to the tables.
-use Rattle.std.proofs.Common.{◌≡◌, ℕ, zero, suc, ◌+◌, ◌*◌, ◌/◌, ◌%◌, List, length, get_or, map, take, Option, Some, Result, ap, sym, refl, ◌∙◌}
+use Rattle.std.proofs.Common.{◌≡◌, ℕ, zero, suc, ◌+◌, ◌*◌, ◌/◌, ◌%◌, List, length, get_or, take, Some, Result, ap, sym, ◌∙◌}
 use Rattle.std.specs.Result.{OnOk, OnErr}
 use Rattle.std.proofs.Math.ListN.{set}
 use Rattle.std.proofs.lemmas.List.{set-get_or, length-map}

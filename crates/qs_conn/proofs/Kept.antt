@@ -1,17 +1,25 @@
--- What holds of an endpoint beside its value.
+-- What holds of a new end, and of the credit of a peer.
 use Rattle.std.proofs.Common.{◌≡◌, ℕ, Bool, true, false, not, ◌&&◌, Option, Some, None, refl, ap, sym, ◌∙◌, arith, rules, subst, cond}
+use Rattle.std.specs.FinSet as set
+use Rattle.std.proofs.lemmas.Bool.{true≢false}
 use Rattle.std.proofs.lemmas.Bool.Decides.{nat_tests}
+use Rattle.qs_ranges.specs.Numbers.{NumberSet, run_starts}
 use Rattle.qs_wire.specs.declared.stream_id.Role.{Role}
 use Rattle.qs_recv.specs.Lane.{RecvLane, new_lane, after_read, stop}
 use Rattle.qs_calls.specs.declared.settings.Settings.{Settings}
 use Rattle.qs_calls.specs.declared.settings.PeerLimits.{PeerLimits}
 use Rattle.qs_calls.specs.declared.settings.SetupFault.TheVariants.{OutOfRange, TooManyStreams}
-use Rattle.qs_calls.specs.declared.closing.Closed.{Closed}
 use Rattle.qs_calls.specs.Settings.{are_in_range, are_spellable, are_countable, setup_fault}
 use Rattle.qs_machine.specs.Tables.{Tables, no_streams, lookup, updated, open_to}
 use Rattle.qs_machine.specs.Ends.{End, new_end, end_unless, window_by}
 use Rattle.qs_machine.specs.Standing.{KeepsCredit}
-use Rattle.qs_conn.specs.Layers.{IsKept}
+use Rattle.qs_machine.specs.Outgoing.{Outgoing, no_packets, sent_sum}
+use Rattle.qs_conn.specs.declared.by_dir.ByDir.{ByDir}
+use Rattle.qs_conn.specs.Middle.{IsKept}
+use Rattle.qs_conn.proofs.Counted.{fit_new}
+use Rattle.qs_conn.proofs.Funded.{no_sum, no_runs}
+use Rattle.qs_conn.proofs.Runs.{idle_new}
+use Rattle.qs_conn.proofs.Untolds.{told_none}
 use Rattle.qs_machine.proofs.Sound.{keeps_open}
 use Rattle.qs_machine.proofs.CallsSound.{sound_read, sound_stop}
 use Rattle.qs_machine.proofs.Bounds.{new_ends_sound}
@@ -28,43 +36,69 @@ all_true true false c h = absurd (search (rules, h))
 all_true false b c h = absurd (search (rules, h))
 
 -- a new end
-pub kept_new : (role : Role) (s : Settings) (p : PeerLimits) (recvs : Tables RecvLane) → setup_fault s p ≡ None → recvs ≡ no_streams
-    → IsKept role s p recvs s.conn_window p.streams_bidi p.streams_uni None
-kept_new role s p recvs is none =
+pub kept_new : (role : Role) (s : Settings) (p : PeerLimits) (wanted : ByDir (Option ℕ)) (o : Outgoing) (recvs : Tables RecvLane) (marks : Tables Bool) (done : NumberSet) → setup_fault s p ≡ None → o ≡ no_packets → recvs ≡ no_streams → done ≡ set.empty
+    → IsKept
+    (record {
+      limits = record {
+        role = role;
+        settings = s;
+        granted = s.conn_window;
+        known_data = p.max_data;
+        granted_streams = record { bidi = s.grant_bidi; uni = s.grant_uni };
+        known_streams = record { bidi = p.streams_bidi; uni = p.streams_uni };
+        wanted_streams = wanted;
+      };
+      outbox = o;
+      recvs = recvs;
+      untold = marks;
+      ended = record { bidi = 0; uni = 0 };
+    })
+    p done false false None
+kept_new role s p wanted o recvs marks done is empty none no_numbers =
     let h = all_true (are_in_range s) (are_spellable p) (are_countable p) is in
     let in_range = h.first in
+    let spellable = h.second in
     let countable = h.third in
+    let sum : sent_sum o.sends ≡ 0 = ap (λ (x : Outgoing). sent_sum x.sends) empty ∙ no_sum in
+    let runs : set.len (run_starts done) ≡ 0 = ap (λ (t : NumberSet). set.len (run_starts t)) no_numbers ∙ no_runs in
     record {
-      sound = subst (λ (t : Tables RecvLane). KeepsCredit role s t s.conn_window) (sym none) (new_ends_sound role s p (new_end role s p) (ap (λ o. end_unless o (new_end role s p)) is)).0;
-      granted_fits = grind (arith, nat_tests, in_range);
-      peer_fits = h.second;
-      bidi_fits = grind (arith, nat_tests, countable);
-      uni_fits = grind (arith, nat_tests, countable);
+      rest = record {
+        core = record {
+          sound = subst (λ (t : Tables RecvLane). KeepsCredit role s t s.conn_window) (sym none) (new_ends_sound role s p (new_end role s p) (ap (λ o. end_unless o (new_end role s p)) is)).0;
+          fits = record {
+            granted = grind (arith, nat_tests, in_range);
+            granted_bidi = grind (arith, nat_tests, in_range);
+            granted_uni = grind (arith, nat_tests, in_range);
+            known = grind (arith, nat_tests, spellable);
+            bidi = grind (arith, nat_tests, countable);
+            uni = grind (arith, nat_tests, countable);
+          };
+          credit = omega (arith, sum);
+          counts = fit_new role s recvs o.sends in_range none;
+          told = told_none role s recvs _ _ marks none;
+        };
+        idle = idle_new o empty;
+      };
+      peer_fits = spellable;
       closing_fits = tt;
+      few = omega (arith, runs);
+      acks = λ due. absurd (true≢false (sym due));
+      settled = λ on. absurd (true≢false (sym on));
     }
 
-pub kept_recvs : (role : Role) (s : Settings) (p : PeerLimits) (recvs now : Tables RecvLane) (g b u : ℕ) (c : Option Closed) → IsKept role s p recvs g b u c → KeepsCredit role s now g → IsKept role s p now g b u c
-kept_recvs role s p recvs now g b u c k sound =
-    record { sound = sound; granted_fits = k.granted_fits; peer_fits = k.peer_fits; bidi_fits = k.bidi_fits; uni_fits = k.uni_fits; closing_fits = k.closing_fits }
+-- The peer stays within its credit
 
 -- an end with these receiving halves
-abbrev end_with : Role → Settings → PeerLimits → Tables RecvLane → ℕ → End
-end_with role s p recvs g = record (new_end role s p) { recvs = recvs; granted = g }
+abbrev end_with : Role → Settings → Tables RecvLane → ℕ → End
+end_with role s recvs g = record (new_end role s (record { max_data = 0; bidi_local = 0; bidi_remote = 0; uni = 0; streams_bidi = 0; streams_uni = 0 })) { recvs = recvs; granted = g }
 
-pub kept_read : (role : Role) (s : Settings) (p : PeerLimits) (recvs now : Tables RecvLane) (g b u n size : ℕ) (c : Option Closed) → IsKept role s p recvs g b u c
-    → now ≡ updated recvs n (λ l. after_read l size) (lookup recvs n) → IsKept role s p now g b u c
-kept_read role s p recvs now g b u n size c k after =
-    kept_recvs role s p recvs now g b u c k (subst (λ (t : Tables RecvLane). KeepsCredit role s t g) (sym after) (sound_read n size (end_with role s p recvs g) k.sound))
+pub sound_after_read : (role : Role) (s : Settings) (recvs now : Tables RecvLane) (g n size : ℕ) → KeepsCredit role s recvs g → now ≡ updated recvs n (λ l. after_read l size) (lookup recvs n) → KeepsCredit role s now g
+sound_after_read role s recvs now g n size k after = subst (λ (t : Tables RecvLane). KeepsCredit role s t g) (sym after) (sound_read n size (end_with role s recvs g) k)
 
-pub kept_stop : (role : Role) (s : Settings) (p : PeerLimits) (recvs now : Tables RecvLane) (g b u n code : ℕ) (c : Option Closed) → IsKept role s p recvs g b u c
-    → now ≡ updated recvs n (λ l. stop l code) (lookup recvs n) → IsKept role s p now g b u c
-kept_stop role s p recvs now g b u n code c k after =
-    kept_recvs role s p recvs now g b u c k (subst (λ (t : Tables RecvLane). KeepsCredit role s t g) (sym after) (sound_stop n code (end_with role s p recvs g) k.sound))
+pub sound_after_stop : (role : Role) (s : Settings) (recvs now : Tables RecvLane) (g n code : ℕ) → KeepsCredit role s recvs g → now ≡ updated recvs n (λ l. stop l code) (lookup recvs n) → KeepsCredit role s now g
+sound_after_stop role s recvs now g n code k after = subst (λ (t : Tables RecvLane). KeepsCredit role s t g) (sym after) (sound_stop n code (end_with role s recvs g) k)
 
 -- a stream was opened, or wasn't
-pub kept_opened : (role : Role) (s : Settings) (p : PeerLimits) (recvs now : Tables RecvLane) (g b u n w : ℕ) (absent : Bool) (c : Option Closed) → IsKept role s p recvs g b u c → w ≡ window_by role s n
-    → now ≡ cond absent recvs (open_to recvs n (λ m. new_lane w)) → IsKept role s p now g b u c
-kept_opened role s p recvs now g b u n w true c k window is = kept_recvs role s p recvs now g b u c k (subst (λ (t : Tables RecvLane). KeepsCredit role s t g) (sym is) k.sound)
-kept_opened role s p recvs now g b u n w false c k window is =
-    kept_recvs role s p recvs now g b u c k
-    (subst (λ (t : Tables RecvLane). KeepsCredit role s t g) (sym (is ∙ ap (λ v. open_to recvs n (λ m. new_lane v)) window)) (keeps_open role s recvs g k.sound n))
+pub sound_opened : (role : Role) (s : Settings) (recvs now : Tables RecvLane) (g n w : ℕ) (absent : Bool) → KeepsCredit role s recvs g → w ≡ window_by role s n → now ≡ cond absent recvs (open_to recvs n (λ m. new_lane w)) → KeepsCredit role s now g
+sound_opened role s recvs now g n w true k window is = subst (λ (t : Tables RecvLane). KeepsCredit role s t g) (sym is) k
+sound_opened role s recvs now g n w false k window is = subst (λ (t : Tables RecvLane). KeepsCredit role s t g) (sym (is ∙ ap (λ v. open_to recvs n (λ m. new_lane v)) window)) (keeps_open role s recvs g k n)

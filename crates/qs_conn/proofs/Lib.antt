@@ -5,6 +5,7 @@ pub mod Asked
 pub mod Named
 pub mod Calm
 pub mod Chunks
+pub mod Cores
 pub mod Counting
 pub mod Counted
 pub mod DueTied

@@ -1,5 +1,5 @@
 -- An outbox: what each call is to its value, and that it keeps what holds of it.
-use Rattle.std.proofs.Common.{◌≡◌, ℕ, zero, suc, ◌<◌, ◌/◌, ◌%◌, Bool, true, false, List, [], ◌∷◌, length, take, slice_get, slice_set, Option, Some, None, is_some, Result, Ok, Err, cond, unwrap_or, option_map, refl, sym, ap, ◌∙◌, subst, arith, nat_cmp}
+use Rattle.std.proofs.Common.{◌≡◌, ℕ, ◌<◌, ◌%◌, Bool, true, false, List, [], length, take, Option, Some, None, is_some, Result, Ok, Err, cond, unwrap_or, option_map, refl, sym, ap, ◌∙◌, subst, arith, nat_cmp}
 use Rattle.std.proofs.lemmas.Bool.{both_ways}
 use Rattle.std.specs.FinMap as fmap
 use Rattle.std.specs.FinSet as set

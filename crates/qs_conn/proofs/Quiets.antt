@@ -1,5 +1,5 @@
 -- A stream whose half is quiet has nothing to send or to tell.
-use Rattle.std.proofs.Common.{if◌then◌else◌, ◌%◌, ◌==◌, nat_le, ◌≡◌, ℕ, ◌<◌, ◌≤◌, ◌+◌, ◌⊎◌, Option, Some, None, is_some, option_map, refl, sym, ap, ◌∙◌, subst, arith, inl, inr}
+use Rattle.std.proofs.Common.{if◌then◌else◌, ◌%◌, ◌==◌, nat_le, ◌≡◌, ℕ, ◌<◌, ◌≤◌, ◌+◌, Option, Some, None, is_some, option_map, refl, sym, ap, ◌∙◌, subst, arith, inl, inr}
 use Rattle.std.proofs.lemmas.Bool.{both_ways, cases_lt}
 use Rattle.std.proofs.lemmas.Option.{none-some, same_Some}
 use Rattle.std.specs.FinSet as set
@@ -7,8 +7,6 @@ use Rattle.qs_recv.specs.Lane.{RecvLane}
 use Rattle.qs_send.specs.Lane.{SendLane, Sending}
 use Rattle.qs_send.specs.declared.piece.Item.TheVariants.{ResetStream}
 use Rattle.qs_conn.specs.declared.slot.Slot.TheVariants as slots
-use Rattle.qs_conn.specs.declared.slot.Kind.{Kind}
-use Rattle.qs_conn.specs.declared.slot.Kind.TheVariants as kinds
 use Rattle.qs_conn.specs.declared.limits.Limits.{Limits}
 use Rattle.qs_calls.specs.declared.settings.Settings.{Settings}
 use Rattle.qs_wire.specs.declared.stream_id.Role.{Role}
@@ -16,7 +14,7 @@ use Rattle.qs_machine.specs.Tables.{Tables, type_of, lookup}
 use Rattle.qs_machine.specs.Ends.{End, window_by, role_bit}
 use Rattle.qs_machine.specs.Due.{IsCurrent, IsCovered, IsDue, IsEndDue, StreamGoes}
 use Rattle.qs_machine.specs.Outgoing.{Outgoing, IsTied, IsBlockedAt, WantsMore, lanes_of}
-use Rattle.qs_conn.specs.Filling.{end_by, slot_at, AnyWantsMore}
+use Rattle.qs_conn.specs.Filling.{end_by, AnyWantsMore}
 use Rattle.qs_conn.specs.declared.send_marks.Task.{Task}
 use Rattle.qs_conn.specs.declared.send_marks.Task.TheVariants as tasks
 use Rattle.qs_conn.specs.Marks.{IsIdle}

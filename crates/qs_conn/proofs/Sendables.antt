@@ -16,7 +16,6 @@ use Rattle.qs_machine.specs.Tables.{Tables, lookup}
 use Rattle.qs_machine.specs.Ends.{End}
 use Rattle.qs_machine.specs.Due.{IsCovered, StreamGoes, Sendable}
 use Rattle.qs_machine.specs.Asking.{GoesBesideAck}
-use Rattle.qs_calls.specs.declared.closing.Closed.{Closed}
 use Rattle.qs_machine.specs.Outgoing.{Outgoing, HasSending, ChunkFound, sent_sum, with_outgoing}
 use Rattle.qs_conn.specs.Filling.{end_by, slot_of, slot_at, IsCurrentIn, Passed, and_slot, and_kind, and_below, IsPassed, all_items}
 use Rattle.qs_conn.specs.Marks.{IsIdle}

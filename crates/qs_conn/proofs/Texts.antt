@@ -12,7 +12,6 @@ use Rattle.qs_wire.specs.Acks.{ack_of, AreAckPairs}
 use Rattle.qs_wire.proofs.Numbers.{short_most, short_positive}
 use Rattle.qs_wire.proofs.PairLaws.{last_below, text_more_len, length-ack_take, lies_below, last_le}
 use Rattle.qs_send.specs.declared.piece.Item.{Item}
-use Rattle.qs_send.specs.declared.piece.Item.TheVariants.{MaxData, MaxStreamData, MaxStreams, ResetStream, StopSending, DataBlocked, StreamDataBlocked, StreamsBlocked}
 use Rattle.qs_machine.specs.Ends.{End}
 use Rattle.qs_machine.specs.Seen.{Control, seen, seen_all}
 use Rattle.qs_machine.specs.Making.{IsText, IsPlainAck, NamesMost}

@@ -1,5 +1,5 @@
 -- What a receiving half has to tell was told, or its stream is marked: as halves, marks, records and acknowledged items change.
-use Rattle.std.proofs.Common.{if◌then◌else◌, ◌≡◌, ◌≢◌, ℕ, zero, suc, ◌+◌, ◌-◌, ◌*◌, ◌/◌, ◌%◌, ◌<◌, ◌≤◌, nat_le, nat_cmp, Bool, true, false, ◌||◌, ◌⊎◌, List, [], ◌∷◌, ◌++◌, map, length, take, cond, Option, None, Some, is_some, option_map, slice_get, refl, sym, ap, ◌∙◌, subst, arith, inl, inr}
+use Rattle.std.proofs.Common.{if◌then◌else◌, ◌≡◌, ◌≢◌, ℕ, zero, suc, ◌+◌, ◌-◌, ◌*◌, ◌/◌, ◌%◌, ◌<◌, ◌≤◌, Bool, true, false, ◌⊎◌, List, [], ◌∷◌, ◌++◌, map, length, take, Option, None, Some, is_some, option_map, slice_get, refl, sym, ap, ◌∙◌, subst, arith, inl, inr}
 use Rattle.std.specs.List.{range_with_len}
 use Rattle.std.specs.FinMap as fmap
 use Rattle.std.specs.FinSet as set
@@ -7,7 +7,7 @@ use Rattle.std.proofs.lemmas.Bool.{both_ways, true≢false, cases_eq, or_right}
 use Rattle.std.proofs.lemmas.Option.{none-some, same_Some}
 use Rattle.qs_wire.specs.declared.stream_id.Role.{Role}
 use Rattle.qs_calls.specs.declared.settings.Settings.{Settings}
-use Rattle.qs_recv.specs.Lane.{RecvLane, new_lane, is_whole, raise}
+use Rattle.qs_recv.specs.Lane.{RecvLane, new_lane, raise}
 use Rattle.qs_send.specs.Records.{IsCarried, first_piece, without_first}
 use Rattle.qs_send.specs.declared.piece.Item.{Item}
 use Rattle.qs_send.specs.declared.piece.Item.TheVariants.{MaxData, MaxStreamData, MaxStreams, ResetStream, StopSending, DataBlocked, StreamDataBlocked, StreamsBlocked}
@@ -16,7 +16,7 @@ use Rattle.qs_send.specs.declared.piece.Piece.TheVariants.{Data, Told}
 use Rattle.qs_wire.specs.declared.stream_id.Dir.TheVariants.{Bidi, Uni}
 use Rattle.qs_machine.specs.Tables.{Tables, table, with_table, lookup, update, updated, no_streams, open_to, each}
 use Rattle.qs_machine.specs.Ends.{End, Records, AckedItems, window_by, on_send}
-use Rattle.qs_machine.specs.Told.{IsNoted, item_noted}
+use Rattle.qs_machine.specs.Told.{IsNoted}
 use Rattle.qs_machine.specs.Outgoing.{Outgoing, first_acked_out, first_lost_out, acked_at, items_acked, with_sends}
 use Rattle.qs_machine.proofs.Carried.{IsShorter, shortened_is, get_other, some_is}
 use Rattle.std.specs.Cmp.{nat_cmp_total}
@@ -31,14 +31,14 @@ use Rattle.qs_conn.specs.declared.slot.Slot.TheVariants as slots
 use Rattle.qs_conn.specs.declared.slot.Slot.{Slot}
 use Rattle.qs_conn.specs.Filling.{end_by, slot_at, IsCurrentIn}
 use Rattle.qs_conn.specs.Marks.{IsIdle}
-use Rattle.qs_conn.specs.Untold.{IsTold, HasToTell, IsToldIn, HasTold, IsToldAt, AreTold, StayTold, marked_for, HasMoreAt, HasMore}
+use Rattle.qs_conn.specs.Untold.{IsTold, HasToTell, IsToldIn, HasTold, IsToldAt, AreTold, marked_for, HasMoreAt, HasMore}
 use Rattle.qs_conn.proofs.Slots.{of_slot}
 use Rattle.qs_machine.specs.Due.{Among, IsCurrent, IsCovered}
 use Rattle.qs_machine.specs.Lawful.{Fills, frame_put, noted, item_put, chunk_of}
 use Rattle.qs_machine.specs.Seen.{Seen, Ack, Stream, Control, Close, Plain}
 use Rattle.qs_machine.proofs.Ties.{closed_at}
 use Rattle.qs_conn.proofs.Pieces.{noted_old}
-use Rattle.qs_machine.proofs.TableLaws.{lookup_same, lookup_other, lookup_each, lookup_open, lookup_in, with_same, slots_updated}
+use Rattle.qs_machine.proofs.TableLaws.{lookup_same, lookup_each, lookup_open, with_same, slots_updated}
 use Rattle.qs_conn.proofs.Quiets.{window_same}
 use Rattle.qs_conn.proofs.EachItem.{each_item}
 
@@ -278,6 +278,10 @@ told_same r s recvs now m a marks marks' is are h = rw (is, are) h
 
 -- A piece leaves its packet
 
+-- what was told stays so, or is marked
+abbrev StayTold : Outgoing → Tables Bool → Outgoing → Tables Bool → Type 0
+StayTold o marks new new_marks = (r : Role) (s : Settings) (recvs : Tables RecvLane) → AreTold r s recvs o.outstanding o.acked marks → AreTold r s recvs new.outstanding new.acked new_marks
+
 -- what is told of a stream without a mark isn't what left
 not_left : (p : Piece) (t : Tables Bool) (n w : ℕ) (l : RecvLane) (i : Item) → lookup (marked_for p t) n ≡ Some false → HasToTell w n l i → Told i ≡ p → ⊥
 not_left p t n w l i free =
@@ -347,7 +351,6 @@ acked_acked late k (Told i) o = refl
 
 -- an outstanding piece is acknowledged
 timely_stays : (k : ℕ) (p : Piece) (o new : Outgoing) (marks marks' : Tables Bool) → first_piece (fmap.get o.outstanding k) ≡ Some p → new ≡ first_acked_out (acked_at false k p) o → marks' ≡ marked_for p marks → StayTold o marks new marks'
-unfolding StayTold
 timely_stays k p o new marks marks' first is are r s recvs h =
     rw (is, are, outstanding_acked false k p o, acked_acked false k p o) (told_stay r s recvs o.outstanding o.acked marks h _ _ (marked_for p marks) (has_for p marks)
     (λ n w l i free has was. elim was [
@@ -357,7 +360,6 @@ timely_stays k p o new marks marks' first is are r s recvs h =
 
 -- a lost piece is, late
 late_stays : (k : ℕ) (p : Piece) (o new : Outgoing) (marks marks' : Tables Bool) → new ≡ first_acked_out (acked_at true k p) o → marks' ≡ marked_for p marks → StayTold o marks new marks'
-unfolding StayTold
 late_stays k p o new marks marks' is are r s recvs h =
     rw (is, are, outstanding_acked true k p o, acked_acked true k p o) (told_stay r s recvs o.outstanding o.acked marks h _ _ (marked_for p marks) (has_for p marks)
     (λ n w l i free has was. elim was [ inl out ↦ inl out | inr known ↦ inr (still_noted p marks n w l i o.acked free has known) ]))
@@ -368,7 +370,6 @@ acked_stays false k p o new marks marks' first is are = timely_stays k p o new m
 
 -- a piece is lost
 pub lost_stays : (k : ℕ) (p : Piece) (o new : Outgoing) (marks marks' : Tables Bool) → first_piece (fmap.get o.outstanding k) ≡ Some p → new ≡ first_lost_out k p o → marks' ≡ marked_for p marks → StayTold o marks new marks'
-unfolding StayTold
 lost_stays k p o new marks marks' first is are r s recvs h =
     rw (is, are) (told_stay r s recvs o.outstanding o.acked marks h _ _ (marked_for p marks) (has_for p marks)
     (λ n w l i free has was. elim was [
@@ -378,37 +379,11 @@ lost_stays k p o new marks marks' first is are r s recvs h =
 
 -- nothing left, but marks may have come
 pub marks_stay : (p : Piece) (o new : Outgoing) (marks marks' : Tables Bool) → new ≡ o → marks' ≡ marked_for p marks → StayTold o marks new marks'
-unfolding StayTold
 marks_stay p o new marks marks' is are r s recvs h = rw (is, are) (told_marked r s recvs o.outstanding o.acked marks h (marked_for p marks) (has_for p marks))
-
-pub stay_same : (o : Outgoing) (marks : Tables Bool) → StayTold o marks o marks
-unfolding StayTold
-stay_same o marks r s recvs h = h
-
-pub stay_twice : (o p q : Outgoing) (a b c : Tables Bool) → StayTold o a p b → StayTold p b q c → StayTold o a q c
-unfolding StayTold
-stay_twice o p q a b c f g r s recvs h = g r s recvs (f r s recvs h)
-
-pub stays : (o p : Outgoing) (a b : Tables Bool) → StayTold o a p b → (r : Role) (s : Settings) (recvs : Tables RecvLane) → AreTold r s recvs o.outstanding o.acked a → AreTold r s recvs p.outstanding p.acked b
-unfolding StayTold
-stays o p a b f = f
-
--- one piece more is lost, or none is
-pub lost_more : (k : ℕ) (piece : Piece) (o p q : Outgoing) (a b c : Tables Bool) → StayTold o a p b → first_piece (fmap.get p.outstanding k) ≡ Some piece → q ≡ first_lost_out k piece p → c ≡ marked_for piece b → StayTold o a q c
-lost_more k piece o p q a b c before first is are = stay_twice o p q a b c before (lost_stays k piece p q b c first is are)
-
-pub lost_stop : (piece : Piece) (o p q : Outgoing) (a b c : Tables Bool) → StayTold o a p b → q ≡ p → c ≡ marked_for piece b → StayTold o a q c
-lost_stop piece o p q a b c before is are = stay_twice o p q a b c before (marks_stay piece p q b c is are)
 
 -- sending halves change
 pub told_with : (r : Role) (s : Settings) (recvs : Tables RecvLane) (o new : Outgoing) (t : Tables SendLane) (marks : Tables Bool) → new ≡ with_sends t o → AreTold r s recvs o.outstanding o.acked marks → AreTold r s recvs new.outstanding new.acked marks
 told_with r s recvs o new t marks is h = subst (λ (x : Outgoing). AreTold r s recvs x.outstanding x.acked marks) (sym is) h
-
--- a piece is acknowledged, or nothing left
-pub acked_by : {E : Type 0} (late : Bool) (result : Result (Unit {0}) E) (k : ℕ) (p : Piece) (o new : Outgoing) (marks marks' : Tables Bool) → first_piece (fmap.get (held_out late o) k) ≡ Some p → OnOk result (new ≡ first_acked_out (acked_at late k p) o) → OnErr result (new ≡ o)
-    → marks' ≡ marked_for p marks → StayTold o marks new marks'
-acked_by late (Ok done) k p o new marks marks' first ok err are = acked_stays late k p o new marks marks' first ok are
-acked_by late (Err e) k p o new marks marks' first ok err are = marks_stay p o new marks marks' err are
 
 -- A search
 

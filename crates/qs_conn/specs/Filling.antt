@@ -3,8 +3,7 @@
 use Rattle.std.specs.Prelude.{◌≡◌, ℕ, ◌+◌, ◌-◌, ◌*◌, ◌<◌, ◌≤◌, ◌^◌, Bool, true, false, List, [], ◌∷◌, ◌++◌, ◌⊎◌, length, take, drop, Option, None, Some}
 use Rattle.std.specs.List.{AllByRecursion}
 use Rattle.std.specs.FinMap as fmap
-use Rattle.std.specs.FinSet as set
-use Rattle.qs_ranges.specs.Numbers.{MAX_VARINT, NumberSet, run_starts}
+use Rattle.qs_ranges.specs.Numbers.{MAX_VARINT}
 use Rattle.qs_wire.specs.declared.stream_id.Dir.TheVariants.{Bidi, Uni}
 use Rattle.qs_wire.specs.Grammar.{Fits, canonical}
 use Rattle.qs_wire.specs.Layout.{FrameValue, stream, reset_stream, stop_sending, max_data, max_stream_data, max_streams, data_blocked, stream_data_blocked, streams_blocked}
@@ -27,7 +26,7 @@ use Rattle.qs_machine.specs.Ends.{End}
 use Rattle.qs_machine.specs.Credit.{all_sent}
 use Rattle.qs_machine.specs.Seen.{Ack, Control, seen, seen_all}
 use Rattle.qs_machine.specs.Due.{Among, IsCurrent, IsDueItem, StreamGoes}
-use Rattle.qs_machine.specs.Outgoing.{Outgoing, sent_sum, HasSending, WantsMore, item_put_out}
+use Rattle.qs_machine.specs.Outgoing.{Outgoing, HasSending, WantsMore, item_put_out}
 use Rattle.qs_machine.specs.Sums.{or_none}
 use Rattle.qs_machine.specs.Lawful.{MayAck, Fills, AcksAll, HasAll, AreInTurn, pieces_so_far}
 use Rattle.qs_machine.specs.Making.{IsText, NamesMost}
@@ -280,10 +279,3 @@ pub record IsAckText (delay room : ℕ) (old : End) (text : List ℕ) : Type 0 w
   pub ranges : List (ℕ × ℕ)
   pub is : seen frame ≡ Ack largest ranges
   pub may : MayAck old old largest ranges
-
--- what lets an end make packets: it is within the peer's credit, and an ACK that is due has a number to name, of at most 32 ranges
-pub record IsFunded (sends : Tables SendLane) (known_data : ℕ) (done : NumberSet) (ack_due : Bool) : Type 0 where
-  pub credit : sent_sum sends ≤ known_data
-  pub known_fits : known_data ≤ MAX_VARINT
-  pub few : set.len (run_starts done) ≤ 32
-  pub acks : ack_due ≡ true → 0 < set.len (run_starts done)

@@ -1,23 +1,16 @@
 -- Of private contracts.
 -- What the private layers of an endpoint keep beside their values.
-use Rattle.std.specs.Prelude.{◌≡◌, ℕ, zero, suc, ◌≤◌, ◌<◌, ◌^◌, ◌==◌, true, if◌then◌else◌, List, [], ◌∷◌, length, Option, None, Some, is_some, is_none, ⊤}
-use Rattle.qs_ranges.specs.Numbers.{MAX_VARINT}
-use Rattle.qs_wire.specs.declared.stream_id.Role.{Role}
+use Rattle.std.specs.Prelude.{◌≡◌, ℕ, zero, suc, ◌≤◌, ◌<◌, ◌^◌, ◌==◌, if◌then◌else◌, List, [], ◌∷◌, length, Option, None, Some, is_some, is_none, ⊤}
 use Rattle.qs_recv.specs.Lane.{RecvLane, is_whole, raised_limit}
 use Rattle.qs_machine.specs.declared.tally.Tally.{Tally}
 use Rattle.qs_conn.specs.declared.recv_lanes.Touched.{Touched}
 use Rattle.qs_conn.specs.declared.recv_lanes.Touched.TheVariants.{Nothing, Lane, Several}
-use Rattle.qs_calls.specs.declared.settings.Settings.{Settings}
-use Rattle.qs_calls.specs.declared.settings.PeerLimits.{PeerLimits}
 use Rattle.qs_calls.specs.declared.uses.UseFault.{UseFault}
 use Rattle.qs_calls.specs.declared.uses.UseFault.TheVariants as uses
 use Rattle.qs_calls.specs.declared.closing.Closed.{Closed}
 use Rattle.qs_calls.specs.declared.closing.Closed.TheVariants.{ByUs, ByPeer}
-use Rattle.qs_calls.specs.Settings.{are_spellable}
-use Rattle.qs_machine.specs.Tables.{Tables}
 use Rattle.qs_machine.specs.Ends.{End, send_lane, recv_lane}
 use Rattle.qs_machine.specs.Owner.{first_refusal, refuse_if, no_half}
-use Rattle.qs_machine.specs.Standing.{KeepsCredit}
 use Rattle.qs_wire.specs.Layout.{PlacedValue}
 use Rattle.qs_conn.specs.declared.endpoint.receiving.Progress.{Progress}
 use Rattle.qs_conn.specs.declared.endpoint.receiving.Progress.TheVariants as progress
@@ -82,15 +75,6 @@ abbrev pub ClosingFits : Option Closed → Type 0
 ClosingFits None = ⊤
 ClosingFits (Some (ByPeer code)) = ⊤
 ClosingFits (Some (ByUs closing)) = (closing.code < 2 ^ 62) × (closing.frame_type < 2 ^ 62)
-
--- what holds of an endpoint beside its value: it is sound, and its numbers are small
-pub record IsKept (role : Role) (s : Settings) (p : PeerLimits) (recvs : Tables RecvLane) (granted known_bidi known_uni : ℕ) (closed : Option Closed) : Type 0 where
-  pub sound : KeepsCredit role s recvs granted
-  pub granted_fits : granted ≤ MAX_VARINT
-  pub peer_fits : are_spellable p ≡ true
-  pub bidi_fits : known_bidi ≤ 2 ^ 60
-  pub uni_fits : known_uni ≤ 2 ^ 60
-  pub closing_fits : ClosingFits closed
 
 -- one frame takes effect and the processing goes on, asking for an ACK or not, or the processing ends with it
 abbrev pub TakesFrame : PlacedValue → End → Progress → End → Type 0

@@ -15,3 +15,4 @@ pub mod Named
 pub mod Seen
 pub mod Held
 pub mod Settled
+pub mod Middle

@@ -1,18 +1,17 @@
 -- Of private contracts.
 -- Of which streams a stop or a limit may still have to be told: of a stream without a mark all was.
-use Rattle.std.specs.Prelude.{◌≡◌, ℕ, ◌+◌, ◌*◌, ◌<◌, Bool, true, false, ◌⊎◌, List, Option, None, Some, is_some, slice_get}
+use Rattle.std.specs.Prelude.{◌≡◌, ℕ, ◌+◌, ◌*◌, ◌<◌, Bool, true, false, ◌⊎◌, List, Option, None, Some, slice_get}
 use Rattle.qs_wire.specs.declared.stream_id.Role.{Role}
 use Rattle.qs_calls.specs.declared.settings.Settings.{Settings}
 use Rattle.qs_recv.specs.Lane.{RecvLane, is_whole, raise}
 use Rattle.qs_send.specs.Records.{IsCarried}
 use Rattle.qs_send.specs.declared.piece.Item.{Item}
-use Rattle.qs_send.specs.declared.piece.Item.TheVariants.{MaxData, MaxStreamData, MaxStreams, ResetStream, StopSending, DataBlocked, StreamDataBlocked, StreamsBlocked}
+use Rattle.qs_send.specs.declared.piece.Item.TheVariants.{MaxStreamData, StopSending}
 use Rattle.qs_send.specs.declared.piece.Piece.{Piece}
 use Rattle.qs_send.specs.declared.piece.Piece.TheVariants.{Data, Told}
 use Rattle.qs_machine.specs.Tables.{Tables, lookup, updated}
 use Rattle.qs_machine.specs.Ends.{End, Records, AckedItems, window_by}
 use Rattle.qs_machine.specs.Told.{IsNoted}
-use Rattle.qs_machine.specs.Outgoing.{Outgoing}
 use Rattle.qs_conn.specs.Marks.{is_marked}
 
 -- a stream has no mark
@@ -51,11 +50,6 @@ AreTold role s recvs outstanding acked marks = (n : ℕ) → IsToldAt (window_by
 -- so it is at an end
 abbrev pub IsTold : End → Tables Bool → Type 0
 IsTold e marks = AreTold e.role e.settings e.recvs e.outstanding e.acked marks
-
--- what was told stays so, or is marked
-unfoldable pub StayTold : Outgoing → Tables Bool → Outgoing → Tables Bool → Type 0
-StayTold o marks new new_marks =
-    (role : Role) (s : Settings) (recvs : Tables RecvLane) → AreTold role s recvs o.outstanding o.acked marks → AreTold role s recvs new.outstanding new.acked new_marks
 
 -- The marks once a piece left its packet: what it told may have to be told again (RFC 9000, section 13.3).
 abbrev pub marked_for : Piece → Tables Bool → Tables Bool

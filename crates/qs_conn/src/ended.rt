@@ -1,15 +1,11 @@
 //! Which streams of the peer came to their end.
-ghost use Rattle.std.specs.Prelude.{◌≡◌, ◌+◌, ◌-◌, ◌≤◌, ◌<◌, ◌^◌, ℕ, length, true, if◌then◌else◌};
-ghost use Rattle.qs_machine.specs.Tables.{table};
+ghost use Rattle.std.specs.Prelude.{◌≡◌, ◌+◌, ◌-◌, ◌≤◌, ◌^◌, true, if◌then◌else◌};
 ghost use Rattle.qs_machine.specs.Ends.{is_uni};
-ghost use Rattle.qs_conn.specs.Ended.{is_over, one_if, recounted};
+ghost use Rattle.qs_conn.specs.Ended.{one_if, recounted};
 
 use crate::by_dir::ByDir;
-use crate::endpoint::{is_uni, role_bit};
-use crate::outbox::Outbox;
-use crate::places::type_of;
-use crate::recv_tables::RecvTables;
-use qs_wire::{Role, StreamId};
+use crate::endpoint::is_uni;
+use qs_wire::StreamId;
 
 // How many streams of the peer came to their end, of each direction (RFC 9000, sections 3 and 4.6).
 impl ByDir<u64> {
@@ -41,17 +37,4 @@ fn moved(count: u64, was: bool, is: bool) -> u64
     ensures { result ≡ count + one_if is - one_if was }
 {
     count + u64::from(is) - u64::from(was)
-}
-
-/// Whether a stream is one of the peer's that came to its end: its receiving half, and if it has one its sending half (RFC 9000,
-/// section 3).
-pub(crate) fn is_over(role: Role, recvs: &RecvTables, outbox: &Outbox, stream: StreamId) -> bool
-    ensures value { result ≡ is_over role recvs.now outbox.now.sends stream }
-    ensures few { (k : ℕ) → k < 4 → length (table recvs.now k) ≤ 2 ^ 60 }
-{
-    recvs.are_few();
-    if type_of(stream) % 2 == role_bit(role) {
-        return false;
-    }
-    recvs.has_ended(stream) && (is_uni(stream) || outbox.has_ended(stream))
 }

@@ -12,6 +12,7 @@ ghost use Rattle.qs_machine.specs.Standing.{IsSound, IsWithinCredit};
 use crate::by_dir::ByDir;
 use crate::held::Held;
 use crate::limits::Limits;
+use crate::middle::Core;
 use crate::outbox::Outbox;
 use crate::places::type_of;
 use crate::recv_tables::RecvTables;
@@ -25,7 +26,6 @@ use std::alloc::Global;
 use std::marker::Model;
 
 mod ack_alone;
-mod acking;
 mod asking;
 mod claiming;
 mod frames;
@@ -46,12 +46,8 @@ mod taking;
 /// Contracts see the end as a record.
 #[derive(Drop)]
 pub struct Endpoint {
-    limits: Limits,
+    core: Core,
     peer: PeerLimits,
-    outbox: Outbox,
-    recvs: RecvTables,
-    untold: Untold,
-    ended: ByDir<u64>,
     // Whether nothing that the limits and the counts of streams follow has moved since they were looked at.
     is_settled: bool,
     accepted: ByDir<u64>,
@@ -64,46 +60,39 @@ pub struct Endpoint {
 impl Model for Endpoint {
     ghost use Rattle.qs_machine.specs.Ends.{End};
     ghost use Rattle.qs_machine.specs.EndCodes.{end_code};
-    ghost use Rattle.qs_conn.specs.Layers.{IsKept};
-    ghost use Rattle.qs_machine.specs.Outgoing.{IsIdle};
-    ghost use Rattle.qs_conn.specs.Filling.{IsFunded};
-    ghost use Rattle.qs_conn.specs.Ended.{CountsFit};
-    ghost use Rattle.qs_conn.specs.Untold.{AreTold};
-    ghost use Rattle.qs_conn.specs.Settled.{AreNextWhere};
+    ghost use Rattle.qs_conn.specs.Middle.{IsKept};
 
     ghost Value = { End };
 
     ghost coded = { end_code };
 
     ghost view = { λ e. record {
-      role = e.limits.role;
-      settings = e.limits.settings;
+      role = e.core.limits.role;
+      settings = e.core.limits.settings;
       peer = e.peer;
-      sends = e.outbox.sends;
-      recvs = e.recvs;
-      granted = e.limits.granted;
-      granted_bidi = e.limits.granted_streams.bidi;
-      granted_uni = e.limits.granted_streams.uni;
-      known_data = e.limits.known_data;
-      known_bidi = e.limits.known_streams.bidi;
-      known_uni = e.limits.known_streams.uni;
+      sends = e.core.outbox.sends;
+      recvs = e.core.recvs;
+      granted = e.core.limits.granted;
+      granted_bidi = e.core.limits.granted_streams.bidi;
+      granted_uni = e.core.limits.granted_streams.uni;
+      known_data = e.core.limits.known_data;
+      known_bidi = e.core.limits.known_streams.bidi;
+      known_uni = e.core.limits.known_streams.uni;
       accepted_bidi = e.accepted.bidi;
       accepted_uni = e.accepted.uni;
-      wanted_bidi = e.limits.wanted_streams.bidi;
-      wanted_uni = e.limits.wanted_streams.uni;
+      wanted_bidi = e.core.limits.wanted_streams.bidi;
+      wanted_uni = e.core.limits.wanted_streams.uni;
       done = e.done;
       floor = e.floor;
       ack_due = e.ack_due;
-      next = e.outbox.next;
-      outstanding = e.outbox.outstanding;
-      lost = e.outbox.lost;
-      acked = e.outbox.acked;
+      next = e.core.outbox.next;
+      outstanding = e.core.outbox.outstanding;
+      lost = e.core.outbox.lost;
+      acked = e.core.outbox.acked;
       closed = e.closed;
     } };
 
-    // Between calls no packet is in the making, and one may be made; the counts of streams are right; of a stream without a mark
-    // nothing is to be told that wasn't; and where nothing moved each limit is the next one already.
-    ghost invariant = { λ e. IsKept e.limits.role e.limits.settings e.peer e.recvs e.limits.granted e.limits.known_streams.bidi e.limits.known_streams.uni e.closed × IsIdle e.outbox × IsFunded e.outbox.sends e.limits.known_data e.done e.ack_due × CountsFit e.limits.role e.limits.settings e.recvs e.outbox.sends e.ended e.limits.granted_streams.bidi e.limits.granted_streams.uni × AreTold e.limits.role e.limits.settings e.recvs e.outbox.outstanding e.outbox.acked e.untold × AreNextWhere e.is_settled e.limits.settings e.recvs e.ended e.limits.granted e.limits.granted_streams.bidi e.limits.granted_streams.uni };
+    ghost invariant = { λ e. IsKept e.core e.peer e.done e.is_settled e.ack_due e.closed };
 }
 
 impl Endpoint {
@@ -121,20 +110,22 @@ impl Endpoint {
             return Err(fault);
         }
         Ok(Endpoint {
-            limits: Limits {
-                role,
-                settings,
-                granted: settings.conn_window,
-                known_data: peer.max_data,
-                granted_streams: ByDir::new(settings.grant_bidi, settings.grant_uni),
-                known_streams: ByDir::new(peer.streams_bidi, peer.streams_uni),
-                wanted_streams: ByDir::new(None, None),
+            core: Core {
+                limits: Limits {
+                    role,
+                    settings,
+                    granted: settings.conn_window,
+                    known_data: peer.max_data,
+                    granted_streams: ByDir::new(settings.grant_bidi, settings.grant_uni),
+                    known_streams: ByDir::new(peer.streams_bidi, peer.streams_uni),
+                    wanted_streams: ByDir::new(None, None),
+                },
+                outbox: Outbox::new(alloc),
+                recvs: RecvTables::new(alloc),
+                untold: Untold::new(alloc),
+                ended: ByDir::new(0, 0),
             },
             peer,
-            outbox: Outbox::new(alloc),
-            recvs: RecvTables::new(alloc),
-            untold: Untold::new(alloc),
-            ended: ByDir::new(0, 0),
             is_settled: false,
             accepted: ByDir::new(0, 0),
             done: RangeSet::new(alloc),
@@ -149,8 +140,8 @@ impl Endpoint {
         ensures exact { result ≡ all_stored self.now }
         ensures within { IsWithinCredit self.now }
     {
-        let _granted = self.limits.granted;
-        self.recvs.tally().stored
+        let _granted = self.core.limits.granted;
+        self.core.recvs.tally().stored
     }
 
     /// How much memory the rings of receiving halves take and the buffers of sending halves, by a walk over all streams that were
@@ -160,10 +151,10 @@ impl Endpoint {
     pub fn held(&self) -> Held
         ensures { IsHeldBy self.now result }
     {
-        let _granted = self.limits.granted;
+        let _granted = self.core.limits.granted;
         Held {
-            receiving: self.recvs.held(),
-            sending: self.outbox.held(),
+            receiving: self.core.recvs.held(),
+            sending: self.core.outbox.held(),
         }
     }
 
@@ -171,7 +162,7 @@ impl Endpoint {
     pub fn granted(&self) -> u64
         ensures { result ≡ self.now.granted }
     {
-        self.limits.granted
+        self.core.limits.granted
     }
 
     /// How many streams of a direction the peer may open: the grant, and one more for each of its streams that came to its end, up to
@@ -179,15 +170,15 @@ impl Endpoint {
     pub fn granted_streams(&self, dir: Dir) -> u64
         ensures { result ≡ granted_streams self.now dir }
     {
-        self.limits.granted_streams.of(dir)
+        self.core.limits.granted_streams.of(dir)
     }
 
     /// The sum of the highest offsets of all streams, which the connection limit bounds.
     pub fn spent(&self) -> u64
         ensures { result ≡ spent self.now }
     {
-        let _granted = self.limits.granted;
-        self.recvs.tally().spent
+        let _granted = self.core.limits.granted;
+        self.core.recvs.tally().spent
     }
 
     /// Writes the payload that tells of this end's own closing: a CONNECTION_CLOSE with an empty reason (RFC 9000, section 10.2).
@@ -208,13 +199,25 @@ impl Endpoint {
         if self.is_settled {
             return;
         }
-        self.recvs.raise_all(&mut self.untold);
-        let taken = self.recvs.tally().taken;
-        let settings = &self.limits.settings;
-        self.limits.granted = next_limit(self.limits.granted, taken, settings.conn_window);
-        self.limits.granted_streams = ByDir {
-            bidi: next_count(settings.grant_bidi, settings.lifetime_bidi, self.ended.bidi),
-            uni: next_count(settings.grant_uni, settings.lifetime_uni, self.ended.uni),
+        self.core.recvs.raise_all(&mut self.core.untold);
+        let taken = self.core.recvs.tally().taken;
+        let settings = &self.core.limits.settings;
+        self.core.limits.granted = next_limit(
+            self.core.limits.granted,
+            taken,
+            settings.conn_window,
+        );
+        self.core.limits.granted_streams = ByDir {
+            bidi: next_count(
+                settings.grant_bidi,
+                settings.lifetime_bidi,
+                self.core.ended.bidi,
+            ),
+            uni: next_count(
+                settings.grant_uni,
+                settings.lifetime_uni,
+                self.core.ended.uni,
+            ),
         };
         self.is_settled = true;
     }
@@ -223,7 +226,7 @@ impl Endpoint {
     fn is_own(&self, stream: StreamId) -> bool
         ensures { result ≡ is_own self.now stream }
     {
-        type_of(stream) % 2 == role_bit(self.limits.role)
+        type_of(stream) % 2 == role_bit(self.core.limits.role)
     }
 
     // The window of a receiving half, which is its first limit too.
@@ -232,7 +235,7 @@ impl Endpoint {
         ensures some { 1 ≤ result }
         ensures small { result ≤ 2 ^ 20 }
     {
-        self.limits.window(stream)
+        self.core.limits.window(stream)
     }
 
     // The limit with which a sending half begins.

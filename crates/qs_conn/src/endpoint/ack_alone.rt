@@ -24,7 +24,7 @@ impl Endpoint {
         if self.closed.is_some() {
             return Err(MakeFault::Closed);
         }
-        let number = self.outbox.next();
+        let number = self.core.outbox.next();
         if number > MAX_VARINT {
             return Err(MakeFault::Exhausted);
         }
@@ -33,7 +33,7 @@ impl Endpoint {
         }
         let len = put_kept(&self.done, delay, out);
         self.ack_due = false;
-        self.outbox.commit();
+        self.core.outbox.commit();
         self.settle();
         Ok(Some(Made {
             number,

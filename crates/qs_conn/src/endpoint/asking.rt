@@ -16,7 +16,12 @@ impl Endpoint {
         if self.closed.is_some() {
             return false;
         }
-        has_frame(&self.limits, &self.recvs, &self.untold, &self.outbox)
+        has_frame(
+            &self.core.limits,
+            &self.core.recvs,
+            &self.core.untold,
+            &self.core.outbox,
+        )
     }
 
     /// The code with which the peer closed, `None` where it didn't (RFC 9000, section 10.2).
@@ -35,8 +40,8 @@ impl Endpoint {
         ensures { result ≡ streams_left self.now dir }
     {
         let lifetime = match dir {
-            Dir::Bidi => self.limits.settings.lifetime_bidi,
-            Dir::Uni => self.limits.settings.lifetime_uni,
+            Dir::Bidi => self.core.limits.settings.lifetime_bidi,
+            Dir::Uni => self.core.limits.settings.lifetime_uni,
         };
         lifetime.saturating_sub(self.opened_count(self.peer_type(dir)) as u64)
     }
@@ -55,8 +60,8 @@ impl Endpoint {
     pub fn is_blocked(&self, stream: StreamId) -> bool
         ensures { result ≡ is_blocked self.now stream }
     {
-        let is_used_up = self.outbox.sent_sum() == self.limits.known_data;
-        self.outbox.waits_for_credit(stream, is_used_up)
+        let is_used_up = self.core.outbox.sent_sum() == self.core.limits.known_data;
+        self.core.outbox.waits_for_credit(stream, is_used_up)
     }
 
     /// The code of the peer's STOP_SENDING for a stream, of the first one that came; `None` where none did. It stays, whatever became of the
@@ -64,7 +69,7 @@ impl Endpoint {
     pub fn stopped_with(&self, stream: StreamId) -> Option<u64>
         ensures { result ≡ stopped_with self.now stream }
     {
-        self.outbox.stop_code(stream)
+        self.core.outbox.stop_code(stream)
     }
 
     /// The least number from one on of a packet that is outstanding: it was made, asks for an ACK, and is neither acknowledged nor
@@ -72,6 +77,6 @@ impl Endpoint {
     pub fn next_outstanding(&self, from: u64) -> Option<u64>
         ensures { IsNextOutstanding self.now.outstanding from result }
     {
-        self.outbox.next_outstanding(from)
+        self.core.outbox.next_outstanding(from)
     }
 }

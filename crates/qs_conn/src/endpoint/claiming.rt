@@ -18,7 +18,7 @@ impl Endpoint {
         if number > MAX_VARINT {
             return Err(MakeFault::Exhausted);
         }
-        self.outbox.commit();
+        self.core.outbox.commit();
         Ok(number)
     }
 
@@ -26,6 +26,6 @@ impl Endpoint {
     pub fn next_number(&self) -> u64
         ensures { result ≡ self.now.next }
     {
-        self.outbox.next()
+        self.core.outbox.next()
     }
 }

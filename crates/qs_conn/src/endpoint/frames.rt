@@ -58,7 +58,7 @@ impl Endpoint {
     fn ack_fault(&self, largest: u64) -> Option<u64>
         ensures { result ≡ ack_fault self.now largest }
     {
-        if largest >= self.outbox.next() {
+        if largest >= self.core.outbox.next() {
             Some(PROTOCOL_VIOLATION)
         } else {
             None
@@ -75,11 +75,14 @@ impl Endpoint {
         }
         let window = self.window(stream);
         let len = bytes.len() as u64;
-        let check = self.recvs.check_stream(window, stream, offset, len, fin);
+        let check = self
+            .core
+            .recvs
+            .check_stream(window, stream, offset, len, fin);
         if let Some(code) = self.credit_fault(check) {
             return Some(code);
         }
-        match self.recvs.check_bytes(window, stream, offset, bytes) {
+        match self.core.recvs.check_bytes(window, stream, offset, bytes) {
             Ok(()) => None,
             Err(fault) => Some(code_of(fault)),
         }
@@ -93,7 +96,7 @@ impl Endpoint {
             return Some(code);
         }
         let window = self.window(stream);
-        let check = self.recvs.check_reset(window, stream, size);
+        let check = self.core.recvs.check_reset(window, stream, size);
         self.credit_fault(check)
     }
 
@@ -102,7 +105,7 @@ impl Endpoint {
         ensures { result ≡ state_fault_in self.now stream }
     {
         if self.is_own(stream) {
-            if self.recvs.is_open(stream) {
+            if self.core.recvs.is_open(stream) {
                 None
             } else {
                 Some(STREAM_STATE_ERROR)
@@ -119,7 +122,7 @@ impl Endpoint {
         ensures { result ≡ state_fault_out self.now stream }
     {
         if self.is_own(stream) {
-            if self.outbox.is_open(stream) {
+            if self.core.outbox.is_open(stream) {
                 None
             } else {
                 Some(STREAM_STATE_ERROR)
@@ -142,7 +145,7 @@ impl Endpoint {
             Err(fault) => Some(code_of(fault)),
             Ok(highest) => {
                 let growth = highest.after.saturating_sub(highest.before);
-                if self.limits.granted < self.spent() + growth {
+                if self.core.limits.granted < self.spent() + growth {
                     Some(FLOW_CONTROL_ERROR)
                 } else {
                     None
@@ -156,9 +159,9 @@ impl Endpoint {
         ensures { result ≡ grant self.now stream }
     {
         if is_uni(stream) {
-            self.limits.granted_streams.uni
+            self.core.limits.granted_streams.uni
         } else {
-            self.limits.granted_streams.bidi
+            self.core.limits.granted_streams.bidi
         }
     }
 }

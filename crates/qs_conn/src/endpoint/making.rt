@@ -64,11 +64,11 @@ impl Endpoint {
         if self.closed.is_some() {
             return Err(MakeFault::Closed);
         }
-        let number = self.outbox.next();
+        let number = self.core.outbox.next();
         if number > MAX_NUMBER {
             return Err(MakeFault::Exhausted);
         }
-        if let Err(_refused) = self.outbox.begin(out.len() / 2) {
+        if let Err(_refused) = self.core.outbox.begin(out.len() / 2) {
             return self.without_memory();
         }
         let wish = Wish {
@@ -76,23 +76,28 @@ impl Endpoint {
             delay,
             ack_due: self.ack_due,
         };
-        let (recvs, untold) = (&self.recvs, &self.untold);
+        let (recvs, untold) = (&self.core.recvs, &self.core.untold);
         let len = fill(
-            &self.limits,
+            &self.core.limits,
             recvs,
             untold,
             &self.done,
-            &mut self.outbox,
+            &mut self.core.outbox,
             wish,
             out,
         );
-        unmark_told(&self.limits, &self.recvs, &self.outbox, &mut self.untold);
+        unmark_told(
+            &self.core.limits,
+            &self.core.recvs,
+            &self.core.outbox,
+            &mut self.core.untold,
+        );
         if len == 0 {
             return Ok(None);
         }
-        let is_ack_eliciting = self.outbox.has_piece();
+        let is_ack_eliciting = self.core.outbox.has_piece();
         self.ack_due = false;
-        self.outbox.commit();
+        self.core.outbox.commit();
         self.settle();
         Ok(Some(Made {
             number,
@@ -120,6 +125,11 @@ impl Endpoint {
         if self.ack_due {
             return true;
         }
-        has_frame(&self.limits, &self.recvs, &self.untold, &self.outbox)
+        has_frame(
+            &self.core.limits,
+            &self.core.recvs,
+            &self.core.untold,
+            &self.core.outbox,
+        )
     }
 }

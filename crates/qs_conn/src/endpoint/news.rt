@@ -20,7 +20,7 @@ impl Endpoint {
         if self.closed.is_some() {
             return None;
         }
-        self.recvs.next_with(RecvTask::Readable, from.value())
+        self.core.recvs.next_with(RecvTask::Readable, from.value())
     }
 
     /// The least stream at or above `from` of which bytes or the end are due, which the stream's own limit lets go; whether the
@@ -33,7 +33,7 @@ impl Endpoint {
         if self.closed.is_some() {
             return None;
         }
-        self.outbox.next_sendable(from.value())
+        self.core.outbox.next_sendable(from.value())
     }
 
     /// The least stream at or above `from` at which a write of one byte is accepted, if there is memory for it: it wasn't finished, reset
@@ -46,7 +46,7 @@ impl Endpoint {
         if self.closed.is_some() {
             return None;
         }
-        self.outbox.next_writable(from.value())
+        self.core.outbox.next_writable(from.value())
     }
 
     /// The least stream at or above `from` whose every half here came to its end: the end or the reset was told to the reader, and all
@@ -74,8 +74,12 @@ impl Endpoint {
         ensures small { IfSome result (λ n. n < 2 ^ 62) }
     {
         let mut next = from;
-        while let Some(recv) = self.recvs.next_with_of(RecvTask::Ended, stream_type, next) {
-            let Some(send) = self.outbox.next_ended_of(stream_type, recv) else {
+        while let Some(recv) = self
+            .core
+            .recvs
+            .next_with_of(RecvTask::Ended, stream_type, next)
+        {
+            let Some(send) = self.core.outbox.next_ended_of(stream_type, recv) else {
                 return None;
             };
             if send == recv {
@@ -93,10 +97,12 @@ impl Endpoint {
         ensures least { IsLeast (IsEndedOf self.now stream_type) from result }
         ensures small { IfSome result (λ n. n < 2 ^ 62) }
     {
-        if stream_type % 2 == role_bit(self.limits.role) {
-            self.outbox.next_ended_of(stream_type, from)
+        if stream_type % 2 == role_bit(self.core.limits.role) {
+            self.core.outbox.next_ended_of(stream_type, from)
         } else {
-            self.recvs.next_with_of(RecvTask::Ended, stream_type, from)
+            self.core
+                .recvs
+                .next_with_of(RecvTask::Ended, stream_type, from)
         }
     }
 }

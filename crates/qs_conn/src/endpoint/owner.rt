@@ -5,7 +5,6 @@ ghost use Rattle.qs_machine.specs.Reports.{lane_report, own_closing};
 ghost use Rattle.qs_conn.specs.Layers.{no_sender, no_receiver};
 
 use super::Endpoint;
-use crate::ended::is_over;
 use qs_calls::{Closed, Closing, LaneReport, UseFault};
 use qs_recv::Read;
 use qs_send::SendFault;
@@ -23,7 +22,7 @@ impl Endpoint {
         if let Some(fault) = self.no_sender(stream) {
             return Err(fault);
         }
-        match self.outbox.write(stream, bytes) {
+        match self.core.outbox.write(stream, bytes) {
             Ok(count) => {
                 self.settle();
                 Ok(count)
@@ -42,8 +41,8 @@ impl Endpoint {
         if let Some(fault) = self.no_sender(stream) {
             return Err(fault);
         }
-        self.outbox.has_sending(stream);
-        match self.outbox.finish(stream) {
+        self.core.outbox.has_sending(stream);
+        match self.core.outbox.finish(stream) {
             Ok(()) => {
                 self.settle();
                 Ok(())
@@ -63,7 +62,7 @@ impl Endpoint {
         if let Some(fault) = self.no_sender(stream) {
             return Err(fault);
         }
-        match self.outbox.reset(stream, code) {
+        match self.core.outbox.reset(stream, code) {
             Ok(()) => {
                 self.settle();
                 Ok(())
@@ -83,14 +82,14 @@ impl Endpoint {
             return Err(fault);
         }
         // To look at a stream without news costs no more than its marks.
-        if !self.recvs.may_tell(stream) {
+        if !self.core.recvs.may_tell(stream) {
             self.settle();
             return Ok(Read::Wait);
         }
-        let was = is_over(self.limits.role, &self.recvs, &self.outbox, stream);
-        let answer = self.recvs.read(stream, into);
-        let is = is_over(self.limits.role, &self.recvs, &self.outbox, stream);
-        self.ended.recount(stream, was, is);
+        let was = self.core.is_over(stream);
+        let answer = self.core.recvs.read(stream, into);
+        let is = self.core.is_over(stream);
+        self.core.ended.recount(stream, was, is);
         self.is_settled = false;
         self.settle();
         Ok(answer)
@@ -108,8 +107,8 @@ impl Endpoint {
         if let Some(fault) = self.no_receiver(stream) {
             return Err(fault);
         }
-        self.recvs.stop(stream, code);
-        self.untold.set(stream, true);
+        self.core.recvs.stop(stream, code);
+        self.core.untold.set(stream, true);
         self.is_settled = false;
         self.settle();
         Ok(())
@@ -119,7 +118,10 @@ impl Endpoint {
     pub fn lane_report(&self, stream: StreamId) -> Option<LaneReport>
         ensures { result ≡ lane_report self.now stream }
     {
-        match (self.outbox.report(stream), self.recvs.report(stream)) {
+        match (
+            self.core.outbox.report(stream),
+            self.core.recvs.report(stream),
+        ) {
             (None, None) => None,
             (send, recv) => Some(LaneReport { send, recv }),
         }
@@ -141,10 +143,10 @@ impl Endpoint {
     {
         if self.closed.is_some() {
             Some(UseFault::Closed)
-        } else if self.outbox.is_open(stream) {
+        } else if self.core.outbox.is_open(stream) {
             None
         } else {
-            Some(no_half(self.recvs.is_open(stream)))
+            Some(no_half(self.core.recvs.is_open(stream)))
         }
     }
 
@@ -154,10 +156,10 @@ impl Endpoint {
     {
         if self.closed.is_some() {
             Some(UseFault::Closed)
-        } else if self.recvs.is_open(stream) {
+        } else if self.core.recvs.is_open(stream) {
             None
         } else {
-            Some(no_half(self.outbox.is_open(stream)))
+            Some(no_half(self.core.outbox.is_open(stream)))
         }
     }
 }

@@ -52,9 +52,19 @@ impl Endpoint {
         ensures { self.new ≡ knows_limits limits.now self.old }
     {
         self.peer = greater_limits(&self.peer, limits);
-        self.limits.known_data = self.limits.known_data.max(limits.max_data);
-        self.limits.known_streams.bidi = self.limits.known_streams.bidi.max(limits.streams_bidi);
-        self.limits.known_streams.uni = self.limits.known_streams.uni.max(limits.streams_uni);
+        self.core.limits.known_data = self.core.limits.known_data.max(limits.max_data);
+        self.core.limits.known_streams.bidi = self
+            .core
+            .limits
+            .known_streams
+            .bidi
+            .max(limits.streams_bidi);
+        self.core.limits.known_streams.uni = self
+            .core
+            .limits
+            .known_streams
+            .uni
+            .max(limits.streams_uni);
     }
 
     // Each open half of a type may send what one may that opens now.
@@ -63,7 +73,7 @@ impl Endpoint {
         ensures { self.new ≡ record self.old { sends = type_allowed stream_type (first_send_limit self.old stream_type) self.old.sends } }
     {
         let limit = self.first_send_limit(StreamId::new(stream_type as u64).unwrap());
-        for index in 0..self.outbox.count_of(stream_type) {
+        for index in 0..self.core.outbox.count_of(stream_type) {
             let stream = StreamId::new((index * 4 + stream_type) as u64).unwrap();
             self.allow_to(stream, limit);
         }
@@ -76,7 +86,7 @@ impl Endpoint {
         requires limit { limit ≤ MAX_VARINT }
         ensures { self.new ≡ on_send stream (λ l. allow_lane l limit) self.old }
     {
-        self.outbox.allow(stream, limit);
+        self.core.outbox.allow(stream, limit);
     }
 }
 

@@ -12,7 +12,6 @@ ghost use Rattle.qs_machine.specs.Receiving.{RunsOut};
 ghost use Rattle.qs_conn.specs.Seen.{view_seen, SeenFits};
 
 use super::Endpoint;
-use super::acking::ack_ranges;
 use crate::seen::SeenFrame;
 use qs_ranges::NoMemory;
 use qs_send::Item;
@@ -36,7 +35,7 @@ impl Endpoint {
                 fin,
             } => self.on_stream(stream, offset, bytes, fin),
             SeenFrame::Control(Item::MaxData { maximum }) => {
-                self.limits.known_data = self.limits.known_data.max(maximum);
+                self.core.limits.known_data = self.core.limits.known_data.max(maximum);
                 Ok(())
             }
             SeenFrame::Control(Item::MaxStreams { dir, count }) => {
@@ -68,18 +67,9 @@ impl Endpoint {
         ensures ok { OnOk result (self.new ≡ acks (named self.old (ack_ranges_of largest (numbers_of ranges.now))) self.old) }
         ensures err { OnErr result (RunsOut self.old (Ack largest (ack_ranges_of largest (numbers_of ranges.now))) self.new) }
     {
-        let (role, recvs) = (self.limits.role, &self.recvs);
-        let before = self.ended;
-        let taken = ack_ranges(
-            &mut self.outbox,
-            role,
-            recvs,
-            &mut self.ended,
-            &mut self.untold,
-            largest,
-            ranges,
-        );
-        self.is_settled &= self.ended.is_same(before);
+        let before = self.core.ended;
+        let taken = self.core.ack(largest, ranges);
+        self.is_settled &= self.core.ended.is_same(before);
         taken
     }
 
@@ -88,7 +78,7 @@ impl Endpoint {
         requires { count ≤ 2 ^ 60 }
         ensures { self.new ≡ item_taken (items.MaxStreams dir count) self.old }
     {
-        let known = &mut self.limits.known_streams;
+        let known = &mut self.core.limits.known_streams;
         known.set(dir, known.of(dir).max(count));
     }
 
@@ -102,7 +92,7 @@ impl Endpoint {
         ensures yet { OnErr result (IsYetToOpen self.old stream) }
     {
         self.open_by_peer(stream)?;
-        self.outbox.allow(stream, maximum);
+        self.core.outbox.allow(stream, maximum);
         Ok(())
     }
 
@@ -116,7 +106,7 @@ impl Endpoint {
         ensures yet { OnErr result (IsYetToOpen self.old stream) }
     {
         self.open_by_peer(stream)?;
-        self.outbox.stopped(stream, code);
+        self.core.outbox.stopped(stream, code);
         Ok(())
     }
 
@@ -128,9 +118,9 @@ impl Endpoint {
         ensures err { OnErr result (self.new ≡ self.old) }
         ensures yet { OnErr result (IsYetToOpen self.old stream) }
     {
-        let _granted = self.limits.granted;
+        let _granted = self.core.limits.granted;
         self.open_by_peer(stream)?;
-        self.recvs.take_reset(stream, code, size);
+        self.core.recvs.take_reset(stream, code, size);
         self.is_settled = false;
         Ok(())
     }
@@ -150,14 +140,14 @@ impl Endpoint {
         ensures err { OnErr result (self.new ≡ self.old) }
         ensures asks { OnErr result (MayRunOut self.old (Stream stream offset bytes.now fin)) }
     {
-        self.outbox.are_of_open();
-        let sends = self.outbox.count(stream);
-        self.outbox.are_of_open();
-        let recvs = self.recvs.count(stream);
+        self.core.outbox.are_of_open();
+        let sends = self.core.outbox.count(stream);
+        self.core.outbox.are_of_open();
+        let recvs = self.core.recvs.count(stream);
         self.open_by_peer(stream)?;
-        if let Err(refused) = self.recvs.take_stream(stream, offset, bytes, fin) {
-            self.outbox.close_to(stream, sends);
-            self.recvs.close_to(stream, recvs);
+        if let Err(refused) = self.core.recvs.take_stream(stream, offset, bytes, fin) {
+            self.core.outbox.close_to(stream, sends);
+            self.core.recvs.close_to(stream, recvs);
             self.is_settled = false;
             return Err(refused);
         }

@@ -2,11 +2,8 @@
 //! Which streams of the peer came to their end.
 
 use crate::proved::qs_conn::by_dir::ByDir;
-use crate::proved::qs_conn::endpoint::{is_uni, role_bit};
-use crate::proved::qs_conn::outbox::Outbox;
-use crate::proved::qs_conn::places::type_of;
-use crate::proved::qs_conn::recv_tables::RecvTables;
-use crate::proved::qs_wire::{Role, StreamId};
+use crate::proved::qs_conn::endpoint::is_uni;
+use crate::proved::qs_wire::StreamId;
 
 // How many streams of the peer came to their end, of each direction (RFC 9000, sections 3 and 4.6).
 impl ByDir<u64> {
@@ -29,14 +26,4 @@ impl ByDir<u64> {
 fn moved(count: u64, was: bool, is: bool) -> u64 {
     debug_assert!(count <= 1 << 60);
     count + u64::from(is) - u64::from(was)
-}
-
-/// Whether a stream is one of the peer's that came to its end: its receiving half, and if it has one its sending half (RFC 9000,
-/// section 3).
-pub(crate) fn is_over(role: Role, recvs: &RecvTables, outbox: &Outbox, stream: StreamId) -> bool {
-    recvs.are_few();
-    if type_of(stream) % 2 == role_bit(role) {
-        return false;
-    }
-    recvs.has_ended(stream) && (is_uni(stream) || outbox.has_ended(stream))
 }

@@ -4,6 +4,7 @@
 use crate::proved::qs_conn::by_dir::ByDir;
 use crate::proved::qs_conn::held::Held;
 use crate::proved::qs_conn::limits::Limits;
+use crate::proved::qs_conn::middle::Core;
 use crate::proved::qs_conn::outbox::Outbox;
 use crate::proved::qs_conn::places::type_of;
 use crate::proved::qs_conn::recv_tables::RecvTables;
@@ -16,7 +17,6 @@ use crate::proved::qs_wire::{Dir, Frame, Role, StreamId, put};
 use crate::shim::alloc::Global;
 
 mod ack_alone;
-mod acking;
 mod asking;
 mod claiming;
 mod frames;
@@ -36,12 +36,8 @@ mod taking;
 ///
 /// Contracts see the end as a record.
 pub struct Endpoint {
-    limits: Limits,
+    core: Core,
     peer: PeerLimits,
-    outbox: Outbox,
-    recvs: RecvTables,
-    untold: Untold,
-    ended: ByDir<u64>,
     // Whether nothing that the limits and the counts of streams follow has moved since they were looked at.
     is_settled: bool,
     accepted: ByDir<u64>,
@@ -64,20 +60,22 @@ impl Endpoint {
             return Err(fault);
         }
         Ok(Endpoint {
-            limits: Limits {
-                role,
-                settings,
-                granted: settings.conn_window,
-                known_data: peer.max_data,
-                granted_streams: ByDir::new(settings.grant_bidi, settings.grant_uni),
-                known_streams: ByDir::new(peer.streams_bidi, peer.streams_uni),
-                wanted_streams: ByDir::new(None, None),
+            core: Core {
+                limits: Limits {
+                    role,
+                    settings,
+                    granted: settings.conn_window,
+                    known_data: peer.max_data,
+                    granted_streams: ByDir::new(settings.grant_bidi, settings.grant_uni),
+                    known_streams: ByDir::new(peer.streams_bidi, peer.streams_uni),
+                    wanted_streams: ByDir::new(None, None),
+                },
+                outbox: Outbox::new(alloc),
+                recvs: RecvTables::new(alloc),
+                untold: Untold::new(alloc),
+                ended: ByDir::new(0, 0),
             },
             peer,
-            outbox: Outbox::new(alloc),
-            recvs: RecvTables::new(alloc),
-            untold: Untold::new(alloc),
-            ended: ByDir::new(0, 0),
             is_settled: false,
             accepted: ByDir::new(0, 0),
             done: RangeSet::new(alloc),
@@ -89,8 +87,8 @@ impl Endpoint {
 
     /// How many bytes are stored: at most what was granted and isn't taken.
     pub fn stored(&self) -> u64 {
-        let _granted = self.limits.granted;
-        self.recvs.tally().stored
+        let _granted = self.core.limits.granted;
+        self.core.recvs.tally().stored
     }
 
     /// How much memory the rings of receiving halves take and the buffers of sending halves, by a walk over all streams that were
@@ -98,28 +96,28 @@ impl Endpoint {
     /// times the connection's window, and 4,096 bytes for each receiving half that keeps bytes still. A sending half that was reset,
     /// or of which all that was written and the end were acknowledged, takes nothing.
     pub fn held(&self) -> Held {
-        let _granted = self.limits.granted;
+        let _granted = self.core.limits.granted;
         Held {
-            receiving: self.recvs.held(),
-            sending: self.outbox.held(),
+            receiving: self.core.recvs.held(),
+            sending: self.core.outbox.held(),
         }
     }
 
     /// The connection limit granted to the peer (RFC 9000, section 4.1).
     pub fn granted(&self) -> u64 {
-        self.limits.granted
+        self.core.limits.granted
     }
 
     /// How many streams of a direction the peer may open: the grant, and one more for each of its streams that came to its end, up to
     /// the lifetime's count (RFC 9000, section 4.6). It takes no memory.
     pub fn granted_streams(&self, dir: Dir) -> u64 {
-        self.limits.granted_streams.of(dir)
+        self.core.limits.granted_streams.of(dir)
     }
 
     /// The sum of the highest offsets of all streams, which the connection limit bounds.
     pub fn spent(&self) -> u64 {
-        let _granted = self.limits.granted;
-        self.recvs.tally().spent
+        let _granted = self.core.limits.granted;
+        self.core.recvs.tally().spent
     }
 
     /// Writes the payload that tells of this end's own closing: a CONNECTION_CLOSE with an empty reason (RFC 9000, section 10.2).
@@ -136,25 +134,37 @@ impl Endpoint {
         if self.is_settled {
             return;
         }
-        self.recvs.raise_all(&mut self.untold);
-        let taken = self.recvs.tally().taken;
-        let settings = &self.limits.settings;
-        self.limits.granted = next_limit(self.limits.granted, taken, settings.conn_window);
-        self.limits.granted_streams = ByDir {
-            bidi: next_count(settings.grant_bidi, settings.lifetime_bidi, self.ended.bidi),
-            uni: next_count(settings.grant_uni, settings.lifetime_uni, self.ended.uni),
+        self.core.recvs.raise_all(&mut self.core.untold);
+        let taken = self.core.recvs.tally().taken;
+        let settings = &self.core.limits.settings;
+        self.core.limits.granted = next_limit(
+            self.core.limits.granted,
+            taken,
+            settings.conn_window,
+        );
+        self.core.limits.granted_streams = ByDir {
+            bidi: next_count(
+                settings.grant_bidi,
+                settings.lifetime_bidi,
+                self.core.ended.bidi,
+            ),
+            uni: next_count(
+                settings.grant_uni,
+                settings.lifetime_uni,
+                self.core.ended.uni,
+            ),
         };
         self.is_settled = true;
     }
 
     // Whether this end opens the stream.
     fn is_own(&self, stream: StreamId) -> bool {
-        type_of(stream) % 2 == role_bit(self.limits.role)
+        type_of(stream) % 2 == role_bit(self.core.limits.role)
     }
 
     // The window of a receiving half, which is its first limit too.
     fn window(&self, stream: StreamId) -> u64 {
-        self.limits.window(stream)
+        self.core.limits.window(stream)
     }
 
     // The limit with which a sending half begins.

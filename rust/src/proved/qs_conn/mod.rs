@@ -10,6 +10,7 @@ mod filling;
 mod held;
 mod limits;
 mod marks;
+mod middle;
 mod outbox;
 mod piece_room;
 mod places;

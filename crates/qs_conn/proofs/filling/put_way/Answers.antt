@@ -1,4 +1,4 @@
-use Rattle.std.proofs.Common.{◌≡◌, ◌≤◌, ◌+◌, ◌∙◌, arith, subst, sym, refl, take}
+use Rattle.std.proofs.Common.{◌+◌, ◌∙◌, arith, subst, sym, refl, take}
 use Rattle.std.proofs.lemmas.Bool.{true≢false}
 use Rattle.qs_conn.specs.Filling.{end_by, Flow, turn_at, start_of}
 use Rattle.qs_conn.proofs.Rests.{rest_same, rest_on}

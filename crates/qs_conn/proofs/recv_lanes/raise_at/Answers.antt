@@ -1,5 +1,4 @@
-use Rattle.std.proofs.Common.{◌≡◌, ◌+◌, ◌*◌, Bool, true, false, subst, sym}
-use Rattle.qs_machine.specs.Tables.{Tables, lookup, updated}
+use Rattle.std.proofs.Common.{◌+◌, ◌*◌, subst, sym}
 use Rattle.qs_conn.specs.Untold.{HasMore}
 use Rattle.qs_conn.proofs.LaneMarks.{raised_some}
 use Rattle.qs_conn.proofs.SendEdits.{id_is}

@@ -13,7 +13,12 @@ impl Endpoint {
         if self.closed.is_some() {
             return false;
         }
-        has_frame(&self.limits, &self.recvs, &self.untold, &self.outbox)
+        has_frame(
+            &self.core.limits,
+            &self.core.recvs,
+            &self.core.untold,
+            &self.core.outbox,
+        )
     }
 
     /// The code with which the peer closed, `None` where it didn't (RFC 9000, section 10.2).
@@ -28,8 +33,8 @@ impl Endpoint {
     /// none is left, a new connection is needed (RFC 9000, section 4.6). `granted_streams` tells how far it may go now.
     pub fn streams_left(&self, dir: Dir) -> u64 {
         let lifetime = match dir {
-            Dir::Bidi => self.limits.settings.lifetime_bidi,
-            Dir::Uni => self.limits.settings.lifetime_uni,
+            Dir::Bidi => self.core.limits.settings.lifetime_bidi,
+            Dir::Uni => self.core.limits.settings.lifetime_uni,
         };
         lifetime.saturating_sub(self.opened_count(self.peer_type(dir)) as u64)
     }
@@ -44,19 +49,19 @@ impl Endpoint {
     /// Whether bytes were written to the stream that weren't sent, and credit alone holds them back: the stream's limit is reached, or
     /// the connection's credit is used up (RFC 9000, section 4.1). Bytes that were lost need no credit.
     pub fn is_blocked(&self, stream: StreamId) -> bool {
-        let is_used_up = self.outbox.sent_sum() == self.limits.known_data;
-        self.outbox.waits_for_credit(stream, is_used_up)
+        let is_used_up = self.core.outbox.sent_sum() == self.core.limits.known_data;
+        self.core.outbox.waits_for_credit(stream, is_used_up)
     }
 
     /// The code of the peer's STOP_SENDING for a stream, of the first one that came; `None` where none did. It stays, whatever became of the
     /// sending half: reset before by its owner, acknowledged whole, or reset by the STOP_SENDING itself (RFC 9000, section 3.5).
     pub fn stopped_with(&self, stream: StreamId) -> Option<u64> {
-        self.outbox.stop_code(stream)
+        self.core.outbox.stop_code(stream)
     }
 
     /// The least number from one on of a packet that is outstanding: it was made, asks for an ACK, and is neither acknowledged nor
     /// declared lost (RFC 9000, section 13.3). It looks at each number on the way there, from the least outstanding one on.
     pub fn next_outstanding(&self, from: u64) -> Option<u64> {
-        self.outbox.next_outstanding(from)
+        self.core.outbox.next_outstanding(from)
     }
 }

@@ -15,12 +15,12 @@ impl Endpoint {
         if number > MAX_VARINT {
             return Err(MakeFault::Exhausted);
         }
-        self.outbox.commit();
+        self.core.outbox.commit();
         Ok(number)
     }
 
     /// The packet number that the next packet has, or the next claim: 2^62 where the last one was used (RFC 9000, section 12.3).
     pub fn next_number(&self) -> u64 {
-        self.outbox.next()
+        self.core.outbox.next()
     }
 }

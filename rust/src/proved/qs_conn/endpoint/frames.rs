@@ -47,7 +47,7 @@ impl Endpoint {
 
     // Of an ACK, which may name no number that wasn't used (RFC 9000, section 13.1).
     fn ack_fault(&self, largest: u64) -> Option<u64> {
-        if largest >= self.outbox.next() {
+        if largest >= self.core.outbox.next() {
             Some(PROTOCOL_VIOLATION)
         } else {
             None
@@ -61,11 +61,14 @@ impl Endpoint {
         }
         let window = self.window(stream);
         let len = bytes.len() as u64;
-        let check = self.recvs.check_stream(window, stream, offset, len, fin);
+        let check = self
+            .core
+            .recvs
+            .check_stream(window, stream, offset, len, fin);
         if let Some(code) = self.credit_fault(check) {
             return Some(code);
         }
-        match self.recvs.check_bytes(window, stream, offset, bytes) {
+        match self.core.recvs.check_bytes(window, stream, offset, bytes) {
             Ok(()) => None,
             Err(fault) => Some(code_of(fault)),
         }
@@ -77,14 +80,14 @@ impl Endpoint {
             return Some(code);
         }
         let window = self.window(stream);
-        let check = self.recvs.check_reset(window, stream, size);
+        let check = self.core.recvs.check_reset(window, stream, size);
         self.credit_fault(check)
     }
 
     // Of a frame on what the peer sends.
     fn state_fault_in(&self, stream: StreamId) -> Option<u64> {
         if self.is_own(stream) {
-            if self.recvs.is_open(stream) {
+            if self.core.recvs.is_open(stream) {
                 None
             } else {
                 Some(STREAM_STATE_ERROR)
@@ -99,7 +102,7 @@ impl Endpoint {
     // Of a frame on what this end sends.
     fn state_fault_out(&self, stream: StreamId) -> Option<u64> {
         if self.is_own(stream) {
-            if self.outbox.is_open(stream) {
+            if self.core.outbox.is_open(stream) {
                 None
             } else {
                 Some(STREAM_STATE_ERROR)
@@ -119,7 +122,7 @@ impl Endpoint {
             Err(fault) => Some(code_of(fault)),
             Ok(highest) => {
                 let growth = highest.after.saturating_sub(highest.before);
-                if self.limits.granted < self.spent() + growth {
+                if self.core.limits.granted < self.spent() + growth {
                     Some(FLOW_CONTROL_ERROR)
                 } else {
                     None
@@ -131,9 +134,9 @@ impl Endpoint {
     // How many streams of its type the peer may open (RFC 9000, section 4.6).
     fn grant(&self, stream: StreamId) -> u64 {
         if is_uni(stream) {
-            self.limits.granted_streams.uni
+            self.core.limits.granted_streams.uni
         } else {
-            self.limits.granted_streams.bidi
+            self.core.limits.granted_streams.bidi
         }
     }
 }

@@ -2,10 +2,7 @@
 //! A packet is declared lost.
 
 use super::Endpoint;
-use crate::proved::qs_conn::outbox::Outbox;
-use crate::proved::qs_conn::untold::Untold;
 use crate::proved::qs_calls::LostFault;
-use crate::proved::qs_ranges::NoMemory;
 
 impl Endpoint {
     /// Declares the packet of a number lost: what it carried and is still of use is due again (RFC 9000, section 13.3). It is kept
@@ -17,8 +14,8 @@ impl Endpoint {
         if let Some(fault) = self.lose_refusal(number) {
             return Err(fault);
         }
-        self.outbox.none_is_empty();
-        match lose_packet(&mut self.outbox, &mut self.untold, number) {
+        self.core.outbox.none_is_empty();
+        match self.core.lose(number) {
             Ok(()) => Ok(()),
             Err(_refused) => Err(LostFault::NoMemory),
         }
@@ -29,26 +26,10 @@ impl Endpoint {
         if self.closed.is_some() {
             return Some(LostFault::Closed);
         }
-        self.outbox.none_is_empty();
-        if self.outbox.first(number).is_none() {
+        self.core.outbox.none_is_empty();
+        if self.core.outbox.first(number).is_none() {
             return Some(LostFault::NotOutstanding);
         }
         None
     }
-}
-
-// The pieces of a packet are lost, and the packet is outstanding no more.
-fn lose_packet(outbox: &mut Outbox, untold: &mut Untold, number: u64) -> Result<(), NoMemory> {
-    let result = lose_pieces(outbox, untold, number);
-    outbox.trim();
-    result
-}
-
-// The pieces of a packet are lost, from the first on.
-fn lose_pieces(outbox: &mut Outbox, untold: &mut Untold, number: u64) -> Result<(), NoMemory> {
-    while let Some(piece) = outbox.first(number) {
-        untold.look_again(&piece);
-        outbox.lose_first(number, piece)?;
-    }
-    Ok(())
 }

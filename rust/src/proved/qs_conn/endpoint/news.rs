@@ -16,7 +16,7 @@ impl Endpoint {
         if self.closed.is_some() {
             return None;
         }
-        self.recvs.next_with(RecvTask::Readable, from.value())
+        self.core.recvs.next_with(RecvTask::Readable, from.value())
     }
 
     /// The least stream at or above `from` of which bytes or the end are due, which the stream's own limit lets go; whether the
@@ -27,7 +27,7 @@ impl Endpoint {
         if self.closed.is_some() {
             return None;
         }
-        self.outbox.next_sendable(from.value())
+        self.core.outbox.next_sendable(from.value())
     }
 
     /// The least stream at or above `from` at which a write of one byte is accepted, if there is memory for it: it wasn't finished, reset
@@ -38,7 +38,7 @@ impl Endpoint {
         if self.closed.is_some() {
             return None;
         }
-        self.outbox.next_writable(from.value())
+        self.core.outbox.next_writable(from.value())
     }
 
     /// The least stream at or above `from` whose every half here came to its end: the end or the reset was told to the reader, and all
@@ -61,8 +61,12 @@ impl Endpoint {
         debug_assert!(stream_type < 2);
         debug_assert!(from <= 1 << 62);
         let mut next = from;
-        while let Some(recv) = self.recvs.next_with_of(RecvTask::Ended, stream_type, next) {
-            let Some(send) = self.outbox.next_ended_of(stream_type, recv) else {
+        while let Some(recv) = self
+            .core
+            .recvs
+            .next_with_of(RecvTask::Ended, stream_type, next)
+        {
+            let Some(send) = self.core.outbox.next_ended_of(stream_type, recv) else {
                 return None;
             };
             if send == recv {
@@ -78,10 +82,12 @@ impl Endpoint {
         debug_assert!(2 <= stream_type);
         debug_assert!(stream_type < 4);
         debug_assert!(from <= 1 << 62);
-        if stream_type % 2 == role_bit(self.limits.role) {
-            self.outbox.next_ended_of(stream_type, from)
+        if stream_type % 2 == role_bit(self.core.limits.role) {
+            self.core.outbox.next_ended_of(stream_type, from)
         } else {
-            self.recvs.next_with_of(RecvTask::Ended, stream_type, from)
+            self.core
+                .recvs
+                .next_with_of(RecvTask::Ended, stream_type, from)
         }
     }
 }

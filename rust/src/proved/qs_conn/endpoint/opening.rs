@@ -69,10 +69,10 @@ impl Endpoint {
         if self.is_own(stream) {
             return true;
         }
-        if !self.recvs.is_open(stream) {
+        if !self.core.recvs.is_open(stream) {
             return false;
         }
-        is_uni(stream) || self.outbox.is_open(stream)
+        is_uni(stream) || self.core.outbox.is_open(stream)
     }
 
     // Opens a stream and all lower ones of its type, or changes nothing. Memory is taken first.
@@ -86,19 +86,25 @@ impl Endpoint {
         let (uni, own) = (is_uni(stream), self.is_own(stream));
         let limit = self.first_send_limit(stream);
         let window = self.window(stream);
-        let buffer = self.limits.settings.send_buffer;
-        self.outbox.are_of_open();
-        let before = self.outbox.count(stream);
-        self.outbox.are_of_open();
-        open_sends(&mut self.outbox, both(uni, !own), limit, buffer, stream)?;
+        let buffer = self.core.limits.settings.send_buffer;
+        self.core.outbox.are_of_open();
+        let before = self.core.outbox.count(stream);
+        self.core.outbox.are_of_open();
+        open_sends(
+            &mut self.core.outbox,
+            both(uni, !own),
+            limit,
+            buffer,
+            stream,
+        )?;
         if let Err(refused) = open_recvs(
-            &mut self.recvs,
-            &mut self.untold,
+            &mut self.core.recvs,
+            &mut self.core.untold,
             both(uni, own),
             window,
             stream,
         ) {
-            self.outbox.close_to(stream, before);
+            self.core.outbox.close_to(stream, before);
             self.is_settled = false;
             return Err(refused);
         }
@@ -110,41 +116,48 @@ impl Endpoint {
     fn reserve(&mut self, stream: StreamId) -> Result<(), NoMemory> {
         let (uni, own) = (is_uni(stream), self.is_own(stream));
         let (sends, receives) = (!both(uni, !own), !both(uni, own));
-        reserve_halves(&mut self.outbox, &mut self.recvs, stream, sends, receives)?;
-        self.untold.reserve(stream)
+        reserve_halves(
+            &mut self.core.outbox,
+            &mut self.core.recvs,
+            stream,
+            sends,
+            receives,
+        )?;
+        self.core.untold.reserve(stream)
     }
 
     // That another stream was wanted is noted.
     fn want(&mut self, dir: Dir, count: u64) {
-        self.limits.wanted_streams.set(dir, Some(count));
+        self.core.limits.wanted_streams.set(dir, Some(count));
     }
 
     // How many streams of a direction the peer allows.
     pub(super) fn known_count(&self, dir: Dir) -> u64 {
-        self.limits.known_streams.of(dir)
+        self.core.limits.known_streams.of(dir)
     }
 
     // How many streams of a type are open.
     pub(super) fn opened_count(&self, stream_type: usize) -> usize {
         debug_assert!(stream_type < 4);
-        self.outbox
+        self.core
+            .outbox
             .count_of(stream_type)
-            .max(self.recvs.count_of(stream_type))
+            .max(self.core.recvs.count_of(stream_type))
     }
 
     // The type of the streams that this end opens.
     pub(super) fn own_type(&self, dir: Dir) -> usize {
         match dir {
-            Dir::Bidi => role_bit(self.limits.role),
-            Dir::Uni => 2 + role_bit(self.limits.role),
+            Dir::Bidi => role_bit(self.core.limits.role),
+            Dir::Uni => 2 + role_bit(self.core.limits.role),
         }
     }
 
     // The type of the streams that the peer opens.
     pub(super) fn peer_type(&self, dir: Dir) -> usize {
         match dir {
-            Dir::Bidi => 1 - role_bit(self.limits.role),
-            Dir::Uni => 3 - role_bit(self.limits.role),
+            Dir::Bidi => 1 - role_bit(self.core.limits.role),
+            Dir::Uni => 3 - role_bit(self.core.limits.role),
         }
     }
 }

@@ -2,7 +2,6 @@
 //! What an end's owner does with its streams.
 
 use super::Endpoint;
-use crate::proved::qs_conn::ended::is_over;
 use crate::proved::qs_calls::{Closed, Closing, LaneReport, UseFault};
 use crate::proved::qs_recv::Read;
 use crate::proved::qs_send::SendFault;
@@ -17,7 +16,7 @@ impl Endpoint {
         if let Some(fault) = self.no_sender(stream) {
             return Err(fault);
         }
-        match self.outbox.write(stream, bytes) {
+        match self.core.outbox.write(stream, bytes) {
             Ok(count) => {
                 self.settle();
                 Ok(count)
@@ -33,8 +32,8 @@ impl Endpoint {
         if let Some(fault) = self.no_sender(stream) {
             return Err(fault);
         }
-        self.outbox.has_sending(stream);
-        match self.outbox.finish(stream) {
+        self.core.outbox.has_sending(stream);
+        match self.core.outbox.finish(stream) {
             Ok(()) => {
                 self.settle();
                 Ok(())
@@ -51,7 +50,7 @@ impl Endpoint {
         if let Some(fault) = self.no_sender(stream) {
             return Err(fault);
         }
-        match self.outbox.reset(stream, code) {
+        match self.core.outbox.reset(stream, code) {
             Ok(()) => {
                 self.settle();
                 Ok(())
@@ -68,14 +67,14 @@ impl Endpoint {
             return Err(fault);
         }
         // To look at a stream without news costs no more than its marks.
-        if !self.recvs.may_tell(stream) {
+        if !self.core.recvs.may_tell(stream) {
             self.settle();
             return Ok(Read::Wait);
         }
-        let was = is_over(self.limits.role, &self.recvs, &self.outbox, stream);
-        let answer = self.recvs.read(stream, into);
-        let is = is_over(self.limits.role, &self.recvs, &self.outbox, stream);
-        self.ended.recount(stream, was, is);
+        let was = self.core.is_over(stream);
+        let answer = self.core.recvs.read(stream, into);
+        let is = self.core.is_over(stream);
+        self.core.ended.recount(stream, was, is);
         self.is_settled = false;
         self.settle();
         Ok(answer)
@@ -90,8 +89,8 @@ impl Endpoint {
         if let Some(fault) = self.no_receiver(stream) {
             return Err(fault);
         }
-        self.recvs.stop(stream, code);
-        self.untold.set(stream, true);
+        self.core.recvs.stop(stream, code);
+        self.core.untold.set(stream, true);
         self.is_settled = false;
         self.settle();
         Ok(())
@@ -99,7 +98,10 @@ impl Endpoint {
 
     /// How the halves of a stream stand at this end, `None` where it isn't open.
     pub fn lane_report(&self, stream: StreamId) -> Option<LaneReport> {
-        match (self.outbox.report(stream), self.recvs.report(stream)) {
+        match (
+            self.core.outbox.report(stream),
+            self.core.recvs.report(stream),
+        ) {
             (None, None) => None,
             (send, recv) => Some(LaneReport { send, recv }),
         }
@@ -117,10 +119,10 @@ impl Endpoint {
     fn no_sender(&self, stream: StreamId) -> Option<UseFault> {
         if self.closed.is_some() {
             Some(UseFault::Closed)
-        } else if self.outbox.is_open(stream) {
+        } else if self.core.outbox.is_open(stream) {
             None
         } else {
-            Some(no_half(self.recvs.is_open(stream)))
+            Some(no_half(self.core.recvs.is_open(stream)))
         }
     }
 
@@ -128,10 +130,10 @@ impl Endpoint {
     fn no_receiver(&self, stream: StreamId) -> Option<UseFault> {
         if self.closed.is_some() {
             Some(UseFault::Closed)
-        } else if self.recvs.is_open(stream) {
+        } else if self.core.recvs.is_open(stream) {
             None
         } else {
-            Some(no_half(self.outbox.is_open(stream)))
+            Some(no_half(self.core.outbox.is_open(stream)))
         }
     }
 }

@@ -39,16 +39,26 @@ impl Endpoint {
     // The first limits and the counts are known, and the connection's limit; open streams aren't looked at.
     fn know_limits(&mut self, limits: &PeerLimits) {
         self.peer = greater_limits(&self.peer, limits);
-        self.limits.known_data = self.limits.known_data.max(limits.max_data);
-        self.limits.known_streams.bidi = self.limits.known_streams.bidi.max(limits.streams_bidi);
-        self.limits.known_streams.uni = self.limits.known_streams.uni.max(limits.streams_uni);
+        self.core.limits.known_data = self.core.limits.known_data.max(limits.max_data);
+        self.core.limits.known_streams.bidi = self
+            .core
+            .limits
+            .known_streams
+            .bidi
+            .max(limits.streams_bidi);
+        self.core.limits.known_streams.uni = self
+            .core
+            .limits
+            .known_streams
+            .uni
+            .max(limits.streams_uni);
     }
 
     // Each open half of a type may send what one may that opens now.
     fn allow_type(&mut self, stream_type: usize) {
         debug_assert!(stream_type < 4);
         let limit = self.first_send_limit(StreamId::new(stream_type as u64).unwrap());
-        for index in 0..self.outbox.count_of(stream_type) {
+        for index in 0..self.core.outbox.count_of(stream_type) {
             let stream = StreamId::new((index * 4 + stream_type) as u64).unwrap();
             self.allow_to(stream, limit);
         }
@@ -57,7 +67,7 @@ impl Endpoint {
     // An open half may send the offsets below a limit.
     fn allow_to(&mut self, stream: StreamId, limit: u64) {
         debug_assert!(limit <= 0x3fff_ffff_ffff_ffff);
-        self.outbox.allow(stream, limit);
+        self.core.outbox.allow(stream, limit);
     }
 }
 

@@ -2,7 +2,6 @@
 //! A frame without a fault takes effect.
 
 use super::Endpoint;
-use super::acking::ack_ranges;
 use crate::proved::qs_conn::seen::SeenFrame;
 use crate::proved::qs_ranges::NoMemory;
 use crate::proved::qs_send::Item;
@@ -20,7 +19,7 @@ impl Endpoint {
                 fin,
             } => self.on_stream(stream, offset, bytes, fin),
             SeenFrame::Control(Item::MaxData { maximum }) => {
-                self.limits.known_data = self.limits.known_data.max(maximum);
+                self.core.limits.known_data = self.core.limits.known_data.max(maximum);
                 Ok(())
             }
             SeenFrame::Control(Item::MaxStreams { dir, count }) => {
@@ -48,25 +47,16 @@ impl Endpoint {
     // The packets that an ACK names are acknowledged, also those that were declared lost (RFC 9000, sections 13.2.1 and 13.3).
     fn on_ack(&mut self, largest: u64, ranges: &[u8]) -> Result<(), NoMemory> {
         debug_assert!(largest < 1 << 62);
-        let (role, recvs) = (self.limits.role, &self.recvs);
-        let before = self.ended;
-        let taken = ack_ranges(
-            &mut self.outbox,
-            role,
-            recvs,
-            &mut self.ended,
-            &mut self.untold,
-            largest,
-            ranges,
-        );
-        self.is_settled &= self.ended.is_same(before);
+        let before = self.core.ended;
+        let taken = self.core.ack(largest, ranges);
+        self.is_settled &= self.core.ended.is_same(before);
         taken
     }
 
     // The peer allows so many streams of a direction.
     fn on_max_streams(&mut self, dir: Dir, count: u64) {
         debug_assert!(count <= 1 << 60);
-        let known = &mut self.limits.known_streams;
+        let known = &mut self.core.limits.known_streams;
         known.set(dir, known.of(dir).max(count));
     }
 
@@ -74,7 +64,7 @@ impl Endpoint {
     fn on_max_stream_data(&mut self, stream: StreamId, maximum: u64) -> Result<(), NoMemory> {
         debug_assert!(maximum <= 0x3fff_ffff_ffff_ffff);
         self.open_by_peer(stream)?;
-        self.outbox.allow(stream, maximum);
+        self.core.outbox.allow(stream, maximum);
         Ok(())
     }
 
@@ -82,16 +72,16 @@ impl Endpoint {
     fn on_stop_sending(&mut self, stream: StreamId, code: u64) -> Result<(), NoMemory> {
         debug_assert!(code <= 0x3fff_ffff_ffff_ffff);
         self.open_by_peer(stream)?;
-        self.outbox.stopped(stream, code);
+        self.core.outbox.stopped(stream, code);
         Ok(())
     }
 
     // The peer broke a stream off.
     fn on_reset_stream(&mut self, stream: StreamId, code: u64, size: u64) -> Result<(), NoMemory> {
         debug_assert!(size <= 0x3fff_ffff_ffff_ffff);
-        let _granted = self.limits.granted;
+        let _granted = self.core.limits.granted;
         self.open_by_peer(stream)?;
-        self.recvs.take_reset(stream, code, size);
+        self.core.recvs.take_reset(stream, code, size);
         self.is_settled = false;
         Ok(())
     }
@@ -104,14 +94,14 @@ impl Endpoint {
         bytes: &[u8],
         fin: bool,
     ) -> Result<(), NoMemory> {
-        self.outbox.are_of_open();
-        let sends = self.outbox.count(stream);
-        self.outbox.are_of_open();
-        let recvs = self.recvs.count(stream);
+        self.core.outbox.are_of_open();
+        let sends = self.core.outbox.count(stream);
+        self.core.outbox.are_of_open();
+        let recvs = self.core.recvs.count(stream);
         self.open_by_peer(stream)?;
-        if let Err(refused) = self.recvs.take_stream(stream, offset, bytes, fin) {
-            self.outbox.close_to(stream, sends);
-            self.recvs.close_to(stream, recvs);
+        if let Err(refused) = self.core.recvs.take_stream(stream, offset, bytes, fin) {
+            self.core.outbox.close_to(stream, sends);
+            self.core.recvs.close_to(stream, recvs);
             self.is_settled = false;
             return Err(refused);
         }

@@ -7,4 +7,4 @@ pub returns-then-is_some : goal.returns-then-is_some
 returns-then-is_some c = beside_closed _ c.args.self.now c.self.view_is (sym c.is_some.ensures ∙ c.if-is_some.true)
 
 pub returns : goal.returns
-returns c = beside_frame _ c.args.self.now c.self.inside.limits c.self.inside.outbox c.has_frame.result c.self.inside.untold c.self.view_is (sym c.is_some.ensures ∙ c.if-is_some.false) (ap limits_of c.self.view_is) refl c.self.invariant.4 c.has_frame.ensures
+returns c = beside_frame _ c.args.self.now c.self.inside.core.limits c.self.inside.core.outbox c.has_frame.result c.self.inside.core.untold c.self.view_is (sym c.is_some.ensures ∙ c.if-is_some.false) (ap limits_of c.self.view_is) refl c.self.invariant.rest.core.told c.has_frame.ensures

@@ -7,6 +7,7 @@ use Rattle.qs_calls.specs.declared.settings.PeerLimits.{PeerLimits}
 use Rattle.qs_calls.specs.declared.settings.SetupFault.{SetupFault}
 use Rattle.qs_calls.specs.declared.settings.SetupFault.TheVariants.{OutOfRange}
 use Rattle.qs_machine.specs.Raising.{greater_limits}
+use Rattle.qs_conn.proofs.Cores.{rest_known}
 use Rattle.qs_conn.proofs.endpoint.Endpoint.know_limits.Goals as goal
 
 -- limits that aren't refused can be spelled
@@ -19,18 +20,13 @@ greater_spelled : (a b : PeerLimits) → are_spellable a ≡ true → are_spella
 greater_spelled a b ha hb = grind (arith, nat_tests, ha, hb)
 
 pub invariant_of-self : goal.invariant_of-self
-invariant_of-self c = (
-  record {
-    sound = c.self.invariant.0.sound;
-    granted_fits = c.self.invariant.0.granted_fits;
-    peer_fits = ap are_spellable c.greater_limits-self-inside.ensures ∙ greater_spelled c.self.inside.peer c.args.limits.now c.self.invariant.0.peer_fits (spelled _ _ c.requires);
-    bidi_fits = search rules;
-    uni_fits = search rules;
-    closing_fits = c.self.invariant.0.closing_fits;
-  },
-  c.self.invariant.1,
-  search rules,
-  c.self.invariant.3,
-  c.self.invariant.4,
-  c.self.invariant.5,
-)
+invariant_of-self c =
+    let k = c.self.invariant in
+    record {
+      rest = rest_known c.self.inside.core k.rest _ _ (search rules) (search rules) (search rules) (search rules);
+      peer_fits = ap are_spellable c.greater_limits-self-inside.ensures ∙ greater_spelled c.self.inside.peer c.args.limits.now k.peer_fits (spelled _ _ c.requires);
+      closing_fits = k.closing_fits;
+      few = k.few;
+      acks = k.acks;
+      settled = k.settled;
+    }

@@ -1,5 +1,4 @@
-use Rattle.std.proofs.Common.{◌≡◌, ℕ, Option, inr, is_some, length, sym, ap, ◌∙◌, subst, take, ◌%◌}
-use Rattle.std.proofs.lemmas.Bool.{true≢false}
+use Rattle.std.proofs.Common.{◌≡◌, ℕ, Option, inr, is_some, arith, length, sym, ap, ◌∙◌, subst, take, ◌%◌}
 use Rattle.qs_recv.specs.Lane.{RecvLane}
 use Rattle.qs_machine.specs.Tables.{Tables, table, with_table, lookup}
 use Rattle.qs_machine.specs.Ends.{End}
@@ -10,9 +9,8 @@ use Rattle.qs_machine.specs.Sums.{tally_on}
 use Rattle.qs_machine.specs.Outgoing.{Outgoing, AreOfOpen, sent_sum}
 use Rattle.qs_conn.proofs.Counted.{fit_recvs, fit_streamed, closed_counted}
 use Rattle.qs_conn.specs.Ended.{AreAllCounted, IsToldOfEnd}
-use Rattle.qs_conn.proofs.Kept.{kept_recvs}
+use Rattle.qs_conn.proofs.Cores.{kept_moved, rest_recvs}
 use Rattle.qs_conn.proofs.Runs.{idle_with}
-use Rattle.qs_conn.proofs.Funded.{funded_same}
 use Rattle.qs_machine.proofs.Taken.{in_there, stream_in, stream_checked, stream_unchanged, stream_sound, sends_back, recvs_back, tally_back, restored_out, peer_none, peer_lost, peer_unsent, back_sound}
 use Rattle.qs_conn.proofs.Calm.{told_streamed}
 use Rattle.qs_conn.proofs.Untolds.{told_with, told_closed}
@@ -38,23 +36,33 @@ close_to-requires-in-Err c =
 
 pub invariant_of-self : goal.invariant_of-self
 invariant_of-self c =
-    let sound : IsInCredit c.args.self.now = subst (λ (k : End). IsInCredit k) c.self.view_is c.self.invariant.0.sound in
-    let back = recvs_back c.args.self.now _ c.args.stream c.count-recvs.result c.close_to-in-Err.new.self (c.self-2.view_is ∙ c.in_ok-open_by_peer.ensures.ok) (c.count-recvs.ensures ∙ ap (λ (e : End). length (table e.recvs (c.args.stream % 4))) c.self.view_is) (c.close_to-in-Err.ensures ∙ ap (λ (t : Tables RecvLane). with_table t (c.args.stream % 4) (take c.count-recvs.result (table t (c.args.stream % 4)))) c.in-Err.ensures.err) in
-    let sends = sends_back c.args.self.now _ c.args.stream c.count-sends.result c.close_to.new.self.sends (c.self-2.view_is ∙ c.in_ok-open_by_peer.ensures.ok) (c.count-sends.ensures ∙ ap (λ (e : End). length (table e.sends (c.args.stream % 4))) c.self.view_is) (ap (λ (x : Outgoing). x.sends) c.close_to.ensures) in (
-      kept_recvs _ _ _ _ _ _ _ _ _ c.self-2.invariant.0 (back_sound c.args.self.now _ c.args.stream c.close_to-in-Err.new.self sound (c.self-2.view_is ∙ c.in_ok-open_by_peer.ensures.ok) back),
-      idle_with c.self-2.inside.outbox _ _ c.close_to.ensures c.self-2.invariant.1,
-      funded_same _ _ _ _ _ (ap (λ (x : Outgoing). sent_sum x.sends) c.close_to.ensures ∙ peer_unsent c.args.self.now _ c.args.stream c.count-sends.result (c.self-2.view_is ∙ c.in_ok-open_by_peer.ensures.ok) (c.count-sends.ensures ∙ ap (λ (e : End). length (table e.sends (c.args.stream % 4))) c.self.view_is)) c.self-2.invariant.2,
-      fit_recvs _ _ _ _ _ _ _ c.self-2.invariant.3 _ _ _ (closed_counted c.args.self.now _ c.args.stream _ _ c.self.inside.ended _ (c.self-2.view_is ∙ c.in_ok-open_by_peer.ensures.ok) back sends (subst (λ (k : End). AreAllCounted k.role k.recvs k.sends c.self.inside.ended) c.self.view_is c.self.invariant.3.counted) c.self-2.invariant.3.counted)
-          (subst (λ (t : Tables RecvLane). (n : ℕ) → IsToldOfEnd (lookup t n)) (sym back) (subst (λ (k : End). (n : ℕ) → IsToldOfEnd (lookup k.recvs n)) c.self.view_is c.self.invariant.3.told)),
-      told_with c.self-2.inside.limits.role c.self-2.inside.limits.settings c.close_to-in-Err.new.self c.self-2.inside.outbox _ _ c.self-2.inside.untold c.close_to.ensures
-          (told_closed c.self-2.inside.limits.role c.self-2.inside.limits.settings c.self-2.inside.recvs c.self-2.inside.outbox.outstanding c.self-2.inside.outbox.acked c.self-2.inside.untold c.self-2.invariant.4 c.take_stream.new.self c.close_to-in-Err.new.self c.args.stream c.count-recvs.result c.in-Err.ensures.err c.close_to-in-Err.ensures),
-      λ on. absurd (true≢false (sym on)),
-    )
+    let core = c.self-2.inside.core in
+    let h = c.self-2.invariant.rest in
+    let was = c.self.invariant.rest in
+    let credit = h.core.credit in
+    let opened = c.self-2.view_is ∙ c.in_ok-open_by_peer.ensures.ok in
+    let sound : IsInCredit c.args.self.now = subst (λ (k : End). IsInCredit k) c.self.view_is was.core.sound in
+    let back = recvs_back c.args.self.now _ c.args.stream c.count-recvs.result c.close_to-in-Err.new.self opened (c.count-recvs.ensures ∙ ap (λ (e : End). length (table e.recvs (c.args.stream % 4))) c.self.view_is) (c.close_to-in-Err.ensures ∙ ap (λ (t : Tables RecvLane). with_table t (c.args.stream % 4) (take c.count-recvs.result (table t (c.args.stream % 4)))) c.in-Err.ensures.err) in
+    let sends = sends_back c.args.self.now _ c.args.stream c.count-sends.result c.close_to.new.self.sends opened (c.count-sends.ensures ∙ ap (λ (e : End). length (table e.sends (c.args.stream % 4))) c.self.view_is) (ap (λ (x : Outgoing). x.sends) c.close_to.ensures) in
+    let sum = ap (λ (x : Outgoing). sent_sum x.sends) c.close_to.ensures ∙ peer_unsent c.args.self.now _ c.args.stream c.count-sends.result opened (c.count-sends.ensures ∙ ap (λ (e : End). length (table e.sends (c.args.stream % 4))) c.self.view_is) in
+    kept_moved _ _ _ _ _ _ c.self-2.invariant _
+    (record {
+      core = record {
+        sound = back_sound c.args.self.now _ c.args.stream c.close_to-in-Err.new.self sound opened back;
+        fits = h.core.fits;
+        credit = omega (arith, sum, credit);
+        counts = fit_recvs _ _ _ _ _ _ _ h.core.counts _ _ _ (closed_counted c.args.self.now _ c.args.stream _ _ c.self.inside.core.ended _ opened back sends (subst (λ (k : End). AreAllCounted k.role k.recvs k.sends c.self.inside.core.ended) c.self.view_is was.core.counts.counted) h.core.counts.counted)
+            (subst (λ (t : Tables RecvLane). (n : ℕ) → IsToldOfEnd (lookup t n)) (sym back) (subst (λ (k : End). (n : ℕ) → IsToldOfEnd (lookup k.recvs n)) c.self.view_is was.core.counts.told));
+        told = told_with core.limits.role core.limits.settings c.close_to-in-Err.new.self core.outbox _ _ core.untold c.close_to.ensures
+            (told_closed core.limits.role core.limits.settings core.recvs core.outbox.outstanding core.outbox.acked core.untold h.core.told c.take_stream.new.self c.close_to-in-Err.new.self c.args.stream c.count-recvs.result c.in-Err.ensures.err c.close_to-in-Err.ensures);
+      };
+      idle = idle_with core.outbox _ _ c.close_to.ensures h.idle;
+    })
 
 pub returns-in-Err-clause-err : goal.returns-in-Err-clause-err
 returns-in-Err-clause-err c =
     let recvs = recvs_back c.args.self.now _ c.args.stream c.count-recvs.result c.close_to-in-Err.new.self (c.self-2.view_is ∙ c.in_ok-open_by_peer.ensures.ok) (c.count-recvs.ensures ∙ ap (λ (e : End). length (table e.recvs (c.args.stream % 4))) c.self.view_is) (c.close_to-in-Err.ensures ∙ ap (λ (t : Tables RecvLane). with_table t (c.args.stream % 4) (take c.count-recvs.result (table t (c.args.stream % 4)))) c.in-Err.ensures.err) in
-    restored_out c.args.self.now _ c.args.stream c.count-sends.result c.self-2.inside.outbox.spare c.close_to.new.self c.close_to-in-Err.new.self (c.self-2.view_is ∙ c.in_ok-open_by_peer.ensures.ok)
+    restored_out c.args.self.now _ c.args.stream c.count-sends.result c.self-2.inside.core.outbox.spare c.close_to.new.self c.close_to-in-Err.new.self (c.self-2.view_is ∙ c.in_ok-open_by_peer.ensures.ok)
     (c.count-sends.ensures ∙ ap (λ (e : End). length (table e.sends (c.args.stream % 4))) c.self.view_is) c.close_to.ensures recvs
 
 pub close_to-requires-clause-none : goal.close_to-requires-clause-none
@@ -73,17 +81,16 @@ close_to-requires-clause-unsent c =
 
 pub invariant_of-self-2 : goal.invariant_of-self-2
 invariant_of-self-2 c =
-    let sound : IsInCredit c.args.self.now = subst (λ (k : End). IsInCredit k) c.self.view_is c.self.invariant.0.sound in (
-      kept_recvs _ _ _ _ _ _ _ _ _ c.self-2.invariant.0
-          (stream_sound c.args.self.now _ c.args.stream c.args.offset c.args.bytes.now c.args.fin c.take_stream.new.self sound c.requires.passed (c.self-2.view_is ∙ c.in_ok-open_by_peer.ensures.ok) c.in_default.ensures.ok),
-      c.self-2.invariant.1,
-      c.self-2.invariant.2,
-      fit_streamed _ _ _ _ _ _ _ c.self-2.invariant.3 _ c.self-2.invariant.0.sound _ c.args.stream _ _ _
-          (stream_checked c.args.self.now _ c.args.stream c.args.offset c.args.bytes.now c.args.fin c.requires.passed (c.self-2.view_is ∙ c.in_ok-open_by_peer.ensures.ok)) c.in_default.ensures.ok,
-      told_streamed c.self-2.inside.limits.role c.self-2.inside.limits.settings c.self-2.inside.recvs c.self-2.inside.outbox.outstanding c.self-2.inside.outbox.acked c.self-2.inside.untold c.self-2.invariant.4 c.take_stream.new.self c.args.stream _ c.self-2.invariant.0.sound c.args.offset c.args.bytes.now c.args.fin
-          (stream_checked c.args.self.now _ c.args.stream c.args.offset c.args.bytes.now c.args.fin c.requires.passed (c.self-2.view_is ∙ c.in_ok-open_by_peer.ensures.ok)) c.in_default.ensures.ok,
-      λ on. absurd (true≢false (sym on)),
-    )
+    let core = c.self-2.inside.core in
+    let h = c.self-2.invariant.rest in
+    let opened = c.self-2.view_is ∙ c.in_ok-open_by_peer.ensures.ok in
+    let sound : IsInCredit c.args.self.now = subst (λ (k : End). IsInCredit k) c.self.view_is c.self.invariant.rest.core.sound in
+    let checked = stream_checked c.args.self.now _ c.args.stream c.args.offset c.args.bytes.now c.args.fin c.requires.passed opened in
+    kept_moved _ _ _ _ _ _ c.self-2.invariant _
+    (rest_recvs core h c.take_stream.new.self core.untold core.ended
+    (stream_sound c.args.self.now _ c.args.stream c.args.offset c.args.bytes.now c.args.fin c.take_stream.new.self sound c.requires.passed opened c.in_default.ensures.ok)
+    (fit_streamed _ _ _ _ _ _ _ h.core.counts _ h.core.sound _ c.args.stream _ _ _ checked c.in_default.ensures.ok)
+    (told_streamed core.limits.role core.limits.settings core.recvs core.outbox.outstanding core.outbox.acked core.untold h.core.told c.take_stream.new.self c.args.stream _ h.core.sound c.args.offset c.args.bytes.now c.args.fin checked c.in_default.ensures.ok))
 
 pub returns-in-Err-clause-asks : goal.returns-in-Err-clause-asks
 returns-in-Err-clause-asks c =

@@ -1,6 +1,6 @@
 use Rattle.std.proofs.Common.{refl, ◌∙◌}
 use Rattle.qs_machine.proofs.RunLaws.{insert_is_range}
-use Rattle.qs_conn.proofs.Funded.{funded_recorded}
+use Rattle.qs_conn.proofs.Funded.{few_recorded}
 use Rattle.qs_conn.proofs.endpoint.Endpoint.record.Goals as goal
 
 pub returns-clause-ok : goal.returns-clause-ok
@@ -10,4 +10,6 @@ returns-clause-ok c =
 
 pub invariant_of-self-2 : goal.invariant_of-self-2
 invariant_of-self-2 c =
-    (c.self.invariant.0, c.self.invariant.1, funded_recorded _ _ c.args.number c.self.inside.done _ _ _ _ c.in_ok-insert.ensures.ok c.trim-self-inside.ensures.done c.self.invariant.2, c.self.invariant.3, c.self.invariant.4, c.self.invariant.5)
+    let k = c.self.invariant in
+    let few = few_recorded c.args.number c.self.inside.done _ _ c.in_ok-insert.ensures.ok c.trim-self-inside.ensures.done k.few in
+    record { rest = k.rest; peer_fits = k.peer_fits; closing_fits = k.closing_fits; few = few.1; acks = λ due. few.0; settled = k.settled }

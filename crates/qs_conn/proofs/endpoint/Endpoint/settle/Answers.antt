@@ -1,4 +1,5 @@
 use Rattle.std.proofs.Common.{arith, refl, ap, sym, ◌∙◌, ℕ, ◌+◌, min, subst}
+use Rattle.std.proofs.lemmas.Bool.Decides.{nat_tests}
 use Rattle.qs_recv.specs.Lane.{RecvLane, highest, taken, raise, next_limit}
 use Rattle.qs_machine.specs.Tables.{Tables, total}
 use Rattle.qs_machine.specs.Standing.{KeepsCredit}
@@ -11,51 +12,65 @@ use Rattle.qs_conn.proofs.endpoint.Endpoint.settle.Goals as goal
 
 pub tally-taken-requires : goal.tally-taken-requires
 tally-taken-requires c =
-    let e = ap (total highest) c.raise_all.ensures.after ∙ total_each highest raise c.self.inside.recvs (λ l. refl) in
-    omega (arith, e, c.self.invariant.0.sound.spent, c.self.invariant.0.granted_fits)
+    let e = ap (total highest) c.raise_all.ensures.after ∙ total_each highest raise c.self.inside.core.recvs (λ l. refl) in
+    omega (arith, e, c.self.invariant.rest.core.sound.spent, c.self.invariant.rest.core.fits.granted)
 
 pub next_limit-self-inside-requires-clause-taken : goal.next_limit-self-inside-requires-clause-taken
 next_limit-self-inside-requires-clause-taken c =
-    let e = ap (total highest) c.raise_all.ensures.after ∙ total_each highest raise c.self.inside.recvs (λ l. refl) in
-    omega (arith, e, c.self.invariant.0.sound.spent, c.self.invariant.0.granted_fits, c.tally-taken.ensures.spent, c.tally-taken.ensures.paid)
+    let e = ap (total highest) c.raise_all.ensures.after ∙ total_each highest raise c.self.inside.core.recvs (λ l. refl) in
+    omega (arith, e, c.self.invariant.rest.core.sound.spent, c.self.invariant.rest.core.fits.granted, c.tally-taken.ensures.spent, c.tally-taken.ensures.paid)
 
 pub invariant_of-self : goal.invariant_of-self
 invariant_of-self c =
-    let inside = c.self.inside in
-    let paid = c.tally-taken.ensures.taken ∙ ap (total taken) c.raise_all.ensures.after ∙ total_each taken raise inside.recvs (λ l. refl) in
-    let limit = c.next_limit-self-inside.ensures.value ∙ ap (λ k. next_limit inside.limits.granted k inside.limits.settings.conn_window) paid in (
-      record {
-        sound =
-            subst (λ (g : ℕ). KeepsCredit inside.limits.role inside.limits.settings c.raise_all.new.self g) (sym limit)
-            (subst (λ (t : Tables RecvLane). KeepsCredit inside.limits.role inside.limits.settings t (next_limit inside.limits.granted (total taken inside.recvs) inside.limits.settings.conn_window)) (sym c.raise_all.ensures.after)
-            (keeps_settle inside.limits.role inside.limits.settings inside.recvs inside.limits.granted c.self.invariant.0.sound));
-        granted_fits = c.next_limit-self-inside.ensures.in_range;
-        peer_fits = c.self.invariant.0.peer_fits;
-        bidi_fits = c.self.invariant.0.bidi_fits;
-        uni_fits = c.self.invariant.0.uni_fits;
-        closing_fits = c.self.invariant.0.closing_fits;
-      },
-      c.self.invariant.1,
-      c.self.invariant.2,
-      fit_settled _ _ _ _ _ _ _ c.self.invariant.3 _ _ _ c.raise_all.ensures.after c.next_count.ensures c.next_count-2.ensures,
-      told_raised inside.limits.role inside.limits.settings inside.recvs inside.outbox.outstanding inside.outbox.acked inside.untold c.self.invariant.4 c.raise_all.new.self c.raise_all.new.untold c.raise_all.ensures.after c.raise_all.ensures.marks c.raise_all.ensures.marked,
-      λ _. next_now inside.limits.settings inside.recvs c.raise_all.new.self inside.ended inside.limits.granted _ _ _ c.raise_all.ensures.after limit c.next_count.ensures c.next_count-2.ensures,
-    )
+    let core = c.self.inside.core in
+    let limits = core.limits in
+    let k = c.self.invariant in
+    let h = k.rest.core in
+    let paid = c.tally-taken.ensures.taken ∙ ap (total taken) c.raise_all.ensures.after ∙ total_each taken raise core.recvs (λ l. refl) in
+    let limit = c.next_limit-self-inside.ensures.value ∙ ap (λ k. next_limit limits.granted k limits.settings.conn_window) paid in
+    let in_range = h.sound.settings in
+    record {
+      rest = record {
+        core = record {
+          sound =
+              subst (λ (g : ℕ). KeepsCredit limits.role limits.settings c.raise_all.new.self g) (sym limit)
+              (subst (λ (t : Tables RecvLane). KeepsCredit limits.role limits.settings t (next_limit limits.granted (total taken core.recvs) limits.settings.conn_window)) (sym c.raise_all.ensures.after)
+              (keeps_settle limits.role limits.settings core.recvs limits.granted h.sound));
+          fits = record {
+            granted = c.next_limit-self-inside.ensures.in_range;
+            granted_bidi = grind (arith, nat_tests, in_range, c.next_count.ensures);
+            granted_uni = grind (arith, nat_tests, in_range, c.next_count-2.ensures);
+            known = h.fits.known;
+            bidi = h.fits.bidi;
+            uni = h.fits.uni;
+          };
+          credit = h.credit;
+          counts = fit_settled _ _ _ _ _ _ _ h.counts _ _ _ c.raise_all.ensures.after c.next_count.ensures c.next_count-2.ensures;
+          told = told_raised limits.role limits.settings core.recvs core.outbox.outstanding core.outbox.acked core.untold h.told c.raise_all.new.self c.raise_all.new.untold c.raise_all.ensures.after c.raise_all.ensures.marks c.raise_all.ensures.marked;
+        };
+        idle = k.rest.idle;
+      };
+      peer_fits = k.peer_fits;
+      closing_fits = k.closing_fits;
+      few = k.few;
+      acks = k.acks;
+      settled = λ _. next_now limits.settings core.recvs c.raise_all.new.self core.ended limits.granted _ _ _ c.raise_all.ensures.after limit c.next_count.ensures c.next_count-2.ensures;
+    }
 
 pub returns : goal.returns
 returns c =
-    let inside = c.self.inside in
+    let inside = c.self.inside.core in
     let paid = c.tally-taken.ensures.taken ∙ ap (total taken) c.raise_all.ensures.after ∙ total_each taken raise inside.recvs (λ l. refl) in
     let limit = c.next_limit-self-inside.ensures.value ∙ ap (λ k. next_limit inside.limits.granted k inside.limits.settings.conn_window) paid in
-    let bidi = c.next_count.ensures ∙ ap (λ k. min inside.limits.settings.lifetime_bidi (inside.limits.settings.grant_bidi + k)) c.self.invariant.3.counted.bidi in
-    let uni = c.next_count-2.ensures ∙ ap (λ k. min inside.limits.settings.lifetime_uni (inside.limits.settings.grant_uni + k)) c.self.invariant.3.counted.uni in
+    let bidi = c.next_count.ensures ∙ ap (λ k. min inside.limits.settings.lifetime_bidi (inside.limits.settings.grant_bidi + k)) c.self.invariant.rest.core.counts.counted.bidi in
+    let uni = c.next_count-2.ensures ∙ ap (λ k. min inside.limits.settings.lifetime_uni (inside.limits.settings.grant_uni + k)) c.self.invariant.rest.core.counts.counted.uni in
     rw (← c.self.view_is, limit, c.raise_all.ensures.after, bidi, uni) refl
 
 pub next_count-requires : goal.next_count-requires
-next_count-requires c = (grants_fit c.self.inside.limits.settings c.self.invariant.0.sound.settings).0
+next_count-requires c = (grants_fit c.self.inside.core.limits.settings c.self.invariant.rest.core.sound.settings).0
 
 pub next_count-requires-2 : goal.next_count-requires-2
-next_count-requires-2 c = (grants_fit c.self.inside.limits.settings c.self.invariant.0.sound.settings).1
+next_count-requires-2 c = (grants_fit c.self.inside.core.limits.settings c.self.invariant.rest.core.sound.settings).1
 
 pub returns-then-self : goal.returns-then-self
-returns-then-self c = rw (← c.self.view_is) (settled_already _ c.self.inside.ended c.self.invariant.3.counted (c.self.invariant.5 c.if-self.true))
+returns-then-self c = rw (← c.self.view_is) (settled_already _ c.self.inside.core.ended c.self.invariant.rest.core.counts.counted (c.self.invariant.settled c.if-self.true))

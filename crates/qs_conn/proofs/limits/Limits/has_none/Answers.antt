@@ -1,6 +1,5 @@
-use Rattle.std.proofs.Common.{◌≡◌, Bool, true, not, refl, ap, subst, ◌∙◌, Option, None, Some, is_some}
-use Rattle.std.proofs.lemmas.Bool.{true≢false, not_from_true}
-use Rattle.qs_send.specs.declared.piece.Item.{Item}
+use Rattle.std.proofs.Common.{subst, ◌∙◌}
+use Rattle.std.proofs.lemmas.Bool.{not_from_true}
 use Rattle.qs_conn.specs.declared.slot.Slot.TheVariants as slots
 use Rattle.qs_conn.specs.Filling.{end_by, IsCurrentIn}
 use Rattle.qs_conn.proofs.limits.Limits.has_none.Goals as goal

@@ -1,4 +1,4 @@
-use Rattle.std.proofs.Common.{sym, ◌∙◌}
+use Rattle.std.proofs.Common.{◌∙◌}
 use Rattle.std.proofs.lemmas.List.{length-map}
 use Rattle.qs_machine.proofs.Tallies.{tally_raised, lawful_raised}
 use Rattle.qs_conn.proofs.RecvNews.{noted_raised}

@@ -1,7 +1,5 @@
 use Rattle.std.proofs.Common.{sym, subst}
-use Rattle.qs_recv.specs.Lane.{RecvLane}
 use Rattle.qs_machine.proofs.TableEdits.{open_there, lane_is}
-use Rattle.qs_conn.specs.declared.recv_marks.RecvTask.{RecvTask}
 use Rattle.qs_conn.specs.RecvTasks.{HasNone}
 use Rattle.qs_conn.proofs.recv_tables.RecvTables.may_tell.Goals as goal
 

@@ -1,0 +1,218 @@
+-- What holds of the tables of an end: each change of a part keeps it.
+use Rattle.std.proofs.Common.{◌≡◌, ℕ, ◌≤◌, ◌^◌, Bool, true, false, List, Option, None, Some, Result, Ok, Err, is_some, cond, refl, sym, ap, ◌∙◌, subst, arith}
+use Rattle.std.specs.FinMap as fmap
+use Rattle.std.specs.Result.{OnOk, OnErr}
+use Rattle.std.proofs.lemmas.Bool.{true≢false}
+use Rattle.std.proofs.lemmas.Option.{none-some}
+use Rattle.qs_ranges.specs.declared.NoMemory.{NoMemory}
+use Rattle.qs_ranges.specs.Numbers.{MAX_VARINT, NumberSet}
+use Rattle.qs_recv.specs.Lane.{RecvLane, after_read, stop, new_lane as new_recv_lane}
+use Rattle.qs_send.specs.Lane.{SendLane, Sending, new_lane as new_send_lane, answer_of, refusal, reset_refusal, write_lane, finish_lane, reset_lane, stopped_lane, allow_lane}
+use Rattle.qs_send.specs.declared.piece.Item.TheVariants.{MaxData, MaxStreamData, MaxStreams, ResetStream, StopSending, DataBlocked, StreamDataBlocked, StreamsBlocked}
+use Rattle.qs_send.specs.declared.piece.Piece.{Piece}
+use Rattle.qs_send.specs.declared.piece.Piece.TheVariants.{Data, Told}
+use Rattle.qs_calls.specs.declared.settings.PeerLimits.{PeerLimits}
+use Rattle.qs_calls.specs.declared.closing.Closed.{Closed}
+use Rattle.qs_machine.specs.Tables.{Tables, lookup, updated, open_to}
+use Rattle.qs_machine.specs.Ends.{window_by}
+use Rattle.qs_machine.specs.Outgoing.{Outgoing, HasSending, IsIdle, with_sends, on_lane, sent_sum, first_piece, first_acked_out, first_lost_out, without_piece_out, acked_at}
+use Rattle.qs_machine.specs.Standing.{KeepsCredit}
+use Rattle.qs_machine.specs.Sums.{or_none}
+use Rattle.qs_machine.proofs.Taken.{sum_open}
+use Rattle.qs_conn.specs.declared.by_dir.ByDir.{ByDir}
+use Rattle.qs_conn.specs.declared.middle.Core.{Core}
+use Rattle.qs_conn.specs.Middle.{IsCore, IsAtRest, IsKept, KeepsStreams}
+use Rattle.qs_conn.specs.Ended.{AreAllCounted, CountsFit, half_of, is_over, recounted}
+use Rattle.qs_conn.specs.Runs.{held_out}
+use Rattle.qs_conn.specs.Untold.{AreTold, marked_for}
+use Rattle.qs_conn.proofs.Calm.{told_read}
+use Rattle.qs_conn.proofs.Counted.{fit_sends, fit_allowed, fit_written, fit_finished, fit_reset, fit_told_to_stop, fit_read, fit_stopped, fit_opened}
+use Rattle.qs_conn.proofs.Funded.{sum_lane, reset_sends, sum_piece}
+use Rattle.qs_conn.proofs.Kept.{sound_after_read, sound_after_stop, sound_opened}
+use Rattle.qs_conn.proofs.Untolds.{acked_stays, lost_stays, marks_stay, told_stopped}
+
+-- the limits and the receiving halves stay, and stay again
+pub streams_same : (a : Core) → KeepsStreams a a
+streams_same a = record { limits = refl; recvs = refl }
+
+pub streams_on : (a b c : Core) → KeepsStreams a b → KeepsStreams b c → KeepsStreams a c
+streams_on a b c f g = record { limits = g.limits ∙ f.limits; recvs = g.recvs ∙ f.recvs }
+
+-- but for a RESET_STREAM an item leaves the sending halves as they are
+sends_stay : (late : Bool) (k : ℕ) (p : Piece) (o : Outgoing) → half_of p ≡ None → (first_acked_out (acked_at late k p) o).sends ≡ o.sends
+sends_stay late k (Data n c) o none = absurd (none-some n (sym none))
+sends_stay late k (Told (ResetStream n code size)) o none = absurd (none-some n (sym none))
+sends_stay late k (Told (MaxData m)) o none = refl
+sends_stay late k (Told (MaxStreamData n m)) o none = refl
+sends_stay late k (Told (MaxStreams d m)) o none = refl
+sends_stay late k (Told (StopSending n code)) o none = refl
+sends_stay late k (Told (DataBlocked m)) o none = refl
+sends_stay late k (Told (StreamDataBlocked n m)) o none = refl
+sends_stay late k (Told (StreamsBlocked d m)) o none = refl
+
+module _ (c : Core) (h : IsAtRest c) where
+  abbrev core : IsCore c
+  core = h.core
+
+  -- Sending halves
+
+  -- halves change, and none sends more
+  rest_sends : (t : Tables SendLane) (o : Outgoing) → o ≡ with_sends t c.outbox → sent_sum t ≡ sent_sum c.outbox.sends
+      → CountsFit c.limits.role c.limits.settings c.recvs t c.ended c.limits.granted_streams.bidi c.limits.granted_streams.uni → IsAtRest (record c { outbox = o })
+  rest_sends t o is sum counts =
+      let credit = core.credit in
+      subst (λ (x : Outgoing). IsAtRest (record c { outbox = x })) (sym is)
+      (record { core = record { sound = core.sound; fits = core.fits; credit = omega (arith, sum, credit); counts = counts; told = core.told }; idle = h.idle })
+
+  on_half : (n : ℕ) (f : SendLane → SendLane) (o : Outgoing) → o ≡ on_lane n f c.outbox → ((l : SendLane) → (f l).sent_end ≡ l.sent_end)
+      → CountsFit c.limits.role c.limits.settings c.recvs (updated c.outbox.sends n f (lookup c.outbox.sends n)) c.ended c.limits.granted_streams.bidi c.limits.granted_streams.uni → IsAtRest (record c { outbox = o })
+  on_half n f o is same counts = rest_sends (updated c.outbox.sends n f (lookup c.outbox.sends n)) o is (sum_lane c.outbox.sends n f same) counts
+
+  pub rest_allowed : (n limit : ℕ) (o : Outgoing) → o ≡ on_lane n (λ l. allow_lane l limit) c.outbox → IsAtRest (record c { outbox = o })
+  rest_allowed n limit o is = on_half n (λ l. allow_lane l limit) o is (λ l. refl) (fit_allowed _ _ _ _ _ _ _ core.counts _ n limit refl)
+
+  pub rest_written : (n : ℕ) (bytes : List ℕ) (o : Outgoing) → refusal (or_none (lookup c.outbox.sends n)) ≡ None → o ≡ on_lane n (λ l. write_lane l bytes) c.outbox → IsAtRest (record c { outbox = o })
+  rest_written n bytes o free is = on_half n (λ l. write_lane l bytes) o is (λ l. refl) (fit_written _ _ _ _ _ _ _ core.counts _ n bytes free refl)
+
+  pub rest_finished : (n : ℕ) (half : Sending) (o : Outgoing) → HasSending c.outbox n half → answer_of (refusal (or_none (lookup c.outbox.sends n))) ≡ Ok tt → o ≡ on_lane n finish_lane c.outbox → IsAtRest (record c { outbox = o })
+  rest_finished n half o has free is = on_half n finish_lane o is (λ l. refl) (fit_finished _ _ _ _ _ _ _ core.counts _ n c.outbox half refl has free refl)
+
+  pub rest_reset : (n code : ℕ) (o : Outgoing) → o ≡ on_lane n (λ l. reset_lane l code) c.outbox → IsAtRest (record c { outbox = o })
+  rest_reset n code o is = on_half n (λ l. reset_lane l code) o is (λ l. reset_sends code l (is_some (reset_refusal l))) (fit_reset _ _ _ _ _ _ _ core.counts _ n code refl)
+
+  pub rest_told_to_stop : (n code : ℕ) (o : Outgoing) → o ≡ on_lane n (λ l. stopped_lane l code) c.outbox → IsAtRest (record c { outbox = o })
+  rest_told_to_stop n code o is = on_half n (λ l. stopped_lane l code) o is (λ l. reset_sends code l (is_some (reset_refusal l))) (fit_told_to_stop _ _ _ _ _ _ _ core.counts _ n code refl)
+
+  -- Receiving halves
+
+  pub rest_recvs : (now : Tables RecvLane) (marks : Tables Bool) (e : ByDir ℕ) → KeepsCredit c.limits.role c.limits.settings now c.limits.granted
+      → CountsFit c.limits.role c.limits.settings now c.outbox.sends e c.limits.granted_streams.bidi c.limits.granted_streams.uni → AreTold c.limits.role c.limits.settings now c.outbox.outstanding c.outbox.acked marks
+      → IsAtRest (record c { recvs = now; untold = marks; ended = e })
+  rest_recvs now marks e sound counts told = record { core = record { sound = sound; fits = core.fits; credit = core.credit; counts = counts; told = told }; idle = h.idle }
+
+  -- a stream is read, and counted anew
+  pub rest_read : (n size : ℕ) (now : Tables RecvLane) (e : ByDir ℕ) (was is : Bool) → now ≡ updated c.recvs n (λ l. after_read l size) (lookup c.recvs n) → was ≡ is_over c.limits.role c.recvs c.outbox.sends n → is ≡ is_over c.limits.role now c.outbox.sends n
+      → e ≡ recounted n was is c.ended → IsAtRest (record c { recvs = now; ended = e })
+  rest_read n size now e was is after before behind to =
+      rest_recvs now c.untold e (sound_after_read c.limits.role c.limits.settings c.recvs now c.limits.granted n size core.sound after)
+      (fit_read _ _ _ _ _ _ _ core.counts _ core.sound now n size e was is after before behind to)
+      (told_read c.limits.role c.limits.settings c.recvs c.outbox.outstanding c.outbox.acked c.untold core.told now n size after)
+
+  pub rest_stopped : (n code : ℕ) (now : Tables RecvLane) (marks : Tables Bool) → now ≡ updated c.recvs n (λ l. stop l code) (lookup c.recvs n) → marks ≡ updated c.untold n (λ b. true) (lookup c.untold n) → IsAtRest (record c { recvs = now; untold = marks })
+  rest_stopped n code now marks after are =
+      rest_recvs now marks c.ended (sound_after_stop c.limits.role c.limits.settings c.recvs now c.limits.granted n code core.sound after)
+      (fit_stopped _ _ _ _ _ _ _ core.counts now n code after)
+      (told_stopped c.limits.role c.limits.settings c.recvs c.outbox.outstanding c.outbox.acked c.untold core.told now marks n (λ l. stop l code) after are)
+
+  -- Streams open
+
+  pub rest_opened : (n w limit buffer : ℕ) (no_send no_recv : Bool) (o : Outgoing) (now : Tables RecvLane) (marks : Tables Bool) → o ≡ with_sends (cond no_send c.outbox.sends (open_to c.outbox.sends n (λ m. new_send_lane m limit buffer))) c.outbox
+      → now ≡ cond no_recv c.recvs (open_to c.recvs n (λ m. new_recv_lane w)) → w ≡ window_by c.limits.role c.limits.settings n → AreTold c.limits.role c.limits.settings now c.outbox.outstanding c.outbox.acked marks
+      → IsAtRest (record c { outbox = o; recvs = now; untold = marks })
+  rest_opened n w limit buffer no_send no_recv o now marks is after window told =
+      let sum = sum_open c.outbox.sends n limit buffer no_send in
+      let credit = core.credit in
+      subst (λ (x : Outgoing). IsAtRest (record c { outbox = x; recvs = now; untold = marks })) (sym is)
+      (record {
+        core = record {
+          sound = sound_opened c.limits.role c.limits.settings c.recvs now c.limits.granted n w no_recv core.sound window after;
+          fits = core.fits;
+          credit = omega (arith, sum, credit);
+          counts = fit_opened _ _ _ _ _ _ _ core.counts now _ n w limit buffer no_send no_recv refl after;
+          told = told;
+        };
+        idle = h.idle;
+      })
+
+  -- Limits
+
+  pub rest_known : (most : ℕ) (streams : ByDir ℕ) → c.limits.known_data ≤ most → most ≤ MAX_VARINT → streams.bidi ≤ 2 ^ 60 → streams.uni ≤ 2 ^ 60 → IsAtRest (record c { limits = record c.limits { known_data = most; known_streams = streams } })
+  rest_known most streams more small bidi uni =
+      let credit = core.credit in
+      let fits = core.fits in
+      record {
+        core = record {
+          sound = core.sound;
+          fits = record { granted = fits.granted; granted_bidi = fits.granted_bidi; granted_uni = fits.granted_uni; known = small; bidi = bidi; uni = uni };
+          credit = omega (arith, credit, more);
+          counts = core.counts;
+          told = core.told;
+        };
+        idle = h.idle;
+      }
+
+  pub rest_wanted : (wanted : ByDir (Option ℕ)) → IsAtRest (record c { limits = record c.limits { wanted_streams = wanted } })
+  rest_wanted wanted =
+      let fits = core.fits in
+      record {
+        core = record {
+          sound = core.sound;
+          fits = record { granted = fits.granted; granted_bidi = fits.granted_bidi; granted_uni = fits.granted_uni; known = fits.known; bidi = fits.bidi; uni = fits.uni };
+          credit = core.credit;
+          counts = core.counts;
+          told = core.told;
+        };
+        idle = h.idle;
+      }
+
+  -- Pieces leave their packets
+
+  -- the first piece of a packet is acknowledged, and the stream counted anew
+  pub rest_acked : (late : Bool) (k : ℕ) (p : Piece) (o : Outgoing) (marks : Tables Bool) (e : ByDir ℕ) → first_piece (fmap.get (held_out late c.outbox) k) ≡ Some p → o ≡ first_acked_out (acked_at late k p) c.outbox → marks ≡ marked_for p c.untold
+      → AreAllCounted c.limits.role c.recvs o.sends e → IsIdle o → IsAtRest (record c { outbox = o; untold = marks; ended = e })
+  rest_acked late k p o marks e first is are counted idle =
+      let sum = ap (λ (x : Outgoing). sent_sum x.sends) is ∙ sum_piece p (without_piece_out late k c.outbox) in
+      let credit = core.credit in
+      record {
+        core = record {
+          sound = core.sound;
+          fits = core.fits;
+          credit = omega (arith, sum, credit);
+          counts = fit_sends _ _ _ _ _ _ _ core.counts o.sends e counted;
+          told = acked_stays late k p c.outbox o c.untold marks first is are c.limits.role c.limits.settings c.recvs core.told;
+        };
+        idle = idle;
+      }
+
+  -- a piece stays, but its stream may be marked
+  pub rest_marked : (p : Piece) (o : Outgoing) (marks : Tables Bool) → o ≡ c.outbox → marks ≡ marked_for p c.untold → IsAtRest (record c { outbox = o; untold = marks })
+  rest_marked p o marks is are =
+      subst (λ (x : Outgoing). IsAtRest (record c { outbox = x; untold = marks })) (sym is)
+      (record {
+        core = record { sound = core.sound; fits = core.fits; credit = core.credit; counts = core.counts; told = marks_stay p c.outbox c.outbox c.untold marks refl are c.limits.role c.limits.settings c.recvs core.told };
+        idle = h.idle;
+      })
+
+  -- a piece that changes no half is acknowledged, or stays
+  pub rest_acked_by : (result : Result (Unit {0}) NoMemory) (late : Bool) (k : ℕ) (p : Piece) (o : Outgoing) (marks : Tables Bool) → first_piece (fmap.get (held_out late c.outbox) k) ≡ Some p → half_of p ≡ None → OnOk result (o ≡ first_acked_out (acked_at late k p) c.outbox)
+      → OnErr result (o ≡ c.outbox) → marks ≡ marked_for p c.untold → IsIdle o → IsAtRest (record c { outbox = o; untold = marks })
+  rest_acked_by (Ok done) late k p o marks first none ok err are idle =
+      rest_acked late k p o marks c.ended first ok are (subst (λ (t : Tables SendLane). AreAllCounted c.limits.role c.recvs t c.ended) (sym (ap (λ (x : Outgoing). x.sends) ok ∙ sends_stay late k p c.outbox none)) core.counts.counted) idle
+  rest_acked_by (Err e) late k p o marks first none ok err are idle = rest_marked p o marks err are
+
+  -- the first piece of a packet is lost
+  pub rest_lost : (k : ℕ) (p : Piece) (o : Outgoing) (marks : Tables Bool) → first_piece (fmap.get c.outbox.outstanding k) ≡ Some p → o ≡ first_lost_out k p c.outbox → marks ≡ marked_for p c.untold → IsIdle o → IsAtRest (record c { outbox = o; untold = marks })
+  rest_lost k p o marks first is are idle =
+      let told = lost_stays k p c.outbox o c.untold marks first is are c.limits.role c.limits.settings c.recvs core.told in
+      let sends = sym (ap (λ (x : Outgoing). x.sends) is) in
+      record {
+        core = record {
+          sound = core.sound;
+          fits = core.fits;
+          credit = subst (λ (t : Tables SendLane). sent_sum t ≤ c.limits.known_data) sends core.credit;
+          counts = subst (λ (t : Tables SendLane). CountsFit c.limits.role c.limits.settings c.recvs t c.ended c.limits.granted_streams.bidi c.limits.granted_streams.uni) sends core.counts;
+          told = told;
+        };
+        idle = idle;
+      }
+
+-- What holds of an end between calls
+
+module _ (c : Core) (peer : PeerLimits) (done : NumberSet) (is due : Bool) (closed : Option Closed) (k : IsKept c peer done is due closed) where
+  -- packets and sending halves move
+  pub kept_outbox : (o : Outgoing) → IsAtRest (record c { outbox = o }) → IsKept (record c { outbox = o }) peer done is due closed
+  kept_outbox o rest = record { rest = rest; peer_fits = k.peer_fits; closing_fits = k.closing_fits; few = k.few; acks = k.acks; settled = k.settled }
+
+  -- more may have moved, which is noted
+  pub kept_moved : (now : Core) → IsAtRest now → IsKept now peer done false due closed
+  kept_moved now rest = record { rest = rest; peer_fits = k.peer_fits; closing_fits = k.closing_fits; few = k.few; acks = k.acks; settled = λ on. absurd (true≢false (sym on)) }

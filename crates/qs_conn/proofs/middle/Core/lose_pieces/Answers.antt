@@ -1,0 +1,26 @@
+use Rattle.std.proofs.Common.{Err, rules, sym, ◌∙◌}
+use Rattle.qs_ranges.specs.declared.NoMemory.{NoMemory}
+use Rattle.qs_conn.specs.Runs.{Loses}
+use Rattle.qs_conn.proofs.Cores.{rest_lost, rest_marked}
+use Rattle.qs_conn.proofs.Runs.{loses_stop, loses_more}
+use Rattle.qs_conn.proofs.middle.Core.lose_pieces.Goals as goal
+
+pub loop-piece-preserved : goal.loop-piece-preserved
+loop-piece-preserved c =
+    let before = c.loop-piece.invariant in
+    let first = sym c.first.ensures ∙ c.in-Some.is in
+    record {
+      rest = rest_lost c.loop-piece.self before.rest c.args.number c.in-Some.piece c.lose_first.new.self c.look_again.new.self first c.in_ok-lose_first.ensures.ok c.look_again.ensures c.lose_first.ensures.idle;
+      streams = record { limits = before.streams.limits; recvs = before.streams.recvs };
+      ended = before.ended;
+      onward = λ result new h. before.onward result new (loses_more c.args.number c.loop-piece.self.outbox c.lose_first.new.self new c.in-Some.piece result first c.in_ok-lose_first.ensures.ok h);
+    }
+
+pub returns-in_err-lose_first-clause-rest : goal.returns-in_err-lose_first-clause-rest
+returns-in_err-lose_first-clause-rest c = rest_marked c.loop-piece.self c.loop-piece.invariant.rest c.in-Some.piece c.lose_first.new.self c.look_again.new.self c.in_err-lose_first.ensures.err c.look_again.ensures
+
+pub returns-in_err-lose_first-clause-step : goal.returns-in_err-lose_first-clause-step
+returns-in_err-lose_first-clause-step c =
+    let h : (e : NoMemory) → Loses c.args.number c.args.self.now.outbox (Err e) c.lose_first.new.self =
+    λ e. c.loop-piece.invariant.onward (Err e) c.lose_first.new.self (loses_stop c.args.number c.loop-piece.self.outbox c.lose_first.new.self c.in-Some.piece e (sym c.first.ensures ∙ c.in-Some.is) c.in_err-lose_first.ensures.err) in
+    search (rules, h, c.from_residual.ensures)

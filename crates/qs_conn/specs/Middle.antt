@@ -1,0 +1,45 @@
+-- Of private contracts.
+-- What holds of the tables of an end, and of an end between calls.
+use Rattle.std.specs.Prelude.{◌≡◌, ◌<◌, ◌≤◌, Bool, true, Option}
+use Rattle.std.specs.FinSet as set
+use Rattle.qs_ranges.specs.Numbers.{NumberSet, run_starts}
+use Rattle.qs_calls.specs.declared.settings.PeerLimits.{PeerLimits}
+use Rattle.qs_calls.specs.declared.closing.Closed.{Closed}
+use Rattle.qs_calls.specs.Settings.{are_spellable}
+use Rattle.qs_machine.specs.Outgoing.{IsIdle, sent_sum}
+use Rattle.qs_machine.specs.Standing.{KeepsCredit}
+use Rattle.qs_conn.specs.declared.middle.Core.{Core}
+use Rattle.qs_conn.specs.Ended.{CountsFit}
+use Rattle.qs_conn.specs.Filling.{LimitsFit}
+use Rattle.qs_conn.specs.Layers.{ClosingFits}
+use Rattle.qs_conn.specs.Settled.{AreNextWhere}
+use Rattle.qs_conn.specs.Untold.{AreTold}
+
+-- What holds of the tables also while a packet is in the making: the peer is within its credit and this end within the peer's, the limits
+-- have a text, the counts of ended streams are right, and of a stream without a mark nothing is to be told that wasn't.
+pub record IsCore (c : Core) : Type 0 where
+  pub sound : KeepsCredit c.limits.role c.limits.settings c.recvs c.limits.granted
+  pub fits : LimitsFit c.limits
+  pub credit : sent_sum c.outbox.sends ≤ c.limits.known_data
+  pub counts : CountsFit c.limits.role c.limits.settings c.recvs c.outbox.sends c.ended c.limits.granted_streams.bidi c.limits.granted_streams.uni
+  pub told : AreTold c.limits.role c.limits.settings c.recvs c.outbox.outstanding c.outbox.acked c.untold
+
+-- no packet is in the making
+pub record IsAtRest (c : Core) : Type 0 where
+  pub core : IsCore c
+  pub idle : IsIdle c.outbox
+
+-- the limits and the receiving halves stay
+pub record KeepsStreams (old new : Core) : Type 0 where
+  pub limits : new.limits ≡ old.limits
+  pub recvs : new.recvs ≡ old.recvs
+
+-- What holds of an end between calls: its numbers have a spelling, an ACK that is due has a number to name, of at most 32 ranges, and where
+-- nothing moved each limit is the next one already.
+pub record IsKept (c : Core) (peer : PeerLimits) (done : NumberSet) (is_settled ack_due : Bool) (closed : Option Closed) : Type 0 where
+  pub rest : IsAtRest c
+  pub peer_fits : are_spellable peer ≡ true
+  pub closing_fits : ClosingFits closed
+  pub few : set.len (run_starts done) ≤ 32
+  pub acks : ack_due ≡ true → 0 < set.len (run_starts done)
+  pub settled : AreNextWhere is_settled c.limits.settings c.recvs c.ended c.limits.granted c.limits.granted_streams.bidi c.limits.granted_streams.uni

@@ -1,0 +1,43 @@
+//! What an end knows and has to tell.
+ghost use Rattle.std.specs.Prelude.{◌≡◌, ◌≤◌, ◌<◌, ◌^◌, ℕ, length};
+ghost use Rattle.qs_machine.specs.Tables.{table};
+ghost use Rattle.qs_conn.specs.Ended.{is_over};
+
+use crate::by_dir::ByDir;
+use crate::endpoint::{is_uni, role_bit};
+use crate::limits::Limits;
+use crate::outbox::Outbox;
+use crate::places::type_of;
+use crate::recv_tables::RecvTables;
+use crate::untold::Untold;
+use qs_wire::StreamId;
+
+mod acking;
+mod losing;
+
+/// The limits, the streams and the packets of an end: what a packet is filled from, and what an acknowledgement or a loss changes.
+#[derive(Drop)]
+pub(crate) struct Core {
+    pub limits: Limits,
+    pub outbox: Outbox,
+    pub recvs: RecvTables,
+    /// Of which streams a limit or a stop may still have to be told.
+    pub untold: Untold,
+    /// How many of the peer's streams came to their end, of each direction.
+    pub ended: ByDir<u64>,
+}
+
+impl Core {
+    /// Whether a stream is one of the peer's that came to its end: its receiving half, and if it has one its sending half (RFC 9000,
+    /// section 3).
+    pub(crate) fn is_over(&self, stream: StreamId) -> bool
+        ensures value { result ≡ is_over self.now.limits.role self.now.recvs self.now.outbox.sends stream }
+        ensures few { (k : ℕ) → k < 4 → length (table self.now.recvs k) ≤ 2 ^ 60 }
+    {
+        self.recvs.are_few();
+        if type_of(stream) % 2 == role_bit(self.limits.role) {
+            return false;
+        }
+        self.recvs.has_ended(stream) && (is_uni(stream) || self.outbox.has_ended(stream))
+    }
+}

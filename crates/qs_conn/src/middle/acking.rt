@@ -1,0 +1,105 @@
+//! Packets are acknowledged.
+ghost use Rattle.std.specs.Prelude.{◌≡◌, ◌<◌, ◌^◌, Some, OnOk, OnErr};
+ghost use Rattle.std.specs.FinMap as fmap;
+ghost use Rattle.qs_wire.specs.Varint.{numbers_of};
+ghost use Rattle.qs_wire.specs.Layout.{ack_ranges_of};
+ghost use Rattle.qs_machine.specs.Memory.{PieceMayRunOut};
+ghost use Rattle.qs_machine.specs.Outgoing.{first_piece, first_acked_out, acked_at};
+ghost use Rattle.qs_conn.specs.Middle.{IsAtRest, KeepsStreams};
+ghost use Rattle.qs_conn.specs.Ended.{half_of};
+ghost use Rattle.qs_conn.specs.Runs.{AcksAhead, AcksNamed, AcksPacket, AcksRanges, held_out};
+
+use super::Core;
+use crate::outbox::KeptPacket;
+use qs_ranges::NoMemory;
+use qs_send::{AckPass, Item, Piece};
+use qs_wire::{AckRanges, StreamId};
+
+impl Core {
+    /// The packets that an ACK names are acknowledged: the outstanding ones and then the lost ones, each from the highest number down
+    /// (RFC 9000, sections 13.2.1 and 13.3).
+    #[tactic(auto, using(crate::proofs::AckRuns::first_stops))]
+    pub(crate) fn ack(&mut self, largest: u64, ranges: &[u8]) -> Result<(), NoMemory>
+        requires rest { IsAtRest self.old }
+        requires small { largest < 2 ^ 62 }
+        ensures rest { IsAtRest self.new }
+        ensures streams { KeepsStreams self.old self.new }
+        ensures step { AcksRanges (ack_ranges_of largest (numbers_of ranges.now)) self.old.outbox result self.new.outbox }
+    {
+        self.ack_all(false, AckRanges::new(largest, ranges))?;
+        self.ack_all(true, AckRanges::new(largest, ranges))
+    }
+
+    // The packets that the ranges name are acknowledged in one pass, the outstanding ones or the lost ones.
+    #[tactic(auto, using(crate::proofs::AckRuns::all_named))]
+    fn ack_all(&mut self, late: bool, ranges: AckRanges<'_>) -> Result<(), NoMemory>
+        requires rest { IsAtRest self.old }
+        ensures rest { IsAtRest self.new }
+        ensures streams { KeepsStreams self.old self.new }
+        ensures step { AcksNamed late ranges.entry self.old.outbox result self.new.outbox }
+    {
+        let mut pass = AckPass::new(ranges);
+        let result = self.ack_ahead(late, &mut pass);
+        self.outbox.trim();
+        result
+    }
+
+    // The packets that a pass has ahead are acknowledged.
+    fn ack_ahead(&mut self, late: bool, pass: &mut AckPass<'_>) -> Result<(), NoMemory>
+        requires rest { IsAtRest self.old }
+        ensures rest { IsAtRest self.new }
+        ensures streams { KeepsStreams self.old self.new }
+        ensures step { AcksAhead late pass.old self.old.outbox result self.new.outbox }
+    {
+        while let Some(number) = self.outbox.next_named(late, pass) {
+            self.ack_packet(KeptPacket { late, number })?;
+        }
+        Ok(())
+    }
+
+    // The pieces of a packet are acknowledged, from the first on.
+    #[tactic(auto, using(crate::proofs::AckRuns::packet_end, crate::proofs::AckRuns::packet_stop, crate::proofs::AckRuns::packet_more, crate::proofs::AckRuns::packet_less))]
+    fn ack_packet(&mut self, packet: KeptPacket) -> Result<(), NoMemory>
+        requires rest { IsAtRest self.old }
+        ensures rest { IsAtRest self.new }
+        ensures streams { KeepsStreams self.old self.new }
+        ensures step { AcksPacket packet.late packet.number self.old.outbox result self.new.outbox }
+    {
+        while let Some(piece) = self.outbox.first_kept(packet) {
+            self.ack_piece(packet, piece)?;
+        }
+        Ok(())
+    }
+
+    // The first piece of a packet is acknowledged, or nothing changes.
+    fn ack_piece(&mut self, packet: KeptPacket, piece: Piece) -> Result<(), NoMemory>
+        requires rest { IsAtRest self.old }
+        requires first { first_piece (fmap.get (held_out packet.late self.old.outbox) packet.number) ≡ Some piece }
+        ensures ok { OnOk result (self.new.outbox ≡ first_acked_out (acked_at packet.late packet.number piece) self.old.outbox) }
+        ensures err { OnErr result (self.new.outbox ≡ self.old.outbox) }
+        ensures asks { OnErr result (PieceMayRunOut self.old.outbox.sends self.old.outbox.acked piece) }
+        ensures rest { IsAtRest self.new }
+        ensures streams { KeepsStreams self.old self.new }
+    {
+        self.untold.look_again(&piece);
+        let Some(stream) = half_of(&piece) else {
+            return self.outbox.ack_kept(packet, piece);
+        };
+        let was = self.is_over(stream);
+        self.outbox.ack_kept(packet, piece)?;
+        let is = self.is_over(stream);
+        self.ended.recount(stream, was, is);
+        Ok(())
+    }
+}
+
+// The stream whose sending half changes as a piece is acknowledged.
+fn half_of(piece: &Piece) -> Option<StreamId>
+    ensures { result ≡ half_of piece.now }
+{
+    match *piece {
+        Piece::Data { stream, .. } => Some(stream),
+        Piece::Told(Item::ResetStream { stream, .. }) => Some(stream),
+        Piece::Told(_) => None,
+    }
+}

@@ -1,0 +1,38 @@
+//! Packets are lost.
+ghost use Rattle.std.specs.Prelude.{◌≡◌};
+ghost use Rattle.qs_conn.specs.Middle.{IsAtRest, KeepsStreams};
+ghost use Rattle.qs_conn.specs.Runs.{Loses};
+
+use super::Core;
+use qs_ranges::NoMemory;
+
+impl Core {
+    /// The pieces of a packet are lost, and the packet is outstanding no more (RFC 9000, section 13.3).
+    pub(crate) fn lose(&mut self, number: u64) -> Result<(), NoMemory>
+        requires rest { IsAtRest self.old }
+        ensures rest { IsAtRest self.new }
+        ensures streams { KeepsStreams self.old self.new }
+        ensures ended { self.new.ended ≡ self.old.ended }
+        ensures step { Loses number self.old.outbox result self.new.outbox }
+    {
+        let result = self.lose_pieces(number);
+        self.outbox.trim();
+        result
+    }
+
+    // The pieces of a packet are lost, from the first on.
+    #[tactic(auto, using(crate::proofs::Runs::loses_end, crate::proofs::Runs::loses_less))]
+    fn lose_pieces(&mut self, number: u64) -> Result<(), NoMemory>
+        requires rest { IsAtRest self.old }
+        ensures rest { IsAtRest self.new }
+        ensures streams { KeepsStreams self.old self.new }
+        ensures ended { self.new.ended ≡ self.old.ended }
+        ensures step { Loses number self.old.outbox result self.new.outbox }
+    {
+        while let Some(piece) = self.outbox.first(number) {
+            self.untold.look_again(&piece);
+            self.outbox.lose_first(number, piece)?;
+        }
+        Ok(())
+    }
+}

@@ -1,0 +1,64 @@
+// Made from crates/qs_conn/src/middle/acking.rt by rust/erase; not edited by hand.
+//! Packets are acknowledged.
+
+use super::Core;
+use crate::proved::qs_conn::outbox::KeptPacket;
+use crate::proved::qs_ranges::NoMemory;
+use crate::proved::qs_send::{AckPass, Item, Piece};
+use crate::proved::qs_wire::{AckRanges, StreamId};
+
+impl Core {
+    /// The packets that an ACK names are acknowledged: the outstanding ones and then the lost ones, each from the highest number down
+    /// (RFC 9000, sections 13.2.1 and 13.3).
+    pub(crate) fn ack(&mut self, largest: u64, ranges: &[u8]) -> Result<(), NoMemory> {
+        debug_assert!(largest < 1 << 62);
+        self.ack_all(false, AckRanges::new(largest, ranges))?;
+        self.ack_all(true, AckRanges::new(largest, ranges))
+    }
+
+    // The packets that the ranges name are acknowledged in one pass, the outstanding ones or the lost ones.
+    fn ack_all(&mut self, late: bool, ranges: AckRanges<'_>) -> Result<(), NoMemory> {
+        let mut pass = AckPass::new(ranges);
+        let result = self.ack_ahead(late, &mut pass);
+        self.outbox.trim();
+        result
+    }
+
+    // The packets that a pass has ahead are acknowledged.
+    fn ack_ahead(&mut self, late: bool, pass: &mut AckPass<'_>) -> Result<(), NoMemory> {
+        while let Some(number) = self.outbox.next_named(late, pass) {
+            self.ack_packet(KeptPacket { late, number })?;
+        }
+        Ok(())
+    }
+
+    // The pieces of a packet are acknowledged, from the first on.
+    fn ack_packet(&mut self, packet: KeptPacket) -> Result<(), NoMemory> {
+        while let Some(piece) = self.outbox.first_kept(packet) {
+            self.ack_piece(packet, piece)?;
+        }
+        Ok(())
+    }
+
+    // The first piece of a packet is acknowledged, or nothing changes.
+    fn ack_piece(&mut self, packet: KeptPacket, piece: Piece) -> Result<(), NoMemory> {
+        self.untold.look_again(&piece);
+        let Some(stream) = half_of(&piece) else {
+            return self.outbox.ack_kept(packet, piece);
+        };
+        let was = self.is_over(stream);
+        self.outbox.ack_kept(packet, piece)?;
+        let is = self.is_over(stream);
+        self.ended.recount(stream, was, is);
+        Ok(())
+    }
+}
+
+// The stream whose sending half changes as a piece is acknowledged.
+fn half_of(piece: &Piece) -> Option<StreamId> {
+    match *piece {
+        Piece::Data { stream, .. } => Some(stream),
+        Piece::Told(Item::ResetStream { stream, .. }) => Some(stream),
+        Piece::Told(_) => None,
+    }
+}

@@ -1,0 +1,23 @@
+// Made from crates/qs_conn/src/middle/losing.rt by rust/erase; not edited by hand.
+//! Packets are lost.
+
+use super::Core;
+use crate::proved::qs_ranges::NoMemory;
+
+impl Core {
+    /// The pieces of a packet are lost, and the packet is outstanding no more (RFC 9000, section 13.3).
+    pub(crate) fn lose(&mut self, number: u64) -> Result<(), NoMemory> {
+        let result = self.lose_pieces(number);
+        self.outbox.trim();
+        result
+    }
+
+    // The pieces of a packet are lost, from the first on.
+    fn lose_pieces(&mut self, number: u64) -> Result<(), NoMemory> {
+        while let Some(piece) = self.outbox.first(number) {
+            self.untold.look_again(&piece);
+            self.outbox.lose_first(number, piece)?;
+        }
+        Ok(())
+    }
+}
