@@ -1,5 +1,5 @@
 -- Plain rounds: what leads two ends to rest.
-use Rattle.std.proofs.Common.{◌≡◌, List, ℕ, suc, ◌-◌, ◌<◌, Bool, true, false, None, Some, Result, Ok, Err, refl, sym, ◌∙◌, subst, arith}
+use Rattle.std.proofs.Common.{◌≡◌, List, ℕ, suc, ◌-◌, ◌<◌, Bool, true, false, None, Some, Result, Ok, Err, refl, sym, ap, ◌∙◌, subst, arith, if◌then◌else◌}
 use Rattle.std.specs.Prelude.{⊤, MatchBool}
 use Rattle.std.proofs.lemmas.Bool.{true≢false}
 use Rattle.std.proofs.lemmas.Option.{none-some}
@@ -12,8 +12,11 @@ use Rattle.qs_world.specs.declared.report.Report.{Report}
 use Rattle.qs_world.specs.declared.report.PlayFault.{PlayFault}
 use Rattle.qs_world.specs.declared.report.PlayFault.TheVariants as faults
 use Rattle.qs_world.specs.declared.world.draining.Drained.{Drained}
-use Rattle.qs_world.specs.Plays.{Played, HasPlayed, PlayStep}
-use Rattle.qs_world.specs.Draining.{IsIdle, IsPlain, HasDrained, DrainedReport, DrainedPlayOf}
+use Rattle.qs_world.specs.declared.world.draining.Drained.TheVariants.{AtRest}
+use Rattle.qs_world.specs.declared.world.draining.Turn.{Turn}
+use Rattle.qs_world.specs.Plays.{Played, HasAgreed, HasPlayed, PlayStep}
+use Rattle.qs_world.specs.Draining.{IsIdle, AreIdle, IsOf, IsOver, HasDrained, DrainStep, last_makes_none, next_turn, turn_after, DrainedReport, DrainedPlayOf}
+use Rattle.qs_world.proofs.Done.{all_done}
 
 -- what is found isn't missing
 pub some_outstanding : (m : Records) (k : ℕ) → IsNextOutstanding m 0 (Some k) → IsNextOutstanding m 0 None → ⊥
@@ -42,9 +45,28 @@ both_else P Q false is one = λ both. one both.0
 
 -- the loop
 
-pub drains_more : (old mid new : Played) (most left : ℕ) (event : Event) → 0 < left → HasDrained old most mid left → IsPlain mid event.end event.act → PlayStep {X = ⊤} mid event (Ok tt) new → HasDrained old most new (left - 1)
-drains_more old mid new most left event some (n, sum, steps) plain (answer, log, step) =
-    (suc n, omega (arith, sum, some), (mid, steps, (event, answer, plain, log, step)))
+-- a turn that is over is passed by
+pub drains_past : (old new : Played) (most left : ℕ) (turn after : Turn) → HasDrained old most new left turn → IsOver turn new.ends → after ≡ next_turn turn → HasDrained old most new left after
+drains_past old new most left turn after (n, before, passed, sum, steps, passes) over is = (n, before, suc passed, sum, steps, (turn, passes, over, is))
+
+-- one event more
+pub drains_more : (old mid new : Played) (most left : ℕ) (turn after : Turn) (event : Event) → 0 < left → HasDrained old most mid left turn
+    → (AreIdle mid.ends → ⊥) → IsOf turn mid event → PlayStep {X = ⊤} mid event (Ok tt) new → after ≡ (if last_makes_none new.log then next_turn turn else turn) → HasDrained old most new (left - 1) after
+drains_more old mid new most left turn after event some (n, before, passed, sum, steps, passes) busy of (answer, log, step) is =
+    let said : after ≡ turn_after turn answer = is ∙ ap (λ h. if last_makes_none h then next_turn turn else turn) log in
+    (suc n, after, 0, omega (arith, sum, some), (before, turn, passed, mid, steps, passes, (event, answer, busy, of, log, step, said)), refl)
+
+pub turn_then : (last b : Bool) (next turn after : Turn) → b ≡ last → b ≡ true → after ≡ next → after ≡ (if last then next else turn)
+turn_then true b next turn after same is e = e
+turn_then false b next turn after same is e = absurd (true≢false (sym is ∙ same))
+
+pub turn_else : (last b : Bool) (next turn : Turn) → b ≡ last → b ≡ false → turn ≡ (if last then next else turn)
+turn_else true b next turn same is = absurd (true≢false (sym same ∙ is))
+turn_else false b next turn same is = refl
+
+-- what it came to
+pub drained_to_rest : (old new : Played) (most left : ℕ) (turn : Turn) → HasDrained old most new left turn → AreIdle new.ends → HasAgreed new → DrainStep old most (Ok AtRest) new
+drained_to_rest old new most left turn (n, before, passed, sum, steps, passes) idle agreed = (n, before, omega (arith, sum), steps, (idle, all_done new agreed idle))
 
 -- plays
 

@@ -1,8 +1,10 @@
+pub mod Done
 pub mod Draining
 pub mod DrawSteps
 pub mod DrawnPackets
 pub mod DrawnRuns
 pub mod Examples
+pub mod JustMade
 pub mod LaneLists
 pub mod LastAnswers
 pub mod LogCopies

@@ -20,7 +20,7 @@ pub is_run : (a b : Settings) (log : Log) (w : World) → AgreeingRun a b log w 
 is_run a b [] w r = r.0
 is_run a b (x ∷ log) w (v, before, step, steps, rest) = (v, is_run a b log v before, step)
 
-keeps : (a b : Settings) (log : Log) (w : World) → EventRun a b log w → WorldOk a b (happened log) w
+pub keeps : (a b : Settings) (log : Log) (w : World) → EventRun a b log w → WorldOk a b (happened log) w
 keeps a b log w run = run_keeps a b (happened log) w (event_runs a b log w run)
 
 -- and every run of events is one

@@ -1,6 +1,6 @@
 -- Of public contracts.
 -- Plain rounds: two ends are led to rest. The whole file is ours: RFC 9000 has no rounds.
-use Rattle.std.specs.Prelude.{◌≡◌, ℕ, zero, suc, ◌+◌, ◌≤◌, true, false, List, [], ◌∷◌, None, Some, Result, Ok, Err, ⊤}
+use Rattle.std.specs.Prelude.{◌≡◌, ℕ, zero, suc, ◌+◌, ◌≤◌, Bool, true, false, List, [], ◌∷◌, Option, None, Some, Result, Ok, Err, ⊤, if◌then◌else◌}
 use Rattle.std.specs.FinMap as fmap
 use Rattle.qs_ranges.specs.Numbers.{MAX_VARINT}
 use Rattle.qs_machine.specs.Ends.{End}
@@ -13,8 +13,9 @@ use Rattle.qs_calls.specs.declared.event.Act.TheVariants as acts
 use Rattle.qs_calls.specs.declared.event.Event.{Event}
 use Rattle.qs_calls.specs.declared.answer.Answer.{Answer}
 use Rattle.qs_calls.specs.declared.answer.Answer.TheVariants as answers
-use Rattle.qs_runs.specs.Logs.{Did, Log, happened}
+use Rattle.qs_runs.specs.Logs.{Did, History, Log, happened, same_side}
 use Rattle.qs_runs.specs.Worlds.{World, end_of, WorldStep}
+use Rattle.qs_rest.specs.Resting.{KnowsItsLimits, CreditIsWhole, HasCreditAhead, ResetsAreFinal, AllIsDelivered}
 use Rattle.qs_world.specs.declared.report.PlayFault.{PlayFault}
 use Rattle.qs_world.specs.declared.report.PlayFault.TheVariants as faults
 use Rattle.qs_world.specs.declared.world.draining.Drained.{Drained}
@@ -34,66 +35,106 @@ IsIdle e = (GoesBesideAck e → ⊥) × IsNextOutstanding e.outstanding 0 None �
 abbrev pub AreIdle : World → Type 0
 AreIdle w = IsIdle w.a × IsIdle w.b
 
--- the answer tells of packet k
-abbrev pub MadeBy : Answer → ℕ → Type 0
-MadeBy (answers.Make (Ok (Some made)) text) k = made.number ≡ k
-MadeBy answer k = ⊥
-
--- the newest event of a log made packet k of that end
-abbrev pub HasJustMade : Side → ℕ → Log → Type 0
-HasJustMade s k [] = ⊥
-HasJustMade s k (x ∷ h) = (x.0.end ≡ s) × MadeBy x.1 k
-
--- The events of plain rounds: an outstanding packet is lost, a packet is made, the packet that was just made is delivered, and a stream with
--- news is read.
-abbrev pub IsPlain : Played → Side → Act → Type 0
-IsPlain p s (acts.Lose k) = fmap.contains_key (end_of p.ends s).outstanding k ≡ true
-IsPlain p s (acts.Make room) = room ≡ 1200
-IsPlain p s (acts.Deliver k) = HasJustMade s k p.log
-IsPlain p s (acts.ReadUpTo n size) = (size ≡ 1024) × IsReadable (end_of p.ends s) n
-IsPlain p s act = ⊥
-
--- one more plain event happened, and is logged with its answer
-abbrev pub PlainStep : Played → Played → Type 0
-PlainStep old new =
-    (event : Event) × (answer : Answer) × IsPlain old event.end event.act × (new.log ≡ (event, answer) ∷ old.log) × WorldStep (happened old.log) old.ends (Did event answer) new.ends
-
--- so many plain events happened, one after the other
-abbrev pub PlainSteps : Played → ℕ → Played → Type 0
-PlainSteps old zero new = new ≡ old
-PlainSteps old (suc n) new = (mid : Played) × PlainSteps old n mid × PlainStep mid new
-
--- both ends came to rest; or as many events happened as were allowed, and they aren't at rest; or the log found no memory
-abbrev pub DrainedBy : ℕ → ℕ → Result Drained PlayFault → World → Type 0
-DrainedBy n most (Ok AtRest) w = AreIdle w
-DrainedBy n most (Ok UsedUp) w = (n ≡ most) × (AreIdle w → ⊥)
-DrainedBy n most (Err faults.NoMemory) w = ⊤
-DrainedBy n most (Err fault) w = ⊥
-
--- at most so many plain events happened, and came to that
-abbrev pub DrainStep : Played → ℕ → Result Drained PlayFault → Played → Type 0
-DrainStep old most result new = (n : ℕ) × (n ≤ most) × PlainSteps old n new × DrainedBy n most result new.ends
+-- what the second theorem says of one side as a sender, where both ends are at rest
+pub record IsDone (h : History) (w : World) (s : Side) : Type 0 where
+  pub limits : KnowsItsLimits h w s
+  pub credit : CreditIsWhole h w s
+  pub ahead : HasCreditAhead h w s
+  pub resets : ResetsAreFinal h w s
+  pub delivered : AllIsDelivered h w s
 
 -- Turns
 
--- some plain events happened, and so many are left of those that are allowed
-abbrev pub HasDrained : Played → ℕ → Played → ℕ → Type 0
-HasDrained old most new left = (n : ℕ) × (n + left ≡ most) × PlainSteps old n new
+-- A round has six turns, A's first: an end declares lost what it has outstanding, and makes packets; at last each end reads.
+abbrev pub next_turn : Turn → Turn
+next_turn (turns.Lose s) = turns.Make s
+next_turn (turns.Make A) = turns.Lose B
+next_turn (turns.Make B) = turns.Read A
+next_turn (turns.Read A) = turns.Read B
+next_turn (turns.Read B) = turns.Lose A
 
--- how many turns come before the next one that makes packets
-abbrev pub turns_to_make : Turn → ℕ
-turns_to_make (turns.Lose A) = 2
-turns_to_make (turns.Lose B) = 1
-turns_to_make (turns.Make s) = 0
-turns_to_make (turns.Read A) = 4
-turns_to_make (turns.Read B) = 3
+-- the number of the packet that an answer tells of
+abbrev pub number_made : Answer → Option ℕ
+number_made (answers.Make (Ok (Some made)) text) = Some made.number
+number_made answer = None
 
--- A turn has no further event: no packet of the end is outstanding, or no stream has news for it. Packets are made until an answer says
--- that there is none.
+-- the number of the packet that the newest event of a log made, where it is that end's
+abbrev pub just_made : Side → Log → Option ℕ
+just_made s [] = None
+just_made s (x ∷ log) = if same_side s x.0.end then number_made x.1 else None
+
+-- the packet that was just made is delivered, or else one is made
+abbrev pub act_of_making : Option ℕ → Act
+act_of_making (Some k) = acts.Deliver k
+act_of_making None = acts.Make 1200
+
+-- An event of a turn: a packet that is outstanding is lost; one is made, and delivered at once; or a stream with news is read.
+abbrev pub IsOf : Turn → Played → Event → Type 0
+IsOf (turns.Lose s) p event = (k : ℕ) × (fmap.contains_key (end_of p.ends s).outstanding k ≡ true) × (event ≡ record { end = s; act = acts.Lose k })
+IsOf (turns.Make s) p event = event ≡ record { end = s; act = act_of_making (just_made s p.log) }
+IsOf (turns.Read s) p event = (n : ℕ) × IsReadable (end_of p.ends s) n × (event ≡ record { end = s; act = acts.ReadUpTo n 1024 })
+
+-- A turn has no event (more): no packet of the end is outstanding, or no stream has news for it. A turn that makes packets has one at least.
 abbrev pub IsOver : Turn → World → Type 0
 IsOver (turns.Lose s) w = (k : ℕ) → k ≤ MAX_VARINT → fmap.contains_key (end_of w s).outstanding k ≡ false
 IsOver (turns.Make s) w = ⊥
 IsOver (turns.Read s) w = IsLeast (IsReadable (end_of w s)) 0 None
+
+-- the answer tells that no packet was made
+abbrev pub makes_none : Answer → Bool
+makes_none (answers.Make (Ok (Some made)) text) = false
+makes_none (answers.Make answer text) = true
+makes_none answer = false
+
+-- the turn after an event with this answer: one that makes packets is over once none is made
+abbrev pub turn_after : Turn → Answer → Turn
+turn_after turn answer = if makes_none answer then next_turn turn else turn
+
+-- so many turns that are over are passed by
+abbrev pub Passes : ℕ → World → Turn → Turn → Type 0
+Passes zero w first turn = turn ≡ first
+Passes (suc n) w first turn = (before : Turn) × Passes n w first before × IsOver before w × (turn ≡ next_turn before)
+
+-- the turn's event happened in a world that isn't at rest, and is logged with its answer, which says whose turn it is then
+abbrev pub PlainStep : Turn → Played → Turn → Played → Type 0
+PlainStep turn old after new =
+    (event : Event) × (answer : Answer) × (AreIdle old.ends → ⊥) × IsOf turn old event
+    × (new.log ≡ (event, answer) ∷ old.log) × WorldStep (happened old.log) old.ends (Did event answer) new.ends × (after ≡ turn_after turn answer)
+
+-- so many plain events happened, turn by turn, from A's losses on; and whose turn it is then
+abbrev pub PlainSteps : Played → ℕ → Turn → Played → Type 0
+PlainSteps old zero turn new = (turn ≡ turns.Lose A) × (new ≡ old)
+PlainSteps old (suc n) turn new =
+    (before now : Turn) × (passed : ℕ) × (mid : Played) × PlainSteps old n before mid × Passes passed mid.ends before now × PlainStep now mid turn new
+
+-- Both ends came to rest, and all is done; or as many events happened as were allowed, and they aren't at rest; or the log found no
+-- memory.
+abbrev pub DrainedBy : ℕ → ℕ → Result Drained PlayFault → Played → Type 0
+DrainedBy n most (Ok AtRest) new = AreIdle new.ends × ((s : Side) → IsDone (happened new.log) new.ends s)
+DrainedBy n most (Ok UsedUp) new = (n ≡ most) × (AreIdle new.ends → ⊥)
+DrainedBy n most (Err faults.NoMemory) new = ⊤
+DrainedBy n most (Err fault) new = ⊥
+
+-- at most so many plain events happened, and came to that
+abbrev pub DrainStep : Played → ℕ → Result Drained PlayFault → Played → Type 0
+DrainStep old most result new = (n : ℕ) × (turn : Turn) × (n ≤ most) × PlainSteps old n turn new × DrainedBy n most result new
+
+-- some plain events happened, so many are left of those that are allowed, and it is this one's turn
+abbrev pub HasDrained : Played → ℕ → Played → ℕ → Turn → Type 0
+HasDrained old most new left turn =
+    (n : ℕ) × (before : Turn) × (passed : ℕ) × (n + left ≡ most) × PlainSteps old n before new × Passes passed new.ends before turn
+
+-- the newest event of a log was to make a packet, and made none
+abbrev pub last_makes_none : Log → Bool
+last_makes_none [] = false
+last_makes_none (x ∷ log) = makes_none x.1
+
+-- how many turns come before the next one that makes packets
+abbrev pub turns_to_make : Turn → ℕ
+turns_to_make (turns.Lose s) = 1
+turns_to_make (turns.Make s) = 0
+turns_to_make (turns.Read A) = 3
+turns_to_make (turns.Read B) = 2
 
 -- Plays
 

@@ -1,15 +1,14 @@
 //! Plain rounds lead two ends to rest.
 ghost use Rattle.std.specs.Prelude.{◌≡◌, ◌+◌, ◌<◌, ◌≤◌, true, None, IfSome, IfNone, MatchBool};
 ghost use Rattle.qs_machine.specs.News.{IsLeast, IsReadable};
-ghost use Rattle.qs_ranges.specs.Numbers.{MAX_VARINT};
 ghost use Rattle.qs_calls.specs.Events.{fits};
-ghost use Rattle.qs_runs.specs.Logs.{happened, payload};
 ghost use Rattle.qs_runs.specs.Worlds.{end_of};
 ghost use Rattle.qs_world.specs.Plays.{HasAgreed, IsMissing};
-ghost use Rattle.qs_world.specs.declared.world.draining.Turn.TheVariants.{Lose, Read};
-ghost use Rattle.qs_world.specs.Draining.{IsIdle, AreIdle, HasJustMade, IsPlain, DrainStep, turns_to_make, IsOver};
+ghost use Rattle.qs_world.specs.declared.world.draining.Turn.TheVariants.{Lose, Make, Read};
+ghost use Rattle.qs_world.specs.Draining.{IsIdle, AreIdle, DrainStep, IsOf, IsOver, just_made, last_makes_none, next_turn, number_made, turns_to_make};
 
 use super::World;
+use super::log::same_side;
 use crate::report::PlayFault;
 use qs_calls::{Act, Answer, Event, MAX_VARINT, Side};
 use qs_conn::Endpoint;
@@ -44,13 +43,13 @@ pub enum Turn {
 impl Turn {
     /// The turn that follows. A round has six, and begins with A's losses.
     fn after(self) -> Turn
+        ensures next { result ≡ next_turn self }
         ensures nearer { 0 < turns_to_make self → turns_to_make result + 1 ≡ turns_to_make self }
-        ensures near { turns_to_make result ≤ 4 }
+        ensures near { turns_to_make result ≤ 3 }
     {
         match self {
-            Turn::Lose(Side::A) => Turn::Lose(Side::B),
-            Turn::Lose(Side::B) => Turn::Make(Side::A),
-            Turn::Make(Side::A) => Turn::Make(Side::B),
+            Turn::Lose(end) => Turn::Make(end),
+            Turn::Make(Side::A) => Turn::Lose(Side::B),
             Turn::Make(Side::B) => Turn::Read(Side::A),
             Turn::Read(Side::A) => Turn::Read(Side::B),
             Turn::Read(Side::B) => Turn::Lose(Side::A),
@@ -59,11 +58,12 @@ impl Turn {
 }
 
 impl World {
-    /// Plays plain rounds until both ends are at rest, or until that many events happened. In a round each end declares lost all that is
-    /// outstanding, then each makes packets until none is made, each of which is delivered at once, and then the owner of each reads all
+    /// Plays plain rounds until both ends are at rest, or until that many events happened. In a round each end in turn declares lost all
+    /// that it has outstanding and makes packets until none is made, each of which is delivered at once; then the owner of each reads all
     /// that there is to read. Each event stands in [`World::log`] with its answer, as by [`World::happen`].
     ///
-    /// At rest nothing that was asked for is left undone: `qs_rest::laws` say what that comes to.
+    /// At rest all is done: what was written was read, unless its stream was reset or stopped, all credit is back, and resets and stops
+    /// have come to their end.
     ///
     /// Refused: `NoMemory` where the log found none. What happened until then stays.
     pub fn drain(&mut self, most: u64) -> Result<Drained, PlayFault>
@@ -101,7 +101,7 @@ impl World {
 
     // The next event of a turn.
     fn next_event(&self, turn: Turn) -> Option<Event>
-        ensures plain { IfSome result (λ event. IsPlain self.now event.end event.act × (fits event ≡ true) × (IsMissing self.now.log event → ⊥)) }
+        ensures plain { IfSome result (λ event. IsOf turn self.now event × (fits event ≡ true) × (IsMissing self.now.log event → ⊥)) }
         ensures over { IfNone result (IsOver turn self.now.ends) }
     {
         match turn {
@@ -112,7 +112,7 @@ impl World {
     }
 
     fn next_loss(&self, end: Side) -> Option<Event>
-        ensures plain { IfSome result (λ event. IsPlain self.now event.end event.act × (fits event ≡ true) × (IsMissing self.now.log event → ⊥)) }
+        ensures plain { IfSome result (λ event. IsOf (Lose end) self.now event × (fits event ≡ true) × (IsMissing self.now.log event → ⊥)) }
         ensures over { IfNone result (IsOver (Lose end) self.now.ends) }
     {
         match self.end(end).next_outstanding(0) {
@@ -126,7 +126,7 @@ impl World {
 
     // The packet that was just made is delivered, or else one is made.
     fn next_making(&self, end: Side) -> Event
-        ensures plain { IsPlain self.now result.end result.act }
+        ensures plain { IsOf (Make end) self.now result }
         ensures fits { fits result ≡ true }
         ensures there { IsMissing self.now.log result → ⊥ }
     {
@@ -143,7 +143,7 @@ impl World {
     }
 
     fn next_read(&self, end: Side) -> Option<Event>
-        ensures plain { IfSome result (λ event. IsPlain self.now event.end event.act × (fits event ≡ true) × (IsMissing self.now.log event → ⊥)) }
+        ensures plain { IfSome result (λ event. IsOf (Read end) self.now event × (fits event ≡ true) × (IsMissing self.now.log event → ⊥)) }
         ensures over { IfNone result (IsOver (Read end) self.now.ends) }
     {
         match next_news(self.end(end)) {
@@ -157,23 +157,23 @@ impl World {
 
     // The packet of that end that the newest event made.
     fn just_made(&self, end: Side) -> Option<u64>
-        ensures { IfSome result (λ k. HasJustMade end k self.now.log × (k ≤ MAX_VARINT) × (payload end k (happened self.now.log) ≡ None → ⊥)) }
+        ensures value { result ≡ just_made end self.now.log }
+        ensures agrees { HasAgreed self.now }
     {
-        match self.log.entries().last() {
-            Some((event, Answer::Make(Ok(Some(made)), _))) => {
-                let number = made.number;
-                if event.end == end && number <= MAX_VARINT && self.payload(end, number).is_some() {
-                    Some(number)
-                } else {
-                    None
-                }
-            }
-            _ => None,
+        let Some((event, answer)) = self.log.entries().last() else {
+            return None;
+        };
+        if same_side(end, event.end) {
+            number_made(answer)
+        } else {
+            None
         }
     }
 
     // Whether the newest event was to make a packet, and made none.
-    fn has_made_none(&self) -> bool {
+    fn has_made_none(&self) -> bool
+        ensures { result ≡ last_makes_none self.now.log }
+    {
         match self.log.entries().last() {
             Some((_, Answer::Make(Ok(Some(_)), _))) => false,
             Some((_, Answer::Make(_, _))) => true,
@@ -188,6 +188,16 @@ impl World {
             Side::A => &self.a,
             Side::B => &self.b,
         }
+    }
+}
+
+// The number of the packet that an answer tells of.
+fn number_made(answer: &Answer) -> Option<u64>
+    ensures { result ≡ number_made answer.now }
+{
+    match answer {
+        Answer::Make(Ok(Some(made)), _) => Some(made.number),
+        _ => None,
     }
 }
 

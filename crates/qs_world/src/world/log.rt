@@ -182,7 +182,7 @@ fn makes_by(act: &Act, answer: &Answer) -> bool
     }
 }
 
-fn same_side(a: Side, b: Side) -> bool
+pub(super) fn same_side(a: Side, b: Side) -> bool
     ensures { result ≡ same_side a b }
 {
     match (a, b) {

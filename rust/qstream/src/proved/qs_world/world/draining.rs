@@ -2,6 +2,7 @@
 //! Plain rounds lead two ends to rest.
 
 use super::World;
+use super::log::same_side;
 use crate::proved::qs_world::report::PlayFault;
 use crate::proved::qs_calls::{Act, Answer, Event, MAX_VARINT, Side};
 use crate::proved::qs_conn::Endpoint;
@@ -37,9 +38,8 @@ impl Turn {
     /// The turn that follows. A round has six, and begins with A's losses.
     fn after(self) -> Turn {
         match self {
-            Turn::Lose(Side::A) => Turn::Lose(Side::B),
-            Turn::Lose(Side::B) => Turn::Make(Side::A),
-            Turn::Make(Side::A) => Turn::Make(Side::B),
+            Turn::Lose(end) => Turn::Make(end),
+            Turn::Make(Side::A) => Turn::Lose(Side::B),
             Turn::Make(Side::B) => Turn::Read(Side::A),
             Turn::Read(Side::A) => Turn::Read(Side::B),
             Turn::Read(Side::B) => Turn::Lose(Side::A),
@@ -48,11 +48,12 @@ impl Turn {
 }
 
 impl World {
-    /// Plays plain rounds until both ends are at rest, or until that many events happened. In a round each end declares lost all that is
-    /// outstanding, then each makes packets until none is made, each of which is delivered at once, and then the owner of each reads all
+    /// Plays plain rounds until both ends are at rest, or until that many events happened. In a round each end in turn declares lost all
+    /// that it has outstanding and makes packets until none is made, each of which is delivered at once; then the owner of each reads all
     /// that there is to read. Each event stands in [`World::log`] with its answer, as by [`World::happen`].
     ///
-    /// At rest nothing that was asked for is left undone: `qs_rest::laws` say what that comes to.
+    /// At rest all is done: what was written was read, unless its stream was reset or stopped, all credit is back, and resets and stops
+    /// have come to their end.
     ///
     /// Refused: `NoMemory` where the log found none. What happened until then stays.
     pub fn drain(&mut self, most: u64) -> Result<Drained, PlayFault> {
@@ -127,16 +128,13 @@ impl World {
 
     // The packet of that end that the newest event made.
     fn just_made(&self, end: Side) -> Option<u64> {
-        match self.log.entries().last() {
-            Some((event, Answer::Make(Ok(Some(made)), _))) => {
-                let number = made.number;
-                if event.end == end && number <= MAX_VARINT && self.payload(end, number).is_some() {
-                    Some(number)
-                } else {
-                    None
-                }
-            }
-            _ => None,
+        let Some((event, answer)) = self.log.entries().last() else {
+            return None;
+        };
+        if same_side(end, event.end) {
+            number_made(answer)
+        } else {
+            None
         }
     }
 
@@ -154,6 +152,14 @@ impl World {
             Side::A => &self.a,
             Side::B => &self.b,
         }
+    }
+}
+
+// The number of the packet that an answer tells of.
+fn number_made(answer: &Answer) -> Option<u64> {
+    match answer {
+        Answer::Make(Ok(Some(made)), _) => Some(made.number),
+        _ => None,
     }
 }
 

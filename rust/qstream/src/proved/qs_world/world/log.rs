@@ -121,7 +121,7 @@ fn makes_by(act: &Act, answer: &Answer) -> bool {
     }
 }
 
-fn same_side(a: Side, b: Side) -> bool {
+pub(super) fn same_side(a: Side, b: Side) -> bool {
     match (a, b) {
         (Side::A, Side::A) => true,
         (Side::B, Side::B) => true,
