@@ -1,5 +1,7 @@
-//! Work whose instructions `tests/bench/run` counts: small, and the same at each run.
+//! Work whose instructions `tests/bench/run` counts, and whose calls `bench/calls` does: small, and the same at each run.
 
+use crate::acts::{Act, played};
+use crate::counting::gotsavena_counted;
 use crate::ends::{Load, PLAIN, Pair};
 use crate::parts::{half_takes_in_order, mixed, read_once};
 
@@ -8,13 +10,6 @@ pub struct Counted {
     pub name: &'static str,
     /// Does it once, after a warm-up, and answers of how many units it was.
     pub run: fn() -> u64,
-}
-
-// The instructions of what it calls are counted: callgrind finds it by this name.
-#[unsafe(no_mangle)]
-#[inline(never)]
-fn gotsavena_counted(work: &mut dyn FnMut()) {
-    work();
 }
 
 fn decode() -> u64 {
@@ -69,12 +64,18 @@ fn whole_loop(active: u64) -> u64 {
     pair.made - before
 }
 
-pub fn all() -> [Counted; 4] {
+pub fn all() -> [Counted; 10] {
     let counted = |name, run| Counted { name, run };
     [
         counted("decode", decode),
         counted("in-order", in_order),
         counted("loop-1", || whole_loop(1)),
         counted("loop-64", || whole_loop(64)),
+        counted("write", || played(Act::Write)),
+        counted("make", || played(Act::Make)),
+        counted("receive", || played(Act::Receive)),
+        counted("read", || played(Act::Read)),
+        counted("lose", || played(Act::Lose)),
+        counted("ack-late", || played(Act::AckLate)),
     ]
 }

@@ -3,8 +3,10 @@
 //! `gotsavena-bench` alone lists the rows, each with its unit and its measure: `ns`, or `B` where the row tells bytes of memory. `bench/run` alternates it with the peers' drivers.
 //! `gotsavena-bench --count WORK` does a small piece of work once and prints its units, for a counter of instructions.
 
+mod acts;
 mod clock;
 mod counted;
+mod counting;
 mod ends;
 mod idle;
 mod parts;
