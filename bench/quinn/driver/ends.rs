@@ -53,8 +53,12 @@ impl End {
             initial_max_streams_uni: streams,
             ..TransportParameters::default()
         });
+        Self::of(state)
+    }
+
+    pub fn of(streams: StreamsState) -> Self {
         End {
-            streams: state,
+            streams,
             pending: Retransmits::default(),
             acks: PendingAcks::default(),
             dedup: Dedup::new(),
@@ -124,6 +128,14 @@ impl End {
                 Frame::MaxStreams { dir, count } => {
                     self.streams.received_max_streams(dir, count).unwrap()
                 }
+                Frame::ResetStream(frame) => {
+                    if self.streams.received_reset(frame).unwrap().should_transmit() {
+                        self.pending.max_data = true;
+                    }
+                }
+                Frame::StopSending(frame) => self
+                    .streams
+                    .received_stop_sending(frame.id, frame.error_code),
                 Frame::Padding | Frame::Ping => {}
                 other => panic!("{:?}", other),
             }
@@ -141,17 +153,26 @@ impl End {
         }
     }
 
-    pub fn acked(&mut self, ack: &Ack) {
+    pub fn newly_acked(&self, ack: &Ack) -> ArrayRangeSet {
         let mut newly = ArrayRangeSet::new();
         for run in ack.iter() {
             for (&number, _) in self.sent.range(run) {
                 newly.insert_one(number);
             }
         }
-        for number in newly.elts() {
+        newly
+    }
+
+    pub fn acked(&mut self, ack: &Ack) {
+        for number in self.newly_acked(ack).elts() {
             let packet = self.sent.remove(&number).unwrap();
             if let Some(largest) = packet.largest_acked {
                 self.acks.subtract_below(largest);
+            }
+            if let Some(told) = packet.retransmits.get() {
+                for (id, _) in &told.reset_stream {
+                    self.streams.reset_acked(*id);
+                }
             }
             for frame in packet.stream_frames {
                 self.streams.received_ack_of(frame);

@@ -1,0 +1,34 @@
+//! A hostile peer against our end: `gotsavena-attacks` lists the attacks, `gotsavena-attacks NAME SIZE` plays one. `bench/attacks` plays
+//! them all, beside quinn-proto.
+
+#[path = "../clock.rs"]
+mod clock;
+#[path = "../counting.rs"]
+mod counting;
+// It refuses memory, too, which no attack asks for.
+#[allow(dead_code)]
+#[path = "../memory/heap.rs"]
+mod heap;
+mod ours;
+mod packets;
+mod play;
+mod streams;
+mod table;
+
+use clock::time;
+use counting::gotsavena_counted;
+use play::Attack;
+use std::process::ExitCode;
+
+#[global_allocator]
+static ALLOCATOR: heap::Watched = heap::Watched;
+
+fn main() -> ExitCode {
+    let groups = [
+        Attack::BY_BYTES,
+        Attack::BY_ACKS,
+        Attack::BY_ITEMS,
+        ours::ALONE,
+    ];
+    play::main(&groups, heap::live)
+}

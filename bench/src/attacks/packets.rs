@@ -1,0 +1,157 @@
+//! Attacks by ACKs, and by what makes an end look at much as it makes a packet.
+
+use super::play::{Play, ROOM, Target, own};
+use gotsavena::{Dir, Frame};
+
+pub fn nothing<T>(_play: &mut Play<T>, _size: u64) {}
+
+// The end makes so many packets, each with a byte of one stream.
+fn packets<T: Target>(play: &mut Play<T>, count: u64) {
+    let stream = play.end.open(Dir::Uni);
+    for _ in 0..count {
+        play.end.write(stream, b"x");
+        play.make();
+    }
+}
+
+/// A payload with an ACK of so many ranges, of one packet each.
+pub fn many_ranges<T: Target>(play: &mut Play<T>, ranges: u64) {
+    packets(play, 2 * ranges);
+    play.put(Frame::Ack {
+        largest: 2 * ranges - 1,
+        delay: 0,
+        // The first range, and then a gap and a range each, all of one number.
+        ranges: &vec![0; 2 * ranges as usize - 1],
+        ecn: None,
+    });
+}
+
+/// A payload with an ACK of so many packets, and padding.
+pub fn padded_ack<T: Target>(play: &mut Play<T>, count: u64) {
+    packets(play, count);
+    play.put_ack(0, count - 1);
+    while play.len() < ROOM {
+        play.put(Frame::Padding);
+    }
+}
+
+pub fn ask_acked<T: Target>(play: &mut Play<T>, _size: u64, _step: u64) {
+    play.ask_acked();
+}
+
+/// A PING is answered in a packet of so much room.
+pub fn ping_in<T: Target>(play: &mut Play<T>, room: u64, _step: u64) {
+    play.send(Frame::Ping);
+    play.make_in(room as usize);
+}
+
+pub fn ping<T: Target>(play: &mut Play<T>, _streams: u64, _step: u64) {
+    play.send(Frame::Ping);
+    play.make();
+}
+
+// So many streams are written to, and what may go went.
+fn writers<T: Target>(play: &mut Play<T>, streams: u64) {
+    for _ in 0..streams {
+        let stream = play.end.open(Dir::Uni);
+        play.end.write(stream, &[b'x'; 20]);
+    }
+    play.drain();
+}
+
+/// They wait for credit, and the peer was told so.
+pub fn blocked<T: Target>(play: &mut Play<T>, streams: u64) {
+    writers(play, streams);
+    play.ack_all();
+}
+
+/// They are reset, and the peer doesn't acknowledge it.
+pub fn resets<T: Target>(play: &mut Play<T>, streams: u64) {
+    writers(play, streams);
+    for index in 0..streams {
+        play.end.reset(own(Dir::Uni, index));
+    }
+    play.drain();
+}
+
+// The peer lets one byte more of a stream go, which isn't all that was written: the byte goes, and then the end tells that it is blocked.
+fn raise<T: Target>(play: &mut Play<T>, index: u64, maximum: u64) {
+    play.send(Frame::MaxStreamData {
+        stream: own(Dir::Uni, index),
+        maximum,
+    });
+    play.drain();
+}
+
+/// The second stream was blocked at so many limits, and the peer acknowledges nothing.
+pub fn blocked_often<T: Target>(play: &mut Play<T>, limits: u64) {
+    for written in [1000, limits as usize + 2] {
+        let stream = play.end.open(Dir::Uni);
+        play.end.write(stream, &vec![b'x'; written]);
+    }
+    play.drain();
+    (0..limits).for_each(|limit| raise(play, 1, limit + 2));
+}
+
+/// And now the first one is.
+pub fn blocked_below<T: Target>(play: &mut Play<T>, _limits: u64, step: u64) {
+    raise(play, 0, step + 2);
+}
+
+pub fn sending<T: Target>(play: &mut Play<T>, streams: u64) {
+    writers(play, streams);
+}
+
+/// From the last stream on each is stopped, and the end tells its reset.
+pub fn stop_downwards<T: Target>(play: &mut Play<T>, streams: u64, step: u64) {
+    play.send(Frame::StopSending {
+        stream: own(Dir::Uni, streams - 1 - step),
+        code: step,
+    });
+    play.make();
+}
+
+/// So many times in one payload a stream is stopped with another code.
+pub fn stop_again<T: Target>(play: &mut Play<T>, frames: u64, step: u64) {
+    for code in frames * step..frames * (step + 1) {
+        play.put(Frame::StopSending {
+            stream: own(Dir::Uni, 0),
+            code,
+        });
+    }
+    play.deliver();
+}
+
+pub fn one_sending<T: Target>(play: &mut Play<T>, _frames: u64) {
+    writers(play, 1);
+}
+
+/// All of so many packets are acknowledged, but the first one.
+pub fn all_but_first<T: Target>(play: &mut Play<T>, count: u64) {
+    packets(play, count);
+    play.put_ack(1, count - 1);
+    play.deliver();
+}
+
+/// One more packet is made and acknowledged.
+pub fn next_packet<T: Target>(play: &mut Play<T>, _count: u64, _step: u64) {
+    play.end.write(own(Dir::Uni, 0), b"x");
+    let number = play.make().expect("a byte is due");
+    play.put_ack(number, number);
+    play.deliver();
+}
+
+/// All of so many packets are acknowledged, but the first and the last one.
+pub fn all_between<T: Target>(play: &mut Play<T>, count: u64) {
+    packets(play, count);
+    play.put_ack(1, count - 2);
+    play.deliver();
+}
+
+/// That ACK comes again, a hundred times in one payload.
+pub fn ack_again<T: Target>(play: &mut Play<T>, count: u64, _step: u64) {
+    for _ in 0..100 {
+        play.put_ack(1, count - 2);
+    }
+    play.deliver();
+}

@@ -1,0 +1,245 @@
+//! A hostile peer plays against an end: it puts payloads together, the end takes them in and answers, and the last tenth is timed. The
+//! driver over quinn-proto is built of this file, too.
+
+use super::gotsavena_counted;
+use super::time;
+use gotsavena::{Dir, Frame, Role, StreamId};
+use std::process::ExitCode;
+use std::time::Duration;
+
+/// What an end is set to, beside the windows of a server: 1 MiB a stream, 16 MiB a connection.
+#[derive(Clone, Copy)]
+pub struct Setup {
+    /// How many streams of each direction the peer may open at once, of 65,536 in all.
+    pub streams: u64,
+    /// What the peer grants: bytes on all streams together.
+    pub max_data: u64,
+    /// And on each stream.
+    pub max_stream_data: u64,
+}
+
+/// An end that is attacked, with its owner. It is a server; what it opens, the peer grants.
+pub trait Target {
+    fn new(setup: Setup) -> Self;
+    /// Takes a payload in, which breaks no rule.
+    fn receive(&mut self, number: u64, payload: &[u8]);
+    /// Makes the next packet, and answers its number.
+    fn make(&mut self, out: &mut [u8]) -> Option<u64>;
+    /// How many of its packets the payload newly acknowledges. It isn't taken in.
+    fn newly_acked(&self, payload: &[u8]) -> u64;
+    fn open(&mut self, dir: Dir) -> StreamId;
+    fn write(&mut self, stream: StreamId, bytes: &[u8]);
+    /// Reads all that there is, an end or a reset too.
+    fn read(&mut self, stream: StreamId);
+    fn reset(&mut self, stream: StreamId);
+    fn stop(&mut self, stream: StreamId);
+    /// The attack is over, and so many packets came.
+    fn settle(&mut self, came: u64);
+}
+
+/// An attack: how it is made ready, and then a step for each payload.
+pub struct Attack<T> {
+    pub name: &'static str,
+    pub what: &'static str,
+    pub sizes: [u64; 3],
+    pub setup: Setup,
+    /// Of this size.
+    pub ready: fn(&mut Play<T>, u64),
+    /// How many steps there are at this size.
+    pub steps: fn(u64) -> u64,
+    /// Of this size, the step of this number.
+    pub step: fn(&mut Play<T>, u64, u64),
+}
+
+/// An end, the payload that is put together for it, and what its answers took.
+pub struct Play<T> {
+    pub end: T,
+    payload: Vec<u8>,
+    len: usize,
+    out: Vec<u8>,
+    next: u64,
+    sent: usize,
+    /// How many packets the end made.
+    made: u64,
+    is_timed: bool,
+    spent: Duration,
+    looks: u32,
+}
+
+/// What a run told.
+struct Told {
+    time: f64,
+    heap: usize,
+    sent: usize,
+    payloads: u64,
+}
+
+/// The room of a packet, in bytes.
+pub const ROOM: usize = 1200;
+
+impl<T: Target> Play<T> {
+    /// Calls the end. In the last tenth the call is timed and counted.
+    pub fn call(&mut self, mut call: impl FnMut(&mut T)) {
+        let end = &mut self.end;
+        if self.is_timed {
+            self.spent += time(|| gotsavena_counted(&mut || call(end)));
+            self.looks += 1;
+        } else {
+            call(end);
+        }
+    }
+
+    /// How long the payload is so far.
+    pub fn len(&self) -> usize {
+        self.len
+    }
+
+    /// Puts a frame at the payload's end.
+    pub fn put(&mut self, frame: Frame<'_>) {
+        self.len += gotsavena::put(&frame, &mut self.payload[self.len..]).expect("it fits");
+    }
+
+    /// Puts an ACK of these packets at the payload's end.
+    pub fn put_ack(&mut self, first: u64, last: u64) {
+        let packets = first..last + 1;
+        let packets = std::slice::from_ref(&packets);
+        let (_, len) = gotsavena::put_ack(packets, &mut self.payload[self.len..]).expect("it fits");
+        self.len += len;
+    }
+
+    /// The payload comes to the end.
+    pub fn deliver(&mut self) {
+        let (payload, number, len) = (std::mem::take(&mut self.payload), self.next, self.len);
+        self.call(|end| end.receive(number, &payload[..len]));
+        self.payload = payload;
+        self.next += 1;
+        self.sent += len;
+        self.len = 0;
+    }
+
+    /// A payload of one frame comes.
+    pub fn send(&mut self, frame: Frame<'_>) {
+        self.put(frame);
+        self.deliver();
+    }
+
+    /// The end makes a packet in a room of so many bytes.
+    pub fn make_in(&mut self, room: usize) -> Option<u64> {
+        let (mut out, mut made) = (std::mem::take(&mut self.out), None);
+        self.call(|end| made = end.make(&mut out[..room]));
+        self.out = out;
+        self.made = made.map_or(self.made, |number| number + 1);
+        made
+    }
+
+    pub fn make(&mut self) -> Option<u64> {
+        self.make_in(ROOM)
+    }
+
+    /// The end makes all packets that it has something for.
+    pub fn drain(&mut self) {
+        while self.make().is_some() {}
+    }
+
+    /// All that the end made is acknowledged.
+    pub fn ack_all(&mut self) {
+        self.put_ack(0, self.made - 1);
+        self.deliver();
+    }
+
+    /// The end is asked what the payload acknowledges, which stays as it is.
+    pub fn ask_acked(&mut self) {
+        let payload = std::mem::take(&mut self.payload);
+        let len = self.len;
+        self.call(|end| assert!(end.newly_acked(&payload[..len]) > 0));
+        self.payload = payload;
+    }
+
+    /// What isn't timed, within a step.
+    pub fn aside(&mut self, what: impl FnOnce(&mut Self)) {
+        let was = std::mem::replace(&mut self.is_timed, false);
+        what(self);
+        self.is_timed = was;
+    }
+}
+
+/// A stream that the peer opened.
+pub fn theirs(dir: Dir, index: u64) -> StreamId {
+    StreamId::from_parts(Role::Client, dir, index).expect("it is below 2^62")
+}
+
+/// A stream that the end opened.
+pub fn own(dir: Dir, index: u64) -> StreamId {
+    StreamId::from_parts(Role::Server, dir, index).expect("it is below 2^62")
+}
+
+// What a look at the clock takes by itself.
+fn clock() -> Duration {
+    const LOOKS: u32 = 10_000;
+    let spent: Duration = (0..LOOKS).map(|_| time(|| ())).sum();
+    spent / LOOKS
+}
+
+// Plays the attack at this size. The heap is what the end holds behind the last step.
+fn play<T: Target>(attack: &Attack<T>, size: u64, live: fn() -> usize) -> Told {
+    let (payload, out) = (vec![0; 1 << 16], vec![0; 1 << 14]);
+    let before = live();
+    let mut play = Play {
+        end: T::new(attack.setup),
+        payload,
+        len: 0,
+        out,
+        next: 0,
+        sent: 0,
+        made: 0,
+        is_timed: false,
+        spent: Duration::ZERO,
+        looks: 0,
+    };
+    (attack.ready)(&mut play, size);
+    let steps = (attack.steps)(size);
+    let payloads = steps.div_ceil(10);
+    for step in 0..steps {
+        play.is_timed = step + payloads >= steps;
+        (attack.step)(&mut play, size, step);
+    }
+    let heap = live() - before;
+    play.end.settle(play.next);
+    let spent = play.spent.saturating_sub(clock() * play.looks);
+    Told {
+        time: spent.as_nanos() as f64 / payloads as f64,
+        heap,
+        sent: play.sent,
+        payloads,
+    }
+}
+
+/// Lists the attacks, each with its sizes and in words, or plays one: `NAME SIZE` prints the nanoseconds that a payload of the last tenth
+/// took, the bytes of heap that the end holds, and the bytes of the payloads that it got; `--count NAME SIZE` prints how many payloads
+/// the last tenth had, for a counter of instructions.
+pub fn main<T: Target>(groups: &[&[Attack<T>]], live: fn() -> usize) -> ExitCode {
+    let words: Vec<String> = std::env::args().skip(1).collect();
+    let is_count = words.first().is_some_and(|word| word == "--count");
+    let asked = &words[usize::from(is_count)..];
+    if asked.is_empty() {
+        for attack in groups.iter().copied().flatten() {
+            let [least, middle, most] = attack.sizes;
+            println!("{} {least} {middle} {most} {}", attack.name, attack.what);
+        }
+        return ExitCode::SUCCESS;
+    }
+    let mut attacks = groups.iter().copied().flatten();
+    let found = attacks.find(|attack| attack.name == asked[0]);
+    let size = asked.get(1).and_then(|word| word.parse().ok());
+    let (Some(attack), Some(size)) = (found, size) else {
+        eprintln!("attacks: there is no attack {}", asked.join(" "));
+        return ExitCode::from(2);
+    };
+    let told = play(attack, size, live);
+    if is_count {
+        println!("{}", told.payloads);
+    } else {
+        println!("{:.1} {} {}", told.time, told.heap, told.sent);
+    }
+    ExitCode::SUCCESS
+}

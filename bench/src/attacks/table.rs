@@ -1,0 +1,229 @@
+//! The attacks, each with its three sizes.
+
+use super::packets as p;
+use super::play::{Attack, Setup, Target};
+use super::streams as s;
+
+const SERVER: Setup = Setup {
+    streams: 100,
+    max_data: 1 << 40,
+    max_stream_data: 1 << 40,
+};
+/// It lets the peer open 4,096 streams at once.
+pub const BUSY: Setup = Setup {
+    streams: 4096,
+    ..SERVER
+};
+/// The peer grants so many bytes of each stream, or of all together.
+const TIGHT: Setup = Setup {
+    max_stream_data: 10,
+    ..BUSY
+};
+const POOR: Setup = Setup {
+    max_data: 10,
+    ..BUSY
+};
+const BYTEWISE: Setup = Setup {
+    max_stream_data: 1,
+    ..SERVER
+};
+
+impl<T: Target + 'static> Attack<T> {
+    pub const BY_BYTES: &'static [Attack<T>] = &[
+        Attack {
+            name: "two-stopped",
+            what: "of so many opened streams two are stopped, and a byte of both comes again",
+            sizes: [4096, 16_384, 65_536],
+            setup: SERVER,
+            ready: s::two_stopped,
+            steps: |_| 200,
+            step: s::repeat_both,
+        },
+        Attack {
+            name: "reset-over-holes",
+            what: "on so many streams 4,096 bytes come, each second one, then a reset, which is read",
+            sizes: [4, 16, 64],
+            setup: SERVER,
+            ready: p::nothing,
+            steps: s::reset_payloads,
+            step: s::reset_over_holes,
+        },
+        Attack {
+            name: "stopped-holes",
+            what: "of a stopped stream so many bytes come, each second one",
+            sizes: [12_800, 51_200, 204_800],
+            setup: SERVER,
+            ready: s::stopped,
+            steps: s::by_many,
+            step: s::stopped_holes,
+        },
+        Attack {
+            name: "far-byte",
+            what: "one payload brings the first byte of 16 streams, at this offset",
+            sizes: [65_535, 262_143, 1_048_575],
+            setup: BUSY,
+            ready: p::nothing,
+            steps: |_| 64,
+            step: s::far_byte,
+        },
+        Attack {
+            name: "near-and-far-byte",
+            what: "the same, with the byte at 1 before it",
+            sizes: [32_768, 131_072, 524_288],
+            setup: BUSY,
+            ready: p::nothing,
+            steps: |_| 64,
+            step: s::near_and_far_byte,
+        },
+        Attack {
+            name: "window-downwards",
+            what: "each second byte of so many of the connection's credit, the last one first",
+            sizes: [1 << 16, 1 << 20, 1 << 24],
+            setup: SERVER,
+            ready: p::nothing,
+            steps: s::by_twice_many,
+            step: s::window_downwards,
+        },
+        Attack {
+            name: "window-upwards",
+            what: "the same in order",
+            sizes: [1 << 16, 1 << 20, 1 << 24],
+            setup: SERVER,
+            ready: p::nothing,
+            steps: s::by_twice_many,
+            step: s::window_upwards,
+        },
+        Attack {
+            name: "window-scattered",
+            what: "the same in no order",
+            sizes: [1 << 16, 1 << 20, 1 << 22],
+            setup: SERVER,
+            ready: p::nothing,
+            steps: s::by_twice_many,
+            step: s::window_scattered,
+        },
+        Attack {
+            name: "byte-on-each",
+            what: "a byte comes on each of so many streams that the end opened",
+            sizes: [4096, 16_384, 65_536],
+            setup: SERVER,
+            ready: s::own_streams,
+            steps: s::by_many,
+            step: s::byte_on_each,
+        },
+        Attack {
+            name: "three-quarters",
+            what: "of so many streams the last byte of a window came first, and three quarters of it were read",
+            sizes: [8, 16, 32],
+            setup: SERVER,
+            ready: p::nothing,
+            steps: s::quarters_payloads,
+            step: s::three_quarters,
+        },
+    ];
+
+    pub const BY_ACKS: &'static [Attack<T>] = &[
+        Attack {
+            name: "acked-ranges",
+            what: "which packets an ACK of so many ranges newly acknowledges",
+            sizes: [150, 300, 600],
+            setup: SERVER,
+            ready: p::many_ranges,
+            steps: |_| 20,
+            step: p::ask_acked,
+        },
+        Attack {
+            name: "acked-padded",
+            what: "which packets an ACK of so many newly acknowledges, beside padding up to 1,200 bytes",
+            sizes: [250, 1000, 4000],
+            setup: SERVER,
+            ready: p::padded_ack,
+            steps: |_| 10,
+            step: p::ask_acked,
+        },
+        Attack {
+            name: "all-but-first",
+            what: "of so many packets all but the first are acknowledged, and then each one more",
+            sizes: [5000, 10_000, 20_000],
+            setup: SERVER,
+            ready: p::all_but_first,
+            steps: |_| 200,
+            step: p::next_packet,
+        },
+        Attack {
+            name: "ack-again",
+            what: "an ACK of all so many packets but the first and the last comes again, 100 times in one payload",
+            sizes: [16_000, 32_000, 64_000],
+            setup: SERVER,
+            ready: p::all_between,
+            steps: |_| 50,
+            step: p::ack_again,
+        },
+    ];
+
+    pub const BY_ITEMS: &'static [Attack<T>] = &[
+        Attack {
+            name: "one-ping",
+            what: "a PING is answered in a room of so many bytes",
+            sizes: [1200, 4096, 16_383],
+            setup: SERVER,
+            ready: p::nothing,
+            steps: |_| 1,
+            step: p::ping_in,
+        },
+        Attack {
+            name: "ping-beside-limits",
+            what: "a PING is answered while so many streams stand at their limits",
+            sizes: [100, 640, 4096],
+            setup: TIGHT,
+            ready: p::blocked,
+            steps: |_| 200,
+            step: p::ping,
+        },
+        Attack {
+            name: "ping-beside-starved",
+            what: "a PING is answered while so many streams wait for the connection's credit",
+            sizes: [100, 640, 4096],
+            setup: POOR,
+            ready: p::blocked,
+            steps: |_| 200,
+            step: p::ping,
+        },
+        Attack {
+            name: "ping-beside-resets",
+            what: "a PING is answered while so many streams have a reset that isn't acknowledged",
+            sizes: [100, 640, 4096],
+            setup: BUSY,
+            ready: p::resets,
+            steps: |_| 200,
+            step: p::ping,
+        },
+        Attack {
+            name: "blocked-below",
+            what: "so often a stream was blocked at another limit, and now a lower stream is",
+            sizes: [10_000, 30_000, 100_000],
+            setup: BYTEWISE,
+            ready: p::blocked_often,
+            steps: |_| 100,
+            step: p::blocked_below,
+        },
+        Attack {
+            name: "stop-downwards",
+            what: "so many streams are stopped by STOP_SENDING, the last one first, and each is answered",
+            sizes: [100, 640, 4096],
+            setup: BUSY,
+            ready: p::sending,
+            steps: |streams| streams,
+            step: p::stop_downwards,
+        },
+        Attack {
+            name: "stop-again",
+            what: "so many STOP_SENDING of one stream come in one payload, each with a new code",
+            sizes: [40, 80, 160],
+            setup: SERVER,
+            ready: p::one_sending,
+            steps: |_| 200,
+            step: p::stop_again,
+        },
+    ];
+}

@@ -1,0 +1,197 @@
+"""What each attack may cost our end at most. Where an attack still works the bound is what it takes today, with a tenth of room for the heap
+and a quarter for the instructions; the reason says so: it is to fall."""
+
+import dataclasses
+
+
+@dataclasses.dataclass
+class Bound:
+    sizes: tuple
+    # Bytes at the greatest size, and what takes them.
+    heap: int
+    heap_why: str
+    # With which power of the size the instructions of a payload may grow, and why.
+    growth: float
+    growth_why: str
+    # Instructions of a payload at the greatest size.
+    count: int
+
+
+BOUNDS = {
+    "two-stopped": Bound(
+        sizes=(256, 1024, 4096),
+        heap=255_000,
+        heap_why="56 bytes of each stream that is over, and room to grow",
+        growth=1.1,
+        growth_why="each stream of the type is looked at: it is to fall to 0",
+        count=104_000,
+    ),
+    "reset-over-holes": Bound(
+        sizes=(2, 4, 8),
+        heap=590_000,
+        heap_why="16 bytes of each run that came before the reset, for good: it is to fall to what a stream that is over keeps",
+        growth=0.2,
+        growth_why="each payload is as long",
+        count=126_000,
+    ),
+    "stopped-holes": Bound(
+        sizes=(6400, 12_800, 25_600),
+        heap=460_000,
+        heap_why="16 bytes of each byte that came after the stop, without an end: it is to fall",
+        growth=0.1,
+        growth_why="no search at the last run",
+        count=94_000,
+    ),
+    "far-byte": Bound(
+        sizes=(16_383, 65_535, 262_143),
+        heap=325_000,
+        heap_why="56 bytes of each stream that is over, and 200 of one that was reset over a hole",
+        growth=1.1,
+        growth_why="a ring is filled up to the byte: it is to fall to 0",
+        count=620_000,
+    ),
+    "near-and-far-byte": Bound(
+        sizes=(8192, 32_768, 131_072),
+        heap=325_000,
+        heap_why="56 bytes of each stream that is over, and 200 of one that was reset over a hole",
+        growth=1.1,
+        growth_why="a ring is filled between the bytes",
+        count=365_000,
+    ),
+    "window-downwards": Bound(
+        sizes=(1 << 15, 1 << 16, 1 << 17),
+        heap=18 << 17,
+        heap_why="a run for each second byte, in blocks that are half full, and the ring: it is to fall to 9 times the credit",
+        growth=0.1,
+        growth_why="searches in as many runs",
+        count=240_000,
+    ),
+    "window-upwards": Bound(
+        sizes=(1 << 15, 1 << 16, 1 << 17),
+        heap=10 << 17,
+        heap_why="a run of 16 bytes for each second byte, and the ring",
+        growth=0.1,
+        growth_why="no search at the last run",
+        count=156_000,
+    ),
+    "window-scattered": Bound(
+        sizes=(1 << 15, 1 << 16, 1 << 17),
+        heap=14 << 17,
+        heap_why="a run for each second byte, in blocks that are two thirds full, and the ring",
+        growth=0.15,
+        growth_why="searches in as many runs",
+        count=390_000,
+    ),
+    "byte-on-each": Bound(
+        sizes=(1024, 2048, 4096),
+        heap=4600 * 4096,
+        heap_why="a ring of 4,096 bytes for the first byte: it is to fall",
+        growth=0.1,
+        growth_why="each stream is found by its number",
+        count=202_000,
+    ),
+    "three-quarters": Bound(
+        sizes=(2, 4, 8),
+        heap=8 * ((1 << 20) + 1024),
+        heap_why="a ring of four times what is left of it: it is to fall",
+        growth=0.1,
+        growth_why="each stream is found by its number",
+        count=3300,
+    ),
+    "acked-ranges": Bound(
+        sizes=(75, 150, 300),
+        heap=95_000,
+        heap_why="the room of the last packet, for good, and some 70 bytes of each outstanding one",
+        growth=2.1,
+        growth_why="for each gap the payload is read anew: it is to fall to 1",
+        count=14_600_000,
+    ),
+    "acked-padded": Bound(
+        sizes=(50, 100, 200),
+        heap=61_000,
+        heap_why="the room of the last packet, for good, and some 70 bytes of each outstanding one",
+        growth=1.1,
+        growth_why="for each packet the padding is read anew: it is to fall to 0.5",
+        count=27_000_000,
+    ),
+    "all-but-first": Bound(
+        sizes=(1250, 2500, 5000),
+        heap=420_000,
+        heap_why="a slot of each packet from the first outstanding one on",
+        growth=1.1,
+        growth_why="empty slots at the end go and come back: it is to fall to 0",
+        count=820_000,
+    ),
+    "ack-again": Bound(
+        sizes=(4000, 8000, 16_000),
+        heap=790_000,
+        heap_why="a slot of each packet from the first outstanding one on",
+        growth=1.0,
+        growth_why="a look at a word for each 64 packets: it is to fall",
+        count=755_000,
+    ),
+    "one-ping": Bound(
+        sizes=(1200, 4096, 16_383),
+        heap=37 * 16_383,
+        heap_why="36 bytes of each byte of room, for good: it is to fall below 1,000 in all",
+        growth=0.2,
+        growth_why="memory that isn't touched",
+        count=2800,
+    ),
+    "ping-beside-limits": Bound(
+        sizes=(64, 256, 1024),
+        heap=441_000,
+        heap_why="the records, buffers and items of the streams",
+        growth=1.15,
+        growth_why="each stream is looked at: it is to fall to 0",
+        count=500_000,
+    ),
+    "ping-beside-starved": Bound(
+        sizes=(64, 256, 1024),
+        heap=375_000,
+        heap_why="the records and buffers of the streams",
+        growth=1.15,
+        growth_why="each stream is looked at: it is to fall to 0",
+        count=505_000,
+    ),
+    "ping-beside-resets": Bound(
+        sizes=(64, 256, 1024),
+        heap=580_000,
+        heap_why="the records and items of the streams, and what is live of each until its reset is acknowledged",
+        growth=1.15,
+        growth_why="each stream is looked at: it is to fall to 0",
+        count=765_000,
+    ),
+    "blocked-below": Bound(
+        sizes=(500, 2000, 8000),
+        heap=1_100_000,
+        heap_why="the packets, and an item of each limit",
+        growth=1.1,
+        growth_why="the items above move: it is to fall to 0",
+        count=40_000,
+    ),
+    "stop-downwards": Bound(
+        sizes=(64, 256, 1024),
+        heap=566_000,
+        heap_why="the records and items of the streams, and what is live of each until its reset is acknowledged",
+        growth=1.15,
+        growth_why="each stream with a reset is looked at: it is to fall to 0",
+        count=730_000,
+    ),
+    "stop-again": Bound(
+        sizes=(40, 80, 160),
+        heap=49_000,
+        heap_why="the room of the last packet, for good",
+        growth=1.05,
+        growth_why="as many frames",
+        count=62_500,
+    ),
+    "half-over": Bound(
+        sizes=(64, 256, 1024),
+        heap=2700 * 1024,
+        heap_why="a half of each stream that isn't over, with a buffer or a ring",
+        growth=1.1,
+        growth_why="from half to half: it is to fall to 0.5",
+        count=92_000,
+    ),
+}
