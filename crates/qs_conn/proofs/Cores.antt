@@ -1,5 +1,5 @@
 -- What holds of the tables of an end: each change of a part keeps it.
-use Rattle.std.proofs.Common.{◌≡◌, ℕ, ◌≤◌, ◌^◌, Bool, true, false, List, Option, None, Some, Result, Ok, Err, is_some, cond, refl, sym, ap, ◌∙◌, subst, arith}
+use Rattle.std.proofs.Common.{◌≡◌, ℕ, ◌≤◌, ◌^◌, Bool, true, false, List, length, Option, None, Some, Result, Ok, Err, is_some, cond, refl, sym, ap, ◌∙◌, subst, arith}
 use Rattle.std.specs.FinMap as fmap
 use Rattle.std.specs.Result.{OnOk, OnErr}
 use Rattle.std.proofs.lemmas.Bool.{true≢false}
@@ -8,28 +8,39 @@ use Rattle.qs_ranges.specs.declared.NoMemory.{NoMemory}
 use Rattle.qs_ranges.specs.Numbers.{MAX_VARINT, NumberSet}
 use Rattle.qs_recv.specs.Lane.{RecvLane, after_read, stop, new_lane as new_recv_lane}
 use Rattle.qs_send.specs.Lane.{SendLane, Sending, new_lane as new_send_lane, answer_of, refusal, reset_refusal, write_lane, finish_lane, reset_lane, stopped_lane, allow_lane}
+use Rattle.qs_send.specs.declared.parts.Chunk.{Chunk}
+use Rattle.qs_send.specs.declared.piece.Item.{Item}
 use Rattle.qs_send.specs.declared.piece.Item.TheVariants.{MaxData, MaxStreamData, MaxStreams, ResetStream, StopSending, DataBlocked, StreamDataBlocked, StreamsBlocked}
 use Rattle.qs_send.specs.declared.piece.Piece.{Piece}
 use Rattle.qs_send.specs.declared.piece.Piece.TheVariants.{Data, Told}
 use Rattle.qs_calls.specs.declared.settings.PeerLimits.{PeerLimits}
 use Rattle.qs_calls.specs.declared.closing.Closed.{Closed}
 use Rattle.qs_machine.specs.Tables.{Tables, lookup, updated, open_to}
-use Rattle.qs_machine.specs.Ends.{window_by}
-use Rattle.qs_machine.specs.Outgoing.{Outgoing, HasSending, IsIdle, with_sends, on_lane, sent_sum, first_piece, first_acked_out, first_lost_out, without_piece_out, acked_at}
+use Rattle.qs_machine.specs.Ends.{End, new_end, window_by}
+use Rattle.qs_machine.specs.Lawful.{frame_put}
+use Rattle.qs_machine.specs.Seen.{Seen, Stream, Control}
+use Rattle.qs_machine.specs.Outgoing.{Outgoing, HasSending, IsIdle, with_sends, on_lane, sent_sum, first_piece, first_acked_out, first_lost_out, without_piece_out, acked_at, item_put_out, chunk_put}
 use Rattle.qs_machine.specs.Standing.{KeepsCredit}
 use Rattle.qs_machine.specs.Sums.{or_none}
 use Rattle.qs_machine.proofs.Taken.{sum_open}
 use Rattle.qs_conn.specs.declared.by_dir.ByDir.{ByDir}
 use Rattle.qs_conn.specs.declared.middle.Core.{Core}
-use Rattle.qs_conn.specs.Middle.{IsCore, IsAtRest, IsKept, KeepsStreams}
+use Rattle.qs_conn.specs.Middle.{IsCore, IsAtRest, IsKept, KeepsStreams, IsFilling, FillsOn, end_of}
 use Rattle.qs_conn.specs.Ended.{AreAllCounted, CountsFit, half_of, is_over, recounted}
+use Rattle.qs_conn.specs.Filling.{end_by, PutsItem}
+use Rattle.qs_conn.specs.Marks.{IsIdle as IsIdleAt}
 use Rattle.qs_conn.specs.Runs.{held_out}
-use Rattle.qs_conn.specs.Untold.{AreTold, marked_for}
+use Rattle.qs_conn.specs.declared.slot.Slot.TheVariants as slots
+use Rattle.qs_conn.specs.Untold.{AreTold, IsTold, marked_for}
 use Rattle.qs_conn.proofs.Calm.{told_read}
-use Rattle.qs_conn.proofs.Counted.{fit_sends, fit_allowed, fit_written, fit_finished, fit_reset, fit_told_to_stop, fit_read, fit_stopped, fit_opened}
+use Rattle.qs_conn.proofs.Counted.{fit_sends, fit_allowed, fit_written, fit_finished, fit_reset, fit_told_to_stop, fit_read, fit_stopped, fit_opened, put_counted}
+use Rattle.qs_conn.proofs.Flows.{end_chunk}
 use Rattle.qs_conn.proofs.Funded.{sum_lane, reset_sends, sum_piece}
 use Rattle.qs_conn.proofs.Kept.{sound_after_read, sound_after_stop, sound_opened}
-use Rattle.qs_conn.proofs.Untolds.{acked_stays, lost_stays, marks_stay, told_stopped}
+use Rattle.qs_conn.proofs.Untolds.{acked_stays, lost_stays, marks_stay, told_stopped, told_unmarked, idle_told, put_told}
+use Rattle.qs_conn.proofs.Putting.{sum_put}
+use Rattle.qs_conn.proofs.Rests.{rest_same, rest_on}
+use Rattle.qs_conn.proofs.Slots.{end_put}
 
 -- the limits and the receiving halves stay, and stay again
 pub streams_same : (a : Core) → KeepsStreams a a
@@ -49,6 +60,10 @@ sends_stay late k (Told (StopSending n code)) o none = refl
 sends_stay late k (Told (DataBlocked m)) o none = refl
 sends_stay late k (Told (StreamDataBlocked n m)) o none = refl
 sends_stay late k (Told (StreamsBlocked d m)) o none = refl
+
+-- the next number and the room of a packet are no part of it
+pub core_outbox : (c : Core) → IsCore c → (next spare : ℕ) (o : Outgoing) → o ≡ record c.outbox { next = next; spare = spare } → IsCore (record c { outbox = o })
+core_outbox c h next spare o is = subst (λ (x : Outgoing). IsCore (record c { outbox = x })) (sym is) (record { sound = h.sound; fits = h.fits; credit = h.credit; counts = h.counts; told = h.told })
 
 module _ (c : Core) (h : IsAtRest c) where
   abbrev core : IsCore c
@@ -141,20 +156,6 @@ module _ (c : Core) (h : IsAtRest c) where
         idle = h.idle;
       }
 
-  pub rest_wanted : (wanted : ByDir (Option ℕ)) → IsAtRest (record c { limits = record c.limits { wanted_streams = wanted } })
-  rest_wanted wanted =
-      let fits = core.fits in
-      record {
-        core = record {
-          sound = core.sound;
-          fits = record { granted = fits.granted; granted_bidi = fits.granted_bidi; granted_uni = fits.granted_uni; known = fits.known; bidi = fits.bidi; uni = fits.uni };
-          credit = core.credit;
-          counts = core.counts;
-          told = core.told;
-        };
-        idle = h.idle;
-      }
-
   -- Pieces leave their packets
 
   -- the first piece of a packet is acknowledged, and the stream counted anew
@@ -206,12 +207,69 @@ module _ (c : Core) (h : IsAtRest c) where
         idle = idle;
       }
 
+-- A packet is filled
+
+module _ (c : Core) (h : IsCore c) where
+  -- some end with these tables
+  abbrev there : End
+  there = end_of c (new_end c.limits.role c.limits.settings (record { max_data = 0; bidi_local = 0; bidi_remote = 0; uni = 0; streams_bidi = 0; streams_uni = 0 }))
+
+  -- a frame is put
+  core_put : (f : Seen) (o : Outgoing) → end_by c.limits c.recvs o there ≡ frame_put f there → sent_sum o.sends ≤ c.limits.known_data → IsCore (record c { outbox = o })
+  core_put f o is credit =
+      record {
+        sound = h.sound;
+        fits = h.fits;
+        credit = credit;
+        counts = fit_sends _ _ _ _ _ _ _ h.counts o.sends c.ended (subst (λ (x : End). AreAllCounted c.limits.role x.recvs x.sends c.ended) (sym is) (put_counted c.limits.role there f c.ended h.counts.counted));
+        told = subst (λ (x : End). IsTold x c.untold) (sym is) (put_told f there c.untold h.told);
+      }
+
+  -- an item went in, or didn't fit
+  pub core_item : (i : Item) (before : List ℕ) (len : ℕ) (after : List ℕ) (end : ℕ) (o : Outgoing) (full : Bool) → PutsItem i before len c.outbox after end o full → IsCore (record c { outbox = o })
+  core_item i before len after end o true (same, text, out, long) = subst (λ (x : Outgoing). IsCore (record c { outbox = x })) (sym out) h
+  core_item i before len after end o false (text, out) =
+      let sum = sum_put i c.outbox in
+      let credit = h.credit in
+      subst (λ (x : Outgoing). IsCore (record c { outbox = x })) (sym out) (core_put (Control i) (item_put_out i c.outbox) (end_put c.limits c.recvs c.outbox there i) (omega (arith, sum, credit)))
+
+  -- a chunk went in
+  pub core_chunk : (n : ℕ) (chunk : Chunk) (bytes : List ℕ) (o : Outgoing) → o ≡ chunk_put n chunk c.outbox → length bytes ≡ chunk.len → sent_sum (chunk_put n chunk c.outbox).sends ≤ c.limits.known_data → IsCore (record c { outbox = o })
+  core_chunk n chunk bytes o is count credit =
+      subst (λ (x : Outgoing). IsCore (record c { outbox = x })) (sym is) (core_put (Stream n chunk.offset bytes chunk.fin) (chunk_put n chunk c.outbox) (end_chunk c.limits c.recvs c.outbox there n chunk bytes count) credit)
+
+  -- a stream of which all was told is marked no more
+  pub core_unmarked : (n : ℕ) (marks : Tables Bool) → marks ≡ updated c.untold n (λ b. false) (lookup c.untold n) → ((e : End) → IsIdleAt (end_of c e) (slots.StopSending n)) → ((e : End) → IsIdleAt (end_of c e) (slots.MaxStreamData n)) → IsCore (record c { untold = marks })
+  core_unmarked n marks are stop limit =
+      record {
+        sound = h.sound;
+        fits = h.fits;
+        credit = h.credit;
+        counts = h.counts;
+        told = told_unmarked c.limits.role c.limits.settings c.recvs c.outbox.outstanding c.outbox.acked c.untold h.told marks n are (idle_told c.limits c.recvs c.outbox there n (stop there) (limit there));
+      }
+
+pub fills_same : (c : Core) (out : List ℕ) (len : ℕ) → IsFilling c out len → FillsOn c out len c out len
+fills_same c out len h = record { filling = h; streams = streams_same c; ended = refl; rest = rest_same len out; room = refl }
+
+pub fills_on : (a b c : Core) (xs ys zs : List ℕ) (i j k : ℕ) → FillsOn a xs i b ys j → FillsOn b ys j c zs k → FillsOn a xs i c zs k
+fills_on a b c xs ys zs i j k f g =
+    record { filling = g.filling; streams = streams_on a b c f.streams g.streams; ended = g.ended ∙ f.ended; rest = rest_on i j k xs ys zs f.rest g.rest; room = g.room ∙ f.room }
+
 -- What holds of an end between calls
 
 module _ (c : Core) (peer : PeerLimits) (done : NumberSet) (is due : Bool) (closed : Option Closed) (k : IsKept c peer done is due closed) where
   -- packets and sending halves move
   pub kept_outbox : (o : Outgoing) → IsAtRest (record c { outbox = o }) → IsKept (record c { outbox = o }) peer done is due closed
   kept_outbox o rest = record { rest = rest; peer_fits = k.peer_fits; closing_fits = k.closing_fits; few = k.few; acks = k.acks; settled = k.settled }
+
+  -- the limits, the receiving halves and the counts stay
+  pub kept_streams : (now : Core) → IsAtRest now → KeepsStreams c now → now.ended ≡ c.ended → IsKept now peer done is due closed
+  kept_streams now rest streams ended = record { rest = rest; peer_fits = k.peer_fits; closing_fits = k.closing_fits; few = k.few; acks = k.acks; settled = rw (streams.limits, streams.recvs, ended) k.settled }
+
+  -- the ACK went out
+  pub kept_no_ack : IsKept c peer done is false closed
+  kept_no_ack = record { rest = k.rest; peer_fits = k.peer_fits; closing_fits = k.closing_fits; few = k.few; acks = λ due. absurd (true≢false (sym due)); settled = k.settled }
 
   -- more may have moved, which is noted
   pub kept_moved : (now : Core) → IsAtRest now → IsKept now peer done false due closed

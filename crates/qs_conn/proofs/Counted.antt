@@ -1,5 +1,5 @@
 -- The counts of the streams that came to their end: each call keeps them right.
-use Rattle.std.proofs.Common.{◌≡◌, ℕ, ◌+◌, ◌≤◌, Bool, true, false, not, ◌&&◌, ◌||◌, cond, List, [], ◌∷◌, length, Option, None, Some, is_some, refl, sym, ap, ◌∙◌, subst, arith}
+use Rattle.std.proofs.Common.{◌≡◌, ℕ, ◌+◌, ◌≤◌, Bool, true, false, not, ◌&&◌, ◌||◌, cond, List, [], length, Option, None, Some, is_some, refl, sym, ap, ◌∙◌, subst, arith}
 use Rattle.std.specs.Prelude.{min, is_none, ◌==◌, Ok, IsOk}
 use Rattle.std.proofs.lemmas.Bool.{both_ways}
 use Rattle.std.proofs.lemmas.Option.{none-some, same_Some}
@@ -29,7 +29,7 @@ use Rattle.qs_conn.proofs.ToldEnds.{same_end, still_told, told_updated, told_rea
 use Rattle.qs_machine.proofs.Bounds.{within_credit}
 use Rattle.qs_machine.specs.Credit.{recv_ended, send_ended, granted_streams, lifetime}
 use Rattle.qs_machine.specs.Seen.{Seen, Ack, Stream, Control, Close, Plain}
-use Rattle.qs_machine.specs.Lawful.{Fills, frame_put, chunk_of}
+use Rattle.qs_machine.specs.Lawful.{frame_put, chunk_of}
 use Rattle.qs_machine.specs.Sums.{or_none}
 use Rattle.qs_machine.specs.Outgoing.{Outgoing, HasSending, first_acked_out, acked_at}
 use Rattle.qs_machine.proofs.TableLaws.{lookup_same}
@@ -212,7 +212,7 @@ closed_counted e mid n recvs sends c c' is r s h mid_h =
 
 -- A packet is filled
 
-put_counted : (role : Role) (e : End) (x : Seen) (c : ByDir ℕ) → AreAllCounted role e.recvs e.sends c → AreAllCounted role (frame_put x e).recvs (frame_put x e).sends c
+pub put_counted : (role : Role) (e : End) (x : Seen) (c : ByDir ℕ) → AreAllCounted role e.recvs e.sends c → AreAllCounted role (frame_put x e).recvs (frame_put x e).sends c
 unfolding frame_put
 put_counted role e (Ack largest ranges) c h = h
 put_counted role e (Stream n offset bytes fin) c h = sends_same role e.recvs e.sends _ n (λ l. sent_lane l (chunk_of offset bytes fin)) c h refl (λ l there. refl)
@@ -226,10 +226,6 @@ put_counted role e (Control (StreamDataBlocked n m)) c h = sends_same role e.rec
 put_counted role e (Control (StreamsBlocked d m)) c h = h
 put_counted role e (Close code) c h = h
 put_counted role e (Plain asks) c h = h
-
-pub fills_counted : (role : Role) (old e mid : End) (fs : List Seen) (c : ByDir ℕ) → Fills old e fs mid → AreAllCounted role e.recvs e.sends c → AreAllCounted role mid.recvs mid.sends c
-fills_counted role old e mid [] c is h = subst (λ (x : End). AreAllCounted role x.recvs x.sends c) (sym is) h
-fills_counted role old e mid (f ∷ fs) c (may, rest) h = fills_counted role old (frame_put f e) mid fs c rest (put_counted role e f c h)
 
 -- a piece of a stream is acknowledged, and the stream is counted anew
 pub piece_recounted : (role : Role) (recvs : Tables RecvLane) (late : Bool) (k n : ℕ) (p : Piece) (o new : Outgoing) (e e' : ByDir ℕ) (was is : Bool) → half_of p ≡ Some n → new ≡ first_acked_out (acked_at late k p) o → AreAllCounted role recvs o.sends e

@@ -1,6 +1,6 @@
 -- The bytes of streams go into a packet, one stream after the other.
-use Rattle.std.proofs.Common.{◌≡◌, ◌≢◌, ℕ, ◌+◌, ◌-◌, ◌<◌, ◌≤◌, Bool, true, false, List, [], ◌∷◌, ◌++◌, ◌⊎◌, length, take, is_some, ◌↔◌, IsTrue, refl, sym, ap, ◌∙◌, subst, arith, inl, inr, Option, None, Some}
-use Rattle.std.proofs.lemmas.Bool.{true≢false, cases_lt, cases_eq}
+use Rattle.std.proofs.Common.{◌≡◌, ◌≢◌, ℕ, ◌+◌, ◌-◌, ◌<◌, ◌≤◌, Bool, true, false, List, [], ◌∷◌, ◌++◌, ◌⊎◌, length, take, is_some, ◌↔◌, IsTrue, refl, sym, ap, ◌∙◌, subst, arith, inl, inr, None, Some}
+use Rattle.std.proofs.lemmas.Bool.{true≢false, cases_lt}
 use Rattle.std.proofs.lemmas.List.{length-append, length-take-le}
 use Rattle.std.proofs.lemmas.Option.{same_Some, none-some}
 use Rattle.std.specs.List.{AllByRecursion}
@@ -22,7 +22,7 @@ use Rattle.qs_recv.specs.Lane.{RecvLane}
 use Rattle.qs_conn.specs.declared.limits.Limits.{Limits}
 use Rattle.qs_machine.specs.Outgoing.{Outgoing, HasSending, chunk_put, on_lane, sent_sum}
 use Rattle.qs_machine.specs.Sums.{or_none}
-use Rattle.qs_machine.proofs.TableLaws.{lookup_same, lookup_other, total_update}
+use Rattle.qs_machine.proofs.TableLaws.{lookup_same, total_update}
 use Rattle.qs_machine.specs.Tables.{Tables, lookup, updated}
 use Rattle.qs_machine.specs.Ends.{End, send_lane}
 use Rattle.qs_machine.specs.Credit.{all_sent}
@@ -399,14 +399,6 @@ pub flow_few : (around : Bool) (first next : ℕ) (e : End) (delay room : ℕ) (
     Chunking delay room old (take len before) e around first n → Flow delay room old (take len before) e true (turn_at around first next)
 flow_few around first next e delay room old before len n within at few k =
     record { frames = k.frames; fills = k.fills; spells = k.spells; acks = k.acks; turns = k.turns; order = k.order; within = k.within; whole = λ left. absurd (omega (arith, few, left, at, length-take-le len before within)) }
-
--- a stream's chunk opens no stream
-pub none_stays : (o : Outgoing) (n m : ℕ) (c : Chunk) → lookup o.sends m ≡ None → lookup (chunk_put n c o).sends m ≡ None
-none_stays o n m c none = go (lookup o.sends n) refl
-  where
-    go : (x : Option SendLane) → lookup o.sends n ≡ x → lookup (updated o.sends n (λ l. sent_lane l c) x) m ≡ None
-    go None is = none
-    go (Some l) is = elim (cases_eq m n) [ inl same ↦ absurd (none-some l (sym none ∙ ap (lookup o.sends) same ∙ is)) | inr ne ↦ lookup_other o.sends n m (sent_lane l c) ne ∙ none ]
 
 -- the sum of the sent ends stays within the credit
 pub sum_within : (o : Outgoing) (n : ℕ) (s : Sending) (c : Chunk) (left fresh known : ℕ) → HasSending o n s → IsNextChunk s left fresh c → fresh ≡ known - sent_sum o.sends → sent_sum o.sends ≤ known → sent_sum (chunk_put n c o).sends ≤ known

@@ -15,15 +15,10 @@ use Rattle.qs_machine.specs.Due.{Among, Sendable}
 use Rattle.qs_machine.specs.Lawful.{Fills, frame_put, pieces_so_far}
 use Rattle.qs_machine.specs.Making.{IsMade, MakeAt, MakeStep, make_refusal}
 use Rattle.qs_machine.specs.InOrder.{AreInOrder, NothingStarves}
-use Rattle.qs_machine.specs.Outgoing.{Outgoing, sent_sum, with_outgoing}
+use Rattle.qs_machine.specs.Outgoing.{Outgoing}
+use Rattle.qs_conn.specs.declared.middle.Core.{Core}
+use Rattle.qs_conn.specs.Middle.{end_of}
 use Rattle.qs_conn.specs.Filling.{InPacket, end_by, Packed}
-use Rattle.qs_wire.specs.declared.stream_id.Role.{Role}
-use Rattle.qs_conn.specs.declared.by_dir.ByDir.{ByDir}
-use Rattle.qs_conn.specs.Ended.{AreAllCounted}
-use Rattle.qs_machine.specs.Tables.{Tables}
-use Rattle.qs_conn.specs.Untold.{AreTold, IsTold}
-use Rattle.qs_conn.proofs.Untolds.{fills_told}
-use Rattle.qs_conn.proofs.Counted.{fills_counted}
 use Rattle.qs_conn.proofs.Pieces.{put_next}
 use Rattle.qs_conn.proofs.Stages.{packed_none, packed_some}
 
@@ -53,65 +48,53 @@ abbrev pub outgoing_of : ℕ → End → Outgoing
 outgoing_of spare v = record { sends = v.sends; next = v.next; outstanding = v.outstanding; lost = v.lost; acked = v.acked; spare = spare }
 
 -- the call filled a packet
-module _ (v old : End) (same : v ≡ old) (t : Limits) (o o' : Outgoing) (spare first delay room len : ℕ) (out : List ℕ) (idle : fmap.get v.outstanding v.next ≡ None) (t_is : t ≡ limits_of v) (o_is : o ≡ outgoing_of spare v)
-    (marks : Tables Bool) (told : IsTold v marks)
-    (fills : (x : End) → end_by t v.recvs o x ≡ x → x.done ≡ v.done → x.ack_due ≡ v.ack_due → ((p : Piece) → InPacket x p → ⊥) → IsTold x marks → Packed first delay room x (take len out) (end_by t v.recvs o' (record x { ack_due = false }))) where
+module _ (v old : End) (same : v ≡ old) (c new_c : Core) (first delay room len : ℕ) (out : List ℕ) (idle : fmap.get v.outstanding v.next ≡ None) (parts : end_of c v ≡ v)
+    (fills : (x : End) → end_of c x ≡ x → x.done ≡ v.done → x.ack_due ≡ v.ack_due → ((p : Piece) → InPacket x p → ⊥) → Packed first delay room x (take len out) (end_of new_c (record x { ack_due = false }))) where
   abbrev pub filled : End
-  filled = end_by t v.recvs o' (record v { ack_due = false })
+  filled = end_of new_c (record v { ack_due = false })
 
   packed : Packed first delay room v (take len out) filled
-  packed = fills v parts refl refl (fresh_of v idle) told
-    where
-      parts : end_by t v.recvs o v ≡ v
-      parts = rw (t_is, o_is) refl
+  packed = fills v parts refl refl (fresh_of v idle)
 
-  pub filled_next : o'.next ≡ v.next
+  pub filled_next : new_c.outbox.next ≡ v.next
   filled_next = fills_next v v filled (seen_all packed.frames) packed.fills
-
-  pub filled_credit : sent_sum o'.sends ≤ v.known_data
-  filled_credit = (let known : t.known_data ≡ v.known_data = ap (λ (x : Limits). x.known_data) t_is in omega (arith, known, packed.within))
-
-  pub filled_counted : (role : Role) (c : ByDir ℕ) → AreAllCounted role v.recvs v.sends c → AreAllCounted role v.recvs o'.sends c
-  filled_counted role c h = fills_counted role v v filled (seen_all packed.frames) c packed.fills h
-
-  -- what was told before stays so, whichever marks go then
-  pub filled_told : (marks' : Tables Bool) → ((e : End) → IsTold (end_by t v.recvs o' e) marks → IsTold (end_by t v.recvs o' e) marks') → AreTold v.role v.settings v.recvs o'.outstanding o'.acked marks'
-  filled_told marks' unmarks =
-      subst (λ (x : Limits). AreTold x.role x.settings v.recvs o'.outstanding o'.acked marks') t_is (unmarks (record v { ack_due = false }) (fills_told v v filled (seen_all packed.frames) marks packed.fills told))
 
   none_is : 25 ≤ room → len ≡ 0 → (Sendable v → ⊥) × (filled ≡ v)
   none_is enough none = packed_none first delay room v (take len out) filled packed enough (ap (λ k. take k out) none)
 
-  same_parts : filled ≡ v → with_outgoing o' v ≡ v
-  same_parts is = ap (λ (x : End). record v { sends = x.sends; next = x.next; outstanding = x.outstanding; lost = x.lost; acked = x.acked }) is
+  same_parts : filled ≡ v → end_of new_c v ≡ v
+  same_parts is =
+      ap (λ (x : End). end_by (limits_of x) x.recvs (outgoing_of 0 x) v) is
 
   -- it had nothing to send
-  pub make_none : is_some v.closed ≡ false → v.next ≤ MAX_VARINT → 25 ≤ room → len ≡ 0 → MakeStep old first delay room (Ok None) [] (with_outgoing o' v)
+  pub make_none : is_some v.closed ≡ false → v.next ≤ MAX_VARINT → 25 ≤ room → len ≡ 0 → MakeStep old first delay room (Ok None) [] (end_of new_c v)
   make_none clear le enough none =
       let (quiet, is) = none_is enough none in
-      subst (λ e. MakeStep e first delay room (Ok None) [] (with_outgoing o' v)) same (subst (λ r. MakeAt r v first delay room (Ok None) [] (with_outgoing o' v)) (sym (no_refusal v clear le)) (quiet, refl, same_parts is))
+      subst (λ e. MakeStep e first delay room (Ok None) [] (end_of new_c v)) same (subst (λ r. MakeAt r v first delay room (Ok None) [] (end_of new_c v)) (sym (no_refusal v clear le)) (quiet, refl, same_parts is))
 
-  pub idle_none : 25 ≤ room → len ≡ 0 → fmap.get o'.outstanding o'.next ≡ None
+  pub idle_none : 25 ≤ room → len ≡ 0 → fmap.get new_c.outbox.outstanding new_c.outbox.next ≡ None
   idle_none enough none = (let (quiet, is) = none_is enough none in ap (λ (x : End). fmap.get x.outstanding x.next) is ∙ idle)
 
-  -- it had some
-  pub make_some : (new : End) (o'' : Outgoing) (number : ℕ) (asks : Bool) → asks ≡ is_some (fmap.get o'.outstanding o'.next) → is_some v.closed ≡ false → v.next ≤ MAX_VARINT → 0 < len → len ≤ room → length out ≡ room → number ≡ v.next → o'' ≡ record o' { next = o'.next + 1; spare = 0 } →
-      new ≡ settle (with_outgoing o'' (record v { ack_due = false })) → MakeStep old first delay room (Ok (Some (record { number = number; len = len; is_ack_eliciting = asks }))) (take len out) new
-  make_some new o'' number asks asked clear le some within count is after settled =
-      let inside : length (take len out) ≡ len = length-take-le len out (omega (arith, within, count)) in
-      let made = packed_some first delay room v (take len out) filled packed number len asks idle asked is (sym inside) within (λ none. omega (arith, some, inside, ap length none)) in
-      let mid : with_outgoing o'' (record v { ack_due = false }) ≡ record filled { next = v.next + 1 } = rw (after, t_is, filled_next) refl in
-      let end : new ≡ settle (record filled { next = v.next + 1 }) = settled ∙ ap settle mid in
-      subst (λ e. MakeStep e first delay room (Ok (Some (record { number = number; len = len; is_ack_eliciting = asks }))) (take len out) new) same
-      (subst (λ r. MakeAt r v first delay room (Ok (Some (record { number = number; len = len; is_ack_eliciting = asks }))) (take len out) new) (sym (no_refusal v clear le)) (subst (IsMade v first delay room (record { number = number; len = len; is_ack_eliciting = asks }) (take len out)) (sym end) made))
+  -- it had some, and its number was used
+  module _ (new : End) (o : Outgoing) (number : ℕ) (asks : Bool) (is : number ≡ v.next) (after : o ≡ record new_c.outbox { next = new_c.outbox.next + 1; spare = 0 }) (settled : new ≡ settle (end_of (record new_c { outbox = o }) (record v { ack_due = false }))) where
+    end : new ≡ settle (record filled { next = v.next + 1 })
+    end = settled ∙ ap settle mid
+      where
+        mid : end_of (record new_c { outbox = o }) (record v { ack_due = false }) ≡ record filled { next = v.next + 1 }
+        mid = rw (after, filled_next) refl
 
-  -- what its record holds is in order, and no ACK is due any more
-  pub make_order : (new : End) (o'' : Outgoing) (number : ℕ) (asks : Bool) → number ≡ v.next → o'' ≡ record o' { next = o'.next + 1; spare = 0 } → new ≡ settle (with_outgoing o'' (record v { ack_due = false }))
-      → NothingStarves old (Ok (Some (record { number = number; len = len; is_ack_eliciting = asks }))) new
-  make_order new o'' number asks is after settled =
-      let mid : with_outgoing o'' (record v { ack_due = false }) ≡ record filled { next = v.next + 1 } = rw (after, t_is, filled_next) refl in
-      let end : new ≡ settle (record filled { next = v.next + 1 }) = settled ∙ ap settle mid in
-      let pieces : pieces_so_far new number ≡ pieces_so_far filled filled.next = ap (λ (x : End). pieces_so_far x number) end ∙ ap (pieces_so_far filled) (is ∙ sym filled_next) in (
-        ap (λ (x : End). x.ack_due) end,
-        subst (λ e. AreInOrder e [] (pieces_so_far new number)) same (subst (AreInOrder v []) (sym pieces) packed.order),
-      )
+    pub make_some : asks ≡ is_some (fmap.get new_c.outbox.outstanding new_c.outbox.next) → is_some v.closed ≡ false → v.next ≤ MAX_VARINT → 0 < len → len ≤ room → length out ≡ room
+        → MakeStep old first delay room (Ok (Some (record { number = number; len = len; is_ack_eliciting = asks }))) (take len out) new
+    make_some asked clear le some within count =
+        let inside : length (take len out) ≡ len = length-take-le len out (omega (arith, within, count)) in
+        let made = packed_some first delay room v (take len out) filled packed number len asks idle asked is (sym inside) within (λ none. omega (arith, some, inside, ap length none)) in
+        subst (λ e. MakeStep e first delay room (Ok (Some (record { number = number; len = len; is_ack_eliciting = asks }))) (take len out) new) same
+        (subst (λ r. MakeAt r v first delay room (Ok (Some (record { number = number; len = len; is_ack_eliciting = asks }))) (take len out) new) (sym (no_refusal v clear le)) (subst (IsMade v first delay room (record { number = number; len = len; is_ack_eliciting = asks }) (take len out)) (sym end) made))
+
+    -- what its record holds is in order, and no ACK is due any more
+    pub make_order : NothingStarves old (Ok (Some (record { number = number; len = len; is_ack_eliciting = asks }))) new
+    make_order =
+        let pieces : pieces_so_far new number ≡ pieces_so_far filled filled.next = ap (λ (x : End). pieces_so_far x number) end ∙ ap (pieces_so_far filled) (is ∙ sym filled_next) in (
+          ap (λ (x : End). x.ack_due) end,
+          subst (λ e. AreInOrder e [] (pieces_so_far new number)) same (subst (AreInOrder v []) (sym pieces) packed.order),
+        )

@@ -13,15 +13,13 @@ use Rattle.qs_send.specs.Lane.{SendLane, blocked_lane}
 use Rattle.qs_machine.proofs.TableLaws.{total_update}
 use Rattle.qs_machine.specs.Tables.{Tables, lookup, updated}
 use Rattle.qs_machine.specs.Ends.{End}
-use Rattle.qs_machine.specs.Seen.{Control, seen_all}
+use Rattle.qs_machine.specs.Seen.{Control}
 use Rattle.qs_machine.specs.Due.{IsCurrent, IsCovered}
 use Rattle.qs_machine.specs.Lawful.{frame_put}
 use Rattle.qs_machine.specs.InOrder.{IsLower, item_place}
 use Rattle.qs_machine.specs.Outgoing.{Outgoing, item_put_out, sent_sum}
 use Rattle.qs_conn.specs.Filling.{slot_of, slot_at, frame_of_item, end_by, IsCurrentIn, PutsItem, Begun, Packed, Passed, HasPassedTo, slot_place, and_slot, and_kind, and_below, IsPassed, Stage}
 use Rattle.qs_conn.specs.Marks.{IsIdle}
-use Rattle.qs_conn.specs.Untold.{IsTold}
-use Rattle.qs_conn.proofs.Untolds.{fills_told}
 use Rattle.qs_conn.proofs.Stages.{begun_idle, begun_fewer, begun_absent, begun_covered, begun_item, begun_too_long}
 use Rattle.qs_conn.proofs.Slots.{end_put}
 use Rattle.qs_conn.proofs.Passing.{place_of_item}
@@ -74,7 +72,7 @@ stage_put delay room old t recvs o new e before after len end false false P s i 
     rw (text, out, end_put t recvs o e i) put
 
 -- streams whose items of a kind are told already, up to a number
-stage_idle : (delay room : ℕ) (old : End) (text : List ℕ) (e : End) (b : Bool) (P : Passed) (kind : Kind) (from to : ℕ) → ((n : ℕ) → from ≤ n → n < to → IsIdle e (slot_at kind n)) → Stage delay room old text e b (and_below P kind from) → Stage delay room old text e b (and_below P kind to)
+pub stage_idle : (delay room : ℕ) (old : End) (text : List ℕ) (e : End) (b : Bool) (P : Passed) (kind : Kind) (from to : ℕ) → ((n : ℕ) → from ≤ n → n < to → IsIdle e (slot_at kind n)) → Stage delay room old text e b (and_below P kind from) → Stage delay room old text e b (and_below P kind to)
 stage_idle delay room old text e true P kind from to idle s = s
 stage_idle delay room old text e false P kind from to idle s =
     begun_fewer delay room old text e (λ t. IsPassed (and_below P kind from) t ⊎ ((n : ℕ) × (from ≤ n) × (n < to) × (t ≡ slot_at kind n)))
@@ -83,27 +81,13 @@ stage_idle delay room old text e false P kind from to idle s =
     (λ t p. elim p [ inl before ↦ inl (inl before) | inr (n, lt, at) ↦ elim (cases_lt n from) [ inl below ↦ inl (inr (n, below, at)) | inr ge ↦ inr (n, ge, lt, at) ] ])
 
 -- and those of all further streams
-stage_kind : (delay room : ℕ) (old : End) (text : List ℕ) (e : End) (b : Bool) (P : Passed) (kind : Kind) (from : ℕ) → ((n : ℕ) → from ≤ n → IsIdle e (slot_at kind n)) → Stage delay room old text e b (and_below P kind from) → Stage delay room old text e b (and_kind P kind)
+pub stage_kind : (delay room : ℕ) (old : End) (text : List ℕ) (e : End) (b : Bool) (P : Passed) (kind : Kind) (from : ℕ) → ((n : ℕ) → from ≤ n → IsIdle e (slot_at kind n)) → Stage delay room old text e b (and_below P kind from) → Stage delay room old text e b (and_kind P kind)
 stage_kind delay room old text e true P kind from idle s = s
 stage_kind delay room old text e false P kind from idle s =
     begun_fewer delay room old text e (λ t. IsPassed (and_below P kind from) t ⊎ ((n : ℕ) × (from ≤ n) × (t ≡ slot_at kind n)))
     (begun_idle delay room old text e (IsPassed (and_below P kind from)) s (λ t. (n : ℕ) × (from ≤ n) × (t ≡ slot_at kind n)) (λ i (n, ge, at). idle n ge i at))
     (IsPassed (and_kind P kind))
     (λ t p. elim p [ inl before ↦ inl (inl before) | inr (n, at) ↦ elim (cases_lt n from) [ inl below ↦ inl (inr (n, below, at)) | inr ge ↦ inr (n, ge, at) ] ])
-
--- the same, where streams without a mark were told all as the packet began
-begun_told : (marks : Tables Bool) (delay room : ℕ) (old : End) (text : List ℕ) (e : End) (P : Slot → Type 0) → IsTold old marks → Begun delay room old text e P → IsTold e marks
-begun_told marks delay room old text e P told b = fills_told old old e (seen_all b.frames) marks b.fills told
-
-pub stage_idle_told : (marks : Tables Bool) → (delay room : ℕ) (old : End) (text : List ℕ) (e : End) (b : Bool) (P : Passed) (kind : Kind) (from to : ℕ) → IsTold old marks → (IsTold e marks → (n : ℕ) → from ≤ n → n < to → IsIdle e (slot_at kind n)) → Stage delay room old text e b (and_below P kind from)
-    → Stage delay room old text e b (and_below P kind to)
-stage_idle_told marks delay room old text e true P kind from to told idle s = s
-stage_idle_told marks delay room old text e false P kind from to told idle s = stage_idle delay room old text e false P kind from to (idle (begun_told marks delay room old text e (IsPassed (and_below P kind from)) told s)) s
-
-pub stage_kind_told : (marks : Tables Bool) → (delay room : ℕ) (old : End) (text : List ℕ) (e : End) (b : Bool) (P : Passed) (kind : Kind) (from : ℕ) → IsTold old marks → (IsTold e marks → (n : ℕ) → from ≤ n → IsIdle e (slot_at kind n)) → Stage delay room old text e b (and_below P kind from)
-    → Stage delay room old text e b (and_kind P kind)
-stage_kind_told marks delay room old text e true P kind from told idle s = s
-stage_kind_told marks delay room old text e false P kind from told idle s = stage_kind delay room old text e false P kind from (idle (begun_told marks delay room old text e (IsPassed (and_below P kind from)) told s)) s
 
 -- below the next number
 pub below_next : (P : Passed) (kind : Kind) (n m : ℕ) (slot s : Slot) → slot ≡ slot_at kind n → m ≡ n + 1 → IsPassed (and_below P kind m) s → IsPassed (and_slot (and_below P kind n) slot) s

@@ -8,7 +8,6 @@ use Rattle.qs_send.specs.Chunks.{HasNoChunk}
 use Rattle.qs_send.specs.declared.parts.Chunk.{Chunk}
 use Rattle.qs_send.specs.declared.piece.Item.{Item}
 use Rattle.qs_send.specs.declared.piece.Item.TheVariants.{MaxData, MaxStreamData, MaxStreams, ResetStream, StopSending, DataBlocked, StreamDataBlocked, StreamsBlocked}
-use Rattle.qs_conn.specs.Untold.{IsTold}
 use Rattle.qs_conn.specs.declared.slot.Slot.{Slot}
 use Rattle.qs_conn.specs.declared.slot.Kind.{Kind}
 use Rattle.qs_conn.specs.declared.limits.Limits.{Limits}
@@ -16,12 +15,13 @@ use Rattle.qs_machine.specs.Tables.{Tables, lookup}
 use Rattle.qs_machine.specs.Ends.{End}
 use Rattle.qs_machine.specs.Due.{IsCovered, StreamGoes, Sendable}
 use Rattle.qs_machine.specs.Asking.{GoesBesideAck}
-use Rattle.qs_machine.specs.Outgoing.{Outgoing, HasSending, ChunkFound, sent_sum, with_outgoing}
+use Rattle.qs_machine.specs.Outgoing.{Outgoing, HasSending, ChunkFound, sent_sum}
+use Rattle.qs_conn.specs.declared.middle.Core.{Core}
+use Rattle.qs_conn.specs.Middle.{end_of}
 use Rattle.qs_conn.specs.Filling.{end_by, slot_of, slot_at, IsCurrentIn, Passed, and_slot, and_kind, and_below, IsPassed, all_items}
 use Rattle.qs_conn.specs.Marks.{IsIdle}
 use Rattle.qs_conn.specs.Sending.{TellsDue, TellsGoing, TellsAnyGoing, TellsFrame}
 use Rattle.qs_conn.proofs.Chunks.{ties_of, none_goes, chunk_goes}
-use Rattle.qs_conn.proofs.MadePackets.{limits_of}
 use Rattle.qs_conn.proofs.Openings.{none_is}
 
 -- Control items
@@ -128,12 +128,9 @@ frame_stream e false false is none goes = λ some. elim some [ inl (i, due) ↦ 
 pub sendable_due : (v old : End) → v ≡ old → v.ack_due ≡ true → IsTrue true ↔ Sendable old
 sendable_due v old same due = ((λ h. inl (ap (λ (e : End). e.ack_due) (sym same) ∙ due)), (λ h. refl))
 
-pub sendable_frame : (v old : End) (t : Limits) (o : Outgoing) (b : Bool) (marks : Tables Bool) → v ≡ old → v.ack_due ≡ false → t ≡ limits_of old → with_outgoing o v ≡ v → IsTold v marks → ((e : End) → IsTold (end_by t v.recvs o e) marks → TellsFrame b (end_by t v.recvs o e)) → IsTrue b ↔ Sendable old
-sendable_frame v old t o b marks same due is out told tells = subst (λ e. IsTrue b ↔ Sendable e) same (go b (subst (TellsFrame b) parts (tells v (subst (λ (e : End). IsTold e marks) (sym parts) told))))
+pub sendable_frame : (v old : End) (c : Core) (b : Bool) → v ≡ old → v.ack_due ≡ false → end_of c v ≡ v → ((e : End) → TellsFrame b (end_of c e)) → IsTrue b ↔ Sendable old
+sendable_frame v old c b same due parts tells = subst (λ e. IsTrue b ↔ Sendable e) same (go b (subst (TellsFrame b) parts (tells v)))
   where
-    parts : end_by t v.recvs o v ≡ v
-    parts = ap (λ (x : Limits). end_by x v.recvs o v) (is ∙ ap limits_of (sym same)) ∙ out
-
     go : (c : Bool) → TellsFrame c v → IsTrue c ↔ Sendable v
     go true some = ((λ h. inr some), (λ h. refl))
     go false none = ((λ h. absurd (both_ways false refl h)), (λ h. elim h [ inl ack ↦ absurd (true≢false (sym ack ∙ due)) | inr some ↦ absurd (none some) ]))
@@ -143,12 +140,9 @@ sendable_frame v old t o b marks same due is out told tells = subst (λ e. IsTru
 pub beside_closed : (v old : End) → v ≡ old → is_some v.closed ≡ true → IsTrue false ↔ GoesBesideAck old
 beside_closed v old same closed = ((λ h. absurd (both_ways false refl h)), (λ goes. absurd (true≢false (sym closed ∙ ap (λ (e : End). is_some e.closed) same ∙ ap is_some goes.0))))
 
-pub beside_frame : (v old : End) (t : Limits) (o : Outgoing) (b : Bool) (marks : Tables Bool) → v ≡ old → is_some v.closed ≡ false → t ≡ limits_of old → with_outgoing o v ≡ v → IsTold v marks → ((e : End) → IsTold (end_by t v.recvs o e) marks → TellsFrame b (end_by t v.recvs o e)) → IsTrue b ↔ GoesBesideAck old
-beside_frame v old t o b marks same open_still is out told tells = subst (λ e. IsTrue b ↔ GoesBesideAck e) same (go b (subst (TellsFrame b) parts (tells v (subst (λ (e : End). IsTold e marks) (sym parts) told))))
+pub beside_frame : (v old : End) (c : Core) (b : Bool) → v ≡ old → is_some v.closed ≡ false → end_of c v ≡ v → ((e : End) → TellsFrame b (end_of c e)) → IsTrue b ↔ GoesBesideAck old
+beside_frame v old c b same open_still parts tells = subst (λ e. IsTrue b ↔ GoesBesideAck e) same (go b (subst (TellsFrame b) parts (tells v)))
   where
-    parts : end_by t v.recvs o v ≡ v
-    parts = ap (λ (x : Limits). end_by x v.recvs o v) (is ∙ ap limits_of (sym same)) ∙ out
-
     go : (c : Bool) → TellsFrame c v → IsTrue c ↔ GoesBesideAck v
     go true some = ((λ h. (none_is v.closed open_still, some)), (λ h. refl))
     go false none = ((λ h. absurd (both_ways false refl h)), (λ h. absurd (none h.1)))

@@ -34,7 +34,7 @@ use Rattle.qs_conn.specs.Marks.{IsIdle}
 use Rattle.qs_conn.specs.Untold.{IsTold, HasToTell, IsToldIn, HasTold, IsToldAt, AreTold, marked_for, HasMoreAt, HasMore}
 use Rattle.qs_conn.proofs.Slots.{of_slot}
 use Rattle.qs_machine.specs.Due.{Among, IsCurrent, IsCovered}
-use Rattle.qs_machine.specs.Lawful.{Fills, frame_put, noted, item_put, chunk_of}
+use Rattle.qs_machine.specs.Lawful.{frame_put, noted, item_put, chunk_of}
 use Rattle.qs_machine.specs.Seen.{Seen, Ack, Stream, Control, Close, Plain}
 use Rattle.qs_machine.proofs.Ties.{closed_at}
 use Rattle.qs_conn.proofs.Pieces.{noted_old}
@@ -430,14 +430,10 @@ item_told i e marks h = each_item (λ j. IsTold (item_put j e) marks) (λ m. h) 
 noted_told : (p : Piece) (e : End) (marks : Tables Bool) → IsTold e marks → IsTold (noted p e) marks
 noted_told p e marks h = told_carried e.role e.settings e.recvs e.outstanding e.acked marks h (noted p e).outstanding (noted_old p e)
 
-put_told : (f : Seen) (e : End) (marks : Tables Bool) → IsTold e marks → IsTold (frame_put f e) marks
+pub put_told : (f : Seen) (e : End) (marks : Tables Bool) → IsTold e marks → IsTold (frame_put f e) marks
 unfolding frame_put
 put_told (Ack largest ranges) e marks h = h
 put_told (Stream n offset bytes fin) e marks h = noted_told (Data n (chunk_of offset bytes fin)) (on_send n (λ l. sent_lane l (chunk_of offset bytes fin)) e) marks h
 put_told (Control i) e marks h = noted_told (Told i) (item_put i e) marks (item_told i e marks h)
 put_told (Close code) e marks h = h
 put_told (Plain asks) e marks h = h
-
-pub fills_told : (old e new : End) (fs : List Seen) (marks : Tables Bool) → Fills old e fs new → IsTold e marks → IsTold new marks
-fills_told old e new [] marks is h = subst (λ (x : End). IsTold x marks) (sym is) h
-fills_told old e new (f ∷ fs) marks (may, rest) h = fills_told old (frame_put f e) new fs marks rest (put_told f e marks h)

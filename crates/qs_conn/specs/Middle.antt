@@ -1,16 +1,17 @@
 -- Of private contracts.
 -- What holds of the tables of an end, and of an end between calls.
-use Rattle.std.specs.Prelude.{◌≡◌, ◌<◌, ◌≤◌, Bool, true, Option}
+use Rattle.std.specs.Prelude.{◌≡◌, ℕ, ◌<◌, ◌≤◌, Bool, true, List, length, Option}
 use Rattle.std.specs.FinSet as set
 use Rattle.qs_ranges.specs.Numbers.{NumberSet, run_starts}
 use Rattle.qs_calls.specs.declared.settings.PeerLimits.{PeerLimits}
 use Rattle.qs_calls.specs.declared.closing.Closed.{Closed}
 use Rattle.qs_calls.specs.Settings.{are_spellable}
+use Rattle.qs_machine.specs.Ends.{End}
 use Rattle.qs_machine.specs.Outgoing.{IsIdle, sent_sum}
 use Rattle.qs_machine.specs.Standing.{KeepsCredit}
 use Rattle.qs_conn.specs.declared.middle.Core.{Core}
 use Rattle.qs_conn.specs.Ended.{CountsFit}
-use Rattle.qs_conn.specs.Filling.{LimitsFit}
+use Rattle.qs_conn.specs.Filling.{LimitsFit, end_by, HasSpare, LeavesRest}
 use Rattle.qs_conn.specs.Layers.{ClosingFits}
 use Rattle.qs_conn.specs.Settled.{AreNextWhere}
 use Rattle.qs_conn.specs.Untold.{AreTold}
@@ -43,3 +44,23 @@ pub record IsKept (c : Core) (peer : PeerLimits) (done : NumberSet) (is_settled 
   pub few : set.len (run_starts done) ≤ 32
   pub acks : ack_due ≡ true → 0 < set.len (run_starts done)
   pub settled : AreNextWhere is_settled c.limits.settings c.recvs c.ended c.limits.granted c.limits.granted_streams.bidi c.limits.granted_streams.uni
+
+-- A packet in the making
+
+-- an end with these tables
+abbrev pub end_of : Core → End → End
+end_of c e = end_by c.limits c.recvs c.outbox e
+
+-- so many bytes of a packet stand at the slice's front, and there is memory for the pieces that may come
+pub record IsFilling (c : Core) (out : List ℕ) (len : ℕ) : Type 0 where
+  pub core : IsCore c
+  pub within : len ≤ length out
+  pub spare : HasSpare (length out) len c.outbox.spare
+
+-- the packet goes on behind the bytes that are there, and behind it the slice stays as it was
+pub record FillsOn (old : Core) (before : List ℕ) (len : ℕ) (new : Core) (after : List ℕ) (end : ℕ) : Type 0 where
+  pub filling : IsFilling new after end
+  pub streams : KeepsStreams old new
+  pub ended : new.ended ≡ old.ended
+  pub rest : LeavesRest len before end after
+  pub room : length after ≡ length before

@@ -20,13 +20,11 @@ mod recv_tables;
 mod seen;
 mod send_lanes;
 mod send_marks;
-mod sendable;
 mod setup;
 mod slot;
 mod stream_values;
 mod told;
 mod told_index;
-mod unmarking;
 mod untold;
 
 pub use endpoint::Endpoint;

@@ -3,7 +3,6 @@ ghost use Rattle.std.specs.Prelude.{◌≡◌, ◌↔◌, IsTrue};
 ghost use Rattle.qs_machine.specs.Asking.{GoesBesideAck, peer_closing, streams_left, open_left, is_blocked, stopped_with, IsNextOutstanding};
 
 use super::Endpoint;
-use crate::sendable::has_frame;
 use qs_calls::Closed;
 use qs_wire::{Dir, StreamId};
 
@@ -16,12 +15,7 @@ impl Endpoint {
         if self.closed.is_some() {
             return false;
         }
-        has_frame(
-            &self.core.limits,
-            &self.core.recvs,
-            &self.core.untold,
-            &self.core.outbox,
-        )
+        self.core.has_frame()
     }
 
     /// The code with which the peer closed, `None` where it didn't (RFC 9000, section 10.2).

@@ -7,9 +7,7 @@ ghost use Rattle.qs_machine.specs.InOrder.{NothingStarves};
 ghost use Rattle.qs_conn.specs.Written.{made_text, KeepsRest};
 
 use super::Endpoint;
-use crate::filling::{Wish, fill};
-use crate::sendable::has_frame;
-use crate::unmarking::unmark_told;
+use crate::middle::Wish;
 use qs_calls::{Made, MakeFault};
 use qs_wire::StreamId;
 
@@ -76,22 +74,7 @@ impl Endpoint {
             delay,
             ack_due: self.ack_due,
         };
-        let (recvs, untold) = (&self.core.recvs, &self.core.untold);
-        let len = fill(
-            &self.core.limits,
-            recvs,
-            untold,
-            &self.done,
-            &mut self.core.outbox,
-            wish,
-            out,
-        );
-        unmark_told(
-            &self.core.limits,
-            &self.core.recvs,
-            &self.core.outbox,
-            &mut self.core.untold,
-        );
+        let len = self.core.fill(&self.done, wish, out);
         if len == 0 {
             return Ok(None);
         }
@@ -125,11 +108,6 @@ impl Endpoint {
         if self.ack_due {
             return true;
         }
-        has_frame(
-            &self.core.limits,
-            &self.core.recvs,
-            &self.core.untold,
-            &self.core.outbox,
-        )
+        self.core.has_frame()
     }
 }

@@ -11,7 +11,12 @@ use crate::proved::qs_conn::untold::Untold;
 use crate::proved::qs_wire::StreamId;
 
 mod acking;
+mod filling;
 mod losing;
+mod sendable;
+mod unmarking;
+
+pub(crate) use filling::Wish;
 
 /// The limits, the streams and the packets of an end: what a packet is filled from, and what an acknowledgement or a loss changes.
 pub(crate) struct Core {

@@ -2,7 +2,6 @@
 //! What an end's owner, and the layer beneath, may ask of it. Nothing changes.
 
 use super::Endpoint;
-use crate::proved::qs_conn::sendable::has_frame;
 use crate::proved::qs_calls::Closed;
 use crate::proved::qs_wire::{Dir, StreamId};
 
@@ -13,12 +12,7 @@ impl Endpoint {
         if self.closed.is_some() {
             return false;
         }
-        has_frame(
-            &self.core.limits,
-            &self.core.recvs,
-            &self.core.untold,
-            &self.core.outbox,
-        )
+        self.core.has_frame()
     }
 
     /// The code with which the peer closed, `None` where it didn't (RFC 9000, section 10.2).

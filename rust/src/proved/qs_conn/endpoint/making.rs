@@ -2,9 +2,7 @@
 //! Packets are made.
 
 use super::Endpoint;
-use crate::proved::qs_conn::filling::{Wish, fill};
-use crate::proved::qs_conn::sendable::has_frame;
-use crate::proved::qs_conn::unmarking::unmark_told;
+use crate::proved::qs_conn::middle::Wish;
 use crate::proved::qs_calls::{Made, MakeFault};
 use crate::proved::qs_wire::StreamId;
 
@@ -59,22 +57,7 @@ impl Endpoint {
             delay,
             ack_due: self.ack_due,
         };
-        let (recvs, untold) = (&self.core.recvs, &self.core.untold);
-        let len = fill(
-            &self.core.limits,
-            recvs,
-            untold,
-            &self.done,
-            &mut self.core.outbox,
-            wish,
-            out,
-        );
-        unmark_told(
-            &self.core.limits,
-            &self.core.recvs,
-            &self.core.outbox,
-            &mut self.core.untold,
-        );
+        let len = self.core.fill(&self.done, wish, out);
         if len == 0 {
             return Ok(None);
         }
@@ -102,11 +85,6 @@ impl Endpoint {
         if self.ack_due {
             return true;
         }
-        has_frame(
-            &self.core.limits,
-            &self.core.recvs,
-            &self.core.untold,
-            &self.core.outbox,
-        )
+        self.core.has_frame()
     }
 }

@@ -1,8 +1,0 @@
-use Rattle.std.proofs.Common.{sym, ◌∙◌, take}
-use Rattle.qs_conn.specs.Filling.{end_by}
-use Rattle.qs_conn.proofs.Flows.{flow_none}
-use Rattle.qs_conn.proofs.filling.put_open.Goals as goal
-
-pub returns-clause-flow : goal.returns-clause-flow
-returns-clause-flow c = λ around first recvs delay room old e at on start.
-    flow_none delay room old (take c.args.packet.len c.args.out.now) (end_by c.args.limits.now recvs c.args.outbox.now e) c.args.packet.is_full around first c.args.stream (sym c.is_open.ensures ∙ c.if-is_open.false) start

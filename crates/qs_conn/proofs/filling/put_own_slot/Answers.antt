@@ -1,8 +1,0 @@
-use Rattle.std.proofs.Common.{take}
-use Rattle.qs_conn.specs.Filling.{end_by}
-use Rattle.qs_conn.proofs.Putting.{stage_absent}
-use Rattle.qs_conn.proofs.filling.put_own_slot.Goals as goal
-
-pub returns-then-has_none-clause-stage : goal.returns-then-has_none-clause-stage
-returns-then-has_none-clause-stage c = λ delay room old e passed at before stage.
-    stage_absent delay room old (take c.args.packet.len c.args.out.now) (end_by c.args.limits.now c.args.recvs.now c.args.outbox.now e) c.args.packet.is_full passed c.args.slot (c.has_none.ensures c.if-has_none.true c.args.recvs.now e) stage

@@ -1,0 +1,56 @@
+use Rattle.std.proofs.Common.{◌≡◌, ◌≤◌, arith, sym, ap, subst, ◌∙◌, take, length, false, refl}
+use Rattle.qs_machine.specs.Ends.{End}
+use Rattle.qs_machine.specs.Credit.{all_sent}
+use Rattle.qs_machine.specs.Outgoing.{sent_sum}
+use Rattle.qs_conn.specs.declared.middle.Core.{Core}
+use Rattle.qs_conn.specs.Middle.{FillsOn, end_of}
+use Rattle.qs_conn.specs.Filling.{no_slot, IsPassed, Begun}
+use Rattle.qs_conn.proofs.Cores.{streams_same, fills_on}
+use Rattle.qs_conn.proofs.Flows.{flow_first}
+use Rattle.qs_conn.proofs.middle.Core.fill.Goals as goal
+
+pub put_items-packet-requires : goal.put_items-packet-requires
+put_items-packet-requires c =
+    let ack = c.put_ack_if-len.ensures in
+    record { core = c.requires.filling.core; within = ack.within; spare = omega (arith, c.requires.filling.spare, ack.room) }
+
+pub returns-clause-packed : goal.returns-clause-packed
+returns-clause-packed c = λ old parts same due fresh.
+    let self = c.args.self.now in
+    let room = length c.args.out.now in
+    let first = c.args.wish.first in
+    let delay = c.args.wish.delay in
+    let begins : End = record old { ack_due = false } in
+    let sends : all_sent old ≡ sent_sum self.outbox.sends = ap (λ (e : End). all_sent e) (sym parts) in
+    let known : old.known_data ≡ self.limits.known_data = ap (λ (e : End). e.known_data) (sym parts) in
+    let sent : all_sent old ≤ old.known_data = omega (arith, sends, known, c.requires.filling.core.credit) in
+    let begun : Begun delay room old (take c.put_ack_if-len.result c.put_ack_if-len.new.out) begins (IsPassed no_slot) = c.put_ack_if-len.ensures.begun old same due sent fresh in
+    let at : end_of self begins ≡ begins = ap (λ (e : End). record e { ack_due = false }) parts in
+    let stage : Begun delay room old (take c.put_ack_if-len.result c.put_ack_if-len.new.out) (end_of self begins) (IsPassed no_slot) =
+    subst (λ e. Begun delay room old (take c.put_ack_if-len.result c.put_ack_if-len.new.out) e (IsPassed no_slot)) (sym at) begun in
+    let items = c.put_items-packet.ensures.stage delay room old begins (sym c.put_ack_if-len.ensures.room) stage in
+    let flow = flow_first first delay room old (take c.put_items-packet.result.len c.put_items-packet.new.out) (end_of c.put_items-packet.new.self begins) c.put_items-packet.result.is_full items in
+    rw c.unmark_told.ensures.same (c.put_streams-packet.ensures.packed delay room old begins (sym (c.put_items-packet.ensures.filled.room ∙ c.put_ack_if-len.ensures.room)) flow)
+
+pub returns-clause-filled : goal.returns-clause-filled
+returns-clause-filled c =
+    let ack = c.put_ack_if-len.ensures in
+    let self = c.args.self.now in
+    let begun : FillsOn self c.args.out.now 0 self c.put_ack_if-len.new.out c.put_ack_if-len.result =
+    record {
+      filling = record { core = c.requires.filling.core; within = ack.within; spare = omega (arith, c.requires.filling.spare, ack.room) };
+      streams = streams_same self;
+      ended = refl;
+      rest = (omega arith, ack.rest);
+      room = ack.room;
+    } in
+    let items = fills_on _ _ _ _ _ _ _ _ _ begun c.put_items-packet.ensures.filled in
+    let all = fills_on _ _ _ _ _ _ _ _ _ items c.put_streams-packet.ensures.filled in
+    let same = c.unmark_told.ensures.same in
+    record {
+      filling = record { core = c.unmark_told.ensures.core; within = all.filling.within; spare = rw same all.filling.spare };
+      streams = record { limits = ap (λ (x : Core). x.limits) same ∙ all.streams.limits; recvs = ap (λ (x : Core). x.recvs) same ∙ all.streams.recvs };
+      ended = ap (λ (x : Core). x.ended) same ∙ all.ended;
+      rest = all.rest;
+      room = all.room;
+    }

@@ -1,0 +1,17 @@
+use Rattle.std.proofs.Common.{true, refl}
+use Rattle.qs_conn.specs.Middle.{end_of}
+use Rattle.qs_conn.specs.Filling.{and_slot}
+use Rattle.qs_conn.proofs.Sendables.{tells_found, tells_absent, tells_item}
+use Rattle.qs_conn.proofs.middle.Core.has_slot.Goals as goal
+
+pub returns-then-is_found : goal.returns-then-is_found
+returns-then-is_found c = λ e passed before.
+    tells_found (end_of c.args.self.now e) c.args.is_found true passed (and_slot passed c.args.slot) c.if-is_found.true refl before
+
+pub returns-in_default : goal.returns-in_default
+returns-in_default c = λ e passed before.
+    tells_absent (end_of c.args.self.now e) c.args.is_found passed c.args.slot c.if-is_found.false (c.in_default.ensures.current e) before
+
+pub returns : goal.returns
+returns c = λ e passed before.
+    tells_item (end_of c.args.self.now e) c.args.is_found passed c.args.slot c.in-Some.item c.is_covered.result c.if-is_found.false (c.in-Some.ensures.current e) (c.is_covered.ensures.yes c.args.self.now.limits c.args.self.now.recvs e) (c.is_covered.ensures.no c.args.self.now.limits c.args.self.now.recvs e) before

@@ -1,0 +1,19 @@
+use Rattle.std.proofs.Common.{◌≡◌, ℕ, ◌-◌, ◌≤◌, ◌^◌, length, take}
+use Rattle.qs_machine.specs.Ends.{End}
+use Rattle.qs_conn.specs.Middle.{FillsOn, end_of}
+use Rattle.qs_conn.specs.Filling.{Flow, turn_at, start_of}
+use Rattle.qs_conn.proofs.middle.Core.put_way.Given as goal
+
+abbrev pub invariant-loop-stream : goal.invariant-loop-stream
+invariant-loop-stream l =
+    record {
+      small : l.from ≤ 2 ^ 62;
+      begun : start_of l.fn.around l.fn.first ≤ l.from;
+      flow : (delay room : ℕ) (old e : End) → room ≡ length l.fn.out
+          → Flow delay room old (take l.fn.packet.len l.fn.out) (end_of l.fn.self e) l.fn.packet.is_full (turn_at l.fn.around l.fn.first (start_of l.fn.around l.fn.first))
+          → Flow delay room old (take l.packet.len l.out) (end_of l.self e) l.packet.is_full (turn_at l.fn.around l.fn.first l.from);
+      filled : FillsOn l.fn.self l.fn.out l.fn.packet.len l.self l.out l.packet.len;
+    }
+
+abbrev pub decreases-loop-stream : goal.decreases-loop-stream
+decreases-loop-stream l = 2 ^ 62 - l.from

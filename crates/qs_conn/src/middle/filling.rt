@@ -1,0 +1,244 @@
+//! A packet is filled with what is due.
+ghost use Rattle.std.specs.Prelude.{◌≡◌, ◌+◌, ◌≤◌, ◌<◌, ◌↔◌, ◌^◌, ℕ, IsTrue, Bool, true, false, is_some, length, take, IfSome};
+ghost use Rattle.std.specs.FinSet as set;
+ghost use Rattle.qs_ranges.specs.Numbers.{run_starts};
+ghost use Rattle.qs_send.specs.declared.piece.Piece.{Piece};
+ghost use Rattle.qs_machine.specs.Tables.{lookup};
+ghost use Rattle.qs_machine.specs.Ends.{End};
+ghost use Rattle.qs_conn.specs.Middle.{IsCore, IsFilling, FillsOn, end_of};
+ghost use Rattle.qs_conn.specs.Filling.{slot_at, Passed, HasPassedTo, HasPassedKinds, kind_place, no_slot, and_slot, and_kind, all_items, Stage, Flow, Packed, InPacket, turn_at, start_of, way_end, IsOnWay};
+ghost use Rattle.qs_conn.specs.Marks.{IsBefore, IsIdle};
+
+use super::Core;
+use crate::filling::{LEAST_STREAM_FRAME, Packet, is_covered, put_ack_if, put_chunk, put_item};
+use crate::send_marks::Task;
+use crate::slot::{Kind, Slot};
+use qs_ranges::RangeSet;
+use qs_wire::{Dir, StreamId};
+
+/// What a packet is to hold beside what is due: from which stream on bytes go in, and whether an ACK, and the delay that it tells.
+#[derive(Clone, Copy, Drop)]
+pub(crate) struct Wish {
+    pub first: u64,
+    pub delay: u64,
+    pub ack_due: bool,
+}
+
+impl Core {
+    /// Fills a packet from its first byte on, and answers how many bytes it has: the ACK if one is due, control items, and the bytes of
+    /// streams (RFC 9000, sections 4, 13.2 and 13.3).
+    pub(crate) fn fill(&mut self, done: &RangeSet, wish: Wish, out: &mut [u8]) -> usize
+        requires filling { IsFilling self.old out.old 0 }
+        requires first { wish.first < 2 ^ 62 }
+        requires delay { wish.delay < 2 ^ 62 }
+        requires acks { wish.ack_due ≡ true → 0 < set.len (run_starts done.now) }
+        requires few { set.len (run_starts done.now) ≤ 32 }
+        requires space { 26 ≤ length out.old }
+        ensures packed { (old : End) → end_of self.old old ≡ old → old.done ≡ done.now → old.ack_due ≡ wish.ack_due → ((x : Piece) → InPacket old x → ⊥)
+            → Packed wish.first wish.delay (length out.old) old (take result out.new) (end_of self.new (record old { ack_due = false })) }
+        ensures filled { FillsOn self.old out.old 0 self.new out.new result }
+    {
+        let len = put_ack_if(done, wish.ack_due, wish.delay, out);
+        let start = Packet {
+            len,
+            is_full: false,
+        };
+        let packet = self.put_items(out, start);
+        let packet = self.put_streams(wish.first, out, packet);
+        self.unmark_told();
+        packet.len
+    }
+
+    // Puts the control items into the packet that are due.
+    fn put_items(&mut self, out: &mut [u8], packet: Packet) -> Packet
+        requires { IsFilling self.old out.old packet.len }
+        ensures stage { (delay room : ℕ) (old e : End) → room ≡ length out.old
+            → Stage delay room old (take packet.len out.old) (end_of self.old e) packet.is_full no_slot
+            → Stage delay room old (take result.len out.new) (end_of self.new e) result.is_full all_items }
+        ensures filled { FillsOn self.old out.old packet.len self.new out.new result.len }
+    {
+        let packet = self.put_own_slot(Slot::MaxData, out, packet);
+        let packet = self.put_own_slot(Slot::MaxStreams(Dir::Bidi), out, packet);
+        let packet = self.put_own_slot(Slot::MaxStreams(Dir::Uni), out, packet);
+        let packet = self.put_kind(Kind::ResetStream, out, packet);
+        let packet = self.put_kind(Kind::StopSending, out, packet);
+        let packet = self.put_kind(Kind::MaxStreamData, out, packet);
+        let packet = self.put_own_slot(Slot::DataBlocked, out, packet);
+        let packet = self.put_kind(Kind::StreamDataBlocked, out, packet);
+        let packet = self.put_own_slot(Slot::StreamsBlocked(Dir::Bidi), out, packet);
+        self.put_own_slot(Slot::StreamsBlocked(Dir::Uni), out, packet)
+    }
+
+    // Puts the items of a kind into the packet that are due, lower stream numbers first.
+    fn put_kind(&mut self, kind: Kind, out: &mut [u8], packet: Packet) -> Packet
+        requires { IsFilling self.old out.old packet.len }
+        ensures stage { (delay room : ℕ) (old e : End) (passed : Passed) → room ≡ length out.old → HasPassedKinds passed (kind_place kind)
+            → Stage delay room old (take packet.len out.old) (end_of self.old e) packet.is_full passed
+            → Stage delay room old (take result.len out.new) (end_of self.new e) result.is_full (and_kind passed kind) }
+        ensures filled { FillsOn self.old out.old packet.len self.new out.new result.len }
+    {
+        if packet.is_full {
+            return packet;
+        }
+        let mut packet = packet;
+        let mut from = 0;
+        while let Some(stream) = self.next_of_kind(kind, from) {
+            packet = self.put_slot(kind.at(stream), out, packet);
+            if packet.is_full {
+                return packet;
+            }
+            from = stream.value() + 1;
+        }
+        packet
+    }
+
+    /// The least number from one on of a stream that may have an item of a kind. Of the streams between none is due.
+    pub(super) fn next_of_kind(&self, kind: Kind, from: u64) -> Option<StreamId>
+        requires core { IsCore self.now }
+        requires from { from ≤ 2 ^ 62 }
+        ensures from { IfSome result (λ n. from ≤ n) }
+        ensures idle { (n : ℕ) (e : End) → from ≤ n → IsBefore n result → IsIdle (end_of self.now e) (slot_at kind n) }
+    {
+        match kind {
+            Kind::ResetStream => self.outbox.next_marked(Task::Reset, from),
+            Kind::StreamDataBlocked => self.outbox.next_marked(Task::Blocked, from),
+            Kind::StopSending | Kind::MaxStreamData => self.untold.next(from),
+        }
+    }
+
+    // Puts the item of a slot of the connection into the packet, if it is due. Mostly a look at two numbers tells that there is none.
+    fn put_own_slot(&mut self, slot: Slot, out: &mut [u8], packet: Packet) -> Packet
+        requires { IsFilling self.old out.old packet.len }
+        ensures stage { (delay room : ℕ) (old e : End) (passed : Passed) → room ≡ length out.old → HasPassedTo passed slot
+            → Stage delay room old (take packet.len out.old) (end_of self.old e) packet.is_full passed
+            → Stage delay room old (take result.len out.new) (end_of self.new e) result.is_full (and_slot passed slot) }
+        ensures filled { FillsOn self.old out.old packet.len self.new out.new result.len }
+    {
+        if self.limits.has_none(&self.outbox, &slot) {
+            return packet;
+        }
+        self.put_slot(slot, out, packet)
+    }
+
+    // Puts the item of a slot into the packet, if it is due.
+    fn put_slot(&mut self, slot: Slot, out: &mut [u8], packet: Packet) -> Packet
+        requires { IsFilling self.old out.old packet.len }
+        ensures stage { (delay room : ℕ) (old e : End) (passed : Passed) → room ≡ length out.old → HasPassedTo passed slot
+            → Stage delay room old (take packet.len out.old) (end_of self.old e) packet.is_full passed
+            → Stage delay room old (take result.len out.new) (end_of self.new e) result.is_full (and_slot passed slot) }
+        ensures filled { FillsOn self.old out.old packet.len self.new out.new result.len }
+    {
+        if packet.is_full {
+            return packet;
+        }
+        let Some(item) = self.limits.current(&self.outbox, &self.recvs, slot) else {
+            return packet;
+        };
+        if is_covered(&self.outbox, &item) {
+            return packet;
+        }
+        put_item(&mut self.outbox, &item, out, packet)
+    }
+
+    // Puts the bytes of all streams into the packet, those from `first` on before the others and lower numbers first, as far as the
+    // limits and the room allow.
+    fn put_streams(&mut self, first: u64, out: &mut [u8], packet: Packet) -> Packet
+        requires filling { IsFilling self.old out.old packet.len }
+        requires first { first < 2 ^ 62 }
+        ensures packed { (delay room : ℕ) (old e : End) → room ≡ length out.old
+            → Flow delay room old (take packet.len out.old) (end_of self.old e) packet.is_full (turn_at false first first)
+            → Packed first delay room old (take result.len out.new) (end_of self.new e) }
+        ensures filled { FillsOn self.old out.old packet.len self.new out.new result.len }
+    {
+        let packet = self.put_way(first, false, out, packet);
+        if packet.is_full {
+            return packet;
+        }
+        self.put_way(first, true, out, packet)
+    }
+
+    // Puts the bytes of the streams of a way into the packet, lower numbers first, as far as the limits and the room allow.
+    fn put_way(&mut self, first: u64, around: bool, out: &mut [u8], packet: Packet) -> Packet
+        requires filling { IsFilling self.old out.old packet.len }
+        requires first { first < 2 ^ 62 }
+        ensures flow { (delay room : ℕ) (old e : End) → room ≡ length out.old
+            → Flow delay room old (take packet.len out.old) (end_of self.old e) packet.is_full (turn_at around first (start_of around first))
+            → Flow delay room old (take result.len out.new) (end_of self.new e) result.is_full (way_end around first) }
+        ensures filled { FillsOn self.old out.old packet.len self.new out.new result.len }
+    {
+        if packet.is_full {
+            return packet;
+        }
+        let mut packet = packet;
+        let mut from = way_start(around, first);
+        while let Some(stream) = self.outbox.next_marked(Task::Bytes, from) {
+            if !is_on_way(around, first, stream) {
+                return packet;
+            }
+            packet = self.put_open(stream, out, packet);
+            if packet.is_full {
+                return packet;
+            }
+            from = stream.value() + 1;
+        }
+        packet
+    }
+
+    // Puts chunks of a stream into the packet, if it is one that can send.
+    fn put_open(&mut self, stream: StreamId, out: &mut [u8], packet: Packet) -> Packet
+        requires { IsFilling self.old out.old packet.len }
+        ensures flow { (around : Bool) (first delay room : ℕ) (old e : End) → room ≡ length out.old → IsOnWay around first stream
+            → Flow delay room old (take packet.len out.old) (end_of self.old e) packet.is_full (turn_at around first stream)
+            → Flow delay room old (take result.len out.new) (end_of self.new e) result.is_full (turn_at around first (stream + 1)) }
+        ensures filled { FillsOn self.old out.old packet.len self.new out.new result.len }
+    {
+        if self.outbox.is_open(stream) {
+            return self.put_chunks(stream, out, packet);
+        }
+        packet
+    }
+
+    // Puts chunks of a stream into the packet, one for each run of due offsets, as far as the limits and the room allow.
+    fn put_chunks(&mut self, stream: StreamId, out: &mut [u8], packet: Packet) -> Packet
+        requires filling { IsFilling self.old out.old packet.len }
+        requires open { is_some (lookup self.old.outbox.sends stream) ≡ true }
+        ensures flow { (around : Bool) (first delay room : ℕ) (old e : End) → room ≡ length out.old → IsOnWay around first stream
+            → Flow delay room old (take packet.len out.old) (end_of self.old e) packet.is_full (turn_at around first stream)
+            → Flow delay room old (take result.len out.new) (end_of self.new e) result.is_full (turn_at around first (stream + 1)) }
+        ensures filled { FillsOn self.old out.old packet.len self.new out.new result.len }
+    {
+        if packet.is_full {
+            return packet;
+        }
+        let mut len = packet.len;
+        let mut fresh = self.limits.known_data - self.outbox.sent_sum();
+        while let Some(chunk) = self.outbox.next_chunk(stream, out.len() - len, fresh) {
+            len = put_chunk(&mut self.outbox, stream, chunk, out, len);
+            if out.len() - len < LEAST_STREAM_FRAME {
+                return Packet { len, is_full: true };
+            }
+            fresh = self.limits.known_data - self.outbox.sent_sum();
+        }
+        let is_full = self.outbox.is_held_by_room(stream, out.len() - len, fresh);
+        Packet { len, is_full }
+    }
+}
+
+// Where the way begins: at `first`, or, on the way around, at the least stream.
+fn way_start(around: bool, first: u64) -> u64
+    requires { first < 2 ^ 62 }
+    ensures value { result ≡ start_of around first }
+    ensures small { result ≤ 2 ^ 62 }
+{
+    if around { 0 } else { first }
+}
+
+// Whether a stream is one of the way: from `first` on, or, on the way around, below it.
+fn is_on_way(around: bool, first: u64, stream: StreamId) -> bool
+    ensures { IsTrue result ↔ IsOnWay around first stream }
+{
+    if around {
+        return stream.value() < first;
+    }
+    stream.value() >= first
+}

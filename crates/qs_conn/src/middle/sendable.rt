@@ -1,0 +1,101 @@
+//! Whether anything is due that may go.
+ghost use Rattle.qs_machine.specs.Ends.{End};
+ghost use Rattle.qs_conn.specs.Middle.{IsCore, end_of};
+ghost use Rattle.qs_conn.specs.Filling.{Passed, and_slot, and_kind, all_items};
+ghost use Rattle.qs_conn.specs.Sending.{TellsDue, TellsGoing, TellsAnyGoing, TellsFrame};
+
+use super::Core;
+use crate::filling::is_covered;
+use crate::send_marks::Task;
+use crate::slot::{Kind, Slot};
+use qs_wire::{Dir, StreamId};
+
+impl Core {
+    /// Whether a control item is due, or bytes of a stream or its end may go (RFC 9000, sections 3.1, 3.3 and 4.1).
+    pub(crate) fn has_frame(&self) -> bool
+        requires { IsCore self.now }
+        ensures { (e : End) → TellsFrame result (end_of self.now e) }
+    {
+        if self.has_item() {
+            return true;
+        }
+        self.has_stream()
+    }
+
+    // A control item is due.
+    fn has_item(&self) -> bool
+        requires { IsCore self.now }
+        ensures { (e : End) → TellsDue result (end_of self.now e) all_items }
+    {
+        let found = self.has_slot(Slot::MaxData, false);
+        let found = self.has_slot(Slot::MaxStreams(Dir::Bidi), found);
+        let found = self.has_slot(Slot::MaxStreams(Dir::Uni), found);
+        let found = self.has_kind(Kind::ResetStream, found);
+        let found = self.has_kind(Kind::StopSending, found);
+        let found = self.has_kind(Kind::MaxStreamData, found);
+        let found = self.has_slot(Slot::DataBlocked, found);
+        let found = self.has_kind(Kind::StreamDataBlocked, found);
+        let found = self.has_slot(Slot::StreamsBlocked(Dir::Bidi), found);
+        self.has_slot(Slot::StreamsBlocked(Dir::Uni), found)
+    }
+
+    // An item of a kind is due, or one was found before.
+    fn has_kind(&self, kind: Kind, is_found: bool) -> bool
+        requires { IsCore self.now }
+        ensures { (e : End) (passed : Passed) → TellsDue is_found (end_of self.now e) passed → TellsDue result (end_of self.now e) (and_kind passed kind) }
+    {
+        let mut is_found = is_found;
+        let mut from = 0;
+        while let Some(stream) = self.next_of_kind(kind, from) {
+            is_found = self.has_slot(kind.at(stream), is_found);
+            if is_found {
+                return true;
+            }
+            from = stream.value() + 1;
+        }
+        is_found
+    }
+
+    // The item of a slot is due, or one was found before.
+    fn has_slot(&self, slot: Slot, is_found: bool) -> bool
+        requires { IsCore self.now }
+        ensures { (e : End) (passed : Passed) → TellsDue is_found (end_of self.now e) passed → TellsDue result (end_of self.now e) (and_slot passed slot) }
+    {
+        if is_found {
+            return true;
+        }
+        let Some(item) = self.limits.current(&self.outbox, &self.recvs, slot) else {
+            return false;
+        };
+        !is_covered(&self.outbox, &item)
+    }
+
+    // Bytes of some stream may go, or its end.
+    fn has_stream(&self) -> bool
+        requires { IsCore self.now }
+        ensures { (e : End) → TellsAnyGoing result (end_of self.now e) }
+    {
+        let mut from = 0;
+        while let Some(stream) = self.outbox.next_marked(Task::Bytes, from) {
+            if self.has_bytes(stream) {
+                return true;
+            }
+            from = stream.value() + 1;
+        }
+        false
+    }
+
+    // Bytes of a stream may go, or its end.
+    fn has_bytes(&self, stream: StreamId) -> bool
+        requires { IsCore self.now }
+        ensures { (e : End) → TellsGoing result (end_of self.now e) stream }
+    {
+        // With room for any frame's head and one byte, only limits hold a chunk back.
+        const ENOUGH: usize = 25;
+        if !self.outbox.is_open(stream) {
+            return false;
+        }
+        let fresh = self.limits.known_data - self.outbox.sent_sum();
+        self.outbox.next_chunk(stream, ENOUGH, fresh).is_some()
+    }
+}

@@ -1,0 +1,169 @@
+// Made from crates/qs_conn/src/middle/filling.rt by rust/erase; not edited by hand.
+//! A packet is filled with what is due.
+
+use super::Core;
+use crate::proved::qs_conn::filling::{LEAST_STREAM_FRAME, Packet, is_covered, put_ack_if, put_chunk, put_item};
+use crate::proved::qs_conn::send_marks::Task;
+use crate::proved::qs_conn::slot::{Kind, Slot};
+use crate::proved::qs_ranges::RangeSet;
+use crate::proved::qs_wire::{Dir, StreamId};
+
+/// What a packet is to hold beside what is due: from which stream on bytes go in, and whether an ACK, and the delay that it tells.
+#[derive(Clone, Copy)]
+pub(crate) struct Wish {
+    pub first: u64,
+    pub delay: u64,
+    pub ack_due: bool,
+}
+
+impl Core {
+    /// Fills a packet from its first byte on, and answers how many bytes it has: the ACK if one is due, control items, and the bytes of
+    /// streams (RFC 9000, sections 4, 13.2 and 13.3).
+    pub(crate) fn fill(&mut self, done: &RangeSet, wish: Wish, out: &mut [u8]) -> usize {
+        debug_assert!(26 <= out.len());
+        let len = put_ack_if(done, wish.ack_due, wish.delay, out);
+        let start = Packet {
+            len,
+            is_full: false,
+        };
+        let packet = self.put_items(out, start);
+        let packet = self.put_streams(wish.first, out, packet);
+        self.unmark_told();
+        packet.len
+    }
+
+    // Puts the control items into the packet that are due.
+    fn put_items(&mut self, out: &mut [u8], packet: Packet) -> Packet {
+        let packet = self.put_own_slot(Slot::MaxData, out, packet);
+        let packet = self.put_own_slot(Slot::MaxStreams(Dir::Bidi), out, packet);
+        let packet = self.put_own_slot(Slot::MaxStreams(Dir::Uni), out, packet);
+        let packet = self.put_kind(Kind::ResetStream, out, packet);
+        let packet = self.put_kind(Kind::StopSending, out, packet);
+        let packet = self.put_kind(Kind::MaxStreamData, out, packet);
+        let packet = self.put_own_slot(Slot::DataBlocked, out, packet);
+        let packet = self.put_kind(Kind::StreamDataBlocked, out, packet);
+        let packet = self.put_own_slot(Slot::StreamsBlocked(Dir::Bidi), out, packet);
+        self.put_own_slot(Slot::StreamsBlocked(Dir::Uni), out, packet)
+    }
+
+    // Puts the items of a kind into the packet that are due, lower stream numbers first.
+    fn put_kind(&mut self, kind: Kind, out: &mut [u8], packet: Packet) -> Packet {
+        if packet.is_full {
+            return packet;
+        }
+        let mut packet = packet;
+        let mut from = 0;
+        while let Some(stream) = self.next_of_kind(kind, from) {
+            packet = self.put_slot(kind.at(stream), out, packet);
+            if packet.is_full {
+                return packet;
+            }
+            from = stream.value() + 1;
+        }
+        packet
+    }
+
+    /// The least number from one on of a stream that may have an item of a kind. Of the streams between none is due.
+    pub(super) fn next_of_kind(&self, kind: Kind, from: u64) -> Option<StreamId> {
+        debug_assert!(from <= 1 << 62);
+        match kind {
+            Kind::ResetStream => self.outbox.next_marked(Task::Reset, from),
+            Kind::StreamDataBlocked => self.outbox.next_marked(Task::Blocked, from),
+            Kind::StopSending | Kind::MaxStreamData => self.untold.next(from),
+        }
+    }
+
+    // Puts the item of a slot of the connection into the packet, if it is due. Mostly a look at two numbers tells that there is none.
+    fn put_own_slot(&mut self, slot: Slot, out: &mut [u8], packet: Packet) -> Packet {
+        if self.limits.has_none(&self.outbox, &slot) {
+            return packet;
+        }
+        self.put_slot(slot, out, packet)
+    }
+
+    // Puts the item of a slot into the packet, if it is due.
+    fn put_slot(&mut self, slot: Slot, out: &mut [u8], packet: Packet) -> Packet {
+        if packet.is_full {
+            return packet;
+        }
+        let Some(item) = self.limits.current(&self.outbox, &self.recvs, slot) else {
+            return packet;
+        };
+        if is_covered(&self.outbox, &item) {
+            return packet;
+        }
+        put_item(&mut self.outbox, &item, out, packet)
+    }
+
+    // Puts the bytes of all streams into the packet, those from `first` on before the others and lower numbers first, as far as the
+    // limits and the room allow.
+    fn put_streams(&mut self, first: u64, out: &mut [u8], packet: Packet) -> Packet {
+        debug_assert!(first < 1 << 62);
+        let packet = self.put_way(first, false, out, packet);
+        if packet.is_full {
+            return packet;
+        }
+        self.put_way(first, true, out, packet)
+    }
+
+    // Puts the bytes of the streams of a way into the packet, lower numbers first, as far as the limits and the room allow.
+    fn put_way(&mut self, first: u64, around: bool, out: &mut [u8], packet: Packet) -> Packet {
+        debug_assert!(first < 1 << 62);
+        if packet.is_full {
+            return packet;
+        }
+        let mut packet = packet;
+        let mut from = way_start(around, first);
+        while let Some(stream) = self.outbox.next_marked(Task::Bytes, from) {
+            if !is_on_way(around, first, stream) {
+                return packet;
+            }
+            packet = self.put_open(stream, out, packet);
+            if packet.is_full {
+                return packet;
+            }
+            from = stream.value() + 1;
+        }
+        packet
+    }
+
+    // Puts chunks of a stream into the packet, if it is one that can send.
+    fn put_open(&mut self, stream: StreamId, out: &mut [u8], packet: Packet) -> Packet {
+        if self.outbox.is_open(stream) {
+            return self.put_chunks(stream, out, packet);
+        }
+        packet
+    }
+
+    // Puts chunks of a stream into the packet, one for each run of due offsets, as far as the limits and the room allow.
+    fn put_chunks(&mut self, stream: StreamId, out: &mut [u8], packet: Packet) -> Packet {
+        if packet.is_full {
+            return packet;
+        }
+        let mut len = packet.len;
+        let mut fresh = self.limits.known_data - self.outbox.sent_sum();
+        while let Some(chunk) = self.outbox.next_chunk(stream, out.len() - len, fresh) {
+            len = put_chunk(&mut self.outbox, stream, chunk, out, len);
+            if out.len() - len < LEAST_STREAM_FRAME {
+                return Packet { len, is_full: true };
+            }
+            fresh = self.limits.known_data - self.outbox.sent_sum();
+        }
+        let is_full = self.outbox.is_held_by_room(stream, out.len() - len, fresh);
+        Packet { len, is_full }
+    }
+}
+
+// Where the way begins: at `first`, or, on the way around, at the least stream.
+fn way_start(around: bool, first: u64) -> u64 {
+    debug_assert!(first < 1 << 62);
+    if around { 0 } else { first }
+}
+
+// Whether a stream is one of the way: from `first` on, or, on the way around, below it.
+fn is_on_way(around: bool, first: u64, stream: StreamId) -> bool {
+    if around {
+        return stream.value() < first;
+    }
+    stream.value() >= first
+}
