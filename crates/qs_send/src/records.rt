@@ -97,7 +97,7 @@ impl Records {
         ensures pieces { self.new.pieces ≡ fmap.insert self.old.pieces number pieces.items }
         ensures end { self.new.base + self.new.slots ≡ number + 1 }
     {
-        self.drop_empty_end();
+        self.drop_from(number);
         self.start_at(number);
         self.fill_to(number);
         self.push_slot(Carried::several(pieces));
@@ -110,7 +110,7 @@ impl Records {
         ensures pieces { self.new.pieces ≡ fmap.insert self.old.pieces number (piece ∷ []) }
         ensures end { self.new.base + self.new.slots ≡ number + 1 }
     {
-        self.drop_empty_end();
+        self.drop_from(number);
         self.start_at(number);
         self.fill_to(number);
         self.push_slot(Carried::one(piece));
@@ -373,25 +373,23 @@ impl Records {
         }
     }
 
-    // The empty slots behind the last record go.
-    fn drop_empty_end(&mut self)
+    // The slots of a number and of those above it go, which are empty. Mostly there are none.
+    fn drop_from(&mut self, number: u64)
+        requires { AreBelow self.old.pieces number }
         ensures pieces { self.new.pieces ≡ self.old.pieces }
         ensures room { self.new.room ≡ self.old.room }
-        ensures last { 0 < self.new.slots → fmap.contains_key self.new.pieces (self.new.base + self.new.slots - 1) ≡ true }
+        ensures end { 0 < self.new.slots → self.new.base + self.new.slots ≤ number }
     {
-        while self.ends_empty() {
+        while self.ends_past(number) {
             self.drop_back();
         }
     }
 
-    // Whether the last slot is an empty one.
-    fn ends_empty(&self) -> bool
-        ensures { IsTrue result ↔ ((0 < self.now.slots) × (fmap.contains_key self.now.pieces (self.now.base + self.now.slots - 1) ≡ false)) }
+    // Whether the last slot is that of a number or of one above it.
+    fn ends_past(&self, number: u64) -> bool
+        ensures { IsTrue result ↔ ((0 < self.now.slots) × (number < self.now.base + self.now.slots)) }
     {
-        match self.slots.back() {
-            Some(slot) => slot.len() == 0,
-            None => false,
-        }
+        number.saturating_sub(self.base) < self.slots.len() as u64
     }
 
     // The last slot, which is empty, goes.

@@ -55,7 +55,7 @@ impl Records {
 
     /// Holds the pieces of a packet, which come with their memory. It takes none.
     pub fn put(&mut self, number: u64, pieces: Vec<Piece>) {
-        self.drop_empty_end();
+        self.drop_from(number);
         self.start_at(number);
         self.fill_to(number);
         self.push_slot(Carried::several(pieces));
@@ -63,7 +63,7 @@ impl Records {
 
     /// Holds the one piece of a packet, in its slot: so a steady flow takes no memory for it.
     pub fn put_one(&mut self, number: u64, piece: Piece) {
-        self.drop_empty_end();
+        self.drop_from(number);
         self.start_at(number);
         self.fill_to(number);
         self.push_slot(Carried::one(piece));
@@ -241,19 +241,16 @@ impl Records {
         }
     }
 
-    // The empty slots behind the last record go.
-    fn drop_empty_end(&mut self) {
-        while self.ends_empty() {
+    // The slots of a number and of those above it go, which are empty. Mostly there are none.
+    fn drop_from(&mut self, number: u64) {
+        while self.ends_past(number) {
             self.drop_back();
         }
     }
 
-    // Whether the last slot is an empty one.
-    fn ends_empty(&self) -> bool {
-        match self.slots.back() {
-            Some(slot) => slot.len() == 0,
-            None => false,
-        }
+    // Whether the last slot is that of a number or of one above it.
+    fn ends_past(&self, number: u64) -> bool {
+        number.saturating_sub(self.base) < self.slots.len() as u64
     }
 
     // The last slot, which is empty, goes.
