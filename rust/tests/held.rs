@@ -133,7 +133,7 @@ fn streams_that_are_over_keep_no_buffers() {
     );
 }
 
-/// A byte takes 4,096 bytes, and at most 512 for what is noted of it at both ends, however wide its stream's window is.
+/// A byte takes 64 bytes, and at most 512 for what is noted of it at both ends, however wide its stream's window is.
 fn a_byte_takes_no_window() {
     let mut two = wide();
     let streams: Vec<_> = (0..STREAMS)
@@ -150,7 +150,7 @@ fn a_byte_takes_no_window() {
     }
     let grown = live().saturating_sub(before);
     assert!(
-        grown <= others.len() * (4096 + 512),
+        grown <= others.len() * (64 + 512),
         "{grown} bytes for {} of a peer",
         others.len()
     );
@@ -204,7 +204,7 @@ fn a_ring_shrinks_as_it_is_read() {
     assert_eq!(read, sent);
 }
 
-/// What an end tells that it holds is what its calls took, beside what is noted of a stream: nothing at first, 4,096 bytes for
+/// What an end tells that it holds is what its calls took, beside what is noted of a stream: nothing at first, 64 bytes for
 /// a byte, and nothing once the stream was read to its end and all is acknowledged, or as the stream is reset.
 fn what_is_held_is_told() {
     const NOTED: u64 = 1024;
@@ -217,7 +217,7 @@ fn what_is_held_is_told() {
     let stream = two.client.open(Dir::Bidi).expect("a stream");
     assert_eq!(two.client.write(stream, &[7]), Ok(1));
     two.settle();
-    assert_eq!(two.server.held().receiving, 4096);
+    assert_eq!(two.server.held().receiving, 64);
     assert!(two.client.held().sending <= 4096);
 
     let (before, told) = (live() as u64, two.client.held().sending);

@@ -522,7 +522,7 @@ refused_view r from stored offset first bytes ring new p = rw (p.same_len) (put_
 
 -- How large it is
 
-pub size_fits : (span window power least size : ℕ) → IsPowerOfTwo power → span ≤ power → power / 2 < max 1 span → least ≡ max power 4096 → size ≡ min least window → span ≤ window → IsSizeFor span window size
+pub size_fits : (span window power least size : ℕ) → IsPowerOfTwo power → span ≤ power → power / 2 < max 1 span → least ≡ max power 64 → size ≡ min least window → span ≤ window → IsSizeFor span window size
 size_fits span window power least size two reaches near least_is size_is fits =
     record {
       reaches = omega (arith, reaches, least_is, size_is, fits);
@@ -531,9 +531,9 @@ size_fits span window power least size two reaches near least_is size_is fits =
       power =
           elim (cases_lt window least) [
             | inl capped ↦ inr (omega (arith, size_is, capped))
-            | inr whole ↦ elim (cases_lt 4096 power) [
+            | inr whole ↦ elim (cases_lt 64 power) [
               | inl more ↦ inl (two.0, (let same : size ≡ power = omega (arith, least_is, size_is, whole, more) in same) ∙ two.1)
-              | inr few ↦ inl (12, (let same : size ≡ 4096 = omega (arith, least_is, size_is, whole, few) in same))
+              | inr few ↦ inl (6, (let same : size ≡ 64 = omega (arith, least_is, size_is, whole, few) in same))
             ]
           ];
     }
@@ -568,7 +568,7 @@ count_some r first n missing some =
 pub end_more : (r : NumberSet) (offset n end last : ℕ) → end ≡ end_of r → 0 < n → last ≡ max end (offset + n) → last ≡ end_of (with_run r offset n)
 end_more r offset n end last is some last_is = let ends = end_of-with_range r offset (offset + n) (omega arith) in omega (arith, is, last_is, ends)
 
-pub sized_grown : (r : NumberSet) (offset n from first size new last end stored count window : ℕ) → IsSized r size from end stored window false → new ≤ window → new ≤ max size (max 4096 (2 * (offset + n - from)))
+pub sized_grown : (r : NumberSet) (offset n from first size new last end stored count window : ℕ) → IsSized r size from end stored window false → new ≤ window → new ≤ max size (max 64 (2 * (offset + n - from)))
     → IsLeastMissingFrom r (max offset from) first → first < offset + n → 0 < n → count ≡ missing_count r first (offset + n - first) → last ≡ end_of (with_run r offset n) → IsSized (with_run r offset n) new from last (stored + count) window false
 sized_grown r offset n from first size new last end stored count window h within fits least below some count_is ends =
     let bound = h.bound in

@@ -2,8 +2,9 @@
 --     IsReached, reached      the ring before, the one that reaches, and with the bytes in its gaps
 --     reached_ring, reached_view, reached_sized      the offsets were noted
 --     undone_ring, undone_view, undone_sized      they weren't, and the ring let go of what it has too much
-use Rattle.std.specs.Prelude.{◌≡◌, ℕ, ◌+◌, ◌-◌, ◌*◌, ◌<◌, ◌≤◌, max, false, List, length, refl}
+use Rattle.std.specs.Prelude.{◌≡◌, ℕ, ◌+◌, ◌-◌, ◌*◌, ◌<◌, ◌≤◌, max, ◌==◌, if◌then◌else◌, false, List, length, refl}
 use Rattle.std.proofs.Common.{◌∙◌, ap, arith}
+use Rattle.std.proofs.lemmas.Bool.Decides.{nat_tests}
 use Rattle.qs_ranges.specs.Numbers.{IsLeastMissingFrom, NumberSet}
 use Rattle.qs_recv.specs.Assembled.{store}
 use Rattle.qs_recv.specs.Ring.{IsFilled, IsMoved, IsReach, IsRing, IsSized, missing_count, ring_bytes}
@@ -19,11 +20,25 @@ pub record IsReached (r : NumberSet) (from end stored offset first window : ℕ)
   pub other : IsOther r ring wide (length ring) (length wide) from
   pub put : IsPut r (length wide) from stored offset first bytes wide wide new
 
+-- where nothing is kept, a ring may begin anywhere
+begun_anywhere : (first from kept span window : ℕ) (old new : List ℕ) → IsReach (if kept == 0 then first else from) kept span window old new → IsReach from kept span window old new
+begun_anywhere first from kept span window old new h =
+    record {
+      reaches = h.reaches;
+      more = h.more;
+      within = h.within;
+      bound = h.bound;
+      moved = λ q low high.
+          let here : (if kept == 0 then first else from) ≡ from = grind (arith, nat_tests, low, high) in
+          h.moved q (omega (arith, here, low)) (omega (arith, here, high));
+    }
+
 pub reached : (r : NumberSet) (from end stored offset start first window : ℕ) (bytes ring wide new : List ℕ) → IsRing ring r (length ring) from stored false → IsSized r (length ring) from end stored window false
-    → IsReach from (end - from) (offset + length bytes - from) window ring wide → start ≡ max offset from → IsLeastMissingFrom r start first → first < offset + length bytes
+    → IsReach (if end - from == 0 then first else from) (end - from) (offset + length bytes - from) window ring wide → start ≡ max offset from → IsLeastMissingFrom r start first → first < offset + length bytes
     → length new ≡ length wide → IsFilled r first (offset + length bytes) offset bytes wide new → IsReached r from end stored offset first window bytes ring wide new
-reached r from end stored offset start first window bytes ring wide new was sized reach start_is least some same filled =
+reached r from end stored offset start first window bytes ring wide new was sized begun start_is least some same filled =
     let ends = sized.ends refl in
+    let reach = begun_anywhere first from (end - from) (offset + length bytes - from) window ring wide begun in
     let within = reach.within in
     let small = sized.small_window in
     let reaches = reach.reaches in

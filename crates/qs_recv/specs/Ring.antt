@@ -70,7 +70,7 @@ pub record IsSized (received : NumberSet) (size read_count end stored window : �
 pub record IsSizeFor (span window size : ℕ) : Type 0 where
   pub reaches : span ≤ size
   pub within : size ≤ window
-  pub bound : size ≤ max 4096 (2 * span)
+  pub bound : size ≤ max 64 (2 * span)
   pub power : IsPowerOfTwo size ⊎ (size ≡ window)
 
 -- a ring of another size has the bytes of so many offsets from `from` on
@@ -82,7 +82,7 @@ pub record IsReach (from count span window : ℕ) (old new : List ℕ) : Type 0 
   pub reaches : span ≤ length new
   pub more : length old ≤ length new
   pub within : length new ≤ window
-  pub bound : length new ≤ max (length old) (max 4096 (2 * span))
+  pub bound : length new ≤ max (length old) (max 64 (2 * span))
   pub moved : IsMoved from count old new
 
 -- how many of the n offsets from `from` on didn't come

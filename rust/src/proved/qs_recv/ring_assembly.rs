@@ -6,11 +6,14 @@ use crate::proved::qs_recv::ring::Ring;
 use crate::proved::qs_ranges::{NoMemory, RangeSet};
 use crate::shim::alloc::Global;
 
-// A smaller ring isn't worth a growth.
-const LEAST_SIZE: u64 = 4096;
+// A ring begins with so many bytes.
+const LEAST_SIZE: u64 = 64;
+
+// One of no more is kept where little or nothing is stored, so that a steady flow takes no memory anew.
+const IDLE_SIZE: u64 = 4096;
 
 /// A ring beside the set of every offset that came. As bytes are stored that lie past it, it grows to reach from what was
-/// read to the last of them: to a power of two, less than twice as far or 4,096 bytes, and never past the window. What is stored
+/// read to the last of them: to a power of two, less than twice as far or 64 bytes, and never past the window. What is stored
 /// keeps its place in memory that grows, unless it goes around the ring's end; where its offsets can't be noted, the ring shrinks
 /// again. As bytes are read and it is larger than 4,096 bytes and than four times as far, it shrinks in place, to twice as far
 /// at least. It is given back where bytes are thrown away, and where nothing is stored: at once if it is larger than 4,096
@@ -75,7 +78,14 @@ impl Assembly for RingAssembly {
         let from = self.read_count;
         let kept = self.end - from;
         let span = end - from;
-        reach(self.alloc, &mut self.ring, from, kept, span, self.window)?;
+        reach(
+            self.alloc,
+            &mut self.ring,
+            front_of(kept, first, from),
+            kept,
+            span,
+            self.window,
+        )?;
         match store(
             &mut self.ring,
             &mut self.received,
@@ -158,6 +168,12 @@ fn size_for(span: u64, window: u64) -> u64 {
     least.min(window)
 }
 
+// Where a ring that is made begins: where nothing is kept, with the first byte that comes, so that none before it is filled.
+#[inline(always)]
+fn front_of(kept: u64, first: u64, from: u64) -> u64 {
+    if kept == 0 { first } else { from }
+}
+
 // Lets a ring reach so many offsets past `from`, with the bytes of the first `kept` of these.
 fn reach(
     alloc: Global,
@@ -184,7 +200,7 @@ fn shed(alloc: Global, ring: &mut Ring, from: u64, span: u64, window: u64) {
     debug_assert!(window <= 1 << 20);
     debug_assert!(from <= 1 << 62);
     let len = ring.len() as u64;
-    if len <= LEAST_SIZE.max(4 * span) {
+    if len <= IDLE_SIZE.max(4 * span) {
         return;
     }
     if span == 0 {

@@ -65,7 +65,7 @@ overflow_add-self c =
     let s = c.self.inside in
     let new = c.store.new.ring in
     let h = reached s.received s.read_count s.end s.stored c.args.offset c.max-start.result c.first_gap-first.result.0 s.window c.args.bytes.now s.ring c.reach.new.ring new
-    (rw c.if-self.false at c.self.invariant.0) (rw c.if-self.false at c.self.invariant.1) c.in_ok-reach.ensures.ok c.max-start.ensures
+    (rw c.if-self.false at c.self.invariant.0) (rw c.if-self.false at c.self.invariant.1) (rw c.front_of.ensures at c.in_ok-reach.ensures.ok) c.max-start.ensures
     (least_of _ _ _ _ _ c.first_gap-first.ensures c.if-first-end.false) c.if-first-end.false c.store.ensures.same_len c.store.ensures.filled in
     let noted = reached_ring s.received s.read_count s.end s.stored c.args.offset c.first_gap-first.result.0 s.window c.in-Ok.count c.args.bytes.now s.ring c.reach.new.ring new h c.in-Ok.ensures.count in
     let small = noted.small_window in
@@ -77,7 +77,7 @@ invariant_of-self-in-Ok c =
     let s = c.self.inside in
     let new = c.store.new.ring in
     let h = reached s.received s.read_count s.end s.stored c.args.offset c.max-start.result c.first_gap-first.result.0 s.window c.args.bytes.now s.ring c.reach.new.ring new
-    (rw c.if-self.false at c.self.invariant.0) (rw c.if-self.false at c.self.invariant.1) c.in_ok-reach.ensures.ok c.max-start.ensures
+    (rw c.if-self.false at c.self.invariant.0) (rw c.if-self.false at c.self.invariant.1) (rw c.front_of.ensures at c.in_ok-reach.ensures.ok) c.max-start.ensures
     (least_of _ _ _ _ _ c.first_gap-first.ensures c.if-first-end.false) c.if-first-end.false c.store.ensures.same_len c.store.ensures.filled in
     rw (c.in-Ok.ensures.noted, c.if-self.false) (
       reached_ring s.received s.read_count s.end s.stored c.args.offset c.first_gap-first.result.0 s.window c.in-Ok.count c.args.bytes.now s.ring c.reach.new.ring new h c.in-Ok.ensures.count,
@@ -89,7 +89,7 @@ returns-in-Ok-clause-ok c =
     let s = c.self.inside in
     let new = c.store.new.ring in
     let h = reached s.received s.read_count s.end s.stored c.args.offset c.max-start.result c.first_gap-first.result.0 s.window c.args.bytes.now s.ring c.reach.new.ring new
-    (rw c.if-self.false at c.self.invariant.0) (rw c.if-self.false at c.self.invariant.1) c.in_ok-reach.ensures.ok c.max-start.ensures
+    (rw c.if-self.false at c.self.invariant.0) (rw c.if-self.false at c.self.invariant.1) (rw c.front_of.ensures at c.in_ok-reach.ensures.ok) c.max-start.ensures
     (least_of _ _ _ _ _ c.first_gap-first.ensures c.if-first-end.false) c.if-first-end.false c.store.ensures.same_len c.store.ensures.filled in
     let before : Assembled = record { stored = ring_bytes s.received s.ring (length s.ring) s.read_count (length s.ring); received = s.received; read_count = s.read_count; window = s.window; discarding = false } in
     rw (← c.self.view_is, c.in-Ok.ensures.noted, c.if-self.false) (put_is before c.args.offset c.args.bytes.now _ _ refl (reached_view s.received s.read_count s.end s.stored c.args.offset c.first_gap-first.result.0 s.window c.args.bytes.now s.ring c.reach.new.ring new h) refl)
@@ -111,7 +111,7 @@ shed-requires-clause-reaches c =
     let s = c.self.inside in
     let new = c.store.new.ring in
     let h = reached s.received s.read_count s.end s.stored c.args.offset c.max-start.result c.first_gap-first.result.0 s.window c.args.bytes.now s.ring c.reach.new.ring new
-    (rw c.if-self.false at c.self.invariant.0) (rw c.if-self.false at c.self.invariant.1) c.in_ok-reach.ensures.ok c.max-start.ensures
+    (rw c.if-self.false at c.self.invariant.0) (rw c.if-self.false at c.self.invariant.1) (rw c.front_of.ensures at c.in_ok-reach.ensures.ok) c.max-start.ensures
     (least_of _ _ _ _ _ c.first_gap-first.ensures c.if-first-end.false) c.if-first-end.false c.store.ensures.same_len c.store.ensures.filled in
     let ends = (rw c.if-self.false at c.self.invariant.1).ends refl in
     let fits = span_fits s.received s.ring (length s.ring) s.read_count s.stored (rw c.if-self.false at c.self.invariant.0) in
@@ -123,7 +123,7 @@ invariant_of-self-in-Err c =
     let s = c.self.inside in
     let new = c.store.new.ring in
     let h = reached s.received s.read_count s.end s.stored c.args.offset c.max-start.result c.first_gap-first.result.0 s.window c.args.bytes.now s.ring c.reach.new.ring new
-    (rw c.if-self.false at c.self.invariant.0) (rw c.if-self.false at c.self.invariant.1) c.in_ok-reach.ensures.ok c.max-start.ensures
+    (rw c.if-self.false at c.self.invariant.0) (rw c.if-self.false at c.self.invariant.1) (rw c.front_of.ensures at c.in_ok-reach.ensures.ok) c.max-start.ensures
     (least_of _ _ _ _ _ c.first_gap-first.ensures c.if-first-end.false) c.if-first-end.false c.store.ensures.same_len c.store.ensures.filled in
     let ring = undone_ring s.received s.read_count s.end s.stored c.args.offset c.first_gap-first.result.0 s.window c.args.bytes.now s.ring c.reach.new.ring new c.shed.new.ring h c.shed.ensures.fewer c.shed.ensures.reaches c.shed.ensures.moved in
     rw (c.in-Err.ensures.err, c.if-self.false) (ring, undone_sized s.received s.read_count s.end s.stored c.args.offset c.first_gap-first.result.0 s.window c.args.bytes.now s.ring c.reach.new.ring new c.shed.new.ring h c.shed.ensures.fewer c.shed.ensures.bound ring)
@@ -133,7 +133,7 @@ returns-in-Err-clause-err c =
     let s = c.self.inside in
     let new = c.store.new.ring in
     let h = reached s.received s.read_count s.end s.stored c.args.offset c.max-start.result c.first_gap-first.result.0 s.window c.args.bytes.now s.ring c.reach.new.ring new
-    (rw c.if-self.false at c.self.invariant.0) (rw c.if-self.false at c.self.invariant.1) c.in_ok-reach.ensures.ok c.max-start.ensures
+    (rw c.if-self.false at c.self.invariant.0) (rw c.if-self.false at c.self.invariant.1) (rw c.front_of.ensures at c.in_ok-reach.ensures.ok) c.max-start.ensures
     (least_of _ _ _ _ _ c.first_gap-first.ensures c.if-first-end.false) c.if-first-end.false c.store.ensures.same_len c.store.ensures.filled in
     rw (← c.self.view_is, c.in-Err.ensures.err, c.if-self.false)
     (ap (λ m. record { stored = m; received = s.received; read_count = s.read_count; window = s.window; discarding = false })
