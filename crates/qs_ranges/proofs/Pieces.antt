@@ -1,7 +1,7 @@
 -- What stands where blocks were changed, parted, or taken out.
 use Rattle.std.proofs.Common.{Result, Ok, Err, OnOk, subst, length-append, ◌≡◌, ℕ, suc, zero, ◌+◌, ◌-◌, ◌<◌, ◌≤◌, [], ◌∷◌, ◌++◌, length, take, drop, set, get_or, slice_index_or, append_assoc, refl, sym, ap, ◌∙◌, arith}
 use Rattle.std.specs.List.{insert}
-use Rattle.std.proofs.lemmas.List.{append-nil, take_more_set, take_all, take-append-drop, length-take-le, drop_all, drop-set, drop-drop, take-take, take-append-le, get_or-drop, get_or_past, get_or_read}
+use Rattle.std.proofs.lemmas.List.{append-nil, take_more_set, take_all, take-append-drop, length-take-le, drop_all, drop-set, drop-drop, take-take, take-append-le, drop-append-le, get_or-drop, get_or_past, get_or_read}
 use Rattle.std.proofs.lemmas.List.Edits.{length-insert, get_or-insert_below}
 use Rattle.qs_ranges.specs.Runs.{Runs}
 use Rattle.qs_ranges.specs.Blocks.{Blocks, all_runs, block_at, place}
@@ -88,25 +88,22 @@ parted_place bs b half at upper lt within le =
 pub before_new : (bs : Blocks) (b : ℕ) (upper : Runs) → b < length bs → block_at (insert bs (b + 1) upper) b ≡ block_at bs b
 before_new bs b upper lt = get_or-insert_below bs (b + 1) upper [] b (omega arith) (omega arith)
 
--- a run at the end of the last block
-pub ended : (bs : Blocks) (b len : ℕ) (run : ℕ × ℕ) → b + 1 ≡ length bs → len ≡ length (block_at bs b) → all_runs (set bs b (take len (block_at bs b) ++ run ∷ drop len (block_at bs b))) ≡ all_runs bs ++ run ∷ []
-ended bs b len run last is =
-    let next : suc b ≡ length bs = omega arith in
-    let all : place bs b len ≡ length (all_runs bs) = ap (place bs b) is ∙ place_next bs b ∙ ap (λ n. place bs n 0) next ∙ place_end bs in
-    changed_within bs b len len (run ∷ []) (omega arith) (omega arith) (omega arith)
-    ∙ ap (λ n. take n (all_runs bs) ++ run ∷ drop n (all_runs bs)) all
-    ∙ ap (λ l. l ++ run ∷ drop (length (all_runs bs)) (all_runs bs)) (take_all (length (all_runs bs)) (all_runs bs) (omega arith))
-    ∙ ap (λ l. all_runs bs ++ run ∷ l) (drop_all (length (all_runs bs)) (all_runs bs) (omega arith))
+-- a run in a block of its own
+pub own_block : (bs : Blocks) (b : ℕ) (run : ℕ × ℕ) → all_runs (insert bs b (run ∷ [])) ≡ take (place bs b 0) (all_runs bs) ++ run ∷ drop (place bs b 0) (all_runs bs)
+own_block bs b run =
+    let xs = all_runs (take b bs) in
+    let ys = all_runs (drop b bs) in
+    let n = place bs b 0 in
+    let whole : all_runs bs ≡ xs ++ ys = ap all_runs (sym (take-append-drop b bs)) ∙ all_append (take b bs) (drop b bs) in
+    let before : take n (all_runs bs) ≡ xs = ap (take n) whole ∙ take-append-le n xs ys (omega arith) ∙ take_all n xs (omega arith) in
+    let behind : drop n (all_runs bs) ≡ ys = ap (drop n) whole ∙ drop-append-le n xs ys (omega arith) ∙ ap (λ l. l ++ ys) (drop_all n xs (omega arith)) in
+    all_append (take b bs) ((run ∷ []) ∷ drop b bs) ∙ ap (λ l. l ++ run ∷ ys) (sym before) ∙ ap (λ l. take n (all_runs bs) ++ run ∷ l) (sym behind)
 
--- past the last block a run is put behind all others
-pub put_last : (bs : Blocks) (b i : ℕ) (run : ℕ × ℕ) → b ≡ length bs → i ≤ length (block_at bs b) → all_runs bs ++ run ∷ [] ≡ take (place bs b i) (all_runs bs) ++ run ∷ drop (place bs b i) (all_runs bs)
-put_last bs b i run end le =
-    let none : length (block_at bs b) ≡ 0 = ap length (get_or_past bs b [] (omega arith)) in
-    let at : i ≡ 0 = omega arith in
-    let all : place bs b i ≡ length (all_runs bs) = ap (λ n. place bs n i) end ∙ ap (place bs (length bs)) at ∙ place_end bs in
-    sym (ap (λ n. take n (all_runs bs) ++ run ∷ drop n (all_runs bs)) all
-    ∙ ap (λ l. l ++ run ∷ drop (length (all_runs bs)) (all_runs bs)) (take_all (length (all_runs bs)) (all_runs bs) (omega arith))
-    ∙ ap (λ l. all_runs bs ++ run ∷ l) (drop_all (length (all_runs bs)) (all_runs bs) (omega arith)))
+-- the place behind a block's runs is that before those of the next one
+pub before_next : (bs : Blocks) (b next len : ℕ) → b + 1 ≡ next → len ≡ length (block_at bs b) → place bs b len ≡ place bs next 0
+before_next bs b next len is counted =
+    let after : suc b ≡ next = omega (arith, is) in
+    ap (place bs b) counted ∙ place_next bs b ∙ ap (λ n. place bs n 0) after
 
 -- a block behind a change is as it was
 pub block_behind_same : (xs ys : Blocks) (m e : ℕ) → m ≤ e → drop m xs ≡ drop m ys → block_at xs e ≡ block_at ys e

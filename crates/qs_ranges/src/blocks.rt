@@ -29,8 +29,8 @@ pub(crate) fn insert_at(
         ≡ take (place blocks.old.items block at) (all_runs blocks.old.items) ++ run ∷ drop (place blocks.old.items block at) (all_runs blocks.old.items)) }
     ensures err { OnErr result (all_runs blocks.new.items ≡ all_runs blocks.old.items) }
 {
-    if block == blocks.len() {
-        return append(blocks, run);
+    if block == blocks.len() || (at == 0 && blocks[block].len() == MOST_RUNS) {
+        return insert_before(blocks, block, run);
     }
     let (roomy, spot) = make_room(blocks, block, at)?;
     blocks[roomy].insert(spot, run)
@@ -114,20 +114,21 @@ pub(crate) fn take_out(blocks: &mut Vec<Block>, span: Span)
     blocks[span.block].take_out(span.from, span.to);
 }
 
-// Puts a run behind all others.
-fn append(blocks: &mut Vec<Block>, run: (u64, u64)) -> Result<(), NoMemory>
-    ensures ok { OnOk result (all_runs blocks.new.items ≡ all_runs blocks.old.items ++ run ∷ []) }
+// Puts a run before those of a block, or behind all: behind the runs of the block before it, or where that is full, in a block of its own.
+fn insert_before(blocks: &mut Vec<Block>, block: usize, run: (u64, u64)) -> Result<(), NoMemory>
+    requires { block ≤ length blocks.old.items }
+    ensures ok { OnOk result (all_runs blocks.new.items
+        ≡ take (place blocks.old.items block 0) (all_runs blocks.old.items) ++ run ∷ drop (place blocks.old.items block 0) (all_runs blocks.old.items)) }
     ensures err { OnErr result (all_runs blocks.new.items ≡ all_runs blocks.old.items) }
 {
-    let count = blocks.len();
-    if count > 0 {
-        let len = blocks[count - 1].len();
+    if block > 0 {
+        let len = blocks[block - 1].len();
         if len < MOST_RUNS {
-            return blocks[count - 1].insert(len, run);
+            return blocks[block - 1].insert(len, run);
         }
     }
-    let block = Block::of(*blocks.allocator(), run)?;
-    blocks.push(block)?;
+    let own = Block::of(*blocks.allocator(), run)?;
+    blocks.insert(block, own)?;
     Ok(())
 }
 
