@@ -363,7 +363,7 @@ pub fn put_ack(ranges: &[Range<u64>], out: &mut [u8]) -> Result<(usize, usize), 
     if pairs.is_empty() {
         return Err(PutFault::Invalid);
     }
-    wire::put_ack(pairs, 0, out).map_err(|_full| PutFault::Full)
+    wire::put_ack(pairs, out).map_err(|_full| PutFault::Full)
 }
 
 /// The stream of the last STREAM frame that is read in a payload, up to its end or to the first fault; `None` where there

@@ -5,7 +5,7 @@ ghost use Rattle.qs_c.specs.Acks.{pair_of, are_apart, are_ranges, AckAnswer, Ran
 
 use crate::answers::{FULL, INVALID, NONE, OK};
 use crate::reads::skip;
-use qs_wire::{AckRanges, put_ack};
+use qs_wire::{AckRanges, put_delayed_ack};
 
 /// The packet numbers from one to another, both among them.
 #[repr(C)]
@@ -33,7 +33,7 @@ pub(crate) fn put(
         return INVALID;
     }
     let pairs = pairs_of(ranges);
-    match put_ack(&pairs[..ranges.len()], delay, out) {
+    match put_delayed_ack(&pairs[..ranges.len()], delay, out) {
         Ok((taken, written)) => {
             *count = taken;
             *len = written;

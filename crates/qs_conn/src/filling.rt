@@ -21,7 +21,7 @@ ghost use Rattle.qs_conn.specs.Filling.{frame_of_item, end_by, HasSpare, LeavesR
 use crate::outbox::Outbox;
 use qs_ranges::RangeSet;
 use qs_send::{Chunk, Item};
-use qs_wire::{Frame, StreamId, put, put_ack, put_stream};
+use qs_wire::{Frame, StreamId, put, put_delayed_ack, put_stream};
 
 /// No STREAM frame with a length is shorter: its type, its stream and its length take a byte each (RFC 9000, section 19.8).
 pub(crate) const LEAST_STREAM_FRAME: usize = 3;
@@ -193,7 +193,7 @@ pub(crate) fn put_kept(done: &RangeSet, delay: u64, out: &mut [u8]) -> usize
     let count = done.copy_pairs(&mut pairs);
     let highest = &mut pairs[..count];
     highest.reverse();
-    match put_ack(highest, delay, out) {
+    match put_delayed_ack(highest, delay, out) {
         Ok((_count, len)) => len,
         Err(_full) => 0,
     }

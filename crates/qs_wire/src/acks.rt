@@ -119,10 +119,27 @@ fn put_ranges(smallest: u64, pairs: &[(u64, u64)], at: usize, out: &mut [u8]) ->
 
 const ACK: u64 = 0x02;
 
-/// Writes an ACK frame that tells a delay and no ECN counts, of as many ranges as fit, at the slice's front, and
-/// answers how many and the frame's length in bytes. The ranges are half-open, the highest first. Where
-/// not even one fits, nothing is written.
-pub fn put_ack(pairs: &[(u64, u64)], delay: u64, out: &mut [u8]) -> Result<(usize, usize), Full>
+/// Writes an ACK frame without delay and ECN counts, of as many ranges as fit, at the slice's front, and answers
+/// how many and the frame's length in bytes. The ranges are half-open, the highest first. Where not even one
+/// fits, nothing is written.
+pub fn put_ack(pairs: &[(u64, u64)], out: &mut [u8]) -> Result<(usize, usize), Full>
+    requires { AreAckPairs pairs.now }
+    ensures some { IfOk result (λ x. (0 < x.0) × (x.0 ≤ length pairs.now)) }
+    ensures written { IfOk result (λ x. (x.1 ≡ length (canonical (ack_of 0 (take x.0 pairs.now)))) × (x.1 ≤ length out.old)
+        × (out.new ≡ canonical (ack_of 0 (take x.0 pairs.now)) ++ drop x.1 out.old)) }
+    // More ranges would not fit.
+    ensures most { IfOk result (λ x. (n : ℕ) → x.0 < n → n ≤ length pairs.now → length out.old < length (canonical (ack_of 0 (take n pairs.now)))) }
+    ensures full { IfErr result (λ _. (length out.old < length (canonical (ack_of 0 (take 1 pairs.now)))) × (out.new ≡ out.old)) }
+{
+    put_delayed_ack(pairs, 0, out)
+}
+
+/// The same of an ACK frame that tells a delay.
+pub fn put_delayed_ack(
+    pairs: &[(u64, u64)],
+    delay: u64,
+    out: &mut [u8],
+) -> Result<(usize, usize), Full>
     requires pairs { AreAckPairs pairs.now }
     requires delay { delay < 2 ^ 62 }
     ensures some { IfOk result (λ x. (0 < x.0) × (x.0 ≤ length pairs.now)) }

@@ -15,7 +15,7 @@ mod turns;
 mod varint;
 mod writing;
 
-pub use acks::{AckRanges, put_ack};
+pub use acks::{AckRanges, put_ack, put_delayed_ack};
 pub use fault::{FaultKind, Full, WireFault};
 pub use frame::{EcnCounts, Frame, Placed};
 pub use frames::Frames;

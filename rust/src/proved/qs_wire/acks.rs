@@ -80,10 +80,19 @@ fn put_ranges(smallest: u64, pairs: &[(u64, u64)], at: usize, out: &mut [u8]) ->
 
 const ACK: u64 = 0x02;
 
-/// Writes an ACK frame that tells a delay and no ECN counts, of as many ranges as fit, at the slice's front, and
-/// answers how many and the frame's length in bytes. The ranges are half-open, the highest first. Where
-/// not even one fits, nothing is written.
-pub fn put_ack(pairs: &[(u64, u64)], delay: u64, out: &mut [u8]) -> Result<(usize, usize), Full> {
+/// Writes an ACK frame without delay and ECN counts, of as many ranges as fit, at the slice's front, and answers
+/// how many and the frame's length in bytes. The ranges are half-open, the highest first. Where not even one
+/// fits, nothing is written.
+pub fn put_ack(pairs: &[(u64, u64)], out: &mut [u8]) -> Result<(usize, usize), Full> {
+    put_delayed_ack(pairs, 0, out)
+}
+
+/// The same of an ACK frame that tells a delay.
+pub fn put_delayed_ack(
+    pairs: &[(u64, u64)],
+    delay: u64,
+    out: &mut [u8],
+) -> Result<(usize, usize), Full> {
     debug_assert!(delay < 1 << 62);
     let (start, end) = pairs[0];
     let (_, others) = pairs.split_at(1);

@@ -12,8 +12,8 @@ slice_bounds-highest-end c =
     let few : c.copy_pairs-count.result ≤ length c.copy_pairs-count.new.into = omega (arith, c.copy_pairs-count.ensures.count, c.copy_pairs-count.ensures.len, c.requires.few) in
     sym (length-take-le c.copy_pairs-count.result c.copy_pairs-count.new.into few)
 
-pub put_ack-requires-clause-pairs : goal.put_ack-requires-clause-pairs
-put_ack-requires-clause-pairs c =
+pub put_delayed_ack-requires-clause-pairs : goal.put_delayed_ack-requires-clause-pairs
+put_delayed_ack-requires-clause-pairs c =
     let runs = take c.copy_pairs-count.result c.copy_pairs-count.new.into in
     let count = count_runs c.args.done.now runs c.copy_pairs-count.ensures.runs in
     subst AreAckPairs (sym (c.reverse.ensures.after)) (pairs_ok c.args.done.now runs c.copy_pairs-count.ensures.runs c.copy_pairs-count.ensures.within (omega (arith, count, c.requires.some)) (omega (arith, count, c.requires.few)))
@@ -25,9 +25,9 @@ returns-in-Ok-clause-begun c = λ old same due sent fresh.
     let count = count_runs c.args.done.now runs c.copy_pairs-count.ensures.runs in
     let highest : pairs ≡ reverse runs = c.reverse.ensures.after in
     let ok : AreAckPairs pairs = subst AreAckPairs (sym highest) (pairs_ok c.args.done.now runs c.copy_pairs-count.ensures.runs c.copy_pairs-count.ensures.within (omega (arith, count, c.requires.some)) (omega (arith, count, c.requires.few))) in
-    let text : take c.in-Ok.len c.put_ack.new.out ≡ canonical (ack_of c.args.delay (take c.in-Ok._count pairs)) =
+    let text : take c.in-Ok.len c.put_delayed_ack.new.out ≡ canonical (ack_of c.args.delay (take c.in-Ok._count pairs)) =
     ap (take c.in-Ok.len) c.in-Ok.ensures.written.2 ∙ take_at (canonical (ack_of c.args.delay (take c.in-Ok._count pairs))) (drop c.in-Ok.len c.args.out.now) c.in-Ok.len (sym c.in-Ok.ensures.written.0) in
-    begun_ack c.args.delay old runs pairs (subst (λ s. AreRunsOf s runs) (sym same) c.copy_pairs-count.ensures.runs) highest ok due c.in-Ok._count c.in-Ok.ensures.some.0 c.in-Ok.ensures.some.1 c.requires.delay (length c.args.out.now) (take c.in-Ok.len c.put_ack.new.out) text c.in-Ok.ensures.most sent fresh
+    begun_ack c.args.delay old runs pairs (subst (λ s. AreRunsOf s runs) (sym same) c.copy_pairs-count.ensures.runs) highest ok due c.in-Ok._count c.in-Ok.ensures.some.0 c.in-Ok.ensures.some.1 c.requires.delay (length c.args.out.now) (take c.in-Ok.len c.put_delayed_ack.new.out) text c.in-Ok.ensures.most sent fresh
 
 pub returns-in-Err-clause-begun : goal.returns-in-Err-clause-begun
 returns-in-Err-clause-begun c = λ old same due sent fresh.
@@ -45,9 +45,9 @@ returns-in-Ok-clause-alone c = λ old same due.
     let count = count_runs c.args.done.now runs c.copy_pairs-count.ensures.runs in
     let highest : pairs ≡ reverse runs = c.reverse.ensures.after in
     let ok : AreAckPairs pairs = subst AreAckPairs (sym highest) (pairs_ok c.args.done.now runs c.copy_pairs-count.ensures.runs c.copy_pairs-count.ensures.within (omega (arith, count, c.requires.some)) (omega (arith, count, c.requires.few))) in
-    let text : take c.in-Ok.len c.put_ack.new.out ≡ canonical (ack_of c.args.delay (take c.in-Ok._count pairs)) =
+    let text : take c.in-Ok.len c.put_delayed_ack.new.out ≡ canonical (ack_of c.args.delay (take c.in-Ok._count pairs)) =
     ap (take c.in-Ok.len) c.in-Ok.ensures.written.2 ∙ take_at (canonical (ack_of c.args.delay (take c.in-Ok._count pairs))) (drop c.in-Ok.len c.args.out.now) c.in-Ok.len (sym c.in-Ok.ensures.written.0) in
-    ack_alone c.args.delay old runs pairs (subst (λ s. AreRunsOf s runs) (sym same) c.copy_pairs-count.ensures.runs) highest ok due c.in-Ok._count c.in-Ok.ensures.some.0 c.in-Ok.ensures.some.1 c.requires.delay (length c.args.out.now) (take c.in-Ok.len c.put_ack.new.out) text c.in-Ok.ensures.most
+    ack_alone c.args.delay old runs pairs (subst (λ s. AreRunsOf s runs) (sym same) c.copy_pairs-count.ensures.runs) highest ok due c.in-Ok._count c.in-Ok.ensures.some.0 c.in-Ok.ensures.some.1 c.requires.delay (length c.args.out.now) (take c.in-Ok.len c.put_delayed_ack.new.out) text c.in-Ok.ensures.most
 
 pub returns-in-Err-clause-alone : goal.returns-in-Err-clause-alone
 returns-in-Err-clause-alone c = λ old same due.

@@ -3,7 +3,7 @@
 
 use crate::proved::qs_c::answers::{FULL, INVALID, NONE, OK};
 use crate::proved::qs_c::reads::skip;
-use crate::proved::qs_wire::{AckRanges, put_ack};
+use crate::proved::qs_wire::{AckRanges, put_delayed_ack};
 
 /// The packet numbers from one to another, both among them.
 #[repr(C)]
@@ -29,7 +29,7 @@ pub(crate) fn put(
         return INVALID;
     }
     let pairs = pairs_of(ranges);
-    match put_ack(&pairs[..ranges.len()], delay, out) {
+    match put_delayed_ack(&pairs[..ranges.len()], delay, out) {
         Ok((taken, written)) => {
             *count = taken;
             *len = written;

@@ -58,12 +58,20 @@ fn acks_are_made() {
     let rt = HostRuntime::new();
     let pairs = [(4, 6), (1, 3)];
     let mut seven = [9; 7];
-    assert_eq!(rt; put_ack(&pairs, 0, &mut seven), Ok((2, 7)));
+    assert_eq!(rt; put_ack(&pairs, &mut seven), Ok((2, 7)));
     assert_eq!(rt; seven, *b"\x02\x05\x00\x01\x01\x00\x01");
     let mut six = [9; 6];
-    assert_eq!(rt; put_ack(&pairs, 0, &mut six), Ok((1, 5)));
+    assert_eq!(rt; put_ack(&pairs, &mut six), Ok((1, 5)));
     assert_eq!(rt; six, *b"\x02\x05\x00\x00\x01\x09");
     let mut four = [9; 4];
-    assert_eq!(rt; put_ack(&pairs, 0, &mut four), Err(Full));
+    assert_eq!(rt; put_ack(&pairs, &mut four), Err(Full));
     assert_eq!(rt; four, [9; 4]);
+}
+
+#[test]
+fn an_ack_tells_a_delay() {
+    let rt = HostRuntime::new();
+    let mut out = [9; 7];
+    assert_eq!(rt; put_delayed_ack(&[(4, 6)], 64, &mut out), Ok((1, 6)));
+    assert_eq!(rt; out, *b"\x02\x05\x40\x40\x00\x01\x09");
 }

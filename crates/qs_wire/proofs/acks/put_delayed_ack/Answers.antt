@@ -5,7 +5,7 @@ use Rattle.qs_wire.specs.Acks.{ack_of}
 use Rattle.qs_wire.proofs.Numbers.{length-short}
 use Rattle.qs_wire.proofs.PairLaws.{top, text_below, first_text, length-first_text, ack_take, length-ack_take}
 use Rattle.qs_wire.proofs.Writes.{Puts-before}
-use Rattle.qs_wire.proofs.acks.put_ack.Goals as goal
+use Rattle.qs_wire.proofs.acks.put_delayed_ack.Goals as goal
 
 pub returns-then-first-out-clause-full : goal.returns-then-first-out-clause-full
 returns-then-first-out-clause-full c =
