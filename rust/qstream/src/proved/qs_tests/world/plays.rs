@@ -202,10 +202,6 @@ fn ends_need_lawful_settings() {
     let rt = HostRuntime::new();
     let alloc = rt.alloc();
     let refused = Err(PlayFault::Setup(SetupFault::OutOfRange));
-    assert!(rt;
-        play(alloc, without_window(), standard_settings(), &[]) == refused
-    );
-    assert!(rt;
-        play(alloc, standard_settings(), without_window(), &[]) == refused
-    );
+    assert!(rt; play(alloc, without_window(), standard_settings(), &[]) == refused);
+    assert!(rt; play(alloc, standard_settings(), without_window(), &[]) == refused);
 }

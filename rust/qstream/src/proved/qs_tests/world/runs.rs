@@ -23,7 +23,12 @@ fn random_scripts_play_to_their_end() -> Result<(), Fail> {
     let rt = HostRuntime::new();
     for seed in 0..100 {
         let events = random_script(rt.alloc(), seed, 500)?;
-        let report = play(rt.alloc(), standard_settings(), standard_settings(), &events)?;
+        let report = play(
+            rt.alloc(),
+            standard_settings(),
+            standard_settings(),
+            &events,
+        )?;
         assert!(rt; report.log.len() == 500);
         assert!(rt; stayed_open(&report));
     }
