@@ -1,12 +1,12 @@
 -- Bits that note which slots are empty: a list of words, and what they say of the records.
-use Rattle.std.proofs.Common.{◌≡◌, ◌≢◌, ◌∙◌, ℕ, suc, ◌+◌, ◌-◌, ◌*◌, ◌/◌, ◌%◌, ◌^◌, ◌<◌, ◌≤◌, true, false, List, [], ◌∷◌, ◌++◌, length, get_or, drop, None, Some, w64, sym, ap, subst, refl, inl, inr, arith}
+use Rattle.std.proofs.Common.{◌≡◌, ◌≢◌, ◌∙◌, ℕ, ◌+◌, ◌-◌, ◌*◌, ◌/◌, ◌%◌, ◌^◌, ◌<◌, ◌≤◌, ◌==◌, true, false, List, [], ◌∷◌, ◌++◌, length, get_or, drop, None, Some, w64, sym, ap, subst, refl, inl, inr, arith}
 use Rattle.std.specs.Int.{bit_at, bit_not}
 use Rattle.std.specs.FinMap as fmap
 use Rattle.std.proofs.lemmas.Bool.{cases_lt, cases_eq, both_ways}
-use Rattle.std.proofs.lemmas.List.{get_or_read}
-use Rattle.std.proofs.lemmas.Nat.Bits.{bit_at-lt, bit_at_not}
+use Rattle.std.proofs.lemmas.List.{get_or-drop, get_or_read}
+use Rattle.std.proofs.lemmas.Nat.Bits.{bit_at-lt, bit_at-zero, bit_at_not}
 use Rattle.qs_ranges.specs.Bits.{IsLowestBit}
-use Rattle.qs_send.specs.Gone.{is_gone, AreGone}
+use Rattle.qs_send.specs.Gone.{is_gone, AreFull, AreGone}
 use Rattle.std.specs.Option.{is_some}
 use Rattle.qs_send.specs.declared.piece.Piece.{Piece}
 use Rattle.qs_send.specs.Records.{PacketPieces, packets_of}
@@ -15,19 +15,51 @@ use Rattle.qs_send.proofs.Carrying.{at_other}
 
 -- Words
 
--- the first word goes
-gone_shifted : (ws : List ℕ) (i : ℕ) → is_gone (drop 1 ws) i ≡ is_gone ws (i + 64)
-gone_shifted ws i = go ws (omega arith) (omega arith)
-  where
-    go : (ws : List ℕ) → (i + 64) / 64 ≡ suc (i / 64) → (i + 64) % 64 ≡ i % 64 → is_gone (drop 1 ws) i ≡ is_gone ws (i + 64)
-    go [] quotient rest = rw rest refl
-    go (w ∷ ws) quotient rest = rw (quotient, rest) refl
+-- so many words go
+gone_shifted : (n : ℕ) (ws : List ℕ) (i : ℕ) → is_gone (drop n ws) i ≡ is_gone ws (i + 64 * n)
+gone_shifted n ws i =
+    let quotient : (i + 64 * n) / 64 ≡ n + i / 64 = omega arith in
+    let rest : (i + 64 * n) % 64 ≡ i % 64 = omega arith in
+    ap (λ w. bit_at w (63 - i % 64) == 1) (get_or-drop n ws (i / 64) 0)
+    ∙ sym (ap (λ k. bit_at (get_or ws k 0) (63 - (i + 64 * n) % 64) == 1) quotient ∙ ap (λ k. bit_at (get_or ws (n + i / 64) 0) (63 - k) == 1) rest)
+
+-- Words that are full
+
+-- a word with all of its bits set
+pub full_word : (ws : List ℕ) (place word : ℕ) → place < length ws → word ≡ get_or ws place word → word ≡ bit_not w64 0 → (i : ℕ) → i / 64 ≡ place → is_gone ws i ≡ true
+full_word ws place word there read all i at =
+    let word_at : word ≡ get_or ws place 0 = get_or_read ws place word there read 0 in
+    let one : bit_at word (63 - i % 64) ≡ 1 = ap (λ w. bit_at w (63 - i % 64)) all ∙ bit_at_not w64 0 (63 - i % 64) (omega arith) (omega arith) ∙ ap (λ b. 1 - b) (bit_at-zero (63 - i % 64)) in
+    rw (at, ← word_at, one) refl
+
+pub full_begun : (full vs words ws : List ℕ) (index : ℕ) → AreFull full words → is_gone vs (index / 64) ≡ false → ((p : ℕ) → p ≢ index / 64 → is_gone vs p ≡ is_gone full p) → ((i : ℕ) → i ≢ index → is_gone ws i ≡ is_gone words i)
+    → AreFull vs ws
+full_begun full vs words ws index are here beside others i gone =
+    elim (cases_eq (i / 64) (index / 64)) [
+      | inl same ↦ absurd (both_ways (is_gone vs (index / 64)) here (subst (λ p. is_gone vs p ≡ true) same gone))
+      | inr differs ↦ others i (λ at. differs (ap (λ k. k / 64) at)) ∙ are i (sym (beside (i / 64) differs) ∙ gone)
+    ]
+
+pub full_noted : (full vs ws : List ℕ) (place : ℕ) → AreFull full ws → ((p : ℕ) → p ≢ place → is_gone vs p ≡ is_gone full p) → ((i : ℕ) → i / 64 ≡ place → is_gone ws i ≡ true) → AreFull vs ws
+full_noted full vs ws place are beside all i gone =
+    elim (cases_eq (i / 64) place) [
+      | inl same ↦ all i same
+      | inr differs ↦ are i (sym (beside (i / 64) differs) ∙ gone)
+    ]
+
+pub full_less : (full words : List ℕ) → AreFull full words → AreFull (drop 1 full) (drop 64 words)
+full_less full words are i gone =
+    let at : i / 64 + 64 * 1 ≡ (i + 64 * 64) / 64 = omega arith in
+    gone_shifted 64 words i ∙ are (i + 64 * 64) (sym (ap (is_gone full) at) ∙ (sym (gone_shifted 1 full (i / 64)) ∙ gone))
 
 -- A search
 
 -- from an index on all are noted as empty, below an end
 abbrev pub IsGoneFrom : List ℕ → ℕ → ℕ → Type 0
 IsGoneFrom ws left end = (left ≤ end) × ((i : ℕ) → left ≤ i → i < end → is_gone ws i ≡ true)
+
+pub nothing_passed : (ws : List ℕ) (end : ℕ) → IsGoneFrom ws end end
+nothing_passed ws end = (omega arith, λ i ge lt. absurd (omega (arith, ge, lt)))
 
 module _ (ws : List ℕ) (end left word from : ℕ) (so_far : IsGoneFrom ws left end) (some : 0 < left) (there : (left - 1) / 64 < length ws) (read : word ≡ get_or ws ((left - 1) / 64) word) (fits : word < 2 ^ 64) (is : from ≡ 63 - (left - 1) % 64) where
   bit_gone : (i : ℕ) → i / 64 ≡ (left - 1) / 64 → bit_at (bit_not w64 word) (63 - i % 64) ≡ 0 → is_gone ws i ≡ true
@@ -63,11 +95,11 @@ module _ (ws : List ℕ) (end left word from : ℕ) (so_far : IsGoneFrom ws left
 
 -- What they say of the records
 
--- the first word goes
-pub gone_less : (ws : List ℕ) (first : ℕ) (m : PacketPieces) → AreGone ws first m → AreGone (drop 1 ws) (first + 64) m
+-- the first words go
+pub gone_less : (ws : List ℕ) (first : ℕ) (m : PacketPieces) → AreGone ws first m → AreGone (drop 64 ws) (first + 4096) m
 gone_less ws first m are i gone =
-    let at : first + (i + 64) ≡ first + 64 + i = omega arith in
-    subst (λ k. fmap.contains_key m k ≡ false) at (are (i + 64) (sym (gone_shifted ws i) ∙ gone))
+    let at : first + (i + 64 * 64) ≡ first + 4096 + i = omega arith in
+    subst (λ k. fmap.contains_key m k ≡ false) at (are (i + 64 * 64) (sym (gone_shifted 64 ws i) ∙ gone))
 
 -- one record came, whose slot is not noted
 pub gone_beside : (ws vs : List ℕ) (first index : ℕ) (m n : PacketPieces) → AreGone ws first m → is_gone vs index ≡ false → ((i : ℕ) → i ≢ index → is_gone vs i ≡ is_gone ws i) → ((k : ℕ) → k ≢ first + index → fmap.contains_key n k ≡ fmap.contains_key m k)
@@ -89,3 +121,13 @@ gone_below ws first base count left m are le gone k ge lt =
 pub pushed_beside : (base n : ℕ) (ss : List (List Piece)) (s : List Piece) → n ≡ base + length ss → (k : ℕ) → k ≢ n → fmap.contains_key (packets_of base (ss ++ s ∷ [])) k ≡ fmap.contains_key (packets_of base ss) k
 pushed_beside base n ss s is k differs =
     ap is_some (get-packets_of base (ss ++ s ∷ []) k ∙ found_pushed k base n ss s (sym is) ∙ at_other k n (kept s) (found k base ss) differs ∙ sym (get-packets_of base ss k))
+
+-- words that are full, below the end of a search
+pub past_full : (full words : List ℕ) (end next low : ℕ) → AreFull full words → IsGoneFrom words next end → next % 64 ≡ 0 → low ≤ next / 64 → ((p : ℕ) → low ≤ p → p < next / 64 → is_gone full p ≡ true) → IsGoneFrom words (low * 64) end
+past_full full words end next low are so_far whole le gone = (
+  (let within = so_far.0 in omega (arith, within, le)),
+  λ i ge lt. elim (cases_lt i next) [
+    | inl less ↦ are i (gone (i / 64) (omega (arith, ge)) (omega (arith, less, whole)))
+    | inr past ↦ so_far.1 i past lt
+  ],
+)

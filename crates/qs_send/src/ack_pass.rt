@@ -44,7 +44,8 @@ impl<'a> AckPass<'a> {
     }
 
     /// The greatest outstanding number that the ranges name below the one given last, `None` where there is none. A turn is a range that
-    /// it reads, or a look below the last one: at a word of bits, together with the slot that it leads to, or at a slot without a bit.
+    /// it reads, or a look below the last one: at a word of bits, together with the word of words and the slot that it leads to, or at a
+    /// slot without a bit.
     pub fn next(&mut self, records: &Records) -> Option<u64>
         ensures { IsNext records.now self.old result self.new }
     {

@@ -1,17 +1,124 @@
-//! Which slots are empty, as far as it was noted: a bit for each, in words.
-ghost use Rattle.std.specs.Prelude.{◌≡◌, ◌≤◌, ◌<◌, ◌≢◌, ◌+◌, ◌-◌, ◌%◌, ℕ, max, true, false};
+//! Which slots are empty, as far as it was noted: a bit for each, in words, and a bit for each word in which all are.
+ghost use Rattle.std.specs.Prelude.{◌≡◌, ◌≤◌, ◌<◌, ◌≢◌, ◌+◌, ◌-◌, ◌/◌, ◌%◌, ℕ, [], drop, max, true, false};
 ghost use Rattle.qs_send.specs.AckPass.{more_turns};
 ghost use Rattle.qs_send.specs.Gone.{is_gone};
 
 use crate::ack_pass::one_more;
 use qs_ranges::{lowest_bit, with_bit};
+use std::alloc::Global;
 use std::collections::VecDeque;
+use std::marker::Model;
 
 /// How many slots a word has bits for.
 pub(crate) const PER_WORD: usize = 64;
 
-/// Makes room for the bits up to that of an index. Where memory is refused, it is not noted which of them are empty.
-pub(crate) fn make_room(words: &mut VecDeque<u64>, index: usize)
+/// How many slots a word of words has bits for.
+pub(crate) const PER_GROUP: usize = PER_WORD * PER_WORD;
+
+/// The bits of the slots, by index.
+#[derive(Drop)]
+pub(crate) struct Gone {
+    words: VecDeque<u64>,
+    // Of each word whether all of its bits are set, as far as it was noted.
+    full: VecDeque<u64>,
+}
+
+impl Model for Gone {
+    ghost use Rattle.std.specs.Prelude.{ℕ, List};
+    ghost use Rattle.std.specs.Coded.{coded_ℕ, coded_list};
+    ghost use Rattle.qs_send.specs.Gone.{AreFull};
+
+    // The words.
+    ghost Value = { List ℕ };
+
+    ghost coded = { coded_list coded_ℕ };
+
+    ghost view = { λ g. g.words.items };
+
+    ghost invariant = { λ g. AreFull g.full.items g.words.items };
+}
+
+impl Gone {
+    /// No bits. It takes no memory.
+    pub(crate) fn new(alloc: Global) -> Self
+        ensures { result ≡ [] }
+    {
+        Gone {
+            words: VecDeque::new(alloc),
+            full: VecDeque::new(alloc),
+        }
+    }
+
+    pub(crate) fn clear(&mut self)
+        ensures { self.new ≡ [] }
+    {
+        self.words.clear();
+        self.full.clear();
+    }
+
+    /// Makes room for the bits up to that of an index. Where memory is refused, it is not noted which of them are empty.
+    pub(crate) fn make_room(&mut self, index: usize)
+        ensures { self.new ≡ self.old }
+    {
+        if index / PER_WORD >= self.words.len() {
+            make_room(&mut self.words, index);
+            make_room(&mut self.full, index / PER_WORD);
+        }
+    }
+
+    /// The slot of an index holds something, and there is a bit for it, if there are bits for all lower ones and room for one word more.
+    pub(crate) fn begin(&mut self, index: usize)
+        ensures here { is_gone self.new index ≡ false }
+        ensures others { (i : ℕ) → i ≢ index → is_gone self.new i ≡ is_gone self.old i }
+    {
+        begin(&mut self.full, index / PER_WORD);
+        begin(&mut self.words, index);
+    }
+
+    /// The slot of an index is empty.
+    pub(crate) fn note(&mut self, index: usize)
+        ensures { (i : ℕ) → i ≢ index → is_gone self.new i ≡ is_gone self.old i }
+    {
+        note(&mut self.words, index);
+        let place = index / PER_WORD;
+        if is_full(&self.words, place) {
+            note(&mut self.full, place);
+        }
+    }
+
+    /// The bits of the first slots go, so many as a word of words has.
+    pub(crate) fn drop_group(&mut self)
+        ensures { self.new ≡ drop 64 self.old }
+    {
+        drop_words(&mut self.words);
+        let _ = self.full.pop_front();
+    }
+
+    /// An end as low as can be, down to `low`, behind which all indexes below `end` are noted as empty. Each look is one more of `looks`:
+    /// at a word, together with the word of words below it and the slot before the end that these lead to, or at that slot where it has no
+    /// bit.
+    pub(crate) fn end_of_left(&self, low: usize, end: usize, looks: &mut u64) -> usize
+        ensures below { result ≤ end }
+        ensures gone { (i : ℕ) → result ≤ i → i < end → is_gone self.now i ≡ true }
+        ensures looks { looks.new + max low (result - 1) ≤ looks.old + max low end }
+        ensures one { low < end → more_turns looks.old 1 ≤ looks.new }
+        ensures counted { looks.old ≤ looks.new }
+    {
+        let mut left = end;
+        while left > low {
+            *looks = one_more(*looks);
+            let next = end_in_word(&self.words, left);
+            if next == left || next % PER_WORD > 0 {
+                return next;
+            }
+            left = end_in_word(&self.full, next / PER_WORD) * PER_WORD;
+        }
+        left
+    }
+}
+
+// Makes room for the bits up to that of an index, if there is memory.
+fn make_room(words: &mut VecDeque<u64>, index: usize)
     ensures { words.new.items ≡ words.old.items }
 {
     let place = index / PER_WORD;
@@ -20,8 +127,8 @@ pub(crate) fn make_room(words: &mut VecDeque<u64>, index: usize)
     }
 }
 
-/// The slot of an index holds something, and there is a bit for it, if there are bits for all lower ones and room for one word more.
-pub(crate) fn begin(words: &mut VecDeque<u64>, index: usize)
+// The bit of an index is cleared, or begins so.
+fn begin(words: &mut VecDeque<u64>, index: usize)
     ensures here { is_gone words.new.items index ≡ false }
     ensures others { (i : ℕ) → i ≢ index → is_gone words.new.items i ≡ is_gone words.old.items i }
 {
@@ -33,9 +140,10 @@ pub(crate) fn begin(words: &mut VecDeque<u64>, index: usize)
     }
 }
 
-/// The slot of an index is empty.
-pub(crate) fn note(words: &mut VecDeque<u64>, index: usize)
-    ensures { (i : ℕ) → i ≢ index → is_gone words.new.items i ≡ is_gone words.old.items i }
+// The bit of an index is set.
+fn note(words: &mut VecDeque<u64>, index: usize)
+    ensures more { (i : ℕ) → is_gone words.old.items i ≡ true → is_gone words.new.items i ≡ true }
+    ensures others { (i : ℕ) → i ≢ index → is_gone words.new.items i ≡ is_gone words.old.items i }
 {
     let place = index / PER_WORD;
     if place < words.len() {
@@ -43,29 +151,41 @@ pub(crate) fn note(words: &mut VecDeque<u64>, index: usize)
     }
 }
 
-/// An end as low as can be, down to `low`, behind which all indexes below `end` are noted as empty. Each look is one more of `looks`: at
-/// a word, together with the slot before the end that it leads to, or at that slot where it has no bit.
-pub(crate) fn end_of_left(words: &VecDeque<u64>, low: usize, end: usize, looks: &mut u64) -> usize
+// The first words go, so many as a word has bits.
+fn drop_words(words: &mut VecDeque<u64>)
+    ensures { words.new.items ≡ drop 64 words.old.items }
+{
+    let mut left = PER_WORD;
+    while left > 0 {
+        let _ = words.pop_front();
+        left -= 1;
+    }
+}
+
+// Whether a word has all of its bits set.
+fn is_full(words: &VecDeque<u64>, place: usize) -> bool
+    ensures { result ≡ true → (i : ℕ) → i / 64 ≡ place → is_gone words.now.items i ≡ true }
+{
+    place < words.len() && words[place] == u64::MAX
+}
+
+// An end as low as one word tells, behind which all indexes below `end` are noted as empty.
+fn end_in_word(words: &VecDeque<u64>, end: usize) -> usize
     ensures below { result ≤ end }
     ensures gone { (i : ℕ) → result ≤ i → i < end → is_gone words.now.items i ≡ true }
-    ensures looks { looks.new + max low (result - 1) ≤ looks.old + max low end }
-    ensures one { low < end → more_turns looks.old 1 ≤ looks.new }
-    ensures counted { looks.old ≤ looks.new }
 {
-    let mut left = end;
-    while left > low {
-        *looks = one_more(*looks);
-        let last = left - 1;
-        let place = last / PER_WORD;
-        if place >= words.len() {
-            return left;
-        }
-        match lowest_bit(!words[place], bit_of(last)) {
-            Some(bit) => return place * PER_WORD + (PER_WORD - bit),
-            None => left = place * PER_WORD,
-        }
+    if end == 0 {
+        return 0;
     }
-    left
+    let last = end - 1;
+    let place = last / PER_WORD;
+    if place >= words.len() {
+        return end;
+    }
+    match lowest_bit(!words[place], bit_of(last)) {
+        Some(bit) => place * PER_WORD + (PER_WORD - bit),
+        None => place * PER_WORD,
+    }
 }
 
 // The bit of an index in its word. The lower one's lies above, so that a search for the greatest index is one for the lowest bit.

@@ -6,7 +6,7 @@ ghost use Rattle.qs_send.specs.Records.{Among, AreBelow, IsCarried, IsGreatest, 
 
 use crate::ack_pass::one_more;
 use crate::carried::Carried;
-use crate::gone;
+use crate::gone::{self, Gone};
 use crate::piece::Piece;
 use qs_ranges::NoMemory;
 use std::alloc::Global;
@@ -20,10 +20,10 @@ use std::marker::Model;
 pub struct Records {
     base: u64,
     slots: VecDeque<Carried>,
-    // Which slots are empty, as bits, of which the first is that of number `first`: a search looks at one word for 64 of them. Where
-    // there was no memory for its bit, an empty slot is looked at itself.
+    // Which slots are empty, as bits, of which the first is that of number `first`: a search looks at one word for 64 of them, and at one
+    // for 4,096 where all are. Where there was no memory for its bit, an empty slot is looked at itself.
     first: u64,
-    gone: VecDeque<u64>,
+    gone: Gone,
 }
 
 impl Model for Records {
@@ -44,7 +44,7 @@ impl Model for Records {
       room = room_end r.base (deque_capacity r.slots);
     } };
 
-    ghost invariant = { λ r. (r.base + length r.slots.items ≤ 2 ^ 64) × (r.first ≤ r.base) × AreGone r.gone.items r.first (packets_of r.base r.slots.items) };
+    ghost invariant = { λ r. (r.base + length r.slots.items ≤ 2 ^ 64) × (r.first ≤ r.base) × AreGone r.gone r.first (packets_of r.base r.slots.items) };
 }
 
 impl Records {
@@ -57,7 +57,7 @@ impl Records {
             base: 0,
             slots: VecDeque::new(alloc),
             first: 0,
-            gone: VecDeque::new(alloc),
+            gone: Gone::new(alloc),
         }
     }
 
@@ -76,7 +76,7 @@ impl Records {
             self.base = number;
             self.first = number;
             self.gone.clear();
-            gone::make_room(&mut self.gone, 0);
+            self.gone.make_room(0);
             return Ok(());
         }
         let place = number.saturating_sub(self.base) as usize;
@@ -85,7 +85,7 @@ impl Records {
         }
         let more = place - self.slots.len() + 1;
         self.slots.reserve(more)?;
-        gone::make_room(&mut self.gone, (number - self.first) as usize);
+        self.gone.make_room((number - self.first) as usize);
         Ok(())
     }
 
@@ -148,7 +148,7 @@ impl Records {
     {
         while self.starts_empty() {
             self.drop_front();
-            self.drop_word();
+            self.drop_group();
         }
     }
 
@@ -202,7 +202,7 @@ impl Records {
     }
 
     /// The greatest number from `low` on and below `below` that is held. Each look is one more of `looks`: at a word of bits, together
-    /// with the slot that it leads to, or at a slot without a bit.
+    /// with the word of words and the slot that it leads to, or at a slot without a bit.
     pub(crate) fn within(&self, low: u64, below: u64, looks: &mut u64) -> Option<u64>
         ensures found { IfSome result (λ k. (low ≤ k) × (k < below) × (fmap.contains_key self.now.pieces k ≡ true)) }
         ensures slot { IfSome result (λ k. (self.now.base ≤ k) × (k < self.now.base + self.now.slots)) }
@@ -309,9 +309,10 @@ impl Records {
     {
         let skew = (self.base - self.first) as usize;
         match skew.checked_add(count) {
-            Some(end) => gone::end_of_left(&self.gone, skew + from, end, looks).saturating_sub(
-                skew,
-            ),
+            Some(end) => self
+                .gone
+                .end_of_left(skew + from, end, looks)
+                .saturating_sub(skew),
             None => {
                 *looks = one_more(*looks);
                 count
@@ -326,7 +327,7 @@ impl Records {
     {
         if self.slots.len() >= gone::PER_WORD && !self.is_filled(place) {
             let skew = (self.base - self.first) as usize;
-            gone::note(&mut self.gone, skew + place);
+            self.gone.note(skew + place);
         }
     }
 
@@ -338,13 +339,13 @@ impl Records {
         self.slots[place].len() > 0
     }
 
-    // The bits of slots that went all go. No clause sees it.
-    fn drop_word(&mut self)
+    // The bits of slots that went go, once there are so many of these. No clause sees it.
+    fn drop_group(&mut self)
         ensures { self.new ≡ self.old }
     {
-        if self.base - self.first >= gone::PER_WORD as u64 {
-            let _ = self.gone.pop_front();
-            self.first += gone::PER_WORD as u64;
+        if self.base - self.first >= gone::PER_GROUP as u64 {
+            self.gone.drop_group();
+            self.first += gone::PER_GROUP as u64;
         }
     }
 
@@ -451,7 +452,7 @@ impl Records {
         ensures room { self.new.room ≡ self.old.room }
     {
         let index = (self.base - self.first) as usize + self.slots.len();
-        gone::begin(&mut self.gone, index);
+        self.gone.begin(index);
         self.slots.push_back_reserved(slot);
     }
 }

@@ -4,7 +4,7 @@ use crate::shim::Vec;
 
 use crate::proved::qs_send::ack_pass::one_more;
 use crate::proved::qs_send::carried::Carried;
-use crate::proved::qs_send::gone;
+use crate::proved::qs_send::gone::{self, Gone};
 use crate::proved::qs_send::piece::Piece;
 use crate::proved::qs_ranges::NoMemory;
 use crate::shim::alloc::Global;
@@ -16,10 +16,10 @@ use crate::shim::collections::VecDeque;
 pub struct Records {
     base: u64,
     slots: VecDeque<Carried>,
-    // Which slots are empty, as bits, of which the first is that of number `first`: a search looks at one word for 64 of them. Where
-    // there was no memory for its bit, an empty slot is looked at itself.
+    // Which slots are empty, as bits, of which the first is that of number `first`: a search looks at one word for 64 of them, and at one
+    // for 4,096 where all are. Where there was no memory for its bit, an empty slot is looked at itself.
     first: u64,
-    gone: VecDeque<u64>,
+    gone: Gone,
 }
 
 impl Records {
@@ -29,7 +29,7 @@ impl Records {
             base: 0,
             slots: VecDeque::new(alloc),
             first: 0,
-            gone: VecDeque::new(alloc),
+            gone: Gone::new(alloc),
         }
     }
 
@@ -40,7 +40,7 @@ impl Records {
             self.base = number;
             self.first = number;
             self.gone.clear();
-            gone::make_room(&mut self.gone, 0);
+            self.gone.make_room(0);
             return Ok(());
         }
         let place = number.saturating_sub(self.base) as usize;
@@ -49,7 +49,7 @@ impl Records {
         }
         let more = place - self.slots.len() + 1;
         self.slots.reserve(more)?;
-        gone::make_room(&mut self.gone, (number - self.first) as usize);
+        self.gone.make_room((number - self.first) as usize);
         Ok(())
     }
 
@@ -89,7 +89,7 @@ impl Records {
     pub fn trim(&mut self) {
         while self.starts_empty() {
             self.drop_front();
-            self.drop_word();
+            self.drop_group();
         }
     }
 
@@ -128,7 +128,7 @@ impl Records {
     }
 
     /// The greatest number from `low` on and below `below` that is held. Each look is one more of `looks`: at a word of bits, together
-    /// with the slot that it leads to, or at a slot without a bit.
+    /// with the word of words and the slot that it leads to, or at a slot without a bit.
     pub(crate) fn within(&self, low: u64, below: u64, looks: &mut u64) -> Option<u64> {
         let from = low.saturating_sub(self.base) as usize;
         let below = below.saturating_sub(self.base) as usize;
@@ -194,9 +194,10 @@ impl Records {
         debug_assert!(from < count);
         let skew = (self.base - self.first) as usize;
         match skew.checked_add(count) {
-            Some(end) => gone::end_of_left(&self.gone, skew + from, end, looks).saturating_sub(
-                skew,
-            ),
+            Some(end) => self
+                .gone
+                .end_of_left(skew + from, end, looks)
+                .saturating_sub(skew),
             None => {
                 *looks = one_more(*looks);
                 count
@@ -208,7 +209,7 @@ impl Records {
     fn note(&mut self, place: usize) {
         if self.slots.len() >= gone::PER_WORD && !self.is_filled(place) {
             let skew = (self.base - self.first) as usize;
-            gone::note(&mut self.gone, skew + place);
+            self.gone.note(skew + place);
         }
     }
 
@@ -217,11 +218,11 @@ impl Records {
         self.slots[place].len() > 0
     }
 
-    // The bits of slots that went all go. No clause sees it.
-    fn drop_word(&mut self) {
-        if self.base - self.first >= gone::PER_WORD as u64 {
-            let _ = self.gone.pop_front();
-            self.first += gone::PER_WORD as u64;
+    // The bits of slots that went go, once there are so many of these. No clause sees it.
+    fn drop_group(&mut self) {
+        if self.base - self.first >= gone::PER_GROUP as u64 {
+            self.gone.drop_group();
+            self.first += gone::PER_GROUP as u64;
         }
     }
 
@@ -284,7 +285,7 @@ impl Records {
     // One slot more.
     fn push_slot(&mut self, slot: Carried) {
         let index = (self.base - self.first) as usize + self.slots.len();
-        gone::begin(&mut self.gone, index);
+        self.gone.begin(index);
         self.slots.push_back_reserved(slot);
     }
 }

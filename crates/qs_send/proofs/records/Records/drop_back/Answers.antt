@@ -32,5 +32,5 @@ invariant_of-self c =
     let fits = c.self.invariant.0 in (
       omega (arith, len, taken, fits),
       c.self.invariant.1,
-      subst (AreGone c.self.inside.gone.items c.self.inside.first) (sym is) c.self.invariant.2,
+      subst (AreGone c.self.inside.gone c.self.inside.first) (sym is) c.self.invariant.2,
     )

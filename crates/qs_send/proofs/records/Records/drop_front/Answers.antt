@@ -42,7 +42,7 @@ invariant_of-self c =
     let below = c.self.invariant.1 in (
       omega (arith, len, dropped, some, fits),
       omega (arith, below),
-      subst (AreGone c.self.inside.gone.items c.self.inside.first) (sym is) c.self.invariant.2,
+      subst (AreGone c.self.inside.gone c.self.inside.first) (sym is) c.self.invariant.2,
     )
 
 pub invariant_of-self-else-not-is_empty : goal.invariant_of-self-else-not-is_empty
@@ -58,5 +58,5 @@ invariant_of-self-else-not-is_empty c =
     let fits = c.self.invariant.0 in (
       omega (arith, no_slot, fits),
       c.self.invariant.1,
-      subst (AreGone c.self.inside.gone.items c.self.inside.first) (sym is) c.self.invariant.2,
+      subst (AreGone c.self.inside.gone c.self.inside.first) (sym is) c.self.invariant.2,
     )

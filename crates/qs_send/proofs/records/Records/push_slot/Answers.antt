@@ -25,7 +25,7 @@ invariant_of-self c =
     let all : packets_of base c.push_back_reserved.new.self.items ≡ packets_of base (slots ++ c.args.slot ∷ []) = ap (packets_of base) c.push_back_reserved.ensures.items in (
       omega (arith, counts, more, small),
       below,
-      subst (AreGone c.begin.new.words.items first) (sym all)
-          (gone_beside c.self.inside.gone.items c.begin.new.words.items first index (packets_of base slots) (packets_of base (slots ++ c.args.slot ∷ [])) c.self.invariant.2 c.begin.ensures.here c.begin.ensures.others
+      subst (AreGone c.begin.new.self first) (sym all)
+          (gone_beside c.self.inside.gone c.begin.new.self first index (packets_of base slots) (packets_of base (slots ++ c.args.slot ∷ [])) c.self.invariant.2 c.begin.ensures.here c.begin.ensures.others
           (pushed_beside base (first + index) slots c.args.slot at)),
     )
