@@ -1,11 +1,11 @@
 -- What stands where blocks were changed, parted, or taken out.
 use Rattle.std.proofs.Common.{Result, Ok, Err, OnOk, subst, length-append, ◌≡◌, ℕ, suc, zero, ◌+◌, ◌-◌, ◌<◌, ◌≤◌, [], ◌∷◌, ◌++◌, length, take, drop, set, get_or, slice_index_or, append_assoc, refl, sym, ap, ◌∙◌, arith}
 use Rattle.std.specs.List.{insert}
-use Rattle.std.proofs.lemmas.List.{append-nil, take_more_set, take_all, take-append-drop, length-take-le, drop_all, drop-set, drop-drop, take-take, take-append-le, drop-append-le, get_or-drop, get_or_past, get_or_read}
+use Rattle.std.proofs.lemmas.List.{append-nil, take_more_set, take_all, take-append-drop, length-take-le, drop_all, drop-set, drop-drop, take-take, take-append-le, drop-append-le, get_or-drop, get_or_read}
 use Rattle.std.proofs.lemmas.List.Edits.{length-insert, get_or-insert_below}
 use Rattle.qs_ranges.specs.Runs.{Runs}
 use Rattle.qs_ranges.specs.Blocks.{Blocks, all_runs, block_at, place}
-use Rattle.qs_ranges.proofs.Places.{all_append, all_set, take_place, drop_place, place_next, place_end}
+use Rattle.qs_ranges.proofs.Places.{all_append, all_set, take_place, drop_place, place_next}
 
 -- a block that was read is the one at the number
 pub read_block : (bs : Blocks) (b : ℕ) (x : Runs) → b < length bs → x ≡ slice_index_or bs b x → x ≡ block_at bs b

@@ -29,7 +29,10 @@ pub(crate) fn insert_at(
         ≡ take (place blocks.old.items block at) (all_runs blocks.old.items) ++ run ∷ drop (place blocks.old.items block at) (all_runs blocks.old.items)) }
     ensures err { OnErr result (all_runs blocks.new.items ≡ all_runs blocks.old.items) }
 {
-    if block == blocks.len() || (at == 0 && blocks[block].len() == MOST_RUNS) {
+    if block == blocks.len() {
+        return insert_before(blocks, block, run);
+    }
+    if at == 0 && blocks[block].len() == MOST_RUNS {
         return insert_before(blocks, block, run);
     }
     let (roomy, spot) = make_room(blocks, block, at)?;
@@ -115,6 +118,7 @@ pub(crate) fn take_out(blocks: &mut Vec<Block>, span: Span)
 }
 
 // Puts a run before those of a block, or behind all: behind the runs of the block before it, or where that is full, in a block of its own.
+#[inline(always)]
 fn insert_before(blocks: &mut Vec<Block>, block: usize, run: (u64, u64)) -> Result<(), NoMemory>
     requires { block ≤ length blocks.old.items }
     ensures ok { OnOk result (all_runs blocks.new.items

@@ -22,7 +22,10 @@ pub(crate) fn insert_at(
     at: usize,
     run: (u64, u64),
 ) -> Result<(), NoMemory> {
-    if block == blocks.len() || (at == 0 && blocks[block].len() == MOST_RUNS) {
+    if block == blocks.len() {
+        return insert_before(blocks, block, run);
+    }
+    if at == 0 && blocks[block].len() == MOST_RUNS {
         return insert_before(blocks, block, run);
     }
     let (roomy, spot) = make_room(blocks, block, at)?;
@@ -88,6 +91,7 @@ pub(crate) fn take_out(blocks: &mut Vec<Block>, span: Span) {
 }
 
 // Puts a run before those of a block, or behind all: behind the runs of the block before it, or where that is full, in a block of its own.
+#[inline(always)]
 fn insert_before(blocks: &mut Vec<Block>, block: usize, run: (u64, u64)) -> Result<(), NoMemory> {
     if block > 0 {
         let len = blocks[block - 1].len();
