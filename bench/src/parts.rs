@@ -19,7 +19,7 @@ pub fn mixed() -> (Vec<u8>, u64) {
     let (mut len, mut frames) = (0, 0);
     while len < 1100 {
         let runs = [(30, 31), (20, 23), (7, 9), (1, 4)];
-        let (_, taken) = wire::put_ack(&runs, 0, &mut payload[len..]).expect("it fits");
+        let (_, taken) = wire::put_ack(&runs, &mut payload[len..]).expect("it fits");
         len += taken;
         for frame in control_frames() {
             len += wire::put(&frame, &mut payload[len..]).expect("it fits");
