@@ -10,7 +10,6 @@ use Rattle.qs_recv.specs.Lane.{RecvLane, after_read, stop, new_lane as new_recv_
 use Rattle.qs_send.specs.Lane.{SendLane, Sending, new_lane as new_send_lane, answer_of, refusal, reset_refusal, write_lane, finish_lane, reset_lane, stopped_lane, allow_lane}
 use Rattle.qs_send.specs.declared.parts.Chunk.{Chunk}
 use Rattle.qs_send.specs.declared.piece.Item.{Item}
-use Rattle.qs_send.specs.declared.piece.Item.TheVariants.{MaxData, MaxStreamData, MaxStreams, ResetStream, StopSending, DataBlocked, StreamDataBlocked, StreamsBlocked}
 use Rattle.qs_send.specs.declared.piece.Piece.{Piece}
 use Rattle.qs_send.specs.declared.piece.Piece.TheVariants.{Data, Told}
 use Rattle.qs_calls.specs.declared.settings.PeerLimits.{PeerLimits}
@@ -27,7 +26,7 @@ use Rattle.qs_conn.specs.declared.by_dir.ByDir.{ByDir}
 use Rattle.qs_conn.specs.declared.middle.Core.{Core}
 use Rattle.qs_conn.specs.Middle.{IsCore, IsAtRest, IsKept, KeepsStreams, IsFilling, FillsOn, end_of}
 use Rattle.qs_conn.specs.Ended.{AreAllCounted, CountsFit, half_of, is_over, recounted}
-use Rattle.qs_conn.specs.Filling.{end_by, PutsItem}
+use Rattle.qs_conn.specs.Filling.{end_by, PutsItem, HasSpare, LeavesRest}
 use Rattle.qs_conn.specs.Marks.{IsIdle as IsIdleAt}
 use Rattle.qs_conn.specs.Runs.{held_out}
 use Rattle.qs_conn.specs.declared.slot.Slot.TheVariants as slots
@@ -35,10 +34,10 @@ use Rattle.qs_conn.specs.Untold.{AreTold, IsTold, marked_for}
 use Rattle.qs_conn.proofs.Calm.{told_read}
 use Rattle.qs_conn.proofs.Counted.{fit_sends, fit_allowed, fit_written, fit_finished, fit_reset, fit_told_to_stop, fit_read, fit_stopped, fit_opened, put_counted}
 use Rattle.qs_conn.proofs.Flows.{end_chunk}
-use Rattle.qs_conn.proofs.Funded.{sum_lane, reset_sends, sum_piece}
+use Rattle.qs_conn.proofs.Funded.{sum_lane, reset_sends, sum_piece, sum_put}
 use Rattle.qs_conn.proofs.Kept.{sound_after_read, sound_after_stop, sound_opened}
 use Rattle.qs_conn.proofs.Untolds.{acked_stays, lost_stays, marks_stay, told_stopped, told_unmarked, idle_told, put_told}
-use Rattle.qs_conn.proofs.Putting.{sum_put}
+use Rattle.qs_conn.proofs.EachItem.{each_item}
 use Rattle.qs_conn.proofs.Rests.{rest_same, rest_on}
 use Rattle.qs_conn.proofs.Slots.{end_put}
 
@@ -52,14 +51,8 @@ streams_on a b c f g = record { limits = g.limits ∙ f.limits; recvs = g.recvs 
 -- but for a RESET_STREAM an item leaves the sending halves as they are
 sends_stay : (late : Bool) (k : ℕ) (p : Piece) (o : Outgoing) → half_of p ≡ None → (first_acked_out (acked_at late k p) o).sends ≡ o.sends
 sends_stay late k (Data n c) o none = absurd (none-some n (sym none))
-sends_stay late k (Told (ResetStream n code size)) o none = absurd (none-some n (sym none))
-sends_stay late k (Told (MaxData m)) o none = refl
-sends_stay late k (Told (MaxStreamData n m)) o none = refl
-sends_stay late k (Told (MaxStreams d m)) o none = refl
-sends_stay late k (Told (StopSending n code)) o none = refl
-sends_stay late k (Told (DataBlocked m)) o none = refl
-sends_stay late k (Told (StreamDataBlocked n m)) o none = refl
-sends_stay late k (Told (StreamsBlocked d m)) o none = refl
+sends_stay late k (Told i) o none =
+    each_item (λ j. half_of (Told j) ≡ None → (first_acked_out (acked_at late k (Told j)) o).sends ≡ o.sends) (λ m is. refl) (λ n m is. refl) (λ d m is. refl) (λ n code size is. absurd (none-some n (sym is))) (λ n code is. refl) (λ m is. refl) (λ n m is. refl) (λ d m is. refl) i none
 
 -- the next number and the room of a packet are no part of it
 pub core_outbox : (c : Core) → IsCore c → (next spare : ℕ) (o : Outgoing) → o ≡ record c.outbox { next = next; spare = spare } → IsCore (record c { outbox = o })
@@ -251,6 +244,10 @@ module _ (c : Core) (h : IsCore c) where
 
 pub fills_same : (c : Core) (out : List ℕ) (len : ℕ) → IsFilling c out len → FillsOn c out len c out len
 fills_same c out len h = record { filling = h; streams = streams_same c; ended = refl; rest = rest_same len out; room = refl }
+
+-- the packets alone moved
+pub fills_outbox : (c : Core) (o : Outgoing) (xs ys : List ℕ) (i j : ℕ) → IsCore (record c { outbox = o }) → j ≤ length ys → HasSpare (length ys) j o.spare → LeavesRest i xs j ys → length ys ≡ length xs → FillsOn c xs i (record c { outbox = o }) ys j
+fills_outbox c o xs ys i j core within spare rest room = record { filling = record { core = core; within = within; spare = spare }; streams = record { limits = refl; recvs = refl }; ended = refl; rest = rest; room = room }
 
 pub fills_on : (a b c : Core) (xs ys zs : List ℕ) (i j k : ℕ) → FillsOn a xs i b ys j → FillsOn b ys j c zs k → FillsOn a xs i c zs k
 fills_on a b c xs ys zs i j k f g =

@@ -11,7 +11,6 @@ use Rattle.qs_send.specs.Lane.{new_lane as new_send_lane, Sending, SendLane, is_
 use Rattle.qs_send.specs.declared.parts.SendFault.{SendFault}
 use Rattle.qs_send.specs.declared.parts.SendFault.TheVariants.{Finished, WasReset}
 use Rattle.qs_send.specs.declared.parts.Reset.{Reset}
-use Rattle.qs_send.specs.declared.piece.Item.TheVariants.{MaxData, MaxStreamData, MaxStreams, ResetStream, StopSending, DataBlocked, StreamDataBlocked, StreamsBlocked}
 use Rattle.qs_send.specs.declared.piece.Piece.{Piece}
 use Rattle.qs_send.specs.declared.piece.Piece.TheVariants.{Data, Told}
 use Rattle.qs_calls.specs.declared.settings.Settings.{Settings}
@@ -35,6 +34,7 @@ use Rattle.qs_machine.specs.Outgoing.{Outgoing, HasSending, first_acked_out, ack
 use Rattle.qs_machine.proofs.TableLaws.{lookup_same}
 use Rattle.qs_conn.specs.declared.by_dir.ByDir.{ByDir}
 use Rattle.qs_conn.specs.Ended.{recv_over, send_over, over, is_over, recounted, half_of, AreAllCounted, IsToldOfEnd, CountsFit}
+use Rattle.qs_conn.proofs.EachItem.{each_item}
 use Rattle.qs_conn.proofs.Counting.{recv_recounted, send_recounted, nothing_recounted, recvs_opened, sends_opened, counted_raised, none_counted}
 
 -- Changes that end no half
@@ -216,14 +216,8 @@ pub put_counted : (role : Role) (e : End) (x : Seen) (c : ByDir ℕ) → AreAllC
 unfolding frame_put
 put_counted role e (Ack largest ranges) c h = h
 put_counted role e (Stream n offset bytes fin) c h = sends_same role e.recvs e.sends _ n (λ l. sent_lane l (chunk_of offset bytes fin)) c h refl (λ l there. refl)
-put_counted role e (Control (MaxData m)) c h = h
-put_counted role e (Control (MaxStreamData n m)) c h = h
-put_counted role e (Control (MaxStreams d m)) c h = h
-put_counted role e (Control (ResetStream n code size)) c h = h
-put_counted role e (Control (StopSending n code)) c h = h
-put_counted role e (Control (DataBlocked m)) c h = h
-put_counted role e (Control (StreamDataBlocked n m)) c h = sends_same role e.recvs e.sends _ n blocked_lane c h refl (λ l there. refl)
-put_counted role e (Control (StreamsBlocked d m)) c h = h
+put_counted role e (Control i) c h =
+    each_item (λ j. AreAllCounted role (frame_put (Control j) e).recvs (frame_put (Control j) e).sends c) (λ m. h) (λ n m. h) (λ d m. h) (λ n code size. h) (λ n code. h) (λ m. h) (λ n m. sends_same role e.recvs e.sends _ n blocked_lane c h refl (λ l there. refl)) (λ d m. h) i
 put_counted role e (Close code) c h = h
 put_counted role e (Plain asks) c h = h
 
@@ -234,11 +228,8 @@ piece_recounted role recvs late k n p o new e e' was is half after h before behi
   where
     go : (p : Piece) → half_of p ≡ Some n → new.sends ≡ (first_acked_out (acked_at late k p) o).sends → AreAllCounted role recvs new.sends e'
     go (Data m c) half at = (let same : m ≡ n = same_Some m n half in send_recounted role recvs o.sends new.sends n (λ l. acked_lane l c) e e' was is h (at ∙ ap (λ j. updated o.sends j (λ l. acked_lane l c) (lookup o.sends j)) same) before behind to)
-    go (Told (ResetStream m code size)) half at = (let same : m ≡ n = same_Some m n half in send_recounted role recvs o.sends new.sends n reset_acked_lane e e' was is h (at ∙ ap (λ j. updated o.sends j reset_acked_lane (lookup o.sends j)) same) before behind to)
-    go (Told (MaxData m)) half at = absurd (none-some n half)
-    go (Told (MaxStreamData m x)) half at = absurd (none-some n half)
-    go (Told (MaxStreams d m)) half at = absurd (none-some n half)
-    go (Told (StopSending m code)) half at = absurd (none-some n half)
-    go (Told (DataBlocked m)) half at = absurd (none-some n half)
-    go (Told (StreamDataBlocked m x)) half at = absurd (none-some n half)
-    go (Told (StreamsBlocked d m)) half at = absurd (none-some n half)
+    go (Told i) half at =
+        each_item (λ j. half_of (Told j) ≡ Some n → new.sends ≡ (first_acked_out (acked_at late k (Told j)) o).sends → AreAllCounted role recvs new.sends e')
+        (λ m none at. absurd (none-some n none)) (λ m x none at. absurd (none-some n none)) (λ d m none at. absurd (none-some n none))
+        (λ m code size half at. (let same : m ≡ n = same_Some m n half in send_recounted role recvs o.sends new.sends n reset_acked_lane e e' was is h (at ∙ ap (λ j. updated o.sends j reset_acked_lane (lookup o.sends j)) same) before behind to))
+        (λ m code none at. absurd (none-some n none)) (λ m none at. absurd (none-some n none)) (λ m x none at. absurd (none-some n none)) (λ d m none at. absurd (none-some n none)) i half at

@@ -6,12 +6,13 @@ use Rattle.std.specs.Ordering.{nat_cmp}
 use Rattle.std.specs.FinSet as set
 use Rattle.qs_ranges.specs.Numbers.{NumberSet, numbers, run_starts, contains-with_range}
 use Rattle.qs_ranges.proofs.Starts.{contains-run_starts, len-run_starts-with_range, len-run_starts-without_lowest}
+use Rattle.qs_send.specs.declared.piece.Item.{Item}
 use Rattle.qs_send.specs.declared.piece.Piece.{Piece}
 use Rattle.qs_send.specs.declared.piece.Piece.TheVariants.{Data, Told}
-use Rattle.qs_send.specs.Lane.{SendLane, acked_lane, reset_acked_lane}
+use Rattle.qs_send.specs.Lane.{SendLane, acked_lane, reset_acked_lane, blocked_lane}
 use Rattle.qs_machine.specs.Tables.{Tables, no_streams, lookup, updated, total}
 use Rattle.qs_machine.specs.Recording.{has_too_many, lowest_end}
-use Rattle.qs_machine.specs.Outgoing.{Outgoing, sent_sum, piece_acked_out}
+use Rattle.qs_machine.specs.Outgoing.{Outgoing, sent_sum, piece_acked_out, item_put_out}
 use Rattle.qs_machine.proofs.TableLaws.{total_update}
 use Rattle.qs_machine.proofs.RunLaws.{lowest_run, lowest_end_is}
 use Rattle.qs_conn.proofs.AckLaws.{count_runs}
@@ -42,6 +43,10 @@ reset_sends code l false = refl
 pub sum_piece : (p : Piece) (o : Outgoing) → sent_sum (piece_acked_out p o).sends ≡ sent_sum o.sends
 sum_piece (Data n c) o = sum_lane o.sends n (λ l. acked_lane l c) (λ l. refl)
 sum_piece (Told i) o = each_item (λ j. sent_sum (piece_acked_out (Told j) o).sends ≡ sent_sum o.sends) (λ m. refl) (λ n m. refl) (λ d m. refl) (λ n code size. sum_lane o.sends n reset_acked_lane (λ l. refl)) (λ n code. refl) (λ m. refl) (λ n m. refl) (λ d m. refl) i
+
+-- items send no byte
+pub sum_put : (i : Item) (o : Outgoing) → sent_sum (item_put_out i o).sends ≡ sent_sum o.sends
+sum_put i o = each_item (λ j. sent_sum (item_put_out j o).sends ≡ sent_sum o.sends) (λ m. refl) (λ n m. refl) (λ d m. refl) (λ n code size. refl) (λ n code. refl) (λ m. refl) (λ n m. sum_lane o.sends n blocked_lane (λ l. refl)) (λ d m. refl) i
 
 -- A packet's number is kept
 

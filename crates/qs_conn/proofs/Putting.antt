@@ -1,23 +1,20 @@
 -- Items are put into a packet that is in a slice.
-use Rattle.std.proofs.Common.{◌≡◌, ℕ, ◌+◌, ◌<◌, ◌≤◌, Bool, true, false, List, ◌++◌, ◌⊎◌, length, take, refl, sym, ap, ◌∙◌, subst, arith, inl, inr, Option, None, Some}
+use Rattle.std.proofs.Common.{◌≡◌, ℕ, ◌+◌, ◌<◌, ◌≤◌, Bool, true, false, List, ◌++◌, ◌⊎◌, length, take, sym, ap, ◌∙◌, subst, arith, inl, inr, None, Some}
 use Rattle.std.proofs.lemmas.Bool.{true≢false, cases_lt}
 use Rattle.std.proofs.lemmas.List.{length-take-le}
 use Rattle.qs_wire.specs.Grammar.{Fits, canonical}
 use Rattle.qs_recv.specs.Lane.{RecvLane}
 use Rattle.qs_send.specs.declared.piece.Item.{Item}
-use Rattle.qs_send.specs.declared.piece.Item.TheVariants.{MaxData, MaxStreamData, MaxStreams, ResetStream, StopSending, DataBlocked, StreamDataBlocked, StreamsBlocked}
 use Rattle.qs_conn.specs.declared.slot.Slot.{Slot}
 use Rattle.qs_conn.specs.declared.slot.Kind.{Kind}
 use Rattle.qs_conn.specs.declared.limits.Limits.{Limits}
-use Rattle.qs_send.specs.Lane.{SendLane, blocked_lane}
-use Rattle.qs_machine.proofs.TableLaws.{total_update}
-use Rattle.qs_machine.specs.Tables.{Tables, lookup, updated}
+use Rattle.qs_machine.specs.Tables.{Tables}
 use Rattle.qs_machine.specs.Ends.{End}
 use Rattle.qs_machine.specs.Seen.{Control}
 use Rattle.qs_machine.specs.Due.{IsCurrent, IsCovered}
 use Rattle.qs_machine.specs.Lawful.{frame_put}
 use Rattle.qs_machine.specs.InOrder.{IsLower, item_place}
-use Rattle.qs_machine.specs.Outgoing.{Outgoing, item_put_out, sent_sum}
+use Rattle.qs_machine.specs.Outgoing.{Outgoing}
 use Rattle.qs_conn.specs.Filling.{slot_of, slot_at, frame_of_item, end_by, IsCurrentIn, PutsItem, Begun, Packed, Passed, HasPassedTo, slot_place, and_slot, and_kind, and_below, IsPassed, Stage}
 use Rattle.qs_conn.specs.Marks.{IsIdle}
 use Rattle.qs_conn.proofs.Stages.{begun_idle, begun_fewer, begun_absent, begun_covered, begun_item, begun_too_long}
@@ -100,18 +97,3 @@ below_next P kind n m slot s is next (inr (k, lt, at)) =
 pub item_some : (i : Item) → 2 ≤ length (canonical (frame_of_item i))
 unfolding canonical
 item_some i = each_item (λ j. 2 ≤ length (canonical (frame_of_item j))) (λ m. two _ m _) (λ n m. two _ n _) (λ d m. two _ m _) (λ n code size. two _ n _) (λ n code. two _ n _) (λ m. two _ m _) (λ n m. two _ n _) (λ d m. two _ m _) i
-
--- items send no byte
-pub sum_put : (i : Item) (o : Outgoing) → sent_sum (item_put_out i o).sends ≡ sent_sum o.sends
-sum_put (MaxData m) o = refl
-sum_put (MaxStreamData n m) o = refl
-sum_put (MaxStreams d m) o = refl
-sum_put (ResetStream n code size) o = refl
-sum_put (StopSending n code) o = refl
-sum_put (DataBlocked m) o = refl
-sum_put (StreamDataBlocked n m) o = go (lookup o.sends n) refl
-  where
-    go : (x : Option SendLane) → lookup o.sends n ≡ x → sent_sum (updated o.sends n blocked_lane x) ≡ sent_sum o.sends
-    go None is = refl
-    go (Some l) is = omega (arith, total_update (λ l. l.sent_end) o.sends n l (blocked_lane l) is)
-sum_put (StreamsBlocked d m) o = refl

@@ -70,6 +70,7 @@ impl Core {
     }
 
     // Puts the items of a kind into the packet that are due, lower stream numbers first.
+    #[tactic(auto, using(crate::proofs::Cores::fills_same))]
     fn put_kind(&mut self, kind: Kind, out: &mut [u8], packet: Packet) -> Packet
         requires { IsFilling self.old out.old packet.len }
         ensures stage { (delay room : ℕ) (old e : End) (passed : Passed) → room ≡ length out.old → HasPassedKinds passed (kind_place kind)
@@ -107,6 +108,7 @@ impl Core {
     }
 
     // Puts the item of a slot of the connection into the packet, if it is due. Mostly a look at two numbers tells that there is none.
+    #[tactic(auto, using(crate::proofs::Cores::fills_same))]
     fn put_own_slot(&mut self, slot: Slot, out: &mut [u8], packet: Packet) -> Packet
         requires { IsFilling self.old out.old packet.len }
         ensures stage { (delay room : ℕ) (old e : End) (passed : Passed) → room ≡ length out.old → HasPassedTo passed slot
@@ -121,6 +123,7 @@ impl Core {
     }
 
     // Puts the item of a slot into the packet, if it is due.
+    #[tactic(auto, using(crate::proofs::Cores::fills_same))]
     fn put_slot(&mut self, slot: Slot, out: &mut [u8], packet: Packet) -> Packet
         requires { IsFilling self.old out.old packet.len }
         ensures stage { (delay room : ℕ) (old e : End) (passed : Passed) → room ≡ length out.old → HasPassedTo passed slot
@@ -158,6 +161,7 @@ impl Core {
     }
 
     // Puts the bytes of the streams of a way into the packet, lower numbers first, as far as the limits and the room allow.
+    #[tactic(auto, using(crate::proofs::Cores::fills_same))]
     fn put_way(&mut self, first: u64, around: bool, out: &mut [u8], packet: Packet) -> Packet
         requires filling { IsFilling self.old out.old packet.len }
         requires first { first < 2 ^ 62 }
@@ -185,6 +189,7 @@ impl Core {
     }
 
     // Puts chunks of a stream into the packet, if it is one that can send.
+    #[tactic(auto, using(crate::proofs::Cores::fills_same))]
     fn put_open(&mut self, stream: StreamId, out: &mut [u8], packet: Packet) -> Packet
         requires { IsFilling self.old out.old packet.len }
         ensures flow { (around : Bool) (first delay room : ℕ) (old e : End) → room ≡ length out.old → IsOnWay around first stream
@@ -199,6 +204,7 @@ impl Core {
     }
 
     // Puts chunks of a stream into the packet, one for each run of due offsets, as far as the limits and the room allow.
+    #[tactic(auto, using(crate::proofs::Cores::fills_same))]
     fn put_chunks(&mut self, stream: StreamId, out: &mut [u8], packet: Packet) -> Packet
         requires filling { IsFilling self.old out.old packet.len }
         requires open { is_some (lookup self.old.outbox.sends stream) ≡ true }

@@ -1,19 +1,11 @@
 use Rattle.std.proofs.Common.{refl, sym, ◌∙◌}
+use Rattle.qs_conn.proofs.Cores.{kept_streams}
 use Rattle.qs_conn.proofs.Runs.{lost_ok, lost_err}
 use Rattle.qs_conn.proofs.endpoint.Endpoint.declare_lost.Goals as goal
 use Rattle.qs_conn.proofs.endpoint.Endpoint.declare_lost.Goals.{in-Ok, in-Err}
 
 pub invariant_of-self : goal.invariant_of-self
-invariant_of-self c =
-    let k = c.self.invariant in
-    record {
-      rest = c.lose.ensures.rest;
-      peer_fits = k.peer_fits;
-      closing_fits = k.closing_fits;
-      few = k.few;
-      acks = k.acks;
-      settled = rw (c.lose.ensures.streams.limits, c.lose.ensures.streams.recvs, c.lose.ensures.ended) k.settled;
-    }
+invariant_of-self c = kept_streams c.self.inside.core _ _ _ _ _ c.self.invariant c.lose.new.self c.lose.ensures.rest c.lose.ensures.streams c.lose.ensures.ended
 
 pub returns : goal.returns
 returns c =

@@ -1,7 +1,7 @@
 use Rattle.std.proofs.Common.{◌+◌, ◌∙◌, arith, sym, ap, take}
 use Rattle.qs_conn.specs.Middle.{end_of}
 use Rattle.qs_conn.specs.Filling.{and_slot, and_kind, and_below}
-use Rattle.qs_conn.proofs.Cores.{fills_same, fills_on}
+use Rattle.qs_conn.proofs.Cores.{fills_on}
 use Rattle.qs_conn.proofs.Passing.{passed_below}
 use Rattle.qs_conn.proofs.Putting.{stage_fewer, stage_full, stage_idle, stage_kind, below_next}
 use Rattle.qs_conn.proofs.middle.Core.put_kind.Goals as goal
@@ -26,12 +26,6 @@ returns-clause-stage c = λ delay room old e passed at kinds start.
     stage_kind delay room old (take c.loop-stream.packet.len c.loop-stream.out) (end_of c.loop-stream.self e) c.loop-stream.packet.is_full passed c.args.kind c.loop-stream.from
     (λ n le. c.in_default.ensures.idle n e le tt) (c.loop-stream.invariant.stage delay room old e passed at kinds start)
 
-pub returns-then-packet-clause-filled : goal.returns-then-packet-clause-filled
-returns-then-packet-clause-filled c = fills_same c.args.self.now c.args.out.now c.args.packet.len c.requires
-
-pub returns-then-packet-2-clause-filled : goal.returns-then-packet-2-clause-filled
-returns-then-packet-2-clause-filled c = fills_on _ _ _ _ _ _ _ _ _ c.loop-stream.invariant.filled c.put_slot-packet.ensures.filled
-
 pub returns-then-packet-2-clause-stage : goal.returns-then-packet-2-clause-stage
 returns-then-packet-2-clause-stage c = λ delay room old e passed at kinds start. (
     let stream = c.in-Some.stream in
@@ -40,3 +34,6 @@ returns-then-packet-2-clause-stage c = λ delay room old e passed at kinds start
     let after = c.put_slot-packet.ensures.stage delay room old e (and_below passed c.args.kind stream) (at ∙ sym c.loop-stream.invariant.filled.room) (passed_below passed c.args.kind stream c.at.result c.at.ensures kinds) here in
     stage_full delay room old (take c.put_slot-packet.result.len c.put_slot-packet.new.out) (end_of c.put_slot-packet.new.self e) c.put_slot-packet.result.is_full
     (and_slot (and_below passed c.args.kind stream) c.at.result) (and_kind passed c.args.kind) c.if-packet-2.true after)
+
+pub returns-then-packet-2-clause-filled : goal.returns-then-packet-2-clause-filled
+returns-then-packet-2-clause-filled c = fills_on _ _ _ _ _ _ _ _ _ c.loop-stream.invariant.filled c.put_slot-packet.ensures.filled

@@ -1,12 +1,8 @@
 use Rattle.std.proofs.Common.{sym, ◌∙◌, take}
 use Rattle.qs_conn.specs.Middle.{end_of}
-use Rattle.qs_conn.proofs.Cores.{fills_same}
 use Rattle.qs_conn.proofs.Flows.{flow_none}
 use Rattle.qs_conn.proofs.middle.Core.put_open.Goals as goal
 
 pub returns-clause-flow : goal.returns-clause-flow
 returns-clause-flow c = λ around first delay room old e at on start.
     flow_none delay room old (take c.args.packet.len c.args.out.now) (end_of c.args.self.now e) c.args.packet.is_full around first c.args.stream (sym c.is_open.ensures ∙ c.if-is_open.false) start
-
-pub returns-clause-filled : goal.returns-clause-filled
-returns-clause-filled c = fills_same c.args.self.now c.args.out.now c.args.packet.len c.requires

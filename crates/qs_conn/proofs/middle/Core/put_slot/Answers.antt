@@ -1,7 +1,7 @@
-use Rattle.std.proofs.Common.{take, inl, refl}
+use Rattle.std.proofs.Common.{take, inl}
 use Rattle.qs_machine.specs.Ends.{new_end}
 use Rattle.qs_conn.specs.Middle.{end_of}
-use Rattle.qs_conn.proofs.Cores.{core_item, fills_same}
+use Rattle.qs_conn.proofs.Cores.{core_item, fills_outbox}
 use Rattle.qs_conn.proofs.Putting.{stage_absent, stage_covered, stage_put}
 use Rattle.qs_conn.proofs.Slots.{may_tell}
 use Rattle.qs_conn.proofs.middle.Core.put_slot.Goals as goal
@@ -24,22 +24,7 @@ returns-clause-stage c = λ delay room old e passed at before stage.
 pub returns-clause-filled : goal.returns-clause-filled
 returns-clause-filled c =
     let put = c.put_item.ensures in
-    record {
-      filling = record { core = core_item c.args.self.now c.requires.core c.in-Some.item c.args.out.now c.args.packet.len c.put_item.new.out c.put_item.result.len c.put_item.new.outbox c.put_item.result.is_full put.puts; within = put.within; spare = put.spare };
-      streams = record { limits = refl; recvs = refl };
-      ended = refl;
-      rest = put.rest;
-      room = put.room;
-    }
-
-pub returns-in_default-clause-filled : goal.returns-in_default-clause-filled
-returns-in_default-clause-filled c = fills_same c.args.self.now c.args.out.now c.args.packet.len c.requires
-
-pub returns-then-is_covered-clause-filled : goal.returns-then-is_covered-clause-filled
-returns-then-is_covered-clause-filled c = fills_same c.args.self.now c.args.out.now c.args.packet.len c.requires
-
-pub returns-then-packet-clause-filled : goal.returns-then-packet-clause-filled
-returns-then-packet-clause-filled c = fills_same c.args.self.now c.args.out.now c.args.packet.len c.requires
+    fills_outbox c.args.self.now c.put_item.new.outbox _ _ _ _ (core_item c.args.self.now c.requires.core c.in-Some.item c.args.out.now c.args.packet.len c.put_item.new.out c.put_item.result.len c.put_item.new.outbox c.put_item.result.is_full put.puts) put.within put.spare put.rest put.room
 
 pub put_item-requires-clause-may : goal.put_item-requires-clause-may
 put_item-requires-clause-may c =

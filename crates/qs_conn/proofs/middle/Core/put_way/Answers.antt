@@ -63,6 +63,3 @@ returns-clause-flow c = λ delay room old e at start.
 
 pub returns-then-packet-2-clause-filled : goal.returns-then-packet-2-clause-filled
 returns-then-packet-2-clause-filled c = fills_on _ _ _ _ _ _ _ _ _ c.loop-stream.invariant.filled c.put_open-packet.ensures.filled
-
-pub returns-then-packet-clause-filled : goal.returns-then-packet-clause-filled
-returns-then-packet-clause-filled c = fills_same c.args.self.now c.args.out.now c.args.packet.len c.requires.filling
