@@ -22,9 +22,9 @@ BOUNDS = {
         sizes=(256, 1024, 4096),
         heap=255_000,
         heap_why="56 bytes of each stream that is over, and room to grow",
-        growth=1.1,
-        growth_why="each stream of the type is looked at: it is to fall to 0",
-        count=104_000,
+        growth=0.1,
+        growth_why="the two streams that were touched are looked at, and no other",
+        count=2_100,
     ),
     "reset-over-holes": Bound(
         sizes=(2, 4, 8),

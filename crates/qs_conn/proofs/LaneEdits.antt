@@ -1,27 +1,28 @@
 -- One receiving lane among those of its type is edited; some are opened, or taken away.
-use Rattle.std.proofs.Common.{◌≡◌, ℕ, ◌+◌, ◌-◌, ◌<◌, ◌≤◌, ◌^◌, List, [], ◌∷◌, ◌++◌, length, get_or, map, take, refl, ap, sym, ◌∙◌, arith, subst}
+use Rattle.std.proofs.Common.{◌≡◌, ℕ, ◌+◌, ◌-◌, ◌<◌, ◌≤◌, ◌^◌, false, List, [], ◌∷◌, ◌++◌, length, get_or, map, take, replicate, refl, ap, sym, ◌∙◌, arith, subst}
 use Rattle.std.specs.List.{slice_get, range_with_len}
 use Rattle.std.proofs.Math.ListN.{set, length-set}
 use Rattle.std.proofs.lemmas.Option.{slice_get_read}
 use Rattle.std.proofs.lemmas.List.FromFn.{map-range_with_len_more, length-map-range_with_len}
-use Rattle.std.proofs.lemmas.List.{append_assoc, length-append}
+use Rattle.std.proofs.lemmas.List.{append_assoc, length-append, length-replicate}
 use Rattle.std.proofs.Math.Seq.{take-append_seam}
 use Rattle.qs_recv.specs.Lane.{RecvLane, new_lane}
 use Rattle.qs_recv.specs.Lawful.{IsLawful}
 use Rattle.qs_machine.specs.declared.tally.Tally.{Tally}
-use Rattle.qs_conn.specs.declared.recv_lanes.Touched.{Touched}
+use Rattle.qs_conn.specs.declared.touches.Touches.{Touches}
 use Rattle.qs_machine.specs.Tables.{widened}
 use Rattle.qs_machine.specs.Sums.{changed, tally_of, moved, IsPaid}
-use Rattle.qs_conn.specs.Layers.{AreSettled, AreCounted}
+use Rattle.qs_conn.specs.Layers.{AreCounted}
+use Rattle.qs_conn.specs.Touches.{AreSettled}
 use Rattle.qs_machine.proofs.Tallies.{tally_set, each_paid, lawful_set, lawful_append, lawful_begun, tally_opened}
 use Rattle.qs_conn.proofs.Settling.{are_opened}
 
-pub paid_of : (xs : List RecvLane) (t : Tally) (touched : Touched) → AreCounted xs t touched → IsPaid t
+pub paid_of : (xs : List RecvLane) (t : Tally) (touched : Touches) → AreCounted xs t touched → IsPaid t
 paid_of xs t touched is = subst (λ (k : Tally). IsPaid k) is.counted (each_paid xs is.lawful)
 
-pub edited : (xs : List RecvLane) (t now was part : Tally) (touched next : Touched) (i : ℕ) (x y : RecvLane) → i < length xs → x ≡ get_or xs i x → AreCounted xs t touched
-    → was ≡ tally_of x → part ≡ tally_of y → now ≡ moved t was part → IsLawful y → AreSettled next (set xs i y) → AreCounted (set xs i y) now next
-edited xs t now was part touched next i x y there at is was_is part_is now_is lawful settled =
+pub edited : (xs : List RecvLane) (t now was part : Tally) (touched next : Touches) (i : ℕ) (x y : RecvLane) → i < length xs → x ≡ get_or xs i x → AreCounted xs t touched
+    → was ≡ tally_of x → part ≡ tally_of y → now ≡ moved t was part → IsLawful y → AreSettled next (set xs i y) → length next.marks ≡ length touched.marks → AreCounted (set xs i y) now next
+edited xs t now was part touched next i x y there at is was_is part_is now_is lawful settled room =
     record {
       counted =
           tally_set xs i x y there at ∙ ap (λ k. moved k (tally_of x) (tally_of y)) is.counted
@@ -30,21 +31,25 @@ edited xs t now was part touched next i x y there at is was_is part_is now_is la
           ∙ sym now_is;
       lawful = lawful_set xs i y lawful is.lawful;
       settled = settled;
+      room = room ∙ is.room ∙ sym (length-set xs i y);
       few = rw length-set is.few;
     }
 
 pub changed_at : {X : Type 0} (xs : List X) (i : ℕ) (x y : X) (f : X → X) → i < length xs → x ≡ get_or xs i x → y ≡ f x → set xs i y ≡ changed xs i f (slice_get xs i)
 changed_at xs i x y f there at is = rw (slice_get_read xs (length xs) i x refl there at, is) refl
 
-pub opened : (xs now : List RecvLane) (t now_t : Tally) (touched now_touched : Touched) (w n : ℕ) → 1 ≤ w → w ≤ 2 ^ 20 → length xs + n ≤ 2 ^ 60 → now ≡ xs ++ map (λ (i : ℕ). new_lane w) (range_with_len (length xs) n)
-    → now_t ≡ t → now_touched ≡ touched → AreCounted xs t touched → AreCounted now now_t now_touched
-opened xs now t now_t touched now_touched w n some small few is same_t same_touched was =
-    rw (is, same_t, same_touched)
+pub opened : (xs now : List RecvLane) (t now_t : Tally) (touched now_touched : Touches) (w n count : ℕ) → 1 ≤ w → w ≤ 2 ^ 20 → length xs + n ≤ 2 ^ 60 → n ≡ count - length xs → now ≡ xs ++ map (λ (i : ℕ). new_lane w) (range_with_len (length xs) n)
+    → now_t ≡ t → now_touched.lanes ≡ touched.lanes → now_touched.marks ≡ touched.marks ++ replicate (count - length touched.marks) false → AreCounted xs t touched → AreCounted now now_t now_touched
+opened xs now t now_t touched now_touched w n count some small few all is same_t lanes marks was =
+    let more = length-map-range_with_len (λ (i : ℕ). new_lane w) (length xs) n in
+    let len = length-append xs (map (λ (i : ℕ). new_lane w) (range_with_len (length xs) n)) in
+    rw (is, same_t)
     (record {
       counted = tally_opened xs w (range_with_len (length xs) n) ∙ was.counted;
       lawful = lawful_append xs _ was.lawful (lawful_begun w (range_with_len (length xs) n) some small);
-      settled = are_opened touched xs w (range_with_len (length xs) n) some small was.settled;
-      few = omega (arith, few, length-append xs (map (λ (i : ℕ). new_lane w) (range_with_len (length xs) n)), length-map-range_with_len (λ (i : ℕ). new_lane w) (length xs) n);
+      settled = are_opened touched now_touched xs w (count - length touched.marks) (range_with_len (length xs) n) some small lanes marks was.settled;
+      room = ap length marks ∙ length-append touched.marks (replicate (count - length touched.marks) false) ∙ omega (arith, was.room, all, len, more, length-replicate (count - length touched.marks) false);
+      few = omega (arith, few, len, more);
     })
 
 pub opened_more : {X : Type 0} (xs now : List X) (f : ℕ → X) (n : ℕ) (x : X) → now ≡ xs ++ map f (range_with_len (length xs) n) → x ≡ f (length xs + n) → now ++ x ∷ [] ≡ xs ++ map f (range_with_len (length xs) (n + 1))

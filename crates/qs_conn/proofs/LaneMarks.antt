@@ -1,31 +1,23 @@
 -- Receiving lanes that are raised one by one, and marked; and those that were opened and are taken back.
 use Rattle.std.proofs.Common.{◌≡◌, ◌≢◌, ℕ, zero, suc, ◌+◌, ◌*◌, ◌/◌, ◌%◌, ◌<◌, ◌≤◌, nat_lt, Bool, true, false, cond, List, [], ◌++◌, ◌∷◌, length, map, take, drop, get_or, None, Some, slice_get, refl, sym, ap, ◌∙◌, subst, arith, inl, inr}
-use Rattle.std.proofs.Math.ListN.{set}
+use Rattle.std.proofs.Math.ListN.{set, length-set}
 use Rattle.std.proofs.lemmas.Bool.{cases_lt, cases_eq}
 use Rattle.std.proofs.lemmas.Bool.Decides.{nat_tests}
 use Rattle.qs_machine.specs.Tables.{Tables, table, lookup, updated}
 use Rattle.qs_machine.specs.Sums.{tables_of, changed}
 use Rattle.qs_machine.proofs.LanesAgain.{raise_after}
 use Rattle.qs_conn.specs.Untold.{HasMore, IsRaisedMarked, AreRaisedMarked}
-use Rattle.qs_conn.proofs.Settling.{settled_raise}
+use Rattle.qs_conn.proofs.Settling.{settled_raise, raised_twice, none_raised, get_other, get_same}
 use Rattle.qs_conn.proofs.Untolds.{is_marked_now, unmarked_before}
-use Rattle.std.proofs.lemmas.List.Edits.{map_over_more}
 use Rattle.std.proofs.lemmas.Option.{none-some, same_Some, slice_get_cases, get_or_from_slice_get, slice_get_within}
 use Rattle.qs_recv.specs.Lane.{RecvLane, raise, raise_answer, raised_limit}
 use Rattle.qs_machine.specs.declared.tally.Tally.{Tally}
-use Rattle.qs_conn.specs.declared.recv_lanes.Touched.{Touched}
-use Rattle.qs_conn.specs.Layers.{AreCounted, IsSettled, EachSettled, SettledBut}
-
--- one lane more is raised
-pub raised_more : (xs ys now : List RecvLane) (i : ℕ) → i < length ys → length ys ≡ length xs → ys ≡ map raise (take i xs) ++ drop i xs → now ≡ changed ys i raise (slice_get ys i) → now ≡ map raise (take (i + 1) xs) ++ drop (i + 1) xs
-raised_more xs ys now i lt same is at =
-    elim (slice_get_cases ys i).1 [
-      | inl (x, in_list, there, read) ↦ at ∙ ap (changed ys i raise) there ∙ map_over_more raise xs ys i x (omega (arith, lt, same)) is (sym read)
-      | inr (past, none) ↦ absurd (omega (arith, lt, past))
-    ]
+use Rattle.qs_conn.specs.declared.touches.Touches.{Touches}
+use Rattle.qs_conn.specs.Layers.{AreCounted}
+use Rattle.qs_conn.specs.Touches.{is_touched, IsTaken, IsSettled, AreSettled}
 
 -- what was opened is taken back
-pub lanes_undone : (xs now : List RecvLane) (t now_t : Tally) (touched now_touched : Touched) → now ≡ xs → now_t ≡ t → now_touched ≡ touched → AreCounted xs t touched → AreCounted now now_t now_touched
+pub lanes_undone : (xs now : List RecvLane) (t now_t : Tally) (touched now_touched : Touches) → now ≡ xs → now_t ≡ t → now_touched ≡ touched → AreCounted xs t touched → AreCounted now now_t now_touched
 lanes_undone xs now t now_t touched now_touched a b c h = rw (a, b, c) h
 
 -- Raised lanes are marked
@@ -51,47 +43,92 @@ raised_some kind xs marks marks' i n is are l there free =
 pub raised_past : (kind : ℕ) (xs : List RecvLane) (marks : Tables Bool) (i : ℕ) → length xs ≤ i → IsRaisedMarked kind xs marks i
 raised_past kind xs marks i le l there free = absurd (omega (arith, le, slice_get_within xs i l there))
 
--- one index more
-pub raised_next : (kind : ℕ) (xs ys : List RecvLane) (marks marks' : Tables Bool) (i : ℕ) → ys ≡ map raise (take i xs) ++ drop i xs → HasMore marks marks' → ((j : ℕ) → j < i → IsRaisedMarked kind xs marks j) → IsRaisedMarked kind ys marks' i → (j : ℕ) → j < i + 1
-    → IsRaisedMarked kind xs marks' j
-raised_next kind xs ys marks marks' i is more before here j lt l there free =
-    elim (cases_lt j i) [
-      | inl less ↦ before j less l there (unmarked_before marks marks' (j * 4 + kind) more free)
-      | inr ge ↦
-          (let same : j ≡ i = omega (arith, lt, ge) in
-          here l (ap (λ zs. slice_get zs i) is ∙ same_there xs i ∙ ap (slice_get xs) (sym same) ∙ there) (subst (λ k. lookup marks' (k * 4 + kind) ≡ Some false) same free))
+-- Lanes are raised one after the other, as they were touched
+
+-- What stands between: the lanes that were touched and those that were raised are raised at the end, all others are settled, and a lane
+-- without a mark is as it was.
+pub record AreRaisedSoFar (kind : ℕ) (xs now : List RecvLane) (t : Touches) (marks : Tables Bool) : Type 0 where
+  pub raised : map raise now ≡ map raise xs
+  pub len : length now ≡ length xs
+  pub settled : AreSettled t now
+  pub same : (i : ℕ) (l : RecvLane) → slice_get xs i ≡ Some l → lookup marks (i * 4 + kind) ≡ Some false → slice_get now i ≡ Some l
+
+pub none_yet : (kind : ℕ) (xs : List RecvLane) (t : Touches) (marks : Tables Bool) → AreSettled t xs → AreRaisedSoFar kind xs xs t marks
+none_yet kind xs t marks settled = record { raised = refl; len = refl; settled = settled; same = λ i l at free. at }
+
+raise_again : (xs : List RecvLane) (k : ℕ) (x : RecvLane) → slice_get xs k ≡ Some x → map raise (set xs k (raise x)) ≡ map raise xs
+raise_again [] k x at = absurd (none-some x at)
+raise_again (z ∷ xs) zero x at = ap (λ l. l ∷ map raise xs) (settled_raise (raise x) (raised_twice x) ∙ ap raise (sym (same_Some z x at)))
+raise_again (z ∷ xs) (suc k) x at = ap (λ ls. raise z ∷ ls) (raise_again xs k x at)
+
+-- one lane more is raised
+pub one_more : (kind : ℕ) (xs ys now : List RecvLane) (t new : Touches) (marks marks' : Tables Bool) (k : ℕ) → AreRaisedSoFar kind xs ys t marks → k < length ys → IsTaken t (Some k) new → now ≡ changed ys k raise (slice_get ys k)
+    → HasMore marks marks' → IsRaisedMarked kind ys marks' k → AreRaisedSoFar kind xs now new marks'
+one_more kind xs ys now t new marks marks' k far lt taken is more here =
+    elim (slice_get_cases ys k).1 [
+      | inl (x, in_list, there, read) ↦
+          (let at : now ≡ set ys k (raise x) = is ∙ ap (changed ys k raise) there in
+          rw at (
+          record {
+            raised = raise_again ys k x there ∙ far.raised;
+            len = length-set ys k (raise x) ∙ far.len;
+            settled =
+                λ j l in_now free.
+                elim (cases_eq j k) [
+                  | inl e ↦ subst IsSettled (get_same ys k (raise x) l (ap (slice_get (set ys k (raise x))) (sym e) ∙ in_now)).0 (raised_twice x)
+                  | inr ne ↦ elim (taken j free) [ inl e ↦ absurd (ne e) | inr was ↦ far.settled j l (sym (get_other ys k j (raise x) ne) ∙ in_now) was ]
+                ];
+            same =
+                λ j l in_xs free.
+                let before = far.same j l in_xs (unmarked_before marks marks' (j * 4 + kind) more free) in
+                elim (cases_eq j k) [
+                  | inl e ↦
+                      (let is_l : l ≡ x = same_Some l x (sym before ∙ ap (slice_get ys) e ∙ there) in
+                      let still : raise x ≡ x = here x there (subst (λ i. lookup marks' (i * 4 + kind) ≡ Some false) e free) in
+                      ap (λ y. slice_get (set ys k y) j) still ∙ set_same ys k j x there ∙ before)
+                  | inr ne ↦ get_other ys k j (raise x) ne ∙ before
+                ];
+          }))
+      | inr (past, none) ↦ absurd (omega (arith, lt, past))
     ]
   where
-    same_there : (zs : List RecvLane) (k : ℕ) → slice_get (map raise (take k zs) ++ drop k zs) k ≡ slice_get zs k
-    same_there [] zero = refl
-    same_there [] (suc k) = refl
-    same_there (z ∷ zs) zero = refl
-    same_there (z ∷ zs) (suc k) = same_there zs k
+    set_same : (zs : List RecvLane) (i j : ℕ) (z : RecvLane) → slice_get zs i ≡ Some z → slice_get (set zs i z) j ≡ slice_get zs j
+    set_same [] i j z at = refl
+    set_same (y ∷ zs) zero zero z at = sym at
+    set_same (y ∷ zs) zero (suc j) z at = refl
+    set_same (y ∷ zs) (suc i) zero z at = refl
+    set_same (y ∷ zs) (suc i) (suc j) z at = set_same zs i j z at
 
-pub raised_every : (kind : ℕ) (xs : List RecvLane) (marks : Tables Bool) (n : ℕ) → length xs ≤ n → ((j : ℕ) → j < n → IsRaisedMarked kind xs marks j) → AreRaisedMarked kind xs marks
-raised_every kind xs marks n all before j = elim (cases_lt j n) [ inl lt ↦ before j lt | inr ge ↦ raised_past kind xs marks j (omega (arith, all, ge)) ]
+-- a touched index that isn't one
+pub past_more : (kind : ℕ) (xs ys : List RecvLane) (t new : Touches) (marks : Tables Bool) (k : ℕ) → AreRaisedSoFar kind xs ys t marks → length ys ≤ k → IsTaken t (Some k) new → AreRaisedSoFar kind xs ys new marks
+past_more kind xs ys t new marks k far past taken =
+    record {
+      raised = far.raised;
+      len = far.len;
+      settled = λ j l at free. elim (taken j free) [ inl e ↦ absurd (omega (arith, e, past, slice_get_within ys j l at)) | inr was ↦ far.settled j l at was ];
+      same = far.same;
+    }
 
-settled_at : (xs : List RecvLane) (i : ℕ) (l : RecvLane) → EachSettled xs → slice_get xs i ≡ Some l → IsSettled l
-settled_at [] i l each at = absurd (none-some l at)
-settled_at (x ∷ xs) zero l each at = subst IsSettled (same_Some x l at) each.0
-settled_at (x ∷ xs) (suc i) l each at = settled_at xs i l each.1 at
+-- no lane is left
+pub all_raised : (kind : ℕ) (xs now : List RecvLane) (t : Touches) (marks : Tables Bool) → AreRaisedSoFar kind xs now t marks → ((i : ℕ) → is_touched t i ≡ false) → now ≡ map raise xs
+all_raised kind xs now t marks far none = sym (none_raised t now far.settled none) ∙ far.raised
 
-pub raised_nothing : (kind : ℕ) (xs : List RecvLane) (marks : Tables Bool) → EachSettled xs → AreRaisedMarked kind xs marks
-raised_nothing kind xs marks each i l at free = settled_raise l (settled_at xs i l each at)
+pub none_marked : (kind : ℕ) (xs : List RecvLane) (t : Touches) (marks : Tables Bool) → AreSettled t xs → ((i : ℕ) → is_touched t i ≡ false) → AreRaisedMarked kind xs marks
+none_marked kind xs t marks settled none i l at free = settled_raise l (settled i l at (none i))
 
-pub raised_but : (kind : ℕ) (xs : List RecvLane) (marks : Tables Bool) (j : ℕ) → SettledBut j xs → IsRaisedMarked kind xs marks j → AreRaisedMarked kind xs marks
-raised_but kind xs marks j but here i l at free =
-    elim (cases_eq i j) [
-      | inl same ↦ here l (ap (slice_get xs) (sym same) ∙ at) (subst (λ k. lookup marks (k * 4 + kind) ≡ Some false) same free)
-      | inr ne ↦ settled_raise l (other xs j i but ne at)
-    ]
+pub all_marked : (kind : ℕ) (xs now : List RecvLane) (t : Touches) (marks : Tables Bool) → AreRaisedSoFar kind xs now t marks → ((i : ℕ) → is_touched t i ≡ false) → AreRaisedMarked kind xs marks
+all_marked kind xs now t marks far none i l at free = settled_raise l (far.settled i l (far.same i l at free) (none i))
+
+-- no lane has a limit to be raised once all were
+pub still_settled : (xs : List RecvLane) (t : Touches) → AreSettled t (map raise xs)
+still_settled [] t i l at free = absurd (none-some l at)
+still_settled (x ∷ xs) t zero l at free = subst IsSettled (same_Some (raise x) l at) (raised_twice x)
+still_settled (x ∷ xs) t (suc i) l at free = rest xs i at
   where
-    other : (zs : List RecvLane) (k q : ℕ) → SettledBut k zs → q ≢ k → slice_get zs q ≡ Some l → IsSettled l
-    other [] k q settled ne there = absurd (none-some l there)
-    other (z ∷ zs) zero zero settled ne there = absurd (ne refl)
-    other (z ∷ zs) zero (suc q) settled ne there = settled_at zs q l settled there
-    other (z ∷ zs) (suc k) zero settled ne there = subst IsSettled (same_Some z l there) settled.0
-    other (z ∷ zs) (suc k) (suc q) settled ne there = other zs k q settled.1 (λ e. ne (ap suc e)) there
+    rest : (ys : List RecvLane) (j : ℕ) → slice_get (map raise ys) j ≡ Some l → IsSettled l
+    rest [] j there = absurd (none-some l there)
+    rest (y ∷ ys) zero there = subst IsSettled (same_Some (raise y) l there) (raised_twice y)
+    rest (y ∷ ys) (suc j) there = rest ys j there
 
 -- the lanes of all four types
 pub raised_tables : (ls : List (List RecvLane)) (a b c d e f g : List RecvLane) (t u v w : Tables Bool) → length ls ≡ 4 → AreRaisedMarked 0 (get_or ls 0 d) t → AreRaisedMarked 1 (get_or (set ls 0 a) 1 e) u → AreRaisedMarked 2 (get_or (set (set ls 0 a) 1 b) 2 f) v

@@ -40,7 +40,7 @@ count_more (false ∷ ms) zero = omega arith
 count_more (true ∷ ms) (suc i) = omega (arith, count_more ms i)
 count_more (false ∷ ms) (suc i) = count_more ms i
 
-count_fewer : (ms : List Bool) (i : ℕ) → is_marked ms i ≡ true → count_marked (set ms i false) + 1 ≡ count_marked ms
+pub count_fewer : (ms : List Bool) (i : ℕ) → is_marked ms i ≡ true → count_marked (set ms i false) + 1 ≡ count_marked ms
 count_fewer [] i is = absurd (true≢false (sym is))
 count_fewer (true ∷ ms) zero is = refl
 count_fewer (false ∷ ms) zero is = absurd (true≢false (sym is))

@@ -1,18 +1,22 @@
 -- A lane whose limit is the next one already.
-use Rattle.std.proofs.Common.{◌≡◌, ℕ, zero, suc, ◌+◌, ◌/◌, ◌≤◌, ◌^◌, Bool, true, false, ◌&&◌, ◌||◌, List, [], ◌∷◌, ◌++◌, map, take, Option, Some, None, is_some, refl, ap, sym, ◌∙◌, arith, subst, min, max, nat_le, nat_lt, nat_eq, cond, eqb, get_or}
+use Rattle.std.proofs.Common.{◌≡◌, ◌≢◌, ℕ, zero, suc, ◌+◌, ◌/◌, ◌<◌, ◌≤◌, ◌^◌, ◌⊎◌, inl, inr, Bool, true, false, ◌&&◌, ◌||◌, List, [], ◌∷◌, ◌++◌, length, map, take, replicate, Option, Some, None, is_some, refl, ap, sym, ◌∙◌, arith, subst, min, max, nat_le, nat_lt, cond, eqb, get_or}
+use Rattle.std.proofs.lemmas.Option.{none-some, same_Some, slice_get_read, slice_get_within}
 use Rattle.std.proofs.lemmas.Bool.Decides.{nat_tests}
-use Rattle.std.proofs.lemmas.Bool.{both_ways}
-use Rattle.std.proofs.Math.ListN.{set}
+use Rattle.std.proofs.lemmas.Bool.{both_ways, cases_eq}
+use Rattle.std.proofs.Math.ListN.{set, length-set}
+use Rattle.std.proofs.Math.Seq.{take-append_seam}
 use Rattle.std.specs.List.{slice_get}
 use Rattle.qs_ranges.specs.Numbers.{MAX_VARINT}
 use Rattle.qs_recv.specs.Assembled.{discard}
 use Rattle.qs_recv.specs.Lane.{RecvLane, new_lane, raise, take_stream, take_reset, is_whole}
 use Rattle.qs_recv.specs.Lawful.{IsLawful}
-use Rattle.qs_conn.specs.declared.recv_lanes.Touched.{Touched}
-use Rattle.qs_conn.specs.declared.recv_lanes.Touched.TheVariants.{Nothing, Lane, Several}
+use Rattle.qs_conn.specs.declared.touches.Touches.{Touches}
 use Rattle.qs_machine.specs.Sums.{changed}
 use Rattle.qs_machine.proofs.ProcessedAgain.{next_twice}
-use Rattle.qs_conn.specs.Layers.{IsSettled, EachSettled, SettledBut, AreSettled, touch}
+use Rattle.qs_conn.specs.Marks.{is_marked}
+use Rattle.qs_conn.specs.declared.touches.Touched.{Touched}
+use Rattle.qs_conn.specs.declared.touches.Touched.TheVariants.{Nothing, Lane, Several}
+use Rattle.qs_conn.specs.Touches.{is_among, is_touched, IsSettled, AreSettled}
 
 -- One lane
 
@@ -56,103 +60,109 @@ reset_settled l code size was = by_case (is_some l.reset_code || is_whole l)
 
 -- All lanes
 
-pub all_settled : (xs : List RecvLane) → EachSettled (map raise xs)
-all_settled [] = tt
-all_settled (x ∷ xs) = (raised_twice x, all_settled xs)
-
 pub settled_raise : (x : RecvLane) → IsSettled x → raise x ≡ x
 settled_raise x is = ap (λ k. record x { limit = k }) is
 
-pub nothing_raised : (xs : List RecvLane) → EachSettled xs → map raise xs ≡ xs
-nothing_raised [] each = refl
-nothing_raised (x ∷ xs) each = ap (λ y. y ∷ map raise xs) (settled_raise x each.0) ∙ ap (λ ys. x ∷ ys) (nothing_raised xs each.1)
+pub each_settled : (xs : List RecvLane) → ((i : ℕ) (l : RecvLane) → slice_get xs i ≡ Some l → IsSettled l) → map raise xs ≡ xs
+each_settled [] all = refl
+each_settled (x ∷ xs) all = ap (λ y. y ∷ map raise xs) (settled_raise x (all 0 x refl)) ∙ ap (λ ys. x ∷ ys) (each_settled xs (λ i l at. all (suc i) l at))
 
--- where only one lane isn't settled, only that one is raised
-pub one_raised : (xs : List RecvLane) (i : ℕ) → SettledBut i xs → map raise xs ≡ changed xs i raise (slice_get xs i)
-one_raised [] i but = refl
-one_raised (x ∷ xs) zero but = ap (λ ys. raise x ∷ ys) (nothing_raised xs but)
-one_raised (x ∷ xs) (suc i) but =
-    ap (λ y. y ∷ map raise xs) (settled_raise x but.0) ∙ ap (λ ys. x ∷ ys) (one_raised xs i but.1) ∙ below (slice_get xs i)
-  where
-    below : (o : Option RecvLane) → x ∷ changed xs i raise o ≡ changed (x ∷ xs) (suc i) raise o
-    below None = refl
-    below (Some y) = refl
+-- no lane was touched
+pub none_raised : (t : Touches) (xs : List RecvLane) → AreSettled t xs → ((i : ℕ) → is_touched t i ≡ false) → map raise xs ≡ xs
+none_raised t xs settled none = each_settled xs (λ i l at. settled i l at (none i))
 
-settled_kept : (xs : List RecvLane) (i : ℕ) (x y : RecvLane) → x ≡ get_or xs i x → (IsSettled x → IsSettled y) → EachSettled xs → EachSettled (set xs i y)
-settled_kept [] i x y at keep each = tt
-settled_kept (z ∷ xs) zero x y at keep each = (keep (subst (λ l. IsSettled l) (sym at) each.0), each.1)
-settled_kept (z ∷ xs) (suc i) x y at keep each = (each.0, settled_kept xs i x y at keep each.1)
+pub raised_once : (xs : List RecvLane) → map raise (map raise xs) ≡ map raise xs
+raised_once [] = refl
+raised_once (x ∷ xs) = ap (λ y. y ∷ map raise (map raise xs)) (settled_raise (raise x) (raised_twice x)) ∙ ap (λ ys. raise x ∷ ys) (raised_once xs)
 
-but_kept : (xs : List RecvLane) (j i : ℕ) (x y : RecvLane) → x ≡ get_or xs i x → (IsSettled x → IsSettled y) → SettledBut j xs → SettledBut j (set xs i y)
-but_kept [] j i x y at keep but = tt
-but_kept (z ∷ xs) zero zero x y at keep but = but
-but_kept (z ∷ xs) zero (suc i) x y at keep but = settled_kept xs i x y at keep but
-but_kept (z ∷ xs) (suc j) zero x y at keep but = (keep (subst (λ l. IsSettled l) (sym at) but.0), but.1)
-but_kept (z ∷ xs) (suc j) (suc i) x y at keep but = (but.0, but_kept xs j i x y at keep but.1)
+-- one lane becomes another
+
+pub get_other : {X : Type 0} (xs : List X) (i j : ℕ) (y : X) → j ≢ i → slice_get (set xs i y) j ≡ slice_get xs j
+get_other [] i j y ne = refl
+get_other (x ∷ xs) zero zero y ne = absurd (ne refl)
+get_other (x ∷ xs) zero (suc j) y ne = refl
+get_other (x ∷ xs) (suc i) zero y ne = refl
+get_other (x ∷ xs) (suc i) (suc j) y ne = get_other xs i j y (λ e. ne (ap suc e))
+
+pub get_same : {X : Type 0} (xs : List X) (i : ℕ) (y l : X) → slice_get (set xs i y) i ≡ Some l → (y ≡ l) × (i < length xs)
+get_same [] i y l at = absurd (none-some l at)
+get_same (x ∷ xs) zero y l at = (same_Some y l at, omega arith)
+get_same (x ∷ xs) (suc i) y l at = let (is, lt) = get_same xs i y l at in (is, omega (arith, lt))
 
 -- a lane becomes another, which is settled if the first was
-pub are_kept : (t : Touched) (xs : List RecvLane) (i : ℕ) (x y : RecvLane) → x ≡ get_or xs i x → (IsSettled x → IsSettled y) → AreSettled t xs → AreSettled t (set xs i y)
-are_kept Nothing xs i x y at keep each = settled_kept xs i x y at keep each
-are_kept (Lane j) xs i x y at keep each = but_kept xs j i x y at keep each
-are_kept Several xs i x y at keep each = tt
-
-settled_but : (xs : List RecvLane) (i : ℕ) (y : RecvLane) → EachSettled xs → SettledBut i (set xs i y)
-settled_but [] i y each = tt
-settled_but (x ∷ xs) zero y each = each.1
-settled_but (x ∷ xs) (suc i) y each = (each.0, settled_but xs i y each.1)
-
-but_same : (xs : List RecvLane) (i : ℕ) (y : RecvLane) → SettledBut i xs → SettledBut i (set xs i y)
-but_same [] i y but = tt
-but_same (x ∷ xs) zero y but = but
-but_same (x ∷ xs) (suc i) y but = (but.0, but_same xs i y but.1)
-
-same_place : (b : Bool) (j i : ℕ) → nat_eq j i ≡ b → (xs : List RecvLane) (y : RecvLane) → SettledBut j xs → AreSettled (cond b (Lane i) Several) (set xs i y)
-same_place false j i is xs y but = tt
-same_place true j i is xs y but =
-    let e : j ≡ i = grind (arith, nat_tests) in
-    but_same xs i y (rw e at but)
+pub are_kept : (t : Touches) (xs : List RecvLane) (i : ℕ) (x y : RecvLane) → x ≡ get_or xs i x → (IsSettled x → IsSettled y) → AreSettled t xs → AreSettled t (set xs i y)
+are_kept t xs i x y at keep each j l there free =
+    elim (cases_eq j i) [
+      | inl e ↦
+          (let (is, lt) = get_same xs i y l (ap (slice_get (set xs i y)) (sym e) ∙ there) in
+          subst IsSettled is (keep (each i x (slice_get_read xs (length xs) i x refl lt at) (subst (λ k. is_touched t k ≡ false) e free))))
+      | inr ne ↦ each j l (sym (get_other xs i j y ne) ∙ there) free
+    ]
 
 -- any lane is put in the place of one that is noted
-pub are_touched : (t : Touched) (xs : List RecvLane) (i : ℕ) (y : RecvLane) → AreSettled t xs → AreSettled (touch t i) (set xs i y)
-are_touched Nothing xs i y each = settled_but xs i y each
-are_touched (Lane j) xs i y each = same_place (nat_eq j i) j i refl xs y each
-are_touched Several xs i y each = tt
+pub are_touched : (t new : Touches) (xs : List RecvLane) (i : ℕ) (y : RecvLane) → length t.marks ≡ length xs → ((j : ℕ) → j < length t.marks → is_touched new j ≡ false → (is_touched t j ≡ false) × (j ≡ i → ⊥)) → AreSettled t xs → AreSettled new (set xs i y)
+are_touched t new xs i y room touched each j l there free =
+    let in_xs : j < length xs = omega (arith, slice_get_within (set xs i y) j l there, length-set xs i y) in
+    let (was, ne) = touched j (omega (arith, room, in_xs)) free in
+    each j l (sym (get_other xs i j y ne) ∙ there) was
 
-settled_append : (xs ys : List RecvLane) → EachSettled xs → EachSettled ys → EachSettled (xs ++ ys)
-settled_append [] ys a b = b
-settled_append (x ∷ xs) ys a b = (a.0, settled_append xs ys a.1 b)
+-- lanes are opened
 
-but_none : (xs : List RecvLane) (i : ℕ) → EachSettled xs → SettledBut i xs
-but_none [] i each = tt
-but_none (x ∷ xs) zero each = each.1
-but_none (x ∷ xs) (suc i) each = (each.0, but_none xs i each.1)
+get_seam : {X : Type 0} (xs ys : List X) (j : ℕ) (l : X) → slice_get (xs ++ ys) j ≡ Some l → (slice_get xs j ≡ Some l) ⊎ ((k : ℕ) × (slice_get ys k ≡ Some l))
+get_seam [] ys j l at = inr (j, at)
+get_seam (x ∷ xs) ys zero l at = inl at
+get_seam (x ∷ xs) ys (suc j) l at = get_seam xs ys j l at
 
-but_append : (xs ys : List RecvLane) (i : ℕ) → SettledBut i xs → EachSettled ys → SettledBut i (xs ++ ys)
-but_append [] ys i a b = but_none ys i b
-but_append (x ∷ xs) ys zero a b = settled_append xs ys a b
-but_append (x ∷ xs) ys (suc i) a b = (a.0, but_append xs ys i a.1 b)
+get_begun : (w : ℕ) (ks : List ℕ) (k : ℕ) (l : RecvLane) → slice_get (map (λ (i : ℕ). new_lane w) ks) k ≡ Some l → new_lane w ≡ l
+get_begun w [] k l at = absurd (none-some l at)
+get_begun w (i ∷ ks) zero l at = same_Some (new_lane w) l at
+get_begun w (i ∷ ks) (suc k) l at = get_begun w ks k l at
 
-begun : (w : ℕ) (ks : List ℕ) → 1 ≤ w → w ≤ 2 ^ 20 → EachSettled (map (λ (i : ℕ). new_lane w) ks)
-begun w [] some small = tt
-begun w (k ∷ ks) some small = (new_settled w some small, begun w ks some small)
+marked_more : (ms : List Bool) (n i : ℕ) → is_marked ms i ≡ is_marked (ms ++ replicate n false) i
+marked_more [] zero i = refl
+marked_more [] (suc n) zero = refl
+marked_more [] (suc n) (suc i) = marked_more [] n i
+marked_more (m ∷ ms) n zero = refl
+marked_more (m ∷ ms) n (suc i) = marked_more ms n i
 
-pub are_opened : (t : Touched) (xs : List RecvLane) (w : ℕ) (ks : List ℕ) → 1 ≤ w → w ≤ 2 ^ 20 → AreSettled t xs → AreSettled t (xs ++ map (λ (i : ℕ). new_lane w) ks)
-are_opened Nothing xs w ks some small each = settled_append xs _ each (begun w ks some small)
-are_opened (Lane i) xs w ks some small each = but_append xs _ i each (begun w ks some small)
-are_opened Several xs w ks some small each = tt
+among_more : (k : Touched) (ms : List Bool) (n i : ℕ) → is_among k ms i ≡ is_among k (ms ++ replicate n false) i
+among_more Nothing ms n i = refl
+among_more (Lane k) ms n i = refl
+among_more Several ms n i = marked_more ms n i
 
-settled_take : (n : ℕ) (xs : List RecvLane) → EachSettled xs → EachSettled (take n xs)
-settled_take zero xs each = tt
-settled_take (suc n) [] each = tt
-settled_take (suc n) (x ∷ xs) each = (each.0, settled_take n xs each.1)
+pub are_opened : (t new : Touches) (xs : List RecvLane) (w n : ℕ) (ks : List ℕ) → 1 ≤ w → w ≤ 2 ^ 20 → new.lanes ≡ t.lanes → new.marks ≡ t.marks ++ replicate n false → AreSettled t xs → AreSettled new (xs ++ map (λ (i : ℕ). new_lane w) ks)
+are_opened t new xs w n ks some small lanes marks each j l there free =
+    elim (get_seam xs _ j l there) [
+      | inl before ↦ each j l before (among_more t.lanes t.marks n j ∙ ap (λ ms. is_among t.lanes ms j) (sym marks) ∙ ap (λ k. is_among k new.marks j) (sym lanes) ∙ free)
+      | inr (k, begun) ↦ subst IsSettled (get_begun w ks k l begun) (new_settled w some small)
+    ]
 
-but_take : (n : ℕ) (xs : List RecvLane) (i : ℕ) → SettledBut i xs → SettledBut i (take n xs)
-but_take zero xs i but = tt
-but_take (suc n) [] i but = tt
-but_take (suc n) (x ∷ xs) zero but = settled_take n xs but
-but_take (suc n) (x ∷ xs) (suc i) but = (but.0, but_take n xs i but.1)
+-- lanes are taken away
 
-pub are_taken : (t : Touched) (n : ℕ) (xs : List RecvLane) → AreSettled t xs → AreSettled t (take n xs)
-are_taken Nothing n xs each = settled_take n xs each
-are_taken (Lane i) n xs each = but_take n xs i each
-are_taken Several n xs each = tt
+get_taken : {X : Type 0} (n : ℕ) (xs : List X) (j : ℕ) (l : X) → slice_get (take n xs) j ≡ Some l → (slice_get xs j ≡ Some l) × (j < n)
+get_taken zero xs j l at = absurd (none-some l at)
+get_taken (suc n) [] j l at = absurd (none-some l at)
+get_taken (suc n) (x ∷ xs) zero l at = (at, omega arith)
+get_taken (suc n) (x ∷ xs) (suc j) l at = let (there, lt) = get_taken n xs j l at in (there, omega (arith, lt))
+
+marked_taken : (n : ℕ) (ms : List Bool) (i : ℕ) → i < n → is_marked ms i ≡ is_marked (take n ms) i
+marked_taken zero ms i lt = absurd (omega (arith, lt))
+marked_taken (suc n) [] i lt = refl
+marked_taken (suc n) (m ∷ ms) zero lt = refl
+marked_taken (suc n) (m ∷ ms) (suc i) lt = marked_taken n ms i (omega (arith, lt))
+
+among_taken : (k : Touched) (n : ℕ) (ms : List Bool) (i : ℕ) → i < n → is_among k ms i ≡ is_among k (take n ms) i
+among_taken Nothing n ms i lt = refl
+among_taken (Lane k) n ms i lt = refl
+among_taken Several n ms i lt = marked_taken n ms i lt
+
+pub are_taken : (t new : Touches) (n : ℕ) (xs : List RecvLane) → new.lanes ≡ t.lanes → new.marks ≡ take n t.marks → AreSettled t xs → AreSettled new (take n xs)
+are_taken t new n xs lanes marks each j l there free =
+    let (before, lt) = get_taken n xs j l there in
+    each j l before (among_taken t.lanes n t.marks j lt ∙ ap (λ ms. is_among t.lanes ms j) (sym marks) ∙ ap (λ k. is_among k new.marks j) (sym lanes) ∙ free)
+
+-- what was opened is taken back
+pub touched_back : (t now : Touches) (n k : ℕ) → now.lanes ≡ t.lanes → now.marks ≡ take n (t.marks ++ replicate k false) → n ≡ length t.marks → now ≡ t
+touched_back t now n k lanes marks len =
+    ap (λ f. record now { lanes = f }) lanes
+    ∙ ap (λ ms. record t { marks = ms }) (marks ∙ ap (λ m. take m (t.marks ++ replicate k false)) len ∙ take-append_seam t.marks (replicate k false))

@@ -11,17 +11,17 @@ use Rattle.qs_machine.proofs.ProcessedAgain.{next_twice}
 use Rattle.qs_conn.specs.declared.by_dir.ByDir.{ByDir}
 use Rattle.qs_conn.specs.Ended.{AreAllCounted}
 use Rattle.qs_conn.specs.Settled.{AreNext, AreNextWhere}
-use Rattle.qs_conn.proofs.Settling.{all_settled, nothing_raised}
+use Rattle.qs_conn.proofs.Settling.{raised_once}
 
 -- As a call ends
 
 raised_again : (t : Tables RecvLane) → each raise (each raise t) ≡ each raise t
 unfolding each
 raised_again t = λ i. record {
-  client_bidi = nothing_raised _ (all_settled t.client_bidi) i;
-  server_bidi = nothing_raised _ (all_settled t.server_bidi) i;
-  client_uni = nothing_raised _ (all_settled t.client_uni) i;
-  server_uni = nothing_raised _ (all_settled t.server_uni) i;
+  client_bidi = raised_once t.client_bidi i;
+  server_bidi = raised_once t.server_bidi i;
+  client_uni = raised_once t.client_uni i;
+  server_uni = raised_once t.server_uni i;
 }
 
 pub next_now : (s : Settings) (recvs now : Tables RecvLane) (e : ByDir ℕ) (granted g b u : ℕ) → now ≡ each raise recvs → g ≡ next_limit granted (total taken recvs) s.conn_window → b ≡ min s.lifetime_bidi (s.grant_bidi + e.bidi) → u ≡ min s.lifetime_uni (s.grant_uni + e.uni)

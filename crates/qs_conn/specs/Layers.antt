@@ -3,8 +3,8 @@
 use Rattle.std.specs.Prelude.{◌≡◌, ℕ, zero, suc, ◌≤◌, ◌<◌, ◌^◌, ◌==◌, if◌then◌else◌, List, [], ◌∷◌, length, Option, None, Some, is_some, is_none, ⊤}
 use Rattle.qs_recv.specs.Lane.{RecvLane, is_whole, raised_limit}
 use Rattle.qs_machine.specs.declared.tally.Tally.{Tally}
-use Rattle.qs_conn.specs.declared.recv_lanes.Touched.{Touched}
-use Rattle.qs_conn.specs.declared.recv_lanes.Touched.TheVariants.{Nothing, Lane, Several}
+use Rattle.qs_conn.specs.declared.touches.Touches.{Touches}
+use Rattle.qs_conn.specs.Touches.{AreSettled}
 use Rattle.qs_calls.specs.declared.uses.UseFault.{UseFault}
 use Rattle.qs_calls.specs.declared.uses.UseFault.TheVariants as uses
 use Rattle.qs_calls.specs.declared.closing.Closed.{Closed}
@@ -29,37 +29,12 @@ abbrev pub stop_to_tell : Option RecvLane → Option ℕ
 stop_to_tell None = None
 stop_to_tell (Some lane) = if is_some lane.reset_code then None else (if is_whole lane then None else lane.stop_code)
 
--- the limit is the next one already
-abbrev pub IsSettled : RecvLane → Type 0
-IsSettled lane = raised_limit lane ≡ lane.limit
-
-abbrev pub EachSettled : List RecvLane → Type 0
-EachSettled [] = ⊤
-EachSettled (lane ∷ lanes) = IsSettled lane × EachSettled lanes
-
--- all lanes are settled but perhaps one
-abbrev pub SettledBut : ℕ → List RecvLane → Type 0
-SettledBut i [] = ⊤
-SettledBut zero (lane ∷ lanes) = EachSettled lanes
-SettledBut (suc i) (lane ∷ lanes) = IsSettled lane × SettledBut i lanes
-
--- all lanes are settled but those that were touched
-abbrev pub AreSettled : Touched → List RecvLane → Type 0
-AreSettled Nothing lanes = EachSettled lanes
-AreSettled (Lane i) lanes = SettledBut i lanes
-AreSettled Several lanes = ⊤
-
--- the touched lanes and one more
-abbrev pub touch : Touched → ℕ → Touched
-touch Nothing i = Lane i
-touch (Lane before) i = if before == i then Lane i else Several
-touch Several i = Several
-
 -- the sums are right, and only touched lanes may have a limit to be raised
-pub record AreCounted (lanes : List RecvLane) (tally : Tally) (touched : Touched) : Type 0 where
+pub record AreCounted (lanes : List RecvLane) (tally : Tally) (touched : Touches) : Type 0 where
   pub counted : tally_on lanes ≡ tally
   pub lawful : EachLawful lanes
   pub settled : AreSettled touched lanes
+  pub room : length touched.marks ≡ length lanes
   pub few : length lanes ≤ 2 ^ 60
 
 -- why a stream can't be sent on: the end is closed, or there is no such half

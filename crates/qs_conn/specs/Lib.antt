@@ -1,3 +1,4 @@
+pub mod Touches
 pub mod Layers
 pub mod ByDir
 pub mod Ended

@@ -11,13 +11,15 @@ ghost use Rattle.qs_machine.specs.Verdicts.{or_new};
 ghost use Rattle.qs_machine.specs.Sums.{changed, tally_of, tally_on, stored_on, moved, IsPart, IsPaid, EachLawful};
 ghost use Rattle.qs_conn.specs.Ended.{recv_over};
 ghost use Rattle.qs_conn.specs.Held.{most_held};
-ghost use Rattle.qs_conn.specs.Layers.{limit_to_tell, stop_to_tell, AreSettled, touch};
+ghost use Rattle.qs_conn.specs.Layers.{limit_to_tell, stop_to_tell};
+ghost use Rattle.qs_conn.specs.Touches.{AreSettled};
 ghost use Rattle.qs_machine.specs.News.{IsLeast};
 ghost use Rattle.qs_conn.specs.Marks.{IsAt};
 ghost use Rattle.qs_conn.specs.Untold.{HasMore, IsRaisedMarked, AreRaisedMarked};
 ghost use Rattle.qs_conn.specs.RecvTasks.{HasOne, HasNone};
 
 use crate::recv_marks::{RecvMarks, RecvTask, has};
+use crate::touches::Touches;
 use crate::untold::Untold;
 use qs_calls::RecvReport;
 use qs_machine::Tally;
@@ -29,21 +31,14 @@ use std::marker::Model;
 
 type Half = RecvHalf<RingAssembly>;
 
-/// Which lanes may have a limit that is to be raised.
-#[derive(Clone, Copy, Drop)]
-pub(crate) enum Touched {
-    Nothing,
-    Lane(usize),
-    Several,
-}
-
 /// The receiving halves of the streams of one type, by index.
 #[derive(Drop)]
 pub(crate) struct RecvLanes {
     alloc: Global,
     halves: Vec<Half>,
     tally: Tally,
-    touched: Touched,
+    // A lane that wasn't touched has no limit that is to be raised.
+    touched: Touches,
     // A lane without a mark has no answer for its owner.
     news: RecvMarks,
 }
@@ -78,7 +73,7 @@ impl RecvLanes {
                 taken: 0,
                 stored: 0,
             },
-            touched: Touched::Nothing,
+            touched: Touches::new(alloc),
             news: RecvMarks::new(alloc),
         }
     }
@@ -190,8 +185,13 @@ impl RecvLanes {
                 return Err(NoMemory);
             }
         }
+        if let Err(_refused) = self.touched.open_to(count) {
+            self.halves.truncate(before);
+            return Err(NoMemory);
+        }
         if let Err(_refused) = self.news.open_to(count) {
             self.halves.truncate(before);
+            self.touched.close_to(before);
             return Err(NoMemory);
         }
         Ok(())
@@ -202,10 +202,9 @@ impl RecvLanes {
         ensures { self.new ≡ self.old }
     {
         let missing = count.saturating_sub(self.halves.len());
-        match self.halves.reserve(missing) {
-            Ok(()) => self.news.reserve(count),
-            Err(_refused) => Err(NoMemory),
-        }
+        self.halves.reserve(missing)?;
+        self.touched.reserve(count)?;
+        self.news.reserve(count)
     }
 
     /// Takes the lanes from a count on away, which nothing came for.
@@ -214,6 +213,7 @@ impl RecvLanes {
         ensures { self.new ≡ take count self.old }
     {
         self.halves.truncate(count);
+        self.touched.close_to(count);
         self.news.close_to(count);
     }
 
@@ -246,7 +246,7 @@ impl RecvLanes {
         self.news.look(index, half);
         self.tally = moved(self.tally, was, is);
         if stopped {
-            self.touched = touch(self.touched, index);
+            self.touched.touch(index);
         }
         Ok(())
     }
@@ -291,7 +291,7 @@ impl RecvLanes {
         let is = measure(half);
         self.news.look(index, half);
         self.tally = moved(self.tally, was, is);
-        self.touched = touch(self.touched, index);
+        self.touched.touch(index);
         answer
     }
 
@@ -309,7 +309,7 @@ impl RecvLanes {
         let is = measure(half);
         self.news.look(index, half);
         self.tally = moved(self.tally, was, is);
-        self.touched = touch(self.touched, index);
+        self.touched.touch(index);
     }
 
     /// Whether a lane is in Data Read or Reset Read (RFC 9000, section 3.2).
@@ -362,16 +362,18 @@ impl RecvLanes {
         }
     }
 
-    /// Each limit becomes the next one, and a stream whose limit rises is marked. Only lanes that were touched are looked at; `kind` is
-    /// the type of their streams.
+    /// Each limit becomes the next one, and a stream whose limit rises is marked. Only lanes that were touched are looked at.
+    #[inline]
     pub(crate) fn raise_all(&mut self, stream_type: usize, untold: &mut Untold)
         requires { stream_type < 4 }
         ensures after { self.new ≡ map raise self.old }
         ensures marks { HasMore untold.old untold.new }
         ensures marked { AreRaisedMarked stream_type self.old untold.new }
     {
-        raise_touched(&mut self.halves, self.touched, stream_type, untold);
-        self.touched = Touched::Nothing;
+        if self.touched.is_none() {
+            return;
+        }
+        raise_touched(&mut self.halves, &mut self.touched, stream_type, untold);
     }
 
     /// The least index from one on whose lane has an answer for its owner.
@@ -434,54 +436,28 @@ fn moved(total: Tally, was: Tally, is: Tally) -> Tally
     }
 }
 
-// One lane more was touched.
-fn touch(touched: Touched, index: usize) -> Touched
-    ensures { result ≡ touch touched index }
-{
-    match touched {
-        Touched::Nothing => Touched::Lane(index),
-        Touched::Lane(before) if before == index => Touched::Lane(index),
-        _ => Touched::Several,
-    }
-}
-
-fn raise_touched(halves: &mut Vec<Half>, touched: Touched, stream_type: usize, untold: &mut Untold)
+// Each lane that was touched gets the next limit, and none is touched any more. It stands apart, so that where none was a caller pays for
+// the look at that alone.
+#[inline(never)]
+fn raise_touched(
+    halves: &mut Vec<Half>,
+    touched: &mut Touches,
+    stream_type: usize,
+    untold: &mut Untold,
+)
     requires stream_type { stream_type < 4 }
     requires few { length halves.old.items ≤ 2 ^ 60 }
-    requires settled { AreSettled touched halves.old.items }
+    requires settled { AreSettled touched.old halves.old.items }
     ensures after { halves.new.items ≡ map raise halves.old.items }
+    ensures room { length touched.new.marks ≡ length touched.old.marks }
+    ensures settled { AreSettled touched.new halves.new.items }
     ensures marks { HasMore untold.old untold.new }
     ensures marked { AreRaisedMarked stream_type halves.old.items untold.new }
 {
-    match touched {
-        Touched::Nothing => {}
-        Touched::Lane(index) => raise_one(halves, index, stream_type, untold),
-        Touched::Several => raise_each(halves, stream_type, untold),
-    }
-}
-
-#[tactic(auto, using(crate::proofs::Untolds::has_same, crate::proofs::LaneMarks::raised_past))]
-fn raise_one(halves: &mut Vec<Half>, index: usize, stream_type: usize, untold: &mut Untold)
-    requires stream_type { stream_type < 4 }
-    requires few { length halves.old.items ≤ 2 ^ 60 }
-    ensures after { halves.new.items ≡ changed halves.old.items index raise (slice_get halves.old.items index) }
-    ensures marks { HasMore untold.old untold.new }
-    ensures marked { IsRaisedMarked stream_type halves.old.items untold.new index }
-{
-    if index < halves.len() {
-        raise_at(halves, index, stream_type, untold);
-    }
-}
-
-fn raise_each(halves: &mut Vec<Half>, stream_type: usize, untold: &mut Untold)
-    requires stream_type { stream_type < 4 }
-    requires few { length halves.old.items ≤ 2 ^ 60 }
-    ensures after { halves.new.items ≡ map raise halves.old.items }
-    ensures marks { HasMore untold.old untold.new }
-    ensures marked { AreRaisedMarked stream_type halves.old.items untold.new }
-{
-    for index in 0..halves.len() {
-        raise_at(halves, index, stream_type, untold);
+    while let Some(index) = touched.pop() {
+        if index < halves.len() {
+            raise_at(halves, index, stream_type, untold);
+        }
     }
 }
 

@@ -25,6 +25,7 @@ mod slot;
 mod stream_values;
 mod told;
 mod told_index;
+mod touches;
 mod untold;
 
 pub use endpoint::Endpoint;

@@ -3,6 +3,7 @@
 use crate::shim::Vec;
 
 use crate::proved::qs_conn::recv_marks::{RecvMarks, RecvTask, has};
+use crate::proved::qs_conn::touches::Touches;
 use crate::proved::qs_conn::untold::Untold;
 use crate::proved::qs_calls::RecvReport;
 use crate::proved::qs_machine::Tally;
@@ -13,20 +14,13 @@ use crate::shim::alloc::Global;
 
 type Half = RecvHalf<RingAssembly>;
 
-/// Which lanes may have a limit that is to be raised.
-#[derive(Clone, Copy)]
-pub(crate) enum Touched {
-    Nothing,
-    Lane(usize),
-    Several,
-}
-
 /// The receiving halves of the streams of one type, by index.
 pub(crate) struct RecvLanes {
     alloc: Global,
     halves: Vec<Half>,
     tally: Tally,
-    touched: Touched,
+    // A lane that wasn't touched has no limit that is to be raised.
+    touched: Touches,
     // A lane without a mark has no answer for its owner.
     news: RecvMarks,
 }
@@ -41,7 +35,7 @@ impl RecvLanes {
                 taken: 0,
                 stored: 0,
             },
-            touched: Touched::Nothing,
+            touched: Touches::new(alloc),
             news: RecvMarks::new(alloc),
         }
     }
@@ -131,8 +125,13 @@ impl RecvLanes {
                 return Err(NoMemory);
             }
         }
+        if let Err(_refused) = self.touched.open_to(count) {
+            self.halves.truncate(before);
+            return Err(NoMemory);
+        }
         if let Err(_refused) = self.news.open_to(count) {
             self.halves.truncate(before);
+            self.touched.close_to(before);
             return Err(NoMemory);
         }
         Ok(())
@@ -141,15 +140,15 @@ impl RecvLanes {
     /// Takes the memory for the lanes of all indexes below a count, and opens none.
     pub(crate) fn reserve_to(&mut self, count: usize) -> Result<(), NoMemory> {
         let missing = count.saturating_sub(self.halves.len());
-        match self.halves.reserve(missing) {
-            Ok(()) => self.news.reserve(count),
-            Err(_refused) => Err(NoMemory),
-        }
+        self.halves.reserve(missing)?;
+        self.touched.reserve(count)?;
+        self.news.reserve(count)
     }
 
     /// Takes the lanes from a count on away, which nothing came for.
     pub(crate) fn close_to(&mut self, count: usize) {
         self.halves.truncate(count);
+        self.touched.close_to(count);
         self.news.close_to(count);
     }
 
@@ -171,7 +170,7 @@ impl RecvLanes {
         self.news.look(index, half);
         self.tally = moved(self.tally, was, is);
         if stopped {
-            self.touched = touch(self.touched, index);
+            self.touched.touch(index);
         }
         Ok(())
     }
@@ -200,7 +199,7 @@ impl RecvLanes {
         let is = measure(half);
         self.news.look(index, half);
         self.tally = moved(self.tally, was, is);
-        self.touched = touch(self.touched, index);
+        self.touched.touch(index);
         answer
     }
 
@@ -213,7 +212,7 @@ impl RecvLanes {
         let is = measure(half);
         self.news.look(index, half);
         self.tally = moved(self.tally, was, is);
-        self.touched = touch(self.touched, index);
+        self.touched.touch(index);
     }
 
     /// Whether a lane is in Data Read or Reset Read (RFC 9000, section 3.2).
@@ -256,12 +255,14 @@ impl RecvLanes {
         }
     }
 
-    /// Each limit becomes the next one, and a stream whose limit rises is marked. Only lanes that were touched are looked at; `kind` is
-    /// the type of their streams.
+    /// Each limit becomes the next one, and a stream whose limit rises is marked. Only lanes that were touched are looked at.
+    #[inline]
     pub(crate) fn raise_all(&mut self, stream_type: usize, untold: &mut Untold) {
         debug_assert!(stream_type < 4);
-        raise_touched(&mut self.halves, self.touched, stream_type, untold);
-        self.touched = Touched::Nothing;
+        if self.touched.is_none() {
+            return;
+        }
+        raise_touched(&mut self.halves, &mut self.touched, stream_type, untold);
     }
 
     /// The least index from one on whose lane has an answer for its owner.
@@ -306,35 +307,20 @@ fn moved(total: Tally, was: Tally, is: Tally) -> Tally {
     }
 }
 
-// One lane more was touched.
-fn touch(touched: Touched, index: usize) -> Touched {
-    match touched {
-        Touched::Nothing => Touched::Lane(index),
-        Touched::Lane(before) if before == index => Touched::Lane(index),
-        _ => Touched::Several,
-    }
-}
-
-fn raise_touched(halves: &mut Vec<Half>, touched: Touched, stream_type: usize, untold: &mut Untold) {
+// Each lane that was touched gets the next limit, and none is touched any more. It stands apart, so that where none was a caller pays for
+// the look at that alone.
+#[inline(never)]
+fn raise_touched(
+    halves: &mut Vec<Half>,
+    touched: &mut Touches,
+    stream_type: usize,
+    untold: &mut Untold,
+) {
     debug_assert!(stream_type < 4);
-    match touched {
-        Touched::Nothing => {}
-        Touched::Lane(index) => raise_one(halves, index, stream_type, untold),
-        Touched::Several => raise_each(halves, stream_type, untold),
-    }
-}
-
-fn raise_one(halves: &mut Vec<Half>, index: usize, stream_type: usize, untold: &mut Untold) {
-    debug_assert!(stream_type < 4);
-    if index < halves.len() {
-        raise_at(halves, index, stream_type, untold);
-    }
-}
-
-fn raise_each(halves: &mut Vec<Half>, stream_type: usize, untold: &mut Untold) {
-    debug_assert!(stream_type < 4);
-    for index in 0..halves.len() {
-        raise_at(halves, index, stream_type, untold);
+    while let Some(index) = touched.pop() {
+        if index < halves.len() {
+            raise_at(halves, index, stream_type, untold);
+        }
     }
 }
 

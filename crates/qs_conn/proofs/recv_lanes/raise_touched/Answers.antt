@@ -1,20 +1,34 @@
-use Rattle.std.proofs.Common.{sym, ◌∙◌}
-use Rattle.qs_conn.proofs.LaneMarks.{raised_nothing, raised_but}
-use Rattle.qs_conn.proofs.Settling.{nothing_raised, one_raised}
-use Rattle.qs_conn.proofs.Untolds.{has_same}
+use Rattle.std.proofs.Common.{◌∙◌, refl, ◌<◌, length, arith}
+use Rattle.qs_conn.proofs.LaneMarks.{none_yet, one_more, past_more, all_raised, all_marked, still_settled}
+use Rattle.qs_conn.proofs.Untolds.{has_same, has_twice}
 use Rattle.qs_conn.proofs.recv_lanes.raise_touched.Goals as goal
 
-pub returns-in-Nothing-clause-after : goal.returns-in-Nothing-clause-after
-returns-in-Nothing-clause-after c = sym (nothing_raised c.args.halves.now.items (rw c.in-Nothing.is at c.requires.settled))
+pub loop-index-init : goal.loop-index-init
+loop-index-init c = record { far = none_yet c.args.stream_type c.args.halves.now.items c.args.touched.now c.args.untold.now c.requires.settled; room = refl; more = has_same c.args.untold.now }
 
-pub returns-in-Nothing-clause-marks : goal.returns-in-Nothing-clause-marks
-returns-in-Nothing-clause-marks c = has_same c.args.untold.now
+pub loop-index-preserved-then-index-len : goal.loop-index-preserved-then-index-len
+loop-index-preserved-then-index-len c =
+    let there : c.in-Some.index < length c.loop-index.halves.items = omega (arith, c.if-index-len.true, c.len.ensures) in
+    record {
+      far = one_more c.args.stream_type c.args.halves.now.items c.loop-index.halves.items c.raise_at.new.halves.items c.loop-index.touched c.pop.new.self c.loop-index.untold c.raise_at.new.untold c.in-Some.index c.loop-index.invariant.far there c.in-Some.ensures.taken c.raise_at.ensures.after
+          c.raise_at.ensures.marks c.raise_at.ensures.marked;
+      room = c.in-Some.ensures.len ∙ c.loop-index.invariant.room;
+      more = has_twice c.args.untold.now c.loop-index.untold c.raise_at.new.untold c.loop-index.invariant.more c.raise_at.ensures.marks;
+    }
 
-pub returns-in-Nothing-clause-marked : goal.returns-in-Nothing-clause-marked
-returns-in-Nothing-clause-marked c = raised_nothing c.args.stream_type c.args.halves.now.items c.args.untold.now (rw c.in-Nothing.is at c.requires.settled)
+pub loop-index-preserved : goal.loop-index-preserved
+loop-index-preserved c =
+    record {
+      far = past_more c.args.stream_type c.args.halves.now.items c.loop-index.halves.items c.loop-index.touched c.pop.new.self c.loop-index.untold c.in-Some.index c.loop-index.invariant.far (omega (arith, c.if-index-len.false, c.len.ensures)) c.in-Some.ensures.taken;
+      room = c.in-Some.ensures.len ∙ c.loop-index.invariant.room;
+      more = c.loop-index.invariant.more;
+    }
 
-pub returns-in-Lane-clause-after : goal.returns-in-Lane-clause-after
-returns-in-Lane-clause-after c = c.raise_one.ensures.after ∙ sym (one_raised c.args.halves.now.items c.in-Lane.index (rw c.in-Lane.is at c.requires.settled))
+pub returns-clause-after : goal.returns-clause-after
+returns-clause-after c = all_raised c.args.stream_type c.args.halves.now.items c.loop-index.halves.items c.loop-index.touched c.loop-index.untold c.loop-index.invariant.far c.in_default.ensures.taken
 
-pub returns-in-Lane-clause-marked : goal.returns-in-Lane-clause-marked
-returns-in-Lane-clause-marked c = raised_but c.args.stream_type c.args.halves.now.items c.raise_one.new.untold c.in-Lane.index (rw c.in-Lane.is at c.requires.settled) c.raise_one.ensures.marked
+pub returns-clause-settled : goal.returns-clause-settled
+returns-clause-settled c = rw (all_raised c.args.stream_type c.args.halves.now.items c.loop-index.halves.items c.loop-index.touched c.loop-index.untold c.loop-index.invariant.far c.in_default.ensures.taken) (still_settled c.args.halves.now.items c.pop.new.self)
+
+pub returns-clause-marked : goal.returns-clause-marked
+returns-clause-marked c = all_marked c.args.stream_type c.args.halves.now.items c.loop-index.halves.items c.loop-index.touched c.loop-index.untold c.loop-index.invariant.far c.in_default.ensures.taken

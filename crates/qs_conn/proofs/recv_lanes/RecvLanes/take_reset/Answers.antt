@@ -1,4 +1,4 @@
-use Rattle.std.proofs.Common.{◌<◌, length}
+use Rattle.std.proofs.Common.{◌<◌, length, refl}
 use Rattle.qs_conn.proofs.RecvNews.{noted_there, noted_again}
 use Rattle.qs_conn.proofs.LaneEdits.{paid_of, edited, changed_at}
 use Rattle.qs_conn.proofs.Settling.{are_kept, reset_settled}
@@ -15,7 +15,7 @@ invariant_of-self c =
     let there : c.args.index < length c.self.inside.halves.items = rw c.self.view_is c.requires.there in (
       edited _ _ _ _ _ _ _ _ _ _ there c.index_mut-half.ensures.value c.self.invariant.0 c.measure-was.ensures.value c.measure-is.ensures.value c.moved-self-inside.ensures c.measure-is.ensures.lawful
           (are_kept c.self.inside.touched c.self.inside.halves.items c.args.index c.index_mut-half.result.now c.take_reset.new.self c.index_mut-half.ensures.value
-          (λ was. rw c.take_reset.ensures.after (reset_settled c.index_mut-half.result.now c.args.code c.args.size was)) c.self.invariant.0.settled),
+          (λ was. rw c.take_reset.ensures.after (reset_settled c.index_mut-half.result.now c.args.code c.args.size was)) c.self.invariant.0.settled) refl,
       noted_again c.self.inside.halves.items c.self.inside.news _ c.args.index c.take_reset.new.self c.look.ensures c.self.invariant.1,
     )
 

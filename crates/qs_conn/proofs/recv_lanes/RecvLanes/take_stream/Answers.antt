@@ -1,4 +1,4 @@
-use Rattle.std.proofs.Common.{is_some, ap, ◌∙◌, sym, subst, ◌<◌, length}
+use Rattle.std.proofs.Common.{is_some, ap, ◌∙◌, sym, subst, ◌<◌, length, refl, arith}
 use Rattle.std.proofs.lemmas.List.{get_or_default}
 use Rattle.qs_recv.specs.Lane.{RecvLane, new_lane}
 use Rattle.qs_machine.specs.Memory.{HasNews}
@@ -13,11 +13,14 @@ look-requires c = noted_there c.self.inside.halves.items c.self.inside.news c.ar
 pub moved-self-inside-requires-clause-paid : goal.moved-self-inside-requires-clause-paid
 moved-self-inside-requires-clause-paid c = paid_of _ _ _ c.self.invariant.0
 
+pub touch-requires : goal.touch-requires
+touch-requires c = let there : c.args.index < length c.self.inside.halves.items = rw c.self.view_is c.requires.there in omega (arith, c.self.invariant.0.room, there)
+
 pub invariant_of-self-then-stopped : goal.invariant_of-self-then-stopped
 invariant_of-self-then-stopped c =
     let there : c.args.index < length c.self.inside.halves.items = rw c.self.view_is c.requires.there in (
       edited _ _ _ _ _ _ _ _ _ _ there c.index_mut-half.ensures.value c.self.invariant.0 c.measure-was.ensures.value c.measure-is.ensures.value c.moved-self-inside.ensures c.measure-is.ensures.lawful
-          (rw c.touch-self-inside.ensures (are_touched c.self.inside.touched c.self.inside.halves.items c.args.index c.take_stream.new.self c.self.invariant.0.settled)),
+          (are_touched c.self.inside.touched c.touch.new.self c.self.inside.halves.items c.args.index c.take_stream.new.self c.self.invariant.0.room c.touch.ensures.touched c.self.invariant.0.settled) c.touch.ensures.len,
       noted_again c.self.inside.halves.items c.self.inside.news _ c.args.index c.take_stream.new.self c.look.ensures c.self.invariant.1,
     )
 
@@ -27,7 +30,7 @@ invariant_of-self-else-stopped c =
     let no_stop = sym (ap is_some c.stop_code.ensures.value) ∙ sym c.is_some-stopped.ensures ∙ c.if-stopped.false in (
       edited _ _ _ _ _ _ _ _ _ _ there c.index_mut-half.ensures.value c.self.invariant.0 c.measure-was.ensures.value c.measure-is.ensures.value c.moved-self-inside.ensures c.measure-is.ensures.lawful
           (are_kept c.self.inside.touched c.self.inside.halves.items c.args.index c.index_mut-half.result.now c.take_stream.new.self c.index_mut-half.ensures.value
-          (λ was. rw c.in_default.ensures.taken (stream_settled c.index_mut-half.result.now c.args.offset c.args.bytes.now c.args.fin c.measure-was.ensures.lawful no_stop was)) c.self.invariant.0.settled),
+          (λ was. rw c.in_default.ensures.taken (stream_settled c.index_mut-half.result.now c.args.offset c.args.bytes.now c.args.fin c.measure-was.ensures.lawful no_stop was)) c.self.invariant.0.settled) refl,
       noted_again c.self.inside.halves.items c.self.inside.news _ c.args.index c.take_stream.new.self c.look.ensures c.self.invariant.1,
     )
 

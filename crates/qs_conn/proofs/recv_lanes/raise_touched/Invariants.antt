@@ -1,0 +1,16 @@
+use Rattle.qs_conn.specs.Touches.{times_noted}
+use Rattle.qs_conn.specs.Untold.{HasMore}
+use Rattle.qs_conn.proofs.LaneMarks.{AreRaisedSoFar}
+use Rattle.std.proofs.Common.{◌≡◌, length}
+use Rattle.qs_conn.proofs.recv_lanes.raise_touched.Given as goal
+
+abbrev pub invariant-loop-index : goal.invariant-loop-index
+invariant-loop-index l =
+    record {
+      far : AreRaisedSoFar l.stream_type l.fn.halves.items l.halves.items l.touched l.untold;
+      room : length l.touched.marks ≡ length l.fn.touched.marks;
+      more : HasMore l.fn.untold l.untold;
+    }
+
+abbrev pub decreases-loop-index : goal.decreases-loop-index
+decreases-loop-index l = times_noted l.touched

@@ -1,0 +1,125 @@
+//! Which receiving lanes of one type may have a limit that is to be raised.
+ghost use Rattle.std.specs.Prelude.{◌≡◌, ◌++◌, ◌-◌, ◌<◌, [], ℕ, true, false, length, take, replicate, IfSome, OnOk, OnErr};
+ghost use Rattle.qs_conn.specs.declared.touches.Touched.TheVariants as touched;
+ghost use Rattle.qs_conn.specs.Touches.{is_touched, times_noted, IsTaken};
+
+use crate::marks::Marks;
+use qs_ranges::NoMemory;
+use std::alloc::Global;
+
+/// How many lanes were touched: none, one, or those that are marked.
+#[derive(Clone, Copy, Drop)]
+pub(crate) enum Touched {
+    Nothing,
+    Lane(usize),
+    Several,
+}
+
+/// The lanes that were touched since limits were raised last. Mostly it is one; where there are more each has a mark, so raising limits
+/// costs what was touched, however many lanes there are.
+#[derive(Drop)]
+pub(crate) struct Touches {
+    lanes: Touched,
+    marks: Marks,
+}
+
+impl Touches {
+    /// No lane was touched.
+    pub(crate) fn new(alloc: Global) -> Self
+        ensures lanes { result.lanes ≡ touched.Nothing }
+        ensures marks { result.marks ≡ [] }
+    {
+        Touches {
+            lanes: Touched::Nothing,
+            marks: Marks::new(alloc),
+        }
+    }
+
+    /// Takes the memory for the indexes below a count.
+    pub(crate) fn reserve(&mut self, count: usize) -> Result<(), NoMemory>
+        ensures { self.new ≡ self.old }
+    {
+        self.marks.reserve(count)
+    }
+
+    /// Makes room for all indexes below a count: the new ones weren't touched.
+    pub(crate) fn open_to(&mut self, count: usize) -> Result<(), NoMemory>
+        ensures lanes { self.new.lanes ≡ self.old.lanes }
+        ensures ok { OnOk result (self.new.marks ≡ self.old.marks ++ replicate (count - length self.old.marks) false) }
+        ensures err { OnErr result (self.new ≡ self.old) }
+    {
+        self.marks.open_to(count)
+    }
+
+    /// Takes the indexes from a count on away.
+    pub(crate) fn close_to(&mut self, count: usize)
+        ensures lanes { self.new.lanes ≡ self.old.lanes }
+        ensures marks { self.new.marks ≡ take count self.old.marks }
+    {
+        self.marks.close_to(count);
+    }
+
+    /// Whether no lane was touched.
+    pub(crate) fn is_none(&self) -> bool
+        ensures { result ≡ true → (i : ℕ) → is_touched self.now i ≡ false }
+    {
+        matches!(self.lanes, Touched::Nothing)
+    }
+
+    /// A lane is touched.
+    #[inline]
+    pub(crate) fn touch(&mut self, index: usize)
+        requires { index < length self.old.marks }
+        ensures len { length self.new.marks ≡ length self.old.marks }
+        ensures touched { (i : ℕ) → i < length self.old.marks → is_touched self.new i ≡ false → (is_touched self.old i ≡ false) × (i ≡ index → ⊥) }
+    {
+        match self.lanes {
+            Touched::Nothing => self.lanes = Touched::Lane(index),
+            Touched::Lane(before) if before == index => {}
+            Touched::Lane(before) => {
+                if before < self.marks.len() {
+                    self.marks.set(before, true);
+                }
+                self.marks.set(index, true);
+                self.lanes = Touched::Several;
+            }
+            Touched::Several => self.marks.set(index, true),
+        }
+    }
+
+    /// A lane that was touched, which isn't any more; `None` where none is left.
+    #[inline]
+    pub(crate) fn pop(&mut self) -> Option<usize>
+        ensures len { length self.new.marks ≡ length self.old.marks }
+        ensures taken { IsTaken self.old result self.new }
+        ensures fewer { IfSome result (λ k. times_noted self.new < times_noted self.old) }
+    {
+        match self.lanes {
+            Touched::Nothing => None,
+            Touched::Lane(index) => {
+                self.lanes = Touched::Nothing;
+                Some(index)
+            }
+            Touched::Several => self.pop_marked(),
+        }
+    }
+
+    // The least of several.
+    fn pop_marked(&mut self) -> Option<usize>
+        requires { self.old.lanes ≡ touched.Several }
+        ensures len { length self.new.marks ≡ length self.old.marks }
+        ensures taken { IsTaken self.old result self.new }
+        ensures fewer { IfSome result (λ k. times_noted self.new < times_noted self.old) }
+    {
+        match self.marks.next(0) {
+            Some(index) => {
+                self.marks.set(index, false);
+                Some(index)
+            }
+            None => {
+                self.lanes = Touched::Nothing;
+                None
+            }
+        }
+    }
+}

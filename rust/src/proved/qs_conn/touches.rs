@@ -1,0 +1,95 @@
+// Made from crates/qs_conn/src/touches.rt by rust/erase; not edited by hand.
+//! Which receiving lanes of one type may have a limit that is to be raised.
+
+use crate::proved::qs_conn::marks::Marks;
+use crate::proved::qs_ranges::NoMemory;
+use crate::shim::alloc::Global;
+
+/// How many lanes were touched: none, one, or those that are marked.
+#[derive(Clone, Copy)]
+pub(crate) enum Touched {
+    Nothing,
+    Lane(usize),
+    Several,
+}
+
+/// The lanes that were touched since limits were raised last. Mostly it is one; where there are more each has a mark, so raising limits
+/// costs what was touched, however many lanes there are.
+pub(crate) struct Touches {
+    lanes: Touched,
+    marks: Marks,
+}
+
+impl Touches {
+    /// No lane was touched.
+    pub(crate) fn new(alloc: Global) -> Self {
+        Touches {
+            lanes: Touched::Nothing,
+            marks: Marks::new(alloc),
+        }
+    }
+
+    /// Takes the memory for the indexes below a count.
+    pub(crate) fn reserve(&mut self, count: usize) -> Result<(), NoMemory> {
+        self.marks.reserve(count)
+    }
+
+    /// Makes room for all indexes below a count: the new ones weren't touched.
+    pub(crate) fn open_to(&mut self, count: usize) -> Result<(), NoMemory> {
+        self.marks.open_to(count)
+    }
+
+    /// Takes the indexes from a count on away.
+    pub(crate) fn close_to(&mut self, count: usize) {
+        self.marks.close_to(count);
+    }
+
+    /// Whether no lane was touched.
+    pub(crate) fn is_none(&self) -> bool {
+        matches!(self.lanes, Touched::Nothing)
+    }
+
+    /// A lane is touched.
+    #[inline]
+    pub(crate) fn touch(&mut self, index: usize) {
+        match self.lanes {
+            Touched::Nothing => self.lanes = Touched::Lane(index),
+            Touched::Lane(before) if before == index => {}
+            Touched::Lane(before) => {
+                if before < self.marks.len() {
+                    self.marks.set(before, true);
+                }
+                self.marks.set(index, true);
+                self.lanes = Touched::Several;
+            }
+            Touched::Several => self.marks.set(index, true),
+        }
+    }
+
+    /// A lane that was touched, which isn't any more; `None` where none is left.
+    #[inline]
+    pub(crate) fn pop(&mut self) -> Option<usize> {
+        match self.lanes {
+            Touched::Nothing => None,
+            Touched::Lane(index) => {
+                self.lanes = Touched::Nothing;
+                Some(index)
+            }
+            Touched::Several => self.pop_marked(),
+        }
+    }
+
+    // The least of several.
+    fn pop_marked(&mut self) -> Option<usize> {
+        match self.marks.next(0) {
+            Some(index) => {
+                self.marks.set(index, false);
+                Some(index)
+            }
+            None => {
+                self.lanes = Touched::Nothing;
+                None
+            }
+        }
+    }
+}
