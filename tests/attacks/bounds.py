@@ -190,8 +190,8 @@ BOUNDS = {
         sizes=(64, 256, 1024),
         heap=2700 * 1024,
         heap_why="a half of each stream that isn't over, with a buffer or a ring",
-        growth=1.1,
-        growth_why="from half to half: it is to fall to 0.5",
-        count=92_000,
+        growth=0.6,
+        growth_why="one word of each half's marks for 64 streams",
+        count=800,
     ),
 }

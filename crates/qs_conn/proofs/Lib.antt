@@ -49,6 +49,7 @@ pub mod ToldLaws
 pub mod Untolds
 pub mod Marked
 pub mod Words
+pub mod Boths
 pub mod Summed
 pub mod Most
 pub mod Tasks

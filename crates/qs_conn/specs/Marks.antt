@@ -1,6 +1,6 @@
 -- Of private contracts.
 -- Which streams may have something to send or to tell: a mark for each index, and streams that have nothing.
-use Rattle.std.specs.Prelude.{◌≡◌, ℕ, ◌+◌, ◌*◌, ◌/◌, ◌^◌, ◌≤◌, ◌<◌, length, Bool, true, false, List, [], ◌∷◌, slice_index_or, slice_get, min, Option, None, Some, ⊤}
+use Rattle.std.specs.Prelude.{◌≡◌, ℕ, ◌+◌, ◌*◌, ◌/◌, ◌^◌, ◌≤◌, ◌<◌, length, Bool, true, false, ◌&&◌, List, [], ◌∷◌, slice_index_or, slice_get, min, Option, None, Some, ⊤}
 pub use Rattle.qs_ranges.specs.Bits.{IsBefore}
 use Rattle.qs_machine.specs.Tables.{Tables, type_of, lookup}
 use Rattle.qs_send.specs.declared.piece.Item.{Item}
@@ -13,6 +13,12 @@ use Rattle.qs_conn.specs.Filling.{slot_of}
 -- whether an index is marked
 abbrev pub is_marked : List Bool → ℕ → Bool
 is_marked marks i = slice_index_or marks i false
+
+-- the indexes that are marked in both lists
+abbrev pub both : List Bool → List Bool → List Bool
+both [] others = []
+both (m ∷ marks) [] = []
+both (m ∷ marks) (o ∷ others) = (m && o) ∷ both marks others
 
 -- each part that isn't marked has the property
 abbrev pub AreMarked : {X : Type 0} → (X → Type 0) → List X → List Bool → Type 0
@@ -48,6 +54,10 @@ IsAt {X} P xs i = (x : X) × (slice_get xs i ≡ Some x) × P x
 -- a stream of a type is open, and what is kept of it has the property
 abbrev pub IsHeldOf : {X : Type 0} → (X → Type 0) → Tables X → ℕ → ℕ → Type 0
 IsHeldOf {X} P t kind n = (type_of n ≡ kind) × IsHeld P t n
+
+-- a stream of a type without a mark doesn't have the property
+abbrev pub AreEndsMarked : {X : Type 0} → (X → Type 0) → Tables X → ℕ → List Bool → Type 0
+AreEndsMarked {X} P t kind marks = (n : ℕ) → type_of n ≡ kind → is_marked marks (n / 4) ≡ false → IsHeld P t n → ⊥
 
 -- a stream of a type that is over
 abbrev pub IsEndedOf : End → ℕ → ℕ → Type 0

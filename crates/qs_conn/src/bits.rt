@@ -1,7 +1,7 @@
 //! Flags of indexes, as bits of words.
 ghost use Rattle.std.specs.Prelude.{◌≡◌, ◌++◌, ◌-◌, ◌<◌, ◌==◌, ◌^◌, [], false, length, take, slice_set, replicate, OnOk, OnErr};
 ghost use Rattle.std.specs.Int.{bit_at};
-ghost use Rattle.qs_conn.specs.Marks.{IsNextMark, IsNextInWord, is_marked};
+ghost use Rattle.qs_conn.specs.Marks.{IsNextMark, IsNextInWord, is_marked, both};
 ghost use Rattle.qs_conn.specs.Words.{IsCutAt};
 
 use qs_ranges::{NoMemory, lowest_bit, with_bit};
@@ -133,6 +133,38 @@ impl Bits {
         let mut bit = from % FLAGS_PER_WORD;
         for place in from / FLAGS_PER_WORD..self.words.len() {
             if let Some(marked) = lowest_bit(self.words[place], bit) {
+                return Some(place * FLAGS_PER_WORD + marked);
+            }
+            bit = 0;
+        }
+        None
+    }
+}
+
+impl Bits {
+    /// The least index from one on that is marked here and there, in the word of that index.
+    pub(crate) fn next_both_in_word(&self, others: &Bits, from: usize) -> Option<usize>
+        ensures { IsNextInWord (both self.now others.now) from result }
+    {
+        let place = from / FLAGS_PER_WORD;
+        if place >= self.words.len().min(others.words.len()) {
+            return None;
+        }
+        let word = self.words[place] & others.words[place];
+        match lowest_bit(word, from % FLAGS_PER_WORD) {
+            Some(marked) => Some(place * FLAGS_PER_WORD + marked),
+            None => None,
+        }
+    }
+
+    /// The least index from one on that is marked here and there.
+    pub(crate) fn next_both(&self, others: &Bits, from: usize) -> Option<usize>
+        ensures { IsNextMark (both self.now others.now) from result }
+    {
+        let mut bit = from % FLAGS_PER_WORD;
+        for place in from / FLAGS_PER_WORD..self.words.len().min(others.words.len()) {
+            let word = self.words[place] & others.words[place];
+            if let Some(marked) = lowest_bit(word, bit) {
                 return Some(place * FLAGS_PER_WORD + marked);
             }
             bit = 0;

@@ -1,6 +1,6 @@
 //! Which streams of one type may have something to send or to tell.
 ghost use Rattle.std.specs.Prelude.{◌≡◌, ◌++◌, ◌*◌, ◌-◌, ◌<◌, ◌^◌, [], true, false, length, take, slice_set, replicate, OnOk, OnErr};
-ghost use Rattle.qs_conn.specs.Marks.{is_marked, IsNextMark, HasNoMark, least_of};
+ghost use Rattle.qs_conn.specs.Marks.{is_marked, IsNextMark, HasNoMark, least_of, both};
 ghost use Rattle.qs_conn.specs.Untold.{IsClear};
 
 use crate::bits::{Bits, FLAGS_PER_WORD};
@@ -141,6 +141,26 @@ impl Marks {
         let mut next = from / FLAGS_PER_WORD + 1;
         while let Some(word) = self.words.next(next) {
             if let Some(index) = self.marks.next_in_word(word * FLAGS_PER_WORD) {
+                return Some(index);
+            }
+            next = word + 1;
+        }
+        None
+    }
+}
+
+impl Marks {
+    /// The least index from one on that is marked here and there.
+    pub(crate) fn next_both(&self, others: &Marks, from: usize) -> Option<usize>
+        ensures { IsNextMark (both self.now others.now) from result }
+    {
+        if let Some(index) = self.marks.next_both_in_word(&others.marks, from) {
+            return Some(index);
+        }
+        let mut next = from / FLAGS_PER_WORD + 1;
+        while let Some(word) = self.words.next_both(&others.words, next) {
+            let first = word * FLAGS_PER_WORD;
+            if let Some(index) = self.marks.next_both_in_word(&others.marks, first) {
                 return Some(index);
             }
             next = word + 1;

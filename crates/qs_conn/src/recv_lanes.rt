@@ -14,10 +14,12 @@ ghost use Rattle.qs_conn.specs.Held.{most_held};
 ghost use Rattle.qs_conn.specs.Layers.{limit_to_tell, stop_to_tell};
 ghost use Rattle.qs_conn.specs.Touches.{AreSettled};
 ghost use Rattle.qs_machine.specs.News.{IsLeast};
-ghost use Rattle.qs_conn.specs.Marks.{IsAt};
+ghost use Rattle.qs_conn.specs.Marks.{AreMarked, IsAt};
+ghost use Rattle.qs_conn.specs.declared.recv_marks.RecvTask.TheVariants as tasks;
 ghost use Rattle.qs_conn.specs.Untold.{HasMore, IsRaisedMarked, AreRaisedMarked};
 ghost use Rattle.qs_conn.specs.RecvTasks.{HasOne, HasNone};
 
+use crate::marks::Marks;
 use crate::recv_marks::{RecvMarks, RecvTask, has};
 use crate::touches::Touches;
 use crate::untold::Untold;
@@ -374,6 +376,14 @@ impl RecvLanes {
             return;
         }
         raise_touched(&mut self.halves, &mut self.touched, stream_type, untold);
+    }
+
+    /// The marks of the lanes that may have come to their end. One without a mark hasn't.
+    pub(crate) fn ended_marks(&self) -> &Marks
+        ensures none { AreMarked (HasNone tasks.Ended) self.now result.now }
+        ensures few { length result.now ≤ 2 ^ 60 }
+    {
+        self.news.ended()
     }
 
     /// The least index from one on whose lane has an answer for its owner.

@@ -83,6 +83,13 @@ impl RecvMarks {
         self.readable.has(index) || self.ended.has(index)
     }
 
+    /// The marks of those that came to their end.
+    pub(crate) fn ended(&self) -> &Marks
+        ensures { result.now ≡ self.now.ended }
+    {
+        &self.ended
+    }
+
     /// The least marked index from one on.
     pub(crate) fn next(&self, task: RecvTask, from: usize) -> Option<usize>
         ensures { IsNextMark (marks_of self.now task) from result }

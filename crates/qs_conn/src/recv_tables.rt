@@ -11,11 +11,12 @@ ghost use Rattle.qs_conn.specs.Ended.{recv_over};
 ghost use Rattle.qs_conn.specs.Held.{most_held};
 ghost use Rattle.qs_conn.specs.Layers.{limit_to_tell, stop_to_tell};
 ghost use Rattle.qs_machine.specs.News.{IsLeast, IsHeld};
-ghost use Rattle.qs_conn.specs.Marks.{IsHeldOf};
+ghost use Rattle.qs_conn.specs.Marks.{IsHeldOf, AreEndsMarked};
+ghost use Rattle.qs_conn.specs.declared.recv_marks.RecvTask.TheVariants as tasks;
 ghost use Rattle.qs_conn.specs.Untold.{HasMore};
 ghost use Rattle.qs_conn.specs.RecvTasks.{HasOne, HasNone};
 
-use crate::marks::least;
+use crate::marks::{Marks, least};
 use crate::places::{index_from, index_of, type_of};
 use crate::recv_lanes::RecvLanes;
 use crate::recv_marks::RecvTask;
@@ -311,6 +312,16 @@ impl RecvTables {
             Some(index) => Some((index * 4 + stream_type) as u64),
             None => None,
         }
+    }
+
+    /// The marks of the streams of a type, by index, whose receiving half may have come to its end. One without a mark hasn't.
+    pub(crate) fn ended_marks(&self, stream_type: usize) -> &Marks
+        requires { stream_type < 4 }
+        ensures none { AreEndsMarked (HasOne tasks.Ended) self.now stream_type result.now }
+        ensures few { length result.now ≤ 2 ^ 60 }
+    {
+        let lanes = &self.types[stream_type];
+        lanes.ended_marks()
     }
 
     /// The sums over all streams.

@@ -9,9 +9,11 @@ ghost use Rattle.qs_machine.specs.Memory.{ChunkMayRunOut};
 ghost use Rattle.qs_machine.specs.Sums.{changed, no_sending};
 ghost use Rattle.qs_machine.specs.News.{IsLeast};
 ghost use Rattle.qs_conn.specs.Held.{kept_on, most_buffered};
-ghost use Rattle.qs_conn.specs.Marks.{IsBefore, IsAt};
+ghost use Rattle.qs_conn.specs.Marks.{AreMarked, IsBefore, IsAt};
+ghost use Rattle.qs_conn.specs.declared.send_marks.Task.TheVariants as tasks;
 ghost use Rattle.qs_conn.specs.Tasks.{IsQuiet, HasTask};
 
+use crate::marks::Marks;
 use crate::send_marks::{SendMarks, Task, has};
 use qs_ranges::NoMemory;
 use qs_send::{Chunk, SendFault, SendHalf, SendState};
@@ -278,6 +280,14 @@ impl SendLanes {
             return None;
         }
         self.marks.next(task, from)
+    }
+
+    /// The marks of the halves that may have come to their end. One without a mark hasn't.
+    pub(crate) fn ended_marks(&self) -> &Marks
+        ensures none { AreMarked (IsQuiet tasks.Ended) self.now result.now }
+        ensures few { length result.now ≤ 2 ^ 60 }
+    {
+        self.marks.ended()
     }
 
     /// The least index from one on whose half has something of a task.

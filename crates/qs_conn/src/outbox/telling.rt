@@ -1,5 +1,5 @@
 //! What an end has to tell of its sending side.
-ghost use Rattle.std.specs.Prelude.{◌≡◌, ◌≤◌, ◌<◌, ◌^◌, ◌↔◌, ◌||◌, IsTrue, ℕ, IfSome, IfNone};
+ghost use Rattle.std.specs.Prelude.{◌≡◌, ◌≤◌, ◌<◌, ◌^◌, ◌↔◌, ◌||◌, IsTrue, ℕ, length, IfSome, IfNone};
 ghost use Rattle.qs_ranges.specs.Numbers.{MAX_VARINT};
 ghost use Rattle.qs_send.specs.declared.piece.Piece.TheVariants as pieces;
 ghost use Rattle.qs_machine.specs.Tables.{lookup};
@@ -7,13 +7,14 @@ ghost use Rattle.qs_machine.specs.Sums.{or_none};
 ghost use Rattle.qs_machine.specs.Ends.{End};
 ghost use Rattle.qs_machine.specs.News.{IsLeast, IsHeld};
 ghost use Rattle.qs_machine.specs.Asking.{waits_for_credit};
-ghost use Rattle.qs_conn.specs.Marks.{IsBefore, IsHeldOf};
+ghost use Rattle.qs_conn.specs.Marks.{IsBefore, IsHeldOf, AreEndsMarked};
 ghost use Rattle.qs_conn.specs.Sending.{IsDueOf, MayWrite, HasSent};
 ghost use Rattle.qs_conn.specs.Tasks.{IsQuietAt};
 ghost use Rattle.qs_machine.specs.Outgoing.{IsCarried, IsAckedOut, IsAckedReset, IsBlockedAt, WantsMore, reset_by, with_outgoing};
 
 use super::Outbox;
 use super::halves::{half_of, is_open, least_marked, may_have, next_with, next_with_of};
+use crate::marks::Marks;
 use crate::send_marks::Task;
 use qs_send::{Item, Reset, SendState};
 use qs_wire::StreamId;
@@ -131,6 +132,17 @@ impl Outbox {
     {
         let _next = self.next;
         next_with(&self.types, Task::Writable, from)
+    }
+
+    /// The marks of the streams of a type, by index, whose sending half may have come to its end. One without a mark hasn't.
+    pub(crate) fn ended_marks(&self, stream_type: usize) -> &Marks
+        requires { stream_type < 4 }
+        ensures none { AreEndsMarked HasSent self.now.sends stream_type result.now }
+        ensures few { length result.now ≤ 2 ^ 60 }
+    {
+        let _next = self.next;
+        let lanes = &self.types[stream_type];
+        lanes.ended_marks()
     }
 
     /// The least number from one on of a stream of a type whose sending half came to its end.

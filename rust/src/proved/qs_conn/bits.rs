@@ -101,6 +101,34 @@ impl Bits {
     }
 }
 
+impl Bits {
+    /// The least index from one on that is marked here and there, in the word of that index.
+    pub(crate) fn next_both_in_word(&self, others: &Bits, from: usize) -> Option<usize> {
+        let place = from / FLAGS_PER_WORD;
+        if place >= self.words.len().min(others.words.len()) {
+            return None;
+        }
+        let word = self.words[place] & others.words[place];
+        match lowest_bit(word, from % FLAGS_PER_WORD) {
+            Some(marked) => Some(place * FLAGS_PER_WORD + marked),
+            None => None,
+        }
+    }
+
+    /// The least index from one on that is marked here and there.
+    pub(crate) fn next_both(&self, others: &Bits, from: usize) -> Option<usize> {
+        let mut bit = from % FLAGS_PER_WORD;
+        for place in from / FLAGS_PER_WORD..self.words.len().min(others.words.len()) {
+            let word = self.words[place] & others.words[place];
+            if let Some(marked) = lowest_bit(word, bit) {
+                return Some(place * FLAGS_PER_WORD + marked);
+            }
+            bit = 0;
+        }
+        None
+    }
+}
+
 /// Whether a bit of a word is set.
 fn has_bit(word: u64, bit: usize) -> bool {
     debug_assert!(bit < 64);

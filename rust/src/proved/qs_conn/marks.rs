@@ -107,6 +107,24 @@ impl Marks {
     }
 }
 
+impl Marks {
+    /// The least index from one on that is marked here and there.
+    pub(crate) fn next_both(&self, others: &Marks, from: usize) -> Option<usize> {
+        if let Some(index) = self.marks.next_both_in_word(&others.marks, from) {
+            return Some(index);
+        }
+        let mut next = from / FLAGS_PER_WORD + 1;
+        while let Some(word) = self.words.next_both(&others.words, next) {
+            let first = word * FLAGS_PER_WORD;
+            if let Some(index) = self.marks.next_both_in_word(&others.marks, first) {
+                return Some(index);
+            }
+            next = word + 1;
+        }
+        None
+    }
+}
+
 // Whether a word of marks has one.
 fn has_mark(marks: &Bits, word: usize) -> bool {
     marks.next_in_word(word * FLAGS_PER_WORD).is_some()

@@ -2,6 +2,7 @@
 //! The receiving halves of the streams of one type.
 use crate::shim::Vec;
 
+use crate::proved::qs_conn::marks::Marks;
 use crate::proved::qs_conn::recv_marks::{RecvMarks, RecvTask, has};
 use crate::proved::qs_conn::touches::Touches;
 use crate::proved::qs_conn::untold::Untold;
@@ -263,6 +264,11 @@ impl RecvLanes {
             return;
         }
         raise_touched(&mut self.halves, &mut self.touched, stream_type, untold);
+    }
+
+    /// The marks of the lanes that may have come to their end. One without a mark hasn't.
+    pub(crate) fn ended_marks(&self) -> &Marks {
+        self.news.ended()
     }
 
     /// The least index from one on whose lane has an answer for its owner.

@@ -63,6 +63,11 @@ impl RecvMarks {
         self.readable.has(index) || self.ended.has(index)
     }
 
+    /// The marks of those that came to their end.
+    pub(crate) fn ended(&self) -> &Marks {
+        &self.ended
+    }
+
     /// The least marked index from one on.
     pub(crate) fn next(&self, task: RecvTask, from: usize) -> Option<usize> {
         match task {

@@ -1,7 +1,7 @@
 // Made from crates/qs_conn/src/recv_tables.rt by rust/erase; not edited by hand.
 //! The receiving halves of an end.
 
-use crate::proved::qs_conn::marks::least;
+use crate::proved::qs_conn::marks::{Marks, least};
 use crate::proved::qs_conn::places::{index_from, index_of, type_of};
 use crate::proved::qs_conn::recv_lanes::RecvLanes;
 use crate::proved::qs_conn::recv_marks::RecvTask;
@@ -208,6 +208,13 @@ impl RecvTables {
             Some(index) => Some((index * 4 + stream_type) as u64),
             None => None,
         }
+    }
+
+    /// The marks of the streams of a type, by index, whose receiving half may have come to its end. One without a mark hasn't.
+    pub(crate) fn ended_marks(&self, stream_type: usize) -> &Marks {
+        debug_assert!(stream_type < 4);
+        let lanes = &self.types[stream_type];
+        lanes.ended_marks()
     }
 
     /// The sums over all streams.

@@ -2,6 +2,7 @@
 //! The sending halves of the streams of one type.
 use crate::shim::Vec;
 
+use crate::proved::qs_conn::marks::Marks;
 use crate::proved::qs_conn::send_marks::{SendMarks, Task, has};
 use crate::proved::qs_ranges::NoMemory;
 use crate::proved::qs_send::{Chunk, SendFault, SendHalf, SendState};
@@ -182,6 +183,11 @@ impl SendLanes {
             return None;
         }
         self.marks.next(task, from)
+    }
+
+    /// The marks of the halves that may have come to their end. One without a mark hasn't.
+    pub(crate) fn ended_marks(&self) -> &Marks {
+        self.marks.ended()
     }
 
     /// The least index from one on whose half has something of a task.

@@ -134,6 +134,11 @@ impl SendMarks {
         }
     }
 
+    /// The marks of those that came to their end.
+    pub(crate) fn ended(&self) -> &Marks {
+        &self.ended
+    }
+
     /// The least marked index from one on.
     pub(crate) fn next(&self, task: Task, from: usize) -> Option<usize> {
         match task {

@@ -3,6 +3,7 @@
 
 use super::{Endpoint, role_bit};
 use crate::proved::qs_conn::marks::least;
+use crate::proved::qs_conn::places::index_from;
 use crate::proved::qs_conn::recv_marks::RecvTask;
 use crate::proved::qs_wire::StreamId;
 
@@ -44,8 +45,7 @@ impl Endpoint {
     /// The least stream at or above `from` whose every half here came to its end: the end or the reset was told to the reader, and all
     /// that was sent is acknowledged, or the reset (RFC 9000, section 3). `None` where there is none.
     ///
-    /// It takes no memory, and looks at one word of marks for 64 streams of a type; of a bidirectional one it goes from a receiving half
-    /// that ended to the next sending half that did, and back, until they are of one stream.
+    /// It takes no memory, and looks at one word of marks of each half for 64 streams of a type.
     pub fn next_ended(&self, from: StreamId) -> Option<StreamId> {
         let from = from.value();
         let bidi = least(self.next_bidi_ended(0, from), self.next_bidi_ended(1, from));
@@ -61,20 +61,23 @@ impl Endpoint {
         debug_assert!(stream_type < 2);
         debug_assert!(from <= 1 << 62);
         let mut next = from;
-        while let Some(recv) = self
-            .core
-            .recvs
-            .next_with_of(RecvTask::Ended, stream_type, next)
-        {
-            let Some(send) = self.core.outbox.next_ended_of(stream_type, recv) else {
-                return None;
-            };
-            if send == recv {
-                return Some(send);
+        while let Some(stream) = self.next_bidi_marked(stream_type, next) {
+            if self.core.recvs.has_ended(stream) && self.core.outbox.has_ended(stream) {
+                return Some(stream.value());
             }
-            next = send;
+            next = stream.value() + 1;
         }
         None
+    }
+
+    // The least such number of a stream that may be over. None of those between is.
+    fn next_bidi_marked(&self, stream_type: usize, from: u64) -> Option<StreamId> {
+        debug_assert!(stream_type < 2);
+        debug_assert!(from <= 1 << 62);
+        let receiving = self.core.recvs.ended_marks(stream_type);
+        let sending = self.core.outbox.ended_marks(stream_type);
+        let index = receiving.next_both(sending, index_from(stream_type, from))?;
+        StreamId::new((index * 4 + stream_type) as u64)
     }
 
     // The least such number among the unidirectional streams of a type: those of this end only send.

@@ -3,6 +3,7 @@
 
 use super::Outbox;
 use super::halves::{half_of, is_open, least_marked, may_have, next_with, next_with_of};
+use crate::proved::qs_conn::marks::Marks;
 use crate::proved::qs_conn::send_marks::Task;
 use crate::proved::qs_send::{Item, Reset, SendState};
 use crate::proved::qs_wire::StreamId;
@@ -98,6 +99,14 @@ impl Outbox {
         debug_assert!(from <= 1 << 62);
         let _next = self.next;
         next_with(&self.types, Task::Writable, from)
+    }
+
+    /// The marks of the streams of a type, by index, whose sending half may have come to its end. One without a mark hasn't.
+    pub(crate) fn ended_marks(&self, stream_type: usize) -> &Marks {
+        debug_assert!(stream_type < 4);
+        let _next = self.next;
+        let lanes = &self.types[stream_type];
+        lanes.ended_marks()
     }
 
     /// The least number from one on of a stream of a type whose sending half came to its end.
