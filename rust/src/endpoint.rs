@@ -100,6 +100,13 @@ impl Endpoint {
         self.inner.accept().map(StreamId::of)
     }
 
+    /// Gives out each stream of one direction that the peer opened, once: lower numbers first. What this call gave out
+    /// [`accept`](Endpoint::accept) doesn't, and the other way round. `None` where there is none, or the connection is
+    /// closed (RFC 9000, section 2.1).
+    pub fn accept_of(&mut self, dir: Dir) -> Option<StreamId> {
+        self.inner.accept_of(dir.inner()).map(StreamId::of)
+    }
+
     /// Accepts the front of the bytes for sending, as many as there is room for in the stream's buffer, and answers how
     /// many: 0 where the buffer is full.
     ///
@@ -426,6 +433,44 @@ impl Endpoint {
     /// is reached, or the connection's credit is used up (RFC 9000, section 4.1). Bytes that were lost need no credit.
     pub fn is_blocked(&self, stream: StreamId) -> bool {
         self.inner.is_blocked(stream.inner())
+    }
+
+    /// How many bytes beyond all that were sent the peer's limit on the connection lets go (RFC 9000, section 4.1). Bytes
+    /// that were lost need no credit, and written ones use it up as they are sent: see [`unsent`](Endpoint::unsent).
+    pub fn credit_left(&self) -> u64 {
+        self.inner.credit_left()
+    }
+
+    /// How many bytes [`write`](Endpoint::write) accepts of a stream now, however many are written: 0 where it is refused,
+    /// as where the stream has no sending half here (RFC 9000, sections 2.2 and 2.4). Credit doesn't count: what is
+    /// written beyond it waits.
+    ///
+    /// ```
+    /// use gotsavena::{Dir, Endpoint, Role, Settings};
+    ///
+    /// let settings = Settings::default().send_buffer(100);
+    /// let mut end = Endpoint::new(Role::Client, settings, settings.limits()).expect("in range");
+    /// let stream = end.open(Dir::Uni).expect("granted");
+    /// assert_eq!(end.room(stream), 100);
+    /// assert_eq!(end.write(stream, b"abc"), Ok(3));
+    /// assert_eq!((end.room(stream), end.unsent(stream)), (97, 3));
+    /// end.finish(stream).expect("open");
+    /// assert_eq!(end.room(stream), 0);
+    /// ```
+    pub fn room(&self, stream: StreamId) -> u64 {
+        self.inner.room(stream.inner())
+    }
+
+    /// How many bytes were written to a stream that are still to be sent for the first time: 0 after a reset, since none
+    /// are sent then (RFC 9000, sections 2.2 and 3.1), and where the stream has no sending half here.
+    pub fn unsent(&self, stream: StreamId) -> u64 {
+        self.inner.unsent(stream.inner())
+    }
+
+    /// The lowest offset of a stream that isn't acknowledged, in bytes from its start: all below it are (RFC 9000, section
+    /// 13.3). Where it is the count written, every byte is. `None` where the stream has no sending half here.
+    pub fn acked_below(&self, stream: StreamId) -> Option<u64> {
+        self.inner.acked_below(stream.inner())
     }
 
     /// The code of the peer's STOP_SENDING for a stream, of the first one that came; `None` where none did. It stays,

@@ -379,3 +379,79 @@ fn the_code_of_a_stop_is_told_whatever_became_of_the_half() {
     );
     assert_eq!(server.stopped_with(streams[0]), None);
 }
+
+#[test]
+fn an_owner_keeps_no_count_of_its_own() {
+    let settings = Settings::default()
+        .conn_window(10)
+        .bidi_local_window(6)
+        .bidi_remote_window(6)
+        .send_buffer(8);
+    let (mut client, mut server) = ends(settings);
+    let stream = client.open(Dir::Bidi).expect("granted");
+    let other = StreamId::new(400).expect("small");
+    assert_eq!(client.credit_left(), 10);
+    assert_eq!(
+        (
+            client.room(other),
+            client.unsent(other),
+            client.acked_below(other)
+        ),
+        (0, 0, None)
+    );
+    assert_eq!(client.room(stream), 8);
+    assert_eq!(client.acked_below(stream), Some(0));
+    // Credit bounds what is sent, and not what is written.
+    assert_eq!(client.write(stream, b"12345678"), Ok(8));
+    assert_eq!((client.room(stream), client.unsent(stream)), (0, 8));
+    assert_eq!(client.credit_left(), 10);
+    let number = pass(&mut client, &mut server).expect("due");
+    assert_eq!((client.credit_left(), client.unsent(stream)), (4, 2));
+    // What is lost is sent again, and neither uses credit nor counts as unsent.
+    client.declare_lost(number).expect("outstanding");
+    pass(&mut client, &mut server).expect("due");
+    assert_eq!((client.credit_left(), client.unsent(stream)), (4, 2));
+    assert_eq!(client.acked_below(stream), Some(0));
+    // The ACK lets six bytes go.
+    while pass(&mut server, &mut client).is_some() {}
+    assert_eq!(client.acked_below(stream), Some(6));
+    assert_eq!(client.room(stream), 6);
+    client.finish(stream).expect("open");
+    assert_eq!((client.room(stream), client.unsent(stream)), (0, 2));
+    client.reset(stream, 7).expect("open");
+    assert_eq!((client.room(stream), client.unsent(stream)), (0, 0));
+    assert_eq!(client.acked_below(stream), Some(6));
+    // A closed end takes nothing, and still tells the rest.
+    assert_eq!(server.room(stream), 8);
+    assert!(server.receive(99, &[0x11, 0x01, 0x05]).is_err());
+    assert_eq!(
+        (server.room(stream), server.acked_below(stream)),
+        (0, Some(0))
+    );
+}
+
+#[test]
+fn the_peers_streams_are_given_out_by_direction() {
+    let (mut client, mut server) = ends(Settings::default());
+    let mut opened = Vec::new();
+    for dir in [Dir::Bidi, Dir::Uni, Dir::Uni, Dir::Bidi] {
+        let stream = client.open(dir).expect("granted");
+        client.finish(stream).expect("open");
+        opened.push(stream);
+    }
+    assert_eq!(server.accept_of(Dir::Uni), None);
+    while pass(&mut client, &mut server).is_some() {}
+    assert_eq!(server.accept_of(Dir::Uni), Some(opened[1]));
+    assert_eq!(server.accept(), Some(opened[0]));
+    assert_eq!(server.accept_of(Dir::Bidi), Some(opened[3]));
+    assert_eq!(server.accept_of(Dir::Bidi), None);
+    assert_eq!(server.accept(), Some(opened[2]));
+    assert_eq!(server.accept_of(Dir::Uni), None);
+    assert_eq!(client.accept_of(Dir::Bidi), None);
+    // A closed end gives none out.
+    let late = client.open(Dir::Uni).expect("granted");
+    client.finish(late).expect("open");
+    pass(&mut client, &mut server).expect("due");
+    assert!(server.receive(99, &[0x11, 0x01, 0x05]).is_err());
+    assert_eq!(server.accept_of(Dir::Uni), None);
+}

@@ -79,7 +79,12 @@ fn told(end: &Endpoint, stream: StreamId) -> String {
     );
     let asked = (
         end.is_sendable(),
-        end.is_blocked(stream),
+        (end.is_blocked(stream), end.credit_left()),
+        (
+            end.room(stream),
+            end.unsent(stream),
+            end.acked_below(stream),
+        ),
         (end.stopped_with(stream), end.peer_closed()),
         end.next_outstanding(0),
         end.next_newly_acked(&[2, 9, 0, 0, 9], 0),

@@ -171,6 +171,8 @@ fn questions(end: &mut Endpoint, number: u64) {
     _ = (end.granted_streams(Dir::Bidi), end.streams_left(Dir::Uni));
     _ = (end.open_left(Dir::Bidi), end.stopped_with(stream));
     _ = (end.is_sendable(), end.is_blocked(stream), end.ack_is_due());
+    _ = (end.credit_left(), end.room(stream));
+    _ = (end.unsent(stream), end.acked_below(stream));
     _ = (end.next_readable(stream), end.next_sendable(stream));
     _ = (end.next_writable(stream), end.next_ended(stream));
     _ = (

@@ -1,3 +1,4 @@
+pub mod Accepting
 pub mod AckLaws
 pub mod AckPackets
 pub mod Allowed

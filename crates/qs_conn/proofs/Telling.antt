@@ -1,13 +1,14 @@
 -- What an end has to tell of its sending side.
-use Rattle.std.proofs.Common.{◌≡◌, ℕ, ◌<◌, ◌≤◌, Bool, true, false, IsTrue, min, nat_lt, ◌&&◌, ◌||◌, ◌==◌, Option, Some, None, is_some, is_none, option_map, cond, refl, sym, ap, ◌∙◌, arith}
+use Rattle.std.proofs.Common.{◌≡◌, ℕ, ◌-◌, ◌<◌, ◌≤◌, Bool, true, false, IsTrue, min, nat_lt, ◌&&◌, ◌||◌, ◌==◌, Option, Some, None, is_some, is_none, option_map, cond, refl, sym, ap, ◌∙◌, arith}
 use Rattle.std.proofs.lemmas.Bool.{both_ways}
 use Rattle.std.proofs.lemmas.Bool.Decides.{nat_tests}
+use Rattle.qs_ranges.specs.Numbers.{MAX_VARINT}
 use Rattle.qs_send.specs.declared.parts.Reset.{Reset}
 use Rattle.qs_send.specs.declared.parts.SendState.TheVariants.{Ready, Send, DataSent, DataRecvd, ResetSent, ResetRecvd}
-use Rattle.qs_send.specs.Lane.{SendLane, Sending, state, declared_size, size_of}
+use Rattle.qs_send.specs.Lane.{SendLane, Sending, refusal, free_room, state, declared_size, size_of}
 use Rattle.qs_machine.specs.Tables.{Tables, lookup}
 use Rattle.qs_machine.specs.Sums.{or_none}
-use Rattle.qs_machine.specs.Asking.{waits_for_credit}
+use Rattle.qs_machine.specs.Asking.{waits_for_credit, room_of, unsent_of}
 use Rattle.qs_machine.specs.Outgoing.{Outgoing, lanes_of, IsAckedReset, IsBlockedAt, WantsMore, reset_by}
 use Rattle.qs_machine.proofs.Carried.{none_some}
 use Rattle.qs_machine.proofs.LaneTables.{lane_there}
@@ -126,3 +127,27 @@ pub waits_more : (b : Bool) (o : Option SendLane) (l : SendLane) → o ≡ Some 
 waits_more b o l e r lt =
     let more : nat_lt l.sent_end l.written ≡ true = grind (arith, nat_tests, lt) in
     ap (λ (t : Bool). t && (l.sent_end == l.limit || b)) (sym more) ∙ waits_open b o l e r
+
+-- What an owner asks of a stream
+
+pub room_none : (o : Option SendLane) → o ≡ None → 0 ≡ room_of o
+room_none o e = rw e refl
+
+pub room_refused : (o : Option SendLane) (l : SendLane) → o ≡ Some l → is_some (refusal l) ≡ true → 0 ≡ room_of o
+room_refused o l e r = rw (e, r) refl
+
+pub room_free : (o : Option SendLane) (l : SendLane) → o ≡ Some l → is_some (refusal l) ≡ false → min (free_room l) (MAX_VARINT - l.written) ≡ room_of o
+room_free o l e r = rw (e, r) (omega arith)
+
+pub unsent_none : (o : Option SendLane) → o ≡ None → 0 ≡ unsent_of o
+unsent_none o e = rw e refl
+
+pub unsent_reset : (o : Option SendLane) (l : SendLane) → o ≡ Some l → (l.was_reset ≡ None → ⊥) → 0 ≡ unsent_of o
+unsent_reset o l e r = rw e (go l.was_reset r)
+  where
+    go : (x : Option Reset) → (x ≡ None → ⊥) → 0 ≡ cond (is_some x) 0 (l.written - l.sent_end)
+    go None h = absurd (h refl)
+    go (Some r) h = refl
+
+pub unsent_open : (o : Option SendLane) (l : SendLane) → o ≡ Some l → l.was_reset ≡ None → l.written - l.sent_end ≡ unsent_of o
+unsent_open o l e r = rw (e, r) refl

@@ -9,7 +9,7 @@ use Rattle.qs_wire.specs.Layout.{PlacedValue}
 use Rattle.qs_wire.specs.Reading.{reading_of}
 use Rattle.qs_wire.specs.declared.fault.WireFault.{WireFault}
 use Rattle.qs_wire.specs.declared.stream_id.Dir.{Dir}
-use Rattle.qs_wire.specs.declared.stream_id.Dir.TheVariants.{Uni}
+use Rattle.qs_wire.specs.declared.stream_id.Dir.TheVariants.{Bidi, Uni}
 use Rattle.qs_recv.specs.Lane.{after_read, stop}
 use Rattle.qs_recv.specs.declared.half.Read.{Read}
 use Rattle.qs_send.specs.Lane.{SendLane, refusal, reset_refusal, accepted, write_lane, finish_lane, reset_lane}
@@ -37,11 +37,11 @@ use Rattle.qs_machine.specs.Verdicts.{verdict}
 use Rattle.qs_machine.specs.FrameStep.{frame_taken, acks, named}
 use Rattle.qs_machine.specs.Recording.{recorded}
 use Rattle.qs_machine.specs.Lawful.{MayPut, Fills, frame_put}
-use Rattle.qs_machine.specs.Owner.{OpenStep, AcceptStep, ReadBy, with_wanted, Certain, first_refusal, refuse_if, no_half, half_refusal, send_refusal, recv_refusal, IsBlocked, IsOpened, GivesNone, GivesBidi, GivesUni, AcceptOpen, peer_type, next_stream}
+use Rattle.qs_machine.specs.Owner.{OpenStep, AcceptStep, AcceptOfStep, ReadBy, with_wanted, Certain, first_refusal, refuse_if, no_half, half_refusal, send_refusal, recv_refusal, IsBlocked, IsOpened, GivesNone, GivesBidi, GivesUni, AcceptOpen, AcceptOpenOf, peer_type, next_stream}
 use Rattle.qs_machine.specs.Receiving.{ClosedReceive, AtEnd, RunsOut, Stops, GoesOn, Takes, ReceiveBy, TakesPayload, OpenReceive}
 use Rattle.qs_machine.specs.Making.{MakeAt, MakeAckAt, make_refusal, claim_refusal, LoseStep, lose_refusal, first_lost, losses}
 use Rattle.qs_machine.specs.Raising.{limits_raised, raise_refusal}
-use Rattle.qs_machine.specs.EndStep.{Call, Answer, EndStep, Open, Accept, Write, Finish, Reset, Stop, ReadUpTo, Receive, Make, MakeAck, Lose, Claim, RaiseLimits}
+use Rattle.qs_machine.specs.EndStep.{Call, Answer, EndStep, Open, Accept, AcceptOf, Write, Finish, Reset, Stop, ReadUpTo, Receive, Make, MakeAck, Lose, Claim, RaiseLimits}
 use Rattle.qs_machine.proofs.Choices.{by_refusal, by_test, if_allowed}
 
 -- a change of an end
@@ -261,6 +261,15 @@ module _ (old : End) (call : Call) (Q P : End → Type 0) (c : Cases old call Q 
       by_test (P new) _ (GivesNone old answer new) (AcceptOpen old answer new) step none
       (λ goes. by_test (P new) _ (GivesBidi old answer new) (GivesUni old answer new) goes (λ g. edited AcceptedBidi new tt g.1) uni)
 
+  accept_of_by : (d : Dir) (answer : Answer (AcceptOf d)) (new : End) → AcceptOfStep old d answer new → P new
+  accept_of_by d answer new step = by_test (P new) _ (GivesNone old answer new) (AcceptOpenOf old d answer new) step (λ g. same new g.1) (go d)
+    where
+      go : (d : Dir) → AcceptOpenOf old d answer new → P new
+      go Bidi goes = by_test (P new) _ (GivesBidi old answer new) (GivesNone old answer new) goes (λ g. edited AcceptedBidi new tt g.1) (λ g. same new g.1)
+      go Uni goes =
+          by_test (P new) _ ((answer ≡ Some (old.accepted_uni * 4 + peer_type old Uni)) × (new ≡ settle (changed AcceptedUni old))) (GivesNone old answer new) goes
+          (λ g. edited AcceptedUni new tt g.1) (λ g. same new g.1)
+
   write_by : (n : ℕ) (bytes : List ℕ) (answer : Answer (Write n bytes)) (new : End) → EndStep old (Write n bytes) answer new → P new
   write_by n bytes answer new step =
       if_allowed (P new) (send_refusal old n refusal) old answer new _ step (same new) (λ allowed some.
@@ -278,6 +287,7 @@ module _ (old : End) (call : Call) (Q P : End → Type 0) (c : Cases old call Q 
 pub each_call : (old : End) (call : Call) (Q P : End → Type 0) → Cases old call Q P → (answer : Answer call) (new : End) → EndStep old call answer new → P new
 each_call old (Open d) Q P c answer new step = open_by old (Open d) Q P c d answer new step
 each_call old Accept Q P c answer new step = accept_by old Accept Q P c answer new step
+each_call old (AcceptOf d) Q P c answer new step = accept_of_by old (AcceptOf d) Q P c d answer new step
 each_call old (Write n bytes) Q P c answer new step = write_by old (Write n bytes) Q P c n bytes answer new step
 each_call old (Finish n) Q P c answer new step = use_by old (Finish n) Q P c _ (send_refusal old n refusal) (Finished n) answer new tt step
 each_call old (Reset n code) Q P c answer new step = use_by old (Reset n code) Q P c _ (send_refusal old n reset_refusal) (WasReset n code) answer new tt step

@@ -22,7 +22,7 @@ use Rattle.qs_machine.specs.Credit.{settle}
 use Rattle.qs_machine.specs.FrameStep.{frame_taken}
 use Rattle.qs_machine.specs.Owner.{Certain, send_refusal}
 use Rattle.qs_machine.specs.SmallEnds.{client_with, abc, begun, wrote, fresh}
-use Rattle.qs_machine.specs.ExclusionsOwner.{NoSuchOpening, NoSuchAccepting, NoSuchSending, NoSuchReading, LimitsSettle, LimitsOnlyRise, NotOwned}
+use Rattle.qs_machine.specs.ExclusionsOwner.{NoSuchOpening, NoSuchAccepting, NoSuchAcceptingOf, NoSuchSending, NoSuchReading, LimitsSettle, LimitsOnlyRise, NotOwned}
 use Rattle.qs_machine.proofs.Choices.{not_chosen}
 use Rattle.qs_machine.proofs.ExclusionsMaking.{ok_is_no_err}
 
@@ -73,6 +73,18 @@ acceptings =
       twice = λ n new h. none-some n (sym h.0);
       closed = λ n new h. none-some n (sym h.0);
       not_noted = λ new h zero. (let e : 1 ≡ 0 = ap (λ (e : End). e.accepted_bidi) (sym h.1) ∙ zero in omega arith);
+    }
+
+acceptings_of : NoSuchAcceptingOf
+acceptings_of =
+    record {
+      opened = λ new h. none-some _ h.0;
+      other_way = λ new h. (let e : 0 ≡ 2 = same_Some _ _ h.0 in omega arith);
+      other_alone = λ n new h. none-some n (sym h.0);
+      twice = λ n new h. none-some n (sym h.0);
+      closed = λ n new h. none-some n (sym h.0);
+      not_noted = λ new h zero. (let e : 1 ≡ 0 = ap (λ (e : End). e.accepted_bidi) (sym h.1) ∙ zero in omega arith);
+      other_noted = λ new h one. (let e : 0 ≡ 1 = ap (λ (e : End). e.accepted_bidi) (sym h.1) ∙ one in omega arith);
     }
 
 -- a call that was done had its effect
@@ -170,4 +182,12 @@ risings : LimitsOnlyRise
 risings = record { lower = refl; open_too = refl; of_type = refl; closed = λ new h. ok_is_no_err _ _ h.0; uncountable = λ new h. ok_is_no_err _ _ h.0 }
 
 pub not_owned : NotOwned
-not_owned = record { opening = openings; accepting = acceptings; sending = sendings; reading = readings; settling = settling; rising = risings }
+not_owned = record {
+  opening = openings;
+  accepting = acceptings;
+  accepting_of = acceptings_of;
+  sending = sendings;
+  reading = readings;
+  settling = settling;
+  rising = risings;
+}

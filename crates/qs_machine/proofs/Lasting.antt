@@ -13,10 +13,10 @@ use Rattle.qs_calls.specs.declared.uses.OpenFault.TheVariants as opening
 use Rattle.qs_calls.specs.declared.uses.UseFault.{UseFault}
 use Rattle.qs_calls.specs.declared.uses.UseFault.TheVariants as uses
 use Rattle.qs_machine.specs.Ends.{End}
-use Rattle.qs_machine.specs.Owner.{Certain, first_refusal, refuse_if, ReadBy, AcceptOpen, GivesNone}
+use Rattle.qs_machine.specs.Owner.{Certain, first_refusal, refuse_if, ReadBy, GivesNone}
 use Rattle.qs_machine.specs.Receiving.{ReceiveBy}
 use Rattle.qs_machine.specs.Making.{MakeAt, ClaimStep, claim_refusal, MakeAckAt}
-use Rattle.qs_machine.specs.EndStep.{Call, Answer, EndStep, Open, Accept, Write, Finish, Reset, Stop, ReadUpTo, Receive, Make, Lose, RaiseLimits, Claim, MakeAck}
+use Rattle.qs_machine.specs.EndStep.{Call, Answer, EndStep, Open, Accept, AcceptOf, Write, Finish, Reset, Stop, ReadUpTo, Receive, Make, Lose, RaiseLimits, Claim, MakeAck}
 use Rattle.qs_machine.specs.Laws.{StaysButNumber}
 use Rattle.qs_machine.proofs.Choices.{by_refusal}
 use Rattle.qs_calls.specs.declared.settings.RaiseFault.TheVariants as raising
@@ -45,9 +45,9 @@ ack_refused : (b : Bool) (r : Option MakeFault) (old : End) (delay room : ℕ) (
 ack_refused true r old delay room answer new is h = h.2
 ack_refused false r old delay room answer new is h = absurd (false≢true is)
 
-accept_none : (b : Bool) (old : End) (answer : Option ℕ) (new : End) → b ≡ true → MatchBool b (GivesNone old answer new) (AcceptOpen old answer new) → new ≡ old
-accept_none true old answer new is h = h.1
-accept_none false old answer new is h = absurd (false≢true is)
+accept_none : (b : Bool) (old : End) (answer : Option ℕ) (new : End) (Gives : Type 0) → b ≡ true → MatchBool b (GivesNone old answer new) Gives → new ≡ old
+accept_none true old answer new Gives is h = h.1
+accept_none false old answer new Gives is h = absurd (false≢true is)
 
 receive_again : (c : Option Closed) (number : ℕ) (payload : List ℕ) (old : End) (result : Result Received Closing) (new : End) → is_some c ≡ true → ReceiveBy c number payload old result new → new ≡ old
 receive_again None number payload old result new is h = absurd (false≢true is)
@@ -64,7 +64,8 @@ claim_stays old answer new step =
 
 pub closed_stays : (old : End) (call : Call) (answer : Answer call) (new : End) → is_some old.closed ≡ true → EndStep old call answer new → StaysButNumber old call new
 closed_stays old (Open d) answer new is h = refused (is_some old.closed) opening.Closed old answer new _ is h
-closed_stays old Accept answer new is h = accept_none (is_some old.closed) old answer new is h
+closed_stays old Accept answer new is h = accept_none (is_some old.closed) old answer new _ is h
+closed_stays old (AcceptOf d) answer new is h = accept_none (is_some old.closed) old answer new _ is h
 closed_stays old (Write n bytes) answer new is h = refused_first (is_some old.closed) uses.Closed _ old answer new _ is h
 closed_stays old (Finish n) answer new is h = refused_first (is_some old.closed) uses.Closed _ old answer new _ is h
 closed_stays old (Reset n code) answer new is h = refused_first (is_some old.closed) uses.Closed _ old answer new _ is h

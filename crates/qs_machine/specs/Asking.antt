@@ -1,9 +1,9 @@
 -- Of public contracts.
 -- What an end's owner, and the layer beneath, may ask of an end as it is; nothing changes by it.
-use Rattle.std.specs.Prelude.{◌≡◌, ℕ, ◌-◌, ◌≤◌, Bool, true, false, ◌&&◌, ◌||◌, ◌==◌, nat_lt, ◌⊎◌, Option, None, Some, is_none}
+use Rattle.std.specs.Prelude.{◌≡◌, ℕ, ◌-◌, ◌≤◌, Bool, true, false, ◌&&◌, ◌||◌, ◌==◌, nat_lt, ◌⊎◌, Option, None, Some, is_some, is_none, if◌then◌else◌}
 use Rattle.std.specs.FinMap as fmap
 use Rattle.qs_wire.specs.declared.stream_id.Dir.{Dir}
-use Rattle.qs_send.specs.Lane.{SendLane}
+use Rattle.qs_send.specs.Lane.{SendLane, refusal, accepted, free_room, unacked_from}
 use Rattle.qs_send.specs.declared.piece.Item.{Item}
 use Rattle.qs_calls.specs.declared.closing.Closed.{Closed}
 use Rattle.qs_calls.specs.declared.closing.Closed.TheVariants.{ByUs, ByPeer}
@@ -41,6 +41,37 @@ waits_for_credit used_up (Some l) = is_none l.was_reset && nat_lt l.sent_end l.w
 -- the same of a stream at this end (RFC 9000, section 4.1)
 abbrev pub is_blocked : End → ℕ → Bool
 is_blocked e n = waits_for_credit (all_sent e == e.known_data) (send_lane e n)
+
+-- how many bytes beyond all that were sent the peer's limit on the connection lets go (RFC 9000, section 4.1)
+abbrev pub credit_left : End → ℕ
+credit_left e = e.known_data - all_sent e
+
+-- how many bytes a sending half accepts, however many are written: none where it refuses them (RFC 9000, sections 2.2 and 2.4)
+abbrev pub room_of : Option SendLane → ℕ
+room_of None = 0
+room_of (Some l) = if is_some (refusal l) then 0 else accepted l (free_room l)
+
+-- the same of a stream at this end, which accepts none once it closed (RFC 9000, sections 2.2, 2.4 and 10.2)
+abbrev pub room : End → ℕ → ℕ
+room e n = if is_some e.closed then 0 else room_of (send_lane e n)
+
+-- how many bytes were written that are still to be sent for the first time; after a reset none are (RFC 9000, sections 2.2 and 3.1)
+abbrev pub unsent_of : Option SendLane → ℕ
+unsent_of None = 0
+unsent_of (Some l) = if is_some l.was_reset then 0 else l.written - l.sent_end
+
+-- the same of a stream at this end (RFC 9000, sections 2.2 and 3.1)
+abbrev pub unsent : End → ℕ → ℕ
+unsent e n = unsent_of (send_lane e n)
+
+-- the lowest offset of a sending half that isn't acknowledged: all below it are (RFC 9000, section 13.3)
+abbrev pub acked_below_of : Option SendLane → Option ℕ
+acked_below_of None = None
+acked_below_of (Some l) = Some (unacked_from l)
+
+-- the same of a stream at this end, None where it has no sending half (RFC 9000, section 13.3)
+abbrev pub acked_below : End → ℕ → Option ℕ
+acked_below e n = acked_below_of (send_lane e n)
 
 -- the code of the first STOP_SENDING that a sending half took in (RFC 9000, section 3.5)
 abbrev pub stop_of : Option SendLane → Option ℕ

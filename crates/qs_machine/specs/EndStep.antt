@@ -16,7 +16,7 @@ use Rattle.qs_calls.specs.declared.uses.OpenFault.{OpenFault}
 use Rattle.qs_calls.specs.declared.uses.UseFault.{UseFault}
 use Rattle.qs_machine.specs.Ends.{End}
 use Rattle.qs_machine.specs.Credit.{spent, all_stored, granted_streams}
-use Rattle.qs_machine.specs.Owner.{OpenStep, AcceptStep, WriteStep, FinishStep, ResetStep, StopStep, ReadStep}
+use Rattle.qs_machine.specs.Owner.{OpenStep, AcceptStep, AcceptOfStep, WriteStep, FinishStep, ResetStep, StopStep, ReadStep}
 use Rattle.qs_machine.specs.Receiving.{ReceiveStep}
 use Rattle.qs_machine.specs.Making.{MakeStep, ClaimStep, LoseStep, ClosePayload, MakeAckStep}
 use Rattle.qs_machine.specs.Reports.{lane_report}
@@ -26,6 +26,7 @@ use Rattle.qs_machine.specs.Raising.{RaiseStep}
 pub data Call : Type 0 where
   Open : (dir : Dir) → Call
   Accept : Call
+  AcceptOf : (dir : Dir) → Call
   Write : (stream : ℕ) (bytes : List ℕ) → Call
   Finish : (stream : ℕ) → Call
   Reset : (stream code : ℕ) → Call
@@ -48,6 +49,7 @@ pub data Call : Type 0 where
 abbrev pub Answer : Call → Type 0
 Answer (Open d) = Result ℕ OpenFault
 Answer Accept = Option ℕ
+Answer (AcceptOf d) = Option ℕ
 Answer (Write n bytes) = Result ℕ UseFault
 Answer (Finish n) = Result (Unit {0}) UseFault
 Answer (Reset n code) = Result (Unit {0}) UseFault
@@ -70,6 +72,7 @@ Answer (Report n) = Option LaneReport
 abbrev pub EndStep : End → (call : Call) → Answer call → End → Type 0
 EndStep old (Open d) answer new = OpenStep old d answer new
 EndStep old Accept answer new = AcceptStep old answer new
+EndStep old (AcceptOf d) answer new = AcceptOfStep old d answer new
 EndStep old (Write n bytes) answer new = WriteStep old n bytes answer new
 EndStep old (Finish n) answer new = FinishStep old n answer new
 EndStep old (Reset n code) answer new = ResetStep old n code answer new

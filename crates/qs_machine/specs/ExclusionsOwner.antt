@@ -1,7 +1,7 @@
 -- Of laws.
 -- Which answers an end's owner isn't given, and what its calls don't leave (RFC 9000, sections 2, 3 and 4).
 use Rattle.std.specs.Prelude.{◌≡◌, ℕ, ◌+◌, ◌^◌, List, [], ◌∷◌, None, Some, Ok, Err}
-use Rattle.qs_wire.specs.declared.stream_id.Dir.TheVariants.{Bidi}
+use Rattle.qs_wire.specs.declared.stream_id.Dir.TheVariants.{Bidi, Uni}
 use Rattle.qs_recv.specs.Lane.{RecvLane, stop}
 use Rattle.qs_recv.specs.declared.half.Read.TheVariants as reads
 use Rattle.qs_calls.specs.declared.closing.Closed.TheVariants.{ByPeer}
@@ -10,7 +10,7 @@ use Rattle.qs_calls.specs.declared.uses.OpenFault.TheVariants as opening
 use Rattle.qs_calls.specs.declared.uses.UseFault.TheVariants.{NoSuchStream, NoMemory}
 use Rattle.qs_machine.specs.Ends.{End, send_lane, recv_lane}
 use Rattle.qs_machine.specs.Credit.{settle}
-use Rattle.qs_machine.specs.Owner.{OpenStep, AcceptStep, WriteStep, FinishStep, ResetStep, StopStep, ReadStep}
+use Rattle.qs_machine.specs.Owner.{OpenStep, AcceptStep, AcceptOfStep, WriteStep, FinishStep, ResetStep, StopStep, ReadStep}
 use Rattle.qs_machine.specs.Raising.{limits_raised, RaiseStep}
 use Rattle.qs_machine.specs.Examples.{standard, server, client_of, told_reset}
 use Rattle.qs_machine.specs.SmallEnds.{client_with, server_with, abc, begun, wrote, finished, reset_half, fresh, three_came}
@@ -54,6 +54,27 @@ pub record NoSuchAccepting : Type 0 where
   pub closed : (n : ℕ) (new : End) → AcceptStep (over (server_with fresh)) (Some n) new → ⊥
   -- where the stream is given out again
   pub not_noted : (new : End) → AcceptStep (server_with fresh) (Some 0) new → new.accepted_bidi ≡ 0 → ⊥
+
+-- a server whose peer opened stream 0 and stream 2, which goes one way
+abbrev pub one_way : End
+one_way = record (server_with fresh) { recvs = record { client_bidi = fresh ∷ []; server_bidi = []; client_uni = fresh ∷ []; server_uni = [] } }
+
+-- nor `accept_of` so (section 2.1)
+pub record NoSuchAcceptingOf : Type 0 where
+  -- with none, where a stream of that direction is
+  pub opened : (new : End) → AcceptOfStep one_way Uni None new → ⊥
+  -- with one of the other direction
+  pub other_way : (new : End) → AcceptOfStep one_way Uni (Some 0) new → ⊥
+  -- nor where that one alone is
+  pub other_alone : (n : ℕ) (new : End) → AcceptOfStep (server_with fresh) Uni (Some n) new → ⊥
+  -- with a stream that was given out
+  pub twice : (n : ℕ) (new : End) → AcceptOfStep (record (server_with fresh) { accepted_bidi = 1 }) Bidi (Some n) new → ⊥
+  -- with a stream, once the end closed
+  pub closed : (n : ℕ) (new : End) → AcceptOfStep (over (server_with fresh)) Bidi (Some n) new → ⊥
+  -- where the stream is given out again
+  pub not_noted : (new : End) → AcceptOfStep (server_with fresh) Bidi (Some 0) new → new.accepted_bidi ≡ 0 → ⊥
+  -- or one of the other direction isn't
+  pub other_noted : (new : End) → AcceptOfStep one_way Uni (Some 2) new → new.accepted_bidi ≡ 1 → ⊥
 
 -- `write`, `finish` and `reset` don't answer so (sections 2.2, 2.4 and 3.1)
 pub record NoSuchSending : Type 0 where
@@ -142,6 +163,7 @@ pub record LimitsOnlyRise : Type 0 where
 pub record NotOwned : Type 0 where
   pub opening : NoSuchOpening
   pub accepting : NoSuchAccepting
+  pub accepting_of : NoSuchAcceptingOf
   pub sending : NoSuchSending
   pub reading : NoSuchReading
   pub settling : LimitsSettle

@@ -86,6 +86,15 @@ AcceptOpen old answer new =
 abbrev pub AcceptStep : End → Option ℕ → End → Type 0
 AcceptStep old answer new = MatchBool (is_some old.closed) (GivesNone old answer new) (AcceptOpen old answer new)
 
+-- the same of one direction alone: lower numbers first
+abbrev pub AcceptOpenOf : End → Dir → Option ℕ → End → Type 0
+AcceptOpenOf old Bidi answer new =
+    MatchBool (nat_lt old.accepted_bidi (opened_count old (peer_type old Bidi))) (GivesBidi old answer new) (GivesNone old answer new)
+AcceptOpenOf old Uni answer new = GivesUni old answer new
+
+abbrev pub AcceptOfStep : End → Dir → Option ℕ → End → Type 0
+AcceptOfStep old d answer new = MatchBool (is_some old.closed) (GivesNone old answer new) (AcceptOpenOf old d answer new)
+
 -- Sending (RFC 9000, sections 2.4 and 3.1)
 
 -- the stream has no such half: it isn't open, or it goes the other way

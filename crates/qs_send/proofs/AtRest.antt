@@ -31,6 +31,14 @@ rest_acked n lo hi le = rw (drop_all {X = ℕ} (missing_from (set.union (numbers
 pub rest_lost : (n lo hi : ℕ) → hi ≤ n → parts_at_rest n ≡ with_lost (parts_at_rest n) lo hi
 rest_lost n lo hi le = rw (none_lost lo hi n le) refl
 
+pub rest_missing : (n : ℕ) → n ≡ missing_from (numbers 0 n) 0
+rest_missing n =
+    missing_from-of (numbers 0 n) 0 n (record {
+      from = omega arith;
+      missing = grind (arith, nat_tests, contains-numbers 0 n n);
+      all_before = λ q low below. grind (arith, nat_tests, contains-numbers 0 n q, below);
+    })
+
 pub offsets_at_rest : (n : ℕ) → n ≤ MAX_VARINT → AreOffsets n n [] (numbers 0 n) set.empty
 offsets_at_rest n small =
     record {

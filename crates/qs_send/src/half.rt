@@ -5,7 +5,7 @@ ghost use Rattle.qs_send.specs.Chunks.{IsDueChunk, WasSent};
 ghost use Rattle.qs_send.specs.Sound.{IsLawful};
 ghost use Rattle.qs_send.specs.declared.parts.Reset.{Reset};
 ghost use Rattle.qs_send.specs.Writable.{is_writable};
-ghost use Rattle.qs_send.specs.Lane.{new_sending, free_room, accepted, refusal, answer_of, reset_refusal, is_whole, state, declared_size, after_write, after_finish, after_reset, after_stopped, after_reset_acked, after_blocked, after_allow, after_sent, after_acked, after_lost};
+ghost use Rattle.qs_send.specs.Lane.{new_sending, free_room, unacked_from, accepted, refusal, answer_of, reset_refusal, is_whole, state, declared_size, after_write, after_finish, after_reset, after_stopped, after_reset_acked, after_blocked, after_allow, after_sent, after_acked, after_lost};
 
 use crate::offsets::Offsets;
 use crate::parts::{Chunk, SendFault, SendState};
@@ -304,6 +304,13 @@ impl SendHalf {
         ensures small { result ≤ MAX_VARINT }
     {
         self.offsets.sent_end()
+    }
+
+    /// The lowest offset that isn't acknowledged (RFC 9000, section 13.3).
+    pub fn unacked_from(&self) -> u64
+        ensures { result ≡ unacked_from self.now.lane }
+    {
+        self.offsets.unacked_from()
     }
 
     /// The offsets below it may be sent.

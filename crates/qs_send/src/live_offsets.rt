@@ -55,6 +55,13 @@ impl LiveOffsets {
         self.sent_end
     }
 
+    /// The lowest offset that isn't acknowledged.
+    pub(crate) fn unacked_from(&self) -> u64
+        ensures { result ≡ missing_from self.now.parts.acked 0 }
+    {
+        self.acked.first_missing(0)
+    }
+
     pub(crate) fn kept_len(&self) -> usize
         ensures { result ≡ length self.now.parts.kept }
     {

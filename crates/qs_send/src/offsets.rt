@@ -60,6 +60,17 @@ impl Offsets {
         }
     }
 
+    /// The lowest offset that isn't acknowledged.
+    #[tactic(auto, using(crate::proofs::AtRest::rest_missing))]
+    pub(crate) fn unacked_from(&self) -> u64
+        ensures { result ≡ missing_from self.now.parts.acked 0 }
+    {
+        match &self.live {
+            None => self.written,
+            Some(live) => live.unacked_from(),
+        }
+    }
+
     pub(crate) fn kept_len(&self) -> usize
         ensures { result ≡ length self.now.parts.kept }
     {

@@ -1,6 +1,6 @@
 //! What an end's owner, and the layer beneath, may ask of it. Nothing changes.
 ghost use Rattle.std.specs.Prelude.{◌≡◌, ◌↔◌, IsTrue};
-ghost use Rattle.qs_machine.specs.Asking.{GoesBesideAck, peer_closing, streams_left, open_left, is_blocked, stopped_with, IsNextOutstanding};
+ghost use Rattle.qs_machine.specs.Asking.{GoesBesideAck, peer_closing, streams_left, open_left, is_blocked, credit_left, room, unsent, acked_below, stopped_with, IsNextOutstanding};
 
 use super::Endpoint;
 use qs_calls::Closed;
@@ -56,6 +56,42 @@ impl Endpoint {
     {
         let is_used_up = self.core.outbox.sent_sum() == self.core.limits.known_data;
         self.core.outbox.waits_for_credit(stream, is_used_up)
+    }
+
+    /// How many bytes beyond all that were sent the peer's limit on the connection lets go (RFC 9000, section 4.1). Bytes that were lost
+    /// need no credit, and written ones use it up as they are sent: see `unsent`.
+    pub fn credit_left(&self) -> u64
+        ensures { result ≡ credit_left self.now }
+    {
+        let known = self.core.limits.known_data;
+        known.saturating_sub(self.core.outbox.sent_sum())
+    }
+
+    /// How many bytes `write` accepts of a stream now, however many are written: 0 where it is refused, as where the stream has no
+    /// sending half here (RFC 9000, sections 2.2 and 2.4). Credit doesn't count: what is written beyond it waits.
+    pub fn room(&self, stream: StreamId) -> u64
+        ensures { result ≡ room self.now stream }
+    {
+        if self.closed.is_some() {
+            return 0;
+        }
+        self.core.outbox.room(stream)
+    }
+
+    /// How many bytes were written to a stream that are still to be sent for the first time: 0 after a reset, since none are sent then
+    /// (RFC 9000, sections 2.2 and 3.1), and where the stream has no sending half here.
+    pub fn unsent(&self, stream: StreamId) -> u64
+        ensures { result ≡ unsent self.now stream }
+    {
+        self.core.outbox.unsent(stream)
+    }
+
+    /// The lowest offset of a stream that isn't acknowledged, in bytes from its start: all below it are (RFC 9000, section 13.3). Where
+    /// it is the count written, every byte is. `None` where the stream has no sending half here.
+    pub fn acked_below(&self, stream: StreamId) -> Option<u64>
+        ensures { result ≡ acked_below self.now stream }
+    {
+        self.core.outbox.acked_below(stream)
     }
 
     /// The code of the peer's STOP_SENDING for a stream, of the first one that came; `None` where none did. It stays, whatever became of the

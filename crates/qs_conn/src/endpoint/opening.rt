@@ -12,7 +12,7 @@ ghost use Rattle.qs_machine.specs.Credit.{settle};
 ghost use Rattle.qs_machine.specs.Due.{known_count};
 ghost use Rattle.qs_machine.specs.Memory.{IsYetToOpen};
 ghost use Rattle.qs_machine.specs.Outgoing.{Outgoing, with_sends};
-ghost use Rattle.qs_machine.specs.Owner.{OpenStep, AcceptStep, own_type, peer_type, opened_count, with_wanted};
+ghost use Rattle.qs_machine.specs.Owner.{OpenStep, AcceptStep, AcceptOfStep, AcceptOpenOf, own_type, peer_type, opened_count, with_wanted};
 
 use super::{Endpoint, is_uni, role_bit};
 use crate::outbox::Outbox;
@@ -50,12 +50,33 @@ impl Endpoint {
     }
 
     /// Gives out each stream that the peer opened, once: bidirectional ones first, lower numbers first.
+    #[tactic(auto, using(crate::proofs::Accepting::bidi_given, crate::proofs::Accepting::uni_given))]
     pub fn accept(&mut self) -> Option<StreamId>
         ensures { AcceptStep self.old result self.new }
+    {
+        match self.accept_of(Dir::Bidi) {
+            Some(stream) => Some(stream),
+            None => self.accept_of(Dir::Uni),
+        }
+    }
+
+    /// Gives out each stream of one direction that the peer opened, once: lower numbers first (RFC 9000, section 2.1). What this
+    /// call gave out `accept` doesn't, and the other way round.
+    pub fn accept_of(&mut self, dir: Dir) -> Option<StreamId>
+        ensures { AcceptOfStep self.old dir result self.new }
     {
         if self.closed.is_some() {
             return None;
         }
+        match dir {
+            Dir::Bidi => self.accept_bidi(),
+            Dir::Uni => self.accept_uni(),
+        }
+    }
+
+    fn accept_bidi(&mut self) -> Option<StreamId>
+        ensures { AcceptOpenOf self.old Dir.Bidi result self.new }
+    {
         let bidi = self.peer_type(Dir::Bidi);
         if self.accepted.bidi < self.opened_count(bidi) as u64 {
             let stream = StreamId::new(self.accepted.bidi * 4 + bidi as u64).unwrap();
@@ -63,6 +84,12 @@ impl Endpoint {
             self.settle();
             return Some(stream);
         }
+        None
+    }
+
+    fn accept_uni(&mut self) -> Option<StreamId>
+        ensures { AcceptOpenOf self.old Dir.Uni result self.new }
+    {
         let uni = self.peer_type(Dir::Uni);
         if self.accepted.uni < self.opened_count(uni) as u64 {
             let stream = StreamId::new(self.accepted.uni * 4 + uni as u64).unwrap();

@@ -6,7 +6,7 @@ ghost use Rattle.qs_machine.specs.Tables.{lookup};
 ghost use Rattle.qs_machine.specs.Sums.{or_none};
 ghost use Rattle.qs_machine.specs.Ends.{End};
 ghost use Rattle.qs_machine.specs.News.{IsLeast, IsHeld};
-ghost use Rattle.qs_machine.specs.Asking.{waits_for_credit};
+ghost use Rattle.qs_machine.specs.Asking.{waits_for_credit, room_of, unsent_of, acked_below_of};
 ghost use Rattle.qs_conn.specs.Marks.{IsBefore, IsHeldOf, AreEndsMarked};
 ghost use Rattle.qs_conn.specs.Sending.{IsDueOf, MayWrite, HasSent};
 ghost use Rattle.qs_conn.specs.Tasks.{IsQuietAt};
@@ -16,7 +16,7 @@ use super::Outbox;
 use super::halves::{half_of, is_open, least_marked, may_have, next_with, next_with_of};
 use crate::marks::Marks;
 use crate::send_marks::Task;
-use qs_send::{Item, Reset, SendState};
+use qs_send::{Item, MAX_VARINT, Reset, SendState};
 use qs_wire::StreamId;
 
 impl Outbox {
@@ -111,6 +111,45 @@ impl Outbox {
             return false;
         }
         either(half.sent_end() == half.limit(), is_used_up)
+    }
+
+    /// How many bytes a stream accepts now, however many are written.
+    pub(crate) fn room(&self, stream: StreamId) -> u64
+        ensures { result ≡ room_of (lookup self.now.sends stream) }
+    {
+        if !is_open(&self.types, stream) {
+            return 0;
+        }
+        let half = half_of(&self.types, stream);
+        if half.refusal().is_some() {
+            return 0;
+        }
+        (half.room() as u64).min(MAX_VARINT - half.written())
+    }
+
+    /// How many bytes of a stream were written that are still to be sent for the first time.
+    pub(crate) fn unsent(&self, stream: StreamId) -> u64
+        ensures { result ≡ unsent_of (lookup self.now.sends stream) }
+    {
+        if !is_open(&self.types, stream) {
+            return 0;
+        }
+        let half = half_of(&self.types, stream);
+        if let Some(_code) = half.reset_code() {
+            return 0;
+        }
+        half.written().saturating_sub(half.sent_end())
+    }
+
+    /// The lowest offset of a stream that isn't acknowledged.
+    pub(crate) fn acked_below(&self, stream: StreamId) -> Option<u64>
+        ensures { result ≡ acked_below_of (lookup self.now.sends stream) }
+    {
+        if !is_open(&self.types, stream) {
+            return None;
+        }
+        let half = half_of(&self.types, stream);
+        Some(half.unacked_from())
     }
 
     /// The least number from one on of a stream that may have a task. The streams between have none of it.

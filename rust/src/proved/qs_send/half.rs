@@ -214,6 +214,11 @@ impl SendHalf {
         self.offsets.sent_end()
     }
 
+    /// The lowest offset that isn't acknowledged (RFC 9000, section 13.3).
+    pub fn unacked_from(&self) -> u64 {
+        self.offsets.unacked_from()
+    }
+
     /// The offsets below it may be sent.
     pub fn limit(&self) -> u64 {
         self.limit

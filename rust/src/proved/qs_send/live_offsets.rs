@@ -34,6 +34,11 @@ impl LiveOffsets {
         self.sent_end
     }
 
+    /// The lowest offset that isn't acknowledged.
+    pub(crate) fn unacked_from(&self) -> u64 {
+        self.acked.first_missing(0)
+    }
+
     pub(crate) fn kept_len(&self) -> usize {
         self.kept.len()
     }

@@ -36,6 +36,14 @@ impl Offsets {
         }
     }
 
+    /// The lowest offset that isn't acknowledged.
+    pub(crate) fn unacked_from(&self) -> u64 {
+        match &self.live {
+            None => self.written,
+            Some(live) => live.unacked_from(),
+        }
+    }
+
     pub(crate) fn kept_len(&self) -> usize {
         match &self.live {
             None => 0,

@@ -36,9 +36,25 @@ impl Endpoint {
 
     /// Gives out each stream that the peer opened, once: bidirectional ones first, lower numbers first.
     pub fn accept(&mut self) -> Option<StreamId> {
+        match self.accept_of(Dir::Bidi) {
+            Some(stream) => Some(stream),
+            None => self.accept_of(Dir::Uni),
+        }
+    }
+
+    /// Gives out each stream of one direction that the peer opened, once: lower numbers first (RFC 9000, section 2.1). What this
+    /// call gave out `accept` doesn't, and the other way round.
+    pub fn accept_of(&mut self, dir: Dir) -> Option<StreamId> {
         if self.closed.is_some() {
             return None;
         }
+        match dir {
+            Dir::Bidi => self.accept_bidi(),
+            Dir::Uni => self.accept_uni(),
+        }
+    }
+
+    fn accept_bidi(&mut self) -> Option<StreamId> {
         let bidi = self.peer_type(Dir::Bidi);
         if self.accepted.bidi < self.opened_count(bidi) as u64 {
             let stream = StreamId::new(self.accepted.bidi * 4 + bidi as u64).unwrap();
@@ -46,6 +62,10 @@ impl Endpoint {
             self.settle();
             return Some(stream);
         }
+        None
+    }
+
+    fn accept_uni(&mut self) -> Option<StreamId> {
         let uni = self.peer_type(Dir::Uni);
         if self.accepted.uni < self.opened_count(uni) as u64 {
             let stream = StreamId::new(self.accepted.uni * 4 + uni as u64).unwrap();

@@ -5,7 +5,7 @@ use super::Outbox;
 use super::halves::{half_of, is_open, least_marked, may_have, next_with, next_with_of};
 use crate::proved::qs_conn::marks::Marks;
 use crate::proved::qs_conn::send_marks::Task;
-use crate::proved::qs_send::{Item, Reset, SendState};
+use crate::proved::qs_send::{Item, MAX_VARINT, Reset, SendState};
 use crate::proved::qs_wire::StreamId;
 
 impl Outbox {
@@ -83,6 +83,39 @@ impl Outbox {
             return false;
         }
         either(half.sent_end() == half.limit(), is_used_up)
+    }
+
+    /// How many bytes a stream accepts now, however many are written.
+    pub(crate) fn room(&self, stream: StreamId) -> u64 {
+        if !is_open(&self.types, stream) {
+            return 0;
+        }
+        let half = half_of(&self.types, stream);
+        if half.refusal().is_some() {
+            return 0;
+        }
+        (half.room() as u64).min(MAX_VARINT - half.written())
+    }
+
+    /// How many bytes of a stream were written that are still to be sent for the first time.
+    pub(crate) fn unsent(&self, stream: StreamId) -> u64 {
+        if !is_open(&self.types, stream) {
+            return 0;
+        }
+        let half = half_of(&self.types, stream);
+        if let Some(_code) = half.reset_code() {
+            return 0;
+        }
+        half.written().saturating_sub(half.sent_end())
+    }
+
+    /// The lowest offset of a stream that isn't acknowledged.
+    pub(crate) fn acked_below(&self, stream: StreamId) -> Option<u64> {
+        if !is_open(&self.types, stream) {
+            return None;
+        }
+        let half = half_of(&self.types, stream);
+        Some(half.unacked_from())
     }
 
     /// The least number from one on of a stream that may have a task. The streams between have none of it.

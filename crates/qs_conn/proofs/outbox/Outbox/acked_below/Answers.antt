@@ -1,0 +1,13 @@
+use Rattle.std.proofs.Common.{refl, sym, ap, ◌∙◌, ◌≡◌, false, Some, arith}
+use Rattle.qs_machine.specs.Asking.{acked_below_of}
+use Rattle.qs_conn.proofs.Telling.{no_lookup, lookup_now}
+use Rattle.qs_machine.specs.Sums.{tables_of}
+use Rattle.qs_conn.proofs.outbox.Outbox.acked_below.Goals as goal
+
+pub returns-then-not-is_open : goal.returns-then-not-is_open
+returns-then-not-is_open c =
+    let none : c.is_open.result ≡ false = grind (arith, c.if-not-is_open.true) in
+    sym (ap acked_below_of (no_lookup _ c.args.self.now (tables_of c.self.inside.types) c.args.stream c.self.view_is refl (sym c.is_open.ensures ∙ none)))
+
+pub returns : goal.returns
+returns c = ap Some c.unacked_from.ensures ∙ sym (ap acked_below_of (lookup_now _ c.args.self.now (tables_of c.self.inside.types) c.args.stream c.half_of-half.result.now c.self.view_is refl c.half_of-half.ensures))
