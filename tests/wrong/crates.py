@@ -55,6 +55,19 @@ class Functions:
         end = min([at for file, at, _ in self.found if file == path and at > start], default=len(text))
         return path, range(text.count("\n", 0, start) + 1, text.count("\n", 0, end) + 2)
 
+    def with_bodies_of(self, kept, path, text):
+        """The text of a file in which only these functions have their bodies; each line stays where it is. (By the layout of `rt fmt` a body
+        stands between two lines of its own, or its first line ends the signature.)"""
+        lines = text.split("\n")
+        begins = [(self.texts[path].count("\n", 0, at), name) for file, at, name in self.found if file == path]
+        for (first, name), (last, _) in zip(begins, [*begins[1:], (len(lines), "")]):
+            indent = re.match(" *", lines[first])[0]
+            opens = [k for k in range(first, last) if re.match(rf"{indent}(\{{|\S.* \{{)$", lines[k])]
+            ends = [k for k in range(first, last) if lines[k] == indent + "}"]
+            if name not in kept and opens and ends and opens[0] + 1 < ends[0]:
+                lines[opens[0] + 1 : ends[0]] = ["unreachable!()", *[""] * (ends[0] - opens[0] - 2)]
+        return "\n".join(lines)
+
     def changed_by(self, path, old):
         """The function in which a text of a file stands; of a text before the first function, all of that file."""
         place, of_file = self.texts[path].find(old), [(at, name) for file, at, name in self.found if file == path]

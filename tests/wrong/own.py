@@ -31,7 +31,7 @@ def failures(tool):
             to.parent.mkdir(parents=True, exist_ok=True)
             shutil.copy(it, to)
         (root / "crates.txt").write_text("sample:\n")
-        found = tool.try_all(tool.Repository(root), [], True)
+        found = tool.try_all(tool.Repository(root, tool.Gate()), [], True)
     wrong = [name for name, text in WANTED.items() if not found[f"sample/{name}"].text.startswith(text)]
     for name in wrong:
         print(f"FAILED: the tool says of its own {name}: {found[f'sample/{name}'].text}, and not {WANTED[name]}")
