@@ -434,7 +434,8 @@ GV_API gv_status gv_receiving_report(const gv_endpoint *end, uint64_t stream, gv
  * (section 3.5). */
 GV_API gv_status gv_stopped_with(const gv_endpoint *end, uint64_t stream, uint64_t *code);
 
-/** Whether bytes were written to the stream that weren't sent, and credit alone holds them back (section 4.1). */
+/** Whether bytes were written to the stream that weren't sent, and credit alone holds them back; of a closed end nothing waits (section
+ * 4.1). */
 GV_API gv_status gv_is_blocked(const gv_endpoint *end, uint64_t stream, bool *answer);
 
 /** @}

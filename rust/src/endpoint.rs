@@ -430,7 +430,8 @@ impl Endpoint {
     }
 
     /// Whether bytes were written to the stream that weren't sent, and credit alone holds them back: the stream's limit
-    /// is reached, or the connection's credit is used up (RFC 9000, section 4.1). Bytes that were lost need no credit.
+    /// is reached, or the connection's credit is used up (RFC 9000, section 4.1). Bytes that were lost need no credit. Of
+    /// an end that closed nothing waits.
     pub fn is_blocked(&self, stream: StreamId) -> bool {
         self.inner.is_blocked(stream.inner())
     }

@@ -111,6 +111,12 @@ fn credit_alone_blocks() {
     server.read(first, &mut bytes).expect("open");
     while pass(&mut server, &mut client).is_some() {}
     assert!(!client.is_blocked(first));
+    // A closed end sends nothing, so nothing waits.
+    client.write(first, &[7; 8]).expect("open");
+    pass(&mut client, &mut server).expect("due");
+    assert!(client.is_blocked(first));
+    client.receive(99, &[0x1d, 0x07, 0x00]).expect("a close");
+    assert!(!client.is_blocked(first));
 }
 
 #[test]

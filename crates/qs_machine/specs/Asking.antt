@@ -38,9 +38,9 @@ abbrev pub waits_for_credit : Bool → Option SendLane → Bool
 waits_for_credit used_up None = false
 waits_for_credit used_up (Some l) = is_none l.was_reset && nat_lt l.sent_end l.written && (l.sent_end == l.limit || used_up)
 
--- the same of a stream at this end (RFC 9000, section 4.1)
+-- the same of a stream at this end; one that closed sends nothing, so nothing waits (RFC 9000, sections 4.1 and 10.2)
 abbrev pub is_blocked : End → ℕ → Bool
-is_blocked e n = waits_for_credit (all_sent e == e.known_data) (send_lane e n)
+is_blocked e n = is_none e.closed && waits_for_credit (all_sent e == e.known_data) (send_lane e n)
 
 -- how many bytes beyond all that were sent the peer's limit on the connection lets go (RFC 9000, section 4.1)
 abbrev pub credit_left : End → ℕ

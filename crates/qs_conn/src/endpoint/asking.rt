@@ -50,12 +50,13 @@ impl Endpoint {
     }
 
     /// Whether bytes were written to the stream that weren't sent, and credit alone holds them back: the stream's limit is reached, or
-    /// the connection's credit is used up (RFC 9000, section 4.1). Bytes that were lost need no credit.
+    /// the connection's credit is used up (RFC 9000, section 4.1). Bytes that were lost need no credit. Of an end that closed nothing waits:
+    /// it sends nothing more (section 10.2).
     pub fn is_blocked(&self, stream: StreamId) -> bool
         ensures { result ≡ is_blocked self.now stream }
     {
         let is_used_up = self.core.outbox.sent_sum() == self.core.limits.known_data;
-        self.core.outbox.waits_for_credit(stream, is_used_up)
+        self.closed.is_none() && self.core.outbox.waits_for_credit(stream, is_used_up)
     }
 
     /// How many bytes beyond all that were sent the peer's limit on the connection lets go (RFC 9000, section 4.1). Bytes that were lost
