@@ -388,6 +388,10 @@ GV_API gv_status gv_open(gv_endpoint *end, gv_dir dir, uint64_t *stream, uint64_
 /** Gives out each stream that the peer opened, once (section 2.1). ::GV_NONE: there is none. */
 GV_API gv_status gv_accept(gv_endpoint *end, uint64_t *stream);
 
+/** Gives out each stream of one direction that the peer opened, once: what this gave out gv_accept() doesn't, and the other way round
+ * (section 2.1). ::GV_NONE: there is none. */
+GV_API gv_status gv_accept_of(gv_endpoint *end, gv_dir dir, uint64_t *stream);
+
 /** Accepts the front of the bytes for sending, and writes to *count how many (section 2.2). ::GV_CONNECTION_CLOSED, ::GV_NO_SUCH_STREAM,
  * ::GV_WRONG_DIRECTION, ::GV_SENDING_RESET, ::GV_SENDING_FINISHED, ::GV_NO_MEMORY: nothing changed. */
 GV_API gv_status gv_write(gv_endpoint *end, uint64_t stream, const uint8_t *bytes, size_t len, size_t *count);
@@ -438,9 +442,24 @@ GV_API gv_status gv_stopped_with(const gv_endpoint *end, uint64_t stream, uint64
  * 4.1). */
 GV_API gv_status gv_is_blocked(const gv_endpoint *end, uint64_t stream, bool *answer);
 
+/** How many bytes gv_write() accepts of a stream now, however many are written: 0 where it is refused (sections 2.2 and 2.4). Credit doesn't
+ * count: what is written beyond it waits. */
+GV_API gv_status gv_room(const gv_endpoint *end, uint64_t stream, uint64_t *count);
+
+/** How many bytes were written to a stream that are still to be sent for the first time: 0 after a reset, and where the stream has no
+ * sending half here (section 2.2). */
+GV_API gv_status gv_unsent(const gv_endpoint *end, uint64_t stream, uint64_t *count);
+
+/** The lowest offset of a stream that isn't acknowledged, in bytes from its start: all below it are (section 13.3). ::GV_NONE: the stream
+ * has no sending half here. */
+GV_API gv_status gv_acked_below(const gv_endpoint *end, uint64_t stream, uint64_t *offset);
+
 /** @}
  * @name Credit
  * @{ */
+
+/** How many bytes beyond all that were sent the peer's limit on the connection lets go (section 4.1). Bytes that were lost need none. */
+GV_API gv_status gv_credit_left(const gv_endpoint *end, uint64_t *count);
 
 /** How many streams of a direction the peer may open in all time to come (section 4.6). */
 GV_API gv_status gv_streams_left(const gv_endpoint *end, gv_dir dir, uint64_t *count);

@@ -267,6 +267,8 @@ gv_status gv_open(gv_endpoint *end, gv_dir dir, uint64_t *stream, uint64_t *limi
 
 gv_status gv_accept(gv_endpoint *end, uint64_t *stream) { return ask(gvp_accept, end, stream); }
 
+gv_status gv_accept_of(gv_endpoint *end, gv_dir dir, uint64_t *stream) { return ask_of_dir(gvp_accept_of, end, dir, stream); }
+
 gv_status gv_write(gv_endpoint *end, uint64_t stream, const uint8_t *bytes, size_t len, size_t *count) {
   size_t got = 0;
   if (end == NULL || count == NULL || !is_slice(bytes, len)) return GV_INVALID;
@@ -356,7 +358,15 @@ gv_status gv_is_blocked(const gv_endpoint *end, uint64_t stream, bool *answer) {
   return status;
 }
 
+gv_status gv_room(const gv_endpoint *end, uint64_t stream, uint64_t *count) { return ask_of(gvp_room, end, stream, count); }
+
+gv_status gv_unsent(const gv_endpoint *end, uint64_t stream, uint64_t *count) { return ask_of(gvp_unsent, end, stream, count); }
+
+gv_status gv_acked_below(const gv_endpoint *end, uint64_t stream, uint64_t *offset) { return ask_of(gvp_acked_below, end, stream, offset); }
+
 /* Credit. */
+
+gv_status gv_credit_left(const gv_endpoint *end, uint64_t *count) { return ask(gvp_credit_left, end, count); }
 
 gv_status gv_streams_left(const gv_endpoint *end, gv_dir dir, uint64_t *count) { return ask_of_dir(gvp_streams_left, end, dir, count); }
 

@@ -118,6 +118,7 @@ uint32_t gvp_receive(gvp_handle *end, uint64_t number, const uint8_t *payload, s
 uint32_t gvp_make_packet_from(gvp_handle *end, uint64_t first, uint64_t delay, uint8_t *out, size_t room, gvp_made *made);
 uint32_t gvp_open(gvp_handle *end, uint32_t dir, uint64_t *number);
 uint32_t gvp_accept(gvp_handle *end, uint64_t *stream);
+uint32_t gvp_accept_of(gvp_handle *end, uint32_t dir, uint64_t *stream);
 uint32_t gvp_write(gvp_handle *end, uint64_t stream, const uint8_t *bytes, size_t len, size_t *count);
 uint32_t gvp_finish(gvp_handle *end, uint64_t stream);
 uint32_t gvp_reset(gvp_handle *end, uint64_t stream, uint64_t code);
@@ -135,6 +136,10 @@ uint32_t gvp_lane_report(gvp_handle *end, uint64_t stream, gvp_lane *lane);
 uint32_t gvp_stopped_with(gvp_handle *end, uint64_t stream, uint64_t *code);
 uint32_t gvp_is_sendable(gvp_handle *end, bool *answer);
 uint32_t gvp_is_blocked(gvp_handle *end, uint64_t stream, bool *answer);
+uint32_t gvp_credit_left(gvp_handle *end, uint64_t *count);
+uint32_t gvp_room(gvp_handle *end, uint64_t stream, uint64_t *count);
+uint32_t gvp_unsent(gvp_handle *end, uint64_t stream, uint64_t *count);
+uint32_t gvp_acked_below(gvp_handle *end, uint64_t stream, uint64_t *offset);
 uint32_t gvp_streams_left(gvp_handle *end, uint32_t dir, uint64_t *count);
 uint32_t gvp_open_left(gvp_handle *end, uint32_t dir, uint64_t *count);
 uint32_t gvp_granted_streams(gvp_handle *end, uint32_t dir, uint64_t *count);

@@ -1,7 +1,7 @@
 //! What the calls ask of an end. Nothing changes.
 ghost use Rattle.std.specs.Prelude.{◌≡◌, ◌↔◌, ℕ, Option, option_map, IsTrue, MatchBool};
 ghost use Rattle.qs_machine.specs.News.{IsLeast, IsReadable, IsWritable, IsSendable, IsEnded};
-ghost use Rattle.qs_machine.specs.Asking.{GoesBesideAck, peer_closing, streams_left, open_left, is_blocked, stopped_with, IsNextOutstanding};
+ghost use Rattle.qs_machine.specs.Asking.{GoesBesideAck, peer_closing, streams_left, open_left, is_blocked, credit_left, room, unsent, acked_below, stopped_with, IsNextOutstanding};
 ghost use Rattle.qs_machine.specs.Newly.{IsNewlyAcked};
 ghost use Rattle.qs_machine.specs.Credit.{spent, all_stored, granted_streams};
 ghost use Rattle.qs_machine.specs.Reports.{lane_report};
@@ -67,6 +67,42 @@ impl Thing {
         };
         *answer = self.end.is_blocked(id);
         OK
+    }
+
+    pub(crate) fn credit_left(&self, count: &mut u64) -> u32
+        ensures { (result ≡ 0) × (count.new ≡ credit_left self.now) }
+    {
+        *count = self.end.credit_left();
+        OK
+    }
+
+    pub(crate) fn room(&self, stream: u64, count: &mut u64) -> u32
+        ensures { MatchBool (is_small stream) ((result ≡ 0) × (count.new ≡ room self.now stream)) (Invalid result count.old count.new) }
+    {
+        let Some(id) = StreamId::new(stream) else {
+            return INVALID;
+        };
+        *count = self.end.room(id);
+        OK
+    }
+
+    pub(crate) fn unsent(&self, stream: u64, count: &mut u64) -> u32
+        ensures { MatchBool (is_small stream) ((result ≡ 0) × (count.new ≡ unsent self.now stream)) (Invalid result count.old count.new) }
+    {
+        let Some(id) = StreamId::new(stream) else {
+            return INVALID;
+        };
+        *count = self.end.unsent(id);
+        OK
+    }
+
+    pub(crate) fn acked_below(&self, stream: u64, offset: &mut u64) -> u32
+        ensures { MatchBool (is_small stream) ((result, offset.new) ≡ found (acked_below self.now stream) offset.old) (Invalid result offset.old offset.new) }
+    {
+        let Some(id) = StreamId::new(stream) else {
+            return INVALID;
+        };
+        of_number(self.end.acked_below(id), offset)
     }
 
     pub(crate) fn ack_is_due(&self, answer: &mut bool) -> u32

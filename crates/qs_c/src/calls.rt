@@ -9,7 +9,7 @@ ghost use Rattle.qs_calls.specs.declared.making.Made.{Made};
 ghost use Rattle.qs_calls.specs.declared.closing.Closing.{Closing};
 ghost use Rattle.qs_calls.specs.declared.closing.Received.{Received};
 ghost use Rattle.qs_calls.specs.declared.settings.RaiseFault.{RaiseFault};
-ghost use Rattle.qs_machine.specs.Owner.{WriteStep, FinishStep, ResetStep, StopStep, ReadStep, OpenStep, AcceptStep};
+ghost use Rattle.qs_machine.specs.Owner.{WriteStep, FinishStep, ResetStep, StopStep, ReadStep, OpenStep, AcceptStep, AcceptOfStep};
 ghost use Rattle.qs_machine.specs.Receiving.{ReceiveStep};
 ghost use Rattle.qs_machine.specs.Making.{MakeStep, MakeAckStep, ClaimStep, LoseStep, ClosePayload};
 ghost use Rattle.qs_machine.specs.Raising.{RaiseStep};
@@ -73,6 +73,15 @@ impl Thing {
         ensures { (a : Option ℕ) × ((result, stream.new) ≡ found a stream.old) × AcceptStep self.old a self.new }
     {
         of_stream(self.end.accept(), stream)
+    }
+
+    pub(crate) fn accept_of(&mut self, dir: u32, stream: &mut u64) -> u32
+        ensures { Tested (is_flag dir) self.old self.new (Invalid result stream.old stream.new) ((a : Option ℕ) × ((result, stream.new) ≡ found a stream.old) × AcceptOfStep self.old (dir_of dir) a self.new) }
+    {
+        let Some(way) = dir_of(dir) else {
+            return INVALID;
+        };
+        of_stream(self.end.accept_of(way), stream)
     }
 
     pub(crate) fn write(&mut self, stream: u64, bytes: &[u8], count: &mut usize) -> u32

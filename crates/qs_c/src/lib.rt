@@ -32,12 +32,12 @@ ghost use Rattle.qs_calls.specs.declared.making.Made.{Made};
 ghost use Rattle.qs_calls.specs.declared.closing.Closing.{Closing};
 ghost use Rattle.qs_calls.specs.declared.closing.Received.{Received};
 ghost use Rattle.qs_calls.specs.declared.settings.RaiseFault.{RaiseFault};
-ghost use Rattle.qs_machine.specs.Owner.{WriteStep, FinishStep, ResetStep, StopStep, ReadStep, OpenStep, AcceptStep};
+ghost use Rattle.qs_machine.specs.Owner.{WriteStep, FinishStep, ResetStep, StopStep, ReadStep, OpenStep, AcceptStep, AcceptOfStep};
 ghost use Rattle.qs_machine.specs.Receiving.{ReceiveStep};
 ghost use Rattle.qs_machine.specs.Making.{MakeStep, MakeAckStep, ClaimStep, LoseStep, ClosePayload};
 ghost use Rattle.qs_machine.specs.Raising.{RaiseStep};
 ghost use Rattle.qs_machine.specs.News.{IsLeast, IsReadable, IsWritable, IsSendable, IsEnded};
-ghost use Rattle.qs_machine.specs.Asking.{GoesBesideAck, peer_closing, streams_left, open_left, is_blocked, stopped_with, IsNextOutstanding};
+ghost use Rattle.qs_machine.specs.Asking.{GoesBesideAck, peer_closing, streams_left, open_left, is_blocked, credit_left, room, unsent, acked_below, stopped_with, IsNextOutstanding};
 ghost use Rattle.qs_machine.specs.Newly.{IsNewlyAcked};
 ghost use Rattle.qs_machine.specs.Credit.{spent, all_stored, granted_streams};
 ghost use Rattle.qs_machine.specs.Reports.{own_closing, lane_report};
@@ -151,6 +151,18 @@ pub extern "C" fn gvp_accept(alloc: Global, end: &mut Handle, stream: &mut u64) 
         return INVALID;
     };
     let status = thing.accept(stream);
+    end.put(thing);
+    status
+}
+
+#[unsafe(no_mangle)]
+pub extern "C" fn gvp_accept_of(alloc: Global, end: &mut Handle, dir: u32, stream: &mut u64) -> u32
+    ensures { Called end.old.cell.value end.new.cell.value (is_flag dir) (Invalid result stream.old stream.new) (λ e f. (a : Option ℕ) × ((result, stream.new) ≡ found a stream.old) × AcceptOfStep e (dir_of dir) a f) }
+{
+    let Some(mut thing) = end.take(alloc) else {
+        return INVALID;
+    };
+    let status = thing.accept_of(dir, stream);
     end.put(thing);
     status
 }
@@ -361,6 +373,59 @@ pub extern "C" fn gvp_is_blocked(
         return INVALID;
     };
     let status = thing.is_blocked(stream, answer);
+    end.put(thing);
+    status
+}
+
+#[unsafe(no_mangle)]
+pub extern "C" fn gvp_credit_left(alloc: Global, end: &mut Handle, count: &mut u64) -> u32
+    ensures { Asked end.old.cell.value end.new.cell.value true (Invalid result count.old count.new) (λ e. (result ≡ 0) × (count.new ≡ credit_left e)) }
+{
+    let Some(thing) = end.take(alloc) else {
+        return INVALID;
+    };
+    let status = thing.credit_left(count);
+    end.put(thing);
+    status
+}
+
+#[unsafe(no_mangle)]
+pub extern "C" fn gvp_room(alloc: Global, end: &mut Handle, stream: u64, count: &mut u64) -> u32
+    ensures { Asked end.old.cell.value end.new.cell.value (is_small stream) (Invalid result count.old count.new) (λ e. (result ≡ 0) × (count.new ≡ room e stream)) }
+{
+    let Some(thing) = end.take(alloc) else {
+        return INVALID;
+    };
+    let status = thing.room(stream, count);
+    end.put(thing);
+    status
+}
+
+#[unsafe(no_mangle)]
+pub extern "C" fn gvp_unsent(alloc: Global, end: &mut Handle, stream: u64, count: &mut u64) -> u32
+    ensures { Asked end.old.cell.value end.new.cell.value (is_small stream) (Invalid result count.old count.new) (λ e. (result ≡ 0) × (count.new ≡ unsent e stream)) }
+{
+    let Some(thing) = end.take(alloc) else {
+        return INVALID;
+    };
+    let status = thing.unsent(stream, count);
+    end.put(thing);
+    status
+}
+
+#[unsafe(no_mangle)]
+pub extern "C" fn gvp_acked_below(
+    alloc: Global,
+    end: &mut Handle,
+    stream: u64,
+    offset: &mut u64,
+) -> u32
+    ensures { Asked end.old.cell.value end.new.cell.value (is_small stream) (Invalid result offset.old offset.new) (λ e. (result, offset.new) ≡ found (acked_below e stream) offset.old) }
+{
+    let Some(thing) = end.take(alloc) else {
+        return INVALID;
+    };
+    let status = thing.acked_below(stream, offset);
     end.put(thing);
     status
 }

@@ -56,6 +56,7 @@ exports! {
 
     gvp_open(end: &mut Handle, dir: u32, number: &mut u64) = (Global, end, dir, number);
     gvp_accept(end: &mut Handle, stream: &mut u64) = (Global, end, stream);
+    gvp_accept_of(end: &mut Handle, dir: u32, stream: &mut u64) = (Global, end, dir, stream);
     gvp_write(end: &mut Handle, stream: u64, bytes: *const u8, len: usize, count: &mut usize)
         = (Global, end, stream, read!(bytes, len), count);
     gvp_finish(end: &mut Handle, stream: u64) = (Global, end, stream);
@@ -76,6 +77,10 @@ exports! {
     gvp_stopped_with(end: &mut Handle, stream: u64, code: &mut u64) = (Global, end, stream, code);
     gvp_is_sendable(end: &mut Handle, answer: &mut bool) = (Global, end, answer);
     gvp_is_blocked(end: &mut Handle, stream: u64, answer: &mut bool) = (Global, end, stream, answer);
+    gvp_credit_left(end: &mut Handle, count: &mut u64) = (Global, end, count);
+    gvp_room(end: &mut Handle, stream: u64, count: &mut u64) = (Global, end, stream, count);
+    gvp_unsent(end: &mut Handle, stream: u64, count: &mut u64) = (Global, end, stream, count);
+    gvp_acked_below(end: &mut Handle, stream: u64, offset: &mut u64) = (Global, end, stream, offset);
     gvp_ack_is_due(end: &mut Handle, answer: &mut bool) = (Global, end, answer);
     gvp_streams_left(end: &mut Handle, dir: u32, count: &mut u64) = (Global, end, dir, count);
     gvp_open_left(end: &mut Handle, dir: u32, count: &mut u64) = (Global, end, dir, count);

@@ -49,6 +49,34 @@ impl Thing {
         OK
     }
 
+    pub(crate) fn credit_left(&self, count: &mut u64) -> u32 {
+        *count = self.end.credit_left();
+        OK
+    }
+
+    pub(crate) fn room(&self, stream: u64, count: &mut u64) -> u32 {
+        let Some(id) = StreamId::new(stream) else {
+            return INVALID;
+        };
+        *count = self.end.room(id);
+        OK
+    }
+
+    pub(crate) fn unsent(&self, stream: u64, count: &mut u64) -> u32 {
+        let Some(id) = StreamId::new(stream) else {
+            return INVALID;
+        };
+        *count = self.end.unsent(id);
+        OK
+    }
+
+    pub(crate) fn acked_below(&self, stream: u64, offset: &mut u64) -> u32 {
+        let Some(id) = StreamId::new(stream) else {
+            return INVALID;
+        };
+        of_number(self.end.acked_below(id), offset)
+    }
+
     pub(crate) fn ack_is_due(&self, answer: &mut bool) -> u32 {
         *answer = self.end.ack_is_due();
         OK

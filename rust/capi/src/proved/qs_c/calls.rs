@@ -50,6 +50,13 @@ impl Thing {
         of_stream(self.end.accept(), stream)
     }
 
+    pub(crate) fn accept_of(&mut self, dir: u32, stream: &mut u64) -> u32 {
+        let Some(way) = dir_of(dir) else {
+            return INVALID;
+        };
+        of_stream(self.end.accept_of(way), stream)
+    }
+
     pub(crate) fn write(&mut self, stream: u64, bytes: &[u8], count: &mut usize) -> u32 {
         let Some(id) = StreamId::new(stream) else {
             return INVALID;

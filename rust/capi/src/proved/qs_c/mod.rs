@@ -103,6 +103,15 @@ pub fn gvp_accept(alloc: Global, end: &mut Handle, stream: &mut u64) -> u32 {
     status
 }
 
+pub fn gvp_accept_of(alloc: Global, end: &mut Handle, dir: u32, stream: &mut u64) -> u32 {
+    let Some(mut thing) = end.take(alloc) else {
+        return INVALID;
+    };
+    let status = thing.accept_of(dir, stream);
+    end.put(thing);
+    status
+}
+
 pub fn gvp_write(
     alloc: Global,
     end: &mut Handle,
@@ -267,6 +276,47 @@ pub fn gvp_is_blocked(
         return INVALID;
     };
     let status = thing.is_blocked(stream, answer);
+    end.put(thing);
+    status
+}
+
+pub fn gvp_credit_left(alloc: Global, end: &mut Handle, count: &mut u64) -> u32 {
+    let Some(thing) = end.take(alloc) else {
+        return INVALID;
+    };
+    let status = thing.credit_left(count);
+    end.put(thing);
+    status
+}
+
+pub fn gvp_room(alloc: Global, end: &mut Handle, stream: u64, count: &mut u64) -> u32 {
+    let Some(thing) = end.take(alloc) else {
+        return INVALID;
+    };
+    let status = thing.room(stream, count);
+    end.put(thing);
+    status
+}
+
+pub fn gvp_unsent(alloc: Global, end: &mut Handle, stream: u64, count: &mut u64) -> u32 {
+    let Some(thing) = end.take(alloc) else {
+        return INVALID;
+    };
+    let status = thing.unsent(stream, count);
+    end.put(thing);
+    status
+}
+
+pub fn gvp_acked_below(
+    alloc: Global,
+    end: &mut Handle,
+    stream: u64,
+    offset: &mut u64,
+) -> u32 {
+    let Some(thing) = end.take(alloc) else {
+        return INVALID;
+    };
+    let status = thing.acked_below(stream, offset);
     end.put(thing);
     status
 }
