@@ -41,6 +41,7 @@ pub mod ExclusionsMemory
 pub mod ExclusionsReceiving
 pub mod ExclusionsOwner
 pub mod ExclusionsNews
+pub mod ExclusionsAsking
 pub mod SettledLimits
 pub mod OffsetParts
 pub mod Claims

@@ -7,6 +7,7 @@ use Rattle.qs_machine.specs.ExclusionsReceiving.{NotReceived}
 use Rattle.qs_machine.specs.ExclusionsMemory.{NotRefused}
 use Rattle.qs_machine.specs.ExclusionsOwner.{NotOwned}
 use Rattle.qs_machine.specs.ExclusionsNews.{NotFound}
+use Rattle.qs_machine.specs.ExclusionsAsking.{NotAsked}
 
 pub record Exclusions : Type 0 where
   pub due : NotDue
@@ -16,3 +17,4 @@ pub record Exclusions : Type 0 where
   pub owner : NotOwned
   pub memory : NotRefused
   pub news : NotFound
+  pub asking : NotAsked

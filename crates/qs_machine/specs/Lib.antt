@@ -36,6 +36,7 @@ pub mod ExclusionsMemory
 pub mod ExclusionsReceiving
 pub mod ExclusionsOwner
 pub mod ExclusionsNews
+pub mod ExclusionsAsking
 pub mod Exclusions
 pub mod SettledLimits
 pub mod OffsetParts

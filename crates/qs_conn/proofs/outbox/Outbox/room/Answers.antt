@@ -1,4 +1,4 @@
-use Rattle.std.proofs.Common.{refl, sym, ◌∙◌, ◌≡◌, true, false, ap, is_some, arith}
+use Rattle.std.proofs.Common.{refl, sym, ◌∙◌, ◌≡◌, false, ap, is_some, arith}
 use Rattle.qs_conn.proofs.Telling.{no_lookup, lookup_now, room_none, room_refused, room_free}
 use Rattle.qs_machine.specs.Sums.{tables_of}
 use Rattle.qs_conn.proofs.outbox.Outbox.room.Goals as goal

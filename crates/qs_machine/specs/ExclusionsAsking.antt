@@ -1,0 +1,53 @@
+-- Of laws.
+-- What an end that is asked tells, and doesn't count (RFC 9000, sections 2.2, 4.1 and 13.3).
+use Rattle.std.specs.Prelude.{◌≡◌, None, Some}
+use Rattle.qs_ranges.specs.Numbers.{numbers}
+use Rattle.qs_machine.specs.Asking.{credit_left, room, unsent, acked_below}
+use Rattle.qs_machine.specs.SmallEnds.{client_with, wrote, sent, second_acked, finished, reset_half}
+use Rattle.qs_machine.specs.ExclusionsOwner.{over}
+
+-- what the connection's credit lets go (section 4.1)
+pub record CreditIsSent : Type 0 where
+  -- what was written doesn't use it
+  pub written : credit_left (client_with wrote) ≡ 4096
+  -- what was sent does
+  pub sent_three : credit_left (client_with sent) ≡ 4093
+
+-- how many bytes a write takes (sections 2.2 and 2.4)
+pub record RoomIsTaken : Type 0 where
+  -- bytes that are kept take room
+  pub kept : room (client_with wrote) 0 ≡ 2045
+  -- credit doesn't count
+  pub beyond : room (client_with (record wrote { limit = 0 })) 0 ≡ 2045
+  -- none is taken past the greatest offset (section 16)
+  pub last : room (client_with (record wrote { written = 4611686018427387902 })) 0 ≡ 1
+  -- nor of a stream that was finished
+  pub after_finish : room (client_with finished) 0 ≡ 0
+  -- or reset
+  pub after_reset : room (client_with reset_half) 0 ≡ 0
+  -- nor of one that isn't open
+  pub unopened : room (client_with wrote) 4 ≡ 0
+  -- nor by an end that closed
+  pub closed : room (over (client_with wrote)) 0 ≡ 0
+
+-- how many bytes are still to be sent for the first time (sections 2.2 and 3.1)
+pub record UnsentIsNew : Type 0 where
+  pub written : unsent (client_with wrote) 0 ≡ 3
+  -- none that was sent
+  pub sent_three : unsent (client_with sent) 0 ≡ 0
+  -- and none after a reset
+  pub after_reset : unsent (client_with reset_half) 0 ≡ 0
+
+-- below which offset each is acknowledged (section 13.3)
+pub record AckedInARow : Type 0 where
+  pub two : acked_below (client_with (record sent { acked = numbers 0 2 })) 0 ≡ Some 2
+  -- one further on doesn't count
+  pub second : acked_below (client_with second_acked) 0 ≡ Some 0
+  -- there is none of a stream that isn't open
+  pub unopened : acked_below (client_with sent) 4 ≡ None
+
+pub record NotAsked : Type 0 where
+  pub credit : CreditIsSent
+  pub taken : RoomIsTaken
+  pub new : UnsentIsNew
+  pub acked : AckedInARow
