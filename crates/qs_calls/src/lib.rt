@@ -7,6 +7,7 @@ mod event;
 mod making;
 mod report;
 mod settings;
+mod token;
 mod uses;
 
 pub use answer::Answer;
@@ -16,4 +17,5 @@ pub use making::{LostFault, Made, MakeFault};
 pub use qs_send::MAX_VARINT;
 pub use report::{LaneReport, RecvReport, SendReport};
 pub use settings::{PeerLimits, RaiseFault, Settings, SetupFault};
+pub use token::{TakeFault, Taken, Token, TokenFault};
 pub use uses::{OpenFault, UseFault};

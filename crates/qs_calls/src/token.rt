@@ -1,0 +1,50 @@
+//! Frames that come without their packet, and tokens of packets, for a stack that owns its packet numbers and its ACKs.
+
+use crate::Closing;
+use thiserror::Error;
+
+/// The token of a packet that was filled: by it the packet is told to be acknowledged or lost. It is the number under which the end keeps
+/// what it put in (RFC 9000, section 13.3), and no packet number of the stack's own.
+#[derive(Clone, Copy, Debug, PartialEq, Eq, Drop)]
+pub struct Token {
+    pub number: u64,
+}
+
+/// What came of a frame that was handed in, or of several.
+#[derive(Clone, Copy, Debug, PartialEq, Eq, Drop)]
+pub enum Taken {
+    /// It took effect, and something changed.
+    Took,
+    /// It took effect, and nothing changed by it: it came before, or holds nothing, or raises nothing. A stack may count those against a
+    /// peer that only makes work (RFC 9000, section 21.9).
+    Unchanged,
+    /// It is of a kind that is the stack's own affair, and changed nothing.
+    NotOurs,
+}
+
+/// Why a frame that was handed in took no effect.
+#[derive(Clone, Copy, Debug, PartialEq, Eq, Drop, Error)]
+pub enum TakeFault {
+    /// This end closed, for this frame or before (RFC 9000, section 10.2).
+    #[error("this end closed the connection")]
+    Closing(Closing),
+    /// The end saw its peer close before, with this code.
+    #[error("the peer closed the connection with code {0}")]
+    PeerClosed(u64),
+    /// The frame changed nothing, and may come again.
+    #[error("out of memory")]
+    NoMemory,
+}
+
+/// Why a token was not told to be acknowledged or lost, or not in whole.
+#[derive(Clone, Copy, Debug, PartialEq, Eq, Drop, Error)]
+pub enum TokenFault {
+    /// No packet was made yet that has it.
+    #[error("no packet has this token")]
+    NotGiven,
+    /// Some of what the packet carried may be told already. The call may be made again.
+    #[error("out of memory")]
+    NoMemory,
+    #[error("the connection is closed")]
+    Closed,
+}

@@ -1,0 +1,68 @@
+// Made from crates/qs_calls/src/token.rt by rust/erase; not edited by hand.
+//! Frames that come without their packet, and tokens of packets, for a stack that owns its packet numbers and its ACKs.
+
+use crate::proved::qs_calls::Closing;
+
+/// The token of a packet that was filled: by it the packet is told to be acknowledged or lost. It is the number under which the end keeps
+/// what it put in (RFC 9000, section 13.3), and no packet number of the stack's own.
+#[derive(Clone, Copy, Debug, PartialEq, Eq)]
+pub struct Token {
+    pub number: u64,
+}
+
+/// What came of a frame that was handed in, or of several.
+#[derive(Clone, Copy, Debug, PartialEq, Eq)]
+pub enum Taken {
+    /// It took effect, and something changed.
+    Took,
+    /// It took effect, and nothing changed by it: it came before, or holds nothing, or raises nothing. A stack may count those against a
+    /// peer that only makes work (RFC 9000, section 21.9).
+    Unchanged,
+    /// It is of a kind that is the stack's own affair, and changed nothing.
+    NotOurs,
+}
+
+/// Why a frame that was handed in took no effect.
+#[derive(Clone, Copy, Debug, PartialEq, Eq)]
+pub enum TakeFault {
+    /// This end closed, for this frame or before (RFC 9000, section 10.2).
+    Closing(Closing),
+    /// The end saw its peer close before, with this code.
+    PeerClosed(u64),
+    /// The frame changed nothing, and may come again.
+    NoMemory,
+}
+
+impl core::fmt::Display for TakeFault {
+    fn fmt(&self, f: &mut core::fmt::Formatter<'_>) -> core::fmt::Result {
+        match self {
+            Self::Closing(..) => f.write_str("this end closed the connection"),
+            Self::PeerClosed(field) => write!(f, "the peer closed the connection with code {0}", field),
+            Self::NoMemory => f.write_str("out of memory"),
+        }
+    }
+}
+
+impl core::error::Error for TakeFault {}
+
+/// Why a token was not told to be acknowledged or lost, or not in whole.
+#[derive(Clone, Copy, Debug, PartialEq, Eq)]
+pub enum TokenFault {
+    /// No packet was made yet that has it.
+    NotGiven,
+    /// Some of what the packet carried may be told already. The call may be made again.
+    NoMemory,
+    Closed,
+}
+
+impl core::fmt::Display for TokenFault {
+    fn fmt(&self, f: &mut core::fmt::Formatter<'_>) -> core::fmt::Result {
+        match self {
+            Self::NotGiven => f.write_str("no packet has this token"),
+            Self::NoMemory => f.write_str("out of memory"),
+            Self::Closed => f.write_str("the connection is closed"),
+        }
+    }
+}
+
+impl core::error::Error for TokenFault {}
