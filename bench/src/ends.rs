@@ -1,7 +1,7 @@
 //! Two ends in one process, and what the rows do with them.
 
 use crate::pattern::{self, Source};
-use gotsavena::{Dir, Endpoint, Made, Read, Role, Settings, StreamId};
+use gotsavena::{Dir, Endpoint, Fill, Read, Role, Settings, StreamId};
 
 /// What a row of the whole loop asks for.
 #[derive(Clone, Copy)]
@@ -22,6 +22,8 @@ pub struct Load {
     pub total: u64,
     /// The room of a packet, in bytes.
     pub room: usize,
+    /// Packets are filled, as of a stack that owns them, and not made.
+    pub filled: bool,
     /// How many bytes are written in all before each burst, about.
     pub fill: usize,
 }
@@ -35,6 +37,7 @@ pub const PLAIN: Load = Load {
     lose: 0,
     total: 128 << 20,
     room: 1200,
+    filled: false,
     fill: 256 << 10,
 };
 
@@ -51,7 +54,8 @@ pub struct Pair {
     given: Vec<u64>,
     taken: Vec<u64>,
     out: Vec<u8>,
-    packets: Vec<(Made, Vec<u8>)>,
+    // Their numbers and lengths, and the payloads.
+    packets: Vec<(u64, usize, Vec<u8>)>,
     spare: Vec<Vec<u8>>,
     lost: Vec<u64>,
     pub made: u64,
@@ -115,22 +119,32 @@ impl Pair {
         for _ in 0..self.load.burst {
             let mut payload = self.spare.pop().unwrap_or_default();
             payload.resize(self.load.room, 0);
-            match self.sender.make_packet(&mut payload) {
-                Ok(Some(made)) => self.packets.push((made, payload)),
-                _ => break,
-            }
+            let Some((number, len)) = self.make(&mut payload) else {
+                break;
+            };
+            self.packets.push((number, len, payload));
         }
-        for (made, payload) in self.packets.drain(..) {
+        for (number, len, payload) in self.packets.drain(..) {
             self.made += 1;
             if self.load.lose > 0 && self.made % self.load.lose == 0 {
-                self.lost.push(made.number);
+                self.lost.push(number);
             } else {
                 self.reader
-                    .receive(made.number, &payload[..made.len])
+                    .receive(number, &payload[..len])
                     .expect("an honest packet");
             }
             self.spare.push(payload);
         }
+    }
+
+    // The next packet: its number and its length.
+    fn make(&mut self, payload: &mut [u8]) -> Option<(u64, usize)> {
+        if self.load.filled {
+            let filled = self.sender.fill(payload, &Fill::all()).ok()??;
+            return Some((filled.token.number, filled.len));
+        }
+        let made = self.sender.make_packet(payload).ok()??;
+        Some((made.number, made.len))
     }
 
     /// Reads what came on each active stream, and answers how many bytes.

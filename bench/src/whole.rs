@@ -29,6 +29,12 @@ pub fn rows() -> Vec<Row> {
     };
     vec![
         row("loop", || transfer(PLAIN)),
+        row("filled", || {
+            transfer(Load {
+                filled: true,
+                ..PLAIN
+            })
+        }),
         row("loop-ack-each-2", || transfer(Load { burst: 2, ..PLAIN })),
         row("loop-lost-each-100th", || {
             transfer(Load { lose: 100, ..PLAIN })

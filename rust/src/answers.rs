@@ -59,6 +59,14 @@ pub struct Made {
     pub is_ack_eliciting: bool,
 }
 
+/// The token of a packet: by it the end is told that the packet was acknowledged or lost. It is the number under which
+/// the end keeps what the packet carries (RFC 9000, section 13.3).
+#[derive(Clone, Copy, Debug, PartialEq, Eq)]
+pub struct Token {
+    /// The number of [`Made`].
+    pub number: u64,
+}
+
 /// How much memory an end takes for the bytes of its streams, in bytes.
 #[derive(Clone, Copy, Debug, PartialEq, Eq)]
 pub struct Held {

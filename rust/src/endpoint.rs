@@ -4,6 +4,7 @@ use crate::answers::{Closing, Held, Made, Read, Received, StreamReport};
 use crate::faults::{
     LostFault, MakeFault, OpenFault, RaiseFault, ReceiveFault, SetupFault, UseFault,
 };
+use crate::filling::{Fill, Filled};
 use crate::frame::MAX_VARINT;
 use crate::ids::{Dir, Role, StreamId};
 use crate::proved::qs_conn as conn;
@@ -231,6 +232,47 @@ impl Endpoint {
         }
         match self.inner.make_packet_from(first.inner(), delay, out) {
             Ok(made) => Ok(made.map(Made::of)),
+            Err(fault) => Err(MakeFault::of(fault)),
+        }
+    }
+
+    /// Fills a slice with frames of what is due and asked for, for a packet of a stack that owns its packets: never an ACK,
+    /// which stays due. Control items come first, and then bytes of streams by turns (RFC 9000, sections 2.3, 4, 12.4 and
+    /// 13.3). `None` where nothing that is asked for may go, or the room is too little: with [`MIN_FILL`](crate::MIN_FILL)
+    /// bytes it says that nothing may. The slice may have any length; of it changes only what is filled.
+    ///
+    /// What went in has a token, which takes the place of a packet number that the stack keeps to itself: it is told to be
+    /// acknowledged or lost.
+    ///
+    /// ```
+    /// use gotsavena::{Dir, Endpoint, Fill, Frame, Role, Settings, frames};
+    ///
+    /// let settings = Settings::default();
+    /// let mut client = Endpoint::new(Role::Client, settings, settings.limits())?;
+    /// let low = client.open(Dir::Uni)?;
+    /// let high = client.open(Dir::Uni)?;
+    /// client.write(low, b"low")?;
+    /// client.write(high, b"high")?;
+    ///
+    /// let mut room = [0; 100];
+    /// let filled = client.fill(&mut room, &Fill::data().only(high))?.expect("bytes are due");
+    /// assert_eq!((filled.last_stream, filled.more), (Some(high), false));
+    /// let placed = frames(&room[..filled.len]).next().expect("one frame")?;
+    /// assert!(matches!(placed.frame, Frame::Stream { stream, bytes: b"high", .. } if stream == high));
+    /// // The bytes of `low` are due still.
+    /// let filled = client.fill(&mut room, &Fill::all().from(high))?.expect("bytes are due");
+    /// assert_eq!(filled.last_stream, Some(low));
+    /// assert!(client.fill(&mut room, &Fill::all())?.is_none());
+    /// # Ok::<(), Box<dyn std::error::Error>>(())
+    /// ```
+    ///
+    /// # Errors
+    ///
+    /// `Closed`; `Exhausted` where the last number was used (section 12.3); and `NoMemory`, where something that is asked
+    /// for may go. Then nothing changed.
+    pub fn fill(&mut self, out: &mut [u8], want: &Fill) -> Result<Option<Filled>, MakeFault> {
+        match self.inner.fill(out, want.inner()) {
+            Ok(filled) => Ok(filled.map(Filled::of)),
             Err(fault) => Err(MakeFault::of(fault)),
         }
     }

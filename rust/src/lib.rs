@@ -72,6 +72,7 @@ extern crate std;
 mod answers;
 mod endpoint;
 mod faults;
+mod filling;
 mod frame;
 mod ids;
 #[rustfmt::skip]
@@ -81,12 +82,14 @@ pub(crate) mod shim;
 mod streams;
 
 pub use answers::{
-    Closing, Held, Made, Read, Received, RecvReport, RecvState, SendReport, SendState, StreamReport,
+    Closing, Held, Made, Read, Received, RecvReport, RecvState, SendReport, SendState,
+    StreamReport, Token,
 };
 pub use endpoint::{Endpoint, MAX_PAYLOAD, MAX_ROOM, MIN_ROOM};
 pub use faults::{
     LostFault, MakeFault, OpenFault, PutFault, RaiseFault, ReceiveFault, SetupFault, UseFault,
 };
+pub use filling::{Fill, Filled, MIN_FILL};
 pub use frame::{
     AckRanges, EcnCounts, FaultKind, Frame, Frames, Placed, WireFault, frames, last_stream, put,
     put_ack, read_varint, write_varint,

@@ -3,7 +3,7 @@
 
 mod support;
 
-use gotsavena::{Dir, Endpoint, Role, Settings, StreamId};
+use gotsavena::{Dir, Endpoint, Fill, Filled, MakeFault, Role, Settings, StreamId};
 use std::alloc::{GlobalAlloc, Layout, System};
 use std::cell::Cell;
 use support::{Player, Random};
@@ -236,4 +236,55 @@ fn no_call_asks_but_those_that_are_listed() {
     }
     assert!(asked.iter().all(|count| *count > 0), "{asked:?}");
     println!("{TAKING:?} asked {asked:?} times");
+}
+
+// An end that has bytes to send and no control item.
+fn with_bytes() -> Endpoint {
+    let settings = Settings::default();
+    let mut end = Endpoint::new(Role::Client, settings, settings.limits()).expect("within range");
+    let stream = end.open(Dir::Uni).expect("granted");
+    end.write(stream, b"some bytes").expect("room");
+    end
+}
+
+// What a fill answers and writes of which this allocation is refused, and whether there was one.
+fn filled(
+    end: &mut Endpoint,
+    want: Fill,
+    refused: u64,
+) -> (Result<Option<Filled>, MakeFault>, [u8; 64], bool) {
+    let mut out = [0; 64];
+    ASKED.set(0);
+    REFUSED.set(refused);
+    IS_CALLED.set(true);
+    let answer = end.fill(&mut out, &want);
+    IS_CALLED.set(false);
+    (answer, out, ASKED.get() > refused)
+}
+
+#[test]
+fn a_fill_without_memory_changes_nothing() {
+    let (wanted, text, _) = filled(&mut with_bytes(), Fill::all(), u64::MAX);
+    assert!(matches!(wanted, Ok(Some(_))));
+    let mut refusals = 0;
+    for refused in 0.. {
+        let mut end = with_bytes();
+        let (answer, out, was_refused) = filled(&mut end, Fill::all(), refused);
+        if !was_refused {
+            break;
+        }
+        if answer == Err(MakeFault::NoMemory) {
+            refusals += 1;
+            assert_eq!(out, [0; 64]);
+            let again = filled(&mut end, Fill::all(), u64::MAX);
+            assert_eq!((again.0, again.1), (wanted, text));
+        } else {
+            // It did without.
+            assert_eq!((answer, out), (wanted, text));
+        }
+        // Where nothing that is asked for may go, no memory is missed.
+        let (answer, ..) = filled(&mut with_bytes(), Fill::control(), refused);
+        assert_eq!(answer, Ok(None));
+    }
+    assert!(refusals > 0);
 }

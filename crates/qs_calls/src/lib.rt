@@ -4,6 +4,7 @@
 mod answer;
 mod closing;
 mod event;
+mod filling;
 mod making;
 mod report;
 mod settings;
@@ -13,6 +14,7 @@ mod uses;
 pub use answer::Answer;
 pub use closing::{Closed, Closing, Received};
 pub use event::{Act, Event, MAX_BYTES, MAX_ROOM, MIN_ROOM, Side};
+pub use filling::{Fill, Filled, MIN_FILL};
 pub use making::{LostFault, Made, MakeFault};
 pub use qs_send::MAX_VARINT;
 pub use report::{LaneReport, RecvReport, SendReport};

@@ -1,5 +1,5 @@
 -- The ACK of the kept numbers begins a packet.
-use Rattle.std.proofs.Common.{◌≡◌, ℕ, zero, suc, ◌+◌, ◌-◌, ◌<◌, ◌≤◌, ◌^◌, true, false, ◌&&◌, List, [], ◌∷◌, ◌++◌, length, map, take, drop, refl, sym, ap, ◌∙◌, subst, arith, inl, inr, nat_le, get_or, None}
+use Rattle.std.proofs.Common.{Bool, ◌≡◌, ℕ, zero, suc, ◌+◌, ◌-◌, ◌<◌, ◌≤◌, ◌^◌, true, false, ◌&&◌, List, [], ◌∷◌, ◌++◌, length, map, take, drop, refl, sym, ap, ◌∙◌, subst, arith, inl, inr, nat_le, get_or, None}
 use Rattle.std.specs.Prelude.{All, reverse}
 use Rattle.std.proofs.lemmas.List.Elements.{All-head, All-tail}
 use Rattle.std.proofs.lemmas.Grind.{reverse_onto}
@@ -7,6 +7,7 @@ use Rattle.std.proofs.lemmas.Bool.{true≢false, cases_lt, or_left, or_cases}
 use Rattle.std.proofs.lemmas.Bool.Decides.{nat_tests}
 use Rattle.std.proofs.lemmas.List.{length-reverse, length-take-le, take-append-drop, take_all, take_more}
 use Rattle.std.specs.FinSet as set
+use Rattle.std.specs.List.{AllByRecursion}
 use Rattle.qs_ranges.specs.Numbers.{NumberSet, is_within, run_starts}
 use Rattle.qs_ranges.specs.Runs.{Runs, AreApartFrom, AreRunsOf, has_number}
 use Rattle.qs_ranges.proofs.Members.{has_number-append, set_of-is}
@@ -23,7 +24,8 @@ use Rattle.qs_machine.specs.Seen.{Ack, seen}
 use Rattle.qs_machine.specs.FrameStep.{is_named}
 use Rattle.qs_machine.specs.Lawful.{MayAck, Fills, AreInTurn, frame_put}
 use Rattle.qs_machine.specs.Making.{IsText, IsPlainAck, NamesMost}
-use Rattle.qs_conn.specs.Filling.{InPacket, IsAckText, Begun, IsPassed, no_slot}
+use Rattle.qs_conn.specs.declared.filling.Wish.{Wish}
+use Rattle.qs_conn.specs.Filling.{IsWished, IsAckLeft, InPacket, IsAckText, Begun, IsPassed, no_slot}
 use Rattle.qs_conn.proofs.PacketOrder.{order_first}
 use Rattle.qs_conn.proofs.Texts.{no_text, text_push, ack_left}
 
@@ -218,28 +220,37 @@ module _ (delay : ℕ) (old : End) (runs pairs : Runs) (is : AreRunsOf old.done 
         ranges = map inclusive (take n pairs);
         is = seen_is delay old runs pairs is highest ok due n some within;
         may = may_ack delay old runs pairs is highest ok due n some within;
+        full = elim (cases_lt n (length pairs)) [
+          | inl fewer ↦ inl (omega (arith, ap length written, ack_left delay pairs n room ok some fewer (most (n + 1) (omega arith) (omega (arith, fewer)))))
+          | inr all ↦ inr (all_named delay old runs pairs is highest ok due n some within all)
+        ];
       }
 
-  pub begun_ack : (room : ℕ) (text : List ℕ) → text ≡ canonical begins → ((m : ℕ) → n < m → m ≤ length pairs → room < length (canonical (ack_of delay (take m pairs)))) → all_sent old ≤ old.known_data → ((x : Piece) → InPacket old x → ⊥) →
-      Begun delay room old text (record old { ack_due = false }) (IsPassed no_slot)
-  unfolding frame_put
-  begun_ack room text written most sent fresh =
-      record {
-        frames = begins ∷ [];
-        fills = subst (λ f. Fills old old (f ∷ []) (record old { ack_due = false })) (sym (seen_is delay old runs pairs is highest ok due n some within)) (may_ack delay old runs pairs is highest ok due n some within, refl);
-        spells = subst (IsText delay (begins ∷ [])) (sym written) (text_push delay [] [] begins (no_text delay) (ack_fits delay (take n pairs) small first_ok) (plain delay (take n pairs) first_ok));
-        acks = (more_than room most, tt);
-        turns = λ first. subst (λ f. AreInTurn first old (f ∷ [])) (sym (seen_is delay old runs pairs is highest ok due n some within)) (tt, tt);
-        order = order_first old fresh;
-        steady = refl;
-        within = sent;
-        ack = λ x. elim (cases_lt n (length pairs)) [
-          | inl fewer ↦ inl (omega (arith, ap length written, ack_left delay pairs n room ok some fewer (most (n + 1) (omega arith) (omega (arith, fewer)))))
-          | inr all ↦ inr (top_of (take n pairs), map inclusive (take n pairs), inl (sym (seen_is delay old runs pairs is highest ok due n some within)), all_named delay old runs pairs is highest ok due n some within all)
-        ];
-        items = λ i p x. absurd p;
-        no_chunk = λ m c there. fresh (Data m c) there;
-      }
+-- a packet begins with it
+pub begun_ack : (wish : Wish) (room : ℕ) (old : End) (text : List ℕ) → IsAckText wish.delay room old text → wish.ack_due ≡ true → wish.want.items ≡ true → all_sent old ≤ old.known_data → ((x : Piece) → InPacket old x → ⊥)
+    → Begun wish room old text (record old { ack_due = false }) (IsPassed no_slot)
+unfolding frame_put
+begun_ack wish room old text t goes asked sent fresh =
+    record {
+      asked = asked;
+      frames = t.frame ∷ [];
+      fills = subst (λ f. Fills old old (f ∷ []) (record old { ack_due = false })) (sym t.is) (t.may, refl);
+      spells = t.spells;
+      acks = (t.most, tt);
+      wished = subst (λ f. AllByRecursion (IsWished wish) (f ∷ [])) (sym t.is) (goes, tt);
+      turns = λ first. subst (λ f. AreInTurn first old (f ∷ [])) (sym t.is) (tt, tt);
+      order = order_first old fresh;
+      steady = refl;
+      within = sent;
+      ack = λ x. elim t.full [ inl full ↦ inl full | inr all ↦ inr (t.largest, t.ranges, inl (sym t.is), all) ];
+      items = λ i p x. absurd p;
+      no_chunk = λ m c there. fresh (Data m c) there;
+    }
+
+pub begun_left : (wish : Wish) (room : ℕ) (old : End) (left : Bool) (text : List ℕ) → IsAckText wish.delay room old text → IsAckLeft true old.ack_due left → wish.ack_due ≡ true → wish.want.items ≡ true → all_sent old ≤ old.known_data → ((x : Piece) → InPacket old x → ⊥)
+    → Begun wish room old text (record old { ack_due = left }) (IsPassed no_slot)
+begun_left wish room old left text t due goes asked sent fresh =
+    subst (λ b. Begun wish room old text (record old { ack_due = b }) (IsPassed no_slot)) (sym due.1) (begun_ack wish room old text t goes asked sent fresh)
 
 -- what an ACK can be made of
 pub pairs_ok : (s : NumberSet) (runs : Runs) → AreRunsOf s runs → All (λ run. run.1 ≤ 2 ^ 62) runs → 0 < length runs → length runs ≤ 32 → AreAckPairs (reverse runs)

@@ -14,12 +14,14 @@ use Rattle.qs_send.specs.Chunks.{IsNextChunk, HasNoChunk, HasBytes, IsHeldByRoom
 use Rattle.qs_send.specs.Laws.{fresh_after}
 use Rattle.qs_send.specs.declared.parts.Chunk.{Chunk}
 use Rattle.qs_send.specs.declared.piece.Item.{Item}
+use Rattle.qs_send.specs.declared.piece.Piece.{Piece}
 use Rattle.qs_send.specs.declared.piece.Piece.TheVariants.{Data}
 use Rattle.qs_send.proofs.Canonical.{frame_len_is_canonical}
 use Rattle.qs_send.proofs.Held.{held_by_room_or_limits}
 use Rattle.qs_ranges.specs.Numbers.{MAX_VARINT, same_numbers}
 use Rattle.qs_recv.specs.Lane.{RecvLane}
 use Rattle.qs_conn.specs.declared.limits.Limits.{Limits}
+use Rattle.qs_conn.specs.declared.filling.Wish.{Wish}
 use Rattle.qs_machine.specs.Outgoing.{Outgoing, HasSending, chunk_put, on_lane, sent_sum}
 use Rattle.qs_machine.specs.Sums.{or_none}
 use Rattle.qs_machine.proofs.TableLaws.{lookup_same, total_update}
@@ -29,13 +31,15 @@ use Rattle.qs_machine.specs.Credit.{all_sent}
 use Rattle.qs_machine.specs.Seen.{Seen, Ack, Stream, Control, seen_all}
 use Rattle.qs_machine.specs.Due.{Among, IsDueItem, IsDue, IsEndDue, StreamGoes}
 use Rattle.qs_machine.specs.Lawful.{Fills, AcksAll, AreInTurn, ComesBefore, frame_put, pieces_so_far}
+use Rattle.qs_calls.specs.declared.filling.Fill.{Fill}
+use Rattle.qs_machine.specs.Filling.{IsAsked}
 use Rattle.qs_machine.specs.InOrder.{AreInOrder}
 use Rattle.qs_machine.specs.Making.{IsText, NamesMost}
 use Rattle.qs_machine.proofs.Carried.{among_more}
-use Rattle.qs_conn.specs.Filling.{end_by, MayGo, stream_frame, InPacket, all_items, turn_at, HadTurn, IsOnWay, start_of, way_end, Flowing, Flow, Packed, Stage}
+use Rattle.qs_conn.specs.Filling.{IsWished, IsAckLeft, end_by, MayGo, stream_frame, InPacket, all_items, turn_at, HadTurn, IsOnWay, start_of, way_end, Flowing, Flow, Packed, Stage}
 use Rattle.qs_conn.proofs.Items.{fills_push, sum_by_base, known_by_base}
-use Rattle.qs_conn.proofs.Texts.{all_push, text_push, seen_push}
-use Rattle.qs_conn.proofs.Stages.{no_ack, turn_push}
+use Rattle.qs_conn.proofs.Texts.{all_push, no_text, text_push, seen_push}
+use Rattle.qs_conn.proofs.Stages.{turn_push}
 use Rattle.qs_conn.proofs.PacketOrder.{order_chunk}
 use Rattle.qs_conn.proofs.Chunks.{Ties, ties_of, same_truth, IsClear, may_carry, chunk_lane, chunk_sum, chunk_known, clear_old, clear_new, cut_last, goes_other, chunk_only, none_goes}
 use Rattle.qs_conn.proofs.Openings.{none_is}
@@ -43,16 +47,18 @@ use Rattle.qs_conn.proofs.Sendables.{passed_all}
 
 -- A packet with the streams that had their turn before n, and some chunks of stream n: of these no later one begins where another ended,
 -- or none may follow.
-pub record Chunking (delay room : ℕ) (old : End) (text : List ℕ) (e : End) (around : Bool) (first n : ℕ) : Type 0 where
+pub record Chunking (wish : Wish) (room : ℕ) (old : End) (text : List ℕ) (e : End) (around : Bool) (first n : ℕ) : Type 0 where
   pub frames : List FrameValue
   pub fills : Fills old old (seen_all frames) e
-  pub spells : IsText delay frames text
-  pub acks : AllByRecursion (NamesMost old delay room) frames
+  pub spells : IsText wish.delay frames text
+  pub acks : AllByRecursion (NamesMost old wish.delay room) frames
+  pub wished : AllByRecursion (IsWished wish) (seen_all frames)
   pub turns : AreInTurn first old (seen_all frames)
-  pub order : AreInOrder old [] (pieces_so_far e e.next)
+  pub order : wish.want.items ≡ true → AreInOrder old [] (pieces_so_far e e.next)
   pub within : all_sent e ≤ e.known_data
-  pub ack : old.ack_due ≡ true → (room < length text + 25) ⊎ AcksAll old (seen_all frames)
-  pub items : (i : Item) → IsDueItem old i → Among (Control i) (seen_all frames)
+  pub ack : wish.ack_due ≡ true → (room < length text + 25) ⊎ AcksAll old (seen_all frames)
+  pub items : wish.want.items ≡ true → (i : Item) → IsDueItem old i → Among (Control i) (seen_all frames)
+  pub asked : IsAsked wish.want n
   pub on_way : IsOnWay around first n
   pub over : (m : ℕ) → HadTurn around first n m → StreamGoes e m → ⊥
   pub untouched : (m : ℕ) → (HadTurn around first n m → ⊥) → m ≢ n → (c : Chunk) → InPacket e (Data m c) → ⊥
@@ -97,51 +103,82 @@ comes_before true first m n on (inl (ge, lt)) = inl ge
 comes_before true first m n on (inr (lt, some)) = inr lt
 
 -- after the control items
-pub flow_first : (first delay room : ℕ) (old : End) (text : List ℕ) (e : End) (b : Bool) → Stage delay room old text e b all_items → Flow delay room old text e b (turn_at false first first)
-flow_first first delay room old text e true s = s first
-flow_first first delay room old text e false s =
+pub flow_first : (first : ℕ) (wish : Wish) (room : ℕ) (old : End) (text : List ℕ) (e : End) (b : Bool) → Stage wish room old text e b all_items → Flow wish room old text e b (turn_at false first first)
+flow_first first wish room old text e true s = s first
+flow_first first wish room old text e false s =
     record {
       frames = s.frames;
       fills = s.fills;
       spells = s.spells;
       acks = s.acks;
+      wished = s.wished;
       turns = s.turns first;
-      order = s.order;
+      order = λ on. s.order;
       within = (let same = sum_by_base e old s.steady in let known = known_by_base e old s.steady in omega (arith, same, known, s.within));
       ack = s.ack;
-      items = λ i due. s.items i (passed_all i) due;
+      items = λ on i due. s.items i (passed_all i) due;
       over = λ n (ge, lt). absurd (omega (arith, ge, lt));
       untouched = λ n no c there. s.no_chunk n c there;
     }
 
+-- where none are asked for, and no ACK is to go
+pub flow_bare : (first : ℕ) (wish : Wish) (room : ℕ) (old : End) (left : Bool) → wish.want.items ≡ false → IsAckLeft wish.ack_due old.ack_due left → wish.ack_due ≡ false → all_sent old ≤ old.known_data → ((x : Piece) → InPacket old x → ⊥)
+    → Flowing wish room old [] (record old { ack_due = left }) (turn_at false first first)
+flow_bare first wish room old left unasked goes none within fresh = subst (λ b. Flowing wish room old [] (record old { ack_due = b }) (turn_at false first first)) (sym (subst (λ b. IsAckLeft b old.ack_due left) none goes)) bare
+  where
+    bare : Flowing wish room old [] old (turn_at false first first)
+    bare =
+        record {
+          frames = [];
+          fills = refl;
+          spells = no_text wish.delay;
+          acks = tt;
+          wished = tt;
+          turns = tt;
+          order = λ on. absurd (true≢false (sym on ∙ unasked));
+          within = within;
+          ack = λ due. absurd (true≢false (sym due ∙ none));
+          items = λ on. absurd (true≢false (sym on ∙ unasked));
+          over = λ n (ge, lt). absurd (omega (arith, ge, lt));
+          untouched = λ n no c there. fresh (Data n c) there;
+        }
+
+-- no ACK goes without the items
+pub unwished : (ack items : Bool) → (ack ≡ true → items ≡ true) → items ≡ false → ack ≡ false
+unwished true items both none = absurd (true≢false (sym (both refl) ∙ none))
+unwished false items both none = refl
+
 -- a stream begins
-pub chunking_begins : (delay room : ℕ) (old : End) (text : List ℕ) (e : End) (around : Bool) (first n : ℕ) → IsOnWay around first n → Flowing delay room old text e (turn_at around first n) → Chunking delay room old text e around first n
-chunking_begins delay room old text e around first n on f =
+pub chunking_begins : (wish : Wish) (room : ℕ) (old : End) (text : List ℕ) (e : End) (around : Bool) (first n : ℕ) → IsAsked wish.want n → IsOnWay around first n → Flowing wish room old text e (turn_at around first n) → Chunking wish room old text e around first n
+chunking_begins wish room old text e around first n asked on f =
     record {
       frames = f.frames;
       fills = f.fills;
       spells = f.spells;
       acks = f.acks;
+      wished = f.wished;
       turns = f.turns;
       order = f.order;
       within = f.within;
       ack = f.ack;
       items = f.items;
+      asked = asked;
       on_way = on;
       over = f.over;
       untouched = λ m no ne. f.untouched m no;
       clear = inl (λ l there c in_it. absurd (f.untouched n (not_yet around first n on) c in_it));
     }
 
-module _ (delay room : ℕ) (old : End) (text : List ℕ) (e : End) (around : Bool) (first n : ℕ) (k : Chunking delay room old text e around first n) (s : Sending) (t : Ties e n s) (fits : length text ≤ room) where
+module _ (wish : Wish) (room : ℕ) (old : End) (text : List ℕ) (e : End) (around : Bool) (first n : ℕ) (k : Chunking wish room old text e around first n) (s : Sending) (t : Ties e n s) (fits : length text ≤ room) where
   -- it ends, as no chunk may go any more, whatever the room
-  pub chunking_ends : HasNoChunk s 25 (e.known_data - all_sent e) → Flowing delay room old text e (turn_at around first (n + 1))
+  pub chunking_ends : HasNoChunk s 25 (e.known_data - all_sent e) → Flowing wish room old text e (turn_at around first (n + 1))
   chunking_ends none =
       record {
         frames = k.frames;
         fills = k.fills;
         spells = k.spells;
         acks = k.acks;
+        wished = k.wished;
         turns = k.turns;
         order = k.order;
         within = k.within;
@@ -155,10 +192,10 @@ module _ (delay room : ℕ) (old : End) (text : List ℕ) (e : End) (around : Bo
       }
 
   -- the packet is full, as the room holds a chunk back
-  pub chunking_full : HasNoChunk s (room - length text) (e.known_data - all_sent e) → IsHeldByRoom s (room - length text) (e.known_data - all_sent e) → Packed first delay room old text e
+  pub chunking_full : HasNoChunk s (room - length text) (e.known_data - all_sent e) → IsHeldByRoom s (room - length text) (e.known_data - all_sent e) → Packed first wish room old text e
   chunking_full none held =
       let few : room - length text < 19 = (held_by_room_or_limits s (room - length text) (e.known_data - all_sent e) t.lawful none).0 held in
-      record { frames = k.frames; fills = k.fills; spells = k.spells; acks = k.acks; turns = k.turns; order = k.order; within = k.within; whole = λ left. absurd (omega (arith, few, left, fits)) }
+      record { frames = k.frames; fills = k.fills; spells = k.spells; acks = k.acks; wished = k.wished; turns = k.turns; order = k.order; within = k.within; whole = λ left. absurd (omega (arith, few, left, fits)) }
 
   module _ (c : Chunk) (next : IsNextChunk s (room - length text) (e.known_data - all_sent e) c) (has : HasBytes s.lane c) (bytes : List ℕ) (is : bytes ≡ bytes_of s.lane c) (count : length bytes ≡ c.len) where
     abbrev frame : FrameValue
@@ -202,18 +239,20 @@ module _ (delay room : ℕ) (old : End) (text : List ℕ) (e : End) (around : Bo
         ])))
 
     -- one more chunk
-    pub chunking_next : Chunking delay room old text' after around first n
+    pub chunking_next : Chunking wish room old text' after around first n
     chunking_next =
         record {
           frames = k.frames ++ frame ∷ [];
           fills = subst (λ fs. Fills old old fs after) (sym (seen_push k.frames frame)) (fills_push old old e (seen_all k.frames) (Stream n c.offset bytes c.fin) k.fills (s.lane, may_carry e n s t c next.allowed.chunk bytes is count has clear_before));
-          spells = text_push delay k.frames text frame k.spells chunk_fits tt;
-          acks = all_push (NamesMost old delay room) k.frames frame k.acks tt;
+          spells = text_push wish.delay k.frames text frame k.spells chunk_fits tt;
+          acks = all_push (NamesMost old wish.delay room) k.frames frame k.acks tt;
+          wished = subst (AllByRecursion (IsWished wish)) (sym (seen_push k.frames frame)) (all_push (IsWished wish) (seen_all k.frames) (Stream n c.offset bytes c.fin) k.wished k.asked);
           turns = subst (AreInTurn first old) (sym (seen_push k.frames frame)) (turn_push first old old (seen_all k.frames) (Stream n c.offset bytes c.fin) e k.fills k.turns (λ m before. k.over m (comes_before around first m n k.on_way before)));
-          order = order_chunk old e (seen_all k.frames) n c.offset bytes c.fin k.fills k.items k.order;
+          order = λ on. order_chunk old e (seen_all k.frames) n c.offset bytes c.fin k.fills (k.items on) (k.order on);
           within = omega (arith, chunk_known e n s t c next.allowed.chunk bytes count, chunk_sum e n s t c next.allowed.chunk bytes count, k.within, next.allowed.within_credit);
           ack = λ due. elim (k.ack due) [ inl full ↦ inl (omega (arith, len', full)) | inr (largest, ranges, there, all) ↦ inr (largest, ranges, more (Ack largest ranges) there, all) ];
-          items = λ i due. more (Control i) (k.items i due);
+          items = λ on i due. more (Control i) (k.items on i due);
+          asked = k.asked;
           on_way = k.on_way;
           over = λ m had goes. k.over m had (goes_other e n s t c next.allowed.chunk bytes count m (λ same. not_yet around first n k.on_way (subst (HadTurn around first n) same had)) goes);
           untouched = λ m no ne d there. elim (chunk_only e n s t c next.allowed.chunk bytes count m d there) [ inl before ↦ k.untouched m no ne d before | inr (same, new) ↦ ne same ];
@@ -224,13 +263,14 @@ module _ (delay room : ℕ) (old : End) (text : List ℕ) (e : End) (around : Bo
         more x there = subst (Among x) (sym (seen_push k.frames frame)) (among_more (seen_all k.frames) (Stream n c.offset bytes c.fin ∷ []) x there)
 
 -- a stream that can't send
-pub flow_absent : (delay room : ℕ) (old : End) (text : List ℕ) (e : End) (around : Bool) (first n : ℕ) → send_lane e n ≡ None → Flowing delay room old text e (turn_at around first n) → Flowing delay room old text e (turn_at around first (n + 1))
-flow_absent delay room old text e around first n none f =
+pub flow_absent : (wish : Wish) (room : ℕ) (old : End) (text : List ℕ) (e : End) (around : Bool) (first n : ℕ) → send_lane e n ≡ None → Flowing wish room old text e (turn_at around first n) → Flowing wish room old text e (turn_at around first (n + 1))
+flow_absent wish room old text e around first n none f =
     record {
       frames = f.frames;
       fills = f.fills;
       spells = f.spells;
       acks = f.acks;
+      wished = f.wished;
       turns = f.turns;
       order = f.order;
       within = f.within;
@@ -241,14 +281,15 @@ flow_absent delay room old text e around first n none f =
     }
 
 -- streams of which nothing goes
-pub flow_idle : (delay room : ℕ) (old : End) (text : List ℕ) (e : End) (b : Bool) (around : Bool) (first done next : ℕ) → done ≤ next → ((n : ℕ) → done ≤ n → n < next → StreamGoes e n → ⊥) → Flow delay room old text e b (turn_at around first done) → Flow delay room old text e b (turn_at around first next)
-flow_idle delay room old text e true around first done next le idle f = f
-flow_idle delay room old text e false around first done next le idle f =
+pub flow_idle : (wish : Wish) (room : ℕ) (old : End) (text : List ℕ) (e : End) (b : Bool) (around : Bool) (first done next : ℕ) → done ≤ next → ((n : ℕ) → done ≤ n → n < next → StreamGoes e n → ⊥) → Flow wish room old text e b (turn_at around first done) → Flow wish room old text e b (turn_at around first next)
+flow_idle wish room old text e true around first done next le idle f = f
+flow_idle wish room old text e false around first done next le idle f =
     record {
       frames = f.frames;
       fills = f.fills;
       spells = f.spells;
       acks = f.acks;
+      wished = f.wished;
       turns = f.turns;
       order = f.order;
       within = f.within;
@@ -259,15 +300,16 @@ flow_idle delay room old text e false around first done next le idle f =
     }
 
 -- all streams of the way were looked at
-pub flow_way : (delay room : ℕ) (old : End) (text : List ℕ) (e : End) (b : Bool) (around : Bool) (first done : ℕ) → ((n : ℕ) → done ≤ n → IsOnWay around first n → StreamGoes e n → ⊥) → Flow delay room old text e b (turn_at around first done) → Flow delay room old text e b (way_end around first)
-flow_way delay room old text e true false first done past f = f
-flow_way delay room old text e true true first done past f = f
-flow_way delay room old text e false false first done past f =
+pub flow_way : (wish : Wish) (room : ℕ) (old : End) (text : List ℕ) (e : End) (b : Bool) (around : Bool) (first done : ℕ) → ((n : ℕ) → done ≤ n → IsOnWay around first n → StreamGoes e n → ⊥) → Flow wish room old text e b (turn_at around first done) → Flow wish room old text e b (way_end around first)
+flow_way wish room old text e true false first done past f = f
+flow_way wish room old text e true true first done past f = f
+flow_way wish room old text e false false first done past f =
     record {
       frames = f.frames;
       fills = f.fills;
       spells = f.spells;
       acks = f.acks;
+      wished = f.wished;
       turns = f.turns;
       order = f.order;
       within = f.within;
@@ -279,12 +321,13 @@ flow_way delay room old text e false false first done past f =
       ];
       untouched = λ m no. f.untouched m (λ (ge, lt). no (inl ge));
     }
-flow_way delay room old text e false true first done past f =
+flow_way wish room old text e false true first done past f =
     record {
       frames = f.frames;
       fills = f.fills;
       spells = f.spells;
       acks = f.acks;
+      wished = f.wished;
       turns = f.turns;
       order = f.order;
       within = f.within;
@@ -297,28 +340,39 @@ flow_way delay room old text e false true first done past f =
       untouched = λ m no c there. elim (cases_lt m first) [ inl lt ↦ no (inr lt) | inr ge ↦ no (inl ge) ];
     }
 
--- all streams had their turn
-pub flow_packed : (first delay room : ℕ) (old : End) (text : List ℕ) (e : End) (b : Bool) → Flow delay room old text e b (turn_at true first first) → Packed first delay room old text e
-flow_packed first delay room old text e true f = f
-flow_packed first delay room old text e false f =
+-- A packet needs no more once all streams that are asked for had their turn.
+pub flow_packed : (first : ℕ) (wish : Wish) (room : ℕ) (old : End) (text : List ℕ) (e : End) (b around : Bool) (at : ℕ) → ((n : ℕ) → IsAsked wish.want n → HadTurn around first at n) → Flow wish room old text e b (turn_at around first at) → Packed first wish room old text e
+flow_packed first wish room old text e true around at had f = f
+flow_packed first wish room old text e false around at had f =
     record {
       frames = f.frames;
       fills = f.fills;
       spells = f.spells;
       acks = f.acks;
+      wished = f.wished;
       turns = f.turns;
       order = f.order;
       within = f.within;
-      whole = λ left. record {
-        ack = acked left;
-        items = f.items;
-        no_ack = no_ack old e (seen_all f.frames) f.fills (acked left);
-        no_stream = λ n goes. elim (cases_lt n first) [ inl lt ↦ f.over n (inr lt) goes | inr ge ↦ f.over n (inl ge) goes ];
-      };
+      whole = λ left. record { ack = acked left; wanted = record { items = f.items; streams = λ n asked. f.over n (had n asked) } };
     }
   where
-    acked : length text + 25 ≤ room → old.ack_due ≡ true → AcksAll old (seen_all f.frames)
+    acked : length text + 25 ≤ room → wish.ack_due ≡ true → AcksAll old (seen_all f.frames)
     acked left due = elim (f.ack due) [ inl full ↦ absurd (omega (arith, left, full)) | inr all ↦ all ]
+
+-- no stream is asked for
+pub had_none : (want : Fill) (first at : ℕ) → want.streams ≡ false → (n : ℕ) → IsAsked want n → HadTurn false first at n
+had_none want first at none n asked = absurd (true≢false (sym asked.0 ∙ none))
+
+-- one alone is
+pub had_one : (want : Fill) → want.alone ≡ true → (n : ℕ) → IsAsked want n → HadTurn false want.first (want.first + 1) n
+had_one want alone n asked = elim asked.1 [ inl all ↦ absurd (true≢false (sym alone ∙ all)) | inr is ↦ (omega (arith, is), omega (arith, is)) ]
+
+-- all are
+pub had_all : (first n : ℕ) → HadTurn true first first n
+had_all first n = elim (cases_lt n first) [ inl lt ↦ inr lt | inr ge ↦ inl ge ]
+
+pub all_asked : (want : Fill) → want.streams ≡ true → want.alone ≡ false → (n : ℕ) → IsAsked want n
+all_asked want some all n = (some, inl all)
 
 -- Over the parts of an end
 
@@ -329,18 +383,18 @@ end_chunk t recvs o e n c bytes count = ap (λ k. end_by t recvs (chunk_put n (r
 lane_there : (o : Outgoing) (n : ℕ) (s : Sending) → HasSending o n s → or_none (lookup o.sends n) ≡ s.lane
 lane_there o n s h = ap or_none h.lane
 
-pub chunking_put : (around : Bool) (first : ℕ) (t : Limits) (recvs : Tables RecvLane) (o : Outgoing) (e : End) (delay room : ℕ) (old : End) (before after : List ℕ) (len end n : ℕ) (c : Chunk) (left fresh : ℕ) (s : Sending) →
+pub chunking_put : (around : Bool) (first : ℕ) (t : Limits) (recvs : Tables RecvLane) (o : Outgoing) (e : End) (wish : Wish) (room : ℕ) (old : End) (before after : List ℕ) (len end n : ℕ) (c : Chunk) (left fresh : ℕ) (s : Sending) →
     HasSending o n s → IsNextChunk s left fresh c → HasBytes s.lane c → len ≤ length before → room ≡ length before → left ≡ length before - len → fresh ≡ t.known_data - sent_sum o.sends →
     length (bytes_of (or_none (lookup o.sends n)) c) ≡ c.len → take end after ≡ take len before ++ canonical (stream_frame o n c) →
-    Chunking delay room old (take len before) (end_by t recvs o e) around first n → Chunking delay room old (take end after) (end_by t recvs (chunk_put n c o) e) around first n
-chunking_put around first t recvs o e delay room old before after len end n c left fresh s h next has within at left_is fresh_is count text k =
+    Chunking wish room old (take len before) (end_by t recvs o e) around first n → Chunking wish room old (take end after) (end_by t recvs (chunk_put n c o) e) around first n
+chunking_put around first t recvs o e wish room old before after len end n c left fresh s h next has within at left_is fresh_is count text k =
     let there = end_by t recvs o e in
     let len_is : length (take len before) ≡ len = length-take-le len before within in
     let same : room - length (take len before) ≡ left = omega (arith, len_is, at, left_is) in
     let now : IsNextChunk s (room - length (take len before)) (there.known_data - all_sent there) c = subst (λ f. IsNextChunk s (room - length (take len before)) f c) fresh_is (subst (λ r. IsNextChunk s r fresh c) (sym same) next) in
     let bytes : List ℕ = bytes_of (or_none (lookup o.sends n)) c in
     let told : bytes ≡ bytes_of s.lane c = ap (λ l. bytes_of l c) (lane_there o n s h) in
-    rw (text, end_chunk t recvs o e n c bytes count) (chunking_next delay room old (take len before) there around first n k s (ties_of t recvs o e n s h) (omega (arith, len_is, at, within)) c now has bytes told count)
+    rw (text, end_chunk t recvs o e n c bytes count) (chunking_next wish room old (take len before) there around first n k s (ties_of t recvs o e n s h) (omega (arith, len_is, at, within)) c now has bytes told count)
 
 -- there is one half of each stream
 pub one_half : (e : End) (n : ℕ) (s s' : Sending) → Ties e n s → Ties e n s' → s ≡ s'
@@ -358,10 +412,10 @@ one_half e n s s' t t' = same_parts s s' lane offsets fin
     same_parts : (a b : Sending) → a.lane ≡ b.lane → a.due.offsets ≡ b.due.offsets → a.due.fin ≡ b.due.fin → a ≡ b
     same_parts a b lane offsets fin = λ i. record { lane = lane i; due = record { offsets = offsets i; fin = fin i } }
 
-pub flow_ends : (around : Bool) (first : ℕ) (t : Limits) (recvs : Tables RecvLane) (o : Outgoing) (e : End) (delay room : ℕ) (old : End) (before : List ℕ) (len n left fresh : ℕ) (s s' : Sending) (full : Bool) →
+pub flow_ends : (around : Bool) (first : ℕ) (t : Limits) (recvs : Tables RecvLane) (o : Outgoing) (e : End) (wish : Wish) (room : ℕ) (old : End) (before : List ℕ) (len n left fresh : ℕ) (s s' : Sending) (full : Bool) →
     HasSending o n s → HasNoChunk s left fresh → HasSending o n s' → IsTrue full ↔ IsHeldByRoom s' left fresh → len ≤ length before → room ≡ length before → left ≡ length before - len → fresh ≡ t.known_data - sent_sum o.sends →
-    Chunking delay room old (take len before) (end_by t recvs o e) around first n → Flow delay room old (take len before) (end_by t recvs o e) full (turn_at around first (n + 1))
-flow_ends around first t recvs o e delay room old before len n left fresh s s' full h none h' held within at left_is fresh_is k = go full refl
+    Chunking wish room old (take len before) (end_by t recvs o e) around first n → Flow wish room old (take len before) (end_by t recvs o e) full (turn_at around first (n + 1))
+flow_ends around first t recvs o e wish room old before len n left fresh s s' full h none h' held within at left_is fresh_is k = go full refl
   where
     there : End
     there = end_by t recvs o e
@@ -390,15 +444,15 @@ flow_ends around first t recvs o e delay room old before len n left fresh s s' f
     held_then : IsHeldByRoom s (room - length (take len before)) (there.known_data - all_sent there) → IsHeldByRoom s' left fresh
     held_then x = subst (λ y. IsHeldByRoom y left fresh) (sym same) (subst (λ r. IsHeldByRoom s r fresh) (sym room_is) (subst (λ f. IsHeldByRoom s (room - length (take len before)) f) (sym fresh_is) x))
 
-    go : (b : Bool) → full ≡ b → Flow delay room old (take len before) there b (turn_at around first (n + 1))
-    go true is = chunking_full delay room old (take len before) there around first n k s tied fits now (held_now (held.0 is))
-    go false is = chunking_ends delay room old (take len before) there around first n k s tied fits ((held_by_room_or_limits s (room - length (take len before)) (there.known_data - all_sent there) tied.lawful now).1 (λ x. true≢false (sym (held.1 (held_then x)) ∙ is)) 25)
+    go : (b : Bool) → full ≡ b → Flow wish room old (take len before) there b (turn_at around first (n + 1))
+    go true is = chunking_full wish room old (take len before) there around first n k s tied fits now (held_now (held.0 is))
+    go false is = chunking_ends wish room old (take len before) there around first n k s tied fits ((held_by_room_or_limits s (room - length (take len before)) (there.known_data - all_sent there) tied.lawful now).1 (λ x. true≢false (sym (held.1 (held_then x)) ∙ is)) 25)
 
 -- the packet is full, as no frame of a stream fits any more
-pub flow_few : (around : Bool) (first next : ℕ) (e : End) (delay room : ℕ) (old : End) (before : List ℕ) (len n : ℕ) → len ≤ length before → room ≡ length before → length before - len < 25 →
-    Chunking delay room old (take len before) e around first n → Flow delay room old (take len before) e true (turn_at around first next)
-flow_few around first next e delay room old before len n within at few k =
-    record { frames = k.frames; fills = k.fills; spells = k.spells; acks = k.acks; turns = k.turns; order = k.order; within = k.within; whole = λ left. absurd (omega (arith, few, left, at, length-take-le len before within)) }
+pub flow_few : (around : Bool) (first next : ℕ) (e : End) (wish : Wish) (room : ℕ) (old : End) (before : List ℕ) (len n : ℕ) → len ≤ length before → room ≡ length before → length before - len < 25 →
+    Chunking wish room old (take len before) e around first n → Flow wish room old (take len before) e true (turn_at around first next)
+flow_few around first next e wish room old before len n within at few k =
+    record { frames = k.frames; fills = k.fills; spells = k.spells; acks = k.acks; wished = k.wished; turns = k.turns; order = k.order; within = k.within; whole = λ left. absurd (omega (arith, few, left, at, length-take-le len before within)) }
 
 -- the sum of the sent ends stays within the credit
 pub sum_within : (o : Outgoing) (n : ℕ) (s : Sending) (c : Chunk) (left fresh known : ℕ) → HasSending o n s → IsNextChunk s left fresh c → fresh ≡ known - sent_sum o.sends → sent_sum o.sends ≤ known → sent_sum (chunk_put n c o).sends ≤ known
@@ -407,9 +461,9 @@ sum_within o n s c left fresh known h next is le = subst (λ x. sent_sum (update
 pub still_open : (o : Outgoing) (n : ℕ) (s : Sending) (c : Chunk) → HasSending o n s → is_some (lookup (chunk_put n c o).sends n) ≡ true
 still_open o n s c h = subst (λ x. is_some (lookup (updated o.sends n (λ l. sent_lane l c) x) n) ≡ true) (sym h.lane) (ap is_some (lookup_same o.sends n s.lane (sent_lane s.lane c) h.lane))
 
-pub flow_begins : (delay room : ℕ) (old : End) (text : List ℕ) (e : End) (b : Bool) (around : Bool) (first n : ℕ) → b ≡ false → IsOnWay around first n → Flow delay room old text e b (turn_at around first n) → Chunking delay room old text e around first n
-flow_begins delay room old text e true around first n is on f = absurd (true≢false is)
-flow_begins delay room old text e false around first n is on f = chunking_begins delay room old text e around first n on f
+pub flow_begins : (wish : Wish) (room : ℕ) (old : End) (text : List ℕ) (e : End) (b : Bool) (around : Bool) (first n : ℕ) → b ≡ false → IsAsked wish.want n → IsOnWay around first n → Flow wish room old text e b (turn_at around first n) → Chunking wish room old text e around first n
+flow_begins wish room old text e true around first n is asked on f = absurd (true≢false is)
+flow_begins wish room old text e false around first n is asked on f = chunking_begins wish room old text e around first n asked on f
 
 pub two : (t v : ℕ) (rest : List ℕ) → 2 ≤ length (short t ++ (short v ++ rest))
 two t v rest = omega (arith, length-append (short t) (short v ++ rest), length-append (short v) rest, short_positive t, short_positive v)
@@ -429,12 +483,12 @@ may_go o n s c left fresh h next has = record { half = s; there = h; chunk = nex
 pub sum_small : (o : Outgoing) (n : ℕ) (s : Sending) (c : Chunk) (left fresh known : ℕ) → HasSending o n s → IsNextChunk s left fresh c → fresh ≡ known - sent_sum o.sends → sent_sum o.sends ≤ known → known ≤ MAX_VARINT → sent_sum (on_lane n (λ l. sent_lane l c) o).sends ≤ MAX_VARINT
 sum_small o n s c left fresh known h next is le small = (let k : sent_sum (on_lane n (λ l. sent_lane l c) o).sends ≤ known = sum_within o n s c left fresh known h next is le in omega (arith, k, small))
 
-pub flow_none : (delay room : ℕ) (old : End) (text : List ℕ) (e : End) (b : Bool) (around : Bool) (first n : ℕ) → is_some (send_lane e n) ≡ false → Flow delay room old text e b (turn_at around first n) → Flow delay room old text e b (turn_at around first (n + 1))
-flow_none delay room old text e true around first n none f = f
-flow_none delay room old text e false around first n none f = flow_absent delay room old text e around first n (none_is (send_lane e n) none) f
+pub flow_none : (wish : Wish) (room : ℕ) (old : End) (text : List ℕ) (e : End) (b : Bool) (around : Bool) (first n : ℕ) → is_some (send_lane e n) ≡ false → Flow wish room old text e b (turn_at around first n) → Flow wish room old text e b (turn_at around first (n + 1))
+flow_none wish room old text e true around first n none f = f
+flow_none wish room old text e false around first n none f = flow_absent wish room old text e around first n (none_is (send_lane e n) none) f
 
 -- a packet that is full needs no more
-pub flow_whole : (delay room : ℕ) (old : End) (text : List ℕ) (e : End) (b : Bool) (around : Bool) (first n : ℕ) → b ≡ true → Flow delay room old text e b (turn_at around first n) → Flow delay room old text e b (way_end around first)
-flow_whole delay room old text e true false first n is f = f
-flow_whole delay room old text e true true first n is f = f
-flow_whole delay room old text e false around first n is f = absurd (true≢false (sym is))
+pub flow_whole : (wish : Wish) (room : ℕ) (old : End) (text : List ℕ) (e : End) (b : Bool) (around : Bool) (first n : ℕ) → b ≡ true → Flow wish room old text e b (turn_at around first n) → Flow wish room old text e b (way_end around first)
+flow_whole wish room old text e true false first n is f = f
+flow_whole wish room old text e true true first n is f = f
+flow_whole wish room old text e false around first n is f = absurd (true≢false (sym is))

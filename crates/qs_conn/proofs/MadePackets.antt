@@ -1,26 +1,37 @@
--- What a call of make_packet leaves.
-use Rattle.std.proofs.Common.{◌≡◌, ℕ, ◌+◌, ◌<◌, ◌≤◌, Bool, true, false, List, [], ◌∷◌, length, take, refl, sym, ap, ◌∙◌, subst, arith, None, Some, is_some, nat_le}
+-- What a call of make_packet leaves, and one of fill.
+use Rattle.std.proofs.Common.{◌≡◌, ◌≢◌, ◌↔◌, ◌||◌, Option, ℕ, ◌+◌, ◌<◌, ◌≤◌, Bool, true, false, List, [], ◌∷◌, length, take, refl, sym, ap, ◌∙◌, subst, arith, inl, inr, None, Some, is_some, nat_le}
 use Rattle.std.specs.Prelude.{Ok, Err}
+use Rattle.std.proofs.lemmas.Bool.{true≢false}
 use Rattle.std.proofs.lemmas.Bool.Decides.{nat_tests}
 use Rattle.std.proofs.lemmas.List.{length-take-le}
+use Rattle.std.specs.List.{AllByRecursion}
 use Rattle.std.specs.FinMap as fmap
+use Rattle.qs_wire.specs.LastStream.{last_stream_of}
+use Rattle.qs_wire.specs.Layout.{FrameValue, ack}
+use Rattle.qs_wire.specs.Grammar.{Fits, canonical_all, frames_of}
+use Rattle.qs_wire.specs.Reading.{reading_of}
+use Rattle.qs_wire.proofs.PayloadLaws.{canonical_payload, payload_again}
 use Rattle.qs_ranges.specs.Numbers.{MAX_VARINT}
 use Rattle.qs_send.specs.declared.piece.Piece.{Piece}
+use Rattle.qs_calls.specs.declared.filling.Fill.{Fill}
+use Rattle.qs_calls.specs.declared.filling.Filled.{Filled}
 use Rattle.qs_calls.specs.declared.making.MakeFault.TheVariants as making
 use Rattle.qs_conn.specs.declared.limits.Limits.{Limits}
+use Rattle.qs_conn.specs.declared.filling.Wish.{Wish}
 use Rattle.qs_machine.specs.Ends.{End}
 use Rattle.qs_machine.specs.Credit.{settle}
-use Rattle.qs_machine.specs.Seen.{Seen, seen_all}
+use Rattle.qs_machine.specs.Seen.{Seen, Ack, Stream, Control, Close, Plain, seen_all, asks_ack, any_asks}
 use Rattle.qs_machine.specs.Due.{Among, Sendable}
 use Rattle.qs_machine.specs.Lawful.{Fills, frame_put, pieces_so_far}
-use Rattle.qs_machine.specs.Making.{IsMade, MakeAt, MakeStep, make_refusal}
-use Rattle.qs_machine.specs.InOrder.{AreInOrder, NothingStarves}
+use Rattle.qs_machine.specs.Making.{IsText, NamesMost, IsMade, MakeAt, MakeStep, make_refusal}
+use Rattle.qs_machine.specs.Filling.{IsWanted, WantedGoes, HasWanted, IsFilled, FillAt, FillStep}
+use Rattle.qs_machine.specs.InOrder.{AreInOrder, NothingStarves, NoItemStarves}
 use Rattle.qs_machine.specs.Outgoing.{Outgoing}
 use Rattle.qs_conn.specs.declared.middle.Core.{Core}
 use Rattle.qs_conn.specs.Middle.{end_of}
-use Rattle.qs_conn.specs.Filling.{InPacket, end_by, Packed}
+use Rattle.qs_conn.specs.Filling.{InPacket, end_by, Packed, IsWished, HasWished, IsAckLeft}
 use Rattle.qs_conn.proofs.Pieces.{put_next}
-use Rattle.qs_conn.proofs.Stages.{packed_none, packed_some}
+use Rattle.qs_conn.proofs.Stages.{packed_same, packed_none, packed_asks, packed_made, packed_some, goes_same}
 
 -- Refusals
 
@@ -47,54 +58,200 @@ limits_of v = record { role = v.role; settings = v.settings; granted = v.granted
 abbrev pub outgoing_of : ℕ → End → Outgoing
 outgoing_of spare v = record { sends = v.sends; next = v.next; outstanding = v.outstanding; lost = v.lost; acked = v.acked; spare = spare }
 
--- the call filled a packet
-module _ (v old : End) (same : v ≡ old) (c new_c : Core) (first delay room len : ℕ) (out : List ℕ) (idle : fmap.get v.outstanding v.next ≡ None) (parts : end_of c v ≡ v)
-    (fills : (x : End) → end_of c x ≡ x → x.done ≡ v.done → x.ack_due ≡ v.ack_due → ((p : Piece) → InPacket x p → ⊥) → Packed first delay room x (take len out) (end_of new_c (record x { ack_due = false }))) where
-  abbrev pub filled : End
-  filled = end_of new_c (record v { ack_due = false })
+-- what `make_packet` asks for: all, and the ACK if one is due
+abbrev pub all_of : (first delay : ℕ) → Bool → Wish
+all_of first delay due = record { want = record { items = true; streams = true; first = first; alone = false }; delay = delay; ack_due = due }
 
-  packed : Packed first delay room v (take len out) filled
-  packed = fills v parts refl refl (fresh_of v idle)
+ack_left : (due : Bool) → IsAckLeft due due false
+ack_left true = (refl, refl)
+ack_left false = refl
+
+-- the call filled a packet
+module _ (v : End) (c new_c : Core) (wish : Wish) (room len : ℕ) (out : List ℕ) (left : Bool) (idle : fmap.get v.outstanding v.next ≡ None) (parts : end_of c v ≡ v) (goes : IsAckLeft wish.ack_due v.ack_due left)
+    (fills : (x : End) (b : Bool) → end_of c x ≡ x → x.done ≡ v.done → IsAckLeft wish.ack_due x.ack_due b → ((p : Piece) → InPacket x p → ⊥) → Packed wish.want.first wish room x (take len out) (end_of new_c (record x { ack_due = b }))) where
+  abbrev pub filled : End
+  filled = end_of new_c (record v { ack_due = left })
+
+  pub packed : Packed wish.want.first wish room v (take len out) filled
+  packed = fills v left parts refl goes (fresh_of v idle)
 
   pub filled_next : new_c.outbox.next ≡ v.next
   filled_next = fills_next v v filled (seen_all packed.frames) packed.fills
 
-  none_is : 25 ≤ room → len ≡ 0 → (Sendable v → ⊥) × (filled ≡ v)
-  none_is enough none = packed_none first delay room v (take len out) filled packed enough (ap (λ k. take k out) none)
+  same_is : len ≡ 0 → filled ≡ v
+  same_is none = packed_same wish.want.first wish room v (take len out) filled packed (ap (λ k. take k out) none)
 
-  same_parts : filled ≡ v → end_of new_c v ≡ v
-  same_parts is =
-      ap (λ (x : End). end_by (limits_of x) x.recvs (outgoing_of 0 x) v) is
+  pub same_parts : len ≡ 0 → end_of new_c v ≡ v
+  same_parts none = ap (λ (x : End). end_by (limits_of x) x.recvs (outgoing_of 0 x) v) (same_is none)
+
+  pub idle_none : len ≡ 0 → fmap.get new_c.outbox.outstanding new_c.outbox.next ≡ None
+  idle_none none = ap (λ (x : End). fmap.get x.outstanding x.next) (same_is none) ∙ idle
+
+  -- it had nothing to send
+  pub none_goes : 25 ≤ room → len ≡ 0 → HasWished wish v [] v
+  none_goes enough none = packed_none wish.want.first wish room v (take len out) filled packed enough (ap (λ k. take k out) none)
+
+  -- it had some, and its number was used
+  module _ (new : End) (o : Outgoing) (number : ℕ) (is : number ≡ v.next) (after : o ≡ record new_c.outbox { next = new_c.outbox.next + 1; spare = 0 }) (settled : new ≡ settle (end_of (record new_c { outbox = o }) (record v { ack_due = left }))) where
+    pub end : new ≡ settle (record filled { next = v.next + 1 })
+    end = settled ∙ ap settle mid
+      where
+        mid : end_of (record new_c { outbox = o }) (record v { ack_due = left }) ≡ record filled { next = v.next + 1 }
+        mid = rw (after, filled_next) refl
+
+    -- what its record holds is in order
+    pub in_order : wish.want.items ≡ true → AreInOrder v [] (pieces_so_far new number)
+    in_order asked =
+        let pieces : pieces_so_far new number ≡ pieces_so_far filled filled.next = ap (λ (x : End). pieces_so_far x number) end ∙ ap (pieces_so_far filled) (is ∙ sym filled_next) in
+        subst (AreInOrder v []) (sym pieces) (packed.order asked)
+
+-- `make_packet` filled it
+module _ (v old : End) (same : v ≡ old) (c new_c : Core) (first delay room len : ℕ) (out : List ℕ) (idle : fmap.get v.outstanding v.next ≡ None) (parts : end_of c v ≡ v)
+    (fills : (x : End) (b : Bool) → end_of c x ≡ x → x.done ≡ v.done → IsAckLeft v.ack_due x.ack_due b → ((p : Piece) → InPacket x p → ⊥) → Packed first (all_of first delay v.ack_due) room x (take len out) (end_of new_c (record x { ack_due = b }))) where
+  abbrev wish : Wish
+  wish = all_of first delay v.ack_due
+
+  pub made_next : new_c.outbox.next ≡ v.next
+  made_next = filled_next v c new_c wish room len out false idle parts (ack_left v.ack_due) fills
+
+  pub made_idle : len ≡ 0 → fmap.get new_c.outbox.outstanding new_c.outbox.next ≡ None
+  made_idle = idle_none v c new_c wish room len out false idle parts (ack_left v.ack_due) fills
 
   -- it had nothing to send
   pub make_none : is_some v.closed ≡ false → v.next ≤ MAX_VARINT → 25 ≤ room → len ≡ 0 → MakeStep old first delay room (Ok None) [] (end_of new_c v)
   make_none clear le enough none =
-      let (quiet, is) = none_is enough none in
-      subst (λ e. MakeStep e first delay room (Ok None) [] (end_of new_c v)) same (subst (λ r. MakeAt r v first delay room (Ok None) [] (end_of new_c v)) (sym (no_refusal v clear le)) (quiet, refl, same_parts is))
+      let w = none_goes v c new_c wish room len out false idle parts (ack_left v.ack_due) fills enough none in
+      let quiet : Sendable v → ⊥ = λ goes. elim goes [ inl due ↦ (w.ack due).2 | inr (inl (i, due)) ↦ w.wanted.items refl i due | inr (inr (n, some)) ↦ w.wanted.streams n (refl, inl refl) some ] in
+      subst (λ e. MakeStep e first delay room (Ok None) [] (end_of new_c v)) same (subst (λ r. MakeAt r v first delay room (Ok None) [] (end_of new_c v)) (sym (no_refusal v clear le)) (quiet, refl, same_parts v c new_c wish room len out false idle parts (ack_left v.ack_due) fills none))
 
-  pub idle_none : 25 ≤ room → len ≡ 0 → fmap.get new_c.outbox.outstanding new_c.outbox.next ≡ None
-  idle_none enough none = (let (quiet, is) = none_is enough none in ap (λ (x : End). fmap.get x.outstanding x.next) is ∙ idle)
-
-  -- it had some, and its number was used
   module _ (new : End) (o : Outgoing) (number : ℕ) (asks : Bool) (is : number ≡ v.next) (after : o ≡ record new_c.outbox { next = new_c.outbox.next + 1; spare = 0 }) (settled : new ≡ settle (end_of (record new_c { outbox = o }) (record v { ack_due = false }))) where
-    end : new ≡ settle (record filled { next = v.next + 1 })
-    end = settled ∙ ap settle mid
-      where
-        mid : end_of (record new_c { outbox = o }) (record v { ack_due = false }) ≡ record filled { next = v.next + 1 }
-        mid = rw (after, filled_next) refl
+    last : new ≡ settle (record (end_of new_c (record v { ack_due = false })) { next = v.next + 1 })
+    last = end v c new_c wish room len out false idle parts (ack_left v.ack_due) fills new o number is after settled
 
+    -- it had some
     pub make_some : asks ≡ is_some (fmap.get new_c.outbox.outstanding new_c.outbox.next) → is_some v.closed ≡ false → v.next ≤ MAX_VARINT → 0 < len → len ≤ room → length out ≡ room
         → MakeStep old first delay room (Ok (Some (record { number = number; len = len; is_ack_eliciting = asks }))) (take len out) new
     make_some asked clear le some within count =
         let inside : length (take len out) ≡ len = length-take-le len out (omega (arith, within, count)) in
-        let made = packed_some first delay room v (take len out) filled packed number len asks idle asked is (sym inside) within (λ none. omega (arith, some, inside, ap length none)) in
+        let full = packed v c new_c wish room len out false idle parts (ack_left v.ack_due) fills in
+        let made = packed_some first wish room v (take len out) (end_of new_c (record v { ack_due = false })) full number len asks (packed_asks first wish room v (take len out) (end_of new_c (record v { ack_due = false })) full asks idle asked) is (sym inside) (λ none. omega (arith, some, inside, ap length none)) within refl refl (λ n. (refl, inl refl)) refl in
         subst (λ e. MakeStep e first delay room (Ok (Some (record { number = number; len = len; is_ack_eliciting = asks }))) (take len out) new) same
-        (subst (λ r. MakeAt r v first delay room (Ok (Some (record { number = number; len = len; is_ack_eliciting = asks }))) (take len out) new) (sym (no_refusal v clear le)) (subst (IsMade v first delay room (record { number = number; len = len; is_ack_eliciting = asks }) (take len out)) (sym end) made))
+        (subst (λ r. MakeAt r v first delay room (Ok (Some (record { number = number; len = len; is_ack_eliciting = asks }))) (take len out) new) (sym (no_refusal v clear le)) (subst (IsMade v first delay room (record { number = number; len = len; is_ack_eliciting = asks }) (take len out)) (sym last) made))
 
     -- what its record holds is in order, and no ACK is due any more
     pub make_order : NothingStarves old (Ok (Some (record { number = number; len = len; is_ack_eliciting = asks }))) new
-    make_order =
-        let pieces : pieces_so_far new number ≡ pieces_so_far filled filled.next = ap (λ (x : End). pieces_so_far x number) end ∙ ap (pieces_so_far filled) (is ∙ sym filled_next) in (
-          ap (λ (x : End). x.ack_due) end,
-          subst (λ e. AreInOrder e [] (pieces_so_far new number)) same (subst (AreInOrder v []) (sym pieces) packed.order),
-        )
+    make_order = (
+      ap (λ (x : End). x.ack_due) last,
+      subst (λ e. AreInOrder e [] (pieces_so_far new number)) same (in_order v c new_c wish room len out false idle parts (ack_left v.ack_due) fills new o number is after settled refl),
+    )
+
+-- What is filled in
+
+-- the frames are of kinds that are asked for
+module _ (wish : Wish) (none : wish.ack_due ≡ false) where
+  one_wanted : (f : Seen) → IsWished wish f → IsWanted wish.want f
+  one_wanted (Ack largest ranges) is = absurd (true≢false (sym is ∙ none))
+  one_wanted (Stream n offset bytes fin) is = is
+  one_wanted (Control i) is = is
+  one_wanted (Close code) is = absurd is
+  one_wanted (Plain asks) is = absurd is
+
+  all_wanted : (fs : List Seen) → AllByRecursion (IsWished wish) fs → AllByRecursion (IsWanted wish.want) fs
+  all_wanted [] all = tt
+  all_wanted (f ∷ fs) all = (one_wanted f all.0, all_wanted fs all.1)
+
+-- what is asked for, without an ACK
+abbrev pub only_of : Fill → Wish
+only_of want = record { want = want; delay = 0; ack_due = false }
+
+no_seen : (fs : List FrameValue) → seen_all fs ≡ [] → fs ≡ []
+no_seen [] is = refl
+no_seen (f ∷ fs) is = cc is
+
+-- so they ask for an ACK
+asks_one : (want : Fill) (f : Seen) → IsWanted want f → asks_ack f ≡ true
+asks_one want (Ack largest ranges) is = absurd is
+asks_one want (Stream n offset bytes fin) is = refl
+asks_one want (Control i) is = refl
+asks_one want (Close code) is = absurd is
+asks_one want (Plain asks) is = absurd is
+
+asks_all : (want : Fill) (fs : List Seen) → fs ≢ [] → AllByRecursion (IsWanted want) fs → any_asks fs ≡ true
+asks_all want [] some all = absurd (some refl)
+asks_all want (f ∷ fs) some all = ap (λ b. b || any_asks fs) (asks_one want f all.0)
+
+-- an ACK that is too long for a room is too long for a shorter one
+names_less : (old : End) (delay room less : ℕ) (frames : List FrameValue) → less ≤ room → AllByRecursion (NamesMost old delay room) frames → AllByRecursion (NamesMost old delay less) frames
+names_less old delay room less [] le all = tt
+names_less old delay room less (f ∷ fs) le all = (one f all.0, names_less old delay room less fs le all.1)
+  where
+    one : (f : FrameValue) → NamesMost old delay room f → NamesMost old delay less f
+    one (ack largest told ranges ecn) (inl names) = inl names
+    one (ack largest told ranges ecn) (inr next) = inr (record { gap = next.gap; len = next.len; fits = next.fits; may = next.may; too_long = omega (arith, le, next.too_long) })
+    one f is = is
+
+pub fill_exhausted : (v old : End) (want : Fill) (room : ℕ) → v ≡ old → is_some v.closed ≡ false → MAX_VARINT < v.next → FillStep old want room (Err making.Exhausted) [] old
+fill_exhausted v old want room same clear past = subst (λ e. FillStep e want room (Err making.Exhausted) [] e) same (subst (λ r. FillAt r v want room (Err making.Exhausted) [] v) (sym is) (refl, refl, refl))
+  where
+    is : make_refusal v ≡ Some making.Exhausted
+    is = (let test : nat_le (MAX_VARINT + 1) v.next ≡ true = grind (arith, nat_tests, past) in rw (clear, test) refl)
+
+-- what is filled in is read again
+read_back : (delay : ℕ) (frames : List FrameValue) (text : List ℕ) → IsText delay frames text → text ≢ [] → frames_of (reading_of text).left ≡ frames
+read_back delay frames text is some = ap (λ t. frames_of (reading_of t).left) is.canonical ∙ (payload_again frames (canonical_all frames) (canonical_payload frames (not_empty frames refl) is.fits)).0
+  where
+    not_empty : (fs : List FrameValue) → frames ≡ fs → 0 < length frames
+    not_empty [] none = absurd (some (is.canonical ∙ ap canonical_all none))
+    not_empty (f ∷ fs) there = omega (arith, ap length there)
+
+module _ (v old : End) (same : v ≡ old) (c new_c : Core) (want : Fill) (room len : ℕ) (out : List ℕ) (idle : fmap.get v.outstanding v.next ≡ None) (parts : end_of c v ≡ v)
+    (fills : (x : End) (b : Bool) → end_of c x ≡ x → x.done ≡ v.done → IsAckLeft false x.ack_due b → ((p : Piece) → InPacket x p → ⊥) → Packed want.first (only_of want) room x (take len out) (end_of new_c (record x { ack_due = b }))) where
+  abbrev full : Packed want.first (only_of want) room v (take len out) (end_of new_c v)
+  full = packed v c new_c (only_of want) room len out v.ack_due idle parts refl fills
+
+  pub fill_next : new_c.outbox.next ≡ v.next
+  fill_next = filled_next v c new_c (only_of want) room len out v.ack_due idle parts refl fills
+
+  pub fill_idle : len ≡ 0 → fmap.get new_c.outbox.outstanding new_c.outbox.next ≡ None
+  fill_idle = idle_none v c new_c (only_of want) room len out v.ack_due idle parts refl fills
+
+  -- nothing that is asked for may go
+  pub fill_none : is_some v.closed ≡ false → v.next ≤ MAX_VARINT → len ≡ 0 → FillStep old want room (Ok None) [] (end_of new_c v)
+  fill_none clear le none =
+      let quiet : 25 ≤ room → WantedGoes want v → ⊥ =
+      λ enough goes. (
+      let w = none_goes v c new_c (only_of want) room len out v.ack_due idle parts refl fills enough none in
+      elim goes [ inl (asked, (i, due)) ↦ w.wanted.items asked i due | inr (n, asked, some) ↦ w.wanted.streams n asked some ]) in
+      subst (λ e. FillStep e want room (Ok None) [] (end_of new_c v)) same (subst (λ r. FillAt r v want room (Ok None) [] (end_of new_c v)) (sym (no_refusal v clear le)) (quiet, refl, same_parts v c new_c (only_of want) room len out v.ack_due idle parts refl fills none))
+
+  module _ (new : End) (o : Outgoing) (number : ℕ) (is : number ≡ v.next) (after : o ≡ record new_c.outbox { next = new_c.outbox.next + 1; spare = 0 }) (settled : new ≡ settle (end_of (record new_c { outbox = o }) v)) where
+    fill_end : new ≡ settle (record (end_of new_c v) { next = v.next + 1 })
+    fill_end = end v c new_c (only_of want) room len out v.ack_due idle parts refl fills new o number is after settled
+
+    -- what its record holds is in order
+    pub fill_order : (filled : Filled) → filled.token.number ≡ number → NoItemStarves want old (Ok (Some filled)) new
+    fill_order filled token asked = subst (λ e. AreInOrder e [] (pieces_so_far new filled.token.number)) same (subst (λ k. AreInOrder v [] (pieces_so_far new k)) (sym token) (in_order v c new_c (only_of want) room len out v.ack_due idle parts refl fills new o number is after settled asked))
+
+    -- something went in
+    pub fill_some : (last_one : Option ℕ) (more : Bool) → last_one ≡ last_stream_of None (frames_of (reading_of (take len out)).left) → (more ≡ true) ↔ WantedGoes want new → is_some v.closed ≡ false → v.next ≤ MAX_VARINT → 0 < len → len ≤ room → length out ≡ room
+        → FillStep old want room (Ok (Some (record { token = record { number = number }; len = len; last_stream = last_one; more = more }))) (take len out) new
+    fill_some last_one more read goes clear le some within count =
+        let text = take len out in
+        let inside : length text ≡ len = length-take-le len out (omega (arith, within, count)) in
+        let there : text ≢ [] = λ none. omega (arith, some, inside, ap length none) in
+        let mid : End = end_of new_c v in
+        let wanted : AllByRecursion (IsWanted want) (seen_all full.frames) = all_wanted (only_of want) refl (seen_all full.frames) full.wished in
+        let frames : seen_all full.frames ≢ [] = λ none. there (full.spells.canonical ∙ ap canonical_all (no_seen full.frames none)) in
+        let made = packed_made want.first (only_of want) room v text mid full number len true (sym (asks_all want (seen_all full.frames) frames wanted)) is (sym inside) there (length text) (omega (arith, inside)) (names_less v 0 room (length text) full.frames (omega (arith, inside, within)) full.acks) (λ left. absurd (omega (arith, left))) in
+        let filled : Filled = record { token = record { number = number }; len = len; last_stream = last_one; more = more } in
+        let all : IsFilled v want room filled text (settle (record mid { next = v.next + 1 })) =
+        record {
+          made = made;
+          fits = omega (arith, inside, within);
+          wanted = wanted;
+          whole = λ left. (let w = (full.whole left).wanted in record { items = w.items; streams = λ n asked goes. w.streams n asked (goes_same mid (v.next + 1) n goes) });
+          last_stream = read ∙ ap (last_stream_of None) (read_back 0 full.frames text full.spells there);
+          more = subst (λ e. (more ≡ true) ↔ WantedGoes want e) fill_end goes;
+        } in
+        subst (λ e. FillStep e want room (Ok (Some filled)) text new) same
+        (subst (λ r. FillAt r v want room (Ok (Some filled)) text new) (sym (no_refusal v clear le)) (subst (IsFilled v want room filled text) (sym fill_end) all))

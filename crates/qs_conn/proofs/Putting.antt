@@ -5,6 +5,7 @@ use Rattle.std.proofs.lemmas.List.{length-take-le}
 use Rattle.qs_wire.specs.Grammar.{Fits, canonical}
 use Rattle.qs_recv.specs.Lane.{RecvLane}
 use Rattle.qs_send.specs.declared.piece.Item.{Item}
+use Rattle.qs_conn.specs.declared.filling.Wish.{Wish}
 use Rattle.qs_conn.specs.declared.slot.Slot.{Slot}
 use Rattle.qs_conn.specs.declared.slot.Kind.{Kind}
 use Rattle.qs_conn.specs.declared.limits.Limits.{Limits}
@@ -23,66 +24,66 @@ use Rattle.qs_conn.proofs.Passing.{place_of_item}
 use Rattle.qs_conn.proofs.Flows.{two}
 use Rattle.qs_conn.proofs.EachItem.{each_item}
 
-pub stage_fewer : (delay room : ℕ) (old : End) (text : List ℕ) (e : End) (b : Bool) (P Q : Passed) → ((s : Slot) → IsPassed Q s → IsPassed P s) → Stage delay room old text e b P → Stage delay room old text e b Q
-stage_fewer delay room old text e true P Q fewer s = s
-stage_fewer delay room old text e false P Q fewer s = begun_fewer delay room old text e (IsPassed P) s (IsPassed Q) fewer
+pub stage_fewer : (wish : Wish) (room : ℕ) (old : End) (text : List ℕ) (e : End) (b : Bool) (P Q : Passed) → ((s : Slot) → IsPassed Q s → IsPassed P s) → Stage wish room old text e b P → Stage wish room old text e b Q
+stage_fewer wish room old text e true P Q fewer s = s
+stage_fewer wish room old text e false P Q fewer s = begun_fewer wish room old text e (IsPassed P) s (IsPassed Q) fewer
 
 -- a packet that is full needs no slot more
-pub stage_full : (delay room : ℕ) (old : End) (text : List ℕ) (e : End) (b : Bool) (P Q : Passed) → b ≡ true → Stage delay room old text e b P → Stage delay room old text e b Q
-stage_full delay room old text e true P Q is s = s
-stage_full delay room old text e false P Q is s = absurd (true≢false (sym is))
+pub stage_full : (wish : Wish) (room : ℕ) (old : End) (text : List ℕ) (e : End) (b : Bool) (P Q : Passed) → b ≡ true → Stage wish room old text e b P → Stage wish room old text e b Q
+stage_full wish room old text e true P Q is s = s
+stage_full wish room old text e false P Q is s = absurd (true≢false (sym is))
 
-pub stage_absent : (delay room : ℕ) (old : End) (text : List ℕ) (e : End) (b : Bool) (P : Passed) (s : Slot) → IsCurrentIn e s None → Stage delay room old text e b P → Stage delay room old text e b (and_slot P s)
-stage_absent delay room old text e true P s none b = b
-stage_absent delay room old text e false P s none b = begun_absent delay room old text e (IsPassed P) b s none
+pub stage_absent : (wish : Wish) (room : ℕ) (old : End) (text : List ℕ) (e : End) (b : Bool) (P : Passed) (s : Slot) → IsCurrentIn e s None → Stage wish room old text e b P → Stage wish room old text e b (and_slot P s)
+stage_absent wish room old text e true P s none b = b
+stage_absent wish room old text e false P s none b = begun_absent wish room old text e (IsPassed P) b s none
 
-module _ (delay room : ℕ) (old : End) (text : List ℕ) (e : End) (P : Slot → Type 0) (s : Slot) (i : Item) (c : IsCurrentIn e s (Some i)) (b : Begun delay room old text e P) where
+module _ (wish : Wish) (room : ℕ) (old : End) (text : List ℕ) (e : End) (P : Slot → Type 0) (s : Slot) (i : Item) (c : IsCurrentIn e s (Some i)) (b : Begun wish room old text e P) where
   only : (j : Item) → slot_of j ≡ slot_of i → IsCurrent e j → j ≡ i
   only j same is = c.2 j (same ∙ c.1) is
 
-  at_slot : (text : List ℕ) (e : End) → Begun delay room old text e (λ t. P t ⊎ (t ≡ slot_of i)) → Begun delay room old text e (λ t. P t ⊎ (t ≡ s))
-  at_slot text e b = begun_fewer delay room old text e (λ t. P t ⊎ (t ≡ slot_of i)) b (λ t. P t ⊎ (t ≡ s)) (λ t p. elim p [ inl before ↦ inl before | inr is ↦ inr (is ∙ sym c.1) ])
+  at_slot : (text : List ℕ) (e : End) → Begun wish room old text e (λ t. P t ⊎ (t ≡ slot_of i)) → Begun wish room old text e (λ t. P t ⊎ (t ≡ s))
+  at_slot text e b = begun_fewer wish room old text e (λ t. P t ⊎ (t ≡ slot_of i)) b (λ t. P t ⊎ (t ≡ s)) (λ t p. elim p [ inl before ↦ inl before | inr is ↦ inr (is ∙ sym c.1) ])
 
-  slot_covered : IsCovered e i → Begun delay room old text e (λ t. P t ⊎ (t ≡ s))
-  slot_covered covered = at_slot text e (begun_covered delay room old text e P b i only covered)
+  slot_covered : IsCovered e i → Begun wish room old text e (λ t. P t ⊎ (t ≡ s))
+  slot_covered covered = at_slot text e (begun_covered wish room old text e P b i only covered)
 
   -- what comes before the item is of slots that come before its own
   comes : ((t : Slot) → IsLower (slot_place t) (slot_place s) → P t) → (j : Item) → IsLower (item_place j) (item_place i) → P (slot_of j)
   comes passed j lower = passed (slot_of j) (subst (λ p. IsLower p (slot_place s)) (sym (place_of_item j)) (subst (IsLower (item_place j)) (sym (place_of_item i) ∙ ap slot_place c.1) lower))
 
-  slot_put : ((t : Slot) → IsLower (slot_place t) (slot_place s) → P t) → (IsCovered e i → ⊥) → Fits (frame_of_item i) → Begun delay room old (text ++ canonical (frame_of_item i)) (frame_put (Control i) e) (λ t. P t ⊎ (t ≡ s))
-  slot_put passed free fits = at_slot (text ++ canonical (frame_of_item i)) (frame_put (Control i) e) (begun_item delay room old text e P b i only (comes passed) (c.0, free) fits)
+  slot_put : ((t : Slot) → IsLower (slot_place t) (slot_place s) → P t) → (IsCovered e i → ⊥) → Fits (frame_of_item i) → Begun wish room old (text ++ canonical (frame_of_item i)) (frame_put (Control i) e) (λ t. P t ⊎ (t ≡ s))
+  slot_put passed free fits = at_slot (text ++ canonical (frame_of_item i)) (frame_put (Control i) e) (begun_item wish room old text e P b i only (comes passed) (c.0, free) fits)
 
-pub stage_covered : (delay room : ℕ) (old : End) (text : List ℕ) (e : End) (b : Bool) (P : Passed) (s : Slot) (i : Item) → IsCurrentIn e s (Some i) → IsCovered e i → Stage delay room old text e b P → Stage delay room old text e b (and_slot P s)
-stage_covered delay room old text e true P s i c covered b = b
-stage_covered delay room old text e false P s i c covered b = slot_covered delay room old text e (IsPassed P) s i c b covered
+pub stage_covered : (wish : Wish) (room : ℕ) (old : End) (text : List ℕ) (e : End) (b : Bool) (P : Passed) (s : Slot) (i : Item) → IsCurrentIn e s (Some i) → IsCovered e i → Stage wish room old text e b P → Stage wish room old text e b (and_slot P s)
+stage_covered wish room old text e true P s i c covered b = b
+stage_covered wish room old text e false P s i c covered b = slot_covered wish room old text e (IsPassed P) s i c b covered
 
-pub stage_put : (delay room : ℕ) (old : End) (t : Limits) (recvs : Tables RecvLane) (o new : Outgoing) (e : End) (before after : List ℕ) (len end : ℕ) (b full : Bool) (P : Passed) (s : Slot) (i : Item) →
+pub stage_put : (wish : Wish) (room : ℕ) (old : End) (t : Limits) (recvs : Tables RecvLane) (o new : Outgoing) (e : End) (before after : List ℕ) (len end : ℕ) (b full : Bool) (P : Passed) (s : Slot) (i : Item) →
     b ≡ false → room ≡ length before → HasPassedTo P s → len ≤ length before → IsCurrentIn (end_by t recvs o e) s (Some i) → (IsCovered (end_by t recvs o e) i → ⊥) → Fits (frame_of_item i) → PutsItem i before len o after end new full →
-    Stage delay room old (take len before) (end_by t recvs o e) b P → Stage delay room old (take end after) (end_by t recvs new e) full (and_slot P s)
-stage_put delay room old t recvs o new e before after len end true full P s i is at passed le c free fits puts st = absurd (true≢false is)
-stage_put delay room old t recvs o new e before after len end false true P s i is at passed le c free fits (same, text, out, long) st =
-    let full : (first : ℕ) → Packed first delay room old (take len before) (end_by t recvs o e) = begun_too_long delay room old (take len before) (end_by t recvs o e) (IsPassed P) st i fits (omega (arith, length-take-le len before le, at)) (omega (arith, length-take-le len before le, at, long)) in
+    Stage wish room old (take len before) (end_by t recvs o e) b P → Stage wish room old (take end after) (end_by t recvs new e) full (and_slot P s)
+stage_put wish room old t recvs o new e before after len end true full P s i is at passed le c free fits puts st = absurd (true≢false is)
+stage_put wish room old t recvs o new e before after len end false true P s i is at passed le c free fits (same, text, out, long) st =
+    let full : (first : ℕ) → Packed first wish room old (take len before) (end_by t recvs o e) = begun_too_long wish room old (take len before) (end_by t recvs o e) (IsPassed P) st i fits (omega (arith, length-take-le len before le, at)) (omega (arith, length-take-le len before le, at, long)) in
     rw (same, text, out) full
-stage_put delay room old t recvs o new e before after len end false false P s i is at passed le c free fits (text, out) st =
-    let put = slot_put delay room old (take len before) (end_by t recvs o e) (IsPassed P) s i c st passed free fits in
+stage_put wish room old t recvs o new e before after len end false false P s i is at passed le c free fits (text, out) st =
+    let put = slot_put wish room old (take len before) (end_by t recvs o e) (IsPassed P) s i c st passed free fits in
     rw (text, out, end_put t recvs o e i) put
 
 -- streams whose items of a kind are told already, up to a number
-pub stage_idle : (delay room : ℕ) (old : End) (text : List ℕ) (e : End) (b : Bool) (P : Passed) (kind : Kind) (from to : ℕ) → ((n : ℕ) → from ≤ n → n < to → IsIdle e (slot_at kind n)) → Stage delay room old text e b (and_below P kind from) → Stage delay room old text e b (and_below P kind to)
-stage_idle delay room old text e true P kind from to idle s = s
-stage_idle delay room old text e false P kind from to idle s =
-    begun_fewer delay room old text e (λ t. IsPassed (and_below P kind from) t ⊎ ((n : ℕ) × (from ≤ n) × (n < to) × (t ≡ slot_at kind n)))
-    (begun_idle delay room old text e (IsPassed (and_below P kind from)) s (λ t. (n : ℕ) × (from ≤ n) × (n < to) × (t ≡ slot_at kind n)) (λ i (n, ge, lt, at). idle n ge lt i at))
+pub stage_idle : (wish : Wish) (room : ℕ) (old : End) (text : List ℕ) (e : End) (b : Bool) (P : Passed) (kind : Kind) (from to : ℕ) → ((n : ℕ) → from ≤ n → n < to → IsIdle e (slot_at kind n)) → Stage wish room old text e b (and_below P kind from) → Stage wish room old text e b (and_below P kind to)
+stage_idle wish room old text e true P kind from to idle s = s
+stage_idle wish room old text e false P kind from to idle s =
+    begun_fewer wish room old text e (λ t. IsPassed (and_below P kind from) t ⊎ ((n : ℕ) × (from ≤ n) × (n < to) × (t ≡ slot_at kind n)))
+    (begun_idle wish room old text e (IsPassed (and_below P kind from)) s (λ t. (n : ℕ) × (from ≤ n) × (n < to) × (t ≡ slot_at kind n)) (λ i (n, ge, lt, at). idle n ge lt i at))
     (IsPassed (and_below P kind to))
     (λ t p. elim p [ inl before ↦ inl (inl before) | inr (n, lt, at) ↦ elim (cases_lt n from) [ inl below ↦ inl (inr (n, below, at)) | inr ge ↦ inr (n, ge, lt, at) ] ])
 
 -- and those of all further streams
-pub stage_kind : (delay room : ℕ) (old : End) (text : List ℕ) (e : End) (b : Bool) (P : Passed) (kind : Kind) (from : ℕ) → ((n : ℕ) → from ≤ n → IsIdle e (slot_at kind n)) → Stage delay room old text e b (and_below P kind from) → Stage delay room old text e b (and_kind P kind)
-stage_kind delay room old text e true P kind from idle s = s
-stage_kind delay room old text e false P kind from idle s =
-    begun_fewer delay room old text e (λ t. IsPassed (and_below P kind from) t ⊎ ((n : ℕ) × (from ≤ n) × (t ≡ slot_at kind n)))
-    (begun_idle delay room old text e (IsPassed (and_below P kind from)) s (λ t. (n : ℕ) × (from ≤ n) × (t ≡ slot_at kind n)) (λ i (n, ge, at). idle n ge i at))
+pub stage_kind : (wish : Wish) (room : ℕ) (old : End) (text : List ℕ) (e : End) (b : Bool) (P : Passed) (kind : Kind) (from : ℕ) → ((n : ℕ) → from ≤ n → IsIdle e (slot_at kind n)) → Stage wish room old text e b (and_below P kind from) → Stage wish room old text e b (and_kind P kind)
+stage_kind wish room old text e true P kind from idle s = s
+stage_kind wish room old text e false P kind from idle s =
+    begun_fewer wish room old text e (λ t. IsPassed (and_below P kind from) t ⊎ ((n : ℕ) × (from ≤ n) × (t ≡ slot_at kind n)))
+    (begun_idle wish room old text e (IsPassed (and_below P kind from)) s (λ t. (n : ℕ) × (from ≤ n) × (t ≡ slot_at kind n)) (λ i (n, ge, at). idle n ge i at))
     (IsPassed (and_kind P kind))
     (λ t p. elim p [ inl before ↦ inl (inl before) | inr (n, at) ↦ elim (cases_lt n from) [ inl below ↦ inl (inr (n, below, at)) | inr ge ↦ inr (n, ge, at) ] ])
 

@@ -2,9 +2,10 @@
 use Rattle.std.proofs.Common.{◌≡◌, ℕ, ◌+◌, ◌-◌, ◌≤◌, List, [], ◌++◌, length, take, drop, sym, ap, ◌∙◌, arith, refl, Option, Some}
 use Rattle.std.specs.Prelude.{Result, Ok}
 use Rattle.std.proofs.lemmas.List.{drop-drop, take-append-drop, length-take-le}
+use Rattle.qs_calls.specs.declared.filling.Filled.{Filled}
 use Rattle.qs_calls.specs.declared.making.Made.{Made}
 use Rattle.qs_calls.specs.declared.making.MakeFault.{MakeFault}
-use Rattle.qs_conn.specs.Written.{made_text, KeepsRest}
+use Rattle.qs_conn.specs.Written.{made_text, KeepsRest, filled_text, KeepsBehind}
 use Rattle.qs_conn.specs.Filling.{LeavesRest}
 
 pub rest_same : (len : ℕ) (out : List ℕ) → LeavesRest len out len out
@@ -28,3 +29,11 @@ rest_kept made before after within same =
 -- the slice without one
 pub rest_none : (answer : Result (Option Made) MakeFault) (out : List ℕ) → made_text answer out ≡ [] → KeepsRest answer out out
 rest_none answer out none = sym (ap (λ t. t ++ drop (length t) out) none)
+
+-- the slice with what was filled in
+pub behind_kept : (filled : Filled) (before after : List ℕ) → filled.len ≤ length after → drop filled.len after ≡ drop filled.len before → KeepsBehind (Ok (Some filled)) before after
+behind_kept filled before after within same =
+    sym (take-append-drop filled.len after) ∙ ap (λ x. take filled.len after ++ x) (same ∙ ap (λ k. drop k before) (sym (length-take-le filled.len after within)))
+
+pub behind_none : (answer : Result (Option Filled) MakeFault) (out : List ℕ) → filled_text answer out ≡ [] → KeepsBehind answer out out
+behind_none answer out none = sym (ap (λ t. t ++ drop (length t) out) none)

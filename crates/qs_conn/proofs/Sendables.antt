@@ -11,6 +11,8 @@ use Rattle.qs_send.specs.declared.piece.Item.TheVariants.{MaxData, MaxStreamData
 use Rattle.qs_conn.specs.declared.slot.Slot.{Slot}
 use Rattle.qs_conn.specs.declared.slot.Kind.{Kind}
 use Rattle.qs_conn.specs.declared.limits.Limits.{Limits}
+use Rattle.qs_calls.specs.declared.filling.Fill.{Fill}
+use Rattle.qs_machine.specs.Filling.{IsAsked, WantedGoes}
 use Rattle.qs_machine.specs.Tables.{Tables, lookup}
 use Rattle.qs_machine.specs.Ends.{End}
 use Rattle.qs_machine.specs.Due.{IsCovered, StreamGoes, Sendable}
@@ -20,7 +22,7 @@ use Rattle.qs_conn.specs.declared.middle.Core.{Core}
 use Rattle.qs_conn.specs.Middle.{end_of}
 use Rattle.qs_conn.specs.Filling.{end_by, slot_of, slot_at, IsCurrentIn, Passed, and_slot, and_kind, and_below, IsPassed, all_items}
 use Rattle.qs_conn.specs.Marks.{IsIdle}
-use Rattle.qs_conn.specs.Sending.{TellsDue, TellsGoing, TellsAnyGoing, TellsFrame}
+use Rattle.qs_conn.specs.Sending.{TellsDue, TellsGoing, TellsAnyGoing, TellsFrame, TellsItem, TellsStream, TellsWanted}
 use Rattle.qs_conn.proofs.Chunks.{ties_of, none_goes, chunk_goes}
 use Rattle.qs_conn.proofs.Openings.{none_is}
 
@@ -146,3 +148,39 @@ beside_frame v old c b same open_still parts tells = subst (λ e. IsTrue b ↔ G
     go : (c : Bool) → TellsFrame c v → IsTrue c ↔ GoesBesideAck v
     go true some = ((λ h. (none_is v.closed open_still, some)), (λ h. refl))
     go false none = ((λ h. absurd (both_ways false refl h)), (λ h. absurd (none h.1)))
+
+-- Of what is asked for
+
+pub wanted_item : (want : Fill) (e : End) (b : Bool) → want.items ≡ true → TellsDue b e all_items → TellsItem want b e
+wanted_item want e true asked found = (asked, found)
+wanted_item want e false asked none = λ (on, (i, due)). none i (passed_all i) due
+
+pub wanted_no_item : (want : Fill) (e : End) → want.items ≡ false → TellsItem want false e
+wanted_no_item want e unasked = λ (on, some). true≢false (sym on ∙ unasked)
+
+pub wanted_no_stream : (want : Fill) (e : End) → want.streams ≡ false → TellsStream want false e
+wanted_no_stream want e unasked = λ (n, asked, goes). true≢false (sym asked.0 ∙ unasked)
+
+pub wanted_one : (want : Fill) (e : End) (b : Bool) → want.streams ≡ true → want.alone ≡ true → TellsGoing b e want.first → TellsStream want b e
+wanted_one want e true some alone goes = (want.first, (some, inr refl), goes)
+wanted_one want e false some alone none = λ (n, asked, goes). elim asked.1 [ inl all ↦ true≢false (sym alone ∙ all) | inr is ↦ none (subst (StreamGoes e) is goes) ]
+
+pub wanted_any : (want : Fill) (e : End) (b : Bool) → want.streams ≡ true → want.alone ≡ false → TellsAnyGoing b e → TellsStream want b e
+wanted_any want e true some all (n, goes) = (n, (some, inl all), goes)
+wanted_any want e false some all none = λ (n, asked, goes). none n goes
+
+pub wanted_first : (want : Fill) (e : End) (b : Bool) → b ≡ true → TellsStream want b e → TellsWanted want true e
+wanted_first want e true is goes = inr goes
+wanted_first want e false is none = absurd (true≢false (sym is))
+
+pub wanted_then : (want : Fill) (e : End) (b c : Bool) → b ≡ false → TellsStream want b e → TellsItem want c e → TellsWanted want c e
+wanted_then want e true c is goes found = absurd (true≢false is)
+wanted_then want e false true is none found = inl found
+wanted_then want e false false is none item = λ some. elim some [ inl due ↦ item due | inr stream ↦ none stream ]
+
+pub wanted_is : (v old : End) (c : Core) (want : Fill) (b : Bool) → v ≡ old → end_of c v ≡ v → ((e : End) → TellsWanted want b (end_of c e)) → IsTrue b ↔ WantedGoes want old
+wanted_is v old c want b same parts tells = subst (λ e. IsTrue b ↔ WantedGoes want e) same (go b (subst (TellsWanted want b) parts (tells v)))
+  where
+    go : (b : Bool) → TellsWanted want b v → IsTrue b ↔ WantedGoes want v
+    go true goes = ((λ h. goes), (λ h. refl))
+    go false none = ((λ h. absurd (true≢false (sym h))), (λ some. absurd (none some)))

@@ -3,6 +3,7 @@ use Rattle.std.proofs.Common.{◌≡◌, ◌≢◌, ℕ, ◌+◌, ◌-◌, ◌<�
 use Rattle.std.specs.FinMap as fmap
 use Rattle.std.proofs.lemmas.Bool.{true≢false, false_from_ne_true}
 use Rattle.std.proofs.lemmas.List.{length-append}
+use Rattle.std.specs.List.{AllByRecursion}
 use Rattle.qs_wire.specs.Layout.{FrameValue}
 use Rattle.qs_wire.specs.Grammar.{Fits, canonical, canonical_all}
 use Rattle.qs_wire.proofs.Lengths.{control_short}
@@ -10,16 +11,18 @@ use Rattle.qs_send.specs.declared.piece.Item.{Item}
 use Rattle.qs_send.specs.declared.parts.Chunk.{Chunk}
 use Rattle.qs_send.specs.declared.piece.Piece.{Piece}
 use Rattle.qs_send.specs.declared.piece.Piece.TheVariants.{Data, Told}
+use Rattle.qs_conn.specs.declared.filling.Wish.{Wish}
 use Rattle.qs_conn.specs.declared.slot.Slot.{Slot}
 use Rattle.qs_machine.specs.Ends.{End}
 use Rattle.qs_machine.specs.Credit.{all_sent, settle}
 use Rattle.qs_machine.specs.Seen.{Seen, Ack, Stream, Control, Close, Plain, seen, seen_all, asks_ack, any_asks}
 use Rattle.qs_machine.specs.Due.{Among, IsCurrent, IsCovered, IsDueItem, StreamGoes, Sendable}
-use Rattle.qs_machine.specs.Lawful.{MayPut, Fills, AcksAll, IsWhole, IsInTurn, AreInTurn, frame_put}
+use Rattle.qs_machine.specs.Lawful.{MayPut, Fills, AcksAll, HasAll, IsInTurn, AreInTurn, frame_put}
 use Rattle.qs_machine.specs.Making.{IsMade, NamesMost}
+use Rattle.qs_machine.specs.Filling.{IsAsked}
 use Rattle.qs_machine.specs.InOrder.{IsLower, item_place}
 use Rattle.qs_machine.proofs.Carried.{get_new, among_more, among_last}
-use Rattle.qs_conn.specs.Filling.{InPacket, slot_of, frame_of_item, no_slot, IsPassed, Begun, Packed}
+use Rattle.qs_conn.specs.Filling.{InPacket, slot_of, frame_of_item, no_slot, IsPassed, IsWished, HasWished, Begun, Packed}
 use Rattle.qs_conn.proofs.Pieces.{put_packet, due_more, end_due_more, item_ack_due}
 use Rattle.qs_conn.proofs.PacketOrder.{order_first, order_item}
 use Rattle.qs_conn.proofs.Items.{current_by_base, acked_by_base, sum_by_base, known_by_base, base_item, fills_push, out_old, out_is}
@@ -62,27 +65,29 @@ fills_ask old e mid (f ∷ fs) (may, rest) =
 
 -- Items
 
--- a packet without a frame, where no ACK is due
-pub begun_first : (delay room : ℕ) (old : End) → all_sent old ≤ old.known_data → old.ack_due ≡ false → ((x : Piece) → InPacket old x → ⊥) → Begun delay room old [] old (λ s. ⊥)
-begun_first delay room old within none fresh =
+-- a packet without a frame, where no ACK is to go
+pub begun_first : (wish : Wish) (room : ℕ) (old : End) → wish.want.items ≡ true → wish.ack_due ≡ false → all_sent old ≤ old.known_data → ((x : Piece) → InPacket old x → ⊥) → Begun wish room old [] old (λ s. ⊥)
+begun_first wish room old asked none within fresh =
     record {
+      asked = asked;
       frames = [];
       fills = refl;
-      spells = no_text delay;
+      spells = no_text wish.delay;
       acks = tt;
+      wished = tt;
       turns = λ first. tt;
       order = order_first old fresh;
       steady = refl;
       within = within;
-      ack = λ due. absurd (true≢false (sym due ∙ none));
+      ack = λ goes. absurd (true≢false (sym goes ∙ none));
       items = λ i p due. absurd p;
       no_chunk = λ n c there. fresh (Data n c) there;
     }
 
-pub begun_none : (delay room : ℕ) (old : End) → all_sent old ≤ old.known_data → old.ack_due ≡ false → ((x : Piece) → InPacket old x → ⊥) → Begun delay room old [] (record old { ack_due = false }) (IsPassed no_slot)
-begun_none delay room old within none fresh = subst (λ b. Begun delay room old [] (record old { ack_due = b }) (IsPassed no_slot)) none (begun_first delay room old within none fresh)
+pub begun_none : (wish : Wish) (room : ℕ) (old : End) (left : Bool) → wish.want.items ≡ true → wish.ack_due ≡ false → left ≡ old.ack_due → all_sent old ≤ old.known_data → ((x : Piece) → InPacket old x → ⊥) → Begun wish room old [] (record old { ack_due = left }) (IsPassed no_slot)
+begun_none wish room old left asked none same within fresh = subst (λ b. Begun wish room old [] (record old { ack_due = b }) (IsPassed no_slot)) (sym same) (begun_first wish room old asked none within fresh)
 
-module _ (delay room : ℕ) (old : End) (text : List ℕ) (e : End) (P : Slot → Type 0) (b : Begun delay room old text e P) where
+module _ (wish : Wish) (room : ℕ) (old : End) (text : List ℕ) (e : End) (P : Slot → Type 0) (b : Begun wish room old text e P) where
   now : (i : Item) → IsCurrent old i → IsCurrent e i
   now = current_by_base old e (sym b.steady)
 
@@ -102,17 +107,19 @@ module _ (delay room : ℕ) (old : End) (text : List ℕ) (e : End) (P : Slot �
   covered_first i (inr acked) = inl (inr (acked_by_base e old b.steady i acked))
 
   -- fewer slots
-  pub begun_fewer : (Q : Slot → Type 0) → ((s : Slot) → Q s → P s) → Begun delay room old text e Q
-  begun_fewer Q fewer = record { frames = b.frames; fills = b.fills; spells = b.spells; acks = b.acks; turns = b.turns; order = b.order; steady = b.steady; within = b.within; ack = b.ack; items = λ i q due. b.items i (fewer (slot_of i) q) due; no_chunk = b.no_chunk }
+  pub begun_fewer : (Q : Slot → Type 0) → ((s : Slot) → Q s → P s) → Begun wish room old text e Q
+  begun_fewer Q fewer = record { asked = b.asked; frames = b.frames; fills = b.fills; spells = b.spells; acks = b.acks; wished = b.wished; turns = b.turns; order = b.order; steady = b.steady; within = b.within; ack = b.ack; items = λ i q due. b.items i (fewer (slot_of i) q) due; no_chunk = b.no_chunk }
 
   -- a slot of which nothing is current
-  pub begun_absent : (s : Slot) → ((j : Item) → slot_of j ≡ s → IsCurrent e j → ⊥) → Begun delay room old text e (λ t. P t ⊎ (t ≡ s))
+  pub begun_absent : (s : Slot) → ((j : Item) → slot_of j ≡ s → IsCurrent e j → ⊥) → Begun wish room old text e (λ t. P t ⊎ (t ≡ s))
   begun_absent s none =
       record {
+        asked = b.asked;
         frames = b.frames;
         fills = b.fills;
         spells = b.spells;
         acks = b.acks;
+        wished = b.wished;
         turns = b.turns;
         order = b.order;
         steady = b.steady;
@@ -123,13 +130,15 @@ module _ (delay room : ℕ) (old : End) (text : List ℕ) (e : End) (P : Slot �
       }
 
   -- slots of which all that is current is covered
-  pub begun_idle : (Q : Slot → Type 0) → ((i : Item) → Q (slot_of i) → IsCurrent e i → IsCovered e i) → Begun delay room old text e (λ t. P t ⊎ Q t)
+  pub begun_idle : (Q : Slot → Type 0) → ((i : Item) → Q (slot_of i) → IsCurrent e i → IsCovered e i) → Begun wish room old text e (λ t. P t ⊎ Q t)
   begun_idle Q covered =
       record {
+        asked = b.asked;
         frames = b.frames;
         fills = b.fills;
         spells = b.spells;
         acks = b.acks;
+        wished = b.wished;
         turns = b.turns;
         order = b.order;
         steady = b.steady;
@@ -141,13 +150,15 @@ module _ (delay room : ℕ) (old : End) (text : List ℕ) (e : End) (P : Slot �
 
   module _ (i : Item) (only : (j : Item) → slot_of j ≡ slot_of i → IsCurrent e j → j ≡ i) where
     -- a slot whose item is covered
-    pub begun_covered : IsCovered e i → Begun delay room old text e (λ t. P t ⊎ (t ≡ slot_of i))
+    pub begun_covered : IsCovered e i → Begun wish room old text e (λ t. P t ⊎ (t ≡ slot_of i))
     begun_covered covered =
         record {
+          asked = b.asked;
           frames = b.frames;
           fills = b.fills;
           spells = b.spells;
           acks = b.acks;
+          wished = b.wished;
           turns = b.turns;
           order = b.order;
           steady = b.steady;
@@ -162,13 +173,15 @@ module _ (delay room : ℕ) (old : End) (text : List ℕ) (e : End) (P : Slot �
             elim (covered_first i covered) [ inl before ↦ absurd (due.1 (subst (IsCovered old) (sym same) before)) | inr a ↦ subst (λ k. Among (Control k) (seen_all b.frames)) (sym same) a ]
 
     -- its item is put
-    pub begun_item : ((j : Item) → IsLower (item_place j) (item_place i) → P (slot_of j)) → IsDueItem e i → Fits (frame_of_item i) → Begun delay room old (text ++ canonical (frame_of_item i)) (frame_put (Control i) e) (λ t. P t ⊎ (t ≡ slot_of i))
+    pub begun_item : ((j : Item) → IsLower (item_place j) (item_place i) → P (slot_of j)) → IsDueItem e i → Fits (frame_of_item i) → Begun wish room old (text ++ canonical (frame_of_item i)) (frame_put (Control i) e) (λ t. P t ⊎ (t ≡ slot_of i))
     begun_item passed due fits =
         record {
+          asked = b.asked;
           frames = b.frames ++ frame_of_item i ∷ [];
           fills = pushed b.frames (frame_of_item i) (Control i) (seen_item i) (λ fs. Fills old old fs (frame_put (Control i) e)) (fills_push old old e (seen_all b.frames) (Control i) b.fills (due_first i due, due));
-          spells = text_push delay b.frames text (frame_of_item i) b.spells fits (plain_item delay i);
-          acks = all_push (NamesMost old delay room) b.frames (frame_of_item i) b.acks (item_most old delay room i);
+          spells = text_push wish.delay b.frames text (frame_of_item i) b.spells fits (plain_item wish.delay i);
+          acks = all_push (NamesMost old wish.delay room) b.frames (frame_of_item i) b.acks (item_most old wish.delay room i);
+          wished = pushed b.frames (frame_of_item i) (Control i) (seen_item i) (AllByRecursion (IsWished wish)) (all_push (IsWished wish) (seen_all b.frames) (Control i) b.wished b.asked);
           turns = λ first. pushed b.frames (frame_of_item i) (Control i) (seen_item i) (AreInTurn first old) (turn_push first old old (seen_all b.frames) (Control i) e b.fills (b.turns first) tt);
           order = order_item old e (seen_all b.frames) i b.fills (λ j lower is. b.items j (passed j lower) is) b.order;
           steady = base_item i e ∙ b.steady;
@@ -188,52 +201,28 @@ module _ (delay room : ℕ) (old : End) (text : List ℕ) (e : End) (P : Slot �
         not_told n c is = cc is
 
   -- Less than 25 bytes are left: nothing more is asked.
-  pub begun_full : room < length text + 25 → (first : ℕ) → Packed first delay room old text e
+  pub begun_full : room < length text + 25 → (first : ℕ) → Packed first wish room old text e
   begun_full full first =
       record {
         frames = b.frames;
         fills = b.fills;
         spells = b.spells;
         acks = b.acks;
+        wished = b.wished;
         turns = b.turns first;
-        order = b.order;
+        order = λ on. b.order;
         within = (let same = sum_by_base e old b.steady in let known = known_by_base e old b.steady in omega (arith, same, known, b.within));
         whole = λ left. absurd (omega (arith, full, left));
       }
 
   -- as where an item doesn't fit
-  pub begun_too_long : (i : Item) → Fits (frame_of_item i) → length text ≤ room → room - length text < length (canonical (frame_of_item i)) → (first : ℕ) → Packed first delay room old text e
+  pub begun_too_long : (i : Item) → Fits (frame_of_item i) → length text ≤ room → room - length text < length (canonical (frame_of_item i)) → (first : ℕ) → Packed first wish room old text e
   begun_too_long i fits within long = begun_full (omega (arith, within, long, control_short (frame_of_item i) (control_item i) fits))
 
 -- The end
 
-still_due : (f : Seen) (e : End) → (frame_put f e).ack_due ≡ true → (e.ack_due ≡ true) × ((largest : ℕ) (ranges : List (ℕ × ℕ)) → Ack largest ranges ≡ f → ⊥)
-unfolding frame_put
-still_due (Ack largest ranges) e due = absurd (true≢false (sym due))
-still_due (Stream n offset bytes fin) e due = (due, λ largest ranges is. not_ack largest ranges is)
-  where
-    not_ack : (largest : ℕ) (ranges : List (ℕ × ℕ)) → Ack largest ranges ≡ Stream n offset bytes fin → ⊥
-    not_ack largest ranges is = cc is
-still_due (Control i) e due = (sym (item_ack_due i e) ∙ due, λ largest ranges is. cc is)
-still_due (Close code) e due = (due, λ largest ranges is. cc is)
-still_due (Plain asks) e due = (due, λ largest ranges is. cc is)
-
--- an ACK that is still due was due before, and is in no frame
-ack_stays : (old : End) (fs : List Seen) (e mid : End) → Fills old e fs mid → mid.ack_due ≡ true → (e.ack_due ≡ true) × ((largest : ℕ) (ranges : List (ℕ × ℕ)) → Among (Ack largest ranges) fs → ⊥)
-ack_stays old [] e mid is due = (subst (λ x. x.ack_due ≡ true) is due, λ largest ranges a. a)
-ack_stays old (f ∷ fs) e mid (may, rest) due =
-    let (after, none) = ack_stays old fs (frame_put f e) mid rest due in
-    let (before, not_this) = still_due f e after in
-    (before, λ largest ranges a. elim a [ inl is ↦ not_this largest ranges is | inr there ↦ none largest ranges there ])
-
-pub no_ack : (old e : End) (fs : List Seen) → Fills old old fs e → (old.ack_due ≡ true → AcksAll old fs) → e.ack_due ≡ false
-no_ack old e fs fills acked = false_from_ne_true e.ack_due (λ is.
-    let (before, none) = ack_stays old fs old e fills is in
-    let (largest, ranges, there, all) = acked before in
-    none largest ranges there)
-
 -- the end with another number for its next packet
-goes_same : (e : End) (k n : ℕ) → StreamGoes (record e { next = k }) n → StreamGoes e n
+pub goes_same : (e : End) (k n : ℕ) → StreamGoes (record e { next = k }) n → StreamGoes e n
 goes_same e k n (l, lane, some) = (
   l,
   lane,
@@ -243,36 +232,54 @@ goes_same e k n (l, lane, some) = (
   ],
 )
 
-module _ (first delay room : ℕ) (old : End) (text : List ℕ) (e : End) (p : Packed first delay room old text e) where
-  -- a packet without a byte: there was nothing to send, and nothing changed
-  pub packed_none : 25 ≤ room → text ≡ [] → (Sendable old → ⊥) × (e ≡ old)
+module _ (first : ℕ) (wish : Wish) (room : ℕ) (old : End) (text : List ℕ) (e : End) (p : Packed first wish room old text e) where
+  -- a packet without a byte changed nothing
+  pub packed_same : text ≡ [] → e ≡ old
+  packed_same none = subst (λ fs. Fills old old (seen_all fs) e) (no_frames wish.delay p.frames text p.spells none) p.fills
+
+  -- and where there was room, there was nothing to send
+  pub packed_none : 25 ≤ room → text ≡ [] → HasWished wish old [] old
   packed_none enough none =
-      let frames : p.frames ≡ [] = no_frames delay p.frames text p.spells none in
-      let fills : e ≡ old = subst (λ fs. Fills old old (seen_all fs) e) frames p.fills in
-      let w : IsWhole old [] e = subst (λ fs. IsWhole old (seen_all fs) e) frames (p.whole (omega (arith, enough, ap length none))) in
-      let v : IsWhole old [] old = subst (IsWhole old []) fills w in
-      (λ goes. elim goes [ inl due ↦ (v.ack due).2 | inr (inl (i, due)) ↦ v.items i due | inr (inr (n, some)) ↦ v.no_stream n some ], fills)
+      let frames : p.frames ≡ [] = no_frames wish.delay p.frames text p.spells none in
+      let w : HasWished wish old [] e = subst (λ fs. HasWished wish old (seen_all fs) e) frames (p.whole (omega (arith, enough, ap length none))) in
+      subst (HasWished wish old []) (packed_same none) w
+
+  -- it asks for an ACK where it has a piece
+  pub packed_asks : (asks : Bool) → fmap.get old.outstanding old.next ≡ None → asks ≡ is_some (fmap.get e.outstanding e.next) → asks ≡ any_asks (seen_all p.frames)
+  packed_asks asks idle asked = asked ∙ fills_ask old old e (seen_all p.frames) p.fills ∙ ap (λ o. any_asks (seen_all p.frames) || is_some o) idle ∙ sym (or_false (any_asks (seen_all p.frames)))
 
   -- a packet with some
-  pub packed_some : (number len : ℕ) (asks : Bool) → fmap.get old.outstanding old.next ≡ None → asks ≡ is_some (fmap.get e.outstanding e.next) → number ≡ old.next → len ≡ length text → len ≤ room → text ≢ [] → IsMade old first delay room (record { number = number; len = len; is_ack_eliciting = asks }) text (settle (record e { next = old.next + 1 }))
-  packed_some number len asks idle asked is count fits some =
-      record {
-        number = is;
-        len = count;
-        fits = omega (arith, count, fits);
-        frames = p.frames;
-        asks = asked ∙ fills_ask old old e (seen_all p.frames) p.fills ∙ ap (λ o. any_asks (seen_all p.frames) || is_some o) idle ∙ sym (or_false (any_asks (seen_all p.frames)));
-        spells = p.spells;
-        acks = p.acks;
-        turn = p.turns;
-        mid = record e { next = old.next + 1 };
-        lawful = record { some = not_empty p.frames refl; filled = (e, p.fills, refl); within = p.within };
-        whole = λ left. (
-            let w = p.whole left in
-            record { ack = w.ack; items = w.items; no_ack = w.no_ack; no_stream = λ n goes. w.no_stream n (goes_same e (old.next + 1) n goes) });
-        after = refl;
-      }
-    where
-      not_empty : (fs : List FrameValue) → p.frames ≡ fs → seen_all fs ≢ []
-      not_empty [] none is = some (p.spells.canonical ∙ ap canonical_all none)
-      not_empty (f ∷ fs) there is = cc is
+  module _ (number len : ℕ) (asks : Bool) (asked : asks ≡ any_asks (seen_all p.frames)) (is : number ≡ old.next) (count : len ≡ length text) (some : text ≢ []) where
+    abbrev last : End
+    last = record e { next = old.next + 1 }
+
+    pub not_empty : (fs : List FrameValue) → p.frames ≡ fs → seen_all fs ≢ []
+    not_empty [] none is = some (p.spells.canonical ∙ ap canonical_all none)
+    not_empty (f ∷ fs) there is = cc is
+
+    -- in any room that it fits, if it leaves nothing out there
+    abbrev pub packed_made : (less : ℕ) → len ≤ less → AllByRecursion (NamesMost old wish.delay less) p.frames → HasAll less (length text) old (seen_all p.frames) last
+        → IsMade old first wish.delay less (record { number = number; len = len; is_ack_eliciting = asks }) text (settle last)
+    packed_made less fits acks whole =
+        record {
+          number = is;
+          len = count;
+          fits = omega (arith, count, fits);
+          frames = p.frames;
+          asks = asked;
+          spells = p.spells;
+          acks = acks;
+          turn = p.turns;
+          mid = last;
+          lawful = record { some = not_empty p.frames refl; filled = (e, p.fills, refl); within = p.within };
+          whole = whole;
+          after = refl;
+        }
+
+    -- all of it was to go, with the ACK
+    pub packed_some : len ≤ room → wish.ack_due ≡ old.ack_due → wish.want.items ≡ true → ((n : ℕ) → IsAsked wish.want n) → e.ack_due ≡ false
+        → IsMade old first wish.delay room (record { number = number; len = len; is_ack_eliciting = asks }) text (settle last)
+    packed_some fits due items all quiet =
+        packed_made room fits p.acks (λ left. (
+        let w = p.whole left in
+        record { ack = λ is. w.ack (due ∙ is); items = w.wanted.items items; no_ack = quiet; no_stream = λ n goes. w.wanted.streams n (all n) (goes_same e (old.next + 1) n goes) }))

@@ -16,6 +16,7 @@ use Rattle.qs_send.specs.declared.piece.Piece.{Piece}
 use Rattle.qs_send.specs.declared.piece.Piece.TheVariants.{Data}
 use Rattle.qs_send.specs.declared.piece.Item.{Item}
 use Rattle.qs_send.specs.declared.piece.Item.TheVariants.{MaxData, MaxStreamData, MaxStreams, ResetStream, StopSending, DataBlocked, StreamDataBlocked, StreamsBlocked}
+use Rattle.qs_conn.specs.declared.filling.Wish.{Wish}
 use Rattle.qs_conn.specs.declared.slot.Slot.{Slot}
 use Rattle.qs_conn.specs.declared.slot.Kind.{Kind}
 use Rattle.qs_conn.specs.declared.slot.Kind.TheVariants as kinds
@@ -24,12 +25,13 @@ use Rattle.qs_conn.specs.declared.slot.Slot.TheVariants as slots
 use Rattle.qs_machine.specs.Tables.{Tables, lookup, each}
 use Rattle.qs_machine.specs.Ends.{End}
 use Rattle.qs_machine.specs.Credit.{all_sent}
-use Rattle.qs_machine.specs.Seen.{Ack, Control, seen, seen_all}
+use Rattle.qs_machine.specs.Seen.{Seen, Ack, Stream, Control, Close, Plain, seen, seen_all}
 use Rattle.qs_machine.specs.Due.{Among, IsCurrent, IsDueItem, StreamGoes}
 use Rattle.qs_machine.specs.Outgoing.{Outgoing, HasSending, WantsMore, item_put_out}
 use Rattle.qs_machine.specs.Sums.{or_none}
-use Rattle.qs_machine.specs.Lawful.{MayAck, Fills, AcksAll, HasAll, AreInTurn, pieces_so_far}
+use Rattle.qs_machine.specs.Lawful.{MayAck, Fills, NamesAll, AcksAll, AreInTurn, pieces_so_far}
 use Rattle.qs_machine.specs.Making.{IsText, NamesMost}
+use Rattle.qs_machine.specs.Filling.{IsAsked, HasWanted}
 use Rattle.qs_machine.specs.InOrder.{IsLower, AreInOrder}
 pub use Rattle.qs_conn.specs.Written.{made_text}
 
@@ -179,17 +181,37 @@ base e = record e { sends = each unmarked e.sends; outstanding = fmap.empty; ack
 abbrev pub InPacket : End → Piece → Type 0
 InPacket e x = Among x (pieces_so_far e e.next)
 
+-- the frame is of a kind that the packet is to hold
+abbrev pub IsWished : Wish → Seen → Type 0
+IsWished wish (Ack largest ranges) = wish.ack_due ≡ true
+IsWished wish (Stream n offset bytes fin) = IsAsked wish.want n
+IsWished wish (Control i) = wish.want.items ≡ true
+IsWished wish (Close code) = ⊥
+IsWished wish (Plain asks) = ⊥
+
+-- it has all that it is to hold
+pub record HasWished (wish : Wish) (old : End) (frames : List Seen) (new : End) : Type 0 where
+  pub ack : wish.ack_due ≡ true → AcksAll old frames
+  pub wanted : HasWanted wish.want old frames new
+
+-- an ACK is due still, where none was to go, and else no more
+abbrev pub IsAckLeft : Bool → (due left : Bool) → Type 0
+IsAckLeft true due left = (due ≡ true) × (left ≡ false)
+IsAckLeft false due left = left ≡ due
+
 -- A packet so far: an ACK and control items, in order. Of the slots that were passed, all that was due is in it.
-pub record Begun (delay room : ℕ) (old : End) (text : List ℕ) (e : End) (P : Slot → Type 0) : Type 0 where
+pub record Begun (wish : Wish) (room : ℕ) (old : End) (text : List ℕ) (e : End) (P : Slot → Type 0) : Type 0 where
+  pub asked : wish.want.items ≡ true
   pub frames : List FrameValue
   pub fills : Fills old old (seen_all frames) e
-  pub spells : IsText delay frames text
-  pub acks : AllByRecursion (NamesMost old delay room) frames
+  pub spells : IsText wish.delay frames text
+  pub acks : AllByRecursion (NamesMost old wish.delay room) frames
+  pub wished : AllByRecursion (IsWished wish) (seen_all frames)
   pub turns : (first : ℕ) → AreInTurn first old (seen_all frames)
   pub order : AreInOrder old [] (pieces_so_far e e.next)
   pub steady : base e ≡ base old
   pub within : all_sent old ≤ old.known_data
-  pub ack : old.ack_due ≡ true → (room < length text + 25) ⊎ AcksAll old (seen_all frames)
+  pub ack : wish.ack_due ≡ true → (room < length text + 25) ⊎ AcksAll old (seen_all frames)
   pub items : (i : Item) → P (slot_of i) → IsDueItem old i → Among (Control i) (seen_all frames)
   pub no_chunk : (n : ℕ) (c : Chunk) → InPacket e (Data n c) → ⊥
 
@@ -222,41 +244,43 @@ abbrev pub way_end : Bool → ℕ → Turn
 way_end false first = turn_at true first 0
 way_end true first = turn_at true first first
 
--- A packet so far, with all control items that were due. Streams that had their turn have nothing to send any more; of the others nothing
+-- A packet so far, with all control items that were due and are asked for. Streams that had their turn have nothing to send any more; of the others nothing
 -- is in it.
-pub record Flowing (delay room : ℕ) (old : End) (text : List ℕ) (e : End) (t : Turn) : Type 0 where
+pub record Flowing (wish : Wish) (room : ℕ) (old : End) (text : List ℕ) (e : End) (t : Turn) : Type 0 where
   pub frames : List FrameValue
   pub fills : Fills old old (seen_all frames) e
-  pub spells : IsText delay frames text
-  pub acks : AllByRecursion (NamesMost old delay room) frames
+  pub spells : IsText wish.delay frames text
+  pub acks : AllByRecursion (NamesMost old wish.delay room) frames
+  pub wished : AllByRecursion (IsWished wish) (seen_all frames)
   pub turns : AreInTurn t.first old (seen_all frames)
-  pub order : AreInOrder old [] (pieces_so_far e e.next)
+  pub order : wish.want.items ≡ true → AreInOrder old [] (pieces_so_far e e.next)
   pub within : all_sent e ≤ e.known_data
-  pub ack : old.ack_due ≡ true → (room < length text + 25) ⊎ AcksAll old (seen_all frames)
-  pub items : (i : Item) → IsDueItem old i → Among (Control i) (seen_all frames)
+  pub ack : wish.ack_due ≡ true → (room < length text + 25) ⊎ AcksAll old (seen_all frames)
+  pub items : wish.want.items ≡ true → (i : Item) → IsDueItem old i → Among (Control i) (seen_all frames)
   pub over : (n : ℕ) → HadTurn t.around t.first t.at n → StreamGoes e n → ⊥
   pub untouched : (n : ℕ) → (HadTurn t.around t.first t.at n → ⊥) → (c : Chunk) → InPacket e (Data n c) → ⊥
 
 -- A packet that needs no more: it has all, or no room for an item more.
-pub record Packed (first delay room : ℕ) (old : End) (text : List ℕ) (e : End) : Type 0 where
+pub record Packed (first : ℕ) (wish : Wish) (room : ℕ) (old : End) (text : List ℕ) (e : End) : Type 0 where
   pub frames : List FrameValue
   pub fills : Fills old old (seen_all frames) e
-  pub spells : IsText delay frames text
-  pub acks : AllByRecursion (NamesMost old delay room) frames
+  pub spells : IsText wish.delay frames text
+  pub acks : AllByRecursion (NamesMost old wish.delay room) frames
+  pub wished : AllByRecursion (IsWished wish) (seen_all frames)
   pub turns : AreInTurn first old (seen_all frames)
-  pub order : AreInOrder old [] (pieces_so_far e e.next)
+  pub order : wish.want.items ≡ true → AreInOrder old [] (pieces_so_far e e.next)
   pub within : all_sent e ≤ e.known_data
-  pub whole : HasAll room (length text) old (seen_all frames) e
+  pub whole : length text + 25 ≤ room → HasWished wish old (seen_all frames) e
 
 -- a packet with the streams that had their turn, or one that is full
-abbrev pub Flow : (delay room : ℕ) → End → List ℕ → End → Bool → Turn → Type 0
-Flow delay room old text e true t = Packed t.first delay room old text e
-Flow delay room old text e false t = Flowing delay room old text e t
+abbrev pub Flow : (wish : Wish) (room : ℕ) → End → List ℕ → End → Bool → Turn → Type 0
+Flow wish room old text e true t = Packed t.first wish room old text e
+Flow wish room old text e false t = Flowing wish room old text e t
 
 -- a packet so far, or one that is full
-abbrev pub Stage : (delay room : ℕ) → End → List ℕ → End → Bool → Passed → Type 0
-Stage delay room old text e true passed = (first : ℕ) → Packed first delay room old text e
-Stage delay room old text e false passed = Begun delay room old text e (IsPassed passed)
+abbrev pub Stage : (wish : Wish) (room : ℕ) → End → List ℕ → End → Bool → Passed → Type 0
+Stage wish room old text e true passed = (first : ℕ) → Packed first wish room old text e
+Stage wish room old text e false passed = Begun wish room old text e (IsPassed passed)
 
 -- the frame of a chunk, with the written bytes
 abbrev pub stream_frame : Outgoing → ℕ → Chunk → FrameValue
@@ -279,3 +303,4 @@ pub record IsAckText (delay room : ℕ) (old : End) (text : List ℕ) : Type 0 w
   pub ranges : List (ℕ × ℕ)
   pub is : seen frame ≡ Ack largest ranges
   pub may : MayAck old old largest ranges
+  pub full : (room < length text + 25) ⊎ NamesAll old ranges

@@ -7,6 +7,8 @@ use Rattle.qs_send.specs.declared.piece.Item.{Item}
 use Rattle.qs_machine.specs.Ends.{End}
 use Rattle.qs_machine.specs.Credit.{send_ended}
 use Rattle.qs_machine.specs.Due.{IsDueItem, StreamGoes}
+use Rattle.qs_calls.specs.declared.filling.Fill.{Fill}
+use Rattle.qs_machine.specs.Filling.{IsAsked, WantedGoes}
 use Rattle.qs_machine.specs.News.{IsHeld, HasForPacket}
 use Rattle.qs_conn.specs.Filling.{slot_of, Passed, IsPassed}
 
@@ -41,3 +43,18 @@ TellsAnyGoing false e = (n : ℕ) → StreamGoes e n → ⊥
 abbrev pub TellsFrame : Bool → End → Type 0
 TellsFrame true e = ((i : Item) × IsDueItem e i) ⊎ ((n : ℕ) × StreamGoes e n)
 TellsFrame false e = ((i : Item) × IsDueItem e i) ⊎ ((n : ℕ) × StreamGoes e n) → ⊥
+
+-- of what is asked for an item is due, or none
+abbrev pub TellsItem : Fill → Bool → End → Type 0
+TellsItem want true e = (want.items ≡ true) × ((i : Item) × IsDueItem e i)
+TellsItem want false e = (want.items ≡ true) × ((i : Item) × IsDueItem e i) → ⊥
+
+-- of what is asked for something of some stream goes, or nothing
+abbrev pub TellsStream : Fill → Bool → End → Type 0
+TellsStream want true e = (n : ℕ) × IsAsked want n × StreamGoes e n
+TellsStream want false e = ((n : ℕ) × IsAsked want n × StreamGoes e n) → ⊥
+
+-- something that is asked for goes, or nothing
+abbrev pub TellsWanted : Fill → Bool → End → Type 0
+TellsWanted want true e = WantedGoes want e
+TellsWanted want false e = WantedGoes want e → ⊥

@@ -28,6 +28,7 @@ use std::marker::Model;
 mod ack_alone;
 mod asking;
 mod claiming;
+mod filling;
 mod frames;
 mod losing;
 mod making;

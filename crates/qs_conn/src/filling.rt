@@ -1,5 +1,5 @@
 //! What goes into a packet: frames into a slice, behind the bytes that are there.
-ghost use Rattle.std.specs.Prelude.{◌≡◌, ◌+◌, ◌-◌, ◌≤◌, ◌<◌, ◌++◌, ◌^◌, true, false, None, is_some, length, take, drop, IfSome, IfNone};
+ghost use Rattle.std.specs.Prelude.{Bool, ◌≡◌, ◌+◌, ◌-◌, ◌≤◌, ◌<◌, ◌++◌, ◌^◌, true, false, None, is_some, length, take, drop, IfSome, IfNone};
 ghost use Rattle.qs_recv.specs.Lane.{RecvLane};
 ghost use Rattle.std.specs.FinSet as set;
 ghost use Rattle.qs_ranges.specs.Numbers.{MAX_VARINT, run_starts};
@@ -16,9 +16,10 @@ ghost use Rattle.qs_machine.specs.Ends.{End};
 ghost use Rattle.qs_machine.specs.Due.{IsCovered};
 ghost use Rattle.qs_machine.specs.Outgoing.{IsCarried, MayTell, sent_sum, on_lane, chunk_put};
 ghost use Rattle.qs_machine.specs.Sums.{or_none};
-ghost use Rattle.qs_conn.specs.Filling.{frame_of_item, end_by, HasSpare, LeavesRest, PutsItem, no_slot, InPacket, Begun, IsAckText, IsPassed, MayGo, stream_frame};
+ghost use Rattle.qs_conn.specs.Filling.{frame_of_item, end_by, HasSpare, LeavesRest, PutsItem, no_slot, InPacket, Begun, IsAckLeft, IsAckText, IsPassed, MayGo, stream_frame};
 
 use crate::outbox::Outbox;
+use qs_calls::Fill;
 use qs_ranges::RangeSet;
 use qs_send::{Chunk, Item};
 use qs_wire::{Frame, StreamId, put, put_delayed_ack, put_stream};
@@ -33,6 +34,14 @@ pub(crate) struct Packet {
     pub len: usize,
     /// Something didn't fit, so nothing more goes in.
     pub is_full: bool,
+}
+
+/// What a packet is to hold: of what is due what is asked for, and whether an ACK, and the delay that it tells.
+#[derive(Clone, Copy, Drop)]
+pub(crate) struct Wish {
+    pub want: Fill,
+    pub delay: u64,
+    pub ack_due: bool,
 }
 
 /// Writes a frame behind the bytes that are there, and answers how many there are then. `None` where it doesn't fit; then nothing is
@@ -182,8 +191,6 @@ pub(crate) fn put_kept(done: &RangeSet, delay: u64, out: &mut [u8]) -> usize
     requires some { 0 < set.len (run_starts done.now) }
     requires few { set.len (run_starts done.now) ≤ 32 }
     requires space { 26 ≤ length out.old }
-    ensures begun { (old : End) → old.done ≡ done.now → old.ack_due ≡ true → all_sent old ≤ old.known_data → ((x : Piece) → InPacket old x → ⊥)
-        → Begun delay (length out.old) old (take result out.new) (record old { ack_due = false }) (IsPassed no_slot) }
     ensures alone { (old : End) → old.done ≡ done.now → old.ack_due ≡ true → IsAckText delay (length out.old) old (take result out.new) }
     ensures within { result ≤ length out.new }
     ensures rest { drop result out.new ≡ drop result out.old }
@@ -199,20 +206,21 @@ pub(crate) fn put_kept(done: &RangeSet, delay: u64, out: &mut [u8]) -> usize
     }
 }
 
-/// Begins a packet with an ACK, if one is due.
-pub(crate) fn put_ack_if(done: &RangeSet, ack_due: bool, delay: u64, out: &mut [u8]) -> usize
-    requires delay { delay < 2 ^ 62 }
-    requires acks { ack_due ≡ true → 0 < set.len (run_starts done.now) }
+/// Begins a packet with an ACK, if one is to go.
+pub(crate) fn put_ack_if(done: &RangeSet, wish: &Wish, out: &mut [u8]) -> usize
+    requires delay { wish.now.delay < 2 ^ 62 }
+    requires acks { wish.now.ack_due ≡ true → 0 < set.len (run_starts done.now) }
     requires few { set.len (run_starts done.now) ≤ 32 }
-    requires space { 26 ≤ length out.old }
-    ensures begun { (old : End) → old.done ≡ done.now → old.ack_due ≡ ack_due → all_sent old ≤ old.known_data → ((x : Piece) → InPacket old x → ⊥)
-        → Begun delay (length out.old) old (take result out.new) (record old { ack_due = false }) (IsPassed no_slot) }
+    requires space { wish.now.ack_due ≡ true → 26 ≤ length out.old }
+    ensures begun { (old : End) (left : Bool) → wish.now.want.items ≡ true → old.done ≡ done.now → IsAckLeft wish.now.ack_due old.ack_due left → all_sent old ≤ old.known_data → ((x : Piece) → InPacket old x → ⊥)
+        → Begun wish.now (length out.old) old (take result out.new) (record old { ack_due = left }) (IsPassed no_slot) }
+    ensures none { wish.now.ack_due ≡ false → result ≡ 0 }
     ensures within { result ≤ length out.new }
     ensures rest { drop result out.new ≡ drop result out.old }
     ensures room { length out.new ≡ length out.old }
 {
-    if ack_due {
-        return put_kept(done, delay, out);
+    if wish.ack_due {
+        return put_kept(done, wish.delay, out);
     }
     0
 }

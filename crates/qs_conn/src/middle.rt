@@ -18,8 +18,6 @@ mod losing;
 mod sendable;
 mod unmarking;
 
-pub(crate) use filling::Wish;
-
 /// The limits, the streams and the packets of an end: what a packet is filled from, and what an acknowledgement or a loss changes.
 #[derive(Drop)]
 pub(crate) struct Core {

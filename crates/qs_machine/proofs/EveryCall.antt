@@ -22,6 +22,8 @@ use Rattle.qs_calls.specs.declared.closing.Closed.{Closed}
 use Rattle.qs_calls.specs.declared.closing.Closed.TheVariants.{ByUs, ByPeer}
 use Rattle.qs_calls.specs.declared.closing.Received.{Received}
 use Rattle.qs_calls.specs.declared.closing.Received.TheVariants as received
+use Rattle.qs_calls.specs.declared.filling.Fill.{Fill}
+use Rattle.qs_calls.specs.declared.filling.Filled.{Filled}
 use Rattle.qs_calls.specs.declared.making.Made.{Made}
 use Rattle.qs_calls.specs.declared.making.MakeFault.{MakeFault}
 use Rattle.qs_calls.specs.declared.making.MakeFault.TheVariants as making
@@ -40,8 +42,9 @@ use Rattle.qs_machine.specs.Lawful.{MayPut, Fills, frame_put}
 use Rattle.qs_machine.specs.Owner.{OpenStep, AcceptStep, AcceptOfStep, ReadBy, with_wanted, Certain, first_refusal, refuse_if, no_half, half_refusal, send_refusal, recv_refusal, IsBlocked, IsOpened, GivesNone, GivesBidi, GivesUni, AcceptOpen, AcceptOpenOf, peer_type, next_stream}
 use Rattle.qs_machine.specs.Receiving.{ClosedReceive, AtEnd, RunsOut, Stops, GoesOn, Takes, ReceiveBy, TakesPayload, OpenReceive}
 use Rattle.qs_machine.specs.Making.{MakeAt, MakeAckAt, make_refusal, claim_refusal, LoseStep, lose_refusal, first_lost, losses}
+use Rattle.qs_machine.specs.Filling.{FillAt}
 use Rattle.qs_machine.specs.Raising.{limits_raised, raise_refusal}
-use Rattle.qs_machine.specs.EndStep.{Call, Answer, EndStep, Open, Accept, AcceptOf, Write, Finish, Reset, Stop, ReadUpTo, Receive, Make, MakeAck, Lose, Claim, RaiseLimits}
+use Rattle.qs_machine.specs.EndStep.{Call, Answer, EndStep, Open, Accept, AcceptOf, Write, Finish, Reset, Stop, ReadUpTo, Receive, Make, MakeAck, FillIn, Lose, Claim, RaiseLimits}
 use Rattle.qs_machine.proofs.Choices.{by_refusal, by_test, if_allowed}
 
 -- a change of an end
@@ -222,6 +225,12 @@ module _ (old : End) (call : Call) (Q P : End → Type 0) (c : Cases old call Q 
   ack_by None delay room (Err fault) text new step = absurd step
   ack_by r delay room answer text new step = same new step.2
 
+  fill_by : (r : Option MakeFault) (want : Fill) (room : ℕ) (answer : Result (Option Filled) MakeFault) (text : List ℕ) (new : End) → FillAt r old want room answer text new → P new
+  fill_by None want room (Ok (Some filled)) text new step = packet (seen_all step.made.frames) step.made.mid new step.made.lawful.filled step.made.after
+  fill_by None want room (Err making.Closed) text new step = absurd step
+  fill_by None want room (Err making.Exhausted) text new step = absurd step
+  fill_by r want room answer text new step = same new step.2
+
   -- the pieces are the first ones of the packet's record
   loses : (k : ℕ) (ps rest : List Piece) (e : End) → fmap.get e.outstanding k ≡ Some (ps ++ rest) → P e → P (losses k ps e)
   unfolding losses
@@ -296,6 +305,7 @@ each_call old (ReadUpTo n size) Q P c answer new step = read_by old (ReadUpTo n 
 each_call old (Receive k payload) Q P c answer new step = receive_by old (Receive k payload) Q P c tt old.closed k payload answer new step
 each_call old (Make first delay room) Q P c answer new step = make_by old (Make first delay room) Q P c (make_refusal old) first delay room answer.0 answer.1 new step
 each_call old (MakeAck delay room) Q P c answer new step = ack_by old (MakeAck delay room) Q P c (make_refusal old) delay room answer.0 answer.1 new step
+each_call old (FillIn want room) Q P c answer new step = fill_by old (FillIn want room) Q P c (make_refusal old) want room answer.0 answer.1 new step
 each_call old (Lose k) Q P c answer new step = lose_by old (Lose k) Q P c k answer new step
 each_call old Claim Q P c answer new step = claim_by old Claim Q P c answer new step
 each_call old (RaiseLimits p) Q P c answer new step = use_by old (RaiseLimits p) Q P c _ (raise_refusal old p) (Raised p) answer new tt step

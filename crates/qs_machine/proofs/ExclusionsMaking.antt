@@ -161,7 +161,7 @@ still_due =
       not_sent = λ (c, is, low, high). true≢false (ap is_data (only_carried 0 (Told (MaxData 5000)) (Data 0 c) (subst (λ m. IsCarried m (Data 0 c)) (alone (Told (MaxData 5000))) is)));
     }
 
-no_control : Among (Control (MaxData 5000)) (Stream 0 0 abc false ∷ []) → ⊥
+pub no_control : Among (Control (MaxData 5000)) (Stream 0 0 abc false ∷ []) → ⊥
 no_control a = elim a [ inl is ↦ false≢true (ap is_stream is) | inr none ↦ none ]
 
 no_ack_in : (largest : ℕ) (ranges : List (ℕ × ℕ)) → Among (Ack largest ranges) (Stream 0 0 abc false ∷ []) → ⊥
@@ -260,7 +260,7 @@ largest_alone (inl all) = false≢true (all 1 kept_1)
 largest_alone (inr next) = (let most = next_fits next.gap next.len next.fits in omega (arith, most, next.too_long))
 
 -- a server without a stream has nothing to tell
-no_item : (i : Item) → IsCurrent (server standard) i → ⊥
+pub no_item : (i : Item) → IsCurrent (server standard) i → ⊥
 unfolding total
 no_item (MaxData m) c = omega (arith, c.0, c.1)
 no_item (MaxStreamData n m) (l, there, at, low, size) = none-some l (sym (nowhere n) ∙ there)
@@ -273,7 +273,7 @@ no_item (StreamDataBlocked n m) (l, there, reset, at, more, end) = none-some l (
 no_item (StreamsBlocked Bidi m) c = none-some m c.0
 no_item (StreamsBlocked Uni m) c = none-some m c.0
 
-none_due : Sendable (server standard) → ⊥
+pub none_due : Sendable (server standard) → ⊥
 none_due (inl due) = false≢true due
 none_due (inr (inl (i, due))) = no_item i due.0
 none_due (inr (inr (n, (l, there, goes)))) = none-some l (sym (nowhere n) ∙ there)

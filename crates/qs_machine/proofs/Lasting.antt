@@ -6,6 +6,7 @@ use Rattle.qs_calls.specs.declared.closing.Closing.{Closing}
 use Rattle.qs_calls.specs.declared.closing.Closed.{Closed}
 use Rattle.qs_calls.specs.declared.closing.Closed.TheVariants.{ByUs, ByPeer}
 use Rattle.qs_calls.specs.declared.closing.Received.{Received}
+use Rattle.qs_calls.specs.declared.filling.Fill.{Fill}
 use Rattle.qs_calls.specs.declared.making.MakeFault.{MakeFault}
 use Rattle.qs_calls.specs.declared.making.MakeFault.TheVariants as making
 use Rattle.qs_calls.specs.declared.making.LostFault.TheVariants as losing
@@ -16,7 +17,8 @@ use Rattle.qs_machine.specs.Ends.{End}
 use Rattle.qs_machine.specs.Owner.{Certain, first_refusal, refuse_if, ReadBy, GivesNone}
 use Rattle.qs_machine.specs.Receiving.{ReceiveBy}
 use Rattle.qs_machine.specs.Making.{MakeAt, ClaimStep, claim_refusal, MakeAckAt}
-use Rattle.qs_machine.specs.EndStep.{Call, Answer, EndStep, Open, Accept, AcceptOf, Write, Finish, Reset, Stop, ReadUpTo, Receive, Make, Lose, RaiseLimits, Claim, MakeAck}
+use Rattle.qs_machine.specs.Filling.{FillAt}
+use Rattle.qs_machine.specs.EndStep.{Call, Answer, EndStep, Open, Accept, AcceptOf, Write, Finish, Reset, Stop, ReadUpTo, Receive, Make, Lose, RaiseLimits, Claim, MakeAck, FillIn}
 use Rattle.qs_machine.specs.Laws.{StaysButNumber}
 use Rattle.qs_machine.proofs.Choices.{by_refusal}
 use Rattle.qs_calls.specs.declared.settings.RaiseFault.TheVariants as raising
@@ -44,6 +46,11 @@ ack_refused : (b : Bool) (r : Option MakeFault) (old : End) (delay room : ℕ) (
     → MakeAckAt (first_refusal (refuse_if b making.Closed) r) old delay room answer.0 answer.1 new → new ≡ old
 ack_refused true r old delay room answer new is h = h.2
 ack_refused false r old delay room answer new is h = absurd (false≢true is)
+
+fill_refused : (b : Bool) (r : Option MakeFault) (old : End) (want : Fill) (room : ℕ) (answer : Answer (FillIn want room)) (new : End) → b ≡ true
+    → FillAt (first_refusal (refuse_if b making.Closed) r) old want room answer.0 answer.1 new → new ≡ old
+fill_refused true r old want room answer new is h = h.2
+fill_refused false r old want room answer new is h = absurd (false≢true is)
 
 accept_none : (b : Bool) (old : End) (answer : Option ℕ) (new : End) (Gives : Type 0) → b ≡ true → MatchBool b (GivesNone old answer new) Gives → new ≡ old
 accept_none true old answer new Gives is h = h.1
@@ -74,6 +81,7 @@ closed_stays old (ReadUpTo n size) answer new is h = read_refused (is_some old.c
 closed_stays old (Receive k payload) answer new is h = receive_again old.closed k payload old answer new is h
 closed_stays old (Make first delay room) answer new is h = make_refused (is_some old.closed) _ old first delay room answer new is h
 closed_stays old (MakeAck delay room) answer new is h = ack_refused (is_some old.closed) _ old delay room answer new is h
+closed_stays old (FillIn want room) answer new is h = fill_refused (is_some old.closed) _ old want room answer new is h
 closed_stays old (Lose k) answer new is h = refused_first (is_some old.closed) losing.Closed _ old answer new _ is h
 closed_stays old Claim answer new is h = claim_stays old answer new h
 closed_stays old (RaiseLimits p) answer new is h = refused_first (is_some old.closed) raising.Closed _ old answer new _ is h

@@ -36,6 +36,7 @@ pub mod RunLaws
 pub mod SmallEndsLaws
 pub mod ExclusionsDue
 pub mod ExclusionsMaking
+pub mod ExclusionsFilling
 pub mod ExclusionsInOrder
 pub mod ExclusionsMemory
 pub mod ExclusionsReceiving

@@ -6,6 +6,8 @@ use Rattle.qs_wire.specs.declared.stream_id.Dir.{Dir}
 use Rattle.qs_recv.specs.declared.half.Read.{Read}
 use Rattle.qs_calls.specs.declared.closing.Closing.{Closing}
 use Rattle.qs_calls.specs.declared.closing.Received.{Received}
+use Rattle.qs_calls.specs.declared.filling.Fill.{Fill}
+use Rattle.qs_calls.specs.declared.filling.Filled.{Filled}
 use Rattle.qs_calls.specs.declared.making.Made.{Made}
 use Rattle.qs_calls.specs.declared.making.MakeFault.{MakeFault}
 use Rattle.qs_calls.specs.declared.making.LostFault.{LostFault}
@@ -19,6 +21,7 @@ use Rattle.qs_machine.specs.Credit.{spent, all_stored, granted_streams}
 use Rattle.qs_machine.specs.Owner.{OpenStep, AcceptStep, AcceptOfStep, WriteStep, FinishStep, ResetStep, StopStep, ReadStep}
 use Rattle.qs_machine.specs.Receiving.{ReceiveStep}
 use Rattle.qs_machine.specs.Making.{MakeStep, ClaimStep, LoseStep, ClosePayload, MakeAckStep}
+use Rattle.qs_machine.specs.Filling.{FillStep}
 use Rattle.qs_machine.specs.Reports.{lane_report}
 use Rattle.qs_machine.specs.Raising.{RaiseStep}
 
@@ -35,6 +38,7 @@ pub data Call : Type 0 where
   Receive : (number : ℕ) (payload : List ℕ) → Call
   Make : (first delay room : ℕ) → Call
   MakeAck : (delay room : ℕ) → Call
+  FillIn : (want : Fill) (room : ℕ) → Call
   Lose : (number : ℕ) → Call
   Claim : Call
   RaiseLimits : (limits : PeerLimits) → Call
@@ -58,6 +62,7 @@ Answer (ReadUpTo n size) = Result Read UseFault × List ℕ
 Answer (Receive k payload) = Result Received Closing
 Answer (Make first delay room) = Result (Option Made) MakeFault × List ℕ
 Answer (MakeAck delay room) = Result (Option Made) MakeFault × List ℕ
+Answer (FillIn want room) = Result (Option Filled) MakeFault × List ℕ
 Answer (Lose k) = Result (Unit {0}) LostFault
 Answer Claim = Result ℕ MakeFault
 Answer (RaiseLimits p) = Result (Unit {0}) RaiseFault
@@ -81,6 +86,7 @@ EndStep old (ReadUpTo n size) answer new = ReadStep old n size answer.0 answer.1
 EndStep old (Receive k payload) answer new = ReceiveStep old k payload answer new
 EndStep old (Make first delay room) answer new = MakeStep old first delay room answer.0 answer.1 new
 EndStep old (MakeAck delay room) answer new = MakeAckStep old delay room answer.0 answer.1 new
+EndStep old (FillIn want room) answer new = FillStep old want room answer.0 answer.1 new
 EndStep old (Lose k) answer new = LoseStep old k answer new
 EndStep old Claim answer new = ClaimStep old answer new
 EndStep old (RaiseLimits p) answer new = RaiseStep old p answer new

@@ -2,6 +2,7 @@
 -- What the definitions exclude: beside each example of what a step gives, one of what it doesn't.
 use Rattle.qs_machine.specs.ExclusionsDue.{NotDue}
 use Rattle.qs_machine.specs.ExclusionsMaking.{NotMade}
+use Rattle.qs_machine.specs.ExclusionsFilling.{NotFilled}
 use Rattle.qs_machine.specs.ExclusionsInOrder.{NothingIsStarved}
 use Rattle.qs_machine.specs.ExclusionsReceiving.{NotReceived}
 use Rattle.qs_machine.specs.ExclusionsMemory.{NotRefused}
@@ -12,6 +13,7 @@ use Rattle.qs_machine.specs.ExclusionsAsking.{NotAsked}
 pub record Exclusions : Type 0 where
   pub due : NotDue
   pub making : NotMade
+  pub filling : NotFilled
   pub order : NothingIsStarved
   pub receiving : NotReceived
   pub owner : NotOwned

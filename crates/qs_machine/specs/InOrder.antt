@@ -1,12 +1,14 @@
 -- Of public contracts.
 -- In which order a packet takes what is due, so that nothing is left out under what comes after it (ours, for the whole file: RFC 9000,
 -- section 13, leaves the order open).
-use Rattle.std.specs.Prelude.{◌≡◌, ℕ, ◌<◌, false, List, [], ◌∷◌, ◌++◌, ◌⊎◌, Option, None, Some, Result, Ok, Err}
+use Rattle.std.specs.Prelude.{◌≡◌, ℕ, ◌<◌, true, false, List, [], ◌∷◌, ◌++◌, ◌⊎◌, Option, None, Some, Result, Ok, Err}
 use Rattle.qs_send.specs.PieceCodes.{dir_number}
 use Rattle.qs_send.specs.declared.piece.Item.{Item}
 use Rattle.qs_send.specs.declared.piece.Item.TheVariants.{MaxData, MaxStreamData, MaxStreams, ResetStream, StopSending, DataBlocked, StreamDataBlocked, StreamsBlocked}
 use Rattle.qs_send.specs.declared.piece.Piece.{Piece}
 use Rattle.qs_send.specs.declared.piece.Piece.TheVariants.{Data, Told}
+use Rattle.qs_calls.specs.declared.filling.Fill.{Fill}
+use Rattle.qs_calls.specs.declared.filling.Filled.{Filled}
 use Rattle.qs_calls.specs.declared.making.Made.{Made}
 use Rattle.qs_calls.specs.declared.making.MakeFault.{MakeFault}
 use Rattle.qs_machine.specs.Ends.{End}
@@ -44,3 +46,9 @@ abbrev pub NothingStarves : End → Result (Option Made) MakeFault → End → T
 NothingStarves old (Ok (Some made)) new = (new.ack_due ≡ false) × AreInOrder old [] (pieces_so_far new made.number)
 NothingStarves old (Ok None) new = Unit {0}
 NothingStarves old (Err fault) new = Unit {0}
+
+-- No item starves that was asked for: what was filled in is in order, where items were.
+abbrev pub NoItemStarves : Fill → End → Result (Option Filled) MakeFault → End → Type 0
+NoItemStarves want old (Ok (Some filled)) new = want.items ≡ true → AreInOrder old [] (pieces_so_far new filled.token.number)
+NoItemStarves want old (Ok None) new = Unit {0}
+NoItemStarves want old (Err fault) new = Unit {0}

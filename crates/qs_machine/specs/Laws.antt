@@ -1,6 +1,6 @@
 -- Of laws.
 -- Laws on ends and their calls.
-use Rattle.std.specs.Prelude.{◌≡◌, ℕ, ◌≤◌, Bool, true, false, List, [], ◌++◌, length, ◌⊎◌, Option, None, is_some, Result, Ok, Err}
+use Rattle.std.specs.Prelude.{◌≡◌, ℕ, ◌≤◌, Bool, true, false, List, [], ◌++◌, length, ◌⊎◌, Option, None, Some, is_some, Result, Ok, Err}
 use Rattle.std.specs.FinMap as fmap
 use Rattle.qs_wire.specs.Layout.{PlacedValue}
 use Rattle.qs_wire.specs.Grammar.{frames_of}
@@ -18,6 +18,8 @@ use Rattle.qs_calls.specs.declared.settings.PeerLimits.{PeerLimits}
 use Rattle.qs_calls.specs.declared.closing.Closing.{Closing}
 use Rattle.qs_calls.specs.declared.closing.Received.{Received}
 use Rattle.qs_calls.specs.declared.closing.Received.TheVariants.{Done}
+use Rattle.qs_calls.specs.declared.filling.Fill.{Fill}
+use Rattle.qs_calls.specs.declared.filling.Filled.{Filled}
 use Rattle.qs_calls.specs.declared.making.Made.{Made}
 use Rattle.qs_calls.specs.declared.making.MakeFault.{MakeFault}
 use Rattle.qs_calls.specs.declared.making.LostFault.{LostFault}
@@ -29,6 +31,7 @@ use Rattle.qs_machine.specs.Verdicts.{verdict}
 use Rattle.qs_machine.specs.FrameStep.{NoFault, frames_taken}
 use Rattle.qs_machine.specs.Receiving.{TakesPayload, EndsBy, ReceiveStep}
 use Rattle.qs_machine.specs.Making.{MakeStep, MakeAckStep, ClaimStep, LoseStep}
+use Rattle.qs_machine.specs.Filling.{FillStep, as_made}
 use Rattle.qs_machine.specs.EndStep.{Call, Answer, EndStep, Claim}
 use Rattle.qs_machine.specs.Standing.{IsSound, IsWithinCredit, CountsAreSettled, LimitsRise, CountsRise}
 use Rattle.qs_machine.specs.Repeats.{SentWasWritten, AreAmong, Resumes, OnlyRecords}
@@ -94,6 +97,18 @@ abbrev pub AnAckIsAPacket : Type 0
 AnAckIsAPacket =
     (old new : End) (first delay room : ℕ) (answer : Result (Option Made) MakeFault) (text : List ℕ) → MakeAckStep old delay room answer text new →
     MakeStep old first delay (length text) answer text new ⊎ ((answer ≡ Ok None) × (text ≡ []) × (new ≡ old))
+
+-- what `make_packet` answers of a packet that was filled so
+abbrev pub made_as : Result (Option Filled) MakeFault → Result (Option Made) MakeFault
+made_as (Ok None) = Ok None
+made_as (Ok (Some filled)) = Ok (Some (as_made filled))
+made_as (Err fault) = Err fault
+
+-- What is filled in is a packet of `make_packet` with no more room than it takes, or nothing changed (RFC 9000, section 12.4).
+abbrev pub AFillIsAPacket : Type 0
+AFillIsAPacket =
+    (old new : End) (want : Fill) (room : ℕ) (answer : Result (Option Filled) MakeFault) (text : List ℕ) → FillStep old want room answer text new →
+    MakeStep old want.first 0 (length text) (made_as answer) text new ⊎ (new ≡ old)
 
 -- once a number was claimed
 pub record ClaimedNumbersAreKnown : Type 0 where

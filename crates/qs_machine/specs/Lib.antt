@@ -12,6 +12,7 @@ pub mod Lawful
 pub mod Owner
 pub mod Receiving
 pub mod Making
+pub mod Filling
 pub mod InOrder
 pub mod Reports
 pub mod News
@@ -31,6 +32,7 @@ pub mod Told
 pub mod SmallEnds
 pub mod ExclusionsDue
 pub mod ExclusionsMaking
+pub mod ExclusionsFilling
 pub mod ExclusionsInOrder
 pub mod ExclusionsMemory
 pub mod ExclusionsReceiving

@@ -1,6 +1,6 @@
 //! Laws on ends and their calls, each the contract of a function.
 
-ghost use Rattle.qs_machine.specs.Laws.{NewEndsAreSound, CallsKeepEndsSound, StoredBytesWereGranted, EndedIsLastState, NewEndsSettleCounts, CallsSettleCounts, CountsNeverFall, LimitsNeverFall, ClosedEndsStay, AnAckIsAPacket, ClaimedNumbersAreKnown, PayloadsAreTakenInOrder, EffectsRepeat, PayloadsRepeat, ProcessedPayloadsRepeat, NewEndsSentNothing, CallsSendWhatWasWritten};
+ghost use Rattle.qs_machine.specs.Laws.{NewEndsAreSound, CallsKeepEndsSound, StoredBytesWereGranted, EndedIsLastState, NewEndsSettleCounts, CallsSettleCounts, CountsNeverFall, LimitsNeverFall, ClosedEndsStay, AnAckIsAPacket, AFillIsAPacket, ClaimedNumbersAreKnown, PayloadsAreTakenInOrder, EffectsRepeat, PayloadsRepeat, ProcessedPayloadsRepeat, NewEndsSentNothing, CallsSendWhatWasWritten};
 ghost use Rattle.qs_machine.specs.Plains.{PlainFramesTellNothing};
 ghost use Rattle.qs_machine.specs.SettledLimits.{NewEndsSettleLimits, CallsSettleLimits};
 ghost use Rattle.qs_machine.specs.OffsetParts.{OffsetsAreInOnePart};
@@ -59,6 +59,11 @@ pub fn closed_ends_stay()
 /// What `make_ack` makes is a packet of `make_packet` with no more room than it takes.
 pub fn an_ack_is_a_packet()
     ensures { AnAckIsAPacket }
+{}
+
+/// What is filled in is a packet that `make_packet` may make in a room as long as its text, or nothing changed.
+pub fn a_fill_is_a_packet()
+    ensures { AFillIsAPacket }
 {}
 
 /// PADDING, PING and the frames that are carried for others change nothing but whether an ACK is due.

@@ -1,4 +1,4 @@
--- Of public contracts.
+-- Trusted.
 -- The last stream of which frames carry something.
 use Rattle.std.specs.Prelude.{ℕ, List, [], ◌∷◌, Option, Some}
 use Rattle.qs_wire.specs.Layout.{FrameValue, stream}

@@ -7,8 +7,8 @@ ghost use Rattle.qs_machine.specs.InOrder.{NothingStarves};
 ghost use Rattle.qs_conn.specs.Written.{made_text, KeepsRest};
 
 use super::Endpoint;
-use crate::middle::Wish;
-use qs_calls::{Made, MakeFault};
+use crate::filling::Wish;
+use qs_calls::{Fill, Made, MakeFault};
 use qs_wire::StreamId;
 
 /// The largest packet number (RFC 9000, section 12.3).
@@ -28,7 +28,7 @@ impl Endpoint {
         ensures order { NothingStarves self.old result self.new }
         ensures rest { KeepsRest result out.old out.new }
     {
-        self.make(0, 0, out)
+        self.make(Fill::all().first, 0, out)
     }
 
     /// Makes the next packet, as `make_packet` does, but for two things: bytes go in from stream `first` on, lower streams first, and
@@ -47,12 +47,16 @@ impl Endpoint {
         ensures order { NothingStarves self.old result self.new }
         ensures rest { KeepsRest result out.old out.new }
     {
-        self.make(first.value(), delay, out)
+        self.make(first, delay, out)
     }
 
     // Makes the next packet: bytes go in from stream `first` on, and an ACK tells the delay.
-    fn make(&mut self, first: u64, delay: u64, out: &mut [u8]) -> Result<Option<Made>, MakeFault>
-        requires first { first < 2 ^ 62 }
+    fn make(
+        &mut self,
+        first: StreamId,
+        delay: u64,
+        out: &mut [u8],
+    ) -> Result<Option<Made>, MakeFault>
         requires delay { delay < 2 ^ 62 }
         requires least { 128 ≤ length out.old }
         ensures step { MakeStep self.old first delay (length out.old) result (made_text result out.new) self.new }
@@ -69,12 +73,18 @@ impl Endpoint {
         if let Err(_refused) = self.core.outbox.begin(out.len() / 2) {
             return self.without_memory();
         }
-        let wish = Wish {
+        let want = Fill {
+            items: true,
+            streams: true,
             first,
+            alone: false,
+        };
+        let wish = Wish {
+            want,
             delay,
             ack_due: self.ack_due,
         };
-        let len = self.core.fill(&self.done, wish, out);
+        let len = self.core.fill(&self.done, &wish, out);
         if len == 0 {
             return Ok(None);
         }

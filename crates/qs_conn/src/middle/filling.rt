@@ -5,58 +5,59 @@ ghost use Rattle.qs_ranges.specs.Numbers.{run_starts};
 ghost use Rattle.qs_send.specs.declared.piece.Piece.{Piece};
 ghost use Rattle.qs_machine.specs.Tables.{lookup};
 ghost use Rattle.qs_machine.specs.Ends.{End};
+ghost use Rattle.qs_machine.specs.Filling.{IsAsked};
+ghost use Rattle.qs_conn.specs.declared.filling.Wish.{Wish};
 ghost use Rattle.qs_conn.specs.Middle.{IsCore, IsFilling, FillsOn, end_of};
-ghost use Rattle.qs_conn.specs.Filling.{slot_at, Passed, HasPassedTo, HasPassedKinds, kind_place, no_slot, and_slot, and_kind, all_items, Stage, Flow, Packed, InPacket, turn_at, start_of, way_end, IsOnWay};
+ghost use Rattle.qs_conn.specs.Filling.{slot_at, Passed, HasPassedTo, HasPassedKinds, kind_place, no_slot, and_slot, and_kind, all_items, Stage, Flow, Packed, IsAckLeft, InPacket, turn_at, start_of, way_end, IsOnWay};
 ghost use Rattle.qs_conn.specs.Marks.{IsBefore, IsIdle};
 
 use super::Core;
-use crate::filling::{LEAST_STREAM_FRAME, Packet, is_covered, put_ack_if, put_chunk, put_item};
+use crate::filling::{
+    LEAST_STREAM_FRAME, Packet, Wish, is_covered, put_ack_if, put_chunk, put_item,
+};
 use crate::send_marks::Task;
 use crate::slot::{Kind, Slot};
 use qs_ranges::RangeSet;
 use qs_wire::{Dir, StreamId};
 
-/// What a packet is to hold beside what is due: from which stream on bytes go in, and whether an ACK, and the delay that it tells.
-#[derive(Clone, Copy, Drop)]
-pub(crate) struct Wish {
-    pub first: u64,
-    pub delay: u64,
-    pub ack_due: bool,
-}
-
 impl Core {
-    /// Fills a packet from its first byte on, and answers how many bytes it has: the ACK if one is due, control items, and the bytes of
-    /// streams (RFC 9000, sections 4, 13.2 and 13.3).
-    pub(crate) fn fill(&mut self, done: &RangeSet, wish: Wish, out: &mut [u8]) -> usize
+    /// Fills a packet from its first byte on with what is asked for, and answers how many bytes it has: the ACK, control items, and the
+    /// bytes of streams (RFC 9000, sections 4, 13.2 and 13.3).
+    pub(crate) fn fill(&mut self, done: &RangeSet, wish: &Wish, out: &mut [u8]) -> usize
         requires filling { IsFilling self.old out.old 0 }
-        requires first { wish.first < 2 ^ 62 }
-        requires delay { wish.delay < 2 ^ 62 }
-        requires acks { wish.ack_due ≡ true → 0 < set.len (run_starts done.now) }
+        requires delay { wish.now.delay < 2 ^ 62 }
+        requires acks { wish.now.ack_due ≡ true → 0 < set.len (run_starts done.now) }
         requires few { set.len (run_starts done.now) ≤ 32 }
-        requires space { 26 ≤ length out.old }
-        ensures packed { (old : End) → end_of self.old old ≡ old → old.done ≡ done.now → old.ack_due ≡ wish.ack_due → ((x : Piece) → InPacket old x → ⊥)
-            → Packed wish.first wish.delay (length out.old) old (take result out.new) (end_of self.new (record old { ack_due = false })) }
+        requires space { wish.now.ack_due ≡ true → 26 ≤ length out.old }
+        requires together { wish.now.ack_due ≡ true → wish.now.want.items ≡ true }
+        ensures packed { (old : End) (left : Bool) → end_of self.old old ≡ old → old.done ≡ done.now → IsAckLeft wish.now.ack_due old.ack_due left → ((x : Piece) → InPacket old x → ⊥)
+            → Packed wish.now.want.first wish.now (length out.old) old (take result out.new) (end_of self.new (record old { ack_due = left })) }
         ensures filled { FillsOn self.old out.old 0 self.new out.new result }
     {
-        let len = put_ack_if(done, wish.ack_due, wish.delay, out);
+        let len = put_ack_if(done, wish, out);
         let start = Packet {
             len,
             is_full: false,
         };
-        let packet = self.put_items(out, start);
-        let packet = self.put_streams(wish.first, out, packet);
+        let packet = self.put_items(wish, out, start);
+        let packet = self.put_streams(wish, out, packet);
         self.unmark_told();
         packet.len
     }
 
-    // Puts the control items into the packet that are due.
-    fn put_items(&mut self, out: &mut [u8], packet: Packet) -> Packet
+    // Puts the control items into the packet that are due, if they are asked for.
+    #[tactic(auto, using(crate::proofs::Cores::fills_same))]
+    fn put_items(&mut self, wish: &Wish, out: &mut [u8], packet: Packet) -> Packet
         requires { IsFilling self.old out.old packet.len }
-        ensures stage { (delay room : ℕ) (old e : End) → room ≡ length out.old
-            → Stage delay room old (take packet.len out.old) (end_of self.old e) packet.is_full no_slot
-            → Stage delay room old (take result.len out.new) (end_of self.new e) result.is_full all_items }
+        ensures stage { (room : ℕ) (old e : End) → wish.now.want.items ≡ true → room ≡ length out.old
+            → Stage wish.now room old (take packet.len out.old) (end_of self.old e) packet.is_full no_slot
+            → Stage wish.now room old (take result.len out.new) (end_of self.new e) result.is_full all_items }
+        ensures passed { wish.now.want.items ≡ false → (self.new ≡ self.old) × (out.new ≡ out.old) × (result ≡ packet) }
         ensures filled { FillsOn self.old out.old packet.len self.new out.new result.len }
     {
+        if !wish.want.items {
+            return packet;
+        }
         let packet = self.put_own_slot(Slot::MaxData, out, packet);
         let packet = self.put_own_slot(Slot::MaxStreams(Dir::Bidi), out, packet);
         let packet = self.put_own_slot(Slot::MaxStreams(Dir::Uni), out, packet);
@@ -73,9 +74,9 @@ impl Core {
     #[tactic(auto, using(crate::proofs::Cores::fills_same))]
     fn put_kind(&mut self, kind: Kind, out: &mut [u8], packet: Packet) -> Packet
         requires { IsFilling self.old out.old packet.len }
-        ensures stage { (delay room : ℕ) (old e : End) (passed : Passed) → room ≡ length out.old → HasPassedKinds passed (kind_place kind)
-            → Stage delay room old (take packet.len out.old) (end_of self.old e) packet.is_full passed
-            → Stage delay room old (take result.len out.new) (end_of self.new e) result.is_full (and_kind passed kind) }
+        ensures stage { (wish : Wish) (room : ℕ) (old e : End) (passed : Passed) → room ≡ length out.old → HasPassedKinds passed (kind_place kind)
+            → Stage wish room old (take packet.len out.old) (end_of self.old e) packet.is_full passed
+            → Stage wish room old (take result.len out.new) (end_of self.new e) result.is_full (and_kind passed kind) }
         ensures filled { FillsOn self.old out.old packet.len self.new out.new result.len }
     {
         if packet.is_full {
@@ -111,9 +112,9 @@ impl Core {
     #[tactic(auto, using(crate::proofs::Cores::fills_same))]
     fn put_own_slot(&mut self, slot: Slot, out: &mut [u8], packet: Packet) -> Packet
         requires { IsFilling self.old out.old packet.len }
-        ensures stage { (delay room : ℕ) (old e : End) (passed : Passed) → room ≡ length out.old → HasPassedTo passed slot
-            → Stage delay room old (take packet.len out.old) (end_of self.old e) packet.is_full passed
-            → Stage delay room old (take result.len out.new) (end_of self.new e) result.is_full (and_slot passed slot) }
+        ensures stage { (wish : Wish) (room : ℕ) (old e : End) (passed : Passed) → room ≡ length out.old → HasPassedTo passed slot
+            → Stage wish room old (take packet.len out.old) (end_of self.old e) packet.is_full passed
+            → Stage wish room old (take result.len out.new) (end_of self.new e) result.is_full (and_slot passed slot) }
         ensures filled { FillsOn self.old out.old packet.len self.new out.new result.len }
     {
         if self.limits.has_none(&self.outbox, &slot) {
@@ -126,9 +127,9 @@ impl Core {
     #[tactic(auto, using(crate::proofs::Cores::fills_same))]
     fn put_slot(&mut self, slot: Slot, out: &mut [u8], packet: Packet) -> Packet
         requires { IsFilling self.old out.old packet.len }
-        ensures stage { (delay room : ℕ) (old e : End) (passed : Passed) → room ≡ length out.old → HasPassedTo passed slot
-            → Stage delay room old (take packet.len out.old) (end_of self.old e) packet.is_full passed
-            → Stage delay room old (take result.len out.new) (end_of self.new e) result.is_full (and_slot passed slot) }
+        ensures stage { (wish : Wish) (room : ℕ) (old e : End) (passed : Passed) → room ≡ length out.old → HasPassedTo passed slot
+            → Stage wish room old (take packet.len out.old) (end_of self.old e) packet.is_full passed
+            → Stage wish room old (take result.len out.new) (end_of self.new e) result.is_full (and_slot passed slot) }
         ensures filled { FillsOn self.old out.old packet.len self.new out.new result.len }
     {
         if packet.is_full {
@@ -143,31 +144,36 @@ impl Core {
         put_item(&mut self.outbox, &item, out, packet)
     }
 
-    // Puts the bytes of all streams into the packet, those from `first` on before the others and lower numbers first, as far as the
-    // limits and the room allow.
-    fn put_streams(&mut self, first: u64, out: &mut [u8], packet: Packet) -> Packet
+    // Puts the bytes of the streams into the packet that are asked for: of one alone, or of those from it on before the others and lower
+    // numbers first, as far as the limits and the room allow.
+    #[tactic(auto, using(crate::proofs::Cores::fills_same))]
+    fn put_streams(&mut self, wish: &Wish, out: &mut [u8], packet: Packet) -> Packet
         requires filling { IsFilling self.old out.old packet.len }
-        requires first { first < 2 ^ 62 }
-        ensures packed { (delay room : ℕ) (old e : End) → room ≡ length out.old
-            → Flow delay room old (take packet.len out.old) (end_of self.old e) packet.is_full (turn_at false first first)
-            → Packed first delay room old (take result.len out.new) (end_of self.new e) }
+        ensures packed { (room : ℕ) (old e : End) → room ≡ length out.old
+            → Flow wish.now room old (take packet.len out.old) (end_of self.old e) packet.is_full (turn_at false wish.now.want.first wish.now.want.first)
+            → Packed wish.now.want.first wish.now room old (take result.len out.new) (end_of self.new e) }
         ensures filled { FillsOn self.old out.old packet.len self.new out.new result.len }
     {
-        let packet = self.put_way(first, false, out, packet);
+        if !wish.want.streams {
+            return packet;
+        }
+        if wish.want.alone {
+            return self.put_open(wish.want.first, out, packet);
+        }
+        let packet = self.put_way(wish.want.first, false, out, packet);
         if packet.is_full {
             return packet;
         }
-        self.put_way(first, true, out, packet)
+        self.put_way(wish.want.first, true, out, packet)
     }
 
     // Puts the bytes of the streams of a way into the packet, lower numbers first, as far as the limits and the room allow.
     #[tactic(auto, using(crate::proofs::Cores::fills_same))]
-    fn put_way(&mut self, first: u64, around: bool, out: &mut [u8], packet: Packet) -> Packet
-        requires filling { IsFilling self.old out.old packet.len }
-        requires first { first < 2 ^ 62 }
-        ensures flow { (delay room : ℕ) (old e : End) → room ≡ length out.old
-            → Flow delay room old (take packet.len out.old) (end_of self.old e) packet.is_full (turn_at around first (start_of around first))
-            → Flow delay room old (take result.len out.new) (end_of self.new e) result.is_full (way_end around first) }
+    fn put_way(&mut self, first: StreamId, around: bool, out: &mut [u8], packet: Packet) -> Packet
+        requires { IsFilling self.old out.old packet.len }
+        ensures flow { (wish : Wish) (room : ℕ) (old e : End) → ((n : ℕ) → IsAsked wish.want n) → room ≡ length out.old
+            → Flow wish room old (take packet.len out.old) (end_of self.old e) packet.is_full (turn_at around first (start_of around first))
+            → Flow wish room old (take result.len out.new) (end_of self.new e) result.is_full (way_end around first) }
         ensures filled { FillsOn self.old out.old packet.len self.new out.new result.len }
     {
         if packet.is_full {
@@ -192,9 +198,9 @@ impl Core {
     #[tactic(auto, using(crate::proofs::Cores::fills_same))]
     fn put_open(&mut self, stream: StreamId, out: &mut [u8], packet: Packet) -> Packet
         requires { IsFilling self.old out.old packet.len }
-        ensures flow { (around : Bool) (first delay room : ℕ) (old e : End) → room ≡ length out.old → IsOnWay around first stream
-            → Flow delay room old (take packet.len out.old) (end_of self.old e) packet.is_full (turn_at around first stream)
-            → Flow delay room old (take result.len out.new) (end_of self.new e) result.is_full (turn_at around first (stream + 1)) }
+        ensures flow { (around : Bool) (first : ℕ) (wish : Wish) (room : ℕ) (old e : End) → IsAsked wish.want stream → room ≡ length out.old → IsOnWay around first stream
+            → Flow wish room old (take packet.len out.old) (end_of self.old e) packet.is_full (turn_at around first stream)
+            → Flow wish room old (take result.len out.new) (end_of self.new e) result.is_full (turn_at around first (stream + 1)) }
         ensures filled { FillsOn self.old out.old packet.len self.new out.new result.len }
     {
         if self.outbox.is_open(stream) {
@@ -208,9 +214,9 @@ impl Core {
     fn put_chunks(&mut self, stream: StreamId, out: &mut [u8], packet: Packet) -> Packet
         requires filling { IsFilling self.old out.old packet.len }
         requires open { is_some (lookup self.old.outbox.sends stream) ≡ true }
-        ensures flow { (around : Bool) (first delay room : ℕ) (old e : End) → room ≡ length out.old → IsOnWay around first stream
-            → Flow delay room old (take packet.len out.old) (end_of self.old e) packet.is_full (turn_at around first stream)
-            → Flow delay room old (take result.len out.new) (end_of self.new e) result.is_full (turn_at around first (stream + 1)) }
+        ensures flow { (around : Bool) (first : ℕ) (wish : Wish) (room : ℕ) (old e : End) → IsAsked wish.want stream → room ≡ length out.old → IsOnWay around first stream
+            → Flow wish room old (take packet.len out.old) (end_of self.old e) packet.is_full (turn_at around first stream)
+            → Flow wish room old (take result.len out.new) (end_of self.new e) result.is_full (turn_at around first (stream + 1)) }
         ensures filled { FillsOn self.old out.old packet.len self.new out.new result.len }
     {
         if packet.is_full {
@@ -231,20 +237,19 @@ impl Core {
 }
 
 // Where the way begins: at `first`, or, on the way around, at the least stream.
-fn way_start(around: bool, first: u64) -> u64
-    requires { first < 2 ^ 62 }
+fn way_start(around: bool, first: StreamId) -> u64
     ensures value { result ≡ start_of around first }
     ensures small { result ≤ 2 ^ 62 }
 {
-    if around { 0 } else { first }
+    if around { 0 } else { first.value() }
 }
 
 // Whether a stream is one of the way: from `first` on, or, on the way around, below it.
-fn is_on_way(around: bool, first: u64, stream: StreamId) -> bool
+fn is_on_way(around: bool, first: StreamId, stream: StreamId) -> bool
     ensures { IsTrue result ↔ IsOnWay around first stream }
 {
     if around {
-        return stream.value() < first;
+        return stream.value() < first.value();
     }
-    stream.value() >= first
+    stream.value() >= first.value()
 }

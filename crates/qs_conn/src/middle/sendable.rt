@@ -2,12 +2,13 @@
 ghost use Rattle.qs_machine.specs.Ends.{End};
 ghost use Rattle.qs_conn.specs.Middle.{IsCore, end_of};
 ghost use Rattle.qs_conn.specs.Filling.{Passed, and_slot, and_kind, all_items};
-ghost use Rattle.qs_conn.specs.Sending.{TellsDue, TellsGoing, TellsAnyGoing, TellsFrame};
+ghost use Rattle.qs_conn.specs.Sending.{TellsDue, TellsGoing, TellsAnyGoing, TellsFrame, TellsItem, TellsStream, TellsWanted};
 
 use super::Core;
 use crate::filling::is_covered;
 use crate::send_marks::Task;
 use crate::slot::{Kind, Slot};
+use qs_calls::Fill;
 use qs_wire::{Dir, StreamId};
 
 impl Core {
@@ -18,6 +19,43 @@ impl Core {
     {
         if self.has_item() {
             return true;
+        }
+        self.has_stream()
+    }
+
+    /// Whether of what is asked for a control item is due, or bytes of a stream or its end may go (RFC 9000, sections 3.1, 3.3 and 4.1).
+    pub(crate) fn has_wanted(&self, want: &Fill) -> bool
+        requires { IsCore self.now }
+        ensures { (e : End) → TellsWanted want.now result (end_of self.now e) }
+    {
+        // Where there is more, it is mostly bytes.
+        if self.has_wanted_stream(want) {
+            return true;
+        }
+        self.has_wanted_item(want)
+    }
+
+    // A control item is due, and items are asked for.
+    fn has_wanted_item(&self, want: &Fill) -> bool
+        requires { IsCore self.now }
+        ensures { (e : End) → TellsItem want.now result (end_of self.now e) }
+    {
+        if want.items {
+            return self.has_item();
+        }
+        false
+    }
+
+    // Bytes of a stream that is asked for may go, or its end.
+    fn has_wanted_stream(&self, want: &Fill) -> bool
+        requires { IsCore self.now }
+        ensures { (e : End) → TellsStream want.now result (end_of self.now e) }
+    {
+        if !want.streams {
+            return false;
+        }
+        if want.alone {
+            return self.has_bytes(want.first);
         }
         self.has_stream()
     }

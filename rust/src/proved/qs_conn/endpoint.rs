@@ -19,6 +19,7 @@ use crate::shim::alloc::Global;
 mod ack_alone;
 mod asking;
 mod claiming;
+mod filling;
 mod frames;
 mod losing;
 mod making;

@@ -2,6 +2,7 @@
 //! What goes into a packet: frames into a slice, behind the bytes that are there.
 
 use crate::proved::qs_conn::outbox::Outbox;
+use crate::proved::qs_calls::Fill;
 use crate::proved::qs_ranges::RangeSet;
 use crate::proved::qs_send::{Chunk, Item};
 use crate::proved::qs_wire::{Frame, StreamId, put, put_delayed_ack, put_stream};
@@ -16,6 +17,14 @@ pub(crate) struct Packet {
     pub len: usize,
     /// Something didn't fit, so nothing more goes in.
     pub is_full: bool,
+}
+
+/// What a packet is to hold: of what is due what is asked for, and whether an ACK, and the delay that it tells.
+#[derive(Clone, Copy)]
+pub(crate) struct Wish {
+    pub want: Fill,
+    pub delay: u64,
+    pub ack_due: bool,
 }
 
 /// Writes a frame behind the bytes that are there, and answers how many there are then. `None` where it doesn't fit; then nothing is
@@ -125,12 +134,10 @@ pub(crate) fn put_kept(done: &RangeSet, delay: u64, out: &mut [u8]) -> usize {
     }
 }
 
-/// Begins a packet with an ACK, if one is due.
-pub(crate) fn put_ack_if(done: &RangeSet, ack_due: bool, delay: u64, out: &mut [u8]) -> usize {
-    debug_assert!(delay < 1 << 62);
-    debug_assert!(26 <= out.len());
-    if ack_due {
-        return put_kept(done, delay, out);
+/// Begins a packet with an ACK, if one is to go.
+pub(crate) fn put_ack_if(done: &RangeSet, wish: &Wish, out: &mut [u8]) -> usize {
+    if wish.ack_due {
+        return put_kept(done, wish.delay, out);
     }
     0
 }

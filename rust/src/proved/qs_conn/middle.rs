@@ -16,8 +16,6 @@ mod losing;
 mod sendable;
 mod unmarking;
 
-pub(crate) use filling::Wish;
-
 /// The limits, the streams and the packets of an end: what a packet is filled from, and what an acknowledgement or a loss changes.
 pub(crate) struct Core {
     pub limits: Limits,

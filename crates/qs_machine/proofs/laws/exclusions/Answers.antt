@@ -1,5 +1,6 @@
 use Rattle.qs_machine.proofs.ExclusionsDue.{not_due}
 use Rattle.qs_machine.proofs.ExclusionsMaking.{not_made}
+use Rattle.qs_machine.proofs.ExclusionsFilling.{not_filled}
 use Rattle.qs_machine.proofs.ExclusionsInOrder.{starved}
 use Rattle.qs_machine.proofs.ExclusionsReceiving.{not_received}
 use Rattle.qs_machine.proofs.ExclusionsMemory.{not_refused}
@@ -9,4 +10,4 @@ use Rattle.qs_machine.proofs.ExclusionsAsking.{not_asked}
 use Rattle.qs_machine.proofs.laws.exclusions.Goals as goal
 
 pub returns : goal.returns
-returns c = record { due = not_due; making = not_made; order = starved; receiving = not_received; owner = not_owned; news = not_found; asking = not_asked; memory = not_refused }
+returns c = record { due = not_due; making = not_made; filling = not_filled; order = starved; receiving = not_received; owner = not_owned; news = not_found; asking = not_asked; memory = not_refused }

@@ -2,8 +2,8 @@
 //! Packets are made.
 
 use super::Endpoint;
-use crate::proved::qs_conn::middle::Wish;
-use crate::proved::qs_calls::{Made, MakeFault};
+use crate::proved::qs_conn::filling::Wish;
+use crate::proved::qs_calls::{Fill, Made, MakeFault};
 use crate::proved::qs_wire::StreamId;
 
 /// The largest packet number (RFC 9000, section 12.3).
@@ -19,7 +19,7 @@ impl Endpoint {
     pub fn make_packet(&mut self, out: &mut [u8]) -> Result<Option<Made>, MakeFault> {
         debug_assert!(128 <= out.len());
         debug_assert!(out.len() <= 16383);
-        self.make(0, 0, out)
+        self.make(Fill::all().first, 0, out)
     }
 
     /// Makes the next packet, as `make_packet` does, but for two things: bytes go in from stream `first` on, lower streams first, and
@@ -34,12 +34,16 @@ impl Endpoint {
         debug_assert!(delay < 1 << 62);
         debug_assert!(128 <= out.len());
         debug_assert!(out.len() <= 16383);
-        self.make(first.value(), delay, out)
+        self.make(first, delay, out)
     }
 
     // Makes the next packet: bytes go in from stream `first` on, and an ACK tells the delay.
-    fn make(&mut self, first: u64, delay: u64, out: &mut [u8]) -> Result<Option<Made>, MakeFault> {
-        debug_assert!(first < 1 << 62);
+    fn make(
+        &mut self,
+        first: StreamId,
+        delay: u64,
+        out: &mut [u8],
+    ) -> Result<Option<Made>, MakeFault> {
         debug_assert!(delay < 1 << 62);
         debug_assert!(128 <= out.len());
         if self.closed.is_some() {
@@ -52,12 +56,18 @@ impl Endpoint {
         if let Err(_refused) = self.core.outbox.begin(out.len() / 2) {
             return self.without_memory();
         }
-        let wish = Wish {
+        let want = Fill {
+            items: true,
+            streams: true,
             first,
+            alone: false,
+        };
+        let wish = Wish {
+            want,
             delay,
             ack_due: self.ack_due,
         };
-        let len = self.core.fill(&self.done, wish, out);
+        let len = self.core.fill(&self.done, &wish, out);
         if len == 0 {
             return Ok(None);
         }

@@ -2,38 +2,34 @@
 //! A packet is filled with what is due.
 
 use super::Core;
-use crate::proved::qs_conn::filling::{LEAST_STREAM_FRAME, Packet, is_covered, put_ack_if, put_chunk, put_item};
+use crate::proved::qs_conn::filling::{
+    LEAST_STREAM_FRAME, Packet, Wish, is_covered, put_ack_if, put_chunk, put_item,
+};
 use crate::proved::qs_conn::send_marks::Task;
 use crate::proved::qs_conn::slot::{Kind, Slot};
 use crate::proved::qs_ranges::RangeSet;
 use crate::proved::qs_wire::{Dir, StreamId};
 
-/// What a packet is to hold beside what is due: from which stream on bytes go in, and whether an ACK, and the delay that it tells.
-#[derive(Clone, Copy)]
-pub(crate) struct Wish {
-    pub first: u64,
-    pub delay: u64,
-    pub ack_due: bool,
-}
-
 impl Core {
-    /// Fills a packet from its first byte on, and answers how many bytes it has: the ACK if one is due, control items, and the bytes of
-    /// streams (RFC 9000, sections 4, 13.2 and 13.3).
-    pub(crate) fn fill(&mut self, done: &RangeSet, wish: Wish, out: &mut [u8]) -> usize {
-        debug_assert!(26 <= out.len());
-        let len = put_ack_if(done, wish.ack_due, wish.delay, out);
+    /// Fills a packet from its first byte on with what is asked for, and answers how many bytes it has: the ACK, control items, and the
+    /// bytes of streams (RFC 9000, sections 4, 13.2 and 13.3).
+    pub(crate) fn fill(&mut self, done: &RangeSet, wish: &Wish, out: &mut [u8]) -> usize {
+        let len = put_ack_if(done, wish, out);
         let start = Packet {
             len,
             is_full: false,
         };
-        let packet = self.put_items(out, start);
-        let packet = self.put_streams(wish.first, out, packet);
+        let packet = self.put_items(wish, out, start);
+        let packet = self.put_streams(wish, out, packet);
         self.unmark_told();
         packet.len
     }
 
-    // Puts the control items into the packet that are due.
-    fn put_items(&mut self, out: &mut [u8], packet: Packet) -> Packet {
+    // Puts the control items into the packet that are due, if they are asked for.
+    fn put_items(&mut self, wish: &Wish, out: &mut [u8], packet: Packet) -> Packet {
+        if !wish.want.items {
+            return packet;
+        }
         let packet = self.put_own_slot(Slot::MaxData, out, packet);
         let packet = self.put_own_slot(Slot::MaxStreams(Dir::Bidi), out, packet);
         let packet = self.put_own_slot(Slot::MaxStreams(Dir::Uni), out, packet);
@@ -95,20 +91,24 @@ impl Core {
         put_item(&mut self.outbox, &item, out, packet)
     }
 
-    // Puts the bytes of all streams into the packet, those from `first` on before the others and lower numbers first, as far as the
-    // limits and the room allow.
-    fn put_streams(&mut self, first: u64, out: &mut [u8], packet: Packet) -> Packet {
-        debug_assert!(first < 1 << 62);
-        let packet = self.put_way(first, false, out, packet);
+    // Puts the bytes of the streams into the packet that are asked for: of one alone, or of those from it on before the others and lower
+    // numbers first, as far as the limits and the room allow.
+    fn put_streams(&mut self, wish: &Wish, out: &mut [u8], packet: Packet) -> Packet {
+        if !wish.want.streams {
+            return packet;
+        }
+        if wish.want.alone {
+            return self.put_open(wish.want.first, out, packet);
+        }
+        let packet = self.put_way(wish.want.first, false, out, packet);
         if packet.is_full {
             return packet;
         }
-        self.put_way(first, true, out, packet)
+        self.put_way(wish.want.first, true, out, packet)
     }
 
     // Puts the bytes of the streams of a way into the packet, lower numbers first, as far as the limits and the room allow.
-    fn put_way(&mut self, first: u64, around: bool, out: &mut [u8], packet: Packet) -> Packet {
-        debug_assert!(first < 1 << 62);
+    fn put_way(&mut self, first: StreamId, around: bool, out: &mut [u8], packet: Packet) -> Packet {
         if packet.is_full {
             return packet;
         }
@@ -155,15 +155,14 @@ impl Core {
 }
 
 // Where the way begins: at `first`, or, on the way around, at the least stream.
-fn way_start(around: bool, first: u64) -> u64 {
-    debug_assert!(first < 1 << 62);
-    if around { 0 } else { first }
+fn way_start(around: bool, first: StreamId) -> u64 {
+    if around { 0 } else { first.value() }
 }
 
 // Whether a stream is one of the way: from `first` on, or, on the way around, below it.
-fn is_on_way(around: bool, first: u64, stream: StreamId) -> bool {
+fn is_on_way(around: bool, first: StreamId, stream: StreamId) -> bool {
     if around {
-        return stream.value() < first;
+        return stream.value() < first.value();
     }
-    stream.value() >= first
+    stream.value() >= first.value()
 }

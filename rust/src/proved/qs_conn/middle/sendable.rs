@@ -5,6 +5,7 @@ use super::Core;
 use crate::proved::qs_conn::filling::is_covered;
 use crate::proved::qs_conn::send_marks::Task;
 use crate::proved::qs_conn::slot::{Kind, Slot};
+use crate::proved::qs_calls::Fill;
 use crate::proved::qs_wire::{Dir, StreamId};
 
 impl Core {
@@ -12,6 +13,34 @@ impl Core {
     pub(crate) fn has_frame(&self) -> bool {
         if self.has_item() {
             return true;
+        }
+        self.has_stream()
+    }
+
+    /// Whether of what is asked for a control item is due, or bytes of a stream or its end may go (RFC 9000, sections 3.1, 3.3 and 4.1).
+    pub(crate) fn has_wanted(&self, want: &Fill) -> bool {
+        // Where there is more, it is mostly bytes.
+        if self.has_wanted_stream(want) {
+            return true;
+        }
+        self.has_wanted_item(want)
+    }
+
+    // A control item is due, and items are asked for.
+    fn has_wanted_item(&self, want: &Fill) -> bool {
+        if want.items {
+            return self.has_item();
+        }
+        false
+    }
+
+    // Bytes of a stream that is asked for may go, or its end.
+    fn has_wanted_stream(&self, want: &Fill) -> bool {
+        if !want.streams {
+            return false;
+        }
+        if want.alone {
+            return self.has_bytes(want.first);
         }
         self.has_stream()
     }

@@ -1,7 +1,7 @@
 use Rattle.std.proofs.Common.{◌≡◌, ℕ, ◌∙◌, arith, refl, sym, ap, subst, length, drop}
 use Rattle.qs_machine.specs.Outgoing.{Outgoing}
 use Rattle.qs_conn.proofs.Cores.{core_outbox, kept_streams, kept_no_ack}
-use Rattle.qs_conn.proofs.MadePackets.{make_exhausted, make_none, idle_none, make_some, make_order, filled_next}
+use Rattle.qs_conn.proofs.MadePackets.{make_exhausted, make_none, made_idle, make_some, make_order, made_next}
 use Rattle.qs_conn.proofs.Rests.{rest_none, rest_kept}
 use Rattle.qs_conn.proofs.endpoint.Endpoint.make.Goals as goal
 
@@ -17,7 +17,7 @@ fill-len-requires-clause-filling c =
 pub invariant_of-self-then-len-eq0 : goal.invariant_of-self-then-len-eq0
 invariant_of-self-then-len-eq0 c =
     let filled = c.fill-len.ensures.filled in
-    let idle = idle_none _ c.args.self.now c.self.view_is (record c.self.inside.core { outbox = c.begin.new.self }) c.fill-len.new.self c.args.first c.args.delay (length c.args.out.now) c.fill-len.result c.fill-len.new.out c.self.invariant.rest.idle (rw c.in_default.ensures.ok refl) c.fill-len.ensures.packed (omega (arith, c.requires.least)) c.if-len-eq0.true in
+    let idle = made_idle _ c.args.self.now c.self.view_is (record c.self.inside.core { outbox = c.begin.new.self }) c.fill-len.new.self c.args.first c.args.delay (length c.args.out.now) c.fill-len.result c.fill-len.new.out c.self.invariant.rest.idle (rw c.in_default.ensures.ok refl) c.fill-len.ensures.packed c.if-len-eq0.true in
     kept_streams c.self.inside.core _ _ _ _ _ c.self.invariant c.fill-len.new.self (record { core = filled.filling.core; idle = idle }) (record { limits = filled.streams.limits; recvs = filled.streams.recvs }) filled.ended
 
 pub returns-then-len-eq0-clause-step : goal.returns-then-len-eq0-clause-step
@@ -27,7 +27,7 @@ returns-then-len-eq0-clause-step c =
 
 pub commit-requires : goal.commit-requires
 commit-requires c =
-    let next = filled_next _ c.args.self.now c.self.view_is (record c.self.inside.core { outbox = c.begin.new.self }) c.fill-len.new.self c.args.first c.args.delay (length c.args.out.now) c.fill-len.result c.fill-len.new.out c.self.invariant.rest.idle (rw c.in_default.ensures.ok refl) c.fill-len.ensures.packed in
+    let next = made_next _ c.args.self.now c.self.view_is (record c.self.inside.core { outbox = c.begin.new.self }) c.fill-len.new.self c.args.first c.args.delay (length c.args.out.now) c.fill-len.result c.fill-len.new.out c.self.invariant.rest.idle (rw c.in_default.ensures.ok refl) c.fill-len.ensures.packed in
     omega (arith, next, c.if-number-gt-MAX_NUMBER.false, c.next-number.ensures)
 
 pub invariant_of-self-2 : goal.invariant_of-self-2

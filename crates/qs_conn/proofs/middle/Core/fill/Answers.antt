@@ -1,12 +1,12 @@
-use Rattle.std.proofs.Common.{◌≡◌, ◌≤◌, arith, sym, ap, subst, ◌∙◌, take, length, false, refl}
+use Rattle.std.proofs.Common.{◌≡◌, ◌≤◌, ℕ, List, [], Bool, true, arith, sym, ap, subst, ◌∙◌, take, length, false, refl}
 use Rattle.qs_machine.specs.Ends.{End}
 use Rattle.qs_machine.specs.Credit.{all_sent}
 use Rattle.qs_machine.specs.Outgoing.{sent_sum}
 use Rattle.qs_conn.specs.declared.middle.Core.{Core}
 use Rattle.qs_conn.specs.Middle.{FillsOn, end_of}
-use Rattle.qs_conn.specs.Filling.{no_slot, IsPassed, Begun}
+use Rattle.qs_conn.specs.Filling.{no_slot, IsPassed, Begun, Flowing, Flow, turn_at}
 use Rattle.qs_conn.proofs.Cores.{streams_same, fills_on}
-use Rattle.qs_conn.proofs.Flows.{flow_first}
+use Rattle.qs_conn.proofs.Flows.{flow_first, flow_bare, unwished}
 use Rattle.qs_conn.proofs.middle.Core.fill.Goals as goal
 
 pub put_items-packet-requires : goal.put_items-packet-requires
@@ -15,22 +15,34 @@ put_items-packet-requires c =
     record { core = c.requires.filling.core; within = ack.within; spare = omega (arith, c.requires.filling.spare, ack.room) }
 
 pub returns-clause-packed : goal.returns-clause-packed
-returns-clause-packed c = λ old parts same due fresh.
+returns-clause-packed c = λ old left parts same goes fresh.
     let self = c.args.self.now in
+    let wish = c.args.wish.now in
     let room = length c.args.out.now in
-    let first = c.args.wish.first in
-    let delay = c.args.wish.delay in
-    let begins : End = record old { ack_due = false } in
+    let first = wish.want.first in
+    let begins : End = record old { ack_due = left } in
     let sends : all_sent old ≡ sent_sum self.outbox.sends = ap (λ (e : End). all_sent e) (sym parts) in
     let known : old.known_data ≡ self.limits.known_data = ap (λ (e : End). e.known_data) (sym parts) in
     let sent : all_sent old ≤ old.known_data = omega (arith, sends, known, c.requires.filling.core.credit) in
-    let begun : Begun delay room old (take c.put_ack_if-len.result c.put_ack_if-len.new.out) begins (IsPassed no_slot) = c.put_ack_if-len.ensures.begun old same due sent fresh in
-    let at : end_of self begins ≡ begins = ap (λ (e : End). record e { ack_due = false }) parts in
-    let stage : Begun delay room old (take c.put_ack_if-len.result c.put_ack_if-len.new.out) (end_of self begins) (IsPassed no_slot) =
-    subst (λ e. Begun delay room old (take c.put_ack_if-len.result c.put_ack_if-len.new.out) e (IsPassed no_slot)) (sym at) begun in
-    let items = c.put_items-packet.ensures.stage delay room old begins (sym c.put_ack_if-len.ensures.room) stage in
-    let flow = flow_first first delay room old (take c.put_items-packet.result.len c.put_items-packet.new.out) (end_of c.put_items-packet.new.self begins) c.put_items-packet.result.is_full items in
-    rw c.unmark_told.ensures.same (c.put_streams-packet.ensures.packed delay room old begins (sym (c.put_items-packet.ensures.filled.room ∙ c.put_ack_if-len.ensures.room)) flow)
+    let at : end_of self begins ≡ begins = ap (λ (e : End). record e { ack_due = left }) parts in
+    let text = take c.put_ack_if-len.result c.put_ack_if-len.new.out in
+    let go : (b : Bool) → wish.want.items ≡ b → Flow wish room old (take c.put_items-packet.result.len c.put_items-packet.new.out) (end_of c.put_items-packet.new.self begins) c.put_items-packet.result.is_full (turn_at false first first) =
+    λ b. elim b as (λ k. wish.want.items ≡ k → Flow wish room old (take c.put_items-packet.result.len c.put_items-packet.new.out) (end_of c.put_items-packet.new.self begins) c.put_items-packet.result.is_full (turn_at false first first)) [
+      | true ↦ λ asked. (
+          let begun : Begun wish room old text begins (IsPassed no_slot) = c.put_ack_if-len.ensures.begun old left asked same goes sent fresh in
+          let stage : Begun wish room old text (end_of self begins) (IsPassed no_slot) = subst (λ e. Begun wish room old text e (IsPassed no_slot)) (sym at) begun in
+          let items = c.put_items-packet.ensures.stage room old begins asked (sym c.put_ack_if-len.ensures.room) stage in
+          flow_first first wish room old (take c.put_items-packet.result.len c.put_items-packet.new.out) (end_of c.put_items-packet.new.self begins) c.put_items-packet.result.is_full items)
+      | false ↦ λ unasked. (
+          let none : wish.ack_due ≡ false = unwished wish.ack_due wish.want.items c.requires.together unasked in
+          let bare : Flowing wish room old [] begins (turn_at false first first) = flow_bare first wish room old left unasked goes none sent fresh in
+          let empty : text ≡ [] = ap (λ k. take k c.put_ack_if-len.new.out) (c.put_ack_if-len.ensures.none none) in
+          let begun : Flowing wish room old text (end_of self begins) (turn_at false first first) = rw (empty, at) bare in
+          let passed = c.put_items-packet.ensures.passed unasked in
+          rw (passed.0, passed.1, passed.2) begun)
+    ] in
+    let flow = go wish.want.items refl in
+    rw c.unmark_told.ensures.same (c.put_streams-packet.ensures.packed room old begins (sym (c.put_items-packet.ensures.filled.room ∙ c.put_ack_if-len.ensures.room)) flow)
 
 pub returns-clause-filled : goal.returns-clause-filled
 returns-clause-filled c =

@@ -9,7 +9,7 @@ use Rattle.qs_conn.proofs.middle.Core.put_chunks.Goals as goal
 pub loop-chunk-init : goal.loop-chunk-init
 loop-chunk-init c =
     record {
-      chunking = λ around first delay room old e at on f. flow_begins delay room old (take c.args.packet.len c.args.out.now) (end_by c.args.self.now.limits c.args.self.now.recvs c.args.self.now.outbox e) c.args.packet.is_full around first c.args.stream c.if-packet.false on f;
+      chunking = λ around first wish room old e asked at on f. flow_begins wish room old (take c.args.packet.len c.args.out.now) (end_by c.args.self.now.limits c.args.self.now.recvs c.args.self.now.outbox e) c.args.packet.is_full around first c.args.stream c.if-packet.false asked on f;
       is_open = c.requires.open;
       fresh = ap (λ k. c.args.self.now.limits.known_data - k) c.sent_sum.ensures.value;
       filled = fills_same c.args.self.now c.args.out.now c.args.packet.len c.requires.filling;
@@ -44,23 +44,23 @@ loop-chunk-preserved c =
     let put = c.put_chunk-len.ensures in
     let credit = sum_within self.outbox n s c.in-Some.chunk left c.loop-chunk.fresh known h next c.loop-chunk.invariant.fresh filled.filling.core.credit in
     record {
-      chunking = λ around first delay room old e at on f. subst (λ x. Chunking delay room old (take c.put_chunk-len.result c.put_chunk-len.new.out) (end_by self.limits self.recvs x e) around first n) (sym put.outbox)
-          (chunking_put around first self.limits self.recvs self.outbox e delay room old c.loop-chunk.out c.put_chunk-len.new.out c.loop-chunk.len c.put_chunk-len.result n c.in-Some.chunk left c.loop-chunk.fresh s h next c.in-Some.ensures.2.1 filled.filling.within (at ∙ sym filled.room) refl c.loop-chunk.invariant.fresh put.count put.text (c.loop-chunk.invariant.chunking around first delay room old e at on f));
+      chunking = λ around first wish room old e asked at on f. subst (λ x. Chunking wish room old (take c.put_chunk-len.result c.put_chunk-len.new.out) (end_by self.limits self.recvs x e) around first n) (sym put.outbox)
+          (chunking_put around first self.limits self.recvs self.outbox e wish room old c.loop-chunk.out c.put_chunk-len.new.out c.loop-chunk.len c.put_chunk-len.result n c.in-Some.chunk left c.loop-chunk.fresh s h next c.in-Some.ensures.2.1 filled.filling.within (at ∙ sym filled.room) refl c.loop-chunk.invariant.fresh put.count put.text (c.loop-chunk.invariant.chunking around first wish room old e asked at on f));
       is_open = subst (λ x. is_some (lookup x.sends n) ≡ true) (sym put.outbox) (still_open self.outbox n s c.in-Some.chunk h);
       fresh = ap (λ k. known - k) c.sent_sum-in-Some.ensures.value;
       filled = fills_on _ _ _ _ _ _ _ _ _ filled (fills_outbox self c.put_chunk-len.new.outbox _ _ _ _ (core_chunk self filled.filling.core n c.in-Some.chunk _ _ put.outbox put.count credit) put.within put.spare put.rest put.room);
     }
 
 pub returns-then-out-len-lt-LEAST_STREAM_FRAME-clause-flow : goal.returns-then-out-len-lt-LEAST_STREAM_FRAME-clause-flow
-returns-then-out-len-lt-LEAST_STREAM_FRAME-clause-flow c = λ around first delay room old e at on f.
+returns-then-out-len-lt-LEAST_STREAM_FRAME-clause-flow c = λ around first wish room old e asked at on f.
     let self = c.loop-chunk.self in
     let n = c.args.stream in
     let filled = c.loop-chunk.invariant.filled in
     let put = c.put_chunk-len.ensures in
     let left = length c.loop-chunk.out - c.loop-chunk.len in
-    let more = subst (λ x. Chunking delay room old (take c.put_chunk-len.result c.put_chunk-len.new.out) (end_by self.limits self.recvs x e) around first n) (sym put.outbox)
-    (chunking_put around first self.limits self.recvs self.outbox e delay room old c.loop-chunk.out c.put_chunk-len.new.out c.loop-chunk.len c.put_chunk-len.result n c.in-Some.chunk left c.loop-chunk.fresh c.in-Some.ensures.0 c.in-Some.ensures.1 c.in-Some.ensures.2.0 c.in-Some.ensures.2.1 filled.filling.within (at ∙ sym filled.room) refl c.loop-chunk.invariant.fresh put.count put.text (c.loop-chunk.invariant.chunking around first delay room old e at on f)) in
-    flow_few around first (n + 1) (end_by self.limits self.recvs c.put_chunk-len.new.outbox e) delay room old c.put_chunk-len.new.out c.put_chunk-len.result n put.within (at ∙ sym filled.room ∙ sym put.room) (omega (arith, c.if-out-len-lt-LEAST_STREAM_FRAME.true)) more
+    let more = subst (λ x. Chunking wish room old (take c.put_chunk-len.result c.put_chunk-len.new.out) (end_by self.limits self.recvs x e) around first n) (sym put.outbox)
+    (chunking_put around first self.limits self.recvs self.outbox e wish room old c.loop-chunk.out c.put_chunk-len.new.out c.loop-chunk.len c.put_chunk-len.result n c.in-Some.chunk left c.loop-chunk.fresh c.in-Some.ensures.0 c.in-Some.ensures.1 c.in-Some.ensures.2.0 c.in-Some.ensures.2.1 filled.filling.within (at ∙ sym filled.room) refl c.loop-chunk.invariant.fresh put.count put.text (c.loop-chunk.invariant.chunking around first wish room old e asked at on f)) in
+    flow_few around first (n + 1) (end_by self.limits self.recvs c.put_chunk-len.new.outbox e) wish room old c.put_chunk-len.new.out c.put_chunk-len.result n put.within (at ∙ sym filled.room ∙ sym put.room) (omega (arith, c.if-out-len-lt-LEAST_STREAM_FRAME.true)) more
 
 pub returns-then-out-len-lt-LEAST_STREAM_FRAME-clause-filled : goal.returns-then-out-len-lt-LEAST_STREAM_FRAME-clause-filled
 returns-then-out-len-lt-LEAST_STREAM_FRAME-clause-filled c =
@@ -73,11 +73,11 @@ returns-then-out-len-lt-LEAST_STREAM_FRAME-clause-filled c =
     fills_on _ _ _ _ _ _ _ _ _ filled (fills_outbox self c.put_chunk-len.new.outbox _ _ _ _ (core_chunk self filled.filling.core n c.in-Some.chunk _ _ put.outbox put.count credit) put.within put.spare put.rest put.room)
 
 pub returns-clause-flow : goal.returns-clause-flow
-returns-clause-flow c = λ around first delay room old e at on f.
+returns-clause-flow c = λ around first wish room old e asked at on f.
     let self = c.loop-chunk.self in
     let filled = c.loop-chunk.invariant.filled in
     let left = length c.loop-chunk.out - c.loop-chunk.len in
     let none = c.in_default.ensures in
     let held = c.is_held_by_room-is_full.ensures in
-    flow_ends around first self.limits self.recvs self.outbox e delay room old c.loop-chunk.out c.loop-chunk.len c.args.stream left c.loop-chunk.fresh none.0 held.0 c.is_held_by_room-is_full.result
-    none.1 none.2 held.1 held.2 filled.filling.within (at ∙ sym filled.room) refl c.loop-chunk.invariant.fresh (c.loop-chunk.invariant.chunking around first delay room old e at on f)
+    flow_ends around first self.limits self.recvs self.outbox e wish room old c.loop-chunk.out c.loop-chunk.len c.args.stream left c.loop-chunk.fresh none.0 held.0 c.is_held_by_room-is_full.result
+    none.1 none.2 held.1 held.2 filled.filling.within (at ∙ sym filled.room) refl c.loop-chunk.invariant.fresh (c.loop-chunk.invariant.chunking around first wish room old e asked at on f)

@@ -2,6 +2,8 @@ use Rattle.std.proofs.Common.{◌≡◌, ℕ, ◌-◌, Bool, true, is_some, leng
 use Rattle.qs_machine.specs.Tables.{lookup}
 use Rattle.qs_machine.specs.Ends.{End}
 use Rattle.qs_machine.specs.Outgoing.{sent_sum}
+use Rattle.qs_conn.specs.declared.filling.Wish.{Wish}
+use Rattle.qs_machine.specs.Filling.{IsAsked}
 use Rattle.qs_conn.specs.Middle.{FillsOn, end_of}
 use Rattle.qs_conn.specs.Filling.{Flow, IsOnWay, turn_at}
 use Rattle.qs_conn.proofs.Flows.{Chunking}
@@ -10,9 +12,9 @@ use Rattle.qs_conn.proofs.middle.Core.put_chunks.Given as goal
 abbrev pub invariant-loop-chunk : goal.invariant-loop-chunk
 invariant-loop-chunk l =
     record {
-      chunking : (around : Bool) (first delay room : ℕ) (old e : End) → room ≡ length l.fn.out → IsOnWay around first l.fn.stream
-          → Flow delay room old (take l.fn.packet.len l.fn.out) (end_of l.fn.self e) l.fn.packet.is_full (turn_at around first l.fn.stream)
-          → Chunking delay room old (take l.len l.out) (end_of l.self e) around first l.fn.stream;
+      chunking : (around : Bool) (first : ℕ) (wish : Wish) (room : ℕ) (old e : End) → IsAsked wish.want l.fn.stream → room ≡ length l.fn.out → IsOnWay around first l.fn.stream
+          → Flow wish room old (take l.fn.packet.len l.fn.out) (end_of l.fn.self e) l.fn.packet.is_full (turn_at around first l.fn.stream)
+          → Chunking wish room old (take l.len l.out) (end_of l.self e) around first l.fn.stream;
       is_open : is_some (lookup l.self.outbox.sends l.fn.stream) ≡ true;
       fresh : l.fresh ≡ l.self.limits.known_data - sent_sum l.self.outbox.sends;
       filled : FillsOn l.fn.self l.fn.out l.fn.packet.len l.self l.out l.len;

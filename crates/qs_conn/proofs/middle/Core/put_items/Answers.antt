@@ -1,4 +1,5 @@
 use Rattle.std.proofs.Common.{◌∙◌, sym, refl}
+use Rattle.std.proofs.lemmas.Bool.{true≢false}
 use Rattle.qs_wire.specs.declared.stream_id.Dir.TheVariants.{Bidi, Uni}
 use Rattle.qs_conn.specs.declared.slot.Slot.TheVariants as slots
 use Rattle.qs_conn.specs.declared.slot.Kind.TheVariants as kinds
@@ -8,7 +9,8 @@ use Rattle.qs_conn.proofs.Cores.{fills_on}
 use Rattle.qs_conn.proofs.middle.Core.put_items.Goals as goal
 
 pub returns-clause-stage : goal.returns-clause-stage
-returns-clause-stage c = λ delay room old e at start.
+returns-clause-stage c = λ room old e asked at start.
+    let wish = c.args.wish.now in
     let p0 : Passed = no_slot in
     let p1 : Passed = and_slot p0 slots.MaxData in
     let p2 : Passed = and_slot p1 (slots.MaxStreams Bidi) in
@@ -26,25 +28,31 @@ returns-clause-stage c = λ delay room old e at start.
     let k5 : HasPassedKinds p6 5 = kinds_kind p5 kinds.MaxStreamData k4 in
     let k6 : HasPassedKinds p7 6 = kinds_blocked p6 k5 in
     let k7 : HasPassedKinds p8 7 = kinds_kind p7 kinds.StreamDataBlocked k6 in
-    let s1 = c.put_own_slot-packet.ensures.stage delay room old e p0 at (passed_first p0 slots.MaxData refl kinds_first) start in
+    let s1 = c.put_own_slot-packet.ensures.stage wish room old e p0 at (passed_first p0 slots.MaxData refl kinds_first) start in
     let at1 = at ∙ sym c.put_own_slot-packet.ensures.filled.room in
-    let s2 = c.put_own_slot-packet-2.ensures.stage delay room old e p1 at1 (passed_first p1 (slots.MaxStreams Bidi) refl k1) s1 in
+    let s2 = c.put_own_slot-packet-2.ensures.stage wish room old e p1 at1 (passed_first p1 (slots.MaxStreams Bidi) refl k1) s1 in
     let at2 = at1 ∙ sym c.put_own_slot-packet-2.ensures.filled.room in
-    let s3 = c.put_own_slot-packet-3.ensures.stage delay room old e p2 at2 (passed_second p1 1 (slots.MaxStreams Uni) refl k1) s2 in
+    let s3 = c.put_own_slot-packet-3.ensures.stage wish room old e p2 at2 (passed_second p1 1 (slots.MaxStreams Uni) refl k1) s2 in
     let at3 = at2 ∙ sym c.put_own_slot-packet-3.ensures.filled.room in
-    let s4 = c.put_kind-packet.ensures.stage delay room old e p3 at3 (k2) s3 in
+    let s4 = c.put_kind-packet.ensures.stage wish room old e p3 at3 (k2) s3 in
     let at4 = at3 ∙ sym c.put_kind-packet.ensures.filled.room in
-    let s5 = c.put_kind-packet-2.ensures.stage delay room old e p4 at4 (k3) s4 in
+    let s5 = c.put_kind-packet-2.ensures.stage wish room old e p4 at4 (k3) s4 in
     let at5 = at4 ∙ sym c.put_kind-packet-2.ensures.filled.room in
-    let s6 = c.put_kind-packet-3.ensures.stage delay room old e p5 at5 (k4) s5 in
+    let s6 = c.put_kind-packet-3.ensures.stage wish room old e p5 at5 (k4) s5 in
     let at6 = at5 ∙ sym c.put_kind-packet-3.ensures.filled.room in
-    let s7 = c.put_own_slot-packet-4.ensures.stage delay room old e p6 at6 (passed_first p6 slots.DataBlocked refl k5) s6 in
+    let s7 = c.put_own_slot-packet-4.ensures.stage wish room old e p6 at6 (passed_first p6 slots.DataBlocked refl k5) s6 in
     let at7 = at6 ∙ sym c.put_own_slot-packet-4.ensures.filled.room in
-    let s8 = c.put_kind-packet-4.ensures.stage delay room old e p7 at7 (k6) s7 in
+    let s8 = c.put_kind-packet-4.ensures.stage wish room old e p7 at7 (k6) s7 in
     let at8 = at7 ∙ sym c.put_kind-packet-4.ensures.filled.room in
-    let s9 = c.put_own_slot-packet-5.ensures.stage delay room old e p8 at8 (passed_first p8 (slots.StreamsBlocked Bidi) refl k7) s8 in
+    let s9 = c.put_own_slot-packet-5.ensures.stage wish room old e p8 at8 (passed_first p8 (slots.StreamsBlocked Bidi) refl k7) s8 in
     let at9 = at8 ∙ sym c.put_own_slot-packet-5.ensures.filled.room in
-    c.put_own_slot.ensures.stage delay room old e p9 at9 (passed_second p8 7 (slots.StreamsBlocked Uni) refl k7) s9
+    c.put_own_slot.ensures.stage wish room old e p9 at9 (passed_second p8 7 (slots.StreamsBlocked Uni) refl k7) s9
+
+pub returns-then-not-wish-clause-stage : goal.returns-then-not-wish-clause-stage
+returns-then-not-wish-clause-stage c = λ room old e asked at start. absurd (true≢false (sym asked ∙ c.if-not-wish.true))
+
+pub returns-clause-passed : goal.returns-clause-passed
+returns-clause-passed c = λ none. absurd (true≢false (sym c.if-not-wish.false ∙ none))
 
 pub returns-clause-filled : goal.returns-clause-filled
 returns-clause-filled c =

@@ -11,28 +11,28 @@ loop-stream-preserved c =
     let stream = c.in-Some.stream in
     record {
       small = omega (arith, c.value-from.ensures.in_range);
-      stage = λ delay room old e passed at kinds start. (
-          let before = c.loop-stream.invariant.stage delay room old e passed at kinds start in
-          let here = stage_idle delay room old (take c.loop-stream.packet.len c.loop-stream.out) (end_of c.loop-stream.self e) c.loop-stream.packet.is_full passed c.args.kind c.loop-stream.from stream (λ n. c.in-Some.ensures.idle n e) before in
-          let after = c.put_slot-packet.ensures.stage delay room old e (and_below passed c.args.kind stream) (at ∙ sym c.loop-stream.invariant.filled.room) (passed_below passed c.args.kind stream c.at.result c.at.ensures kinds) here in
-          stage_fewer delay room old (take c.put_slot-packet.result.len c.put_slot-packet.new.out) (end_of c.put_slot-packet.new.self e) c.put_slot-packet.result.is_full
+      stage = λ wish room old e passed at kinds start. (
+          let before = c.loop-stream.invariant.stage wish room old e passed at kinds start in
+          let here = stage_idle wish room old (take c.loop-stream.packet.len c.loop-stream.out) (end_of c.loop-stream.self e) c.loop-stream.packet.is_full passed c.args.kind c.loop-stream.from stream (λ n. c.in-Some.ensures.idle n e) before in
+          let after = c.put_slot-packet.ensures.stage wish room old e (and_below passed c.args.kind stream) (at ∙ sym c.loop-stream.invariant.filled.room) (passed_below passed c.args.kind stream c.at.result c.at.ensures kinds) here in
+          stage_fewer wish room old (take c.put_slot-packet.result.len c.put_slot-packet.new.out) (end_of c.put_slot-packet.new.self e) c.put_slot-packet.result.is_full
           (and_slot (and_below passed c.args.kind stream) c.at.result) (and_below passed c.args.kind (c.value-from.result + 1))
           (λ s. below_next passed c.args.kind stream (c.value-from.result + 1) c.at.result s c.at.ensures (ap (λ k. k + 1) c.value-from.ensures.same)) after);
       filled = fills_on _ _ _ _ _ _ _ _ _ c.loop-stream.invariant.filled c.put_slot-packet.ensures.filled;
     }
 
 pub returns-clause-stage : goal.returns-clause-stage
-returns-clause-stage c = λ delay room old e passed at kinds start.
-    stage_kind delay room old (take c.loop-stream.packet.len c.loop-stream.out) (end_of c.loop-stream.self e) c.loop-stream.packet.is_full passed c.args.kind c.loop-stream.from
-    (λ n le. c.in_default.ensures.idle n e le tt) (c.loop-stream.invariant.stage delay room old e passed at kinds start)
+returns-clause-stage c = λ wish room old e passed at kinds start.
+    stage_kind wish room old (take c.loop-stream.packet.len c.loop-stream.out) (end_of c.loop-stream.self e) c.loop-stream.packet.is_full passed c.args.kind c.loop-stream.from
+    (λ n le. c.in_default.ensures.idle n e le tt) (c.loop-stream.invariant.stage wish room old e passed at kinds start)
 
 pub returns-then-packet-2-clause-stage : goal.returns-then-packet-2-clause-stage
-returns-then-packet-2-clause-stage c = λ delay room old e passed at kinds start. (
+returns-then-packet-2-clause-stage c = λ wish room old e passed at kinds start. (
     let stream = c.in-Some.stream in
-    let before = c.loop-stream.invariant.stage delay room old e passed at kinds start in
-    let here = stage_idle delay room old (take c.loop-stream.packet.len c.loop-stream.out) (end_of c.loop-stream.self e) c.loop-stream.packet.is_full passed c.args.kind c.loop-stream.from stream (λ n. c.in-Some.ensures.idle n e) before in
-    let after = c.put_slot-packet.ensures.stage delay room old e (and_below passed c.args.kind stream) (at ∙ sym c.loop-stream.invariant.filled.room) (passed_below passed c.args.kind stream c.at.result c.at.ensures kinds) here in
-    stage_full delay room old (take c.put_slot-packet.result.len c.put_slot-packet.new.out) (end_of c.put_slot-packet.new.self e) c.put_slot-packet.result.is_full
+    let before = c.loop-stream.invariant.stage wish room old e passed at kinds start in
+    let here = stage_idle wish room old (take c.loop-stream.packet.len c.loop-stream.out) (end_of c.loop-stream.self e) c.loop-stream.packet.is_full passed c.args.kind c.loop-stream.from stream (λ n. c.in-Some.ensures.idle n e) before in
+    let after = c.put_slot-packet.ensures.stage wish room old e (and_below passed c.args.kind stream) (at ∙ sym c.loop-stream.invariant.filled.room) (passed_below passed c.args.kind stream c.at.result c.at.ensures kinds) here in
+    stage_full wish room old (take c.put_slot-packet.result.len c.put_slot-packet.new.out) (end_of c.put_slot-packet.new.self e) c.put_slot-packet.result.is_full
     (and_slot (and_below passed c.args.kind stream) c.at.result) (and_kind passed c.args.kind) c.if-packet-2.true after)
 
 pub returns-then-packet-2-clause-filled : goal.returns-then-packet-2-clause-filled

@@ -1,5 +1,6 @@
 use Rattle.std.proofs.Common.{◌≡◌, ℕ, ◌-◌, ◌≤◌, ◌^◌, length, take}
 use Rattle.qs_machine.specs.Ends.{End}
+use Rattle.qs_conn.specs.declared.filling.Wish.{Wish}
 use Rattle.qs_conn.specs.Middle.{FillsOn, end_of}
 use Rattle.qs_conn.specs.Filling.{Passed, HasPassedKinds, kind_place, and_below, Stage}
 use Rattle.qs_conn.proofs.middle.Core.put_kind.Given as goal
@@ -8,9 +9,9 @@ abbrev pub invariant-loop-stream : goal.invariant-loop-stream
 invariant-loop-stream l =
     record {
       small : l.from ≤ 2 ^ 62;
-      stage : (delay room : ℕ) (old e : End) (passed : Passed) → room ≡ length l.fn.out → HasPassedKinds passed (kind_place l.fn.kind)
-          → Stage delay room old (take l.fn.packet.len l.fn.out) (end_of l.fn.self e) l.fn.packet.is_full passed
-          → Stage delay room old (take l.packet.len l.out) (end_of l.self e) l.packet.is_full (and_below passed l.fn.kind l.from);
+      stage : (wish : Wish) (room : ℕ) (old e : End) (passed : Passed) → room ≡ length l.fn.out → HasPassedKinds passed (kind_place l.fn.kind)
+          → Stage wish room old (take l.fn.packet.len l.fn.out) (end_of l.fn.self e) l.fn.packet.is_full passed
+          → Stage wish room old (take l.packet.len l.out) (end_of l.self e) l.packet.is_full (and_below passed l.fn.kind l.from);
       filled : FillsOn l.fn.self l.fn.out l.fn.packet.len l.self l.out l.packet.len;
     }
 

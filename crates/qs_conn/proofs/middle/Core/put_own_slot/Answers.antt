@@ -4,5 +4,5 @@ use Rattle.qs_conn.proofs.Putting.{stage_absent}
 use Rattle.qs_conn.proofs.middle.Core.put_own_slot.Goals as goal
 
 pub returns-then-has_none-clause-stage : goal.returns-then-has_none-clause-stage
-returns-then-has_none-clause-stage c = λ delay room old e passed at before stage.
-    stage_absent delay room old (take c.args.packet.len c.args.out.now) (end_of c.args.self.now e) c.args.packet.is_full passed c.args.slot (c.has_none.ensures c.if-has_none.true c.args.self.now.recvs e) stage
+returns-then-has_none-clause-stage c = λ wish room old e passed at before stage.
+    stage_absent wish room old (take c.args.packet.len c.args.out.now) (end_of c.args.self.now e) c.args.packet.is_full passed c.args.slot (c.has_none.ensures c.if-has_none.true c.args.self.now.recvs e) stage

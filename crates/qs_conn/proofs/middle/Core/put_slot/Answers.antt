@@ -7,18 +7,18 @@ use Rattle.qs_conn.proofs.Slots.{may_tell}
 use Rattle.qs_conn.proofs.middle.Core.put_slot.Goals as goal
 
 pub returns-in_default-clause-stage : goal.returns-in_default-clause-stage
-returns-in_default-clause-stage c = λ delay room old e passed at before stage.
-    stage_absent delay room old (take c.args.packet.len c.args.out.now) (end_of c.args.self.now e) c.args.packet.is_full passed c.args.slot (c.in_default.ensures.current e) stage
+returns-in_default-clause-stage c = λ wish room old e passed at before stage.
+    stage_absent wish room old (take c.args.packet.len c.args.out.now) (end_of c.args.self.now e) c.args.packet.is_full passed c.args.slot (c.in_default.ensures.current e) stage
 
 pub returns-then-is_covered-clause-stage : goal.returns-then-is_covered-clause-stage
-returns-then-is_covered-clause-stage c = λ delay room old e passed at before stage.
+returns-then-is_covered-clause-stage c = λ wish room old e passed at before stage.
     let self = c.args.self.now in
-    stage_covered delay room old (take c.args.packet.len c.args.out.now) (end_of self e) c.args.packet.is_full passed c.args.slot c.in-Some.item (c.in-Some.ensures.current e) (c.is_covered.ensures.yes self.limits self.recvs e c.if-is_covered.true) stage
+    stage_covered wish room old (take c.args.packet.len c.args.out.now) (end_of self e) c.args.packet.is_full passed c.args.slot c.in-Some.item (c.in-Some.ensures.current e) (c.is_covered.ensures.yes self.limits self.recvs e c.if-is_covered.true) stage
 
 pub returns-clause-stage : goal.returns-clause-stage
-returns-clause-stage c = λ delay room old e passed at before stage.
+returns-clause-stage c = λ wish room old e passed at before stage.
     let self = c.args.self.now in
-    stage_put delay room old self.limits self.recvs self.outbox c.put_item.new.outbox e c.args.out.now c.put_item.new.out c.args.packet.len c.put_item.result.len c.args.packet.is_full c.put_item.result.is_full passed c.args.slot c.in-Some.item
+    stage_put wish room old self.limits self.recvs self.outbox c.put_item.new.outbox e c.args.out.now c.put_item.new.out c.args.packet.len c.put_item.result.len c.args.packet.is_full c.put_item.result.is_full passed c.args.slot c.in-Some.item
     c.if-packet.false at before c.requires.within (c.in-Some.ensures.current e) (c.is_covered.ensures.no self.limits self.recvs e c.if-is_covered.false) c.in-Some.ensures.fits c.put_item.ensures.puts stage
 
 pub returns-clause-filled : goal.returns-clause-filled

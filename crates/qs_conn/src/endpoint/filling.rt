@@ -1,0 +1,75 @@
+//! What is due is filled in, for a packet of a stack that owns its packets.
+ghost use Rattle.std.specs.Prelude.{◌≡◌, ◌↔◌, ℕ, IsTrue, List, [], length};
+ghost use Rattle.qs_machine.specs.Ends.{End};
+ghost use Rattle.qs_machine.specs.Filling.{WantedGoes, FillBy, FillStep};
+ghost use Rattle.qs_machine.specs.InOrder.{NoItemStarves};
+ghost use Rattle.qs_conn.specs.Written.{filled_text, KeepsBehind};
+
+use super::Endpoint;
+use crate::filling::Wish;
+use qs_calls::{Fill, Filled, MAX_VARINT, MakeFault, Token};
+use qs_wire::last_stream;
+
+impl Endpoint {
+    /// Fills a slice with frames of what is due and asked for, for a packet of a stack that owns its packets: never an ACK, which stays
+    /// due. Control items come first, and then bytes of streams by turns (RFC 9000, sections 2.3, 4, 12.4 and 13.3). The token that it
+    /// answers names them later, acknowledged or lost. `None` where nothing that is asked for may go, or the room is too little: with
+    /// `MIN_FILL` bytes it says that nothing may. The slice may have any length; of it changes only what is filled.
+    ///
+    /// Refused, and then unchanged: `Closed`; `Exhausted` where the last number was used; `NoMemory` where something that is asked for
+    /// may go and memory was refused.
+    pub fn fill(&mut self, out: &mut [u8], want: &Fill) -> Result<Option<Filled>, MakeFault>
+        ensures step { FillStep self.old want.now (length out.old) result (filled_text result out.new) self.new }
+        ensures order { NoItemStarves want.now self.old result self.new }
+        ensures rest { KeepsBehind result out.old out.new }
+    {
+        if self.closed.is_some() {
+            return Err(MakeFault::Closed);
+        }
+        let number = self.core.outbox.next();
+        if number > MAX_VARINT {
+            return Err(MakeFault::Exhausted);
+        }
+        if let Err(_refused) = self.core.outbox.begin(out.len() / 2) {
+            return self.unfilled(want);
+        }
+        let wish = Wish {
+            want: *want,
+            delay: 0,
+            ack_due: false,
+        };
+        let len = self.core.fill(&self.done, &wish, out);
+        if len == 0 {
+            return Ok(None);
+        }
+        self.core.outbox.commit();
+        self.settle();
+        let more = self.has_more(want);
+        let last_stream = last_stream(&out[..len]);
+        Ok(Some(Filled {
+            token: Token { number },
+            len,
+            last_stream,
+            more,
+        }))
+    }
+
+    // What a call answers that found no memory: where nothing that is asked for may go, it needs none.
+    fn unfilled(&self, want: &Fill) -> Result<Option<Filled>, MakeFault>
+        ensures by { (room : ℕ) → FillBy self.now want.now room result [] self.now }
+        ensures order { (old new : End) → NoItemStarves want.now old result new }
+        ensures text { (out : List ℕ) → filled_text result out ≡ [] }
+    {
+        if self.has_more(want) {
+            return Err(MakeFault::NoMemory);
+        }
+        Ok(None)
+    }
+
+    // Whether something that is asked for is due that no limit holds back.
+    fn has_more(&self, want: &Fill) -> bool
+        ensures { IsTrue result ↔ WantedGoes want.now self.now }
+    {
+        self.core.has_wanted(want)
+    }
+}

@@ -1,0 +1,95 @@
+// Made from crates/qs_calls/src/filling.rt by rust/erase; not edited by hand.
+//! What a stack that owns its packets asks to be filled in, and what went in.
+
+use crate::proved::qs_calls::Token;
+use crate::proved::qs_wire::StreamId;
+
+/// With so many bytes of room a fill puts something in wherever something may go that it was asked for. No frame that goes in whole is
+/// longer than a RESET_STREAM, with a byte for its type and eight for each of its three numbers (RFC 9000, section 19.4); and a STREAM
+/// frame with one byte has 19 at most (section 19.8).
+pub const MIN_FILL: usize = 25;
+
+/// What is to be filled in. Control items come first, in the order in which a packet takes them; then bytes and ends of streams, lower
+/// streams first.
+#[derive(Clone, Copy, Debug, PartialEq, Eq)]
+pub struct Fill {
+    /// Control items: limits, resets, STOP_SENDING and what is blocked (RFC 9000, section 13.3).
+    pub items: bool,
+    /// Bytes and ends of streams.
+    pub streams: bool,
+    /// From this stream on, and then those below it.
+    pub first: StreamId,
+    /// Of that stream alone.
+    pub alone: bool,
+}
+
+impl Fill {
+    /// All that is due, from stream 0 on.
+    pub fn all() -> Fill {
+        Fill {
+            items: true,
+            streams: true,
+            first: first_stream(),
+            alone: false,
+        }
+    }
+
+    /// Control items alone.
+    pub fn control() -> Fill {
+        Fill {
+            items: true,
+            streams: false,
+            first: first_stream(),
+            alone: false,
+        }
+    }
+
+    /// Bytes and ends of streams alone, from stream 0 on.
+    pub fn data() -> Fill {
+        Fill {
+            items: false,
+            streams: true,
+            first: first_stream(),
+            alone: false,
+        }
+    }
+
+    /// The same, with streams from this one on, and then those below it.
+    pub fn from(self, stream: StreamId) -> Fill {
+        Fill {
+            items: self.items,
+            streams: self.streams,
+            first: stream,
+            alone: false,
+        }
+    }
+
+    /// The same, with this stream alone.
+    pub fn only(self, stream: StreamId) -> Fill {
+        Fill {
+            items: self.items,
+            streams: self.streams,
+            first: stream,
+            alone: true,
+        }
+    }
+}
+
+/// What went into a slice: the token by which that is told to be acknowledged or lost, and how many bytes it has.
+#[derive(Clone, Copy, Debug, PartialEq, Eq)]
+pub struct Filled {
+    pub token: Token,
+    pub len: usize,
+    /// The stream of the last STREAM frame, if there is one. An owner whose streams send by turns goes on behind it.
+    pub last_stream: Option<StreamId>,
+    /// Whether more of what was asked for is due that may go.
+    pub more: bool,
+}
+
+// Stream 0.
+fn first_stream() -> StreamId {
+    match StreamId::new(0) {
+        Some(stream) => stream,
+        None => unreachable!(),
+    }
+}

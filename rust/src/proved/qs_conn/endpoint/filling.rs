@@ -1,0 +1,61 @@
+// Made from crates/qs_conn/src/endpoint/filling.rt by rust/erase; not edited by hand.
+//! What is due is filled in, for a packet of a stack that owns its packets.
+
+use super::Endpoint;
+use crate::proved::qs_conn::filling::Wish;
+use crate::proved::qs_calls::{Fill, Filled, MAX_VARINT, MakeFault, Token};
+use crate::proved::qs_wire::last_stream;
+
+impl Endpoint {
+    /// Fills a slice with frames of what is due and asked for, for a packet of a stack that owns its packets: never an ACK, which stays
+    /// due. Control items come first, and then bytes of streams by turns (RFC 9000, sections 2.3, 4, 12.4 and 13.3). The token that it
+    /// answers names them later, acknowledged or lost. `None` where nothing that is asked for may go, or the room is too little: with
+    /// `MIN_FILL` bytes it says that nothing may. The slice may have any length; of it changes only what is filled.
+    ///
+    /// Refused, and then unchanged: `Closed`; `Exhausted` where the last number was used; `NoMemory` where something that is asked for
+    /// may go and memory was refused.
+    pub fn fill(&mut self, out: &mut [u8], want: &Fill) -> Result<Option<Filled>, MakeFault> {
+        if self.closed.is_some() {
+            return Err(MakeFault::Closed);
+        }
+        let number = self.core.outbox.next();
+        if number > MAX_VARINT {
+            return Err(MakeFault::Exhausted);
+        }
+        if let Err(_refused) = self.core.outbox.begin(out.len() / 2) {
+            return self.unfilled(want);
+        }
+        let wish = Wish {
+            want: *want,
+            delay: 0,
+            ack_due: false,
+        };
+        let len = self.core.fill(&self.done, &wish, out);
+        if len == 0 {
+            return Ok(None);
+        }
+        self.core.outbox.commit();
+        self.settle();
+        let more = self.has_more(want);
+        let last_stream = last_stream(&out[..len]);
+        Ok(Some(Filled {
+            token: Token { number },
+            len,
+            last_stream,
+            more,
+        }))
+    }
+
+    // What a call answers that found no memory: where nothing that is asked for may go, it needs none.
+    fn unfilled(&self, want: &Fill) -> Result<Option<Filled>, MakeFault> {
+        if self.has_more(want) {
+            return Err(MakeFault::NoMemory);
+        }
+        Ok(None)
+    }
+
+    // Whether something that is asked for is due that no limit holds back.
+    fn has_more(&self, want: &Fill) -> bool {
+        self.core.has_wanted(want)
+    }
+}
