@@ -5,7 +5,7 @@ use Rattle.std.proofs.lemmas.Bool.{both_ways, false_from_ne_true, or_parts}
 use Rattle.std.proofs.lemmas.Option.{none-some}
 use Rattle.qs_wire.specs.declared.stream_id.Role.{Role}
 use Rattle.qs_calls.specs.declared.settings.Settings.{Settings}
-use Rattle.qs_recv.specs.Assembled.{discard}
+use Rattle.qs_recv.specs.Assembled.{forget}
 use Rattle.qs_recv.specs.Lane.{RecvLane, is_whole, check_stream, take_stream, take_reset, read_answer, after_answer, after_read}
 use Rattle.qs_recv.specs.Lawful.{IsLawful}
 use Rattle.qs_recv.specs.declared.half.Read.{Read}
@@ -37,9 +37,9 @@ data_calm l offset bytes fin lawful ok w n = calm w n l (take_stream l offset by
 reset_calm : (l : RecvLane) (code size w n : ℕ) (i : Item) → HasToTell w n (take_reset l code size) i → HasToTell w n l i
 reset_calm l code size w n i = go (is_some l.reset_code || is_whole l) refl
   where
-    go : (b : Bool) → (is_some l.reset_code || is_whole l) ≡ b → HasToTell w n (cond b l (record l { arrived = discard l.arrived; final_size = Some size; reset_code = Some code })) i → HasToTell w n l i
+    go : (b : Bool) → (is_some l.reset_code || is_whole l) ≡ b → HasToTell w n (cond b l (record l { arrived = forget l.arrived; final_size = Some size; reset_code = Some code })) i → HasToTell w n l i
     go true at has = has
-    go false at has = calm w n l (record l { arrived = discard l.arrived; final_size = Some size; reset_code = Some code }) refl refl (λ is. absurd (none-some size (sym is))) (λ is. absurd (none-some code (sym is))) (λ is. (or_parts (is_some l.reset_code) (is_whole l) at).1) i has
+    go false at has = calm w n l (record l { arrived = forget l.arrived; final_size = Some size; reset_code = Some code }) refl refl (λ is. absurd (none-some size (sym is))) (λ is. absurd (none-some code (sym is))) (λ is. (or_parts (is_some l.reset_code) (is_whole l) at).1) i has
 
 read_calm : (l : RecvLane) (room w n : ℕ) (i : Item) → HasToTell w n (after_read l room) i → HasToTell w n l i
 read_calm l room w n = go (read_answer l room)

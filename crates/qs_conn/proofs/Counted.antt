@@ -6,7 +6,7 @@ use Rattle.std.proofs.lemmas.Option.{none-some, same_Some}
 use Rattle.qs_wire.specs.declared.stream_id.Role.{Role}
 use Rattle.qs_recv.specs.Lane.{RecvLane, stop, raise, after_read, take_stream, take_reset, check_stream, is_whole as recv_whole, new_lane as new_recv_lane}
 use Rattle.qs_recv.specs.Lawful.{IsLawful}
-use Rattle.qs_recv.specs.Assembled.{discard}
+use Rattle.qs_recv.specs.Assembled.{discard, forget}
 use Rattle.qs_send.specs.Lane.{new_lane as new_send_lane, Sending, SendLane, is_whole, unacked_from, answer_of, write_lane, finish_lane, reset_lane, stopped_lane, reset_refusal, refusal, allow_lane, blocked_lane, sent_lane, acked_lane, reset_acked_lane}
 use Rattle.qs_send.specs.declared.parts.SendFault.{SendFault}
 use Rattle.qs_send.specs.declared.parts.SendFault.TheVariants.{Finished, WasReset}
@@ -111,7 +111,7 @@ module _ (role : Role) (s : Settings) (recvs : Tables RecvLane) (sends : Tables 
   pub fit_broken : (now : Tables RecvLane) (n code size : ℕ) → now ≡ updated recvs n (λ l. take_reset l code size) (lookup recvs n) → CountsFit role s now sends e b u
   fit_broken now n code size is = unread now n (λ l. take_reset l code size) is (λ l there. (by_test l (is_some l.reset_code || recv_whole l), reset_stays_ended l code size))
     where
-      by_test : (l : RecvLane) (t : Bool) → (cond t l (record l { arrived = discard l.arrived; final_size = Some size; reset_code = Some code })).told ≡ l.told
+      by_test : (l : RecvLane) (t : Bool) → (cond t l (record l { arrived = forget l.arrived; final_size = Some size; reset_code = Some code })).told ≡ l.told
       by_test l true = refl
       by_test l false = refl
 

@@ -7,7 +7,7 @@ use Rattle.std.proofs.Math.ListN.{set, length-set}
 use Rattle.std.proofs.Math.Seq.{take-append_seam}
 use Rattle.std.specs.List.{slice_get}
 use Rattle.qs_ranges.specs.Numbers.{MAX_VARINT}
-use Rattle.qs_recv.specs.Assembled.{discard}
+use Rattle.qs_recv.specs.Assembled.{forget}
 use Rattle.qs_recv.specs.Lane.{RecvLane, new_lane, raise, take_stream, take_reset, is_whole}
 use Rattle.qs_recv.specs.Lawful.{IsLawful}
 use Rattle.qs_conn.specs.declared.touches.Touches.{Touches}
@@ -54,7 +54,7 @@ stream_settled l offset bytes fin h no_stop was = by_case l.reset_code l.stop_co
 pub reset_settled : (l : RecvLane) (code size : ℕ) → IsSettled l → IsSettled (take_reset l code size)
 reset_settled l code size was = by_case (is_some l.reset_code || is_whole l)
   where
-    by_case : (b : Bool) → IsSettled (cond b l (record l { arrived = discard l.arrived; final_size = Some size; reset_code = Some code }))
+    by_case : (b : Bool) → IsSettled (cond b l (record l { arrived = forget l.arrived; final_size = Some size; reset_code = Some code }))
     by_case true = was
     by_case false = refl
 

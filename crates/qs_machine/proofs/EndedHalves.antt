@@ -7,7 +7,7 @@ use Rattle.std.proofs.lemmas.Bool.{both_ways, cond_both, and_parts, and_from, or
 use Rattle.std.proofs.lemmas.Bool.Decides.{nat_tests}
 use Rattle.qs_ranges.specs.Numbers.{missing_from}
 use Rattle.qs_ranges.proofs.Sets.{covers-is, covers-of, missing_from-with_later}
-use Rattle.qs_recv.specs.Assembled.{discard}
+use Rattle.qs_recv.specs.Assembled.{discard, forget}
 use Rattle.qs_recv.specs.Lane.{RecvLane, is_whole as recv_whole, whole_to, take_reset, after_read, after_answer, read_answer, stop}
 use Rattle.qs_recv.specs.declared.half.Read.{Read}
 use Rattle.qs_recv.specs.declared.half.Read.TheVariants as reads
@@ -56,7 +56,7 @@ recv_stays l m told reset whole h =
 
 pub reset_stays_ended : (l : RecvLane) (code size : ℕ) → RecvStays l (take_reset l code size)
 reset_stays_ended l code size =
-    cond_both (is_some l.reset_code || recv_whole l) l (record l { arrived = discard l.arrived; final_size = Some size; reset_code = Some code }) (RecvStays l)
+    cond_both (is_some l.reset_code || recv_whole l) l (record l { arrived = forget l.arrived; final_size = Some size; reset_code = Some code }) (RecvStays l)
     (λ _ h. h) (λ not h. absurd (both_ways (is_some l.reset_code || recv_whole l) not (and_parts l.told _ h).1))
 
 answer_stays : (answer : Read) (l : RecvLane) (size : ℕ) → RecvStays l (after_answer answer l size)

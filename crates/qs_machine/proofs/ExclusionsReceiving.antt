@@ -11,7 +11,7 @@ use Rattle.qs_ranges.specs.Numbers.{NumberSet, numbers, is_within, has_predecess
 use Rattle.qs_ranges.proofs.Sets.{end_of-empty, end_of-with_range}
 use Rattle.qs_wire.specs.Layout.{PlacedValue}
 use Rattle.qs_wire.specs.declared.fault.WireFault.{WireFault}
-use Rattle.qs_recv.specs.Assembled.{discard}
+use Rattle.qs_recv.specs.Assembled.{forget}
 use Rattle.qs_recv.specs.declared.half.RecvState.TheVariants.{DataRecvd, SizeKnown}
 use Rattle.qs_send.specs.Lane.{new_lane as new_send_lane, state as send_state}
 use Rattle.qs_send.specs.declared.parts.SendState.TheVariants as sends
@@ -264,7 +264,7 @@ aborts =
     record {
       stop_pays = end_of-with_range set.empty 0 3 (omega arith) ∙ ap (λ k. max k 3) end_of-empty ∙ omega arith;
       first_stop = refl;
-      reset_after_all = ap (λ b. cond b all_came (record all_came { arrived = discard all_came.arrived; final_size = Some 3; reset_code = Some 7 })) whole;
+      reset_after_all = ap (λ b. cond b all_came (record all_came { arrived = forget all_came.arrived; final_size = Some 3; reset_code = Some 7 })) whole;
     }
 
 report : ReportIsOfHighest

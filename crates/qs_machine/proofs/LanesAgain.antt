@@ -10,7 +10,7 @@ use Rattle.std.proofs.lemmas.Bool.Decides.{nat_tests}
 use Rattle.qs_ranges.specs.Numbers.{NumberSet, ContainsRange, is_within, numbers, end_of}
 use Rattle.qs_ranges.proofs.Sets.{covers-is, covers-of, below-end_of}
 use Rattle.qs_ranges.proofs.Algebra.{inside, with_range-covered}
-use Rattle.qs_recv.specs.Assembled.{Assembled, put, store, discard}
+use Rattle.qs_recv.specs.Assembled.{Assembled, put, store, discard, forget}
 use Rattle.qs_recv.specs.Lane.{RecvLane, highest, highest_after, check_stream, check_reset, check_bytes, take_stream, take_reset, is_whole, whole_to, breaks_known, raise, stop, after_read, after_answer, read_answer}
 use Rattle.qs_recv.specs.declared.half.Read.{Read}
 use Rattle.qs_recv.specs.declared.half.Read.TheVariants as reads
@@ -65,7 +65,7 @@ data_after l offset bytes fin lawful ok =
 pub reset_after : (l : RecvLane) (code size : ℕ) → IsLawful l → IsOk (check_reset l size) → LaneAfter l (take_reset l code size)
 reset_after l code size lawful ok =
     grown l (take_reset l code size) (grows_after_call l (TakeReset code size) lawful ok)
-    (cond_both (is_some l.reset_code || is_whole l) l (record l { arrived = discard l.arrived; final_size = Some size; reset_code = Some code }) (λ m. is_some l.reset_code ≡ true → is_some m.reset_code ≡ true) (λ _ is. is) (λ _ is. refl))
+    (cond_both (is_some l.reset_code || is_whole l) l (record l { arrived = forget l.arrived; final_size = Some size; reset_code = Some code }) (λ m. is_some l.reset_code ≡ true → is_some m.reset_code ≡ true) (λ _ is. is) (λ _ is. refl))
     (byte_before l (TakeReset code size)) (reset_stays_ended l code size)
 
 pub raise_after : (l : RecvLane) → LaneAfter l (raise l)
@@ -298,7 +298,7 @@ whole_known r (Some s) is = refl
 pub reset_taken : (l : RecvLane) (code size : ℕ) → IsLawful l → IsOk (check_reset l size) → HasReset (take_reset l code size) size
 reset_taken l code size lawful ok = go (is_some l.reset_code || is_whole l) refl
   where
-    go : (b : Bool) → (is_some l.reset_code || is_whole l) ≡ b → HasReset (cond b l (record l { arrived = discard l.arrived; final_size = Some size; reset_code = Some code })) size
+    go : (b : Bool) → (is_some l.reset_code || is_whole l) ≡ b → HasReset (cond b l (record l { arrived = forget l.arrived; final_size = Some size; reset_code = Some code })) size
     go true over =
         let known : is_some l.final_size ≡ true = elim (or_cases (is_some l.reset_code) (is_whole l) over) [ inl reset ↦ lawful.reset_sized reset | inr whole ↦ whole_known l.arrived.received l.final_size whole ] in
         record { within = reset_within l size ok; sized = known_size l.final_size (end_of l.arrived.received) size known (reset_known l size ok known); over = over }
@@ -313,5 +313,5 @@ reset_again m code size h =
     let fine = not_broken m.final_size (size + 0) 0 true (highest m) (λ _. h.sized ∙ ap Some (sym end)) (λ s is some. absurd (omega (arith, some))) in
     let fits : nat_lt m.limit size ≡ false = grind (arith, nat_tests) in (
       both_pass _ _ (record { before = highest m; after = size }) fine fits ∙ ap (λ k. Ok (record { before = highest m; after = k })) same,
-      ap (λ b. cond b m (record m { arrived = discard m.arrived; final_size = Some size; reset_code = Some code })) h.over,
+      ap (λ b. cond b m (record m { arrived = forget m.arrived; final_size = Some size; reset_code = Some code })) h.over,
     )

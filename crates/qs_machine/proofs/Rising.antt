@@ -5,7 +5,7 @@ use Rattle.std.proofs.lemmas.Option.{none-some, same_Some}
 use Rattle.std.proofs.lemmas.Bool.{cond_both, cases_eq}
 use Rattle.std.proofs.lemmas.Bool.Decides.{nat_tests}
 use Rattle.qs_wire.specs.declared.stream_id.Dir.TheVariants.{Bidi, Uni}
-use Rattle.qs_recv.specs.Assembled.{discard}
+use Rattle.qs_recv.specs.Assembled.{discard, forget}
 use Rattle.qs_recv.specs.Lane.{RecvLane, new_lane as new_recv_lane, take_stream, take_reset, after_read, after_answer, read_answer, stop, raise, next_limit, is_whole}
 use Rattle.qs_recv.specs.declared.half.Read.{Read}
 use Rattle.qs_recv.specs.declared.half.Read.TheVariants as reads
@@ -155,7 +155,7 @@ reset_limit : (code : ℕ) (l : SendLane) → l.limit ≤ (reset_lane l code).li
 reset_limit code l = kept_send_limit (is_some (reset_refusal l)) l (record l { kept = []; was_reset = Some (record { code = code; size = cond l.fin_sent l.written l.sent_end }) }) refl
 
 took_reset_limit : (code size : ℕ) (l : RecvLane) → l.limit ≤ (take_reset l code size).limit
-took_reset_limit code size l = kept_limit (is_some l.reset_code || is_whole l) l (record l { arrived = discard l.arrived; final_size = Some size; reset_code = Some code }) refl
+took_reset_limit code size l = kept_limit (is_some l.reset_code || is_whole l) l (record l { arrived = forget l.arrived; final_size = Some size; reset_code = Some code }) refl
 
 -- after an opening a half changes
 opened_send : (n : ℕ) (f : SendLane → SendLane) (e : End) → ((l : SendLane) → l.limit ≤ (f l).limit) → LimitsRise e (on_send n f (opened_by_peer n e))

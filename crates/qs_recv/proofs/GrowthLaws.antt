@@ -7,7 +7,8 @@ use Rattle.std.specs.Ordering.{nat_cmp}
 use Rattle.std.proofs.lemmas.Bool.Decides.{nat_tests}
 use Rattle.std.proofs.lemmas.Bool.{cond_both, or_left}
 use Rattle.qs_ranges.specs.Numbers.{end_of}
-use Rattle.qs_recv.specs.Assembled.{Assembled, put, discard, front_of}
+use Rattle.qs_ranges.proofs.Sets.{below-end_of}
+use Rattle.qs_recv.specs.Assembled.{Assembled, put, discard, forget, front_of}
 use Rattle.qs_recv.specs.Lane.{RecvLane, highest, check_stream, take_stream, check_reset, take_reset, is_whole, breaks_known, read_answer, after_answer, after_read, stop, raise}
 use Rattle.qs_recv.specs.Lawful.{IsLawful}
 use Rattle.qs_recv.specs.Laws.{IsSent, CarriesSent, LaneCall, TakeStream, TakeReset, ReadUpTo, StopWith, RaiseLimit, after_call, IsAllowed, Grows}
@@ -15,7 +16,7 @@ use Rattle.qs_recv.specs.declared.half.Read.{Read}
 use Rattle.qs_recv.specs.declared.half.Read.TheVariants.{Bytes, End, Reset, Wait}
 use Rattle.qs_recv.proofs.AssembledLaws.{contains-with_run}
 use Rattle.qs_recv.proofs.LaneLaws.{written_put, written_take}
-use Rattle.qs_recv.proofs.LawfulLaws.{lawful_take_stream, lawful_take_reset, lawful_after_read, lawful_stop, lawful_raise, highest-take_stream, highest_after-grows, unbroken, reset_above, reset_known, read_counts, taken_within, all_taken, raised_grows}
+use Rattle.qs_recv.proofs.LawfulLaws.{below_is, lawful_take_stream, lawful_take_reset, lawful_after_read, lawful_stop, lawful_raise, highest-take_stream, highest_after-grows, unbroken, reset_above, reset_known, read_counts, taken_within, all_taken, raised_grows}
 
 pub lawful_after_call : (lane : RecvLane) (call : LaneCall) → IsLawful lane → IsAllowed lane call → IsLawful (after_call lane call)
 lawful_after_call lane (TakeStream offset bytes fin) h ok = lawful_take_stream lane offset bytes fin h ok
@@ -65,7 +66,7 @@ grows_take_reset lane code size h ok =
       highest_grows = reset_above lane size ok;
       taken_grows = omega (arith, taken_within lane h, reset_above lane size ok);
       limit_grows = omega arith;
-      received_stays = λ q is. is;
+      received_stays = λ q is. below_is (end_of lane.arrived.received) q (below-end_of lane.arrived.received q is);
       final_size_stays = λ known is.
           let e : highest lane ≡ known = ap (λ f. unwrap_or f (end_of lane.arrived.received)) is in
           let s : highest lane ≡ size = reset_known lane size ok (ap is_some is) in
@@ -123,13 +124,16 @@ sent_either : (b : Bool) (sent : List ℕ) (x y : Assembled) → IsSent sent x �
 sent_either true sent x y hx hy = hx
 sent_either false sent x y hx hy = hy
 
+sent_forget : (sent : List ℕ) (a : Assembled) → IsSent sent (forget a)
+sent_forget sent a q byte is = let e : None ≡ Some byte = sym (map.get-empty nat_cmp q) ∙ is in cc
+
 sent_discard : (sent : List ℕ) (a : Assembled) → IsSent sent (discard a)
 sent_discard sent a q byte is = let e : None ≡ Some byte = sym (map.get-empty nat_cmp q) ∙ is in cc
 
 pub sent_after_call : (sent : List ℕ) (lane : RecvLane) (call : LaneCall) → IsSent sent lane.arrived → CarriesSent sent call → IsSent sent (after_call lane call).arrived
 sent_after_call sent lane (TakeStream offset bytes fin) h part = sent_either (is_some lane.reset_code) sent lane.arrived (put lane.arrived offset bytes) h (written_put sent lane.arrived offset bytes part h)
 sent_after_call sent lane (TakeReset code size) h part =
-    cond_both (is_some lane.reset_code || is_whole lane) lane _ (λ l. IsSent sent l.arrived) (λ _. h) (λ _. sent_discard sent lane.arrived)
+    cond_both (is_some lane.reset_code || is_whole lane) lane _ (λ l. IsSent sent l.arrived) (λ _. h) (λ _. sent_forget sent lane.arrived)
 sent_after_call sent lane (ReadUpTo room) h part = by_answer (read_answer lane room)
   where
     by_answer : (answer : Read) → IsSent sent (after_answer answer lane room).arrived

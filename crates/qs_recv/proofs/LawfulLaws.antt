@@ -8,8 +8,8 @@ use Rattle.std.specs.Cmp.{nat_cmp_total}
 use Rattle.std.specs.FinSet as set
 use Rattle.std.proofs.lemmas.Bool.Decides.{nat_tests}
 use Rattle.std.proofs.lemmas.Bool.{both_ways, cases_lt, cond_both, ltb-false, leb-true, or_left, or_right}
-use Rattle.qs_ranges.specs.Numbers.{MAX_VARINT, end_of}
-use Rattle.qs_ranges.proofs.Sets.{end_of-empty, below-end_of}
+use Rattle.qs_ranges.specs.Numbers.{MAX_VARINT, end_of, is_within, numbers, contains-numbers}
+use Rattle.qs_ranges.proofs.Sets.{end_of-empty, end_of-numbers, numbers-none, below-end_of}
 use Rattle.qs_recv.specs.Assembled.{put, take_front, front_of, keep_from, store}
 use Rattle.qs_recv.proofs.AssembledLaws.{get-keep_from, contains-with_run, end_of-with_run, stored_by_keep, front_stored}
 use Rattle.qs_recv.proofs.LaneLaws.{len_within, check_fits, put_past}
@@ -17,6 +17,20 @@ use Rattle.qs_recv.specs.Lane.{RecvLane, new_lane, highest, highest_after, taken
 use Rattle.qs_recv.specs.declared.half.Read.{Read}
 use Rattle.qs_recv.specs.declared.half.Read.TheVariants.{Bytes, End, Reset, Wait}
 use Rattle.qs_recv.specs.Lawful.{IsLawful}
+
+-- the numbers below one
+pub end_of-below : (n : ℕ) → end_of (numbers 0 n) ≡ n
+end_of-below n =
+    elim (cases_lt 0 n) [
+      | inl some ↦ end_of-numbers 0 n some
+      | inr none ↦ let zero : 0 ≡ n = omega (arith, none) in ap end_of (numbers-none 0 n none) ∙ end_of-empty ∙ zero
+    ]
+
+pub contains-below : (n q : ℕ) → set.contains (numbers 0 n) q ≡ is_within 0 n q
+contains-below n q = contains-numbers 0 n q
+
+pub below_is : (n q : ℕ) → q < n → set.contains (numbers 0 n) q ≡ true
+below_is n q lt = contains-below n q ∙ grind (arith, nat_tests)
 
 nothing_stored : (q : ℕ) → map.contains_key (map.empty {X = ℕ} {R = nat_cmp}) q ≡ false
 nothing_stored q = ap is_some (map.get-empty nat_cmp q)
@@ -206,8 +220,8 @@ lawful_take_reset lane code size h ok =
       granted = fits;
       in_window = omega (arith, h.in_window, taken_within lane h, above);
       stored_received = λ q is. absurd (both_ways _ (nothing_stored q) is);
-      read_received = h.read_received;
-      received_within = omega (arith, h.received_within, above);
+      read_received = λ q low high. below_is (end_of lane.arrived.received) q (let read = read_within lane h in omega (arith, high, read));
+      received_within = (let last = end_of-below (end_of lane.arrived.received) in omega (arith, last, h.received_within, above));
       discards = refl;
       thrown_away = λ _. refl;
       reset_sized = λ _. refl;

@@ -1,5 +1,4 @@
 -- A receiving half at rest stays so, and is what it says.
---     end_of-below, covers-below      the numbers below one
 --     sound_at_rest, let_go_at_rest      what holds of a half that was made of it
 --     at_rest_new, at_rest_told, ..      each call keeps it
 use Rattle.std.specs.Prelude.{◌≡◌, ℕ, ◌+◌, ◌-◌, ◌<◌, ◌≤◌, ◌^◌, ◌⊎◌, Bool, true, false, cond, ◌||◌, nat_le, List, length, Option, None, Some, is_some, refl, IsOk, unwrap_or}
@@ -8,31 +7,21 @@ use Rattle.std.specs.FinMap as map
 use Rattle.std.specs.FinSet as set
 use Rattle.std.proofs.lemmas.Bool.{both_ways, cases_lt, or_right, false_from_ne_true, leb-true, le-leb}
 use Rattle.std.proofs.lemmas.Bool.Decides.{nat_tests}
-use Rattle.qs_ranges.specs.Numbers.{MAX_VARINT, ContainsRange, MissesRange, numbers, contains-numbers, same_numbers, contains-with_range, covers, end_of, is_within}
-use Rattle.qs_ranges.proofs.Sets.{below-end_of, covers-is, covers-of, end_of-empty, end_of-numbers, numbers-none}
-use Rattle.qs_recv.specs.Assembled.{at_rest, put, front_of, discard}
-use Rattle.qs_recv.specs.Lane.{RecvLane, new_lane, highest, highest_after, is_whole, at_final_size, check_stream, take_stream, check_reset, read_answer, raise}
+use Rattle.qs_ranges.specs.Numbers.{MAX_VARINT, ContainsRange, MissesRange, numbers, same_numbers, contains-with_range, covers, end_of, is_within}
+use Rattle.qs_ranges.proofs.Sets.{below-end_of, covers-is, covers-of, numbers-none}
+use Rattle.qs_recv.specs.Assembled.{at_rest, put, front_of, discard, forget}
+use Rattle.qs_recv.specs.Lane.{RecvLane, new_lane, highest, highest_after, is_whole, at_final_size, check_stream, take_stream, check_reset, take_reset, read_answer, raise}
 use Rattle.qs_recv.specs.declared.half.Read.TheVariants.{Bytes, End, Wait}
 use Rattle.qs_recv.specs.Lawful.{IsLawful}
 use Rattle.qs_recv.specs.Sound.{IsSound, IsLetGo, CodeFits}
 use Rattle.qs_recv.specs.Rest.{given, lane_at_rest, IsAtRest, EndsAt}
 use Rattle.qs_recv.proofs.GrowthLaws.{same_size}
-use Rattle.qs_recv.proofs.LawfulLaws.{highest-take_stream, lawful_new, lawful_take_stream, lawful_raise, lawful_told, read_within, unbroken}
+use Rattle.qs_recv.proofs.LawfulLaws.{end_of-below, contains-below, highest-take_stream, lawful_new, lawful_take_stream, lawful_raise, lawful_told, read_within, unbroken}
 use Rattle.qs_recv.proofs.LetGoLaws.{none_left}
 use Rattle.qs_recv.proofs.RingLaws.{put_known}
 use Rattle.qs_recv.proofs.SoundLaws.{same_tests, sound_reset, sound_stop}
 
 -- The numbers below one
-
-pub end_of-below : (n : ℕ) → end_of (numbers 0 n) ≡ n
-end_of-below n =
-    elim (cases_lt 0 n) [
-      | inl some ↦ end_of-numbers 0 n some
-      | inr none ↦ let zero : 0 ≡ n = omega (arith, none) in ap end_of (numbers-none 0 n none) ∙ end_of-empty ∙ zero
-    ]
-
-pub contains-below : (n q : ℕ) → set.contains (numbers 0 n) q ≡ is_within 0 n q
-contains-below n q = contains-numbers 0 n q
 
 pub news_below : (e offset end : ℕ) → offset < end → e < end → covers (numbers 0 e) offset end ≡ false
 news_below e offset end some new =
@@ -108,11 +97,23 @@ at_rest_thrown lane n e off lawful fits =
       ended = λ _ on. absurd (both_ways _ on off);
     }
 
+-- the offsets up to the largest are those that came
+below_itself : (w n e limit code size : ℕ) (s : Option ℕ) (told : Bool)
+    → lane_at_rest w n (end_of (numbers 0 e)) limit (Some size) (Some code) s told ≡ lane_at_rest w n e limit (Some size) (Some code) s told
+below_itself w n e limit code size s told = ap (λ k. lane_at_rest w n k limit (Some size) (Some code) s told) (end_of-below e)
+
 pub at_rest_reset : (w n e limit code size : ℕ) (f s : Option ℕ) (told : Bool) → is_whole (lane_at_rest w n e limit f None s told) ≡ false → IsOk (check_reset (lane_at_rest w n e limit f None s told) size)
     → IsAtRest (lane_at_rest w n e limit f None s told) n e → IsAtRest (lane_at_rest w n e limit (Some size) (Some code) s told) n e
 at_rest_reset w n e limit code size f s told not_whole ok h =
     at_rest_thrown (lane_at_rest w n e limit (Some size) (Some code) s told) n e refl
-    (sound_reset (lane_at_rest w n e limit f None s told) w n e code size refl not_whole ok (sound_at_rest w n e limit f None s told h)).lawful h.stop_fits
+    (subst IsLawful (below_itself w n e limit code size s told) (sound_reset (lane_at_rest w n e limit f None s told) w n e code size refl not_whole ok (sound_at_rest w n e limit f None s told h)).lawful) h.stop_fits
+
+pub reset_rest_is : (w n e limit code size : ℕ) (f s : Option ℕ) (told : Bool) → is_whole (lane_at_rest w n e limit f None s told) ≡ false
+    → lane_at_rest w n e limit (Some size) (Some code) s told ≡ take_reset (lane_at_rest w n e limit f None s told) code size
+reset_rest_is w n e limit code size f s told not_whole =
+    let lane : RecvLane = lane_at_rest w n e limit f None s told in
+    let after : RecvLane = record lane { arrived = forget lane.arrived; final_size = Some size; reset_code = Some code } in
+    sym (ap (λ b. cond b lane after) not_whole ∙ below_itself w n e limit code size s told)
 
 -- what a stop leaves
 pub stopped_at_rest : (w n e limit code : ℕ) (f r : Option ℕ) (told : Bool)
@@ -222,6 +223,30 @@ ends_more w n e limit offset code f told bytes touches ends =
 
 pub apart_below : (e offset end : ℕ) → e < offset → MissesRange (numbers 0 e) (offset - 1) end
 apart_below e offset end new q low high = contains-below e q ∙ grind (arith, nat_tests)
+
+-- A half that is reset
+
+-- what a reset leaves is at rest
+pub forgotten_is : (lane : RecvLane) (w n e code size : ℕ) → IsSound lane w n e
+    → lane_at_rest w n e lane.limit (Some size) (Some code) lane.stop_code lane.told ≡ record lane { arrived = forget lane.arrived; final_size = Some size; reset_code = Some code }
+forgotten_is lane w n e code size h =
+    ap (λ a. record lane { arrived = a; final_size = Some size; reset_code = Some code }) (sym (
+    ap (λ k. record { stored = map.empty; received = numbers 0 k; read_count = lane.arrived.read_count; window = lane.arrived.window; discarding = true }) h.end_is
+    ∙ ap (λ k. record { stored = map.empty; received = numbers 0 e; read_count = k; window = lane.arrived.window; discarding = true }) h.count_is
+    ∙ ap (λ k. record { stored = map.empty; received = numbers 0 e; read_count = n; window = k; discarding = true }) h.window_is
+    ))
+
+pub reset_is : (lane : RecvLane) (w n e code size : ℕ) → is_some lane.reset_code ≡ false → is_whole lane ≡ false → IsSound lane w n e
+    → lane_at_rest w n e lane.limit (Some size) (Some code) lane.stop_code lane.told ≡ take_reset lane code size
+reset_is lane w n e code size no_reset not_whole h =
+    let after : RecvLane = record lane { arrived = forget lane.arrived; final_size = Some size; reset_code = Some code } in
+    forgotten_is lane w n e code size h ∙ sym (ap (λ b. cond (b || is_whole lane) lane after) no_reset ∙ ap (λ b. cond b lane after) not_whole)
+
+pub reset_at_rest : (lane : RecvLane) (w n e code size : ℕ) → is_some lane.reset_code ≡ false → is_whole lane ≡ false → IsOk (check_reset lane size) → IsSound lane w n e
+    → IsAtRest (lane_at_rest w n e lane.limit (Some size) (Some code) lane.stop_code lane.told) n e
+reset_at_rest lane w n e code size no_reset not_whole ok h =
+    at_rest_thrown (lane_at_rest w n e lane.limit (Some size) (Some code) lane.stop_code lane.told) n e refl
+    (subst IsLawful (sym (forgotten_is lane w n e code size h)) (sound_reset lane w n e code size no_reset not_whole ok h).lawful) h.stop_fits
 
 -- A half of which the end, or a reset, was told
 

@@ -8,7 +8,7 @@ use Rattle.std.specs.Ordering.{nat_cmp}
 use Rattle.std.specs.FinMap as map
 use Rattle.std.specs.FinSet as set
 use Rattle.std.proofs.lemmas.Bool.{both_ways, and_right, cond_both}
-use Rattle.qs_recv.specs.Assembled.{Assembled, discard, front_of, put, same, store, take_front}
+use Rattle.qs_recv.specs.Assembled.{Assembled, discard, forget, front_of, put, same, store, take_front}
 use Rattle.qs_recv.specs.Bytes.{byte_at}
 use Rattle.qs_recv.specs.Lane.{RecvLane, after_answer, check_bytes, is_whole, read_answer, take_stream}
 use Rattle.qs_recv.specs.Laws.{IsPart, IsSent, IsUnchanged, LaneCall, TakeStream, TakeReset, ReadUpTo, StopWith, RaiseLimit, after_call}
@@ -90,6 +90,10 @@ stored_discard : (a : Assembled) → StoredIn a (discard a)
 unfolding StoredIn
 stored_discard a q byte came is = absurd (both_ways _ (ap is_some (map.get-empty nat_cmp q)) (ap is_some is))
 
+stored_forget : (a : Assembled) → StoredIn a (forget a)
+unfolding StoredIn
+stored_forget a q byte came is = absurd (both_ways _ (ap is_some (map.get-empty nat_cmp q)) (ap is_some is))
+
 stored_same : (a : Assembled) → StoredIn a a
 unfolding StoredIn
 stored_same a q byte came is = is
@@ -98,7 +102,7 @@ stored_step : (lane : RecvLane) (call : LaneCall) → StoredIn lane.arrived (aft
 stored_step lane (TakeStream offset bytes fin) =
     cond_both (is_some lane.reset_code) lane.arrived (put lane.arrived offset bytes) (λ a. StoredIn lane.arrived a) (λ _. stored_same lane.arrived) (λ _. stored_put lane.arrived offset bytes)
 stored_step lane (TakeReset code size) =
-    cond_both (is_some lane.reset_code || is_whole lane) lane _ (λ l. StoredIn lane.arrived l.arrived) (λ _. stored_same lane.arrived) (λ _. stored_discard lane.arrived)
+    cond_both (is_some lane.reset_code || is_whole lane) lane _ (λ l. StoredIn lane.arrived l.arrived) (λ _. stored_same lane.arrived) (λ _. stored_forget lane.arrived)
 stored_step lane (ReadUpTo room) = by_answer (read_answer lane room)
   where
     by_answer : (told : Read) → StoredIn lane.arrived (after_answer told lane room).arrived

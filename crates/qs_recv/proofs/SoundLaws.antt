@@ -5,12 +5,12 @@ use Rattle.std.specs.Ordering.{nat_cmp}
 use Rattle.std.specs.FinMap as map
 use Rattle.qs_ranges.specs.Numbers.{NumberSet, MAX_VARINT, ContainsRange, covers, end_of}
 use Rattle.qs_ranges.proofs.Sets.{covers-is, covers-of}
-use Rattle.qs_recv.specs.Assembled.{put, take_front, discard, front_of}
+use Rattle.qs_recv.specs.Assembled.{put, take_front, discard, front_of, forget}
 use Rattle.qs_recv.specs.Lane.{RecvLane, check_stream, check_reset, highest, is_whole, taken}
 use Rattle.qs_recv.specs.Lawful.{IsLawful}
 use Rattle.qs_recv.specs.Sound.{IsSound}
 use Rattle.qs_recv.proofs.AssembledLaws.{with_run, end_of-with_run}
-use Rattle.qs_recv.proofs.LawfulLaws.{lawful_take_stream, lawful_take_reset, lawful_front, lawful_stop, lawful_told, read_within, highest_noted}
+use Rattle.qs_recv.proofs.LawfulLaws.{end_of-below, lawful_take_stream, lawful_take_reset, lawful_front, lawful_stop, lawful_told, read_within, highest_noted}
 
 -- the counts are small enough to be added
 pub small_highest : (lane : RecvLane) (w n e : ℕ) → IsSound lane w n e → unwrap_or lane.final_size e ≤ MAX_VARINT
@@ -55,16 +55,16 @@ sound_passed lane w n e offset bytes fin reset ok h =
     }
 
 pub sound_reset : (lane : RecvLane) (w n e code size : ℕ) → is_some lane.reset_code ≡ false → is_whole lane ≡ false → IsOk (check_reset lane size) → IsSound lane w n e
-    → IsSound (record lane { arrived = discard lane.arrived; final_size = Some size; reset_code = Some code }) w n e
+    → IsSound (record lane { arrived = forget lane.arrived; final_size = Some size; reset_code = Some code }) w n e
 sound_reset lane w n e code size no_reset not_whole ok h =
     record {
       lawful =
-          let after = record lane { arrived = discard lane.arrived; final_size = Some size; reset_code = Some code } in
+          let after = record lane { arrived = forget lane.arrived; final_size = Some size; reset_code = Some code } in
           subst (λ c. IsLawful (cond c lane after)) not_whole
           (subst (λ b. IsLawful (cond (b || is_whole lane) lane after)) no_reset (lawful_take_reset lane code size h.lawful ok));
       window_is = h.window_is;
       count_is = h.count_is;
-      end_is = h.end_is;
+      end_is = end_of-below (end_of lane.arrived.received) ∙ h.end_is;
       stop_fits = h.stop_fits;
     }
 

@@ -3,13 +3,14 @@
 --     Assembled      the bytes that are still to be read, by offset; every offset that came; how many bytes were read; how far past
 --                    these the next ones may lie; and whether bytes are thrown away
 --     nothing_yet, at_rest, put, take_front, discard      what the calls of an assembly leave
+--     forget      what a reset leaves
 --     front m at size      the bytes of m from an offset on, up to the first offset that isn't in m, and at most size
 --     same m at bytes      whether bytes from an offset on are those that m has there
 use Rattle.std.specs.Prelude.{ℕ, ◌+◌, zero, suc, Bool, true, false, if◌then◌else◌, ◌==◌, ◌&&◌, nat_le, List, [], ◌∷◌, length, Option, None, Some, refl}
 use Rattle.std.specs.Ordering.{nat_cmp}
 use Rattle.std.specs.FinMap as map
 use Rattle.std.specs.FinSet as set
-use Rattle.qs_ranges.specs.Numbers.{NumberSet, numbers}
+use Rattle.qs_ranges.specs.Numbers.{NumberSet, numbers, end_of}
 
 pub record Assembled : Type 0 where
   pub stored : map.FinMap nat_cmp ℕ
@@ -68,6 +69,11 @@ take_front a size =
 -- what is stored is thrown away, and so is what comes from now on
 abbrev pub discard : Assembled → Assembled
 discard a = record a { stored = map.empty; discarding = true }
+
+-- after a reset nothing is stored from now on, and it doesn't matter which offsets came: each one up to the largest that did counts as
+-- one that came (RFC 9000, section 3.2)
+abbrev pub forget : Assembled → Assembled
+forget a = record a { stored = map.empty; received = numbers 0 (end_of a.received); discarding = true }
 
 -- whether a byte is the one that is stored, where one is (RFC 9000, section 2.2)
 abbrev pub agrees : Option ℕ → ℕ → Bool

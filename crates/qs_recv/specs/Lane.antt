@@ -10,7 +10,7 @@ use Rattle.qs_recv.specs.declared.half.RecvState.TheVariants.{Recv, SizeKnown, D
 use Rattle.qs_recv.specs.declared.half.RecvFault.{RecvFault}
 use Rattle.qs_recv.specs.declared.half.RecvFault.TheVariants.{FinalSize, StreamCredit, ChangedByte}
 use Rattle.qs_recv.specs.declared.half.Highest.{Highest}
-use Rattle.qs_recv.specs.Assembled.{Assembled, nothing_yet, put, take_front, front_of, discard, same}
+use Rattle.qs_recv.specs.Assembled.{Assembled, nothing_yet, put, take_front, front_of, discard, same, forget}
 
 -- what arrived; the final size, the reset's code and the code of this end's own stop, where known; whether a reader was told of the end or
 -- the reset; and the limit on offsets that was granted (RFC 9000, sections 3.2, 3.5 and 4.1)
@@ -98,11 +98,12 @@ check_reset lane size =
     else (if nat_lt lane.limit size then Err StreamCredit
     else Ok (record { before = highest lane; after = size }))
 
--- in Recv and Size Known what is stored is thrown away, and in the other states nothing changes (RFC 9000, section 3.2)
+-- in Recv and Size Known what is stored is thrown away, and so is what was noted of the offsets that came; in the other states nothing
+-- changes (RFC 9000, section 3.2)
 abbrev pub take_reset : RecvLane → ℕ → ℕ → RecvLane
 take_reset lane code size =
     if is_some lane.reset_code || is_whole lane then lane
-    else record lane { arrived = discard lane.arrived; final_size = Some size; reset_code = Some code }
+    else record lane { arrived = forget lane.arrived; final_size = Some size; reset_code = Some code }
 
 -- Reading
 

@@ -57,8 +57,8 @@ pub enum RecvState {
 
 /// The receiving half of a stream, over any assembly. Offsets and sizes count bytes from the start of the stream.
 ///
-/// One that never carried a byte, and one of which a reader was told the end or a reset, is a record of 56 bytes; the first
-/// byte that is stored takes the box.
+/// One that never carried a byte, one that was reset, and one of which a reader was told the end, is a record of 56 bytes; the
+/// first byte that is stored takes the box.
 #[derive(Drop)]
 pub struct RecvHalf<A: Assembly> {
     alloc: Global,
@@ -169,8 +169,8 @@ impl<A: Assembly> RecvHalf<A> {
         }
     }
 
-    /// Takes a RESET_STREAM frame that passed the check: what is stored is thrown away. Once all data came, or after
-    /// another reset, nothing changes.
+    /// Takes a RESET_STREAM frame that passed the check: what is stored is thrown away, and so is what was noted of the offsets
+    /// that came. Once all data came, or after another reset, nothing changes.
     pub fn take_reset(&mut self, code: u64, size: u64)
         requires in_range { size ≤ MAX_VARINT }
         requires passed { IsOk (check_reset self.old size) }
@@ -179,7 +179,11 @@ impl<A: Assembly> RecvHalf<A> {
     {
         match &mut self.parts {
             Parts::Resting(rest) => rest.take_reset(code, size),
-            Parts::Live(live) => live.take_reset(code, size),
+            Parts::Live(live) => {
+                if let Some(rest) = live.reset(code, size) {
+                    self.parts = Parts::Resting(rest);
+                }
+            }
         }
     }
 
@@ -194,7 +198,7 @@ impl<A: Assembly> RecvHalf<A> {
             Parts::Resting(rest) => rest.read(),
             Parts::Live(live) => live.read(into),
         };
-        if matches!(answer, Read::End | Read::Reset(_)) {
+        if matches!(answer, Read::End) {
             self.settle();
         }
         answer

@@ -1,5 +1,5 @@
 //! A receiving half that may store bytes.
-ghost use Rattle.std.specs.Prelude.{if◌then◌else◌, ◌==◌, max, ◌≡◌, ◌+◌, ◌-◌, ◌*◌, ◌≤◌, ◌^◌, ◌++◌, ◌||◌, length, drop, IsOk, IfOk, IfSome, OnOk, OnErr, IfErr, IsTrue, is_some, false, None};
+ghost use Rattle.std.specs.Prelude.{if◌then◌else◌, ◌==◌, max, ◌≡◌, ◌+◌, ◌-◌, ◌*◌, ◌≤◌, ◌^◌, ◌++◌, ◌||◌, length, drop, IsOk, IfOk, IfSome, IfNone, OnOk, OnErr, IfErr, IsTrue, is_some, false, None};
 ghost use Rattle.std.specs.FinMap as map;
 ghost use Rattle.qs_ranges.specs.Numbers.{MAX_VARINT, MissesRange, covers};
 ghost use Rattle.qs_recv.specs.Lawful.{IsLawful};
@@ -64,8 +64,7 @@ impl<A: Assembly> LiveHalf<A> {
         }
     }
 
-    /// The same half at rest, where a reader was told of its end or of a reset and every offset below the largest that came
-    /// came.
+    /// The same half at rest, where a reader was told of its end and every offset below the largest that came came.
     pub(crate) fn rested(&self) -> Option<Rest>
         ensures { IfSome result (λ rest. rest ≡ self.now) }
     {
@@ -175,18 +174,31 @@ impl<A: Assembly> LiveHalf<A> {
         })
     }
 
-    pub(crate) fn take_reset(&mut self, code: u64, size: u64)
+    /// What a reset that passed its check makes of it: a half at rest, which takes its place. None where nothing changes.
+    pub(crate) fn reset(&mut self, code: u64, size: u64) -> Option<Rest>
         requires in_range { size ≤ MAX_VARINT }
         requires passed { IsOk (check_reset self.old size) }
-        ensures after { self.new ≡ take_reset self.old code size }
-        ensures grown { highest self.new ≡ size }
+        ensures after { IfSome result (λ rest. rest ≡ take_reset self.old code size) }
+        ensures grown { IfSome result (λ rest. highest rest ≡ size) }
+        ensures same { IfNone result (self.new ≡ take_reset self.old code size) }
+        ensures known { IfNone result (highest self.new ≡ size) }
     {
         if self.reset_code.is_some() || self.is_whole() {
-            return;
+            return None;
         }
-        self.assembly.discard();
-        self.final_size = Some(size);
-        self.reset_code = Some(code);
+        Some(Rest {
+            read_count: self.read_count,
+            received_end: self.received_end,
+            limit: self.limit,
+            size,
+            reset: code,
+            stop: self.stop_code.unwrap_or(0),
+            window: self.window as u32,
+            is_sized: true,
+            is_reset: true,
+            is_stopped: self.stop_code.is_some(),
+            told: self.told,
+        })
     }
 
     pub(crate) fn read(&mut self, into: &mut [u8]) -> Read

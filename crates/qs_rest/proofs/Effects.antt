@@ -6,7 +6,7 @@ use Rattle.std.proofs.lemmas.Bool.{and_parts, or_cases, eqb-true, true≢false, 
 use Rattle.std.specs.List.{AllByRecursion}
 use Rattle.qs_ranges.proofs.Sets.{covers-is, covers-of}
 use Rattle.qs_wire.specs.declared.stream_id.Dir.TheVariants.{Bidi, Uni}
-use Rattle.qs_recv.specs.Assembled.{discard}
+use Rattle.qs_recv.specs.Assembled.{forget}
 use Rattle.qs_recv.specs.Lane.{RecvLane, take_reset, is_whole, whole_to}
 use Rattle.qs_send.specs.Lane.{SendLane, allow_lane, reset_lane, stopped_lane, unacked_from, is_whole as send_whole}
 use Rattle.qs_send.specs.declared.parts.SendFault.TheVariants.{Finished, WasReset}
@@ -93,7 +93,7 @@ send_open e n fine = some_of _ (by_own (is_own e n) refl fine)
     by_own false own none = by_side _ (ap (λ u. u && not (is_own e n)) (not_uni (is_uni n) _ (rw own at none)))
 
 abbrev reset_by : Bool → ℕ → ℕ → RecvLane → RecvLane
-reset_by b code size l = cond b l (record l { arrived = discard l.arrived; final_size = Some size; reset_code = Some code })
+reset_by b code size l = cond b l (record l { arrived = forget l.arrived; final_size = Some size; reset_code = Some code })
 
 reset_or_whole : (code size : ℕ) (l : RecvLane) → (is_some (take_reset l code size).reset_code ≡ true) ⊎ (is_whole (take_reset l code size) ≡ true)
 reset_or_whole code size l = go (is_some l.reset_code || is_whole l) refl

@@ -3,7 +3,7 @@ use Rattle.std.proofs.Common.{◌≡◌, ℕ, Bool, true, false, ◌&&◌, ◌||
 use Rattle.std.specs.Prelude.{cond}
 use Rattle.std.proofs.lemmas.Bool.{cond_both}
 use Rattle.qs_wire.specs.declared.stream_id.Dir.TheVariants.{Bidi, Uni}
-use Rattle.qs_recv.specs.Assembled.{discard}
+use Rattle.qs_recv.specs.Assembled.{discard, forget}
 use Rattle.qs_recv.specs.Lane.{RecvLane, new_lane as new_recv_lane, highest, taken, take_stream, take_reset, after_read, after_answer, read_answer, stop, raise, is_whole}
 use Rattle.qs_recv.specs.declared.half.Read.{Read}
 use Rattle.qs_recv.specs.declared.half.Read.TheVariants as reads
@@ -49,7 +49,7 @@ stop_stays code l = go (is_some l.stop_code) refl
 
 reset_stays : (code size : ℕ) (l : RecvLane) → StopStays l (take_reset l code size)
 reset_stays code size l =
-    cond_both (is_some l.reset_code || is_whole l) l (record l { arrived = discard l.arrived; final_size = Some size; reset_code = Some code }) (StopStays l) (λ _. stays_same l) (λ _ c is. is)
+    cond_both (is_some l.reset_code || is_whole l) l (record l { arrived = forget l.arrived; final_size = Some size; reset_code = Some code }) (StopStays l) (λ _. stays_same l) (λ _ c is. is)
 
 answer_stays : (answer : Read) (size : ℕ) (l : RecvLane) → StopStays l (after_answer answer l size)
 answer_stays (reads.Bytes n) size l = λ c is. is

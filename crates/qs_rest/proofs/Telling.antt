@@ -8,7 +8,7 @@ use Rattle.std.specs.FinSet as set
 use Rattle.qs_wire.specs.Layout.{PlacedValue}
 use Rattle.qs_wire.specs.Reading.{reading_of}
 use Rattle.qs_wire.specs.declared.fault.WireFault.{WireFault}
-use Rattle.qs_recv.specs.Assembled.{discard, front_of, put}
+use Rattle.qs_recv.specs.Assembled.{discard, front_of, put, forget}
 use Rattle.qs_recv.specs.News.{is_readable, tells_something}
 use Rattle.qs_recv.specs.Lane.{RecvLane, new_lane as new_recv_lane, is_whole, at_final_size, take_stream, take_reset, read_answer, answer_by, after_answer, after_read, stop, raise}
 use Rattle.qs_recv.specs.declared.half.Read.{Read}
@@ -254,7 +254,7 @@ module _ (t : Tables RecvLane) where
 
   reset_leaves : (code size : ℕ) (l : RecvLane) → Leaves l (take_reset l code size)
   reset_leaves code size l =
-      cond_both (is_some l.reset_code || is_whole l) l (record l { arrived = discard l.arrived; final_size = Some size; reset_code = Some code }) (Leaves l)
+      cond_both (is_some l.reset_code || is_whole l) l (record l { arrived = forget l.arrived; final_size = Some size; reset_code = Some code }) (Leaves l)
       (λ _. record { told = refl; stopped = refl; read = refl }) (λ _. record { told = refl; stopped = refl; read = refl })
 
   stream_leaves : (offset : ℕ) (bytes : List ℕ) (fin : Bool) (l : RecvLane) → Leaves l (take_stream l offset bytes fin)

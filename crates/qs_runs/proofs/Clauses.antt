@@ -69,13 +69,13 @@ module _ (a b : Settings) (h : History) (w : World) (ok : WorldOk a b h w) (s : 
 
     pub received_is_below_sent : ReceivedIsBelowSent w s n
     received_is_below_sent r q is has_it =
-        let (offset, bytes, fin, t, low, high) = (recv_at r is).received q has_it in
-        by (sending w s n) refl send_slot offset bytes fin (subst (λ x. Tells x (Stream n offset bytes fin)) (theirs_mine s h) t) low high
+        let (m, le, (offset, bytes, fin, t, low, high)) = (recv_at r is).received q has_it in
+        by (sending w s n) refl send_slot m le offset bytes fin (subst (λ x. Tells x (Stream n offset bytes fin)) (theirs_mine s h) t) low high
       where
-        by : (o : Option SendLane) → sending w s n ≡ o → SendSlot (past s h) n (first_send_limit sender n) o → (offset : ℕ) (bytes : List ℕ) (fin : Bool) → Tells (past s h).mine (Stream n offset bytes fin) → offset ≤ q → q < offset + length bytes →
+        by : (o : Option SendLane) → sending w s n ≡ o → SendSlot (past s h) n (first_send_limit sender n) o → (m : ℕ) → q ≤ m → (offset : ℕ) (bytes : List ℕ) (fin : Bool) → Tells (past s h).mine (Stream n offset bytes fin) → offset ≤ m → m < offset + length bytes →
             (l : SendLane) × (sending w s n ≡ Some l) × (q < l.sent_end)
-        by None at slot offset bytes fin t low high = absurd (slot.no_stream offset bytes fin t)
-        by (Some l) at slot offset bytes fin t low high = (let below : offset + length bytes ≤ l.sent_end = (slot.told offset bytes fin t).below in (l, at, omega arith))
+        by None at slot m le offset bytes fin t low high = absurd (slot.no_stream offset bytes fin t)
+        by (Some l) at slot m le offset bytes fin t low high = (let below : offset + length bytes ≤ l.sent_end = (slot.told offset bytes fin t).below in (l, at, omega arith))
 
     pub stored_is_written : StoredIsWritten h w s n
     stored_is_written r q b is has_it = byte_written (past s h) (past (other s) h) n (first_send_limit sender n) (window receiver n) (theirs_mine s h) (sending w s n) send_slot q b ((recv_at r is).stored q b has_it)

@@ -34,7 +34,7 @@ module _ (p : Past) (more : Packets) where
   recv_slot n window None h = record { no_bytes = h.no_bytes; no_end = h.no_end; not_stopped = h.not_stopped; no_limit = h.no_limit; no_stop = h.no_stop }
   recv_slot n window (Some l) h =
       record {
-        received = λ q is. TellsOffset-more p.theirs more n q (h.received q is);
+        received = λ q is. (let (m, le, told) = h.received q is in (m, le, TellsOffset-more p.theirs more n m told));
         stored = λ q b is. TellsByte-more p.theirs more n q b (h.stored q b is);
         count = h.count;
         gave = λ q b is. TellsByte-more p.theirs more n q b (h.gave q b is);

@@ -10,7 +10,7 @@ use Rattle.qs_wire.specs.Grammar.{frames_of}
 use Rattle.qs_wire.specs.Reading.{reading_of}
 use Rattle.qs_wire.specs.declared.fault.WireFault.{WireFault}
 use Rattle.qs_wire.specs.declared.stream_id.Dir.TheVariants.{Uni}
-use Rattle.qs_recv.specs.Assembled.{put, discard}
+use Rattle.qs_recv.specs.Assembled.{put, forget}
 use Rattle.qs_recv.specs.Lane.{RecvLane, highest, take_stream, take_reset, is_whole, raise, check_stream, check_reset}
 use Rattle.qs_send.specs.declared.piece.Item.TheVariants.{MaxStreamData, MaxStreams, ResetStream, StopSending, StreamDataBlocked}
 use Rattle.qs_calls.specs.declared.closing.Closing.{Closing}
@@ -82,7 +82,7 @@ reset_highest l code size known fits = by _ refl
     go (Some y) is = fits y is
     go None is = absurd (known is)
 
-    by : (b : Bool) → (is_some l.reset_code || is_whole l) ≡ b → highest (if b then l else record l { arrived = discard l.arrived; final_size = Some size; reset_code = Some code }) ≡ highest l
+    by : (b : Bool) → (is_some l.reset_code || is_whole l) ≡ b → highest (if b then l else record l { arrived = forget l.arrived; final_size = Some size; reset_code = Some code }) ≡ highest l
     by true e = refl
     by false e = go l.final_size refl
 

@@ -1,17 +1,21 @@
 -- A receiving half that takes frames.
-use Rattle.std.proofs.Common.{◌≡◌, ℕ, ◌+◌, ◌<◌, ◌≤◌, Bool, true, false, ◌||◌, List, ◌⊎◌, length, Option, Some, None, is_some, refl, sym, ap, ◌∙◌, arith, inl, inr, if◌then◌else◌}
+use Rattle.std.proofs.Common.{◌≡◌, ℕ, ◌+◌, ◌-◌, ◌<◌, ◌≤◌, Bool, true, false, ◌||◌, List, ◌⊎◌, length, Option, Some, None, is_some, refl, sym, ap, ◌∙◌, arith, inl, inr, if◌then◌else◌}
 use Rattle.std.proofs.lemmas.Option.{none-some, same_Some}
+use Rattle.std.proofs.lemmas.Bool.Decides.{nat_tests}
 use Rattle.std.proofs.lemmas.Bool.{or_parts, and_cases, eqb-true, not-false, true≢false, false≢true}
 use Rattle.std.specs.FinMap as fmap
 use Rattle.std.specs.FinSet as set
 use Rattle.std.proofs.Common.{nat_cmp}
-use Rattle.qs_recv.specs.Assembled.{put, discard, store}
+use Rattle.qs_ranges.specs.Numbers.{end_of, is_within}
+use Rattle.qs_ranges.proofs.Sets.{below-end_of, end_of-last}
+use Rattle.qs_recv.proofs.LawfulLaws.{below_is, contains-below}
+use Rattle.qs_recv.specs.Assembled.{put, store, forget}
 use Rattle.qs_recv.specs.Lane.{RecvLane, take_stream, is_whole, breaks_final_size, check_stream, check_reset}
 use Rattle.qs_machine.specs.Ends.{End}
 use Rattle.qs_machine.specs.Seen.{Stream}
 use Rattle.qs_machine.specs.Verdicts.{or_else, state_fault_in, credit_fault, bytes_fault, lane_of}
-use Rattle.qs_runs.specs.Pasts.{Past, Tells, TellsOffset, TellsByte, TellsEnd, TellsReset}
-use Rattle.qs_runs.specs.Invariant.{RecvOk, StreamTaken}
+use Rattle.qs_runs.specs.Pasts.{Past, Tells, TellsByte, TellsEnd, TellsReset}
+use Rattle.qs_runs.specs.Invariant.{RecvOk, StreamTaken, TellsUpTo}
 use Rattle.qs_runs.proofs.Members.{run-cases, run-old, run-new, get-stored}
 use Rattle.qs_runs.proofs.Changes.{Grows, Grows_refl}
 
@@ -62,12 +66,12 @@ reset_fits e l size fine known is = (let end : size + 0 ≡ known = names_known 
 
 module _ (p : Past) (n window : ℕ) (l : RecvLane) (h : RecvOk p n window l) where
   module _ (offset : ℕ) (bytes : List ℕ) (fin : Bool) (t : Tells p.theirs (Stream n offset bytes fin)) (fits : (size : ℕ) → l.final_size ≡ Some size → fin ≡ true → offset + length bytes ≡ size) where
-    received_by : (b : Bool) (q : ℕ) → set.contains (if b then l.arrived else put l.arrived offset bytes).received q ≡ true → TellsOffset p.theirs n q
+    received_by : (b : Bool) (q : ℕ) → set.contains (if b then l.arrived else put l.arrived offset bytes).received q ≡ true → TellsUpTo p.theirs n q
     received_by true q is = h.received q is
     received_by false q is =
         elim (run-cases l.arrived.received offset (offset + length bytes) q is) [
           | inl old ↦ h.received q old
-          | inr new ↦ (offset, bytes, fin, t, new.0, new.1)
+          | inr new ↦ (q, omega arith, (offset, bytes, fin, t, new.0, new.1))
         ]
 
     stored_now : (b : Bool) (q c : ℕ) → fmap.get (if b then l.arrived.stored else store l.arrived.received l.arrived.stored offset bytes) q ≡ Some c → TellsByte p.theirs n q c
@@ -127,13 +131,23 @@ module _ (p : Past) (n window : ℕ) (l : RecvLane) (h : RecvOk p n window l) wh
   module _ (code size : ℕ) (t : TellsReset p.theirs n code size) (fits : (known : ℕ) → l.final_size ≡ Some known → size ≡ known) where
     -- the half after a reset that changes something
     abbrev pub when_reset : RecvLane
-    when_reset = record l { arrived = discard l.arrived; final_size = Some size; reset_code = Some code }
+    when_reset = record l { arrived = forget l.arrived; final_size = Some size; reset_code = Some code }
+
+    -- an offset below the largest that came
+    told_below : (q : ℕ) → is_within 0 (end_of l.arrived.received) q ≡ true → TellsUpTo p.theirs n q
+    told_below q is = elim (end_of-last l.arrived.received) [
+      | inl none ↦ absurd (below none)
+      | inr last ↦ (let (m, le, told) = h.received (end_of l.arrived.received - 1) last in (m, (let lt : q < end_of l.arrived.received = grind (arith, nat_tests) in omega (arith, lt, le)), told))
+    ]
+      where
+        below : end_of l.arrived.received ≡ 0 → ⊥
+        below none = (let lt : q < end_of l.arrived.received = grind (arith, nat_tests) in omega (arith, lt, none))
 
     pub take_reset_ok : (b : Bool) → RecvOk p n window (if b then l else when_reset)
     take_reset_ok true = h
     take_reset_ok false =
         record {
-          received = h.received;
+          received = λ q is. told_below q (sym (contains-below (end_of l.arrived.received) q) ∙ is);
           stored = λ q c is. absurd (none-some c (sym (fmap.get-empty nat_cmp q) ∙ is));
           count = h.count;
           gave = h.gave;
@@ -147,7 +161,7 @@ module _ (p : Past) (n window : ℕ) (l : RecvLane) (h : RecvOk p n window l) wh
 
     pub take_reset_grows : (b : Bool) → Grows l (if b then l else when_reset)
     take_reset_grows true = Grows_refl l
-    take_reset_grows false = record { received = λ q is. is; final = λ s is. ap Some (fits s is); reset = λ none. absurd (none-some code (sym none)) }
+    take_reset_grows false = record { received = λ q is. below_is (end_of l.arrived.received) q (below-end_of l.arrived.received q is); final = λ s is. ap Some (fits s is); reset = λ none. absurd (none-some code (sym none)) }
 
     -- a reset that changes nothing comes where the size is known
     size_known : (is_some l.reset_code || is_whole l) ≡ true → (known : ℕ) × (l.final_size ≡ Some known)

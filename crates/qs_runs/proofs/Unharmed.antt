@@ -20,8 +20,8 @@ use Rattle.qs_machine.specs.Seen.{Seen, Ack, Stream, Control}
 use Rattle.qs_machine.specs.Verdicts.{verdict, item_verdict, state_fault_in, state_fault_out, credit_fault, bytes_fault, fault_of, ack_fault, fault_if, or_else, lane_of, STREAM_STATE_ERROR, STREAM_LIMIT_ERROR}
 use Rattle.qs_runs.proofs.Members.{end-le}
 use Rattle.qs_machine.proofs.TableLaws.{value, total_le, total_update, total_open, lookup_same, lookup_other, open_lower, open_at}
-use Rattle.qs_runs.specs.Pasts.{Past, Tells, TellsOffset, TellsEnd, TellsReset, IsNamed, Names}
-use Rattle.qs_runs.specs.Invariant.{EndOk, SendSlot, NeverSent, RecvTrue, RecvSlot, NeverReceived, is_open}
+use Rattle.qs_runs.specs.Pasts.{Past, Tells, TellsEnd, TellsReset, IsNamed, Names}
+use Rattle.qs_runs.specs.Invariant.{EndOk, SendSlot, NeverSent, RecvTrue, RecvSlot, NeverReceived, TellsUpTo, is_open}
 use Rattle.qs_runs.proofs.Agreement.{byte_written}
 use Rattle.qs_runs.proofs.Opening.{opened_ok, named_by, lane_opened}
 
@@ -38,9 +38,9 @@ pub record Facing (e f : End) : Type 0 where
 
 module _ (p q : Past) (from : p.theirs ≡ q.mine) (n limit w : ℕ) where
   -- what was received lies below the sent end, and a final size is the sent end
-  received_sent : (o : Option SendLane) → SendSlot q n limit o → (y : ℕ) → TellsOffset p.theirs n y → y < sent_of o
-  received_sent None h y (offset, bytes, fin, t, low, high) = absurd (h.no_stream offset bytes fin (rw from at t))
-  received_sent (Some l) h y (offset, bytes, fin, t, low, high) = omega (arith, (h.told offset bytes fin (rw from at t)).below)
+  received_sent : (o : Option SendLane) → SendSlot q n limit o → (y : ℕ) → TellsUpTo p.theirs n y → y < sent_of o
+  received_sent None h y (m, le, (offset, bytes, fin, t, low, high)) = absurd (h.no_stream offset bytes fin (rw from at t))
+  received_sent (Some l) h y (m, le, (offset, bytes, fin, t, low, high)) = omega (arith, (h.told offset bytes fin (rw from at t)).below)
 
   end_sent : (o : Option SendLane) → SendSlot q n limit o → (size : ℕ) → TellsEnd p.theirs n size → size ≡ sent_of o
   end_sent None h size (offset, bytes, t, is) = absurd (h.no_stream offset bytes true (rw from at t))

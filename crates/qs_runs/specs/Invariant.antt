@@ -76,9 +76,13 @@ SendSlot p n limit None = NotSent p n
 
 -- Receiving
 
+-- a packet told this offset or a higher one
+abbrev pub TellsUpTo : Packets → ℕ → ℕ → Type 0
+TellsUpTo packets n q = (m : ℕ) × (q ≤ m) × TellsOffset packets n m
+
 -- A receiving half: all that it knows stood in packets that the peer made.
 pub record RecvTrue (mine theirs : Packets) (given : List ℕ) (was_stopped was_ended : Bool) (n window : ℕ) (l : RecvLane) : Type 0 where
-  pub received : (q : ℕ) → set.contains l.arrived.received q ≡ true → TellsOffset theirs n q
+  pub received : (q : ℕ) → set.contains l.arrived.received q ≡ true → TellsUpTo theirs n q
   pub stored : (q b : ℕ) → fmap.get l.arrived.stored q ≡ Some b → TellsByte theirs n q b
   pub count : length given ≡ l.arrived.read_count
   pub gave : (q b : ℕ) → slice_get given q ≡ Some b → TellsByte theirs n q b

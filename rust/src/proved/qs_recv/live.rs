@@ -40,8 +40,7 @@ impl<A: Assembly> LiveHalf<A> {
         }
     }
 
-    /// The same half at rest, where a reader was told of its end or of a reset and every offset below the largest that came
-    /// came.
+    /// The same half at rest, where a reader was told of its end and every offset below the largest that came came.
     pub(crate) fn rested(&self) -> Option<Rest> {
         if !self.told || !self.assembly.received().covers(0, self.received_end) {
             return None;
@@ -126,14 +125,25 @@ impl<A: Assembly> LiveHalf<A> {
         })
     }
 
-    pub(crate) fn take_reset(&mut self, code: u64, size: u64) {
+    /// What a reset that passed its check makes of it: a half at rest, which takes its place. None where nothing changes.
+    pub(crate) fn reset(&mut self, code: u64, size: u64) -> Option<Rest> {
         debug_assert!(size <= 0x3fff_ffff_ffff_ffff);
         if self.reset_code.is_some() || self.is_whole() {
-            return;
+            return None;
         }
-        self.assembly.discard();
-        self.final_size = Some(size);
-        self.reset_code = Some(code);
+        Some(Rest {
+            read_count: self.read_count,
+            received_end: self.received_end,
+            limit: self.limit,
+            size,
+            reset: code,
+            stop: self.stop_code.unwrap_or(0),
+            window: self.window as u32,
+            is_sized: true,
+            is_reset: true,
+            is_stopped: self.stop_code.is_some(),
+            told: self.told,
+        })
     }
 
     pub(crate) fn read(&mut self, into: &mut [u8]) -> Read {

@@ -1,5 +1,6 @@
 use Rattle.std.proofs.Common.{sym}
-use Rattle.qs_recv.proofs.RestLaws.{end_of-below, end_at_rest}
+use Rattle.qs_recv.proofs.RestLaws.{end_at_rest}
+use Rattle.qs_recv.proofs.LawfulLaws.{end_of-below}
 use Rattle.qs_recv.proofs.rest.Rest.highest.Goals as goal
 
 pub returns-else-self-clause-value : goal.returns-else-self-clause-value

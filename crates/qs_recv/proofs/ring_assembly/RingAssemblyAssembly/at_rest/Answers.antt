@@ -1,5 +1,5 @@
 use Rattle.std.proofs.Common.{sym, refl}
-use Rattle.qs_recv.proofs.RestLaws.{end_of-below}
+use Rattle.qs_recv.proofs.LawfulLaws.{end_of-below}
 use Rattle.qs_recv.proofs.RingLaws.{nothing_in_ring, ring_at_rest, sized_empty}
 use Rattle.qs_recv.proofs.ring_assembly.RingAssemblyAssembly.at_rest.Goals as goal
 
