@@ -34,6 +34,24 @@ pub enum Received {
     NoMemory,
 }
 
+/// What came of a frame that came without its packet.
+#[derive(Clone, Copy, Debug, PartialEq, Eq)]
+pub enum Taken {
+    /// It took effect.
+    Took,
+    /// It is of a kind that is the stack's own affair, and changed nothing: not of streams, and not of flow control.
+    NotOurs,
+}
+
+impl Taken {
+    pub(crate) fn of(taken: calls::Taken) -> Taken {
+        match taken {
+            calls::Taken::Took => Taken::Took,
+            calls::Taken::NotOurs => Taken::NotOurs,
+        }
+    }
+}
+
 /// What a reader is told (RFC 9000, section 2.2).
 #[derive(Clone, Copy, Debug, PartialEq, Eq)]
 pub enum Read {
@@ -59,12 +77,21 @@ pub struct Made {
     pub is_ack_eliciting: bool,
 }
 
-/// The token of a packet: by it the end is told that the packet was acknowledged or lost. It is the number under which
+/// The token of a packet: by it the end is told that the packet was acknowledged or lost
+/// ([`Endpoint::acked`](crate::Endpoint::acked), [`Endpoint::lost`](crate::Endpoint::lost)). It is the number under which
 /// the end keeps what the packet carries (RFC 9000, section 13.3).
 #[derive(Clone, Copy, Debug, PartialEq, Eq)]
 pub struct Token {
     /// The number of [`Made`].
     pub number: u64,
+}
+
+impl Token {
+    pub(crate) fn inner(self) -> calls::Token {
+        calls::Token {
+            number: self.number,
+        }
+    }
 }
 
 /// How much memory an end takes for the bytes of its streams, in bytes.

@@ -1,11 +1,12 @@
 //! One end of a connection.
 
-use crate::answers::{Closing, Held, Made, Read, Received, StreamReport};
+use crate::answers::{Closing, Held, Made, Read, Received, StreamReport, Taken, Token};
 use crate::faults::{
-    LostFault, MakeFault, OpenFault, RaiseFault, ReceiveFault, SetupFault, UseFault,
+    LostFault, MakeFault, OpenFault, RaiseFault, ReceiveFault, SetupFault, TakeFault, TokenFault,
+    UseFault,
 };
 use crate::filling::{Fill, Filled};
-use crate::frame::MAX_VARINT;
+use crate::frame::{Frame, MAX_VARINT};
 use crate::ids::{Dir, Role, StreamId};
 use crate::proved::qs_conn as conn;
 use crate::settings::{PeerLimits, Settings};
@@ -328,6 +329,83 @@ impl Endpoint {
     /// packet may be due again already, and the call may be made again.
     pub fn declare_lost(&mut self, number: u64) -> Result<(), LostFault> {
         self.inner.declare_lost(number).map_err(LostFault::of)
+    }
+
+    /// Takes in a frame that comes without its packet, for a stack that owns its packet numbers and its ACKs (RFC 9000,
+    /// section 13.1). A frame of streams or of flow control takes effect as in a payload, and then the limits move; one of
+    /// any other kind changes nothing: an ACK (tell its packets by [`Endpoint::acked`]), a CONNECTION_CLOSE, PADDING.
+    /// Acknowledge a packet to the peer only once each of its frames was taken.
+    ///
+    /// ```
+    /// use gotsavena::{Dir, Endpoint, Read, Role, Settings, Taken, frames};
+    ///
+    /// let settings = Settings::default();
+    /// let mut client = Endpoint::new(Role::Client, settings, settings.limits())?;
+    /// let mut server = Endpoint::new(Role::Server, settings, settings.limits())?;
+    /// let stream = client.open(Dir::Uni)?;
+    /// client.write(stream, b"hello")?;
+    /// let mut payload = [0; 1200];
+    /// let made = client.make_packet(&mut payload)?.expect("bytes are due");
+    ///
+    /// for placed in frames(&payload[..made.len]) {
+    ///     assert_eq!(server.take_frame(&placed?.frame)?, Taken::Took);
+    /// }
+    /// let mut bytes = [0; 16];
+    /// assert_eq!(server.read(stream, &mut bytes)?, Read::Bytes(5));
+    /// # Ok::<(), Box<dyn std::error::Error>>(())
+    /// ```
+    ///
+    /// # Errors
+    ///
+    /// `Closing` where the frame breaks a rule (sections 4, 19 and 20.1), or has values that no text has
+    /// (FRAME_ENCODING_ERROR); the end is closed from now on, and [`Endpoint::close_payload`] tells the peer so. It names the
+    /// type of the frame's canonical text, and place 0. `NoMemory`: nothing changed, and the frame may come again. An end
+    /// that is closed says so again: `Closing`, or `PeerClosed` with the peer's code.
+    pub fn take_frame(&mut self, frame: &Frame<'_>) -> Result<Taken, TakeFault> {
+        match self.inner.take_frame(&frame.inner()) {
+            Ok(taken) => Ok(Taken::of(taken)),
+            Err(fault) => Err(TakeFault::of(fault)),
+        }
+    }
+
+    /// The peer acknowledged the packet of a token: what an ACK of that packet alone does, in time or after it was declared
+    /// lost (RFC 9000, section 13.3). A stack that owns its ACKs calls it in the place of handing ACK frames in, and only
+    /// where the peer acknowledged the packet. Of a packet that is done it changes nothing.
+    ///
+    /// ```
+    /// use gotsavena::{Dir, Endpoint, Role, Settings, Token, TokenFault};
+    ///
+    /// let settings = Settings::default();
+    /// let mut client = Endpoint::new(Role::Client, settings, settings.limits())?;
+    /// let stream = client.open(Dir::Uni)?;
+    /// client.write(stream, b"hello")?;
+    /// let made = client.make_packet(&mut [0; 1200])?.expect("bytes are due");
+    /// let token = Token { number: made.number };
+    /// client.lost(token)?;
+    /// client.acked(token)?;
+    /// assert!(client.make_packet(&mut [0; 1200])?.is_none(), "a late acknowledgement counts");
+    /// assert_eq!(client.acked(Token { number: 7 }), Err(TokenFault::NotGiven));
+    /// # Ok::<(), Box<dyn std::error::Error>>(())
+    /// ```
+    ///
+    /// # Errors
+    ///
+    /// `Closed`; `NotGiven` where no packet was made yet that has the token; and `NoMemory`: then some of what the packet
+    /// carried may be acknowledged already, and the call may be made again.
+    pub fn acked(&mut self, token: Token) -> Result<(), TokenFault> {
+        self.inner.acked(token.inner()).map_err(TokenFault::of)
+    }
+
+    /// The packet of a token is lost, as [`Endpoint::declare_lost`] tells it: what it carried and is still of use is due
+    /// again, and an `acked` that comes late still counts (RFC 9000, section 13.3). Of a packet that is done it changes
+    /// nothing.
+    ///
+    /// # Errors
+    ///
+    /// `Closed`; `NotGiven` where no packet was made yet that has the token; and `NoMemory`: then some first pieces of the
+    /// packet may be due again already, and the call may be made again.
+    pub fn lost(&mut self, token: Token) -> Result<(), TokenFault> {
+        self.inner.lost(token.inner()).map_err(TokenFault::of)
     }
 
     /// Takes in the payload of a packet: its frames take effect, one after the other (RFC 9000, sections 12.3, 12.4 and

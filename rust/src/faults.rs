@@ -86,6 +86,18 @@ pub enum LostFault {
     Closed,
 }
 
+/// Why a token wasn't told to be acknowledged or lost, or not in whole.
+#[derive(Clone, Copy, Debug, PartialEq, Eq)]
+#[non_exhaustive]
+pub enum TokenFault {
+    /// No packet was made yet that has it. Nothing changed.
+    NotGiven,
+    /// Memory was refused. Some of what the packet carried may be told; the call may be made again.
+    NoMemory,
+    /// The connection is closed. Nothing changed.
+    Closed,
+}
+
 /// Why a payload wasn't taken in.
 #[derive(Clone, Copy, Debug, PartialEq, Eq)]
 #[non_exhaustive]
@@ -94,6 +106,18 @@ pub enum ReceiveFault {
     Closing(Closing),
     /// A packet number of 2^62 or more, or a payload of more than 65,535 bytes. Nothing changed.
     Invalid,
+}
+
+/// Why a frame that came without its packet wasn't taken.
+#[derive(Clone, Copy, Debug, PartialEq, Eq)]
+#[non_exhaustive]
+pub enum TakeFault {
+    /// This end closed the connection, now or before, since a frame offended.
+    Closing(Closing),
+    /// The end saw its peer close before, with this code. Nothing changed.
+    PeerClosed(u64),
+    /// Memory was refused. The frame changed nothing, and may come again.
+    NoMemory,
 }
 
 /// Why a frame wasn't written. Nothing was.
@@ -176,6 +200,26 @@ impl LostFault {
     }
 }
 
+impl TakeFault {
+    pub(crate) fn of(fault: calls::TakeFault) -> TakeFault {
+        match fault {
+            calls::TakeFault::Closing(closing) => TakeFault::Closing(Closing::of(closing)),
+            calls::TakeFault::PeerClosed(code) => TakeFault::PeerClosed(code),
+            calls::TakeFault::NoMemory => TakeFault::NoMemory,
+        }
+    }
+}
+
+impl TokenFault {
+    pub(crate) fn of(fault: calls::TokenFault) -> TokenFault {
+        match fault {
+            calls::TokenFault::NotGiven => TokenFault::NotGiven,
+            calls::TokenFault::NoMemory => TokenFault::NoMemory,
+            calls::TokenFault::Closed => TokenFault::Closed,
+        }
+    }
+}
+
 const CLOSED: &str = "the connection is closed";
 const NO_MEMORY: &str = "out of memory";
 
@@ -244,6 +288,26 @@ impl fmt::Display for LostFault {
     }
 }
 
+impl fmt::Display for TakeFault {
+    fn fmt(&self, f: &mut fmt::Formatter<'_>) -> fmt::Result {
+        match self {
+            TakeFault::Closing(closing) => closing.fmt(f),
+            TakeFault::PeerClosed(code) => write!(f, "the peer closed with code {code}"),
+            TakeFault::NoMemory => f.write_str(NO_MEMORY),
+        }
+    }
+}
+
+impl fmt::Display for TokenFault {
+    fn fmt(&self, f: &mut fmt::Formatter<'_>) -> fmt::Result {
+        f.write_str(match self {
+            TokenFault::NotGiven => "no packet has this token",
+            TokenFault::NoMemory => NO_MEMORY,
+            TokenFault::Closed => CLOSED,
+        })
+    }
+}
+
 impl fmt::Display for ReceiveFault {
     fn fmt(&self, f: &mut fmt::Formatter<'_>) -> fmt::Result {
         match self {
@@ -269,6 +333,7 @@ impl Error for OpenFault {}
 impl Error for UseFault {}
 impl Error for MakeFault {}
 impl Error for LostFault {}
+impl Error for TokenFault {}
 impl Error for PutFault {}
 
 impl Error for RaiseFault {
@@ -276,6 +341,15 @@ impl Error for RaiseFault {
         match self {
             RaiseFault::Closed => None,
             RaiseFault::Refused(fault) => Some(fault),
+        }
+    }
+}
+
+impl Error for TakeFault {
+    fn source(&self) -> Option<&(dyn Error + 'static)> {
+        match self {
+            TakeFault::Closing(closing) => Some(closing),
+            TakeFault::PeerClosed(_) | TakeFault::NoMemory => None,
         }
     }
 }

@@ -83,11 +83,12 @@ mod streams;
 
 pub use answers::{
     Closing, Held, Made, Read, Received, RecvReport, RecvState, SendReport, SendState,
-    StreamReport, Token,
+    StreamReport, Taken, Token,
 };
 pub use endpoint::{Endpoint, MAX_PAYLOAD, MAX_ROOM, MIN_ROOM};
 pub use faults::{
-    LostFault, MakeFault, OpenFault, PutFault, RaiseFault, ReceiveFault, SetupFault, UseFault,
+    LostFault, MakeFault, OpenFault, PutFault, RaiseFault, ReceiveFault, SetupFault, TakeFault,
+    TokenFault, UseFault,
 };
 pub use filling::{Fill, Filled, MIN_FILL};
 pub use frame::{

@@ -38,7 +38,7 @@ unfolding acks_out
 acks_cons a ps o new (Ok done) h = h
 acks_cons a ps o new (Err e) (m, is, asks) = (suc m, is, asks)
 
-acks_append : (ps qs : List AckedPiece) (o new : Outgoing) (result : Result (Unit {0}) NoMemory) → AcksBy qs (acks_out ps o) result new → AcksBy (ps ++ qs) o result new
+pub acks_append : (ps qs : List AckedPiece) (o new : Outgoing) (result : Result (Unit {0}) NoMemory) → AcksBy qs (acks_out ps o) result new → AcksBy (ps ++ qs) o result new
 unfolding acks_out
 acks_append [] qs o new result h = h
 acks_append (a ∷ ps) qs o new result h = acks_cons a (ps ++ qs) o new result (acks_append ps qs (first_acked_out a o) new result h)
@@ -48,7 +48,7 @@ prefix m [] qs t a stops = absurd stops
 prefix zero (p ∷ ps) qs t a stops = (refl, refl)
 prefix (suc m) (p ∷ ps) qs t a stops = let r = prefix m ps qs t a stops in (ap (λ xs. p ∷ xs) r.0, r.1)
 
-acks_some : (ps qs : List AckedPiece) (o new : Outgoing) (e : NoMemory) → AcksBy ps o (Err e) new → AcksBy (ps ++ qs) o (Err e) new
+pub acks_some : (ps qs : List AckedPiece) (o new : Outgoing) (e : NoMemory) → AcksBy ps o (Err e) new → AcksBy (ps ++ qs) o (Err e) new
 acks_some ps qs o new e (m, is, stops) =
     let r = prefix m ps qs new.sends new.acked stops in
     (m, is ∙ ap (λ xs. acks_out xs o) (sym r.0), subst (λ x. StopsAt new.sends new.acked x) (sym r.1) stops)
@@ -227,7 +227,7 @@ lost_piece : (p : Piece) (o : Outgoing) → (piece_acked_out p o).lost ≡ o.los
 lost_piece (Data n c) o = refl
 lost_piece (Told item) o = refl
 
-lost_packet : (k : ℕ) (ps : List Piece) (o : Outgoing) → (acks_out (map (acked_at false k) ps) o).lost ≡ o.lost
+pub lost_packet : (k : ℕ) (ps : List Piece) (o : Outgoing) → (acks_out (map (acked_at false k) ps) o).lost ≡ o.lost
 unfolding acks_out
 lost_packet k [] o = refl
 lost_packet k (p ∷ ps) o = lost_packet k ps (first_acked_out (acked_at false k p) o) ∙ lost_piece p (without_piece_out false k o)
@@ -286,22 +286,27 @@ pub all_ranges : (largest : ℕ) (numbers : List ℕ) (o new : Outgoing) (result
 unfolding AcksRanges
 all_ranges largest numbers o new result small above h = h (fall_less (largest + 2) PAST_NUMBERS (ack_ranges_of largest numbers) (omega (arith, small)) (ranges_fall largest numbers above))
 
+-- the pieces that ranges name are acknowledged
+pub by_ok : (ranges : List (ℕ × ℕ)) (o new : Outgoing) (e : End) (result : Result (Unit {0}) NoMemory) → e ≡ with_outgoing o e → AcksBy (named_out o ranges) o result new → OnOk result (with_outgoing new e ≡ acks (named e ranges) e)
+by_ok ranges o new e (Ok done) same h =
+    ap (λ (x : Outgoing). with_outgoing x e) h ∙ acks_view (named_out o ranges) o e ∙ ap (λ (x : End). acks (named x ranges) x) (sym same)
+by_ok ranges o new e (Err refused) same h = tt
+
+pub by_err : (ranges : List (ℕ × ℕ)) (o new : Outgoing) (e : End) (result : Result (Unit {0}) NoMemory) → e ≡ with_outgoing o e → AcksBy (named_out o ranges) o result new
+    → OnErr result ((m : ℕ) × (with_outgoing new e ≡ acks (take m (named e ranges)) e) × StopsAt new.sends new.acked (slice_get (named e ranges) m))
+by_err ranges o new e (Ok done) same h = tt
+by_err ranges o new e (Err refused) same some = (
+  some.0,
+  ap (λ (x : Outgoing). with_outgoing x e) some.1 ∙ acks_view (take some.0 (named_out o ranges)) o e ∙ ap (λ (x : End). acks (take some.0 (named x ranges)) x) (sym same),
+  subst (λ (x : End). StopsAt new.sends new.acked (slice_get (named x ranges) some.0)) (sym same) some.2,
+)
+
 pub ack_ok : (largest : ℕ) (numbers : List ℕ) (ranges : List (ℕ × ℕ)) (o new : Outgoing) (e : End) (result : Result (Unit {0}) NoMemory) → e ≡ with_outgoing o e → largest < 2 ^ 62 → taken numbers ≤ largest + 1 → ranges ≡ ack_ranges_of largest numbers
     → AcksRanges ranges o result new → OnOk result (with_outgoing new e ≡ acks (named e (ack_ranges_of largest numbers)) e)
-ack_ok largest numbers ranges o new e (Ok done) same small above is h =
-    ap (λ (x : Outgoing). with_outgoing x e) (all_ranges largest numbers o new (Ok done) small above (subst (λ rs. AcksRanges rs o (Ok done) new) is h))
-    ∙ acks_view (named_out o (ack_ranges_of largest numbers)) o e
-    ∙ ap (λ (x : End). acks (named x (ack_ranges_of largest numbers)) x) (sym same)
-ack_ok largest numbers ranges o new e (Err refused) same small above is h = tt
+ack_ok largest numbers ranges o new e result same small above is h =
+    by_ok (ack_ranges_of largest numbers) o new e result same (all_ranges largest numbers o new result small above (subst (λ rs. AcksRanges rs o result new) is h))
 
 pub ack_err : (largest : ℕ) (numbers : List ℕ) (ranges : List (ℕ × ℕ)) (o new : Outgoing) (e : End) (result : Result (Unit {0}) NoMemory) → e ≡ with_outgoing o e → largest < 2 ^ 62 → taken numbers ≤ largest + 1 → ranges ≡ ack_ranges_of largest numbers
     → AcksRanges ranges o result new → OnErr result ((m : ℕ) × (with_outgoing new e ≡ acks (take m (named e (ack_ranges_of largest numbers))) e) × StopsAt new.sends new.acked (slice_get (named e (ack_ranges_of largest numbers)) m))
-ack_err largest numbers ranges o new e (Ok done) same small above is h = tt
-ack_err largest numbers ranges o new e (Err refused) same small above is h =
-    let some = all_ranges largest numbers o new (Err refused) small above (subst (λ rs. AcksRanges rs o (Err refused) new) is h) in (
-      some.0,
-      ap (λ (x : Outgoing). with_outgoing x e) some.1
-          ∙ acks_view (take some.0 (named_out o (ack_ranges_of largest numbers))) o e
-          ∙ ap (λ (x : End). acks (take some.0 (named x (ack_ranges_of largest numbers))) x) (sym same),
-      subst (λ (x : End). StopsAt new.sends new.acked (slice_get (named x (ack_ranges_of largest numbers)) some.0)) (sym same) some.2,
-    )
+ack_err largest numbers ranges o new e result same small above is h =
+    by_err (ack_ranges_of largest numbers) o new e result same (all_ranges largest numbers o new result small above (subst (λ rs. AcksRanges rs o result new) is h))

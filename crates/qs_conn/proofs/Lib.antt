@@ -37,6 +37,8 @@ pub mod Refusals
 pub mod Rests
 pub mod Runs
 pub mod AckRuns
+pub mod OneAcks
+pub mod Alones
 pub mod SendEdits
 pub mod Settling
 pub mod Unmoved

@@ -65,6 +65,10 @@ AcksNamed late ranges o result new = FallBelow PAST_NUMBERS ranges → AcksBy (n
 unfoldable pub AcksRanges : List (ℕ × ℕ) → Outgoing → Result (Unit {0}) NoMemory → Outgoing → Type 0
 AcksRanges ranges o result new = FallBelow PAST_NUMBERS ranges → AcksBy (named_out o ranges) o result new
 
+-- The pieces of packet k are acknowledged, also those that were declared lost.
+unfoldable pub AcksOnly : ℕ → Outgoing → Result (Unit {0}) NoMemory → Outgoing → Type 0
+AcksOnly k o result new = AcksBy (pieces_of false o.outstanding k ++ pieces_of true o.lost.pieces k) o result new
+
 -- the ranges name a number that the pass has not come to
 abbrev pub is_ahead : Passing → ℕ → Bool
 is_ahead p k = nat_lt k p.below && (nat_le p.low k || is_named p.unread k)

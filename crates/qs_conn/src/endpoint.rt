@@ -26,6 +26,7 @@ use std::alloc::Global;
 use std::marker::Model;
 
 mod ack_alone;
+mod alone;
 mod asking;
 mod claiming;
 mod filling;
@@ -40,6 +41,7 @@ mod raising;
 mod receiving;
 mod recording;
 mod taking;
+mod tokens;
 
 /// One end of a connection. It takes in the payloads of packets and makes packets, and its owner opens, accepts, writes,
 /// finishes, resets, reads and stops streams, and declares packets lost (RFC 9000, sections 2 to 4 and 13).

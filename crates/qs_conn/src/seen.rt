@@ -1,13 +1,18 @@
 //! What an endpoint reads of a frame.
-ghost use Rattle.std.specs.Prelude.{◌≡◌};
-ghost use Rattle.qs_wire.specs.Layout.{view};
-ghost use Rattle.qs_wire.specs.Grammar.{Fits};
+ghost use Rattle.std.specs.Prelude.{◌≡◌, ◌<◌, true, false};
+ghost use Rattle.qs_wire.specs.Layout.{view, number_of_type};
+ghost use Rattle.qs_wire.specs.Grammar.{Fits, spelled};
 ghost use Rattle.qs_machine.specs.Seen.{seen, asks_ack};
+ghost use Rattle.qs_machine.specs.Alone.{is_ours};
 ghost use Rattle.qs_conn.specs.Seen.{view_seen, SeenFits};
 
 use SeenFrame::{Ack, Close, Control, Plain, Stream};
+use qs_calls::MAX_VARINT;
 use qs_send::Item;
-use qs_wire::{Frame, StreamId};
+use qs_wire::{Dir, Frame, StreamId};
+
+/// The most streams of a direction, whose numbers have a spelling (RFC 9000, section 4.6).
+const MAX_STREAMS: u64 = 1 << 60;
 
 /// A frame by what an endpoint does with it: each frame is told apart here, and nowhere else.
 #[derive(Clone, Copy)]
@@ -96,5 +101,83 @@ pub(crate) fn asks_ack(seen: &SeenFrame<'_>) -> bool
         Ack { .. } | Close(_) => false,
         Stream { .. } | Control(_) => true,
         Plain { asks } => asks,
+    }
+}
+
+/// Whether a frame is of streams or of flow control, which an end takes in without its packet.
+pub(crate) fn is_ours(frame: &Frame<'_>) -> bool
+    ensures { result ≡ is_ours (seen (view frame.now)) }
+{
+    matches!(
+        *frame,
+        Frame::ResetStream { .. }
+            | Frame::StopSending { .. }
+            | Frame::Stream { .. }
+            | Frame::MaxData { .. }
+            | Frame::MaxStreamData { .. }
+            | Frame::MaxStreams { .. }
+            | Frame::DataBlocked { .. }
+            | Frame::StreamDataBlocked { .. }
+            | Frame::StreamsBlocked { .. }
+    )
+}
+
+/// Whether a frame of those kinds has a text: whether its numbers have a spelling (RFC 9000, sections 16, 19.8, 19.11 and 19.14).
+pub(crate) fn has_text(frame: &Frame<'_>) -> bool
+    requires { is_ours (seen (view frame.now)) ≡ true }
+    ensures yes { result ≡ true → Fits (view frame.now) }
+    ensures no { result ≡ false → Fits (view frame.now) → ⊥ }
+{
+    match *frame {
+        Frame::ResetStream {
+            stream,
+            code,
+            final_size,
+        } => { stream.value() <= MAX_VARINT && code <= MAX_VARINT && final_size <= MAX_VARINT }
+        Frame::StopSending { stream, code } => stream.value() <= MAX_VARINT && code <= MAX_VARINT,
+        Frame::Stream {
+            stream,
+            offset,
+            bytes,
+            ..
+        } => {
+            stream.value() <= MAX_VARINT
+                && offset <= MAX_VARINT
+                && bytes.len() as u64 <= MAX_VARINT - offset
+        }
+        Frame::MaxData { maximum } => maximum <= MAX_VARINT,
+        Frame::MaxStreamData { stream, maximum } => {
+            stream.value() <= MAX_VARINT && maximum <= MAX_VARINT
+        }
+        Frame::MaxStreams { count, .. } => count <= MAX_STREAMS,
+        Frame::DataBlocked { limit } => limit <= MAX_VARINT,
+        Frame::StreamDataBlocked { stream, limit } => {
+            stream.value() <= MAX_VARINT && limit <= MAX_VARINT
+        }
+        Frame::StreamsBlocked { count, .. } => count <= MAX_STREAMS,
+        _ => false,
+    }
+}
+
+/// The number of the type that the canonical text of a frame of those kinds has: a STREAM frame with its length, and with an offset
+/// above 0 (RFC 9000, section 12.4).
+pub(crate) fn type_number(frame: &Frame<'_>) -> u64
+    requires { is_ours (seen (view frame.now)) ≡ true }
+    ensures value { result ≡ number_of_type (spelled (view frame.now)).type }
+    ensures small { result < 64 }
+{
+    match *frame {
+        Frame::ResetStream { .. } => 0x04,
+        Frame::StopSending { .. } => 0x05,
+        Frame::Stream { offset, fin, .. } => 0x0a + u64::from(offset > 0) * 4 + u64::from(fin),
+        Frame::MaxData { .. } => 0x10,
+        Frame::MaxStreamData { .. } => 0x11,
+        Frame::MaxStreams { dir: Dir::Bidi, .. } => 0x12,
+        Frame::MaxStreams { dir: Dir::Uni, .. } => 0x13,
+        Frame::DataBlocked { .. } => 0x14,
+        Frame::StreamDataBlocked { .. } => 0x15,
+        Frame::StreamsBlocked { dir: Dir::Bidi, .. } => 0x16,
+        Frame::StreamsBlocked { dir: Dir::Uni, .. } => 0x17,
+        _ => 0,
     }
 }

@@ -1,11 +1,11 @@
 -- One induction over all calls of an end: each is made of a few changes, and most end as the limits move.
 use Rattle.std.proofs.Common.{◌≡◌, ℕ, ◌+◌, ◌*◌, Bool, true, false, ◌||◌, List, [], ◌∷◌, ◌++◌, length, take, drop, append-nil, Option, Some, None, is_some, refl, sym, ap, ◌∙◌, subst, inl, inr}
-use Rattle.std.specs.Prelude.{⊤, nat_lt, Result, Ok, Err, MatchBool}
+use Rattle.std.specs.Prelude.{⊤, nat_lt, nat_le, Result, Ok, Err, MatchBool}
 use Rattle.std.specs.FinSet as set
 use Rattle.std.specs.FinMap as fmap
 use Rattle.std.proofs.lemmas.Option.{none-some}
 use Rattle.std.proofs.lemmas.List.{take-append-drop}
-use Rattle.qs_wire.specs.Layout.{PlacedValue}
+use Rattle.qs_wire.specs.Layout.{FrameValue, PlacedValue}
 use Rattle.qs_wire.specs.Reading.{reading_of}
 use Rattle.qs_wire.specs.declared.fault.WireFault.{WireFault}
 use Rattle.qs_wire.specs.declared.stream_id.Dir.{Dir}
@@ -28,6 +28,12 @@ use Rattle.qs_calls.specs.declared.making.Made.{Made}
 use Rattle.qs_calls.specs.declared.making.MakeFault.{MakeFault}
 use Rattle.qs_calls.specs.declared.making.MakeFault.TheVariants as making
 use Rattle.qs_calls.specs.declared.settings.PeerLimits.{PeerLimits}
+use Rattle.qs_calls.specs.declared.token.Taken.{Taken}
+use Rattle.qs_calls.specs.declared.token.Taken.TheVariants as taken
+use Rattle.qs_calls.specs.declared.token.TakeFault.{TakeFault}
+use Rattle.qs_calls.specs.declared.token.TakeFault.TheVariants as faults
+use Rattle.qs_calls.specs.declared.token.Token.{Token}
+use Rattle.qs_calls.specs.declared.token.TokenFault.TheVariants as tokens
 use Rattle.qs_calls.specs.declared.uses.OpenFault.TheVariants as opening
 use Rattle.qs_calls.specs.declared.uses.UseFault.{UseFault}
 use Rattle.qs_calls.specs.declared.uses.UseFault.TheVariants as uses
@@ -35,7 +41,7 @@ use Rattle.qs_machine.specs.Due.{known_count}
 use Rattle.qs_machine.specs.Ends.{End, send_lane, recv_lane, on_send, on_recv, opens, closes}
 use Rattle.qs_machine.specs.Credit.{settle}
 use Rattle.qs_machine.specs.Seen.{Seen, Ack, Close, seen, seen_all, asks_ack}
-use Rattle.qs_machine.specs.Verdicts.{verdict}
+use Rattle.qs_machine.specs.Verdicts.{verdict, fault_if, PROTOCOL_VIOLATION}
 use Rattle.qs_machine.specs.FrameStep.{frame_taken, acks, named}
 use Rattle.qs_machine.specs.Recording.{recorded}
 use Rattle.qs_machine.specs.Lawful.{MayPut, Fills, frame_put}
@@ -43,8 +49,9 @@ use Rattle.qs_machine.specs.Owner.{OpenStep, AcceptStep, AcceptOfStep, ReadBy, w
 use Rattle.qs_machine.specs.Receiving.{ClosedReceive, AtEnd, RunsOut, Stops, GoesOn, Takes, ReceiveBy, TakesPayload, OpenReceive}
 use Rattle.qs_machine.specs.Making.{MakeAt, MakeAckAt, make_refusal, claim_refusal, LoseStep, lose_refusal, first_lost, losses}
 use Rattle.qs_machine.specs.Filling.{FillAt}
+use Rattle.qs_machine.specs.Alone.{is_ours, TakesOne, OpenTake, TakeBy, TakesEach, TakeAllBy, token_refusal, only, TokenAckedStep, TokenLostStep}
 use Rattle.qs_machine.specs.Raising.{limits_raised, raise_refusal}
-use Rattle.qs_machine.specs.EndStep.{Call, Answer, EndStep, Open, Accept, AcceptOf, Write, Finish, Reset, Stop, ReadUpTo, Receive, Make, MakeAck, FillIn, Lose, Claim, RaiseLimits}
+use Rattle.qs_machine.specs.EndStep.{Call, Answer, EndStep, Open, Accept, AcceptOf, Write, Finish, Reset, Stop, ReadUpTo, Receive, TakeFrame, TakeFrames, TokenAcked, TokenLost, Make, MakeAck, FillIn, Lose, Claim, RaiseLimits}
 use Rattle.qs_machine.proofs.Choices.{by_refusal, by_test, if_allowed}
 
 -- a change of an end
@@ -90,9 +97,11 @@ changed (Numbered next) e = record e { next = next }
 changed (Lost k p) e = first_lost k p e
 changed Settled e = settle e
 
--- only a payload that comes closes an end, and only limits that rise move those that its peer began with
+-- only a payload or a frame that comes closes an end, and only limits that rise move those that its peer began with
 abbrev pub MovesStanding : Call → Type 0
 MovesStanding (Receive k payload) = ⊤
+MovesStanding (TakeFrame f) = ⊤
+MovesStanding (TakeFrames fs) = ⊤
 MovesStanding (RaiseLimits p) = ⊤
 MovesStanding call = ⊥
 
@@ -129,6 +138,16 @@ stops_by P p f e (Ok received) new stops shut out = absurd stops
 pub no_fault_there : (e : End) (f : Seen) → GoesOn e f → verdict e f ≡ None
 no_fault_there e (Close code) goes = absurd goes
 no_fault_there e f goes = goes
+
+-- an ACK of a packet whose token was given is no fault
+given_is_no_fault : (e : End) (t : Token) → token_refusal e t ≡ None → verdict e (only t.number) ≡ None
+unfolding verdict
+given_is_no_fault e t allowed = go (is_some e.closed) (nat_le e.next t.number) allowed
+  where
+    go : (closed later : Bool) → first_refusal (refuse_if closed tokens.Closed) (refuse_if later tokens.NotGiven) ≡ None → fault_if later PROTOCOL_VIOLATION ≡ None
+    go true later h = absurd (none-some _ (sym h))
+    go false true h = absurd (none-some _ (sym h))
+    go false false h = refl
 
 -- what comes of a payload at an end that is open: it isn't taken and changes nothing, or it is taken
 pub by_open : (P : Type 0) (number : ℕ) (payload : List ℕ) (old : End) (result : Result Received Closing) (new : End) → OpenReceive number payload old result new
@@ -176,6 +195,11 @@ module _ (old : End) (call : Call) (Q P : End → Type 0) (c : Cases old call Q 
   edited : (one : Change) (new : End) → Comes old call old one → new ≡ settle (changed one old) → P new
   edited one new comes is = settled (changed one old) new is (c.goes one old comes c.begins)
 
+  -- no memory was found: of an ACK some of the pieces are acknowledged
+  runs_out : (f : Seen) (e new : End) → Q e → RunsOut e f new → Q new
+  runs_out (Ack largest ranges) e new h (count, is, asks) = becomes _ new is (c.goes (Acked count ranges) e tt h)
+  runs_out f e new h out = becomes e new out.0 h
+
   -- Payloads
 
   module _ (comes : MovesStanding call) where
@@ -184,10 +208,6 @@ module _ (old : End) (call : Call) (Q P : End → Type 0) (c : Cases old call Q 
     at_end number asks None e (Ok received.NoMemory) new h out = becomes e new out.0 h
     at_end number asks (Some fault) e (Err closing) new h ends = becomes _ new ends.1 (c.goes (Shut (ByUs closing)) e comes h)
     at_end number asks fault e result new h none = absurd none
-
-    runs_out : (f : Seen) (e new : End) → Q e → RunsOut e f new → Q new
-    runs_out (Ack largest ranges) e new h (count, is, asks) = becomes _ new is (c.goes (Acked count ranges) e tt h)
-    runs_out f e new h out = becomes e new out.0 h
 
     stops : (p : PlacedValue) (f : Seen) (e : End) (result : Result Received Closing) (new : End) → Q e → Stops p f e result new → Q new
     stops p f e result new h ends = stops_by (Q new) p f e result new ends (λ closed is fault. becomes _ new is (c.goes (Shut closed) e comes h)) (λ is out. runs_out f e new h out)
@@ -203,6 +223,35 @@ module _ (old : End) (call : Call) (Q P : End → Type 0) (c : Cases old call Q 
     receive_by None number payload result new step =
         by_open (P new) number payload old result new step (λ low is. same new is) (λ again is. same new is)
         (λ high mid taken is. settled mid new is (takes number (reading_of payload).fault false old (reading_of payload).left result mid c.begins taken))
+
+  -- Frames
+
+  module _ (comes : MovesStanding call) where
+    takes_one : (f : FrameValue) (e : End) (answer : Result Taken TakeFault) (new : End) → Q e → TakesOne e f answer new → Q new
+    takes_one f e (Ok taken.Took) new h took = becomes _ new took.1 (c.goes (Took (seen f)) e took.0.1 h)
+    takes_one f e (Ok taken.NotOurs) new h took = absurd took
+    takes_one f e (Err faults.NoMemory) new h took = runs_out (seen f) e new h took.1
+    takes_one f e (Err (faults.Closing closing)) new h took = becomes _ new took.2 (c.goes (Shut (ByUs closing)) e comes h)
+    takes_one f e (Err (faults.PeerClosed code)) new h took = absurd took
+
+    take_by : (o : Option Closed) (f : FrameValue) (answer : Result Taken TakeFault) (new : End) → TakeBy o f old answer new → P new
+    take_by (Some closed) f answer new step = same new step.1
+    take_by None f answer new step =
+        by_test (P new) (is_ours (seen f)) _ _ step (λ (mid, took, after). settled mid new after (takes_one f old answer mid c.begins took)) (λ passed. same new passed.1)
+
+    takes_each : (fs : List FrameValue) (e : End) (answer : Result Taken TakeFault) (new : End) → Q e → TakesEach fs e answer new → Q new
+    takes_each [] e answer new h none = becomes e new none.1 h
+    takes_each (f ∷ fs) e answer new h took =
+        by_test (Q new) (is_ours (seen f)) _ _ took (λ ours.
+        elim ours [
+          | inl (mid, later, one, more, is) ↦ takes_each fs mid later new (takes_one f e (Ok taken.Took) mid h one) more
+          | inr (fault, one, is) ↦ takes_one f e (Err fault) new h one
+        ])
+        (λ passed. takes_each fs e answer new h passed)
+
+    take_all_by : (o : Option Closed) (fs : List FrameValue) (answer : Result Taken TakeFault) (new : End) → TakeAllBy o fs old answer new → P new
+    take_all_by (Some closed) fs answer new step = same new step.1
+    take_all_by None fs answer new (mid, took, after) = settled mid new after (takes_each fs old answer mid c.begins took)
 
   -- Packets
 
@@ -246,6 +295,19 @@ module _ (old : End) (call : Call) (Q P : End → Type 0) (c : Cases old call Q 
         | inl (done, after) ↦ subst P (sym after) (loses k ps [] old (is ∙ ap Some (sym (append-nil ps))) c.stays)
         | inr (moved, few, none, after) ↦ subst P (sym after) (loses k (take moved ps) (drop moved ps) old (is ∙ ap Some (sym (take-append-drop moved ps))) c.stays)
       ])
+
+  -- Tokens
+
+  acked_by : (t : Token) (answer : Answer (TokenAcked t)) (new : End) → TokenAckedStep old t answer new → P new
+  acked_by t answer new step =
+      if_allowed (P new) (token_refusal old t) old answer new _ step (same new) (λ allowed told.
+      elim told [
+        | inl done ↦ edited (Took (only t.number)) new (given_is_no_fault old t allowed) done.1
+        | inr (none, mid, out, after) ↦ settled mid new after (runs_out (only t.number) old mid c.begins out)
+      ])
+
+  lost_by : (t : Token) (answer : Answer (TokenLost t)) (new : End) → TokenLostStep old t answer new → P new
+  lost_by t answer new step = by_refusal (P new) (token_refusal old t) old answer new _ step (same new) (λ (declared, lost, is). lose_by t.number declared new lost)
 
   -- The owner's calls
 
@@ -303,6 +365,10 @@ each_call old (Reset n code) Q P c answer new step = use_by old (Reset n code) Q
 each_call old (Stop n code) Q P c answer new step = use_by old (Stop n code) Q P c _ (recv_refusal old n) (Stopped n code) answer new tt step
 each_call old (ReadUpTo n size) Q P c answer new step = read_by old (ReadUpTo n size) Q P c (recv_refusal old n) n size answer.0 answer.1 new step
 each_call old (Receive k payload) Q P c answer new step = receive_by old (Receive k payload) Q P c tt old.closed k payload answer new step
+each_call old (TakeFrame f) Q P c answer new step = take_by old (TakeFrame f) Q P c tt old.closed f answer new step
+each_call old (TakeFrames fs) Q P c answer new step = take_all_by old (TakeFrames fs) Q P c tt old.closed fs answer new step
+each_call old (TokenAcked t) Q P c answer new step = acked_by old (TokenAcked t) Q P c t answer new step
+each_call old (TokenLost t) Q P c answer new step = lost_by old (TokenLost t) Q P c t answer new step
 each_call old (Make first delay room) Q P c answer new step = make_by old (Make first delay room) Q P c (make_refusal old) first delay room answer.0 answer.1 new step
 each_call old (MakeAck delay room) Q P c answer new step = ack_by old (MakeAck delay room) Q P c (make_refusal old) delay room answer.0 answer.1 new step
 each_call old (FillIn want room) Q P c answer new step = fill_by old (FillIn want room) Q P c (make_refusal old) want room answer.0 answer.1 new step

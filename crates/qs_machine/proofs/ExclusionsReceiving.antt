@@ -45,7 +45,7 @@ codes : CodesAreThese
 unfolding verdict frame_taken lookup update open_to total
 codes = record { flow_control = rw end_of-empty refl; stream_limit = refl; stream_state = refl; final_size = refl; unused = refl }
 
-past_limit : verdict ten (Stream 0 0 (letters 11) false) ≡ Some 0x03
+pub past_limit : verdict ten (Stream 0 0 (letters 11) false) ≡ Some 0x03
 past_limit = codes.flow_control
 
 stops : NoSuchStop

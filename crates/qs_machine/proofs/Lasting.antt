@@ -2,6 +2,7 @@
 use Rattle.std.proofs.Common.{◌≡◌, ℕ, ◌+◌, Bool, true, false, List, Option, Some, None, is_some, sym, ap, ◌∙◌}
 use Rattle.std.specs.Prelude.{Result, MatchBool}
 use Rattle.std.proofs.lemmas.Bool.{false≢true}
+use Rattle.qs_wire.specs.Layout.{FrameValue}
 use Rattle.qs_calls.specs.declared.closing.Closing.{Closing}
 use Rattle.qs_calls.specs.declared.closing.Closed.{Closed}
 use Rattle.qs_calls.specs.declared.closing.Closed.TheVariants.{ByUs, ByPeer}
@@ -10,15 +11,19 @@ use Rattle.qs_calls.specs.declared.filling.Fill.{Fill}
 use Rattle.qs_calls.specs.declared.making.MakeFault.{MakeFault}
 use Rattle.qs_calls.specs.declared.making.MakeFault.TheVariants as making
 use Rattle.qs_calls.specs.declared.making.LostFault.TheVariants as losing
+use Rattle.qs_calls.specs.declared.token.Taken.{Taken}
+use Rattle.qs_calls.specs.declared.token.TakeFault.{TakeFault}
+use Rattle.qs_calls.specs.declared.token.TokenFault.TheVariants as tokens
 use Rattle.qs_calls.specs.declared.uses.OpenFault.TheVariants as opening
 use Rattle.qs_calls.specs.declared.uses.UseFault.{UseFault}
 use Rattle.qs_calls.specs.declared.uses.UseFault.TheVariants as uses
 use Rattle.qs_machine.specs.Ends.{End}
 use Rattle.qs_machine.specs.Owner.{Certain, first_refusal, refuse_if, ReadBy, GivesNone}
 use Rattle.qs_machine.specs.Receiving.{ReceiveBy}
+use Rattle.qs_machine.specs.Alone.{TakeBy, TakeAllBy}
 use Rattle.qs_machine.specs.Making.{MakeAt, ClaimStep, claim_refusal, MakeAckAt}
 use Rattle.qs_machine.specs.Filling.{FillAt}
-use Rattle.qs_machine.specs.EndStep.{Call, Answer, EndStep, Open, Accept, AcceptOf, Write, Finish, Reset, Stop, ReadUpTo, Receive, Make, Lose, RaiseLimits, Claim, MakeAck, FillIn}
+use Rattle.qs_machine.specs.EndStep.{Call, Answer, EndStep, Open, Accept, AcceptOf, Write, Finish, Reset, Stop, ReadUpTo, Receive, TakeFrame, TakeFrames, TokenAcked, TokenLost, Make, Lose, RaiseLimits, Claim, MakeAck, FillIn}
 use Rattle.qs_machine.specs.Laws.{StaysButNumber}
 use Rattle.qs_machine.proofs.Choices.{by_refusal}
 use Rattle.qs_calls.specs.declared.settings.RaiseFault.TheVariants as raising
@@ -61,6 +66,14 @@ receive_again None number payload old result new is h = absurd (false≢true is)
 receive_again (Some (ByUs closing)) number payload old result new is h = h.1
 receive_again (Some (ByPeer code)) number payload old result new is h = h.1
 
+take_again : (c : Option Closed) (f : FrameValue) (old : End) (answer : Result Taken TakeFault) (new : End) → is_some c ≡ true → TakeBy c f old answer new → new ≡ old
+take_again None f old answer new is h = absurd (false≢true is)
+take_again (Some closed) f old answer new is h = h.1
+
+take_all_again : (c : Option Closed) (fs : List FrameValue) (old : End) (answer : Result Taken TakeFault) (new : End) → is_some c ≡ true → TakeAllBy c fs old answer new → new ≡ old
+take_all_again None fs old answer new is h = absurd (false≢true is)
+take_all_again (Some closed) fs old answer new is h = h.1
+
 -- a number that was claimed
 but_number : (old new : End) (n : ℕ) → new ≡ record old { next = n } → new ≡ record old { next = new.next }
 but_number old new n same = same ∙ ap (λ (e : End). record old { next = e.next }) (sym same)
@@ -79,6 +92,10 @@ closed_stays old (Reset n code) answer new is h = refused_first (is_some old.clo
 closed_stays old (Stop n code) answer new is h = refused_first (is_some old.closed) uses.Closed _ old answer new _ is h
 closed_stays old (ReadUpTo n size) answer new is h = read_refused (is_some old.closed) _ old n size answer new is h
 closed_stays old (Receive k payload) answer new is h = receive_again old.closed k payload old answer new is h
+closed_stays old (TakeFrame f) answer new is h = take_again old.closed f old answer new is h
+closed_stays old (TakeFrames fs) answer new is h = take_all_again old.closed fs old answer new is h
+closed_stays old (TokenAcked t) answer new is h = refused_first (is_some old.closed) tokens.Closed _ old answer new _ is h
+closed_stays old (TokenLost t) answer new is h = refused_first (is_some old.closed) tokens.Closed _ old answer new _ is h
 closed_stays old (Make first delay room) answer new is h = make_refused (is_some old.closed) _ old first delay room answer new is h
 closed_stays old (MakeAck delay room) answer new is h = ack_refused (is_some old.closed) _ old delay room answer new is h
 closed_stays old (FillIn want room) answer new is h = fill_refused (is_some old.closed) _ old want room answer new is h

@@ -41,10 +41,12 @@ pub mod ExclusionsInOrder
 pub mod ExclusionsMemory
 pub mod ExclusionsReceiving
 pub mod ExclusionsOwner
+pub mod ExclusionsAlone
 pub mod ExclusionsNews
 pub mod ExclusionsAsking
 pub mod SettledLimits
 pub mod OffsetParts
 pub mod Claims
+pub mod Ways
 pub mod AckPackets
 pub mod Plains

@@ -2,6 +2,7 @@
 -- The calls of an end, and what each may answer and leave. Of RFC 9000, for the whole file: section 2.4, on what is done with streams,
 -- and section 13, on packets that come, are made and are lost.
 use Rattle.std.specs.Prelude.{◌≡◌, ℕ, List, Option, Result}
+use Rattle.qs_wire.specs.Layout.{FrameValue}
 use Rattle.qs_wire.specs.declared.stream_id.Dir.{Dir}
 use Rattle.qs_recv.specs.declared.half.Read.{Read}
 use Rattle.qs_calls.specs.declared.closing.Closing.{Closing}
@@ -14,6 +15,10 @@ use Rattle.qs_calls.specs.declared.making.LostFault.{LostFault}
 use Rattle.qs_calls.specs.declared.report.LaneReport.{LaneReport}
 use Rattle.qs_calls.specs.declared.settings.PeerLimits.{PeerLimits}
 use Rattle.qs_calls.specs.declared.settings.RaiseFault.{RaiseFault}
+use Rattle.qs_calls.specs.declared.token.Taken.{Taken}
+use Rattle.qs_calls.specs.declared.token.TakeFault.{TakeFault}
+use Rattle.qs_calls.specs.declared.token.Token.{Token}
+use Rattle.qs_calls.specs.declared.token.TokenFault.{TokenFault}
 use Rattle.qs_calls.specs.declared.uses.OpenFault.{OpenFault}
 use Rattle.qs_calls.specs.declared.uses.UseFault.{UseFault}
 use Rattle.qs_machine.specs.Ends.{End}
@@ -22,6 +27,7 @@ use Rattle.qs_machine.specs.Owner.{OpenStep, AcceptStep, AcceptOfStep, WriteStep
 use Rattle.qs_machine.specs.Receiving.{ReceiveStep}
 use Rattle.qs_machine.specs.Making.{MakeStep, ClaimStep, LoseStep, ClosePayload, MakeAckStep}
 use Rattle.qs_machine.specs.Filling.{FillStep}
+use Rattle.qs_machine.specs.Alone.{TakeFrameStep, TakeFramesStep, TokenAckedStep, TokenLostStep}
 use Rattle.qs_machine.specs.Reports.{lane_report}
 use Rattle.qs_machine.specs.Raising.{RaiseStep}
 
@@ -36,6 +42,10 @@ pub data Call : Type 0 where
   Stop : (stream code : ℕ) → Call
   ReadUpTo : (stream size : ℕ) → Call
   Receive : (number : ℕ) (payload : List ℕ) → Call
+  TakeFrame : (frame : FrameValue) → Call
+  TakeFrames : (frames : List FrameValue) → Call
+  TokenAcked : (token : Token) → Call
+  TokenLost : (token : Token) → Call
   Make : (first delay room : ℕ) → Call
   MakeAck : (delay room : ℕ) → Call
   FillIn : (want : Fill) (room : ℕ) → Call
@@ -60,6 +70,10 @@ Answer (Reset n code) = Result (Unit {0}) UseFault
 Answer (Stop n code) = Result (Unit {0}) UseFault
 Answer (ReadUpTo n size) = Result Read UseFault × List ℕ
 Answer (Receive k payload) = Result Received Closing
+Answer (TakeFrame f) = Result Taken TakeFault
+Answer (TakeFrames fs) = Result Taken TakeFault
+Answer (TokenAcked t) = Result (Unit {0}) TokenFault
+Answer (TokenLost t) = Result (Unit {0}) TokenFault
 Answer (Make first delay room) = Result (Option Made) MakeFault × List ℕ
 Answer (MakeAck delay room) = Result (Option Made) MakeFault × List ℕ
 Answer (FillIn want room) = Result (Option Filled) MakeFault × List ℕ
@@ -84,6 +98,10 @@ EndStep old (Reset n code) answer new = ResetStep old n code answer new
 EndStep old (Stop n code) answer new = StopStep old n code answer new
 EndStep old (ReadUpTo n size) answer new = ReadStep old n size answer.0 answer.1 new
 EndStep old (Receive k payload) answer new = ReceiveStep old k payload answer new
+EndStep old (TakeFrame f) answer new = TakeFrameStep old f answer new
+EndStep old (TakeFrames fs) answer new = TakeFramesStep old fs answer new
+EndStep old (TokenAcked t) answer new = TokenAckedStep old t answer new
+EndStep old (TokenLost t) answer new = TokenLostStep old t answer new
 EndStep old (Make first delay room) answer new = MakeStep old first delay room answer.0 answer.1 new
 EndStep old (MakeAck delay room) answer new = MakeAckStep old delay room answer.0 answer.1 new
 EndStep old (FillIn want room) answer new = FillStep old want room answer.0 answer.1 new

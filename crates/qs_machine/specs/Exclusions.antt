@@ -7,6 +7,7 @@ use Rattle.qs_machine.specs.ExclusionsInOrder.{NothingIsStarved}
 use Rattle.qs_machine.specs.ExclusionsReceiving.{NotReceived}
 use Rattle.qs_machine.specs.ExclusionsMemory.{NotRefused}
 use Rattle.qs_machine.specs.ExclusionsOwner.{NotOwned}
+use Rattle.qs_machine.specs.ExclusionsAlone.{NotAlone}
 use Rattle.qs_machine.specs.ExclusionsNews.{NotFound}
 use Rattle.qs_machine.specs.ExclusionsAsking.{NotAsked}
 
@@ -17,6 +18,7 @@ pub record Exclusions : Type 0 where
   pub order : NothingIsStarved
   pub receiving : NotReceived
   pub owner : NotOwned
+  pub alone : NotAlone
   pub memory : NotRefused
   pub news : NotFound
   pub asking : NotAsked

@@ -13,6 +13,7 @@ pub mod Owner
 pub mod Receiving
 pub mod Making
 pub mod Filling
+pub mod Alone
 pub mod InOrder
 pub mod Reports
 pub mod News
@@ -27,6 +28,7 @@ pub mod Examples
 pub mod EndCodes
 pub mod Outgoing
 pub mod Repeats
+pub mod Ways
 pub mod Sums
 pub mod Told
 pub mod SmallEnds
@@ -37,6 +39,7 @@ pub mod ExclusionsInOrder
 pub mod ExclusionsMemory
 pub mod ExclusionsReceiving
 pub mod ExclusionsOwner
+pub mod ExclusionsAlone
 pub mod ExclusionsNews
 pub mod ExclusionsAsking
 pub mod Exclusions

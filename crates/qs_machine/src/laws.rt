@@ -2,6 +2,7 @@
 
 ghost use Rattle.qs_machine.specs.Laws.{NewEndsAreSound, CallsKeepEndsSound, StoredBytesWereGranted, EndedIsLastState, NewEndsSettleCounts, CallsSettleCounts, CountsNeverFall, LimitsNeverFall, ClosedEndsStay, AnAckIsAPacket, AFillIsAPacket, ClaimedNumbersAreKnown, PayloadsAreTakenInOrder, EffectsRepeat, PayloadsRepeat, ProcessedPayloadsRepeat, NewEndsSentNothing, CallsSendWhatWasWritten};
 ghost use Rattle.qs_machine.specs.Plains.{PlainFramesTellNothing};
+ghost use Rattle.qs_machine.specs.Ways.{APayloadIsItsFrames, APayloadIsTakeFrames, AFrameIsItsPayload};
 ghost use Rattle.qs_machine.specs.SettledLimits.{NewEndsSettleLimits, CallsSettleLimits};
 ghost use Rattle.qs_machine.specs.OffsetParts.{OffsetsAreInOnePart};
 ghost use Rattle.qs_machine.specs.Examples.{Examples};
@@ -116,4 +117,12 @@ pub fn examples()
 /// Steps of small connections that the definitions exclude, clause by clause.
 pub fn exclusions()
     ensures { Exclusions }
+{}
+
+/// A payload that is processed is its frames, which take effect one after the other, and then its number; where it has no ACK it is
+/// `take_frames` of them, and of a single frame `take_frame`.
+pub fn payloads_are_their_frames()
+    ensures effects { APayloadIsItsFrames }
+    ensures several { APayloadIsTakeFrames }
+    ensures one { AFrameIsItsPayload }
 {}

@@ -94,7 +94,7 @@ impl<'a> Frame<'a> {
         }
     }
 
-    pub(super) fn inner(&self) -> wire::Frame<'a> {
+    pub(crate) fn inner(&self) -> wire::Frame<'a> {
         match *self {
             Frame::Padding => wire::Frame::Padding,
             Frame::Ping => wire::Frame::Ping,

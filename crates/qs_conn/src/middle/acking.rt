@@ -7,7 +7,7 @@ ghost use Rattle.qs_machine.specs.Memory.{PieceMayRunOut};
 ghost use Rattle.qs_machine.specs.Outgoing.{first_piece, first_acked_out, acked_at};
 ghost use Rattle.qs_conn.specs.Middle.{IsAtRest, KeepsStreams};
 ghost use Rattle.qs_conn.specs.Ended.{half_of};
-ghost use Rattle.qs_conn.specs.Runs.{AcksAhead, AcksNamed, AcksPacket, AcksRanges, held_out};
+ghost use Rattle.qs_conn.specs.Runs.{AcksAhead, AcksNamed, AcksOnly, AcksPacket, AcksRanges, held_out};
 
 use super::Core;
 use crate::outbox::KeptPacket;
@@ -28,6 +28,33 @@ impl Core {
     {
         self.ack_all(false, AckRanges::new(largest, ranges))?;
         self.ack_all(true, AckRanges::new(largest, ranges))
+    }
+
+    /// One packet is acknowledged, be it outstanding or declared lost (RFC 9000, section 13.3).
+    pub(crate) fn ack_only(&mut self, number: u64) -> Result<(), NoMemory>
+        requires rest { IsAtRest self.old }
+        ensures rest { IsAtRest self.new }
+        ensures streams { KeepsStreams self.old self.new }
+        ensures step { AcksOnly number self.old.outbox result self.new.outbox }
+    {
+        let result = self.ack_kept(number);
+        self.outbox.trim();
+        result
+    }
+
+    // The pieces of a packet are acknowledged, those that are outstanding and those that were declared lost.
+    #[tactic(auto, using(crate::proofs::OneAcks::both_stops, crate::proofs::OneAcks::both_done))]
+    fn ack_kept(&mut self, number: u64) -> Result<(), NoMemory>
+        requires rest { IsAtRest self.old }
+        ensures rest { IsAtRest self.new }
+        ensures streams { KeepsStreams self.old self.new }
+        ensures step { AcksOnly number self.old.outbox result self.new.outbox }
+    {
+        self.ack_packet(KeptPacket {
+            late: false,
+            number,
+        })?;
+        self.ack_packet(KeptPacket { late: true, number })
     }
 
     // The packets that the ranges name are acknowledged in one pass, the outstanding ones or the lost ones.

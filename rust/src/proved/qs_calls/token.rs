@@ -13,11 +13,8 @@ pub struct Token {
 /// What came of a frame that was handed in, or of several.
 #[derive(Clone, Copy, Debug, PartialEq, Eq)]
 pub enum Taken {
-    /// It took effect, and something changed.
+    /// It took effect.
     Took,
-    /// It took effect, and nothing changed by it: it came before, or holds nothing, or raises nothing. A stack may count those against a
-    /// peer that only makes work (RFC 9000, section 21.9).
-    Unchanged,
     /// It is of a kind that is the stack's own affair, and changed nothing.
     NotOurs,
 }

@@ -17,6 +17,7 @@ use crate::proved::qs_wire::{Dir, Frame, Role, StreamId, put};
 use crate::shim::alloc::Global;
 
 mod ack_alone;
+mod alone;
 mod asking;
 mod claiming;
 mod filling;
@@ -31,6 +32,7 @@ mod raising;
 mod receiving;
 mod recording;
 mod taking;
+mod tokens;
 
 /// One end of a connection. It takes in the payloads of packets and makes packets, and its owner opens, accepts, writes,
 /// finishes, resets, reads and stops streams, and declares packets lost (RFC 9000, sections 2 to 4 and 13).

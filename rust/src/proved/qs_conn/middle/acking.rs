@@ -16,6 +16,22 @@ impl Core {
         self.ack_all(true, AckRanges::new(largest, ranges))
     }
 
+    /// One packet is acknowledged, be it outstanding or declared lost (RFC 9000, section 13.3).
+    pub(crate) fn ack_only(&mut self, number: u64) -> Result<(), NoMemory> {
+        let result = self.ack_kept(number);
+        self.outbox.trim();
+        result
+    }
+
+    // The pieces of a packet are acknowledged, those that are outstanding and those that were declared lost.
+    fn ack_kept(&mut self, number: u64) -> Result<(), NoMemory> {
+        self.ack_packet(KeptPacket {
+            late: false,
+            number,
+        })?;
+        self.ack_packet(KeptPacket { late: true, number })
+    }
+
     // The packets that the ranges name are acknowledged in one pass, the outstanding ones or the lost ones.
     fn ack_all(&mut self, late: bool, ranges: AckRanges<'_>) -> Result<(), NoMemory> {
         let mut pass = AckPass::new(ranges);

@@ -1,0 +1,112 @@
+-- Frames that are taken in without their packet, and packets that are told by their tokens.
+use Rattle.std.proofs.Common.{◌≡◌, ℕ, Bool, true, false, List, [], ◌∷◌, Option, None, Some, Result, Ok, Err, refl, sym, ap, ◌∙◌, subst, inl, inr}
+use Rattle.std.specs.Prelude.{MatchBool, option_map}
+use Rattle.std.proofs.lemmas.Option.{same_Some, none-some}
+use Rattle.qs_wire.specs.Layout.{FrameValue}
+use Rattle.qs_calls.specs.declared.closing.Closed.{Closed}
+use Rattle.qs_calls.specs.declared.making.LostFault.{LostFault}
+use Rattle.qs_calls.specs.declared.token.Token.{Token}
+use Rattle.qs_calls.specs.declared.token.Taken.{Taken}
+use Rattle.qs_calls.specs.declared.token.Taken.TheVariants.{Took, NotOurs}
+use Rattle.qs_calls.specs.declared.token.TakeFault.{TakeFault}
+use Rattle.qs_calls.specs.declared.token.TokenFault.{TokenFault}
+use Rattle.qs_calls.specs.declared.token.TokenFault.TheVariants as tokens
+use Rattle.qs_machine.specs.Ends.{End}
+use Rattle.qs_machine.specs.Credit.{settle}
+use Rattle.qs_machine.specs.Seen.{seen}
+use Rattle.qs_machine.specs.FrameStep.{frame_taken}
+use Rattle.qs_machine.specs.Receiving.{RunsOut}
+use Rattle.qs_machine.specs.Making.{LoseStep}
+use Rattle.qs_machine.specs.Alone.{is_ours, only, after_one, closed_fault, token_refusal, lost_answer, TakesOne, TakesEach, TakeBy, TakeAllBy, OpenTake, TakeFrameStep, TakeFramesStep, TokenAckedStep, TokenLostStep}
+
+-- Tokens
+
+pub acked_refused : (e : End) (t : Token) (fault : TokenFault) → Some fault ≡ token_refusal e t → TokenAckedStep e t (Err fault) e
+acked_refused e t fault is = rw (← is) (refl, refl)
+
+pub lost_refused : (e : End) (t : Token) (fault : TokenFault) → Some fault ≡ token_refusal e t → TokenLostStep e t (Err fault) e
+lost_refused e t fault is = rw (← is) (refl, refl)
+
+pub acked_all : (old mid new : End) (t : Token) → None ≡ token_refusal old t → mid ≡ frame_taken (only t.number) old → new ≡ settle mid → TokenAckedStep old t (Ok tt) new
+acked_all old mid new t is took after = rw (← is) (inl (refl, after ∙ ap settle took))
+
+pub acked_some : (old mid new : End) (t : Token) → None ≡ token_refusal old t → RunsOut old (only t.number) mid → new ≡ settle mid → TokenAckedStep old t (Err tokens.NoMemory) new
+acked_some old mid new t is out after = rw (← is) (inr (refl, mid, out, after))
+
+pub lost_told : (old new : End) (t : Token) (declared : Result (Unit {0}) LostFault) (answer : Result (Unit {0}) TokenFault) → None ≡ token_refusal old t → LoseStep old t.number declared new → answer ≡ lost_answer declared
+    → TokenLostStep old t answer new
+lost_told old new t declared answer is lose told = rw (← is) (declared, lose, told)
+
+-- Frames
+
+open_take : (old new : End) (f : FrameValue) (answer : Result Taken TakeFault) → None ≡ option_map closed_fault old.closed → OpenTake f old answer new → TakeFrameStep old f answer new
+open_take old new f answer is step = go old.closed is
+  where
+    go : (c : Option Closed) → None ≡ option_map closed_fault c → TakeBy c f old answer new
+    go None at = step
+    go (Some c) at = absurd (none-some _ at)
+
+pub said_again : (old : End) (f : FrameValue) (fault : TakeFault) → Some fault ≡ option_map closed_fault old.closed → TakeFrameStep old f (Err fault) old
+said_again old f fault is = go old.closed is
+  where
+    go : (c : Option Closed) → Some fault ≡ option_map closed_fault c → TakeBy c f old (Err fault) old
+    go None at = absurd (none-some _ (sym at))
+    go (Some c) at = (ap Err (same_Some fault (closed_fault c) at), refl)
+
+pub passed_by : (old : End) (f : FrameValue) → None ≡ option_map closed_fault old.closed → is_ours (seen f) ≡ false → TakeFrameStep old f (Ok NotOurs) old
+passed_by old f is other = open_take old old f (Ok NotOurs) is (rw other (refl, refl))
+
+pub is_taken : (old mid new : End) (f : FrameValue) (answer : Result Taken TakeFault) → None ≡ option_map closed_fault old.closed → is_ours (seen f) ≡ true → TakesOne old f answer mid → new ≡ settle mid → TakeFrameStep old f answer new
+is_taken old mid new f answer is ours took after = open_take old new f answer is (rw ours (mid, took, after))
+
+pub all_said_again : (old : End) (fs : List FrameValue) (fault : TakeFault) → Some fault ≡ option_map closed_fault old.closed → TakeFramesStep old fs (Err fault) old
+all_said_again old fs fault is = go old.closed is
+  where
+    go : (c : Option Closed) → Some fault ≡ option_map closed_fault c → TakeAllBy c fs old (Err fault) old
+    go None at = absurd (none-some _ (sym at))
+    go (Some c) at = (ap Err (same_Some fault (closed_fault c) at), refl)
+
+pub are_taken : (old mid new : End) (fs : List FrameValue) (answer : Result Taken TakeFault) → None ≡ option_map closed_fault old.closed → TakesEach fs old answer mid → new ≡ settle mid → TakeFramesStep old fs answer new
+are_taken old mid new fs answer is took after = go old.closed is
+  where
+    go : (c : Option Closed) → None ≡ option_map closed_fault c → TakeAllBy c fs old answer new
+    go None at = (mid, took, after)
+    go (Some c) at = absurd (none-some _ at)
+
+-- Frames so far, and those that are left
+
+-- what came of all, where this came of those so far
+abbrev pub so_far : Taken → Result Taken TakeFault → Result Taken TakeFault
+so_far Took later = after_one later
+so_far NotOurs later = later
+
+pub one_more : (before : Taken) (f : FrameValue) (fs : List FrameValue) (e mid new : End) (answer : Result Taken TakeFault) (P : Result Taken TakeFault → End → Type 0) → is_ours (seen f) ≡ true → TakesOne e f (Ok Took) mid
+    → ((later : Result Taken TakeFault) (last : End) → TakesEach (f ∷ fs) e later last → P (so_far before later) last) → TakesEach fs mid answer new → P (so_far Took answer) new
+one_more before f fs e mid new answer P ours took onward rest =
+    subst (λ r. P r new) (twice before answer) (onward (after_one answer) new (rw ours (inl (mid, answer, took, rest, refl))))
+  where
+    twice : (t : Taken) (r : Result Taken TakeFault) → so_far t (after_one r) ≡ after_one r
+    twice Took (Ok later) = refl
+    twice Took (Err fault) = refl
+    twice NotOurs r = refl
+
+pub one_passed : (before : Taken) (f : FrameValue) (fs : List FrameValue) (e new : End) (answer : Result Taken TakeFault) (P : Result Taken TakeFault → End → Type 0) → is_ours (seen f) ≡ false
+    → ((later : Result Taken TakeFault) (last : End) → TakesEach (f ∷ fs) e later last → P (so_far before later) last) → TakesEach fs e answer new → P (so_far before answer) new
+one_passed before f fs e new answer P other onward rest = onward answer new (rw other rest)
+
+pub one_stops : (before : Taken) (f : FrameValue) (fs : List FrameValue) (e new : End) (fault : TakeFault) (P : Result Taken TakeFault → End → Type 0) → is_ours (seen f) ≡ true → TakesOne e f (Err fault) new
+    → ((later : Result Taken TakeFault) (last : End) → TakesEach (f ∷ fs) e later last → P (so_far before later) last) → P (Err fault) new
+one_stops before f fs e new fault P ours stops onward = subst (λ r. P r new) (same before) (onward (Err fault) new (rw ours (inr (fault, stops, refl))))
+  where
+    same : (t : Taken) → so_far t (Err fault) ≡ Err fault
+    same Took = refl
+    same NotOurs = refl
+
+-- a frame of these kinds that took effect
+pub any_took : (e : End) (f : FrameValue) (taken : Taken) (new : End) → TakesOne e f (Ok taken) new → TakesOne e f (Ok Took) new
+any_took e f Took new h = h
+any_took e f NotOurs new h = absurd h
+
+pub none_left : (before : Taken) (e : End) (P : Result Taken TakeFault → End → Type 0) → ((later : Result Taken TakeFault) (last : End) → TakesEach [] e later last → P (so_far before later) last) → P (Ok before) e
+none_left Took e P onward = onward (Ok NotOurs) e (refl, refl)
+none_left NotOurs e P onward = onward (Ok NotOurs) e (refl, refl)

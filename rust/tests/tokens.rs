@@ -1,0 +1,106 @@
+//! Two toy stacks that own their packets: frames come one by one, out of order and again, and tokens are told. What each call does is
+//! proved; here calls succeed where memory is there, and a connection comes to its end so.
+
+use gotsavena::{
+    Dir, Endpoint, Frame, Read, Role, Settings, StreamId, TakeFault, Taken, Token, TokenFault,
+    frames,
+};
+
+fn ends() -> (Endpoint, Endpoint) {
+    let settings = Settings::default();
+    let end = |role| Endpoint::new(role, settings, settings.limits()).expect("in range");
+    (end(Role::Client), end(Role::Server))
+}
+
+// The frames of the next packet of an end, as they are read in it, and its token.
+fn fill(end: &mut Endpoint, payload: &mut [u8]) -> Option<(usize, Token)> {
+    let made = end.make_packet(payload).expect("open")?;
+    let token = Token {
+        number: made.number,
+    };
+    Some((made.len, token))
+}
+
+// Hands each frame in, the last one first and each twice; an ACK is the stack's own affair.
+fn hand_in(end: &mut Endpoint, payload: &[u8]) {
+    let all: Vec<Frame<'_>> = frames(payload).map(|p| p.expect("a frame").frame).collect();
+    for frame in all.iter().rev().chain(&all) {
+        let ours = !matches!(frame, Frame::Ack { .. });
+        let taken = if ours { Taken::Took } else { Taken::NotOurs };
+        assert_eq!(end.take_frame(frame), Ok(taken));
+    }
+}
+
+// What an end reads of a stream until it has to wait, and whether it came to the end.
+fn read(end: &mut Endpoint, stream: StreamId, bytes: &mut Vec<u8>) -> bool {
+    let mut into = [0; 100];
+    loop {
+        match end.read(stream, &mut into).expect("open") {
+            Read::Bytes(count) => bytes.extend_from_slice(&into[..count]),
+            answer => return answer == Read::End,
+        }
+    }
+}
+
+#[test]
+fn a_stream_is_carried_by_frames_and_tokens() {
+    let (mut client, mut server) = ends();
+    let stream = client.open(Dir::Uni).expect("granted");
+    let sent: Vec<u8> = (0..20_000).map(|i| (i * 7) as u8).collect();
+    let (mut written, mut came, mut turn) = (0, Vec::new(), 0);
+    let mut is_over = false;
+    while !is_over {
+        turn += 1;
+        assert!(turn < 2000, "the stream comes to its end");
+        written += client.write(stream, &sent[written..]).unwrap_or(0);
+        if written == sent.len() {
+            let _again = client.finish(stream);
+        }
+        let mut payload = [0; 300];
+        while let Some((len, token)) = fill(&mut client, &mut payload) {
+            // Each third packet is lost, and each ninth of them is acknowledged late.
+            if token.number % 3 == 0 {
+                client.lost(token).expect("made");
+            }
+            if token.number % 3 != 0 || token.number % 27 == 0 {
+                hand_in(&mut server, &payload[..len]);
+                client.acked(token).expect("made");
+                client.acked(token).expect("it is done");
+                client.lost(token).expect("it is done");
+            }
+        }
+        if server.report(stream).is_some() {
+            is_over = read(&mut server, stream, &mut came);
+        }
+        while let Some((len, token)) = fill(&mut server, &mut payload) {
+            hand_in(&mut client, &payload[..len]);
+            server.acked(token).expect("made");
+        }
+    }
+    assert_eq!(came, sent);
+    assert!(!client.is_sendable() && !server.is_sendable());
+}
+
+#[test]
+fn values_that_no_text_has_close() {
+    let (_, mut server) = ends();
+    let stream = StreamId::new(0).expect("small");
+    let frame = Frame::Stream {
+        stream,
+        offset: (1 << 62) - 1,
+        fin: false,
+        bytes: b"x",
+    };
+    let Err(TakeFault::Closing(closing)) = server.take_frame(&frame) else {
+        panic!("the end closes");
+    };
+    assert_eq!(
+        (closing.code, closing.frame_type, closing.place),
+        (0x07, 0x0e, 0)
+    );
+    // An end that is closed says so again, and is told of no token.
+    let again = server.take_frame(&Frame::Ping);
+    assert_eq!(again, Err(TakeFault::Closing(closing)));
+    let token = Token { number: 0 };
+    assert_eq!(server.acked(token), Err(TokenFault::Closed));
+}
