@@ -26,6 +26,7 @@ const PROTOCOL_VIOLATION: u64 = 0x0a;
 impl Endpoint {
     // The code with which a frame closes the connection.
     #[tactic(auto, unfolding(qs_machine::specs::Verdicts::verdict))]
+    #[inline(always)]
     pub(super) fn verdict(&self, seen: &SeenFrame<'_>) -> Option<u64>
         requires { SeenFits seen.now }
         ensures { result ≡ verdict self.now (view_seen seen.now) }

@@ -20,6 +20,7 @@ use qs_wire::{Dir, StreamId};
 impl Endpoint {
     // A frame takes effect, or finds no memory and changes nothing; of an ACK some packets may be acknowledged then.
     #[tactic(auto, unfolding(qs_machine::specs::Verdicts::verdict, qs_machine::specs::FrameStep::frame_taken))]
+    #[inline(always)]
     pub(super) fn on_frame(&mut self, seen: &SeenFrame<'_>) -> Result<(), NoMemory>
         requires fits { SeenFits seen.now }
         requires passed { verdict self.old (view_seen seen.now) ≡ None }

@@ -86,6 +86,7 @@ impl Core {
 
     // The pieces of a packet are acknowledged, from the first on.
     #[tactic(auto, using(crate::proofs::AckRuns::packet_end, crate::proofs::AckRuns::packet_stop, crate::proofs::AckRuns::packet_more, crate::proofs::AckRuns::packet_less))]
+    #[inline(always)]
     fn ack_packet(&mut self, packet: KeptPacket) -> Result<(), NoMemory>
         requires rest { IsAtRest self.old }
         ensures rest { IsAtRest self.new }

@@ -110,6 +110,7 @@ impl Core {
 
     // Puts the item of a slot of the connection into the packet, if it is due. Mostly a look at two numbers tells that there is none.
     #[tactic(auto, using(crate::proofs::Cores::fills_same))]
+    #[inline(always)]
     fn put_own_slot(&mut self, slot: Slot, out: &mut [u8], packet: Packet) -> Packet
         requires { IsFilling self.old out.old packet.len }
         ensures stage { (wish : Wish) (room : ℕ) (old e : End) (passed : Passed) → room ≡ length out.old → HasPassedTo passed slot

@@ -20,6 +20,7 @@ use qs_wire::StreamId;
 
 impl Outbox {
     /// Makes room for a packet of so many pieces. Nothing else changes.
+    #[inline(always)]
     pub(crate) fn begin(&mut self, count: usize) -> Result<(), NoMemory>
         ensures ok { OnOk result (self.new ≡ record self.old { spare = count }) }
         ensures err { OnErr result (self.new ≡ self.old) }

@@ -20,6 +20,7 @@ const PROTOCOL_VIOLATION: u64 = 0x0a;
 
 impl Endpoint {
     // The code with which a frame closes the connection.
+    #[inline(always)]
     pub(super) fn verdict(&self, seen: &SeenFrame<'_>) -> Option<u64> {
         match *seen {
             SeenFrame::Ack { largest, .. } => self.ack_fault(largest),

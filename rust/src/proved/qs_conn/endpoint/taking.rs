@@ -9,6 +9,7 @@ use crate::proved::qs_wire::{Dir, StreamId};
 
 impl Endpoint {
     // A frame takes effect, or finds no memory and changes nothing; of an ACK some packets may be acknowledged then.
+    #[inline(always)]
     pub(super) fn on_frame(&mut self, seen: &SeenFrame<'_>) -> Result<(), NoMemory> {
         match *seen {
             SeenFrame::Ack { largest, ranges } => self.on_ack(largest, ranges),

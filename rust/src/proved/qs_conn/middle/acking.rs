@@ -49,6 +49,7 @@ impl Core {
     }
 
     // The pieces of a packet are acknowledged, from the first on.
+    #[inline(always)]
     fn ack_packet(&mut self, packet: KeptPacket) -> Result<(), NoMemory> {
         while let Some(piece) = self.outbox.first_kept(packet) {
             self.ack_piece(packet, piece)?;

@@ -70,6 +70,7 @@ impl Core {
     }
 
     // Puts the item of a slot of the connection into the packet, if it is due. Mostly a look at two numbers tells that there is none.
+    #[inline(always)]
     fn put_own_slot(&mut self, slot: Slot, out: &mut [u8], packet: Packet) -> Packet {
         if self.limits.has_none(&self.outbox, &slot) {
             return packet;

@@ -13,6 +13,7 @@ use crate::proved::qs_wire::StreamId;
 
 impl Outbox {
     /// Makes room for a packet of so many pieces. Nothing else changes.
+    #[inline(always)]
     pub(crate) fn begin(&mut self, count: usize) -> Result<(), NoMemory> {
         self.records.make_room(self.next)?;
         self.pending.reserve(count)?;
