@@ -1,6 +1,7 @@
 //! What the tests share: random numbers, and scripts (docs/SCRIPTS.md) that are played over two ends.
 #![allow(dead_code)]
 
+pub mod doubled;
 pub mod program;
 
 use gotsavena::{
