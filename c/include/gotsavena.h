@@ -73,7 +73,8 @@ typedef enum gv_status {
   GV_OUT_OF_RANGE = 19,      /**< a setting or a limit is out of its range */
   GV_TOO_MANY_STREAMS = 20,  /**< the peer allows more streams than there can be (section 4.6) */
   GV_BAD_FRAME = 21,         /**< no frame stands there (section 12.4) */
-  GV_NO_ROOM = 22            /**< there is no room for it; nothing was written */
+  GV_NO_ROOM = 22,           /**< there is no room for it; nothing was written */
+  GV_NOT_GIVEN = 23          /**< no packet was made yet that has the token */
 } gv_status;
 
 /** Which end it is. */
@@ -353,6 +354,15 @@ GV_API gv_status gv_make_ack(gv_endpoint *end, uint64_t delay, uint8_t *out, siz
 /** Declares the packet of a number lost: what it carried is due again, where it is still of use (section 13.3).
  * ::GV_NOT_OUTSTANDING, ::GV_CONNECTION_CLOSED: nothing changed. ::GV_NO_MEMORY: some of it is due again; call once more. */
 GV_API gv_status gv_declare_lost(gv_endpoint *end, uint64_t number);
+
+/** The peer acknowledged the packet of a token, which is the number that its making told: this does what an ACK of that packet alone
+ * does, in time or late. ::GV_OK, too, where the packet is done: then nothing is told. ::GV_NOT_GIVEN, ::GV_CONNECTION_CLOSED: nothing
+ * changed. ::GV_NO_MEMORY: some of what it carried may be acknowledged; call once more (sections 13.2.1 and 13.3). */
+GV_API gv_status gv_token_acked(gv_endpoint *end, uint64_t token);
+
+/** Declares the packet of a token lost, as gv_declare_lost() does. ::GV_OK, too, where the packet is done: then nothing changed.
+ * ::GV_NOT_GIVEN, ::GV_CONNECTION_CLOSED: nothing changed. ::GV_NO_MEMORY: some of it is due again; call once more (section 13.3). */
+GV_API gv_status gv_token_lost(gv_endpoint *end, uint64_t token);
 
 /** Claims the next number for a packet of the layer beneath, of which the end records nothing; a closed end gives one too.
  * ::GV_NUMBERS_EXHAUSTED: the last one was used (section 12.3). */

@@ -30,6 +30,7 @@ const char *gv_strerror(gv_status status) {
     case GV_TOO_MANY_STREAMS: return "the peer allows too many streams";
     case GV_BAD_FRAME: return "no frame stands there";
     case GV_NO_ROOM: return "there is no room";
+    case GV_NOT_GIVEN: return "no packet was made yet that has the token";
   }
   return "no status";
 }

@@ -234,6 +234,16 @@ gv_status gv_declare_lost(gv_endpoint *end, uint64_t number) {
   return leave(end, gvp_declare_lost(enter(end), number));
 }
 
+gv_status gv_token_acked(gv_endpoint *end, uint64_t token) {
+  if (end == NULL) return GV_INVALID;
+  return leave(end, gvp_token_acked(enter(end), token));
+}
+
+gv_status gv_token_lost(gv_endpoint *end, uint64_t token) {
+  if (end == NULL) return GV_INVALID;
+  return leave(end, gvp_token_lost(enter(end), token));
+}
+
 gv_status gv_claim_number(gv_endpoint *end, uint64_t *number) { return ask(gvp_claim_number, end, number); }
 
 gv_status gv_next_number(const gv_endpoint *end, uint64_t *number) { return ask(gvp_next_number, end, number); }

@@ -125,6 +125,8 @@ uint32_t gvp_reset(gvp_handle *end, uint64_t stream, uint64_t code);
 uint32_t gvp_stop(gvp_handle *end, uint64_t stream, uint64_t code);
 uint32_t gvp_read(gvp_handle *end, uint64_t stream, uint8_t *into, size_t size, uint64_t *number);
 uint32_t gvp_declare_lost(gvp_handle *end, uint64_t number);
+uint32_t gvp_token_acked(gvp_handle *end, uint64_t token);
+uint32_t gvp_token_lost(gvp_handle *end, uint64_t token);
 uint32_t gvp_closing(gvp_handle *end, gvp_closing_info *closing);
 uint32_t gvp_close_payload(gvp_handle *end, uint8_t *out, size_t room, size_t *len);
 uint32_t gvp_peer_closed(gvp_handle *end, uint64_t *code);

@@ -101,6 +101,10 @@ int main(void) {
   want(gv_reset(end, 2, big), GV_INVALID, "reset");
   want(gv_stop(end, 2, big), GV_INVALID, "stop");
   want(gv_declare_lost(end, 0), GV_NOT_OUTSTANDING, "lose");
+  want(gv_token_acked(end, 0), GV_NOT_GIVEN, "acked before it was made");
+  want(gv_token_lost(end, UINT64_MAX), GV_NOT_GIVEN, "lost before it was made");
+  want(gv_token_acked(NULL, 0), GV_INVALID, "acked of no end");
+  want(gv_token_lost(NULL, 0), GV_INVALID, "lost of no end");
   want(gv_receive(end, big, &byte, 1), GV_INVALID, "receive");
   want(gv_receive(end, 5, NULL, 1), GV_INVALID, "receive from null");
   want(gv_receive(end, 5, &byte, 1), GV_OK, "receive a PING");
@@ -183,6 +187,16 @@ int main(void) {
   want(gv_next_newly_acked(end, NULL, 0, 0, &number), GV_NONE, "acknowledged by nothing");
   want(gv_next_newly_acked(end, NULL, 1, 0, &number), GV_INVALID, "acknowledged by null");
   want(gv_next_newly_acked(end, ack_of_2, sizeof ack_of_2, 0, NULL), GV_INVALID, "acknowledged to null");
+  want(gv_token_acked(end, 3), GV_NOT_GIVEN, "acked past the last");
+  want(gv_token_lost(end, 2), GV_OK, "lost");
+  want(gv_next_outstanding(end, 0, &number), GV_NONE, "nothing is outstanding");
+  want(gv_is_sendable(end, &is), GV_OK, "is_sendable");
+  want(is ? GV_OK : GV_INVALID, GV_OK, "the end is due again");
+  want(gv_token_lost(end, 2), GV_OK, "lost again");
+  want(gv_token_acked(end, 2), GV_OK, "acked late");
+  want(gv_is_sendable(end, &is), GV_OK, "is_sendable");
+  want(!is ? GV_OK : GV_INVALID, GV_OK, "the end is acknowledged");
+  want(gv_token_acked(end, 2), GV_OK, "acked again");
   want(gv_stopped_with(end, 2, &number), GV_NONE, "not stopped");
   want(gv_receive(end, 7, stops, sizeof stops), GV_OK, "receive two STOP_SENDING");
   want(gv_stopped_with(end, 2, &number), GV_OK, "stopped");
@@ -200,6 +214,8 @@ int main(void) {
   want(gv_write(end, 2, &byte, 1, &count), GV_CONNECTION_CLOSED, "closed");
   want(gv_close_payload(end, room, sizeof room, &count), GV_OK, "close");
   want(gv_next_writable(end, 0, &number), GV_NONE, "nothing is writable");
+  want(gv_token_acked(end, 0), GV_CONNECTION_CLOSED, "acked once closed");
+  want(gv_token_lost(end, 9), GV_CONNECTION_CLOSED, "lost once closed");
   want(gv_raise_limits(end, &limits), GV_CONNECTION_CLOSED, "raise once closed");
   want(gv_claim_number(end, &number), GV_OK, "a closed end gives numbers");
   want(gv_receive(NULL, 0, &byte, 1), GV_INVALID, "no end");

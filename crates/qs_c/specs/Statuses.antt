@@ -17,6 +17,8 @@ use Rattle.qs_calls.specs.declared.making.LostFault.TheVariants as losing
 use Rattle.qs_calls.specs.declared.making.MakeFault.{MakeFault}
 use Rattle.qs_calls.specs.declared.making.MakeFault.TheVariants as making
 use Rattle.qs_calls.specs.declared.making.Made.{Made}
+use Rattle.qs_calls.specs.declared.token.TokenFault.{TokenFault}
+use Rattle.qs_calls.specs.declared.token.TokenFault.TheVariants as tokens
 use Rattle.qs_calls.specs.declared.closing.Closing.{Closing}
 use Rattle.qs_calls.specs.declared.closing.Received.{Received}
 use Rattle.qs_calls.specs.declared.closing.Received.TheVariants as received
@@ -90,6 +92,11 @@ abbrev pub lost_status : LostFault → ℕ
 lost_status losing.NoMemory = 2
 lost_status losing.Closed = 3
 lost_status losing.NotOutstanding = 10
+
+abbrev pub token_status : TokenFault → ℕ
+token_status tokens.NoMemory = 2
+token_status tokens.Closed = 3
+token_status tokens.NotGiven = 23
 
 abbrev pub setup_status : SetupFault → ℕ
 setup_status OutOfRange = 19

@@ -1,11 +1,12 @@
 //! The numbers that the calls answer.
 ghost use Rattle.std.specs.Prelude.{◌≡◌, option_map};
-ghost use Rattle.qs_c.specs.Statuses.{use_status, lost_status, make_status, setup_status, raise_status, status_of, told, found, read_told, open_told, made_told, received_told};
+ghost use Rattle.qs_c.specs.Statuses.{use_status, lost_status, make_status, setup_status, raise_status, token_status, status_of, told, found, read_told, open_told, made_told, received_told};
 ghost use Rattle.qs_c.specs.Structs.{closing_of};
 ghost use Rattle.qs_c.specs.Lanes.{lane_of};
 
 use crate::lane::GvLane;
 use crate::structs::{GvClosing, GvMade};
+use qs_calls::TokenFault;
 use qs_conn::{
     Closing, LaneReport, LostFault, Made, MakeFault, OpenFault, RaiseFault, Received, SetupFault,
     UseFault,
@@ -58,6 +59,8 @@ pub(crate) const TOO_MANY_STREAMS: u32 = 20;
 pub(crate) const FAULT: u32 = 21;
 
 pub(crate) const FULL: u32 = 22;
+
+pub(crate) const NOT_GIVEN: u32 = 23;
 
 fn of_fault(fault: UseFault) -> u32
     ensures { result ≡ use_status fault }
@@ -160,6 +163,17 @@ pub(crate) fn of_lost(answer: Result<(), LostFault>) -> u32
         Err(LostFault::NotOutstanding) => NOT_OUTSTANDING,
         Err(LostFault::NoMemory) => NO_MEMORY,
         Err(LostFault::Closed) => CLOSED,
+    }
+}
+
+pub(crate) fn of_token(answer: Result<(), TokenFault>) -> u32
+    ensures { result ≡ status_of token_status answer }
+{
+    match answer {
+        Ok(()) => OK,
+        Err(TokenFault::NotGiven) => NOT_GIVEN,
+        Err(TokenFault::NoMemory) => NO_MEMORY,
+        Err(TokenFault::Closed) => CLOSED,
     }
 }
 

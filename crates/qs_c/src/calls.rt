@@ -9,21 +9,24 @@ ghost use Rattle.qs_calls.specs.declared.making.Made.{Made};
 ghost use Rattle.qs_calls.specs.declared.closing.Closing.{Closing};
 ghost use Rattle.qs_calls.specs.declared.closing.Received.{Received};
 ghost use Rattle.qs_calls.specs.declared.settings.RaiseFault.{RaiseFault};
+ghost use Rattle.qs_calls.specs.declared.token.TokenFault.{TokenFault};
 ghost use Rattle.qs_machine.specs.Owner.{WriteStep, FinishStep, ResetStep, StopStep, ReadStep, OpenStep, AcceptStep, AcceptOfStep};
 ghost use Rattle.qs_machine.specs.Receiving.{ReceiveStep};
 ghost use Rattle.qs_machine.specs.Making.{MakeStep, MakeAckStep, ClaimStep, LoseStep, ClosePayload};
 ghost use Rattle.qs_machine.specs.Raising.{RaiseStep};
+ghost use Rattle.qs_machine.specs.Alone.{TokenAckedStep, TokenLostStep};
 ghost use Rattle.qs_machine.specs.Reports.{own_closing};
 ghost use Rattle.qs_conn.specs.Written.{made_text, KeepsRest};
-ghost use Rattle.qs_c.specs.Statuses.{Tested, Invalid, is_small, is_room, is_flag, dir_of, use_status, lost_status, make_status, raise_status, status_of, told, found, read_told, open_told, made_told, received_told};
+ghost use Rattle.qs_c.specs.Statuses.{Tested, Invalid, is_small, is_room, is_flag, dir_of, use_status, lost_status, make_status, raise_status, token_status, status_of, told, found, read_told, open_told, made_told, received_told};
 ghost use Rattle.qs_c.specs.Structs.{closing_of, limits_in};
 
 use crate::answers::{
     INVALID, of_claim, of_closing, of_count, of_len, of_lost, of_made, of_open, of_raise, of_read,
-    of_received, of_stream, of_use,
+    of_received, of_stream, of_token, of_use,
 };
 use crate::structs::{GvClosing, GvLimits, GvMade};
 use crate::thing::Thing;
+use qs_calls::Token;
 use qs_wire::{Dir, StreamId};
 
 const LIMIT: u64 = 1 << 62;
@@ -139,6 +142,18 @@ impl Thing {
         ensures { (a : Result (Unit {0}) LostFault) × (result ≡ status_of lost_status a) × LoseStep self.old number a self.new }
     {
         of_lost(self.end.declare_lost(number))
+    }
+
+    pub(crate) fn acked(&mut self, token: u64) -> u32
+        ensures { (a : Result (Unit {0}) TokenFault) × (result ≡ status_of token_status a) × TokenAckedStep self.old (record { number = token }) a self.new }
+    {
+        of_token(self.end.acked(Token { number: token }))
+    }
+
+    pub(crate) fn lost(&mut self, token: u64) -> u32
+        ensures { (a : Result (Unit {0}) TokenFault) × (result ≡ status_of token_status a) × TokenLostStep self.old (record { number = token }) a self.new }
+    {
+        of_token(self.end.lost(Token { number: token }))
     }
 
     pub(crate) fn claim_number(&mut self, number: &mut u64) -> u32

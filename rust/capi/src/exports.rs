@@ -51,6 +51,8 @@ exports! {
     gvp_make_ack(end: &mut Handle, delay: u64, out: *mut u8, room: usize, made: &mut GvMade)
         = (Global, end, delay, write!(out, room), made);
     gvp_declare_lost(end: &mut Handle, number: u64) = (Global, end, number);
+    gvp_token_acked(end: &mut Handle, token: u64) = (Global, end, token);
+    gvp_token_lost(end: &mut Handle, token: u64) = (Global, end, token);
     gvp_claim_number(end: &mut Handle, number: &mut u64) = (Global, end, number);
     gvp_raise_limits(end: &mut Handle, limits: &GvLimits) = (Global, end, limits);
 

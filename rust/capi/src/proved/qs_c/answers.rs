@@ -3,6 +3,7 @@
 
 use crate::proved::qs_c::lane::GvLane;
 use crate::proved::qs_c::structs::{GvClosing, GvMade};
+use crate::proved::qs_calls::TokenFault;
 use crate::proved::qs_conn::{
     Closing, LaneReport, LostFault, Made, MakeFault, OpenFault, RaiseFault, Received, SetupFault,
     UseFault,
@@ -55,6 +56,8 @@ pub(crate) const TOO_MANY_STREAMS: u32 = 20;
 pub(crate) const FAULT: u32 = 21;
 
 pub(crate) const FULL: u32 = 22;
+
+pub(crate) const NOT_GIVEN: u32 = 23;
 
 fn of_fault(fault: UseFault) -> u32 {
     match fault {
@@ -141,6 +144,15 @@ pub(crate) fn of_lost(answer: Result<(), LostFault>) -> u32 {
         Err(LostFault::NotOutstanding) => NOT_OUTSTANDING,
         Err(LostFault::NoMemory) => NO_MEMORY,
         Err(LostFault::Closed) => CLOSED,
+    }
+}
+
+pub(crate) fn of_token(answer: Result<(), TokenFault>) -> u32 {
+    match answer {
+        Ok(()) => OK,
+        Err(TokenFault::NotGiven) => NOT_GIVEN,
+        Err(TokenFault::NoMemory) => NO_MEMORY,
+        Err(TokenFault::Closed) => CLOSED,
     }
 }
 

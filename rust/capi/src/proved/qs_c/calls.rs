@@ -3,10 +3,11 @@
 
 use crate::proved::qs_c::answers::{
     INVALID, of_claim, of_closing, of_count, of_len, of_lost, of_made, of_open, of_raise, of_read,
-    of_received, of_stream, of_use,
+    of_received, of_stream, of_token, of_use,
 };
 use crate::proved::qs_c::structs::{GvClosing, GvLimits, GvMade};
 use crate::proved::qs_c::thing::Thing;
+use crate::proved::qs_calls::Token;
 use crate::proved::qs_wire::{Dir, StreamId};
 
 const LIMIT: u64 = 1 << 62;
@@ -100,6 +101,14 @@ impl Thing {
 
     pub(crate) fn declare_lost(&mut self, number: u64) -> u32 {
         of_lost(self.end.declare_lost(number))
+    }
+
+    pub(crate) fn acked(&mut self, token: u64) -> u32 {
+        of_token(self.end.acked(Token { number: token }))
+    }
+
+    pub(crate) fn lost(&mut self, token: u64) -> u32 {
+        of_token(self.end.lost(Token { number: token }))
     }
 
     pub(crate) fn claim_number(&mut self, number: &mut u64) -> u32 {

@@ -178,6 +178,24 @@ pub fn gvp_declare_lost(alloc: Global, end: &mut Handle, number: u64) -> u32 {
     status
 }
 
+pub fn gvp_token_acked(alloc: Global, end: &mut Handle, token: u64) -> u32 {
+    let Some(mut thing) = end.take(alloc) else {
+        return INVALID;
+    };
+    let status = thing.acked(token);
+    end.put(thing);
+    status
+}
+
+pub fn gvp_token_lost(alloc: Global, end: &mut Handle, token: u64) -> u32 {
+    let Some(mut thing) = end.take(alloc) else {
+        return INVALID;
+    };
+    let status = thing.lost(token);
+    end.put(thing);
+    status
+}
+
 pub fn gvp_closing(alloc: Global, end: &mut Handle, closing: &mut GvClosing) -> u32 {
     let Some(thing) = end.take(alloc) else {
         return INVALID;
