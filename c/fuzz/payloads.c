@@ -1,6 +1,6 @@
 /* An endpoint is fed what an input says: payloads, numbers, losses and calls of its owner. After each it must stand as it was promised
  * to: no more is stored than was granted, nor than the window; and an end that closed stays so. The frames of each payload are read
- * one by one, too, and each is written, and read again as the same.
+ * one by one, too, and each is written, and read again as the same. Frames are handed in without their packets, and filled in.
  *
  * By libFuzzer: clang -g -O1 -fsanitize=fuzzer,address,undefined -DLIBFUZZER .. The plain program replays the files that it is given. */
 #include <stdio.h>
@@ -128,6 +128,42 @@ static void close_text(gv_endpoint *end) {
   check(status != GV_OK || (len > 0 && len <= 64), "the text of a closing");
 }
 
+/* Hands in the frames of some bytes, up to the first fault. */
+static void hand_in(gv_endpoint *end, input *in) {
+  size_t len = 8 * (size_t)next_byte(in);
+  if (len > in->len) len = in->len;
+  gv_frames frames = {in->at, len, 0};
+  gv_frame frame = {.size = sizeof frame};
+  gv_fault fault = {.size = sizeof fault};
+  while (gv_frames_next(&frames, &frame, &fault) == GV_OK) {
+    gv_taken taken = GV_TAKEN_TOOK;
+    gv_status status = gv_take_frame(end, &frame, &taken);
+    check(status == GV_OK || status == GV_PROTOCOL_ERROR || status == GV_CLOSED_BY_PEER, "a frame is handed in");
+    check(status == GV_OK || is_closed(end), "an end that refuses a frame is closed");
+    check(frame.kind != GV_FRAME_ACK || status != GV_OK || taken == GV_TAKEN_NOT_OURS, "an ACK is the stack's");
+  }
+  in->at += len;
+  in->len -= len;
+}
+
+static void fill(gv_endpoint *end, input *in) {
+  uint8_t out[MOST];
+  unsigned wishes = next_byte(in);
+  gv_fill_request want = {sizeof want, wishes & 1, wishes & 2, wishes & 4, next_byte(in)};
+  gv_filled filled = {.size = sizeof filled};
+  size_t room = 4 * (size_t)next_byte(in);
+  gv_status status = gv_fill(end, &want, out, room, &filled);
+  check(status == GV_OK || status == GV_NONE || status == GV_CONNECTION_CLOSED || status == GV_NUMBERS_EXHAUSTED, "a fill");
+  if (status != GV_OK) return;
+  check(filled.len > 0 && filled.len <= room, "its length");
+  gv_frames frames = {out, filled.len, 0};
+  gv_frame frame = {.size = sizeof frame};
+  gv_fault fault = {.size = sizeof fault};
+  while ((status = gv_frames_next(&frames, &frame, &fault)) == GV_OK)
+    check(frame.kind == GV_FRAME_STREAM ? want.streams : want.items && frame.kind != GV_FRAME_ACK, "a frame that was asked for");
+  check(status == GV_NONE, "its frames");
+}
+
 static void use(gv_endpoint *end, unsigned call, input *in) {
   static const uint8_t zeros[MOST];
   uint8_t into[MOST];
@@ -143,16 +179,21 @@ static void use(gv_endpoint *end, unsigned call, input *in) {
     case 6: (void)gv_read(end, stream, into, 4 * (size_t)next_byte(in), &count, &number); break;
     case 7: (void)gv_declare_lost(end, stream); break;
     case 8: (void)gv_claim_number(end, &number); break;
+    case 10: hand_in(end, in); break;
+    case 11: fill(end, in); break;
+    case 12: (void)gv_token_acked(end, stream); break;
+    case 13: (void)gv_token_lost(end, stream); break;
     default: close_text(end); break;
   }
 }
 
 static void look(gv_endpoint *end, bool *was_closed) {
-  uint64_t stored = 0, granted = 0, spent = 0;
+  uint64_t stored = 0, granted = 0, spent = 0, runs = 0;
   bool closed = is_closed(end);
   check(gv_stored(end, &stored) == GV_OK, "stored");
   check(gv_granted(end, &granted) == GV_OK, "granted");
   check(gv_spent(end, &spent) == GV_OK, "spent");
+  check(gv_noted(end, &runs) == GV_OK && runs <= spent, "no more runs are noted than bytes were spent");
   check(stored <= CONN_WINDOW && stored <= spent && spent <= granted, "stored is within granted");
   check(closed || !*was_closed, "a closed end stays closed");
   *was_closed = closed;
@@ -172,7 +213,7 @@ static int run(const uint8_t *bytes, size_t len) {
     } else if (call % 16 < 7) {
       make(end, &in);
     } else {
-      use(end, call / 16 % 10, &in);
+      use(end, call / 16 % 14, &in);
     }
     look(end, &was_closed);
   }

@@ -141,6 +141,16 @@ typedef enum gv_fault_kind {
   GV_FAULT_IDENTIFIER = 8        /**< a connection identifier has no byte or more than 20 (section 19.15) */
 } gv_fault_kind;
 
+/** What came of a frame that was handed in. A later version may have more. */
+typedef enum gv_taken {
+  GV_TAKEN_TOOK = 0,      /**< it took effect, and something changed */
+  GV_TAKEN_UNCHANGED = 1, /**< it took effect, and nothing changed: it came before, or raises nothing */
+  GV_TAKEN_NOT_OURS = 2   /**< it is of a kind that is the stack's own affair, and changed nothing */
+} gv_taken;
+
+/** With so many bytes of room gv_fill() puts something in wherever something may go that it was asked for. */
+#define GV_MIN_FILL 25
+
 /** One end of a connection. */
 typedef struct gv_endpoint gv_endpoint;
 
@@ -148,14 +158,14 @@ typedef struct gv_endpoint gv_endpoint;
  * sets what stands in parentheses. */
 typedef struct gv_settings {
   size_t size;            /**< of this struct */
-  uint64_t conn_window;   /**< how far all received bytes may run ahead of those taken (section 4.1): 1 to 2^24 (2^20) */
-  uint64_t bidi_local;    /**< the same for a bidirectional stream that this end opens: 1 to 2^20 (2^18) */
+  uint64_t conn_window;   /**< how far all received bytes may run ahead of those taken (section 4.1): 1 to 2^40 (2^20) */
+  uint64_t bidi_local;    /**< the same for a bidirectional stream that this end opens: 1 to 2^30 (2^18) */
   uint64_t bidi_remote;   /**< the same for a bidirectional stream that the peer opens (2^18) */
   uint64_t uni;           /**< the same for a unidirectional stream that the peer opens (2^18) */
-  size_t send_buffer;     /**< how many bytes that aren't acknowledged a sending half keeps: 1 to 2^20 (2^18) */
-  uint64_t grant_bidi;    /**< how many bidirectional streams the peer may open at first: up to 4096 (section 4.6) (100) */
+  size_t send_buffer;     /**< how many bytes that aren't acknowledged a sending half keeps: 1 to 2^30 (2^18) */
+  uint64_t grant_bidi;    /**< how many bidirectional streams the peer may open at first: up to 2^17 (section 4.6) (100) */
   uint64_t grant_uni;     /**< the same of unidirectional ones (100) */
-  uint64_t lifetime_bidi; /**< the same in all, as those that it opened end: grant_bidi to 2^16 (2^16) */
+  uint64_t lifetime_bidi; /**< the same in all, as those that it opened end: grant_bidi to 2^21 (2^16) */
   uint64_t lifetime_uni;  /**< the same of unidirectional ones (2^16) */
 } gv_settings;
 
@@ -193,6 +203,25 @@ typedef struct gv_made {
   size_t len;            /**< how many bytes its payload has */
 } gv_made;
 
+/** What gv_fill() is to put in: nothing, where all of it is 0. */
+typedef struct gv_fill_request {
+  size_t size;    /**< of this struct */
+  bool items;     /**< control items: limits, resets, STOP_SENDING and what is blocked (section 13.3) */
+  bool streams;   /**< bytes and ends of streams */
+  bool alone;     /**< of the stream first alone; else from it on, and then those below it (section 2.3) */
+  uint64_t first; /**< a stream, below 2^62 */
+} gv_fill_request;
+
+/** What was filled in. */
+typedef struct gv_filled {
+  size_t size;          /**< of this struct */
+  bool has_last_stream; /**< there is a STREAM frame */
+  bool more;            /**< more of what was asked for is due that may go */
+  uint64_t token;       /**< by which it is told to be acknowledged or lost; no packet number of the stack's */
+  size_t len;           /**< how many bytes it has */
+  uint64_t last_stream; /**< where has_last_stream, the stream of the last STREAM frame, else 0; streams that take turns go on behind it */
+} gv_filled;
+
 /** A sending half. */
 typedef struct gv_sending {
   size_t size;         /**< of this struct */
@@ -226,8 +255,8 @@ typedef struct gv_closing_info {
   size_t place;        /**< its place in the payload */
 } gv_closing_info;
 
-/** A frame. kind tells which fields it has (section 19); where it was read the others are 0, and where it is written they don't matter,
- * but for dir. Offsets and sizes are in bytes. */
+/** A frame. kind tells which fields it has (section 19); where it was read the others are 0, and where it is written or handed in they
+ * don't matter, but for dir, and in gv_take_frame() for stream. Offsets and sizes are in bytes. */
 typedef struct gv_frame {
   size_t size;         /**< of this struct */
   gv_frame_kind kind;  /**< which frame it is */
@@ -355,15 +384,6 @@ GV_API gv_status gv_make_ack(gv_endpoint *end, uint64_t delay, uint8_t *out, siz
  * ::GV_NOT_OUTSTANDING, ::GV_CONNECTION_CLOSED: nothing changed. ::GV_NO_MEMORY: some of it is due again; call once more. */
 GV_API gv_status gv_declare_lost(gv_endpoint *end, uint64_t number);
 
-/** The peer acknowledged the packet of a token, which is the number that its making told: this does what an ACK of that packet alone
- * does, in time or late. ::GV_OK, too, where the packet is done: then nothing is told. ::GV_NOT_GIVEN, ::GV_CONNECTION_CLOSED: nothing
- * changed. ::GV_NO_MEMORY: some of what it carried may be acknowledged; call once more (sections 13.2.1 and 13.3). */
-GV_API gv_status gv_token_acked(gv_endpoint *end, uint64_t token);
-
-/** Declares the packet of a token lost, as gv_declare_lost() does. ::GV_OK, too, where the packet is done: then nothing changed.
- * ::GV_NOT_GIVEN, ::GV_CONNECTION_CLOSED: nothing changed. ::GV_NO_MEMORY: some of it is due again; call once more (section 13.3). */
-GV_API gv_status gv_token_lost(gv_endpoint *end, uint64_t token);
-
 /** Claims the next number for a packet of the layer beneath, of which the end records nothing; a closed end gives one too.
  * ::GV_NUMBERS_EXHAUSTED: the last one was used (section 12.3). */
 GV_API gv_status gv_claim_number(gv_endpoint *end, uint64_t *number);
@@ -386,6 +406,36 @@ GV_API gv_status gv_next_outstanding(const gv_endpoint *end, uint64_t from, uint
  * as the first fault or the first CONNECTION_CLOSE, and doesn't ask whether gv_receive() would take the payload. ::GV_NONE: there is
  * none (section 13.3; RFC 9002, section 7). */
 GV_API gv_status gv_next_newly_acked(const gv_endpoint *end, const uint8_t *payload, size_t len, uint64_t from, uint64_t *number);
+
+/** @}
+ * @name Frames and tokens
+ * For a stack that owns its packet numbers and its ACKs, in the place of gv_receive() and gv_make_packet(): it hands frames in, and has
+ * what is due written as frames.
+ * @{ */
+
+/** Takes in a frame that comes without its packet, as gv_frames_next() gave it, or a reader of the stack's own. One of streams or of flow
+ * control takes effect as in a payload, and then the limits move; one of any other kind changes nothing. *taken tells which it was. The
+ * stack acknowledges a packet only once each of its frames was taken (sections 13.1 and 19). ::GV_PROTOCOL_ERROR: the frame breaks a rule,
+ * or has numbers that no text has, as an offset plus a length above 2^62-1; this end is closed, gv_closing() tells why, at place 0, and
+ * gv_close_payload() tells the peer. ::GV_NO_MEMORY: nothing changed, and the frame may come again. An end that was closed before says
+ * so: ::GV_PROTOCOL_ERROR, or ::GV_CLOSED_BY_PEER. ::GV_INVALID, too, where kind or dir is none, or stream isn't below 2^62. */
+GV_API gv_status gv_take_frame(gv_endpoint *end, const gv_frame *frame, gv_taken *taken);
+
+/** Writes frames of what is due and asked for at the front of out, which has any room, and tells it in *filled: never an ACK, which stays
+ * due; control items first, then bytes of streams by turns (sections 2.3, 4, 12.4 and 13.3). ::GV_NONE: nothing that is asked for may go,
+ * or the room is too little; with GV_MIN_FILL bytes it says that nothing may. ::GV_CONNECTION_CLOSED, ::GV_NUMBERS_EXHAUSTED,
+ * ::GV_NO_MEMORY: nothing changed. */
+GV_API gv_status gv_fill(gv_endpoint *end, const gv_fill_request *want, uint8_t *out, size_t room, gv_filled *filled);
+
+/** The peer acknowledged the packet of a token, which gv_fill() told, or which is the number that a packet's making told: this does what
+ * an ACK of that packet alone does, in time or late. ::GV_OK, too, where the packet is done: then nothing is told. ::GV_NOT_GIVEN,
+ * ::GV_CONNECTION_CLOSED: nothing changed. ::GV_NO_MEMORY: some of what it carried may be acknowledged; call once more (sections 13.2.1
+ * and 13.3). */
+GV_API gv_status gv_token_acked(gv_endpoint *end, uint64_t token);
+
+/** Declares the packet of a token lost, as gv_declare_lost() does. ::GV_OK, too, where the packet is done: then nothing changed.
+ * ::GV_NOT_GIVEN, ::GV_CONNECTION_CLOSED: nothing changed. ::GV_NO_MEMORY: some of it is due again; call once more (section 13.3). */
+GV_API gv_status gv_token_lost(gv_endpoint *end, uint64_t token);
 
 /** @}
  * @name Streams
@@ -483,6 +533,11 @@ GV_API gv_status gv_granted_streams(const gv_endpoint *end, gv_dir dir, uint64_t
 
 /** How many bytes are stored and wait to be read: never more than were granted and aren't taken (section 4.1). */
 GV_API gv_status gv_stored(const gv_endpoint *end, uint64_t *count);
+
+/** How many runs the offsets make that came, on all streams whose end their reader wasn't told and that weren't reset: one for each on
+ *  which some came, and one more for each gap between them. A run takes at most 32 bytes, also of a stream that was stopped, where no
+ *  window bounds them: a connection in which this number gets too great is to be closed (section 2.2). It takes constant time. */
+GV_API gv_status gv_noted(const gv_endpoint *end, uint64_t *count);
 
 /** How many bytes of memory the rings take in which bytes wait to be read, and the buffers in which bytes wait to be acknowledged, by
  * a walk over all streams that were opened: for a look now and then. A peer can't make the rings take more than four times the

@@ -21,6 +21,8 @@ ENDS_WITH(gv_settings, lifetime_uni);
 ENDS_WITH(gv_limits, streams_uni);
 ENDS_WITH(gv_allocator, release);
 ENDS_WITH(gv_made, len);
+ENDS_WITH(gv_fill_request, first);
+ENDS_WITH(gv_filled, last_stream);
 ENDS_WITH(gv_sending, reset_code);
 ENDS_WITH(gv_receiving, reset_code);
 ENDS_WITH(gv_closing_info, place);
@@ -234,16 +236,6 @@ gv_status gv_declare_lost(gv_endpoint *end, uint64_t number) {
   return leave(end, gvp_declare_lost(enter(end), number));
 }
 
-gv_status gv_token_acked(gv_endpoint *end, uint64_t token) {
-  if (end == NULL) return GV_INVALID;
-  return leave(end, gvp_token_acked(enter(end), token));
-}
-
-gv_status gv_token_lost(gv_endpoint *end, uint64_t token) {
-  if (end == NULL) return GV_INVALID;
-  return leave(end, gvp_token_lost(enter(end), token));
-}
-
 gv_status gv_claim_number(gv_endpoint *end, uint64_t *number) { return ask(gvp_claim_number, end, number); }
 
 gv_status gv_next_number(const gv_endpoint *end, uint64_t *number) { return ask(gvp_next_number, end, number); }
@@ -387,6 +379,7 @@ gv_status gv_granted_streams(const gv_endpoint *end, gv_dir dir, uint64_t *count
 }
 
 gv_status gv_stored(const gv_endpoint *end, uint64_t *count) { return ask(gvp_stored, end, count); }
+gv_status gv_noted(const gv_endpoint *end, uint64_t *count) { return ask(gvp_noted, end, count); }
 
 gv_status gv_held(const gv_endpoint *end, uint64_t *receiving, uint64_t *sending) {
   uint64_t rings = 0, buffers = 0;
@@ -462,7 +455,7 @@ static gv_frame frame_in(const uint8_t *payload, const gvp_frame *f) {
   return got;
 }
 
-/* A frame to be written. */
+/* A frame to be written, or handed in. */
 static gvp_frame frame_of(const gv_frame *f) {
   gvp_frame given;
   memset(&given, 0, sizeof given);
@@ -547,4 +540,39 @@ gv_status gv_put_ack(const gv_range *ranges, size_t count, uint64_t delay, uint8
   *written = taken;
   *len = got;
   return GV_OK;
+}
+
+/* Frames and tokens of an end. */
+
+gv_status gv_take_frame(gv_endpoint *end, const gv_frame *frame, gv_taken *taken) {
+  gv_frame f;
+  uint32_t got = 0;
+  if (end == NULL || taken == NULL || !copy_in(&f, sizeof f, frame, UP_TO(gv_frame, token))) return GV_INVALID;
+  if (!is_slice(f.bytes, f.len)) return GV_INVALID;
+  gvp_frame given = frame_of(&f);
+  gv_status status = leave(end, gvp_take_frame(enter(end), &given, read_from(f.bytes, f.len), f.len, &got));
+  if (status == GV_OK) *taken = (gv_taken)got;
+  return status;
+}
+
+gv_status gv_fill(gv_endpoint *end, const gv_fill_request *want, uint8_t *out, size_t room, gv_filled *filled) {
+  gv_fill_request w;
+  gvp_filled got = {false, false, 0, 0, 0};
+  if (end == NULL || !is_slice(out, room) || !copy_in(&w, sizeof w, want, UP_TO(gv_fill_request, first))) return GV_INVALID;
+  if (!is_sized(filled, UP_TO(gv_filled, last_stream))) return GV_INVALID;
+  gvp_request given = {w.items, w.streams, w.alone, w.first};
+  gv_status status = leave(end, gvp_fill(enter(end), &given, written_to(out, room), room, &got));
+  gv_filled told = {0, got.has_last_stream, got.more, got.token, got.len, got.last_stream};
+  if (status == GV_OK) copy_out(filled, &told, sizeof told);
+  return status;
+}
+
+gv_status gv_token_acked(gv_endpoint *end, uint64_t token) {
+  if (end == NULL) return GV_INVALID;
+  return leave(end, gvp_token_acked(enter(end), token));
+}
+
+gv_status gv_token_lost(gv_endpoint *end, uint64_t token) {
+  if (end == NULL) return GV_INVALID;
+  return leave(end, gvp_token_lost(enter(end), token));
 }

@@ -40,6 +40,21 @@ typedef struct gvp_made {
   bool is_ack_eliciting;
 } gvp_made;
 
+typedef struct gvp_request {
+  bool items;
+  bool streams;
+  bool alone;
+  uint64_t first;
+} gvp_request;
+
+typedef struct gvp_filled {
+  bool has_last_stream;
+  bool more;
+  uint64_t token;
+  size_t len;
+  uint64_t last_stream;
+} gvp_filled;
+
 typedef struct gvp_closing_info {
   uint64_t code;
   uint64_t frame_type;
@@ -125,6 +140,8 @@ uint32_t gvp_reset(gvp_handle *end, uint64_t stream, uint64_t code);
 uint32_t gvp_stop(gvp_handle *end, uint64_t stream, uint64_t code);
 uint32_t gvp_read(gvp_handle *end, uint64_t stream, uint8_t *into, size_t size, uint64_t *number);
 uint32_t gvp_declare_lost(gvp_handle *end, uint64_t number);
+uint32_t gvp_take_frame(gvp_handle *end, const gvp_frame *frame, const uint8_t *bytes, size_t len, uint32_t *taken);
+uint32_t gvp_fill(gvp_handle *end, const gvp_request *want, uint8_t *out, size_t room, gvp_filled *filled);
 uint32_t gvp_token_acked(gvp_handle *end, uint64_t token);
 uint32_t gvp_token_lost(gvp_handle *end, uint64_t token);
 uint32_t gvp_closing(gvp_handle *end, gvp_closing_info *closing);
@@ -146,6 +163,7 @@ uint32_t gvp_streams_left(gvp_handle *end, uint32_t dir, uint64_t *count);
 uint32_t gvp_open_left(gvp_handle *end, uint32_t dir, uint64_t *count);
 uint32_t gvp_granted_streams(gvp_handle *end, uint32_t dir, uint64_t *count);
 uint32_t gvp_stored(gvp_handle *end, uint64_t *count);
+uint32_t gvp_noted(gvp_handle *end, uint64_t *count);
 uint32_t gvp_held(gvp_handle *end, uint64_t *receiving, uint64_t *sending);
 uint32_t gvp_granted(gvp_handle *end, uint64_t *count);
 uint32_t gvp_spent(gvp_handle *end, uint64_t *count);

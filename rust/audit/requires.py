@@ -45,6 +45,8 @@ def _side(words, params):
     numbers, slices = params
     if words == ["MAX_VARINT"]:
         return ["0x3fff_ffff_ffff_ffff"], ""
+    if words in (["MAX_WINDOW"], ["MAX_CONN_WINDOW"]):
+        return ["1", "<<", "30" if words == ["MAX_WINDOW"] else "40"], ""
     if len(words) == 1 and words[0] in numbers:
         return words, numbers[words[0]]
     if len(words) == 1 and words[0].isdecimal():

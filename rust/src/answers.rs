@@ -37,8 +37,11 @@ pub enum Received {
 /// What came of a frame that came without its packet.
 #[derive(Clone, Copy, Debug, PartialEq, Eq)]
 pub enum Taken {
-    /// It took effect.
+    /// It took effect, and changed something.
     Took,
+    /// It changed nothing: what it carries came before, or it raises nothing. Many of these tell of a peer that only makes
+    /// work.
+    Unchanged,
     /// It is of a kind that is the stack's own affair, and changed nothing: not of streams, and not of flow control.
     NotOurs,
 }
@@ -47,6 +50,7 @@ impl Taken {
     pub(crate) fn of(taken: calls::Taken) -> Taken {
         match taken {
             calls::Taken::Took => Taken::Took,
+            calls::Taken::Unchanged => Taken::Unchanged,
             calls::Taken::NotOurs => Taken::NotOurs,
         }
     }
@@ -63,6 +67,16 @@ pub enum Read {
     Reset(u64),
     /// Nothing is there to read now.
     Wait,
+}
+
+/// What came of bytes that were taken without a copy ([`Endpoint::consume`](crate::Endpoint::consume)).
+#[derive(Clone, Copy, Debug, PartialEq, Eq)]
+#[non_exhaustive]
+pub struct Consumed {
+    /// What a read of so many bytes tells.
+    pub read: Read,
+    /// Whether the end of the stream is reached, and so counts as told: it needs no further call.
+    pub at_end: bool,
 }
 
 /// A packet that was made.
@@ -208,6 +222,15 @@ impl Received {
             calls::Received::BelowFloor => Received::BelowFloor,
             calls::Received::PeerClosed(code) => Received::PeerClosed(code),
             calls::Received::NoMemory => Received::NoMemory,
+        }
+    }
+}
+
+impl Consumed {
+    pub(crate) fn of(consumed: calls::Consumed) -> Consumed {
+        Consumed {
+            read: Read::of(consumed.read),
+            at_end: consumed.at_end,
         }
     }
 }

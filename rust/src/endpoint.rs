@@ -1,6 +1,6 @@
 //! One end of a connection.
 
-use crate::answers::{Closing, Held, Made, Read, Received, StreamReport, Taken, Token};
+use crate::answers::{Closing, Consumed, Held, Made, Read, Received, StreamReport, Taken, Token};
 use crate::faults::{
     LostFault, MakeFault, OpenFault, RaiseFault, ReceiveFault, SetupFault, TakeFault, TokenFault,
     UseFault,
@@ -63,7 +63,7 @@ impl Endpoint {
     /// `OutOfRange` where a setting or a limit of the peer lies outside its range, and `TooManyStreams` where the peer
     /// grants more than 2^60 streams of a direction (section 4.6).
     pub fn new(role: Role, settings: Settings, peer: PeerLimits) -> Result<Endpoint, SetupFault> {
-        match conn::Endpoint::new(Global, role.inner(), settings.inner(), peer.inner()) {
+        match conn::Endpoint::new_wide(Global, role.inner(), settings.inner(), peer.inner()) {
             Ok(inner) => Ok(Endpoint { inner }),
             Err(fault) => Err(SetupFault::of(fault)),
         }
@@ -156,6 +156,43 @@ impl Endpoint {
         self.inner
             .read(stream.inner(), into)
             .map(Read::of)
+            .map_err(UseFault::of)
+    }
+
+    /// Takes the bytes that are next, at most so many, as [`Endpoint::read`] into a slice of that length does, and copies
+    /// none: to pass over what isn't wanted. Where that reaches the final size `at_end` says so, and the end counts as told:
+    /// the stream needs no further call (RFC 9000, sections 2.2, 3.2 and 4.5).
+    ///
+    /// ```
+    /// use gotsavena::{Dir, Endpoint, Read, Role, Settings};
+    ///
+    /// let settings = Settings::default();
+    /// let mut client = Endpoint::new(Role::Client, settings, settings.limits())?;
+    /// let mut server = Endpoint::new(Role::Server, settings, settings.limits())?;
+    /// let stream = client.open(Dir::Uni)?;
+    /// client.write(stream, b"header, and a body")?;
+    /// client.finish(stream)?;
+    /// let mut payload = [0; 1200];
+    /// let made = client.make_packet(&mut payload)?.expect("bytes are due");
+    /// server.receive(made.number, &payload[..made.len])?;
+    ///
+    /// assert_eq!(server.consume(stream, 8)?.read, Read::Bytes(8));
+    /// let mut bytes = [0; 3];
+    /// assert_eq!(server.read(stream, &mut bytes)?, Read::Bytes(3));
+    /// assert_eq!(&bytes, b"and");
+    /// let rest = server.consume(stream, 100)?;
+    /// assert_eq!(rest.read, Read::Bytes(7));
+    /// assert!(rest.at_end);
+    /// # Ok::<(), Box<dyn std::error::Error>>(())
+    /// ```
+    ///
+    /// # Errors
+    ///
+    /// Those of [`Endpoint::read`].
+    pub fn consume(&mut self, stream: StreamId, most: usize) -> Result<Consumed, UseFault> {
+        self.inner
+            .consume(stream.inner(), most)
+            .map(Consumed::of)
             .map_err(UseFault::of)
     }
 
@@ -334,7 +371,8 @@ impl Endpoint {
     /// Takes in a frame that comes without its packet, for a stack that owns its packet numbers and its ACKs (RFC 9000,
     /// section 13.1). A frame of streams or of flow control takes effect as in a payload, and then the limits move; one of
     /// any other kind changes nothing: an ACK (tell its packets by [`Endpoint::acked`]), a CONNECTION_CLOSE, PADDING.
-    /// Acknowledge a packet to the peer only once each of its frames was taken.
+    /// `Took` and `Unchanged` say whether anything changed: a frame that came before, carries no new byte or raises nothing
+    /// doesn't, and a stack counts these against a peer that only makes work. Acknowledge a packet to the peer only once each of its frames was taken.
     ///
     /// ```
     /// use gotsavena::{Dir, Endpoint, Read, Role, Settings, Taken, frames};
@@ -348,7 +386,9 @@ impl Endpoint {
     /// let made = client.make_packet(&mut payload)?.expect("bytes are due");
     ///
     /// for placed in frames(&payload[..made.len]) {
-    ///     assert_eq!(server.take_frame(&placed?.frame)?, Taken::Took);
+    ///     let frame = placed?.frame;
+    ///     assert_eq!(server.take_frame(&frame)?, Taken::Took);
+    ///     assert_eq!(server.take_frame(&frame)?, Taken::Unchanged);
     /// }
     /// let mut bytes = [0; 16];
     /// assert_eq!(server.read(stream, &mut bytes)?, Read::Bytes(5));
@@ -424,10 +464,55 @@ impl Endpoint {
         if number > MAX_VARINT || payload.len() > MAX_PAYLOAD {
             return Err(ReceiveFault::Invalid);
         }
-        match self.inner.receive(number, payload) {
-            Ok(received) => Ok(Received::of(received)),
-            Err(closing) => Err(ReceiveFault::Closing(Closing::of(closing))),
+        answer_of(self.inner.receive(number, payload))
+    }
+
+    /// As [`Endpoint::receive`], and `told` is told each packet that the payload newly acknowledges, once: one that was
+    /// outstanding, that an ACK of the payload names, and that isn't outstanding any more (RFC 9000, section 13.3). They are
+    /// told in the order of the ACKs, of each ACK the highest number first; congestion control goes on from there (RFC 9002,
+    /// section 7). The payload is read once.
+    ///
+    /// After [`Received::NoMemory`] none was told that is outstanding still: the same payload may come again, and tells the
+    /// others.
+    ///
+    /// # Errors
+    ///
+    /// As of [`Endpoint::receive`]. Whatever was told was taken as acknowledged.
+    ///
+    /// # Example
+    ///
+    /// ```
+    /// use gotsavena::{Dir, Endpoint, Role, Settings};
+    ///
+    /// let settings = Settings::default();
+    /// let mut client = Endpoint::new(Role::Client, settings, settings.limits())?;
+    /// let mut server = Endpoint::new(Role::Server, settings, settings.limits())?;
+    /// let stream = client.open(Dir::Bidi)?;
+    /// client.write(stream, b"hello")?;
+    ///
+    /// let mut payload = [0; 1200];
+    /// let made = client.make_packet(&mut payload)?.expect("bytes are due");
+    /// server.receive(made.number, &payload[..made.len])?;
+    /// let ack = server.make_packet(&mut payload)?.expect("an ACK is due");
+    ///
+    /// let mut acked = Vec::new();
+    /// client.receive_telling(ack.number, &payload[..ack.len], |number| acked.push(number))?;
+    /// assert_eq!(acked, [made.number]);
+    /// # Ok::<(), Box<dyn std::error::Error>>(())
+    /// ```
+    pub fn receive_telling(
+        &mut self,
+        number: u64,
+        payload: &[u8],
+        mut told: impl FnMut(u64),
+    ) -> Result<Received, ReceiveFault> {
+        if number > MAX_VARINT || payload.len() > MAX_PAYLOAD {
+            return Err(ReceiveFault::Invalid);
         }
+        answer_of(
+            self.inner
+                .receive_telling(number, payload, &mut Telling(&mut told)),
+        )
     }
 
     /// Writes the payload that tells of this end's own closing: a CONNECTION_CLOSE with an empty reason (RFC 9000,
@@ -446,6 +531,29 @@ impl Endpoint {
     /// window (RFC 9000, section 4.1).
     pub fn stored(&self) -> u64 {
         self.inner.stored()
+    }
+
+    /// How many runs the offsets make that came, on all streams whose end their reader wasn't told and that weren't reset:
+    /// one for each on which some came, and one more for each gap between them (RFC 9000, section 2.2). It takes constant
+    /// time.
+    ///
+    /// Each run beyond two of a stream takes 16 to 32 bytes for as long as the gaps are there: also of a stream that was
+    /// stopped, whose peer gets its credit back, so that no setting bounds them. The layer beneath closes a connection in
+    /// which this number gets too great.
+    ///
+    /// ```
+    /// use gotsavena::{Endpoint, Frame, Role, Settings, StreamId};
+    /// let settings = Settings::default();
+    /// let mut server = Endpoint::new(Role::Server, settings, settings.limits())?;
+    /// let stream = StreamId::new(0).expect("below 2^62");
+    /// for offset in [0, 2, 4] {
+    ///     server.take_frame(&Frame::Stream { stream, offset, fin: false, bytes: b"x" })?;
+    /// }
+    /// assert_eq!(server.noted(), 3);
+    /// # Ok::<(), Box<dyn std::error::Error>>(())
+    /// ```
+    pub fn noted(&self) -> u64 {
+        self.inner.noted()
     }
 
     /// How much memory the rings and the buffers of streams take, by a walk over all streams that were opened: for a look now
@@ -608,10 +716,10 @@ impl Endpoint {
         self.inner.next_outstanding(from)
     }
 
-    /// The least number at or above `from` of a packet that is outstanding and that an ACK of the payload names:
-    /// [`Endpoint::receive`] of that payload takes it as acknowledged (RFC 9000, section 13.3). `None` where there is none.
-    /// Asked before `receive`, and then again from the number after each answer on, it tells all that the payload newly
-    /// acknowledges, from which congestion control goes on (RFC 9002, section 7).
+    /// The least number at or above `from` of a packet that is outstanding and that an ACK of the payload names, by a reading
+    /// of the whole payload for each answer: [`Endpoint::receive_telling`] tells all of them in one. [`Endpoint::receive`] of
+    /// that payload takes it as acknowledged (RFC 9000, section 13.3). `None` where there is none. It is asked before
+    /// `receive`, which may end earlier.
     ///
     /// The reading ends at the first bytes that are no frame, and at a CONNECTION_CLOSE, as that of `receive` does. It
     /// asks nothing else of the payload: not whether its number was processed before, nor whether a frame breaks a rule.
@@ -652,6 +760,22 @@ impl Endpoint {
     /// The receiving half of a stream, to read from. Whether it is one is told as it is used.
     pub fn recv_stream(&mut self, stream: StreamId) -> RecvStream<'_> {
         RecvStream::new(self, stream)
+    }
+}
+
+// What is told goes to a closure. It is of one type, so that the crate has one copy of what takes a payload in.
+struct Telling<'a>(&'a mut dyn FnMut(u64));
+
+impl conn::Told for Telling<'_> {
+    fn tell(&mut self, number: u64) {
+        (self.0)(number);
+    }
+}
+
+fn answer_of(taken: Result<conn::Received, conn::Closing>) -> Result<Received, ReceiveFault> {
+    match taken {
+        Ok(received) => Ok(Received::of(received)),
+        Err(closing) => Err(ReceiveFault::Closing(Closing::of(closing))),
     }
 }
 

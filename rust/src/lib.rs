@@ -82,7 +82,7 @@ pub(crate) mod shim;
 mod streams;
 
 pub use answers::{
-    Closing, Held, Made, Read, Received, RecvReport, RecvState, SendReport, SendState,
+    Closing, Consumed, Held, Made, Read, Received, RecvReport, RecvState, SendReport, SendState,
     StreamReport, Taken, Token,
 };
 pub use endpoint::{Endpoint, MAX_PAYLOAD, MAX_ROOM, MIN_ROOM};

@@ -64,46 +64,46 @@ impl Default for Settings {
 }
 
 impl Settings {
-    /// How far the bytes received on all streams may run ahead of those taken: 1 to 2^24 bytes (RFC 9000, section 4.1).
+    /// How far the bytes received on all streams may run ahead of those taken: 1 to 2^40 bytes (RFC 9000, section 4.1).
     /// At most so many bytes are stored.
     pub fn conn_window(mut self, bytes: u64) -> Settings {
         self.0.conn_window = bytes;
         self
     }
 
-    /// The same for each bidirectional stream that this end opens: 1 to 2^20 bytes.
+    /// The same for each bidirectional stream that this end opens: 1 to 2^30 bytes.
     pub fn bidi_local_window(mut self, bytes: u64) -> Settings {
         self.0.bidi_local = bytes;
         self
     }
 
-    /// The same for each bidirectional stream that the peer opens: 1 to 2^20 bytes.
+    /// The same for each bidirectional stream that the peer opens: 1 to 2^30 bytes.
     pub fn bidi_remote_window(mut self, bytes: u64) -> Settings {
         self.0.bidi_remote = bytes;
         self
     }
 
-    /// The same for each unidirectional stream that the peer opens: 1 to 2^20 bytes.
+    /// The same for each unidirectional stream that the peer opens: 1 to 2^30 bytes.
     pub fn uni_window(mut self, bytes: u64) -> Settings {
         self.0.uni = bytes;
         self
     }
 
-    /// The three windows of streams at once: 1 to 2^20 bytes.
+    /// The three windows of streams at once: 1 to 2^30 bytes.
     pub fn stream_windows(self, bytes: u64) -> Settings {
         self.bidi_local_window(bytes)
             .bidi_remote_window(bytes)
             .uni_window(bytes)
     }
 
-    /// How many bytes that aren't acknowledged each sending half keeps: 1 to 2^20.
+    /// How many bytes that aren't acknowledged each sending half keeps: 1 to 2^30.
     pub fn send_buffer(mut self, bytes: usize) -> Settings {
         self.0.send_buffer = bytes;
         self
     }
 
-    /// How many streams of each direction the peer may open at first (0 to 4,096), and in all, as those that it opened
-    /// come to their end (the first number to 65,536; RFC 9000, section 4.6).
+    /// How many streams of each direction the peer may open at first (0 to 2^17), and in all, as those that it opened
+    /// come to their end (the first number to 2^21; RFC 9000, section 4.6).
     pub fn streams(self, at_first: u64, in_all: u64) -> Settings {
         self.bidi_streams(at_first, in_all)
             .uni_streams(at_first, in_all)

@@ -1,6 +1,6 @@
 //! The halves of one stream.
 
-use crate::answers::{Read, RecvReport, SendReport};
+use crate::answers::{Consumed, Read, RecvReport, SendReport};
 use crate::endpoint::Endpoint;
 use crate::faults::UseFault;
 use crate::ids::StreamId;
@@ -127,6 +127,15 @@ impl<'a> RecvStream<'a> {
     /// Those of that call.
     pub fn try_read(&mut self, into: &mut [u8]) -> Result<Read, UseFault> {
         self.end.read(self.stream, into)
+    }
+
+    /// Takes the bytes that are next, at most so many, without a copy, as [`Endpoint::consume`] does.
+    ///
+    /// # Errors
+    ///
+    /// Those of that call.
+    pub fn consume(&mut self, most: usize) -> Result<Consumed, UseFault> {
+        self.end.consume(self.stream, most)
     }
 
     /// Throws the stream's bytes away, as [`Endpoint::stop`] does.

@@ -1,8 +1,8 @@
 //! What an end is asked, and what it answers as it is.
 
 use gotsavena::{
-    Dir, Endpoint, LostFault, OpenFault, PeerLimits, RaiseFault, Received, Role, Settings,
-    SetupFault, StreamId,
+    Dir, Endpoint, Frame, LostFault, OpenFault, PeerLimits, RaiseFault, Read, ReceiveFault,
+    Received, Role, Settings, SetupFault, StreamId,
 };
 
 fn ends(settings: Settings) -> (Endpoint, Endpoint) {
@@ -308,15 +308,76 @@ fn newly_acknowledged_packets_are_told_by_what_is_outstanding() {
     assert_eq!(outstanding(&client), after);
 }
 
-// Several ACKs in one payload count together; one behind a CONNECTION_CLOSE or behind bytes that are no frame doesn't.
-#[test]
-fn newly_acknowledged_packets_are_told_of_each_ack_that_is_read() {
+// What a payload newly acknowledges, as it is told while the payload is taken in.
+fn told(end: &mut Endpoint, number: u64, payload: &[u8]) -> Vec<u64> {
+    let mut numbers = Vec::new();
+    _ = end.receive_telling(number, payload, |number| numbers.push(number));
+    numbers
+}
+
+// An end that wrote six packets, 0 to 5.
+fn six_sent() -> Endpoint {
     let (mut client, _) = ends(Settings::default());
     let stream = client.open(Dir::Bidi).expect("granted");
     for _ in 0..6 {
         client.write(stream, b"part").expect("open");
         client.make_packet(&mut [0; 200]).expect("open");
     }
+    client
+}
+
+// Each once, in the order of the ACKs, and of each the highest number first.
+#[test]
+fn what_a_payload_newly_acknowledges_is_told_once() {
+    let (low, both) = ([2, 1, 0, 0, 1], [2, 5, 0, 1, 0, 2, 0]);
+    assert_eq!(told(&mut six_sent(), 0, &both), [5, 1]);
+    assert_eq!(
+        told(&mut six_sent(), 0, &[&low[..], &both].concat()),
+        [1, 0, 5]
+    );
+    assert_eq!(
+        told(&mut six_sent(), 0, &[&both[..], &low].concat()),
+        [5, 1, 0]
+    );
+    assert_eq!(
+        told(&mut six_sent(), 0, &[2, 5, 0, 0, 5]),
+        [5, 4, 3, 2, 1, 0]
+    );
+    let mut end = six_sent();
+    assert_eq!(told(&mut end, 0, &low), [1, 0]);
+    // The same payload again, the same ACK in another packet, and a packet that was lost.
+    assert_eq!(told(&mut end, 0, &low), []);
+    assert_eq!(told(&mut end, 1, &low), []);
+    end.declare_lost(4).expect("outstanding");
+    assert_eq!(told(&mut end, 2, &[2, 5, 0, 0, 5]), [5, 3, 2]);
+    assert_eq!(outstanding(&end), []);
+}
+
+// What stood before a fault or a CONNECTION_CLOSE is told, and nothing behind it; a closed end tells nothing.
+#[test]
+fn what_took_effect_alone_is_told() {
+    let (low, high, unsent) = ([2, 1, 0, 0, 1], [2, 4, 0, 0, 0], [2, 9, 0, 0, 9]);
+    let close = [0x1d, 0, 0];
+    for end in [&close[..], &[0x21], &unsent] {
+        let mut client = six_sent();
+        let payload = [&high[..], end, &low].concat();
+        assert_eq!(told(&mut client, 0, &payload), [4]);
+        assert_eq!(outstanding(&client), [0, 1, 2, 3, 5]);
+        assert_eq!(told(&mut client, 1, &low), []);
+    }
+    let mut client = six_sent();
+    let mut count = 0;
+    let long = vec![0; 65_536];
+    let answer = client.receive_telling(0, &long, |_| count += 1);
+    assert_eq!((answer, count), (Err(ReceiveFault::Invalid), 0));
+    let answer = client.receive_telling(1 << 62, &low, |_| count += 1);
+    assert_eq!((answer, count), (Err(ReceiveFault::Invalid), 0));
+}
+
+// Several ACKs in one payload count together; one behind a CONNECTION_CLOSE or behind bytes that are no frame doesn't.
+#[test]
+fn newly_acknowledged_packets_are_told_of_each_ack_that_is_read() {
+    let mut client = six_sent();
     // The type, the largest number, the delay, no further range, and how many more the first range has.
     let (low, high, both) = ([2, 1, 0, 0, 1], [2, 4, 0, 0, 0], [2, 5, 0, 1, 0, 2, 0]);
     let close = [0x1d, 0, 0];
@@ -460,4 +521,55 @@ fn the_peers_streams_are_given_out_by_direction() {
     pass(&mut client, &mut server).expect("due");
     assert!(server.receive(99, &[0x11, 0x01, 0x05]).is_err());
     assert_eq!(server.accept_of(Dir::Uni), None);
+}
+
+#[test]
+fn noted_counts_runs_until_a_reset_or_the_end_is_told() {
+    let (_, mut server) = ends(
+        Settings::default()
+            .conn_window(1 << 16)
+            .stream_windows(1 << 14),
+    );
+    let put = |server: &mut Endpoint, stream: u64, offset: u64, fin: bool| {
+        let stream = StreamId::new(stream).expect("below 2^62");
+        let bytes = b"x";
+        let frame = Frame::Stream {
+            stream,
+            offset,
+            fin,
+            bytes,
+        };
+        server.take_frame(&frame).expect("within credit");
+        server.noted()
+    };
+    assert_eq!(server.noted(), 0);
+    assert_eq!(put(&mut server, 0, 0, false), 1);
+    // Another stream, and gaps that come and go.
+    assert_eq!(put(&mut server, 2, 4, false), 2);
+    assert_eq!(put(&mut server, 2, 2, false), 3);
+    assert_eq!(put(&mut server, 2, 0, false), 4);
+    assert_eq!(put(&mut server, 2, 1, false), 3);
+    // More than stand in the set itself.
+    for place in 1..1000 {
+        assert_eq!(put(&mut server, 6, 2 * place, false), 3 + place);
+    }
+    assert_eq!(put(&mut server, 6, 2001, false), 1003);
+    let six = StreamId::new(6).expect("below 2^62");
+    server.stop(six, 1).expect("open");
+    assert_eq!(server.noted(), 1003);
+    let frame = Frame::ResetStream {
+        stream: six,
+        code: 1,
+        final_size: 2002,
+    };
+    server.take_frame(&frame).expect("within credit");
+    assert_eq!(server.noted(), 3);
+    // The end of stream 0 comes, and its reader is told.
+    assert_eq!(put(&mut server, 0, 1, true), 3);
+    let zero = StreamId::new(0).expect("below 2^62");
+    let mut bytes = [0; 8];
+    assert_eq!(server.read(zero, &mut bytes), Ok(Read::Bytes(2)));
+    assert_eq!(server.noted(), 3);
+    assert_eq!(server.read(zero, &mut bytes), Ok(Read::End));
+    assert_eq!(server.noted(), 2);
 }

@@ -132,16 +132,29 @@ fn settings_and_limits_have_ranges() {
     assert_eq!(made(settings, PeerLimits::default()), Ok(()));
     assert_eq!(made(settings.conn_window(0), limits), out_of_range);
     assert_eq!(
-        made(settings.conn_window((1 << 24) + 1), limits),
+        made(settings.conn_window((1 << 40) + 1), limits),
         out_of_range
     );
     assert_eq!(
-        made(settings.stream_windows((1 << 20) + 1), limits),
+        made(settings.stream_windows((1 << 30) + 1), limits),
         out_of_range
     );
     assert_eq!(made(settings.send_buffer(usize::MAX), limits), out_of_range);
     assert_eq!(made(settings.streams(9, 8), limits), out_of_range);
-    assert_eq!(made(settings.streams(4097, 5000), limits), out_of_range);
+    assert_eq!(
+        made(settings.streams((1 << 17) + 1, 1 << 21), limits),
+        out_of_range
+    );
+    assert_eq!(
+        made(settings.streams(8, (1 << 21) + 1), limits),
+        out_of_range
+    );
+    let widest = settings
+        .conn_window(1 << 40)
+        .stream_windows(1 << 30)
+        .send_buffer(1 << 30)
+        .streams(1 << 17, 1 << 21);
+    assert_eq!(made(widest, widest.limits()), Ok(()));
     let peer = PeerLimits {
         max_data: 1 << 62,
         ..limits

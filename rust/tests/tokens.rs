@@ -21,12 +21,21 @@ fn fill(end: &mut Endpoint, payload: &mut [u8]) -> Option<(usize, Token)> {
     Some((made.len, token))
 }
 
-// Hands each frame in, the last one first and each twice; an ACK is the stack's own affair.
+// Hands each frame in, the last one first and each twice, which changes nothing the second time; an ACK is the stack's own affair.
 fn hand_in(end: &mut Endpoint, payload: &[u8]) {
     let all: Vec<Frame<'_>> = frames(payload).map(|p| p.expect("a frame").frame).collect();
-    for frame in all.iter().rev().chain(&all) {
+    for frame in all.iter().rev() {
         let ours = !matches!(frame, Frame::Ack { .. });
-        let taken = if ours { Taken::Took } else { Taken::NotOurs };
+        let taken = end.take_frame(frame).expect("lawful");
+        assert_eq!(taken != Taken::NotOurs, ours);
+    }
+    for frame in &all {
+        let ours = !matches!(frame, Frame::Ack { .. });
+        let taken = if ours {
+            Taken::Unchanged
+        } else {
+            Taken::NotOurs
+        };
         assert_eq!(end.take_frame(frame), Ok(taken));
     }
 }
@@ -79,6 +88,107 @@ fn a_stream_is_carried_by_frames_and_tokens() {
     }
     assert_eq!(came, sent);
     assert!(!client.is_sendable() && !server.is_sendable());
+}
+
+// Each of these frames changes something, or nothing, where they come in this order.
+#[test]
+fn a_frame_tells_whether_it_changed_anything() {
+    let (mut client, mut server) = ends();
+    let own = server.open(Dir::Bidi).expect("granted");
+    let stream = StreamId::new(0).expect("small");
+    let data = |offset, bytes, fin| Frame::Stream {
+        stream,
+        offset,
+        fin,
+        bytes,
+    };
+    let reset = |stream| Frame::ResetStream {
+        stream,
+        code: 7,
+        final_size: 3,
+    };
+    let stop = |stream| Frame::StopSending { stream, code: 7 };
+    let max_of_stream = |stream, maximum| Frame::MaxStreamData { stream, maximum };
+    let other = StreamId::new(4).expect("small");
+    let settings = Settings::default();
+    let (data_limit, streams) = (settings.limits().max_data, settings.limits().streams_bidi);
+    let rows = [
+        // An empty frame opens its stream, and then does nothing.
+        (data(0, b"", false), true),
+        (data(0, b"", false), false),
+        (data(5, b"", false), false),
+        (data(1, b"bc", false), true),
+        (data(2, b"c", false), false),
+        (data(0, b"abc", false), true),
+        (data(0, b"abc", false), false),
+        (data(3, b"", true), true),
+        (data(0, b"abc", true), false),
+        (reset(stream), false),
+        (reset(other), true),
+        (reset(other), false),
+        (stop(stream), true),
+        (stop(stream), false),
+        (max_of_stream(own, 1), false),
+        (max_of_stream(own, 1 << 40), true),
+        (max_of_stream(own, 1 << 40), false),
+        (
+            Frame::MaxData {
+                maximum: data_limit,
+            },
+            false,
+        ),
+        (
+            Frame::MaxData {
+                maximum: data_limit + 1,
+            },
+            true,
+        ),
+        (
+            Frame::MaxStreams {
+                dir: Dir::Bidi,
+                count: streams,
+            },
+            false,
+        ),
+        (
+            Frame::MaxStreams {
+                dir: Dir::Bidi,
+                count: streams + 1,
+            },
+            true,
+        ),
+        (Frame::DataBlocked { limit: 9 }, false),
+        (
+            Frame::StreamsBlocked {
+                dir: Dir::Uni,
+                count: 9,
+            },
+            false,
+        ),
+        (
+            Frame::StreamDataBlocked {
+                stream: other,
+                limit: 9,
+            },
+            false,
+        ),
+        (
+            Frame::StreamDataBlocked {
+                stream: StreamId::new(8).expect("small"),
+                limit: 9,
+            },
+            true,
+        ),
+    ];
+    for (frame, changes) in rows {
+        let taken = if changes {
+            Taken::Took
+        } else {
+            Taken::Unchanged
+        };
+        assert_eq!(server.take_frame(&frame), Ok(taken), "{frame:?}");
+    }
+    assert_eq!(client.take_frame(&Frame::Ping), Ok(Taken::NotOurs));
 }
 
 #[test]

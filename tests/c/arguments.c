@@ -85,6 +85,12 @@ int main(void) {
   settings.conn_window = 0;
   want(gv_endpoint_new(GV_ROLE_CLIENT, &settings, &limits, &end), GV_OUT_OF_RANGE, "window");
   settings.conn_window = 4096;
+  settings.uni = (UINT64_C(1) << 30) + 1;
+  want(gv_endpoint_new(GV_ROLE_CLIENT, &settings, &limits, &end), GV_OUT_OF_RANGE, "window of a stream");
+  settings.uni = UINT64_C(1) << 30;
+  want(gv_endpoint_new(GV_ROLE_CLIENT, &settings, &limits, &end), GV_OK, "widest window");
+  gv_endpoint_free(end);
+  settings.uni = 1024;
   limits.streams_uni = (UINT64_C(1) << 60) + 1;
   want(gv_endpoint_new(GV_ROLE_CLIENT, &settings, &limits, &end), GV_TOO_MANY_STREAMS, "streams");
   limits.streams_uni = 8;

@@ -87,6 +87,48 @@ static void of_packets(gv_endpoint *from, gv_endpoint *to, uint64_t stream) {
   DROP(receiving);
 }
 
+/* What one end fills in is handed to the other. */
+static void of_fills(gv_endpoint *from, gv_endpoint *to) {
+  gv_fill_request *want = NEW(gv_fill_request);
+  gv_filled *filled = NEW(gv_filled);
+  gv_frame *frame = NEW(gv_frame);
+  gv_fault fault = {.size = sizeof fault};
+  gv_taken taken = GV_TAKEN_NOT_OURS;
+  uint8_t out[200];
+  size_t count = 0, size = want->size;
+  uint64_t stream = 0;
+  check(gv_open(from, GV_DIR_UNI, &stream, NULL) == GV_OK && gv_write(from, stream, (const uint8_t *)"abc", 3, &count) == GV_OK, "open");
+  memset((uint8_t *)want + sizeof(size_t), 0, sizeof *want - sizeof(size_t));
+  want->items = want->streams = true;
+  want->size = 23;
+  check(gv_fill(from, want, out, sizeof out, filled) == GV_INVALID, "too small a request");
+  want->size = size;
+#ifdef GROWN
+  want->later = 1;
+  check(has_later || gv_fill(from, want, out, sizeof out, filled) == GV_INVALID, "a wish that isn't known");
+  want->later = 0;
+#endif
+  size = filled->size;
+  filled->size = 39;
+  check(gv_fill(from, want, out, sizeof out, filled) == GV_INVALID, "a struct without room");
+  filled->size = size;
+  check(gv_fill(from, want, out, sizeof out, filled) == GV_OK && filled->size == size, "a fill");
+  printf("filled %zu bytes, of stream %" PRIu64 ", more %d, token %" PRIu64 "\n", filled->len, filled->last_stream, filled->more, filled->token);
+  gv_frames frames = {out, filled->len, 0};
+  check(gv_frames_next(&frames, frame, &fault) == GV_OK, "its frame");
+#ifdef GROWN
+  frame->later = 0;
+#endif
+  size = frame->size;
+  frame->size = 167;
+  check(gv_take_frame(to, frame, &taken) == GV_INVALID, "too small a frame");
+  frame->size = size;
+  check(gv_take_frame(to, frame, &taken) == GV_OK && taken == GV_TAKEN_TOOK, "it is handed in");
+  drop(want, sizeof *want);
+  DROP(filled);
+  drop(frame, sizeof *frame);
+}
+
 static void of_frames(void) {
   static const uint8_t payload[] = {0x18, 0x05, 0x02, 0x01, 0x77, 1, 2, 3, 4, 5, 6, 7, 8, 9, 10, 11, 12, 13, 14, 15, 16, 0xff};
   gv_frame *frame = NEW(gv_frame);
@@ -123,6 +165,7 @@ int main(int count, char **words) {
   check(gv_open(client, GV_DIR_BIDI, &stream, NULL) == GV_OK, "open");
   check(gv_write(client, stream, (const uint8_t *)"hello", 5, &taken) == GV_OK && gv_finish(client, stream) == GV_OK, "write");
   of_packets(client, server, stream);
+  of_fills(client, server);
   of_frames();
   of_closing(server);
   gv_endpoint_free(client);

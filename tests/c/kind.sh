@@ -34,13 +34,15 @@ compile() {
 compile pipe "$root/c/examples/pipe.c"
 compile udp_copy "$root/c/examples/udp_copy.c"
 compile frames "$root/c/examples/frames.c"
+compile stack "$root/c/examples/stack.c"
 compile arguments "$tests/arguments.c"
+compile handed "$tests/handed.c"
 compile written "$tests/written.c"
 compile play "$tests/play.c"
 compile payloads "$root/c/fuzz/payloads.c"
 compile refused "$tests/refused.c"
 compile allocators "$tests/allocators.c" -pthread -Wl,--wrap=malloc -Wl,--wrap=realloc
-for name in pipe arguments written refused allocators; do
+for name in pipe stack arguments handed written refused allocators; do
   try "$name" timeout 300 "$room/$name"
 done
 try 'payloads' timeout 300 "$room/payloads" "$root"/c/fuzz/inputs/*
@@ -55,12 +57,13 @@ plain() {
 sed -n '/^```c$/,/^```$/p' "$root/README.md" | sed '/^```/d' >"$room/readme.c"
 plain readme "$room/readme.c"
 plain pipe "$root/c/examples/pipe.c"
+plain stack "$root/c/examples/stack.c"
 plain refused "$tests/refused.c"
 plain allocators "$tests/allocators.c" -pthread -Wl,--wrap=malloc -Wl,--wrap=realloc
 says_hello() { [ "$("$1")" = hello ]; }
 for form in a so; do
   try "what the README prints ($form)" says_hello "$room/readme-$form"
-  for name in pipe refused allocators; do
+  for name in pipe stack refused allocators; do
     if has valgrind "$name under valgrind"; then
       try "$name under valgrind ($form)" timeout 600 valgrind -q --error-exitcode=1 --leak-check=full "$room/$name-$form"
     fi
@@ -83,10 +86,10 @@ fi
 later=$room/later
 mkdir -p "$later/include" "$later/src"
 cp "$root"/c/src/*.[ch] "$later/src"
-sed 's/^} gv_\(settings\|limits\|allocator\|made\|sending\|receiving\|closing_info\|frame\|fault\);/  uint64_t later;\n&/' "$root/c/include/gotsavena.h" >"$later/include/gotsavena.h"
+sed 's/^} gv_\(settings\|limits\|allocator\|made\|fill_request\|filled\|sending\|receiving\|closing_info\|frame\|fault\);/  uint64_t later;\n&/' "$root/c/include/gotsavena.h" >"$later/include/gotsavena.h"
 sed -i 's/^ENDS_WITH(\([a-z_]*\), .*/ENDS_WITH(\1, later);/' "$later/src/calls.c"
-has_grown() { [ "$(grep -c '^  uint64_t later;' "$later/include/gotsavena.h")" = 9 ] && [ "$(grep -c ', later);' "$later/src/calls.c")" = 9 ]; }
-try 'nine structs of the later header have one field more' has_grown
+has_grown() { [ "$(grep -c '^  uint64_t later;' "$later/include/gotsavena.h")" = 11 ] && [ "$(grep -c ', later);' "$later/src/calls.c")" = 11 ]; }
+try 'eleven structs of the later header have one field more' has_grown
 make_later() {
   local name
   for name in calls memory about; do

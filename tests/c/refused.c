@@ -1,5 +1,6 @@
 /* Each allocation of a transfer between two ends is refused, one after the other: a call that wants memory answers GV_NO_MEMORY, may
- * be made again, and every byte comes out right. Once memory comes anew where it grows, and once it is made larger. */
+ * be made again, and every byte comes out right. Once with payloads and once with frames and tokens; once memory comes anew where it grows,
+ * and once it is made larger. */
 #include <stdio.h>
 #include <stdlib.h>
 
@@ -65,11 +66,41 @@ static gv_endpoint *new_end(gv_role role) {
   return end;
 }
 
+static bool by_frames; /* what one end sends goes to the other as frames */
+
+/* The frames of each third fill are lost, and the others are acknowledged. */
+static bool hand_over(gv_endpoint *from, gv_endpoint *to) {
+  uint8_t out[ROOM];
+  gv_fill_request all = {.size = sizeof all, .items = true, .streams = true};
+  gv_filled filled = {.size = sizeof filled};
+  gv_frame frame = {.size = sizeof frame};
+  gv_fault fault = {.size = sizeof fault};
+  gv_taken taken;
+  gv_status status;
+  AGAIN(status, gv_fill(from, &all, out, sizeof out, &filled));
+  if (status == GV_NONE) return false;
+  want(status, GV_OK, "fill");
+  if (filled.token % 3 == 1) {
+    AGAIN(status, gv_token_lost(from, filled.token));
+    want(status, GV_OK, "lost");
+    return true;
+  }
+  gv_frames frames = {out, filled.len, 0};
+  while (gv_frames_next(&frames, &frame, &fault) == GV_OK) {
+    AGAIN(status, gv_take_frame(to, &frame, &taken));
+    want(status, GV_OK, "take a frame");
+  }
+  AGAIN(status, gv_token_acked(from, filled.token));
+  want(status, GV_OK, "acked");
+  return true;
+}
+
 /* Each third packet is lost. */
 static bool carry(gv_endpoint *from, gv_endpoint *to) {
   uint8_t payload[ROOM];
   gv_made made = {.size = sizeof made};
   gv_status status;
+  if (by_frames) return hand_over(from, to);
   AGAIN(status, gv_make_packet(from, payload, sizeof payload, &made));
   if (status == GV_NONE) return false;
   want(status, GV_OK, "make");
@@ -128,6 +159,7 @@ static void transfer(void) {
 
 static bool refuse_each(void) {
   unsigned long all, before = refusals;
+  answered = 0;
   refused_one = asked = 0;
   transfer();
   all = asked;
@@ -139,8 +171,15 @@ static bool refuse_each(void) {
   return refusals - before == all;
 }
 
-int main(void) {
+static bool refuse_all(void) {
+  by_frames = false;
   bool is_good = refuse_each();
+  by_frames = true;
+  return refuse_each() && is_good;
+}
+
+int main(void) {
+  bool is_good = refuse_all();
   allocator.reallocate = NULL;
-  return refuse_each() && is_good ? 0 : 1;
+  return refuse_all() && is_good ? 0 : 1;
 }

@@ -7,7 +7,7 @@ import pathlib
 import re
 
 FUNCTION = re.compile(r"^([ \t]*)(?:pub(?:\([^)]*\))? )?(?:const )?(?:unsafe )?(?:extern \"C\" )?fn (\w+)", re.M)
-IMPL = re.compile(r"^impl\b\s*(?:<[^{]*?>\s*)?(?:([\w:]+)(?:<[^{]*?>)? for )?([\w:]+)", re.M)
+IMPL = re.compile(r"^impl\b\s*(?:<[^{]*?>\s*)?(?:([\w:]+)(?:<(\w*)[^{]*?>)? for )?([\w:]+)", re.M)
 TYPE = re.compile(r"^(?:pub(?:\([^)]*\))? )?(?:struct|enum) (\w+)", re.M)
 TRAIT = re.compile(r"^(?:pub(?:\([^)]*\))? )?trait \w+[^}]*?\{.*?^\}", re.M | re.S)
 
@@ -33,7 +33,7 @@ class Functions:
         homes = {it[1]: module_of(path) for path, text in self.texts.items() for it in TYPE.finditer(text)}
         self.found = []  # of (file, place, name)
         for path, text in self.texts.items():
-            impls = [(it.start(), last(it[2]), last(it[1])) for it in IMPL.finditer(text)]
+            impls = [(it.start(), last(it[3]), last(it[1]) + (it[2] or "")) for it in IMPL.finditer(text)]
             traits = [it.span() for it in TRAIT.finditer(text)]
             for it in FUNCTION.finditer(text):
                 if any(start < it.start() < end for start, end in traits):

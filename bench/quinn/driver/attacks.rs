@@ -8,7 +8,6 @@ use bytes::Bytes;
 use super::super::streams::{RecvStream, SendStream, StreamEvent, Streams, StreamsState};
 use super::ends::End;
 use super::time;
-use crate::frame::{Frame, Iter};
 use crate::transport_parameters::TransportParameters;
 use crate::{Dir, Side, StreamId, VarInt};
 
@@ -104,13 +103,10 @@ impl Target for Theirs {
         Some(number)
     }
 
-    fn newly_acked(&self, payload: &[u8]) -> u64 {
-        let frames = Iter::new(Bytes::copy_from_slice(payload));
-        let acked = frames.map(|frame| match frame {
-            Frame::Ack(ack) => self.0.newly_acked(&ack).elts().count() as u64,
-            _ => 0,
-        });
-        acked.sum()
+    fn receive_telling(&mut self, number: u64, payload: &[u8]) -> u64 {
+        let before = self.0.in_flight();
+        self.receive(number, payload);
+        (before - self.0.in_flight()) as u64
     }
 
     fn open(&mut self, dir: gotsavena::Dir) -> gotsavena::StreamId {

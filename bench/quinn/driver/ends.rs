@@ -153,7 +153,11 @@ impl End {
         }
     }
 
-    pub fn newly_acked(&self, ack: &Ack) -> ArrayRangeSet {
+    pub fn in_flight(&self) -> usize {
+        self.sent.len()
+    }
+
+    fn newly_acked(&self, ack: &Ack) -> ArrayRangeSet {
         let mut newly = ArrayRangeSet::new();
         for run in ack.iter() {
             for (&number, _) in self.sent.range(run) {

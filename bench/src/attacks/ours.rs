@@ -35,11 +35,10 @@ impl Target for Ours {
         made.map(|made| made.number)
     }
 
-    fn newly_acked(&self, payload: &[u8]) -> u64 {
-        let (mut count, mut from) = (0, 0);
-        while let Some(number) = self.0.next_newly_acked(payload, from) {
-            (count, from) = (count + 1, number + 1);
-        }
+    fn receive_telling(&mut self, number: u64, payload: &[u8]) -> u64 {
+        let mut count = 0;
+        let answer = self.0.receive_telling(number, payload, |_| count += 1);
+        assert_eq!(answer, Ok(Received::Done), "no rule was broken");
         count
     }
 

@@ -14,29 +14,32 @@ fn packets<T: Target>(play: &mut Play<T>, count: u64) {
     }
 }
 
-/// A payload with an ACK of so many ranges, of one packet each.
-pub fn many_ranges<T: Target>(play: &mut Play<T>, ranges: u64) {
-    packets(play, 2 * ranges);
-    play.put(Frame::Ack {
-        largest: 2 * ranges - 1,
-        delay: 0,
-        // The first range, and then a gap and a range each, all of one number.
-        ranges: &vec![0; 2 * ranges as usize - 1],
-        ecn: None,
+/// An ACK of so many ranges, of one packet each. The packets between are acknowledged aside.
+pub fn many_ranges<T: Target>(play: &mut Play<T>, ranges: u64, _step: u64) {
+    play.aside(|play| {
+        packets(play, 2 * ranges);
+        play.put(Frame::Ack {
+            largest: play.made() - 1,
+            delay: 0,
+            // The first range, and then a gap and a range each, all of one number.
+            ranges: &vec![0; 2 * ranges as usize - 1],
+            ecn: None,
+        });
     });
+    play.deliver_telling(ranges);
+    play.aside(Play::ack_all);
 }
 
-/// A payload with an ACK of so many packets, and padding.
-pub fn padded_ack<T: Target>(play: &mut Play<T>, count: u64) {
-    packets(play, count);
-    play.put_ack(0, count - 1);
-    while play.len() < ROOM {
-        play.put(Frame::Padding);
-    }
-}
-
-pub fn ask_acked<T: Target>(play: &mut Play<T>, _size: u64, _step: u64) {
-    play.ask_acked();
+/// An ACK of so many packets, and padding.
+pub fn padded_ack<T: Target>(play: &mut Play<T>, count: u64, _step: u64) {
+    play.aside(|play| {
+        packets(play, count);
+        play.put_ack(play.made() - count, play.made() - 1);
+        while play.len() < ROOM {
+            play.put(Frame::Padding);
+        }
+    });
+    play.deliver_telling(count);
 }
 
 /// A PING is answered in a packet of so much room.

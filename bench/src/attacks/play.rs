@@ -25,8 +25,8 @@ pub trait Target {
     fn receive(&mut self, number: u64, payload: &[u8]);
     /// Makes the next packet, and answers its number.
     fn make(&mut self, out: &mut [u8]) -> Option<u64>;
-    /// How many of its packets the payload newly acknowledges. It isn't taken in.
-    fn newly_acked(&self, payload: &[u8]) -> u64;
+    /// The same, and answers how many of its packets the payload newly acknowledges.
+    fn receive_telling(&mut self, number: u64, payload: &[u8]) -> u64;
     fn open(&mut self, dir: Dir) -> StreamId;
     fn write(&mut self, stream: StreamId, bytes: &[u8]);
     /// Reads all that there is, an end or a reset too.
@@ -147,12 +147,19 @@ impl<T: Target> Play<T> {
         self.deliver();
     }
 
-    /// The end is asked what the payload acknowledges, which stays as it is.
-    pub fn ask_acked(&mut self) {
-        let payload = std::mem::take(&mut self.payload);
-        let len = self.len;
-        self.call(|end| assert!(end.newly_acked(&payload[..len]) > 0));
+    /// The payload comes to the end, which tells what it newly acknowledges.
+    pub fn deliver_telling(&mut self, acked: u64) {
+        let (payload, number, len) = (std::mem::take(&mut self.payload), self.next, self.len);
+        self.call(|end| assert_eq!(end.receive_telling(number, &payload[..len]), acked));
         self.payload = payload;
+        self.next += 1;
+        self.sent += len;
+        self.len = 0;
+    }
+
+    /// How many packets the end made.
+    pub fn made(&self) -> u64 {
+        self.made
     }
 
     /// What isn't timed, within a step.

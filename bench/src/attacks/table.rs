@@ -125,21 +125,21 @@ impl<T: Target + 'static> Attack<T> {
     pub const BY_ACKS: &'static [Attack<T>] = &[
         Attack {
             name: "acked-ranges",
-            what: "which packets an ACK of so many ranges newly acknowledges",
+            what: "an ACK of so many ranges, of which it is told which packets it newly acknowledges",
             sizes: [150, 300, 600],
             setup: SERVER,
-            ready: p::many_ranges,
+            ready: p::nothing,
             steps: |_| 20,
-            step: p::ask_acked,
+            step: p::many_ranges,
         },
         Attack {
             name: "acked-padded",
-            what: "which packets an ACK of so many newly acknowledges, beside padding up to 1,200 bytes",
+            what: "an ACK of so many packets beside padding up to 1,200 bytes, of which it is told which ones it newly acknowledges",
             sizes: [250, 1000, 4000],
             setup: SERVER,
-            ready: p::padded_ack,
+            ready: p::nothing,
             steps: |_| 10,
-            step: p::ask_acked,
+            step: p::padded_ack,
         },
         Attack {
             name: "all-but-first",

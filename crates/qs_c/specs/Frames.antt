@@ -12,7 +12,7 @@ use Rattle.qs_wire.specs.Grammar.{canonical, Fits}
 use Rattle.qs_wire.specs.Reading.{Reading, reading_from}
 use Rattle.qs_c.specs.declared.frame.GvFrame.{GvFrame}
 use Rattle.qs_c.specs.declared.frame.GvFault.{GvFault}
-use Rattle.qs_c.specs.Statuses.{Invalid, dir_of, is_flag}
+use Rattle.qs_c.specs.Statuses.{Invalid, dir_of, is_flag, is_small}
 
 -- Frames that are told
 
@@ -152,3 +152,7 @@ PutAnswer frame answer len out = (Fits frame × (answer ≡ written (canonical f
 abbrev pub GivenAnswer : GvFrame → List ℕ → List ℕ → ℕ × ℕ × List ℕ → ℕ → List ℕ → Type 0
 GivenAnswer f bytes token answer len out =
     MatchBool (nat_lt f.kind 21 && is_flag f.dir) (PutAnswer (frame_in f bytes token) answer len out) (answer ≡ (1, len, out))
+
+-- A frame that C hands in: of one of the kinds, in one of the directions, and of a stream that has a number.
+abbrev pub is_frame : GvFrame → Bool
+is_frame f = nat_lt f.kind 21 && is_flag f.dir && is_small f.stream

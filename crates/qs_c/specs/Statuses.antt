@@ -17,6 +17,11 @@ use Rattle.qs_calls.specs.declared.making.LostFault.TheVariants as losing
 use Rattle.qs_calls.specs.declared.making.MakeFault.{MakeFault}
 use Rattle.qs_calls.specs.declared.making.MakeFault.TheVariants as making
 use Rattle.qs_calls.specs.declared.making.Made.{Made}
+use Rattle.qs_calls.specs.declared.filling.Filled.{Filled}
+use Rattle.qs_calls.specs.declared.token.Taken.{Taken}
+use Rattle.qs_calls.specs.declared.token.Taken.TheVariants.{Took, Unchanged, NotOurs}
+use Rattle.qs_calls.specs.declared.token.TakeFault.{TakeFault}
+use Rattle.qs_calls.specs.declared.token.TakeFault.TheVariants as taking
 use Rattle.qs_calls.specs.declared.token.TokenFault.{TokenFault}
 use Rattle.qs_calls.specs.declared.token.TokenFault.TheVariants as tokens
 use Rattle.qs_calls.specs.declared.closing.Closing.{Closing}
@@ -28,8 +33,9 @@ use Rattle.qs_calls.specs.declared.settings.RaiseFault.{RaiseFault}
 use Rattle.qs_calls.specs.declared.settings.RaiseFault.TheVariants as raising
 use Rattle.qs_machine.specs.Ends.{End}
 use Rattle.qs_c.specs.declared.structs.GvMade.{GvMade}
+use Rattle.qs_c.specs.declared.structs.GvFilled.{GvFilled}
 use Rattle.qs_c.specs.declared.structs.GvClosing.{GvClosing}
-use Rattle.qs_c.specs.Structs.{made_of, closing_of}
+use Rattle.qs_c.specs.Structs.{made_of, filled_of, closing_of}
 
 -- A call whose numbers are in their ranges; or they aren't, and it is refused, and the end stays.
 abbrev pub Tested : Bool → End → End → Type 0 → Type 0 → Type 0
@@ -98,6 +104,18 @@ token_status tokens.NoMemory = 2
 token_status tokens.Closed = 3
 token_status tokens.NotGiven = 23
 
+-- why a frame was not taken: the fault by which this end closed, or the peer's code, is asked for apart
+abbrev pub take_status : TakeFault → ℕ
+take_status taking.NoMemory = 2
+take_status (taking.PeerClosed code) = 13
+take_status (taking.Closing closing) = 14
+
+-- what came of a frame
+abbrev pub taken_number : Taken → ℕ
+taken_number Took = 0
+taken_number Unchanged = 1
+taken_number NotOurs = 2
+
 abbrev pub setup_status : SetupFault → ℕ
 setup_status OutOfRange = 19
 setup_status TooManyStreams = 20
@@ -140,6 +158,15 @@ abbrev pub made_told : Result (Option Made) MakeFault → GvMade → ℕ × GvMa
 made_told (Ok (Some made)) old = (0, made_of made)
 made_told (Ok None) old = (15, old)
 made_told (Err fault) old = (make_status fault, old)
+
+abbrev pub filled_told : Result (Option Filled) MakeFault → GvFilled → ℕ × GvFilled
+filled_told (Ok (Some filled)) old = (0, filled_of filled)
+filled_told (Ok None) old = (15, old)
+filled_told (Err fault) old = (make_status fault, old)
+
+abbrev pub taken_told : Result Taken TakeFault → ℕ → ℕ × ℕ
+taken_told (Ok taken) old = (0, taken_number taken)
+taken_told (Err fault) old = (take_status fault, old)
 
 -- a payload writes why this end closed, or the peer's code alone
 abbrev pub received_told : Result Received Closing → GvClosing → ℕ × GvClosing

@@ -1,12 +1,12 @@
 //! The numbers that the calls answer.
 ghost use Rattle.std.specs.Prelude.{◌≡◌, option_map};
-ghost use Rattle.qs_c.specs.Statuses.{use_status, lost_status, make_status, setup_status, raise_status, token_status, status_of, told, found, read_told, open_told, made_told, received_told};
+ghost use Rattle.qs_c.specs.Statuses.{use_status, lost_status, make_status, setup_status, raise_status, token_status, taken_number, status_of, told, found, read_told, open_told, made_told, filled_told, taken_told, received_told};
 ghost use Rattle.qs_c.specs.Structs.{closing_of};
 ghost use Rattle.qs_c.specs.Lanes.{lane_of};
 
 use crate::lane::GvLane;
-use crate::structs::{GvClosing, GvMade};
-use qs_calls::TokenFault;
+use crate::structs::{GvClosing, GvFilled, GvMade};
+use qs_calls::{Filled, TakeFault, Taken, TokenFault};
 use qs_conn::{
     Closing, LaneReport, LostFault, Made, MakeFault, OpenFault, RaiseFault, Received, SetupFault,
     UseFault,
@@ -189,6 +189,45 @@ pub(crate) fn of_made(answer: Result<Option<Made>, MakeFault>, made: &mut GvMade
         Err(MakeFault::Closed) => CLOSED,
         Err(MakeFault::NoMemory) => NO_MEMORY,
         Err(MakeFault::Exhausted) => EXHAUSTED,
+    }
+}
+
+pub(crate) fn of_filled(answer: Result<Option<Filled>, MakeFault>, filled: &mut GvFilled) -> u32
+    ensures { (result, filled.new) ≡ filled_told answer filled.old }
+{
+    match answer {
+        Ok(Some(frames)) => {
+            *filled = GvFilled::of(frames);
+            OK
+        }
+        Ok(None) => NONE,
+        Err(MakeFault::Closed) => CLOSED,
+        Err(MakeFault::NoMemory) => NO_MEMORY,
+        Err(MakeFault::Exhausted) => EXHAUSTED,
+    }
+}
+
+pub(crate) fn of_taken(answer: Result<Taken, TakeFault>, taken: &mut u32) -> u32
+    ensures { (result, taken.new) ≡ taken_told answer taken.old }
+{
+    match answer {
+        Ok(came) => {
+            *taken = taken_number(came);
+            OK
+        }
+        Err(TakeFault::NoMemory) => NO_MEMORY,
+        Err(TakeFault::PeerClosed(_)) => PEER_CLOSED,
+        Err(TakeFault::Closing(_)) => CLOSING,
+    }
+}
+
+fn taken_number(taken: Taken) -> u32
+    ensures { result ≡ taken_number taken }
+{
+    match taken {
+        Taken::Took => 0,
+        Taken::Unchanged => 1,
+        Taken::NotOurs => 2,
     }
 }
 

@@ -1,7 +1,7 @@
 //! What the calls ask of an end. Nothing changes.
 ghost use Rattle.std.specs.Prelude.{◌≡◌, ◌↔◌, ℕ, Option, option_map, IsTrue, MatchBool};
 ghost use Rattle.qs_machine.specs.News.{IsLeast, IsReadable, IsWritable, IsSendable, IsEnded};
-ghost use Rattle.qs_machine.specs.Asking.{GoesBesideAck, peer_closing, streams_left, open_left, is_blocked, credit_left, room, unsent, acked_below, stopped_with, IsNextOutstanding};
+ghost use Rattle.qs_machine.specs.Asking.{all_noted, GoesBesideAck, peer_closing, streams_left, open_left, is_blocked, credit_left, room, unsent, acked_below, stopped_with, IsNextOutstanding};
 ghost use Rattle.qs_machine.specs.Newly.{IsNewlyAcked};
 ghost use Rattle.qs_machine.specs.Credit.{spent, all_stored, granted_streams};
 ghost use Rattle.qs_machine.specs.Reports.{lane_report};
@@ -146,6 +146,13 @@ impl Thing {
         ensures { (result ≡ 0) × (count.new ≡ all_stored self.now) }
     {
         *count = self.end.stored();
+        OK
+    }
+
+    pub(crate) fn noted(&self, count: &mut u64) -> u32
+        ensures { (result ≡ 0) × (count.new ≡ all_noted self.now) }
+    {
+        *count = self.end.noted();
         OK
     }
 

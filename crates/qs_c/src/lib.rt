@@ -15,6 +15,7 @@ mod lane;
 mod loose;
 mod puts;
 mod reads;
+mod stack;
 mod starts;
 mod structs;
 mod thing;
@@ -39,7 +40,7 @@ ghost use Rattle.qs_machine.specs.Making.{MakeStep, MakeAckStep, ClaimStep, Lose
 ghost use Rattle.qs_machine.specs.Raising.{RaiseStep};
 ghost use Rattle.qs_machine.specs.Alone.{TokenAckedStep, TokenLostStep};
 ghost use Rattle.qs_machine.specs.News.{IsLeast, IsReadable, IsWritable, IsSendable, IsEnded};
-ghost use Rattle.qs_machine.specs.Asking.{GoesBesideAck, peer_closing, streams_left, open_left, is_blocked, credit_left, room, unsent, acked_below, stopped_with, IsNextOutstanding};
+ghost use Rattle.qs_machine.specs.Asking.{all_noted, GoesBesideAck, peer_closing, streams_left, open_left, is_blocked, credit_left, room, unsent, acked_below, stopped_with, IsNextOutstanding};
 ghost use Rattle.qs_machine.specs.Newly.{IsNewlyAcked};
 ghost use Rattle.qs_machine.specs.Credit.{spent, all_stored, granted_streams};
 ghost use Rattle.qs_machine.specs.Reports.{own_closing, lane_report};
@@ -50,7 +51,7 @@ ghost use Rattle.qs_c.specs.Structs.{closing_of, settings_in, limits_in};
 ghost use Rattle.qs_c.specs.Lanes.{lane_of};
 ghost use Rattle.qs_c.specs.Frames.{NextAnswer, GivenAnswer};
 ghost use Rattle.qs_c.specs.Acks.{pair_of, are_ranges, AckAnswer, RangeAnswer};
-ghost use Rattle.qs_machine.specs.Ends.{end_made};
+ghost use Rattle.qs_machine.specs.Ends.{wide_end_made};
 
 use crate::acks::GvRange;
 use crate::answers::{INVALID, of_stream};
@@ -59,6 +60,7 @@ use crate::handle::Handle;
 use crate::lane::GvLane;
 use crate::structs::{GvClosing, GvLimits, GvMade, GvSettings};
 use qs_wire::last_stream;
+pub use stack::{gvp_fill, gvp_take_frame};
 use std::alloc::Global;
 
 /// Takes the memory for an end: the handle holds one then, which `gvp_new` makes another. A handle that holds one loses it.
@@ -78,7 +80,7 @@ pub extern "C" fn gvp_new(
     settings: &GvSettings,
     peer: &GvLimits,
 ) -> u32
-    ensures { Called end.old.cell.value end.new.cell.value (is_flag role) (result ≡ 1) (λ e f. Starts (end_made (role_of role) (settings_in settings.now) (limits_in peer.now)) result e f) }
+    ensures { Called end.old.cell.value end.new.cell.value (is_flag role) (result ≡ 1) (λ e f. Starts (wide_end_made (role_of role) (settings_in settings.now) (limits_in peer.now)) result e f) }
 {
     let Some(mut thing) = end.take(alloc) else {
         return INVALID;
@@ -522,6 +524,18 @@ pub extern "C" fn gvp_stored(alloc: Global, end: &mut Handle, count: &mut u64) -
         return INVALID;
     };
     let status = thing.stored(count);
+    end.put(thing);
+    status
+}
+
+#[unsafe(no_mangle)]
+pub extern "C" fn gvp_noted(alloc: Global, end: &mut Handle, count: &mut u64) -> u32
+    ensures { Asked end.old.cell.value end.new.cell.value true (Invalid result count.old count.new) (λ e. (result ≡ 0) × (count.new ≡ all_noted e)) }
+{
+    let Some(thing) = end.take(alloc) else {
+        return INVALID;
+    };
+    let status = thing.noted(count);
     end.put(thing);
     status
 }

@@ -1,9 +1,9 @@
 //! A frame is written.
-ghost use Rattle.std.specs.Prelude.{◌≡◌, ◌+◌, ◌^◌, ◌<◌, ◌≤◌, true, false, length, nat_lt, IfSome, IfNone};
+ghost use Rattle.std.specs.Prelude.{◌≡◌, ◌+◌, ◌^◌, ◌<◌, ◌≤◌, ◌&&◌, true, false, length, nat_lt, IfSome, IfNone};
 ghost use Rattle.qs_wire.specs.Varint.{numbers_of};
 ghost use Rattle.qs_wire.specs.Layout.{view, taken};
 ghost use Rattle.qs_wire.specs.Grammar.{Fits, AreRanges, CountsFit};
-ghost use Rattle.qs_c.specs.Statuses.{dir_of};
+ghost use Rattle.qs_c.specs.Statuses.{dir_of, is_flag};
 ghost use Rattle.qs_c.specs.Frames.{some_if, frame_in, counts_in, GivenAnswer};
 
 use crate::answers::{FULL, INVALID, OK};
@@ -27,7 +27,7 @@ pub(crate) fn put_frame(
 ) -> u32
     ensures { GivenAnswer frame.now bytes.now token.now (result, len.new, out.new) len.old out.old }
 {
-    if frame.kind > HANDSHAKE_DONE || frame.dir > 1 {
+    if !is_known(frame) {
         return INVALID;
     }
     let Some(given) = frame_of(frame, bytes, token) else {
@@ -43,11 +43,19 @@ pub(crate) fn put_frame(
     OK
 }
 
+/// Whether a frame is of one of the kinds and in one of the directions.
+pub(crate) fn is_known(frame: &GvFrame) -> bool
+    ensures { result ≡ nat_lt frame.now.kind 21 && is_flag frame.now.dir }
+{
+    frame.kind <= HANDSHAKE_DONE && frame.dir <= 1
+}
+
 /// The frame that C gives, whose kind and direction are known; `None` where its stream has no number.
-fn frame_of<'a>(frame: &GvFrame, bytes: &'a [u8], token: &'a [u8]) -> Option<Frame<'a>>
+pub(crate) fn frame_of<'a>(frame: &GvFrame, bytes: &'a [u8], token: &'a [u8]) -> Option<Frame<'a>>
     requires kind { frame.now.kind < 21 }
     ensures some { IfSome result (λ x. view x ≡ frame_in frame.now bytes.now token.now) }
     ensures none { IfNone result (Fits (frame_in frame.now bytes.now token.now) → ⊥) }
+    ensures large { IfNone result (2 ^ 62 ≤ frame.now.stream) }
 {
     let stream = StreamId::new(frame.stream);
     Some(match frame.kind {

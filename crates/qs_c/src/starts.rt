@@ -1,6 +1,6 @@
 //! An end is made.
 ghost use Rattle.std.specs.Prelude.{◌≡◌, true, MatchBool, Some, None, Ok, is_some, nat_eq, if◌then◌else◌};
-ghost use Rattle.qs_machine.specs.Ends.{end_made};
+ghost use Rattle.qs_machine.specs.Ends.{wide_end_made};
 ghost use Rattle.qs_c.specs.Statuses.{Tested, Starts, setup_status, is_flag, role_of};
 ghost use Rattle.qs_c.specs.Structs.{settings_in, limits_in};
 
@@ -55,12 +55,12 @@ impl Thing {
         settings: &GvSettings,
         peer: &GvLimits,
     ) -> u32
-        ensures { Tested (is_flag role) self.old self.new (result ≡ 1) (Starts (end_made (role_of role) (settings_in settings.now) (limits_in peer.now)) result self.old self.new) }
+        ensures { Tested (is_flag role) self.old self.new (result ≡ 1) (Starts (wide_end_made (role_of role) (settings_in settings.now) (limits_in peer.now)) result self.old self.new) }
     {
         let Some(side) = role_of(role) else {
             return INVALID;
         };
-        match Endpoint::new(alloc, side, settings.settings(), peer.limits()) {
+        match Endpoint::new_wide(alloc, side, settings.settings(), peer.limits()) {
             Ok(made) => self.begin(made),
             Err(fault) => of_setup(fault),
         }

@@ -1,7 +1,8 @@
 //! The structs that C passes.
 ghost use Rattle.std.specs.Prelude.{◌≡◌};
-ghost use Rattle.qs_c.specs.Structs.{made_of, closing_of, settings_in, limits_in};
+ghost use Rattle.qs_c.specs.Structs.{made_of, filled_of, closing_of, settings_in, limits_in};
 
+use qs_calls::Filled;
 use qs_conn::{Closing, Made, PeerLimits, Settings};
 
 #[repr(C)]
@@ -37,6 +38,26 @@ pub struct GvMade {
     pub is_ack_eliciting: bool,
 }
 
+/// What is to be filled in.
+#[repr(C)]
+#[derive(Clone, Copy, Drop)]
+pub struct GvRequest {
+    pub items: bool,
+    pub streams: bool,
+    pub alone: bool,
+    pub first: u64,
+}
+
+#[repr(C)]
+#[derive(Clone, Copy, Drop)]
+pub struct GvFilled {
+    pub has_last_stream: bool,
+    pub more: bool,
+    pub token: u64,
+    pub len: usize,
+    pub last_stream: u64,
+}
+
 #[repr(C)]
 #[derive(Clone, Copy, Drop)]
 pub struct GvClosing {
@@ -53,6 +74,23 @@ impl GvMade {
             number: made.number,
             len: made.len,
             is_ack_eliciting: made.is_ack_eliciting,
+        }
+    }
+}
+
+impl GvFilled {
+    pub(crate) fn of(filled: Filled) -> GvFilled
+        ensures { result ≡ filled_of filled }
+    {
+        GvFilled {
+            has_last_stream: filled.last_stream.is_some(),
+            more: filled.more,
+            token: filled.token.number,
+            len: filled.len,
+            last_stream: match filled.last_stream {
+                Some(stream) => stream.value(),
+                None => 0,
+            },
         }
     }
 }

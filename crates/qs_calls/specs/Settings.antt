@@ -3,6 +3,7 @@
 -- sections 4.1, 4.6 and 18.2, for the whole file; the ranges are ours).
 use Rattle.std.specs.Prelude.{ℕ, ◌^◌, Bool, ◌&&◌, not, nat_le, Option, Some, None, if◌then◌else◌}
 use Rattle.qs_ranges.specs.Numbers.{MAX_VARINT}
+use Rattle.qs_recv.specs.Lane.{MAX_WINDOW, MAX_CONN_WINDOW}
 use Rattle.qs_calls.specs.declared.settings.Settings.{Settings}
 use Rattle.qs_calls.specs.declared.settings.PeerLimits.{PeerLimits}
 use Rattle.qs_calls.specs.declared.settings.SetupFault.{SetupFault}
@@ -24,18 +25,34 @@ limits_of s =
 abbrev pub is_between : ℕ → ℕ → ℕ → Bool
 is_between low high n = nat_le low n && nat_le n high
 
--- whether each window, buffer and grant is one that this endpoint allows
+-- whether each window, buffer, grant and lifetime is at least as large as it must be, and at most so large
+abbrev pub are_within : (conn_window window grant lifetime : ℕ) → Settings → Bool
+are_within conn_window window grant lifetime s =
+    is_between 1 conn_window s.conn_window
+    && is_between 1 window s.bidi_local
+    && is_between 1 window s.bidi_remote
+    && is_between 1 window s.uni
+    && is_between 1 window s.send_buffer
+    && nat_le s.grant_bidi grant
+    && nat_le s.grant_uni grant
+    && is_between s.grant_bidi lifetime s.lifetime_bidi
+    && is_between s.grant_uni lifetime s.lifetime_uni
+
+-- the same as ends have it that scripts play
 abbrev pub are_in_range : Settings → Bool
-are_in_range s =
-    is_between 1 (2 ^ 24) s.conn_window
-    && is_between 1 (2 ^ 20) s.bidi_local
-    && is_between 1 (2 ^ 20) s.bidi_remote
-    && is_between 1 (2 ^ 20) s.uni
-    && is_between 1 (2 ^ 20) s.send_buffer
-    && nat_le s.grant_bidi 4096
-    && nat_le s.grant_uni 4096
-    && is_between s.grant_bidi (2 ^ 16) s.lifetime_bidi
-    && is_between s.grant_uni (2 ^ 16) s.lifetime_uni
+are_in_range s = are_within (2 ^ 24) (2 ^ 20) 4096 (2 ^ 16) s
+
+-- how many streams of a direction a peer may open at once: one frame opens them all
+abbrev pub MAX_GRANT : ℕ
+MAX_GRANT = 2 ^ 17
+
+-- how many in all: something is kept of each one that ended
+abbrev pub MAX_LIFETIME : ℕ
+MAX_LIFETIME = 2 ^ 21
+
+-- the same as any end may have it
+abbrev pub are_in_wide_range : Settings → Bool
+are_in_wide_range s = are_within MAX_CONN_WINDOW MAX_WINDOW MAX_GRANT MAX_LIFETIME s
 
 -- whether each of the peer's data limits has a spelling (RFC 9000, section 16)
 abbrev pub are_spellable : PeerLimits → Bool
@@ -50,11 +67,19 @@ are_countable p = nat_le p.streams_bidi (2 ^ 60) && nat_le p.streams_uni (2 ^ 60
 abbrev pub limits_fault : PeerLimits → Option SetupFault
 limits_fault p = if not (are_spellable p) then Some OutOfRange else (if not (are_countable p) then Some TooManyStreams else None)
 
+-- why no end can be made of settings that are in their ranges or aren't
+abbrev pub fault_where : Bool → PeerLimits → Option SetupFault
+fault_where in_range p =
+    if not (in_range && are_spellable p) then Some OutOfRange
+    else (if not (are_countable p) then Some TooManyStreams else None)
+
 -- why no end can be made of these settings
 abbrev pub setup_fault : Settings → PeerLimits → Option SetupFault
-setup_fault s p =
-    if not (are_in_range s && are_spellable p) then Some OutOfRange
-    else (if not (are_countable p) then Some TooManyStreams else None)
+setup_fault s p = fault_where (are_in_range s) p
+
+-- the same, of an end of wide ranges
+abbrev pub wide_setup_fault : Settings → PeerLimits → Option SetupFault
+wide_setup_fault s p = fault_where (are_in_wide_range s) p
 
 -- TRANSPORT_PARAMETER_ERROR where the peer is at fault (RFC 9000, section 20.1)
 abbrev pub code_of_setup : SetupFault → Option ℕ

@@ -1,6 +1,6 @@
 -- What holds of an assembly that steps are played on still holds after each step; and a read gives all that is next, though its buffer has
 -- no more room than bytes are stored.
-use Rattle.std.specs.Prelude.{◌≡◌, ℕ, ◌+◌, ◌-◌, ◌<◌, ◌≤◌, ◌^◌, zero, suc, Bool, true, false, cond, nat_eq, min, List, [], ◌∷◌, ◌++◌, length, map, take, drop, Option, None, Some, is_some, Result, Ok, Err, OnOk, OnErr, refl}
+use Rattle.std.specs.Prelude.{◌≡◌, ℕ, ◌+◌, ◌-◌, ◌<◌, ◌≤◌, zero, suc, Bool, true, false, cond, nat_eq, min, List, [], ◌∷◌, ◌++◌, length, map, take, drop, Option, None, Some, is_some, Result, Ok, Err, OnOk, OnErr, refl}
 use Rattle.std.proofs.Common.{sym, ◌∙◌, ap, arith, inl, inr, length-append, length-drop}
 use Rattle.std.specs.Ordering.{nat_cmp}
 use Rattle.std.specs.Cmp.{nat_cmp_total, unsigned_tied}
@@ -15,10 +15,11 @@ use Rattle.qs_chunks.specs.Replay.{sight, shown_by, replayed, IsPlayed}
 use Rattle.qs_chunks.specs.declared.replay.Step.{Step}
 use Rattle.qs_chunks.specs.declared.replay.Shown.{Shown}
 use Rattle.qs_recv.proofs.AssembledLaws.{is_in_run, get-insert_nat, stored_by_put, stored_by_keep, front_stored}
+use Rattle.qs_recv.specs.Lane.{MAX_WINDOW}
 
 -- Each step keeps the counts true
 
-pub played_new : (window : ℕ) → window ≤ 2 ^ 20 → IsPlayed (nothing_yet window) window 0 false
+pub played_new : (window : ℕ) → window ≤ MAX_WINDOW → IsPlayed (nothing_yet window) window 0 false
 played_new window small =
     record {
       window_is = refl;

@@ -1,6 +1,6 @@
 -- Of public contracts.
 -- Steps on an assembly, one after the other: what each shows, and what they leave.
-use Rattle.std.specs.Prelude.{◌≡◌, ℕ, ◌+◌, ◌<◌, ◌≤◌, ◌^◌, Bool, true, not, if◌then◌else◌, ◌&&◌, nat_le, nat_lt, List, [], ◌∷◌, length}
+use Rattle.std.specs.Prelude.{◌≡◌, ℕ, ◌+◌, ◌<◌, ◌≤◌, Bool, true, not, if◌then◌else◌, ◌&&◌, nat_le, nat_lt, List, [], ◌∷◌, length}
 use Rattle.std.specs.FinMap as map
 use Rattle.qs_ranges.specs.Numbers.{MAX_VARINT}
 use Rattle.qs_recv.specs.Assembled.{Assembled, put, take_front, front_of, discard}
@@ -8,6 +8,7 @@ use Rattle.qs_chunks.specs.declared.replay.Step.{Step}
 use Rattle.qs_chunks.specs.declared.replay.Step.TheVariants.{Put, Take, Discard}
 use Rattle.qs_chunks.specs.declared.replay.Shown.{Shown}
 use Rattle.qs_chunks.specs.declared.replay.Shown.TheVariants.{Stored, Skipped, Taken, Discarded}
+use Rattle.qs_recv.specs.Lane.{MAX_WINDOW}
 
 -- what a step shows: bytes count by their values, wherever they lie in memory
 pub data Sight : Type 0 where
@@ -61,6 +62,6 @@ pub record IsPlayed (a : Assembled) (window read_count : ℕ) (discarding : Bool
   pub window_is : a.window ≡ window
   pub count_is : a.read_count ≡ read_count
   pub discarding_is : a.discarding ≡ discarding
-  pub small_window : window ≤ 2 ^ 20
+  pub small_window : window ≤ MAX_WINDOW
   pub small_count : read_count ≤ MAX_VARINT
   pub in_range : (q : ℕ) → map.contains_key a.stored q ≡ true → q < MAX_VARINT

@@ -1,9 +1,10 @@
 //! Steps are played on an assembly, of whichever kind, and each shows what the definition gives.
-ghost use Rattle.std.specs.Prelude.{◌≡◌, ◌+◌, ◌≤◌, ◌^◌, length, map, true, false, IfOk, OnOk, OnErr};
+ghost use Rattle.std.specs.Prelude.{◌≡◌, ◌+◌, ◌≤◌, length, map, true, false, IfOk, OnOk, OnErr};
 ghost use Rattle.std.specs.List.{list_all};
 ghost use Rattle.qs_ranges.specs.Numbers.{MAX_VARINT};
 ghost use Rattle.qs_recv.specs.Assembled.{nothing_yet, put, take_front, front_of, discard};
 ghost use Rattle.qs_chunks.specs.Replay.{is_past, step_fits, sight, sight_of, after_step, shown_by, replayed};
+ghost use Rattle.qs_recv.specs.Lane.{MAX_WINDOW};
 
 use qs_ranges::NoMemory;
 use qs_recv::Assembly;
@@ -45,7 +46,7 @@ pub fn replay<A: Assembly>(
     steps: &[Step],
 ) -> Result<(A, Vec<Shown>), NoMemory>
     requires some { 1 ≤ window }
-    requires small { window ≤ 2 ^ 20 }
+    requires small { window ≤ MAX_WINDOW }
     requires fits { list_all step_fits steps.now ≡ true }
     ensures shown { IfOk result (λ r. map sight r.1.items ≡ shown_by (nothing_yet window) steps.now) }
     ensures holds { IfOk result (λ r. A.holds r.0 ≡ replayed (nothing_yet window) steps.now) }
@@ -88,7 +89,7 @@ impl<A: Assembly> Player<A> {
     // An assembly to which nothing came.
     fn new(alloc: Global, window: u64) -> Self
         requires some { 1 ≤ window }
-        requires small { window ≤ 2 ^ 20 }
+        requires small { window ≤ MAX_WINDOW }
         ensures { result ≡ nothing_yet window }
     {
         Player {

@@ -112,13 +112,13 @@ packet_less late k o next p first is =
     subst (λ (m : Records). length (pieces_in m k) < length (pieces_in (held_out late o) k)) (sym (ap (held_out late) is ∙ out_is late k p o)) (less_left (held_out late o) k p first)
 
 -- other packets stay
-others : (late : Bool) (k j : ℕ) (ps : List Piece) (o : Outgoing) → j ≢ k → fmap.get (held_out late (acks_out (map (acked_at late k) ps) o)) j ≡ fmap.get (held_out late o) j
+pub others : (late : Bool) (k j : ℕ) (ps : List Piece) (o : Outgoing) → j ≢ k → fmap.get (held_out late (acks_out (map (acked_at late k) ps) o)) j ≡ fmap.get (held_out late o) j
 unfolding acks_out
 others late k j [] o ne = refl
 others late k j (p ∷ ps) o ne =
     others late k j ps (first_acked_out (acked_at late k p) o) ne ∙ ap (λ (m : Records). fmap.get m j) (out_is late k p o) ∙ get_other-without_first (held_out late o) k j ne
 
-others_at : (late : Bool) (k j : ℕ) (o : Outgoing) → j ≢ k → fmap.get (held_out late (acks_out (pieces_of late (held_out late o) k) o)) j ≡ fmap.get (held_out late o) j
+pub others_at : (late : Bool) (k j : ℕ) (o : Outgoing) → j ≢ k → fmap.get (held_out late (acks_out (pieces_of late (held_out late o) k) o)) j ≡ fmap.get (held_out late o) j
 unfolding acks_out
 others_at late k j o ne = go (fmap.get (held_out late o) k)
   where
@@ -144,24 +144,28 @@ ahead_as p k ahead = go ahead.1
     go (inl low) = let lt = ahead.0 in grind (arith, nat_tests, low, lt)
     go (inr named) = let lt = ahead.0 in let is = named_as p.unread k named in grind (arith, nat_tests, is, lt)
 
-as_ahead : (p : Passing) (k : ℕ) → is_ahead p k ≡ true → IsAhead p k
+pub as_ahead : (p : Passing) (k : ℕ) → is_ahead p k ≡ true → IsAhead p k
 as_ahead p k is =
     let (before, rest) = and_parts (nat_lt k p.below) (nat_le p.low k || is_named p.unread k) is in
     (grind (arith, nat_tests, before), elim (or_cases (nat_le p.low k) (is_named p.unread k) rest) [ inl low ↦ inl (grind (arith, nat_tests, low)) | inr name ↦ inr (as_named p.unread k name) ])
 
-not_ahead : (p : Passing) (k : ℕ) → (IsAhead p k → ⊥) → is_ahead p k ≡ false
+pub not_ahead : (p : Passing) (k : ℕ) → (IsAhead p k → ⊥) → is_ahead p k ≡ false
 not_ahead p k not = false_from_ne_true (is_ahead p k) (λ is. not (as_ahead p k is))
 
 -- The pass over an ACK
 
 module _ (late : Bool) (p q : Passing) (k : ℕ) (o : Outgoing) (m : Records) (given : GivesNumber (held_out late o) p k q) (same : AreSameBelow p.below m (held_out late o)) where
   -- the number that is given comes first
-  first_ahead : ahead_pieces late m p ≡ pieces_of late (held_out late o) k ++ ahead_pieces late m q
-  first_ahead =
-      ap (flat_map (pieces_of late m)) (filter_first m (is_ahead p) (is_ahead q) k (ap is_some (same k given.named.0) ∙ given.held) (ahead_as p k given.named)
+  pub numbers_ahead : reverse (filter (is_ahead p) (fmap.keys m)) ≡ k ∷ reverse (filter (is_ahead q) (fmap.keys m))
+  numbers_ahead =
+      filter_first m (is_ahead p) (is_ahead q) k (ap is_some (same k given.named.0) ∙ given.held) (ahead_as p k given.named)
       (λ j ge. not_ahead q j (λ ahead. let lt = ((given.left j).0 ahead).0 in omega (arith, ge, lt)))
       (λ j lt. same_truth (is_ahead p j) (is_ahead q j) (λ is. ahead_as q j ((given.left j).1 (lt, as_ahead p j is))) (λ is. ahead_as p j ((given.left j).0 (as_ahead q j is)).1))
-      (λ j gt held. not_ahead p j (λ ahead. let le = given.greatest j ahead (ap is_some (sym (same j ahead.0)) ∙ held) in omega (arith, gt, le))))
+      (λ j gt held. not_ahead p j (λ ahead. let le = given.greatest j ahead (ap is_some (sym (same j ahead.0)) ∙ held) in omega (arith, gt, le)))
+
+  first_ahead : ahead_pieces late m p ≡ pieces_of late (held_out late o) k ++ ahead_pieces late m q
+  first_ahead =
+      ap (flat_map (pieces_of late m)) numbers_ahead
       ∙ ap (λ (x : Option (List Piece)). (elim x [ None ↦ [] | Some ps ↦ map (acked_at late k) ps ]) ++ ahead_pieces late m q) (same k given.named.0)
 
 pub pass_end : (late : Bool) (p q : Passing) (o : Outgoing) (r : Option ℕ) → r ≡ None → (Falls p → IsNextNamed (held_out late o) p r q) → AcksAhead late p o (Ok tt) o
@@ -192,15 +196,9 @@ pass_more late p q k o next new (Some i) result is answer fall below acked rest 
     (acks_append (pieces_of late (held_out late o) k) (ahead_pieces late m q) o new result (subst (λ (x : Outgoing). AcksBy (ahead_pieces late m q) x result new) acked later))
 
 -- of a pass that begins all that the ranges name is ahead
-pub all_named : (late : Bool) (p : Passing) (ranges : List (ℕ × ℕ)) (o mid new : Outgoing) (result : Result (Unit {0}) NoMemory) → p ≡ pass_over ranges → AcksAhead late p o result mid → new ≡ mid → AcksNamed late ranges o result new
-unfolding AcksAhead AcksNamed
-all_named late p ranges o mid new result begins acked same = λ falls.
-    let start = subst (λ (x : Passing). Falls x) (sym begins) falls in
-    let by_pass = acked (held_out late o) start (λ k lt. refl) in
-    subst (λ (x : Outgoing). AcksBy (named_in late (held_out late o) ranges) o result x) (sym same)
-    (subst (λ ks. AcksBy (flat_map (pieces_of late (held_out late o)) (reverse ks)) o result mid)
-    (ap (λ (x : Passing). filter (is_ahead x) (fmap.keys (held_out late o))) begins
-    ∙ filter_alike (held_out late o) (is_ahead (pass_over ranges)) (is_named ranges) (λ j. same_truth (is_ahead (pass_over ranges) j) (is_named ranges j) (to j) (from falls j))) by_pass)
+pub begins_named : (m : Records) (p : Passing) (ranges : List (ℕ × ℕ)) → p ≡ pass_over ranges → FallBelow PAST_NUMBERS ranges → reverse (filter (is_ahead p) (fmap.keys m)) ≡ acked_numbers m ranges
+begins_named m p ranges begins falls =
+    ap reverse (ap (λ (x : Passing). filter (is_ahead x) (fmap.keys m)) begins ∙ filter_alike m (is_ahead (pass_over ranges)) (is_named ranges) (λ j. same_truth (is_ahead (pass_over ranges) j) (is_named ranges j) (to j) (from falls j)))
   where
     to : (j : ℕ) → is_ahead (pass_over ranges) j ≡ true → is_named ranges j ≡ true
     to j is = let ahead = as_ahead (pass_over ranges) j is in named j ahead.0 ahead.1
@@ -214,6 +212,14 @@ all_named late p ranges o mid new result begins acked same = λ falls.
         let by = as_named ranges j is in
         let less = named_below PAST_NUMBERS ranges j falls by in
         ahead_as (pass_over ranges) j (omega (arith, less), inr by)
+
+pub all_named : (late : Bool) (p : Passing) (ranges : List (ℕ × ℕ)) (o mid new : Outgoing) (result : Result (Unit {0}) NoMemory) → p ≡ pass_over ranges → AcksAhead late p o result mid → new ≡ mid → AcksNamed late ranges o result new
+unfolding AcksAhead AcksNamed
+all_named late p ranges o mid new result begins acked same = λ falls.
+    let start = subst (λ (x : Passing). Falls x) (sym begins) falls in
+    let by_pass = acked (held_out late o) start (λ k lt. refl) in
+    subst (λ (x : Outgoing). AcksBy (named_in late (held_out late o) ranges) o result x) (sym same)
+    (subst (λ ks. AcksBy (flat_map (pieces_of late (held_out late o)) ks) o result mid) (begins_named (held_out late o) p ranges begins falls) by_pass)
 
 -- Both passes
 
@@ -254,7 +260,7 @@ pub first_stops : (ranges : List (ℕ × ℕ)) (o new : Outgoing) (e e' : NoMemo
 unfolding AcksNamed AcksRanges
 first_stops ranges o new e e' first = λ falls. acks_some (named_in false o.outstanding ranges) (named_in true o.lost.pieces ranges) o new e (first falls)
 
-fall_less : (high more : ℕ) (ranges : List (ℕ × ℕ)) → high ≤ more → FallBelow high ranges → FallBelow more ranges
+pub fall_less : (high more : ℕ) (ranges : List (ℕ × ℕ)) → high ≤ more → FallBelow high ranges → FallBelow more ranges
 fall_less high more [] le falls = tt
 fall_less high more (r ∷ rs) le falls = (omega (arith, falls.0, le), falls.1, falls.2)
 

@@ -3,21 +3,25 @@ use Rattle.std.proofs.Common.{◌≡◌, ℕ, Bool, true, false, List, [], ◌�
 use Rattle.std.specs.Prelude.{MatchBool, option_map}
 use Rattle.std.proofs.lemmas.Option.{same_Some, none-some}
 use Rattle.qs_wire.specs.Layout.{FrameValue}
+use Rattle.qs_wire.specs.Grammar.{Fits}
 use Rattle.qs_calls.specs.declared.closing.Closed.{Closed}
 use Rattle.qs_calls.specs.declared.making.LostFault.{LostFault}
 use Rattle.qs_calls.specs.declared.token.Token.{Token}
 use Rattle.qs_calls.specs.declared.token.Taken.{Taken}
-use Rattle.qs_calls.specs.declared.token.Taken.TheVariants.{Took, NotOurs}
+use Rattle.qs_calls.specs.declared.token.Taken.TheVariants.{Took, Unchanged, NotOurs}
 use Rattle.qs_calls.specs.declared.token.TakeFault.{TakeFault}
 use Rattle.qs_calls.specs.declared.token.TokenFault.{TokenFault}
 use Rattle.qs_calls.specs.declared.token.TokenFault.TheVariants as tokens
 use Rattle.qs_machine.specs.Ends.{End}
 use Rattle.qs_machine.specs.Credit.{settle}
-use Rattle.qs_machine.specs.Seen.{seen}
+use Rattle.qs_machine.specs.Seen.{Seen, seen}
+use Rattle.qs_machine.specs.Verdicts.{verdict}
+use Rattle.qs_machine.specs.Changes.{changes}
+use Rattle.qs_machine.proofs.Changes.{frame_same, frame_differs}
 use Rattle.qs_machine.specs.FrameStep.{frame_taken}
 use Rattle.qs_machine.specs.Receiving.{RunsOut}
 use Rattle.qs_machine.specs.Making.{LoseStep}
-use Rattle.qs_machine.specs.Alone.{is_ours, only, after_one, closed_fault, token_refusal, lost_answer, TakesOne, TakesEach, TakeBy, TakeAllBy, OpenTake, TakeFrameStep, TakeFramesStep, TokenAckedStep, TokenLostStep}
+use Rattle.qs_machine.specs.Alone.{is_ours, only, of_both, after_one, closed_fault, token_refusal, lost_answer, TakesOne, TakesEach, TakeBy, TakeAllBy, OpenTake, TakeFrameStep, TakeFramesStep, TokenAckedStep, TokenLostStep}
 
 -- Tokens
 
@@ -75,38 +79,49 @@ are_taken old mid new fs answer is took after = go old.closed is
 
 -- Frames so far, and those that are left
 
--- what came of all, where this came of those so far
-abbrev pub so_far : Taken → Result Taken TakeFault → Result Taken TakeFault
-so_far Took later = after_one later
-so_far NotOurs later = later
+-- what came of three frames
+of_three : (a b c : Taken) → of_both a (of_both b c) ≡ of_both (of_both a b) c
+of_three Took b c = refl
+of_three NotOurs b c = refl
+of_three Unchanged Took c = refl
+of_three Unchanged NotOurs c = refl
+of_three Unchanged Unchanged Took = refl
+of_three Unchanged Unchanged Unchanged = refl
+of_three Unchanged Unchanged NotOurs = refl
 
-pub one_more : (before : Taken) (f : FrameValue) (fs : List FrameValue) (e mid new : End) (answer : Result Taken TakeFault) (P : Result Taken TakeFault → End → Type 0) → is_ours (seen f) ≡ true → TakesOne e f (Ok Took) mid
-    → ((later : Result Taken TakeFault) (last : End) → TakesEach (f ∷ fs) e later last → P (so_far before later) last) → TakesEach fs mid answer new → P (so_far Took answer) new
-one_more before f fs e mid new answer P ours took onward rest =
-    subst (λ r. P r new) (twice before answer) (onward (after_one answer) new (rw ours (inl (mid, answer, took, rest, refl))))
+pub one_more : (before one : Taken) (f : FrameValue) (fs : List FrameValue) (e mid new : End) (answer : Result Taken TakeFault) (P : Result Taken TakeFault → End → Type 0) → is_ours (seen f) ≡ true → TakesOne e f (Ok one) mid
+    → ((later : Result Taken TakeFault) (last : End) → TakesEach (f ∷ fs) e later last → P (after_one before later) last) → TakesEach fs mid answer new → P (after_one (of_both before one) answer) new
+one_more before one f fs e mid new answer P ours took onward rest =
+    subst (λ r. P r new) (twice answer) (onward (after_one one answer) new (rw ours (inl (mid, one, answer, took, rest, refl))))
   where
-    twice : (t : Taken) (r : Result Taken TakeFault) → so_far t (after_one r) ≡ after_one r
-    twice Took (Ok later) = refl
-    twice Took (Err fault) = refl
-    twice NotOurs r = refl
+    twice : (r : Result Taken TakeFault) → after_one before (after_one one r) ≡ after_one (of_both before one) r
+    twice (Ok later) = ap Ok (of_three before one later)
+    twice (Err fault) = refl
 
 pub one_passed : (before : Taken) (f : FrameValue) (fs : List FrameValue) (e new : End) (answer : Result Taken TakeFault) (P : Result Taken TakeFault → End → Type 0) → is_ours (seen f) ≡ false
-    → ((later : Result Taken TakeFault) (last : End) → TakesEach (f ∷ fs) e later last → P (so_far before later) last) → TakesEach fs e answer new → P (so_far before answer) new
+    → ((later : Result Taken TakeFault) (last : End) → TakesEach (f ∷ fs) e later last → P (after_one before later) last) → TakesEach fs e answer new → P (after_one before answer) new
 one_passed before f fs e new answer P other onward rest = onward answer new (rw other rest)
 
 pub one_stops : (before : Taken) (f : FrameValue) (fs : List FrameValue) (e new : End) (fault : TakeFault) (P : Result Taken TakeFault → End → Type 0) → is_ours (seen f) ≡ true → TakesOne e f (Err fault) new
-    → ((later : Result Taken TakeFault) (last : End) → TakesEach (f ∷ fs) e later last → P (so_far before later) last) → P (Err fault) new
-one_stops before f fs e new fault P ours stops onward = subst (λ r. P r new) (same before) (onward (Err fault) new (rw ours (inr (fault, stops, refl))))
+    → ((later : Result Taken TakeFault) (last : End) → TakesEach (f ∷ fs) e later last → P (after_one before later) last) → P (Err fault) new
+one_stops before f fs e new fault P ours stops onward = onward (Err fault) new (rw ours (inr (fault, stops, refl)))
+
+pub none_left : (before : Taken) (e : End) (P : Result Taken TakeFault → End → Type 0) → ((later : Result Taken TakeFault) (last : End) → TakesEach [] e later last → P (after_one before later) last) → P (Ok before) e
+none_left before e P onward = subst (λ t. P (Ok t) e) (same before) (onward (Ok NotOurs) e (refl, refl))
   where
-    same : (t : Taken) → so_far t (Err fault) ≡ Err fault
+    same : (t : Taken) → of_both t NotOurs ≡ t
     same Took = refl
+    same Unchanged = refl
     same NotOurs = refl
 
--- a frame of these kinds that took effect
-pub any_took : (e : End) (f : FrameValue) (taken : Taken) (new : End) → TakesOne e f (Ok taken) new → TakesOne e f (Ok Took) new
-any_took e f Took new h = h
-any_took e f NotOurs new h = absurd h
+-- One frame that has no fault
 
-pub none_left : (before : Taken) (e : End) (P : Result Taken TakeFault → End → Type 0) → ((later : Result Taken TakeFault) (last : End) → TakesEach [] e later last → P (so_far before later) last) → P (Ok before) e
-none_left Took e P onward = onward (Ok NotOurs) e (refl, refl)
-none_left NotOurs e P onward = onward (Ok NotOurs) e (refl, refl)
+pub took_some : (e new : End) (f : FrameValue) (s : Seen) → s ≡ seen f → Fits f → verdict e s ≡ None → changes e s ≡ true → new ≡ frame_taken s e → TakesOne e f (Ok Took) new
+took_some e new f s is fits fine some after =
+    let differs : frame_taken s e ≡ e → ⊥ = frame_differs s e fine some in
+    ((fits, ap (verdict e) (sym is) ∙ fine), after ∙ ap (λ (k : Seen). frame_taken k e) is, λ same. differs (sym after ∙ same))
+
+pub took_none : (e : End) (f : FrameValue) (s : Seen) → s ≡ seen f → is_ours (seen f) ≡ true → Fits f → verdict e s ≡ None → changes e s ≡ false → TakesOne e f (Ok Unchanged) e
+took_none e f s is ours fits fine none =
+    let same : frame_taken s e ≡ e = frame_same s e (ap (λ (k : Seen). is_ours k) is ∙ ours) fine none in
+    ((fits, ap (verdict e) (sym is) ∙ fine), sym same ∙ ap (λ (k : Seen). frame_taken k e) is, refl)

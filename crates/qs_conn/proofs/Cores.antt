@@ -3,7 +3,7 @@ use Rattle.std.proofs.Common.{◌≡◌, ℕ, ◌≤◌, ◌^◌, Bool, true, fa
 use Rattle.std.specs.FinMap as fmap
 use Rattle.std.specs.Result.{OnOk, OnErr}
 use Rattle.std.proofs.lemmas.Bool.{true≢false}
-use Rattle.std.proofs.lemmas.Option.{none-some}
+use Rattle.std.proofs.lemmas.Option.{none-some, same_Some}
 use Rattle.qs_ranges.specs.declared.NoMemory.{NoMemory}
 use Rattle.qs_ranges.specs.Numbers.{MAX_VARINT, NumberSet}
 use Rattle.qs_recv.specs.Lane.{RecvLane, after_read, stop, new_lane as new_recv_lane}
@@ -18,7 +18,7 @@ use Rattle.qs_machine.specs.Tables.{Tables, lookup, updated, open_to}
 use Rattle.qs_machine.specs.Ends.{End, new_end, window_by}
 use Rattle.qs_machine.specs.Lawful.{frame_put}
 use Rattle.qs_machine.specs.Seen.{Seen, Stream, Control}
-use Rattle.qs_machine.specs.Outgoing.{Outgoing, HasSending, IsIdle, with_sends, on_lane, sent_sum, first_piece, first_acked_out, first_lost_out, without_piece_out, acked_at, item_put_out, chunk_put}
+use Rattle.qs_machine.specs.Outgoing.{Outgoing, HasSending, IsIdle, with_sends, on_lane, sent_sum, IsBlockedAt, IsCarried, first_piece, first_acked_out, first_lost_out, without_piece_out, acked_at, item_put_out, chunk_put}
 use Rattle.qs_machine.specs.Standing.{KeepsCredit}
 use Rattle.qs_machine.specs.Sums.{or_none}
 use Rattle.qs_machine.proofs.Taken.{sum_open}
@@ -30,13 +30,14 @@ use Rattle.qs_conn.specs.Filling.{end_by, PutsItem, HasSpare, LeavesRest}
 use Rattle.qs_conn.specs.Marks.{IsIdle as IsIdleAt}
 use Rattle.qs_conn.specs.Runs.{held_out}
 use Rattle.qs_conn.specs.declared.slot.Slot.TheVariants as slots
-use Rattle.qs_conn.specs.Untold.{AreTold, IsTold, marked_for}
+use Rattle.qs_conn.specs.Untold.{AreTold, TellsAt, SendTells, HasMore, told_by_recv, told_by_send, marked_for}
 use Rattle.qs_conn.proofs.Calm.{told_read}
 use Rattle.qs_conn.proofs.Counted.{fit_sends, fit_allowed, fit_written, fit_finished, fit_reset, fit_told_to_stop, fit_read, fit_stopped, fit_opened, put_counted}
 use Rattle.qs_conn.proofs.Flows.{end_chunk}
 use Rattle.qs_conn.proofs.Funded.{sum_lane, reset_sends, sum_piece, sum_put}
 use Rattle.qs_conn.proofs.Kept.{sound_after_read, sound_after_stop, sound_opened}
-use Rattle.qs_conn.proofs.Untolds.{acked_stays, lost_stays, marks_stay, told_stopped, told_unmarked, idle_told, put_told}
+use Rattle.qs_conn.proofs.Pieces.{noted_old, put_old}
+use Rattle.qs_conn.proofs.Untolds.{recv_own, send_own, recv_noted, send_noted, recvs_open, sends_open, told_carried, told_edited, told_placed, told_unmarked, told_written, told_sent, told_finished, told_allowed, told_put, told_noted, acked_stays, lost_stays, marks_stay, in_idle, out_idle}
 use Rattle.qs_conn.proofs.EachItem.{each_item}
 use Rattle.qs_conn.proofs.Rests.{rest_same, rest_on}
 use Rattle.qs_conn.proofs.Slots.{end_put}
@@ -56,7 +57,7 @@ sends_stay late k (Told i) o none =
 
 -- the next number and the room of a packet are no part of it
 pub core_outbox : (c : Core) → IsCore c → (next spare : ℕ) (o : Outgoing) → o ≡ record c.outbox { next = next; spare = spare } → IsCore (record c { outbox = o })
-core_outbox c h next spare o is = subst (λ (x : Outgoing). IsCore (record c { outbox = x })) (sym is) (record { sound = h.sound; fits = h.fits; credit = h.credit; counts = h.counts; told = h.told })
+core_outbox c h next spare o is = subst (λ (x : Outgoing). IsCore (record c { outbox = x })) (sym is) (record { sound = h.sound; fits = h.fits; credit = h.credit; counts = h.counts; told_in = h.told_in; told_out = h.told_out })
 
 module _ (c : Core) (h : IsAtRest c) where
   abbrev core : IsCore c
@@ -64,73 +65,94 @@ module _ (c : Core) (h : IsAtRest c) where
 
   -- Sending halves
 
-  -- halves change, and none sends more
-  rest_sends : (t : Tables SendLane) (o : Outgoing) → o ≡ with_sends t c.outbox → sent_sum t ≡ sent_sum c.outbox.sends
-      → CountsFit c.limits.role c.limits.settings c.recvs t c.ended c.limits.granted_streams.bidi c.limits.granted_streams.uni → IsAtRest (record c { outbox = o })
-  rest_sends t o is sum counts =
+  -- a half changes, and sends no more
+  on_half : (n : ℕ) (f : SendLane → SendLane) (o : Outgoing) (marks : Tables Bool) → o ≡ on_lane n f c.outbox → ((l : SendLane) → (f l).sent_end ≡ l.sent_end)
+      → CountsFit c.limits.role c.limits.settings c.recvs (updated c.outbox.sends n f (lookup c.outbox.sends n)) c.ended c.limits.granted_streams.bidi c.limits.granted_streams.uni → AreTold SendTells (updated c.outbox.sends n f (lookup c.outbox.sends n)) c.outbox.outstanding c.outbox.acked marks
+      → IsAtRest (record c { outbox = o; untold_sends = marks })
+  on_half n f o marks is same counts told =
+      let sum = sum_lane c.outbox.sends n f same in
       let credit = core.credit in
-      subst (λ (x : Outgoing). IsAtRest (record c { outbox = x })) (sym is)
-      (record { core = record { sound = core.sound; fits = core.fits; credit = omega (arith, sum, credit); counts = counts; told = core.told }; idle = h.idle })
+      subst (λ (x : Outgoing). IsAtRest (record c { outbox = x; untold_sends = marks })) (sym is)
+      (record { core = record { sound = core.sound; fits = core.fits; credit = omega (arith, sum, credit); counts = counts; told_in = core.told_in; told_out = told }; idle = h.idle })
 
-  on_half : (n : ℕ) (f : SendLane → SendLane) (o : Outgoing) → o ≡ on_lane n f c.outbox → ((l : SendLane) → (f l).sent_end ≡ l.sent_end)
-      → CountsFit c.limits.role c.limits.settings c.recvs (updated c.outbox.sends n f (lookup c.outbox.sends n)) c.ended c.limits.granted_streams.bidi c.limits.granted_streams.uni → IsAtRest (record c { outbox = o })
-  on_half n f o is same counts = rest_sends (updated c.outbox.sends n f (lookup c.outbox.sends n)) o is (sum_lane c.outbox.sends n f same) counts
+  pub rest_allowed : (n limit : ℕ) (half : Sending) (o : Outgoing) → HasSending c.outbox n half → o ≡ on_lane n (λ l. allow_lane l limit) c.outbox → IsAtRest (record c { outbox = o })
+  rest_allowed n limit half o has is =
+      on_half n (λ l. allow_lane l limit) o c.untold_sends is (λ l. refl) (fit_allowed _ _ _ _ _ _ _ core.counts _ n limit refl)
+      (told_allowed c.outbox.sends c.outbox.outstanding c.outbox.acked c.untold_sends core.told_out _ n limit (λ l at. subst (λ (k : SendLane). k.sent_end ≤ k.limit) (same_Some half.lane l (sym has.lane ∙ at)) has.lawful.order.sent_limit) refl)
 
-  pub rest_allowed : (n limit : ℕ) (o : Outgoing) → o ≡ on_lane n (λ l. allow_lane l limit) c.outbox → IsAtRest (record c { outbox = o })
-  rest_allowed n limit o is = on_half n (λ l. allow_lane l limit) o is (λ l. refl) (fit_allowed _ _ _ _ _ _ _ core.counts _ n limit refl)
-
-  pub rest_written : (n : ℕ) (bytes : List ℕ) (o : Outgoing) → refusal (or_none (lookup c.outbox.sends n)) ≡ None → o ≡ on_lane n (λ l. write_lane l bytes) c.outbox → IsAtRest (record c { outbox = o })
-  rest_written n bytes o free is = on_half n (λ l. write_lane l bytes) o is (λ l. refl) (fit_written _ _ _ _ _ _ _ core.counts _ n bytes free refl)
+  pub rest_written : (n : ℕ) (bytes : List ℕ) (o : Outgoing) (marks : Tables Bool) → refusal (or_none (lookup c.outbox.sends n)) ≡ None → o ≡ on_lane n (λ l. write_lane l bytes) c.outbox → HasMore c.untold_sends marks
+      → ((m : ℕ) → IsBlockedAt (lookup o.sends n) m → lookup marks n ≡ Some false → ⊥) → IsAtRest (record c { outbox = o; untold_sends = marks })
+  rest_written n bytes o marks free is more blocked =
+      on_half n (λ l. write_lane l bytes) o marks is (λ l. refl) (fit_written _ _ _ _ _ _ _ core.counts _ n bytes free refl)
+      (told_written c.outbox.sends c.outbox.outstanding c.outbox.acked c.untold_sends core.told_out _ n marks bytes refl more (subst (λ (x : Outgoing). (m : ℕ) → IsBlockedAt (lookup x.sends n) m → lookup marks n ≡ Some false → ⊥) is blocked))
 
   pub rest_finished : (n : ℕ) (half : Sending) (o : Outgoing) → HasSending c.outbox n half → answer_of (refusal (or_none (lookup c.outbox.sends n))) ≡ Ok tt → o ≡ on_lane n finish_lane c.outbox → IsAtRest (record c { outbox = o })
-  rest_finished n half o has free is = on_half n finish_lane o is (λ l. refl) (fit_finished _ _ _ _ _ _ _ core.counts _ n c.outbox half refl has free refl)
+  rest_finished n half o has free is =
+      on_half n finish_lane o c.untold_sends is (λ l. refl) (fit_finished _ _ _ _ _ _ _ core.counts _ n c.outbox half refl has free refl) (told_finished c.outbox.sends c.outbox.outstanding c.outbox.acked c.untold_sends core.told_out _ n refl)
 
-  pub rest_reset : (n code : ℕ) (o : Outgoing) → o ≡ on_lane n (λ l. reset_lane l code) c.outbox → IsAtRest (record c { outbox = o })
-  rest_reset n code o is = on_half n (λ l. reset_lane l code) o is (λ l. reset_sends code l (is_some (reset_refusal l))) (fit_reset _ _ _ _ _ _ _ core.counts _ n code refl)
+  -- a half that is broken off has its reset to tell
+  pub rest_reset : (n code : ℕ) (o : Outgoing) (marks : Tables Bool) → o ≡ on_lane n (λ l. reset_lane l code) c.outbox → marks ≡ updated c.untold_sends n (λ b. true) (lookup c.untold_sends n) → IsAtRest (record c { outbox = o; untold_sends = marks })
+  rest_reset n code o marks is are =
+      on_half n (λ l. reset_lane l code) o marks is (λ l. reset_sends code l (is_some (reset_refusal l))) (fit_reset _ _ _ _ _ _ _ core.counts _ n code refl) (told_edited SendTells c.outbox.sends c.outbox.outstanding c.outbox.acked c.untold_sends core.told_out _ marks n (λ l. reset_lane l code) refl are)
 
-  pub rest_told_to_stop : (n code : ℕ) (o : Outgoing) → o ≡ on_lane n (λ l. stopped_lane l code) c.outbox → IsAtRest (record c { outbox = o })
-  rest_told_to_stop n code o is = on_half n (λ l. stopped_lane l code) o is (λ l. reset_sends code l (is_some (reset_refusal l))) (fit_told_to_stop _ _ _ _ _ _ _ core.counts _ n code refl)
+  pub rest_told_to_stop : (n code : ℕ) (o : Outgoing) (marks : Tables Bool) → o ≡ on_lane n (λ l. stopped_lane l code) c.outbox → marks ≡ updated c.untold_sends n (λ b. true) (lookup c.untold_sends n) → IsAtRest (record c { outbox = o; untold_sends = marks })
+  rest_told_to_stop n code o marks is are =
+      on_half n (λ l. stopped_lane l code) o marks is (λ l. reset_sends code l (is_some (reset_refusal l))) (fit_told_to_stop _ _ _ _ _ _ _ core.counts _ n code refl) (told_edited SendTells c.outbox.sends c.outbox.outstanding c.outbox.acked c.untold_sends core.told_out _ marks n (λ l. stopped_lane l code) refl are)
 
   -- Receiving halves
 
   pub rest_recvs : (now : Tables RecvLane) (marks : Tables Bool) (e : ByDir ℕ) → KeepsCredit c.limits.role c.limits.settings now c.limits.granted
-      → CountsFit c.limits.role c.limits.settings now c.outbox.sends e c.limits.granted_streams.bidi c.limits.granted_streams.uni → AreTold c.limits.role c.limits.settings now c.outbox.outstanding c.outbox.acked marks
-      → IsAtRest (record c { recvs = now; untold = marks; ended = e })
-  rest_recvs now marks e sound counts told = record { core = record { sound = sound; fits = core.fits; credit = core.credit; counts = counts; told = told }; idle = h.idle }
+      → CountsFit c.limits.role c.limits.settings now c.outbox.sends e c.limits.granted_streams.bidi c.limits.granted_streams.uni → AreTold (TellsAt c.limits.role c.limits.settings) now c.outbox.outstanding c.outbox.acked marks
+      → IsAtRest (record c { recvs = now; untold_recvs = marks; ended = e })
+  rest_recvs now marks e sound counts told = record { core = record { sound = sound; fits = core.fits; credit = core.credit; counts = counts; told_in = told; told_out = core.told_out }; idle = h.idle }
 
   -- a stream is read, and counted anew
   pub rest_read : (n size : ℕ) (now : Tables RecvLane) (e : ByDir ℕ) (was is : Bool) → now ≡ updated c.recvs n (λ l. after_read l size) (lookup c.recvs n) → was ≡ is_over c.limits.role c.recvs c.outbox.sends n → is ≡ is_over c.limits.role now c.outbox.sends n
       → e ≡ recounted n was is c.ended → IsAtRest (record c { recvs = now; ended = e })
   rest_read n size now e was is after before behind to =
-      rest_recvs now c.untold e (sound_after_read c.limits.role c.limits.settings c.recvs now c.limits.granted n size core.sound after)
+      rest_recvs now c.untold_recvs e (sound_after_read c.limits.role c.limits.settings c.recvs now c.limits.granted n size core.sound after)
       (fit_read _ _ _ _ _ _ _ core.counts _ core.sound now n size e was is after before behind to)
-      (told_read c.limits.role c.limits.settings c.recvs c.outbox.outstanding c.outbox.acked c.untold core.told now n size after)
+      (told_read c.limits.role c.limits.settings c.recvs c.outbox.outstanding c.outbox.acked c.untold_recvs core.told_in now n size after)
 
-  pub rest_stopped : (n code : ℕ) (now : Tables RecvLane) (marks : Tables Bool) → now ≡ updated c.recvs n (λ l. stop l code) (lookup c.recvs n) → marks ≡ updated c.untold n (λ b. true) (lookup c.untold n) → IsAtRest (record c { recvs = now; untold = marks })
+  pub rest_stopped : (n code : ℕ) (now : Tables RecvLane) (marks : Tables Bool) → now ≡ updated c.recvs n (λ l. stop l code) (lookup c.recvs n) → marks ≡ updated c.untold_recvs n (λ b. true) (lookup c.untold_recvs n) → IsAtRest (record c { recvs = now; untold_recvs = marks })
   rest_stopped n code now marks after are =
       rest_recvs now marks c.ended (sound_after_stop c.limits.role c.limits.settings c.recvs now c.limits.granted n code core.sound after)
       (fit_stopped _ _ _ _ _ _ _ core.counts now n code after)
-      (told_stopped c.limits.role c.limits.settings c.recvs c.outbox.outstanding c.outbox.acked c.untold core.told now marks n (λ l. stop l code) after are)
+      (told_edited (TellsAt c.limits.role c.limits.settings) c.recvs c.outbox.outstanding c.outbox.acked c.untold_recvs core.told_in now marks n (λ l. stop l code) after are)
 
   -- Streams open
 
-  pub rest_opened : (n w limit buffer : ℕ) (no_send no_recv : Bool) (o : Outgoing) (now : Tables RecvLane) (marks : Tables Bool) → o ≡ with_sends (cond no_send c.outbox.sends (open_to c.outbox.sends n (λ m. new_send_lane m limit buffer))) c.outbox
-      → now ≡ cond no_recv c.recvs (open_to c.recvs n (λ m. new_recv_lane w)) → w ≡ window_by c.limits.role c.limits.settings n → AreTold c.limits.role c.limits.settings now c.outbox.outstanding c.outbox.acked marks
-      → IsAtRest (record c { outbox = o; recvs = now; untold = marks })
-  rest_opened n w limit buffer no_send no_recv o now marks is after window told =
+  pub rest_opened : (n w limit buffer : ℕ) (no_send no_recv : Bool) (o : Outgoing) (now : Tables RecvLane) (ins outs : Tables Bool) → o ≡ with_sends (cond no_send c.outbox.sends (open_to c.outbox.sends n (λ m. new_send_lane m limit buffer))) c.outbox
+      → now ≡ cond no_recv c.recvs (open_to c.recvs n (λ m. new_recv_lane w)) → w ≡ window_by c.limits.role c.limits.settings n → ins ≡ open_to c.untold_recvs n (λ k. false) → outs ≡ open_to c.untold_sends n (λ k. false)
+      → IsAtRest (record c { outbox = o; recvs = now; untold_recvs = ins; untold_sends = outs })
+  rest_opened n w limit buffer no_send no_recv o now ins outs is after window in_are out_are =
       let sum = sum_open c.outbox.sends n limit buffer no_send in
       let credit = core.credit in
-      subst (λ (x : Outgoing). IsAtRest (record c { outbox = x; recvs = now; untold = marks })) (sym is)
+      subst (λ (x : Outgoing). IsAtRest (record c { outbox = x; recvs = now; untold_recvs = ins; untold_sends = outs })) (sym is)
       (record {
         core = record {
           sound = sound_opened c.limits.role c.limits.settings c.recvs now c.limits.granted n w no_recv core.sound window after;
           fits = core.fits;
           credit = omega (arith, sum, credit);
           counts = fit_opened _ _ _ _ _ _ _ core.counts now _ n w limit buffer no_send no_recv refl after;
-          told = told;
+          told_in = rw in_are (recvs_open c.limits.role c.limits.settings c.recvs now c.outbox.outstanding c.outbox.acked c.untold_recvs n w no_recv core.told_in after window);
+          told_out = rw out_are (sends_open c.outbox.sends _ c.outbox.outstanding c.outbox.acked c.untold_sends n limit buffer no_send core.told_out refl);
         };
         idle = h.idle;
       })
+
+  -- there are places for marks, and no stream opened
+  rest_marks : (ins outs : Tables Bool) → AreTold (TellsAt c.limits.role c.limits.settings) c.recvs c.outbox.outstanding c.outbox.acked ins → AreTold SendTells c.outbox.sends c.outbox.outstanding c.outbox.acked outs → IsAtRest (record c { untold_recvs = ins; untold_sends = outs })
+  rest_marks ins outs told_in told_out = record { core = record { sound = core.sound; fits = core.fits; credit = core.credit; counts = core.counts; told_in = told_in; told_out = told_out }; idle = h.idle }
+
+  ins_placed : (n : ℕ) (ins : Tables Bool) → ins ≡ open_to c.untold_recvs n (λ k. false) → AreTold (TellsAt c.limits.role c.limits.settings) c.recvs c.outbox.outstanding c.outbox.acked ins
+  ins_placed n ins are = rw are (told_placed (TellsAt c.limits.role c.limits.settings) c.recvs c.outbox.outstanding c.outbox.acked c.untold_recvs core.told_in n)
+
+  pub rest_ins_placed : (n : ℕ) (ins outs : Tables Bool) → ins ≡ open_to c.untold_recvs n (λ k. false) → outs ≡ c.untold_sends → IsAtRest (record c { untold_recvs = ins; untold_sends = outs })
+  rest_ins_placed n ins outs in_are out_are = rest_marks ins outs (ins_placed n ins in_are) (rw out_are core.told_out)
+
+  pub rest_placed : (n : ℕ) (ins outs : Tables Bool) → ins ≡ open_to c.untold_recvs n (λ k. false) → outs ≡ open_to c.untold_sends n (λ k. false) → IsAtRest (record c { untold_recvs = ins; untold_sends = outs })
+  rest_placed n ins outs in_are out_are = rest_marks ins outs (ins_placed n ins in_are) (rw out_are (told_placed SendTells c.outbox.sends c.outbox.outstanding c.outbox.acked c.untold_sends core.told_out n))
 
   -- Limits
 
@@ -144,7 +166,8 @@ module _ (c : Core) (h : IsAtRest c) where
           fits = record { granted = fits.granted; granted_bidi = fits.granted_bidi; granted_uni = fits.granted_uni; known = small; bidi = bidi; uni = uni };
           credit = omega (arith, credit, more);
           counts = core.counts;
-          told = core.told;
+          told_in = core.told_in;
+          told_out = core.told_out;
         };
         idle = h.idle;
       }
@@ -152,9 +175,9 @@ module _ (c : Core) (h : IsAtRest c) where
   -- Pieces leave their packets
 
   -- the first piece of a packet is acknowledged, and the stream counted anew
-  pub rest_acked : (late : Bool) (k : ℕ) (p : Piece) (o : Outgoing) (marks : Tables Bool) (e : ByDir ℕ) → first_piece (fmap.get (held_out late c.outbox) k) ≡ Some p → o ≡ first_acked_out (acked_at late k p) c.outbox → marks ≡ marked_for p c.untold
-      → AreAllCounted c.limits.role c.recvs o.sends e → IsIdle o → IsAtRest (record c { outbox = o; untold = marks; ended = e })
-  rest_acked late k p o marks e first is are counted idle =
+  pub rest_acked : (late : Bool) (k : ℕ) (p : Piece) (o : Outgoing) (ins outs : Tables Bool) (e : ByDir ℕ) → first_piece (fmap.get (held_out late c.outbox) k) ≡ Some p → o ≡ first_acked_out (acked_at late k p) c.outbox → ins ≡ marked_for told_by_recv p c.untold_recvs → outs ≡ marked_for told_by_send p c.untold_sends
+      → AreAllCounted c.limits.role c.recvs o.sends e → IsIdle o → IsAtRest (record c { outbox = o; untold_recvs = ins; untold_sends = outs; ended = e })
+  rest_acked late k p o ins outs e first is in_are out_are counted idle =
       let sum = ap (λ (x : Outgoing). sent_sum x.sends) is ∙ sum_piece p (without_piece_out late k c.outbox) in
       let credit = core.credit in
       record {
@@ -163,31 +186,31 @@ module _ (c : Core) (h : IsAtRest c) where
           fits = core.fits;
           credit = omega (arith, sum, credit);
           counts = fit_sends _ _ _ _ _ _ _ core.counts o.sends e counted;
-          told = acked_stays late k p c.outbox o c.untold marks first is are c.limits.role c.limits.settings c.recvs core.told;
+          told_in = acked_stays (TellsAt c.limits.role c.limits.settings) told_by_recv (recv_own c.limits.role c.limits.settings) (recv_noted c.limits.role c.limits.settings) c.recvs c.outbox o c.untold_recvs ins core.told_in late k p first is in_are;
+          told_out = rw (ap (λ (x : Outgoing). x.sends) is) (told_noted late k p c.outbox o.outstanding o.acked outs (acked_stays SendTells told_by_send send_own send_noted c.outbox.sends c.outbox o c.untold_sends outs core.told_out late k p first is out_are));
         };
         idle = idle;
       }
 
   -- a piece stays, but its stream may be marked
-  pub rest_marked : (p : Piece) (o : Outgoing) (marks : Tables Bool) → o ≡ c.outbox → marks ≡ marked_for p c.untold → IsAtRest (record c { outbox = o; untold = marks })
-  rest_marked p o marks is are =
-      subst (λ (x : Outgoing). IsAtRest (record c { outbox = x; untold = marks })) (sym is)
+  pub rest_marked : (p : Piece) (o : Outgoing) (ins outs : Tables Bool) → o ≡ c.outbox → ins ≡ marked_for told_by_recv p c.untold_recvs → outs ≡ marked_for told_by_send p c.untold_sends → IsAtRest (record c { outbox = o; untold_recvs = ins; untold_sends = outs })
+  rest_marked p o ins outs is in_are out_are =
+      subst (λ (x : Outgoing). IsAtRest (record c { outbox = x; untold_recvs = ins; untold_sends = outs })) (sym is)
       (record {
-        core = record { sound = core.sound; fits = core.fits; credit = core.credit; counts = core.counts; told = marks_stay p c.outbox c.outbox c.untold marks refl are c.limits.role c.limits.settings c.recvs core.told };
+        core = record { sound = core.sound; fits = core.fits; credit = core.credit; counts = core.counts; told_in = marks_stay (TellsAt c.limits.role c.limits.settings) told_by_recv (recv_own c.limits.role c.limits.settings) (recv_noted c.limits.role c.limits.settings) c.recvs c.outbox c.outbox c.untold_recvs ins core.told_in p refl in_are; told_out = marks_stay SendTells told_by_send send_own send_noted c.outbox.sends c.outbox c.outbox c.untold_sends outs core.told_out p refl out_are };
         idle = h.idle;
       })
 
   -- a piece that changes no half is acknowledged, or stays
-  pub rest_acked_by : (result : Result (Unit {0}) NoMemory) (late : Bool) (k : ℕ) (p : Piece) (o : Outgoing) (marks : Tables Bool) → first_piece (fmap.get (held_out late c.outbox) k) ≡ Some p → half_of p ≡ None → OnOk result (o ≡ first_acked_out (acked_at late k p) c.outbox)
-      → OnErr result (o ≡ c.outbox) → marks ≡ marked_for p c.untold → IsIdle o → IsAtRest (record c { outbox = o; untold = marks })
-  rest_acked_by (Ok done) late k p o marks first none ok err are idle =
-      rest_acked late k p o marks c.ended first ok are (subst (λ (t : Tables SendLane). AreAllCounted c.limits.role c.recvs t c.ended) (sym (ap (λ (x : Outgoing). x.sends) ok ∙ sends_stay late k p c.outbox none)) core.counts.counted) idle
-  rest_acked_by (Err e) late k p o marks first none ok err are idle = rest_marked p o marks err are
+  pub rest_acked_by : (result : Result (Unit {0}) NoMemory) (late : Bool) (k : ℕ) (p : Piece) (o : Outgoing) (ins outs : Tables Bool) → first_piece (fmap.get (held_out late c.outbox) k) ≡ Some p → half_of p ≡ None → OnOk result (o ≡ first_acked_out (acked_at late k p) c.outbox)
+      → OnErr result (o ≡ c.outbox) → ins ≡ marked_for told_by_recv p c.untold_recvs → outs ≡ marked_for told_by_send p c.untold_sends → IsIdle o → IsAtRest (record c { outbox = o; untold_recvs = ins; untold_sends = outs })
+  rest_acked_by (Ok done) late k p o ins outs first none ok err in_are out_are idle =
+      rest_acked late k p o ins outs c.ended first ok in_are out_are (subst (λ (t : Tables SendLane). AreAllCounted c.limits.role c.recvs t c.ended) (sym (ap (λ (x : Outgoing). x.sends) ok ∙ sends_stay late k p c.outbox none)) core.counts.counted) idle
+  rest_acked_by (Err e) late k p o ins outs first none ok err in_are out_are idle = rest_marked p o ins outs err in_are out_are
 
   -- the first piece of a packet is lost
-  pub rest_lost : (k : ℕ) (p : Piece) (o : Outgoing) (marks : Tables Bool) → first_piece (fmap.get c.outbox.outstanding k) ≡ Some p → o ≡ first_lost_out k p c.outbox → marks ≡ marked_for p c.untold → IsIdle o → IsAtRest (record c { outbox = o; untold = marks })
-  rest_lost k p o marks first is are idle =
-      let told = lost_stays k p c.outbox o c.untold marks first is are c.limits.role c.limits.settings c.recvs core.told in
+  pub rest_lost : (k : ℕ) (p : Piece) (o : Outgoing) (ins outs : Tables Bool) → first_piece (fmap.get c.outbox.outstanding k) ≡ Some p → o ≡ first_lost_out k p c.outbox → ins ≡ marked_for told_by_recv p c.untold_recvs → outs ≡ marked_for told_by_send p c.untold_sends → IsIdle o → IsAtRest (record c { outbox = o; untold_recvs = ins; untold_sends = outs })
+  rest_lost k p o ins outs first is in_are out_are idle =
       let sends = sym (ap (λ (x : Outgoing). x.sends) is) in
       record {
         core = record {
@@ -195,7 +218,8 @@ module _ (c : Core) (h : IsAtRest c) where
           fits = core.fits;
           credit = subst (λ (t : Tables SendLane). sent_sum t ≤ c.limits.known_data) sends core.credit;
           counts = subst (λ (t : Tables SendLane). CountsFit c.limits.role c.limits.settings c.recvs t c.ended c.limits.granted_streams.bidi c.limits.granted_streams.uni) sends core.counts;
-          told = told;
+          told_in = lost_stays (TellsAt c.limits.role c.limits.settings) told_by_recv (recv_own c.limits.role c.limits.settings) (recv_noted c.limits.role c.limits.settings) c.recvs c.outbox o c.untold_recvs ins core.told_in k p first is in_are;
+          told_out = subst (λ (t : Tables SendLane). AreTold SendTells t o.outstanding o.acked outs) sends (lost_stays SendTells told_by_send send_own send_noted c.outbox.sends c.outbox o c.untold_sends outs core.told_out k p first is out_are);
         };
         idle = idle;
       }
@@ -208,14 +232,17 @@ module _ (c : Core) (h : IsCore c) where
   there = end_of c (new_end c.limits.role c.limits.settings (record { max_data = 0; bidi_local = 0; bidi_remote = 0; uni = 0; streams_bidi = 0; streams_uni = 0 }))
 
   -- a frame is put
-  core_put : (f : Seen) (o : Outgoing) → end_by c.limits c.recvs o there ≡ frame_put f there → sent_sum o.sends ≤ c.limits.known_data → IsCore (record c { outbox = o })
-  core_put f o is credit =
+  core_put : (f : Seen) (o : Outgoing) (marks : Tables Bool) → end_by c.limits c.recvs o there ≡ frame_put f there → sent_sum o.sends ≤ c.limits.known_data → o.acked ≡ c.outbox.acked → AreTold SendTells o.sends o.outstanding o.acked marks
+      → IsCore (record c { outbox = o; untold_sends = marks })
+  core_put f o marks is credit acked told =
+      let carried : (p : Piece) → IsCarried c.outbox.outstanding p → IsCarried o.outstanding p = λ p out. subst (λ (x : End). IsCarried x.outstanding p) (sym is) (put_old f there p out) in
       record {
         sound = h.sound;
         fits = h.fits;
         credit = credit;
         counts = fit_sends _ _ _ _ _ _ _ h.counts o.sends c.ended (subst (λ (x : End). AreAllCounted c.limits.role x.recvs x.sends c.ended) (sym is) (put_counted c.limits.role there f c.ended h.counts.counted));
-        told = subst (λ (x : End). IsTold x c.untold) (sym is) (put_told f there c.untold h.told);
+        told_in = rw acked (told_carried (TellsAt c.limits.role c.limits.settings) c.recvs c.outbox.outstanding c.outbox.acked c.untold_recvs h.told_in o.outstanding carried);
+        told_out = told;
       }
 
   -- an item went in, or didn't fit
@@ -224,30 +251,49 @@ module _ (c : Core) (h : IsCore c) where
   core_item i before len after end o false (text, out) =
       let sum = sum_put i c.outbox in
       let credit = h.credit in
-      subst (λ (x : Outgoing). IsCore (record c { outbox = x })) (sym out) (core_put (Control i) (item_put_out i c.outbox) (end_put c.limits c.recvs c.outbox there i) (omega (arith, sum, credit)))
+      let told = told_carried SendTells c.outbox.sends c.outbox.outstanding c.outbox.acked c.untold_sends h.told_out (item_put_out i c.outbox).outstanding (noted_old (Told i) there) in
+      subst (λ (x : Outgoing). IsCore (record c { outbox = x })) (sym out)
+      (core_put (Control i) (item_put_out i c.outbox) c.untold_sends (end_put c.limits c.recvs c.outbox there i) (omega (arith, sum, credit)) refl (told_put i c.outbox.sends _ c.outbox.acked c.untold_sends told))
 
-  -- a chunk went in
-  pub core_chunk : (n : ℕ) (chunk : Chunk) (bytes : List ℕ) (o : Outgoing) → o ≡ chunk_put n chunk c.outbox → length bytes ≡ chunk.len → sent_sum (chunk_put n chunk c.outbox).sends ≤ c.limits.known_data → IsCore (record c { outbox = o })
-  core_chunk n chunk bytes o is count credit =
-      subst (λ (x : Outgoing). IsCore (record c { outbox = x })) (sym is) (core_put (Stream n chunk.offset bytes chunk.fin) (chunk_put n chunk c.outbox) (end_chunk c.limits c.recvs c.outbox there n chunk bytes count) credit)
+  -- a chunk went in, and where it reached the stream's limit the stream has a mark
+  pub core_chunk : (n : ℕ) (chunk : Chunk) (bytes : List ℕ) (o : Outgoing) (marks : Tables Bool) → o ≡ chunk_put n chunk c.outbox → length bytes ≡ chunk.len → sent_sum (chunk_put n chunk c.outbox).sends ≤ c.limits.known_data → HasMore c.untold_sends marks
+      → ((m : ℕ) → IsBlockedAt (lookup o.sends n) m → lookup marks n ≡ Some false → ⊥) → IsCore (record c { outbox = o; untold_sends = marks })
+  core_chunk n chunk bytes o marks is count credit more blocked =
+      let put = chunk_put n chunk c.outbox in
+      let told = told_carried SendTells c.outbox.sends c.outbox.outstanding c.outbox.acked c.untold_sends h.told_out put.outstanding (noted_old (Data n chunk) there) in
+      subst (λ (x : Outgoing). IsCore (record c { outbox = x; untold_sends = marks })) (sym is)
+      (core_put (Stream n chunk.offset bytes chunk.fin) put marks (end_chunk c.limits c.recvs c.outbox there n chunk bytes count) credit refl
+      (told_sent c.outbox.sends put.outstanding c.outbox.acked c.untold_sends told put.sends n marks chunk refl more (subst (λ (x : Outgoing). (m : ℕ) → IsBlockedAt (lookup x.sends n) m → lookup marks n ≡ Some false → ⊥) is blocked)))
 
-  -- a stream of which all was told is marked no more
-  pub core_unmarked : (n : ℕ) (marks : Tables Bool) → marks ≡ updated c.untold n (λ b. false) (lookup c.untold n) → ((e : End) → IsIdleAt (end_of c e) (slots.StopSending n)) → ((e : End) → IsIdleAt (end_of c e) (slots.MaxStreamData n)) → IsCore (record c { untold = marks })
-  core_unmarked n marks are stop limit =
+  -- a half of which all was told is marked no more
+  pub core_recv_unmarked : (n : ℕ) (marks : Tables Bool) → marks ≡ updated c.untold_recvs n (λ b. false) (lookup c.untold_recvs n) → ((e : End) → IsIdleAt (end_of c e) (slots.StopSending n)) → ((e : End) → IsIdleAt (end_of c e) (slots.MaxStreamData n)) → IsCore (record c { untold_recvs = marks })
+  core_recv_unmarked n marks are stop limit =
       record {
         sound = h.sound;
         fits = h.fits;
         credit = h.credit;
         counts = h.counts;
-        told = told_unmarked c.limits.role c.limits.settings c.recvs c.outbox.outstanding c.outbox.acked c.untold h.told marks n are (idle_told c.limits c.recvs c.outbox there n (stop there) (limit there));
+        told_in = told_unmarked (TellsAt c.limits.role c.limits.settings) c.recvs c.outbox.outstanding c.outbox.acked c.untold_recvs h.told_in marks n are (in_idle c.limits c.recvs c.outbox there n (stop there) (limit there));
+        told_out = h.told_out;
+      }
+
+  pub core_send_unmarked : (n : ℕ) (marks : Tables Bool) → marks ≡ updated c.untold_sends n (λ b. false) (lookup c.untold_sends n) → ((e : End) → IsIdleAt (end_of c e) (slots.ResetStream n)) → ((e : End) → IsIdleAt (end_of c e) (slots.StreamDataBlocked n)) → IsCore (record c { untold_sends = marks })
+  core_send_unmarked n marks are reset blocked =
+      record {
+        sound = h.sound;
+        fits = h.fits;
+        credit = h.credit;
+        counts = h.counts;
+        told_in = h.told_in;
+        told_out = told_unmarked SendTells c.outbox.sends c.outbox.outstanding c.outbox.acked c.untold_sends h.told_out marks n are (out_idle c.limits c.recvs c.outbox there n (reset there) (blocked there));
       }
 
 pub fills_same : (c : Core) (out : List ℕ) (len : ℕ) → IsFilling c out len → FillsOn c out len c out len
 fills_same c out len h = record { filling = h; streams = streams_same c; ended = refl; rest = rest_same len out; room = refl }
 
--- the packets alone moved
-pub fills_outbox : (c : Core) (o : Outgoing) (xs ys : List ℕ) (i j : ℕ) → IsCore (record c { outbox = o }) → j ≤ length ys → HasSpare (length ys) j o.spare → LeavesRest i xs j ys → length ys ≡ length xs → FillsOn c xs i (record c { outbox = o }) ys j
-fills_outbox c o xs ys i j core within spare rest room = record { filling = record { core = core; within = within; spare = spare }; streams = record { limits = refl; recvs = refl }; ended = refl; rest = rest; room = room }
+-- the packets and the marks alone moved
+pub fills_outbox : (c : Core) (o : Outgoing) (marks : Tables Bool) (xs ys : List ℕ) (i j : ℕ) → IsCore (record c { outbox = o; untold_sends = marks }) → j ≤ length ys → HasSpare (length ys) j o.spare → LeavesRest i xs j ys → length ys ≡ length xs → FillsOn c xs i (record c { outbox = o; untold_sends = marks }) ys j
+fills_outbox c o marks xs ys i j core within spare rest room = record { filling = record { core = core; within = within; spare = spare }; streams = record { limits = refl; recvs = refl }; ended = refl; rest = rest; room = room }
 
 pub fills_on : (a b c : Core) (xs ys zs : List ℕ) (i j k : ℕ) → FillsOn a xs i b ys j → FillsOn b ys j c zs k → FillsOn a xs i c zs k
 fills_on a b c xs ys zs i j k f g =
@@ -256,9 +302,9 @@ fills_on a b c xs ys zs i j k f g =
 -- What holds of an end between calls
 
 module _ (c : Core) (peer : PeerLimits) (done : NumberSet) (is due : Bool) (closed : Option Closed) (k : IsKept c peer done is due closed) where
-  -- packets and sending halves move
-  pub kept_outbox : (o : Outgoing) → IsAtRest (record c { outbox = o }) → IsKept (record c { outbox = o }) peer done is due closed
-  kept_outbox o rest = record { rest = rest; peer_fits = k.peer_fits; closing_fits = k.closing_fits; few = k.few; acks = k.acks; settled = k.settled }
+  -- packets and sending halves move, and marks
+  pub kept_outbox : (o : Outgoing) (marks : Tables Bool) → IsAtRest (record c { outbox = o; untold_sends = marks }) → IsKept (record c { outbox = o; untold_sends = marks }) peer done is due closed
+  kept_outbox o marks rest = record { rest = rest; peer_fits = k.peer_fits; closing_fits = k.closing_fits; few = k.few; acks = k.acks; settled = k.settled }
 
   -- the limits, the receiving halves and the counts stay
   pub kept_streams : (now : Core) → IsAtRest now → KeepsStreams c now → now.ended ≡ c.ended → IsKept now peer done is due closed

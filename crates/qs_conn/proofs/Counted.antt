@@ -14,7 +14,7 @@ use Rattle.qs_send.specs.declared.parts.Reset.{Reset}
 use Rattle.qs_send.specs.declared.piece.Piece.{Piece}
 use Rattle.qs_send.specs.declared.piece.Piece.TheVariants.{Data, Told}
 use Rattle.qs_calls.specs.declared.settings.Settings.{Settings}
-use Rattle.qs_calls.specs.Settings.{are_in_range}
+use Rattle.qs_calls.specs.Settings.{are_in_wide_range}
 use Rattle.std.proofs.lemmas.Bool.Decides.{nat_tests}
 use Rattle.qs_machine.specs.Tables.{Tables, no_streams, lookup, updated, open_to, each}
 use Rattle.qs_machine.specs.Ends.{End, is_uni, is_own, window, first_send_limit, opens, opened_by_peer}
@@ -67,11 +67,11 @@ recvs_same role recvs now sends n f e h after same =
 
 -- What holds of an endpoint's counts
 
-pub grants_fit : (s : Settings) → are_in_range s ≡ true → (s.grant_bidi ≤ s.lifetime_bidi) × (s.grant_uni ≤ s.lifetime_uni)
+pub grants_fit : (s : Settings) → are_in_wide_range s ≡ true → (s.grant_bidi ≤ s.lifetime_bidi) × (s.grant_uni ≤ s.lifetime_uni)
 grants_fit s fits = (grind (arith, nat_tests, fits), grind (arith, nat_tests, fits))
 
 -- a new end
-pub fit_new : (role : Role) (s : Settings) (recvs : Tables RecvLane) (sends : Tables SendLane) → are_in_range s ≡ true → recvs ≡ no_streams → CountsFit role s recvs sends (record { bidi = 0; uni = 0 }) s.grant_bidi s.grant_uni
+pub fit_new : (role : Role) (s : Settings) (recvs : Tables RecvLane) (sends : Tables SendLane) → are_in_wide_range s ≡ true → recvs ≡ no_streams → CountsFit role s recvs sends (record { bidi = 0; uni = 0 }) s.grant_bidi s.grant_uni
 fit_new role s recvs sends fits none = (let g = grants_fit s fits in record { counted = none_counted role recvs sends none; told = none_told recvs none; bidi = g.0; uni = g.1 })
 
 -- a half that may be broken off isn't at its end

@@ -9,7 +9,7 @@ use Rattle.qs_recv.specs.Lane.{RecvLane, new_lane, after_read, stop}
 use Rattle.qs_calls.specs.declared.settings.Settings.{Settings}
 use Rattle.qs_calls.specs.declared.settings.PeerLimits.{PeerLimits}
 use Rattle.qs_calls.specs.declared.settings.SetupFault.TheVariants.{OutOfRange, TooManyStreams}
-use Rattle.qs_calls.specs.Settings.{are_in_range, are_spellable, are_countable, setup_fault}
+use Rattle.qs_calls.specs.Settings.{are_in_wide_range, are_spellable, are_countable, wide_setup_fault}
 use Rattle.qs_machine.specs.Tables.{Tables, no_streams, lookup, updated, open_to}
 use Rattle.qs_machine.specs.Ends.{End, new_end, end_unless, window_by}
 use Rattle.qs_machine.specs.Standing.{KeepsCredit}
@@ -19,6 +19,7 @@ use Rattle.qs_conn.specs.Middle.{IsKept}
 use Rattle.qs_conn.proofs.Counted.{fit_new}
 use Rattle.qs_conn.proofs.Funded.{no_sum, no_runs}
 use Rattle.qs_conn.proofs.Runs.{idle_new}
+use Rattle.qs_conn.specs.Untold.{TellsAt, SendTells}
 use Rattle.qs_conn.proofs.Untolds.{told_none}
 use Rattle.qs_machine.proofs.Sound.{keeps_open}
 use Rattle.qs_machine.proofs.CallsSound.{sound_read, sound_stop}
@@ -36,7 +37,7 @@ all_true true false c h = absurd (search (rules, h))
 all_true false b c h = absurd (search (rules, h))
 
 -- a new end
-pub kept_new : (role : Role) (s : Settings) (p : PeerLimits) (wanted : ByDir (Option ℕ)) (o : Outgoing) (recvs : Tables RecvLane) (marks : Tables Bool) (done : NumberSet) → setup_fault s p ≡ None → o ≡ no_packets → recvs ≡ no_streams → done ≡ set.empty
+pub kept_new : (role : Role) (s : Settings) (p : PeerLimits) (wanted : ByDir (Option ℕ)) (o : Outgoing) (recvs : Tables RecvLane) (ins outs : Tables Bool) (done : NumberSet) → wide_setup_fault s p ≡ None → o ≡ no_packets → recvs ≡ no_streams → done ≡ set.empty
     → IsKept
     (record {
       limits = record {
@@ -50,12 +51,13 @@ pub kept_new : (role : Role) (s : Settings) (p : PeerLimits) (wanted : ByDir (Op
       };
       outbox = o;
       recvs = recvs;
-      untold = marks;
+      untold_recvs = ins;
+      untold_sends = outs;
       ended = record { bidi = 0; uni = 0 };
     })
     p done false false None
-kept_new role s p wanted o recvs marks done is empty none no_numbers =
-    let h = all_true (are_in_range s) (are_spellable p) (are_countable p) is in
+kept_new role s p wanted o recvs ins outs done is empty none no_numbers =
+    let h = all_true (are_in_wide_range s) (are_spellable p) (are_countable p) is in
     let in_range = h.first in
     let spellable = h.second in
     let countable = h.third in
@@ -75,7 +77,8 @@ kept_new role s p wanted o recvs marks done is empty none no_numbers =
           };
           credit = omega (arith, sum);
           counts = fit_new role s recvs o.sends in_range none;
-          told = told_none role s recvs _ _ marks none;
+          told_in = told_none (TellsAt role s) recvs _ _ ins none;
+          told_out = told_none SendTells o.sends _ _ outs (ap (λ (x : Outgoing). x.sends) empty);
         };
         idle = idle_new o empty;
       };

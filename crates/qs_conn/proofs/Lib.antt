@@ -62,3 +62,5 @@ pub mod RecvNews
 pub mod Least
 pub mod Sought
 pub mod Overs
+pub mod NewlyTold
+pub mod TurnsTold

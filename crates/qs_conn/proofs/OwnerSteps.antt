@@ -8,14 +8,17 @@ use Rattle.qs_recv.specs.declared.half.Read.TheVariants.{Wait}
 use Rattle.qs_send.specs.Lane.{SendLane, accepted, refusal, write_lane}
 use Rattle.qs_send.specs.declared.parts.SendFault.{SendFault}
 use Rattle.qs_send.specs.declared.parts.SendFault.TheVariants as sends
+use Rattle.qs_calls.specs.declared.reading.Consumed.{Consumed}
+use Rattle.qs_calls.specs.declared.uses.UseFault.{UseFault}
 use Rattle.qs_calls.specs.declared.uses.UseFault.TheVariants.{Closed, NoMemory}
-use Rattle.qs_machine.specs.Tables.{Tables, updated}
-use Rattle.qs_machine.specs.Ends.{End, send_lane, recv_lane, on_send}
+use Rattle.qs_machine.specs.Tables.{Tables, lookup, updated}
+use Rattle.qs_machine.specs.Ends.{End, send_lane, recv_lane, on_send, on_recv}
 use Rattle.qs_machine.specs.Credit.{settle}
 use Rattle.qs_machine.specs.Verdicts.{or_new}
-use Rattle.qs_machine.specs.Owner.{Certain, Uncertain, first_refusal, refuse_if, no_half, half_refusal, use_fault, send_refusal, recv_refusal, AsksToKeep, WriteStep, StopStep, ReadStep}
+use Rattle.qs_machine.specs.Owner.{Certain, Uncertain, first_refusal, refuse_if, no_half, half_refusal, use_fault, send_refusal, recv_refusal, AsksToKeep, WriteStep, StopStep, ReadStep, ConsumeStep, is_end}
 use Rattle.qs_machine.specs.Sums.{or_none}
 use Rattle.qs_machine.proofs.TablesAfter.{updated_back}
+use Rattle.qs_machine.proofs.Again.{changed}
 use Rattle.qs_conn.specs.Ended.{IsToldOfEnd}
 use Rattle.qs_conn.specs.RecvTasks.{HasNone}
 use Rattle.qs_conn.specs.declared.recv_marks.RecvTask.{RecvTask}
@@ -145,3 +148,28 @@ pub stop_ok : (e now : End) (n code : ℕ) (recvs : Tables RecvLane) (new : End)
     → new ≡ settle (record e { recvs = recvs }) → StopStep now n code (Ok tt) new
 stop_ok e now n code recvs new is none after settled =
     subst (λ (k : End). StopStep k n code (Ok tt) new) is (stop_done e n code recvs new (ap (λ k. no_receiver k n) is ∙ none) after settled)
+
+-- Bytes that are taken without a copy
+
+pub consume_refused : (e : End) (n most : ℕ) (fault : UseFault) → Some fault ≡ no_receiver e n → ConsumeStep e n most (Err fault) e
+consume_refused e n most fault is = rw (recv_refusal_is e n ∙ sym is) (refl, refl)
+
+pub receiver_open : (e : End) (n : ℕ) → no_receiver e n ≡ None → is_some (lookup e.recvs n) ≡ true
+receiver_open e n none = ap is_some (receiver_there e n none)
+
+now_at : (e mid : End) (n most : ℕ) (l : RecvLane) → recv_lane e n ≡ Some l → mid ≡ on_recv n (λ m. after_read m most) e → lookup mid.recvs n ≡ Some (after_read l most)
+now_at e mid n most l at after = ap (λ (x : End). lookup x.recvs n) after ∙ changed e.recvs n (λ m. after_read m most) l at
+
+pub receiver_open_still : (e mid : End) (n most : ℕ) → no_receiver e n ≡ None → mid ≡ on_recv n (λ m. after_read m most) e → is_some (lookup mid.recvs n) ≡ true
+receiver_open_still e mid n most none after = ap is_some (now_at e mid n most _ (receiver_there e n none) after)
+
+pub consume_ok : (e mid last new : End) (n most : ℕ) (read next : Read) (at_end : Bool) → no_receiver e n ≡ None
+    → read ≡ read_answer (or_new (lookup e.recvs n) 0) most → mid ≡ on_recv n (λ m. after_read m most) e
+    → next ≡ read_answer (or_new (lookup mid.recvs n) 0) 0 → last ≡ on_recv n (λ m. after_read m 0) mid
+    → at_end ≡ is_end next → new ≡ settle last → ConsumeStep e n most (Ok (record { read = read; at_end = at_end })) new
+consume_ok e mid last new n most read next at_end none first after second then_after ends settled =
+    let l = or_new (recv_lane e n) 0 in
+    let at = receiver_there e n none in
+    let told : at_end ≡ is_end (read_answer (after_read l most) 0) = ends ∙ ap is_end (second ∙ ap (λ o. read_answer (or_new o 0) 0) (now_at e mid n most l at after)) in
+    passed _ e new _ _ (recv_refusal_is e n ∙ none)
+    (l, at, (λ i. Ok (record { read = first i; at_end = told i })), settled ∙ ap settle (then_after ∙ ap (on_recv n (λ m. after_read m 0)) after))

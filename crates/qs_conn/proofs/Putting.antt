@@ -1,5 +1,5 @@
 -- Items are put into a packet that is in a slice.
-use Rattle.std.proofs.Common.{◌≡◌, ℕ, ◌+◌, ◌<◌, ◌≤◌, Bool, true, false, List, ◌++◌, ◌⊎◌, length, take, sym, ap, ◌∙◌, subst, arith, inl, inr, None, Some}
+use Rattle.std.proofs.Common.{◌≡◌, ℕ, ◌+◌, ◌<◌, ◌≤◌, Bool, true, false, List, ◌++◌, ◌⊎◌, length, take, sym, ap, ◌∙◌, subst, arith, inl, inr, Some}
 use Rattle.std.proofs.lemmas.Bool.{true≢false, cases_lt}
 use Rattle.std.proofs.lemmas.List.{length-take-le}
 use Rattle.qs_wire.specs.Grammar.{Fits, canonical}
@@ -18,7 +18,7 @@ use Rattle.qs_machine.specs.InOrder.{IsLower, item_place}
 use Rattle.qs_machine.specs.Outgoing.{Outgoing}
 use Rattle.qs_conn.specs.Filling.{slot_of, slot_at, frame_of_item, end_by, IsCurrentIn, PutsItem, Begun, Packed, Passed, HasPassedTo, slot_place, and_slot, and_kind, and_below, IsPassed, Stage}
 use Rattle.qs_conn.specs.Marks.{IsIdle}
-use Rattle.qs_conn.proofs.Stages.{begun_idle, begun_fewer, begun_absent, begun_covered, begun_item, begun_too_long}
+use Rattle.qs_conn.proofs.Stages.{begun_idle, begun_fewer, begun_item, begun_too_long}
 use Rattle.qs_conn.proofs.Slots.{end_put}
 use Rattle.qs_conn.proofs.Passing.{place_of_item}
 use Rattle.qs_conn.proofs.Flows.{two}
@@ -33,9 +33,10 @@ pub stage_full : (wish : Wish) (room : ℕ) (old : End) (text : List ℕ) (e : E
 stage_full wish room old text e true P Q is s = s
 stage_full wish room old text e false P Q is s = absurd (true≢false (sym is))
 
-pub stage_absent : (wish : Wish) (room : ℕ) (old : End) (text : List ℕ) (e : End) (b : Bool) (P : Passed) (s : Slot) → IsCurrentIn e s None → Stage wish room old text e b P → Stage wish room old text e b (and_slot P s)
-stage_absent wish room old text e true P s none b = b
-stage_absent wish room old text e false P s none b = begun_absent wish room old text e (IsPassed P) b s none
+-- a slot of which what is current was told
+pub stage_told : (wish : Wish) (room : ℕ) (old : End) (text : List ℕ) (e : End) (b : Bool) (P : Passed) (s : Slot) → IsIdle e s → Stage wish room old text e b P → Stage wish room old text e b (and_slot P s)
+stage_told wish room old text e true P s idle b = b
+stage_told wish room old text e false P s idle b = begun_idle wish room old text e (IsPassed P) b (λ t. t ≡ s) idle
 
 module _ (wish : Wish) (room : ℕ) (old : End) (text : List ℕ) (e : End) (P : Slot → Type 0) (s : Slot) (i : Item) (c : IsCurrentIn e s (Some i)) (b : Begun wish room old text e P) where
   only : (j : Item) → slot_of j ≡ slot_of i → IsCurrent e j → j ≡ i
@@ -44,19 +45,12 @@ module _ (wish : Wish) (room : ℕ) (old : End) (text : List ℕ) (e : End) (P :
   at_slot : (text : List ℕ) (e : End) → Begun wish room old text e (λ t. P t ⊎ (t ≡ slot_of i)) → Begun wish room old text e (λ t. P t ⊎ (t ≡ s))
   at_slot text e b = begun_fewer wish room old text e (λ t. P t ⊎ (t ≡ slot_of i)) b (λ t. P t ⊎ (t ≡ s)) (λ t p. elim p [ inl before ↦ inl before | inr is ↦ inr (is ∙ sym c.1) ])
 
-  slot_covered : IsCovered e i → Begun wish room old text e (λ t. P t ⊎ (t ≡ s))
-  slot_covered covered = at_slot text e (begun_covered wish room old text e P b i only covered)
-
   -- what comes before the item is of slots that come before its own
   comes : ((t : Slot) → IsLower (slot_place t) (slot_place s) → P t) → (j : Item) → IsLower (item_place j) (item_place i) → P (slot_of j)
   comes passed j lower = passed (slot_of j) (subst (λ p. IsLower p (slot_place s)) (sym (place_of_item j)) (subst (IsLower (item_place j)) (sym (place_of_item i) ∙ ap slot_place c.1) lower))
 
   slot_put : ((t : Slot) → IsLower (slot_place t) (slot_place s) → P t) → (IsCovered e i → ⊥) → Fits (frame_of_item i) → Begun wish room old (text ++ canonical (frame_of_item i)) (frame_put (Control i) e) (λ t. P t ⊎ (t ≡ s))
   slot_put passed free fits = at_slot (text ++ canonical (frame_of_item i)) (frame_put (Control i) e) (begun_item wish room old text e P b i only (comes passed) (c.0, free) fits)
-
-pub stage_covered : (wish : Wish) (room : ℕ) (old : End) (text : List ℕ) (e : End) (b : Bool) (P : Passed) (s : Slot) (i : Item) → IsCurrentIn e s (Some i) → IsCovered e i → Stage wish room old text e b P → Stage wish room old text e b (and_slot P s)
-stage_covered wish room old text e true P s i c covered b = b
-stage_covered wish room old text e false P s i c covered b = slot_covered wish room old text e (IsPassed P) s i c b covered
 
 pub stage_put : (wish : Wish) (room : ℕ) (old : End) (t : Limits) (recvs : Tables RecvLane) (o new : Outgoing) (e : End) (before after : List ℕ) (len end : ℕ) (b full : Bool) (P : Passed) (s : Slot) (i : Item) →
     b ≡ false → room ≡ length before → HasPassedTo P s → len ≤ length before → IsCurrentIn (end_by t recvs o e) s (Some i) → (IsCovered (end_by t recvs o e) i → ⊥) → Fits (frame_of_item i) → PutsItem i before len o after end new full →

@@ -1,27 +1,23 @@
 -- A stream whose half is quiet has nothing to send or to tell.
-use Rattle.std.proofs.Common.{if◌then◌else◌, ◌%◌, ◌==◌, nat_le, ◌≡◌, ℕ, ◌<◌, ◌≤◌, ◌+◌, Option, Some, None, is_some, option_map, refl, sym, ap, ◌∙◌, subst, arith, inl, inr}
+use Rattle.std.proofs.Common.{if◌then◌else◌, ◌%◌, ◌==◌, nat_le, ◌≡◌, ℕ, ◌<◌, ◌≤◌, ◌+◌, Option, Some, None, option_map, refl, sym, ap, ◌∙◌, subst, arith, inl, inr}
 use Rattle.std.proofs.lemmas.Bool.{both_ways, cases_lt}
 use Rattle.std.proofs.lemmas.Option.{none-some, same_Some}
 use Rattle.std.specs.FinSet as set
 use Rattle.qs_recv.specs.Lane.{RecvLane}
 use Rattle.qs_send.specs.Lane.{SendLane, Sending}
-use Rattle.qs_send.specs.declared.piece.Item.TheVariants.{ResetStream}
-use Rattle.qs_conn.specs.declared.slot.Slot.TheVariants as slots
 use Rattle.qs_conn.specs.declared.limits.Limits.{Limits}
 use Rattle.qs_calls.specs.declared.settings.Settings.{Settings}
 use Rattle.qs_wire.specs.declared.stream_id.Role.{Role}
 use Rattle.qs_machine.specs.Tables.{Tables, type_of, lookup}
 use Rattle.qs_machine.specs.Ends.{End, window_by, role_bit}
-use Rattle.qs_machine.specs.Due.{IsCurrent, IsCovered, IsDue, IsEndDue, StreamGoes}
-use Rattle.qs_machine.specs.Outgoing.{Outgoing, IsTied, IsBlockedAt, WantsMore, lanes_of}
+use Rattle.qs_machine.specs.Due.{IsDue, IsEndDue, StreamGoes}
+use Rattle.qs_machine.specs.Outgoing.{Outgoing, IsTied, WantsMore, lanes_of, sent_sum}
 use Rattle.qs_conn.specs.Filling.{end_by, AnyWantsMore}
 use Rattle.qs_conn.specs.declared.send_marks.Task.{Task}
 use Rattle.qs_conn.specs.declared.send_marks.Task.TheVariants as tasks
-use Rattle.qs_conn.specs.Marks.{IsIdle}
 use Rattle.qs_conn.specs.Tasks.{IsQuiet, IsQuietAt}
 use Rattle.qs_conn.proofs.DueTied.{is_due, is_end_due}
 use Rattle.qs_machine.proofs.LaneTables.{lookup_lanes}
-use Rattle.qs_conn.proofs.Slots.{of_slot}
 
 -- of a quiet half among the halves
 pub quiet_at : (task : Task) (v o : Outgoing) (t : Tables Sending) (n : ℕ) → v ≡ o → lanes_of t ≡ v.sends → ((s : Sending) → lookup t n ≡ Some s → IsTied v.outstanding n s) → ((s : Sending) → lookup t n ≡ Some s → IsQuiet task s) → IsQuietAt task o n
@@ -60,22 +56,18 @@ module _ (o : Outgoing) (n : ℕ) (q : IsQuietAt tasks.Bytes o n) where
       let there = end_by t recvs o e in
       both_ways s.due.fin (quiet.no_end (ap (λ x. x.sent_end) is ∙ whole ∙ ap (λ x. x.written) (sym is))) (is_end_due there n s tied (subst (IsEndDue there n) (sym is) due))
 
-module _ (o : Outgoing) (n : ℕ) (t : Limits) (recvs : Tables RecvLane) (e : End) where
-  abbrev pub there : End
-  there = end_by t recvs o e
-
-  pub reset_idle : IsQuietAt tasks.Reset o n → IsIdle there (slots.ResetStream n)
-  reset_idle q = of_slot (λ i. IsCurrent there i → IsCovered there i) (slots.ResetStream n) told
-    where
-      told : (code size : ℕ) → IsCurrent there (ResetStream n code size) → IsCovered there (ResetStream n code size)
-      told code size (l, at, reset) =
-          let (s, is, tied, quiet) = q l at in
-          inr (l, at, ap (λ x. x.reset_acked) (sym is) ∙ quiet (ap (λ x. is_some x.was_reset) is ∙ ap is_some reset))
-
-  pub blocked_idle : IsQuietAt tasks.Blocked o n → IsIdle there (slots.StreamDataBlocked n)
-  blocked_idle q = of_slot (λ i. IsCurrent there i → IsCovered there i) (slots.StreamDataBlocked n) (λ m (l, at, none, limit, more, sent). (
-      let (s, is, tied, quiet) = q l at in
-      absurd (quiet m (subst (λ x. IsBlockedAt (Some x) m) (sym is) (none, limit, more, sent)))))
+-- while the connection's credit is used up, nothing goes but what takes none
+pub no_goes_again : (o : Outgoing) (n : ℕ) → IsQuietAt tasks.Again o n → (t : Limits) (recvs : Tables RecvLane) (e : End) → t.known_data ≤ sent_sum o.sends → StreamGoes (end_by t recvs o e) n → ⊥
+no_goes_again o n q t recvs e spent (l, at, inl (k, due, below, inl before)) =
+    let (s, is, tied, quiet) = q l at in
+    let there = end_by t recvs o e in
+    let sent : l.sent_end ≡ s.lane.sent_end = ap (λ x. x.sent_end) (sym is) in
+    both_ways (set.contains s.due.offsets k) (quiet.no_offset k (omega (arith, before, sent))) (is_due there n s tied k (subst (λ x. IsDue there n x k) (sym is) due))
+no_goes_again o n q t recvs e spent (l, at, inl (k, due, below, inr (first, credit))) = omega (arith, credit, spent)
+no_goes_again o n q t recvs e spent (l, at, inr (due, whole)) =
+    let (s, is, tied, quiet) = q l at in
+    let there = end_by t recvs o e in
+    both_ways s.due.fin (quiet.no_end (ap (λ x. x.sent_end) is ∙ whole ∙ ap (λ x. x.written) (sym is))) (is_end_due there n s tied (subst (IsEndDue there n) (sym is) due))
 
 -- the streams below a number want no more, and those up to the next one that is looked at
 pub wants_next : (o : Outgoing) (from m : ℕ) → ((n : ℕ) → n < from → WantsMore (lookup o.sends n) → ⊥) → ((n : ℕ) → from ≤ n → n < m → IsQuietAt tasks.Bytes o n) → (WantsMore (lookup o.sends m) → ⊥) → (n : ℕ) → n < m + 1 → WantsMore (lookup o.sends n) → ⊥

@@ -1,6 +1,7 @@
 -- What is so of a frame that ends the processing of its payload, and of one that doesn't.
-use Rattle.std.proofs.Common.{◌≡◌, ℕ, ◌<◌, ◌^◌, Bool, true, false, Option, Some, None, Result, Ok, Err, length, arith, cond, subst}
+use Rattle.std.proofs.Common.{◌≡◌, ℕ, ◌<◌, ◌^◌, Bool, true, false, Option, Some, None, Result, Ok, Err, length, arith, cond, subst, sym, ap, ◌∙◌}
 use Rattle.std.specs.Prelude.{⊤}
+use Rattle.std.proofs.lemmas.Option.{none-some}
 use Rattle.qs_send.specs.declared.piece.Item.TheVariants.{MaxData, MaxStreamData, MaxStreams, ResetStream, StopSending, DataBlocked, StreamDataBlocked, StreamsBlocked}
 use Rattle.qs_recv.specs.Lane.{check_stream, check_bytes}
 use Rattle.qs_recv.specs.declared.half.Highest.{Highest}
@@ -8,10 +9,12 @@ use Rattle.qs_recv.specs.declared.half.RecvFault.{RecvFault}
 use Rattle.qs_recv.specs.declared.half.RecvFault.TheVariants.{FinalSize, StreamCredit, NoMemory, ChangedByte}
 use Rattle.qs_wire.specs.Layout.{PlacedValue}
 use Rattle.qs_calls.specs.declared.closing.Received.TheVariants as received
-use Rattle.qs_machine.specs.Ends.{End, is_own, is_uni}
+use Rattle.qs_calls.specs.declared.closing.Closing.{Closing}
+use Rattle.qs_calls.specs.declared.closing.Closed.TheVariants.{ByUs}
+use Rattle.qs_machine.specs.Ends.{End, is_own, is_uni, closes}
 use Rattle.qs_machine.specs.Seen.{Seen, Ack, Stream, Control, Close, Plain}
 use Rattle.qs_machine.specs.Verdicts.{STREAM_LIMIT_ERROR, STREAM_STATE_ERROR, verdict, or_else, fault_if, state_fault_in, state_fault_out, credit_fault, bytes_fault, fault_code, fault_of, lane_of}
-use Rattle.qs_machine.specs.Receiving.{Stops, GoesOn, RunsOut}
+use Rattle.qs_machine.specs.Receiving.{Stops, GoesOn, RunsOut, closing_at}
 
 -- A code with which a frame may close the connection.
 abbrev Small : Option ℕ → Type 0
@@ -80,3 +83,17 @@ runs_out p (Stream n offset bytes fin) e new goes is = (goes, is)
 runs_out p (Control item) e new goes is = (goes, is)
 runs_out p (Close code) e new goes is = absurd goes
 runs_out p (Plain asks) e new goes is = (goes, is)
+
+-- a frame that has a fault ends it, and the connection
+refused_as : (p : PlacedValue) (f : Seen) (e new : End) (closing : Closing) → verdict e f ≡ Some closing.code → closing ≡ closing_at p closing.code → new ≡ closes (ByUs closing) e → Stops p f e (Err closing) new
+unfolding verdict
+refused_as p (Ack largest ranges) e new closing is same after = (is, same, after)
+refused_as p (Stream n offset bytes fin) e new closing is same after = (is, same, after)
+refused_as p (Control item) e new closing is same after = (is, same, after)
+refused_as p (Close code) e new closing is same after = absurd (none-some closing.code is)
+refused_as p (Plain asks) e new closing is same after = (is, same, after)
+
+pub is_refused : (p : PlacedValue) (f : Seen) (e new : End) (code : ℕ) (closing : Closing) → verdict e f ≡ Some code → closing ≡ closing_at p code → new ≡ closes (ByUs closing) e → Stops p f e (Err closing) new
+is_refused p f e new code closing is same after =
+    let codes : closing.code ≡ code = ap (λ (x : Closing). x.code) same in
+    refused_as p f e new closing (is ∙ ap (λ (n : ℕ). Some n) (sym codes)) (same ∙ ap (closing_at p) (sym codes)) after

@@ -1,14 +1,16 @@
 -- Sending halves are opened and edited.
-use Rattle.std.proofs.Common.{◌≡◌, ℕ, nat_lt, Bool, true, false, ◌&&◌, ◌||◌, cond, is_some, is_none, unwrap_or, ◌+◌, ◌-◌, subst, ◌<◌, ◌^◌, List, length, take, get_or, Option, Some, None, slice_get, Result, Ok, Err, refl, sym, ap, ◌∙◌, arith}
+use Rattle.std.proofs.Common.{◌≡◌, ℕ, nat_lt, Bool, true, false, ◌&&◌, ◌||◌, not, ◌==◌, max, inl, inr, ◌≤◌, cond, is_some, is_none, unwrap_or, ◌+◌, ◌-◌, subst, ◌<◌, ◌^◌, List, length, take, get_or, Option, Some, None, slice_get, Result, Ok, Err, refl, sym, ap, ◌∙◌, arith}
 use Rattle.std.specs.Option.{IfSome}
 use Rattle.std.specs.Ordering.{nat_cmp}
 use Rattle.std.specs.Result.{OnOk, OnErr, IfOk, IfErr}
-use Rattle.qs_ranges.specs.Numbers.{MissesRange}
+use Rattle.qs_ranges.specs.Numbers.{MissesRange, is_within, contains-with_range, contains-without_range}
+use Rattle.qs_ranges.proofs.Algebra.{inside, outside}
+use Rattle.qs_send.specs.Chunks.{IsDueChunk}
 use Rattle.qs_send.specs.declared.parts.Chunk.{Chunk}
 use Rattle.qs_machine.specs.Memory.{ChunkMayRunOut}
 use Rattle.std.proofs.Math.ListN.{set as set_list}
 use Rattle.std.specs.FinSet as set
-use Rattle.std.proofs.lemmas.Bool.{true≢false}
+use Rattle.std.proofs.lemmas.Bool.{true≢false, cases_lt}
 use Rattle.std.proofs.lemmas.Bool.Decides.{nat_tests}
 use Rattle.std.proofs.lemmas.List.{get_or_default}
 use Rattle.qs_send.specs.declared.parts.SendFault.{SendFault}
@@ -17,7 +19,7 @@ use Rattle.qs_send.specs.declared.parts.SendFault.TheVariants as SendFaults
 use Rattle.std.proofs.lemmas.Option.{none-some}
 use Rattle.qs_send.specs.Writable.{is_writable}
 use Rattle.qs_send.proofs.Steps.{write_nothing}
-use Rattle.qs_send.specs.Lane.{Sending, SendLane, new_sending, accepted, refusal, is_whole, write_lane, after_write, after_acked}
+use Rattle.qs_send.specs.Lane.{Sending, SendLane, new_sending, accepted, refusal, is_whole, write_lane, after_write, after_sent, after_acked}
 use Rattle.qs_machine.specs.Sums.{changed, no_sending}
 use Rattle.qs_conn.specs.declared.send_marks.Task.{Task}
 use Rattle.qs_conn.specs.declared.send_marks.Task.TheVariants as tasks
@@ -66,15 +68,51 @@ wrote_none (Err e) xs i x bytes there at shut h = tt
 -- a half begins quiet
 pub begins_quiet : (t : Task) → begins t ≡ false → (id limit buffer : ℕ) → IsQuiet t (new_sending id limit buffer)
 begins_quiet tasks.Bytes unmarked id limit buffer = record { no_offset = λ q lt. set.contains-empty nat_cmp q; no_end = λ whole. refl; sent = λ none lt. omega arith }
-begins_quiet tasks.Reset unmarked id limit buffer = λ is. absurd (true≢false (sym is))
-begins_quiet tasks.Blocked unmarked id limit buffer = λ m (none, is, more, at). omega (arith, more)
+begins_quiet tasks.Again unmarked id limit buffer = record { no_offset = λ q lt. set.contains-empty nat_cmp q; no_end = λ whole. refl }
 begins_quiet tasks.Writable unmarked id limit buffer = absurd (true≢false unmarked)
 begins_quiet tasks.Ended unmarked id limit buffer = refl
 
--- a half of which a chunk was acknowledged, or which was refused memory
-pub acked_keeps : {A E : Type 0} (r : Result A E) (t : Task) (x y : Sending) (c : Chunk) → (IsQuiet t x → IsQuiet t (after_acked x c)) → OnOk r (y ≡ after_acked x c) → OnErr r (y ≡ x) → IsQuiet t x → IsQuiet t y
-acked_keeps (Ok a) t x y c keep ok err q = subst (IsQuiet t) (sym ok) (keep q)
-acked_keeps (Err e) t x y c keep ok err q = subst (IsQuiet t) (sym err) q
+-- bytes that are written weren't sent before
+written_again : (s : Sending) (bytes : List ℕ) → s.lane.sent_end ≤ s.lane.written → IsQuiet tasks.Again s → IsQuiet tasks.Again (after_write s bytes)
+written_again s bytes sent q =
+    let w = s.lane.written in
+    record {
+      no_offset = λ k lt. contains-with_range s.due.offsets w (w + length bytes) k ∙ (let old = q.no_offset k lt in let none = outside w (w + length bytes) k (inl (omega (arith, lt, sent))) in grind (arith, old, none));
+      no_end = λ whole. q.no_end (omega (arith, whole, sent));
+    }
+
+-- a chunk that goes has the lowest due byte, and all from there on that are due below its end; and the end, where it reaches that
+pub sent_again : (s : Sending) (c : Chunk) → IsDueChunk s c → IsQuiet tasks.Again s → IsQuiet tasks.Again (after_sent s c)
+sent_again s c is q =
+    record {
+      no_offset = λ k lt. contains-without_range s.due.offsets c.offset (c.offset + c.len) k ∙ at k lt;
+      no_end = λ whole. ends s.due.fin (c.offset + c.len == s.lane.written) is.fin (λ short. q.no_end (grind (arith, nat_tests, short, whole)));
+    }
+  where
+    at : (k : ℕ) → k < max s.lane.sent_end (c.offset + c.len) → (set.contains s.due.offsets k && not (is_within c.offset (c.offset + c.len) k)) ≡ false
+    at k lt =
+        elim (cases_lt k c.offset) [
+          | inl below ↦ (let none = is.lowest k (omega arith) below in grind (arith, none))
+          | inr from ↦ elim (cases_lt k (c.offset + c.len)) [
+            | inl within ↦ (let in_it = inside c.offset (c.offset + c.len) k from within in grind (arith, in_it))
+            | inr past ↦ (let none = q.no_offset k (omega (arith, lt, past)) in grind (arith, none))
+          ]
+        ]
+
+    ends : (fin whole : Bool) → c.fin ≡ (fin && whole) → (whole ≡ false → fin ≡ false) → (fin && not c.fin) ≡ false
+    ends false whole at none = refl
+    ends true true at none = rw at refl
+    ends true false at none = absurd (true≢false (none refl))
+
+-- what is acknowledged isn't sent again
+pub acked_again : {A E : Type 0} (r : Result A E) (x y : Sending) (c : Chunk) → OnOk r (y ≡ after_acked x c) → OnErr r (y ≡ x) → IsQuiet tasks.Again x → IsQuiet tasks.Again y
+acked_again (Ok a) x y c ok err q =
+    subst (IsQuiet tasks.Again) (sym ok)
+    (record {
+      no_offset = λ k lt. contains-without_range x.due.offsets c.offset (c.offset + c.len) k ∙ (let none = q.no_offset k lt in grind (arith, none));
+      no_end = λ whole. (let none = q.no_end whole in ap (λ b. b && not c.fin) none);
+    })
+acked_again (Err e) x y c ok err q = subst (IsQuiet tasks.Again) (sym err) q
 
 -- bytes are accepted only before the end was asked for
 not_asked : (reset asked : Bool) → cond reset (Some WasReset) (cond asked (Some Finished) None) ≡ None → asked ≡ false
@@ -88,11 +126,12 @@ no_end false true true was is not_yet before = absurd (true≢false not_yet)
 no_end false true false was is not_yet before = refl
 no_end false false asked was is not_yet before = refl
 
--- a half that took bytes, or refused them, has its reset and its end as far as before
+-- a half that took bytes, or refused them, has as much to send again, and its end as far as before
 pub wrote_keeps : (r : Result ℕ SendFault) (x y : Sending) (bytes : List ℕ) → IfOk r (λ n. (refusal x.lane ≡ None) × (n ≡ accepted x.lane (length bytes)) × (y ≡ after_write x (take n bytes))) → IfErr r (λ fault. (y ≡ x) × (fault ≡ unwrap_or (refusal x.lane) SendFaults.NoMemory))
-    → (IsQuiet tasks.Reset x → IsQuiet tasks.Reset y) × (IsQuiet tasks.Ended x → IsQuiet tasks.Ended y)
-wrote_keeps (Ok n) x y bytes ok err = (
-  λ q. subst (IsQuiet tasks.Reset) (sym ok.2) q,
-  λ q. subst (IsQuiet tasks.Ended) (sym ok.2) (no_end x.lane.reset_acked (is_none x.lane.was_reset) x.lane.finished (is_whole x.lane) (is_whole (write_lane x.lane (take n bytes))) (not_asked (is_some x.lane.was_reset) x.lane.finished ok.0) q),
+    → x.lane.sent_end ≤ x.lane.written → (IsQuiet tasks.Again x → IsQuiet tasks.Again y) × (IsQuiet tasks.Ended x → IsQuiet tasks.Ended y)
+wrote_keeps (Ok n) x y bytes ok err sent = (
+  λ q. subst (IsQuiet tasks.Again) (sym ok.2) (written_again x (take n bytes) sent q),
+  λ q.
+      subst (IsQuiet tasks.Ended) (sym ok.2) (no_end x.lane.reset_acked (is_none x.lane.was_reset) x.lane.finished (is_whole x.lane) (is_whole (write_lane x.lane (take n bytes))) (not_asked (is_some x.lane.was_reset) x.lane.finished ok.0) q),
 )
-wrote_keeps (Err e) x y bytes ok err = (λ q. subst (IsQuiet tasks.Reset) (sym err.0) q, λ q. subst (IsQuiet tasks.Ended) (sym err.0) q)
+wrote_keeps (Err e) x y bytes ok err sent = (λ q. subst (IsQuiet tasks.Again) (sym err.0) q, λ q. subst (IsQuiet tasks.Ended) (sym err.0) q)

@@ -1,5 +1,5 @@
 -- A lane whose limit is the next one already.
-use Rattle.std.proofs.Common.{◌≡◌, ◌≢◌, ℕ, zero, suc, ◌+◌, ◌/◌, ◌<◌, ◌≤◌, ◌^◌, ◌⊎◌, inl, inr, Bool, true, false, ◌&&◌, ◌||◌, List, [], ◌∷◌, ◌++◌, length, map, take, replicate, Option, Some, None, is_some, refl, ap, sym, ◌∙◌, arith, subst, min, max, nat_le, nat_lt, cond, eqb, get_or}
+use Rattle.std.proofs.Common.{◌≡◌, ◌≢◌, ℕ, zero, suc, ◌+◌, ◌/◌, ◌<◌, ◌≤◌, ◌⊎◌, inl, inr, Bool, true, false, ◌&&◌, ◌||◌, List, [], ◌∷◌, ◌++◌, length, map, take, replicate, Option, Some, None, is_some, refl, ap, sym, ◌∙◌, arith, subst, min, max, nat_le, nat_lt, cond, eqb, get_or}
 use Rattle.std.proofs.lemmas.Option.{none-some, same_Some, slice_get_read, slice_get_within}
 use Rattle.std.proofs.lemmas.Bool.Decides.{nat_tests}
 use Rattle.std.proofs.lemmas.Bool.{both_ways, cases_eq}
@@ -8,7 +8,7 @@ use Rattle.std.proofs.Math.Seq.{take-append_seam}
 use Rattle.std.specs.List.{slice_get}
 use Rattle.qs_ranges.specs.Numbers.{MAX_VARINT}
 use Rattle.qs_recv.specs.Assembled.{forget}
-use Rattle.qs_recv.specs.Lane.{RecvLane, new_lane, raise, take_stream, take_reset, is_whole}
+use Rattle.qs_recv.specs.Lane.{MAX_WINDOW, RecvLane, new_lane, raise, take_stream, take_reset, is_whole}
 use Rattle.qs_recv.specs.Lawful.{IsLawful}
 use Rattle.qs_conn.specs.declared.touches.Touches.{Touches}
 use Rattle.qs_machine.specs.Sums.{changed}
@@ -34,7 +34,7 @@ raised_twice l = by_final l.final_size
     by_final (Some s) = refl
     by_final None = next_twice l.limit _ l.arrived.window
 
-pub new_settled : (w : ℕ) → 1 ≤ w → w ≤ 2 ^ 20 → IsSettled (new_lane w)
+pub new_settled : (w : ℕ) → 1 ≤ w → w ≤ MAX_WINDOW → IsSettled (new_lane w)
 new_settled w some small =
     let stays : moves w 0 w ≡ false = grind (arith, nat_tests) in
     ap (λ c. cond c (most 0 w) w) stays
@@ -130,7 +130,7 @@ among_more Nothing ms n i = refl
 among_more (Lane k) ms n i = refl
 among_more Several ms n i = marked_more ms n i
 
-pub are_opened : (t new : Touches) (xs : List RecvLane) (w n : ℕ) (ks : List ℕ) → 1 ≤ w → w ≤ 2 ^ 20 → new.lanes ≡ t.lanes → new.marks ≡ t.marks ++ replicate n false → AreSettled t xs → AreSettled new (xs ++ map (λ (i : ℕ). new_lane w) ks)
+pub are_opened : (t new : Touches) (xs : List RecvLane) (w n : ℕ) (ks : List ℕ) → 1 ≤ w → w ≤ MAX_WINDOW → new.lanes ≡ t.lanes → new.marks ≡ t.marks ++ replicate n false → AreSettled t xs → AreSettled new (xs ++ map (λ (i : ℕ). new_lane w) ks)
 are_opened t new xs w n ks some small lanes marks each j l there free =
     elim (get_seam xs _ j l there) [
       | inl before ↦ each j l before (among_more t.lanes t.marks n j ∙ ap (λ ms. is_among t.lanes ms j) (sym marks) ∙ ap (λ k. is_among k new.marks j) (sym lanes) ∙ free)

@@ -26,8 +26,8 @@ use Rattle.qs_conn.proofs.Openings.{none_is}
 pub quiet_has_none : (t : Task) (s : Sending) → IsQuiet t s → HasTask t s → ⊥
 quiet_has_none tasks.Bytes s quiet (inl (q, due, below)) = both_ways (set.contains s.due.offsets q) (quiet.no_offset q below) due
 quiet_has_none tasks.Bytes s quiet (inr (due, whole)) = both_ways s.due.fin (quiet.no_end whole) due
-quiet_has_none tasks.Reset s quiet (reset, open_still) = both_ways s.lane.reset_acked open_still (quiet reset)
-quiet_has_none tasks.Blocked s quiet (m, at) = quiet m at
+quiet_has_none tasks.Again s quiet (inl (q, due, sent)) = both_ways (set.contains s.due.offsets q) (quiet.no_offset q sent) due
+quiet_has_none tasks.Again s quiet (inr (due, whole)) = both_ways s.due.fin (quiet.no_end whole) due
 quiet_has_none tasks.Writable s quiet room = both_ways (is_writable s.lane) quiet room
 quiet_has_none tasks.Ended s quiet over = both_ways (send_ended s.lane) quiet over
 

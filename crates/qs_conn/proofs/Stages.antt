@@ -110,25 +110,6 @@ module _ (wish : Wish) (room : ℕ) (old : End) (text : List ℕ) (e : End) (P :
   pub begun_fewer : (Q : Slot → Type 0) → ((s : Slot) → Q s → P s) → Begun wish room old text e Q
   begun_fewer Q fewer = record { asked = b.asked; frames = b.frames; fills = b.fills; spells = b.spells; acks = b.acks; wished = b.wished; turns = b.turns; order = b.order; steady = b.steady; within = b.within; ack = b.ack; items = λ i q due. b.items i (fewer (slot_of i) q) due; no_chunk = b.no_chunk }
 
-  -- a slot of which nothing is current
-  pub begun_absent : (s : Slot) → ((j : Item) → slot_of j ≡ s → IsCurrent e j → ⊥) → Begun wish room old text e (λ t. P t ⊎ (t ≡ s))
-  begun_absent s none =
-      record {
-        asked = b.asked;
-        frames = b.frames;
-        fills = b.fills;
-        spells = b.spells;
-        acks = b.acks;
-        wished = b.wished;
-        turns = b.turns;
-        order = b.order;
-        steady = b.steady;
-        within = b.within;
-        ack = b.ack;
-        items = λ i p due. elim p [ inl before ↦ b.items i before due | inr is ↦ absurd (none i is (now i due.0)) ];
-        no_chunk = b.no_chunk;
-      }
-
   -- slots of which all that is current is covered
   pub begun_idle : (Q : Slot → Type 0) → ((i : Item) → Q (slot_of i) → IsCurrent e i → IsCovered e i) → Begun wish room old text e (λ t. P t ⊎ Q t)
   begun_idle Q covered =
@@ -149,29 +130,6 @@ module _ (wish : Wish) (room : ℕ) (old : End) (text : List ℕ) (e : End) (P :
       }
 
   module _ (i : Item) (only : (j : Item) → slot_of j ≡ slot_of i → IsCurrent e j → j ≡ i) where
-    -- a slot whose item is covered
-    pub begun_covered : IsCovered e i → Begun wish room old text e (λ t. P t ⊎ (t ≡ slot_of i))
-    begun_covered covered =
-        record {
-          asked = b.asked;
-          frames = b.frames;
-          fills = b.fills;
-          spells = b.spells;
-          acks = b.acks;
-          wished = b.wished;
-          turns = b.turns;
-          order = b.order;
-          steady = b.steady;
-          within = b.within;
-          ack = b.ack;
-          items = λ j p due. elim p [ inl before ↦ b.items j before due | inr is ↦ there j due (only j is (now j due.0)) ];
-          no_chunk = b.no_chunk;
-        }
-      where
-        there : (j : Item) → IsDueItem old j → j ≡ i → Among (Control j) (seen_all b.frames)
-        there j due same =
-            elim (covered_first i covered) [ inl before ↦ absurd (due.1 (subst (IsCovered old) (sym same) before)) | inr a ↦ subst (λ k. Among (Control k) (seen_all b.frames)) (sym same) a ]
-
     -- its item is put
     pub begun_item : ((j : Item) → IsLower (item_place j) (item_place i) → P (slot_of j)) → IsDueItem e i → Fits (frame_of_item i) → Begun wish room old (text ++ canonical (frame_of_item i)) (frame_put (Control i) e) (λ t. P t ⊎ (t ≡ slot_of i))
     begun_item passed due fits =

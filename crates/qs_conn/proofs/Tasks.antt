@@ -13,14 +13,13 @@ use Rattle.qs_conn.proofs.Marked.{look_again, undone, more_begun, fewer, unmarke
 use Rattle.qs_conn.proofs.Least.{part_at}
 use Rattle.qs_conn.proofs.SendEdits.{begins_quiet}
 
-module _ (old new : SendMarks) (index : ℕ) (s : Sending) (b r k w e : Bool) where
-  pub looked : (b ≡ false → IsQuiet tasks.Bytes s) → (r ≡ false → IsQuiet tasks.Reset s) → (k ≡ false → IsQuiet tasks.Blocked s) → (w ≡ false → IsQuiet tasks.Writable s) → (e ≡ false → IsQuiet tasks.Ended s) → new.bytes ≡ slice_set old.bytes index b → new.resets ≡ slice_set old.resets index r → new.blocks ≡ slice_set old.blocks index k → new.writable ≡ slice_set old.writable index w → new.ended ≡ slice_set old.ended index e
+module _ (old new : SendMarks) (index : ℕ) (s : Sending) (b g w e : Bool) where
+  pub looked : (b ≡ false → IsQuiet tasks.Bytes s) → (g ≡ false → IsQuiet tasks.Again s) → (w ≡ false → IsQuiet tasks.Writable s) → (e ≡ false → IsQuiet tasks.Ended s) → new.bytes ≡ slice_set old.bytes index b → new.again ≡ slice_set old.again index g → new.writable ≡ slice_set old.writable index w → new.ended ≡ slice_set old.ended index e
       → (t : Task) → IsLooked t index s (marks_of old t) (marks_of new t)
-  looked no_bytes no_reset no_block no_room no_end bytes resets blocks writable ended tasks.Bytes = (b, no_bytes, bytes)
-  looked no_bytes no_reset no_block no_room no_end bytes resets blocks writable ended tasks.Reset = (r, no_reset, resets)
-  looked no_bytes no_reset no_block no_room no_end bytes resets blocks writable ended tasks.Blocked = (k, no_block, blocks)
-  looked no_bytes no_reset no_block no_room no_end bytes resets blocks writable ended tasks.Writable = (w, no_room, writable)
-  looked no_bytes no_reset no_block no_room no_end bytes resets blocks writable ended tasks.Ended = (e, no_end, ended)
+  looked no_bytes no_again no_room no_end bytes again writable ended tasks.Bytes = (b, no_bytes, bytes)
+  looked no_bytes no_again no_room no_end bytes again writable ended tasks.Again = (g, no_again, again)
+  looked no_bytes no_again no_room no_end bytes again writable ended tasks.Writable = (w, no_room, writable)
+  looked no_bytes no_again no_room no_end bytes again writable ended tasks.Ended = (e, no_end, ended)
 
 -- a half was changed and then looked at
 pub all_looked : (xs : List Sending) (old new : SendMarks) (i : ℕ) (y : Sending) → ((t : Task) → IsLooked t i y (marks_of old t) (marks_of new t)) → (length xs ≤ 2 ^ 60) × AreAllMarked xs old → (length (set xs i y) ≤ 2 ^ 60) × AreAllMarked (set xs i y) new

@@ -1,28 +1,30 @@
--- What a receiving half has to tell was told, or its stream is marked: as halves, marks, records and acknowledged items change.
-use Rattle.std.proofs.Common.{if◌then◌else◌, ◌≡◌, ◌≢◌, ℕ, zero, suc, ◌+◌, ◌-◌, ◌*◌, ◌/◌, ◌%◌, ◌<◌, ◌≤◌, Bool, true, false, ◌⊎◌, List, [], ◌∷◌, ◌++◌, map, length, take, Option, None, Some, is_some, option_map, slice_get, refl, sym, ap, ◌∙◌, subst, arith, inl, inr}
+-- What the halves of streams have to tell was told, or they are marked: as halves, marks, records and acknowledged items change.
+use Rattle.std.proofs.Common.{if◌then◌else◌, ◌≡◌, ◌≢◌, ℕ, zero, suc, ◌+◌, ◌-◌, ◌*◌, ◌/◌, ◌%◌, ◌<◌, ◌≤◌, Bool, true, false, ◌⊎◌, List, [], ◌∷◌, ◌++◌, map, length, max, cond, take, Option, None, Some, is_some, option_map, slice_get, refl, sym, ap, ◌∙◌, subst, arith, inl, inr}
 use Rattle.std.specs.List.{range_with_len}
 use Rattle.std.specs.FinMap as fmap
 use Rattle.std.specs.FinSet as set
-use Rattle.std.proofs.lemmas.Bool.{both_ways, true≢false, cases_eq, or_right}
+use Rattle.std.proofs.lemmas.Bool.{both_ways, true≢false, or_right, cases_eq}
 use Rattle.std.proofs.lemmas.Option.{none-some, same_Some}
+use Rattle.std.specs.Cmp.{nat_cmp_total}
 use Rattle.qs_wire.specs.declared.stream_id.Role.{Role}
+use Rattle.qs_wire.specs.declared.stream_id.Dir.TheVariants.{Bidi, Uni}
 use Rattle.qs_calls.specs.declared.settings.Settings.{Settings}
-use Rattle.qs_recv.specs.Lane.{RecvLane, new_lane, raise}
+use Rattle.qs_recv.specs.Lane.{RecvLane, new_lane as new_recv_lane}
+use Rattle.qs_send.specs.Lane.{SendLane, new_lane as new_send_lane, write_lane, finish_lane, allow_lane, sent_lane, acked_lane, reset_acked_lane, blocked_lane}
 use Rattle.qs_send.specs.Records.{IsCarried, first_piece, without_first}
+use Rattle.qs_send.specs.declared.parts.Chunk.{Chunk}
 use Rattle.qs_send.specs.declared.piece.Item.{Item}
 use Rattle.qs_send.specs.declared.piece.Item.TheVariants.{MaxData, MaxStreamData, MaxStreams, ResetStream, StopSending, DataBlocked, StreamDataBlocked, StreamsBlocked}
 use Rattle.qs_send.specs.declared.piece.Piece.{Piece}
 use Rattle.qs_send.specs.declared.piece.Piece.TheVariants.{Data, Told}
-use Rattle.qs_wire.specs.declared.stream_id.Dir.TheVariants.{Bidi, Uni}
-use Rattle.qs_machine.specs.Tables.{Tables, table, with_table, lookup, update, updated, no_streams, open_to, each}
-use Rattle.qs_machine.specs.Ends.{End, Records, AckedItems, window_by, on_send}
+use Rattle.qs_machine.specs.Tables.{Tables, table, with_table, lookup, updated, no_streams, open_to, each}
+use Rattle.qs_machine.specs.Ends.{End, Records, AckedItems, window_by}
 use Rattle.qs_machine.specs.Told.{IsNoted}
-use Rattle.qs_machine.specs.Outgoing.{Outgoing, first_acked_out, first_lost_out, acked_at, items_acked, with_sends}
+use Rattle.qs_machine.specs.Outgoing.{Outgoing, IsBlockedAt, first_acked_out, first_lost_out, acked_at, items_acked, reset_noted, blocked_noted}
+use Rattle.qs_machine.specs.Due.{Among, IsCurrent, IsCovered}
 use Rattle.qs_machine.proofs.Carried.{IsShorter, shortened_is, get_other, some_is}
-use Rattle.std.specs.Cmp.{nat_cmp_total}
-use Rattle.std.specs.Prelude.{Result, Ok, Err}
-use Rattle.std.specs.Result.{OnOk, OnErr}
-use Rattle.qs_send.specs.Lane.{SendLane, sent_lane}
+use Rattle.qs_machine.proofs.Ties.{closed_at}
+use Rattle.qs_machine.proofs.TableLaws.{lookup_same, lookup_open, with_same, slots_updated, slots_each}
 use Rattle.qs_conn.specs.Runs.{held_out}
 use Rattle.qs_conn.specs.declared.limits.Limits.{Limits}
 use Rattle.qs_conn.specs.declared.slot.Kind.{Kind}
@@ -31,58 +33,48 @@ use Rattle.qs_conn.specs.declared.slot.Slot.TheVariants as slots
 use Rattle.qs_conn.specs.declared.slot.Slot.{Slot}
 use Rattle.qs_conn.specs.Filling.{end_by, slot_at, IsCurrentIn}
 use Rattle.qs_conn.specs.Marks.{IsIdle}
-use Rattle.qs_conn.specs.Untold.{IsTold, HasToTell, IsToldIn, HasTold, IsToldAt, AreTold, marked_for, HasMoreAt, HasMore}
+use Rattle.qs_conn.specs.Untold.{RecvTells, SendTells, TellsAt, IsToldIn, HasTold, IsToldAt, AreTold, told_by_recv, told_by_send, marked_at, marked_for, HasMoreAt, HasMore}
 use Rattle.qs_conn.proofs.Slots.{of_slot}
-use Rattle.qs_machine.specs.Due.{Among, IsCurrent, IsCovered}
-use Rattle.qs_machine.specs.Lawful.{frame_put, noted, item_put, chunk_of}
-use Rattle.qs_machine.specs.Seen.{Seen, Ack, Stream, Control, Close, Plain}
-use Rattle.qs_machine.proofs.Ties.{closed_at}
-use Rattle.qs_conn.proofs.Pieces.{noted_old}
-use Rattle.qs_machine.proofs.TableLaws.{lookup_same, lookup_each, lookup_open, with_same, slots_updated}
 use Rattle.qs_conn.proofs.Quiets.{window_same}
 use Rattle.qs_conn.proofs.EachItem.{each_item}
 
--- what a half has to tell is its next limit or its stop
-pub to_tell : (P : Item → Type 0) (w n : ℕ) (l : RecvLane) → ((k m : ℕ) → HasToTell w n l (MaxStreamData k m) → P (MaxStreamData k m)) → ((k code : ℕ) → HasToTell w n l (StopSending k code) → P (StopSending k code)) → (i : Item) → HasToTell w n l i → P i
-to_tell P w n l limit stop (MaxStreamData k m) has = limit k m has
-to_tell P w n l limit stop (StopSending k code) has = stop k code has
-to_tell P w n l limit stop (MaxData m2) has = absurd has
-to_tell P w n l limit stop (MaxStreams d2 m2) has = absurd has
-to_tell P w n l limit stop (ResetStream n2 code2 size2) has = absurd has
-to_tell P w n l limit stop (DataBlocked m2) has = absurd has
-to_tell P w n l limit stop (StreamDataBlocked n2 m2) has = absurd has
-to_tell P w n l limit stop (StreamsBlocked d2 m2) has = absurd has
+-- what a receiving half has to tell is its next limit or its stop
+pub recv_tell : (P : Item → Type 0) (w n : ℕ) (l : RecvLane) → ((k m : ℕ) → RecvTells w n l (MaxStreamData k m) → P (MaxStreamData k m)) → ((k code : ℕ) → RecvTells w n l (StopSending k code) → P (StopSending k code)) → (i : Item) → RecvTells w n l i → P i
+recv_tell P w n l limit stop = each_item (λ i. RecvTells w n l i → P i) (λ m has. absurd has) limit (λ d m has. absurd has) (λ k code size has. absurd has) stop (λ m has. absurd has) (λ k m has. absurd has) (λ d m has. absurd has)
+
+-- and a sending half its reset or the limit at which it stands
+pub send_tell : (P : Item → Type 0) (n : ℕ) (l : SendLane) → ((k code size : ℕ) → SendTells n l (ResetStream k code size) → P (ResetStream k code size)) → ((k m : ℕ) → SendTells n l (StreamDataBlocked k m) → P (StreamDataBlocked k m)) → (i : Item) → SendTells n l i → P i
+send_tell P n l reset blocked = each_item (λ i. SendTells n l i → P i) (λ m has. absurd has) (λ k m has. absurd has) (λ d m has. absurd has) reset (λ k code has. absurd has) (λ m has. absurd has) blocked (λ d m has. absurd has)
 
 -- One stream
 
--- no mark went, and what was told stays told where no mark is
-at_stay : (w n : ℕ) (m m' : Records) (a a' : AckedItems) (k k' : Option Bool) (x : Option RecvLane) → HasMoreAt k k'
-    → (k' ≡ Some false → (l : RecvLane) (i : Item) → HasToTell w n l i → IsToldIn m a i → IsToldIn m' a' i) → IsToldAt w n m a k x → IsToldAt w n m' a' k' x
-at_stay w n m m' a a' k k' None more keep h = tt
-at_stay w n m m' a a' None k' (Some l) more keep h = absurd h
-at_stay w n m m' a a' (Some b) None (Some l) more keep h = absurd more
-at_stay w n m m' a a' (Some b) (Some true) (Some l) more keep h = tt
-at_stay w n m m' a a' (Some true) (Some false) (Some l) more keep h = absurd (true≢false (sym more))
-at_stay w n m m' a a' (Some false) (Some false) (Some l) more keep h = λ i has. keep refl l i has (h i has)
+module _ {L : Type 0} (T : L → Item → Type 0) where
+  -- no mark went, and what was told stays told where no mark is
+  at_stay : (m m' : Records) (a a' : AckedItems) (k k' : Option Bool) (x : Option L) → HasMoreAt k k' → (k' ≡ Some false → (l : L) (i : Item) → T l i → IsToldIn m a i → IsToldIn m' a' i) → IsToldAt T m a k x → IsToldAt T m' a' k' x
+  at_stay m m' a a' k k' None more keep h = tt
+  at_stay m m' a a' None k' (Some l) more keep h = absurd h
+  at_stay m m' a a' (Some b) None (Some l) more keep h = absurd more
+  at_stay m m' a a' (Some b) (Some true) (Some l) more keep h = tt
+  at_stay m m' a a' (Some true) (Some false) (Some l) more keep h = absurd (true≢false (sym more))
+  at_stay m m' a a' (Some false) (Some false) (Some l) more keep h = λ i has. keep refl l i has (h i has)
 
--- the half becomes one that has no more to tell
-at_calm : (w n : ℕ) (m : Records) (a : AckedItems) (k : Option Bool) (x y : RecvLane) → ((i : Item) → HasToTell w n y i → HasToTell w n x i) → IsToldAt w n m a k (Some x) → IsToldAt w n m a k (Some y)
-at_calm w n m a None x y calm h = absurd h
-at_calm w n m a (Some true) x y calm h = tt
-at_calm w n m a (Some false) x y calm h = λ i has. h i (calm i has)
+  -- the half becomes one that has no more to tell, or its stream has a mark
+  at_changed : (m : Records) (a : AckedItems) (k k' : Option Bool) (x y : L) → HasMoreAt k k' → (k' ≡ Some false → (i : Item) → T y i → T x i) → IsToldAt T m a k (Some x) → IsToldAt T m a k' (Some y)
+  at_changed m a None k' x y more calm h = absurd h
+  at_changed m a (Some b) None x y more calm h = absurd more
+  at_changed m a (Some b) (Some true) x y more calm h = tt
+  at_changed m a (Some true) (Some false) x y more calm h = absurd (true≢false (sym more))
+  at_changed m a (Some false) (Some false) x y more calm h = λ i has. h i (calm refl i has)
 
-at_fewer : (w n : ℕ) (m : Records) (a : AckedItems) (k : Option Bool) (x y : Option RecvLane) → ((l : RecvLane) → y ≡ Some l → x ≡ Some l) → IsToldAt w n m a k x → IsToldAt w n m a k y
-at_fewer w n m a k x None fewer h = tt
-at_fewer w n m a k x (Some l) fewer h = subst (IsToldAt w n m a k) (fewer l refl) h
+  at_fewer : (m : Records) (a : AckedItems) (k : Option Bool) (x y : Option L) → ((l : L) → y ≡ Some l → x ≡ Some l) → IsToldAt T m a k x → IsToldAt T m a k y
+  at_fewer m a k x None fewer h = tt
+  at_fewer m a k x (Some l) fewer h = subst (IsToldAt T m a k) (fewer l refl) h
 
--- the half has its next limit already, or a mark
-at_raised : (w n : ℕ) (m : Records) (a : AckedItems) (k k' : Option Bool) (x : Option RecvLane) → HasMoreAt k k' → ((l : RecvLane) → x ≡ Some l → k' ≡ Some false → raise l ≡ l) → IsToldAt w n m a k x → IsToldAt w n m a k' (option_map raise x)
-at_raised w n m a k k' None more same h = tt
-at_raised w n m a None k' (Some l) more same h = absurd h
-at_raised w n m a (Some b) None (Some l) more same h = absurd more
-at_raised w n m a (Some b) (Some true) (Some l) more same h = tt
-at_raised w n m a (Some true) (Some false) (Some l) more same h = absurd (true≢false (sym more))
-at_raised w n m a (Some false) (Some false) (Some l) more same h = subst (HasTold w n m a) (sym (same l refl refl)) h
+  -- a half opens that has nothing to tell
+  at_begun : (m : Records) (a : AckedItems) (k : Option Bool) (x : L) → is_some k ≡ true → ((i : Item) → T x i → ⊥) → IsToldAt T m a k (Some x)
+  at_begun m a None x some none = absurd (both_ways false refl some)
+  at_begun m a (Some true) x some none = tt
+  at_begun m a (Some false) x some none = λ i has. absurd (none i has)
 
 -- Marks
 
@@ -120,6 +112,9 @@ has_marked t k = go (lookup t k) refl
     go None is = has_same t
     go (Some b) is = slots_updated (λ n o. HasMoreAt (lookup t n) o) t k b true is (λ n ne. more_same (lookup t n)) (marked (lookup t k) b is)
 
+pub has_new : (t u : Tables Bool) (k : ℕ) → u ≡ updated t k (λ b. true) (lookup t k) → HasMore t u
+has_new t u k is = subst (HasMore t) (sym is) (has_marked t k)
+
 unmarked_at : (k k' : Option Bool) → HasMoreAt k k' → k' ≡ Some false → k ≡ Some false
 unmarked_at None None more is = is
 unmarked_at None (Some b) more is = absurd more
@@ -139,72 +134,84 @@ is_marked_now t k = go (lookup t k) refl
     go None is free = none-some false (sym is ∙ free)
     go (Some b) is free = true≢false (same_Some true false (sym (lookup_same t k b true is) ∙ free))
 
-pub has_for : (p : Piece) (t : Tables Bool) → HasMore t (marked_for p t)
-has_for (Data n c) t = has_same t
-has_for (Told i) t = each_item (λ j. HasMore t (marked_for (Told j) t)) (λ m. has_same t) (λ n m. has_marked t n) (λ d m. has_same t) (λ n code size. has_same t) (λ n code. has_marked t n) (λ m. has_same t) (λ n m. has_same t) (λ d m. has_same t) i
-
 -- All streams
 
-module _ (r : Role) (s : Settings) (recvs : Tables RecvLane) (m : Records) (a : AckedItems) (marks : Tables Bool) (h : AreTold r s recvs m a marks) where
+module _ {L : Type 0} (T : ℕ → L → Item → Type 0) (lanes : Tables L) (m : Records) (a : AckedItems) (marks : Tables Bool) (h : AreTold T lanes m a marks) where
   -- marks, records and acknowledged items change
-  pub told_stay : (m' : Records) (a' : AckedItems) (marks' : Tables Bool) → HasMore marks marks'
-      → ((n : ℕ) (w : ℕ) (l : RecvLane) (i : Item) → lookup marks' n ≡ Some false → HasToTell w n l i → IsToldIn m a i → IsToldIn m' a' i) → AreTold r s recvs m' a' marks'
-  told_stay m' a' marks' more keep n = at_stay (window_by r s n) n m m' a a' (lookup marks n) (lookup marks' n) (lookup recvs n) (more n) (λ is l i. keep n (window_by r s n) l i is) (h n)
+  told_stay : (m' : Records) (a' : AckedItems) (marks' : Tables Bool) → HasMore marks marks' → ((n : ℕ) (l : L) (i : Item) → lookup marks' n ≡ Some false → T n l i → IsToldIn m a i → IsToldIn m' a' i) → AreTold T lanes m' a' marks'
+  told_stay m' a' marks' more keep n = at_stay (T n) m m' a a' (lookup marks n) (lookup marks' n) (lookup lanes n) (more n) (λ is l i. keep n l i is) (h n)
 
-  pub told_marked : (marks' : Tables Bool) → HasMore marks marks' → AreTold r s recvs m a marks'
-  told_marked marks' more = told_stay m a marks' more (λ n w l i is has was. was)
+  pub told_marked : (marks' : Tables Bool) → HasMore marks marks' → AreTold T lanes m a marks'
+  told_marked marks' more = told_stay m a marks' more (λ n l i is has was. was)
 
   -- more is carried
-  pub told_carried : (m' : Records) → ((p : Piece) → IsCarried m p → IsCarried m' p) → AreTold r s recvs m' a marks
-  told_carried m' keep = told_stay m' a marks (has_same marks) (λ n w l i is has was. elim was [ inl out ↦ inl (keep (Told i) out) | inr known ↦ inr known ])
+  pub told_carried : (m' : Records) → ((p : Piece) → IsCarried m p → IsCarried m' p) → AreTold T lanes m' a marks
+  told_carried m' keep = told_stay m' a marks (has_same marks) (λ n l i is has was. elim was [ inl out ↦ inl (keep (Told i) out) | inr known ↦ inr known ])
 
-  -- a half becomes one that has no more to tell
-  pub told_updated : (now : Tables RecvLane) (n : ℕ) (f : RecvLane → RecvLane) → now ≡ updated recvs n f (lookup recvs n) → ((l : RecvLane) → lookup recvs n ≡ Some l → (w : ℕ) (i : Item) → HasToTell w n (f l) i → HasToTell w n l i) → AreTold r s now m a marks
-  told_updated now n f is calm = subst (λ (t : Tables RecvLane). AreTold r s t m a marks) (sym is) (go (lookup recvs n) refl)
+  -- a half becomes one that has no more to tell, or its stream has a mark
+  pub told_changed : (now : Tables L) (marks' : Tables Bool) (n : ℕ) (f : L → L) → now ≡ updated lanes n f (lookup lanes n) → HasMore marks marks' → ((l : L) → lookup lanes n ≡ Some l → lookup marks' n ≡ Some false → (i : Item) → T n (f l) i → T n l i) → AreTold T now m a marks'
+  told_changed now marks' n f is more calm = subst (λ (t : Tables L). AreTold T t m a marks') (sym is) (go (lookup lanes n) refl)
     where
-      go : (x : Option RecvLane) → lookup recvs n ≡ x → AreTold r s (updated recvs n f x) m a marks
-      go None at = h
+      go : (x : Option L) → lookup lanes n ≡ x → AreTold T (updated lanes n f x) m a marks'
+      go None at = told_marked marks' more
       go (Some l) at =
-          slots_updated (λ k o. IsToldAt (window_by r s k) k m a (lookup marks k) o) recvs n l (f l) at (λ k ne. h k)
-          (at_calm (window_by r s n) n m a (lookup marks n) l (f l) (calm l at (window_by r s n)) (subst (IsToldAt (window_by r s n) n m a (lookup marks n)) at (h n)))
+          slots_updated (λ k o. IsToldAt (T k) m a (lookup marks' k) o) lanes n l (f l) at (λ k ne. told_marked marks' more k)
+          (at_changed (T n) m a (lookup marks n) (lookup marks' n) l (f l) (more n) (calm l at) (subst (IsToldAt (T n) m a (lookup marks n)) at (h n)))
 
-  -- a half is changed whose stream is marked
-  pub told_stopped : (now : Tables RecvLane) (marks' : Tables Bool) (n : ℕ) (f : RecvLane → RecvLane) → now ≡ updated recvs n f (lookup recvs n) → marks' ≡ updated marks n (λ b. true) (lookup marks n) → AreTold r s now m a marks'
-  told_stopped now marks' n f is are = rw (is, are) (go (lookup recvs n) (lookup marks n) refl refl)
-    where
-      go : (x : Option RecvLane) (k : Option Bool) → lookup recvs n ≡ x → lookup marks n ≡ k → AreTold r s (updated recvs n f x) m a (updated marks n (λ b. true) k)
-      go None k at mark = subst (λ o. AreTold r s recvs m a (updated marks n (λ b. true) o)) mark (told_marked (updated marks n (λ b. true) (lookup marks n)) (has_marked marks n))
-      go (Some l) None at mark = absurd (subst (λ o. IsToldAt (window_by r s n) n m a o (Some l)) mark (subst (IsToldAt (window_by r s n) n m a (lookup marks n)) at (h n)))
-      go (Some l) (Some b) at mark =
-          let marked : AreTold r s recvs m a (update marks n true) = subst (λ o. AreTold r s recvs m a (updated marks n (λ b. true) o)) mark (told_marked (updated marks n (λ b. true) (lookup marks n)) (has_marked marks n)) in
-          slots_updated (λ k o. IsToldAt (window_by r s k) k m a (lookup (update marks n true) k) o) recvs n l (f l) at (λ k ne. marked k)
-          (subst (λ o. IsToldAt (window_by r s n) n m a o (Some (f l))) (sym (lookup_same marks n b true mark)) tt)
+  -- it has a mark now
+  pub told_edited : (now : Tables L) (marks' : Tables Bool) (n : ℕ) (f : L → L) → now ≡ updated lanes n f (lookup lanes n) → marks' ≡ updated marks n (λ b. true) (lookup marks n) → AreTold T now m a marks'
+  told_edited now marks' n f is are = told_changed now marks' n f is (has_new marks marks' n are) (λ l at free. absurd (is_marked_now marks n (subst (λ (t : Tables Bool). lookup t n ≡ Some false) are free)))
+
+  -- it has no more to tell
+  pub told_updated : (now : Tables L) (n : ℕ) (f : L → L) → now ≡ updated lanes n f (lookup lanes n) → ((l : L) → lookup lanes n ≡ Some l → (i : Item) → T n (f l) i → T n l i) → AreTold T now m a marks
+  told_updated now n f is calm = told_changed now marks n f is (has_same marks) (λ l at free. calm l at)
 
   -- a stream is marked no more, of which all was told
-  pub told_unmarked : (marks' : Tables Bool) (n : ℕ) → marks' ≡ updated marks n (λ b. false) (lookup marks n) → ((l : RecvLane) → lookup recvs n ≡ Some l → HasTold (window_by r s n) n m a l) → AreTold r s recvs m a marks'
-  told_unmarked marks' n are all = subst (AreTold r s recvs m a) (sym are) (go (lookup marks n) refl)
+  pub told_unmarked : (marks' : Tables Bool) (n : ℕ) → marks' ≡ updated marks n (λ b. false) (lookup marks n) → ((l : L) → lookup lanes n ≡ Some l → HasTold (T n) m a l) → AreTold T lanes m a marks'
+  told_unmarked marks' n are all = subst (AreTold T lanes m a) (sym are) (go (lookup marks n) refl)
     where
-      by_lane : (x : Option RecvLane) → lookup recvs n ≡ x → IsToldAt (window_by r s n) n m a (Some false) x
+      by_lane : (x : Option L) → lookup lanes n ≡ x → IsToldAt (T n) m a (Some false) x
       by_lane None at = tt
       by_lane (Some l) at = all l at
 
-      go : (k : Option Bool) → lookup marks n ≡ k → AreTold r s recvs m a (updated marks n (λ b. false) k)
+      go : (k : Option Bool) → lookup marks n ≡ k → AreTold T lanes m a (updated marks n (λ b. false) k)
       go None mark = h
-      go (Some b) mark = slots_updated (λ k o. IsToldAt (window_by r s k) k m a o (lookup recvs k)) marks n b false mark (λ k ne. h k) (by_lane (lookup recvs n) refl)
+      go (Some b) mark = slots_updated (λ k o. IsToldAt (T k) m a o (lookup lanes k)) marks n b false mark (λ k ne. h k) (by_lane (lookup lanes n) refl)
 
-  -- each limit becomes the next one
-  pub told_raised : (now : Tables RecvLane) (marks' : Tables Bool) → now ≡ each raise recvs → HasMore marks marks' → ((n : ℕ) (l : RecvLane) → lookup recvs n ≡ Some l → lookup marks' n ≡ Some false → raise l ≡ l) → AreTold r s now m a marks'
-  told_raised now marks' is more same n =
-      subst (IsToldAt (window_by r s n) n m a (lookup marks' n)) (sym (ap (λ (t : Tables RecvLane). lookup t n) is ∙ lookup_each raise recvs n))
-      (at_raised (window_by r s n) n m a (lookup marks n) (lookup marks' n) (lookup recvs n) (more n) (same n) (h n))
+  -- each half is changed
+  pub told_each : (f : L → L) (now : Tables L) (marks' : Tables Bool) → now ≡ each f lanes → HasMore marks marks' → ((n : ℕ) (l : L) → lookup lanes n ≡ Some l → lookup marks' n ≡ Some false → f l ≡ l) → AreTold T now m a marks'
+  told_each f now marks' is more same = subst (λ (t : Tables L). AreTold T t m a marks') (sym is) (slots_each (λ n o. IsToldAt (T n) m a (lookup marks' n) o) f lanes (λ n. go n (lookup lanes n) refl))
+    where
+      go : (n : ℕ) (x : Option L) → lookup lanes n ≡ x → IsToldAt (T n) m a (lookup marks' n) (option_map f x)
+      go n None at = tt
+      go n (Some l) at = at_changed (T n) m a (lookup marks n) (lookup marks' n) l (f l) (more n) (λ free i has. subst (λ k. T n k i) (same n l at free) has) (subst (IsToldAt (T n) m a (lookup marks n)) at (h n))
 
   -- streams are taken away
-  pub told_fewer : (now : Tables RecvLane) → ((n : ℕ) (l : RecvLane) → lookup now n ≡ Some l → lookup recvs n ≡ Some l) → AreTold r s now m a marks
-  told_fewer now fewer n = at_fewer (window_by r s n) n m a (lookup marks n) (lookup recvs n) (lookup now n) (fewer n) (h n)
+  told_fewer : (now : Tables L) → ((n : ℕ) (l : L) → lookup now n ≡ Some l → lookup lanes n ≡ Some l) → AreTold T now m a marks
+  told_fewer now fewer n = at_fewer (T n) m a (lookup marks n) (lookup lanes n) (lookup now n) (fewer n) (h n)
 
   -- the lanes of a type from a count on are
-  pub told_closed : (mid now : Tables RecvLane) (n count : ℕ) → mid ≡ recvs → now ≡ with_table mid (n % 4) (take count (table mid (n % 4))) → AreTold r s now m a marks
-  told_closed mid now n count is cut = told_fewer now (λ k l at. closed_at recvs n count k l (sym (ap (λ (t : Tables RecvLane). lookup t k) (cut ∙ ap (λ (t : Tables RecvLane). with_table t (n % 4) (take count (table t (n % 4)))) is)) ∙ at))
+  pub told_closed : (mid now : Tables L) (n count : ℕ) → mid ≡ lanes → now ≡ with_table mid (n % 4) (take count (table mid (n % 4))) → AreTold T now m a marks
+  told_closed mid now n count is cut = told_fewer now (λ k l at. closed_at lanes n count k l (sym (ap (λ (t : Tables L). lookup t k) (cut ∙ ap (λ (t : Tables L). with_table t (n % 4) (take count (table t (n % 4)))) is)) ∙ at))
+
+  -- of a stream without a mark all was told
+  pub told_here : (n : ℕ) → ((b : Bool) → lookup marks n ≡ Some b → b ≡ false) → (l : L) → lookup lanes n ≡ Some l → HasTold (T n) m a l
+  told_here n free l at = go (lookup marks n) free (subst (IsToldAt (T n) m a (lookup marks n)) at (h n))
+    where
+      go : (k : Option Bool) → ((b : Bool) → k ≡ Some b → b ≡ false) → IsToldAt (T n) m a k (Some l) → HasTold (T n) m a l
+      go None only told = absurd told
+      go (Some true) only told = absurd (true≢false (only true refl))
+      go (Some false) only told = told
+
+pub told_none : {L : Type 0} (T : ℕ → L → Item → Type 0) (lanes : Tables L) (m : Records) (a : AckedItems) (marks : Tables Bool) → lanes ≡ no_streams → AreTold T lanes m a marks
+unfolding lookup
+told_none {L} T lanes m a marks is = subst (λ (t : Tables L). AreTold T t m a marks) (sym is) (λ n. empty n (n % 4) (n / 4))
+  where
+    empty : (n k i : ℕ) → IsToldAt (T n) m a (lookup marks n) (slice_get (table (no_streams {X = L}) k) i)
+    empty n zero i = tt
+    empty n (suc zero) i = tt
+    empty n (suc (suc zero)) i = tt
+    empty n (suc (suc (suc k))) i = tt
 
 -- Streams open
 
@@ -225,70 +232,108 @@ opened_some t n m begin e le =
     ap is_some (with_same t n m _ e)
     ∙ widened_some (table t (n % 4)) (λ i. begin (i * 4 + n % 4)) (length (table t (n % 4))) (n / 4 + 1 - length (table t (n % 4))) (m / 4) (omega (arith, le))
 
-at_begun : (w n : ℕ) (m : Records) (a : AckedItems) (k : Option Bool) → is_some k ≡ true → IsToldAt w n m a k (Some (new_lane w))
-at_begun w n m a None some = absurd (both_ways false refl some)
-at_begun w n m a (Some true) some = tt
-at_begun w n m a (Some false) some = to_tell (IsToldIn m a) w n (new_lane w) (λ k limit (same, is, more, none). absurd (omega (arith, is, more))) (λ k code (same, stop, goes, whole). absurd (none-some code stop))
-
-module _ (r : Role) (s : Settings) (recvs : Tables RecvLane) (m : Records) (a : AckedItems) (marks : Tables Bool) (h : AreTold r s recvs m a marks) (n : ℕ) where
+module _ {L : Type 0} (T : ℕ → L → Item → Type 0) (lanes : Tables L) (m : Records) (a : AckedItems) (marks : Tables Bool) (h : AreTold T lanes m a marks) (n : ℕ) where
   abbrev places : Tables Bool
   places = open_to marks n (λ k. false)
 
   -- places for marks are made
-  pub told_placed : AreTold r s recvs m a places
+  pub told_placed : AreTold T lanes m a places
   told_placed k = elim (lookup_open marks n k (λ j. false)) [
-    | inl same ↦ subst (λ o. IsToldAt (window_by r s k) k m a o (lookup recvs k)) (sym same) (h k)
-    | inr (none, kind, le, new) ↦ none_open (lookup recvs k) (subst (λ o. IsToldAt (window_by r s k) k m a o (lookup recvs k)) none (h k))
+    | inl same ↦ subst (λ o. IsToldAt (T k) m a o (lookup lanes k)) (sym same) (h k)
+    | inr (none, kind, le, new) ↦ none_open (lookup lanes k) (subst (λ o. IsToldAt (T k) m a o (lookup lanes k)) none (h k))
   ]
     where
-      none_open : (x : Option RecvLane) → IsToldAt (window_by r s k) k m a None x → IsToldAt (window_by r s k) k m a (lookup places k) x
+      none_open : (x : Option L) → IsToldAt (T k) m a None x → IsToldAt (T k) m a (lookup places k) x
       none_open None told = tt
       none_open (Some l) told = absurd told
 
-  -- and then the streams
-  pub told_opened : (w : ℕ) → w ≡ window_by r s n → AreTold r s (open_to recvs n (λ k. new_lane w)) m a places
-  told_opened w is k = elim (lookup_open recvs n k (λ j. new_lane w)) [
-    | inl same ↦ subst (IsToldAt (window_by r s k) k m a (lookup places k)) (sym same) (told_placed k)
-    | inr (none, kind, le, new) ↦
-        (let here : w ≡ window_by r s k = is ∙ window_at k kind in
-        subst (IsToldAt (window_by r s k) k m a (lookup places k)) (sym (new ∙ ap (λ v. Some (new_lane v)) here)) (at_begun (window_by r s k) k m a (lookup places k) (opened_some marks n k (λ j. false) kind le)))
+  -- and then the streams, which have nothing to tell
+  told_opened : (begin : ℕ → L) → ((k : ℕ) → k % 4 ≡ n % 4 → (i : Item) → T k (begin k) i → ⊥) → AreTold T (open_to lanes n begin) m a places
+  told_opened begin none k = elim (lookup_open lanes n k begin) [
+    | inl same ↦ subst (IsToldAt (T k) m a (lookup places k)) (sym same) (told_placed k)
+    | inr (gone, kind, le, new) ↦ subst (IsToldAt (T k) m a (lookup places k)) (sym new) (at_begun (T k) m a (lookup places k) (begin k) (opened_some marks n k (λ j. false) kind le) (none k kind))
   ]
-    where
-      window_at : (k : ℕ) → k % 4 ≡ n % 4 → window_by r s n ≡ window_by r s k
-      window_at k kind = sym (window_same r s n (n % 4) refl (omega arith)) ∙ window_same r s k (n % 4) kind (omega arith)
 
-pub told_none : (r : Role) (s : Settings) (recvs : Tables RecvLane) (m : Records) (a : AckedItems) (marks : Tables Bool) → recvs ≡ no_streams → AreTold r s recvs m a marks
-unfolding lookup
-told_none r s recvs m a marks is = subst (λ (t : Tables RecvLane). AreTold r s t m a marks) (sym is) (λ n. empty n (n % 4) (n / 4))
+  -- or none does, of halves that the stream doesn't have
+  told_opens : (absent : Bool) (now : Tables L) (begin : ℕ → L) → now ≡ cond absent lanes (open_to lanes n begin) → ((k : ℕ) → k % 4 ≡ n % 4 → (i : Item) → T k (begin k) i → ⊥) → AreTold T now m a places
+  told_opens true now begin is none = subst (λ (t : Tables L). AreTold T t m a places) (sym is) told_placed
+  told_opens false now begin is none = subst (λ (t : Tables L). AreTold T t m a places) (sym is) (told_opened begin none)
+
+pub recvs_open : (r : Role) (s : Settings) (recvs now : Tables RecvLane) (m : Records) (a : AckedItems) (marks : Tables Bool) (n w : ℕ) (absent : Bool) → AreTold (TellsAt r s) recvs m a marks → now ≡ cond absent recvs (open_to recvs n (λ k. new_recv_lane w)) → w ≡ window_by r s n
+    → AreTold (TellsAt r s) now m a (open_to marks n (λ k. false))
+recvs_open r s recvs now m a marks n w absent h is first =
+    told_opens (TellsAt r s) recvs m a marks h n absent now (λ k. new_recv_lane w) is
+    (λ k kind. recv_tell (λ i. ⊥) (window_by r s k) k (new_recv_lane w)
+    (λ j limit (same, is, more, none). (let here = first ∙ window_at k kind in omega (arith, is, more, here)))
+    (λ j code (same, stop, goes, whole). none-some code stop))
   where
-    empty : (n k i : ℕ) → IsToldAt (window_by r s n) n m a (lookup marks n) (slice_get (table (no_streams {X = RecvLane}) k) i)
-    empty n zero i = tt
-    empty n (suc zero) i = tt
-    empty n (suc (suc zero)) i = tt
-    empty n (suc (suc (suc k))) i = tt
+    window_at : (k : ℕ) → k % 4 ≡ n % 4 → window_by r s n ≡ window_by r s k
+    window_at k kind = sym (window_same r s n (n % 4) refl (omega arith)) ∙ window_same r s k (n % 4) kind (omega arith)
 
--- places are made, and the streams open, or nothing does
-pub told_open_by : {E : Type 0} (result : Result (Unit {0}) E) (r : Role) (s : Settings) (recvs now : Tables RecvLane) (m : Records) (a : AckedItems) (marks marks' : Tables Bool) (n w : ℕ) → OnOk result (now ≡ open_to recvs n (λ k. new_lane w)) → OnErr result (now ≡ recvs)
-    → marks' ≡ open_to marks n (λ k. false) → w ≡ window_by r s n → AreTold r s recvs m a marks → AreTold r s now m a marks'
-told_open_by (Ok done) r s recvs now m a marks marks' n w ok err are is h = rw (ok, are) (told_opened r s recvs m a marks h n w is)
-told_open_by (Err e) r s recvs now m a marks marks' n w ok err are is h = rw (err, are) (told_placed r s recvs m a marks h n)
+pub sends_open : (sends now : Tables SendLane) (m : Records) (a : AckedItems) (marks : Tables Bool) (n limit buffer : ℕ) (absent : Bool) → AreTold SendTells sends m a marks → now ≡ cond absent sends (open_to sends n (λ k. new_send_lane k limit buffer))
+    → AreTold SendTells now m a (open_to marks n (λ k. false))
+sends_open sends now m a marks n limit buffer absent h is =
+    told_opens SendTells sends m a marks h n absent now (λ k. new_send_lane k limit buffer) is
+    (λ k kind. send_tell (λ i. ⊥) k (new_send_lane k limit buffer) (λ j code size (same, reset, part). none-some (record { code = code; size = size }) reset) (λ j at (same, (none, is, more, sent)). omega (arith, more)))
 
-pub told_same : (r : Role) (s : Settings) (recvs now : Tables RecvLane) (m : Records) (a : AckedItems) (marks marks' : Tables Bool) → now ≡ recvs → marks' ≡ marks → AreTold r s recvs m a marks → AreTold r s now m a marks'
-told_same r s recvs now m a marks marks' is are h = rw (is, are) h
+-- Sending halves change
+
+module _ (sends : Tables SendLane) (m : Records) (a : AckedItems) (marks : Tables Bool) (h : AreTold SendTells sends m a marks) (now : Tables SendLane) (n : ℕ) where
+  -- bytes are written or go out, and where the limit is reached then the stream has a mark
+  moved : (marks' : Tables Bool) (f : SendLane → SendLane) → now ≡ updated sends n f (lookup sends n) → ((l : SendLane) → (f l).was_reset ≡ l.was_reset) → ((l : SendLane) → (f l).reset_acked ≡ l.reset_acked) → HasMore marks marks'
+      → ((at : ℕ) → IsBlockedAt (lookup now n) at → lookup marks' n ≡ Some false → ⊥) → AreTold SendTells now m a marks'
+  moved marks' f is reset acked more blocked =
+      told_changed SendTells sends m a marks h now marks' n f is more
+      (λ l there free. send_tell (SendTells n l) n (f l) (λ k code size (same, was, part). (same, sym (reset l) ∙ was, sym (acked l) ∙ part))
+      (λ k at (same, here). absurd (blocked at (subst (λ o. IsBlockedAt o at) (sym (ap (λ (t : Tables SendLane). lookup t n) is ∙ after l there)) here) free)))
+    where
+      after : (l : SendLane) → lookup sends n ≡ Some l → lookup (updated sends n f (lookup sends n)) n ≡ Some (f l)
+      after l there = subst (λ o. lookup (updated sends n f o) n ≡ Some (f l)) (sym there) (lookup_same sends n l (f l) there)
+
+  pub told_written : (marks' : Tables Bool) (bytes : List ℕ) → now ≡ updated sends n (λ l. write_lane l bytes) (lookup sends n) → HasMore marks marks' → ((at : ℕ) → IsBlockedAt (lookup now n) at → lookup marks' n ≡ Some false → ⊥) → AreTold SendTells now m a marks'
+  told_written marks' bytes is = moved marks' (λ l. write_lane l bytes) is (λ l. refl) (λ l. refl)
+
+  pub told_sent : (marks' : Tables Bool) (c : Chunk) → now ≡ updated sends n (λ l. sent_lane l c) (lookup sends n) → HasMore marks marks' → ((at : ℕ) → IsBlockedAt (lookup now n) at → lookup marks' n ≡ Some false → ⊥) → AreTold SendTells now m a marks'
+  told_sent marks' c is = moved marks' (λ l. sent_lane l c) is (λ l. refl) (λ l. refl)
+
+  -- what doesn't move what is to be told
+  pub told_finished : now ≡ updated sends n finish_lane (lookup sends n) → AreTold SendTells now m a marks
+  told_finished is = told_updated SendTells sends m a marks h now n finish_lane is (λ l at. send_tell (SendTells n l) n (finish_lane l) (λ k code size has. has) (λ k limit has. has))
+
+  told_acked : (c : Chunk) → now ≡ updated sends n (λ l. acked_lane l c) (lookup sends n) → AreTold SendTells now m a marks
+  told_acked c is = told_updated SendTells sends m a marks h now n (λ l. acked_lane l c) is (λ l at. send_tell (SendTells n l) n (acked_lane l c) (λ k code size has. has) (λ k limit has. has))
+
+  told_reset_acked : now ≡ updated sends n reset_acked_lane (lookup sends n) → AreTold SendTells now m a marks
+  told_reset_acked is = told_updated SendTells sends m a marks h now n reset_acked_lane is (λ l at. send_tell (SendTells n l) n (reset_acked_lane l) (λ k code size has. absurd (true≢false has.2)) (λ k limit has. has))
+
+  told_blocked : now ≡ updated sends n blocked_lane (lookup sends n) → AreTold SendTells now m a marks
+  told_blocked is = told_updated SendTells sends m a marks h now n blocked_lane is (λ l at. send_tell (SendTells n l) n (blocked_lane l) (λ k code size has. has) (λ k limit has. has))
+
+  -- a limit that rises is above all that was sent
+  pub told_allowed : (limit : ℕ) → ((l : SendLane) → lookup sends n ≡ Some l → l.sent_end ≤ l.limit) → now ≡ updated sends n (λ l. allow_lane l limit) (lookup sends n) → AreTold SendTells now m a marks
+  told_allowed limit sent is =
+      told_updated SendTells sends m a marks h now n (λ l. allow_lane l limit) is
+      (λ l at. send_tell (SendTells n l) n (allow_lane l limit) (λ k code size has. has)
+      (λ k to (same, (none, here, more, whole)). (let below = sent l at in let stays : max l.limit limit ≡ l.limit = omega (arith, whole, below) in (same, (none, here ∙ stays, omega (arith, more, stays), whole ∙ stays)))))
+
+-- an item went into the packet
+pub told_put : (i : Item) (sends : Tables SendLane) (m : Records) (a : AckedItems) (marks : Tables Bool) → AreTold SendTells sends m a marks → AreTold SendTells (blocked_noted i sends) m a marks
+told_put i sends m a marks h = each_item (λ j. AreTold SendTells (blocked_noted j sends) m a marks) (λ v. h) (λ n v. h) (λ d v. h) (λ n code size. h) (λ n code. h) (λ v. h) (λ n v. told_blocked sends m a marks h _ n refl) (λ d v. h) i
 
 -- A piece leaves its packet
 
--- what was told stays so, or is marked
-abbrev StayTold : Outgoing → Tables Bool → Outgoing → Tables Bool → Type 0
-StayTold o marks new new_marks = (r : Role) (s : Settings) (recvs : Tables RecvLane) → AreTold r s recvs o.outstanding o.acked marks → AreTold r s recvs new.outstanding new.acked new_marks
+module _ (of : Item → Option ℕ) where
+  has_for : (p : Piece) (t : Tables Bool) → HasMore t (marked_for of p t)
+  has_for (Data n c) t = has_same t
+  has_for (Told i) t = go (of i)
+    where
+      go : (o : Option ℕ) → HasMore t (marked_at o t)
+      go None = has_same t
+      go (Some n) = has_marked t n
 
--- what is told of a stream without a mark isn't what left
-not_left : (p : Piece) (t : Tables Bool) (n w : ℕ) (l : RecvLane) (i : Item) → lookup (marked_for p t) n ≡ Some false → HasToTell w n l i → Told i ≡ p → ⊥
-not_left p t n w l i free =
-    to_tell (λ i. Told i ≡ p → ⊥) w n l
-    (λ k m has is. is_marked_now t n (subst (λ j. lookup (updated t j (λ b. true) (lookup t j)) n ≡ Some false) has.0 (subst (λ q. lookup (marked_for q t) n ≡ Some false) (sym is) free)))
-    (λ k code has is. is_marked_now t n (subst (λ j. lookup (updated t j (λ b. true) (lookup t j)) n ≡ Some false) has.0 (subst (λ q. lookup (marked_for q t) n ≡ Some false) (sym is) free)))
-    i
+  -- what is told of a half without a mark isn't what left
+  not_left : (p : Piece) (t : Tables Bool) (n : ℕ) (i : Item) → lookup (marked_for of p t) n ≡ Some false → of i ≡ Some n → Told i ≡ p → ⊥
+  not_left p t n i free at is = is_marked_now t n (subst (λ o. lookup (marked_at o t) n ≡ Some false) at (subst (λ q. lookup (marked_for of q t) n ≡ Some false) (sym is) free))
 
 -- other pieces of the packet stay in it
 still_carried : (m m' : Records) (k : ℕ) (p q : Piece) → IsShorter m k p m' → (q ≡ p → ⊥) → IsCarried m q → IsCarried m' q
@@ -305,8 +350,7 @@ still_carried m m' k p q short other (j, ps, at, among) =
     go (inl is) = absurd (other is)
     go (inr later) = (k, short.was.0, short.was.3 q later, later)
 
--- what is known to be told of a stream without a mark is known still
-limit_noted : (p : Piece) (t : Tables Bool) (k m : ℕ) (a : AckedItems) → lookup (marked_for p t) k ≡ Some false → fmap.get a.max_stream_data k ≡ Some m → fmap.get (items_acked p a).max_stream_data k ≡ Some m
+limit_noted : (p : Piece) (t : Tables Bool) (k m : ℕ) (a : AckedItems) → lookup (marked_for told_by_recv p t) k ≡ Some false → fmap.get a.max_stream_data k ≡ Some m → fmap.get (items_acked p a).max_stream_data k ≡ Some m
 limit_noted (Data j c) t k m a free known = known
 limit_noted (Told (MaxData v)) t k m a free known = known
 limit_noted (Told (MaxStreamData j v)) t k m a free known =
@@ -321,6 +365,21 @@ limit_noted (Told (StreamDataBlocked j v)) t k m a free known = known
 limit_noted (Told (StreamsBlocked Bidi v)) t k m a free known = known
 limit_noted (Told (StreamsBlocked Uni v)) t k m a free known = known
 
+block_noted : (p : Piece) (t : Tables Bool) (k m : ℕ) (a : AckedItems) → lookup (marked_for told_by_send p t) k ≡ Some false → fmap.get a.stream_data_blocked k ≡ Some m → fmap.get (items_acked p a).stream_data_blocked k ≡ Some m
+block_noted (Data j c) t k m a free known = known
+block_noted (Told (MaxData v)) t k m a free known = known
+block_noted (Told (StreamDataBlocked j v)) t k m a free known =
+    let ne : k ≢ j = λ e. is_marked_now t j (subst (λ q. lookup (updated t j (λ b. true) (lookup t j)) q ≡ Some false) e free) in
+    get_other a.stream_data_blocked j _ k ne ∙ known
+block_noted (Told (MaxStreams Bidi v)) t k m a free known = known
+block_noted (Told (MaxStreams Uni v)) t k m a free known = known
+block_noted (Told (ResetStream j code size)) t k m a free known = known
+block_noted (Told (StopSending j code)) t k m a free known = known
+block_noted (Told (DataBlocked v)) t k m a free known = known
+block_noted (Told (MaxStreamData j v)) t k m a free known = known
+block_noted (Told (StreamsBlocked Bidi v)) t k m a free known = known
+block_noted (Told (StreamsBlocked Uni v)) t k m a free known = known
+
 stop_noted : (p : Piece) (k : ℕ) (a : AckedItems) → set.contains a.stop_sending k ≡ true → set.contains (items_acked p a).stop_sending k ≡ true
 stop_noted (Data j c) k a known = known
 stop_noted (Told (MaxData v)) k a known = known
@@ -334,14 +393,19 @@ stop_noted (Told (StreamDataBlocked j v)) k a known = known
 stop_noted (Told (StreamsBlocked Bidi v)) k a known = known
 stop_noted (Told (StreamsBlocked Uni v)) k a known = known
 
-still_noted : (p : Piece) (t : Tables Bool) (n w : ℕ) (l : RecvLane) (i : Item) (a : AckedItems) → lookup (marked_for p t) n ≡ Some false → HasToTell w n l i → IsNoted a i → IsNoted (items_acked p a) i
-still_noted p t n w l i a free =
-    to_tell (λ i. IsNoted a i → IsNoted (items_acked p a) i) w n l
-    (λ k m has known. limit_noted p t k m a (subst (λ q. lookup (marked_for p t) q ≡ Some false) (sym has.0) free) known)
-    (λ k code has known. stop_noted p k a known)
-    i
+-- of a half without a mark what is known to be told is known still
+abbrev pub AreNoted : {L : Type 0} → (ℕ → L → Item → Type 0) → (Item → Option ℕ) → Type 0
+AreNoted {L} T of = (p : Piece) (t : Tables Bool) (n : ℕ) (l : L) (a : AckedItems) → lookup (marked_for of p t) n ≡ Some false → (i : Item) → T n l i → IsNoted a i → IsNoted (items_acked p a) i
 
-outstanding_acked : (late : Bool) (k : ℕ) (p : Piece) (o : Outgoing) → (first_acked_out (acked_at late k p) o).outstanding ≡ (if late then o.outstanding else without_first o.outstanding k (fmap.get o.outstanding k))
+pub recv_noted : (r : Role) (s : Settings) → AreNoted (TellsAt r s) told_by_recv
+recv_noted r s p t n l a free =
+    recv_tell (λ i. IsNoted a i → IsNoted (items_acked p a) i) (window_by r s n) n l (λ k m has. limit_noted p t k m a (subst (λ j. lookup (marked_for told_by_recv p t) j ≡ Some false) (sym has.0) free)) (λ k code has. stop_noted p k a)
+
+pub send_noted : AreNoted SendTells told_by_send
+send_noted p t n l a free =
+    send_tell (λ i. IsNoted a i → IsNoted (items_acked p a) i) n l (λ k code size has known. absurd known) (λ k m has. block_noted p t k m a (subst (λ j. lookup (marked_for told_by_send p t) j ≡ Some false) (sym has.0) free))
+
+pub outstanding_acked : (late : Bool) (k : ℕ) (p : Piece) (o : Outgoing) → (first_acked_out (acked_at late k p) o).outstanding ≡ (if late then o.outstanding else without_first o.outstanding k (fmap.get o.outstanding k))
 outstanding_acked late k (Data n c) o = refl
 outstanding_acked late k (Told i) o = refl
 
@@ -349,64 +413,78 @@ acked_acked : (late : Bool) (k : ℕ) (p : Piece) (o : Outgoing) → (first_acke
 acked_acked late k (Data n c) o = refl
 acked_acked late k (Told i) o = refl
 
--- an outstanding piece is acknowledged
-timely_stays : (k : ℕ) (p : Piece) (o new : Outgoing) (marks marks' : Tables Bool) → first_piece (fmap.get o.outstanding k) ≡ Some p → new ≡ first_acked_out (acked_at false k p) o → marks' ≡ marked_for p marks → StayTold o marks new marks'
-timely_stays k p o new marks marks' first is are r s recvs h =
-    rw (is, are, outstanding_acked false k p o, acked_acked false k p o) (told_stay r s recvs o.outstanding o.acked marks h _ _ (marked_for p marks) (has_for p marks)
-    (λ n w l i free has was. elim was [
-      | inl out ↦ inl (still_carried o.outstanding _ k p (Told i) (shortened_is o.outstanding k p first) (not_left p marks n w l i free has) out)
-      | inr known ↦ inr (still_noted p marks n w l i o.acked free has known)
-    ]))
+-- what was told stays so, or is marked
+module _ {L : Type 0} (T : ℕ → L → Item → Type 0) (of : Item → Option ℕ) (own : (n : ℕ) (l : L) (i : Item) → T n l i → of i ≡ Some n) (noted : AreNoted T of) (lanes : Tables L) (o new : Outgoing) (marks marks' : Tables Bool) (h : AreTold T lanes o.outstanding o.acked marks) where
+  -- an outstanding piece is acknowledged, or a lost one is, late
+  pub acked_stays : (late : Bool) (k : ℕ) (p : Piece) → first_piece (fmap.get (held_out late o) k) ≡ Some p → new ≡ first_acked_out (acked_at late k p) o → marks' ≡ marked_for of p marks → AreTold T lanes new.outstanding new.acked marks'
+  acked_stays late k p first is are =
+      rw (is, are, outstanding_acked late k p o, acked_acked late k p o) (told_stay T lanes o.outstanding o.acked marks h _ _ (marked_for of p marks) (has_for of p marks)
+      (λ n l i free has was. elim was [ inl out ↦ inl (go late first n l i free has out) | inr known ↦ inr (noted p marks n l o.acked free i has known) ]))
+    where
+      go : (late : Bool) → first_piece (fmap.get (held_out late o) k) ≡ Some p → (n : ℕ) (l : L) (i : Item) → lookup (marked_for of p marks) n ≡ Some false → T n l i → IsCarried o.outstanding (Told i) → IsCarried (if late then o.outstanding else without_first o.outstanding k (fmap.get o.outstanding k)) (Told i)
+      go true first n l i free has out = out
+      go false first n l i free has out = still_carried o.outstanding _ k p (Told i) (shortened_is o.outstanding k p first) (not_left of p marks n i free (own n l i has)) out
 
--- a lost piece is, late
-late_stays : (k : ℕ) (p : Piece) (o new : Outgoing) (marks marks' : Tables Bool) → new ≡ first_acked_out (acked_at true k p) o → marks' ≡ marked_for p marks → StayTold o marks new marks'
-late_stays k p o new marks marks' is are r s recvs h =
-    rw (is, are, outstanding_acked true k p o, acked_acked true k p o) (told_stay r s recvs o.outstanding o.acked marks h _ _ (marked_for p marks) (has_for p marks)
-    (λ n w l i free has was. elim was [ inl out ↦ inl out | inr known ↦ inr (still_noted p marks n w l i o.acked free has known) ]))
+  -- a piece is lost
+  pub lost_stays : (k : ℕ) (p : Piece) → first_piece (fmap.get o.outstanding k) ≡ Some p → new ≡ first_lost_out k p o → marks' ≡ marked_for of p marks → AreTold T lanes new.outstanding new.acked marks'
+  lost_stays k p first is are =
+      rw (is, are) (told_stay T lanes o.outstanding o.acked marks h _ _ (marked_for of p marks) (has_for of p marks)
+      (λ n l i free has was. elim was [
+        | inl out ↦ inl (still_carried o.outstanding _ k p (Told i) (shortened_is o.outstanding k p first) (not_left of p marks n i free (own n l i has)) out)
+        | inr known ↦ inr known
+      ]))
 
-pub acked_stays : (late : Bool) (k : ℕ) (p : Piece) (o new : Outgoing) (marks marks' : Tables Bool) → first_piece (fmap.get (held_out late o) k) ≡ Some p → new ≡ first_acked_out (acked_at late k p) o → marks' ≡ marked_for p marks → StayTold o marks new marks'
-acked_stays true k p o new marks marks' first is are = late_stays k p o new marks marks' is are
-acked_stays false k p o new marks marks' first is are = timely_stays k p o new marks marks' first is are
+  -- nothing left, but marks may have come
+  pub marks_stay : (p : Piece) → new ≡ o → marks' ≡ marked_for of p marks → AreTold T lanes new.outstanding new.acked marks'
+  marks_stay p is are = rw (is, are) (told_marked T lanes o.outstanding o.acked marks h (marked_for of p marks) (has_for of p marks))
 
--- a piece is lost
-pub lost_stays : (k : ℕ) (p : Piece) (o new : Outgoing) (marks marks' : Tables Bool) → first_piece (fmap.get o.outstanding k) ≡ Some p → new ≡ first_lost_out k p o → marks' ≡ marked_for p marks → StayTold o marks new marks'
-lost_stays k p o new marks marks' first is are r s recvs h =
-    rw (is, are) (told_stay r s recvs o.outstanding o.acked marks h _ _ (marked_for p marks) (has_for p marks)
-    (λ n w l i free has was. elim was [
-      | inl out ↦ inl (still_carried o.outstanding _ k p (Told i) (shortened_is o.outstanding k p first) (not_left p marks n w l i free has) out)
-      | inr known ↦ inr known
-    ]))
+pub recv_own : (r : Role) (s : Settings) (n : ℕ) (l : RecvLane) (i : Item) → TellsAt r s n l i → told_by_recv i ≡ Some n
+recv_own r s n l = recv_tell (λ i. told_by_recv i ≡ Some n) (window_by r s n) n l (λ k m has. ap Some has.0) (λ k code has. ap Some has.0)
 
--- nothing left, but marks may have come
-pub marks_stay : (p : Piece) (o new : Outgoing) (marks marks' : Tables Bool) → new ≡ o → marks' ≡ marked_for p marks → StayTold o marks new marks'
-marks_stay p o new marks marks' is are r s recvs h = rw (is, are) (told_marked r s recvs o.outstanding o.acked marks h (marked_for p marks) (has_for p marks))
+pub send_own : (n : ℕ) (l : SendLane) (i : Item) → SendTells n l i → told_by_send i ≡ Some n
+send_own n l = send_tell (λ i. told_by_send i ≡ Some n) n l (λ k code size has. ap Some has.0) (λ k m has. ap Some has.0)
 
--- sending halves change
-pub told_with : (r : Role) (s : Settings) (recvs : Tables RecvLane) (o new : Outgoing) (t : Tables SendLane) (marks : Tables Bool) → new ≡ with_sends t o → AreTold r s recvs o.outstanding o.acked marks → AreTold r s recvs new.outstanding new.acked marks
-told_with r s recvs o new t marks is h = subst (λ (x : Outgoing). AreTold r s recvs x.outstanding x.acked marks) (sym is) h
+-- what was acknowledged of sending halves doesn't move what they have to tell, but for a reset
+pub told_noted : (late : Bool) (k : ℕ) (p : Piece) (o : Outgoing) (m : Records) (a : AckedItems) (marks : Tables Bool) → AreTold SendTells o.sends m a marks → AreTold SendTells (first_acked_out (acked_at late k p) o).sends m a marks
+told_noted late k (Data n c) o m a marks h = told_acked o.sends m a marks h _ n c refl
+told_noted late k (Told i) o m a marks h = each_item (λ j. AreTold SendTells (reset_noted j o.sends) m a marks) (λ v. h) (λ n v. h) (λ d v. h) (λ n code size. told_reset_acked o.sends m a marks h _ n refl) (λ n code. h) (λ v. h) (λ n v. h) (λ d v. h) i
 
 -- A search
 
--- where no mark is, what is current of a limit and of a stop was told
-module _ (t : Limits) (recvs : Tables RecvLane) (o : Outgoing) (e : End) (marks : Tables Bool) (n : ℕ) (h : IsTold (end_by t recvs o e) marks) (free : (b : Bool) → lookup marks n ≡ Some b → b ≡ false) where
-  there : End
+-- where no mark is, what is current was told
+module _ (t : Limits) (recvs : Tables RecvLane) (o : Outgoing) (e : End) (marks : Tables Bool) (n : ℕ) (free : (b : Bool) → lookup marks n ≡ Some b → b ≡ false) where
+  abbrev there : End
   there = end_by t recvs o e
 
-  told_here : (l : RecvLane) → lookup recvs n ≡ Some l → HasTold (window_by t.role t.settings n) n o.outstanding o.acked l
-  told_here l at = go (lookup marks n) free (subst (IsToldAt (window_by t.role t.settings n) n o.outstanding o.acked (lookup marks n)) at (h n))
-    where
-      go : (k : Option Bool) → ((b : Bool) → k ≡ Some b → b ≡ false) → IsToldAt (window_by t.role t.settings n) n o.outstanding o.acked k (Some l) → HasTold (window_by t.role t.settings n) n o.outstanding o.acked l
-      go None only told = absurd told
-      go (Some true) only told = absurd (true≢false (only true refl))
-      go (Some false) only told = told
+  module _ (told : AreTold (TellsAt t.role t.settings) recvs o.outstanding o.acked marks) where
+    in_told : (l : RecvLane) → lookup recvs n ≡ Some l → HasTold (TellsAt t.role t.settings n) o.outstanding o.acked l
+    in_told = told_here (TellsAt t.role t.settings) recvs o.outstanding o.acked marks told n free
 
-  pub unmarked_idle : (kind : Kind) → (kind ≡ kinds.StopSending) ⊎ (kind ≡ kinds.MaxStreamData) → IsIdle (end_by t recvs o e) (slot_at kind n)
-  unmarked_idle kinds.StopSending is =
-      of_slot (λ i. IsCurrent (end_by t recvs o e) i → IsCovered (end_by t recvs o e) i) (slots.StopSending n) (λ code (l, at, stop, goes, whole). told_here l at (StopSending n code) (refl, stop, goes, whole))
-  unmarked_idle kinds.MaxStreamData is =
-      of_slot (λ i. IsCurrent (end_by t recvs o e) i → IsCovered (end_by t recvs o e) i) (slots.MaxStreamData n) (λ limit (l, at, same, more, none). told_here l at (MaxStreamData n limit) (refl, same, more, none))
-  unmarked_idle kinds.ResetStream is = absurd (elim is [ inl a ↦ (cc a) | inr b ↦ (cc b) ])
-  unmarked_idle kinds.StreamDataBlocked is = absurd (elim is [ inl a ↦ (cc a) | inr b ↦ (cc b) ])
+    stop_idle : IsIdle there (slots.StopSending n)
+    stop_idle = of_slot (λ i. IsCurrent there i → IsCovered there i) (slots.StopSending n) (λ code (l, at, stop, goes, whole). in_told l at (StopSending n code) (refl, stop, goes, whole))
+
+    limit_idle : IsIdle there (slots.MaxStreamData n)
+    limit_idle = of_slot (λ i. IsCurrent there i → IsCovered there i) (slots.MaxStreamData n) (λ limit (l, at, same, more, none). in_told l at (MaxStreamData n limit) (refl, same, more, none))
+
+    pub recv_idle : (kind : Kind) → (kind ≡ kinds.StopSending) ⊎ (kind ≡ kinds.MaxStreamData) → IsIdle there (slot_at kind n)
+    recv_idle kind is = elim is [ inl a ↦ subst (λ k. IsIdle there (slot_at k n)) (sym a) stop_idle | inr b ↦ subst (λ k. IsIdle there (slot_at k n)) (sym b) limit_idle ]
+
+  module _ (told : AreTold SendTells o.sends o.outstanding o.acked marks) where
+    out_told : (l : SendLane) → lookup o.sends n ≡ Some l → HasTold (SendTells n) o.outstanding o.acked l
+    out_told = told_here SendTells o.sends o.outstanding o.acked marks told n free
+
+    reset_told : (code size : ℕ) (l : SendLane) → lookup o.sends n ≡ Some l → l.was_reset ≡ Some (record { code = code; size = size }) → (b : Bool) → l.reset_acked ≡ b → IsCovered there (ResetStream n code size)
+    reset_told code size l at reset true is = inr (l, at, is)
+    reset_told code size l at reset false is = elim (out_told l at (ResetStream n code size) (refl, reset, is)) [ inl out ↦ inl out | inr known ↦ absurd known ]
+
+    reset_idle : IsIdle there (slots.ResetStream n)
+    reset_idle = of_slot (λ i. IsCurrent there i → IsCovered there i) (slots.ResetStream n) (λ code size (l, at, reset). reset_told code size l at reset l.reset_acked refl)
+
+    blocked_idle : IsIdle there (slots.StreamDataBlocked n)
+    blocked_idle = of_slot (λ i. IsCurrent there i → IsCovered there i) (slots.StreamDataBlocked n) (λ limit (l, at, none, same, more, sent). out_told l at (StreamDataBlocked n limit) (refl, (none, same, more, sent)))
+
+    pub send_idle : (kind : Kind) → (kind ≡ kinds.ResetStream) ⊎ (kind ≡ kinds.StreamDataBlocked) → IsIdle there (slot_at kind n)
+    send_idle kind is = elim is [ inl a ↦ subst (λ k. IsIdle there (slot_at k n)) (sym a) reset_idle | inr b ↦ subst (λ k. IsIdle there (slot_at k n)) (sym b) blocked_idle ]
 
 pub idle_none : (e : End) (slot : Slot) → IsCurrentIn e slot None → IsIdle e slot
 idle_none e slot none i at is = absurd (none i at is)
@@ -414,26 +492,19 @@ idle_none e slot none i at is = absurd (none i at is)
 pub idle_covered : (e : End) (slot : Slot) (i : Item) → IsCurrentIn e slot (Some i) → IsCovered e i → IsIdle e slot
 idle_covered e slot i current covered j at is = subst (IsCovered e) (sym (current.2 j at is)) covered
 
--- and where both are idle, no mark is needed
-pub idle_told : (t : Limits) (recvs : Tables RecvLane) (o : Outgoing) (e : End) (n : ℕ) → IsIdle (end_by t recvs o e) (slots.StopSending n) → IsIdle (end_by t recvs o e) (slots.MaxStreamData n)
-    → (l : RecvLane) → lookup recvs n ≡ Some l → HasTold (window_by t.role t.settings n) n o.outstanding o.acked l
-idle_told t recvs o e n stop limit l at =
-    to_tell (IsToldIn o.outstanding o.acked) (window_by t.role t.settings n) n l
-    (λ k m (same, is, more, none). subst (λ j. IsToldIn o.outstanding o.acked (MaxStreamData j m)) (sym same) (limit (MaxStreamData n m) refl (l, at, is, more, none)))
-    (λ k code (same, is, goes, whole). subst (λ j. IsToldIn o.outstanding o.acked (StopSending j code)) (sym same) (stop (StopSending n code) refl (l, at, is, goes, whole)))
+-- and where all is idle, no mark is needed
+module _ (t : Limits) (recvs : Tables RecvLane) (o : Outgoing) (e : End) (n : ℕ) where
+  pub in_idle : IsIdle (end_by t recvs o e) (slots.StopSending n) → IsIdle (end_by t recvs o e) (slots.MaxStreamData n) → (l : RecvLane) → lookup recvs n ≡ Some l → HasTold (TellsAt t.role t.settings n) o.outstanding o.acked l
+  in_idle stops limit l at =
+      recv_tell (IsToldIn o.outstanding o.acked) (window_by t.role t.settings n) n l
+      (λ k m (same, is, more, none). subst (λ j. IsToldIn o.outstanding o.acked (MaxStreamData j m)) (sym same) (limit (MaxStreamData n m) refl (l, at, is, more, none)))
+      (λ k code (same, is, goes, whole). subst (λ j. IsToldIn o.outstanding o.acked (StopSending j code)) (sym same) (stops (StopSending n code) refl (l, at, is, goes, whole)))
 
--- A packet is filled
-
-item_told : (i : Item) (e : End) (marks : Tables Bool) → IsTold e marks → IsTold (item_put i e) marks
-item_told i e marks h = each_item (λ j. IsTold (item_put j e) marks) (λ m. h) (λ n m. h) (λ d m. h) (λ n code size. h) (λ n code. h) (λ m. h) (λ n m. h) (λ d m. h) i
-
-noted_told : (p : Piece) (e : End) (marks : Tables Bool) → IsTold e marks → IsTold (noted p e) marks
-noted_told p e marks h = told_carried e.role e.settings e.recvs e.outstanding e.acked marks h (noted p e).outstanding (noted_old p e)
-
-pub put_told : (f : Seen) (e : End) (marks : Tables Bool) → IsTold e marks → IsTold (frame_put f e) marks
-unfolding frame_put
-put_told (Ack largest ranges) e marks h = h
-put_told (Stream n offset bytes fin) e marks h = noted_told (Data n (chunk_of offset bytes fin)) (on_send n (λ l. sent_lane l (chunk_of offset bytes fin)) e) marks h
-put_told (Control i) e marks h = noted_told (Told i) (item_put i e) marks (item_told i e marks h)
-put_told (Close code) e marks h = h
-put_told (Plain asks) e marks h = h
+  pub out_idle : IsIdle (end_by t recvs o e) (slots.ResetStream n) → IsIdle (end_by t recvs o e) (slots.StreamDataBlocked n) → (l : SendLane) → lookup o.sends n ≡ Some l → HasTold (SendTells n) o.outstanding o.acked l
+  out_idle resets blocks l at =
+      send_tell (IsToldIn o.outstanding o.acked) n l
+      (λ k code size (same, reset, part). subst (λ j. IsToldIn o.outstanding o.acked (ResetStream j code size)) (sym same) (elim (resets (ResetStream n code size) refl (l, at, reset)) [
+        | inl out ↦ inl out
+        | inr (x, here, acked) ↦ absurd (true≢false (sym acked ∙ ap (λ (y : SendLane). y.reset_acked) (same_Some x l (sym here ∙ at)) ∙ part))
+      ]))
+      (λ k m (same, (none, is, more, sent)). subst (λ j. IsToldIn o.outstanding o.acked (StreamDataBlocked j m)) (sym same) (blocks (StreamDataBlocked n m) refl (l, at, none, is, more, sent)))

@@ -17,3 +17,4 @@ pub mod Seen
 pub mod Held
 pub mod Settled
 pub mod Middle
+pub mod NewlyTold

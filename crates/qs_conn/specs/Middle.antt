@@ -14,16 +14,17 @@ use Rattle.qs_conn.specs.Ended.{CountsFit}
 use Rattle.qs_conn.specs.Filling.{LimitsFit, end_by, HasSpare, LeavesRest}
 use Rattle.qs_conn.specs.Layers.{ClosingFits}
 use Rattle.qs_conn.specs.Settled.{AreNextWhere}
-use Rattle.qs_conn.specs.Untold.{AreTold}
+use Rattle.qs_conn.specs.Untold.{AreTold, TellsAt, SendTells}
 
 -- What holds of the tables also while a packet is in the making: the peer is within its credit and this end within the peer's, the limits
--- have a text, the counts of ended streams are right, and of a stream without a mark nothing is to be told that wasn't.
+-- have a text, the counts of ended streams are right, and of a half without a mark nothing is to be told that wasn't.
 pub record IsCore (c : Core) : Type 0 where
   pub sound : KeepsCredit c.limits.role c.limits.settings c.recvs c.limits.granted
   pub fits : LimitsFit c.limits
   pub credit : sent_sum c.outbox.sends ≤ c.limits.known_data
   pub counts : CountsFit c.limits.role c.limits.settings c.recvs c.outbox.sends c.ended c.limits.granted_streams.bidi c.limits.granted_streams.uni
-  pub told : AreTold c.limits.role c.limits.settings c.recvs c.outbox.outstanding c.outbox.acked c.untold
+  pub told_in : AreTold (TellsAt c.limits.role c.limits.settings) c.recvs c.outbox.outstanding c.outbox.acked c.untold_recvs
+  pub told_out : AreTold SendTells c.outbox.sends c.outbox.outstanding c.outbox.acked c.untold_sends
 
 -- no packet is in the making
 pub record IsAtRest (c : Core) : Type 0 where

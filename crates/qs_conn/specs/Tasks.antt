@@ -1,12 +1,12 @@
 -- Of private contracts.
--- Which sending halves have something for a packet, by what it is, and those that have not.
-use Rattle.std.specs.Prelude.{◌≡◌, ℕ, ◌≤◌, ◌<◌, ◌⊎◌, Bool, true, false, List, slice_set, None, Some, is_some}
+-- Which sending halves have something for a packet or for their owner, by what it is, and those that have not.
+use Rattle.std.specs.Prelude.{◌≡◌, ℕ, ◌≤◌, ◌<◌, ◌⊎◌, Bool, true, false, List, slice_set, None, Some}
 use Rattle.std.specs.FinSet as set
 use Rattle.qs_send.specs.Lane.{SendLane, Sending}
 use Rattle.qs_send.specs.Writable.{is_writable}
 use Rattle.qs_machine.specs.Credit.{send_ended}
 use Rattle.qs_machine.specs.Tables.{lookup}
-use Rattle.qs_machine.specs.Outgoing.{Outgoing, IsTied, IsBlockedAt}
+use Rattle.qs_machine.specs.Outgoing.{Outgoing, IsTied}
 use Rattle.qs_conn.specs.declared.send_marks.Task.{Task}
 use Rattle.qs_conn.specs.declared.send_marks.Task.TheVariants as tasks
 use Rattle.qs_conn.specs.declared.send_marks.SendMarks.{SendMarks}
@@ -19,35 +19,37 @@ pub record HasNothing (s : Sending) : Type 0 where
   pub no_end : s.lane.sent_end ≡ s.lane.written → s.due.fin ≡ false
   pub sent : s.lane.was_reset ≡ None → s.lane.sent_end < s.lane.limit → s.lane.written ≤ s.lane.sent_end
 
--- A half that has nothing of a kind for a packet: no bytes and no end; no reset that isn't acknowledged; no limit that it is blocked at.
+-- A half of which nothing may go that takes no credit of the connection: no byte that was sent before is due, and no end is due with every
+-- byte sent (RFC 9000, sections 3.1, 4.1 and 13.3).
+pub record HasNoneAgain (s : Sending) : Type 0 where
+  pub no_offset : (q : ℕ) → q < s.lane.sent_end → set.contains s.due.offsets q ≡ false
+  pub no_end : s.lane.sent_end ≡ s.lane.written → s.due.fin ≡ false
+
+-- A half that has nothing of a kind: no bytes and no end for a packet; none that takes no credit; no room to write; not its end.
 abbrev pub IsQuiet : Task → Sending → Type 0
 IsQuiet tasks.Bytes s = HasNothing s
-IsQuiet tasks.Reset s = is_some s.lane.was_reset ≡ true → s.lane.reset_acked ≡ true
-IsQuiet tasks.Blocked s = (m : ℕ) → IsBlockedAt (Some s.lane) m → ⊥
+IsQuiet tasks.Again s = HasNoneAgain s
 IsQuiet tasks.Writable s = is_writable s.lane ≡ false
 IsQuiet tasks.Ended s = send_ended s.lane ≡ false
 
--- a half that has something of a kind for a packet (RFC 9000, sections 3.1, 4.1 and 13.3)
+-- a half that has something of a kind (RFC 9000, sections 3.1, 4.1 and 13.3)
 abbrev pub HasTask : Task → Sending → Type 0
 HasTask tasks.Bytes s = ((q : ℕ) × (set.contains s.due.offsets q ≡ true) × (q < s.lane.limit)) ⊎ ((s.due.fin ≡ true) × (s.lane.sent_end ≡ s.lane.written))
-HasTask tasks.Reset s = (is_some s.lane.was_reset ≡ true) × (s.lane.reset_acked ≡ false)
-HasTask tasks.Blocked s = (m : ℕ) × IsBlockedAt (Some s.lane) m
+HasTask tasks.Again s = ((q : ℕ) × (set.contains s.due.offsets q ≡ true) × (q < s.lane.sent_end)) ⊎ ((s.due.fin ≡ true) × (s.lane.sent_end ≡ s.lane.written))
 HasTask tasks.Writable s = is_writable s.lane ≡ true
 HasTask tasks.Ended s = send_ended s.lane ≡ true
 
 -- whether a half that opens has a mark: it may be written to at once
 abbrev pub begins : Task → Bool
 begins tasks.Bytes = false
-begins tasks.Reset = false
-begins tasks.Blocked = false
+begins tasks.Again = false
 begins tasks.Writable = true
 begins tasks.Ended = false
 
 -- the marks for a task
 abbrev pub marks_of : SendMarks → Task → List Bool
 marks_of marks tasks.Bytes = marks.bytes
-marks_of marks tasks.Reset = marks.resets
-marks_of marks tasks.Blocked = marks.blocks
+marks_of marks tasks.Again = marks.again
 marks_of marks tasks.Writable = marks.writable
 marks_of marks tasks.Ended = marks.ended
 

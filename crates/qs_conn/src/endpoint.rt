@@ -1,8 +1,9 @@
 //! One end of a connection.
-ghost use Rattle.std.specs.Prelude.{◌≡◌, ◌+◌, ◌≤◌, ◌<◌, ◌^◌, length, min, Some};
+ghost use Rattle.std.specs.Prelude.{◌≡◌, ◌+◌, ◌≤◌, ◌<◌, length, min, Some, None};
 ghost use Rattle.qs_ranges.specs.Numbers.{MAX_VARINT};
-ghost use Rattle.qs_recv.specs.Lane.{next_limit};
-ghost use Rattle.qs_machine.specs.Ends.{end_made, role_bit, is_uni, is_own, window, first_send_limit};
+ghost use Rattle.qs_recv.specs.Lane.{MAX_WINDOW, next_limit};
+ghost use Rattle.qs_calls.specs.Settings.{wide_setup_fault};
+ghost use Rattle.qs_machine.specs.Ends.{end_made, wide_end_made, new_end, role_bit, is_uni, is_own, window, first_send_limit};
 ghost use Rattle.qs_machine.specs.Credit.{spent, all_stored, granted_streams, settle};
 ghost use Rattle.qs_machine.specs.Making.{ClosePayload, ClosePayloadBy, close_text_of};
 ghost use Rattle.qs_conn.specs.Layers.{ClosingFits};
@@ -16,7 +17,7 @@ use crate::middle::Core;
 use crate::outbox::Outbox;
 use crate::places::type_of;
 use crate::recv_tables::RecvTables;
-use crate::setup::setup_fault;
+use crate::setup::{setup_fault, wide_setup_fault};
 use crate::untold::Untold;
 use qs_calls::{Closed, Closing, PeerLimits, Settings, SetupFault};
 use qs_ranges::RangeSet;
@@ -109,10 +110,34 @@ impl Endpoint {
     ) -> Result<Endpoint, SetupFault>
         ensures { result ≡ end_made role settings peer }
     {
-        if let Some(fault) = setup_fault(&settings, &peer) {
-            return Err(fault);
+        match setup_fault(&settings, &peer) {
+            Some(fault) => Err(fault),
+            None => Ok(Self::begun(alloc, role, settings, peer)),
         }
-        Ok(Endpoint {
+    }
+
+    /// The same with wider ranges: windows of streams and sending buffers of up to 2^30 bytes, a connection's window of up to 2^40,
+    /// grants of up to 2^17 streams of a direction and lifetimes of up to 2^21. What [`new`](Endpoint::new) makes this makes, too.
+    pub fn new_wide(
+        alloc: Global,
+        role: Role,
+        settings: Settings,
+        peer: PeerLimits,
+    ) -> Result<Endpoint, SetupFault>
+        ensures { result ≡ wide_end_made role settings peer }
+    {
+        match wide_setup_fault(&settings, &peer) {
+            Some(fault) => Err(fault),
+            None => Ok(Self::begun(alloc, role, settings, peer)),
+        }
+    }
+
+    // The end that begins with such settings.
+    fn begun(alloc: Global, role: Role, settings: Settings, peer: PeerLimits) -> Endpoint
+        requires { wide_setup_fault settings peer ≡ None }
+        ensures { result ≡ new_end role settings peer }
+    {
+        Endpoint {
             core: Core {
                 limits: Limits {
                     role,
@@ -125,7 +150,8 @@ impl Endpoint {
                 },
                 outbox: Outbox::new(alloc),
                 recvs: RecvTables::new(alloc),
-                untold: Untold::new(alloc),
+                untold_recvs: Untold::new(alloc),
+                untold_sends: Untold::new(alloc),
                 ended: ByDir::new(0, 0),
             },
             peer,
@@ -135,7 +161,7 @@ impl Endpoint {
             floor: 0,
             ack_due: false,
             closed: None,
-        })
+        }
     }
 
     /// How many bytes are stored: at most what was granted and isn't taken.
@@ -202,7 +228,7 @@ impl Endpoint {
         if self.is_settled {
             return;
         }
-        self.core.recvs.raise_all(&mut self.core.untold);
+        self.core.recvs.raise_all(&mut self.core.untold_recvs);
         let taken = self.core.recvs.tally().taken;
         let settings = &self.core.limits.settings;
         self.core.limits.granted = next_limit(
@@ -236,7 +262,7 @@ impl Endpoint {
     fn window(&self, stream: StreamId) -> u64
         ensures value { result ≡ window self.now stream }
         ensures some { 1 ≤ result }
-        ensures small { result ≤ 2 ^ 20 }
+        ensures small { result ≤ MAX_WINDOW }
     {
         self.core.limits.window(stream)
     }

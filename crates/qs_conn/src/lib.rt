@@ -11,6 +11,7 @@ mod held;
 mod limits;
 mod marks;
 mod middle;
+mod newly_told;
 mod outbox;
 mod piece_room;
 mod places;
@@ -30,6 +31,7 @@ mod untold;
 
 pub use endpoint::Endpoint;
 pub use held::Held;
+pub use newly_told::Told;
 pub use qs_calls::{
     Closed, Closing, LaneReport, LostFault, Made, MakeFault, OpenFault, PeerLimits, RaiseFault,
     Received, RecvReport, SendReport, Settings, SetupFault, UseFault,

@@ -7,9 +7,11 @@ ghost use Rattle.qs_machine.specs.Ends.{End, window_by};
 ghost use Rattle.qs_conn.specs.declared.limits.Limits.{Limits};
 ghost use Rattle.qs_machine.specs.Outgoing.{Outgoing};
 ghost use Rattle.qs_conn.specs.Filling.{end_by, IsCurrentIn, ItemFits, LimitsFit, AnyWantsMore};
+ghost use Rattle.qs_conn.specs.Marks.{IsIdle};
 
 use crate::by_dir::ByDir;
 use crate::endpoint::{is_uni, role_bit};
+use crate::filling::is_covered;
 use crate::outbox::Outbox;
 use crate::places::type_of;
 use crate::recv_tables::RecvTables;
@@ -51,18 +53,31 @@ impl Limits {
         }
     }
 
-    /// Whether a look at few numbers tells that a slot of the connection has no item.
-    pub(crate) fn has_none(&self, outbox: &Outbox, slot: &Slot) -> bool
+    /// Whether a look at few numbers tells that of a slot of the connection no item is due.
+    pub(crate) fn has_told(&self, outbox: &Outbox, slot: &Slot) -> bool
         requires { LimitsFit self.now }
-        ensures { result ≡ true → (recvs : Tables RecvLane) (e : End) → IsCurrentIn (end_by self.now recvs outbox.now e) slot.now None }
+        ensures { result ≡ true → (recvs : Tables RecvLane) (e : End) → IsIdle (end_by self.now recvs outbox.now e) slot.now }
     {
         match *slot {
             Slot::MaxData => self.max_data().is_none(),
             Slot::MaxStreams(dir) => self.max_streams(dir).is_none(),
-            Slot::DataBlocked => outbox.sent_sum() < self.known_data,
+            Slot::DataBlocked => self.has_told_blocked(outbox),
             Slot::StreamsBlocked(dir) => self.streams_blocked(dir).is_none(),
             _ => false,
         }
+    }
+
+    // The connection's limit holds nothing back, or was told. No stream is looked at.
+    #[inline(always)]
+    fn has_told_blocked(&self, outbox: &Outbox) -> bool
+        requires { LimitsFit self.now }
+        ensures { result ≡ true → (recvs : Tables RecvLane) (e : End) → IsIdle (end_by self.now recvs outbox.now e) slots.DataBlocked }
+    {
+        if outbox.sent_sum() < self.known_data {
+            return true;
+        }
+        let limit = self.known_data;
+        is_covered(outbox, &Item::DataBlocked { limit })
     }
 
     // The connection's limit, once it was raised.

@@ -2,10 +2,12 @@
 ghost use Rattle.std.specs.Prelude.{◌≡◌, ◌+◌, ◌-◌, ◌≤◌, ◌<◌, ◌^◌, ◌++◌, [], length, drop, map, min, take, slice_get, slice_index_or, option_map, ℕ, false, None, Some, IfSome, OnOk, OnErr, IsOk, IfOk, Ok};
 ghost use Rattle.std.specs.List.{sum_by};
 ghost use Rattle.qs_ranges.specs.Numbers.{MAX_VARINT};
-ghost use Rattle.qs_recv.specs.Lane.{RecvLane, new_lane, check_stream, check_reset, check_bytes, highest, highest_after, take_stream, take_reset, read_answer, bytes_read, after_read, raise, stop};
+ghost use Rattle.qs_recv.specs.Lane.{MAX_WINDOW, RecvLane, new_lane, check_stream, check_reset, check_bytes, highest, highest_after, take_stream, take_reset, read_answer, bytes_read, after_read, raise, stop};
 ghost use Rattle.qs_recv.specs.Lawful.{IsLawful};
+ghost use Rattle.qs_recv.specs.Changes.{stream_changes};
 ghost use Rattle.qs_machine.specs.Tables.{widened};
 ghost use Rattle.qs_machine.specs.Memory.{HasNews};
+ghost use Rattle.qs_machine.specs.Changes.{half_changes, reset_changes};
 ghost use Rattle.qs_machine.specs.Reports.{recv_report};
 ghost use Rattle.qs_machine.specs.Verdicts.{or_new};
 ghost use Rattle.qs_machine.specs.Sums.{changed, tally_of, tally_on, stored_on, moved, IsPart, IsPaid, EachLawful};
@@ -74,6 +76,7 @@ impl RecvLanes {
                 spent: 0,
                 taken: 0,
                 stored: 0,
+                noted: 0,
             },
             touched: Touches::new(alloc),
             news: RecvMarks::new(alloc),
@@ -117,7 +120,7 @@ impl RecvLanes {
     ) -> Result<Highest, RecvFault>
         requires in_range { offset + len ≤ MAX_VARINT }
         requires some { 1 ≤ window }
-        requires small { window ≤ 2 ^ 20 }
+        requires small { window ≤ MAX_WINDOW }
         ensures value { result ≡ check_stream (or_new (slice_get self.now index) window) offset len fin }
         ensures in_range { IfOk result (λ h. h.after ≤ MAX_VARINT) }
     {
@@ -139,7 +142,7 @@ impl RecvLanes {
     ) -> Result<(), RecvFault>
         requires in_range { offset + length bytes.now ≤ MAX_VARINT }
         requires some { 1 ≤ window }
-        requires small { window ≤ 2 ^ 20 }
+        requires small { window ≤ MAX_WINDOW }
         ensures { result ≡ check_bytes (or_new (slice_get self.now index) window) offset bytes.now }
     {
         if let Some(half) = self.halves.get(index) {
@@ -159,7 +162,7 @@ impl RecvLanes {
     ) -> Result<Highest, RecvFault>
         requires in_range { size ≤ MAX_VARINT }
         requires some { 1 ≤ window }
-        requires small { window ≤ 2 ^ 20 }
+        requires small { window ≤ MAX_WINDOW }
         ensures { result ≡ check_reset (or_new (slice_get self.now index) window) size }
     {
         if let Some(half) = self.halves.get(index) {
@@ -170,10 +173,31 @@ impl RecvLanes {
         }
     }
 
+    /// Whether a frame that passed both checks would change an open lane.
+    pub(crate) fn stream_changes(&self, index: usize, offset: u64, len: u64, fin: bool) -> bool
+        requires { offset + len ≤ MAX_VARINT }
+        ensures { result ≡ half_changes (λ l. stream_changes l offset len fin) (slice_get self.now index) }
+    {
+        let Some(half) = self.halves.get(index) else {
+            return false;
+        };
+        half.stream_changes(offset, len, fin)
+    }
+
+    /// Whether a reset that passed the check would change an open lane.
+    pub(crate) fn reset_changes(&self, index: usize) -> bool
+        ensures { result ≡ half_changes reset_changes (slice_get self.now index) }
+    {
+        let Some(half) = self.halves.get(index) else {
+            return false;
+        };
+        matches!(half.state(), RecvState::Recv | RecvState::SizeKnown)
+    }
+
     /// Opens the lanes of all indexes below a count.
     pub(crate) fn open_to(&mut self, window: u64, count: usize) -> Result<(), NoMemory>
         requires some { 1 ≤ window }
-        requires small { window ≤ 2 ^ 20 }
+        requires small { window ≤ MAX_WINDOW }
         requires few { count ≤ 2 ^ 60 }
         ensures ok { OnOk result (self.new ≡ widened self.old count (λ i. new_lane window)) }
         ensures err { OnErr result (self.new ≡ self.old) }
@@ -290,6 +314,24 @@ impl RecvLanes {
         let half = &mut self.halves[index];
         let was = measure(half);
         let answer = half.read(into);
+        let is = measure(half);
+        self.news.look(index, half);
+        self.tally = moved(self.tally, was, is);
+        self.touched.touch(index);
+        answer
+    }
+
+    /// Takes the bytes that are next at an open lane, as a read of so many does, and copies none.
+    pub(crate) fn skip(&mut self, index: usize, most: usize) -> Read
+        requires there { index < length self.old }
+        requires room { sum_by highest self.old + MAX_VARINT < 2 ^ 64 }
+        ensures answer { result ≡ read_answer (slice_index_or self.old index (new_lane 0)) most }
+        ensures after { self.new ≡ changed self.old index (λ l. after_read l most) (slice_get self.old index) }
+        ensures same { sum_by highest self.new ≡ sum_by highest self.old }
+    {
+        let half = &mut self.halves[index];
+        let was = measure(half);
+        let answer = half.skip(most);
         let is = measure(half);
         self.news.look(index, half);
         self.tally = moved(self.tally, was, is);
@@ -414,6 +456,7 @@ fn measure(half: &Half) -> Tally
         spent: half.highest(),
         taken: half.taken(),
         stored: half.stored(),
+        noted: half.noted(),
     }
 }
 
@@ -443,6 +486,7 @@ fn moved(total: Tally, was: Tally, is: Tally) -> Tally
         spent: total.spent - was.spent + is.spent,
         taken: total.taken - was.taken + is.taken,
         stored: total.stored - was.stored + is.stored,
+        noted: total.noted - was.noted + is.noted,
     }
 }
 

@@ -1,9 +1,11 @@
 //! The receiving halves of an end.
 ghost use Rattle.std.specs.Prelude.{◌≡◌, ◌+◌, ◌≤◌, ◌<◌, ◌^◌, ◌++◌, ℕ, length, drop, take, is_some, option_map, true, false, Some, OnOk, OnErr, IsOk, IfOk, IfSome};
 ghost use Rattle.qs_ranges.specs.Numbers.{MAX_VARINT};
-ghost use Rattle.qs_recv.specs.Lane.{RecvLane, new_lane, check_stream, check_reset, check_bytes, highest, taken, take_stream, take_reset, read_answer, bytes_read, after_read, raise, stop};
+ghost use Rattle.qs_recv.specs.Lane.{RecvLane, new_lane, check_stream, check_reset, check_bytes, highest, taken, noted, take_stream, take_reset, read_answer, bytes_read, after_read, raise, stop, MAX_WINDOW};
 ghost use Rattle.qs_machine.specs.Tables.{no_streams, table, with_table, lookup, updated, open_to, each, total, type_of};
 ghost use Rattle.qs_machine.specs.Memory.{HasNews};
+ghost use Rattle.qs_machine.specs.Changes.{half_changes, reset_changes};
+ghost use Rattle.qs_recv.specs.Changes.{stream_changes};
 ghost use Rattle.qs_machine.specs.Reports.{recv_report};
 ghost use Rattle.qs_machine.specs.Verdicts.{or_new};
 ghost use Rattle.qs_machine.specs.Sums.{stored_on, tally_on, IsPaid};
@@ -86,7 +88,7 @@ impl RecvTables {
     ) -> Result<Highest, RecvFault>
         requires in_range { offset + len ≤ MAX_VARINT }
         requires some { 1 ≤ window }
-        requires small { window ≤ 2 ^ 20 }
+        requires small { window ≤ MAX_WINDOW }
         ensures value { result ≡ check_stream (or_new (lookup self.now stream) window) offset len fin }
         ensures in_range { IfOk result (λ h. h.after ≤ MAX_VARINT) }
     {
@@ -104,7 +106,7 @@ impl RecvTables {
     ) -> Result<(), RecvFault>
         requires in_range { offset + length bytes.now ≤ MAX_VARINT }
         requires some { 1 ≤ window }
-        requires small { window ≤ 2 ^ 20 }
+        requires small { window ≤ MAX_WINDOW }
         ensures { result ≡ check_bytes (or_new (lookup self.now stream) window) offset bytes.now }
     {
         let lanes = &self.types[type_of(stream)];
@@ -120,11 +122,28 @@ impl RecvTables {
     ) -> Result<Highest, RecvFault>
         requires in_range { size ≤ MAX_VARINT }
         requires some { 1 ≤ window }
-        requires small { window ≤ 2 ^ 20 }
+        requires small { window ≤ MAX_WINDOW }
         ensures { result ≡ check_reset (or_new (lookup self.now stream) window) size }
     {
         let lanes = &self.types[type_of(stream)];
         lanes.check_reset(window, index_of(stream), size)
+    }
+
+    /// Whether a frame that passed both checks would change an open stream.
+    pub(crate) fn stream_changes(&self, stream: StreamId, offset: u64, len: u64, fin: bool) -> bool
+        requires { offset + len ≤ MAX_VARINT }
+        ensures { result ≡ half_changes (λ l. stream_changes l offset len fin) (lookup self.now stream) }
+    {
+        let lanes = &self.types[type_of(stream)];
+        lanes.stream_changes(index_of(stream), offset, len, fin)
+    }
+
+    /// Whether a reset that passed the check would change an open stream.
+    pub(crate) fn reset_changes(&self, stream: StreamId) -> bool
+        ensures { result ≡ half_changes reset_changes (lookup self.now stream) }
+    {
+        let lanes = &self.types[type_of(stream)];
+        lanes.reset_changes(index_of(stream))
     }
 
     /// How many streams of the type of this one are open.
@@ -164,7 +183,7 @@ impl RecvTables {
     /// Opens a stream and all lower ones of its type.
     pub(crate) fn open_to(&mut self, window: u64, stream: StreamId) -> Result<(), NoMemory>
         requires some { 1 ≤ window }
-        requires small { window ≤ 2 ^ 20 }
+        requires small { window ≤ MAX_WINDOW }
         ensures ok { OnOk result (self.new ≡ open_to self.old stream (λ m. new_lane window)) }
         ensures err { OnErr result (self.new ≡ self.old) }
     {
@@ -224,6 +243,17 @@ impl RecvTables {
     {
         let lanes = &mut self.types[type_of(stream)];
         lanes.read(index_of(stream), into)
+    }
+
+    /// Takes the bytes that are next at an open stream, as a read of so many does, and copies none.
+    pub(crate) fn skip(&mut self, stream: StreamId, most: usize) -> Read
+        requires open { is_some (lookup self.old stream) ≡ true }
+        requires room { total highest self.old < 2 ^ 62 }
+        ensures answer { result ≡ read_answer (or_new (lookup self.old stream) 0) most }
+        ensures after { self.new ≡ updated self.old stream (λ l. after_read l most) (lookup self.old stream) }
+    {
+        let lanes = &mut self.types[type_of(stream)];
+        lanes.skip(index_of(stream), most)
     }
 
     /// Stops an open stream.
@@ -330,6 +360,7 @@ impl RecvTables {
         ensures spent { result.spent ≡ total highest self.now }
         ensures taken { result.taken ≡ total taken self.now }
         ensures stored { result.stored ≡ total stored_on self.now }
+        ensures noted { result.noted ≡ total noted self.now }
         ensures paid { IsPaid result }
     {
         let bidi = sum(self.types[0].tally(), self.types[1].tally());
@@ -366,12 +397,13 @@ fn sum(a: Tally, b: Tally) -> Tally
     requires paid_a { IsPaid a }
     requires paid_b { IsPaid b }
     requires small { a.spent + b.spent < 2 ^ 62 }
-    ensures value { result ≡ record { spent = a.spent + b.spent; taken = a.taken + b.taken; stored = a.stored + b.stored } }
+    ensures value { result ≡ record { spent = a.spent + b.spent; taken = a.taken + b.taken; stored = a.stored + b.stored; noted = a.noted + b.noted } }
     ensures paid { IsPaid result }
 {
     Tally {
         spent: a.spent + b.spent,
         taken: a.taken + b.taken,
         stored: a.stored + b.stored,
+        noted: a.noted + b.noted,
     }
 }

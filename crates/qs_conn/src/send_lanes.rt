@@ -152,6 +152,7 @@ impl SendLanes {
             return write_none(&self.halves[index]);
         }
         let half = &mut self.halves[index];
+        half.is_lawful();
         let answer = half.write(bytes);
         self.marks.look_written(index, half);
         answer

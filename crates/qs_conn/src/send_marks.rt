@@ -16,10 +16,8 @@ use std::alloc::Global;
 pub(crate) enum Task {
     /// Bytes or the end, as far as the stream's limit lets them go.
     Bytes,
-    /// A reset that isn't acknowledged.
-    Reset,
-    /// That the stream's limit is reached, and more was written.
-    Blocked,
+    /// Bytes that were sent before, or the end: these take no credit of the connection.
+    Again,
     /// Room for its owner to write.
     Writable,
     /// Its end: Data Recvd or Reset Recvd.
@@ -30,8 +28,7 @@ pub(crate) enum Task {
 #[derive(Drop)]
 pub(crate) struct SendMarks {
     bytes: Marks,
-    resets: Marks,
-    blocks: Marks,
+    again: Marks,
     writable: Marks,
     ended: Marks,
 }
@@ -42,8 +39,7 @@ impl SendMarks {
     {
         SendMarks {
             bytes: Marks::new(alloc),
-            resets: Marks::new(alloc),
-            blocks: Marks::new(alloc),
+            again: Marks::new(alloc),
             writable: Marks::new(alloc),
             ended: Marks::new(alloc),
         }
@@ -54,8 +50,7 @@ impl SendMarks {
         ensures { (t : Task) → marks_of self.new t ≡ marks_of self.old t }
     {
         self.bytes.reserve(count)?;
-        self.resets.reserve(count)?;
-        self.blocks.reserve(count)?;
+        self.again.reserve(count)?;
         self.writable.reserve(count)?;
         self.ended.reserve(count)
     }
@@ -65,28 +60,20 @@ impl SendMarks {
         ensures ok { OnOk result ((t : Task) → marks_of self.new t ≡ marks_of self.old t ++ replicate (count - length (marks_of self.old t)) (begins t)) }
         ensures err { OnErr result ((t : Task) → marks_of self.new t ≡ marks_of self.old t) }
     {
-        let (bytes, resets) = (self.bytes.len(), self.resets.len());
-        let (blocks, writable) = (self.blocks.len(), self.writable.len());
+        let (bytes, again, writable) = (self.bytes.len(), self.again.len(), self.writable.len());
         self.bytes.open_to(count)?;
-        if let Err(refused) = self.resets.open_to(count) {
+        if let Err(refused) = self.again.open_to(count) {
             self.bytes.close_to(bytes);
-            return Err(refused);
-        }
-        if let Err(refused) = self.blocks.open_to(count) {
-            self.bytes.close_to(bytes);
-            self.resets.close_to(resets);
             return Err(refused);
         }
         if let Err(refused) = self.writable.open_marked_to(count) {
             self.bytes.close_to(bytes);
-            self.resets.close_to(resets);
-            self.blocks.close_to(blocks);
+            self.again.close_to(again);
             return Err(refused);
         }
         if let Err(refused) = self.ended.open_to(count) {
             self.bytes.close_to(bytes);
-            self.resets.close_to(resets);
-            self.blocks.close_to(blocks);
+            self.again.close_to(again);
             self.writable.close_to(writable);
             return Err(refused);
         }
@@ -98,8 +85,7 @@ impl SendMarks {
         ensures { (t : Task) → marks_of self.new t ≡ take count (marks_of self.old t) }
     {
         self.bytes.close_to(count);
-        self.resets.close_to(count);
-        self.blocks.close_to(count);
+        self.again.close_to(count);
         self.writable.close_to(count);
         self.ended.close_to(count);
     }
@@ -110,44 +96,42 @@ impl SendMarks {
         ensures { (t : Task) → IsLooked t index half.now (marks_of self.old t) (marks_of self.new t) }
     {
         self.bytes.set(index, may_send(half));
-        self.resets.set(index, may_reset(half));
-        self.blocks.set(index, may_be_blocked(half));
+        self.again.set(index, may_send_again(half));
         self.writable.set(index, half.is_writable());
         self.ended.set(index, has_ended(half));
     }
 
-    /// Looks again at a half that was given bytes: that moves neither its reset nor its end.
+    /// Looks again at a half that was given bytes: that moves neither what was sent before nor its end.
     pub(crate) fn look_written(&mut self, index: usize, half: &SendHalf)
         requires there { (t : Task) → index < length (marks_of self.old t) }
-        requires reset { IsStill tasks.Reset index half.now self.old }
+        requires again { IsStill tasks.Again index half.now self.old }
         requires end { IsStill tasks.Ended index half.now self.old }
         ensures { (t : Task) → IsLooked t index half.now (marks_of self.old t) (marks_of self.new t) }
     {
         self.bytes.set(index, may_send(half));
-        self.blocks.set(index, may_be_blocked(half));
         self.writable.set(index, half.is_writable());
     }
 
-    /// Looks again at a half of which a chunk was sent: that moves neither its reset nor its room nor its end.
+    /// Looks again at a half of which a chunk was sent: that moves neither its room nor its end, and leaves no more to send again.
     pub(crate) fn look_sent(&mut self, index: usize, half: &SendHalf)
         requires there { (t : Task) → index < length (marks_of self.old t) }
-        requires reset { IsStill tasks.Reset index half.now self.old }
+        requires again { IsStill tasks.Again index half.now self.old }
         requires room { IsStill tasks.Writable index half.now self.old }
         requires end { IsStill tasks.Ended index half.now self.old }
         ensures { (t : Task) → IsLooked t index half.now (marks_of self.old t) (marks_of self.new t) }
     {
         self.bytes.set(index, may_send(half));
-        self.blocks.set(index, may_be_blocked(half));
+        look_again(&mut self.again, index, half);
     }
 
-    /// Looks again at a half of which a chunk was acknowledged: that moves neither its reset nor what its limit holds back.
+    /// Looks again at a half of which a chunk was acknowledged: that leaves no more to send again.
     pub(crate) fn look_acked(&mut self, index: usize, half: &SendHalf)
         requires there { (t : Task) → index < length (marks_of self.old t) }
-        requires reset { IsStill tasks.Reset index half.now self.old }
-        requires block { IsStill tasks.Blocked index half.now self.old }
+        requires again { IsStill tasks.Again index half.now self.old }
         ensures { (t : Task) → IsLooked t index half.now (marks_of self.old t) (marks_of self.new t) }
     {
         self.bytes.set(index, may_send(half));
+        look_again(&mut self.again, index, half);
         self.writable.set(index, half.is_writable());
         self.ended.set(index, has_ended(half));
     }
@@ -166,8 +150,7 @@ impl SendMarks {
     {
         match task {
             Task::Bytes => self.bytes.may_have(),
-            Task::Reset => self.resets.may_have(),
-            Task::Blocked => self.blocks.may_have(),
+            Task::Again => self.again.may_have(),
             Task::Writable => self.writable.may_have(),
             Task::Ended => self.ended.may_have(),
         }
@@ -186,11 +169,25 @@ impl SendMarks {
     {
         match task {
             Task::Bytes => self.bytes.next(from),
-            Task::Reset => self.resets.next(from),
-            Task::Blocked => self.blocks.next(from),
+            Task::Again => self.again.next(from),
             Task::Writable => self.writable.next(from),
             Task::Ended => self.ended.next(from),
         }
+    }
+}
+
+// Looks whether a half has something to send again, where it may have had.
+#[inline(always)]
+fn look_again(again: &mut Marks, index: usize, half: &SendHalf)
+    requires there { index < length again.old }
+    requires still { is_marked again.old index ≡ false → IsQuiet tasks.Again half.now }
+    ensures { IsLooked tasks.Again index half.now again.old again.new }
+{
+    if !again.may_have() {
+        return;
+    }
+    if again.has(index) {
+        again.set(index, may_send_again(half));
     }
 }
 
@@ -201,8 +198,7 @@ pub(crate) fn has(task: Task, half: &SendHalf) -> bool
 {
     match task {
         Task::Bytes => may_send(half),
-        Task::Reset => may_reset(half),
-        Task::Blocked => may_be_blocked(half),
+        Task::Again => may_send_again(half),
         Task::Writable => half.is_writable(),
         Task::Ended => has_ended(half),
     }
@@ -224,23 +220,16 @@ fn may_send(half: &SendHalf) -> bool
     matches!(half.lowest_due(), Some(offset) if offset < half.limit())
 }
 
-// Whether a reset is to be told, or is under way.
-fn may_reset(half: &SendHalf) -> bool
-    ensures some { result ≡ true → HasTask tasks.Reset half.now }
-    ensures none { result ≡ false → IsQuiet tasks.Reset half.now }
+// Whether bytes that were sent before may go, or the end.
+fn may_send_again(half: &SendHalf) -> bool
+    ensures some { result ≡ true → HasTask tasks.Again half.now }
+    ensures none { result ≡ false → IsQuiet tasks.Again half.now }
 {
-    if let Some(_code) = half.reset_code() {
-        return !matches!(half.state(), SendState::ResetRecvd);
+    half.is_lawful();
+    if half.end_due() && half.sent_end() == half.written() {
+        return true;
     }
-    false
-}
-
-// Whether the stream's limit is reached and more was written.
-fn may_be_blocked(half: &SendHalf) -> bool
-    ensures some { result ≡ true → HasTask tasks.Blocked half.now }
-    ensures none { result ≡ false → IsQuiet tasks.Blocked half.now }
-{
-    half.reset_code().is_none() && half.limit() < half.written() && half.sent_end() == half.limit()
+    matches!(half.lowest_due(), Some(offset) if offset < half.sent_end())
 }
 
 // Whether all that was sent is acknowledged, the end too, or the reset is (RFC 9000, section 3.1).

@@ -1,6 +1,6 @@
 //! Whether an end can be made.
 ghost use Rattle.std.specs.Prelude.{◌≡◌};
-ghost use Rattle.qs_calls.specs.Settings.{is_between, are_in_range, are_spellable, are_countable, limits_fault, setup_fault};
+ghost use Rattle.qs_calls.specs.Settings.{is_between, are_within, are_spellable, are_countable, fault_where, limits_fault, setup_fault, wide_setup_fault};
 
 use qs_calls::{MAX_VARINT, PeerLimits, Settings, SetupFault};
 
@@ -8,12 +8,27 @@ use qs_calls::{MAX_VARINT, PeerLimits, Settings, SetupFault};
 pub(crate) fn setup_fault(settings: &Settings, peer: &PeerLimits) -> Option<SetupFault>
     ensures { result ≡ setup_fault settings.now peer.now }
 {
-    if !are_in_range(settings) || !are_spellable(peer) {
-        Some(SetupFault::OutOfRange)
-    } else if !are_countable(peer) {
-        Some(SetupFault::TooManyStreams)
+    fault_where(are_within(1 << 24, 1 << 20, 4096, 1 << 16, settings), peer)
+}
+
+/// The same, of an end of wide ranges.
+pub(crate) fn wide_setup_fault(settings: &Settings, peer: &PeerLimits) -> Option<SetupFault>
+    ensures { result ≡ wide_setup_fault settings.now peer.now }
+{
+    fault_where(
+        are_within(1 << 40, 1 << 30, 1 << 17, 1 << 21, settings),
+        peer,
+    )
+}
+
+// Why no end can be made of settings that are in their ranges or aren't.
+fn fault_where(in_range: bool, peer: &PeerLimits) -> Option<SetupFault>
+    ensures { result ≡ fault_where in_range peer.now }
+{
+    if in_range {
+        limits_fault(peer)
     } else {
-        None
+        Some(SetupFault::OutOfRange)
     }
 }
 
@@ -36,19 +51,19 @@ fn is_between(low: u64, high: u64, n: u64) -> bool
     low <= n && n <= high
 }
 
-// Whether each window, buffer and grant is one that this endpoint allows.
-fn are_in_range(s: &Settings) -> bool
-    ensures { result ≡ are_in_range s.now }
+// Whether each window, buffer, grant and lifetime is at least as large as it must be, and at most so large.
+fn are_within(conn_window: u64, window: u64, grant: u64, lifetime: u64, s: &Settings) -> bool
+    ensures { result ≡ are_within conn_window window grant lifetime s.now }
 {
-    is_between(1, 1 << 24, s.conn_window)
-        && is_between(1, 1 << 20, s.bidi_local)
-        && is_between(1, 1 << 20, s.bidi_remote)
-        && is_between(1, 1 << 20, s.uni)
-        && is_between(1, 1 << 20, s.send_buffer as u64)
-        && s.grant_bidi <= 4096
-        && s.grant_uni <= 4096
-        && is_between(s.grant_bidi, 1 << 16, s.lifetime_bidi)
-        && is_between(s.grant_uni, 1 << 16, s.lifetime_uni)
+    is_between(1, conn_window, s.conn_window)
+        && is_between(1, window, s.bidi_local)
+        && is_between(1, window, s.bidi_remote)
+        && is_between(1, window, s.uni)
+        && is_between(1, window, s.send_buffer as u64)
+        && s.grant_bidi <= grant
+        && s.grant_uni <= grant
+        && is_between(s.grant_bidi, lifetime, s.lifetime_bidi)
+        && is_between(s.grant_uni, lifetime, s.lifetime_uni)
 }
 
 // Whether each of the peer's data limits has a spelling (RFC 9000, section 16).

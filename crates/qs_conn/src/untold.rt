@@ -1,11 +1,13 @@
-//! Of which streams a stop or a limit may still have to be told.
+//! Of which halves of streams a control item may still have to be told.
 ghost use Rattle.std.specs.Prelude.{◌≡◌, ◌+◌, ◌-◌, ◌++◌, ◌≤◌, ◌<◌, ◌^◌, [], ℕ, Bool, true, false, length, slice_get, replicate, IfSome, OnOk, OnErr};
 ghost use Rattle.qs_machine.specs.Tables.{no_streams, lookup, updated, open_to};
 ghost use Rattle.qs_machine.specs.Sums.{changed};
 ghost use Rattle.qs_conn.specs.Marks.{IsBefore, IsNextMark, HaveTo};
-ghost use Rattle.qs_conn.specs.Untold.{IsClear, IsUnmarked, marked_for};
+ghost use Rattle.qs_machine.specs.Outgoing.{IsBlockedAt};
+ghost use Rattle.qs_conn.specs.Untold.{IsClear, IsUnmarked, HasMore, marked_for, told_by_recv, told_by_send};
 
 use crate::marks::{Marks, least};
+use crate::outbox::Outbox;
 use crate::places::{index_from, index_of, type_of};
 use qs_ranges::NoMemory;
 use qs_send::{Item, Piece};
@@ -78,7 +80,7 @@ impl UntoldLanes {
     }
 }
 
-/// A mark for each receiving half, by the type of the stream and by its index. Of a half without a mark all was told.
+/// A mark for each receiving half or each sending half, by the type of the stream and by its index. Of a half without a mark all was told.
 #[derive(Drop)]
 pub(crate) struct Untold {
     // Of each of the four types, in the order of their bits.
@@ -140,14 +142,15 @@ impl Untold {
         lanes.set(index_of(stream), is_marked);
     }
 
-    /// A piece leaves its packet: the stream whose limit or stop it told is marked.
-    pub(crate) fn look_again(&mut self, piece: &Piece)
-        ensures { self.new ≡ marked_for piece.now self.old }
+    /// A sending half was written to, or its bytes went into a packet: it is marked where it stands at its limit with more written
+    /// (RFC 9000, section 4.1).
+    #[inline(always)]
+    pub(crate) fn look_blocked(&mut self, outbox: &Outbox, stream: StreamId)
+        ensures more { HasMore self.old self.new }
+        ensures marked { (m : ℕ) → IsBlockedAt (lookup outbox.now.sends stream) m → lookup self.new stream ≡ Some false → ⊥ }
     {
-        match *piece {
-            Piece::Told(Item::MaxStreamData { stream, .. }) => self.set(stream, true),
-            Piece::Told(Item::StopSending { stream, .. }) => self.set(stream, true),
-            _ => {}
+        if outbox.blocked_at(stream).is_some() {
+            self.set(stream, true);
         }
     }
 
@@ -201,5 +204,19 @@ impl Untold {
         let lanes = &self.types[stream_type];
         let index = lanes.next(index_from(stream_type, from))?;
         Some((index * 4 + stream_type) as u64)
+    }
+}
+
+/// A piece leaves its packet: the half of which it told an item is marked.
+pub(crate) fn look_again(recvs: &mut Untold, sends: &mut Untold, piece: &Piece)
+    ensures recvs { recvs.new ≡ marked_for told_by_recv piece.now recvs.old }
+    ensures sends { sends.new ≡ marked_for told_by_send piece.now sends.old }
+{
+    match *piece {
+        Piece::Told(Item::ResetStream { stream, .. }) => sends.set(stream, true),
+        Piece::Told(Item::StopSending { stream, .. }) => recvs.set(stream, true),
+        Piece::Told(Item::MaxStreamData { stream, .. }) => recvs.set(stream, true),
+        Piece::Told(Item::StreamDataBlocked { stream, .. }) => sends.set(stream, true),
+        _ => {}
     }
 }

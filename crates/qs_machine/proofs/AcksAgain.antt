@@ -28,7 +28,7 @@ among_any k (x ∷ xs) h =
       | inr later ↦ inr (among_any k xs later)
     ]
 
-among_filter : (f : ℕ → Bool) (k : ℕ) (xs : List ℕ) → Among k xs → f k ≡ true → Among k (filter f xs)
+pub among_filter : (f : ℕ → Bool) (k : ℕ) (xs : List ℕ) → Among k xs → f k ≡ true → Among k (filter f xs)
 among_filter f k [] a is = absurd a
 among_filter f k (x ∷ xs) (inl e) is = subst (λ b. Among k (cond b (x ∷ filter f xs) (filter f xs))) (sym (ap f (sym e) ∙ is)) (inl e)
 among_filter f k (x ∷ xs) (inr a) is = either (f x) (among_filter f k xs a is)
@@ -37,7 +37,7 @@ among_filter f k (x ∷ xs) (inr a) is = either (f x) (among_filter f k xs a is)
     either true h = inr h
     either false h = h
 
-filter_among : (f : ℕ → Bool) (k : ℕ) (xs : List ℕ) → Among k (filter f xs) → f k ≡ true
+pub filter_among : (f : ℕ → Bool) (k : ℕ) (xs : List ℕ) → Among k (filter f xs) → f k ≡ true
 filter_among f k [] a = absurd a
 filter_among f k (x ∷ xs) a = go (filter_among f k xs) (f x) refl a
   where
@@ -64,7 +64,7 @@ among_reverse k [] a = a
 among_reverse k (x ∷ xs) (inl e) = subst (Among k) (sym (reverse_onto xs x [])) (among_last k x (reverse xs) (inr e))
 among_reverse k (x ∷ xs) (inr a) = subst (Among k) (sym (reverse_onto xs x [])) (among_last k x (reverse xs) (inl (among_reverse k xs a)))
 
-reverse_among : (k : ℕ) (xs : List ℕ) → Among k (reverse xs) → Among k xs
+pub reverse_among : (k : ℕ) (xs : List ℕ) → Among k (reverse xs) → Among k xs
 reverse_among k [] a = a
 reverse_among k (x ∷ xs) a =
     elim (last_among k x (reverse xs) (subst (Among k) (reverse_onto xs x []) a)) [ inl b ↦ inr (reverse_among k xs b) | inr e ↦ inl e ]
@@ -76,7 +76,7 @@ held_item late (MaxStreams Uni m) e = refl
 held_item late (StreamsBlocked Uni m) e = refl
 held_item late i e = refl
 
-held_piece : (late : Bool) (p : Piece) (e : End) → held late (piece_acked p e) ≡ held late e
+pub held_piece : (late : Bool) (p : Piece) (e : End) → held late (piece_acked p e) ≡ held late e
 held_piece late (Data n c) e = refl
 held_piece late (Told i) e = held_item late i e
 
@@ -88,10 +88,10 @@ held_first false k p e = held_piece false p (without_piece false k e)
 first_same : (late : Bool) (k : ℕ) (p : Piece) (e : End) → fmap.get (held late (first_acked (acked_at late k p) e)) k ≡ rest_of (fmap.get (held late e) k)
 first_same late k p e = ap (λ m. fmap.get m k) (held_first late k p e) ∙ get_same-without_first (held late e) k
 
-first_other : (late : Bool) (k j : ℕ) (p : Piece) (e : End) → (j ≡ k → ⊥) → fmap.get (held late (first_acked (acked_at late k p) e)) j ≡ fmap.get (held late e) j
+pub first_other : (late : Bool) (k j : ℕ) (p : Piece) (e : End) → (j ≡ k → ⊥) → fmap.get (held late (first_acked (acked_at late k p) e)) j ≡ fmap.get (held late e) j
 first_other late k j p e ne = ap (λ m. fmap.get m j) (held_first late k p e) ∙ get_other-without_first (held late e) k j ne
 
-stays_bare : (late : Bool) (ps : List AckedPiece) (e : End) (j : ℕ) → IsBare (fmap.get (held late e) j) → IsBare (fmap.get (held late (acks ps e)) j)
+pub stays_bare : (late : Bool) (ps : List AckedPiece) (e : End) (j : ℕ) → IsBare (fmap.get (held late e) j) → IsBare (fmap.get (held late (acks ps e)) j)
 unfolding acks
 stays_bare late [] e j h = h
 stays_bare late (p ∷ ps) e j h =
@@ -108,7 +108,7 @@ all_taken late k [] e is = subst IsBare (sym is) tt
 all_taken late k (p ∷ []) e is = subst IsBare (sym (first_same late k p e ∙ ap rest_of is)) tt
 all_taken late k (p ∷ q ∷ ps) e is = all_taken late k (q ∷ ps) (first_acked (acked_at late k p) e) (first_same late k p e ∙ ap rest_of is)
 
-acks_append : (ps qs : List AckedPiece) (e : End) → acks (ps ++ qs) e ≡ acks qs (acks ps e)
+pub acks_append : (ps qs : List AckedPiece) (e : End) → acks (ps ++ qs) e ≡ acks qs (acks ps e)
 unfolding acks
 acks_append [] qs e = refl
 acks_append (p ∷ ps) qs e = acks_append ps qs (first_acked p e)

@@ -43,7 +43,7 @@ pub record IsOpenAt (e : End) (n : ℕ) : Type 0 where
 abbrev pub WasOpened : End → ℕ → Type 0
 WasOpened e n = is_own e n ≡ false → IsOpenAt e n
 
-opens_it : (n : ℕ) (e : End) → IsOpenAt (opens n e) n
+pub opens_it : (n : ℕ) (e : End) → IsOpenAt (opens n e) n
 opens_it n e =
     record {
       recvs = λ h. subst (λ t. is_some (lookup t n) ≡ true) (sym (not_chosen (is_uni n && is_own e n) e.recvs (open_to e.recvs n (λ m. new_recv_lane (window e n))) h)) (open_at e.recvs n (λ m. new_recv_lane (window e n)));
@@ -76,12 +76,12 @@ opened_back n e h = cond_both (is_own e n) e (opens n e) (λ x. x ≡ e) (λ _. 
         let r : (opens n e).recvs ≡ e.recvs = cond_both (is_uni n && is_own e n) e.recvs (open_to e.recvs n (λ m. new_recv_lane (window e n))) (λ t. t ≡ e.recvs) (λ _. refl) (λ c. open_back e.recvs n _ (is.recvs c)) in
         λ i. record e { sends = s i; recvs = r i }
 
-recv_back : (n : ℕ) (f : RecvLane → RecvLane) (l : RecvLane) (e : End) → WasOpened e n → lookup e.recvs n ≡ Some l → f l ≡ l → on_recv n f (opened_by_peer n e) ≡ e
+pub recv_back : (n : ℕ) (f : RecvLane → RecvLane) (l : RecvLane) (e : End) → WasOpened e n → lookup e.recvs n ≡ Some l → f l ≡ l → on_recv n f (opened_by_peer n e) ≡ e
 recv_back n f l e was is stays =
     let r : updated e.recvs n f (lookup e.recvs n) ≡ e.recvs = updated_back e.recvs n f l is stays in
     ap (on_recv n f) (opened_back n e was) ∙ ap (λ (t : Tables RecvLane). record e { recvs = t }) r
 
-send_back : (n : ℕ) (f : SendLane → SendLane) (l : SendLane) (e : End) → WasOpened e n → lookup e.sends n ≡ Some l → f l ≡ l → on_send n f (opened_by_peer n e) ≡ e
+pub send_back : (n : ℕ) (f : SendLane → SendLane) (l : SendLane) (e : End) → WasOpened e n → lookup e.sends n ≡ Some l → f l ≡ l → on_send n f (opened_by_peer n e) ≡ e
 send_back n f l e was is stays =
     let s : updated e.sends n f (lookup e.sends n) ≡ e.sends = updated_back e.sends n f l is stays in
     ap (on_send n f) (opened_back n e was) ∙ ap (λ (t : Tables SendLane). record e { sends = t }) s
@@ -297,11 +297,11 @@ first_stays : (o : Option ℕ) (code : ℕ) → is_some o ≡ true → first_cod
 first_stays None code h = absurd (both_ways false refl h)
 first_stays (Some first) code h = refl
 
-stopped_back : (l : SendLane) (code : ℕ) → is_some (reset_refusal l) ≡ true → is_some l.stopped ≡ true → stopped_lane l code ≡ l
+pub stopped_back : (l : SendLane) (code : ℕ) → is_some (reset_refusal l) ≡ true → is_some l.stopped ≡ true → stopped_lane l code ≡ l
 stopped_back l code refused told =
     ap (λ (k : SendLane). record k { stopped = first_code l.stopped code }) (refused_back l code refused) ∙ ap (λ o. record l { stopped = o }) (first_stays l.stopped code told)
 
-allow_back : (l : SendLane) (m : ℕ) → m ≤ l.limit → allow_lane l m ≡ l
+pub allow_back : (l : SendLane) (m : ℕ) → m ≤ l.limit → allow_lane l m ≡ l
 allow_back l m le = ap (λ k. record l { limit = k }) (max_known l.limit m le)
 
 item_again : (i : Item) (e : End) → ItemDone i e → IsInCredit e → (item_verdict e i ≡ None) × (item_taken i e ≡ e)

@@ -19,9 +19,9 @@ use Rattle.qs_calls.specs.declared.settings.Settings.{Settings}
 use Rattle.qs_calls.specs.declared.settings.PeerLimits.{PeerLimits}
 use Rattle.qs_calls.specs.declared.settings.SetupFault.{SetupFault}
 use Rattle.qs_calls.specs.declared.settings.SetupFault.TheVariants.{OutOfRange, TooManyStreams}
-use Rattle.qs_calls.specs.Settings.{are_in_range, are_spellable, are_countable, setup_fault}
+use Rattle.qs_calls.specs.Settings.{are_in_range, are_in_wide_range, are_spellable, are_countable, fault_where, setup_fault, wide_setup_fault}
 use Rattle.qs_machine.specs.Tables.{table, lookup, total, no_streams}
-use Rattle.qs_machine.specs.Ends.{End, role_bit, window, new_end, end_made, end_unless}
+use Rattle.qs_machine.specs.Ends.{End, role_bit, window, new_end, end_made, wide_end_made, end_unless}
 use Rattle.qs_machine.specs.Credit.{spent, all_taken, all_stored, granted_streams, lifetime, recv_ended, both_ended, ended}
 use Rattle.qs_machine.specs.Standing.{HasLawfulLane, IsInCredit, CountsStand, IsSound, CountsAreSettled, IsLaneWithin, IsWithinCredit}
 use Rattle.qs_machine.proofs.Counts.{settled_stand}
@@ -82,7 +82,7 @@ pub no_lane : (n : ℕ) → lookup (no_streams {X = RecvLane}) n ≡ None
 unfolding lookup
 no_lane n = ap (λ xs. slice_get xs (n / 4)) (no_table (n % 4))
 
-new_end_in_credit : (role : Role) (s : Settings) (p : PeerLimits) → are_in_range s ≡ true → IsInCredit (new_end role s p)
+new_end_in_credit : (role : Role) (s : Settings) (p : PeerLimits) → are_in_wide_range s ≡ true → IsInCredit (new_end role s p)
 unfolding total
 new_end_in_credit role s p fits =
     record {
@@ -102,14 +102,14 @@ pub record GrantsFit (s : Settings) : Type 0 where
   pub bidi : s.grant_bidi ≤ s.lifetime_bidi
   pub uni : s.grant_uni ≤ s.lifetime_uni
 
-grants_fit : (s : Settings) → are_in_range s ≡ true → GrantsFit s
+grants_fit : (s : Settings) → are_in_wide_range s ≡ true → GrantsFit s
 grants_fit s h = record { bidi = grind (arith, nat_tests, h); uni = grind (arith, nat_tests, h) }
 
-new_end_settled : (role : Role) (s : Settings) (p : PeerLimits) → are_in_range s ≡ true → CountsAreSettled (new_end role s p)
+new_end_settled : (role : Role) (s : Settings) (p : PeerLimits) → are_in_wide_range s ≡ true → CountsAreSettled (new_end role s p)
 new_end_settled role s p fits Bidi = omega (arith, none_ended role s p Bidi, (grants_fit s fits).bidi)
 new_end_settled role s p fits Uni = omega (arith, none_ended role s p Uni, (grants_fit s fits).uni)
 
-new_end_sound : (role : Role) (s : Settings) (p : PeerLimits) → are_in_range s ≡ true → IsSound (new_end role s p)
+new_end_sound : (role : Role) (s : Settings) (p : PeerLimits) → are_in_wide_range s ≡ true → IsSound (new_end role s p)
 new_end_sound role s p fits = (new_end_in_credit role s p fits, settled_stand (new_end role s p) (new_end_settled role s p fits))
 
 in_range : (a b c : Bool) → cond (not (a && b)) (Some OutOfRange) (cond (not c) (Some TooManyStreams) None) ≡ None → a ≡ true
@@ -123,12 +123,27 @@ made_end (Some fault) x e made = absurd (fault_is_no_end fault e made)
     fault_is_no_end : (f : SetupFault) (e : End) → ◌≡◌ {A = Result End SetupFault} (Err f) (Ok e) → ⊥
     fault_is_no_end f e is = cc
 
-pub new_ends_sound : (role : Role) (s : Settings) (p : PeerLimits) (e : End) → end_made role s p ≡ Ok e → IsSound e
-new_ends_sound role s p e made =
-    let (none, is) = made_end (setup_fault s p) (new_end role s p) e made in
-    subst IsSound is (new_end_sound role s p (in_range (are_in_range s) (are_spellable p) (are_countable p) none))
+-- what is in a script's ranges is in the wide ones
 
-pub new_ends_settled : (role : Role) (s : Settings) (p : PeerLimits) (e : End) → end_made role s p ≡ Ok e → CountsAreSettled e
-new_ends_settled role s p e made =
+wider : (s : Settings) → are_in_range s ≡ true → are_in_wide_range s ≡ true
+wider s fits = grind (arith, nat_tests, fits)
+
+pub no_wide_fault : (s : Settings) (p : PeerLimits) → setup_fault s p ≡ None → wide_setup_fault s p ≡ None
+no_wide_fault s p none =
+    let fits = in_range (are_in_range s) (are_spellable p) (are_countable p) none in
+    ap (λ b. fault_where b p) (wider s fits ∙ sym fits) ∙ none
+
+pub new_ends_wide : (role : Role) (s : Settings) (p : PeerLimits) (e : End) → end_made role s p ≡ Ok e → wide_end_made role s p ≡ Ok e
+new_ends_wide role s p e made =
     let (none, is) = made_end (setup_fault s p) (new_end role s p) e made in
-    subst CountsAreSettled is (new_end_settled role s p (in_range (are_in_range s) (are_spellable p) (are_countable p) none))
+    ap (λ o. end_unless o (new_end role s p)) (no_wide_fault s p none) ∙ ap Ok is
+
+pub new_ends_sound : (role : Role) (s : Settings) (p : PeerLimits) (e : End) → wide_end_made role s p ≡ Ok e → IsSound e
+new_ends_sound role s p e made =
+    let (none, is) = made_end (wide_setup_fault s p) (new_end role s p) e made in
+    subst IsSound is (new_end_sound role s p (in_range (are_in_wide_range s) (are_spellable p) (are_countable p) none))
+
+pub new_ends_settled : (role : Role) (s : Settings) (p : PeerLimits) (e : End) → wide_end_made role s p ≡ Ok e → CountsAreSettled e
+new_ends_settled role s p e made =
+    let (none, is) = made_end (wide_setup_fault s p) (new_end role s p) e made in
+    subst CountsAreSettled is (new_end_settled role s p (in_range (are_in_wide_range s) (are_spellable p) (are_countable p) none))

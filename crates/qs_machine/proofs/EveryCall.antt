@@ -45,13 +45,13 @@ use Rattle.qs_machine.specs.Verdicts.{verdict, fault_if, PROTOCOL_VIOLATION}
 use Rattle.qs_machine.specs.FrameStep.{frame_taken, acks, named}
 use Rattle.qs_machine.specs.Recording.{recorded}
 use Rattle.qs_machine.specs.Lawful.{MayPut, Fills, frame_put}
-use Rattle.qs_machine.specs.Owner.{OpenStep, AcceptStep, AcceptOfStep, ReadBy, with_wanted, Certain, first_refusal, refuse_if, no_half, half_refusal, send_refusal, recv_refusal, IsBlocked, IsOpened, GivesNone, GivesBidi, GivesUni, AcceptOpen, AcceptOpenOf, peer_type, next_stream}
+use Rattle.qs_machine.specs.Owner.{OpenStep, AcceptStep, AcceptOfStep, ReadBy, ConsumeStep, with_wanted, Certain, first_refusal, refuse_if, no_half, half_refusal, send_refusal, recv_refusal, IsBlocked, IsOpened, GivesNone, GivesBidi, GivesUni, AcceptOpen, AcceptOpenOf, peer_type, next_stream}
 use Rattle.qs_machine.specs.Receiving.{ClosedReceive, AtEnd, RunsOut, Stops, GoesOn, Takes, ReceiveBy, TakesPayload, OpenReceive}
 use Rattle.qs_machine.specs.Making.{MakeAt, MakeAckAt, make_refusal, claim_refusal, LoseStep, lose_refusal, first_lost, losses}
 use Rattle.qs_machine.specs.Filling.{FillAt}
 use Rattle.qs_machine.specs.Alone.{is_ours, TakesOne, OpenTake, TakeBy, TakesEach, TakeAllBy, token_refusal, only, TokenAckedStep, TokenLostStep}
 use Rattle.qs_machine.specs.Raising.{limits_raised, raise_refusal}
-use Rattle.qs_machine.specs.EndStep.{Call, Answer, EndStep, Open, Accept, AcceptOf, Write, Finish, Reset, Stop, ReadUpTo, Receive, TakeFrame, TakeFrames, TokenAcked, TokenLost, Make, MakeAck, FillIn, Lose, Claim, RaiseLimits}
+use Rattle.qs_machine.specs.EndStep.{Call, Answer, EndStep, Open, Accept, AcceptOf, Write, Finish, Reset, Stop, ReadUpTo, Consume, Receive, TakeFrame, TakeFrames, TokenAcked, TokenLost, Make, MakeAck, FillIn, Lose, Claim, RaiseLimits}
 use Rattle.qs_machine.proofs.Choices.{by_refusal, by_test, if_allowed}
 
 -- a change of an end
@@ -229,6 +229,7 @@ module _ (old : End) (call : Call) (Q P : End → Type 0) (c : Cases old call Q 
   module _ (comes : MovesStanding call) where
     takes_one : (f : FrameValue) (e : End) (answer : Result Taken TakeFault) (new : End) → Q e → TakesOne e f answer new → Q new
     takes_one f e (Ok taken.Took) new h took = becomes _ new took.1 (c.goes (Took (seen f)) e took.0.1 h)
+    takes_one f e (Ok taken.Unchanged) new h took = becomes _ new took.1 (c.goes (Took (seen f)) e took.0.1 h)
     takes_one f e (Ok taken.NotOurs) new h took = absurd took
     takes_one f e (Err faults.NoMemory) new h took = runs_out (seen f) e new h took.1
     takes_one f e (Err (faults.Closing closing)) new h took = becomes _ new took.2 (c.goes (Shut (ByUs closing)) e comes h)
@@ -244,7 +245,7 @@ module _ (old : End) (call : Call) (Q P : End → Type 0) (c : Cases old call Q 
     takes_each (f ∷ fs) e answer new h took =
         by_test (Q new) (is_ours (seen f)) _ _ took (λ ours.
         elim ours [
-          | inl (mid, later, one, more, is) ↦ takes_each fs mid later new (takes_one f e (Ok taken.Took) mid h one) more
+          | inl (mid, kind, later, one, more, is) ↦ takes_each fs mid later new (takes_one f e (Ok kind) mid h one) more
           | inr (fault, one, is) ↦ takes_one f e (Err fault) new h one
         ])
         (λ passed. takes_each fs e answer new h passed)
@@ -353,6 +354,11 @@ module _ (old : End) (call : Call) (Q P : End → Type 0) (c : Cases old call Q 
   read_by (Some fault) n size answer bytes new step = same new step.2
   read_by None n size answer bytes new (l, is, told, given, after) = edited (WasRead n size) new tt after
 
+  consume_by : (n most : ℕ) (answer : Answer (Consume n most)) (new : End) → ConsumeStep old n most answer new → P new
+  consume_by n most answer new step =
+      by_refusal (P new) (recv_refusal old n) old answer new _ step (same new)
+      (λ (l, is, told, after). settled _ new after (c.goes (WasRead n 0) (changed (WasRead n most) old) tt (c.goes (WasRead n most) old tt c.begins)))
+
 -- Every call
 
 pub each_call : (old : End) (call : Call) (Q P : End → Type 0) → Cases old call Q P → (answer : Answer call) (new : End) → EndStep old call answer new → P new
@@ -364,6 +370,7 @@ each_call old (Finish n) Q P c answer new step = use_by old (Finish n) Q P c _ (
 each_call old (Reset n code) Q P c answer new step = use_by old (Reset n code) Q P c _ (send_refusal old n reset_refusal) (WasReset n code) answer new tt step
 each_call old (Stop n code) Q P c answer new step = use_by old (Stop n code) Q P c _ (recv_refusal old n) (Stopped n code) answer new tt step
 each_call old (ReadUpTo n size) Q P c answer new step = read_by old (ReadUpTo n size) Q P c (recv_refusal old n) n size answer.0 answer.1 new step
+each_call old (Consume n most) Q P c answer new step = consume_by old (Consume n most) Q P c n most answer new step
 each_call old (Receive k payload) Q P c answer new step = receive_by old (Receive k payload) Q P c tt old.closed k payload answer new step
 each_call old (TakeFrame f) Q P c answer new step = take_by old (TakeFrame f) Q P c tt old.closed f answer new step
 each_call old (TakeFrames fs) Q P c answer new step = take_all_by old (TakeFrames fs) Q P c tt old.closed fs answer new step

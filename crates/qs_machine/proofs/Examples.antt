@@ -16,7 +16,7 @@ use Rattle.qs_ranges.proofs.Sets.{end_of-empty, end_of-with_range}
 use Rattle.qs_machine.specs.Tables.{lookup, update, open_to, each, total}
 use Rattle.qs_machine.specs.Verdicts.{verdict}
 use Rattle.qs_machine.specs.FrameStep.{frame_taken}
-use Rattle.qs_machine.specs.Examples.{StreamLimitHolds, ConnectionLimitHolds, FinalSizeHolds, ChangedBytesClose, StreamStateHolds, UnusedNumbersClose, LimitsMove, LowerStreamsOpen, StopResets, BlockedIsTold, LimitsRiseAfterwards, NewLimitIsTold, StreamCountsGrow, EmptyStreamIsSent, AcksTakeWhatTheyName, Examples, letters, first_part, second_part, two_sent, three_frames, three_frames_text, third_offends, told_end, server, standard}
+use Rattle.qs_machine.specs.Examples.{RangesHold, StreamLimitHolds, ConnectionLimitHolds, FinalSizeHolds, ChangedBytesClose, StreamStateHolds, UnusedNumbersClose, LimitsMove, LowerStreamsOpen, StopResets, BlockedIsTold, LimitsRiseAfterwards, NewLimitIsTold, StreamCountsGrow, EmptyStreamIsSent, AcksTakeWhatTheyName, Examples, letters, first_part, second_part, two_sent, three_frames, three_frames_text, third_offends, told_end, server, standard}
 use Rattle.qs_machine.specs.Ends.{End}
 use Rattle.qs_machine.specs.Seen.{Stream}
 use Rattle.qs_machine.specs.Receiving.{Takes, TakesPayload}
@@ -319,9 +319,28 @@ acks =
       none = with_late ((5, 9) ∷ (3, 3) ∷ []) [] (rw listed refl);
     }
 
+ranges : RangesHold
+ranges =
+    record {
+      widest_is = refl;
+      conn_window = refl;
+      bidi_local = refl;
+      bidi_remote = refl;
+      uni = refl;
+      send_buffer = refl;
+      grant = refl;
+      lifetime = refl;
+      no_window = refl;
+      below_grant = refl;
+      standard_is = refl;
+      narrow_window = refl;
+      narrow_lifetime = refl;
+    }
+
 pub examples_hold : Examples
 examples_hold =
     record {
+      ranges = ranges;
       stream_limit = stream_limit;
       connection_limit = connection_limit;
       final_size = final_size;

@@ -1,6 +1,6 @@
 -- How a frame isn't taken alone, and what isn't told by tokens.
 use Rattle.std.proofs.Common.{◌≡◌, ℕ, ◌+◌, ◌<◌, ◌^◌, List, [], ◌∷◌, Bool, true, false, Option, Some, None, refl, sym, ap, ◌∙◌, subst, arith, inl, inr}
-use Rattle.std.specs.Prelude.{Result, Ok, Err}
+use Rattle.std.specs.Prelude.{max, Result, Ok, Err}
 use Rattle.std.specs.FinMap as fmap
 use Rattle.std.proofs.lemmas.Bool.{false≢true}
 use Rattle.std.proofs.lemmas.Option.{same_Some, none-some}
@@ -12,16 +12,17 @@ use Rattle.qs_calls.specs.declared.closing.Closing.{Closing}
 use Rattle.qs_calls.specs.declared.making.LostFault.{LostFault}
 use Rattle.qs_calls.specs.declared.making.LostFault.TheVariants as losing
 use Rattle.qs_calls.specs.declared.token.Taken.{Taken}
-use Rattle.qs_calls.specs.declared.token.Taken.TheVariants.{Took, NotOurs}
+use Rattle.qs_calls.specs.declared.token.Taken.TheVariants.{Took, Unchanged, NotOurs}
 use Rattle.qs_calls.specs.declared.token.TakeFault.{TakeFault}
 use Rattle.qs_calls.specs.declared.token.TakeFault.TheVariants as faults
 use Rattle.qs_calls.specs.declared.token.TokenFault.{TokenFault}
 use Rattle.qs_calls.specs.declared.token.TokenFault.TheVariants as tokens
 use Rattle.qs_machine.specs.Ends.{End}
+use Rattle.qs_machine.specs.Seen.{seen}
 use Rattle.qs_machine.specs.Verdicts.{verdict}
 use Rattle.qs_machine.specs.FrameStep.{frame_taken}
 use Rattle.qs_machine.specs.Making.{LoseStep}
-use Rattle.qs_machine.specs.Alone.{TakesOne, TakesEach, HasFault, after_one, lost_answer}
+use Rattle.qs_machine.specs.Alone.{MayTake, TakesOne, TakesEach, HasFault, of_both, after_one, lost_answer}
 use Rattle.qs_machine.specs.SmallEnds.{chunk}
 use Rattle.qs_machine.specs.ExclusionsReceiving.{ten}
 use Rattle.qs_machine.specs.ExclusionsMaking.{two_flying}
@@ -56,6 +57,8 @@ take =
       not_encoding = λ new h. (let e = of_past_all 10 h.0 in omega (arith, e));
       not_ours = λ new h. h;
       no_effect = λ new h same. (let e : 5000 ≡ 4096 = sym (ap (λ (e : End). e.known_data) h.1) ∙ same in omega (arith, e));
+      raised = λ new h. (let e : 5000 ≡ 4096 = ap (λ (e : End). e.known_data) (sym h.1 ∙ h.2) in omega (arith, e));
+      not_raised = λ new h. h.2 h.1;
       no_fault = λ new h. of_max_data 3 h.0;
       other_code = λ new h. (let e = of_eleven 6 h.0 in omega (arith, e));
       other_type = λ new h. (let e : 8 ≡ 10 = ap (λ (c : Closing). c.frame_type) h.1 in omega (arith, e));
@@ -92,14 +95,20 @@ frame =
       close_closes = λ answer new step is. none-some _ (sym (ap (λ (e : End). e.closed) step.1) ∙ is);
     }
 
+-- what is answered of a frame that was taken
+was_taken : (e : End) (f : FrameValue) (one : Taken) (new : End) → TakesOne e f (Ok one) new → MayTake e f × (new ≡ frame_taken (seen f) e)
+was_taken e f Took new h = (h.0, h.1)
+was_taken e f Unchanged new h = (h.0, h.1)
+was_taken e f NotOurs new h = absurd h
+
 -- a limit that no text has takes no effect behind another frame
-behind : (mid : End) (later : Result Taken TakeFault) (new : End) → TakesEach (past_all ∷ []) mid later new → ◌≡◌ {A = Result Taken TakeFault} (Ok Took) (after_one later) → ⊥
-behind mid later new (inl (next, rest, one, more, is)) took = unspelled one.0.0
-behind mid later new (inr (fault, one, is)) took = none-some fault (ap fault_in (took ∙ ap after_one is))
+behind : (mid : End) (one : Taken) (later : Result Taken TakeFault) (new : End) → TakesEach (past_all ∷ []) mid later new → ◌≡◌ {A = Result Taken TakeFault} (Ok Took) (after_one one later) → ⊥
+behind mid one later new (inl (next, kind, rest, last, more, is)) took = unspelled (was_taken mid past_all kind next last).0.0
+behind mid one later new (inr (fault, last, is)) took = none-some fault (ap fault_in (took ∙ ap (after_one one) is))
 
 -- and the frame before it has its effect
 stays : (mid : End) (later : Result Taken TakeFault) (new : End) → TakesEach (past_all ∷ []) mid later new → new.known_data ≡ mid.known_data
-stays mid later new (inl (next, rest, one, more, is)) = absurd (unspelled one.0.0)
+stays mid later new (inl (next, kind, rest, one, more, is)) = absurd (unspelled (was_taken mid past_all kind next one).0.0)
 stays mid later new (inr (faults.Closing closing, one, is)) = ap (λ (e : End). e.known_data) one.2
 stays mid later new (inr (faults.NoMemory, one, is)) = absurd (unspelled one.0.0)
 stays mid later new (inr (faults.PeerClosed code, one, is)) = absurd one
@@ -109,21 +118,67 @@ no_first (faults.Closing closing) new one = of_max_data closing.code one.0
 no_first faults.NoMemory new one = one.1.1
 no_first (faults.PeerClosed code) new one = one
 
-after_took : (later : Result Taken TakeFault) → ◌≡◌ {A = Result Taken TakeFault} (Ok NotOurs) (after_one later) → ⊥
-after_took (Ok later) is = false≢true (ap is_took is)
-after_took (Err fault) is = none-some fault (ap fault_in is)
+abbrev is_other : Result Taken TakeFault → Bool
+is_other (Ok NotOurs) = true
+is_other r = false
+
+-- a frame that was taken is of these kinds, whatever comes behind it
+after_took : (e : End) (f : FrameValue) (one : Taken) (mid : End) (later : Result Taken TakeFault) → TakesOne e f (Ok one) mid → ◌≡◌ {A = Result Taken TakeFault} (Ok NotOurs) (after_one one later) → ⊥
+after_took e f one mid (Err fault) h is = none-some fault (ap fault_in is)
+after_took e f NotOurs mid (Ok later) h is = absurd h
+after_took e f Took mid (Ok later) h is = false≢true (sym (ap is_other is))
+after_took e f Unchanged mid (Ok Took) h is = false≢true (sym (ap is_other is))
+after_took e f Unchanged mid (Ok Unchanged) h is = false≢true (sym (ap is_other is))
+after_took e f Unchanged mid (Ok NotOurs) h is = false≢true (sym (ap is_other is))
+
+abbrev is_same : Result Taken TakeFault → Bool
+is_same (Ok Unchanged) = true
+is_same r = false
+
+-- where a limit rises behind other frames, something changed
+changed_last : (mid : End) (one : Taken) (later : Result Taken TakeFault) (new : End) → mid.known_data ≡ 4096 → TakesEach (max_data 5000 ∷ []) mid later new → ◌≡◌ {A = Result Taken TakeFault} (Ok Unchanged) (after_one one later) → ⊥
+unfolding frame_taken
+changed_last mid one later new at (inl (next, Took, rest, last, more, is)) same = last_took one later is more.0 same
+  where
+    last_took : (first : Taken) (r : Result Taken TakeFault) → r ≡ after_one Took rest → rest ≡ Ok NotOurs → ◌≡◌ {A = Result Taken TakeFault} (Ok Unchanged) (after_one first r) → ⊥
+    last_took Took r e none s = false≢true (sym (ap is_same (s ∙ ap (after_one Took) (e ∙ ap (after_one Took) none))))
+    last_took Unchanged r e none s = false≢true (sym (ap is_same (s ∙ ap (after_one Unchanged) (e ∙ ap (after_one Took) none))))
+    last_took NotOurs r e none s = false≢true (sym (ap is_same (s ∙ ap (after_one NotOurs) (e ∙ ap (after_one Took) none))))
+changed_last mid one later new at (inl (next, Unchanged, rest, last, more, is)) same = (let e : max mid.known_data 5000 ≡ mid.known_data = ap (λ (e : End). e.known_data) (sym last.1 ∙ last.2) in omega (arith, e, at))
+changed_last mid one later new at (inl (next, NotOurs, rest, last, more, is)) same = absurd last
+changed_last mid one later new at (inr (fault, last, is)) same = none-some fault (ap fault_in (same ∙ ap (after_one one) is))
+
+-- a limit that rises before other frames changed something
+changed_first : (mid : End) (one : Taken) (later : Result Taken TakeFault) → TakesOne ten (max_data 5000) (Ok one) mid → ◌≡◌ {A = Result Taken TakeFault} (Ok Unchanged) (after_one one later) → ⊥
+changed_first mid Took (Ok later) h is = false≢true (sym (ap is_same is))
+changed_first mid Took (Err fault) h is = none-some fault (ap fault_in is)
+changed_first mid Unchanged later h is = take.raised mid h
+changed_first mid NotOurs later h is = absurd h
+
+-- and one that rises no limit changed nothing
+changed_none : (mid : End) (one : Taken) (later : Result Taken TakeFault) → TakesOne ten (max_data 4000) (Ok one) mid → later ≡ Ok NotOurs → ◌≡◌ {A = Result Taken TakeFault} (Ok Took) (after_one one later) → ⊥
+changed_none mid Took later h none is = take.not_raised mid h
+changed_none mid Unchanged later h none is = false≢true (sym (ap is_took (is ∙ ap (after_one Unchanged) none)))
+changed_none mid NotOurs later h none is = absurd h
 
 frames : NoSuchFramesAnswer
 unfolding frame_taken
 frames =
     record {
-      past_fault = λ new h. elim h [ inl (mid, later, one, more, is) ↦ unspelled one.0.0 | inr (fault, one, is) ↦ false≢true (sym (ap is_took is)) ];
-      left_out = λ new h. elim h [ inl (mid, later, one, more, is) ↦ behind mid later new more is | inr (fault, one, is) ↦ false≢true (sym (ap is_took is)) ];
+      past_fault = λ new h. elim h [ inl (mid, kind, later, one, more, is) ↦ unspelled (was_taken ten past_all kind mid one).0.0 | inr (fault, one, is) ↦ false≢true (sym (ap is_took is)) ];
+      left_out = λ new h. elim h [ inl (mid, kind, later, one, more, is) ↦ behind mid kind later new more is | inr (fault, one, is) ↦ false≢true (sym (ap is_took is)) ];
       before_fault = λ fault new h same. elim h [
-        | inl (mid, later, one, more, is) ↦ (let e : 5000 ≡ 4096 = sym (stays mid later new more ∙ ap (λ (e : End). e.known_data) one.1) ∙ same in omega (arith, e))
+        | inl (mid, kind, later, one, more, is) ↦ (let e : 5000 ≡ 4096 = sym (stays mid later new more ∙ ap (λ (e : End). e.known_data) (was_taken ten (max_data 5000) kind mid one).1) ∙ same in omega (arith, e))
         | inr (other, one, is) ↦ no_first other new one
       ];
-      one_ours = λ new h. elim h [ inl (mid, later, one, more, is) ↦ after_took later is | inr (fault, one, is) ↦ none-some fault (ap fault_in is) ];
+      one_ours = λ new h. elim h [ inl (mid, kind, later, one, more, is) ↦ after_took ten (max_data 5000) kind mid later one is | inr (fault, one, is) ↦ none-some fault (ap fault_in is) ];
+      first_changed = λ new h. elim h [ inl (mid, kind, later, one, more, is) ↦ changed_first mid kind later one is | inr (fault, one, is) ↦ false≢true (sym (ap is_same is)) ];
+      last_changed = λ new h. elim h [
+        | inl (mid, kind, later, one, more, is) ↦ changed_last mid kind later new (ap (λ (e : End). e.known_data) (was_taken ten (max_data 4000) kind mid one).1) more is
+        | inr (fault, one, is) ↦ false≢true (sym (ap is_same is))
+      ];
+      none_changed = λ new h. elim h [ inl (mid, kind, later, one, more, is) ↦ changed_none mid kind later one more.0 is | inr (fault, one, is) ↦ false≢true (sym (ap is_took is)) ];
+      unchanged_is_ours = λ new h. elim h [ inl (mid, kind, later, one, more, is) ↦ after_took ten (max_data 4000) kind mid later one is | inr (fault, one, is) ↦ none-some fault (ap fault_in is) ];
       none_ours = λ new h. false≢true (sym (ap is_took h.0));
       closed = λ new step. false≢true (sym (ap is_took step.0));
     }

@@ -5,13 +5,14 @@ use Rattle.std.specs.FinSet as set
 use Rattle.std.specs.Ordering.{nat_cmp}
 use Rattle.std.proofs.lemmas.Option.{same_Some, none-some}
 use Rattle.std.proofs.lemmas.Bool.{false≢true, true≢false, and_right}
-use Rattle.qs_recv.specs.Lane.{RecvLane, read_answer}
+use Rattle.qs_recv.specs.Lane.{RecvLane, read_answer, after_answer, after_read}
 use Rattle.qs_recv.specs.declared.half.Read.{Read}
 use Rattle.qs_recv.specs.declared.half.Read.TheVariants as reads
 use Rattle.qs_send.specs.Lane.{SendLane, accepted, write_lane, reset_lane, reset_refusal}
 use Rattle.qs_send.specs.declared.parts.Reset.{Reset}
 use Rattle.qs_send.specs.declared.parts.SendFault.{SendFault}
 use Rattle.qs_send.specs.declared.parts.SendFault.TheVariants as faults
+use Rattle.qs_calls.specs.declared.reading.Consumed.{Consumed}
 use Rattle.qs_calls.specs.declared.uses.OpenFault.{OpenFault}
 use Rattle.qs_calls.specs.declared.uses.OpenFault.TheVariants as opening
 use Rattle.qs_calls.specs.declared.uses.UseFault.{UseFault}
@@ -20,7 +21,7 @@ use Rattle.qs_machine.specs.Tables.{lookup, update, open_to, each, total}
 use Rattle.qs_machine.specs.Ends.{End, send_lane, recv_lane, on_send}
 use Rattle.qs_machine.specs.Credit.{settle}
 use Rattle.qs_machine.specs.FrameStep.{frame_taken}
-use Rattle.qs_machine.specs.Owner.{Certain, send_refusal}
+use Rattle.qs_machine.specs.Owner.{Certain, send_refusal, is_end}
 use Rattle.qs_machine.specs.SmallEnds.{client_with, abc, begun, wrote, fresh}
 use Rattle.qs_machine.specs.ExclusionsOwner.{NoSuchOpening, NoSuchAccepting, NoSuchAcceptingOf, NoSuchSending, NoSuchReading, LimitsSettle, LimitsOnlyRise, NotOwned}
 use Rattle.qs_machine.proofs.Choices.{not_chosen}
@@ -48,6 +49,18 @@ is_unknown answer = false
 abbrev is_waiting : Result Read UseFault → Bool
 is_waiting (Ok reads.Wait) = true
 is_waiting answer = false
+
+abbrev read_of : Result Consumed UseFault → Result Read UseFault
+read_of (Ok answer) = Ok answer.read
+read_of (Err fault) = Err fault
+
+abbrev ends_of : Result Consumed UseFault → Bool
+ends_of (Ok answer) = answer.at_end
+ends_of (Err fault) = false
+
+abbrev told_at : Option RecvLane → Bool
+told_at (Some l) = l.told
+told_at None = false
 
 openings : NoSuchOpening
 openings =
@@ -160,6 +173,10 @@ sendings =
 waits : read_answer fresh 10 ≡ reads.Wait
 waits = not_chosen _ _ reads.Wait (set.contains-empty nat_cmp 0)
 
+-- and still does after a read
+waits_still : is_end (read_answer (after_read fresh 10) 0) ≡ false
+waits_still = ap (λ a. is_end (read_answer (after_answer a fresh 10) 0)) waits ∙ ap is_end (not_chosen _ _ reads.Wait (set.contains-empty nat_cmp 0))
+
 readings : NoSuchReading
 unfolding lookup update each
 readings =
@@ -170,6 +187,11 @@ readings =
       closed = λ bytes new h. ok_is_no_err _ _ h.0;
       after_reset = λ bytes new (l, at, told, given, after). true≢false (ap is_waiting (told ∙ ap (λ (k : RecvLane). Ok (read_answer k 10)) (sym (same_Some _ l at))));
       after_stop = λ n bytes new (l, at, told, given, after). false≢true (ap is_waiting (told ∙ ap (λ (k : RecvLane). Ok (read_answer k 10)) (sym (same_Some _ l at))));
+      consumed_none = λ n at_end new (l, at, told, after). false≢true (ap is_waiting (ap read_of told ∙ ap (λ (k : RecvLane). Ok (read_answer k 10)) (sym (same_Some _ l at)) ∙ ap Ok waits));
+      consumed_early = λ new (l, at, told, after). true≢false (ap ends_of told ∙ ap (λ (k : RecvLane). is_end (read_answer (after_read k 10) 0)) (sym (same_Some _ l at)) ∙ waits_still);
+      consumed_late = λ new (l, at, told, after). false≢true (ap ends_of told ∙ ap (λ (k : RecvLane). is_end (read_answer (after_read k 0) 0)) (sym (same_Some _ l at)));
+      consumed_untold = λ answer new (l, at, told, after) m is untold. true≢false (sym (ap (λ (x : End). told_at (recv_lane x 0)) after) ∙ ap told_at is ∙ untold);
+      consumed_unopened = λ answer new h. ok_is_no_err _ _ h.0;
       second_stop = λ new h l at code. (let e : 7 ≡ 8 = same_Some 7 8 (ap (λ (k : RecvLane). k.stop_code) (same_Some _ l (ap (λ (x : End). recv_lane x 0) (sym h.1) ∙ at)) ∙ code) in omega arith);
       stop_closed = λ new h. ok_is_no_err _ _ h.0;
     }

@@ -187,7 +187,7 @@ stored_before r m at (byte ∷ bytes) all =
     ap (λ b. store r (cond b m (fmap.insert m at byte)) (at + 1) bytes) (all at (omega arith) (omega arith))
     ∙ stored_before r m (at + 1) bytes (λ q low high. all q (omega arith) (omega arith))
 
-put_again : (a : Assembled) (offset : ℕ) (bytes : List ℕ) → ContainsRange a.received offset (offset + length bytes) → put a offset bytes ≡ a
+pub put_again : (a : Assembled) (offset : ℕ) (bytes : List ℕ) → ContainsRange a.received offset (offset + length bytes) → put a offset bytes ≡ a
 put_again a offset bytes all =
     let stored : cond a.discarding a.stored (store a.received a.stored offset bytes) ≡ a.stored = kept a.discarding (stored_before a.received a.stored offset bytes all) in
     let received : set.union a.received (numbers offset (offset + length bytes)) ≡ a.received = with_range-covered a.received offset (offset + length bytes) all in

@@ -23,7 +23,7 @@ use Rattle.qs_machine.specs.Receiving.{ReceiveBy}
 use Rattle.qs_machine.specs.Alone.{TakeBy, TakeAllBy}
 use Rattle.qs_machine.specs.Making.{MakeAt, ClaimStep, claim_refusal, MakeAckAt}
 use Rattle.qs_machine.specs.Filling.{FillAt}
-use Rattle.qs_machine.specs.EndStep.{Call, Answer, EndStep, Open, Accept, AcceptOf, Write, Finish, Reset, Stop, ReadUpTo, Receive, TakeFrame, TakeFrames, TokenAcked, TokenLost, Make, Lose, RaiseLimits, Claim, MakeAck, FillIn}
+use Rattle.qs_machine.specs.EndStep.{Call, Answer, EndStep, Open, Accept, AcceptOf, Write, Finish, Reset, Stop, ReadUpTo, Consume, Receive, TakeFrame, TakeFrames, TokenAcked, TokenLost, Make, Lose, RaiseLimits, Claim, MakeAck, FillIn}
 use Rattle.qs_machine.specs.Laws.{StaysButNumber}
 use Rattle.qs_machine.proofs.Choices.{by_refusal}
 use Rattle.qs_calls.specs.declared.settings.RaiseFault.TheVariants as raising
@@ -91,6 +91,7 @@ closed_stays old (Finish n) answer new is h = refused_first (is_some old.closed)
 closed_stays old (Reset n code) answer new is h = refused_first (is_some old.closed) uses.Closed _ old answer new _ is h
 closed_stays old (Stop n code) answer new is h = refused_first (is_some old.closed) uses.Closed _ old answer new _ is h
 closed_stays old (ReadUpTo n size) answer new is h = read_refused (is_some old.closed) _ old n size answer new is h
+closed_stays old (Consume n most) answer new is h = refused_first (is_some old.closed) uses.Closed _ old answer new _ is h
 closed_stays old (Receive k payload) answer new is h = receive_again old.closed k payload old answer new is h
 closed_stays old (TakeFrame f) answer new is h = take_again old.closed f old answer new is h
 closed_stays old (TakeFrames fs) answer new is h = take_all_again old.closed fs old answer new is h

@@ -28,6 +28,7 @@ pub mod Counts
 pub mod EndsAfter
 pub mod AcksAgain
 pub mod Again
+pub mod Changes
 pub mod SentCalls
 pub mod PayloadsAgain
 pub mod CallsCounts
@@ -50,3 +51,4 @@ pub mod Claims
 pub mod Ways
 pub mod AckPackets
 pub mod Plains
+pub mod NewlyTold

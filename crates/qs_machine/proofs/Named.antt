@@ -1,5 +1,5 @@
 -- The numbers of outstanding packets that a test takes, from the highest down.
-use Rattle.std.proofs.Common.{◌≡◌, ℕ, ◌+◌, ◌<◌, ◌≤◌, Bool, true, false, ◌&&◌, ◌||◌, cond, List, [], ◌∷◌, ◌++◌, map, nat_cmp, is_some, refl, sym, ap, ◌∙◌, inl, inr, arith}
+use Rattle.std.proofs.Common.{◌≡◌, ℕ, ◌+◌, ◌<◌, ◌≤◌, Bool, true, false, ◌&&◌, ◌||◌, cond, List, [], ◌∷◌, ◌++◌, map, append-nil, nat_cmp, is_some, refl, sym, subst, ap, ◌∙◌, inl, inr, arith}
 use Rattle.std.specs.Prelude.{⊤, T, nat_lt, reverse, ◌==◌}
 use Rattle.std.specs.List.{list_any, filter}
 use Rattle.std.specs.Ordering.{eq_by_cmp, is_lt}
@@ -10,8 +10,9 @@ use Rattle.std.specs.FinMap.Entries.{below_all}
 use Rattle.std.proofs.lemmas.Bool.{both_ways, eq-eqb}
 use Rattle.std.proofs.lemmas.Bool.Decides.{nat_tests}
 use Rattle.std.proofs.lemmas.List.{reverse-append}
+use Rattle.std.proofs.lemmas.List.Elements.{filter-append}
 use Rattle.qs_send.specs.Records.{Among}
-use Rattle.qs_machine.proofs.AcksAgain.{among_any}
+use Rattle.qs_machine.proofs.AcksAgain.{among_any, among_filter, filter_among}
 
 -- Rising lists
 
@@ -126,3 +127,80 @@ module _ {X : Type 0} (m : fmap.FinMap nat_cmp X) where
 
   pub filter_alike : (f g : ℕ → Bool) → ((j : ℕ) → f j ≡ g j) → filter f (fmap.keys m) ≡ filter g (fmap.keys m)
   filter_alike f g same = filter_same f g (fmap.keys m) (λ j a. same j)
+
+  -- the tests need be alike of what is held alone
+  pub filter_held : (f g : ℕ → Bool) → ((j : ℕ) → is_some (fmap.get m j) ≡ true → f j ≡ g j) → filter f (fmap.keys m) ≡ filter g (fmap.keys m)
+  filter_held f g same = filter_same f g (fmap.keys m) (λ j a. same j (is_held j a))
+
+-- Filters of filters
+
+filter_both : (f g : ℕ → Bool) (xs : List ℕ) → filter f (filter g xs) ≡ filter (λ x. g x && f x) xs
+filter_both f g [] = refl
+filter_both f g (x ∷ xs) = go (g x) (filter g xs) (filter (λ y. g y && f y) xs) (filter_both f g xs)
+  where
+    go : (b : Bool) (ys zs : List ℕ) → filter f ys ≡ zs → filter f (cond b (x ∷ ys) ys) ≡ cond (b && f x) (x ∷ zs) zs
+    go true ys zs h = ap (λ ws. cond (f x) (x ∷ ws) ws) h
+    go false ys zs h = h
+
+pub filter_reverse : (f : ℕ → Bool) (xs : List ℕ) → filter f (reverse xs) ≡ reverse (filter f xs)
+filter_reverse f [] = refl
+filter_reverse f (x ∷ xs) = ap (filter f) (reverse-append (x ∷ []) xs) ∙ filter-append f (reverse xs) (x ∷ []) ∙ ap (λ ys. ys ++ filter f (x ∷ [])) (filter_reverse f xs) ∙ go (f x)
+  where
+    go : (b : Bool) → reverse (filter f xs) ++ cond b (x ∷ []) [] ≡ reverse (cond b (x ∷ filter f xs) (filter f xs))
+    go true = sym (reverse-append (x ∷ []) (filter f xs))
+    go false = append-nil (reverse (filter f xs))
+
+-- The keys of a map that holds no more
+
+rises_from : (low more : ℕ) (xs : List ℕ) → low ≤ more → Rises more xs → Rises low xs
+rises_from low more [] le r = tt
+rises_from low more (x ∷ xs) le r = (omega (arith, le, r.0), r.1)
+
+rises_filter : (f : ℕ → Bool) (low : ℕ) (xs : List ℕ) → Rises low xs → Rises low (filter f xs)
+rises_filter f low [] r = tt
+rises_filter f low (x ∷ xs) r = go (f x) (rises_filter f (x + 1) xs r.1)
+  where
+    go : (b : Bool) → Rises (x + 1) (filter f xs) → Rises low (cond b (x ∷ filter f xs) (filter f xs))
+    go true h = (r.0, h)
+    go false h = (let le = r.0 in rises_from low (x + 1) (filter f xs) (omega (arith, le)) h)
+
+-- two rising lists with the same numbers are one
+one_list : (low : ℕ) (xs ys : List ℕ) → Rises low xs → Rises low ys → ((j : ℕ) → Among j xs → Among j ys) → ((j : ℕ) → Among j ys → Among j xs) → xs ≡ ys
+one_list low [] [] r s to from = refl
+one_list low [] (y ∷ ys) r s to from = absurd (from y (inl refl))
+one_list low (x ∷ xs) [] r s to from = absurd (to x (inl refl))
+one_list low (x ∷ xs) (y ∷ ys) r s to from =
+    let a = above y (y ∷ ys) (omega arith, s.1) x (to x (inl refl)) in
+    let b = above x (x ∷ xs) (omega arith, r.1) y (from y (inl refl)) in
+    let same : x ≡ y = omega (arith, a, b) in
+    ap (λ z. z ∷ xs) same ∙ ap (λ zs. y ∷ zs) (one_list (x + 1) xs ys r.1 (subst (λ z. Rises (z + 1) ys) (sym same) s.1) (λ j h. later j x y ys same (above (x + 1) xs r.1 j h) (to j (inr h))) (λ j h. later j y x xs (sym same) (above (y + 1) ys s.1 j h) (from j (inr h))))
+  where
+    later : (j x y : ℕ) (ys : List ℕ) → x ≡ y → x + 1 ≤ j → Among j (y ∷ ys) → Among j ys
+    later j x y ys same le (inl e) = absurd (omega (arith, same, le, e))
+    later j x y ys same le (inr a) = a
+
+module _ {X : Type 0} (m n : fmap.FinMap nat_cmp X) (within : (j : ℕ) → is_some (fmap.get n j) ≡ true → is_some (fmap.get m j) ≡ true) where
+  -- the keys of a map that holds no other numbers
+  keys_within : filter (λ j. is_some (fmap.get n j)) (fmap.keys m) ≡ fmap.keys n
+  keys_within =
+      one_list 0 (filter (λ j. is_some (fmap.get n j)) (fmap.keys m)) (fmap.keys n) (rises_filter (λ j. is_some (fmap.get n j)) 0 (fmap.keys m) (keys_rise m)) (keys_rise n)
+      (λ j a. held n j (filter_among (λ i. is_some (fmap.get n i)) j (fmap.keys m) a))
+      (λ j a. among_filter (λ i. is_some (fmap.get n i)) j (fmap.keys m) (held m j (within j (is_held n j a))) (is_held n j a))
+
+  -- A filter of its keys, and one of all keys of which some are filtered out.
+  pub filter_within : (f g h : ℕ → Bool) → ((j : ℕ) → is_some (fmap.get m j) ≡ true → (g j && f j) ≡ (is_some (fmap.get n j) && h j)) → filter f (filter g (fmap.keys m)) ≡ filter h (fmap.keys n)
+  filter_within f g h same =
+      filter_both f g (fmap.keys m) ∙ filter_held m (λ j. g j && f j) (λ j. is_some (fmap.get n j) && h j) same
+      ∙ sym (filter_both h (λ j. is_some (fmap.get n j)) (fmap.keys m)) ∙ ap (filter h) keys_within
+
+-- Two filters, one after the other, and two others.
+pub filters_held : {X : Type 0} (m : fmap.FinMap nat_cmp X) (f g p q : ℕ → Bool) → ((j : ℕ) → is_some (fmap.get m j) ≡ true → (g j && f j) ≡ (q j && p j)) → filter f (filter g (fmap.keys m)) ≡ filter p (filter q (fmap.keys m))
+filters_held m f g p q same =
+    filter_both f g (fmap.keys m) ∙ filter_held m (λ j. g j && f j) (λ j. q j && p j) same ∙ sym (filter_both p q (fmap.keys m))
+
+-- what of two filters nothing passes
+pub filters_nothing : {X : Type 0} (m : fmap.FinMap nat_cmp X) (f g : ℕ → Bool) → ((j : ℕ) → is_some (fmap.get m j) ≡ true → (g j && f j) ≡ false) → filter f (filter g (fmap.keys m)) ≡ []
+filters_nothing m f g none = filter_both f g (fmap.keys m) ∙ filter_none (λ j. g j && f j) (fmap.keys m) (λ j a. none j (is_held m j a))
+
+pub filter_empty : {X : Type 0} (m : fmap.FinMap nat_cmp X) (f : ℕ → Bool) → ((j : ℕ) → is_some (fmap.get m j) ≡ true → f j ≡ false) → filter f (fmap.keys m) ≡ []
+filter_empty m f none = filter_none f (fmap.keys m) (λ j a. none j (is_held m j a))

@@ -10,7 +10,7 @@ use Rattle.qs_send.specs.declared.piece.Item.TheVariants.{MaxStreamData, MaxStre
 use Rattle.qs_send.specs.declared.piece.Piece.{Piece}
 use Rattle.qs_send.specs.declared.piece.Piece.TheVariants.{Data, Told}
 use Rattle.qs_machine.specs.Tables.{Tables, lookup, updated}
-use Rattle.qs_machine.specs.Ends.{End, Records, new_end, end_made, end_unless, on_send, is_own, is_uni, first_send_limit, opens, opened_by_peer}
+use Rattle.qs_machine.specs.Ends.{End, Records, new_end, wide_end_made, end_unless, on_send, is_own, is_uni, first_send_limit, opens, opened_by_peer}
 use Rattle.qs_machine.specs.Seen.{Seen, Ack, Stream, Control, Close, Plain}
 use Rattle.qs_machine.specs.FrameStep.{frame_taken, item_taken, AckedPiece, held, without_piece, acks, first_acked, piece_acked, item_acked, named}
 use Rattle.qs_machine.specs.Lawful.{MayPut, frame_put, item_put, chunk_of, noted, pieces_so_far}
@@ -26,7 +26,7 @@ use Rattle.qs_send.proofs.Carrying.{carried-empty, carried-without_first}
 use Rattle.qs_calls.specs.declared.settings.Settings.{Settings}
 use Rattle.qs_calls.specs.declared.settings.PeerLimits.{PeerLimits}
 use Rattle.qs_calls.specs.declared.settings.SetupFault.{SetupFault}
-use Rattle.qs_calls.specs.Settings.{setup_fault}
+use Rattle.qs_calls.specs.Settings.{wide_setup_fault}
 use Rattle.qs_machine.specs.Repeats.{IsWritten, WasWritten, SentWasWritten}
 use Rattle.qs_machine.proofs.TablesAfter.{KeptIn, kept_same, kept_updated, kept_open}
 use Rattle.qs_machine.proofs.EndsAfter.{written_stays, carried_without}
@@ -185,5 +185,5 @@ nothing_held : (role : Role) (s : Settings) (l : PeerLimits) (late : Bool) (p : 
 nothing_held role s l true p is = carried-empty p is
 nothing_held role s l false p is = carried-empty p is
 
-pub new_keeps : (role : Role) (s : Settings) (p : PeerLimits) (e : End) → end_made role s p ≡ Ok e → SentWasWritten e
-new_keeps role s p e is = made_keeps (setup_fault s p) (new_end role s p) e (nothing_held role s p) is
+pub new_keeps : (role : Role) (s : Settings) (p : PeerLimits) (e : End) → wide_end_made role s p ≡ Ok e → SentWasWritten e
+new_keeps role s p e is = made_keeps (wide_setup_fault s p) (new_end role s p) e (nothing_held role s p) is

@@ -7,9 +7,9 @@ use Rattle.qs_wire.specs.declared.stream_id.Role.{Role}
 use Rattle.qs_recv.specs.Lane.{RecvLane, taken, raise, next_limit}
 use Rattle.qs_calls.specs.declared.settings.Settings.{Settings}
 use Rattle.qs_calls.specs.declared.settings.PeerLimits.{PeerLimits}
-use Rattle.qs_calls.specs.Settings.{setup_fault}
+use Rattle.qs_calls.specs.Settings.{wide_setup_fault}
 use Rattle.qs_machine.specs.Tables.{lookup, total}
-use Rattle.qs_machine.specs.Ends.{End, new_end, end_made}
+use Rattle.qs_machine.specs.Ends.{End, new_end, wide_end_made}
 use Rattle.qs_machine.specs.Credit.{settle, all_taken}
 use Rattle.qs_machine.specs.EndStep.{Call, Answer, EndStep}
 use Rattle.qs_machine.specs.SettledLimits.{LimitsAreSettled}
@@ -33,8 +33,8 @@ new_settled role s p =
       streams = λ n l is. absurd (none-some l (sym (no_lane n) ∙ is));
     }
 
-pub new_ends_settled : (role : Role) (s : Settings) (p : PeerLimits) (e : End) → end_made role s p ≡ Ok e → LimitsAreSettled e
-new_ends_settled role s p e made = subst LimitsAreSettled (made_end (setup_fault s p) (new_end role s p) e made).1 (new_settled role s p)
+pub new_ends_settled : (role : Role) (s : Settings) (p : PeerLimits) (e : End) → wide_end_made role s p ≡ Ok e → LimitsAreSettled e
+new_ends_settled role s p e made = subst LimitsAreSettled (made_end (wide_setup_fault s p) (new_end role s p) e made).1 (new_settled role s p)
 
 -- a limit that was raised isn't raised again
 raised_stays : (k l : RecvLane) → raise k ≡ l → l.final_size ≡ None → next_limit l.limit (taken l) l.arrived.window ≡ l.limit

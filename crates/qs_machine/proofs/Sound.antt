@@ -1,14 +1,14 @@
 -- Every call keeps an end within the credit that it granted.
-use Rattle.std.proofs.Common.{◌≡◌, ℕ, ◌+◌, ◌%◌, ◌^◌, ◌≤◌, true, Option, Some, None, option_map, refl, ◌∙◌, subst, arith}
+use Rattle.std.proofs.Common.{◌≡◌, ℕ, ◌+◌, ◌%◌, ◌≤◌, true, Option, Some, None, option_map, refl, ◌∙◌, subst, arith}
 use Rattle.std.proofs.lemmas.Bool.{cond_both}
 use Rattle.std.proofs.lemmas.Bool.Decides.{nat_tests}
 use Rattle.qs_ranges.proofs.Sets.{end_of-empty}
 use Rattle.qs_wire.specs.declared.stream_id.Role.{Role}
-use Rattle.qs_recv.specs.Lane.{RecvLane, new_lane, highest, taken, raise, next_limit}
+use Rattle.qs_recv.specs.Lane.{MAX_WINDOW, RecvLane, new_lane, highest, taken, raise, next_limit}
 use Rattle.qs_recv.specs.Lawful.{IsLawful}
 use Rattle.qs_recv.proofs.LawfulLaws.{lawful_new, lawful_raise}
 use Rattle.qs_calls.specs.declared.settings.Settings.{Settings}
-use Rattle.qs_calls.specs.Settings.{are_in_range}
+use Rattle.qs_calls.specs.Settings.{are_in_wide_range}
 use Rattle.qs_machine.specs.Tables.{Tables, lookup, update, updated, open_to, each, total}
 use Rattle.qs_machine.specs.Ends.{window_by, is_uni, is_own_by}
 use Rattle.qs_machine.specs.Standing.{HasLawfulLane, KeepsCredit}
@@ -17,11 +17,11 @@ use Rattle.qs_machine.proofs.TableLaws.{slots_updated, slots_opened, slots_each,
 -- Settings
 
 pub record WindowsFit (s : Settings) : Type 0 where
-  pub local : (1 ≤ s.bidi_local) × (s.bidi_local ≤ 2 ^ 20)
-  pub remote : (1 ≤ s.bidi_remote) × (s.bidi_remote ≤ 2 ^ 20)
-  pub uni : (1 ≤ s.uni) × (s.uni ≤ 2 ^ 20)
+  pub local : (1 ≤ s.bidi_local) × (s.bidi_local ≤ MAX_WINDOW)
+  pub remote : (1 ≤ s.bidi_remote) × (s.bidi_remote ≤ MAX_WINDOW)
+  pub uni : (1 ≤ s.uni) × (s.uni ≤ MAX_WINDOW)
 
-pub windows_fit : (s : Settings) → are_in_range s ≡ true → WindowsFit s
+pub windows_fit : (s : Settings) → are_in_wide_range s ≡ true → WindowsFit s
 windows_fit s h =
     record {
       local = (grind (arith, nat_tests, h), grind (arith, nat_tests, h));
@@ -29,10 +29,10 @@ windows_fit s h =
       uni = (grind (arith, nat_tests, h), grind (arith, nat_tests, h));
     }
 
-window_fits : (role : Role) (s : Settings) (n : ℕ) → WindowsFit s → (1 ≤ window_by role s n) × (window_by role s n ≤ 2 ^ 20)
+window_fits : (role : Role) (s : Settings) (n : ℕ) → WindowsFit s → (1 ≤ window_by role s n) × (window_by role s n ≤ MAX_WINDOW)
 window_fits role s n h =
-    cond_both (is_uni n) s.uni _ (λ w. (1 ≤ w) × (w ≤ 2 ^ 20)) (λ _. h.uni) (λ _.
-    cond_both (is_own_by role n) s.bidi_local s.bidi_remote (λ w. (1 ≤ w) × (w ≤ 2 ^ 20)) (λ _. h.local) (λ _. h.remote))
+    cond_both (is_uni n) s.uni _ (λ w. (1 ≤ w) × (w ≤ MAX_WINDOW)) (λ _. h.uni) (λ _.
+    cond_both (is_own_by role n) s.bidi_local s.bidi_remote (λ w. (1 ≤ w) × (w ≤ MAX_WINDOW)) (λ _. h.local) (λ _. h.remote))
 
 -- streams of one type have one window
 window_same : (role : Role) (s : Settings) (n m : ℕ) → m % 4 ≡ n % 4 → window_by role s n ≡ window_by role s m

@@ -154,7 +154,7 @@ pub sum_open : (t : Tables SendLane) (n limit buffer : ℕ) (b : Bool) → sent_
 sum_open t n limit buffer true = refl
 sum_open t n limit buffer false = total_open (λ (l : SendLane). l.sent_end) t n (λ m. new_send_lane m limit buffer) (λ j. refl)
 
-out_peer : (e : End) (n : ℕ) (b : Bool) → (cond b e (opens n e)).outstanding ≡ e.outstanding
+pub out_peer : (e : End) (n : ℕ) (b : Bool) → (cond b e (opens n e)).outstanding ≡ e.outstanding
 out_peer e n true = refl
 out_peer e n false = refl
 

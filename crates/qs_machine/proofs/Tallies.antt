@@ -1,12 +1,16 @@
 -- The sums over the receiving lanes of one type of stream, where one of them changes, and where some are opened.
-use Rattle.std.proofs.Common.{◌≡◌, ℕ, zero, suc, ◌+◌, ◌-◌, ◌<◌, ◌≤◌, ◌^◌, List, [], ◌∷◌, ◌++◌, length, get_or, map, take, refl, ap, sym, ◌∙◌, arith}
+use Rattle.std.proofs.Common.{◌≡◌, ℕ, Bool, true, false, ◌||◌, is_some, zero, suc, ◌+◌, ◌-◌, ◌<◌, ◌≤◌, ◌^◌, List, [], ◌∷◌, ◌++◌, length, get_or, map, take, refl, ap, sym, ◌∙◌, arith}
 use Rattle.std.specs.List.{sum_by}
 use Rattle.std.specs.Ordering.{nat_cmp}
 use Rattle.std.specs.FinMap as fmap
+use Rattle.std.specs.FinSet as set
 use Rattle.std.proofs.lemmas.List.Sums.{sum_by-set, sum_by-cons, sum_by-append, get_or-le-sum_by}
 use Rattle.std.proofs.Math.ListN.{set}
+use Rattle.std.specs.Prelude.{if◌then◌else◌}
+use Rattle.qs_ranges.specs.Numbers.{run_starts}
 use Rattle.qs_ranges.proofs.Sets.{end_of-empty}
-use Rattle.qs_recv.specs.Lane.{RecvLane, new_lane, highest, taken, raise}
+use Rattle.qs_ranges.proofs.Starts.{starts_below_end}
+use Rattle.qs_recv.specs.Lane.{RecvLane, new_lane, highest, taken, noted, raise, MAX_WINDOW}
 use Rattle.qs_recv.specs.Lawful.{IsLawful}
 use Rattle.qs_recv.proofs.LawfulLaws.{lawful_new, lawful_raise}
 use Rattle.qs_machine.specs.declared.tally.Tally.{Tally}
@@ -28,21 +32,35 @@ sum_set f xs i x y there is =
     let e : f (get_or xs i x) ≡ f x = ap f (sym is) in
     omega (arith, le, e, whole)
 
-abbrev sums : ℕ → ℕ → ℕ → Tally
-sums spent taken stored = record { spent = spent; taken = taken; stored = stored }
+abbrev sums : ℕ → ℕ → ℕ → ℕ → Tally
+sums spent taken stored count = record { spent = spent; taken = taken; stored = stored; noted = count }
 
-same_tally : (a b : Tally) → a.spent ≡ b.spent → a.taken ≡ b.taken → a.stored ≡ b.stored → a ≡ b
-same_tally a b p q r = ap (λ k. sums k a.taken a.stored) p ∙ ap (λ k. sums b.spent k a.stored) q ∙ ap (sums b.spent b.taken) r
+same_tally : (a b : Tally) → a.spent ≡ b.spent → a.taken ≡ b.taken → a.stored ≡ b.stored → a.noted ≡ b.noted → a ≡ b
+same_tally a b p q r t =
+    ap (λ k. sums k a.taken a.stored a.noted) p
+    ∙ ap (λ k. sums b.spent k a.stored a.noted) q
+    ∙ ap (λ k. sums b.spent b.taken k a.noted) r
+    ∙ ap (sums b.spent b.taken b.stored) t
 
 pub tally_set : (xs : List RecvLane) (i : ℕ) (x y : RecvLane) → i < length xs → x ≡ get_or xs i x → tally_on (set xs i y) ≡ moved (tally_on xs) (tally_of x) (tally_of y)
-tally_set xs i x y there is = same_tally _ _ (sum_set highest xs i x y there is) (sum_set taken xs i x y there is) (sum_set stored_on xs i x y there is)
+tally_set xs i x y there is = same_tally _ _ (sum_set highest xs i x y there is) (sum_set taken xs i x y there is) (sum_set stored_on xs i x y there is) (sum_set noted xs i x y there is)
+
+noted_within : (l : RecvLane) → IsLawful l → noted l ≤ highest l
+noted_within l h = go (l.told || is_some l.reset_code)
+  where
+    go : (b : Bool) → (if b then 0 else set.len (run_starts l.arrived.received)) ≤ highest l
+    go true = omega arith
+    go false = omega (arith, starts_below_end l.arrived.received, h.received_within)
 
 pub each_paid : (xs : List RecvLane) → EachLawful xs → IsPaid (tally_on xs)
-each_paid [] each = omega arith
+each_paid [] each = record { moved = omega arith; noted = omega arith }
 each_paid (x ∷ xs) each =
     let rest = each_paid xs each.1 in
     let one = stored_and_taken x each.0 in
-    omega (arith, rest, one, sum_by-cons taken x xs, sum_by-cons highest x xs, sum_by-cons stored_on x xs)
+    record {
+      moved = omega (arith, rest.moved, one, sum_by-cons taken x xs, sum_by-cons highest x xs, sum_by-cons stored_on x xs);
+      noted = omega (arith, rest.noted, noted_within x each.0, sum_by-cons noted x xs, sum_by-cons highest x xs);
+    }
 
 -- Each lane is lawful
 
@@ -60,7 +78,7 @@ pub lawful_append : (xs ys : List RecvLane) → EachLawful xs → EachLawful ys 
 lawful_append [] ys a b = b
 lawful_append (x ∷ xs) ys a b = (a.0, lawful_append xs ys a.1 b)
 
-pub lawful_begun : (w : ℕ) (ks : List ℕ) → 1 ≤ w → w ≤ 2 ^ 20 → EachLawful (map (λ (i : ℕ). new_lane w) ks)
+pub lawful_begun : (w : ℕ) (ks : List ℕ) → 1 ≤ w → w ≤ MAX_WINDOW → EachLawful (map (λ (i : ℕ). new_lane w) ks)
 lawful_begun w [] some small = tt
 lawful_begun w (k ∷ ks) some small = (lawful_new w some small, lawful_begun w ks some small)
 
@@ -77,12 +95,15 @@ sum_begun f w (k ∷ ks) none = sum_by-cons f (new_lane w) (map (λ (i : ℕ). n
 sum_opened : (f : RecvLane → ℕ) (xs : List RecvLane) (w : ℕ) (ks : List ℕ) → f (new_lane w) ≡ 0 → sum_by f (xs ++ map (λ (i : ℕ). new_lane w) ks) ≡ sum_by f xs
 sum_opened f xs w ks none = sum_by-append f xs (map (λ (i : ℕ). new_lane w) ks) ∙ omega (arith, sum_begun f w ks none)
 
+none_noted : (w : ℕ) → noted (new_lane w) ≡ 0
+none_noted w = omega (arith, starts_below_end set.empty, end_of-empty)
+
 none_stored : (w : ℕ) → stored_on (new_lane w) ≡ 0
 none_stored w = fmap.len-empty nat_cmp ℕ
 
 pub tally_opened : (xs : List RecvLane) (w : ℕ) (ks : List ℕ) → tally_on (xs ++ map (λ (i : ℕ). new_lane w) ks) ≡ tally_on xs
 tally_opened xs w ks =
-    same_tally _ _ (sum_opened highest xs w ks end_of-empty) (sum_opened taken xs w ks refl) (sum_opened stored_on xs w ks (none_stored w))
+    same_tally _ _ (sum_opened highest xs w ks end_of-empty) (sum_opened taken xs w ks refl) (sum_opened stored_on xs w ks (none_stored w)) (sum_opened noted xs w ks (none_noted w))
 
 -- A raised limit changes no sum
 
@@ -94,4 +115,4 @@ sum_raised f same (x ∷ xs) =
     sum_by-cons f (raise x) (map raise xs) ∙ omega (arith, rest, one, sum_by-cons f x xs)
 
 pub tally_raised : (xs : List RecvLane) → tally_on (map raise xs) ≡ tally_on xs
-tally_raised xs = same_tally _ _ (sum_raised highest (λ l. refl) xs) (sum_raised taken (λ l. refl) xs) (sum_raised stored_on (λ l. refl) xs)
+tally_raised xs = same_tally _ _ (sum_raised highest (λ l. refl) xs) (sum_raised taken (λ l. refl) xs) (sum_raised stored_on (λ l. refl) xs) (sum_raised noted (λ l. refl) xs)

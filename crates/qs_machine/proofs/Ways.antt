@@ -13,7 +13,7 @@ use Rattle.qs_calls.specs.declared.closing.Closing.{Closing}
 use Rattle.qs_calls.specs.declared.closing.Received.{Received}
 use Rattle.qs_calls.specs.declared.closing.Received.TheVariants.{Done, Duplicate, BelowFloor}
 use Rattle.qs_calls.specs.declared.token.Taken.{Taken}
-use Rattle.qs_calls.specs.declared.token.Taken.TheVariants.{Took, NotOurs}
+use Rattle.qs_calls.specs.declared.token.Taken.TheVariants.{Took, Unchanged, NotOurs}
 use Rattle.qs_calls.specs.declared.token.TakeFault.{TakeFault}
 use Rattle.qs_machine.specs.Ends.{End}
 use Rattle.qs_machine.specs.Credit.{settle}
@@ -22,10 +22,12 @@ use Rattle.qs_machine.specs.Verdicts.{verdict}
 use Rattle.qs_machine.specs.FrameStep.{NoFault, frame_taken, frames_taken}
 use Rattle.qs_machine.specs.Recording.{recorded}
 use Rattle.qs_machine.specs.Receiving.{ReceiveStep, ReceiveBy, Stops, EndsBy, OpenReceive}
-use Rattle.qs_machine.specs.Alone.{is_ours, MayTake, TakesOne, TakesEach, TakeBy, TakeFrameStep, TakeFramesStep, TakeAllBy, after_one}
+use Rattle.qs_machine.specs.Alone.{is_ours, MayTake, TakesOne, TakesEach, TakeBy, TakeFrameStep, TakeFramesStep, TakeAllBy, of_both, after_one}
+use Rattle.qs_machine.specs.Changes.{changes}
 use Rattle.qs_machine.specs.Ways.{frames_in, IsNew, is_ack, HaveNoAck}
 use Rattle.qs_machine.proofs.Prefix.{takes_prefix, seen_in}
 use Rattle.qs_machine.proofs.EveryCall.{by_open}
+use Rattle.qs_machine.proofs.Changes.{frame_same, frame_differs}
 
 no_stop : (p : PlacedValue) (f : Seen) (e new : End) → Stops p f e (Ok Done) new → ⊥
 no_stop p (Close code) e new h = h
@@ -89,6 +91,14 @@ pass_by : (X Y : Type 0) (b : Bool) → b ≡ false → Y → MatchBool b X Y
 pass_by X Y true is y = absurd (false≢true (sym is))
 pass_by X Y false is y = y
 
+-- a frame without a fault is taken, and something changed or nothing did
+takes_one : (e : End) (f : FrameValue) → is_ours (seen f) ≡ true → Fits f → verdict e (seen f) ≡ None → (one : Taken) × TakesOne e f (Ok one) (frame_taken (seen f) e)
+takes_one e f ours fits first = go (changes e (seen f)) refl
+  where
+    go : (b : Bool) → changes e (seen f) ≡ b → (one : Taken) × TakesOne e f (Ok one) (frame_taken (seen f) e)
+    go true some = (Took, ((fits, first), refl, frame_differs (seen f) e first some))
+    go false none = (Unchanged, ((fits, first), refl, frame_same (seen f) e ours first none))
+
 takes_each : (fs : List FrameValue) (e : End) → HaveNoAck fs → AllByRecursion Fits fs → NoFault e (seen_all fs) → (taken : Taken) × TakesEach fs e (Ok taken) (frames_taken (seen_all fs) e)
 unfolding frames_taken
 takes_each [] e none fit fine = (NotOurs, (refl, refl))
@@ -100,9 +110,10 @@ takes_each (f ∷ fs) e none fit fine = go (λ x later. takes_each fs x none.1 f
         let (first, later) = first_fine e (seen f) (seen_all fs) ours fine in
         let (taken, rest) = onward (frame_taken (seen f) e) later in
         let last : End = frames_taken (seen_all fs) (frame_taken (seen f) e) in
-        let goes : (mid : End) × (more : Result Taken TakeFault) × TakesOne e f (Ok Took) mid × TakesEach fs mid more last × (◌≡◌ {A = Result Taken TakeFault} (Ok Took) (after_one more)) =
-        (frame_taken (seen f) e, Ok taken, ((fit.0, first), refl), rest, refl) in
-        (Took, pick _ _ (is_ours (seen f)) ours (inl goes))
+        let (one, took) = takes_one e f ours fit.0 first in
+        let goes : (mid : End) × (kind : Taken) × (more : Result Taken TakeFault) × TakesOne e f (Ok kind) mid × TakesEach fs mid more last × (◌≡◌ {A = Result Taken TakeFault} (Ok (of_both one taken)) (after_one kind more)) =
+        (frame_taken (seen f) e, one, Ok taken, took, rest, refl) in
+        (of_both one taken, pick _ _ (is_ours (seen f)) ours (inl goes))
     go onward false other =
         let (later, same) = other_fine e (seen f) (seen_all fs) other none.0 fine in
         let (taken, rest) = onward e later in
@@ -129,15 +140,17 @@ ours_ask (Close code) ours = absurd (false≢true ours)
 ours_ask (Plain asks) ours = absurd (false≢true ours)
 
 pub frame_take : (old new : End) (k : ℕ) (text : List ℕ) (f : FrameValue) → IsNew old k → AreBytes text → frames_in text ≡ f ∷ [] → is_ours (seen f) ≡ true → ReceiveStep old k text (Ok Done) new
-    → (mid : End) × TakeFrameStep old f (Ok Took) mid × (new ≡ recorded k true mid)
+    → (taken : Taken) × (mid : End) × TakeFrameStep old f (Ok taken) mid × (new ≡ recorded k true mid)
 unfolding frames_taken
 frame_take old new k text f fresh bytes one ours step =
     let (fine, faultless, is) = payload_frames old new k text fresh step in
     let first = first_fine old (seen f) [] ours (subst (λ fs. NoFault old (seen_all fs)) one fine) in
     let fits = subst (λ fs. AllByRecursion Fits fs) one (frames_fit text (bytes_fit text bytes)) in
     let after : End = frame_taken (seen f) old in
-    let took : (mid : End) × TakesOne old f (Ok Took) mid × (settle after ≡ settle mid) = (after, ((fits.0, first.0), refl), refl) in (
+    let (kind, takes) = takes_one old f ours fits.0 first.0 in
+    let took : (mid : End) × TakesOne old f (Ok kind) mid × (settle after ≡ settle mid) = (after, takes, refl) in (
+      kind,
       settle after,
-      subst (λ o. TakeBy o f old (Ok Took) (settle after)) (sym fresh.unclosed) (pick _ _ (is_ours (seen f)) ours took),
+      subst (λ o. TakeBy o f old (Ok kind) (settle after)) (sym fresh.unclosed) (pick _ _ (is_ours (seen f)) ours took),
       is ∙ ap (λ fs. recorded k (any_asks (seen_all fs)) (settle (frames_taken (seen_all fs) old))) one ∙ ap (λ b. recorded k b (settle after)) (ours_ask (seen f) ours),
     )

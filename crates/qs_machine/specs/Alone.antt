@@ -12,7 +12,7 @@ use Rattle.qs_calls.specs.declared.making.LostFault.{LostFault}
 use Rattle.qs_calls.specs.declared.making.LostFault.TheVariants as losing
 use Rattle.qs_calls.specs.declared.token.Token.{Token}
 use Rattle.qs_calls.specs.declared.token.Taken.{Taken}
-use Rattle.qs_calls.specs.declared.token.Taken.TheVariants.{Took, NotOurs}
+use Rattle.qs_calls.specs.declared.token.Taken.TheVariants.{Took, Unchanged, NotOurs}
 use Rattle.qs_calls.specs.declared.token.TakeFault.{TakeFault}
 use Rattle.qs_calls.specs.declared.token.TakeFault.TheVariants as faults
 use Rattle.qs_calls.specs.declared.token.TokenFault.{TokenFault}
@@ -52,10 +52,11 @@ MayTake e f = Fits f × (verdict e (seen f) ≡ None)
 abbrev pub HasFault : End → FrameValue → ℕ → Type 0
 HasFault e f code = ((Fits f → ⊥) × (code ≡ FRAME_ENCODING_ERROR)) ⊎ (Fits f × (verdict e (seen f) ≡ Some code))
 
--- A frame takes effect, or finds no memory, or closes the connection (RFC 9000, sections 11.1 and 13.1). No limit has moved yet; and that
--- an ACK is due is the stack's own affair.
+-- A frame takes effect, and then something changed or nothing did; or it finds no memory, or closes the connection (RFC 9000, sections
+-- 11.1 and 13.1). No limit has moved yet; and that an ACK is due is the stack's own affair.
 abbrev pub TakesOne : End → FrameValue → Result Taken TakeFault → End → Type 0
-TakesOne e f (Ok Took) new = MayTake e f × (new ≡ frame_taken (seen f) e)
+TakesOne e f (Ok Took) new = MayTake e f × (new ≡ frame_taken (seen f) e) × (new ≡ e → ⊥)
+TakesOne e f (Ok Unchanged) new = MayTake e f × (new ≡ frame_taken (seen f) e) × (new ≡ e)
 TakesOne e f (Ok NotOurs) new = ⊥
 TakesOne e f (Err faults.NoMemory) new = MayTake e f × RunsOut e (seen f) new
 TakesOne e f (Err (faults.Closing closing)) new = HasFault e f closing.code × (closing ≡ closing_at (alone f) closing.code) × (new ≡ closes (ByUs closing) e)
@@ -84,10 +85,16 @@ TakeFrameStep old f answer new = TakeBy old.closed f old answer new
 
 -- Several frames (RFC 9000, section 12.4)
 
--- what came of frames of which one took effect: they did, or those behind it met a fault
-abbrev pub after_one : Result Taken TakeFault → Result Taken TakeFault
-after_one (Ok later) = Ok Took
-after_one (Err fault) = Err fault
+-- what came of two frames: one changed something, or one was taken and none did (ours)
+abbrev pub of_both : Taken → Taken → Taken
+of_both Took later = Took
+of_both Unchanged NotOurs = Unchanged
+of_both one later = later
+
+-- what came of a frame and of those behind it, of which one may have met a fault
+abbrev pub after_one : Taken → Result Taken TakeFault → Result Taken TakeFault
+after_one one (Ok later) = Ok (of_both one later)
+after_one one (Err fault) = Err fault
 
 -- The frames take effect one after the other, with no limit moved between them, up to one that finds no memory or closes the connection;
 -- those of other kinds are passed over (RFC 9000, section 12.4).
@@ -95,7 +102,7 @@ abbrev pub TakesEach : List FrameValue → End → Result Taken TakeFault → En
 TakesEach [] e answer new = (answer ≡ Ok NotOurs) × (new ≡ e)
 TakesEach (f ∷ fs) e answer new =
     MatchBool (is_ours (seen f))
-    (((mid : End) × (later : Result Taken TakeFault) × TakesOne e f (Ok Took) mid × TakesEach fs mid later new × (answer ≡ after_one later))
+    (((mid : End) × (one : Taken) × (later : Result Taken TakeFault) × TakesOne e f (Ok one) mid × TakesEach fs mid later new × (answer ≡ after_one one later))
     ⊎ ((fault : TakeFault) × TakesOne e f (Err fault) new × (answer ≡ Err fault)))
     (TakesEach fs e answer new)
 

@@ -3,10 +3,12 @@
 use Rattle.std.specs.Prelude.{◌≡◌, ℕ, ◌-◌, ◌≤◌, Bool, true, false, ◌&&◌, ◌||◌, ◌==◌, nat_lt, ◌⊎◌, Option, None, Some, is_some, is_none, if◌then◌else◌}
 use Rattle.std.specs.FinMap as fmap
 use Rattle.qs_wire.specs.declared.stream_id.Dir.{Dir}
+use Rattle.qs_recv.specs.Lane.{noted}
 use Rattle.qs_send.specs.Lane.{SendLane, refusal, accepted, free_room, unacked_from}
 use Rattle.qs_send.specs.declared.piece.Item.{Item}
 use Rattle.qs_calls.specs.declared.closing.Closed.{Closed}
 use Rattle.qs_calls.specs.declared.closing.Closed.TheVariants.{ByUs, ByPeer}
+use Rattle.qs_machine.specs.Tables.{total}
 use Rattle.qs_machine.specs.Ends.{End, Records, send_lane}
 use Rattle.qs_machine.specs.Credit.{all_sent, lifetime}
 use Rattle.qs_machine.specs.Due.{IsDueItem, StreamGoes, known_count}
@@ -22,6 +24,10 @@ abbrev pub peer_closing : Option Closed → Option ℕ
 peer_closing None = None
 peer_closing (Some (ByUs closing)) = None
 peer_closing (Some (ByPeer code)) = Some code
+
+-- how many runs the offsets make that came, on all streams that a reader wasn't told the end of and that weren't reset (ours)
+abbrev pub all_noted : End → ℕ
+all_noted e = total noted e.recvs
 
 -- how many streams of a direction the peer may open in all time to come: the lifetime's count without those that it opened (RFC 9000,
 -- section 4.6)

@@ -12,6 +12,7 @@ use Rattle.qs_calls.specs.declared.filling.Filled.{Filled}
 use Rattle.qs_calls.specs.declared.making.Made.{Made}
 use Rattle.qs_calls.specs.declared.making.MakeFault.{MakeFault}
 use Rattle.qs_calls.specs.declared.making.LostFault.{LostFault}
+use Rattle.qs_calls.specs.declared.reading.Consumed.{Consumed}
 use Rattle.qs_calls.specs.declared.report.LaneReport.{LaneReport}
 use Rattle.qs_calls.specs.declared.settings.PeerLimits.{PeerLimits}
 use Rattle.qs_calls.specs.declared.settings.RaiseFault.{RaiseFault}
@@ -23,7 +24,7 @@ use Rattle.qs_calls.specs.declared.uses.OpenFault.{OpenFault}
 use Rattle.qs_calls.specs.declared.uses.UseFault.{UseFault}
 use Rattle.qs_machine.specs.Ends.{End}
 use Rattle.qs_machine.specs.Credit.{spent, all_stored, granted_streams}
-use Rattle.qs_machine.specs.Owner.{OpenStep, AcceptStep, AcceptOfStep, WriteStep, FinishStep, ResetStep, StopStep, ReadStep}
+use Rattle.qs_machine.specs.Owner.{OpenStep, AcceptStep, AcceptOfStep, WriteStep, FinishStep, ResetStep, StopStep, ReadStep, ConsumeStep}
 use Rattle.qs_machine.specs.Receiving.{ReceiveStep}
 use Rattle.qs_machine.specs.Making.{MakeStep, ClaimStep, LoseStep, ClosePayload, MakeAckStep}
 use Rattle.qs_machine.specs.Filling.{FillStep}
@@ -41,6 +42,7 @@ pub data Call : Type 0 where
   Reset : (stream code : ℕ) → Call
   Stop : (stream code : ℕ) → Call
   ReadUpTo : (stream size : ℕ) → Call
+  Consume : (stream most : ℕ) → Call
   Receive : (number : ℕ) (payload : List ℕ) → Call
   TakeFrame : (frame : FrameValue) → Call
   TakeFrames : (frames : List FrameValue) → Call
@@ -69,6 +71,7 @@ Answer (Finish n) = Result (Unit {0}) UseFault
 Answer (Reset n code) = Result (Unit {0}) UseFault
 Answer (Stop n code) = Result (Unit {0}) UseFault
 Answer (ReadUpTo n size) = Result Read UseFault × List ℕ
+Answer (Consume n most) = Result Consumed UseFault
 Answer (Receive k payload) = Result Received Closing
 Answer (TakeFrame f) = Result Taken TakeFault
 Answer (TakeFrames fs) = Result Taken TakeFault
@@ -97,6 +100,7 @@ EndStep old (Finish n) answer new = FinishStep old n answer new
 EndStep old (Reset n code) answer new = ResetStep old n code answer new
 EndStep old (Stop n code) answer new = StopStep old n code answer new
 EndStep old (ReadUpTo n size) answer new = ReadStep old n size answer.0 answer.1 new
+EndStep old (Consume n most) answer new = ConsumeStep old n most answer new
 EndStep old (Receive k payload) answer new = ReceiveStep old k payload answer new
 EndStep old (TakeFrame f) answer new = TakeFrameStep old f answer new
 EndStep old (TakeFrames fs) answer new = TakeFramesStep old fs answer new

@@ -16,7 +16,7 @@ use Rattle.qs_calls.specs.declared.settings.Settings.{Settings}
 use Rattle.qs_calls.specs.declared.settings.PeerLimits.{PeerLimits}
 use Rattle.qs_calls.specs.declared.settings.SetupFault.{SetupFault}
 use Rattle.qs_calls.specs.declared.closing.Closed.{Closed}
-use Rattle.qs_calls.specs.Settings.{setup_fault}
+use Rattle.qs_calls.specs.Settings.{setup_fault, wide_setup_fault}
 use Rattle.qs_machine.specs.Tables.{Tables, no_streams, type_of, lookup, updated, open_to}
 pub use Rattle.qs_machine.specs.LostPackets.{LostPackets, no_lost, lost_with, lost_less}
 
@@ -188,3 +188,7 @@ end_unless None e = Ok e
 -- what comes of making an end (RFC 9000, sections 4.6 and 7.4)
 abbrev pub end_made : Role → Settings → PeerLimits → Result End SetupFault
 end_made role settings peer = end_unless (setup_fault settings peer) (new_end role settings peer)
+
+-- the same of an end of wide ranges (RFC 9000, sections 4.6 and 7.4)
+abbrev pub wide_end_made : Role → Settings → PeerLimits → Result End SetupFault
+wide_end_made role settings peer = end_unless (wide_setup_fault settings peer) (new_end role settings peer)

@@ -1,12 +1,12 @@
 -- Of laws.
 -- Decisive steps of small connections.
-use Rattle.std.specs.Prelude.{◌≡◌, ℕ, true, false, List, [], ◌∷◌, length, replicate, None, Some, Err}
+use Rattle.std.specs.Prelude.{◌≡◌, ℕ, ◌+◌, ◌-◌, ◌^◌, true, false, List, [], ◌∷◌, length, replicate, None, Some, Err}
 use Rattle.std.specs.FinMap as fmap
 use Rattle.qs_wire.specs.Layout.{PlacedValue, stream, reset_stream}
 use Rattle.qs_wire.specs.Reading.{reading_of}
 use Rattle.qs_wire.specs.declared.stream_id.Dir.TheVariants.{Uni}
 use Rattle.qs_wire.specs.declared.stream_id.Role.TheVariants.{Client, Server}
-use Rattle.qs_recv.specs.Lane.{after_read, next_limit}
+use Rattle.qs_recv.specs.Lane.{MAX_WINDOW, MAX_CONN_WINDOW, after_read, next_limit}
 use Rattle.qs_send.specs.Lane.{SendLane, state, write_lane, sent_lane, finish_lane, reset_acked_lane}
 use Rattle.qs_send.specs.declared.parts.Chunk.{Chunk}
 use Rattle.qs_send.specs.declared.piece.Piece.TheVariants.{Data}
@@ -14,7 +14,7 @@ use Rattle.qs_send.specs.declared.parts.SendState.TheVariants.{DataSent, ResetSe
 use Rattle.qs_send.specs.declared.piece.Item.TheVariants.{MaxStreamData, MaxStreams, ResetStream, StopSending, StreamDataBlocked}
 use Rattle.qs_calls.specs.declared.settings.Settings.{Settings}
 use Rattle.qs_calls.specs.declared.closing.Closing.{Closing}
-use Rattle.qs_calls.specs.Settings.{limits_of}
+use Rattle.qs_calls.specs.Settings.{MAX_GRANT, MAX_LIFETIME, are_in_range, are_in_wide_range, limits_of}
 use Rattle.qs_machine.specs.Ends.{End, new_end, opens, on_send, on_recv, send_lane}
 use Rattle.qs_machine.specs.Credit.{settle}
 use Rattle.qs_machine.specs.Seen.{Seen, Ack, Stream, Control}
@@ -26,6 +26,37 @@ use Rattle.qs_machine.specs.Receiving.{TakesPayload}
 
 abbrev pub standard : Settings
 standard = record { conn_window = 4096; bidi_local = 1024; bidi_remote = 1024; uni = 1024; send_buffer = 2048; grant_bidi = 8; grant_uni = 8; lifetime_bidi = 8; lifetime_uni = 8 }
+
+abbrev pub widest : Settings
+widest =
+    record {
+      conn_window = MAX_CONN_WINDOW;
+      bidi_local = MAX_WINDOW;
+      bidi_remote = MAX_WINDOW;
+      uni = MAX_WINDOW;
+      send_buffer = MAX_WINDOW;
+      grant_bidi = MAX_GRANT;
+      grant_uni = MAX_GRANT;
+      lifetime_bidi = MAX_LIFETIME;
+      lifetime_uni = MAX_LIFETIME;
+    }
+
+-- Each setting may be the greatest of its wide range, and none more; no window may be 0, and no lifetime below its grant. What scripts
+-- have is narrower.
+pub record RangesHold : Type 0 where
+  pub widest_is : are_in_wide_range widest ≡ true
+  pub conn_window : are_in_wide_range (record widest { conn_window = MAX_CONN_WINDOW + 1 }) ≡ false
+  pub bidi_local : are_in_wide_range (record widest { bidi_local = MAX_WINDOW + 1 }) ≡ false
+  pub bidi_remote : are_in_wide_range (record widest { bidi_remote = MAX_WINDOW + 1 }) ≡ false
+  pub uni : are_in_wide_range (record widest { uni = MAX_WINDOW + 1 }) ≡ false
+  pub send_buffer : are_in_wide_range (record widest { send_buffer = MAX_WINDOW + 1 }) ≡ false
+  pub grant : are_in_wide_range (record widest { grant_bidi = MAX_GRANT + 1 }) ≡ false
+  pub lifetime : are_in_wide_range (record widest { lifetime_uni = MAX_LIFETIME + 1 }) ≡ false
+  pub no_window : are_in_wide_range (record widest { uni = 0 }) ≡ false
+  pub below_grant : are_in_wide_range (record widest { lifetime_bidi = MAX_GRANT - 1 }) ≡ false
+  pub standard_is : are_in_range standard ≡ true
+  pub narrow_window : are_in_range (record standard { uni = 2 ^ 20 + 1 }) ≡ false
+  pub narrow_lifetime : are_in_range (record standard { lifetime_uni = 2 ^ 16 + 1 }) ≡ false
 
 -- a server with these settings, and a client whose peer has these; the other end has the standard ones
 abbrev pub server : Settings → End
@@ -215,6 +246,7 @@ pub record AcksTakeWhatTheyName : Type 0 where
   pub none : named two_sent ((5, 9) ∷ (3, 3) ∷ []) ≡ []
 
 pub record Examples : Type 0 where
+  pub ranges : RangesHold
   pub stream_limit : StreamLimitHolds
   pub connection_limit : ConnectionLimitHolds
   pub final_size : FinalSizeHolds

@@ -9,7 +9,7 @@ use Rattle.qs_calls.specs.declared.closing.Closing.{Closing}
 use Rattle.qs_calls.specs.declared.closing.Closed.TheVariants.{ByUs, ByPeer}
 use Rattle.qs_calls.specs.declared.token.Token.{Token}
 use Rattle.qs_calls.specs.declared.token.Taken.{Taken}
-use Rattle.qs_calls.specs.declared.token.Taken.TheVariants.{Took, NotOurs}
+use Rattle.qs_calls.specs.declared.token.Taken.TheVariants.{Took, Unchanged, NotOurs}
 use Rattle.qs_calls.specs.declared.token.TakeFault.{TakeFault}
 use Rattle.qs_calls.specs.declared.token.TakeFault.TheVariants as faults
 use Rattle.qs_calls.specs.declared.token.TokenFault.TheVariants as tokens
@@ -46,6 +46,10 @@ pub record NoSuchTake : Type 0 where
   pub not_ours : (new : End) → TakesOne ten four_bytes (Ok NotOurs) new → ⊥
   -- as taken, without its effect
   pub no_effect : (taken : End) → TakesOne ten (max_data 5000) (Ok Took) taken → taken.known_data ≡ ten.known_data → ⊥
+  -- as one that changed nothing, where it raises a limit
+  pub raised : (new : End) → TakesOne ten (max_data 5000) (Ok Unchanged) new → ⊥
+  -- nor as one that changed something, where it raises none
+  pub not_raised : (new : End) → TakesOne ten (max_data 4000) (Ok Took) new → ⊥
   -- as a closing, where it has no fault
   pub no_fault : (new : End) → TakesOne ten (max_data 5000) (Err (faults.Closing (lone 0x03 0x10 0))) new → ⊥
   -- with another code than the fault's
@@ -90,6 +94,13 @@ pub record NoSuchFramesAnswer : Type 0 where
   pub before_fault : (fault : TakeFault) (new : End) → TakesEach (max_data 5000 ∷ past_all ∷ []) ten (Err fault) new → new.known_data ≡ ten.known_data → ⊥
   -- as of other kinds, where one took effect
   pub one_ours : (new : End) → TakesEach (max_data 5000 ∷ ping ∷ []) ten (Ok NotOurs) new → ⊥
+  -- as if nothing changed, where the first frame changed something, or the last one
+  pub first_changed : (new : End) → TakesEach (max_data 5000 ∷ max_data 4000 ∷ []) ten (Ok Unchanged) new → ⊥
+  pub last_changed : (new : End) → TakesEach (max_data 4000 ∷ max_data 5000 ∷ []) ten (Ok Unchanged) new → ⊥
+  -- as if something did, where none changed anything
+  pub none_changed : (new : End) → TakesEach (max_data 4000 ∷ ping ∷ []) ten (Ok Took) new → ⊥
+  -- as of other kinds, where one of these kinds changed nothing
+  pub unchanged_is_ours : (new : End) → TakesEach (max_data 4000 ∷ ping ∷ []) ten (Ok NotOurs) new → ⊥
   -- as taken, where none is of these kinds
   pub none_ours : (new : End) → TakesEach (ping ∷ []) ten (Ok Took) new → ⊥
   -- after a closing, as taken

@@ -1,9 +1,10 @@
 -- Of laws.
 -- What an end that is asked tells, and doesn't count (RFC 9000, sections 2.2, 4.1 and 13.3).
-use Rattle.std.specs.Prelude.{◌≡◌, None, Some}
+use Rattle.std.specs.Prelude.{◌≡◌, None, Some, false, true}
 use Rattle.qs_ranges.specs.Numbers.{numbers}
-use Rattle.qs_machine.specs.Asking.{credit_left, room, unsent, acked_below}
-use Rattle.qs_machine.specs.SmallEnds.{client_with, wrote, sent, second_acked, finished, reset_half}
+use Rattle.qs_machine.specs.Asking.{all_noted, credit_left, room, unsent, acked_below}
+use Rattle.qs_recv.specs.Lane.{take_stream, take_reset, stop}
+use Rattle.qs_machine.specs.SmallEnds.{client_with, server_with, abc, fresh, three_came, all_came, wrote, sent, second_acked, finished, reset_half}
 use Rattle.qs_machine.specs.ExclusionsOwner.{over}
 
 -- what the connection's credit lets go (section 4.1)
@@ -46,7 +47,22 @@ pub record AckedInARow : Type 0 where
   -- there is none of a stream that isn't open
   pub unopened : acked_below (client_with sent) 4 ≡ None
 
+-- how many runs the offsets make that came (section 2.2)
+pub record RunsAreNoted : Type 0 where
+  -- nothing came
+  pub none : all_noted (server_with fresh) ≡ 0
+  -- bytes in a row are one run
+  pub row : all_noted (server_with three_came) ≡ 1
+  -- bytes behind a gap another
+  pub gap : all_noted (server_with (take_stream three_came 5 abc false)) ≡ 2
+  -- also of a stream that was stopped
+  pub after_stop : all_noted (server_with (stop (take_stream three_came 5 abc false) 0)) ≡ 2
+  -- and none of one that was reset, or of which the end was told
+  pub after_reset : all_noted (server_with (take_reset three_came 0 8)) ≡ 0
+  pub told : all_noted (server_with (record all_came { told = true })) ≡ 0
+
 pub record NotAsked : Type 0 where
+  pub runs : RunsAreNoted
   pub credit : CreditIsSent
   pub taken : RoomIsTaken
   pub new : UnsentIsNew

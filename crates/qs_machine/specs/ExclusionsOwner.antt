@@ -1,16 +1,18 @@
 -- Of laws.
 -- Which answers an end's owner isn't given, and what its calls don't leave (RFC 9000, sections 2, 3 and 4).
-use Rattle.std.specs.Prelude.{◌≡◌, ℕ, ◌+◌, ◌^◌, List, [], ◌∷◌, None, Some, Ok, Err}
+use Rattle.std.specs.Prelude.{◌≡◌, ℕ, ◌+◌, ◌^◌, Bool, true, false, List, [], ◌∷◌, None, Some, Result, Ok, Err}
 use Rattle.qs_wire.specs.declared.stream_id.Dir.TheVariants.{Bidi, Uni}
 use Rattle.qs_recv.specs.Lane.{RecvLane, stop}
 use Rattle.qs_recv.specs.declared.half.Read.TheVariants as reads
 use Rattle.qs_calls.specs.declared.closing.Closed.TheVariants.{ByPeer}
 use Rattle.qs_calls.specs.Settings.{limits_of}
+use Rattle.qs_calls.specs.declared.reading.Consumed.{Consumed}
 use Rattle.qs_calls.specs.declared.uses.OpenFault.TheVariants as opening
+use Rattle.qs_calls.specs.declared.uses.UseFault.{UseFault}
 use Rattle.qs_calls.specs.declared.uses.UseFault.TheVariants.{NoSuchStream, NoMemory}
 use Rattle.qs_machine.specs.Ends.{End, send_lane, recv_lane}
 use Rattle.qs_machine.specs.Credit.{settle}
-use Rattle.qs_machine.specs.Owner.{OpenStep, AcceptStep, AcceptOfStep, WriteStep, FinishStep, ResetStep, StopStep, ReadStep}
+use Rattle.qs_machine.specs.Owner.{OpenStep, AcceptStep, AcceptOfStep, WriteStep, FinishStep, ResetStep, StopStep, ReadStep, ConsumeStep}
 use Rattle.qs_machine.specs.Raising.{limits_raised, RaiseStep}
 use Rattle.qs_machine.specs.Examples.{standard, server, client_of, told_reset}
 use Rattle.qs_machine.specs.SmallEnds.{client_with, server_with, abc, begun, wrote, finished, reset_half, fresh, three_came}
@@ -107,7 +109,11 @@ pub record NoSuchSending : Type 0 where
   -- reset, and its bytes kept still (section 13.3)
   pub still_kept : (new : End) → ResetStep (client_with wrote) 0 7 (Ok tt) new → send_lane new 0 ≡ Some (record wrote { was_reset = Some (record { code = 7; size = 0 }) }) → ⊥
 
--- `read` and `stop` don't answer so (sections 2.2, 3.2 and 3.5)
+-- no byte came, and the end did
+abbrev pub ended_half : RecvLane
+ended_half = record fresh { final_size = Some 0 }
+
+-- `read`, `consume` and `stop` don't answer so (sections 2.2, 3.2 and 3.5)
 pub record NoSuchReading : Type 0 where
   -- with bytes that didn't come
   pub none_came : (n : ℕ) (bytes : List ℕ) (new : End) → ReadStep (server_with fresh) 0 10 (Ok (reads.Bytes n)) bytes new → ⊥
@@ -121,6 +127,16 @@ pub record NoSuchReading : Type 0 where
   pub after_reset : (bytes : List ℕ) (new : End) → ReadStep (server_with (record fresh { final_size = Some 0; reset_code = Some 7 })) 0 10 (Ok reads.Wait) bytes new → ⊥
   -- with bytes, once it stopped
   pub after_stop : (n : ℕ) (bytes : List ℕ) (new : End) → ReadStep (server_with (stop three_came 7)) 0 10 (Ok (reads.Bytes n)) bytes new → ⊥
+  -- bytes that didn't come are taken without a copy
+  pub consumed_none : (n : ℕ) (at_end : Bool) (new : End) → ConsumeStep (server_with fresh) 0 10 (Ok (record { read = reads.Bytes n; at_end = at_end })) new → ⊥
+  -- the end is reached, before it came
+  pub consumed_early : (new : End) → ConsumeStep (server_with fresh) 0 10 (Ok (record { read = reads.Wait; at_end = true })) new → ⊥
+  -- it isn't, where it came and no byte is left
+  pub consumed_late : (new : End) → ConsumeStep (server_with ended_half) 0 0 (Ok (record { read = reads.End; at_end = false })) new → ⊥
+  -- it is, and isn't told
+  pub consumed_untold : (answer : Result Consumed UseFault) (new : End) → ConsumeStep (server_with ended_half) 0 0 answer new → (l : RecvLane) → recv_lane new 0 ≡ Some l → l.told ≡ false → ⊥
+  -- on a stream that isn't open
+  pub consumed_unopened : (answer : Consumed) (new : End) → ConsumeStep (server_with fresh) 4 10 (Ok answer) new → ⊥
   -- stopped with another code than the first
   pub second_stop : (new : End) → StopStep (server_with (stop fresh 7)) 0 8 (Ok tt) new → (l : RecvLane) → recv_lane new 0 ≡ Some l → l.stop_code ≡ Some 8 → ⊥
   -- stopped, once the end closed

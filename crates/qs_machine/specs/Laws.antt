@@ -24,7 +24,7 @@ use Rattle.qs_calls.specs.declared.making.Made.{Made}
 use Rattle.qs_calls.specs.declared.making.MakeFault.{MakeFault}
 use Rattle.qs_calls.specs.declared.making.LostFault.{LostFault}
 use Rattle.qs_calls.specs.declared.making.LostFault.TheVariants.{NotOutstanding}
-use Rattle.qs_machine.specs.Ends.{End, end_made}
+use Rattle.qs_machine.specs.Ends.{End, end_made, wide_end_made}
 use Rattle.qs_machine.specs.Credit.{settle, recv_ended, send_ended}
 use Rattle.qs_machine.specs.Seen.{Seen, Ack, seen_all, any_asks}
 use Rattle.qs_machine.specs.Verdicts.{verdict}
@@ -36,9 +36,13 @@ use Rattle.qs_machine.specs.EndStep.{Call, Answer, EndStep, Claim}
 use Rattle.qs_machine.specs.Standing.{IsSound, IsWithinCredit, CountsAreSettled, LimitsRise, CountsRise}
 use Rattle.qs_machine.specs.Repeats.{SentWasWritten, AreAmong, Resumes, OnlyRecords}
 
--- a new end is sound
+-- a new end of wide ranges is sound
 abbrev pub NewEndsAreSound : Type 0
-NewEndsAreSound = (role : Role) (s : Settings) (p : PeerLimits) (e : End) → end_made role s p ≡ Ok e → IsSound e
+NewEndsAreSound = (role : Role) (s : Settings) (p : PeerLimits) (e : End) → wide_end_made role s p ≡ Ok e → IsSound e
+
+-- an end that is made of a script's ranges is made of the wide ones, too
+abbrev pub NewEndsAreWide : Type 0
+NewEndsAreWide = (role : Role) (s : Settings) (p : PeerLimits) (e : End) → end_made role s p ≡ Ok e → wide_end_made role s p ≡ Ok e
 
 -- every call leaves a sound end sound, whoever made the payloads that come to it
 abbrev pub CallsKeepEndsSound : Type 0
@@ -66,7 +70,7 @@ pub record EndedIsLastState : Type 0 where
 
 -- a new end grants as many streams as at first, when none ended
 abbrev pub NewEndsSettleCounts : Type 0
-NewEndsSettleCounts = (role : Role) (s : Settings) (p : PeerLimits) (e : End) → end_made role s p ≡ Ok e → CountsAreSettled e
+NewEndsSettleCounts = (role : Role) (s : Settings) (p : PeerLimits) (e : End) → wide_end_made role s p ≡ Ok e → CountsAreSettled e
 
 -- as each call ends, the granted counts are what the streams that ended make them
 abbrev pub CallsSettleCounts : Type 0
@@ -129,7 +133,7 @@ PayloadsAreTakenInOrder =
 
 -- all data of a new end that outstanding packets carried, or lost ones, was written, as there is none
 abbrev pub NewEndsSentNothing : Type 0
-NewEndsSentNothing = (role : Role) (s : Settings) (p : PeerLimits) (e : End) → end_made role s p ≡ Ok e → SentWasWritten e
+NewEndsSentNothing = (role : Role) (s : Settings) (p : PeerLimits) (e : End) → wide_end_made role s p ≡ Ok e → SentWasWritten e
 
 -- no call has data outstanding, or lost, that wasn't written
 abbrev pub CallsSendWhatWasWritten : Type 0

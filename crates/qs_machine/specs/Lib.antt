@@ -14,6 +14,7 @@ pub mod Receiving
 pub mod Making
 pub mod Filling
 pub mod Alone
+pub mod Changes
 pub mod InOrder
 pub mod Reports
 pub mod News

@@ -1,14 +1,16 @@
 -- Trusted.
 -- The calls of an end's owner on streams: what each answers and leaves (RFC 9000, sections 2.4 and 3, for the whole
 -- file). As each ends, the limits move.
-use Rattle.std.specs.Prelude.{◌≡◌, ℕ, ◌+◌, ◌*◌, ◌<◌, Bool, List, [], ◌⊎◌, length, take, max, Option, None, Some, is_some, Result, Ok, Err, nat_le, nat_lt, MatchBool, if◌then◌else◌}
+use Rattle.std.specs.Prelude.{◌≡◌, ℕ, ◌+◌, ◌*◌, ◌<◌, Bool, true, false, List, [], ◌⊎◌, length, take, max, Option, None, Some, is_some, Result, Ok, Err, nat_le, nat_lt, MatchBool, if◌then◌else◌}
 use Rattle.qs_wire.specs.declared.stream_id.Dir.{Dir}
 use Rattle.qs_wire.specs.declared.stream_id.Dir.TheVariants.{Bidi, Uni}
 use Rattle.qs_recv.specs.Lane.{RecvLane, read_answer, bytes_read, after_read, stop}
 use Rattle.qs_recv.specs.declared.half.Read.{Read}
+use Rattle.qs_recv.specs.declared.half.Read.TheVariants as reads
 use Rattle.qs_send.specs.Lane.{SendLane, accepted, refusal, reset_refusal, write_lane, finish_lane, reset_lane}
 use Rattle.qs_send.specs.declared.parts.SendFault.{SendFault}
 use Rattle.qs_send.specs.declared.parts.SendFault.TheVariants as sends
+use Rattle.qs_calls.specs.declared.reading.Consumed.{Consumed}
 use Rattle.qs_calls.specs.declared.uses.OpenFault.{OpenFault}
 use Rattle.qs_calls.specs.declared.uses.OpenFault.TheVariants as opening
 use Rattle.qs_calls.specs.declared.uses.UseFault.{UseFault}
@@ -163,3 +165,20 @@ ReadBy None old n size answer bytes new =
 -- a read into a slice of that size, with the bytes that it gives (RFC 9000, section 2.2)
 abbrev pub ReadStep : End → ℕ → ℕ → Result Read UseFault → List ℕ → End → Type 0
 ReadStep old n size answer bytes new = ReadBy (recv_refusal old n) old n size answer bytes new
+
+abbrev pub is_end : Read → Bool
+is_end (reads.End) = true
+is_end answer = false
+
+-- what is told of bytes that are taken without a copy: what a read of so many bytes tells, and whether the end follows (RFC 9000,
+-- section 2.2)
+abbrev pub consumed : RecvLane → ℕ → Consumed
+consumed l most = record { read = read_answer l most; at_end = is_end (read_answer (after_read l most) 0) }
+
+-- `consume` is a read of so many bytes, and then one of none, to which the end is told where it is reached (RFC 9000, sections 2.2 and 3.2)
+abbrev pub ConsumeStep : End → ℕ → ℕ → Result Consumed UseFault → End → Type 0
+ConsumeStep old n most answer new =
+    Certain (recv_refusal old n) old answer new
+    ((l : RecvLane) × (recv_lane old n ≡ Some l)
+    × (answer ≡ Ok (consumed l most))
+    × (new ≡ settle (on_recv n (λ m. after_read m 0) (on_recv n (λ m. after_read m most) old))))

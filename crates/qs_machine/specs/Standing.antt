@@ -8,7 +8,7 @@ use Rattle.qs_wire.specs.declared.stream_id.Role.{Role}
 use Rattle.qs_recv.specs.Lane.{RecvLane, highest, taken}
 use Rattle.qs_recv.specs.Lawful.{IsLawful}
 use Rattle.qs_calls.specs.declared.settings.Settings.{Settings}
-use Rattle.qs_calls.specs.Settings.{are_in_range}
+use Rattle.qs_calls.specs.Settings.{are_in_wide_range}
 use Rattle.qs_machine.specs.Tables.{Tables, lookup, total}
 use Rattle.qs_machine.specs.Ends.{End, window_by, window, recv_lane}
 use Rattle.qs_machine.specs.Credit.{spent, all_taken, all_stored, granted_streams, lifetime, next_count}
@@ -20,7 +20,7 @@ HasLawfulLane role s n (Some l) = IsLawful l × (l.arrived.window ≡ window_by 
 
 -- the peer is within the connection limit, and that within the window
 pub record KeepsCredit (role : Role) (s : Settings) (recvs : Tables RecvLane) (granted : ℕ) : Type 0 where
-  pub settings : are_in_range s ≡ true
+  pub settings : are_in_wide_range s ≡ true
   pub lanes : (n : ℕ) → HasLawfulLane role s n (lookup recvs n)
   pub spent : total highest recvs ≤ granted
   pub in_window : granted ≤ total taken recvs + s.conn_window

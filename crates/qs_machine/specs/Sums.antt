@@ -3,7 +3,7 @@
 use Rattle.std.specs.Prelude.{ℕ, ◌+◌, ◌-◌, ◌≤◌, List, [], ◌∷◌, slice_set, slice_index_or, Option, None, Some, ⊤}
 use Rattle.std.specs.List.{sum_by}
 use Rattle.std.specs.FinMap as fmap
-use Rattle.qs_recv.specs.Lane.{RecvLane, highest, taken}
+use Rattle.qs_recv.specs.Lane.{RecvLane, highest, taken, noted}
 use Rattle.qs_recv.specs.Lawful.{IsLawful}
 use Rattle.qs_send.specs.Lane.{SendLane, Sending, new_sending, new_lane as new_send_lane}
 use Rattle.qs_machine.specs.declared.tally.Tally.{Tally}
@@ -35,25 +35,32 @@ stored_on lane = fmap.len lane.arrived.stored
 
 -- what a lane adds to the sums
 abbrev pub tally_of : RecvLane → Tally
-tally_of lane = record { spent = highest lane; taken = taken lane; stored = stored_on lane }
+tally_of lane = record { spent = highest lane; taken = taken lane; stored = stored_on lane; noted = noted lane }
 
 -- the sums over all lanes
 abbrev pub tally_on : List RecvLane → Tally
-tally_on lanes = record { spent = sum_by highest lanes; taken = sum_by taken lanes; stored = sum_by stored_on lanes }
+tally_on lanes = record { spent = sum_by highest lanes; taken = sum_by taken lanes; stored = sum_by stored_on lanes; noted = sum_by noted lanes }
 
 -- the sums once one lane's part became another
 abbrev pub moved : Tally → Tally → Tally → Tally
 moved total was is =
-    record { spent = total.spent - was.spent + is.spent; taken = total.taken - was.taken + is.taken; stored = total.stored - was.stored + is.stored }
+    record {
+      spent = total.spent - was.spent + is.spent;
+      taken = total.taken - was.taken + is.taken;
+      stored = total.stored - was.stored + is.stored;
+      noted = total.noted - was.noted + is.noted;
+    }
 
 pub record IsPart (part total : Tally) : Type 0 where
   pub spent : part.spent ≤ total.spent
   pub taken : part.taken ≤ total.taken
   pub stored : part.stored ≤ total.stored
+  pub noted : part.noted ≤ total.noted
 
--- nothing is stored or taken that wasn't spent, and not both
-abbrev pub IsPaid : Tally → Type 0
-IsPaid tally = tally.stored + tally.taken ≤ tally.spent
+-- nothing is stored or taken that wasn't spent, and not both; and no more runs are noted than offsets were spent
+pub record IsPaid (tally : Tally) : Type 0 where
+  pub moved : tally.stored + tally.taken ≤ tally.spent
+  pub noted : tally.noted ≤ tally.spent
 
 abbrev pub EachLawful : List RecvLane → Type 0
 EachLawful [] = ⊤

@@ -8,7 +8,6 @@ use Rattle.qs_wire.specs.Grammar.{AreBytes, frames_of}
 use Rattle.qs_wire.specs.Reading.{reading_of}
 use Rattle.qs_calls.specs.declared.closing.Received.TheVariants.{Done}
 use Rattle.qs_calls.specs.declared.token.Taken.{Taken}
-use Rattle.qs_calls.specs.declared.token.Taken.TheVariants.{Took}
 use Rattle.qs_machine.specs.Ends.{End}
 use Rattle.qs_machine.specs.Credit.{settle}
 use Rattle.qs_machine.specs.Seen.{Seen, Ack, seen, seen_all, any_asks}
@@ -53,4 +52,4 @@ APayloadIsTakeFrames =
 abbrev pub AFrameIsItsPayload : Type 0
 AFrameIsItsPayload =
     (old new : End) (k : ℕ) (text : List ℕ) (f : FrameValue) → IsNew old k → AreBytes text → frames_in text ≡ f ∷ [] → is_ours (seen f) ≡ true → ReceiveStep old k text (Ok Done) new →
-    (mid : End) × TakeFrameStep old f (Ok Took) mid × (new ≡ recorded k true mid)
+    (taken : Taken) × (mid : End) × TakeFrameStep old f (Ok taken) mid × (new ≡ recorded k true mid)

@@ -1,5 +1,5 @@
 -- The runs of a set, two at most beside no block or those of blocks, and what edits of them make of the set.
-use Rattle.std.proofs.Common.{Result, Ok, Err, OnOk, OnErr, ◌≡◌, ℕ, ◌+◌, ◌-◌, ◌<◌, ◌≤◌, Bool, true, false, not, ◌&&◌, [], ◌∷◌, ◌++◌, length, take, drop, min, max, All, refl, sym, ap, ◌∙◌, arith}
+use Rattle.std.proofs.Common.{Result, Ok, Err, OnOk, OnErr, ◌≡◌, ℕ, ◌+◌, ◌-◌, ◌<◌, ◌≤◌, ◌^◌, Bool, true, false, not, ◌&&◌, [], ◌∷◌, ◌++◌, length, take, drop, min, max, All, refl, sym, ap, ◌∙◌, arith}
 use Rattle.std.specs.FinSet as set
 use Rattle.std.proofs.lemmas.List.Elements.{All-head, All-tail}
 use Rattle.std.proofs.lemmas.Bool.Decides.{nat_tests}
@@ -10,7 +10,7 @@ use Rattle.qs_ranges.specs.declared.few.Few.TheVariants as few
 use Rattle.qs_ranges.specs.Blocks.{Blocks, all_runs, few_runs, runs_of, IsEdit, with_range, without_range}
 use Rattle.qs_ranges.proofs.Members.{contains-set_of, set_of-with_range, set_of-without_range}
 use Rattle.qs_ranges.proofs.Count.{len-run_starts}
-use Rattle.qs_ranges.proofs.Edits.{inserted_apart, inserted_over, misses_around, removed_nothing, removed_all, removed_end, removed_start, removed_inside, contains_around}
+use Rattle.qs_ranges.proofs.Edits.{inserted_over, misses_around, removed_nothing, removed_all, removed_end, removed_start}
 
 pub no_block : (bs : Blocks) (value : Few) → length bs ≡ 0 → runs_of bs value ≡ few_runs value
 no_block [] value is = refl
@@ -20,9 +20,9 @@ pub some_block : (bs : Blocks) (value : Few) → 0 < length bs → runs_of bs va
 some_block [] value some = absurd (omega arith)
 some_block (b ∷ bs) value some = refl
 
-pub no_value : (bs : Blocks) → runs_of bs few.Empty ≡ all_runs bs
-no_value [] = refl
-no_value (b ∷ bs) = refl
+pub many_value : (bs : Blocks) (n : ℕ) → runs_of bs (few.InBlocks n) ≡ all_runs bs
+many_value [] n = refl
+many_value (b ∷ bs) n = refl
 
 -- the set after an insert, and what it misses where it was refused
 module _ (s : NumberSet) (old runs : Runs) (lo hi : ℕ) (of_old : set_of old ≡ s) (same : old ≡ runs) where
@@ -63,11 +63,6 @@ dropped (Err e) old new n limit most P least below is never = absurd (omega (ari
 
 -- the edits of blocks, by what the calls answer
 module _ (runs : Runs) (new : Blocks) (lo hi limit from to : ℕ) (apart : AreApart runs) (all : All (λ run. run.1 ≤ limit) runs) (some : lo < hi) where
-  pub put_apart : {T E : Type 0} (r : Result T E) → hi ≤ limit → IsSpan runs lo (hi + 1) from to → from ≡ to
-      → OnOk r (all_runs new ≡ take from runs ++ (lo, hi) ∷ drop from runs) → OnOk r (IsEdit (all_runs new) limit (with_range runs lo hi))
-  put_apart (Ok t) fits span same is = rw is (inserted_apart runs lo hi limit from to apart all some fits span same)
-  put_apart (Err e) fits span same is = tt
-
   pub put_nowhere : {T E : Type 0} (r : Result T E) → hi ≤ limit → IsSpan runs lo (hi + 1) from to → from ≡ to → OnErr r ((n : ℕ) → lo - 1 ≤ n → n < hi + 1 → has_number runs n ≡ false)
   put_nowhere (Ok t) fits span same = tt
   put_nowhere (Err e) fits span same = λ n ge lt. misses_around runs lo hi limit from to apart all some fits span same n ge lt
@@ -89,20 +84,16 @@ module _ (runs : Runs) (new : Blocks) (lo hi limit from to : ℕ) (apart : AreAp
     pub cut_start : lo ≤ start → hi < end → all_runs new ≡ take from runs ++ (hi, end) ∷ drop to runs → IsEdit (all_runs new) limit (without_range runs lo hi)
     cut_start ge lt is = rw (is, ends) (removed_start runs lo hi limit from to apart all some span found (omega arith) (omega arith))
 
-    pub cut_inside : {T E : Type 0} (r : Result T E) → start < lo → hi < end → OnOk r (all_runs new ≡ take from runs ++ (start, lo) ∷ (hi, end) ∷ drop to runs) → OnOk r (IsEdit (all_runs new) limit (without_range runs lo hi))
-    cut_inside (Ok t) lt gt is = rw (is, starts, ends) (removed_inside runs lo hi limit from to apart all some span found (omega arith) (omega arith))
-    cut_inside (Err e) lt gt is = tt
-
-    pub cut_nowhere : {T E : Type 0} (r : Result T E) → start < lo → hi < end → OnErr r (from + 1 ≡ to) → OnErr r ((0 < lo) × ((n : ℕ) → lo - 1 ≤ n → n < hi + 1 → has_number runs n ≡ true))
-    cut_nowhere (Ok t) lt gt one = tt
-    cut_nowhere (Err e) lt gt one = (omega arith, λ n ge less. contains_around runs lo hi limit from to apart all some span found one (omega arith) (omega arith) n ge less)
-
 -- a list of runs within a limit has no more runs than the limit
 pub runs_fit : (low limit : ℕ) (runs : Runs) → AreApartFrom low runs → All (λ run. run.1 ≤ limit) runs → low ≤ limit + 1 → low + length runs ≤ limit + 1
 runs_fit low limit [] apart all le = omega arith
 runs_fit low limit (run ∷ rest) apart all le =
     let first : run.1 ≤ limit = All-head (λ r. r.1 ≤ limit) run rest all in
     omega (arith, apart.0, apart.1, runs_fit (run.1 + 1) limit rest apart.2 (All-tail (λ r. r.1 ≤ limit) run rest all) (omega arith))
+
+-- and so their count fits
+pub count_fits : (runs : Runs) → AreApart runs → All (λ run. run.1 ≤ 2 ^ 62) runs → length runs ≤ 2 ^ 62 + 1
+count_fits runs apart all = omega (arith, runs_fit 0 (2 ^ 62) runs apart all (omega arith))
 
 -- how many runs a set has, and which
 module _ (s : NumberSet) (bs : Blocks) (value : Few) (apart : AreApart (runs_of bs value)) (of_runs : set_of (runs_of bs value) ≡ s) where

@@ -5,9 +5,9 @@ use Rattle.std.specs.Cmp.{nat_cmp_total, unsigned_tied}
 use Rattle.std.specs.FinSet as set
 use Rattle.std.proofs.lemmas.Bool.{cases_lt, true≢false}
 use Rattle.std.proofs.lemmas.Bool.Decides.{nat_tests}
-use Rattle.qs_ranges.specs.Numbers.{NumberSet, numbers, contains-with_range, contains-without_range, same_numbers, IsRunFrom, has_predecessor, run_starts, end_of}
+use Rattle.qs_ranges.specs.Numbers.{NumberSet, numbers, contains-with_range, contains-without_range, same_numbers, AllBelow, IsRunFrom, has_predecessor, run_starts, end_of}
 use Rattle.qs_ranges.proofs.Algebra.{inside, outside}
-use Rattle.qs_ranges.proofs.Sets.{end_of-last, empty-end_of}
+use Rattle.qs_ranges.proofs.Sets.{below-end_of, end_of-last, empty-end_of}
 
 pub contains-run_starts : (s : NumberSet) (n : ℕ) → set.contains (run_starts s) n ≡ (set.contains s n && not (has_predecessor s n))
 contains-run_starts s n = set.contains-retain s (λ k. not (has_predecessor s k)) n (λ x tie. ap (λ k. not (has_predecessor s k)) (sym (set.nat_cmp-IsAntisymmetric n x tie)))
@@ -53,6 +53,27 @@ len_le (suc count) s t is more = elim (end_of-last t) [
 
 pub len_le_of_members : (s t : NumberSet) → ((n : ℕ) → set.contains s n ≡ true → set.contains t n ≡ true) → set.len s ≤ set.len t
 len_le_of_members s t more = len_le (set.len t) s t refl more
+
+-- a set has no more members than the numbers below its end, and so no more runs
+len_below : (n : ℕ) (s : NumberSet) → AllBelow s n → set.len s ≤ n
+len_below zero s below =
+    let none : set.len s ≡ 0 = ap set.len (has_none s set.empty refl (λ n has. let lt = below n has in absurd (omega (arith, lt)))) ∙ set.len-empty nat_cmp in
+    omega (arith, none)
+len_below (suc n) s below =
+    let rest : set.len (set.remove s n) ≤ n = len_below n (set.remove s n) (λ m has. less m (below m) (sym (contains-remove_number s n m) ∙ has)) in
+    omega (arith, rest, one_less s n)
+  where
+    less : (m : ℕ) → (set.contains s m ≡ true → m < suc n) → (not (m == n) && set.contains s m) ≡ true → m < n
+    less m below has = grind (arith, nat_tests, has, below)
+
+pub starts_below_end : (s : NumberSet) → set.len (run_starts s) ≤ end_of s
+starts_below_end s =
+    let starts : set.len (run_starts s) ≤ set.len s = len_le_of_members (run_starts s) s (λ n has. first (set.contains s n) _ (sym (contains-run_starts s n) ∙ has)) in
+    omega (arith, starts, len_below (end_of s) s (below-end_of s))
+  where
+    first : (a b : Bool) → (a && b) ≡ true → a ≡ true
+    first true b is = refl
+    first false b is = is
 
 -- an insert of a range adds at most one run
 starts_more : (s : NumberSet) (lo hi n : ℕ) → lo < hi → set.contains (run_starts (set.union s (numbers lo hi))) n ≡ true → ((n == lo) || set.contains (run_starts s) n) ≡ true

@@ -16,14 +16,24 @@ all_runs (b ∷ bs) = b ++ all_runs bs
 
 -- the runs of a value
 abbrev pub few_runs : Few → Runs
-few_runs few.Empty = []
+few_runs (few.InBlocks n) = []
 few_runs (few.One run) = run ∷ []
 few_runs (few.Two low high) = low ∷ high ∷ []
+
+-- the count that a value tells
+abbrev pub few_count : Few → ℕ
+few_count (few.InBlocks n) = n
+few_count (few.One run) = 1
+few_count (few.Two low high) = 2
 
 -- the runs of a set: those of the blocks, and where there is no block those of the value
 abbrev pub runs_of : Blocks → Few → Runs
 runs_of [] value = few_runs value
 runs_of (b ∷ bs) value = all_runs (b ∷ bs)
+
+-- the value of a set tells how many runs there are
+abbrev pub IsCounted : Blocks → Few → Type 0
+IsCounted bs value = few_count value ≡ length (runs_of bs value)
 
 -- a set has blocks only for two runs or more
 abbrev pub AreMany : Blocks → Type 0

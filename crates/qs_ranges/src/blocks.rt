@@ -80,6 +80,22 @@ pub(crate) fn split(
     split_one(blocks, span.block, span.from, left, right)
 }
 
+/// How many runs lie between two places: a look at each block between them.
+pub(crate) fn runs_in(blocks: &[Block], span: Span) -> usize
+    requires found { IsFound blocks.now span.block span.from span.last span.to }
+    requires few { length (all_runs blocks.now) < 2 ^ 63 }
+    ensures { place blocks.now span.block span.from + result ≡ place blocks.now span.last span.to }
+{
+    if span.block == span.last {
+        return span.to - span.from;
+    }
+    let mut count = blocks[span.block].len() - span.from;
+    for at in span.block + 1..span.last {
+        count += blocks[at].len();
+    }
+    count + span.to
+}
+
 // Puts two runs in the place of one.
 fn split_one(
     blocks: &mut Vec<Block>,

@@ -1,12 +1,12 @@
 //! The runs of a set that are more than two, in blocks.
-ghost use Rattle.std.specs.Prelude.{◌≡◌, ℕ, ◌+◌, ◌-◌, ◌^◌, ◌≤◌, ◌<◌, All, Option, None, OnOk, OnErr, false, true, [], ◌∷◌, ◌++◌, length, take, drop};
+ghost use Rattle.std.specs.Prelude.{◌≡◌, ℕ, ◌+◌, ◌-◌, ◌^◌, ◌≤◌, ◌<◌, All, Option, None, IfOk, OnOk, OnErr, false, true, [], ◌∷◌, ◌++◌, length, take, drop};
 ghost use Rattle.qs_ranges.specs.Runs.{AreApart, has_number};
-ghost use Rattle.qs_ranges.specs.Blocks.{AreMany, IsEdit, all_runs, few_runs, runs_of, with_range, without_range};
+ghost use Rattle.qs_ranges.specs.Blocks.{AreMany, IsCounted, IsEdit, all_runs, few_count, runs_of, with_range, without_range};
 
 use crate::NoMemory;
 use crate::block::Block;
-use crate::blocks::{insert_at, replace, span_of, split, take_out};
-use crate::few::{Few, few_of};
+use crate::blocks::{insert_at, replace, runs_in, span_of, split, take_out};
+use crate::few::{Few, count_few, few_of};
 
 /// Adds a range to the runs of blocks.
 #[inline(never)]
@@ -19,15 +19,18 @@ pub(crate) fn insert_many(
     requires apart { AreApart (all_runs blocks.old.items) }
     requires bound { All (λ run. run.1 ≤ 2 ^ 62) (all_runs blocks.old.items) }
     requires many { 1 < length (all_runs blocks.old.items) }
+    requires counted { few_count few.old ≡ length (all_runs blocks.old.items) }
     requires some { lo < hi }
     requires within { hi ≤ 2 ^ 62 }
     ensures ok { OnOk result (IsEdit (runs_of blocks.new.items few.new) (2 ^ 62) (with_range (all_runs blocks.old.items) lo hi)) }
     ensures err { OnErr result (runs_of blocks.new.items few.new ≡ all_runs blocks.old.items) }
     ensures touches_none { OnErr result ((n : ℕ) → lo - 1 ≤ n → n < hi + 1 → has_number (all_runs blocks.old.items) n ≡ false) }
     ensures many { AreMany blocks.new.items }
+    ensures counted { IsCounted blocks.new.items few.new }
 {
+    let count = count_few(*few);
     if lengthen_last(blocks, lo, hi) {
-        *few = Few::Empty;
+        *few = Few::InBlocks(count);
         return Ok(());
     }
     insert_anywhere(few, blocks, lo, hi)
@@ -63,22 +66,28 @@ fn insert_anywhere(few: &mut Few, blocks: &mut Vec<Block>, lo: u64, hi: u64) -> 
     requires apart { AreApart (all_runs blocks.old.items) }
     requires bound { All (λ run. run.1 ≤ 2 ^ 62) (all_runs blocks.old.items) }
     requires many { 1 < length (all_runs blocks.old.items) }
+    requires counted { few_count few.old ≡ length (all_runs blocks.old.items) }
     requires some { lo < hi }
     requires within { hi ≤ 2 ^ 62 }
     ensures ok { OnOk result (IsEdit (runs_of blocks.new.items few.new) (2 ^ 62) (with_range (all_runs blocks.old.items) lo hi)) }
     ensures err { OnErr result (runs_of blocks.new.items few.new ≡ all_runs blocks.old.items) }
     ensures touches_none { OnErr result ((n : ℕ) → lo - 1 ≤ n → n < hi + 1 → has_number (all_runs blocks.old.items) n ≡ false) }
     ensures many { AreMany blocks.new.items }
+    ensures counted { IsCounted blocks.new.items few.new }
 {
-    *few = Few::Empty;
+    let count = count_few(*few);
+    *few = Few::InBlocks(count);
     let span = span_of(blocks, lo, hi + 1);
     if !span.some {
-        return insert_at(blocks, span.block, span.from, (lo, hi));
+        insert_at(blocks, span.block, span.from, (lo, hi))?;
+        *few = Few::InBlocks(count + 1);
+        return Ok(());
     }
+    let gone = runs_in(blocks, span);
     let start = blocks[span.block].run(span.from).0;
     let end = blocks[span.last].run(span.to - 1).1;
     replace(blocks, span, (lo.min(start), hi.max(end)));
-    settle(few, blocks);
+    settle(few, blocks, count - gone + 1);
     Ok(())
 }
 
@@ -92,50 +101,75 @@ pub(crate) fn remove_many(
 ) -> Result<(), NoMemory>
     requires apart { AreApart (all_runs blocks.old.items) }
     requires bound { All (λ run. run.1 ≤ 2 ^ 62) (all_runs blocks.old.items) }
+    requires counted { few_count few.old ≡ length (all_runs blocks.old.items) }
     requires some { lo < hi }
     requires within { hi ≤ 2 ^ 62 }
     ensures ok { OnOk result (IsEdit (runs_of blocks.new.items few.new) (2 ^ 62) (without_range (all_runs blocks.old.items) lo hi)) }
     ensures err { OnErr result (runs_of blocks.new.items few.new ≡ all_runs blocks.old.items) }
     ensures inside { OnErr result ((0 < lo) × ((n : ℕ) → lo - 1 ≤ n → n < hi + 1 → has_number (all_runs blocks.old.items) n ≡ true)) }
     ensures many { AreMany blocks.new.items }
+    ensures counted { IsCounted blocks.new.items few.new }
 {
-    *few = Few::Empty;
-    let done = cut_blocks(blocks, lo, hi);
-    settle(few, blocks);
-    done
+    let count = count_few(*few);
+    match cut_blocks(blocks, count, lo, hi) {
+        Ok(left) => {
+            settle(few, blocks, left);
+            Ok(())
+        }
+        Err(refused) => {
+            settle(few, blocks, count);
+            Err(refused)
+        }
+    }
 }
 
-// Takes a range out of the runs of blocks, however few are left.
-fn cut_blocks(blocks: &mut Vec<Block>, lo: u64, hi: u64) -> Result<(), NoMemory>
+// Takes a range out of the runs of blocks, however few are left, and answers how many are.
+fn cut_blocks(blocks: &mut Vec<Block>, count: usize, lo: u64, hi: u64) -> Result<usize, NoMemory>
+    requires counted { count ≡ length (all_runs blocks.old.items) }
     requires apart { AreApart (all_runs blocks.old.items) }
     requires bound { All (λ run. run.1 ≤ 2 ^ 62) (all_runs blocks.old.items) }
     requires some { lo < hi }
     requires within { hi ≤ 2 ^ 62 }
     ensures ok { OnOk result (IsEdit (all_runs blocks.new.items) (2 ^ 62) (without_range (all_runs blocks.old.items) lo hi)) }
+    ensures counted { IfOk result (λ left. left ≡ length (all_runs blocks.new.items)) }
     ensures err { OnErr result (all_runs blocks.new.items ≡ all_runs blocks.old.items) }
     ensures inside { OnErr result ((0 < lo) × ((n : ℕ) → lo - 1 ≤ n → n < hi + 1 → has_number (all_runs blocks.old.items) n ≡ true)) }
 {
     let span = span_of(blocks, lo + 1, hi);
     if !span.some {
-        return Ok(());
+        return Ok(count);
     }
+    let rest = count - runs_in(blocks, span);
     let start = blocks[span.block].run(span.from).0;
     let end = blocks[span.last].run(span.to - 1).1;
     match (start < lo, hi < end) {
-        (false, false) => take_out(blocks, span),
-        (true, false) => replace(blocks, span, (start, lo)),
-        (false, true) => replace(blocks, span, (hi, end)),
-        (true, true) => return split(blocks, span, (start, lo), (hi, end)),
+        (false, false) => {
+            take_out(blocks, span);
+            Ok(rest)
+        }
+        (true, false) => {
+            replace(blocks, span, (start, lo));
+            Ok(rest + 1)
+        }
+        (false, true) => {
+            replace(blocks, span, (hi, end));
+            Ok(rest + 1)
+        }
+        (true, true) => {
+            split(blocks, span, (start, lo), (hi, end))?;
+            Ok(rest + 2)
+        }
     }
-    Ok(())
 }
 
-// Two runs, or one, come back into the value, and their block goes.
-fn settle(few: &mut Few, blocks: &mut Vec<Block>)
-    requires { few_runs few.old ≡ [] }
+// Two runs, or one, come back into the value, and their block goes. Of more the value tells the count.
+fn settle(few: &mut Few, blocks: &mut Vec<Block>, count: usize)
+    requires { count ≡ length (all_runs blocks.old.items) }
     ensures runs { runs_of blocks.new.items few.new ≡ all_runs blocks.old.items }
     ensures many { AreMany blocks.new.items }
+    ensures counted { IsCounted blocks.new.items few.new }
 {
+    *few = Few::InBlocks(count);
     if blocks.is_empty() {
         return;
     }
@@ -180,16 +214,4 @@ fn copy_block(block: &Block, into: &mut [(u64, u64)], at: usize)
 {
     let end = at + block.len();
     block.copy_to(&mut into[at..end]);
-}
-
-/// How many runs the blocks have.
-pub(crate) fn count_runs(blocks: &[Block]) -> usize
-    requires { length (all_runs blocks.now) < 2 ^ 63 }
-    ensures { result ≡ length (all_runs blocks.now) }
-{
-    let mut count = 0;
-    for block in blocks {
-        count += block.len();
-    }
-    count
 }

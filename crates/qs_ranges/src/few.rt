@@ -1,15 +1,16 @@
-//! A set of two runs at most, in a value.
+//! A set of two runs at most, in a value; of more, how many there are.
 ghost use Rattle.std.specs.Prelude.{◌≡◌, ℕ, ◌+◌, ◌-◌, ◌^◌, ◌≤◌, ◌<◌, All, OnOk, OnErr, IfSome, IfNone, false, true, [], ◌∷◌, length, take};
 ghost use Rattle.qs_ranges.specs.Runs.{AreApart, has_number};
-ghost use Rattle.qs_ranges.specs.Blocks.{AreMany, IsEdit, few_runs, first_run_above, runs_of, with_range, without_range};
+ghost use Rattle.qs_ranges.specs.Blocks.{AreMany, IsCounted, IsEdit, few_count, few_runs, first_run_above, runs_of, with_range, without_range};
+ghost use Rattle.qs_ranges.specs.declared.few.Few.TheVariants as kinds;
 
 use crate::NoMemory;
 use crate::block::Block;
 
-/// Two runs at most, in rising order.
+/// Two runs at most, in rising order; or none, and how many there are in blocks.
 #[derive(Clone, Copy, Drop)]
 pub(crate) enum Few {
-    Empty,
+    InBlocks(usize),
     One((u64, u64)),
     Two((u64, u64), (u64, u64)),
 }
@@ -31,9 +32,10 @@ pub(crate) fn insert_few(
     ensures touches_none { OnErr result ((n : ℕ) → lo - 1 ≤ n → n < hi + 1 → has_number (few_runs few.old) n ≡ false) }
     ensures two { OnErr result (1 < length (few_runs few.old)) }
     ensures many { AreMany blocks.new.items }
+    ensures counted { IsCounted blocks.new.items few.new }
 {
     match *few {
-        Few::Empty => *few = Few::One((lo, hi)),
+        Few::InBlocks(_) => *few = Few::One((lo, hi)),
         Few::One(run) => add_to_one(few, run, lo, hi),
         Few::Two(low, high) => return add_to_two(few, blocks, low, high, lo, hi),
     }
@@ -46,7 +48,8 @@ fn add_to_one(few: &mut Few, run: (u64, u64), lo: u64, hi: u64)
     requires bound { run.1 ≤ 2 ^ 62 }
     requires some { lo < hi }
     requires within { hi ≤ 2 ^ 62 }
-    ensures { IsEdit (few_runs few.new) (2 ^ 62) (with_range (run ∷ []) lo hi) }
+    ensures edit { IsEdit (few_runs few.new) (2 ^ 62) (with_range (run ∷ []) lo hi) }
+    ensures counted { few_count few.new ≡ length (few_runs few.new) }
 {
     let (start, end) = run;
     if end < lo {
@@ -70,7 +73,7 @@ fn add_to_two(
     hi: u64,
 ) -> Result<(), NoMemory>
     requires none { blocks.old.items ≡ [] }
-    requires two { few_runs few.old ≡ low ∷ high ∷ [] }
+    requires two { few.old ≡ kinds.Two low high }
     requires apart { AreApart (low ∷ high ∷ []) }
     requires low_bound { low.1 ≤ 2 ^ 62 }
     requires high_bound { high.1 ≤ 2 ^ 62 }
@@ -80,19 +83,20 @@ fn add_to_two(
     ensures err { OnErr result (runs_of blocks.new.items few.new ≡ low ∷ high ∷ []) }
     ensures touches_none { OnErr result ((n : ℕ) → lo - 1 ≤ n → n < hi + 1 → has_number (low ∷ high ∷ []) n ≡ false) }
     ensures many { AreMany blocks.new.items }
+    ensures counted { IsCounted blocks.new.items few.new }
 {
     if low.1 < lo {
         if high.1 < lo {
-            return put_three(blocks, low, high, (lo, hi));
+            return put_three(few, blocks, low, high, (lo, hi));
         }
         if hi < high.0 {
-            return put_three(blocks, low, (lo, hi), high);
+            return put_three(few, blocks, low, (lo, hi), high);
         }
         *few = Few::Two(low, (high.0.min(lo), high.1.max(hi)));
         return Ok(());
     }
     if hi < low.0 {
-        return put_three(blocks, (lo, hi), low, high);
+        return put_three(few, blocks, (lo, hi), low, high);
     }
     if hi < high.0 {
         *few = Few::Two((low.0.min(lo), low.1.max(hi)), high);
@@ -118,9 +122,10 @@ pub(crate) fn remove_few(
     ensures err { OnErr result (runs_of blocks.new.items few.new ≡ few_runs few.old) }
     ensures inside { OnErr result ((0 < lo) × ((n : ℕ) → lo - 1 ≤ n → n < hi + 1 → has_number (few_runs few.old) n ≡ true)) }
     ensures many { AreMany blocks.new.items }
+    ensures counted { IsCounted blocks.new.items few.new }
 {
     match *few {
-        Few::Empty => {}
+        Few::InBlocks(_) => *few = Few::InBlocks(0),
         Few::One(run) => *few = without_range_of(run, lo, hi),
         Few::Two(low, high) => return take_from_two(few, blocks, low, high, lo, hi),
     }
@@ -132,14 +137,15 @@ fn without_range_of(run: (u64, u64), lo: u64, hi: u64) -> Few
     requires nonempty { run.0 < run.1 }
     requires bound { run.1 ≤ 2 ^ 62 }
     requires some { lo < hi }
-    ensures { IsEdit (few_runs result) (2 ^ 62) (without_range (run ∷ []) lo hi) }
+    ensures edit { IsEdit (few_runs result) (2 ^ 62) (without_range (run ∷ []) lo hi) }
+    ensures counted { few_count result ≡ length (few_runs result) }
 {
     let (start, end) = run;
     if end <= lo || hi <= start {
         return Few::One(run);
     }
     match (start < lo, hi < end) {
-        (false, false) => Few::Empty,
+        (false, false) => Few::InBlocks(0),
         (true, false) => Few::One((start, lo)),
         (false, true) => Few::One((hi, end)),
         (true, true) => Few::Two((start, lo), (hi, end)),
@@ -157,7 +163,7 @@ fn take_from_two(
     hi: u64,
 ) -> Result<(), NoMemory>
     requires none { blocks.old.items ≡ [] }
-    requires two { few_runs few.old ≡ low ∷ high ∷ [] }
+    requires two { few.old ≡ kinds.Two low high }
     requires apart { AreApart (low ∷ high ∷ []) }
     requires low_bound { low.1 ≤ 2 ^ 62 }
     requires high_bound { high.1 ≤ 2 ^ 62 }
@@ -166,6 +172,7 @@ fn take_from_two(
     ensures err { OnErr result (runs_of blocks.new.items few.new ≡ low ∷ high ∷ []) }
     ensures inside { OnErr result ((0 < lo) × ((n : ℕ) → lo - 1 ≤ n → n < hi + 1 → has_number (low ∷ high ∷ []) n ≡ true)) }
     ensures many { AreMany blocks.new.items }
+    ensures counted { IsCounted blocks.new.items few.new }
 {
     if hi <= high.0 {
         return take_from_low(few, blocks, low, high, lo, hi);
@@ -174,7 +181,7 @@ fn take_from_two(
         return take_from_high(few, blocks, low, high, lo, hi);
     }
     match (low.0 < lo, hi < high.1) {
-        (false, false) => *few = Few::Empty,
+        (false, false) => *few = Few::InBlocks(0),
         (true, false) => *few = Few::One((low.0, lo)),
         (false, true) => *few = Few::One((hi, high.1)),
         (true, true) => *few = Few::Two((low.0, lo), (hi, high.1)),
@@ -192,7 +199,7 @@ fn take_from_low(
     hi: u64,
 ) -> Result<(), NoMemory>
     requires none { blocks.old.items ≡ [] }
-    requires two { few_runs few.old ≡ low ∷ high ∷ [] }
+    requires two { few.old ≡ kinds.Two low high }
     requires apart { AreApart (low ∷ high ∷ []) }
     requires low_bound { low.1 ≤ 2 ^ 62 }
     requires high_bound { high.1 ≤ 2 ^ 62 }
@@ -202,6 +209,7 @@ fn take_from_low(
     ensures err { OnErr result (runs_of blocks.new.items few.new ≡ low ∷ high ∷ []) }
     ensures inside { OnErr result ((0 < lo) × ((n : ℕ) → lo - 1 ≤ n → n < hi + 1 → has_number (low ∷ high ∷ []) n ≡ true)) }
     ensures many { AreMany blocks.new.items }
+    ensures counted { IsCounted blocks.new.items few.new }
 {
     if hi <= low.0 || low.1 <= lo {
         return Ok(());
@@ -210,7 +218,7 @@ fn take_from_low(
         (false, false) => *few = Few::One(high),
         (true, false) => *few = Few::Two((low.0, lo), high),
         (false, true) => *few = Few::Two((hi, low.1), high),
-        (true, true) => return put_three(blocks, (low.0, lo), (hi, low.1), high),
+        (true, true) => return put_three(few, blocks, (low.0, lo), (hi, low.1), high),
     }
     Ok(())
 }
@@ -225,7 +233,7 @@ fn take_from_high(
     hi: u64,
 ) -> Result<(), NoMemory>
     requires none { blocks.old.items ≡ [] }
-    requires two { few_runs few.old ≡ low ∷ high ∷ [] }
+    requires two { few.old ≡ kinds.Two low high }
     requires apart { AreApart (low ∷ high ∷ []) }
     requires low_bound { low.1 ≤ 2 ^ 62 }
     requires high_bound { high.1 ≤ 2 ^ 62 }
@@ -235,6 +243,7 @@ fn take_from_high(
     ensures err { OnErr result (runs_of blocks.new.items few.new ≡ low ∷ high ∷ []) }
     ensures inside { OnErr result ((0 < lo) × ((n : ℕ) → lo - 1 ≤ n → n < hi + 1 → has_number (low ∷ high ∷ []) n ≡ true)) }
     ensures many { AreMany blocks.new.items }
+    ensures counted { IsCounted blocks.new.items few.new }
 {
     if hi <= high.0 || high.1 <= lo {
         return Ok(());
@@ -243,33 +252,38 @@ fn take_from_high(
         (false, false) => *few = Few::One(low),
         (true, false) => *few = Few::Two(low, (high.0, lo)),
         (false, true) => *few = Few::Two(low, (hi, high.1)),
-        (true, true) => return put_three(blocks, low, (high.0, lo), (hi, high.1)),
+        (true, true) => return put_three(few, blocks, low, (high.0, lo), (hi, high.1)),
     }
     Ok(())
 }
 
 // Puts three runs into a block.
 fn put_three(
+    few: &mut Few,
     blocks: &mut Vec<Block>,
     low: (u64, u64),
     middle: (u64, u64),
     high: (u64, u64),
 ) -> Result<(), NoMemory>
-    requires { blocks.old.items ≡ [] }
+    requires none { blocks.old.items ≡ [] }
+    requires counted { few_count few.old ≡ length (few_runs few.old) }
     ensures ok { OnOk result (blocks.new.items ≡ (low ∷ middle ∷ high ∷ []) ∷ []) }
-    ensures err { OnErr result (blocks.new.items ≡ []) }
+    ensures err { OnErr result (runs_of blocks.new.items few.new ≡ few_runs few.old) }
     ensures many { AreMany blocks.new.items }
+    ensures counted { IsCounted blocks.new.items few.new }
 {
     let mut block = Block::of(*blocks.allocator(), low)?;
     block.insert(1, middle)?;
     block.insert(2, high)?;
     blocks.push(block)?;
+    *few = Few::InBlocks(3);
     Ok(())
 }
 
 /// The runs of a block, where they are few.
 pub(crate) fn few_of(block: &Block) -> Option<Few>
     ensures few { IfSome result (λ few. few_runs few ≡ block.now) }
+    ensures counted { IfSome result (λ few. few_count few ≡ length block.now) }
     ensures many { IfNone result (2 < length block.now) }
 {
     match block.len() {
@@ -284,7 +298,7 @@ pub(crate) fn few_above(few: Few, n: u64) -> Option<(u64, u64)>
     ensures { result ≡ first_run_above n (few_runs few) }
 {
     let run = match few {
-        Few::Empty => return None,
+        Few::InBlocks(_) => return None,
         Few::One(run) => run,
         Few::Two(low, high) => { if n < low.1 { low } else { high } }
     };
@@ -305,7 +319,7 @@ pub(crate) fn few_above_two(few: Few, n: u64) -> (Option<(u64, u64)>, Option<(u6
     ensures next { IfSome result.0 (λ run. result.1 ≡ first_run_above run.1 (few_runs few)) }
 {
     match few {
-        Few::Empty => (None, None),
+        Few::InBlocks(_) => (None, None),
         Few::One(run) => (one_above(run, n), None),
         Few::Two(low, high) => {
             if n < low.1 {
@@ -324,7 +338,7 @@ pub(crate) fn copy_few(few: Few, into: &mut [(u64, u64)]) -> usize
     ensures len { length into.new ≡ length into.old }
 {
     match few {
-        Few::Empty => 0,
+        Few::InBlocks(_) => 0,
         Few::One(run) => {
             into[0] = run;
             1
@@ -339,10 +353,10 @@ pub(crate) fn copy_few(few: Few, into: &mut [(u64, u64)]) -> usize
 
 /// How many runs there are.
 pub(crate) fn count_few(few: Few) -> usize
-    ensures { result ≡ length (few_runs few) }
+    ensures { result ≡ few_count few }
 {
     match few {
-        Few::Empty => 0,
+        Few::InBlocks(count) => count,
         Few::One(_) => 1,
         Few::Two(_, _) => 2,
     }

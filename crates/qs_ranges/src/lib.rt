@@ -15,6 +15,7 @@ ghost use Rattle.qs_ranges.specs.Numbers.{
   IsRunFrom,
   IsRunAbove,
   IsFirstGap,
+  end_of,
   run_starts,
 };
 ghost use Rattle.qs_ranges.specs.Runs.{AreApart, AreRunsOf, has_number};
@@ -22,7 +23,7 @@ ghost use Rattle.qs_ranges.specs.Blocks.{IsEdit, all_runs, runs_of, with_range, 
 
 use crate::block::Block;
 use crate::blocks::two_above;
-use crate::changes::{copy_runs, count_runs, insert_many, remove_many};
+use crate::changes::{copy_runs, insert_many, remove_many};
 use crate::few::{Few, copy_few, count_few, few_above, few_above_two, insert_few, remove_few};
 use std::alloc::{AllocError, AllocFailed, Global};
 use std::marker::Model;
@@ -67,7 +68,7 @@ impl Model for RangeSet {
     ghost use Rattle.std.specs.Coded.{coded_ℕ};
     ghost use Rattle.qs_ranges.specs.Numbers.{NumberSet};
     ghost use Rattle.qs_ranges.specs.Runs.{AreApart, set_of};
-    ghost use Rattle.qs_ranges.specs.Blocks.{AreMany, runs_of};
+    ghost use Rattle.qs_ranges.specs.Blocks.{AreMany, IsCounted, runs_of};
 
     ghost Value = { NumberSet };
 
@@ -75,7 +76,7 @@ impl Model for RangeSet {
 
     ghost view = { λ a. set_of (runs_of a.blocks.items a.few) };
 
-    ghost invariant = { λ a. AreApart (runs_of a.blocks.items a.few) × All (λ run. run.1 ≤ 2 ^ 62) (runs_of a.blocks.items a.few) × AreMany a.blocks.items };
+    ghost invariant = { λ a. AreApart (runs_of a.blocks.items a.few) × All (λ run. run.1 ≤ 2 ^ 62) (runs_of a.blocks.items a.few) × AreMany a.blocks.items × IsCounted a.blocks.items a.few };
 }
 
 impl RangeSet {
@@ -84,7 +85,7 @@ impl RangeSet {
         ensures { result ≡ set.empty }
     {
         Self {
-            few: Few::Empty,
+            few: Few::InBlocks(0),
             blocks: Vec::new(alloc),
         }
     }
@@ -94,7 +95,11 @@ impl RangeSet {
         requires { n ≤ 2 ^ 62 }
         ensures { result ≡ numbers 0 n }
     {
-        let few = if n > 0 { Few::One((0, n)) } else { Few::Empty };
+        let few = if n > 0 {
+            Few::One((0, n))
+        } else {
+            Few::InBlocks(0)
+        };
         Self {
             few,
             blocks: Vec::new(alloc),
@@ -237,14 +242,12 @@ impl RangeSet {
         }
     }
 
-    /// How many runs there are: the members whose predecessor is not a member.
+    /// How many runs there are: the members whose predecessor is not a member. It takes constant time.
     pub fn count(&self) -> usize
-        ensures { result ≡ set.len (run_starts self.now) }
+        ensures value { result ≡ set.len (run_starts self.now) }
+        ensures within { result ≤ end_of self.now }
     {
-        if self.blocks.is_empty() {
-            return count_few(self.few);
-        }
-        count_runs(&self.blocks)
+        count_few(self.few)
     }
 
     /// Every member is below 2^62. It does nothing: a proof calls it for what it ensures.

@@ -1,5 +1,5 @@
 -- Every call keeps a receiving lane lawful, and takes nothing back.
-use Rattle.std.specs.Prelude.{◌≡◌, ℕ, ◌+◌, ◌-◌, ◌≤◌, ◌<◌, ◌^◌, Bool, true, false, cond, ◌||◌, nat_eq, nat_le, max, List, length, Option, None, Some, is_some, unwrap_or, refl, Result, Ok, Err, IsOk}
+use Rattle.std.specs.Prelude.{◌≡◌, ℕ, ◌+◌, ◌-◌, ◌≤◌, ◌<◌, Bool, true, false, cond, ◌||◌, nat_eq, nat_le, max, List, length, Option, None, Some, is_some, unwrap_or, refl, Result, Ok, Err, IsOk}
 use Rattle.std.proofs.Common.{sym, ◌∙◌, ap, arith, inl, inr}
 use Rattle.std.specs.Ordering.{nat_cmp}
 use Rattle.std.specs.FinMap as map
@@ -13,7 +13,7 @@ use Rattle.qs_ranges.proofs.Sets.{end_of-empty, end_of-numbers, numbers-none, be
 use Rattle.qs_recv.specs.Assembled.{put, take_front, front_of, keep_from, store}
 use Rattle.qs_recv.proofs.AssembledLaws.{get-keep_from, contains-with_run, end_of-with_run, stored_by_keep, front_stored}
 use Rattle.qs_recv.proofs.LaneLaws.{len_within, check_fits, put_past}
-use Rattle.qs_recv.specs.Lane.{RecvLane, new_lane, highest, highest_after, taken, check_stream, take_stream, check_reset, take_reset, is_whole, breaks_known, read_answer, after_answer, after_read, stop, raise, next_limit, raised_limit}
+use Rattle.qs_recv.specs.Lane.{MAX_WINDOW, RecvLane, new_lane, highest, highest_after, taken, check_stream, take_stream, check_reset, take_reset, is_whole, breaks_known, read_answer, after_answer, after_read, stop, raise, next_limit, raised_limit}
 use Rattle.qs_recv.specs.declared.half.Read.{Read}
 use Rattle.qs_recv.specs.declared.half.Read.TheVariants.{Bytes, End, Reset, Wait}
 use Rattle.qs_recv.specs.Lawful.{IsLawful}
@@ -42,7 +42,7 @@ passed_first false f r ok = refl
 
 -- A new lane
 
-pub lawful_new : (window : ℕ) → 1 ≤ window → window ≤ 2 ^ 20 → IsLawful (new_lane window)
+pub lawful_new : (window : ℕ) → 1 ≤ window → window ≤ MAX_WINDOW → IsLawful (new_lane window)
 lawful_new window some small =
     let none = end_of-empty in
     record {

@@ -2,6 +2,7 @@ pub mod AssembledLaws
 pub mod GrowthLaws
 pub mod LaneLaws
 pub mod LawfulLaws
+pub mod ChangesLaws
 pub mod LetGoLaws
 pub mod NewsLaws
 pub mod ReadLaws
@@ -16,4 +17,5 @@ pub mod RingTurned
 pub mod SameAgain
 pub mod SameLaws
 pub mod SameRing
+pub mod SkipLaws
 pub mod SoundLaws

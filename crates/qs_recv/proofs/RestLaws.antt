@@ -1,7 +1,7 @@
 -- A receiving half at rest stays so, and is what it says.
 --     sound_at_rest, let_go_at_rest      what holds of a half that was made of it
 --     at_rest_new, at_rest_told, ..      each call keeps it
-use Rattle.std.specs.Prelude.{◌≡◌, ℕ, ◌+◌, ◌-◌, ◌<◌, ◌≤◌, ◌^◌, ◌⊎◌, Bool, true, false, cond, ◌||◌, nat_le, List, length, Option, None, Some, is_some, refl, IsOk, unwrap_or}
+use Rattle.std.specs.Prelude.{◌≡◌, ℕ, ◌+◌, ◌-◌, ◌<◌, ◌≤◌, ◌⊎◌, Bool, true, false, cond, ◌||◌, nat_le, List, length, Option, None, Some, is_some, refl, IsOk, unwrap_or}
 use Rattle.std.proofs.Common.{sym, ◌∙◌, ap, subst, arith, inl, inr}
 use Rattle.std.specs.FinMap as map
 use Rattle.std.specs.FinSet as set
@@ -10,7 +10,7 @@ use Rattle.std.proofs.lemmas.Bool.Decides.{nat_tests}
 use Rattle.qs_ranges.specs.Numbers.{MAX_VARINT, ContainsRange, MissesRange, numbers, same_numbers, contains-with_range, covers, end_of, is_within}
 use Rattle.qs_ranges.proofs.Sets.{below-end_of, covers-is, covers-of, numbers-none}
 use Rattle.qs_recv.specs.Assembled.{at_rest, put, front_of, discard, forget}
-use Rattle.qs_recv.specs.Lane.{RecvLane, new_lane, highest, highest_after, is_whole, at_final_size, check_stream, take_stream, check_reset, take_reset, read_answer, raise}
+use Rattle.qs_recv.specs.Lane.{MAX_WINDOW, RecvLane, new_lane, highest, highest_after, is_whole, at_final_size, check_stream, take_stream, check_reset, take_reset, read_answer, raise}
 use Rattle.qs_recv.specs.declared.half.Read.TheVariants.{Bytes, End, Wait}
 use Rattle.qs_recv.specs.Lawful.{IsLawful}
 use Rattle.qs_recv.specs.Sound.{IsSound, IsLetGo, CodeFits}
@@ -77,7 +77,7 @@ whole_below e size =
 pub new_at_rest : (w : ℕ) → lane_at_rest w 0 0 w None None None false ≡ new_lane w
 new_at_rest w = ap (λ r. record (new_lane w) { arrived = record { stored = map.empty; received = r; read_count = 0; window = w; discarding = false } }) (numbers-none 0 0 (omega arith))
 
-pub at_rest_new : (w : ℕ) → 1 ≤ w → w ≤ 2 ^ 20 → IsAtRest (lane_at_rest w 0 0 w None None None false) 0 0
+pub at_rest_new : (w : ℕ) → 1 ≤ w → w ≤ MAX_WINDOW → IsAtRest (lane_at_rest w 0 0 w None None None false) 0 0
 at_rest_new w some small =
     record {
       lawful = subst IsLawful (sym (new_at_rest w)) (lawful_new w some small);

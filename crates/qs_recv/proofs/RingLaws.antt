@@ -25,6 +25,7 @@ use Rattle.qs_recv.specs.Ring.{IsFilled, IsRing, IsSized, IsSizeFor, missing_cou
 use Rattle.qs_recv.proofs.AssembledLaws.{is_in_run, with_run, contains-with_run, get-insert_nat, get-keep_from, get-store}
 use Rattle.qs_recv.proofs.ReadLaws.{append_nil, front_none, front_of_bytes, front-more, take_done, take_nothing}
 use Rattle.qs_recv.proofs.RingCount.{missing_all, missing_none, missing_parts, missing_same, missing_small}
+use Rattle.qs_recv.specs.Lane.{MAX_WINDOW}
 
 -- the map
 
@@ -538,7 +539,7 @@ size_fits span window power least size two reaches near least_is size_is fits =
           ];
     }
 
-pub sized_empty : (r : NumberSet) (from end stored window : ℕ) (off : Bool) → window ≤ 2 ^ 20 → (off ≡ false → end ≡ end_of r) → IsSized r 0 from end stored window off
+pub sized_empty : (r : NumberSet) (from end stored window : ℕ) (off : Bool) → window ≤ MAX_WINDOW → (off ≡ false → end ≡ end_of r) → IsSized r 0 from end stored window off
 sized_empty r from end stored window off small ends = record { small_window = small; within = omega arith; bound = omega arith; idle = λ none. omega arith; ends = ends }
 
 -- more came, and is noted at the end

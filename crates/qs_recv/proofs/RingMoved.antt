@@ -2,7 +2,7 @@
 --     IsOther      it has each byte that is stored at its place
 --     other_view, other_ring      it stands for the same bytes, and what holds of the fields still holds
 --     grown, emptied      a ring that grew, and one in which nothing is stored
-use Rattle.std.specs.Prelude.{◌≡◌, ℕ, ◌+◌, ◌%◌, ◌^◌, ◌<◌, ◌≤◌, Bool, true, false, cond, ◌&&◌, List, length, slice_index, Some, None, is_some, refl}
+use Rattle.std.specs.Prelude.{◌≡◌, ℕ, ◌+◌, ◌%◌, ◌<◌, ◌≤◌, Bool, true, false, cond, ◌&&◌, List, length, slice_index, Some, None, is_some, refl}
 use Rattle.std.proofs.Common.{sym, ◌∙◌, ap, subst, arith, inl, inr}
 use Rattle.std.specs.Ordering.{nat_cmp}
 use Rattle.std.specs.Cmp.{nat_cmp_total}
@@ -18,10 +18,11 @@ use Rattle.qs_recv.specs.Ring.{IsMoved, IsRing, ring_bytes, stored_in_ring}
 use Rattle.qs_recv.proofs.AssembledLaws.{is_in_run}
 use Rattle.qs_recv.proofs.RingLaws.{get-ring}
 use Rattle.qs_recv.proofs.SameRing.{ring_has}
+use Rattle.qs_recv.specs.Lane.{MAX_WINDOW}
 
 -- the ring `new` of size v has the bytes that are stored in `old` of size w
 pub record IsOther (r : NumberSet) (old new : List ℕ) (w v from : ℕ) : Type 0 where
-  pub small : v ≤ 2 ^ 20
+  pub small : v ≤ MAX_WINDOW
   pub within : (q : ℕ) → set.contains r q ≡ true → q < from + v
   pub held : (q : ℕ) → from ≤ q → set.contains r q ≡ true → length new ≡ v
   pub same : (q : ℕ) → from ≤ q → set.contains r q ≡ true → slice_index new (q % v) ≡ slice_index old (q % w)
@@ -60,7 +61,7 @@ other_ring r old new w v from stored h o =
     }
 
 -- a ring that grew
-pub grown : (r : NumberSet) (old new : List ℕ) (w v from count stored : ℕ) → IsRing old r w from stored false → w ≤ v → v ≤ 2 ^ 20 → length new ≡ v → length old ≡ w → end_of r ≤ from + count → IsMoved from count old new → IsOther r old new w v from
+pub grown : (r : NumberSet) (old new : List ℕ) (w v from count stored : ℕ) → IsRing old r w from stored false → w ≤ v → v ≤ MAX_WINDOW → length new ≡ v → length old ≡ w → end_of r ≤ from + count → IsMoved from count old new → IsOther r old new w v from
 grown r old new w v from count stored h more small len size reaches moved =
     record {
       small = small;
@@ -77,7 +78,7 @@ none_left r ring w from stored q h is low came =
     ap (λ m. is_some (map.get m q)) (map.empty_of_len (ring_bytes r ring w from w) (sym h.counted ∙ is)) ∙ ap is_some (map.get-empty nat_cmp q)
 
 -- a ring in which nothing is stored
-pub emptied : (r : NumberSet) (old new : List ℕ) (w v from stored : ℕ) → IsRing old r w from stored false → stored ≡ 0 → v ≤ 2 ^ 20 → IsOther r old new w v from
+pub emptied : (r : NumberSet) (old new : List ℕ) (w v from stored : ℕ) → IsRing old r w from stored false → stored ≡ 0 → v ≤ MAX_WINDOW → IsOther r old new w v from
 emptied r old new w v from stored h is small =
     record {
       small = small;
@@ -86,12 +87,12 @@ emptied r old new w v from stored h is small =
       same = λ q low came. absurd (both_ways _ (none_left r old w from stored q h is low came) (ap is_some (ring_has r old w from q low (h.came_within refl q came) came)));
     }
 
-pub emptied_view : (r : NumberSet) (old new : List ℕ) (w v from stored : ℕ) (off : Bool) → IsRing old r w from stored off → stored ≡ 0 → v ≤ 2 ^ 20
+pub emptied_view : (r : NumberSet) (old new : List ℕ) (w v from stored : ℕ) (off : Bool) → IsRing old r w from stored off → stored ≡ 0 → v ≤ MAX_WINDOW
     → stored_in_ring r old w from off ≡ stored_in_ring r new v from off
 emptied_view r old new w v from stored true h is small = refl
 emptied_view r old new w v from stored false h is small = sym (other_view r old new w v from stored h (emptied r old new w v from stored h is small))
 
-pub emptied_ring : (r : NumberSet) (old new : List ℕ) (w v from stored : ℕ) (off : Bool) → IsRing old r w from stored off → stored ≡ 0 → v ≤ 2 ^ 20 → IsRing new r v from stored off
+pub emptied_ring : (r : NumberSet) (old new : List ℕ) (w v from stored : ℕ) (off : Bool) → IsRing old r w from stored off → stored ≡ 0 → v ≤ MAX_WINDOW → IsRing new r v from stored off
 emptied_ring r old new w v from stored true h is small =
     record {
       small_window = small;
@@ -103,7 +104,7 @@ emptied_ring r old new w v from stored true h is small =
     }
 emptied_ring r old new w v from stored false h is small = other_ring r old new w v from stored h (emptied r old new w v from stored h is small)
 
-pub emptied_is : (r : NumberSet) (old new : List ℕ) (w v from stored window : ℕ) (off : Bool) (whole : Assembled) → IsRing old r w from stored off → stored ≡ 0 → v ≤ 2 ^ 20
+pub emptied_is : (r : NumberSet) (old new : List ℕ) (w v from stored window : ℕ) (off : Bool) (whole : Assembled) → IsRing old r w from stored off → stored ≡ 0 → v ≤ MAX_WINDOW
     → (let a : Assembled = record { stored = stored_in_ring r old w from off; received = r; read_count = from; window = window; discarding = off } in a ≡ whole)
     → (let a : Assembled = record { stored = stored_in_ring r new v from off; received = r; read_count = from; window = window; discarding = off } in a ≡ whole)
 emptied_is r old new w v from stored window off whole h is small view_is =

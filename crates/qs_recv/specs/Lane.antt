@@ -1,8 +1,8 @@
 -- Trusted.
 -- The receiving lane of a stream (RFC 9000, section 3.2), and what each call on it answers and leaves.
-use Rattle.std.specs.Prelude.{ℕ, ◌+◌, ◌/◌, Bool, true, false, not, if◌then◌else◌, ◌&&◌, ◌||◌, ◌==◌, nat_le, nat_lt, max, min, List, [], length, Option, None, Some, is_some, unwrap_or, Result, Ok, Err, refl}
+use Rattle.std.specs.Prelude.{ℕ, ◌+◌, ◌/◌, ◌^◌, Bool, true, false, not, if◌then◌else◌, ◌&&◌, ◌||◌, ◌==◌, nat_le, nat_lt, max, min, List, [], length, Option, None, Some, is_some, unwrap_or, Result, Ok, Err}
 use Rattle.std.specs.FinSet as set
-use Rattle.qs_ranges.specs.Numbers.{NumberSet, MAX_VARINT, covers, end_of}
+use Rattle.qs_ranges.specs.Numbers.{NumberSet, MAX_VARINT, covers, end_of, run_starts}
 use Rattle.qs_recv.specs.declared.half.Read.{Read}
 use Rattle.qs_recv.specs.declared.half.Read.TheVariants.{Bytes, End, Reset, Wait}
 use Rattle.qs_recv.specs.declared.half.RecvState.{RecvState}
@@ -35,6 +35,10 @@ highest lane = unwrap_or lane.final_size (end_of lane.arrived.received)
 -- (RFC 9000, sections 3.5 and 4.2)
 abbrev pub taken : RecvLane → ℕ
 taken lane = if is_some lane.reset_code || is_some lane.stop_code then highest lane else lane.arrived.read_count
+
+-- how many runs the offsets make that came, until a reset comes or the reader is told the end: what a lane keeps of them (ours)
+abbrev pub noted : RecvLane → ℕ
+noted lane = if lane.told || is_some lane.reset_code then 0 else set.len (run_starts lane.arrived.received)
 
 -- whether each offset below a known final size came (RFC 9000, section 3.2)
 abbrev pub whole_to : NumberSet → Option ℕ → Bool
@@ -154,6 +158,14 @@ stop lane code =
     if is_some lane.stop_code then lane else record lane { arrived = discard lane.arrived; stop_code = Some code }
 
 -- Credit
+
+-- the widest window of a stream (ours, beside RFC 9000, section 4.1): what is stored of it may stand in one piece of memory
+abbrev pub MAX_WINDOW : ℕ
+MAX_WINDOW = 2 ^ 30
+
+-- the widest window of a connection (ours, beside RFC 9000, section 4.1): a thousand of the widest of a stream
+abbrev pub MAX_CONN_WINDOW : ℕ
+MAX_CONN_WINDOW = 2 ^ 40
 
 -- the limit that follows l where t was taken of a window w: it moves by half a window at least, or to its greatest value
 -- (RFC 9000, section 4.2)

@@ -1,15 +1,15 @@
 -- Of public contracts.
 -- What holds of a receiving lane at all times.
-use Rattle.std.specs.Prelude.{◌≡◌, ℕ, ◌+◌, ◌≤◌, ◌^◌, true, ◌||◌, is_some}
+use Rattle.std.specs.Prelude.{◌≡◌, ℕ, ◌+◌, ◌≤◌, true, ◌||◌, is_some}
 use Rattle.std.specs.FinMap as map
 use Rattle.std.specs.FinSet as set
 use Rattle.qs_ranges.specs.Numbers.{MAX_VARINT, ContainsRange, end_of}
-use Rattle.qs_recv.specs.Lane.{RecvLane, highest, taken}
+use Rattle.qs_recv.specs.Lane.{MAX_WINDOW, RecvLane, highest, taken}
 
 -- the peer is within its credit, and the credit within the window (RFC 9000, section 4.1); what is stored was received and isn't read
 pub record IsLawful (lane : RecvLane) : Type 0 where
   pub some_window : 1 ≤ lane.arrived.window
-  pub small_window : lane.arrived.window ≤ 2 ^ 20
+  pub small_window : lane.arrived.window ≤ MAX_WINDOW
   pub small_limit : lane.limit ≤ MAX_VARINT
   pub granted : highest lane ≤ lane.limit
   pub in_window : lane.limit ≤ taken lane + lane.arrived.window

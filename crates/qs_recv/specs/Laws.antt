@@ -1,11 +1,11 @@
 -- Of laws.
 -- Laws on receiving lanes and the calls that change them.
-use Rattle.std.specs.Prelude.{◌≡◌, ℕ, ◌-◌, ◌≤◌, ◌^◌, Bool, true, List, length, slice_get, Some, IsOk, ◌↔◌}
+use Rattle.std.specs.Prelude.{◌≡◌, ℕ, ◌-◌, ◌≤◌, Bool, true, List, length, slice_get, Some, IsOk, ◌↔◌}
 use Rattle.std.specs.FinMap as map
 use Rattle.std.specs.FinSet as set
 use Rattle.qs_recv.specs.Assembled.{Assembled}
 use Rattle.qs_recv.specs.Bytes.{byte_at}
-use Rattle.qs_recv.specs.Lane.{RecvLane, new_lane, highest, taken, check_stream, check_bytes, take_stream, check_reset, take_reset, after_read, stop, raise}
+use Rattle.qs_recv.specs.Lane.{MAX_WINDOW, RecvLane, new_lane, highest, taken, check_stream, check_bytes, take_stream, check_reset, take_reset, after_read, stop, raise}
 use Rattle.qs_recv.specs.Lawful.{IsLawful}
 
 -- a call that may change a lane: a frame that is taken, a read of so many bytes, a stop with a code, a raise of the limit
@@ -41,7 +41,7 @@ pub record Grows (old new : RecvLane) : Type 0 where
   pub final_size_stays : (size : ℕ) → old.final_size ≡ Some size → new.final_size ≡ Some size
 
 abbrev pub NewLanesAreLawful : Type 0
-NewLanesAreLawful = (window : ℕ) → 1 ≤ window → window ≤ 2 ^ 20 → IsLawful (new_lane window)
+NewLanesAreLawful = (window : ℕ) → 1 ≤ window → window ≤ MAX_WINDOW → IsLawful (new_lane window)
 
 abbrev pub CallsKeepLanesLawful : Type 0
 CallsKeepLanesLawful = (lane : RecvLane) (call : LaneCall) → IsLawful lane → IsAllowed lane call → IsLawful (after_call lane call)

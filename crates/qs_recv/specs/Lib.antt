@@ -1,5 +1,6 @@
 pub mod Assembled
 pub mod Bytes
+pub mod Changes
 pub mod Lane
 pub mod Codes
 pub mod Lawful

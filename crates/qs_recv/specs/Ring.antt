@@ -14,6 +14,7 @@ use Rattle.std.specs.Ordering.{nat_cmp}
 use Rattle.std.specs.FinMap as map
 use Rattle.std.specs.FinSet as set
 use Rattle.qs_ranges.specs.Numbers.{NumberSet, ContainsRange, MissesRange, is_within, end_of}
+use Rattle.qs_recv.specs.Lane.{MAX_WINDOW}
 
 -- the bytes that a ring of that size keeps, and zeros for those that were never written
 abbrev pub padded : ℕ → List ℕ → List ℕ
@@ -25,7 +26,7 @@ places_of turn size bytes = drop turn (padded size bytes) ++ take turn (padded s
 
 -- there is room for as many bytes as there are places
 pub record IsKept (turn size count room : ℕ) : Type 0 where
-  pub small : size ≤ 2 ^ 20
+  pub small : size ≤ MAX_WINDOW
   pub turned : turn ≤ size
   pub within : count ≤ size
   pub fits : size ≤ room
@@ -50,7 +51,7 @@ stored_in_ring received ring size read_count discarding =
 -- what was read came; until bytes are thrown away, what came lies within the ring's size past it, and the ring has that size where
 -- some of it wasn't read; and the stored bytes are counted
 pub record IsRing (ring : List ℕ) (received : NumberSet) (size read_count stored : ℕ) (discarding : Bool) : Type 0 where
-  pub small_window : size ≤ 2 ^ 20
+  pub small_window : size ≤ MAX_WINDOW
   pub small_count : read_count ≤ 2 ^ 62
   pub read_came : (q : ℕ) → q < read_count → set.contains received q ≡ true
   pub came_within : discarding ≡ false → (q : ℕ) → set.contains received q ≡ true → q < read_count + size
@@ -60,7 +61,7 @@ pub record IsRing (ring : List ℕ) (received : NumberSet) (size read_count stor
 -- a ring is no larger than the window, and where it has more than 4,096 bytes, no larger than four times the span from what was read to the
 -- end of what came, and some are stored; until bytes are thrown away, that end is kept
 pub record IsSized (received : NumberSet) (size read_count end stored window : ℕ) (discarding : Bool) : Type 0 where
-  pub small_window : window ≤ 2 ^ 20
+  pub small_window : window ≤ MAX_WINDOW
   pub within : size ≤ window
   pub bound : size ≤ max 4096 (4 * (end_of received - read_count))
   pub idle : stored ≡ 0 → size ≤ 4096

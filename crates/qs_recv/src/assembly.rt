@@ -1,8 +1,9 @@
 //! What an assembly of arrived bytes promises, however it keeps them (RFC 9000, section 2.2).
-ghost use Rattle.std.specs.Prelude.{◌≡◌, ℕ, ◌+◌, ◌-◌, ◌*◌, ◌≤◌, ◌^◌, ◌⊎◌, ◌++◌, max, length, drop, true, false, OnOk, OnErr};
+ghost use Rattle.std.specs.Prelude.{◌≡◌, ℕ, ◌+◌, ◌-◌, ◌*◌, ◌≤◌, ◌⊎◌, ◌++◌, max, length, drop, true, false, OnOk, OnErr};
 ghost use Rattle.std.specs.FinMap as map;
 ghost use Rattle.qs_recv.specs.Assembled.{Assembled, nothing_yet, at_rest, put, take_front, front_of, discard, same};
 ghost use Rattle.qs_ranges.specs.Numbers.{MAX_VARINT, MissesRange, covers, end_of};
+ghost use Rattle.qs_recv.specs.Lane.{MAX_WINDOW};
 
 use qs_ranges::{NoMemory, RangeSet};
 use std::alloc::Global;
@@ -18,14 +19,14 @@ pub trait Assembly: Drop {
     /// An assembly of which at most `window` bytes past those that were read are stored. It takes no memory.
     fn new(alloc: Global, window: u64) -> Self
         requires some { 1 ≤ window }
-        requires small { window ≤ 2 ^ 20 }
+        requires small { window ≤ MAX_WINDOW }
         ensures empty { holds result ≡ nothing_yet window }
         ensures small { size result ≡ 0 };
 
     /// An assembly that stores nothing, and of which the offsets that came are those below `end`: all of them were read, or
     /// bytes are thrown away. It takes no memory.
     fn at_rest(alloc: Global, window: u64, read_count: u64, end: u64, discarding: bool) -> Self
-        requires small { window ≤ 2 ^ 20 }
+        requires small { window ≤ MAX_WINDOW }
         requires in_range { end ≤ MAX_VARINT }
         requires came { read_count ≤ end }
         requires all_read { discarding ≡ false → read_count ≡ end }
@@ -87,4 +88,12 @@ pub trait Assembly: Drop {
     /// Every offset that came.
     fn received(&self) -> &RangeSet
         ensures { result.now ≡ (holds self.now).received };
+}
+
+/// An assembly whose next bytes can be passed over without a copy.
+pub trait Skipping: Assembly {
+    /// Takes the bytes that are next to be read, at most so many, and answers how many.
+    fn skip(&mut self, most: usize) -> usize
+        ensures count { result ≡ length (front_of (Self.holds self.old) most) }
+        ensures rest { Self.holds self.new ≡ take_front (Self.holds self.old) most };
 }

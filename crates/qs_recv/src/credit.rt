@@ -1,7 +1,7 @@
 //! How much more a peer may send.
-ghost use Rattle.std.specs.Prelude.{◌≡◌, ◌≤◌, ◌^◌};
+ghost use Rattle.std.specs.Prelude.{◌≡◌, ◌≤◌};
 ghost use Rattle.qs_ranges.specs.Numbers.{MAX_VARINT};
-ghost use Rattle.qs_recv.specs.Lane.{next_limit};
+ghost use Rattle.qs_recv.specs.Lane.{MAX_CONN_WINDOW, next_limit};
 
 // The largest value of a variable-length integer.
 const MAX_VARINT: u64 = (1 << 62) - 1;
@@ -10,7 +10,7 @@ const MAX_VARINT: u64 = (1 << 62) - 1;
 pub fn next_limit(limit: u64, taken: u64, window: u64) -> u64
     requires small { limit ≤ MAX_VARINT }
     requires taken { taken ≤ MAX_VARINT }
-    requires window { window ≤ 2 ^ 24 }
+    requires window { window ≤ MAX_CONN_WINDOW }
     ensures value { result ≡ next_limit limit taken window }
     ensures in_range { result ≤ MAX_VARINT }
 {

@@ -1,13 +1,14 @@
 //! The receiving half of a stream (RFC 9000, sections 2.2, 3.2, 3.5 and 4).
-ghost use Rattle.std.specs.Prelude.{if◌then◌else◌, ◌==◌, max, ◌≡◌, ◌+◌, ◌-◌, ◌*◌, ◌≤◌, ◌^◌, ◌++◌, length, drop, IsOk, IfOk, OnOk, OnErr, IfErr, IsTrue, is_some, false, None};
+ghost use Rattle.std.specs.Prelude.{if◌then◌else◌, ◌==◌, max, ◌≡◌, ◌+◌, ◌-◌, ◌*◌, ◌≤◌, ◌++◌, length, drop, IsOk, IfOk, OnOk, OnErr, IfErr, IsTrue, is_some, false, None};
 ghost use Rattle.std.specs.FinMap as map;
 ghost use Rattle.qs_ranges.specs.Numbers.{MAX_VARINT, MissesRange, covers};
 ghost use Rattle.qs_recv.specs.Lawful.{IsLawful};
 ghost use Rattle.qs_recv.specs.Sound.{CodeFits};
 ghost use Rattle.qs_recv.specs.News.{is_readable, tells_something};
-ghost use Rattle.qs_recv.specs.Lane.{new_lane, highest, highest_after, taken, state, check_stream, check_bytes, take_stream, check_reset, take_reset, is_whole, breaks_final_size, read_answer, bytes_read, after_read, stop, raise, raise_answer};
+ghost use Rattle.qs_recv.specs.Lane.{new_lane, highest, highest_after, noted, taken, state, check_stream, check_bytes, take_stream, check_reset, take_reset, is_whole, breaks_final_size, read_answer, bytes_read, after_read, stop, raise, raise_answer, MAX_WINDOW};
+ghost use Rattle.qs_recv.specs.Changes.{stream_changes};
 
-use crate::assembly::Assembly;
+use crate::assembly::{Assembly, Skipping};
 use crate::live::LiveHalf;
 use crate::rest::Rest;
 use std::alloc::Global;
@@ -87,7 +88,7 @@ impl<A: Assembly> RecvHalf<A> {
     /// A half that grants `window` bytes beyond what was taken. It takes no memory.
     pub fn new(alloc: Global, window: u64) -> Self
         requires some { 1 ≤ window }
-        requires small { window ≤ 2 ^ 20 }
+        requires small { window ≤ MAX_WINDOW }
         ensures { result ≡ new_lane window }
     {
         RecvHalf {
@@ -121,6 +122,18 @@ impl<A: Assembly> RecvHalf<A> {
                 Ok(())
             }
             Parts::Live(live) => live.check_bytes(offset, bytes),
+        }
+    }
+
+    /// Whether a STREAM frame that passed both checks would change the half: it tells the final size, or one of its offsets didn't
+    /// come before, and no reset did.
+    pub fn stream_changes(&self, offset: u64, len: u64, fin: bool) -> bool
+        requires { offset + len ≤ MAX_VARINT }
+        ensures { result ≡ stream_changes self.now offset len fin }
+    {
+        match &self.parts {
+            Parts::Resting(rest) => self.revived(rest).stream_changes(offset, len, fin),
+            Parts::Live(live) => live.stream_changes(offset, len, fin),
         }
     }
 
@@ -272,6 +285,18 @@ impl<A: Assembly> RecvHalf<A> {
         }
     }
 
+    /// How many runs the offsets make that came: none where none did, else one, and one more for each gap between them. After a
+    /// reset, and once the reader was told the end, there are none: the half keeps no offset then. It takes constant time.
+    pub fn noted(&self) -> u64
+        ensures value { result ≡ noted self.now }
+        ensures within { result ≤ highest self.now }
+    {
+        match &self.parts {
+            Parts::Resting(rest) => rest.noted(),
+            Parts::Live(live) => live.noted(),
+        }
+    }
+
     /// How long the stream is, where that is known (section 4.5).
     pub fn final_size(&self) -> Option<u64>
         ensures { result ≡ self.now.final_size }
@@ -377,5 +402,23 @@ impl<A: Assembly> RecvHalf<A> {
         ensures { result ≡ rest.now }
     {
         LiveHalf::revived(self.alloc, rest)
+    }
+}
+
+impl<A: Skipping> RecvHalf<A> {
+    /// Takes the bytes that are next, as a read into a slice of so many bytes does, and copies none; or tells how the stream stands.
+    pub fn skip(&mut self, most: usize) -> Read
+        ensures answer { result ≡ read_answer self.old most }
+        ensures after { self.new ≡ after_read self.old most }
+        ensures same_highest { highest self.new ≡ highest self.old }
+    {
+        let answer = match &mut self.parts {
+            Parts::Resting(rest) => rest.read(),
+            Parts::Live(live) => live.skip(most),
+        };
+        if matches!(answer, Read::End) {
+            self.settle();
+        }
+        answer
     }
 }

@@ -5,9 +5,10 @@ ghost use Rattle.qs_ranges.specs.Numbers.{MAX_VARINT, MissesRange, covers};
 ghost use Rattle.qs_recv.specs.Lawful.{IsLawful};
 ghost use Rattle.qs_recv.specs.Sound.{CodeFits};
 ghost use Rattle.qs_recv.specs.News.{is_readable, tells_something};
-ghost use Rattle.qs_recv.specs.Lane.{highest, highest_after, taken, state, check_stream, check_bytes, take_stream, check_reset, take_reset, is_whole, breaks_final_size, read_answer, bytes_read, after_read, stop, raise, raise_answer};
+ghost use Rattle.qs_recv.specs.Lane.{highest, highest_after, noted, taken, state, check_stream, check_bytes, take_stream, check_reset, take_reset, is_whole, breaks_final_size, read_answer, bytes_read, after_read, stop, raise, raise_answer};
+ghost use Rattle.qs_recv.specs.Changes.{stream_changes};
 
-use crate::assembly::Assembly;
+use crate::assembly::{Assembly, Skipping};
 use crate::credit::next_limit;
 use crate::half::{Highest, Read, RecvFault, RecvState};
 use crate::rest::{Rest, given};
@@ -158,6 +159,19 @@ impl<A: Assembly> LiveHalf<A> {
         Ok(())
     }
 
+    pub(crate) fn stream_changes(&self, offset: u64, len: u64, fin: bool) -> bool
+        requires { offset + len ≤ MAX_VARINT }
+        ensures { result ≡ stream_changes self.now offset len fin }
+    {
+        if fin && self.final_size.is_none() {
+            return true;
+        }
+        if self.reset_code.is_some() {
+            return false;
+        }
+        !self.assembly.received().covers(offset, offset + len)
+    }
+
     pub(crate) fn check_reset(&self, size: u64) -> Result<Highest, RecvFault>
         requires { size ≤ MAX_VARINT }
         ensures { result ≡ check_reset self.now size }
@@ -288,6 +302,17 @@ impl<A: Assembly> LiveHalf<A> {
         self.final_size.unwrap_or(self.received_end)
     }
 
+    pub(crate) fn noted(&self) -> u64
+        ensures value { result ≡ noted self.now }
+        ensures within { result ≤ highest self.now }
+    {
+        self.is_lawful();
+        if self.told || self.reset_code.is_some() {
+            return 0;
+        }
+        self.assembly.received().count() as u64
+    }
+
     pub(crate) fn final_size(&self) -> Option<u64>
         ensures { result ≡ self.now.final_size }
     {
@@ -394,6 +419,37 @@ impl<A: Assembly> LiveHalf<A> {
             Some(size) => (len > 0 && size < end) || (fin && end != size),
             None => fin && end < self.highest(),
         }
+    }
+}
+
+impl<A: Skipping> LiveHalf<A> {
+    pub(crate) fn skip(&mut self, most: usize) -> Read
+        ensures answer { result ≡ read_answer self.old most }
+        ensures after { self.new ≡ after_read self.old most }
+        ensures same_highest { highest self.new ≡ highest self.old }
+    {
+        if let Some(code) = self.reset_code {
+            self.told = true;
+            return Read::Reset(code);
+        }
+        if self.stop_code.is_some() {
+            if self.is_whole() {
+                self.told = true;
+                return Read::End;
+            }
+            return Read::Wait;
+        }
+        if self.final_size == Some(self.read_count) {
+            self.assembly.give_back();
+            self.told = true;
+            return Read::End;
+        }
+        if !self.assembly.received().has(self.read_count) {
+            return Read::Wait;
+        }
+        let count = self.assembly.skip(most);
+        self.read_count += count as u64;
+        Read::Bytes(count)
     }
 }
 

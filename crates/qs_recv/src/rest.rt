@@ -1,11 +1,11 @@
 //! A receiving half that stores nothing, in few bytes.
-ghost use Rattle.std.specs.Prelude.{◌≡◌, ℕ, ◌+◌, ◌-◌, ◌≤◌, ◌^◌, [], length, true, false, None, IsOk, IsTrue, IfSome, IfNone, is_some};
+ghost use Rattle.std.specs.Prelude.{◌≡◌, ℕ, ◌+◌, ◌-◌, ◌≤◌, [], length, true, false, None, IsOk, IsTrue, IfSome, IfNone, is_some};
 ghost use Rattle.std.specs.FinMap as map;
 ghost use Rattle.qs_ranges.specs.Numbers.{MAX_VARINT, MissesRange, covers};
 ghost use Rattle.qs_recv.specs.Lawful.{IsLawful};
 ghost use Rattle.qs_recv.specs.Rest.{EndsAt, given};
 ghost use Rattle.qs_recv.specs.Sound.{CodeFits};
-ghost use Rattle.qs_recv.specs.Lane.{new_lane, highest, highest_after, taken, is_whole, check_stream, check_reset, take_stream, take_reset, read_answer, bytes_read, after_read, stop, raise, raise_answer};
+ghost use Rattle.qs_recv.specs.Lane.{new_lane, highest, highest_after, noted, taken, is_whole, check_stream, check_reset, take_stream, take_reset, read_answer, bytes_read, after_read, stop, raise, raise_answer, MAX_WINDOW};
 
 use crate::credit::next_limit;
 use crate::half::Read;
@@ -46,7 +46,7 @@ impl Rest {
     /// A half for which nothing came.
     pub(crate) fn new(window: u64) -> Self
         requires some { 1 ≤ window }
-        requires small { window ≤ 2 ^ 20 }
+        requires small { window ≤ MAX_WINDOW }
         ensures { result ≡ new_lane window }
     {
         Rest {
@@ -192,6 +192,17 @@ impl Rest {
         } else {
             self.received_end
         }
+    }
+
+    /// How many runs the offsets make that came: one at most.
+    pub(crate) fn noted(&self) -> u64
+        ensures value { result ≡ noted self.now }
+        ensures within { result ≤ highest self.now }
+    {
+        if self.told || self.is_reset {
+            return 0;
+        }
+        if self.received_end > 0 { 1 } else { 0 }
     }
 
     /// How long the stream is, where that is known.

@@ -2,6 +2,7 @@
 ghost use Rattle.std.specs.Prelude.{◌≡◌, if◌then◌else◌, ℕ, ◌+◌, ◌-◌, ◌%◌, ◌<◌, ◌≤◌, ◌^◌, [], ◌++◌, max, min, length, slice_index, IsTrue, ◌↔◌, IfOk, OnOk, OnErr, vec_len, vec_capacity};
 ghost use Rattle.qs_ranges.specs.Numbers.{is_within};
 ghost use Rattle.qs_recv.specs.Ring.{AreAt, IsMoved, IsWritten, around};
+ghost use Rattle.qs_recv.specs.Lane.{MAX_WINDOW};
 
 use qs_ranges::NoMemory;
 use std::alloc::Global;
@@ -120,7 +121,7 @@ impl Ring {
     ) -> Result<Ring, NoMemory>
         requires from_fits { from ≤ 2 ^ 62 }
         requires some { 0 < size }
-        requires small { size ≤ 2 ^ 20 }
+        requires small { size ≤ MAX_WINDOW }
         requires had { count ≤ length self.old }
         requires fits { count ≤ size }
         ensures same { self.new ≡ self.old }
@@ -150,7 +151,7 @@ impl Ring {
     ) -> Result<(), NoMemory>
         requires from_fits { from ≤ 2 ^ 62 }
         requires some { 0 < size }
-        requires small { size ≤ 2 ^ 20 }
+        requires small { size ≤ MAX_WINDOW }
         requires had { count ≤ length self.old }
         requires more { length self.old ≤ size }
         ensures len { OnOk result (length self.new ≡ size) }
@@ -206,7 +207,7 @@ fn place_of(at: u64, size: usize) -> usize
 // How far the places of a ring of that size lie further on, that an offset has the given one.
 #[tactic(auto, using(crate::proofs::RingTurned::turned_by, crate::proofs::RingTurned::turned_by_less))]
 fn turn_to(place: usize, from: u64, size: usize) -> usize
-    requires small { size ≤ 2 ^ 20 }
+    requires small { size ≤ MAX_WINDOW }
     requires within { place < size }
     ensures turned { result ≤ size }
     ensures there { place ≡ (from + result) % size }
@@ -217,7 +218,7 @@ fn turn_to(place: usize, from: u64, size: usize) -> usize
 
 // Makes that so many bytes from a place on are kept. Those that never were written are zero.
 fn fill(bytes: &mut Vec<u8>, size: usize, place: usize, count: usize)
-    requires small { size ≤ 2 ^ 20 }
+    requires small { size ≤ MAX_WINDOW }
     requires room { size ≤ vec_capacity bytes.old }
     requires within { vec_len bytes.old ≤ size }
     requires place { place < size }

@@ -4,8 +4,9 @@ ghost use Rattle.std.specs.FinSet as set;
 ghost use Rattle.qs_ranges.specs.Numbers.{EndsBefore, MAX_VARINT, MissesRange, covers, numbers};
 ghost use Rattle.qs_recv.specs.Assembled.{put};
 ghost use Rattle.qs_recv.specs.Ring.{IsFilled, IsInRing, IsMoved, IsNextGap, IsNextRun, IsReach, IsSizeFor, missing_count};
+ghost use Rattle.qs_recv.specs.Lane.{MAX_WINDOW};
 
-use crate::assembly::Assembly;
+use crate::assembly::{Assembly, Skipping};
 use crate::ring::Ring;
 use qs_ranges::{NoMemory, RangeSet};
 use std::alloc::Global;
@@ -205,9 +206,30 @@ impl Assembly for RingAssembly {
     }
 }
 
+impl Skipping for RingAssembly {
+    fn skip(&mut self, most: usize) -> usize {
+        if self.discarding {
+            return 0;
+        }
+        let next = self.received.first_missing(self.read_count);
+        let count = (next - self.read_count).min(most as u64) as usize;
+        self.read_count += count as u64;
+        self.stored -= count as u64;
+        let span = self.end - self.read_count;
+        shed(
+            self.alloc,
+            &mut self.ring,
+            self.read_count,
+            span,
+            self.window,
+        );
+        count
+    }
+}
+
 // The size of a ring that reaches so far past what was read.
 fn size_for(span: u64, window: u64) -> u64
-    requires small { window ≤ 2 ^ 20 }
+    requires small { window ≤ MAX_WINDOW }
     requires fits { span ≤ window }
     ensures { IsSizeFor span window result }
 {
@@ -233,7 +255,7 @@ fn reach(
     span: u64,
     window: u64,
 ) -> Result<(), NoMemory>
-    requires small { window ≤ 2 ^ 20 }
+    requires small { window ≤ MAX_WINDOW }
     requires from_fits { from ≤ 2 ^ 62 }
     requires had { kept ≤ length ring.old }
     requires within { length ring.old ≤ window }
@@ -253,7 +275,7 @@ fn reach(
 // four times the span from `from` to the end of what is, what lies past the least power of two that is twice that or more.
 #[inline(always)]
 fn shed(alloc: Global, ring: &mut Ring, from: u64, span: u64, window: u64)
-    requires small { window ≤ 2 ^ 20 }
+    requires small { window ≤ MAX_WINDOW }
     requires from_fits { from ≤ 2 ^ 62 }
     requires within { length ring.old ≤ window }
     requires reaches { span ≤ length ring.old }

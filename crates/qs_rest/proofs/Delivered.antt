@@ -7,7 +7,7 @@ use Rattle.qs_wire.specs.declared.stream_id.Role.{Role}
 use Rattle.qs_recv.specs.Lane.{RecvLane, taken, next_limit}
 use Rattle.qs_send.specs.Lane.{SendLane}
 use Rattle.qs_calls.specs.declared.settings.Settings.{Settings}
-use Rattle.qs_calls.specs.Settings.{are_in_range}
+use Rattle.qs_calls.specs.Settings.{are_in_wide_range}
 use Rattle.qs_calls.specs.declared.event.Side.{Side}
 use Rattle.qs_machine.specs.Ends.{is_uni, is_own_by, window_by, window}
 use Rattle.qs_machine.specs.Credit.{all_sent, all_taken}
@@ -34,7 +34,7 @@ some_window role s n h =
     cond_both (is_uni n) s.uni _ (λ x. 1 ≤ x) (λ _. h.uni.0) (λ _.
     cond_both (is_own_by role n) s.bidi_local s.bidi_remote (λ x. 1 ≤ x) (λ _. h.local.0) (λ _. h.remote.0))
 
-some_conn_window : (s : Settings) → are_in_range s ≡ true → 1 ≤ s.conn_window
+some_conn_window : (s : Settings) → are_in_wide_range s ≡ true → 1 ≤ s.conn_window
 some_conn_window s h = grind (arith, nat_tests, h)
 
 module _ (a b : Settings) (h : History) (w : World) (ok : WorldOk a b h w) (keeps : (s : Side) → RestOk (past s h) (end_of w s)) (rest : (s : Side) → AtRest (end_of w s)) (s : Side) (told : KnowsFirstLimits w s) where

@@ -84,7 +84,7 @@ module _ (P : End → Type 0) (old : End) (edits : Edits P old) where
   lost : (k : ℕ) (ps : List Piece) (new : End) → new ≡ losses k ps old → P new
   lost k ps new same = subst P (sym same) (edits.loses k ps)
 
-  lose_by : (k : ℕ) (answer : Answer (Lose k)) (new : End) → LoseStep old k answer new → P new
+  pub lose_by : (k : ℕ) (answer : Answer (Lose k)) (new : End) → LoseStep old k answer new → P new
   lose_by k answer new step =
       by_refusal (P new) (lose_refusal old k) old answer new _ step (becomes new) (λ (ps, is, gone).
       elim gone [

@@ -1,16 +1,20 @@
 -- Every run keeps what a rest needs, of both ends.
-use Rattle.std.proofs.Common.{◌≡◌, ℕ, ◌/◌, ◌%◌, zero, suc, List, [], ◌∷◌, map, Option, None, Some, Result, Ok, false, slice_get, refl, sym, ap, ◌∙◌, subst, arith, nat_cmp}
+use Rattle.std.proofs.Common.{◌≡◌, ℕ, ◌/◌, ◌%◌, zero, suc, List, [], ◌∷◌, map, None, Some, Result, Ok, false, slice_get, inl, inr, refl, sym, ap, ◌∙◌, subst, arith, nat_cmp}
 use Rattle.std.proofs.lemmas.Option.{none-some}
 use Rattle.std.proofs.lemmas.Bool.{false≢true}
 use Rattle.std.specs.FinSet as set
 use Rattle.std.specs.FinMap as fmap
+use Rattle.qs_wire.specs.Grammar.{frames_of}
+use Rattle.qs_wire.specs.Reading.{reading_of}
 use Rattle.qs_wire.specs.declared.stream_id.Role.{Role}
 use Rattle.qs_wire.specs.declared.stream_id.Role.TheVariants.{Client, Server}
 use Rattle.qs_calls.specs.declared.settings.Settings.{Settings}
 use Rattle.qs_calls.specs.declared.settings.PeerLimits.{PeerLimits}
 use Rattle.qs_calls.specs.declared.settings.RaiseFault.{RaiseFault}
-use Rattle.qs_calls.specs.declared.making.Made.{Made}
-use Rattle.qs_calls.specs.declared.making.MakeFault.{MakeFault}
+use Rattle.qs_calls.specs.declared.token.Token.{Token}
+use Rattle.qs_calls.specs.declared.token.Taken.{Taken}
+use Rattle.qs_calls.specs.declared.token.TakeFault.{TakeFault}
+use Rattle.qs_calls.specs.declared.token.TokenFault.{TokenFault}
 use Rattle.qs_calls.specs.declared.closing.Closing.{Closing}
 use Rattle.qs_calls.specs.declared.closing.Received.{Received}
 use Rattle.qs_calls.specs.declared.event.Side.{Side}
@@ -21,24 +25,27 @@ use Rattle.qs_calls.specs.declared.answer.Answer.{Answer}
 use Rattle.qs_calls.specs.declared.answer.Answer.TheVariants as answers
 use Rattle.qs_send.specs.Lane.{SendLane}
 use Rattle.qs_machine.specs.Tables.{table, lookup, no_streams}
-use Rattle.qs_machine.specs.Ends.{End, new_end, end_made}
+use Rattle.qs_machine.specs.Ends.{End, new_end, wide_end_made}
 use Rattle.qs_machine.specs.Receiving.{ReceiveStep}
-use Rattle.qs_machine.specs.Making.{MakeAckStep}
+use Rattle.qs_machine.specs.Alone.{TokenAckedStep, TokenLostStep}
+use Rattle.qs_machine.specs.EndStep.{Call, Answer as CallAnswer, EndStep, TakeFrame, TakeFrames}
 use Rattle.qs_machine.specs.Raising.{RaiseStep}
 use Rattle.qs_machine.proofs.Plains.{plain_nothing}
 use Rattle.qs_machine.proofs.SettledLimits.{new_ends_settled}
 use Rattle.qs_machine.proofs.Bounds.{no_lane, new_ends_settled as new_counts_settled}
-use Rattle.qs_runs.specs.Logs.{Happening, Did, MadeAck, RaisedLimits, CameWith, History, other, is_delivery, texts_of, payload, processed, own_calls}
-use Rattle.qs_runs.specs.Worlds.{World, Begins, end_of, OwnStep, DeliverStep, ComeWithStep, EventStep, WorldStep}
+use Rattle.qs_runs.specs.Logs.{Happening, Did, MadeAck, FilledIn, AckedToken, LostToken, RaisedLimits, CameWith, CameAlone, History, other, is_delivery, texts_of, payload, processed, took, own_calls}
+use Rattle.qs_runs.specs.Worlds.{World, Begins, end_of, OwnStep, DeliverStep, ComeWithStep, ComeAloneStep, EventStep, WorldStep}
 use Rattle.qs_runs.specs.Agree.{frames_in}
 use Rattle.qs_runs.specs.Pasts.{Past, packets_of, past, seen_by}
 use Rattle.qs_runs.specs.Invariant.{WorldOk}
-use Rattle.qs_runs.proofs.Histories.{past_own, past_peer, past_sender, past_receiver, past_acked, past_peer_acked, past_raised, past_came, did, theirs_mine, payload_seen}
+use Rattle.qs_runs.proofs.Histories.{past_own, past_peer, past_sender, past_receiver, Makes, past_makes, past_peer_makes, makes_ack, makes_fill, makes_none, past_raised, past_came, past_came_from, past_came_to, past_token, past_peer_token, did, theirs_mine, payload_seen}
+use Rattle.qs_runs.proofs.Packing.{Packs, ack_packs, fill_packs}
 use Rattle.qs_runs.proofs.NewEnds.{first_world, made_first, ends_made}
-use Rattle.qs_runs.proofs.Runs.{two_sides, run_keeps, moved}
+use Rattle.qs_runs.proofs.Runs.{two_sides, run_keeps, is_open_end, moved}
+use Rattle.qs_runs.proofs.Alone.{with_took}
 use Rattle.qs_rest.specs.Invariant.{RestOk}
 use Rattle.qs_rest.specs.Rest.{EveryRunKeeps}
-use Rattle.qs_rest.proofs.Runs.{own_rests, ack_rests, raise_rests, due_rests, receive_rests, peer_rests}
+use Rattle.qs_rest.proofs.Runs.{own_rests, packs_rest, lost_rests, token_rests, alone_rests, raise_rests, due_rests, receive_rests, peer_rests}
 
 no_table : (k : ℕ) → table (no_streams {X = SendLane}) k ≡ []
 no_table zero = refl
@@ -50,8 +57,8 @@ pub no_half : (n : ℕ) → lookup (no_streams {X = SendLane}) n ≡ None
 unfolding lookup
 no_half n = ap (λ xs. slice_get xs (n / 4)) (no_table (n % 4))
 
-first_rests : (role : Role) (s : Settings) (peer : PeerLimits) (p : Past) → ((k : ℕ) → p.processed k ≡ false) → end_made role s peer ≡ Ok (new_end role s peer) → RestOk p (new_end role s peer)
-first_rests role s peer p none made =
+first_rests : (role : Role) (s : Settings) (peer : PeerLimits) (p : Past) → ((k : ℕ) → p.processed k ≡ false) → ((k i : ℕ) → p.took k i ≡ false) → wide_end_made role s peer ≡ Ok (new_end role s peer) → RestOk p (new_end role s peer)
+first_rests role s peer p none alone made =
     record {
       conn = omega arith;
       bidi = omega arith;
@@ -65,24 +72,29 @@ first_rests role s peer p none made =
         stops = λ n is. absurd (false≢true (sym (set.contains-empty nat_cmp n) ∙ is));
       };
       told = λ n l at. absurd (none-some l (sym (no_lane n) ∙ at));
-      taken = λ k done. absurd (false≢true (sym (none k) ∙ done));
+      taken = record { packets = λ k done. absurd (false≢true (sym (none k) ∙ done)); frames = λ k i took. absurd (false≢true (sym (alone k i) ∙ took)) };
       limits = new_ends_settled role s peer (new_end role s peer) made;
       counts = new_counts_settled role s peer (new_end role s peer) made;
     }
 
 first_ends : (a b : Settings) (w : World) → Begins a b w → (s : Side) → RestOk (past s []) (end_of w s)
-unfolding own_calls packets_of processed
-first_ends a b w begins s = subst (λ x. RestOk (past s []) (end_of x s)) (sym is) (two_sides (λ t. RestOk (past t []) (end_of (first_world a b begins.of_a begins.of_b) t)) A (first_rests Client a begins.of_b (past A []) (λ k. refl) begun.0) (first_rests Server b begins.of_a (past B []) (λ k. refl) begun.1) s)
+unfolding own_calls packets_of processed took
+first_ends a b w begins s = subst (λ x. RestOk (past s []) (end_of x s)) (sym is) (two_sides (λ t. RestOk (past t []) (end_of (first_world a b begins.of_a begins.of_b) t)) A (first_rests Client a begins.of_b (past A []) (λ k. refl) (λ k i. refl) begun.0) (first_rests Server b begins.of_a (past B []) (λ k. refl) (λ k i. refl) begun.1) s)
   where
     is : w ≡ first_world a b begins.of_a begins.of_b
     is = made_first a b begins.of_a begins.of_b w begins.begun
 
-    begun : (end_made Client a begins.of_b ≡ Ok (new_end Client a begins.of_b)) × (end_made Server b begins.of_a ≡ Ok (new_end Server b begins.of_a))
+    begun : (wide_end_made Client a begins.of_b ≡ Ok (new_end Client a begins.of_b)) × (wide_end_made Server b begins.of_a ≡ Ok (new_end Server b begins.of_a))
     begun = ends_made a b begins.of_a begins.of_b (first_world a b begins.of_a begins.of_b) (begins.begun ∙ ap Ok (made_first a b begins.of_a begins.of_b w begins.begun))
 
 module _ (a b : Settings) (h : History) (v w : World) (s : Side) (ok : WorldOk a b h v) (rests : (t : Side) → RestOk (past t h) (end_of v t)) where
   both : (x : Happening) → RestOk (past s (x ∷ h)) (end_of w s) → RestOk (past (other s) (x ∷ h)) (end_of w (other s)) → (t : Side) → RestOk (past t (x ∷ h)) (end_of w t)
   both x own peer = two_sides (λ t. RestOk (past t (x ∷ h)) (end_of w t)) s own peer
+
+  -- the other end, where packets are made
+  made_there : (x : Happening) (texts : List (List ℕ)) → Makes s x texts → end_of w (other s) ≡ end_of v (other s) → RestOk (past (other s) (x ∷ h)) (end_of w (other s))
+  made_there x texts makes same =
+      moved (λ p. RestOk p (end_of w (other s))) _ _ (past_peer_makes s x texts h makes) (moved (RestOk _) _ _ same (peer_rests (past (other s) h) (map frames_in texts) (end_of v (other s)) (rests (other s))))
 
   own_step : (act : Act) (answer : Answer) → is_delivery act ≡ false → OwnStep (end_of v s) act answer (end_of w s) → end_of w (other s) ≡ end_of v (other s) → (t : Side) → RestOk (past t (did s act answer ∷ h)) (end_of w t)
   own_step act answer own step same =
@@ -90,11 +102,21 @@ module _ (a b : Settings) (h : History) (v w : World) (s : Side) (ok : WorldOk a
       (moved (λ p. RestOk p (end_of w s)) _ _ (past_own s act answer h own) (own_rests (past s h) (end_of v s) (end_of w s) (ok.sound s) (ok.sent s) (rests s) act answer step))
       (moved (λ p. RestOk p (end_of w (other s))) _ _ (past_peer s act answer h own) (moved (RestOk _) _ _ same (peer_rests (past (other s) h) (seen_by act answer) (end_of v (other s)) (rests (other s)))))
 
-  ack_step : (room : ℕ) (result : Result (Option Made) MakeFault) (text : List ℕ) (delay : ℕ) → MakeAckStep (end_of v s) delay room result text (end_of w s) → end_of w (other s) ≡ end_of v (other s) → (t : Side) → RestOk (past t (MadeAck s room result text ∷ h)) (end_of w t)
-  ack_step room result text delay step same =
-      both (MadeAck s room result text)
-      (moved (λ p. RestOk p (end_of w s)) _ _ (past_acked s room result text h) (ack_rests (past s h) (map frames_in (texts_of result text)) (end_of v s) (end_of w s) (ok.sound s) (ok.sent s) (rests s) delay room result text step))
-      (moved (λ p. RestOk p (end_of w (other s))) _ _ (past_peer_acked s room result text h) (moved (RestOk _) _ _ same (peer_rests (past (other s) h) (map frames_in (texts_of result text)) (end_of v (other s)) (rests (other s)))))
+  -- it makes an ACK alone, or frames are filled in
+  packet_step : (x : Happening) (texts : List (List ℕ)) → Makes s x texts → Packs (end_of v s) texts (end_of w s) → end_of w (other s) ≡ end_of v (other s) → (t : Side) → RestOk (past t (x ∷ h)) (end_of w t)
+  packet_step x texts makes packs same =
+      both x
+      (moved (λ p. RestOk p (end_of w s)) _ _ (past_makes s x texts h makes) (packs_rest (past s h) texts (end_of v s) (end_of w s) (ok.sound s) (ok.sent s) (rests s) packs))
+      (made_there x texts makes same)
+
+  -- a token's packet is declared lost
+  lost_step : (token : Token) (result : Result (Unit {0}) TokenFault) → TokenLostStep (end_of v s) token result (end_of w s) → end_of w (other s) ≡ end_of v (other s) → (t : Side) → RestOk (past t (LostToken s token result ∷ h)) (end_of w t)
+  lost_step token result step same =
+      let x = LostToken s token result in
+      let makes = makes_none s token result in
+      both x
+      (moved (λ p. RestOk p (end_of w s)) _ _ (past_makes s x [] h makes) (lost_rests (past s h) (end_of v s) (end_of w s) (ok.sound s) (ok.sent s) (rests s) token result step))
+      (made_there x [] makes same)
 
   raise_step : (limits : PeerLimits) (result : Result (Unit {0}) RaiseFault) → RaiseStep (end_of v s) limits result (end_of w s) → end_of w (other s) ≡ end_of v (other s) → (t : Side) → RestOk (past t (RaisedLimits s limits result ∷ h)) (end_of w t)
   raise_step limits result step same =
@@ -122,15 +144,40 @@ module _ (a b : Settings) (h : History) (v w : World) (s : Side) (ok : WorldOk a
       (moved (λ p. RestOk p (end_of w s)) _ _ (past_came s s k bytes result h ∙ past_sender s k (answers.Deliver result) h) (moved (RestOk _) _ _ same (rests s)))
       (moved (λ p. RestOk p (end_of w (other s))) _ _ (past_came (other s) s k bytes result h) (moved (RestOk _) _ _ alike (due_rests _ bare (end_of w (other s)).ack_due (received k text result bare is without))))
 
+  -- a token is acknowledged, whose packet landed
+  token_step : (token : Token) (result : Result (Unit {0}) TokenFault) → TokenAckedStep (end_of v s) token result (end_of w s) → end_of w (other s) ≡ end_of v (other s) → (t : Side) → RestOk (past t (AckedToken s token result ∷ h)) (end_of w t)
+  token_step token result step same =
+      both (AckedToken s token result)
+      (moved (λ p. RestOk p (end_of w s)) _ _ (past_token s token result h) (token_rests (past s h) (end_of v s) (end_of w s) (ok.sound s) (ok.sent s) (ok.ends s) (rests s) token result step))
+      (moved (λ p. RestOk p (end_of w (other s))) _ _ (past_peer_token s token result h) (moved (RestOk _) _ _ same (rests (other s))))
+
+  -- frames come without their packet
+  alone_step : (k : ℕ) (places : List ℕ) (result : Result Taken TakeFault) → ComeAloneStep h v s k places result w → (t : Side) → RestOk (past t (CameAlone s k places result ∷ h)) (end_of w t)
+  alone_step k places result (fs, (text, is, stand), handed, same) =
+      both (CameAlone s k places result)
+      (moved (λ p. RestOk p (end_of w s)) _ _ (past_came_from s k places result h) (moved (RestOk _) _ _ same (rests s)))
+      (moved (λ p. RestOk p (end_of w (other s))) _ _ (past_came_to s k places result h) (elim handed [ inl several ↦ came (TakeFrames fs) result several | inr (f, this, one) ↦ came (TakeFrame f) result one ]))
+    where
+      came : (call : Call) (given : CallAnswer call) → EndStep (end_of v (other s)) call given (end_of w (other s)) → RestOk (with_took (past (other s) h) k places result) (end_of w (other s))
+      came call given step =
+          alone_rests (past (other s) h) (end_of v (other s)) (end_of w (other s)) k places fs (frames_of (reading_of text).left) result (ok.ends (other s)) (is_open_end a b h v ok (other s)) (rests (other s))
+          (ap (λ x. slice_get x k) (theirs_mine s h) ∙ payload_seen s k h text is) stand handed call given step
+
   event_step : (act : Act) (answer : Answer) → EventStep h v s act answer w → (t : Side) → RestOk (past t (did s act answer ∷ h)) (end_of w t)
   event_step (acts.Deliver k) answer step = deliver_step k answer step
   event_step act answer step = own_step act answer refl step.0 step.1
 
 step_rests : (a b : Settings) (h : History) (v w : World) (x : Happening) → WorldOk a b h v → ((t : Side) → RestOk (past t h) (end_of v t)) → WorldStep h v x w → (t : Side) → RestOk (past t (x ∷ h)) (end_of w t)
 step_rests a b h v w (Did event answer) ok rests step = event_step a b h v w event.end ok rests event.act answer step
-step_rests a b h v w (MadeAck s room result text) ok rests ((delay, step), same) = ack_step a b h v w s ok rests room result text delay step same
+step_rests a b h v w (MadeAck s room result text) ok rests ((delay, step), same) =
+    packet_step a b h v w s ok rests _ (texts_of result text) (makes_ack s room result text) (ack_packs (end_of v s) (end_of w s) delay room result text step) same
+step_rests a b h v w (FilledIn s want room result text) ok rests (step, same) =
+    packet_step a b h v w s ok rests _ (texts_of result text) (makes_fill s want room result text) (fill_packs (end_of v s) (end_of w s) want room result text step) same
+step_rests a b h v w (LostToken s token result) ok rests (step, same) = lost_step a b h v w s ok rests token result step same
+step_rests a b h v w (AckedToken s token result) ok rests ((landed, step), same) = token_step a b h v w s ok rests token result step same
 step_rests a b h v w (RaisedLimits s limits result) ok rests ((granted, step), same) = raise_step a b h v w s ok rests limits result step same
 step_rests a b h v w (CameWith s k bytes result) ok rests step = came_step a b h v w s ok rests k bytes result step
+step_rests a b h v w (CameAlone s k places result) ok rests step = alone_step a b h v w s ok rests k places result step
 
 pub every_run_keeps : EveryRunKeeps
 every_run_keeps a b [] w begins = first_ends a b w begins

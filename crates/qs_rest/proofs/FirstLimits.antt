@@ -1,5 +1,5 @@
 -- An end that was told its peer's true limits knows them from then on.
-use Rattle.std.proofs.Common.{◌≡◌, ℕ, ◌≤◌, max, List, [], ◌∷◌, take, Result, Ok, inl, inr, refl, sym, ap, ◌∙◌, subst, arith, le_antisymm}
+use Rattle.std.proofs.Common.{◌≡◌, ℕ, ◌≤◌, List, [], ◌∷◌, take, Result, Ok, inl, inr, refl, sym, ap, subst, arith, le_antisymm}
 use Rattle.qs_wire.specs.declared.stream_id.Dir.TheVariants.{Uni}
 use Rattle.qs_calls.specs.Settings.{limits_of}
 use Rattle.qs_calls.specs.declared.settings.Settings.{Settings}
@@ -7,7 +7,7 @@ use Rattle.qs_calls.specs.declared.settings.PeerLimits.{PeerLimits}
 use Rattle.qs_calls.specs.declared.closing.Closing.{Closing}
 use Rattle.qs_calls.specs.declared.closing.Received.{Received}
 use Rattle.qs_calls.specs.declared.event.Side.{Side}
-use Rattle.qs_calls.specs.declared.event.Side.TheVariants.{A, B}
+use Rattle.qs_calls.specs.declared.event.Side.TheVariants.{A}
 use Rattle.qs_calls.specs.declared.event.Act.{Act}
 use Rattle.qs_calls.specs.declared.event.Act.TheVariants as acts
 use Rattle.qs_calls.specs.declared.answer.Answer.{Answer}
@@ -17,15 +17,15 @@ use Rattle.qs_machine.specs.Receiving.{ReceiveStep}
 use Rattle.qs_machine.specs.Raising.{RaiseStep, raise_refusal, greater_limits}
 use Rattle.qs_machine.specs.FrameStep.{named, acks, frame_taken}
 use Rattle.qs_machine.specs.Lawful.{frame_put}
-use Rattle.qs_machine.specs.EndStep.{Call, Answer as CallAnswer, EndStep, Receive, MakeAck, RaiseLimits}
+use Rattle.qs_machine.specs.EndStep.{Call, Answer as CallAnswer, EndStep, Receive, TakeFrame, TakeFrames, TokenAcked, TokenLost, MakeAck, FillIn, RaiseLimits}
 use Rattle.qs_machine.proofs.Leaves.{acks_leave, put_leaves, frame_leaves}
 use Rattle.qs_machine.proofs.EveryCall.{Change, changed, Comes, relates, Wanted, Took, Acked, Put, Raised}
-use Rattle.qs_runs.specs.Logs.{Happening, Did, MadeAck, RaisedLimits, CameWith, History, Log, happened, other}
-use Rattle.qs_runs.specs.Worlds.{World, AreGranted, end_of, EventStep, WorldStep, Run, EventRun}
+use Rattle.qs_runs.specs.Logs.{Happening, Did, MadeAck, FilledIn, AckedToken, LostToken, RaisedLimits, CameWith, CameAlone, History, happened, other}
+use Rattle.qs_runs.specs.Worlds.{World, AreGranted, end_of, EventStep, WorldStep, Run}
 use Rattle.qs_runs.specs.Invariant.{WorldOk}
 use Rattle.qs_runs.proofs.Standing.{certain_cases}
 use Rattle.qs_runs.proofs.Granting.{own_call}
-use Rattle.qs_runs.proofs.NewEnds.{first_world, made_first}
+use Rattle.qs_runs.proofs.NewEnds.{first_world, made_first, made_wide}
 use Rattle.qs_runs.proofs.Runs.{two_sides, run_keeps, granted_limits, event_runs, settings_stay}
 use Rattle.qs_rest.specs.Resting.{KnowsFirstLimits, FirstLimitsStay, TakenInIsTold, EventRunsTell}
 
@@ -93,8 +93,11 @@ module _ (v w : World) (s : Side) where
   alone_rises : (call : Call) (answer : CallAnswer call) → EndStep (end_of v s) call answer (end_of w s) → end_of w (other s) ≡ end_of v (other s) → (t : Side) → RiseAt t
   alone_rises call answer step same = two_sides RiseAt s (call_rises (end_of v s) call answer (end_of w s) step) (same_peer (end_of v (other s)) (end_of w (other s)) (ap (λ (x : End). x.peer) same))
 
+  there_rises : (call : Call) (answer : CallAnswer call) → EndStep (end_of v (other s)) call answer (end_of w (other s)) → end_of w s ≡ end_of v s → (t : Side) → RiseAt t
+  there_rises call answer step same = two_sides RiseAt s (same_peer (end_of v s) (end_of w s) (ap (λ (x : End). x.peer) same)) (call_rises (end_of v (other s)) call answer (end_of w (other s)) step)
+
   comes_rises : (k : ℕ) (bytes : List ℕ) (result : Result Received Closing) → ReceiveStep (end_of v (other s)) k bytes result (end_of w (other s)) → end_of w s ≡ end_of v s → (t : Side) → RiseAt t
-  comes_rises k bytes result step same = two_sides RiseAt s (same_peer (end_of v s) (end_of w s) (ap (λ (x : End). x.peer) same)) (call_rises (end_of v (other s)) (Receive k bytes) result (end_of w (other s)) step)
+  comes_rises k bytes result step same = there_rises (Receive k bytes) result step same
 
   event_rises : (h : History) (act : Act) (answer : Answer) → EventStep h v s act answer w → (t : Side) → RiseAt t
   event_rises h (acts.Deliver k) (answers.Deliver result) (text, is, step, same) = comes_rises k text result step same
@@ -104,8 +107,13 @@ module _ (v w : World) (s : Side) where
 step_rises : (h : History) (v w : World) (x : Happening) → WorldStep h v x w → (t : Side) → Rises (end_of v t).peer (end_of w t).peer
 step_rises h v w (Did event answer) step = event_rises v w event.end h event.act answer step
 step_rises h v w (MadeAck s room result text) ((delay, step), same) = alone_rises v w s (MakeAck delay room) (result, text) step same
+step_rises h v w (FilledIn s want room result text) (step, same) = alone_rises v w s (FillIn want room) (result, text) step same
+step_rises h v w (LostToken s token result) (step, same) = alone_rises v w s (TokenLost token) result step same
+step_rises h v w (AckedToken s token result) ((landed, step), same) = alone_rises v w s (TokenAcked token) result step same
 step_rises h v w (RaisedLimits s limits result) ((granted, step), same) = alone_rises v w s (RaiseLimits limits) result step same
 step_rises h v w (CameWith s k bytes result) (text, is, differ, step, same) = comes_rises v w s k bytes result step same
+step_rises h v w (CameAlone s k places result) (fs, there, inl step, same) = there_rises v w s (TakeFrames fs) result step same
+step_rises h v w (CameAlone s k places result) (fs, there, inr (f, is, step), same) = there_rises v w s (TakeFrame f) result step same
 
 -- an end that was told limits no lower than the true ones of its peer
 told_true : (a b : Settings) (h : History) (v w : World) (x : Happening) → Run a b h v → WorldStep h v x w → (s : Side) → Rises (limits_of (end_of v (other s)).settings) (end_of w s).peer → KnowsFirstLimits w s
@@ -129,5 +137,5 @@ taken_in_is_told a b h v w s run step =
     told_true a b h v w (RaisedLimits s (limits_of (end_of v (other s)).settings) (Ok tt)) run step s (taken_rises (end_of v s) (end_of w s) (limits_of (end_of v (other s)).settings) step.0.1)
 
 pub event_runs_tell : EventRunsTell
-event_runs_tell a b [] w is s = subst (λ x. KnowsFirstLimits x s) (sym (made_first a b (limits_of a) (limits_of b) w is)) (two_sides (KnowsFirstLimits (first_world a b (limits_of a) (limits_of b))) A refl refl s)
+event_runs_tell a b [] w is s = subst (λ x. KnowsFirstLimits x s) (sym (made_first a b (limits_of a) (limits_of b) w (made_wide a b w is))) (two_sides (KnowsFirstLimits (first_world a b (limits_of a) (limits_of b))) A refl refl s)
 event_runs_tell a b (x ∷ log) w (v, before, step) s = first_limits_stay a b (happened log) v w (Did x.0 x.1) (event_runs a b log v before) step s (event_runs_tell a b log v before s)

@@ -6,6 +6,7 @@ pub mod Moves
 pub mod Effects
 pub mod Payloads
 pub mod Telling
+pub mod Alone
 pub mod Runs
 pub mod EveryRun
 pub mod FirstLimits
@@ -15,3 +16,5 @@ pub mod Streams
 pub mod Delivered
 pub mod Exclusions
 pub mod Idle
+pub mod Again
+pub mod Repeating

@@ -65,7 +65,7 @@ module _ (p : Past) (k : ℕ) (all : List Seen) (is : slice_get p.theirs k ≡ S
   stops : (v : PlacedValue) (f : Seen) (e : End) (result : Result Received Closing) (new : End) → EndOk p e → Tells p.theirs f → Moved p old e → AllGrow old.recvs e.recvs → Stops v f e result new → After p all old result new
   stops v (Close code) e (Ok (PeerClosed told)) new ok t m g h = not_done _ _ new refl h.1 (closed_at e _ m) (same_grow old e new (ap (λ x. x.recvs) h.1) g)
   stops v (Ack largest ranges) e (Ok NoMemory) new ok t m g (fine, (n, h, asks)) =
-      not_done _ _ new refl h (moved_twice p old e _ m (acks_moved p (take n (named e ranges)) e (All_take _ n _ (named_pieces_ok p e ok ranges (λ j a. (largest, ranges, t, a)))) m.halves m.acked))
+      not_done _ _ new refl h (moved_twice p old e _ m (acks_moved p (take n (named e ranges)) e (All_take _ n _ (named_pieces_ok p e ok ranges (λ j a. inl (largest, ranges, t, a)))) m.halves m.acked))
       (same_grow old e new (stops_leave v (Ack largest ranges) e (Ok NoMemory) new (fine, (n, h, asks))) g)
   stops v (Stream n offset bytes fin) e (Ok NoMemory) new ok t m g h = not_done _ _ new refl h.1.0 m (same_grow old e new (ap (λ x. x.recvs) h.1.0) g)
   stops v (Control i) e (Ok NoMemory) new ok t m g h = not_done _ _ new refl h.1.0 m (same_grow old e new (ap (λ x. x.recvs) h.1.0) g)
@@ -86,7 +86,7 @@ module _ (p : Past) (k : ℕ) (all : List Seen) (is : slice_get p.theirs k ≡ S
       let f : Seen = seen v.frame in
       let told : Tells p.theirs f = (k, (all, is, rw split (Among_right before _ _ (inl refl)))) in
       let one : Effect p e (frame_taken f e) f = frame_keeps p e f ok told (no_fault_there e f goes) in
-      let m2 : Moved p e (frame_taken f e) = frame_moved p f e (λ largest ranges same. named_pieces_ok p e ok ranges (λ j a. (largest, ranges, subst (Tells p.theirs) same told, a))) m.halves m.acked in
+      let m2 : Moved p e (frame_taken f e) = frame_moved p f e (λ largest ranges same. named_pieces_ok p e ok ranges (λ j a. inl (largest, ranges, subst (Tells p.theirs) same told, a))) m.halves m.acked in
       takes left (before ++ f ∷ []) (asks || asks_ack f) fault (frame_taken f e) result new (split ∙ sym (append_assoc before (f ∷ []) (seen_all (frames_of left)))) one.ok
       (moved_twice p old e (frame_taken f e) m m2) (grow_trans old.recvs e.recvs _ g one.grow)
       (All_append (ItemTaken (frame_taken f e)) before (f ∷ []) (items_stay e (frame_taken f e) m2.conn m2.bidi m2.uni m2.sends one.grow before taken) (frame_done p e ok f told (no_fault_there e f goes), tt)) rest

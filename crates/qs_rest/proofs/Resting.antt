@@ -1,8 +1,7 @@
 -- At rest all that is to be told is known at the peer, and so is each limit.
-use Rattle.std.proofs.Common.{◌≡◌, ℕ, ◌≤◌, Bool, true, false, not, if◌then◌else◌, Some, None, List, slice_get, refl, sym, ap, ◌∙◌, arith, inl, inr}
+use Rattle.std.proofs.Common.{◌≡◌, ℕ, ◌≤◌, Bool, true, false, not, if◌then◌else◌, Some, None, refl, sym, ap, ◌∙◌, arith, inl, inr}
 use Rattle.std.proofs.lemmas.Option.{same_Some}
 use Rattle.std.proofs.lemmas.Bool.{cases_lt}
-use Rattle.std.specs.List.{AllByRecursion}
 use Rattle.qs_wire.specs.declared.stream_id.Dir.{Dir}
 use Rattle.qs_wire.specs.declared.stream_id.Dir.TheVariants.{Bidi, Uni}
 use Rattle.qs_recv.specs.Lane.{RecvLane}
@@ -16,14 +15,13 @@ use Rattle.qs_calls.specs.declared.event.Side.TheVariants.{A, B}
 use Rattle.qs_machine.specs.Ends.{End, first_send_limit, window, is_uni, is_own}
 use Rattle.qs_machine.specs.Credit.{next_count}
 use Rattle.qs_machine.specs.Due.{known_count}
-use Rattle.qs_machine.specs.Seen.{Seen, Control}
-use Rattle.qs_runs.specs.Logs.{History, other, processed}
+use Rattle.qs_machine.specs.Seen.{Control}
+use Rattle.qs_runs.specs.Logs.{History, other}
 use Rattle.qs_runs.specs.Worlds.{World, end_of}
-use Rattle.qs_runs.specs.Pasts.{past, Holds, TellsAck}
+use Rattle.qs_runs.specs.Pasts.{past}
 use Rattle.qs_runs.specs.Clauses.{sending, receiving}
 use Rattle.qs_runs.specs.Invariant.{WorldOk}
-use Rattle.qs_runs.proofs.Lists.{All_at}
-use Rattle.qs_runs.proofs.Histories.{theirs_mine}
+use Rattle.qs_runs.proofs.Landing.{confirmed_taken}
 use Rattle.qs_runs.proofs.Runs.{run_keeps, opposite, known_counts}
 use Rattle.qs_runs.proofs.Clauses.{known_is_within_granted}
 use Rattle.qs_rest.specs.Invariant.{WasTold, ItemTaken, RestOk}
@@ -45,18 +43,9 @@ items_acked e i rest current =
     ]
 
 module _ (a b : Settings) (h : History) (w : World) (ok : WorldOk a b h w) (keeps : (s : Side) → RestOk (past s h) (end_of w s)) where
-  -- a packet that the peer acknowledged was processed there
-  pub was_processed : (s : Side) (k : ℕ) → TellsAck (past s h).theirs k → processed (other s) k h ≡ true
-  was_processed s k (largest, ranges, t, named) = ((ok.ends (other s)).packets.acks_told largest ranges t).names_processed k named
-
-  -- so what holds there of each frame of it holds of this one
-  pub holds_there : (s : Side) (P : Seen → Type 0) (k : ℕ) (f : Seen) → Holds (past s h).mine k f → (fs : List Seen) × (slice_get (past (other s) h).theirs k ≡ Some fs) × AllByRecursion P fs → P f
-  holds_there s P k f (fs, is, a) (gs, there, all) =
-      let same : gs ≡ fs = same_Some gs fs (sym there ∙ ap (λ x. slice_get x k) (theirs_mine s h) ∙ is) in
-      All_at P fs f (rw same at all) a
-
+  -- what was told in a packet that was confirmed took effect
   pub taken : (s : Side) (i : Item) → WasTold (past s h) i → ItemTaken (end_of w (other s)) (Control i)
-  taken s i (k, holds, ack) = holds_there s (ItemTaken (end_of w (other s))) k (Control i) holds ((keeps (other s)).taken k (was_processed s k ack))
+  taken s i (k, holds, confirmed) = confirmed_taken a b h w ok s (ItemTaken (end_of w (other s))) (keeps (other s)).taken k (Control i) holds confirmed refl
 
   -- and what the other side told
   pub taken_here : (s : Side) (i : Item) → WasTold (past (other s) h) i → ItemTaken (end_of w s) (Control i)

@@ -1,7 +1,9 @@
 -- In every run each end keeps what holds of it beside the invariant of qs_runs.
-use Rattle.std.proofs.Common.{◌≡◌, ℕ, ◌≤◌, Bool, true, false, ◌==◌, ◌&&◌, List, [], ◌⊎◌, length, option_map, Option, Some, None, Result, Ok, Err, slice_get, refl, sym, ap, ◌∙◌, subst, arith, inl, inr}
+use Rattle.std.proofs.Common.{◌≡◌, ℕ, ◌≤◌, Bool, true, false, ◌==◌, ◌&&◌, List, [], ◌∷◌, map, take, ◌⊎◌, option_map, Option, Some, None, Result, Ok, Err, slice_get, refl, sym, ap, ◌∙◌, subst, arith, inl, inr}
 use Rattle.std.specs.Prelude.{cond}
 use Rattle.std.proofs.lemmas.Bool.{eqb-true}
+use Rattle.std.specs.List.{AllByRecursion}
+use Rattle.qs_wire.specs.Layout.{FrameValue}
 use Rattle.qs_wire.specs.Reading.{reading_of}
 use Rattle.qs_recv.specs.Lane.{raise}
 use Rattle.qs_send.specs.Lane.{SendLane, allow_lane}
@@ -13,6 +15,10 @@ use Rattle.qs_calls.specs.declared.closing.Received.{Received}
 use Rattle.qs_calls.specs.declared.closing.Received.TheVariants.{Duplicate, BelowFloor, PeerClosed}
 use Rattle.qs_calls.specs.declared.making.Made.{Made}
 use Rattle.qs_calls.specs.declared.making.MakeFault.{MakeFault}
+use Rattle.qs_calls.specs.declared.token.Token.{Token}
+use Rattle.qs_calls.specs.declared.token.Taken.{Taken}
+use Rattle.qs_calls.specs.declared.token.TakeFault.{TakeFault}
+use Rattle.qs_calls.specs.declared.token.TokenFault.{TokenFault}
 use Rattle.qs_calls.specs.declared.settings.PeerLimits.{PeerLimits}
 use Rattle.qs_calls.specs.declared.settings.RaiseFault.{RaiseFault}
 use Rattle.qs_calls.specs.declared.event.Act.{Act}
@@ -22,23 +28,29 @@ use Rattle.qs_machine.specs.Tables.{lookup}
 use Rattle.qs_machine.specs.Ends.{End, AckedItems, first_send_limit}
 use Rattle.qs_machine.specs.Receiving.{ReceiveStep, ReceiveBy}
 use Rattle.qs_machine.specs.Credit.{settle}
-use Rattle.qs_machine.specs.Making.{MakeStep, MakeAckStep, make_refusal}
+use Rattle.qs_machine.specs.Making.{MakeStep, make_refusal}
+use Rattle.qs_machine.specs.Alone.{token_refusal, TokenAckedStep, TokenLostStep}
+use Rattle.qs_machine.specs.Seen.{seen_all}
+use Rattle.qs_machine.specs.FrameStep.{AckedPiece, acks, named, frame_taken}
+use Rattle.qs_machine.proofs.Leaves.{acks_leave}
 use Rattle.qs_machine.specs.Raising.{RaiseStep, knows_limits, limits_raised, raise_refusal}
-use Rattle.qs_machine.specs.EndStep.{Call, Answer as CallAnswer, EndStep, Receive, Make, RaiseLimits}
+use Rattle.qs_machine.specs.EndStep.{Call, Answer as CallAnswer, EndStep, Receive, TokenAcked, Make, Lose, RaiseLimits}
 use Rattle.qs_machine.specs.SettledLimits.{LimitsAreSettled}
-use Rattle.qs_machine.proofs.AckPackets.{ack_packet}
 use Rattle.qs_machine.proofs.Raised.{kept_raised}
 use Rattle.qs_machine.proofs.TablesAfter.{KeptIn}
 use Rattle.qs_machine.proofs.EveryCall.{by_open}
 use Rattle.qs_machine.proofs.SettledLimits.{calls_settle}
 use Rattle.qs_machine.proofs.CallsCounts.{settled_call}
-use Rattle.qs_runs.specs.Logs.{is_done}
+use Rattle.qs_runs.specs.Logs.{is_done, StandAt}
 use Rattle.qs_runs.specs.Agree.{frames_in}
-use Rattle.qs_runs.specs.Worlds.{OwnStep}
+use Rattle.qs_runs.specs.Worlds.{OwnStep, HandedIn}
 use Rattle.qs_runs.specs.Pasts.{Packets, Past, seen_by}
 use Rattle.qs_runs.specs.Invariant.{EndOk}
-use Rattle.qs_runs.proofs.Lists.{slice_get-append}
-use Rattle.qs_runs.proofs.Past.{Holds-more, TellsAck-more}
+use Rattle.qs_runs.proofs.Lists.{All_take}
+use Rattle.qs_runs.proofs.Acking.{WasAcked}
+use Rattle.qs_runs.proofs.Alone.{with_took, with_token, stand_among, stand_holds, took_each, token_ok, token_pieces, or_cond}
+use Rattle.qs_runs.proofs.Packing.{Packs}
+use Rattle.qs_runs.proofs.Past.{Holds-more, Confirmed-more, EachTaken-more, each_taken}
 use Rattle.qs_runs.proofs.Changes.{AllGrow, all_grow_refl}
 use Rattle.qs_runs.proofs.Settling.{each_grows, raise_grows}
 use Rattle.qs_runs.proofs.Granting.{own_call}
@@ -50,12 +62,13 @@ use Rattle.qs_runs.proofs.Raising.{allowed_at}
 use Rattle.qs_runs.proofs.Standing.{certain_cases}
 use Rattle.qs_runs.proofs.PeerMoves.{with_theirs}
 use Rattle.qs_runs.proofs.Receives.{with_received}
-use Rattle.qs_rest.specs.Invariant.{WasTold, AckedTrue, HalfTrue, RestOk}
+use Rattle.qs_rest.specs.Invariant.{WasTold, AckedTrue, HalfTrue, ItemTaken, RestOk}
 use Rattle.qs_rest.proofs.Halves.{Lasts, lasts_same, lasts_twice, allow_lasts}
-use Rattle.qs_rest.proofs.EachCall.{each_own, make_by}
-use Rattle.qs_rest.proofs.Moves.{AllTrue, SlotTrue, Moved, moved_same, moved_edits}
-use Rattle.qs_rest.proofs.Effects.{items_stay}
-use Rattle.qs_rest.proofs.Telling.{AllTold, all_told, told_at, own_told, packet_told, told_settles, received_held, receive_told}
+use Rattle.qs_rest.proofs.EachCall.{each_own, make_by, lose_by}
+use Rattle.qs_rest.proofs.Moves.{AllTrue, SlotTrue, Moved, moved_same, moved_edits, acks_moved}
+use Rattle.qs_rest.proofs.Effects.{item_stays, items_stay}
+use Rattle.qs_rest.proofs.Telling.{AllTold, all_told, told_at, own_told, packet_told, lost_told, told_settles, received_held, receive_told, handed_held}
+use Rattle.qs_rest.proofs.Alone.{handed_came}
 use Rattle.qs_rest.proofs.Payloads.{After, takes, settled, not_done}
 
 -- The past goes on
@@ -79,7 +92,7 @@ told_call : (p : Past) (act : Act) (answer : Answer) (i : Item) → WasTold p i 
 told_call p act answer i (k, holds, ack) = (k, Holds-more p.mine (seen_by act answer) k _ holds, ack)
 
 told_theirs : (p : Past) (packets : Packets) (i : Item) → WasTold p i → WasTold (with_theirs p packets) i
-told_theirs p packets i (k, holds, ack) = (k, holds, TellsAck-more p.theirs packets k ack)
+told_theirs p packets i (k, holds, ack) = (k, holds, Confirmed-more p.theirs packets p.tokens k ack)
 
 -- the slots of an end
 slots : (p : Past) (e : End) → RestOk p e → AllTrue p e
@@ -103,7 +116,7 @@ peer_rests p packets e ok =
       sends = λ n l is. half_more p (with_theirs p packets) (told_theirs p packets) n _ l (ok.sends n l is);
       acked = acked_more p (with_theirs p packets) (told_theirs p packets) e.acked ok.acked;
       told = ok.told;
-      taken = λ k is. (let (fs, there, all) = ok.taken k is in (fs, slice_get-append p.theirs packets k fs there, all));
+      taken = EachTaken-more p.theirs packets p.processed p.took (ItemTaken e) ok.taken;
       limits = ok.limits;
       counts = ok.counts;
     }
@@ -121,7 +134,7 @@ module _ (p : Past) (e new : End) (ok : RestOk p e) (m : Moved p e new) where
   known_uni = (let same = ap (λ x. x.streams_uni) m.peer in omega (arith, ok.uni, m.uni, same))
 
 -- a call that adds to the past only what was made, written or read
-module _ (p q : Past) (theirs : q.theirs ≡ p.theirs) (same : q.processed ≡ p.processed) (more : (i : Item) → WasTold p i → WasTold q i) (e new : End) (sound : IsSound e) (sent : SentWasWritten e) (ok : RestOk p e) where
+module _ (p q : Past) (theirs : q.theirs ≡ p.theirs) (same : q.processed ≡ p.processed) (alone : q.took ≡ p.took) (more : (i : Item) → WasTold p i → WasTold q i) (e new : End) (sound : IsSound e) (sent : SentWasWritten e) (ok : RestOk p e) where
   call_rests : (call : Call) (given : CallAnswer call) → EndStep e call given new → Moved p e new → AllTold new.recvs → RestOk q new
   call_rests call given is m told =
       let grow = call_grows e new sound sent call given is in
@@ -132,10 +145,16 @@ module _ (p q : Past) (theirs : q.theirs ≡ p.theirs) (same : q.processed ≡ p
         sends = λ n l at. half_more p q more n _ l (slot_at p new m.halves n l at);
         acked = acked_more p q more new.acked m.acked;
         told = told_at new told;
-        taken = λ k done. (
-            let (fs, there, all) = ok.taken k (ap (λ d. d k) (sym same) ∙ done) in
-            (fs, ap (λ ps. slice_get ps k) theirs ∙ there, items_stay e new m.conn m.bidi m.uni m.sends grow fs all)
-            );
+        taken = record {
+          packets = λ k done. (
+              let (fs, there, all) = ok.taken.packets k (ap (λ d. d k) (sym same) ∙ done) in
+              (fs, ap (λ ps. slice_get ps k) theirs ∙ there, items_stay e new m.conn m.bidi m.uni m.sends grow fs all)
+              );
+          frames = λ k i took. (
+              let (f, (fs, there, at), holds) = ok.taken.frames k i (ap (λ d. d k i) (sym alone) ∙ took) in
+              (f, (fs, ap (λ ps. slice_get ps k) theirs ∙ there, at), item_stays e new m.conn m.bidi m.uni m.sends grow f holds)
+              );
+        };
         limits = calls_settle e call given new ok.limits is;
         counts = settled_call e call given new ok.counts is;
       }
@@ -143,14 +162,14 @@ module _ (p q : Past) (theirs : q.theirs ≡ p.theirs) (same : q.processed ≡ p
 pub own_rests : (p : Past) (e new : End) → IsSound e → SentWasWritten e → RestOk p e → (act : Act) (answer : Answer) → OwnStep e act answer new → RestOk (with_call p act answer) new
 own_rests p e new sound sent ok act answer step =
     let (call, given, is, own) = own_call e new act answer step in
-    call_rests p (with_call p act answer) refl refl (told_call p act answer) e new sound sent ok call given is (each_own (Moved p e) e (moved_edits p e (slots p e ok) ok.acked) act answer new step) (own_told e new (all_told e ok.told) act answer step)
+    call_rests p (with_call p act answer) refl refl refl (told_call p act answer) e new sound sent ok call given is (each_own (Moved p e) e (moved_edits p e (slots p e ok) ok.acked) act answer new step) (own_told e new (all_told e ok.told) act answer step)
 
 told_packets : (p : Past) (packets : Packets) (i : Item) → WasTold p i → WasTold (with_packets p packets) i
 told_packets p packets i (k, holds, ack) = (k, Holds-more p.mine packets k _ holds, ack)
 
 packet_rests : (p : Past) (packets : Packets) (e new : End) → IsSound e → SentWasWritten e → RestOk p e → (first delay room : ℕ) (result : Result (Option Made) MakeFault) (text : List ℕ) → MakeStep e first delay room result text new → RestOk (with_packets p packets) new
 packet_rests p packets e new sound sent ok first delay room result text step =
-    call_rests p (with_packets p packets) refl refl (told_packets p packets) e new sound sent ok (Make first delay room) (result, text) step
+    call_rests p (with_packets p packets) refl refl refl (told_packets p packets) e new sound sent ok (Make first delay room) (result, text) step
     (make_by (Moved p e) e (moved_edits p e (slots p e ok) ok.acked) (make_refusal e) first delay room result text new step) (packet_told e new (all_told e ok.told) first delay room result text step)
 
 -- nothing changes but the past
@@ -168,12 +187,22 @@ same_rests p packets e ok =
       counts = ok.counts;
     }
 
--- An ACK alone is a packet of a shorter room, or nothing changes.
-pub ack_rests : (p : Past) (packets : Packets) (e new : End) → IsSound e → SentWasWritten e → RestOk p e → (delay room : ℕ) (result : Result (Option Made) MakeFault) (text : List ℕ) → MakeAckStep e delay room result text new → RestOk (with_packets p packets) new
-ack_rests p packets e new sound sent ok delay room result text step =
-    elim (ack_packet e new 0 delay room result text step) [
-      | inl made ↦ packet_rests p packets e new sound sent ok 0 delay (length text) result text made
-      | inr none ↦ subst (RestOk (with_packets p packets)) (sym none.2) (same_rests p packets e ok)
+-- An ACK alone, and what is filled in, is a packet of a shorter room, or nothing changes.
+pub packs_rest : (p : Past) (texts : List (List ℕ)) (e new : End) → IsSound e → SentWasWritten e → RestOk p e → Packs e texts new → RestOk (with_packets p (map frames_in texts)) new
+packs_rest p texts e new sound sent ok packs =
+    elim packs [
+      | inl x ↦ packet_rests p (map frames_in texts) e new sound sent ok x.first x.delay x.room x.answer x.text x.step
+      | inr none ↦ subst (RestOk (with_packets p (map frames_in texts))) (sym none.1) (same_rests p (map frames_in texts) e ok)
+    ]
+
+-- a token's packet is declared lost
+pub lost_rests : (p : Past) (e new : End) → IsSound e → SentWasWritten e → RestOk p e → (token : Token) (result : Result (Unit {0}) TokenFault) → TokenLostStep e token result new → RestOk (with_packets p []) new
+lost_rests p e new sound sent ok token result step =
+    elim (certain_cases (token_refusal e token) e result new _ step) [
+      | inl (fault, is, same) ↦ subst (RestOk (with_packets p [])) (sym same) (same_rests p [] e ok)
+      | inr (allowed, (declared, loses, told)) ↦
+          call_rests p (with_packets p []) refl refl refl (told_packets p []) e new sound sent ok (Lose token.number) declared loses
+          (lose_by (Moved p e) e (moved_edits p e (slots p e ok) ok.acked) token.number declared new loses) (lost_told e new (all_told e ok.told) token.number declared loses)
     ]
 
 -- whether an ACK is due doesn't matter
@@ -186,10 +215,8 @@ due_rests p e due ok =
       sends = ok.sends;
       acked = ok.acked;
       told = ok.told;
-      taken = λ k done. (
-          let (fs, there, all) = ok.taken k done in
-          (fs, there, items_stay e (record e { ack_due = due }) (omega arith) (omega arith) (omega arith) (moved_same p e (slots p e ok) ok.acked).sends (all_grow_refl e.recvs) fs all)
-          );
+      taken = each_taken p.theirs p.processed p.took (ItemTaken e) (ItemTaken (record e { ack_due = due }))
+          (item_stays e (record e { ack_due = due }) (omega arith) (omega arith) (omega arith) (moved_same p e (slots p e ok) ok.acked).sends (all_grow_refl e.recvs)) ok.taken;
       limits = record { connection = ok.limits.connection; streams = ok.limits.streams };
       counts = ok.counts;
     }
@@ -221,7 +248,7 @@ module _ (p : Past) (e : End) (limits : PeerLimits) (ok : RestOk p e) where
         sends = slots_raised;
         acked = ok.acked;
         told = told_at settled (told_settles raised (all_told e ok.told));
-        taken = λ k done. (let (fs, there, all) = ok.taken k done in (fs, there, items_stay e settled (omega arith) (omega arith) (omega arith) kept (subst (λ x. AllGrow e.recvs x.recvs) is grow) fs all));
+        taken = each_taken p.theirs p.processed p.took (ItemTaken e) (ItemTaken settled) (item_stays e settled (omega arith) (omega arith) (omega arith) kept (subst (λ x. AllGrow e.recvs x.recvs) is grow)) ok.taken;
         limits = subst LimitsAreSettled is (calls_settle e (RaiseLimits limits) (Ok tt) new ok.limits step);
         counts = subst CountsAreSettled is (settled_call e (RaiseLimits limits) (Ok tt) new ok.counts step);
       })
@@ -235,7 +262,7 @@ raise_rests p e new limits result sound sent ok step =
 
 -- A payload of the peer
 
-processed_or : (k j : ℕ) (b d : Bool) → cond (j == k && b) true d ≡ true → ((j ≡ k) × (b ≡ true)) ⊎ (d ≡ true)
+pub processed_or : (k j : ℕ) (b d : Bool) → cond (j == k && b) true d ≡ true → ((j ≡ k) × (b ≡ true)) ⊎ (d ≡ true)
 processed_or k j b d h = go (j == k) b refl refl h
   where
     go : (x y : Bool) → (j == k) ≡ x → b ≡ y → cond (x && y) true d ≡ true → ((j ≡ k) × (b ≡ true)) ⊎ (d ≡ true)
@@ -273,11 +300,82 @@ receive_rests p e new k text result good ok is step =
       sends = λ n l at. half_more p q (λ i told. told) n _ l (slot_at p new m.halves n l at);
       acked = acked_more p q (λ i told. told) new.acked m.acked;
       told = told_at new (receive_told e new (received_held e new k text result step) a.grow (all_told e ok.told));
-      taken = λ j done.
-          elim (processed_or k j (is_done (answers.Deliver result)) (p.processed j) done) [
-            | inl now ↦ (frames_in text, ap (slice_get p.theirs) now.0 ∙ is, a.done now.1)
-            | inr before ↦ (let (fs, there, all) = ok.taken j before in (fs, there, items_stay e new m.conn m.bidi m.uni m.sends a.grow fs all))
-          ];
+      taken = record {
+        packets = λ j done.
+            elim (processed_or k j (is_done (answers.Deliver result)) (p.processed j) done) [
+              | inl now ↦ (frames_in text, ap (slice_get p.theirs) now.0 ∙ is, a.done now.1)
+              | inr before ↦ (let (fs, there, all) = ok.taken.packets j before in (fs, there, items_stay e new m.conn m.bidi m.uni m.sends a.grow fs all))
+            ];
+        frames = λ j i took. (let (f, holds, taken) = ok.taken.frames j i took in (f, holds, item_stays e new m.conn m.bidi m.uni m.sends a.grow f taken));
+      };
       limits = calls_settle e (Receive k text) result new ok.limits step;
       counts = settled_call e (Receive k text) result new ok.counts step;
     }
+
+-- Frames of the peer without their packet
+
+pub alone_rests : (p : Past) (e new : End) (k : ℕ) (places : List ℕ) (fs all : List FrameValue) (result : Result Taken TakeFault) → EndOk p e → e.closed ≡ None → RestOk p e → slice_get p.theirs k ≡ Some (seen_all all) → StandAt all places fs → HandedIn fs e result new →
+    (call : Call) (given : CallAnswer call) → EndStep e call given new → RestOk (with_took p k places result) new
+alone_rests p e new k places fs all result good open_end ok is stand step call given called =
+    let c = handed_came p fs e result new good open_end (slots p e ok) ok.acked (λ g a. (k, (seen_all all, is, stand_among all places fs stand g a))) step in
+    let m : Moved p e new = c.moved in
+    let q : Past = with_took p k places result in
+    record {
+      conn = known_conn p e new ok m;
+      bidi = known_bidi p e new ok m;
+      uni = known_uni p e new ok m;
+      sends = λ n l at. half_more p q (λ i told. told) n _ l (slot_at p new m.halves n l at);
+      acked = acked_more p q (λ i told. told) new.acked m.acked;
+      told = told_at new (receive_told e new (handed_held e new fs result open_end step) c.grow (all_told e ok.told));
+      taken =
+          took_each p k places result (ItemTaken new) (each_taken p.theirs p.processed p.took (ItemTaken e) (ItemTaken new) (item_stays e new m.conn m.bidi m.uni m.sends c.grow) ok.taken) (λ i among taken. (
+          let (f, at, holds) = stand_holds (ItemTaken new) all places fs stand (c.done taken) i among in
+          (f, (seen_all all, is, at), holds)));
+      limits = calls_settle e call given new ok.limits called;
+      counts = settled_call e call given new ok.counts called;
+    }
+
+-- Tokens
+
+-- an end is told more tokens
+token_more : (p : Past) (k : ℕ) (i : Item) → WasTold p i → WasTold (with_token p k) i
+token_more p k i (j, holds, inl ack) = (j, holds, inl ack)
+token_more p k i (j, holds, inr told) = (j, holds, inr (or_cond (j == k) (p.tokens j) told))
+
+with_token_rests : (p : Past) (k : ℕ) (e : End) → RestOk p e → RestOk (with_token p k) e
+with_token_rests p k e ok =
+    record {
+      conn = ok.conn;
+      bidi = ok.bidi;
+      uni = ok.uni;
+      sends = λ n l at. half_more p (with_token p k) (token_more p k) n _ l (ok.sends n l at);
+      acked = acked_more p (with_token p k) (token_more p k) e.acked ok.acked;
+      told = ok.told;
+      taken = ok.taken;
+      limits = ok.limits;
+      counts = ok.counts;
+    }
+
+-- its pieces are acknowledged, and then the limits move
+module _ (p : Past) (e : End) (ok : RestOk p e) where
+  pieces_moved : (pieces : List AckedPiece) → AllByRecursion (WasAcked p) pieces → Moved p e (settle (acks pieces e)) × AllTold (settle (acks pieces e)).recvs
+  pieces_moved pieces all =
+      let m : Moved p e (acks pieces e) = acks_moved p pieces e all (slots p e ok) ok.acked in (
+        record { role = m.role; peer = m.peer; conn = m.conn; bidi = m.bidi; uni = m.uni; sends = m.sends; halves = m.halves; acked = m.acked },
+        told_settles (acks pieces e) (subst AllTold (sym (ap (λ (x : End). x.recvs) (acks_leave pieces e))) (all_told e ok.told)),
+      )
+
+pub token_rests : (p : Past) (e new : End) → IsSound e → SentWasWritten e → EndOk p e → RestOk p e → (token : Token) (result : Result (Unit {0}) TokenFault) → TokenAckedStep e token result new → RestOk (with_token p token.number) new
+unfolding frame_taken
+token_rests p e new sound sent good ok token result step =
+    let k : ℕ = token.number in
+    let q : Past = with_token p k in
+    let now : RestOk q e = with_token_rests p k e ok in
+    let all = token_pieces p k e (token_ok p k e good) in
+    let by : (x : End) → Moved q e x × AllTold x.recvs → new ≡ x → RestOk q new =
+    λ x h same. call_rests q q refl refl refl (λ i told. told) e new sound sent now (TokenAcked token) result step (subst (Moved q e) (sym same) h.0) (subst (λ y. AllTold y.recvs) (sym same) h.1) in
+    elim (certain_cases (token_refusal e token) e result new _ step) [
+      | inl (fault, is, same) ↦ subst (RestOk q) (sym same) now
+      | inr (allowed, inl (is, same)) ↦ by (settle (acks (named e ((k, k) ∷ [])) e)) (pieces_moved q e now (named e ((k, k) ∷ [])) all) same
+      | inr (allowed, inr (is, mid, (m, h, asks), same)) ↦ by (settle (acks (take m (named e ((k, k) ∷ []))) e)) (pieces_moved q e now (take m (named e ((k, k) ∷ []))) (All_take _ m _ all)) (same ∙ ap settle h)
+    ]

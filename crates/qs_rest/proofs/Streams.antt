@@ -22,24 +22,25 @@ use Rattle.qs_machine.specs.Standing.{HasLawfulLane}
 use Rattle.qs_machine.specs.Seen.{Stream, Control}
 use Rattle.qs_machine.proofs.Bounds.{stored_and_taken}
 use Rattle.qs_machine.proofs.TableLaws.{value, total_le, total_both}
-use Rattle.qs_runs.specs.Logs.{History, other, processed}
+use Rattle.qs_runs.specs.Logs.{History, other}
 use Rattle.qs_runs.specs.Worlds.{World, end_of}
 use Rattle.qs_runs.specs.Pasts.{past, Tells}
-use Rattle.qs_runs.specs.Clauses.{Carries, sending, receiving}
+use Rattle.qs_runs.specs.Clauses.{CarriesAt, HasArrived, sending, receiving}
 use Rattle.qs_runs.specs.Invariant.{WorldOk, SendOk, SendSlot, RecvOk, RecvSlot, FrameTaken}
 use Rattle.qs_runs.proofs.Members.{end-le, below-end}
 use Rattle.qs_runs.proofs.Histories.{theirs_mine}
+use Rattle.qs_runs.proofs.Landing.{confirmed_taken}
 use Rattle.qs_runs.proofs.Runs.{run_keeps}
-use Rattle.qs_runs.proofs.Clauses.{received_is_below_sent, processed_was_taken, acked_was_processed, final_size_is_declared, reset_code_is_the_senders}
+use Rattle.qs_runs.proofs.Clauses.{received_is_below_sent, arrived_was_taken, acked_has_arrived, final_size_is_declared, reset_code_is_the_senders}
 use Rattle.qs_rest.specs.Invariant.{IsAllAcked, RestOk}
 use Rattle.qs_rest.specs.Rest.{TellsNoNews, AtRest}
 use Rattle.qs_rest.specs.Resting.{AtEachRest, CreditIsWhole, IsResetAtBoth, IsReadAtBoth, ResetsAreFinal}
 use Rattle.qs_rest.proofs.EveryRun.{every_run_keeps}
 use Rattle.qs_rest.proofs.Lanes.{caught_up, end_told, reset_told, sent_acked, end_acked}
-use Rattle.qs_rest.proofs.Resting.{items_acked, was_processed, holds_there, taken as item_taken, taken_here}
+use Rattle.qs_rest.proofs.Resting.{items_acked, taken as item_taken, taken_here}
 use Rattle.qs_rest.proofs.Effects.{some_of}
 
-missing_is : (t : NumberSet) (k : ℕ) → ((q : ℕ) → q < k → set.contains t q ≡ true) → ((q : ℕ) → set.contains t q ≡ true → q < k) → missing_from t 0 ≡ k
+pub missing_is : (t : NumberSet) (k : ℕ) → ((q : ℕ) → q < k → set.contains t q ≡ true) → ((q : ℕ) → set.contains t q ≡ true → q < k) → missing_from t 0 ≡ k
 missing_is t k all below = sym (missing_from-of t 0 k (record { from = omega arith; missing = go (set.contains t k) refl; all_before = λ q from lt. all q lt }))
   where
     go : (b : Bool) → set.contains t k ≡ b → set.contains t k ≡ false
@@ -96,8 +97,8 @@ module _ (a b : Settings) (h : History) (w : World) (ok : WorldOk a b h w) (keep
   -- an offset that is acknowledged came
   pub acked_came : (l : SendLane) (q : ℕ) → sending w s n ≡ Some l → l.was_reset ≡ None → set.contains l.acked q ≡ true → (r : RecvLane) × (receiving w s n ≡ Some r) × (set.contains r.arrived.received q ≡ true)
   acked_came l q at none acked =
-      let (k, offset, bytes, fin, carries, low, high, done) = (acked_was_processed a b h w ok s n).offsets l q at acked in
-      let (r, is, took, fins) = processed_was_taken a b h w ok s n k offset bytes fin done carries in
+      let (k, i, offset, bytes, fin, carries, low, high, arrived) = (acked_has_arrived a b h w ok s n).offsets l q at acked in
+      let (r, is, took, fins) = arrived_was_taken a b h w ok s n k i offset bytes fin arrived carries in
       elim took [
         | inl all ↦ (r, is, all q low high)
         | inr reset ↦ absurd (true≢false (sym reset ∙ ap is_some (no_reset_known l r at is none)))
@@ -124,7 +125,7 @@ module _ (a b : Settings) (h : History) (w : World) (ok : WorldOk a b h w) (keep
       let (code, size, told) = ((keeps s).sends n l at).reset_told known in
       let (r, found, ended) = item_taken a b h w ok keeps s (ResetStream n code size) told in
       let (k, holds, ack) = told in
-      let (t, found_too, final) = holds_there a b h w ok keeps s (FrameTaken (end_of w (other s)).recvs) k (Control (ResetStream n code size)) holds ((ok.ends (other s)).taken k (was_processed a b h w ok keeps s k ack)) in
+      let (t, found_too, final) = confirmed_taken a b h w ok s (FrameTaken (end_of w (other s)).recvs) (ok.ends (other s)).taken k (Control (ResetStream n code size)) holds ack refl in
       let same_half : t ≡ r = same_Some t r (sym found_too ∙ found) in
       let sized : r.final_size ≡ Some size = rw same_half at final in
       (known, (r, found, ap is_some sized, ended))
@@ -229,7 +230,7 @@ module _ (a b : Settings) (h : History) (w : World) (ok : WorldOk a b h w) (keep
 
   -- once the owner finished, and all was sent, the stream is delivered
   pub is_read : (l : SendLane) → sending w s n ≡ Some l → l.was_reset ≡ None → l.fin_acked ≡ true → l.sent_end ≡ l.written → IsReadAtBoth w s n
-  is_read l at none end all = by ((acked_was_processed a b h w ok s n).end l at end)
+  is_read l at none end all = by ((acked_has_arrived a b h w ok s n).end l at end)
     where
       acked : (q : ℕ) → q < l.written → set.contains l.acked q ≡ true
       acked q lt = sent_acked (end_of w s) (rest s) n l at none (sender_ok l at).sent_written (sender_ok l at).sent_limit q (omega (arith, all))
@@ -251,9 +252,9 @@ module _ (a b : Settings) (h : History) (w : World) (ok : WorldOk a b h w) (keep
           let whole : send_whole l ≡ true = and_from _ _ (eq-eqb (unacked_from l) l.written first) end in
           rw (not_reset l.reset_acked refl, none, whole) refl
 
-      by : (k offset : ℕ) × (bytes : List ℕ) × Carries h s k (Stream n offset bytes true) × (processed (other s) k h ≡ true) → IsReadAtBoth w s n
-      by (k, offset, bytes, carries, done) =
-          let (r, is, took, fins) = processed_was_taken a b h w ok s n k offset bytes true done carries in
+      by : (k i offset : ℕ) × (bytes : List ℕ) × CarriesAt h s k i (Stream n offset bytes true) × HasArrived h s k i → IsReadAtBoth w s n
+      by (k, i, offset, bytes, carries, arrived) =
+          let (r, is, took, fins) = arrived_was_taken a b h w ok s n k i offset bytes true arrived carries in
           let final = fins refl in
           let (m, there, declared, size, count) = final_size_is_declared a b h w ok s n r (offset + length bytes) is final in
           let same : m ≡ l = same_Some m l (sym there ∙ at) in

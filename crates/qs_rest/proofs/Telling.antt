@@ -1,11 +1,11 @@
 -- What a reader was told of the end of a stream stands for good.
-use Rattle.std.proofs.Common.{◌≡◌, ℕ, Bool, true, false, ◌&&◌, ◌||◌, ◌==◌, List, [], ◌∷◌, length, Option, Some, None, is_some, refl, sym, ap, ◌∙◌, subst, arith, inl, inr}
-use Rattle.std.specs.Prelude.{cond, option_map, not, Result}
+use Rattle.std.proofs.Common.{◌≡◌, ℕ, Bool, true, false, ◌&&◌, ◌||◌, ◌==◌, List, [], ◌∷◌, length, ◌⊎◌, Option, Some, None, is_some, refl, sym, ap, ◌∙◌, subst, arith, inl, inr}
+use Rattle.std.specs.Prelude.{cond, option_map, not, MatchBool, Result, Ok, Err}
 use Rattle.std.proofs.lemmas.Option.{same_Some}
 use Rattle.std.proofs.lemmas.Bool.{cond_both, eqb-true, true≢false, false≢true}
 use Rattle.std.proofs.lemmas.Bool.Decides.{nat_tests}
 use Rattle.std.specs.FinSet as set
-use Rattle.qs_wire.specs.Layout.{PlacedValue}
+use Rattle.qs_wire.specs.Layout.{FrameValue, PlacedValue}
 use Rattle.qs_wire.specs.Reading.{reading_of}
 use Rattle.qs_wire.specs.declared.fault.WireFault.{WireFault}
 use Rattle.qs_recv.specs.Assembled.{discard, front_of, put, forget}
@@ -17,10 +17,15 @@ use Rattle.qs_send.specs.declared.piece.Item.{Item}
 use Rattle.qs_send.specs.declared.piece.Item.TheVariants.{MaxData, MaxStreamData, MaxStreams, ResetStream, StopSending, DataBlocked, StreamDataBlocked, StreamsBlocked}
 use Rattle.qs_calls.specs.declared.making.Made.{Made}
 use Rattle.qs_calls.specs.declared.making.MakeFault.{MakeFault}
-use Rattle.qs_machine.specs.Making.{MakeStep, make_refusal}
+use Rattle.qs_calls.specs.declared.making.LostFault.{LostFault}
+use Rattle.qs_machine.specs.Making.{MakeStep, LoseStep, make_refusal}
 use Rattle.qs_calls.specs.declared.closing.Closing.{Closing}
 use Rattle.qs_calls.specs.declared.closing.Received.{Received}
 use Rattle.qs_calls.specs.declared.closing.Closed.{Closed}
+use Rattle.qs_calls.specs.declared.token.Taken.{Taken}
+use Rattle.qs_calls.specs.declared.token.Taken.TheVariants as taken
+use Rattle.qs_calls.specs.declared.token.TakeFault.{TakeFault}
+use Rattle.qs_calls.specs.declared.token.TakeFault.TheVariants as faults
 use Rattle.qs_calls.specs.declared.event.Act.{Act}
 use Rattle.qs_calls.specs.declared.answer.Answer.{Answer}
 use Rattle.qs_machine.specs.Tables.{Tables, lookup, updated, open_to}
@@ -32,13 +37,15 @@ use Rattle.qs_machine.specs.FrameStep.{frame_taken, item_taken, named}
 use Rattle.qs_machine.specs.Receiving.{Takes, ReceiveBy, ReceiveStep}
 use Rattle.qs_machine.proofs.EndedHalves.{whole_stays}
 use Rattle.qs_machine.proofs.TableLaws.{slots_updated, slots_opened, slots_each}
-use Rattle.qs_runs.specs.Worlds.{OwnStep}
+use Rattle.qs_machine.specs.Alone.{is_ours, TakesOne, TakesEach, after_one}
+use Rattle.qs_runs.specs.Worlds.{OwnStep, HandedIn}
+use Rattle.qs_runs.proofs.Alone.{handed, none_asked}
 use Rattle.qs_runs.proofs.Changes.{Grows, AllGrow}
 use Rattle.qs_machine.proofs.EveryCall.{by_open, closed_same}
 use Rattle.qs_machine.proofs.Leaves.{acks_leave, fills_leave, losses_leave, wanted_leaves, stops_leave, end_leaves}
 use Rattle.qs_rest.specs.Invariant.{IsToldOf, ToldTrue}
 use Rattle.qs_rest.specs.Rest.{TellsNoNews}
-use Rattle.qs_rest.proofs.EachCall.{make_by, Edits, each_own}
+use Rattle.qs_rest.proofs.EachCall.{make_by, lose_by, Edits, each_own}
 
 -- One half
 
@@ -203,6 +210,9 @@ own_told old new all act answer step = each_own (λ mid. AllTold mid.recvs) old 
 pub packet_told : (old new : End) → AllTold old.recvs → (first delay room : ℕ) (answer : Result (Option Made) MakeFault) (text : List ℕ) → MakeStep old first delay room answer text new → AllTold new.recvs
 packet_told old new all first delay room answer text step = make_by (λ mid. AllTold mid.recvs) old (told_edits old all) (make_refusal old) first delay room answer text new step
 
+pub lost_told : (old new : End) → AllTold old.recvs → (k : ℕ) (answer : Result (Unit {0}) LostFault) → LoseStep old k answer new → AllTold new.recvs
+lost_told old new all k answer step = lose_by (λ mid. AllTold mid.recvs) old (told_edits old all) k answer new step
+
 -- What a payload leaves: a half whose reader was told is one of before
 
 abbrev HeldSlot : Tables RecvLane → ℕ → Option RecvLane → Type 0
@@ -289,6 +299,24 @@ module _ (t : Tables RecvLane) where
   held_takes number fault asks e (p ∷ ps) result new (inr (goes, rest)) all =
       held_takes number fault (asks || asks_ack (seen p.frame)) (frame_taken (seen p.frame) e) ps result new rest (held_frame (seen p.frame) e all)
 
+  held_one : (f : FrameValue) (e : End) (result : Result Taken TakeFault) (new : End) → is_ours (seen f) ≡ true → TakesOne e f result new → AllHeld t e.recvs → AllHeld t new.recvs
+  held_one f e (Ok taken.Took) new ours h all = held_equal (frame_taken (seen f) e).recvs new.recvs (ap (λ (x : End). x.recvs) h.1) (held_frame (seen f) e all)
+  held_one f e (Ok taken.Unchanged) new ours h all = held_equal e.recvs new.recvs (ap (λ (x : End). x.recvs) h.2) all
+  held_one f e (Ok taken.NotOurs) new ours h all = absurd h
+  held_one f e (Err faults.NoMemory) new ours h all = held_equal e.recvs new.recvs (ap (λ (x : End). x.recvs) (none_asked e new (seen f) ours h.1)) all
+  held_one f e (Err (faults.Closing closing)) new ours h all = held_equal e.recvs new.recvs (ap (λ (x : End). x.recvs) h.2) all
+  held_one f e (Err (faults.PeerClosed code)) new ours h all = absurd h
+
+  held_each : (fs : List FrameValue) (e : End) (result : Result Taken TakeFault) (new : End) → TakesEach fs e result new → AllHeld t e.recvs → AllHeld t new.recvs
+  held_each [] e result new h all = held_equal e.recvs new.recvs (ap (λ (x : End). x.recvs) h.1) all
+  held_each (f ∷ fs) e result new h all = by (is_ours (seen f)) refl h (λ mid r takes now. held_each fs mid r new takes now)
+    where
+      by : (b : Bool) → is_ours (seen f) ≡ b → MatchBool b (((mid : End) × (one : Taken) × (later : Result Taken TakeFault) × TakesOne e f (Ok one) mid × TakesEach fs mid later new × (result ≡ after_one one later)) ⊎ ((fault : TakeFault) × TakesOne e f (Err fault) new × (result ≡ Err fault))) (TakesEach fs e result new)
+          → ((mid : End) (r : Result Taken TakeFault) → TakesEach fs mid r new → AllHeld t mid.recvs → AllHeld t new.recvs) → AllHeld t new.recvs
+      by true ours (inl (mid, one, later, takes, more, is)) goes = goes mid later more (held_one f e (Ok one) mid ours takes all)
+      by true ours (inr (fault, one, is)) goes = held_one f e (Err fault) new ours one all
+      by false other more goes = goes e result more all
+
   held_settles : (e : End) → AllHeld t e.recvs → AllHeld t (settle e).recvs
   held_settles e all = slots_each (HeldSlot t) raise e.recvs (λ m. go m (lookup e.recvs m) (all m))
     where
@@ -308,6 +336,13 @@ received_held old new k text result step = by_closed old.closed step
         by_open (AllHeld old.recvs new.recvs) k text old result new step (λ low is. same is) (λ again is. same is) (λ high mid taken after.
         subst (λ x. AllHeld old.recvs x.recvs) (sym after)
         (held_settles old.recvs mid (held_takes old.recvs k (reading_of text).fault false old (reading_of text).left result mid taken (held_same old.recvs))))
+
+pub handed_held : (old new : End) (fs : List FrameValue) (result : Result Taken TakeFault) → old.closed ≡ None → HandedIn fs old result new → AllHeld old.recvs new.recvs
+handed_held old new fs result open_end step =
+    elim (handed old fs result new open_end step) [
+      | inl (mid, takes, after) ↦ subst (λ x. AllHeld old.recvs x.recvs) (sym after) (held_settles old.recvs mid (held_each old.recvs fs old result mid takes (held_same old.recvs)))
+      | inr (is, same) ↦ subst (λ x. AllHeld old.recvs x.recvs) (sym same) (held_same old.recvs)
+    ]
 
 pub receive_told : (old new : End) → AllHeld old.recvs new.recvs → AllGrow old.recvs new.recvs → AllTold old.recvs → AllTold new.recvs
 receive_told old new held grow all n = go (lookup new.recvs n) refl (held n)

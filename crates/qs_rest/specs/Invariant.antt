@@ -1,7 +1,6 @@
 -- Of laws.
 -- What holds of an end in every run, beside the invariant of qs_runs: what was acknowledged was told, and what was told took effect.
-use Rattle.std.specs.Prelude.{◌≡◌, ℕ, ◌<◌, ◌≤◌, true, ◌⊎◌, List, Some, is_some, slice_get}
-use Rattle.std.specs.List.{AllByRecursion}
+use Rattle.std.specs.Prelude.{◌≡◌, ℕ, ◌<◌, ◌≤◌, true, ◌⊎◌, Some, is_some}
 use Rattle.std.specs.FinMap as fmap
 use Rattle.std.specs.FinSet as set
 use Rattle.qs_ranges.specs.Numbers.{MAX_VARINT}
@@ -15,11 +14,11 @@ use Rattle.qs_machine.specs.Ends.{End, AckedItems, first_send_limit}
 use Rattle.qs_machine.specs.Seen.{Seen, Control}
 use Rattle.qs_machine.specs.SettledLimits.{LimitsAreSettled}
 use Rattle.qs_machine.specs.Standing.{CountsAreSettled}
-use Rattle.qs_runs.specs.Pasts.{Past, Holds, TellsAck}
+use Rattle.qs_runs.specs.Pasts.{Past, Holds, WasConfirmed, EachTaken}
 
--- the item stood in a packet that the peer acknowledged (RFC 9000, section 13.3)
+-- the item stood in a packet that was confirmed: an ACK of the peer named it, or its token was told (RFC 9000, section 13.3)
 abbrev pub WasTold : Past → Item → Type 0
-WasTold p i = (k : ℕ) × Holds p.mine k (Control i) × TellsAck p.theirs k
+WasTold p i = (k : ℕ) × Holds p.mine k (Control i) × WasConfirmed p.theirs p.tokens k
 
 -- a reset of the stream was told, and acknowledged
 abbrev pub ResetTold : Past → ℕ → Type 0
@@ -55,7 +54,7 @@ IsToldOf l = (is_some l.reset_code ≡ true) ⊎ ((is_some l.stop_code ≡ true)
 abbrev pub ToldTrue : RecvLane → Type 0
 ToldTrue l = l.told ≡ true → IsToldOf l
 
--- what a control item of a processed packet did, for good (RFC 9000, sections 3.2, 3.5 and 4.1)
+-- what a control item did that was taken, with its packet or without it, for good (RFC 9000, sections 3.2, 3.5 and 4.1)
 abbrev pub ItemTaken : End → Seen → Type 0
 ItemTaken e (Control (MaxData m)) = m ≤ e.known_data
 ItemTaken e (Control (MaxStreamData n m)) = (l : SendLane) × (lookup e.sends n ≡ Some l) × (m ≤ l.limit)
@@ -73,6 +72,6 @@ pub record RestOk (p : Past) (e : End) : Type 0 where
   pub sends : (n : ℕ) (l : SendLane) → lookup e.sends n ≡ Some l → HalfTrue p n (first_send_limit e n) l
   pub acked : AckedTrue p e.acked
   pub told : (n : ℕ) (l : RecvLane) → lookup e.recvs n ≡ Some l → ToldTrue l
-  pub taken : (k : ℕ) → p.processed k ≡ true → (fs : List Seen) × (slice_get p.theirs k ≡ Some fs) × AllByRecursion (ItemTaken e) fs
+  pub taken : EachTaken p.theirs p.processed p.took (ItemTaken e)
   pub limits : LimitsAreSettled e
   pub counts : CountsAreSettled e

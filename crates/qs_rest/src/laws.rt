@@ -2,6 +2,7 @@
 
 ghost use Rattle.qs_rest.specs.Laws.{ItemsAreInOnePart, AllButAcksAsk, StopsGiveBack};
 ghost use Rattle.qs_rest.specs.Rest.{EveryRunKeeps, IdleIsRest};
+ghost use Rattle.qs_rest.specs.Again.{FramesRepeat};
 ghost use Rattle.qs_rest.specs.Exclusions.{Exclusions};
 ghost use Rattle.qs_rest.specs.Resting.{ItemsAreAcked, ToldIsTaken, AtEachRest, OnceTold, FirstLimitsStay, TakenInIsTold, EventRunsTell, KnowsItsLimits, CreditIsWhole, HasCreditAhead, ResetsAreFinal, AllIsDelivered};
 
@@ -45,6 +46,11 @@ pub fn first_limits_stay()
     ensures stay { FirstLimitsStay }
     ensures taken_in { TakenInIsTold }
     ensures events { EventRunsTell }
+{}
+
+/// Frames that come without their packet, each of which took effect before, with it or without it, change nothing.
+pub fn frames_repeat()
+    ensures { FramesRepeat }
 {}
 
 /// At rest each limit that is granted is known, and each count of streams, and that is the next one; of an end that was told its peer's

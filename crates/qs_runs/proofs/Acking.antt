@@ -22,7 +22,7 @@ use Rattle.qs_send.specs.Records.{Among}
 use Rattle.qs_runs.proofs.Lists.{All_append, All_filter, All_reverse}
 use Rattle.qs_runs.proofs.Members.{run-cases, run-old, get-inserted, get-removed}
 use Rattle.qs_runs.proofs.Base.{missing-more}
-use Rattle.qs_runs.specs.Pasts.{Past, PieceOf, Tells, TellsAck}
+use Rattle.qs_runs.specs.Pasts.{Past, PieceOf, Tells, WasConfirmed}
 use Rattle.qs_runs.specs.Invariant.{EndOk, SendOk, StoodIn}
 use Rattle.qs_runs.proofs.Changes.{send_kept}
 
@@ -108,8 +108,8 @@ module _ (p : Past) (n limit : ℕ) (l : SendLane) (h : SendOk p n limit l) wher
   pub reset_end : (code : ℕ) → (reset_lane l code).sent_end ≡ l.sent_end
   reset_end code = end_by code (is_some (reset_refusal l))
 
-  -- what is acknowledged stood in packet k, which the peer acknowledged
-  pub acked_ok : (k : ℕ) (c : Chunk) → PieceOf p.mine k (Data n c) → TellsAck p.theirs k → SendOk p n limit (acked_lane l c)
+  -- what is acknowledged stood in packet k, which was confirmed
+  pub acked_ok : (k : ℕ) (c : Chunk) → PieceOf p.mine k (Data n c) → WasConfirmed p.theirs p.tokens k → SendOk p n limit (acked_lane l c)
   acked_ok k c (bytes, holds, is) ack =
       let now : ℕ = missing_from (set.union l.acked (chunk_offsets c)) 0 in
       let rises : unacked_from l ≤ now = missing-more l.acked (set.union l.acked (chunk_offsets c)) (λ q old. run-old l.acked c.offset (c.offset + c.len) q old) in
@@ -153,9 +153,9 @@ module _ (p : Past) (n limit : ℕ) (l : SendLane) (h : SendOk p n limit l) wher
 
 -- An end
 
--- it is a piece of a packet that the peer acknowledged
+-- it is a piece of a packet that was confirmed
 abbrev pub WasAcked : Past → AckedPiece → Type 0
-WasAcked p a = PieceOf p.mine a.number a.piece × TellsAck p.theirs a.number
+WasAcked p a = PieceOf p.mine a.number a.piece × WasConfirmed p.theirs p.tokens a.number
 
 module _ (p : Past) where
   without_first_ok : (m : Records) (k : ℕ) → StoodIn p.mine m → (o : Option (List Piece)) → fmap.get m k ≡ o → StoodIn p.mine (without_first m k o)
@@ -206,7 +206,7 @@ module _ (p : Past) where
   item_acked_ok e (StreamsBlocked Uni m) ok = with_items e _ ok
   item_acked_ok e i ok = with_items e _ ok
 
-  piece_acked_ok : (e : End) (k : ℕ) (piece : Piece) → PieceOf p.mine k piece → TellsAck p.theirs k → EndOk p e → EndOk p (piece_acked piece e)
+  piece_acked_ok : (e : End) (k : ℕ) (piece : Piece) → PieceOf p.mine k piece → WasConfirmed p.theirs p.tokens k → EndOk p e → EndOk p (piece_acked piece e)
   piece_acked_ok e k (Data n c) stood ack ok = send_kept p e n ok (λ l. acked_lane l c) (λ l is h. (acked_ok p n (first_send_limit e n) l h k c stood ack, refl))
   piece_acked_ok e k (Told i) stood ack ok = item_acked_ok e i ok
 
@@ -218,30 +218,30 @@ module _ (p : Past) where
 -- The pieces that an ACK takes
 
 module _ (p : Past) (late : Bool) (m : Records) (stood : StoodIn p.mine m) where
-  all_acked : (k : ℕ) → TellsAck p.theirs k → (ps : List Piece) → ((piece : Piece) → Among piece ps → PieceOf p.mine k piece) → AllByRecursion (WasAcked p) (map (acked_at late k) ps)
+  all_acked : (k : ℕ) → WasConfirmed p.theirs p.tokens k → (ps : List Piece) → ((piece : Piece) → Among piece ps → PieceOf p.mine k piece) → AllByRecursion (WasAcked p) (map (acked_at late k) ps)
   all_acked k ack [] all = tt
   all_acked k ack (x ∷ ps) all = ((all x (inl refl), ack), all_acked k ack ps (λ piece a. all piece (inr a)))
 
-  pieces_ok : (k : ℕ) → TellsAck p.theirs k → AllByRecursion (WasAcked p) (pieces_of late m k)
+  pieces_ok : (k : ℕ) → WasConfirmed p.theirs p.tokens k → AllByRecursion (WasAcked p) (pieces_of late m k)
   pieces_ok k ack = go (fmap.get m k) refl
     where
       go : (o : Option (List Piece)) → fmap.get m k ≡ o → AllByRecursion (WasAcked p) (elim o [ None ↦ [] | Some ps ↦ map (acked_at late k) ps ])
       go None is = tt
       go (Some ps) is = all_acked k ack ps (λ piece a. stood k ps piece is a)
 
-  taken_pieces_ok : (numbers : List ℕ) → AllByRecursion (TellsAck p.theirs) numbers → AllByRecursion (WasAcked p) (flat_map (pieces_of late m) numbers)
+  taken_pieces_ok : (numbers : List ℕ) → AllByRecursion (WasConfirmed p.theirs p.tokens) numbers → AllByRecursion (WasAcked p) (flat_map (pieces_of late m) numbers)
   taken_pieces_ok [] told = tt
   taken_pieces_ok (k ∷ ks) told = All_append (WasAcked p) (pieces_of late m k) _ (pieces_ok k told.0) (taken_pieces_ok ks told.1)
 
-  named_told : (ranges : List (ℕ × ℕ)) → ((k : ℕ) → is_named ranges k ≡ true → TellsAck p.theirs k) → (ks : List ℕ) → AllByRecursion (λ k. is_named ranges k ≡ true) ks → AllByRecursion (TellsAck p.theirs) ks
+  named_told : (ranges : List (ℕ × ℕ)) → ((k : ℕ) → is_named ranges k ≡ true → WasConfirmed p.theirs p.tokens k) → (ks : List ℕ) → AllByRecursion (λ k. is_named ranges k ≡ true) ks → AllByRecursion (WasConfirmed p.theirs p.tokens) ks
   named_told ranges told [] all = tt
   named_told ranges told (k ∷ ks) all = (told k all.0, named_told ranges told ks all.1)
 
-  named_in_ok : (ranges : List (ℕ × ℕ)) → ((k : ℕ) → is_named ranges k ≡ true → TellsAck p.theirs k) → AllByRecursion (WasAcked p) (named_in late m ranges)
+  named_in_ok : (ranges : List (ℕ × ℕ)) → ((k : ℕ) → is_named ranges k ≡ true → WasConfirmed p.theirs p.tokens k) → AllByRecursion (WasAcked p) (named_in late m ranges)
   named_in_ok ranges told =
       taken_pieces_ok (acked_numbers m ranges)
       (named_told ranges told (acked_numbers m ranges) (All_reverse _ (filter (is_named ranges) (fmap.keys m)) (All_filter (is_named ranges) (fmap.keys m))))
 
-pub named_pieces_ok : (p : Past) (e : End) → EndOk p e → (ranges : List (ℕ × ℕ)) → ((k : ℕ) → is_named ranges k ≡ true → TellsAck p.theirs k) → AllByRecursion (WasAcked p) (named e ranges)
+pub named_pieces_ok : (p : Past) (e : End) → EndOk p e → (ranges : List (ℕ × ℕ)) → ((k : ℕ) → is_named ranges k ≡ true → WasConfirmed p.theirs p.tokens k) → AllByRecursion (WasAcked p) (named e ranges)
 named_pieces_ok p e ok ranges told =
     All_append (WasAcked p) (named_in false e.outstanding ranges) _ (named_in_ok p false e.outstanding ok.packets.records ranges told) (named_in_ok p true e.lost.pieces ok.packets.lost_records ranges told)

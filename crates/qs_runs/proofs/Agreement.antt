@@ -1,5 +1,5 @@
 -- What the two halves of the invariant say together: of one lane, p is the past of its sender and q that of its receiver.
-use Rattle.std.proofs.Common.{◌≡◌, ℕ, ◌+◌, ◌-◌, ◌<◌, Bool, true, false, ◌==◌, List, length, Option, Some, None, slice_get, refl, sym, ap, ◌∙◌, arith, inl, inr, if◌then◌else◌, subst}
+use Rattle.std.proofs.Common.{◌≡◌, ℕ, ◌+◌, ◌-◌, ◌<◌, Bool, true, false, ◌==◌, length, Option, Some, None, slice_get, refl, sym, ap, ◌∙◌, arith, inl, inr, if◌then◌else◌, subst}
 use Rattle.std.proofs.lemmas.Option.{none-some, same_Some}
 use Rattle.std.proofs.lemmas.Bool.{and_parts, eqb-true}
 use Rattle.std.specs.FinSet as set
@@ -8,12 +8,13 @@ use Rattle.qs_send.specs.Lane.{SendLane, state, is_whole, declared_size, unacked
 use Rattle.qs_send.specs.declared.parts.Reset.{Reset}
 use Rattle.qs_send.specs.declared.parts.SendState.TheVariants.{Ready, Send, DataSent, DataRecvd}
 use Rattle.qs_machine.specs.Ends.{End, recv_lane}
-use Rattle.qs_machine.specs.Seen.{Stream}
+use Rattle.qs_machine.specs.Seen.{Seen, Stream}
+use Rattle.qs_machine.specs.Alone.{is_ours}
 use Rattle.qs_runs.specs.Agree.{IsPrefixOf}
-use Rattle.qs_runs.proofs.Lists.{prefix_by_place, same_length_prefix, All_at}
+use Rattle.qs_runs.proofs.Lists.{prefix_by_place, same_length_prefix}
 use Rattle.qs_runs.proofs.Base.{before-missing}
-use Rattle.qs_runs.specs.Pasts.{Past, Holds, TellsByte, TellsEnd, TellsReset, TellsAck}
-use Rattle.qs_runs.specs.Invariant.{SendOk, SendSlot, RecvOk, RecvSlot, PacketsOk, FrameTaken, TakenOk}
+use Rattle.qs_runs.specs.Pasts.{Past, Holds, TellsByte, TellsEnd, TellsReset, WasConfirmed}
+use Rattle.qs_runs.specs.Invariant.{SendOk, SendSlot, RecvOk, RecvSlot, FrameTaken}
 
 module _ (p q : Past) (n limit window : ℕ) (from : q.theirs ≡ p.mine) where
   -- a byte that stands in a packet was written
@@ -98,14 +99,8 @@ acked_state l e = go l.reset_acked l.was_reset (is_whole l) refl refl refl
     go false None true ea eo ec = (eo, ec)
     go false None false ea eo ec = absurd (not_acked_state _ _ (rw (ea, eo, ec) at e))
 
-module _ (p q : Past) (n limit window : ℕ) (from : q.theirs ≡ p.mine) (back : p.theirs ≡ q.mine) (f : End) (packets : PacketsOk q f.next f.outstanding f.lost.pieces f.done f.floor) (all_taken : TakenOk q f.recvs) (recvs : RecvSlot q n window (recv_lane f n)) where
-  -- what a packet that the peer acknowledged tells of the lane was taken in
-  acked_taken : (k offset : ℕ) (bytes : List ℕ) (fin : Bool) → Holds p.mine k (Stream n offset bytes fin) → TellsAck p.theirs k → FrameTaken f.recvs (Stream n offset bytes fin)
-  acked_taken k offset bytes fin (fs, is, a) (largest, ranges, t, named) =
-      let (gs, there, all) = all_taken k ((packets.acks_told largest ranges (rw back at t)).names_processed k named) in
-      let same : gs ≡ fs = same_Some gs fs (sym there ∙ ap (λ x. slice_get x k) from ∙ is) in
-      All_at (FrameTaken f.recvs) fs _ (rw same at all) a
-
+module _ (p q : Past) (n limit window : ℕ) (from : q.theirs ≡ p.mine) (f : End) (recvs : RecvSlot q n window (recv_lane f n))
+    (acked_taken : (k : ℕ) (g : Seen) → Holds p.mine k g → WasConfirmed p.theirs p.tokens k → is_ours g ≡ true → FrameTaken f.recvs g) where
   -- without a reset at the sender there is none at the receiver
   no_reset_known : (l : SendLane) (r : RecvLane) → SendOk p n limit l → l.was_reset ≡ None → recv_lane f n ≡ Some r → r.reset_code ≡ None
   no_reset_known l r h none is = go r.reset_code refl
@@ -126,14 +121,14 @@ module _ (p q : Past) (n limit window : ℕ) (from : q.theirs ≡ p.mine) (back 
       let parts : ((unacked_from l == l.written) ≡ true) × (l.fin_acked ≡ true) = and_parts _ _ all in
       let same_end : unacked_from l ≡ l.written = eqb-true (unacked_from l) l.written parts.0 in
       let (k, offset, bytes, holds, ack) = h.end_acked parts.1 in
-      let (r, is, taken) = acked_taken k offset bytes true holds ack in
+      let (r, is, taken) = acked_taken k (Stream n offset bytes true) holds ack refl in
       let end = (h.told offset bytes true (k, holds)).end refl in (
         r,
         is,
         taken.end refl ∙ ap Some (end.1 ∙ sym h.count),
         λ x lt.
             let (j, at, bs, fin, has_it, low, high, ack') = h.acked x (before-missing l.acked x (omega (arith, h.count, same_end))) in
-            let (r', is', taken') = acked_taken j at bs fin has_it ack' in
+            let (r', is', taken') = acked_taken j (Stream n at bs fin) has_it ack' refl in
             let same : r' ≡ r = same_Some r' r (sym is' ∙ is) in
             rw same at (taken'.offsets (no_reset_known l r' h none is') x low high),
       )

@@ -2,6 +2,10 @@
 use Rattle.std.proofs.Common.{◌≡◌, ℕ, List, Some, Result, true, sym, subst, refl, ap, ◌∙◌, slice_get}
 use Rattle.std.proofs.lemmas.Option.{same_Some}
 use Rattle.std.specs.List.{AllByRecursion}
+use Rattle.qs_wire.specs.Grammar.{frames_of}
+use Rattle.qs_wire.specs.Reading.{reading_of}
+use Rattle.qs_calls.specs.declared.token.Taken.{Taken}
+use Rattle.qs_calls.specs.declared.token.TakeFault.{TakeFault}
 use Rattle.qs_calls.specs.declared.settings.Settings.{Settings}
 use Rattle.qs_calls.specs.declared.closing.Closing.{Closing}
 use Rattle.qs_calls.specs.declared.closing.Received.{Received}
@@ -9,6 +13,7 @@ use Rattle.qs_machine.specs.Tables.{lookup}
 use Rattle.qs_machine.specs.Ends.{End, first_send_limit, window}
 use Rattle.qs_machine.specs.Credit.{spent}
 use Rattle.qs_machine.specs.Receiving.{ReceiveStep}
+use Rattle.qs_machine.specs.Seen.{seen_all}
 use Rattle.qs_machine.proofs.Plains.{plain_nothing}
 use Rattle.qs_calls.specs.declared.event.Side.{Side}
 use Rattle.qs_calls.specs.declared.event.Side.TheVariants.{A, B}
@@ -16,15 +21,17 @@ use Rattle.qs_calls.specs.declared.event.Act.{Act}
 use Rattle.qs_calls.specs.declared.event.Act.TheVariants as acts
 use Rattle.qs_calls.specs.declared.answer.Answer.{Answer}
 use Rattle.qs_calls.specs.declared.answer.Answer.TheVariants as answers
-use Rattle.qs_runs.specs.Logs.{Happening, Did, CameWith, History, other, payload, processed}
-use Rattle.qs_runs.specs.Worlds.{World, end_of, DeliverStep, ComeWithStep, EventStep, WorldStep}
-use Rattle.qs_runs.specs.Agree.{Agree, PrefixAgrees, WholeAgrees, FinalSizesAgree, CreditAgrees, StaysOpen, RepeatAgrees, EventAgrees, StepAgrees, EveryRunAgrees, IsOld, frames_in}
-use Rattle.qs_runs.specs.Invariant.{WorldOk, SendSlot, RecvSlot}
+use Rattle.qs_runs.specs.Logs.{Happening, Did, CameWith, CameAlone, History, other, payload, processed, StandAt}
+use Rattle.qs_runs.specs.Worlds.{World, end_of, DeliverStep, ComeWithStep, ComeAloneStep, EventStep, WorldStep}
+use Rattle.qs_runs.specs.Agree.{Agree, PrefixAgrees, WholeAgrees, FinalSizesAgree, CreditAgrees, StaysOpen, RepeatAgrees, EventAgrees, FramesAgree, StepAgrees, EveryRunAgrees, IsOld, frames_in}
+use Rattle.qs_runs.specs.Invariant.{WorldOk, SendSlot, RecvSlot, FrameTaken}
 use Rattle.qs_runs.proofs.Unharmed.{spent_le}
 use Rattle.qs_runs.proofs.Agreement.{prefix_agrees, whole_agrees, received_agrees, size_agrees, reset_agrees}
-use Rattle.qs_runs.proofs.Repeats.{repeats, spends_nothing}
+use Rattle.qs_runs.proofs.Repeats.{repeats, spends_nothing, frames_spend}
+use Rattle.qs_runs.proofs.Alone.{stand_among, stand_same}
 use Rattle.qs_runs.specs.Pasts.{past}
 use Rattle.qs_runs.proofs.Histories.{theirs_mine, payload_seen}
+use Rattle.qs_runs.proofs.Landing.{confirmed_taken}
 use Rattle.qs_runs.proofs.Runs.{ends_face, is_open_end, run_keeps}
 
 module _ (a b : Settings) (h : History) (w : World) (ok : WorldOk a b h w) where
@@ -41,7 +48,7 @@ module _ (a b : Settings) (h : History) (w : World) (ok : WorldOk a b h w) where
   whole s n l there =
       let sender : End = end_of w s in
       let receiver : End = end_of w (other s) in
-      received_agrees (past s h) (past (other s) h) n (first_send_limit sender n) (window receiver n) (theirs_mine s h) refl receiver (ok.ends (other s)).packets (ok.ends (other s)).taken ((ok.ends (other s)).recvs n) l
+      received_agrees (past s h) (past (other s) h) n (first_send_limit sender n) (window receiver n) (theirs_mine s h) receiver ((ok.ends (other s)).recvs n) (confirmed_taken a b h w ok s (FrameTaken receiver.recvs) (ok.ends (other s)).taken) l
       (subst (SendSlot (past s h) n (first_send_limit sender n)) there ((ok.ends s).sends n))
 
   pub final_sizes : (s : Side) (n : ℕ) → FinalSizesAgree w s n
@@ -70,17 +77,18 @@ module _ (a b : Settings) (h : History) (w : World) (ok : WorldOk a b h w) where
   again_at : (s : Side) (k : ℕ) (bytes : List ℕ) (result : Result Received Closing) (new : End) → ReceiveStep (end_of w (other s)) k bytes result new → processed (other s) k h ≡ true → new ≡ end_of w (other s)
   again_at s k bytes result new step done = repeats (past (other s) h) (end_of w (other s)) new k bytes result (ok.ends (other s)) (is_open_end a b h w ok (other s)) step done
 
+  -- a packet has one payload
+  same_text : (s : Side) (k : ℕ) (text t : List ℕ) → payload (other (other s)) k h ≡ Some t → payload s k h ≡ Some text → t ≡ text
+  same_text A k text t x y = same_Some t text (sym x ∙ y)
+  same_text B k text t x y = same_Some t text (sym x ∙ y)
+
   -- its payload tells nothing new
   old_news_at : (s : Side) (k : ℕ) (text : List ℕ) (result : Result Received Closing) (new : End) → payload s k h ≡ Some text → ReceiveStep (end_of w (other s)) k text result new →
       (t : List ℕ) → payload (other (other s)) k h ≡ Some t → AllByRecursion (IsOld (end_of w (other s))) (frames_in t) → spent new ≡ spent (end_of w (other s))
   old_news_at s k text result new is step t at all =
       let there = ap (λ x. slice_get x k) (theirs_mine s h) ∙ payload_seen s k h text is in
       spends_nothing (past (other s) h) (end_of w (other s)) new k text result (ok.ends (other s)) there (is_open_end a b h w ok (other s)) step
-      (subst (λ x. AllByRecursion (IsOld (end_of w (other s))) (frames_in x)) (same_text s at is) all)
-    where
-      same_text : (s : Side) → payload (other (other s)) k h ≡ Some t → payload s k h ≡ Some text → t ≡ text
-      same_text A x y = same_Some t text (sym x ∙ y)
-      same_text B x y = same_Some t text (sym x ∙ y)
+      (subst (λ x. AllByRecursion (IsOld (end_of w (other s))) (frames_in x)) (same_text s k text t at is) all)
 
   repeat_agrees : (s : Side) (k : ℕ) (answer : Answer) (new : World) → DeliverStep h w s k answer new → RepeatAgrees h w new (other s) k
   repeat_agrees s k (answers.Deliver result) new (text, is, step, same) = record { again = again_at s k text result (end_of new (other s)) step; old_news = old_news_at s k text result (end_of new (other s)) is step }
@@ -94,6 +102,16 @@ module _ (a b : Settings) (h : History) (w : World) (ok : WorldOk a b h w) where
         old_news = λ t at all. ap spent alike ∙ old_news_at s k text result bare is received t at all;
       }
 
+  -- frames come without their packet
+  frames_agree : (s : Side) (k : ℕ) (places : List ℕ) (result : Result Taken TakeFault) (new : World) → ComeAloneStep h w s k places result new → FramesAgree h w new (other s) k places
+  frames_agree s k places result new (fs, (text, is, stand), came, same) gs (t, at, stood) all =
+      let this : t ≡ text = same_text s k text t at is in
+      let alike : gs ≡ fs = stand_same (frames_of (reading_of text).left) places gs fs (subst (λ x. StandAt (frames_of (reading_of x).left) places gs) this stood) stand in
+      let there = ap (λ x. slice_get x k) (theirs_mine s h) ∙ payload_seen s k h text is in
+      frames_spend (past (other s) h) (end_of w (other s)) (end_of new (other s)) fs result (ok.ends (other s)) (is_open_end a b h w ok (other s))
+      (λ g a. (k, (frames_in text, there, stand_among (frames_of (reading_of text).left) places fs stand g a)))
+      (subst (λ xs. AllByRecursion (IsOld (end_of w (other s))) (seen_all xs)) alike all) came
+
   event_agrees : (s : Side) (act : Act) (answer : Answer) (new : World) → EventStep h w s act answer new → EventAgrees h w s act new
   event_agrees s (acts.Deliver k) answer new step = repeat_agrees s k answer new step
   event_agrees s act answer new step = tt
@@ -101,6 +119,7 @@ module _ (a b : Settings) (h : History) (w : World) (ok : WorldOk a b h w) where
   pub step_agrees : (x : Happening) (new : World) → WorldStep h w x new → StepAgrees h w x new
   step_agrees (Did event answer) new step = event_agrees event.end event.act answer new step
   step_agrees (CameWith s k bytes result) new step = came_agrees s k bytes result new step
+  step_agrees (CameAlone s k places result) new step = frames_agree s k places result new step
   step_agrees x new step = tt
 
 pub every_run_agrees : EveryRunAgrees

@@ -11,6 +11,7 @@ use Rattle.qs_machine.specs.Tables.{Tables, lookup, update, updated}
 use Rattle.qs_machine.specs.Ends.{End, first_send_limit, window, on_send}
 use Rattle.qs_machine.specs.Seen.{Seen, Stream, Control}
 use Rattle.qs_runs.specs.Pasts.{Past}
+use Rattle.qs_runs.proofs.Past.{each_taken}
 use Rattle.qs_runs.specs.Invariant.{EndOk, SendOk, SendSlot, RecvOk, RecvSlot, FrameTaken, StreamTaken, TakenOk, OpenOk, is_open}
 use Rattle.qs_machine.proofs.TableLaws.{lookup_same, lookup_other, slots_updated, total_update}
 
@@ -44,7 +45,7 @@ every_stays t u grow [] all = tt
 every_stays t u grow (f ∷ fs) all = (frame_stays t u grow f all.0, every_stays t u grow fs all.1)
 
 pub taken_stays : (p : Past) (t u : Tables RecvLane) → AllGrow t u → TakenOk p t → TakenOk p u
-taken_stays p t u grow ok k is = (let (fs, there, all) = ok k is in (fs, there, every_stays t u grow fs all))
+taken_stays p t u grow ok = each_taken p.theirs p.processed p.took (FrameTaken t) (FrameTaken u) (frame_stays t u grow) ok
 
 -- a change of a lane opens nothing
 pub open_update : {X : Type 0} (t : Tables X) (n : ℕ) (x y : X) → lookup t n ≡ Some x → is_open (update t n y) ≡ is_open t

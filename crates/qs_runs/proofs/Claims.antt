@@ -16,13 +16,13 @@ use Rattle.qs_calls.specs.declared.closing.Received.{Received}
 use Rattle.qs_calls.specs.declared.closing.Received.TheVariants.{Done, Duplicate, BelowFloor, PeerClosed, NoMemory}
 use Rattle.qs_calls.specs.declared.making.MakeFault.{MakeFault}
 use Rattle.qs_calls.specs.declared.event.Side.{Side}
-use Rattle.qs_calls.specs.declared.event.Side.TheVariants.{A, B}
+use Rattle.qs_calls.specs.declared.event.Side.TheVariants.{A}
 use Rattle.qs_calls.specs.declared.event.Act.{Act}
 use Rattle.qs_calls.specs.declared.event.Act.TheVariants as acts
 use Rattle.qs_calls.specs.declared.answer.Answer.{Answer}
 use Rattle.qs_calls.specs.declared.answer.Answer.TheVariants as answers
 use Rattle.qs_machine.specs.Tables.{each}
-use Rattle.qs_machine.specs.Ends.{End, new_end, end_made}
+use Rattle.qs_machine.specs.Ends.{End, new_end, wide_end_made}
 use Rattle.qs_machine.specs.Credit.{settle}
 use Rattle.qs_machine.specs.Seen.{Seen, Plain, seen, seen_all, asks_ack}
 use Rattle.qs_machine.specs.Verdicts.{verdict}
@@ -30,14 +30,14 @@ use Rattle.qs_machine.specs.FrameStep.{frame_taken}
 use Rattle.qs_machine.specs.Recording.{recorded}
 use Rattle.qs_machine.specs.Receiving.{ReceiveStep, ReceiveBy, Takes, Stops, GoesOn, AtEnd}
 use Rattle.qs_machine.specs.Making.{ClaimStep, claim_refusal, first_lost}
-use Rattle.qs_machine.specs.EndStep.{Call, Answer as CallAnswer, EndStep, Receive, MakeAck, RaiseLimits}
+use Rattle.qs_machine.specs.EndStep.{Call, Answer as CallAnswer, EndStep, Receive, TakeFrame, TakeFrames, TokenAcked, TokenLost, MakeAck, FillIn, RaiseLimits}
 use Rattle.qs_machine.specs.Repeats.{OnlyRecords}
 use Rattle.qs_machine.proofs.Bounds.{new_ends_settled as new_counts_settled}
 use Rattle.qs_machine.proofs.EveryCall.{ends_by, by_open}
 use Rattle.qs_machine.proofs.ProcessedAgain.{settle_twice}
 use Rattle.qs_machine.proofs.SettledLimits.{new_ends_settled}
 use Rattle.qs_machine.proofs.Plains.{plain_nothing}
-use Rattle.qs_runs.specs.Logs.{Happening, Did, MadeAck, RaisedLimits, CameWith, History, other, made, payload, ping_text}
+use Rattle.qs_runs.specs.Logs.{Happening, Did, MadeAck, FilledIn, AckedToken, LostToken, RaisedLimits, CameWith, CameAlone, History, other, made, payload, ping_text}
 use Rattle.qs_runs.specs.Worlds.{World, end_of, Begins, EventStep, WorldStep, Run}
 use Rattle.qs_runs.specs.Agree.{frames_in}
 use Rattle.qs_runs.specs.Invariant.{WorldOk}
@@ -52,7 +52,7 @@ use Rattle.qs_runs.proofs.Runs.{two_sides, run_keeps, is_open_end}
 
 -- In every run each end stands as its last call left it.
 
-begun_settled : (role : Role) (s : Settings) (p : PeerLimits) → end_made role s p ≡ Ok (new_end role s p) → settle (new_end role s p) ≡ new_end role s p
+begun_settled : (role : Role) (s : Settings) (p : PeerLimits) → wide_end_made role s p ≡ Ok (new_end role s p) → settle (new_end role s p) ≡ new_end role s p
 unfolding each
 begun_settled role s p begun =
     let limits = new_ends_settled role s p (new_end role s p) begun in
@@ -77,9 +77,12 @@ module _ (h : History) (v w : World) (s : Side) (settled : (t : Side) → settle
   alone_settled call answer step same =
       two_sides (λ t. settle (end_of w t) ≡ end_of w t) s (call_settled (end_of v s) call answer (end_of w s) (settled s) step) (same_settled (end_of v (other s)) (end_of w (other s)) same (settled (other s)))
 
+  there_settled : (call : Call) (answer : CallAnswer call) → EndStep (end_of v (other s)) call answer (end_of w (other s)) → end_of w s ≡ end_of v s → (t : Side) → settle (end_of w t) ≡ end_of w t
+  there_settled call answer step same =
+      two_sides (λ t. settle (end_of w t) ≡ end_of w t) s (same_settled (end_of v s) (end_of w s) same (settled s)) (call_settled (end_of v (other s)) call answer (end_of w (other s)) (settled (other s)) step)
+
   comes_settled : (k : ℕ) (bytes : List ℕ) (result : Result Received Closing) → ReceiveStep (end_of v (other s)) k bytes result (end_of w (other s)) → end_of w s ≡ end_of v s → (t : Side) → settle (end_of w t) ≡ end_of w t
-  comes_settled k bytes result step same =
-      two_sides (λ t. settle (end_of w t) ≡ end_of w t) s (same_settled (end_of v s) (end_of w s) same (settled s)) (call_settled (end_of v (other s)) (Receive k bytes) result (end_of w (other s)) (settled (other s)) step)
+  comes_settled k bytes result step same = there_settled (Receive k bytes) result step same
 
   event_settled : (act : Act) (answer : Answer) → EventStep h v s act answer w → (t : Side) → settle (end_of w t) ≡ end_of w t
   event_settled (acts.Deliver k) (answers.Deliver result) (text, is, step, same) = comes_settled k text result step same
@@ -89,10 +92,15 @@ module _ (h : History) (v w : World) (s : Side) (settled : (t : Side) → settle
 step_settled : (h : History) (v w : World) → ((t : Side) → settle (end_of v t) ≡ end_of v t) → (x : Happening) → WorldStep h v x w → (t : Side) → settle (end_of w t) ≡ end_of w t
 step_settled h v w settled (Did event answer) step = event_settled h v w event.end settled event.act answer step
 step_settled h v w settled (MadeAck s room result text) ((delay, step), same) = alone_settled h v w s settled (MakeAck delay room) (result, text) step same
+step_settled h v w settled (FilledIn s want room result text) (step, same) = alone_settled h v w s settled (FillIn want room) (result, text) step same
+step_settled h v w settled (LostToken s token result) (step, same) = alone_settled h v w s settled (TokenLost token) result step same
+step_settled h v w settled (AckedToken s token result) ((landed, step), same) = alone_settled h v w s settled (TokenAcked token) result step same
 step_settled h v w settled (RaisedLimits s limits result) ((granted, step), same) = alone_settled h v w s settled (RaiseLimits limits) result step same
 step_settled h v w settled (CameWith s k bytes result) (text, is, differ, step, same) = comes_settled h v w s settled k bytes result step same
+step_settled h v w settled (CameAlone s k places result) (fs, there, inl step, same) = there_settled h v w s settled (TakeFrames fs) result step same
+step_settled h v w settled (CameAlone s k places result) (fs, there, inr (f, is, step), same) = there_settled h v w s settled (TakeFrame f) result step same
 
-run_settled : (a b : Settings) (h : History) (w : World) → Run a b h w → (s : Side) → settle (end_of w s) ≡ end_of w s
+pub run_settled : (a b : Settings) (h : History) (w : World) → Run a b h w → (s : Side) → settle (end_of w s) ≡ end_of w s
 run_settled a b [] w begins = first_settled a b w begins
 run_settled a b (x ∷ h) w (v, before, step) = step_settled h v w (run_settled a b h v before) x step
 

@@ -1,6 +1,7 @@
 -- Each clause follows from the invariant of the two ends.
 use Rattle.std.proofs.Common.{◌≡◌, ℕ, ◌+◌, ◌<◌, ◌≤◌, ◌⊎◌, List, length, Option, None, Some, is_some, slice_get, option_map, Bool, true, false, not, sym, subst, refl, ap, ◌∙◌, arith, inl, inr, if◌then◌else◌}
 use Rattle.std.proofs.lemmas.Option.{none-some, same_Some, slice_get-map}
+use Rattle.std.specs.List.{AllByRecursion}
 use Rattle.qs_recv.specs.Lane.{RecvLane}
 use Rattle.qs_send.specs.Lane.{SendLane}
 use Rattle.qs_send.specs.declared.piece.Item.TheVariants.{ResetStream}
@@ -9,22 +10,20 @@ use Rattle.qs_machine.specs.Tables.{index_of}
 use Rattle.qs_machine.specs.Ends.{End, first_send_limit, window, is_own, is_uni}
 use Rattle.qs_send.specs.Records.{Among}
 use Rattle.qs_machine.specs.Seen.{Seen, Stream, Control}
+use Rattle.qs_machine.specs.Alone.{is_ours}
 use Rattle.qs_calls.specs.declared.event.Side.{Side}
-use Rattle.qs_runs.specs.Logs.{History, other, processed, written, made}
+use Rattle.qs_runs.specs.Logs.{History, other, payload, written, made}
 use Rattle.qs_runs.specs.Worlds.{World, end_of}
 use Rattle.qs_runs.specs.Agree.{frames_in}
-use Rattle.qs_runs.specs.Pasts.{past, Holds, Tells, IsNamed}
+use Rattle.qs_runs.specs.Pasts.{past, Holds, Tells, WasConfirmed, Landed, IsNamed}
 use Rattle.qs_runs.specs.Invariant.{WorldOk, EndOk, SendSlot, RecvSlot, FrameTaken}
-use Rattle.qs_runs.specs.Clauses.{Carries, sending, receiving, PiecesAreWritten, ReceivedIsBelowSent, StoredIsWritten, ReadIsWritten, ProcessedWasTaken, ProcessedResetWasTaken, AckedWasProcessed, FinalSizeIsDeclared, ResetCodeIsTheSenders, SentIsWithinKnown, KnownIsWithinGranted, IsOpen, IsOpenAtInitiator, known_for, OpenedIsBelowKnown}
+use Rattle.qs_runs.specs.Clauses.{Carries, CarriesAt, HasArrived, sending, receiving, PiecesAreWritten, ReceivedIsBelowSent, StoredIsWritten, ReadIsWritten, ArrivedWasTaken, ArrivedResetWasTaken, AckedHasArrived, FinalSizeIsDeclared, ResetCodeIsTheSenders, SentIsWithinKnown, KnownIsWithinGranted, IsOpen, IsOpenAtInitiator, known_for, OpenedIsBelowKnown}
 use Rattle.qs_runs.proofs.Lists.{All_at}
 use Rattle.qs_runs.proofs.Unharmed.{Facing, lane_limit, own_sends, final_sent, data_granted}
 use Rattle.qs_runs.proofs.Agreement.{byte_written, gave_written, end_written, written_count, size_agrees, reset_agrees}
 use Rattle.qs_runs.proofs.Histories.{theirs_mine, payload_seen, seen_made}
+use Rattle.qs_runs.proofs.Landing.{among_at, at_among, mapped_some, confirmed_landed}
 use Rattle.qs_runs.proofs.Runs.{opposite, ends_face}
-
-mapped_some : {X Y : Type 0} (f : X → Y) (o : Option X) (y : Y) → option_map f o ≡ Some y → (x : X) × (o ≡ Some x) × (f x ≡ y)
-mapped_some f None y e = absurd (none-some y e)
-mapped_some f (Some x) y e = (x, refl, same_Some (f x) y e)
 
 -- a packet carries what it holds
 carries_holds : (s : Side) (h : History) (k : ℕ) (f : Seen) → Carries h s k f → Holds (past s h).mine k f
@@ -83,35 +82,55 @@ module _ (a b : Settings) (h : History) (w : World) (ok : WorldOk a b h w) (s : 
     pub read_is_written : ReadIsWritten h s n
     read_is_written q b has_it = gave_written (past s h) (past (other s) h) n (first_send_limit sender n) (window receiver n) (theirs_mine s h) (sending w s n) (receiving w s n) send_slot (recvs_ok.recvs n) q b has_it
 
-    -- a frame of a packet that was processed took effect
-    frame_taken_by : (k : ℕ) (f : Seen) → processed (other s) k h ≡ true → Carries h s k f → FrameTaken receiver.recvs f
-    frame_taken_by k f done (text, is, a) =
-        let (fs, there, all) = recvs_ok.taken k done in
-        let seen : slice_get (past (other s) h).theirs k ≡ Some (frames_in text) = ap (λ x. slice_get x k) (theirs_mine s h) ∙ payload_seen s k h text is in
-        let same : frames_in text ≡ fs = same_Some (frames_in text) fs (sym seen ∙ there) in
-        All_at (FrameTaken receiver.recvs) fs f all (subst (Among f) same a)
+    -- what a past of the receiver tells of the packet
+    there_seen : (k : ℕ) (text : List ℕ) → payload s k h ≡ Some text → slice_get (past (other s) h).theirs k ≡ Some (frames_in text)
+    there_seen k text is = ap (λ x. slice_get x k) (theirs_mine s h) ∙ payload_seen s k h text is
 
-    pub processed_was_taken : ProcessedWasTaken h w s n
-    processed_was_taken k offset bytes fin done c =
-        let (r, is, taken) = frame_taken_by k (Stream n offset bytes fin) done c in
+    -- a frame that arrived took effect
+    frame_taken_by : (k i : ℕ) (f : Seen) → HasArrived h s k i → CarriesAt h s k i f → FrameTaken receiver.recvs f
+    frame_taken_by k i f (inl done) (text, is, at) =
+        let (fs, there, all) = recvs_ok.taken.packets k done in
+        let same : fs ≡ frames_in text = same_Some fs (frames_in text) (sym there ∙ there_seen k text is) in
+        All_at (FrameTaken receiver.recvs) (frames_in text) f (subst (AllByRecursion (FrameTaken receiver.recvs)) same all) (at_among (frames_in text) i f at)
+    frame_taken_by k i f (inr alone) (text, is, at) =
+        let (g, (fs, there, has_it), taken) = recvs_ok.taken.frames k i alone in
+        let same : fs ≡ frames_in text = same_Some fs (frames_in text) (sym there ∙ there_seen k text is) in
+        subst (FrameTaken receiver.recvs) (same_Some g f (sym (subst (λ xs. slice_get xs i ≡ Some g) same has_it) ∙ at)) taken
+
+    pub arrived_was_taken : ArrivedWasTaken h w s n
+    arrived_was_taken k i offset bytes fin came c =
+        let (r, is, taken) = frame_taken_by k i (Stream n offset bytes fin) came c in
         (r, is, by r.reset_code refl (λ none. taken.offsets none), taken.end)
       where
         by : {P : Type 0} (o : Option ℕ) {x : Option ℕ} → x ≡ o → (x ≡ None → P) → P ⊎ (is_some x ≡ true)
         by None e f = inl (f e)
         by (Some code) e f = inr (ap is_some e)
 
-    pub processed_reset_was_taken : ProcessedResetWasTaken h w s n
-    processed_reset_was_taken k code size done c = frame_taken_by k (Control (ResetStream n code size)) done c
+    pub arrived_reset_was_taken : ArrivedResetWasTaken h w s n
+    arrived_reset_was_taken k i code size came c = frame_taken_by k i (Control (ResetStream n code size)) came c
 
-    pub acked_was_processed : AckedWasProcessed h w s n
-    acked_was_processed =
+    -- a frame of a packet that was confirmed arrived
+    confirmed_arrived : (k : ℕ) (f : Seen) → is_ours f ≡ true → Holds (past s h).mine k f → WasConfirmed (past s h).theirs (past s h).tokens k → (i : ℕ) × CarriesAt h s k i f × HasArrived h s k i
+    confirmed_arrived k f ours holds confirmed = by (holds_carries s h k f holds) (confirmed_landed a b h w ok s k confirmed)
+      where
+        by : Carries h s k f → Landed (past (other s) h).theirs (past (other s) h).processed (past (other s) h).took k → (i : ℕ) × CarriesAt h s k i f × HasArrived h s k i
+        by (text, is, a) (inl done) = (let (i, at) = among_at (frames_in text) f a in (i, (text, is, at), inl done))
+        by (text, is, a) (inr (fs, there, all)) =
+            let (i, at) = among_at (frames_in text) f a in
+            let same : fs ≡ frames_in text = same_Some fs (frames_in text) (sym there ∙ there_seen k text is) in
+            (i, (text, is, at), inr (all i f (subst (λ xs. slice_get xs i ≡ Some f) (sym same) at) ours))
+
+    pub acked_has_arrived : AckedHasArrived h w s n
+    acked_has_arrived =
         record {
           offsets = λ l q is has_it.
-              let (k, offset, bytes, fin, holds, low, high, (largest, ranges, t, named)) = (send_at l is).acked q has_it in
-              (k, offset, bytes, fin, holds_carries s h k _ holds, low, high, (recvs_ok.packets.acks_told largest ranges t).names_processed k named);
+              let (k, offset, bytes, fin, holds, low, high, confirmed) = (send_at l is).acked q has_it in
+              let (i, carries, arrived) = confirmed_arrived k (Stream n offset bytes fin) refl holds confirmed in
+              (k, i, offset, bytes, fin, carries, low, high, arrived);
           end = λ l is set.
-              let (k, offset, bytes, holds, (largest, ranges, t, named)) = (send_at l is).end_acked set in
-              (k, offset, bytes, holds_carries s h k _ holds, (recvs_ok.packets.acks_told largest ranges t).names_processed k named);
+              let (k, offset, bytes, holds, confirmed) = (send_at l is).end_acked set in
+              let (i, carries, arrived) = confirmed_arrived k (Stream n offset bytes true) refl holds confirmed in
+              (k, i, offset, bytes, carries, arrived);
         }
 
     pub final_size_is_declared : FinalSizeIsDeclared h w s n

@@ -2,8 +2,8 @@
 use Rattle.std.proofs.Common.{◌≡◌, ℕ, List, ◌++◌, [], take, refl, ap}
 use Rattle.std.specs.Global.{Vec}
 use Rattle.qs_machine.specs.SmallEnds.{abc}
-use Rattle.qs_runs.specs.Logs.{own_calls, made, processed}
-use Rattle.qs_runs.specs.Examples.{StoryIsRead, LogsAreRead, OthersAreRead, Examples}
+use Rattle.qs_runs.specs.Logs.{own_calls, made, processed, took, was_acked}
+use Rattle.qs_runs.specs.Examples.{StoryIsRead, LogsAreRead, OthersAreRead, TokensAreRead, Examples}
 
 story : (bytes text none : Vec ℕ) → bytes.items ≡ abc → StoryIsRead bytes text none
 unfolding own_calls made processed
@@ -43,7 +43,27 @@ logs bytes none is =
 others : (text : List ℕ) → OthersAreRead text
 unfolding made processed
 others text =
-    record { ack = refl; ack_not_there = refl; no_ack = refl; with_more = refl; not_another = refl; twice = refl; not_there = refl; none_made = refl; none_raised = λ limits. refl }
+    record { ack = refl; ack_not_there = refl; no_ack = refl; fill = λ want filled. refl; fill_not_there = λ want filled. refl; no_fill = λ want. refl; with_more = refl; not_another = refl; twice = refl; not_there = refl; none_made = refl; none_lost = λ token. refl; none_raised = λ limits. refl }
+
+tokens : TokensAreRead
+unfolding made processed took was_acked
+tokens =
+    record {
+      taken = refl;
+      unchanged = refl;
+      several = refl;
+      not_another = refl;
+      not_of_another = refl;
+      not_there = refl;
+      no_memory = refl;
+      not_ours = refl;
+      not_processed = refl;
+      none_made = refl;
+      acked = refl;
+      not_another_token = refl;
+      not_at_the_peer = refl;
+      none_made_by_it = refl;
+    }
 
 pub examples_hold : Examples
-examples_hold = record { story = story; logs = logs; others = others }
+examples_hold = record { story = story; logs = logs; others = others; tokens = tokens }

@@ -1,9 +1,9 @@
 -- Each clause of what agrees excludes something.
-use Rattle.std.proofs.Common.{◌≡◌, ℕ, ◌+◌, ◌<◌, ◌≤◌, List, [], ◌∷◌, ◌++◌, ◌⊎◌, inl, inr, length, take, drop, true, cond, ◌&&◌, ◌==◌, Option, Some, None, is_some, option_map, Result, Ok, slice_index_or, refl, sym, ap, ◌∙◌, arith, subst}
+use Rattle.std.proofs.Common.{◌≡◌, ℕ, zero, suc, ◌+◌, ◌<◌, ◌≤◌, List, [], ◌∷◌, ◌++◌, ◌⊎◌, inl, inr, length, take, drop, nat_le, Bool, true, false, cond, ◌&&◌, ◌==◌, Option, Some, None, is_some, option_map, Result, Ok, Err, slice_get, slice_index_or, refl, sym, ap, ◌∙◌, arith, subst}
 use Rattle.std.specs.Global.{Vec}
 use Rattle.std.specs.FinSet as set
 use Rattle.std.proofs.lemmas.Option.{same_Some, none-some}
-use Rattle.std.proofs.lemmas.Bool.{both_ways, false≢true}
+use Rattle.std.proofs.lemmas.Bool.{both_ways, false≢true, le-leb}
 use Rattle.std.proofs.lemmas.Bool.Decides.{nat_tests}
 use Rattle.qs_ranges.specs.Numbers.{contains-numbers, numbers, is_within}
 use Rattle.qs_ranges.proofs.Sets.{end_of-empty, missing_from-of}
@@ -15,7 +15,7 @@ use Rattle.std.proofs.lemmas.List.{map-append}
 use Rattle.qs_wire.specs.Layout.{FrameValue, PlacedValue, padding, ping, max_data}
 use Rattle.qs_wire.specs.Grammar.{frames_of}
 use Rattle.qs_wire.specs.Varint.{varint_at, short_len}
-use Rattle.qs_wire.specs.Reading.{reading_from, frames_at, frame_at, number_of_type_at, body_at, number_at}
+use Rattle.qs_wire.specs.Reading.{reading_of, reading_from, frames_at, frame_at, number_of_type_at, body_at, number_at}
 use Rattle.qs_send.specs.declared.piece.Item.TheVariants.{MaxData}
 use Rattle.qs_machine.specs.Seen.{Seen, Stream, Control, Plain, seen, seen_all}
 use Rattle.qs_machine.specs.Plains.{IsPlain, DifferInPlain}
@@ -23,25 +23,36 @@ use Rattle.qs_calls.specs.Settings.{limits_fault}
 use Rattle.qs_calls.specs.declared.settings.PeerLimits.{PeerLimits}
 use Rattle.qs_calls.specs.declared.settings.RaiseFault.{RaiseFault}
 use Rattle.qs_calls.specs.declared.settings.RaiseFault.TheVariants as raising
+use Rattle.qs_calls.specs.declared.filling.Fill.{Fill}
+use Rattle.qs_calls.specs.declared.filling.Filled.{Filled}
 use Rattle.qs_calls.specs.declared.making.Made.{Made}
+use Rattle.qs_calls.specs.declared.token.TokenFault.{TokenFault}
+use Rattle.qs_calls.specs.declared.token.TokenFault.TheVariants as tokens
 use Rattle.qs_calls.specs.declared.making.MakeFault.{MakeFault}
 use Rattle.qs_calls.specs.declared.closing.Closed.TheVariants.{ByPeer}
+use Rattle.qs_calls.specs.declared.closing.Received.TheVariants as answered
+use Rattle.qs_calls.specs.declared.token.Taken.{Taken}
+use Rattle.qs_calls.specs.declared.token.Taken.TheVariants.{Took, Unchanged, NotOurs}
+use Rattle.qs_calls.specs.declared.closing.Closed.{Closed}
+use Rattle.qs_machine.specs.Alone.{TakesOne, TakeAllBy, of_both}
+use Rattle.qs_calls.specs.declared.token.TakeFault.TheVariants.{NoMemory}
 use Rattle.qs_calls.specs.declared.event.Side.TheVariants.{A, B}
 use Rattle.qs_machine.specs.Tables.{lookup, total}
 use Rattle.qs_machine.specs.Ends.{End}
 use Rattle.qs_machine.specs.Credit.{spent, settle}
 use Rattle.qs_machine.specs.Owner.{Certain, first_refusal, refuse_if}
 use Rattle.qs_machine.specs.Making.{MakeAckAt, make_refusal}
+use Rattle.qs_machine.specs.Filling.{FillAt}
 use Rattle.qs_machine.specs.Raising.{RaiseStep, limits_raised}
 use Rattle.qs_machine.specs.Examples.{standard, server, client_of}
 use Rattle.qs_machine.specs.SmallEnds.{server_with, abc, sent, fresh, all_came}
 use Rattle.qs_machine.proofs.Claims.{gave}
 use Rattle.qs_runs.specs.Agree.{RepeatAgrees, IsOld, frames_in}
 use Rattle.std.specs.List.{AllByRecursion}
-use Rattle.qs_runs.specs.Logs.{own_calls, made, processed, ping_text}
-use Rattle.qs_runs.specs.Worlds.{World}
-use Rattle.qs_runs.specs.Examples.{story, packet}
-use Rattle.qs_runs.specs.Exclusions.{ReadIsNoPrefix, WholeIsMissing, SizesDiffer, WorldsDiffer, NewsIsNotOld, RepeatsSpend, NothingHappens, NothingElseHappens, Differ, OtherBytesCome, LimitsAreAbove, NoneBegin, Exclusions, both, acknowledged, first_of_three}
+use Rattle.qs_runs.specs.Logs.{History, StandAt, HasLanded, is_taken, own_calls, made, payload, processed, took, ping_text}
+use Rattle.qs_runs.specs.Worlds.{World, HandedIn}
+use Rattle.qs_runs.specs.Examples.{story, packet, came, came_alone}
+use Rattle.qs_runs.specs.Exclusions.{ReadIsNoPrefix, WholeIsMissing, SizesDiffer, WorldsDiffer, NewsIsNotOld, RepeatsSpend, NothingHappens, NothingElseHappens, two_frames, NoFrameComes, TokenAcked, NotYetLanded, Differ, OtherBytesCome, LimitsAreAbove, NoneBegin, Exclusions, both, acknowledged, first_of_three}
 use Rattle.qs_runs.proofs.NewEnds.{made_first}
 
 prefix : (bytes other none : Vec ℕ) → bytes.items ≡ abc → other.items ≡ 97 ∷ 120 ∷ [] → ReadIsNoPrefix bytes other none
@@ -130,8 +141,12 @@ nothing_spent = rw end_of-empty refl
 
 repeats : (bytes text none : Vec ℕ) → RepeatsSpend bytes text none
 unfolding made processed reading_from total
-repeats bytes text none = record { again = λ agrees. again agrees; old_news = λ is agrees. news is agrees; again_with = λ agrees. again agrees; old_news_with = λ is agrees. news is agrees }
+repeats bytes text none =
+    record { again = λ agrees. again agrees; old_news = λ is agrees. news is agrees; again_with = λ agrees. again agrees; old_news_with = λ is agrees. news is agrees; old_news_alone = λ agrees. spends (agrees [] (text.items, refl, tt) tt) }
   where
+    spends : ◌≡◌ {A = ℕ} 3 (spent (server_with fresh)) → ⊥
+    spends e = (let f : ◌≡◌ {A = ℕ} 3 0 = e ∙ nothing_spent in omega (arith, f))
+
     again : RepeatAgrees (story bytes text none) (both (client_of standard) (server standard)) (both (client_of standard) (server_with fresh)) B 0 → ⊥
     again agrees = (let e : ◌≡◌ {A = ℕ} 1 0 = ap (λ (x : End). length x.recvs.client_bidi) (agrees.again refl) in omega (arith, e))
 
@@ -156,6 +171,19 @@ ack_fits : (o : Option MakeFault) (e new : End) (delay : ℕ) (made : Made) → 
 ack_fits (Some fault) e new delay made h = cc (h.0)
 ack_fits None e new delay made h = (let le : 1 ≤ 0 = h.fits in omega arith)
 
+fill_fits : (o : Option MakeFault) (e new : End) (want : Fill) (filled : Filled) → FillAt o e want 0 (Ok (Some filled)) (1 ∷ []) new → ⊥
+fill_fits (Some fault) e new want filled h = cc (h.0)
+fill_fits None e new want filled h = (let le : 1 ≤ 0 = h.fits in omega arith)
+
+-- of a token that wasn't given an end is told nothing
+abbrev told_done : Result (Unit {0}) TokenFault
+told_done = Ok tt
+
+none_given : (e new : End) (closed given : Bool) (E : Type 0) → given ≡ true → Certain (first_refusal (refuse_if closed tokens.Closed) (refuse_if given tokens.NotGiven)) e told_done new E → ⊥
+none_given e new true given E is h = cc (h.0)
+none_given e new false true E is h = cc (h.0)
+none_given e new false false E is h = false≢true is
+
 -- an end that closed takes no limits in
 refused : (p : PeerLimits) (e new : End) → e.closed ≡ Some (ByPeer 0) → RaiseStep e p (Ok tt) new → ⊥
 refused p e new shut step =
@@ -172,6 +200,10 @@ others bytes text none =
       others = λ v w bytes r differs (payload, is, differ, step, same). differs (subst (DifferInPlain bytes) (sym (same_Some text.items payload is)) differ);
       too_long = λ v w made ((delay, step), same). ack_fits (make_refusal v.a) v.a w.a delay made step;
       ack_other = λ v w step changed. changed step.1;
+      fill_too_long = λ v w want filled step. fill_fits (make_refusal v.a) v.a w.a want filled step.0;
+      fill_other = λ v w want step changed. changed step.1;
+      not_given = λ v w token le step. none_given v.a w.a (is_some v.a.closed) (nat_le v.a.next token.number) _ (le-leb v.a.next token.number le) step.0;
+      lost_other = λ v w token step changed. changed step.1;
       ungranted = λ v w p r refuses ((granted, step), same). refuses granted;
       closed = λ v w p shut ((granted, step), same). refused p v.a w.a shut step;
       raised_other = λ v w p r step changed. changed step.1;
@@ -246,6 +278,100 @@ limits =
       streams_uni = λ g. (let le : 9 ≤ 8 = g.streams_uni in omega arith);
     }
 
+-- what is read of the two frames
+read_two : frames_of (reading_of two_frames).left ≡ max_data 5 ∷ max_data 6 ∷ []
+unfolding reading_from frames_at frame_at number_of_type_at body_at number_at varint_at short_len
+read_two = refl
+
+-- the value that a MAX_DATA has
+abbrev value_of : FrameValue → ℕ
+value_of (max_data m) = m
+value_of f = 0
+
+five_is_six : Some (max_data 5) ≡ Some (max_data 6) → ⊥
+five_is_six e = (let n : ◌≡◌ {A = ℕ} 5 6 = ap value_of (same_Some (max_data 5) (max_data 6) e) in omega arith)
+
+-- what comes of a frame that was taken, and of another behind it
+one_came : (e : End) (f : FrameValue) (one later : Taken) (mid : End) → TakesOne e f (Ok one) mid → is_taken (Ok (of_both one later)) ≡ true
+one_came e f Took later mid h = refl
+one_came e f Unchanged Took mid h = refl
+one_came e f Unchanged Unchanged mid h = refl
+one_came e f Unchanged NotOurs mid h = refl
+one_came e f NotOurs later mid h = absurd h
+
+-- of two frames of its own kinds an end says that they took effect, or why not
+two_taken : (e new : End) → HandedIn (max_data 5 ∷ max_data 6 ∷ []) e (Ok NotOurs) new → ⊥
+two_taken e new (inl step) = by e.closed step
+  where
+    by : (o : Option Closed) → TakeAllBy o (max_data 5 ∷ max_data 6 ∷ []) e (Ok NotOurs) new → ⊥
+    by (Some closed) h = cc (h.0)
+    by None (mid, inl (next, one, Ok later, takes, more, is), after) = false≢true (ap is_taken is ∙ one_came e (max_data 5) one later next takes)
+    by None (mid, inl (next, one, Err fault, takes, more, is), after) = cc is
+    by None (mid, inr (fault, one, is), after) = cc is
+two_taken e new (inr (f, is, step)) = (let none : max_data 6 ∷ [] ≡ [] = ap (drop 1) is in cc none)
+
+frames : (text : Vec ℕ) → text.items ≡ two_frames → NoFrameComes text
+unfolding made
+frames text is =
+    record {
+      unmade = λ v w r (fs, (bytes, there, stand), came, same). none-some bytes there;
+      not_in_it = λ v w r (fs, (bytes, there, stand), came, same). outside fs (subst (λ gs. StandAt gs (2 ∷ []) fs) (read bytes there) stand);
+      sender = λ v w r (fs, stand, came, same) changed. changed same;
+      another = λ stand. five_is_six stand.0;
+      fewer = λ stand. stand.1;
+      more = λ stand. stand.1;
+      several = two_taken;
+    }
+  where
+    read : (bytes : List ℕ) → Some text.items ≡ Some bytes → frames_of (reading_of bytes).left ≡ max_data 5 ∷ max_data 6 ∷ []
+    read bytes there = ap (λ bs. frames_of (reading_of bs).left) (sym (same_Some text.items bytes there) ∙ is) ∙ read_two
+
+    outside : (fs : List FrameValue) → StandAt (max_data 5 ∷ max_data 6 ∷ []) (2 ∷ []) fs → ⊥
+    outside [] stand = stand
+    outside (f ∷ fs) stand = none-some f stand.0
+
+-- of the two frames one wasn't taken, and the packet wasn't processed
+one_left : (text : Vec ℕ) → text.items ≡ two_frames → (h : History) → payload A 0 h ≡ Some text.items → processed B 0 h ≡ false → (took B 0 0 h ≡ false) ⊎ (took B 0 1 h ≡ false) → TokenAcked h → ⊥
+one_left text is h there unprocessed left (v, w, r, ((landed, step), same)) =
+    elim landed [
+      | inl done ↦ false≢true (sym unprocessed ∙ done)
+      | inr (bytes, made, all) ↦ (
+          let read : frames_of (reading_of bytes).left ≡ max_data 5 ∷ max_data 6 ∷ [] = ap (λ bs. frames_of (reading_of bs).left) (sym (same_Some text.items bytes (sym there ∙ made)) ∙ is) ∙ read_two in
+          elim left [
+            | inl none ↦ false≢true (sym none ∙ all 0 (max_data 5) (ap (λ gs. slice_get gs 0) read) refl)
+            | inr none ↦ false≢true (sym none ∙ all 1 (max_data 6) (ap (λ gs. slice_get gs 1) read) refl)
+          ])
+    ]
+
+-- both were taken
+both_taken : (text : Vec ℕ) → text.items ≡ two_frames → (h : History) → payload A 0 h ≡ Some text.items → took B 0 0 h ≡ true → took B 0 1 h ≡ true → HasLanded h A 0
+both_taken text is h there first second =
+    inr (text.items, there, λ i f at ours. each i f (subst (λ gs. slice_get gs i ≡ Some f) (ap (λ bs. frames_of (reading_of bs).left) is ∙ read_two) at))
+  where
+    each : (i : ℕ) (f : FrameValue) → slice_get (max_data 5 ∷ max_data 6 ∷ []) i ≡ Some f → took B 0 i h ≡ true
+    each zero f at = first
+    each (suc zero) f at = second
+    each (suc (suc i)) f at = absurd (none-some f at)
+
+landing : (text : Vec ℕ) → text.items ≡ two_frames → NotYetLanded text
+unfolding made processed took
+landing text is =
+    record {
+      unmade = λ (v, w, r, ((landed, step), same)). elim landed [ inl done ↦ false≢true done | inr (bytes, none, all) ↦ none-some bytes none ];
+      on_its_way = one_left text is (packet A text ∷ []) refl refl (inl refl);
+      first = one_left text is (came_alone 0 (0 ∷ []) (Ok Took) ∷ packet A text ∷ []) refl refl (inr refl);
+      first_unchanged = one_left text is (came_alone 0 (0 ∷ []) (Ok Unchanged) ∷ packet A text ∷ []) refl refl (inr refl);
+      last = one_left text is (came_alone 0 (1 ∷ []) (Ok Took) ∷ packet A text ∷ []) refl refl (inl refl);
+      twice = one_left text is (came_alone 0 (0 ∷ []) (Ok Took) ∷ came_alone 0 (0 ∷ []) (Ok Took) ∷ packet A text ∷ []) refl refl (inr refl);
+      no_memory = one_left text is (came_alone 0 (0 ∷ 1 ∷ []) (Err NoMemory) ∷ packet A text ∷ []) refl refl (inl refl);
+      not_processed = one_left text is (came A 0 answered.NoMemory ∷ packet A text ∷ []) refl refl (inl refl);
+      other = λ h v w token r step changed. changed step.1;
+      each = both_taken text is (came_alone 0 (0 ∷ []) (Ok Took) ∷ came_alone 0 (1 ∷ []) (Ok Took) ∷ packet A text ∷ []) refl refl refl;
+      unchanged = both_taken text is (came_alone 0 (0 ∷ []) (Ok Unchanged) ∷ came_alone 0 (1 ∷ []) (Ok Took) ∷ packet A text ∷ []) refl refl refl;
+      together = both_taken text is (came_alone 0 (1 ∷ 0 ∷ []) (Ok Took) ∷ packet A text ∷ []) refl refl refl;
+      processed = inl refl;
+    }
+
 begins : NoneBegin
 begins =
     record {
@@ -256,4 +382,4 @@ begins =
 
 pub exclusions_hold : Exclusions
 exclusions_hold =
-    record { prefix = prefix; whole = whole; final_sizes = final_sizes; worlds = worlds; news = news; repeats = repeats; steps = steps; others = others; bytes = bytes_come; limits = limits; begins = begins }
+    record { prefix = prefix; whole = whole; final_sizes = final_sizes; worlds = worlds; news = news; repeats = repeats; steps = steps; others = others; frames = frames; tokens = landing; bytes = bytes_come; limits = limits; begins = begins }

@@ -55,19 +55,23 @@ facing e f opposite peer bidi uni =
       uni = uni;
     }
 
+-- at every moment of a call the end stands as it did, and grants as many streams
+abbrev pub IsThere : End → End → Type 0
+IsThere e mid = (standing mid ≡ standing e) × (mid.granted_bidi ≡ e.granted_bidi) × (mid.granted_uni ≡ e.granted_uni)
+
+-- a frame takes effect
+pub there_taken : (e mid : End) (g : Seen) → IsThere e mid → IsThere e (frame_taken g mid)
+there_taken e mid g same = (let still = ap standing_at (frame_leaves g mid) in (ap (λ x. x.0) still ∙ same.0, ap (λ x. x.2) still ∙ same.1, ap (λ x. x.3) still ∙ same.2))
+
 module _ (p q : Past) (e f : End) (their : EndOk q f) (from : p.theirs ≡ q.mine) (back : q.theirs ≡ p.mine)
     (opposite : (n : ℕ) → is_own_by f.role n ≡ not (is_own_by e.role n)) (peer : AreGranted f.peer e.settings) (bidi : f.known_bidi ≤ e.granted_bidi) (uni : f.known_uni ≤ e.granted_uni) where
-  -- at every moment of a payload the end stands as it did, and grants as many streams
-  abbrev IsThere : End → Type 0
-  IsThere mid = (standing mid ≡ standing e) × (mid.granted_bidi ≡ e.granted_bidi) × (mid.granted_uni ≡ e.granted_uni)
-
-  -- so the two ends face each other
-  fine_now : (mid : End) → EndOk p mid → IsThere mid → (g : Seen) → Tells p.theirs g → verdict mid g ≡ None
+  -- the two ends face each other at each moment
+  pub fine_now : (mid : End) → EndOk p mid → IsThere e mid → (g : Seen) → Tells p.theirs g → verdict mid g ≡ None
   fine_now mid ok same g t =
       let faces : Facing mid f = facing mid f (λ n. opposite n ∙ ap (λ x. not (is_own_by x.role n)) (sym same.0)) (subst (λ x. AreGranted f.peer x.settings) (sym same.0) peer) (omega (arith, bidi, same.1)) (omega (arith, uni, same.2)) in
       told_fine p q from back mid f faces ok their g (subst (λ x. Tells x g) from t)
 
-  stops_stand : (v : PlacedValue) (g : Seen) (mid : End) (result : Result Received Closing) (new : End) → EndOk p mid → IsThere mid → Tells p.theirs g → Stops v g mid result new → standing new ≡ standing e
+  stops_stand : (v : PlacedValue) (g : Seen) (mid : End) (result : Result Received Closing) (new : End) → EndOk p mid → IsThere e mid → Tells p.theirs g → Stops v g mid result new → standing new ≡ standing e
   stops_stand v (Close code) mid (Ok (PeerClosed told)) new ok same t h = absurd (their.packets.kinds (Close code) (subst (λ x. Tells x (Close code)) from t))
   stops_stand v (Ack largest ranges) mid (Ok NoMemory) new ok same t (fine, (m, h, asks)) = ap standing h ∙ ap standing (acks_leave (take m (named mid ranges)) mid) ∙ same.0
   stops_stand v (Close code) mid result new ok same t h = absurd h
@@ -81,15 +85,14 @@ module _ (p q : Past) (e f : End) (their : EndOk q f) (from : p.theirs ≡ q.min
   at_end_stands k asks (Some fault) mid (Err closing) new none same h = absurd (none-some fault (sym none))
   at_end_stands k asks fault mid result new none same h = absurd h
 
-  takes_stand : (left : List PlacedValue) (k : ℕ) (asks : Bool) (fault : Option WireFault) (mid : End) (result : Result Received Closing) (new : End) → fault ≡ None → EndOk p mid → IsThere mid →
+  takes_stand : (left : List PlacedValue) (k : ℕ) (asks : Bool) (fault : Option WireFault) (mid : End) (result : Result Received Closing) (new : End) → fault ≡ None → EndOk p mid → IsThere e mid →
       ((g : Seen) → Among g (seen_all (frames_of left)) → Tells p.theirs g) → Takes k fault asks mid left result new → standing new ≡ standing e
   takes_stand [] k asks fault mid result new none ok same told h = at_end_stands k asks fault mid result new none same.0 h
   takes_stand (v ∷ left) k asks fault mid result new none ok same told (inl stops) = stops_stand v (seen v.frame) mid result new ok same (told (seen v.frame) (inl refl)) stops
   takes_stand (v ∷ left) k asks fault mid result new none ok same told (inr (goes, rest)) =
       let g : Seen = seen v.frame in
       let one : Effect p mid (frame_taken g mid) g = frame_keeps p mid g ok (told g (inl refl)) (no_fault_there mid g goes) in
-      let still = ap standing_at (frame_leaves g mid) in
-      takes_stand left k (asks || asks_ack g) fault (frame_taken g mid) result new none one.ok (ap (λ x. x.0) still ∙ same.0, ap (λ x. x.2) still ∙ same.1, ap (λ x. x.3) still ∙ same.2) (λ x a. told x (inr a)) rest
+      takes_stand left k (asks || asks_ack g) fault (frame_taken g mid) result new none one.ok (there_taken e mid g same) (λ x a. told x (inr a)) rest
 
   -- a payload that the peer made, without a fault, leaves the end open
   pub receive_stands : (new : End) (k : ℕ) (text : List ℕ) (result : Result Received Closing) → EndOk p e → e.closed ≡ None → (reading_of text).fault ≡ None → slice_get p.theirs k ≡ Some (frames_in text) → ReceiveStep e k text result new → standing new ≡ standing e

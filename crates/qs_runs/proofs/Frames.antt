@@ -170,7 +170,7 @@ module _ (p : Past) where
   unfolding verdict frame_taken
   frame_keeps e (Ack largest ranges) ok t fine =
       record {
-        ok = acks_ok p (named e ranges) e (named_pieces_ok p e ok ranges (λ k a. (largest, ranges, t, a))) ok;
+        ok = acks_ok p (named e ranges) e (named_pieces_ok p e ok ranges (λ k a. inl (largest, ranges, t, a))) ok;
         grow = subst (AllGrow e.recvs) (sym (ap (λ (x : End). x.recvs) (acks_leave (named e ranges) e))) (all_grow_refl e.recvs);
         taken = tt;
       }

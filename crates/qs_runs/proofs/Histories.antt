@@ -1,11 +1,17 @@
 -- What an end lived through, as its history tells.
-use Rattle.std.proofs.Common.{◌≡◌, ℕ, zero, suc, Bool, true, false, not, ◌&&◌, List, [], ◌∷◌, ◌++◌, map, Option, Some, None, Result, Ok, Err, slice_get, refl, sym, ap, ◌∙◌, subst, if◌then◌else◌, append-nil}
+use Rattle.std.proofs.Common.{◌≡◌, ℕ, zero, suc, Bool, true, false, ◌&&◌, List, [], ◌∷◌, ◌++◌, map, Option, Some, None, Result, Ok, Err, slice_get, refl, sym, ap, ◌∙◌, if◌then◌else◌, append-nil}
 use Rattle.std.proofs.lemmas.List.{map-append}
 use Rattle.std.proofs.lemmas.Option.{none-some, same_Some, slice_get-map}
 use Rattle.std.specs.List.{AllByRecursion}
 use Rattle.std.proofs.Common.{option_map}
 use Rattle.qs_calls.specs.declared.closing.Closing.{Closing}
 use Rattle.qs_calls.specs.declared.closing.Received.{Received}
+use Rattle.qs_calls.specs.declared.filling.Fill.{Fill}
+use Rattle.qs_calls.specs.declared.filling.Filled.{Filled}
+use Rattle.qs_calls.specs.declared.token.Token.{Token}
+use Rattle.qs_calls.specs.declared.token.Taken.{Taken}
+use Rattle.qs_calls.specs.declared.token.TakeFault.{TakeFault}
+use Rattle.qs_calls.specs.declared.token.TokenFault.{TokenFault}
 use Rattle.qs_calls.specs.declared.settings.PeerLimits.{PeerLimits}
 use Rattle.qs_calls.specs.declared.settings.RaiseFault.{RaiseFault}
 use Rattle.qs_calls.specs.declared.making.Made.{Made}
@@ -19,7 +25,7 @@ use Rattle.qs_calls.specs.declared.event.Act.TheVariants as acts
 use Rattle.qs_calls.specs.declared.event.Event.{Event}
 use Rattle.qs_calls.specs.declared.answer.Answer.{Answer}
 use Rattle.qs_calls.specs.declared.answer.Answer.TheVariants as answers
-use Rattle.qs_runs.specs.Logs.{Happening, Did, MadeAck, RaisedLimits, CameWith, History, other, own_calls, is_delivery, delivers, is_done, processed, texts_of, made, made_by, made_now, payload}
+use Rattle.qs_runs.specs.Logs.{Happening, Did, MadeAck, FilledIn, AckedToken, LostToken, RaisedLimits, CameWith, CameAlone, History, other, own_of, own_calls, is_delivery, delivers, is_done, takes_in, processed, takes_frame, took, tells_acked, was_acked, texts_of, made, made_by, made_now, payload}
 use Rattle.qs_runs.specs.Worlds.{OwnStep}
 use Rattle.qs_runs.specs.Agree.{frames_in}
 use Rattle.qs_runs.specs.Invariant.{HasNoFault}
@@ -27,7 +33,8 @@ use Rattle.qs_runs.specs.Pasts.{seen_by, packets_of, past_of, past}
 use Rattle.qs_runs.proofs.OwnMoves.{with_call, with_packets}
 use Rattle.qs_runs.proofs.PeerMoves.{with_theirs}
 use Rattle.qs_runs.proofs.Receives.{with_received}
-use Rattle.qs_runs.proofs.Wire.{text_faultless, ping_faultless}
+use Rattle.qs_runs.proofs.Alone.{with_took, with_token}
+use Rattle.qs_runs.proofs.Wire.{text_faultless, text_fits, ping_faultless, ping_fits}
 
 -- the event of a side
 abbrev pub does : Side → Act → Event
@@ -53,48 +60,93 @@ none_delivered (acts.Deliver k) own answer j d = absurd (cc)
 none_delivered act own answer k d = refl
 
 pub past_own : (s : Side) (act : Act) (answer : Answer) (h : History) → is_delivery act ≡ false → past s (did s act answer ∷ h) ≡ with_call (past s h) act answer
-unfolding own_calls packets_of processed
-past_own A act answer h own = rw own (λ i. past_of ((act, answer) ∷ own_calls A h) (packets_of A h ++ seen_by act answer) (append-nil (packets_of B h) i) (λ k. processed A k h))
-past_own B act answer h own = rw own (λ i. past_of ((act, answer) ∷ own_calls B h) (packets_of B h ++ seen_by act answer) (append-nil (packets_of A h) i) (λ k. processed B k h))
+unfolding own_calls packets_of processed took was_acked
+past_own A act answer h own = rw own (λ i. past_of ((act, answer) ∷ own_calls A h) (packets_of A h ++ seen_by act answer) (append-nil (packets_of B h) i) (λ k. processed A k h) (λ k i. took A k i h) (λ k. was_acked A k h))
+past_own B act answer h own = rw own (λ i. past_of ((act, answer) ∷ own_calls B h) (packets_of B h ++ seen_by act answer) (append-nil (packets_of A h) i) (λ k. processed B k h) (λ k i. took B k i h) (λ k. was_acked B k h))
 
 pub past_peer : (s : Side) (act : Act) (answer : Answer) (h : History) → is_delivery act ≡ false → past (other s) (did s act answer ∷ h) ≡ with_theirs (past (other s) h) (seen_by act answer)
-unfolding own_calls packets_of processed
-past_peer A act answer h own = λ i. past_of (own_calls B h) (append-nil (packets_of B h) i) (packets_of A h ++ seen_by act answer) (λ k. none_delivered act own answer k (processed B k h) i)
-past_peer B act answer h own = λ i. past_of (own_calls A h) (append-nil (packets_of A h) i) (packets_of B h ++ seen_by act answer) (λ k. none_delivered act own answer k (processed A k h) i)
+unfolding own_calls packets_of processed took was_acked
+past_peer A act answer h own = λ i. past_of (own_calls B h) (append-nil (packets_of B h) i) (packets_of A h ++ seen_by act answer) (λ k. none_delivered act own answer k (processed B k h) i) (λ k j. took B k j h) (λ k. was_acked B k h)
+past_peer B act answer h own = λ i. past_of (own_calls A h) (append-nil (packets_of A h) i) (packets_of B h ++ seen_by act answer) (λ k. none_delivered act own answer k (processed A k h) i) (λ k j. took A k j h) (λ k. was_acked A k h)
 
 pub past_sender : (s : Side) (k : ℕ) (answer : Answer) (h : History) → past s (did s (acts.Deliver k) answer ∷ h) ≡ past s h
-unfolding own_calls packets_of processed
-past_sender A k answer h = λ i. past_of (own_calls A h) (append-nil (packets_of A h) i) (append-nil (packets_of B h) i) (λ k. processed A k h)
-past_sender B k answer h = λ i. past_of (own_calls B h) (append-nil (packets_of B h) i) (append-nil (packets_of A h) i) (λ k. processed B k h)
+unfolding own_calls packets_of processed took was_acked
+past_sender A k answer h = λ i. past_of (own_calls A h) (append-nil (packets_of A h) i) (append-nil (packets_of B h) i) (λ k. processed A k h) (λ k i. took A k i h) (λ k. was_acked A k h)
+past_sender B k answer h = λ i. past_of (own_calls B h) (append-nil (packets_of B h) i) (append-nil (packets_of A h) i) (λ k. processed B k h) (λ k i. took B k i h) (λ k. was_acked B k h)
 
 pub past_receiver : (s : Side) (k : ℕ) (result : Result Received Closing) (h : History) → past (other s) (did s (acts.Deliver k) (answers.Deliver result) ∷ h) ≡ with_received (past (other s) h) k result
-unfolding own_calls packets_of processed
-past_receiver A k result h = λ i. with_received (past_of (own_calls B h) (append-nil (packets_of B h) i) (append-nil (packets_of A h) i) (λ k. processed B k h)) k result
-past_receiver B k result h = λ i. with_received (past_of (own_calls A h) (append-nil (packets_of A h) i) (append-nil (packets_of B h) i) (λ k. processed A k h)) k result
+unfolding own_calls packets_of processed took was_acked
+past_receiver A k result h = λ i. with_received (past_of (own_calls B h) (append-nil (packets_of B h) i) (append-nil (packets_of A h) i) (λ k. processed B k h) (λ k i. took B k i h) (λ k. was_acked B k h)) k result
+past_receiver B k result h = λ i. with_received (past_of (own_calls A h) (append-nil (packets_of A h) i) (append-nil (packets_of B h) i) (λ k. processed A k h) (λ k i. took A k i h) (λ k. was_acked A k h)) k result
 
 -- What scripts don't have
 
-pub past_acked : (s : Side) (room : ℕ) (result : Result (Option Made) MakeFault) (text : List ℕ) (h : History) → past s (MadeAck s room result text ∷ h) ≡ with_packets (past s h) (map frames_in (texts_of result text))
-unfolding own_calls packets_of processed
-past_acked A room result text h = λ i. past_of (own_calls A h) (packets_of A h ++ map frames_in (texts_of result text)) (append-nil (packets_of B h) i) (λ k. processed A k h)
-past_acked B room result text h = λ i. past_of (own_calls B h) (packets_of B h ++ map frames_in (texts_of result text)) (append-nil (packets_of A h) i) (λ k. processed B k h)
+-- a side makes these packets, and nothing else of it is in a past
+pub record Makes (s : Side) (x : Happening) (texts : List (List ℕ)) : Type 0 where
+  pub calls : (t : Side) → own_of t x ≡ []
+  pub takes : (t : Side) (k : ℕ) → takes_in t k x ≡ false
+  pub takes_none : (t : Side) (k i : ℕ) → takes_frame t k i x ≡ false
+  pub tells : (t : Side) (k : ℕ) → tells_acked t k x ≡ false
+  pub here : made_now s x ≡ texts
+  pub there : made_now (other s) x ≡ []
 
-pub past_peer_acked : (s : Side) (room : ℕ) (result : Result (Option Made) MakeFault) (text : List ℕ) (h : History) → past (other s) (MadeAck s room result text ∷ h) ≡ with_theirs (past (other s) h) (map frames_in (texts_of result text))
-unfolding own_calls packets_of processed
-past_peer_acked A room result text h = λ i. past_of (own_calls B h) (append-nil (packets_of B h) i) (packets_of A h ++ map frames_in (texts_of result text)) (λ k. processed B k h)
-past_peer_acked B room result text h = λ i. past_of (own_calls A h) (append-nil (packets_of A h) i) (packets_of B h ++ map frames_in (texts_of result text)) (λ k. processed A k h)
+none_made : (t : Side) (x : Happening) (h : History) → made_now t x ≡ [] → packets_of t h ++ map frames_in (made_now t x) ≡ packets_of t h
+none_made t x h none = ap (λ ts. packets_of t h ++ map frames_in ts) none ∙ append-nil (packets_of t h)
+
+pub past_makes : (s : Side) (x : Happening) (texts : List (List ℕ)) (h : History) → Makes s x texts → past s (x ∷ h) ≡ with_packets (past s h) (map frames_in texts)
+unfolding own_calls packets_of processed took was_acked
+past_makes s x texts h m =
+    λ i. past_of (m.calls s i ++ own_calls s h) (packets_of s h ++ map frames_in (m.here i)) (none_made (other s) x h m.there i) (λ k. if m.takes s k i then true else processed s k h) (λ k j. if m.takes_none s k j i then true else took s k j h) (λ k. if m.tells s k i then true else was_acked s k h)
+
+pub past_peer_makes : (s : Side) (x : Happening) (texts : List (List ℕ)) (h : History) → Makes s x texts → past (other s) (x ∷ h) ≡ with_theirs (past (other s) h) (map frames_in texts)
+unfolding own_calls packets_of processed took was_acked
+past_peer_makes A x texts h m = λ i. past_of (m.calls B i ++ own_calls B h) (none_made B x h m.there i) (packets_of A h ++ map frames_in (m.here i)) (λ k. if m.takes B k i then true else processed B k h) (λ k j. if m.takes_none B k j i then true else took B k j h) (λ k. if m.tells B k i then true else was_acked B k h)
+past_peer_makes B x texts h m = λ i. past_of (m.calls A i ++ own_calls A h) (none_made A x h m.there i) (packets_of B h ++ map frames_in (m.here i)) (λ k. if m.takes A k i then true else processed A k h) (λ k j. if m.takes_none A k j i then true else took A k j h) (λ k. if m.tells A k i then true else was_acked A k h)
+
+pub makes_ack : (s : Side) (room : ℕ) (result : Result (Option Made) MakeFault) (text : List ℕ) → Makes s (MadeAck s room result text) (texts_of result text)
+makes_ack A room result text = record { calls = λ t. refl; takes = λ t k. refl; takes_none = λ t k i. refl; tells = λ t k. refl; here = refl; there = refl }
+makes_ack B room result text = record { calls = λ t. refl; takes = λ t k. refl; takes_none = λ t k i. refl; tells = λ t k. refl; here = refl; there = refl }
+
+pub makes_fill : (s : Side) (want : Fill) (room : ℕ) (result : Result (Option Filled) MakeFault) (text : List ℕ) → Makes s (FilledIn s want room result text) (texts_of result text)
+makes_fill A want room result text = record { calls = λ t. refl; takes = λ t k. refl; takes_none = λ t k i. refl; tells = λ t k. refl; here = refl; there = refl }
+makes_fill B want room result text = record { calls = λ t. refl; takes = λ t k. refl; takes_none = λ t k i. refl; tells = λ t k. refl; here = refl; there = refl }
+
+pub makes_none : (s : Side) (token : Token) (result : Result (Unit {0}) TokenFault) → Makes s (LostToken s token result) []
+makes_none s token result = record { calls = λ t. refl; takes = λ t k. refl; takes_none = λ t k i. refl; tells = λ t k. refl; here = refl; there = refl }
 
 pub past_raised : (t s : Side) (limits : PeerLimits) (result : Result (Unit {0}) RaiseFault) (h : History) → past t (RaisedLimits s limits result ∷ h) ≡ past t h
-unfolding own_calls packets_of processed
-past_raised t s limits result h = λ i. past_of (own_calls t h) (append-nil (packets_of t h) i) (append-nil (packets_of (other t) h) i) (λ k. processed t k h)
+unfolding own_calls packets_of processed took was_acked
+past_raised t s limits result h = λ i. past_of (own_calls t h) (append-nil (packets_of t h) i) (append-nil (packets_of (other t) h) i) (λ k. processed t k h) (λ k i. took t k i h) (λ k. was_acked t k h)
 
 -- with whatever frames a packet comes, it comes
 pub past_came : (t s : Side) (k : ℕ) (bytes : List ℕ) (result : Result Received Closing) (h : History) → past t (CameWith s k bytes result ∷ h) ≡ past t (did s (acts.Deliver k) (answers.Deliver result) ∷ h)
-unfolding own_calls packets_of processed
+unfolding own_calls packets_of processed took was_acked
 past_came A A k bytes result h = refl
 past_came A B k bytes result h = refl
 past_came B A k bytes result h = refl
 past_came B B k bytes result h = refl
+
+-- frames come without their packet: to the other side
+pub past_came_from : (s : Side) (k : ℕ) (places : List ℕ) (result : Result Taken TakeFault) (h : History) → past s (CameAlone s k places result ∷ h) ≡ past s h
+unfolding own_calls packets_of processed took was_acked
+past_came_from A k places result h = λ i. past_of (own_calls A h) (append-nil (packets_of A h) i) (append-nil (packets_of B h) i) (λ k. processed A k h) (λ k i. took A k i h) (λ k. was_acked A k h)
+past_came_from B k places result h = λ i. past_of (own_calls B h) (append-nil (packets_of B h) i) (append-nil (packets_of A h) i) (λ k. processed B k h) (λ k i. took B k i h) (λ k. was_acked B k h)
+
+pub past_came_to : (s : Side) (k : ℕ) (places : List ℕ) (result : Result Taken TakeFault) (h : History) → past (other s) (CameAlone s k places result ∷ h) ≡ with_took (past (other s) h) k places result
+unfolding own_calls packets_of processed took was_acked
+past_came_to A k places result h = λ i. with_took (past_of (own_calls B h) (append-nil (packets_of B h) i) (append-nil (packets_of A h) i) (λ k. processed B k h) (λ k i. took B k i h) (λ k. was_acked B k h)) k places result
+past_came_to B k places result h = λ i. with_took (past_of (own_calls A h) (append-nil (packets_of A h) i) (append-nil (packets_of B h) i) (λ k. processed A k h) (λ k i. took A k i h) (λ k. was_acked A k h)) k places result
+
+-- a token is acknowledged
+pub past_token : (s : Side) (token : Token) (result : Result (Unit {0}) TokenFault) (h : History) → past s (AckedToken s token result ∷ h) ≡ with_token (past s h) token.number
+unfolding own_calls packets_of processed took was_acked
+past_token A token result h = λ i. with_token (past_of (own_calls A h) (append-nil (packets_of A h) i) (append-nil (packets_of B h) i) (λ k. processed A k h) (λ k i. took A k i h) (λ k. was_acked A k h)) token.number
+past_token B token result h = λ i. with_token (past_of (own_calls B h) (append-nil (packets_of B h) i) (append-nil (packets_of A h) i) (λ k. processed B k h) (λ k i. took B k i h) (λ k. was_acked B k h)) token.number
+
+pub past_peer_token : (s : Side) (token : Token) (result : Result (Unit {0}) TokenFault) (h : History) → past (other s) (AckedToken s token result ∷ h) ≡ past (other s) h
+unfolding own_calls packets_of processed took was_acked
+past_peer_token A token result h = λ i. past_of (own_calls B h) (append-nil (packets_of B h) i) (append-nil (packets_of A h) i) (λ k. processed B k h) (λ k i. took B k i h) (λ k. was_acked B k h)
+past_peer_token B token result h = λ i. past_of (own_calls A h) (append-nil (packets_of A h) i) (append-nil (packets_of B h) i) (λ k. processed A k h) (λ k i. took A k i h) (λ k. was_acked A k h)
 
 -- What is made
 
@@ -108,15 +160,13 @@ unfolding made
 made_peer A act answer h = append-nil (made B h)
 made_peer B act answer h = append-nil (made A h)
 
-pub made_acked : (s : Side) (room : ℕ) (result : Result (Option Made) MakeFault) (text : List ℕ) (h : History) → made s (MadeAck s room result text ∷ h) ≡ made s h ++ texts_of result text
+pub made_makes : (s : Side) (x : Happening) (texts : List (List ℕ)) (h : History) → Makes s x texts → made s (x ∷ h) ≡ made s h ++ texts
 unfolding made
-made_acked A room result text h = refl
-made_acked B room result text h = refl
+made_makes s x texts h m = ap (λ ts. made s h ++ ts) m.here
 
-pub made_peer_acked : (s : Side) (room : ℕ) (result : Result (Option Made) MakeFault) (text : List ℕ) (h : History) → made (other s) (MadeAck s room result text ∷ h) ≡ made (other s) h
+pub made_peer_makes : (s : Side) (x : Happening) (texts : List (List ℕ)) (h : History) → Makes s x texts → made (other s) (x ∷ h) ≡ made (other s) h
 unfolding made
-made_peer_acked A room result text h = append-nil (made B h)
-made_peer_acked B room result text h = append-nil (made A h)
+made_peer_makes s x texts h m = ap (λ ts. made (other s) h ++ ts) m.there ∙ append-nil (made (other s) h)
 
 pub made_raised : (t s : Side) (limits : PeerLimits) (result : Result (Unit {0}) RaiseFault) (h : History) → made t (RaisedLimits s limits result ∷ h) ≡ made t h
 unfolding made
@@ -128,6 +178,11 @@ made_came A A k bytes result h = refl
 made_came A B k bytes result h = refl
 made_came B A k bytes result h = refl
 made_came B B k bytes result h = refl
+
+-- of what a side makes nothing is added
+pub made_none : (t : Side) (x : Happening) (h : History) → made_now t x ≡ [] → made t (x ∷ h) ≡ made t h
+unfolding made
+made_none t x h none = ap (λ ts. made t h ++ ts) none ∙ append-nil (made t h)
 
 -- Payloads
 
@@ -150,7 +205,7 @@ faultless_at (t ∷ texts) zero text all is = rw (same_Some t text is) at all.0
 faultless_at (t ∷ texts) (suc k) text all is = faultless_at texts k text all.1 is
 
 made_faultless : (o : Option MakeFault) (e : End) (first delay room : ℕ) (answer : Result (Option Made) MakeFault) (text : List ℕ) (new : End) → MakeAt o e first delay room answer text new → AreFaultless (texts_of answer text)
-made_faultless None e first delay room (Ok (Some made)) text new h = (text_faultless delay h.frames text h.lawful.some h.spells, tt)
+made_faultless None e first delay room (Ok (Some made)) text new h = ((text_faultless delay h.frames text h.lawful.some h.spells, text_fits delay h.frames text h.lawful.some h.spells), tt)
 made_faultless (Some fault) e first delay room (Ok (Some made)) text new h = absurd (cc (h.0))
 made_faultless o e first delay room (Ok None) text new h = tt
 made_faultless o e first delay room (Err fault) text new h = tt
@@ -160,5 +215,5 @@ packet_faultless e first delay room answer text new step = made_faultless (make_
 
 pub own_faultless : (e : End) (act : Act) (answer : Answer) (new : End) → OwnStep e act answer new → AreFaultless (made_by act answer)
 own_faultless e (acts.Make room) (answers.Make r text) new (first, delay, step) = packet_faultless e first delay room r text.items new step
-own_faultless e acts.Claim (answers.Claim (Ok number)) new step = (ping_faultless, tt)
+own_faultless e acts.Claim (answers.Claim (Ok number)) new step = ((ping_faultless, ping_fits), tt)
 own_faultless e act answer new step = tt

@@ -13,6 +13,7 @@ pub mod Unharmed
 pub mod Standing
 pub mod Frames
 pub mod Receives
+pub mod Alone
 pub mod Raising
 pub mod Wire
 pub mod Writing
@@ -26,6 +27,8 @@ pub mod Facing
 pub mod Agreement
 pub mod Repeats
 pub mod Histories
+pub mod Packing
+pub mod Landing
 pub mod Runs
 pub mod Claims
 pub mod Agrees

@@ -165,10 +165,10 @@ module _ (ms : Packets) (pre : List Seen) (f : Seen) where
   packet_has = (pre ++ f ∷ [], slice_get-last ms (pre ++ f ∷ []), Among_last pre f)
 
 -- The half after a chunk of it was sent, within its limit and what was written.
-module _ (mine theirs : Packets) (all : List ℕ) (n limit : ℕ) (l : SendLane) (h : SendTrue mine theirs all n limit l) (c : Chunk)
+module _ (mine theirs : Packets) (tokens : ℕ → Bool) (all : List ℕ) (n limit : ℕ) (l : SendLane) (h : SendTrue mine theirs tokens all n limit l) (c : Chunk)
     (none : l.was_reset ≡ None) (inside : c.offset + c.len ≤ l.written) (within : c.offset + c.len ≤ l.limit)
     (end : c.fin ≡ true → (l.finished ≡ true) × (c.offset + c.len ≡ l.written)) where
-  sent_ok : SendTrue mine theirs all n limit (sent_lane l c)
+  sent_ok : SendTrue mine theirs tokens all n limit (sent_lane l c)
   sent_ok =
       record {
         count = h.count;
@@ -228,7 +228,7 @@ records_changed p e sent next m ok count records =
       };
     }
 
-lane_changed : (p : Past) (e : End) (sent n : ℕ) (l m : SendLane) → EndHas p e sent → lookup e.sends n ≡ Some l → SendTrue p.mine p.theirs (p.bytes n) n (first_send_limit e n) m → EndHas p (record e { sends = update e.sends n m }) sent
+lane_changed : (p : Past) (e : End) (sent n : ℕ) (l m : SendLane) → EndHas p e sent → lookup e.sends n ≡ Some l → SendTrue p.mine p.theirs p.tokens (p.bytes n) n (first_send_limit e n) m → EndHas p (record e { sends = update e.sends n m }) sent
 lane_changed p e sent n l m ok is this =
     record {
       sends = slots_updated (λ j o. SendSlot p j (first_send_limit e j) o) e.sends n l m is (λ j ne. ok.sends j) this;
@@ -239,8 +239,8 @@ lane_changed p e sent n l m ok is this =
       streams = subst (λ s. OpenOk p e.role e.peer.streams_bidi e.peer.streams_uni e.known_bidi e.known_uni s (is_open e.recvs)) (sym (open_update e.sends n l m is)) ok.streams;
     }
 
-blocked_ok : (mine theirs : Packets) (all : List ℕ) (n limit : ℕ) (l : SendLane) → SendTrue mine theirs all n limit l → SendTrue mine theirs all n limit (blocked_lane l)
-blocked_ok mine theirs all n limit l h =
+blocked_ok : (mine theirs : Packets) (tokens : ℕ → Bool) (all : List ℕ) (n limit : ℕ) (l : SendLane) → SendTrue mine theirs tokens all n limit l → SendTrue mine theirs tokens all n limit (blocked_lane l)
+blocked_ok mine theirs tokens all n limit l h =
     record {
       count = h.count;
       kept = h.kept;
@@ -302,7 +302,7 @@ module _ (p : Past) (pre : List Seen) where
     where
       go : (o : Option SendLane) → lookup e.sends n ≡ o → EndHas (with_packet p pre) (counted (record e { sends = updated e.sends n blocked_lane o })) 0
       go None is = ok
-      go (Some l) is = lane_changed _ (counted e) 0 n l (blocked_lane l) ok is (blocked_ok _ _ _ n _ l (subst (SendSlot (with_packet p pre) n (first_send_limit e n)) is (ok.sends n)))
+      go (Some l) is = lane_changed _ (counted e) 0 n l (blocked_lane l) ok is (blocked_ok _ _ _ _ n _ l (subst (SendSlot (with_packet p pre) n (first_send_limit e n)) is (ok.sends n)))
   item_marked e i ok = ok
 
 frame_put_next : (f : Seen) (e : End) → (frame_put f e).next ≡ e.next
@@ -315,11 +315,11 @@ module _ (p : Past) (old : End) (kept : (k : ℕ) → set.contains old.done k �
   put_stream pre e n offset bytes fin l may at ok =
       let f : Seen = Stream n offset bytes fin in
       let c : Chunk = chunk_of offset bytes fin in
-      let h : SendTrue (p.mine ++ pre ∷ []) p.theirs (p.bytes n) n (first_send_limit e n) l = subst (SendSlot (with_packet p pre) n (first_send_limit e n)) may.lane (ok.sends n) in
+      let h : SendTrue (p.mine ++ pre ∷ []) p.theirs p.tokens (p.bytes n) n (first_send_limit e n) l = subst (SendSlot (with_packet p pre) n (first_send_limit e n)) may.lane (ok.sends n) in
       let end : fin ≡ true → (l.finished ≡ true) × (offset + length bytes ≡ l.written) = λ is. ((may.end is).0.finished, (may.end is).1) in
       let m : SendLane = sent_lane l c in
-      let moved = sent_ok _ _ _ n (first_send_limit e n) l h c may.no_reset may.inside may.within end in
-      let chunk = chunk_true _ _ _ n (first_send_limit e n) l h c may.no_reset may.inside may.within end bytes refl may.told (λ q low high. (may.due q low high).not_acked) in
+      let moved = sent_ok _ _ _ _ n (first_send_limit e n) l h c may.no_reset may.inside may.within end in
+      let chunk = chunk_true _ _ _ _ n (first_send_limit e n) l h c may.no_reset may.inside may.within end bytes refl may.told (λ q low high. (may.due q low high).not_acked) in
       let e' : End = record e { sends = update e.sends n m } in
       let ok' : EndHas (with_packet p pre) (counted e') 0 = lane_changed _ (counted e) 0 n l m ok may.lane moved in
       let put : EndHas (with_packet p (pre ++ f ∷ [])) (counted e') 0 = packet_put p pre (counted e') f ok' (m, lookup_same e.sends n l m may.lane, chunk) (ap (λ x. x + 1) at) in

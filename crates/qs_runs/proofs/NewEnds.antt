@@ -1,5 +1,5 @@
 -- A new end meets the invariant: nothing was made, written or read.
-use Rattle.std.proofs.Common.{◌≡◌, ℕ, true, false, [], length, Option, None, Some, Result, Ok, Err, is_some, refl, sym, ap, ◌∙◌, subst, arith, inl, nat_cmp}
+use Rattle.std.proofs.Common.{◌≡◌, ℕ, true, false, [], length, Option, None, Some, Result, Ok, Err, is_some, sym, ap, ◌∙◌, subst, arith, inl, nat_cmp}
 use Rattle.std.proofs.lemmas.Option.{none-some}
 use Rattle.std.proofs.lemmas.Bool.{false≢true}
 use Rattle.std.specs.FinSet as set
@@ -11,10 +11,11 @@ use Rattle.qs_send.specs.Lane.{SendLane}
 use Rattle.qs_calls.specs.declared.settings.Settings.{Settings}
 use Rattle.qs_calls.specs.declared.settings.PeerLimits.{PeerLimits}
 use Rattle.qs_calls.specs.declared.settings.SetupFault.{SetupFault}
-use Rattle.qs_calls.specs.Settings.{limits_of, setup_fault}
+use Rattle.qs_calls.specs.Settings.{limits_of, wide_setup_fault}
 use Rattle.qs_machine.specs.Tables.{total, no_streams}
-use Rattle.qs_machine.specs.Ends.{End, first_send_limit, window, new_end, end_made, end_unless}
+use Rattle.qs_machine.specs.Ends.{End, first_send_limit, window, new_end, end_made, wide_end_made, end_unless}
 use Rattle.qs_machine.specs.Seen.{Seen}
+use Rattle.qs_machine.proofs.Bounds.{new_ends_wide}
 use Rattle.qs_machine.proofs.Ties.{nowhere}
 use Rattle.qs_runs.specs.Worlds.{World, AreGranted, Begins, begun_with, world_made, both_made}
 use Rattle.qs_runs.specs.Pasts.{Packets, Past, Tells}
@@ -23,7 +24,7 @@ use Rattle.qs_runs.specs.Invariant.{EndOk, SendSlot, RecvSlot, is_open}
 pub tells_nothing : (ms : Packets) (f : Seen) → ms ≡ [] → Tells ms f → ⊥
 tells_nothing ms f none (k, (fs, at, a)) = none-some fs (rw none at at)
 
-module _ (role : Role) (own : Settings) (told : PeerLimits) (p : Past) (made : p.mine ≡ []) (wrote : (n : ℕ) → p.bytes n ≡ []) (gave : (n : ℕ) → p.gave n ≡ []) (stopped : (n : ℕ) → p.stopped n ≡ false) (ended : (n : ℕ) → p.ended n ≡ false) (processed : (k : ℕ) → p.processed k ≡ false) where
+module _ (role : Role) (own : Settings) (told : PeerLimits) (p : Past) (made : p.mine ≡ []) (wrote : (n : ℕ) → p.bytes n ≡ []) (gave : (n : ℕ) → p.gave n ≡ []) (stopped : (n : ℕ) → p.stopped n ≡ false) (ended : (n : ℕ) → p.ended n ≡ false) (processed : (k : ℕ) → p.processed k ≡ false) (took : (k i : ℕ) → p.took k i ≡ false) where
   new_send : (n limit : ℕ) → SendSlot p n limit None
   new_send n limit =
       record {
@@ -62,7 +63,7 @@ module _ (role : Role) (own : Settings) (told : PeerLimits) (p : Past) (made : p
           above = λ k is. omega arith;
           kept = λ k is. absurd (false≢true (sym (processed k) ∙ is));
         };
-        taken = λ k is. absurd (false≢true (sym (processed k) ∙ is));
+        taken = record { packets = λ k is. absurd (false≢true (sym (processed k) ∙ is)); frames = λ k i is. absurd (false≢true (sym (took k i) ∙ is)) };
         credit = record { sent_known = omega arith; known_told = inl (omega arith); window_granted = omega arith; granted_told = λ limit t. absurd (tells_nothing p.mine _ made t) };
         streams = record {
           own_send = λ n is o. absurd (not_open SendLane n is);
@@ -80,7 +81,7 @@ abbrev pub first_world : Settings → Settings → (of_a of_b : PeerLimits) → 
 first_world a b of_a of_b = record { a = new_end Client a of_b; b = new_end Server b of_a }
 
 pub made_first : (a b : Settings) (of_a of_b : PeerLimits) (w : World) → begun_with a b of_a of_b ≡ Ok w → w ≡ first_world a b of_a of_b
-made_first a b of_a of_b w is = go (setup_fault a of_b) (setup_fault b of_a) is
+made_first a b of_a of_b w is = go (wide_setup_fault a of_b) (wide_setup_fault b of_a) is
   where
     go : (x y : Option SetupFault) → both_made (end_unless x (new_end Client a of_b)) (end_unless y (new_end Server b of_a)) ≡ Ok w → w ≡ first_world a b of_a of_b
     go (Some fault) y e = absurd (cc)
@@ -88,19 +89,27 @@ made_first a b of_a of_b w is = go (setup_fault a of_b) (setup_fault b of_a) is
     go None None e = cc
 
 -- each end of it was made
-pub ends_made : (a b : Settings) (of_a of_b : PeerLimits) (w : World) → begun_with a b of_a of_b ≡ Ok w → (end_made Client a of_b ≡ Ok w.a) × (end_made Server b of_a ≡ Ok w.b)
-ends_made a b of_a of_b w is = go (end_made Client a of_b) (end_made Server b of_a) is
-  where
-    go : (x y : Result End SetupFault) → both_made x y ≡ Ok w → (x ≡ Ok w.a) × (y ≡ Ok w.b)
-    go (Err fault) y e = absurd (cc)
-    go (Ok c) (Err fault) e = absurd (cc)
-    go (Ok c) (Ok s) e =
-        let same : record { a = c; b = s } ≡ w = cc in
-        (ap (λ (x : World). Ok x.a) same, ap (λ (x : World). Ok x.b) same)
+two_made : (x y : Result End SetupFault) (w : World) → both_made x y ≡ Ok w → (x ≡ Ok w.a) × (y ≡ Ok w.b)
+two_made (Err fault) y w e = absurd (cc)
+two_made (Ok c) (Err fault) w e = absurd (cc)
+two_made (Ok c) (Ok s) w e =
+    let same : record { a = c; b = s } ≡ w = cc in
+    (ap (λ (x : World). Ok x.a) same, ap (λ (x : World). Ok x.b) same)
+
+pub ends_made : (a b : Settings) (of_a of_b : PeerLimits) (w : World) → begun_with a b of_a of_b ≡ Ok w → (wide_end_made Client a of_b ≡ Ok w.a) × (wide_end_made Server b of_a ≡ Ok w.b)
+ends_made a b of_a of_b w is = two_made (wide_end_made Client a of_b) (wide_end_made Server b of_a) w is
 
 -- an end grants its own limits
 pub all_granted : (s : Settings) → AreGranted (limits_of s) s
 all_granted s = record { max_data = omega arith; bidi_local = omega arith; bidi_remote = omega arith; uni = omega arith; streams_bidi = omega arith; streams_uni = omega arith }
 
+-- two ends of a script's ranges are of the wide ones, too
+pub made_wide : (a b : Settings) (w : World) → world_made a b ≡ Ok w → begun_with a b (limits_of a) (limits_of b) ≡ Ok w
+made_wide a b w is =
+    let made = two_made (end_made Client a (limits_of b)) (end_made Server b (limits_of a)) w is in
+    let client = new_ends_wide Client a (limits_of b) w.a made.0 in
+    let server = new_ends_wide Server b (limits_of a) w.b made.1 in
+    ap (λ r. both_made r (wide_end_made Server b (limits_of a))) client ∙ ap (λ r. both_made (Ok w.a) r) server
+
 pub begins_true : (a b : Settings) (w : World) → world_made a b ≡ Ok w → Begins a b w
-begins_true a b w is = record { of_a = limits_of a; of_b = limits_of b; granted_a = all_granted a; granted_b = all_granted b; begun = is }
+begins_true a b w is = record { of_a = limits_of a; of_b = limits_of b; granted_a = all_granted a; granted_b = all_granted b; begun = made_wide a b w is }

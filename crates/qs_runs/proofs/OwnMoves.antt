@@ -15,6 +15,8 @@ use Rattle.qs_calls.specs.declared.making.Made.{Made}
 use Rattle.qs_calls.specs.declared.making.MakeFault.{MakeFault}
 use Rattle.qs_calls.specs.declared.making.MakeFault.TheVariants as making
 use Rattle.qs_calls.specs.declared.making.LostFault.{LostFault}
+use Rattle.qs_calls.specs.declared.token.Token.{Token}
+use Rattle.qs_calls.specs.declared.token.TokenFault.{TokenFault}
 use Rattle.qs_calls.specs.declared.uses.OpenFault.{OpenFault}
 use Rattle.qs_calls.specs.declared.uses.OpenFault.TheVariants as opening
 use Rattle.qs_calls.specs.declared.uses.UseFault.{UseFault}
@@ -26,6 +28,7 @@ use Rattle.qs_machine.specs.Seen.{Seen, seen_all}
 use Rattle.qs_machine.specs.Due.{known_count}
 use Rattle.qs_machine.specs.Owner.{first_refusal, refuse_if, send_refusal, recv_refusal, half_refusal, no_half, opened_count, own_type, peer_type, with_wanted, OpenStep, IsBlocked, IsOpened, AcceptStep, GivesNone, GivesBidi, GivesUni, AcceptOpen, WriteStep, FinishStep, ResetStep, StopStep, ReadStep, ReadBy, next_stream}
 use Rattle.qs_machine.specs.Making.{MakeStep, MakeAt, make_refusal, IsMade, LoseStep, lose_refusal, ClaimStep, claim_refusal}
+use Rattle.qs_machine.specs.Alone.{token_refusal, TokenLostStep}
 use Rattle.qs_calls.specs.declared.event.Act.{Act}
 use Rattle.qs_calls.specs.declared.event.Act.TheVariants as acts
 use Rattle.qs_calls.specs.declared.answer.Answer.{Answer}
@@ -74,6 +77,8 @@ quiet p act answer a b c d f =
       stopped = λ n. ap (λ x. if x then true else p.stopped n) (d n) i;
       ended = λ n. ap (λ x. if x && not (p.stopped n) then true else p.ended n) (f n) i;
       processed = p.processed;
+      took = p.took;
+      tokens = p.tokens;
     }
 
 -- What speaks against a call
@@ -100,6 +105,10 @@ wanted_ok p e Uni count ok = rest_ok p e e.accepted_bidi e.accepted_uni e.wanted
 
 pub ended_by : (p : Past) (e new : End) → new ≡ e → EndOk p e → EndOk p new
 ended_by p e new is ok = subst (EndOk p) (sym is) ok
+
+-- nothing more was made
+pub nothing_made : (p : Past) (e : End) → EndOk p e → EndOk (with_packets p []) e
+nothing_made p e ok = subst (λ x. EndOk (record p { mine = x }) e) (sym (append-nil p.mine)) ok
 
 module _ (p : Past) (e new : End) (ok : EndOk p e) where
   quiet_moves : (act : Act) (answer : Answer) → with_call p act answer ≡ p → EndOk p new → EndOk (with_call p act answer) new
@@ -146,6 +155,8 @@ module _ (p : Past) (e new : End) (ok : EndOk p e) where
         stopped = p.stopped;
         ended = p.ended;
         processed = p.processed;
+        took = p.took;
+        tokens = p.tokens;
       }
 
   write_moves : (n : ℕ) (bytes : Vec ℕ) (answer : Result ℕ UseFault) → WriteStep e n bytes.items answer new → EndOk (with_call p (acts.Write n bytes) (answers.Write answer)) new
@@ -167,7 +178,7 @@ module _ (p : Past) (e new : End) (ok : EndOk p e) where
   finish_moves n answer step =
       elim (certain_cases (send_refusal e n refusal) e answer new _ step) [
         | inl (fault, is, same) ↦ ended_by p e new same ok
-        | inr (allowed, (is, same)) ↦ ended_by p _ new same (settle_ok p _ (send_kept p e n ok finish_lane (λ l there h. (finish_ok p.mine p.theirs (p.bytes n) n (first_send_limit e n) l h, refl))))
+        | inr (allowed, (is, same)) ↦ ended_by p _ new same (settle_ok p _ (send_kept p e n ok finish_lane (λ l there h. (finish_ok p.mine p.theirs p.tokens (p.bytes n) n (first_send_limit e n) l h, refl))))
       ]
 
   reset_moves : (n code : ℕ) (answer : Result (Unit {0}) UseFault) → ResetStep e n code answer new → EndOk p new
@@ -201,7 +212,7 @@ module _ (p : Past) (e new : End) (ok : EndOk p e) where
       go allowed (Some l) there same =
           let h : RecvOk p n (window e n) l = subst (RecvSlot p n (window e n)) there (ok.recvs n) in
           changed_half _ n (λ m. stop m code) l there p.gave (λ m. if m == n then true else p.stopped m) p.ended
-          (λ i. record { mine = append-nil p.mine i; theirs = p.theirs; bytes = λ m. append-nil (p.bytes m) i; gave = λ m. append-nil (p.gave m) i; stopped = λ m. if m == n then true else p.stopped m; ended = p.ended; processed = p.processed })
+          (λ i. record { mine = append-nil p.mine i; theirs = p.theirs; bytes = λ m. append-nil (p.bytes m) i; gave = λ m. append-nil (p.gave m) i; stopped = λ m. if m == n then true else p.stopped m; ended = p.ended; processed = p.processed; took = p.took; tokens = p.tokens })
           (λ j ne. (refl, rw (ne_eqb j n ne) refl, refl))
           (subst (λ b. RecvTrue p.mine p.theirs (p.gave n) (if b then true else p.stopped n) (p.ended n) n (window e n) (stop l code)) (sym (eq-eqb n n refl)) (stop_ok p n (window e n) l h code (is_some l.stop_code)))
           (stop_grows p n (window e n) l h code (is_some l.stop_code)) same
@@ -213,7 +224,7 @@ module _ (p : Past) (e new : End) (ok : EndOk p e) where
       go l there (reads.Bytes count) at given same =
           let h : RecvOk p n (window e n) l = subst (RecvSlot p n (window e n)) there (ok.recvs n) in
           changed_half _ n (λ m. after_answer (read_answer m size) m size) l there (λ m. p.gave m ++ (if m == n then bytes.items else [])) p.stopped p.ended
-          (λ i. record { mine = append-nil p.mine i; theirs = p.theirs; bytes = λ m. append-nil (p.bytes m) i; gave = λ m. p.gave m ++ (if m == n then bytes.items else []); stopped = p.stopped; ended = p.ended; processed = p.processed })
+          (λ i. record { mine = append-nil p.mine i; theirs = p.theirs; bytes = λ m. append-nil (p.bytes m) i; gave = λ m. p.gave m ++ (if m == n then bytes.items else []); stopped = p.stopped; ended = p.ended; processed = p.processed; took = p.took; tokens = p.tokens })
           (λ j ne. (rw (ne_eqb j n ne) (append-nil (p.gave j)), refl, refl))
           (subst (λ b. RecvTrue p.mine p.theirs (p.gave n ++ (if b then bytes.items else [])) (p.stopped n) (p.ended n) n (window e n) (after_answer (read_answer l size) l size)) (sym (eq-eqb n n refl))
           (subst (λ x. RecvTrue p.mine p.theirs (p.gave n ++ x) (p.stopped n) (p.ended n) n (window e n) (after_answer (read_answer l size) l size)) (sym given)
@@ -223,7 +234,7 @@ module _ (p : Past) (e new : End) (ok : EndOk p e) where
       go l there reads.End at given same =
           let h : RecvOk p n (window e n) l = subst (RecvSlot p n (window e n)) there (ok.recvs n) in
           changed_half _ n (λ m. after_answer (read_answer m size) m size) l there p.gave p.stopped (λ m. if m == n && not (p.stopped m) then true else p.ended m)
-          (λ i. record { mine = append-nil p.mine i; theirs = p.theirs; bytes = λ m. append-nil (p.bytes m) i; gave = λ m. append-nil (p.gave m) i; stopped = p.stopped; ended = λ m. if m == n && not (p.stopped m) then true else p.ended m; processed = p.processed })
+          (λ i. record { mine = append-nil p.mine i; theirs = p.theirs; bytes = λ m. append-nil (p.bytes m) i; gave = λ m. append-nil (p.gave m) i; stopped = p.stopped; ended = λ m. if m == n && not (p.stopped m) then true else p.ended m; processed = p.processed; took = p.took; tokens = p.tokens })
           (λ j ne. (refl, refl, rw (ne_eqb j n ne) refl))
           (subst (λ a. RecvTrue p.mine p.theirs (p.gave n) (p.stopped n) (if n == n && not (p.stopped n) then true else p.ended n) n (window e n) (after_answer a l size)) (sym at)
           (read_told_ok p n (window e n) l h _ (λ is. ended_now l h at is)))
@@ -276,7 +287,7 @@ module _ (p : Past) (e new : End) (ok : EndOk p e) where
   make_moves : (first delay room : ℕ) (answer : Result (Option Made) MakeFault) (text : Vec ℕ) → MakeStep e first delay room answer text.items new → EndOk (with_call p (acts.Make room) (answers.Make answer text)) new
   make_moves first delay room answer text step =
       subst (λ x. EndOk x new)
-      (λ i. record { mine = p.mine ++ map frames_in (texts_of answer text.items); theirs = p.theirs; bytes = λ m. sym (append-nil (p.bytes m)) i; gave = λ m. sym (append-nil (p.gave m)) i; stopped = p.stopped; ended = p.ended; processed = p.processed })
+      (λ i. record { mine = p.mine ++ map frames_in (texts_of answer text.items); theirs = p.theirs; bytes = λ m. sym (append-nil (p.bytes m)) i; gave = λ m. sym (append-nil (p.gave m)) i; stopped = p.stopped; ended = p.ended; processed = p.processed; took = p.took; tokens = p.tokens })
       (packet_moves first delay room answer text.items step)
 
   lose_moves : (k : ℕ) (answer : Result (Unit {0}) LostFault) → LoseStep e k answer new → EndOk p new
@@ -287,6 +298,13 @@ module _ (p : Past) (e new : End) (ok : EndOk p e) where
         | inr (allowed, (ps, there, inr (moved, lt, is, same))) ↦ ended_by p _ new same (losses_ok p k (take moved ps) e (λ x a. ok.packets.records k ps x there (Among_take moved ps x a)) ok)
       ]
 
+  pub token_lost_moves : (t : Token) (answer : Result (Unit {0}) TokenFault) → TokenLostStep e t answer new → EndOk p new
+  token_lost_moves t answer step =
+      elim (certain_cases (token_refusal e t) e answer new _ step) [
+        | inl (fault, is, same) ↦ ended_by p e new same ok
+        | inr (allowed, (declared, loses, told)) ↦ lose_moves t.number declared loses
+      ]
+
   claim_moves : (answer : Result ℕ MakeFault) → ClaimStep e answer new → EndOk (with_call p acts.Claim (answers.Claim answer)) new
   claim_moves answer step =
       elim (certain_cases (claim_refusal e) e answer new _ step) [
@@ -294,7 +312,7 @@ module _ (p : Past) (e new : End) (ok : EndOk p e) where
             (quiet_moves acts.Claim (answers.Claim (Err fault)) (quiet p acts.Claim (answers.Claim (Err fault)) refl (λ m. refl) (λ m. refl) (λ m. refl) (λ m. refl)) (ended_by p e new same ok))
         | inr (allowed, (is, same)) ↦ subst (λ a. EndOk (with_call p acts.Claim (answers.Claim a)) new) (sym is)
             (subst (λ x. EndOk x new)
-            (λ i. record { mine = p.mine ++ sym ping_seen i ∷ []; theirs = p.theirs; bytes = λ m. sym (append-nil (p.bytes m)) i; gave = λ m. sym (append-nil (p.gave m)) i; stopped = p.stopped; ended = p.ended; processed = p.processed })
+            (λ i. record { mine = p.mine ++ sym ping_seen i ∷ []; theirs = p.theirs; bytes = λ m. sym (append-nil (p.bytes m)) i; gave = λ m. sym (append-nil (p.gave m)) i; stopped = p.stopped; ended = p.ended; processed = p.processed; took = p.took; tokens = p.tokens })
             (ended_by _ _ new same (claimed_ok p e ok)))
       ]
 

@@ -1,7 +1,8 @@
 -- What packets tell, they tell when more were made.
-use Rattle.std.proofs.Common.{ℕ, ◌++◌}
+use Rattle.std.proofs.Common.{ℕ, Bool, List, [], ◌∷◌, ◌++◌, inl, inr}
+use Rattle.std.specs.List.{AllByRecursion}
 use Rattle.qs_machine.specs.Seen.{Seen}
-use Rattle.qs_runs.specs.Pasts.{Packets, Holds, Tells, TellsOffset, TellsByte, TellsEnd, TellsAck, IsNamed}
+use Rattle.qs_runs.specs.Pasts.{Packets, Holds, Tells, TellsOffset, TellsByte, TellsEnd, TellsAck, WasConfirmed, HoldsAt, EachTaken, IsNamed}
 use Rattle.qs_runs.proofs.Lists.{slice_get-append}
 
 module _ (ps more : Packets) where
@@ -23,5 +24,30 @@ module _ (ps more : Packets) where
   pub TellsAck-more : (k : ℕ) → TellsAck ps k → TellsAck (ps ++ more) k
   TellsAck-more k (largest, ranges, t, named) = (largest, ranges, Tells-more _ t, named)
 
+  pub Confirmed-more : (tokens : ℕ → Bool) (k : ℕ) → WasConfirmed ps tokens k → WasConfirmed (ps ++ more) tokens k
+  Confirmed-more tokens k c = elim c [ inl ack ↦ inl (TellsAck-more k ack) | inr told ↦ inr told ]
+
+  pub HoldsAt-more : (k i : ℕ) (f : Seen) → HoldsAt ps k i f → HoldsAt (ps ++ more) k i f
+  HoldsAt-more k i f (fs, there, at) = (fs, slice_get-append ps more k fs there, at)
+
+  pub EachTaken-more : (processed : ℕ → Bool) (took : ℕ → ℕ → Bool) (P : Seen → Type 0) → EachTaken ps processed took P → EachTaken (ps ++ more) processed took P
+  EachTaken-more processed took P h =
+      record {
+        packets = λ k is. (let (fs, there, all) = h.packets k is in (fs, slice_get-append ps more k fs there, all));
+        frames = λ k i is. (let (f, holds, taken) = h.frames k i is in (f, HoldsAt-more k i f holds, taken));
+      }
+
   pub IsNamed-more : (n : ℕ) → IsNamed ps n → IsNamed (ps ++ more) n
   IsNamed-more n (f, m, t, names, same, le) = (f, m, Tells-more f t, names, same, le)
+
+-- what holds of each frame that was taken, and what follows from it
+all_taken : (P Q : Seen → Type 0) → ((f : Seen) → P f → Q f) → (fs : List Seen) → AllByRecursion P fs → AllByRecursion Q fs
+all_taken P Q more [] all = tt
+all_taken P Q more (f ∷ fs) all = (more f all.0, all_taken P Q more fs all.1)
+
+pub each_taken : (ps : Packets) (processed : ℕ → Bool) (took : ℕ → ℕ → Bool) (P Q : Seen → Type 0) → ((f : Seen) → P f → Q f) → EachTaken ps processed took P → EachTaken ps processed took Q
+each_taken ps processed took P Q more h =
+    record {
+      packets = λ k is. (let (fs, there, all) = h.packets k is in (fs, there, all_taken P Q more fs all));
+      frames = λ k i is. (let (f, holds, taken) = h.frames k i is in (f, holds, more f taken));
+    }

@@ -4,9 +4,8 @@ use Rattle.qs_recv.specs.Lane.{RecvLane}
 use Rattle.qs_send.specs.Lane.{SendLane}
 use Rattle.qs_machine.specs.Tables.{lookup}
 use Rattle.qs_machine.specs.Ends.{End, first_send_limit, window}
-use Rattle.qs_runs.proofs.Lists.{slice_get-append}
 use Rattle.qs_runs.specs.Pasts.{Packets, Past}
-use Rattle.qs_runs.proofs.Past.{Tells-more, TellsOffset-more, TellsByte-more, TellsEnd-more, TellsAck-more, IsNamed-more}
+use Rattle.qs_runs.proofs.Past.{Tells-more, TellsOffset-more, TellsByte-more, TellsEnd-more, Confirmed-more, EachTaken-more, IsNamed-more}
 use Rattle.qs_runs.specs.Invariant.{EndOk, SendSlot, RecvSlot}
 
 abbrev pub with_theirs : Past → Packets → Past
@@ -25,8 +24,8 @@ module _ (p : Past) (more : Packets) where
         reset_size = h.reset_size;
         told = h.told;
         told_reset = h.told_reset;
-        acked = λ q is. (let (k, offset, bytes, fin, holds, low, high, ack) = h.acked q is in (k, offset, bytes, fin, holds, low, high, TellsAck-more p.theirs more k ack));
-        end_acked = λ is. (let (k, offset, bytes, holds, ack) = h.end_acked is in (k, offset, bytes, holds, TellsAck-more p.theirs more k ack));
+        acked = λ q is. (let (k, offset, bytes, fin, holds, low, high, ack) = h.acked q is in (k, offset, bytes, fin, holds, low, high, Confirmed-more p.theirs more p.tokens k ack));
+        end_acked = λ is. (let (k, offset, bytes, holds, ack) = h.end_acked is in (k, offset, bytes, holds, Confirmed-more p.theirs more p.tokens k ack));
         limit_told = elim h.limit_told [ inl e ↦ inl e | inr t ↦ inr (Tells-more p.theirs more _ t) ];
       }
 
@@ -61,7 +60,7 @@ module _ (p : Past) (more : Packets) where
           above = ok.packets.above;
           kept = ok.packets.kept;
         };
-        taken = λ k is. (let (fs, there, all) = ok.taken k is in (fs, slice_get-append p.theirs more k fs there, all));
+        taken = EachTaken-more p.theirs more p.processed p.took _ ok.taken;
         credit = record {
           sent_known = ok.credit.sent_known;
           known_told = elim ok.credit.known_told [ inl e ↦ inl e | inr t ↦ inr (Tells-more p.theirs more _ t) ];

@@ -1,5 +1,5 @@
 -- Limits of the peer that rise keep the invariant of an end.
-use Rattle.std.proofs.Common.{◌≡◌, ℕ, zero, suc, ◌+◌, ◌/◌, ◌%◌, ◌<◌, ◌≤◌, max, Bool, true, false, ◌⊎◌, Option, Some, None, is_some, option_map, Result, refl, sym, ap, ◌∙◌, subst, arith, inl, inr, if◌then◌else◌}
+use Rattle.std.proofs.Common.{◌≡◌, ℕ, zero, suc, ◌/◌, ◌%◌, ◌<◌, ◌≤◌, max, Bool, true, false, ◌⊎◌, Option, Some, None, is_some, option_map, Result, refl, sym, ap, ◌∙◌, subst, arith, inl, inr, if◌then◌else◌}
 use Rattle.std.proofs.lemmas.Bool.{cases_lt}
 use Rattle.std.proofs.lemmas.Option.{slice_get-map}
 use Rattle.qs_wire.specs.declared.stream_id.Dir.TheVariants.{Bidi, Uni}
@@ -7,9 +7,9 @@ use Rattle.qs_send.specs.Lane.{SendLane, allow_lane}
 use Rattle.qs_send.specs.declared.piece.Item.TheVariants.{MaxData, MaxStreamData, MaxStreams}
 use Rattle.qs_calls.specs.declared.settings.PeerLimits.{PeerLimits}
 use Rattle.qs_calls.specs.declared.settings.RaiseFault.{RaiseFault}
-use Rattle.qs_machine.specs.Tables.{Tables, table, lookup, total}
+use Rattle.qs_machine.specs.Tables.{Tables, table, lookup}
 use Rattle.qs_machine.specs.Ends.{End, first_send_limit, is_uni, is_own}
-use Rattle.qs_machine.specs.Credit.{all_sent, settle}
+use Rattle.qs_machine.specs.Credit.{all_sent}
 use Rattle.qs_machine.specs.Seen.{Seen, Control}
 use Rattle.qs_machine.specs.Raising.{knows_limits, type_allowed, with_allowed, limits_raised, raise_refusal, RaiseStep}
 use Rattle.qs_machine.proofs.TableLaws.{value, with_same, with_other, lookup_in, total_le}

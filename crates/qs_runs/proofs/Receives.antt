@@ -132,11 +132,14 @@ module _ (k : ℕ) where
               ];
           above = λ j h. kept_above b s e.floor j above h;
         };
-        taken = λ j h.
-            elim (processed_or p.processed j h) [
-              | inl same ↦ (frames, ap (slice_get p.theirs) same ∙ is, all)
-              | inr old ↦ ok.taken j old
-            ];
+        taken = record {
+          packets = λ j h.
+              elim (processed_or p.processed j h) [
+                | inl same ↦ (frames, ap (slice_get p.theirs) same ∙ is, all)
+                | inr old ↦ ok.taken.packets j old
+              ];
+          frames = ok.taken.frames;
+        };
       }
 
 -- The frames of a payload, one after the other
@@ -154,7 +157,7 @@ module _ (p : Past) (k : ℕ) (all : List Seen) (is : slice_get p.theirs k ≡ S
   stops_ok : (v : PlacedValue) (f : Seen) (e : End) (result : Result Received Closing) (new : End) → EndOk p e → Tells p.theirs f → Stops v f e result new → EndOk (with_received p k result) new
   stops_ok v (Close code) e (Ok (PeerClosed told)) new ok t h = unchanged p k new _ refl (ended_by p _ _ h.1 (closed_ok p e _ ok))
   stops_ok v (Ack largest ranges) e (Ok NoMemory) new ok t (fine, (m, h, asks)) =
-      unchanged p k new _ refl (ended_by p _ _ h (acks_ok p (take m (named e ranges)) e (All_take _ m _ (named_pieces_ok p e ok ranges (λ j a. (largest, ranges, t, a)))) ok))
+      unchanged p k new _ refl (ended_by p _ _ h (acks_ok p (take m (named e ranges)) e (All_take _ m _ (named_pieces_ok p e ok ranges (λ j a. inl (largest, ranges, t, a)))) ok))
   stops_ok v (Close code) e result new ok t h = absurd h
   stops_ok v f e (Ok NoMemory) new ok t h = unchanged p k new _ refl (ended_by p _ _ h.1.0 ok)
   stops_ok v f e (Err closing) new ok t h = unchanged p k new _ refl (ended_by p _ _ h.2 (closed_ok p e _ ok))

@@ -1,11 +1,11 @@
 -- A repeat leaves an end as it was, and what tells nothing new spends nothing.
-use Rattle.std.proofs.Common.{◌≡◌, ◌≢◌, ℕ, ◌+◌, ◌≤◌, ◌<◌, Bool, true, false, ◌||◌, List, [], ◌∷◌, length, Option, Some, None, Result, Ok, unwrap_or, is_some, slice_get, refl, sym, ap, ◌∙◌, subst, arith, inl, inr, if◌then◌else◌, MatchBool, nat_lt, le_antisymm}
+use Rattle.std.proofs.Common.{◌≡◌, ◌≢◌, ℕ, ◌+◌, ◌≤◌, ◌<◌, Bool, true, false, ◌||◌, ◌⊎◌, List, [], ◌∷◌, length, Option, Some, None, Result, Ok, Err, unwrap_or, is_some, slice_get, refl, sym, ap, ◌∙◌, subst, arith, inl, inr, if◌then◌else◌, MatchBool, nat_lt, le_antisymm}
 use Rattle.std.proofs.lemmas.Option.{none-some, same_Some}
 use Rattle.std.proofs.lemmas.Bool.{lt-ltb, true≢false}
 use Rattle.std.specs.FinSet as set
 use Rattle.std.specs.List.{AllByRecursion}
 use Rattle.qs_ranges.specs.Numbers.{NumberSet, numbers, end_of}
-use Rattle.qs_wire.specs.Layout.{PlacedValue}
+use Rattle.qs_wire.specs.Layout.{FrameValue, PlacedValue}
 use Rattle.qs_wire.specs.Grammar.{frames_of}
 use Rattle.qs_wire.specs.Reading.{reading_of}
 use Rattle.qs_wire.specs.declared.fault.WireFault.{WireFault}
@@ -16,6 +16,9 @@ use Rattle.qs_send.specs.declared.piece.Item.TheVariants.{MaxStreamData, MaxStre
 use Rattle.qs_calls.specs.declared.closing.Closing.{Closing}
 use Rattle.qs_calls.specs.declared.closing.Received.{Received}
 use Rattle.qs_calls.specs.declared.closing.Received.TheVariants.{Duplicate, BelowFloor}
+use Rattle.qs_calls.specs.declared.token.Taken.{Taken}
+use Rattle.qs_calls.specs.declared.token.TakeFault.{TakeFault}
+use Rattle.qs_calls.specs.declared.token.TakeFault.TheVariants as faults
 use Rattle.qs_machine.specs.Tables.{lookup, updated, total, open_to}
 use Rattle.qs_machine.specs.Ends.{End, is_own, opens, opened_by_peer}
 use Rattle.qs_machine.specs.Credit.{spent, settle}
@@ -24,6 +27,8 @@ use Rattle.qs_machine.specs.Verdicts.{verdict, item_verdict, credit_fault, lane_
 use Rattle.qs_machine.specs.FrameStep.{named, frame_taken, item_taken}
 use Rattle.qs_send.specs.Records.{Among}
 use Rattle.qs_machine.specs.Receiving.{ReceiveStep, ReceiveBy, TakesPayload, Takes}
+use Rattle.qs_machine.specs.Alone.{is_ours, TakesOne, TakesEach, after_one}
+use Rattle.qs_runs.specs.Worlds.{HandedIn}
 use Rattle.qs_runs.specs.Agree.{IsOld, frames_in}
 use Rattle.qs_runs.proofs.Members.{run-cases, run-old, below-end, end-le}
 use Rattle.qs_machine.proofs.TableLaws.{lookup_open, total_update, total_each}
@@ -36,6 +41,7 @@ use Rattle.qs_runs.proofs.Taking.{or_else_none, stream_passed, fin_fits, reset_f
 use Rattle.qs_machine.proofs.Leaves.{acks_leave, stops_leave, end_leaves}
 use Rattle.qs_runs.proofs.Frames.{Effect, frame_keeps}
 use Rattle.qs_runs.proofs.Unharmed.{spent_opened}
+use Rattle.qs_runs.proofs.Alone.{handed, none_asked, took_effect}
 
 -- a packet that was processed
 pub repeats : (p : Past) (e new : End) (k : ℕ) (text : List ℕ) (result : Result Received Closing) → EndOk p e → e.closed ≡ None → ReceiveStep e k text result new → p.processed k ≡ true → new ≡ e
@@ -189,3 +195,34 @@ pub spends_nothing : (p : Past) (e new : End) (k : ℕ) (text : List ℕ) (resul
 spends_nothing p e new k text result ok is not_closed step all =
     by_open (spent new ≡ spent e) k text e result new (subst (λ o. ReceiveBy o k text e result new) not_closed step) (λ low same. ap spent same) (λ again same. ap spent same) (λ high mid takes same.
     ap spent same ∙ settle_spends mid ∙ takes_spend (reading_of text).left p k false (reading_of text).fault e result mid ok (λ g a. (k, (frames_in text, is, a))) all takes)
+
+-- Frames without their packet, one after the other
+
+same_spends : (e new : End) → new ≡ e → spent new ≡ spent e
+same_spends e new same = ap spent same
+
+one_spends : (f : FrameValue) (e new : End) (fault : TakeFault) → is_ours (seen f) ≡ true → TakesOne e f (Err fault) new → spent new ≡ spent e
+one_spends f e new faults.NoMemory ours h = same_spends e new (none_asked e new (seen f) ours h.1)
+one_spends f e new (faults.Closing closing) ours h = ap spent h.2
+one_spends f e new (faults.PeerClosed code) ours h = absurd h
+
+each_spends : (fs : List FrameValue) (p : Past) (e : End) (result : Result Taken TakeFault) (new : End) → EndOk p e → ((g : Seen) → Among g (seen_all fs) → Tells p.theirs g) → AllByRecursion (IsOld e) (seen_all fs) → TakesEach fs e result new → spent new ≡ spent e
+each_spends [] p e result new ok told old h = ap spent h.1
+each_spends (f ∷ fs) p e result new ok told old h = by (is_ours (seen f)) refl h (λ mid r now before takes. each_spends fs p mid r new now (λ g a. told g (inr a)) before takes)
+  where
+    by : (b : Bool) → is_ours (seen f) ≡ b → MatchBool b (((mid : End) × (one : Taken) × (later : Result Taken TakeFault) × TakesOne e f (Ok one) mid × TakesEach fs mid later new × (result ≡ after_one one later)) ⊎ ((fault : TakeFault) × TakesOne e f (Err fault) new × (result ≡ Err fault))) (TakesEach fs e result new)
+        → ((mid : End) (r : Result Taken TakeFault) → EndOk p mid → AllByRecursion (IsOld mid) (seen_all fs) → TakesEach fs mid r new → spent new ≡ spent mid) → spent new ≡ spent e
+    by true ours (inl (mid, one, later, takes, more, is)) goes =
+        let (may, after) = took_effect e f one mid takes in
+        let effect : Effect p e (frame_taken (seen f) e) (seen f) = frame_keeps p e (seen f) ok (told (seen f) (inl refl)) may.1 in
+        goes (frame_taken (seen f) e) later effect.ok (all_old e (frame_taken (seen f) e) effect.grow (seen_all fs) old.1) (subst (λ x. TakesEach fs x later new) after more) ∙ frame_spends e (seen f) old.0 may.1
+    by true ours (inr (fault, one, is)) goes = one_spends f e new fault ours one
+    by false other more goes = goes e result ok old.1 more
+
+-- frames that tell nothing new spend nothing
+pub frames_spend : (p : Past) (e new : End) (fs : List FrameValue) (result : Result Taken TakeFault) → EndOk p e → e.closed ≡ None → ((g : Seen) → Among g (seen_all fs) → Tells p.theirs g) → AllByRecursion (IsOld e) (seen_all fs) → HandedIn fs e result new → spent new ≡ spent e
+frames_spend p e new fs result ok open_end told old h =
+    elim (handed e fs result new open_end h) [
+      | inl (mid, takes, after) ↦ ap spent after ∙ settle_spends mid ∙ each_spends fs p e result mid ok told old takes
+      | inr (is, same) ↦ ap spent same
+    ]

@@ -1,17 +1,23 @@
 -- Every run keeps the invariant of both ends.
-use Rattle.std.proofs.Common.{◌≡◌, ◌≤◌, ℕ, Bool, List, [], ◌∷◌, ◌++◌, map, length, ◌⊎◌, inl, inr, Option, None, Some, Result, Ok, false, not, arith, sym, subst, refl, ap, ◌∙◌, slice_get, append-nil}
+use Rattle.std.proofs.Common.{◌≡◌, ◌≤◌, ℕ, Bool, true, List, [], ◌∷◌, ◌++◌, map, ◌⊎◌, inl, inr, None, Some, Result, Ok, false, not, arith, sym, subst, refl, ap, ◌∙◌, slice_get, append-nil}
+use Rattle.std.proofs.lemmas.Bool.{false≢true}
+use Rattle.std.specs.List.{AllByRecursion}
+use Rattle.qs_wire.specs.Layout.{FrameValue}
+use Rattle.qs_wire.specs.Grammar.{frames_of}
+use Rattle.qs_wire.specs.Reading.{reading_of}
 use Rattle.qs_wire.specs.declared.stream_id.Dir.{Dir}
 use Rattle.qs_wire.specs.declared.stream_id.Dir.TheVariants.{Bidi, Uni}
 use Rattle.qs_wire.specs.declared.stream_id.Role.{Role}
 use Rattle.qs_wire.specs.declared.stream_id.Role.TheVariants.{Client, Server}
 use Rattle.qs_calls.specs.declared.settings.Settings.{Settings}
 use Rattle.qs_calls.specs.declared.settings.PeerLimits.{PeerLimits}
-use Rattle.qs_machine.specs.Ends.{End, new_end, end_made, is_own_by}
+use Rattle.qs_machine.specs.Ends.{End, new_end, wide_end_made, is_own_by}
 use Rattle.qs_machine.specs.Credit.{first_grant, granted_streams, settle}
 use Rattle.qs_machine.specs.Receiving.{ReceiveStep}
-use Rattle.qs_machine.specs.Making.{MakeStep, MakeAckStep}
+use Rattle.qs_machine.specs.Seen.{seen_all}
+use Rattle.qs_machine.specs.Alone.{TokenAckedStep, TokenLostStep}
 use Rattle.qs_machine.specs.Raising.{RaiseStep, greater_limits, limits_raised, raise_refusal}
-use Rattle.qs_machine.specs.EndStep.{Call, Answer as CallAnswer, EndStep, Receive, MakeAck, RaiseLimits}
+use Rattle.qs_machine.specs.EndStep.{Call, Answer as CallAnswer, EndStep, Receive, TakeFrame, TakeFrames, TokenAcked, TokenLost, MakeAck, FillIn, RaiseLimits}
 use Rattle.qs_machine.specs.Standing.{IsSound}
 use Rattle.qs_machine.specs.Repeats.{SentWasWritten}
 use Rattle.qs_machine.proofs.Bounds.{new_ends_sound}
@@ -25,28 +31,33 @@ use Rattle.qs_calls.specs.declared.answer.Answer.{Answer}
 use Rattle.qs_calls.specs.declared.answer.Answer.TheVariants as answers
 use Rattle.qs_calls.specs.declared.closing.Closing.{Closing}
 use Rattle.qs_calls.specs.declared.closing.Received.{Received}
-use Rattle.qs_calls.specs.declared.making.Made.{Made}
-use Rattle.qs_calls.specs.declared.making.MakeFault.{MakeFault}
+use Rattle.qs_calls.specs.declared.token.Token.{Token}
+use Rattle.qs_calls.specs.declared.token.Taken.{Taken}
+use Rattle.qs_calls.specs.declared.token.TakeFault.{TakeFault}
+use Rattle.qs_calls.specs.declared.token.TokenFault.{TokenFault}
 use Rattle.qs_calls.specs.declared.settings.RaiseFault.{RaiseFault}
-use Rattle.qs_machine.proofs.AckPackets.{ack_packet}
+use Rattle.qs_machine.proofs.EveryCall.{MovesStanding}
 use Rattle.qs_machine.proofs.Plains.{plain_nothing}
-use Rattle.qs_runs.specs.Logs.{Happening, Did, MadeAck, RaisedLimits, CameWith, History, Log, happened, other, own_calls, processed, is_delivery, texts_of, made, made_by, payload}
-use Rattle.qs_runs.specs.Worlds.{World, AreGranted, Begins, end_of, OwnStep, DeliverStep, ComeWithStep, EventStep, WorldStep, Run, EventRun}
+use Rattle.qs_runs.specs.Logs.{Happening, Did, MadeAck, FilledIn, AckedToken, LostToken, RaisedLimits, CameWith, CameAlone, History, Log, happened, other, own_calls, processed, took, was_acked, is_taken, is_delivery, texts_of, made, made_by, payload, StandAt, HasLanded}
+use Rattle.qs_runs.specs.Worlds.{World, AreGranted, Begins, end_of, OwnStep, DeliverStep, ComeWithStep, HandedIn, ComeAloneStep, EventStep, WorldStep, Run, EventRun}
 use Rattle.qs_runs.specs.Agree.{frames_in}
 use Rattle.qs_runs.proofs.Lists.{All_append}
-use Rattle.qs_runs.specs.Pasts.{Past, packets_of, seen_by, past}
-use Rattle.qs_runs.specs.Invariant.{EndOk, CountsOk, WorldOk, Standing, role_of, settings_of, stands_as}
+use Rattle.qs_runs.specs.Pasts.{Past, packets_of, past}
+use Rattle.qs_runs.specs.Invariant.{EndOk, FrameTaken, CountsTrue, CountsOk, WorldOk, Standing, role_of, settings_of, stands_as}
 use Rattle.qs_runs.proofs.Unharmed.{Facing}
 use Rattle.qs_runs.specs.Invariant.{standing}
 use Rattle.qs_runs.proofs.Receives.{receives}
-use Rattle.qs_runs.proofs.OwnMoves.{own_moves, with_packets, silent, packet_moves}
+use Rattle.qs_runs.proofs.OwnMoves.{own_moves, with_call, with_packets, nothing_made, token_lost_moves}
 use Rattle.qs_runs.proofs.Standing.{call_stands, certain_cases, IsRefused}
 use Rattle.qs_runs.proofs.PeerMoves.{with_theirs, peer_moves}
 use Rattle.qs_runs.proofs.Raising.{raise_moves}
-use Rattle.qs_runs.proofs.Facing.{facing, opposite_roles, receive_stands}
-use Rattle.qs_runs.proofs.Histories.{past_own, past_peer, past_sender, past_receiver, past_acked, past_peer_acked, past_raised, past_came, made_own, made_peer, made_acked, made_peer_acked, made_raised, made_came, did, theirs_mine, mine_theirs, payload_seen, AreFaultless, faultless_at, packet_faultless, own_faultless}
+use Rattle.qs_runs.proofs.Facing.{facing, opposite_roles, receive_stands, fine_now}
+use Rattle.qs_runs.proofs.Alone.{with_took, stand_among, stand_fit, stand_holds, handed_came, took_ok, token_acked_moves}
+use Rattle.qs_runs.proofs.Landing.{step_lands}
+use Rattle.qs_runs.proofs.Histories.{past_own, past_peer, past_sender, past_receiver, Makes, past_makes, past_peer_makes, makes_ack, makes_fill, makes_none, past_raised, past_came, past_came_from, past_came_to, past_token, past_peer_token, made_none, made_own, made_peer, made_makes, made_peer_makes, made_raised, made_came, did, theirs_mine, mine_theirs, payload_seen, AreFaultless, faultless_at, own_faultless}
+use Rattle.qs_runs.proofs.Packing.{Packs, ack_packs, fill_packs, packs_faultless, packs_counts, packs_ok}
 use Rattle.qs_runs.proofs.NewEnds.{first_world, made_first, ends_made, begins_true, tells_nothing, new_ok}
-use Rattle.qs_runs.proofs.Granting.{TellCounts, own_call, own_counts, packet_counts, counts_told, counts_stay, known_within}
+use Rattle.qs_runs.proofs.Granting.{TellCounts, own_call, own_counts, counts_told, counts_stay, known_within}
 
 -- what holds of a side and of the other holds of each
 pub two_sides : (P : Side → Type 0) (s : Side) → P s → P (other s) → (t : Side) → P t
@@ -96,8 +107,12 @@ pub side_of : (a b : Settings) (h : History) (w : World) → WorldOk a b h w →
 side_of a b h w ok s =
     record { ok = ok.ends s; counts = ok.counts s; sound = ok.sound s; sent = ok.sent s; stand = ok.stand s; peer = ok.peers s; texts = ok.texts s }
 
-of_sides : (a b : Settings) (h : History) (w : World) → ((s : Side) → SideOk a b s h (end_of w s)) → WorldOk a b h w
-of_sides a b h w sides =
+-- what tokens told landed
+abbrev AllLanded : History → Type 0
+AllLanded h = (s : Side) (k : ℕ) → was_acked s k h ≡ true → HasLanded h s k
+
+of_sides : (a b : Settings) (h : History) (w : World) → ((s : Side) → SideOk a b s h (end_of w s)) → AllLanded h → WorldOk a b h w
+of_sides a b h w sides landed =
     record {
       ends = λ s. (sides s).ok;
       counts = λ s. (sides s).counts;
@@ -106,6 +121,7 @@ of_sides a b h w sides =
       stand = λ s. (sides s).stand;
       peers = λ s. (sides s).peer;
       texts = λ s. (sides s).texts;
+      confirmed = landed;
     }
 
 -- what stands keeps standing
@@ -116,11 +132,11 @@ granted_on : (s : Settings) (e new : End) → standing new ≡ standing e → Ar
 granted_on s e new stays = subst (λ x. AreGranted x.peer s) (sym stays)
 
 -- the two ends begin in agreement
-first_side : (role : Role) (a b : Settings) (s : Side) (own : Settings) (told : PeerLimits) → end_made role own told ≡ Ok (new_end role own told) → standing (new_end role own told) ≡ stands_as a b s told → AreGranted told (settings_of a b (other s)) → SideOk a b s [] (new_end role own told)
-unfolding own_calls packets_of processed made
+first_side : (role : Role) (a b : Settings) (s : Side) (own : Settings) (told : PeerLimits) → wide_end_made role own told ≡ Ok (new_end role own told) → standing (new_end role own told) ≡ stands_as a b s told → AreGranted told (settings_of a b (other s)) → SideOk a b s [] (new_end role own told)
+unfolding own_calls packets_of processed took was_acked made
 first_side role a b s own told begun stand peer =
     record {
-      ok = new_ok role own told (past s []) refl (λ n. refl) (λ n. refl) (λ n. refl) (λ n. refl) (λ k. refl);
+      ok = new_ok role own told (past s []) refl (λ n. refl) (λ n. refl) (λ n. refl) (λ n. refl) (λ k. refl) (λ k i. refl);
       counts = record { first_granted = first; told = λ d count t. absurd (tells_nothing (past s []).mine _ refl t) };
       sound = new_ends_sound role own told (new_end role own told) begun;
       sent = new_keeps role own told (new_end role own told) begun;
@@ -133,12 +149,16 @@ first_side role a b s own told begun stand peer =
     first Bidi = omega arith
     first Uni = omega arith
 
+none_landed : AllLanded []
+unfolding was_acked
+none_landed s k is = absurd (false≢true is)
+
 pub start : (a b : Settings) (w : World) → Begins a b w → WorldOk a b [] w
 start a b w begins =
     let is = made_first a b begins.of_a begins.of_b w begins.begun in
-    moved (WorldOk a b []) _ _ is (of_sides a b [] (first_world a b begins.of_a begins.of_b) sides)
+    moved (WorldOk a b []) _ _ is (of_sides a b [] (first_world a b begins.of_a begins.of_b) sides none_landed)
   where
-    begun : (end_made Client a begins.of_b ≡ Ok (new_end Client a begins.of_b)) × (end_made Server b begins.of_a ≡ Ok (new_end Server b begins.of_a))
+    begun : (wide_end_made Client a begins.of_b ≡ Ok (new_end Client a begins.of_b)) × (wide_end_made Server b begins.of_a ≡ Ok (new_end Server b begins.of_a))
     begun = ends_made a b begins.of_a begins.of_b (first_world a b begins.of_a begins.of_b) (begins.begun ∙ ap Ok (made_first a b begins.of_a begins.of_b w begins.begun))
 
     sides : (s : Side) → SideOk a b s [] (end_of (first_world a b begins.of_a begins.of_b) s)
@@ -257,59 +277,51 @@ module _ (a b : Settings) (h : History) (v w : World) (s : Side) (ok : WorldOk a
   there : SideOk a b (other s) h (end_of v (other s))
   there = side_of a b h v ok (other s)
 
-  both : (x : Happening) → SideOk a b s (x ∷ h) (end_of w s) → SideOk a b (other s) (x ∷ h) (end_of w (other s)) → WorldOk a b (x ∷ h) w
-  both x own peer = of_sides a b (x ∷ h) w (two_sides (λ t. SideOk a b t (x ∷ h) (end_of w t)) s own peer)
+  abbrev Sides : Happening → Type 0
+  Sides x = (t : Side) → SideOk a b t (x ∷ h) (end_of w t)
+
+  both : (x : Happening) → SideOk a b s (x ∷ h) (end_of w s) → SideOk a b (other s) (x ∷ h) (end_of w (other s)) → Sides x
+  both x own peer = two_sides (λ t. SideOk a b t (x ∷ h) (end_of w t)) s own peer
+
+  -- a call of one end, that leaves what stands, and what it made
+  call_step : (x : Happening) (texts : List (List ℕ)) (p : Past) → past s (x ∷ h) ≡ p → p.mine ≡ (past s h).mine ++ map frames_in texts → past (other s) (x ∷ h) ≡ with_theirs (past (other s) h) (map frames_in texts) →
+      made s (x ∷ h) ≡ made s h ++ texts → made (other s) (x ∷ h) ≡ made (other s) h → AreFaultless texts → TellCounts (end_of v s) (map frames_in texts) → EndOk p (end_of w s) →
+      (call : Call) (given : CallAnswer call) → EndStep (end_of v s) call given (end_of w s) → (MovesStanding call → ⊥) → end_of w (other s) ≡ end_of v (other s) → Sides x
+  call_step x texts p goes_on mine peer more none faultless tells moves call given step stands same =
+      let stays = call_stands (end_of v s) call stands given (end_of w s) step in
+      let rise = counts_call (end_of v s) here.sound here.sent call given (end_of w s) step in
+      let counts = counts_told (past s h).mine (end_of v s) (end_of w s) here.counts (ap (λ y. y.settings) stays) rise (map frames_in texts) tells in
+      both x
+      (call_side a b h s x (end_of v s) (end_of w s) here texts more faultless
+      (moved (λ q. EndOk q (end_of w s)) _ _ goes_on moves)
+      (moved (λ q. CountsOk q (end_of w s)) _ _ goes_on (subst (λ ps. CountsTrue ps (end_of w s).settings (granted_streams (end_of w s))) (sym mine) counts))
+      call given step (stands_on a b s (end_of v s) (end_of w s) stays here.stand) (granted_on _ (end_of v s) (end_of w s) stays here.peer))
+      (peer_side a b h (other s) x (end_of v (other s)) (end_of w (other s)) there texts peer none same)
 
   -- the owner of an end does something
-  own_step : (act : Act) (answer : Answer) → is_delivery act ≡ false → OwnStep (end_of v s) act answer (end_of w s) → end_of w (other s) ≡ end_of v (other s) → WorldOk a b (did s act answer ∷ h) w
+  own_step : (act : Act) (answer : Answer) → is_delivery act ≡ false → OwnStep (end_of v s) act answer (end_of w s) → end_of w (other s) ≡ end_of v (other s) → Sides (did s act answer)
   own_step act answer own step same =
-      let (call, given, calls, not_received) = own_call (end_of v s) (end_of w s) act answer step in
-      let stays = call_stands (end_of v s) call not_received given (end_of w s) calls in
-      let rise = counts_call (end_of v s) here.sound here.sent call given (end_of w s) calls in
-      both (did s act answer)
-      (call_side a b h s (did s act answer) (end_of v s) (end_of w s) here (made_by act answer) (made_own s act answer h) (own_faultless (end_of v s) act answer (end_of w s) step)
-      (moved (λ p. EndOk p (end_of w s)) _ _ (past_own s act answer h own) (own_moves (past s h) (end_of v s) (end_of w s) act answer here.ok step))
-      (moved (λ p. CountsOk p (end_of w s)) _ _ (past_own s act answer h own) (counts_told (past s h).mine (end_of v s) (end_of w s) here.counts (ap (λ x. x.settings) stays) rise (seen_by act answer) (own_counts (end_of v s) (end_of w s) act answer step)))
-      call given calls (stands_on a b s (end_of v s) (end_of w s) stays here.stand) (granted_on _ (end_of v s) (end_of w s) stays here.peer))
-      (peer_side a b h (other s) (did s act answer) (end_of v (other s)) (end_of w (other s)) there (made_by act answer) (past_peer s act answer h own) (made_peer s act answer h) same)
+      let (call, given, calls, stands) = own_call (end_of v s) (end_of w s) act answer step in
+      call_step (did s act answer) (made_by act answer) (with_call (past s h) act answer) (past_own s act answer h own) refl (past_peer s act answer h own) (made_own s act answer h) (made_peer s act answer h)
+      (own_faultless (end_of v s) act answer (end_of w s) step) (own_counts (end_of v s) (end_of w s) act answer step) (own_moves (past s h) (end_of v s) (end_of w s) act answer here.ok step) call given calls stands same
 
-  -- it makes an ACK alone: a packet of a shorter room, or none
-  ack_step : (room : ℕ) (result : Result (Option Made) MakeFault) (text : List ℕ) (delay : ℕ) → MakeAckStep (end_of v s) delay room result text (end_of w s) → end_of w (other s) ≡ end_of v (other s) → WorldOk a b (MadeAck s room result text ∷ h) w
-  ack_step room result text delay step same =
-      let stays = call_stands (end_of v s) (MakeAck delay room) (λ no. no) (result, text) (end_of w s) step in
-      let rise = counts_call (end_of v s) here.sound here.sent (MakeAck delay room) (result, text) (end_of w s) step in
-      both (MadeAck s room result text)
-      (call_side a b h s (MadeAck s room result text) (end_of v s) (end_of w s) here (texts_of result text) (made_acked s room result text h) are_faultless
-      (moved (λ p. EndOk p (end_of w s)) _ _ (past_acked s room result text h) moves)
-      (moved (λ p. CountsOk p (end_of w s)) _ _ (past_acked s room result text h) (counts_told (past s h).mine (end_of v s) (end_of w s) here.counts (ap (λ x. x.settings) stays) rise (map frames_in (texts_of result text)) tells))
-      (MakeAck delay room) (result, text) step (stands_on a b s (end_of v s) (end_of w s) stays here.stand) (granted_on _ (end_of v s) (end_of w s) stays here.peer))
-      (peer_side a b h (other s) (MadeAck s room result text) (end_of v (other s)) (end_of w (other s)) there (texts_of result text) (past_peer_acked s room result text h) (made_peer_acked s room result text h) same)
-    where
-      packet : MakeStep (end_of v s) 0 delay (length text) result text (end_of w s) ⊎ ((result ≡ Ok None) × (text ≡ []) × (end_of w s ≡ end_of v s))
-      packet = ack_packet (end_of v s) (end_of w s) 0 delay room result text step
+  -- it makes an ACK alone, or frames are filled in: a packet of a shorter room, or none
+  packet_step : (x : Happening) (texts : List (List ℕ)) → Makes s x texts → Packs (end_of v s) texts (end_of w s) → (call : Call) (given : CallAnswer call) → EndStep (end_of v s) call given (end_of w s) → (MovesStanding call → ⊥)
+      → end_of w (other s) ≡ end_of v (other s) → Sides x
+  packet_step x texts makes packs call given step stands same =
+      call_step x texts (with_packets (past s h) (map frames_in texts)) (past_makes s x texts h makes) refl (past_peer_makes s x texts h makes) (made_makes s x texts h makes) (made_peer_makes s x texts h makes)
+      (packs_faultless (past s h) (end_of v s) (end_of w s) texts packs) (packs_counts (past s h) (end_of v s) (end_of w s) texts packs) (packs_ok (past s h) (end_of v s) (end_of w s) texts packs here.ok) call given step stands same
 
-      none_made : result ≡ Ok None → texts_of result text ≡ []
-      none_made none = ap (λ r. texts_of r text) none
-
-      are_faultless : AreFaultless (texts_of result text)
-      are_faultless = elim packet [ inl made ↦ packet_faultless (end_of v s) 0 delay (length text) result text (end_of w s) made | inr none ↦ moved AreFaultless _ _ (none_made none.0) tt ]
-
-      moves : EndOk (with_packets (past s h) (map frames_in (texts_of result text))) (end_of w s)
-      moves =
-          elim packet [
-            | inl made ↦ packet_moves (past s h) (end_of v s) (end_of w s) here.ok 0 delay (length text) result text made
-            | inr none ↦ silent (past s h) (end_of v s) (end_of w s) here.ok _ (ap (map frames_in) (none_made none.0)) none.2
-          ]
-
-      tells : TellCounts (end_of v s) (map frames_in (texts_of result text))
-      tells =
-          elim packet [
-            | inl made ↦ packet_counts (end_of v s) (end_of w s) 0 delay (length text) result text made
-            | inr none ↦ λ d count t. absurd (tells_nothing _ _ (ap (map frames_in) (none_made none.0)) t)
-          ]
+  -- a token's packet is declared lost
+  lost_step : (token : Token) (result : Result (Unit {0}) TokenFault) → TokenLostStep (end_of v s) token result (end_of w s) → end_of w (other s) ≡ end_of v (other s) → Sides (LostToken s token result)
+  lost_step token result step same =
+      let x = LostToken s token result in
+      let makes = makes_none s token result in
+      call_step x [] (with_packets (past s h) []) (past_makes s x [] h makes) refl (past_peer_makes s x [] h makes) (made_makes s x [] h makes) (made_peer_makes s x [] h makes) tt (λ d count t. absurd (tells_nothing _ _ refl t))
+      (nothing_made (past s h) (end_of w s) (token_lost_moves (past s h) (end_of v s) (end_of w s) here.ok token result step)) (TokenLost token) result step (λ no. no) same
 
   -- limits are taken in that the peer grants
-  raise_step : (limits : PeerLimits) (result : Result (Unit {0}) RaiseFault) → AreGranted limits (end_of v (other s)).settings → RaiseStep (end_of v s) limits result (end_of w s) → end_of w (other s) ≡ end_of v (other s) → WorldOk a b (RaisedLimits s limits result ∷ h) w
+  raise_step : (limits : PeerLimits) (result : Result (Unit {0}) RaiseFault) → AreGranted limits (end_of v (other s)).settings → RaiseStep (end_of v s) limits result (end_of w s) → end_of w (other s) ≡ end_of v (other s) → Sides (RaisedLimits s limits result)
   raise_step limits result granted step same =
       let x = RaisedLimits s limits result in
       both x
@@ -323,14 +335,14 @@ module _ (a b : Settings) (h : History) (v w : World) (s : Side) (ok : WorldOk a
       let seen = ap (λ ps. slice_get ps k) (theirs_mine s h) ∙ payload_seen s k h text is in
       let known = known_counts a b h v ok s in
       let stays = receive_stands (past (other s) h) (past s h) (end_of v (other s)) (end_of v s) here.ok (theirs_mine s h) (mine_theirs s h) (opposite a b h v ok s) (granted_limits a b h v ok s) known.0 known.1
-      new k text result there.ok (is_open_end a b h v ok (other s)) (faultless_at (made s h) k text here.texts is) seen step in
+      new k text result there.ok (is_open_end a b h v ok (other s)) (faultless_at (made s h) k text here.texts is).0 seen step in
       let rise = counts_call (end_of v (other s)) there.sound there.sent (Receive k text) result new step in
       call_side a b h (other s) x (end_of v (other s)) new there [] (made_peer s (acts.Deliver k) (answers.Deliver result) h ∙ sym (append-nil (made (other s) h))) tt
       (moved (λ p. EndOk p new) _ _ (past_receiver s k result h) (receives (past (other s) h) (end_of v (other s)) new k text result there.ok seen step))
       (moved (λ p. CountsOk p new) _ _ (past_receiver s k result h) (counts_stay (past (other s) h).mine (end_of v (other s)) new there.counts (ap (λ y. y.settings) stays) rise))
       (Receive k text) result step (stands_on a b (other s) (end_of v (other s)) new stays there.stand) (granted_on _ (end_of v (other s)) new stays there.peer)
 
-  deliver_step : (k : ℕ) (answer : Answer) → DeliverStep h v s k answer w → WorldOk a b (did s (acts.Deliver k) answer ∷ h) w
+  deliver_step : (k : ℕ) (answer : Answer) → DeliverStep h v s k answer w → Sides (did s (acts.Deliver k) answer)
   deliver_step k (answers.Deliver result) (text, is, step, same) =
       let x = did s (acts.Deliver k) (answers.Deliver result) in
       both x
@@ -339,7 +351,7 @@ module _ (a b : Settings) (h : History) (v w : World) (s : Side) (ok : WorldOk a
   deliver_step k answer step = absurd step
 
   -- plain frames come with it: the end is what it is without them, but for whether an ACK is due
-  came_step : (k : ℕ) (bytes : List ℕ) (result : Result Received Closing) → ComeWithStep h v s k bytes result w → WorldOk a b (CameWith s k bytes result ∷ h) w
+  came_step : (k : ℕ) (bytes : List ℕ) (result : Result Received Closing) → ComeWithStep h v s k bytes result w → Sides (CameWith s k bytes result)
   came_step k bytes result (text, is, differ, step, same) =
       let x = CameWith s k bytes result in
       let d = did s (acts.Deliver k) (answers.Deliver result) in
@@ -348,16 +360,79 @@ module _ (a b : Settings) (h : History) (v w : World) (s : Side) (ok : WorldOk a
       (idle_side a b h s x (end_of v s) (end_of w s) here (past_came s s k bytes result h ∙ past_sender s k (answers.Deliver result) h) (made_came s s k bytes result h ∙ made_own s (acts.Deliver k) (answers.Deliver result) h ∙ append-nil (made s h)) same)
       (moved (SideOk a b (other s) (x ∷ h)) _ _ alike (came_side a b (other s) s k bytes result h _ (due_side a b (other s) (d ∷ h) bare (end_of w (other s)).ack_due (received_side k text result bare is received))))
 
-  event_step : (act : Act) (answer : Answer) → EventStep h v s act answer w → WorldOk a b (did s act answer ∷ h) w
+  -- a token is acknowledged, whose packet landed
+  token_step : (token : Token) (result : Result (Unit {0}) TokenFault) → TokenAckedStep (end_of v s) token result (end_of w s) → end_of w (other s) ≡ end_of v (other s) → Sides (AckedToken s token result)
+  token_step token result step same =
+      let x = AckedToken s token result in
+      let stays = call_stands (end_of v s) (TokenAcked token) (λ no. no) result (end_of w s) step in
+      let rise = counts_call (end_of v s) here.sound here.sent (TokenAcked token) result (end_of w s) step in
+      both x
+      (call_side a b h s x (end_of v s) (end_of w s) here [] (made_none s x h refl ∙ sym (append-nil (made s h))) tt
+      (moved (λ p. EndOk p (end_of w s)) _ _ (past_token s token result h) (token_acked_moves (past s h) (end_of v s) (end_of w s) token result here.ok step))
+      (moved (λ p. CountsOk p (end_of w s)) _ _ (past_token s token result h) (counts_stay (past s h).mine (end_of v s) (end_of w s) here.counts (ap (λ y. y.settings) stays) rise))
+      (TokenAcked token) result step (stands_on a b s (end_of v s) (end_of w s) stays here.stand) (granted_on _ (end_of v s) (end_of w s) stays here.peer))
+      (idle_side a b h (other s) x (end_of v (other s)) (end_of w (other s)) there (past_peer_token s token result h) (made_none (other s) x h refl) same)
+
+  -- frames come without their packet
+  module _ (k : ℕ) (places : List ℕ) (result : Result Taken TakeFault) (fs : List FrameValue) (text : List ℕ) (is : payload s k h ≡ Some text) (stand : StandAt (frames_of (reading_of text).left) places fs)
+      (handed : HandedIn fs (end_of v (other s)) result (end_of w (other s))) where
+    seen_there : slice_get (past (other s) h).theirs k ≡ Some (frames_in text)
+    seen_there = ap (λ ps. slice_get ps k) (theirs_mine s h) ∙ payload_seen s k h text is
+
+    came : EndOk (past (other s) h) (end_of w (other s)) × (standing (end_of w (other s)) ≡ standing (end_of v (other s))) × (is_taken result ≡ true → AllByRecursion (FrameTaken (end_of w (other s)).recvs) (seen_all fs))
+    came =
+        let known = known_counts a b h v ok s in
+        handed_came (past (other s) h) (end_of v (other s))
+        (fine_now (past (other s) h) (past s h) (end_of v (other s)) (end_of v s) here.ok (theirs_mine s h) (mine_theirs s h) (opposite a b h v ok s) (granted_limits a b h v ok s) known.0 known.1)
+        fs (end_of v (other s)) result (end_of w (other s)) (is_open_end a b h v ok (other s)) there.ok (refl, refl, refl)
+        (λ g a. (k, (frames_in text, seen_there, stand_among (frames_of (reading_of text).left) places fs stand g a)))
+        (stand_fit (frames_of (reading_of text).left) places fs stand (faultless_at (made s h) k text here.texts is).1) handed
+
+    came_ok : EndOk (with_took (past (other s) h) k places result) (end_of w (other s))
+    came_ok =
+        took_ok (past (other s) h) k places result (end_of w (other s)) came.0 (λ i among taken. (
+        let (f, at, holds) = stand_holds (FrameTaken (end_of w (other s)).recvs) (frames_of (reading_of text).left) places fs stand (came.2 taken) i among in
+        (f, (frames_in text, seen_there, at), holds)))
+
+    handed_side : (call : Call) (given : CallAnswer call) → EndStep (end_of v (other s)) call given (end_of w (other s)) → SideOk a b (other s) (CameAlone s k places result ∷ h) (end_of w (other s))
+    handed_side call given step =
+        let x = CameAlone s k places result in
+        let rise = counts_call (end_of v (other s)) there.sound there.sent call given (end_of w (other s)) step in
+        call_side a b h (other s) x (end_of v (other s)) (end_of w (other s)) there [] (made_none (other s) x h refl ∙ sym (append-nil (made (other s) h))) tt
+        (moved (λ p. EndOk p (end_of w (other s))) _ _ (past_came_to s k places result h) came_ok)
+        (moved (λ p. CountsOk p (end_of w (other s))) _ _ (past_came_to s k places result h) (counts_stay (past (other s) h).mine (end_of v (other s)) (end_of w (other s)) there.counts (ap (λ y. y.settings) came.1) rise))
+        call given step (stands_on a b (other s) (end_of v (other s)) (end_of w (other s)) came.1 there.stand) (granted_on _ (end_of v (other s)) (end_of w (other s)) came.1 there.peer)
+
+    came_there : SideOk a b (other s) (CameAlone s k places result ∷ h) (end_of w (other s))
+    came_there = elim handed [ inl several ↦ handed_side (TakeFrames fs) result several | inr (f, this, one) ↦ handed_side (TakeFrame f) result one ]
+
+  alone_step : (k : ℕ) (places : List ℕ) (result : Result Taken TakeFault) → ComeAloneStep h v s k places result w → Sides (CameAlone s k places result)
+  alone_step k places result (fs, (text, is, stand), handed, same) =
+      let x = CameAlone s k places result in
+      both x
+      (idle_side a b h s x (end_of v s) (end_of w s) here (past_came_from s k places result h) (made_none s x h refl) same)
+      (came_there k places result fs text is stand handed)
+
+  event_step : (act : Act) (answer : Answer) → EventStep h v s act answer w → Sides (did s act answer)
   event_step (acts.Deliver k) answer step = deliver_step k answer step
   event_step act answer step = own_step act answer refl step.0 step.1
 
--- one step keeps the invariant
+-- one step keeps what holds of each side
+sides_keep : (a b : Settings) (h : History) (v w : World) (x : Happening) → WorldOk a b h v → WorldStep h v x w → (t : Side) → SideOk a b t (x ∷ h) (end_of w t)
+sides_keep a b h v w (Did event answer) ok step = event_step a b h v w event.end ok event.act answer step
+sides_keep a b h v w (MadeAck s room result text) ok ((delay, step), same) =
+    packet_step a b h v w s ok _ (texts_of result text) (makes_ack s room result text) (ack_packs (end_of v s) (end_of w s) delay room result text step) (MakeAck delay room) (result, text) step (λ no. no) same
+sides_keep a b h v w (FilledIn s want room result text) ok (step, same) =
+    packet_step a b h v w s ok _ (texts_of result text) (makes_fill s want room result text) (fill_packs (end_of v s) (end_of w s) want room result text step) (FillIn want room) (result, text) step (λ no. no) same
+sides_keep a b h v w (LostToken s token result) ok (step, same) = lost_step a b h v w s ok token result step same
+sides_keep a b h v w (AckedToken s token result) ok ((landed, step), same) = token_step a b h v w s ok token result step same
+sides_keep a b h v w (RaisedLimits s limits result) ok ((granted, step), same) = raise_step a b h v w s ok limits result granted step same
+sides_keep a b h v w (CameWith s k bytes result) ok step = came_step a b h v w s ok k bytes result step
+sides_keep a b h v w (CameAlone s k places result) ok step = alone_step a b h v w s ok k places result step
+
+-- and so the invariant
 pub step_keeps : (a b : Settings) (h : History) (v w : World) (x : Happening) → WorldOk a b h v → WorldStep h v x w → WorldOk a b (x ∷ h) w
-step_keeps a b h v w (Did event answer) ok step = event_step a b h v w event.end ok event.act answer step
-step_keeps a b h v w (MadeAck s room result text) ok ((delay, step), same) = ack_step a b h v w s ok room result text delay step same
-step_keeps a b h v w (RaisedLimits s limits result) ok ((granted, step), same) = raise_step a b h v w s ok limits result granted step same
-step_keeps a b h v w (CameWith s k bytes result) ok step = came_step a b h v w s ok k bytes result step
+step_keeps a b h v w x ok step = of_sides a b (x ∷ h) w (sides_keep a b h v w x ok step) (step_lands h v w x step ok.confirmed)
 
 -- each end keeps its settings
 pub settings_stay : (a b : Settings) (h : History) (v w : World) (x : Happening) → WorldOk a b h v → WorldOk a b (x ∷ h) w → (s : Side) → (end_of w s).settings ≡ (end_of v s).settings

@@ -1,9 +1,9 @@
 -- The laws, as they are stated.
 use Rattle.std.proofs.Common.{◌∷◌}
-use Rattle.qs_runs.specs.Laws.{NewEndsMeetInvariant, StepsKeepInvariant, PiecesAreAlwaysWritten, ReceivedIsAlwaysBelowSent, StoredIsAlwaysWritten, ReadIsAlwaysWritten, ProcessedWasAlwaysTaken, AckedWasAlwaysProcessed, FinalSizeIsAlwaysDeclared, ResetCodeIsAlwaysTheSenders, SentIsAlwaysWithinKnown, KnownIsAlwaysWithinGranted, StreamsAreOpenAtInitiator, OpenedIsAlwaysBelowKnown, ReadIsAPrefix, SpentIsBelowSent, RepeatsSpendNothing, ReceivedIsWhole, FinalSizesAlwaysAgree, NoEndCloses}
+use Rattle.qs_runs.specs.Laws.{NewEndsMeetInvariant, StepsKeepInvariant, PiecesAreAlwaysWritten, ReceivedIsAlwaysBelowSent, StoredIsAlwaysWritten, ReadIsAlwaysWritten, ArrivedWasAlwaysTaken, AckedHasAlwaysArrived, FinalSizeIsAlwaysDeclared, ResetCodeIsAlwaysTheSenders, SentIsAlwaysWithinKnown, KnownIsAlwaysWithinGranted, StreamsAreOpenAtInitiator, OpenedIsAlwaysBelowKnown, ReadIsAPrefix, SpentIsBelowSent, RepeatsSpendNothing, ReceivedIsWhole, FinalSizesAlwaysAgree, NoEndCloses}
 use Rattle.qs_runs.proofs.Runs.{start, step_keeps}
 use Rattle.qs_runs.proofs.Agrees.{prefix, credit, whole, final_sizes, stays_open, step_agrees}
-use Rattle.qs_runs.proofs.Clauses.{pieces_are_written, received_is_below_sent, stored_is_written, read_is_written, processed_was_taken, processed_reset_was_taken, acked_was_processed, final_size_is_declared, reset_code_is_the_senders, sent_is_within_known, known_is_within_granted, is_open_at_initiator, opened_is_below_known}
+use Rattle.qs_runs.proofs.Clauses.{pieces_are_written, received_is_below_sent, stored_is_written, read_is_written, arrived_was_taken, arrived_reset_was_taken, acked_has_arrived, final_size_is_declared, reset_code_is_the_senders, sent_is_within_known, known_is_within_granted, is_open_at_initiator, opened_is_below_known}
 
 pub law_new_ends_meet_invariant : NewEndsMeetInvariant
 law_new_ends_meet_invariant = λ a b w begins. start a b w begins
@@ -23,11 +23,11 @@ law_stored_is_written = λ a b h v w x ok step s n. stored_is_written a b (x ∷
 pub law_read_is_written : ReadIsAlwaysWritten
 law_read_is_written = λ a b h v w x ok step s n. read_is_written a b (x ∷ h) w (step_keeps a b h v w x ok step) s n
 
-pub law_processed_was_taken : ProcessedWasAlwaysTaken
-law_processed_was_taken = λ a b h v w x ok step s n. (processed_was_taken a b (x ∷ h) w (step_keeps a b h v w x ok step) s n, processed_reset_was_taken a b (x ∷ h) w (step_keeps a b h v w x ok step) s n)
+pub law_arrived_was_taken : ArrivedWasAlwaysTaken
+law_arrived_was_taken = λ a b h v w x ok step s n. (arrived_was_taken a b (x ∷ h) w (step_keeps a b h v w x ok step) s n, arrived_reset_was_taken a b (x ∷ h) w (step_keeps a b h v w x ok step) s n)
 
-pub law_acked_was_processed : AckedWasAlwaysProcessed
-law_acked_was_processed = λ a b h v w x ok step s n. acked_was_processed a b (x ∷ h) w (step_keeps a b h v w x ok step) s n
+pub law_acked_has_arrived : AckedHasAlwaysArrived
+law_acked_has_arrived = λ a b h v w x ok step s n. acked_has_arrived a b (x ∷ h) w (step_keeps a b h v w x ok step) s n
 
 pub law_final_size_is_declared : FinalSizeIsAlwaysDeclared
 law_final_size_is_declared = λ a b h v w x ok step s n. final_size_is_declared a b (x ∷ h) w (step_keeps a b h v w x ok step) s n

@@ -348,7 +348,7 @@ module _ (p q : Past) (from : p.theirs ≡ q.mine) (back : q.theirs ≡ p.mine) 
   ack_fine : (largest : ℕ) (ranges : List (ℕ × ℕ)) → Tells q.mine (Ack largest ranges) → ack_fault e largest ≡ None
   ack_fine largest ranges t =
       let ack = their.packets.acks_told largest ranges t in
-      let (fs, there, all) = their.taken largest (ack.names_processed largest ack.names_largest) in
+      let (fs, there, all) = their.taken.packets largest (ack.names_processed largest ack.names_largest) in
       let below : largest < length p.mine = slice_get_within p.mine largest fs (subst (λ x. slice_get x largest ≡ Some fs) back there) in
       no_fault_from _ 10 (lt-leb e.next largest (omega (arith, ok.packets.count)))
 

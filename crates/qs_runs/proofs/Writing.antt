@@ -24,8 +24,8 @@ write_allowed l is = go l.was_reset refl l.finished refl
     go None reset true end = absurd (none-some sends.Finished (sym (rw (reset, end) at is)))
     go None reset false end = (reset, end)
 
-pub finish_ok : (mine theirs : Packets) (all : List ℕ) (n limit : ℕ) (l : SendLane) → SendTrue mine theirs all n limit l → SendTrue mine theirs all n limit (finish_lane l)
-finish_ok mine theirs all n limit l h =
+pub finish_ok : (mine theirs : Packets) (tokens : ℕ → Bool) (all : List ℕ) (n limit : ℕ) (l : SendLane) → SendTrue mine theirs tokens all n limit l → SendTrue mine theirs tokens all n limit (finish_lane l)
+finish_ok mine theirs tokens all n limit l h =
     record {
       count = h.count;
       kept = h.kept;
@@ -41,18 +41,18 @@ finish_ok mine theirs all n limit l h =
     }
 
 -- an acknowledged offset was written
-pub acked_written : (mine theirs : Packets) (all : List ℕ) (n limit : ℕ) (l : SendLane) → SendTrue mine theirs all n limit l → (q : ℕ) → set.contains l.acked q ≡ true → q < l.written
-acked_written mine theirs all n limit l h q is =
+pub acked_written : (mine theirs : Packets) (tokens : ℕ → Bool) (all : List ℕ) (n limit : ℕ) (l : SendLane) → SendTrue mine theirs tokens all n limit l → (q : ℕ) → set.contains l.acked q ≡ true → q < l.written
+acked_written mine theirs tokens all n limit l h q is =
     let (k, offset, bytes, fin, holds, low, high, ack) = h.acked q is in
     let below : offset + length bytes ≤ l.sent_end = (h.told offset bytes fin (k, holds)).below in
     let written : l.sent_end ≤ l.written = h.sent_written in
     omega arith
 
 -- what is written after an end that wasn't asked for
-pub write_ok : (mine theirs : Packets) (all bytes : List ℕ) (n limit : ℕ) (l : SendLane) → SendTrue mine theirs all n limit l → l.was_reset ≡ None → l.finished ≡ false → SendTrue mine theirs (all ++ bytes) n limit (write_lane l bytes)
-write_ok mine theirs all bytes n limit l h none open_end =
+pub write_ok : (mine theirs : Packets) (tokens : ℕ → Bool) (all bytes : List ℕ) (n limit : ℕ) (l : SendLane) → SendTrue mine theirs tokens all n limit l → l.was_reset ≡ None → l.finished ≡ false → SendTrue mine theirs tokens (all ++ bytes) n limit (write_lane l bytes)
+write_ok mine theirs tokens all bytes n limit l h none open_end =
     let not_sent : l.fin_sent ≡ true → ⊥ = λ is. true≢false (sym (h.end is).0 ∙ open_end) in
-    let low : unacked_from l ≤ l.written = missing-le l.acked l.written (acked_written mine theirs all n limit l h) in
+    let low : unacked_from l ≤ l.written = missing-le l.acked l.written (acked_written mine theirs tokens all n limit l h) in
     record {
       count = omega (arith, length-append all bytes, h.count);
       kept = λ _. ap (λ x. x ++ bytes) (h.kept none) ∙ sym (drop-joined (unacked_from l) all bytes (omega (arith, h.count)));
@@ -78,15 +78,15 @@ module _ (p : Past) (e : End) (n : ℕ) (ok : EndOk p e) where
       record { no_bytes = same ∙ h.no_bytes; no_stream = h.no_stream; no_reset = h.no_reset; no_blocked = h.no_blocked }
   other_slot bytes m ne (Some l) h =
       let same : p.bytes m ++ (if m == n then bytes else []) ≡ p.bytes m = (rw (ne_eqb m n ne) (append-nil (p.bytes m))) in
-      subst (λ x. SendTrue p.mine p.theirs x m (first_send_limit e m) l) (sym same) h
+      subst (λ x. SendTrue p.mine p.theirs p.tokens x m (first_send_limit e m) l) (sym same) h
 
   pub wrote_ok : (bytes : List ℕ) (l : SendLane) → lookup e.sends n ≡ Some l → l.was_reset ≡ None → l.finished ≡ false → EndOk (with_bytes p n bytes) (record e { sends = update e.sends n (write_lane l bytes) })
   wrote_ok bytes l is none open_end =
-      let this = write_ok p.mine p.theirs (p.bytes n) bytes n (first_send_limit e n) l (subst (SendSlot p n (first_send_limit e n)) is (ok.sends n)) none open_end in
+      let this = write_ok p.mine p.theirs p.tokens (p.bytes n) bytes n (first_send_limit e n) l (subst (SendSlot p n (first_send_limit e n)) is (ok.sends n)) none open_end in
       record {
         sends = slots_updated (λ m o. SendSlot (with_bytes p n bytes) m (first_send_limit e m) o) e.sends n l (write_lane l bytes) is
             (λ m ne. other_slot bytes m ne (lookup e.sends m) (ok.sends m))
-            (subst (λ b. SendTrue p.mine p.theirs (p.bytes n ++ (if b then bytes else [])) n (first_send_limit e n) (write_lane l bytes)) (sym (eq-eqb n n refl)) this);
+            (subst (λ b. SendTrue p.mine p.theirs p.tokens (p.bytes n ++ (if b then bytes else [])) n (first_send_limit e n) (write_lane l bytes)) (sym (eq-eqb n n refl)) this);
         recvs = ok.recvs;
         packets = ok.packets;
         taken = ok.taken;

@@ -1,12 +1,19 @@
 -- Of laws.
 -- What is read off a small log.
-use Rattle.std.specs.Prelude.{◌≡◌, ℕ, true, false, List, [], ◌∷◌, None, Some, Ok, Err}
+use Rattle.std.specs.Prelude.{◌≡◌, ℕ, true, false, List, [], ◌∷◌, None, Some, Result, Ok, Err}
 use Rattle.std.specs.Global.{Vec}
 use Rattle.qs_recv.specs.declared.half.Read.TheVariants.{Bytes, End}
 use Rattle.qs_calls.specs.declared.settings.PeerLimits.{PeerLimits}
 use Rattle.qs_calls.specs.declared.closing.Received.{Received}
 use Rattle.qs_calls.specs.declared.closing.Received.TheVariants.{Done, Duplicate}
+use Rattle.qs_calls.specs.declared.filling.Fill.{Fill}
+use Rattle.qs_calls.specs.declared.filling.Filled.{Filled}
 use Rattle.qs_calls.specs.declared.making.MakeFault.TheVariants.{Exhausted}
+use Rattle.qs_calls.specs.declared.token.Token.{Token}
+use Rattle.qs_calls.specs.declared.token.Taken.TheVariants.{Took, Unchanged, NotOurs}
+use Rattle.qs_calls.specs.declared.token.TakeFault.{TakeFault}
+use Rattle.qs_calls.specs.declared.token.TakeFault.TheVariants.{NoMemory}
+use Rattle.qs_calls.specs.declared.token.Taken.{Taken}
 use Rattle.qs_calls.specs.declared.event.Side.{Side}
 use Rattle.qs_calls.specs.declared.event.Side.TheVariants.{A, B}
 use Rattle.qs_calls.specs.declared.event.Act.{Act}
@@ -14,7 +21,7 @@ use Rattle.qs_calls.specs.declared.event.Act.TheVariants.{Write, Stop, ReadUpTo,
 use Rattle.qs_calls.specs.declared.event.Event.{Event}
 use Rattle.qs_calls.specs.declared.answer.Answer.TheVariants as answers
 use Rattle.qs_machine.specs.SmallEnds.{abc}
-use Rattle.qs_runs.specs.Logs.{Happening, Did, MadeAck, RaisedLimits, CameWith, History, written, read, made, payload, processed, read_whole}
+use Rattle.qs_runs.specs.Logs.{Happening, Did, MadeAck, FilledIn, AckedToken, LostToken, RaisedLimits, CameWith, CameAlone, History, written, read, made, payload, processed, took, was_acked, read_whole}
 
 abbrev pub at : Side → Act → Event
 at side act = record { end = side; act = act }
@@ -104,17 +111,58 @@ pub record OthersAreRead (text : List ℕ) : Type 0 where
   pub ack_not_there : made B (acked A text ∷ []) ≡ []
   -- where none was made there is none
   pub no_ack : made A (MadeAck A 1200 (Ok None) text ∷ []) ≡ []
+  -- frames that were filled in are a packet of its end
+  pub fill : (want : Fill) (filled : Filled) → made A (FilledIn A want 1200 (Ok (Some filled)) text ∷ []) ≡ text ∷ []
+  -- and not of the other
+  pub fill_not_there : (want : Fill) (filled : Filled) → made B (FilledIn A want 1200 (Ok (Some filled)) text ∷ []) ≡ []
+  -- where nothing went in there is none
+  pub no_fill : (want : Fill) → made A (FilledIn A want 1200 (Ok None) text ∷ []) ≡ []
   -- a packet that came with other frames was processed
   pub with_more : processed B 0 (came_with A 0 text Done ∷ []) ≡ true
   -- that one alone, once, and not by its sender
   pub not_another : processed B 1 (came_with A 0 text Done ∷ []) ≡ false
   pub twice : processed B 0 (came_with A 0 text Duplicate ∷ []) ≡ false
   pub not_there : processed A 0 (came_with A 0 text Done ∷ []) ≡ false
-  -- nothing is made by it, nor by limits that are taken in
+  -- nothing is made by it, nor by a token that is lost, nor by limits that are taken in
   pub none_made : made A (came_with A 0 text Done ∷ []) ≡ []
+  pub none_lost : (token : Token) → made A (LostToken A token (Ok tt) ∷ []) ≡ []
   pub none_raised : (limits : PeerLimits) → made A (RaisedLimits A limits (Ok tt) ∷ []) ≡ []
+
+-- frames of A's packet come to B without it, with this answer
+abbrev pub came_alone : ℕ → List ℕ → Result Taken TakeFault → Happening
+came_alone number places answer = CameAlone A number places answer
+
+-- A is told that the packet of this token was acknowledged
+abbrev pub token_acked : ℕ → Happening
+token_acked number = AckedToken A (record { number = number }) (Ok tt)
+
+-- Frames and tokens
+pub record TokensAreRead : Type 0 where
+  -- a frame that came alone was taken
+  pub taken : took B 0 1 (came_alone 0 (1 ∷ []) (Ok Took) ∷ []) ≡ true
+  -- be it that it changed nothing
+  pub unchanged : took B 0 1 (came_alone 0 (1 ∷ []) (Ok Unchanged) ∷ []) ≡ true
+  -- and so was each of several
+  pub several : took B 0 2 (came_alone 0 (0 ∷ 2 ∷ []) (Ok Took) ∷ []) ≡ true
+  -- that one alone, of that packet, and not by its sender
+  pub not_another : took B 0 0 (came_alone 0 (1 ∷ []) (Ok Took) ∷ []) ≡ false
+  pub not_of_another : took B 1 1 (came_alone 0 (1 ∷ []) (Ok Took) ∷ []) ≡ false
+  pub not_there : took A 0 1 (came_alone 0 (1 ∷ []) (Ok Took) ∷ []) ≡ false
+  -- not where it found no memory, or was of another kind
+  pub no_memory : took B 0 1 (came_alone 0 (1 ∷ []) (Err NoMemory) ∷ []) ≡ false
+  pub not_ours : took B 0 1 (came_alone 0 (1 ∷ []) (Ok NotOurs) ∷ []) ≡ false
+  -- its packet wasn't processed, and no other was made
+  pub not_processed : processed B 0 (came_alone 0 (1 ∷ []) (Ok Took) ∷ []) ≡ false
+  pub none_made : made A (came_alone 0 (1 ∷ []) (Ok Took) ∷ []) ≡ []
+  -- a token was told to be acknowledged, that one, and at that end
+  pub acked : was_acked A 3 (token_acked 3 ∷ []) ≡ true
+  pub not_another_token : was_acked A 4 (token_acked 3 ∷ []) ≡ false
+  pub not_at_the_peer : was_acked B 3 (token_acked 3 ∷ []) ≡ false
+  -- which makes nothing
+  pub none_made_by_it : made A (token_acked 3 ∷ []) ≡ []
 
 pub record Examples : Type 0 where
   pub story : (bytes text none : Vec ℕ) → bytes.items ≡ abc → StoryIsRead bytes text none
   pub logs : (bytes none : Vec ℕ) → bytes.items ≡ abc → LogsAreRead bytes none
   pub others : (text : List ℕ) → OthersAreRead text
+  pub tokens : TokensAreRead

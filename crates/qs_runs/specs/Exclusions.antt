@@ -1,21 +1,31 @@
 -- Of laws.
 -- What two ends that agree exclude: beside each clause a small history, and a world, that lacks it (RFC 9000, sections 2.2, 3 and 4).
-use Rattle.std.specs.Prelude.{◌≡◌, ℕ, ◌+◌, true, false, List, [], ◌∷◌, None, Some, Result, Ok}
+use Rattle.std.specs.Prelude.{◌≡◌, ℕ, ◌+◌, ◌≤◌, true, false, List, [], ◌∷◌, None, Some, Result, Ok, Err}
 use Rattle.std.specs.Global.{Vec}
 use Rattle.qs_ranges.specs.Numbers.{numbers}
 use Rattle.qs_recv.specs.Lane.{RecvLane}
 use Rattle.qs_send.specs.Lane.{SendLane}
 use Rattle.qs_send.specs.declared.piece.Item.TheVariants.{MaxData, ResetStream}
+use Rattle.qs_wire.specs.Layout.{max_data}
 use Rattle.qs_wire.specs.Reading.{reading_of}
 use Rattle.qs_wire.specs.declared.fault.WireFault.{WireFault}
 use Rattle.qs_calls.specs.Settings.{limits_of}
 use Rattle.qs_calls.specs.declared.settings.PeerLimits.{PeerLimits}
 use Rattle.qs_calls.specs.declared.settings.RaiseFault.{RaiseFault}
+use Rattle.qs_calls.specs.declared.filling.Fill.{Fill}
+use Rattle.qs_calls.specs.declared.filling.Filled.{Filled}
 use Rattle.qs_calls.specs.declared.making.Made.{Made}
+use Rattle.qs_calls.specs.declared.token.Token.{Token}
+use Rattle.qs_calls.specs.declared.token.Taken.{Taken}
+use Rattle.qs_calls.specs.declared.token.Taken.TheVariants.{Took, Unchanged, NotOurs}
+use Rattle.qs_calls.specs.declared.token.TakeFault.{TakeFault}
+use Rattle.qs_calls.specs.declared.token.TakeFault.TheVariants.{NoMemory}
+use Rattle.qs_calls.specs.declared.token.TokenFault.{TokenFault}
 use Rattle.qs_calls.specs.declared.closing.Closing.{Closing}
 use Rattle.qs_calls.specs.declared.closing.Closed.TheVariants.{ByPeer}
 use Rattle.qs_calls.specs.declared.closing.Received.{Received}
 use Rattle.qs_calls.specs.declared.closing.Received.TheVariants.{Done}
+use Rattle.qs_calls.specs.declared.closing.Received.TheVariants as received
 use Rattle.qs_calls.specs.declared.event.Side.TheVariants.{A, B}
 use Rattle.qs_calls.specs.declared.event.Act.TheVariants.{Accept, Claim}
 use Rattle.qs_calls.specs.declared.answer.Answer.TheVariants as answers
@@ -24,10 +34,10 @@ use Rattle.qs_machine.specs.Seen.{Seen, Stream, Control, Plain}
 use Rattle.qs_machine.specs.Plains.{DifferInPlain}
 use Rattle.qs_machine.specs.Examples.{standard, server, client_of}
 use Rattle.qs_machine.specs.SmallEnds.{client_with, server_with, abc, wrote as wrote_half, sent, fresh, all_came}
-use Rattle.qs_runs.specs.Logs.{Did, MadeAck, RaisedLimits, CameWith, History, ping_text}
-use Rattle.qs_runs.specs.Worlds.{World, AreGranted, WorldStep, Begins}
+use Rattle.qs_runs.specs.Logs.{Did, MadeAck, FilledIn, AckedToken, LostToken, RaisedLimits, CameWith, History, StandAt, HasLanded, ping_text}
+use Rattle.qs_runs.specs.Worlds.{World, AreGranted, HandedIn, WorldStep, Begins}
 use Rattle.qs_runs.specs.Agree.{PrefixAgrees, WholeAgrees, FinalSizesAgree, Agree, IsOld, StepAgrees, frames_in}
-use Rattle.qs_runs.specs.Examples.{at, wrote, got, told_end, story, packet, came, came_with}
+use Rattle.qs_runs.specs.Examples.{at, wrote, got, told_end, story, packet, came, came_with, came_alone}
 
 -- It doesn't agree (section 2.2) that what was read
 pub record ReadIsNoPrefix (bytes other none : Vec ℕ) : Type 0 where
@@ -103,6 +113,7 @@ pub record RepeatsSpend (bytes text none : Vec ℕ) : Type 0 where
   pub old_news : text.items ≡ [] → StepAgrees (packet A text ∷ []) (both (client_of standard) (server_with fresh)) (came A 0 Done) (both (client_of standard) (server_with all_came)) → ⊥
   -- and so with frames of the layer beneath
   pub again_with : StepAgrees (story bytes text none) (both (client_of standard) (server standard)) (came_with A 0 text.items Done) (both (client_of standard) (server_with fresh)) → ⊥
+  pub old_news_alone : StepAgrees (packet A text ∷ []) (both (client_of standard) (server_with fresh)) (came_alone 0 [] (Ok NotOurs)) (both (client_of standard) (server_with all_came)) → ⊥
   pub old_news_with : text.items ≡ [] → StepAgrees (packet A text ∷ []) (both (client_of standard) (server_with fresh)) (came_with A 0 text.items Done) (both (client_of standard) (server_with all_came)) → ⊥
 
 -- Nothing of this happens in a world
@@ -134,12 +145,73 @@ pub record NothingElseHappens (bytes text none : Vec ℕ) : Type 0 where
   pub too_long : (v w : World) (made : Made) → WorldStep [] v (MadeAck A 0 (Ok (Some made)) (1 ∷ [])) w → ⊥
   -- or changes the other end
   pub ack_other : (v w : World) → WorldStep [] v (MadeAck A 1200 (Ok None) []) w → (w.b ≡ v.b → ⊥) → ⊥
+  -- frames are filled in that have more bytes than their room
+  pub fill_too_long : (v w : World) (want : Fill) (filled : Filled) → WorldStep [] v (FilledIn A want 0 (Ok (Some filled)) (1 ∷ [])) w → ⊥
+  -- or the other end changes
+  pub fill_other : (v w : World) (want : Fill) → WorldStep [] v (FilledIn A want 1200 (Ok None) []) w → (w.b ≡ v.b → ⊥) → ⊥
+  -- a token is lost that wasn't given
+  pub not_given : (v w : World) (token : Token) → v.a.next ≤ token.number → WorldStep [] v (LostToken A token (Ok tt)) w → ⊥
+  -- or the other end changes
+  pub lost_other : (v w : World) (token : Token) → WorldStep [] v (LostToken A token (Ok tt)) w → (w.b ≡ v.b → ⊥) → ⊥
   -- limits are taken in that the peer doesn't grant
   pub ungranted : (v w : World) (p : PeerLimits) (r : Result (Unit {0}) RaiseFault) → (AreGranted p v.b.settings → ⊥) → WorldStep [] v (RaisedLimits A p r) w → ⊥
   -- by an end that closed
   pub closed : (v w : World) (p : PeerLimits) → v.a.closed ≡ Some (ByPeer 0) → WorldStep [] v (RaisedLimits A p (Ok tt)) w → ⊥
   -- or the other end changes
   pub raised_other : (v w : World) (p : PeerLimits) (r : Result (Unit {0}) RaiseFault) → WorldStep [] v (RaisedLimits A p r) w → (w.b ≡ v.b → ⊥) → ⊥
+
+-- a packet of two frames, a MAX_DATA of 5 and one of 6 (RFC 9000, section 19.9)
+abbrev pub two_frames : List ℕ
+two_frames = 0x10 ∷ 5 ∷ 0x10 ∷ 6 ∷ []
+
+-- No frames come without their packet
+pub record NoFrameComes (text : Vec ℕ) : Type 0 where
+  -- of a packet that wasn't made
+  pub unmade : (v w : World) (r : Result Taken TakeFault) → WorldStep (packet A text ∷ []) v (came_alone 1 (0 ∷ []) r) w → ⊥
+  -- that it doesn't have
+  pub not_in_it : (v w : World) (r : Result Taken TakeFault) → WorldStep (packet A text ∷ []) v (came_alone 0 (2 ∷ []) r) w → ⊥
+  -- to the other end, so that their sender changes
+  pub sender : (v w : World) (r : Result Taken TakeFault) → WorldStep (packet A text ∷ []) v (came_alone 0 (0 ∷ []) r) w → (w.a ≡ v.a → ⊥) → ⊥
+  -- with another value than they have there
+  pub another : StandAt (max_data 5 ∷ max_data 6 ∷ []) (0 ∷ []) (max_data 6 ∷ []) → ⊥
+  -- fewer than came, or more
+  pub fewer : StandAt (max_data 5 ∷ max_data 6 ∷ []) (0 ∷ 1 ∷ []) (max_data 5 ∷ []) → ⊥
+  pub more : StandAt (max_data 5 ∷ max_data 6 ∷ []) (0 ∷ []) (max_data 5 ∷ max_data 6 ∷ []) → ⊥
+  -- several as one of another kind
+  pub several : (e new : End) → HandedIn (max_data 5 ∷ max_data 6 ∷ []) e (Ok NotOurs) new → ⊥
+
+-- the token of packet 0 is told to be acknowledged
+abbrev pub TokenAcked : History → Type 0
+TokenAcked h = (v : World) × (w : World) × (r : Result (Unit {0}) TokenFault) × WorldStep h v (AckedToken A (record { number = 0 }) r) w
+
+-- It isn't told (sections 13.1 and 13.3)
+pub record NotYetLanded (text : Vec ℕ) : Type 0 where
+  -- before the packet was made
+  pub unmade : TokenAcked [] → ⊥
+  -- as long as nothing of it came
+  pub on_its_way : TokenAcked (packet A text ∷ []) → ⊥
+  -- once its first frame was taken
+  pub first : TokenAcked (came_alone 0 (0 ∷ []) (Ok Took) ∷ packet A text ∷ []) → ⊥
+  -- be it that it changed nothing
+  pub first_unchanged : TokenAcked (came_alone 0 (0 ∷ []) (Ok Unchanged) ∷ packet A text ∷ []) → ⊥
+  -- or its last one
+  pub last : TokenAcked (came_alone 0 (1 ∷ []) (Ok Took) ∷ packet A text ∷ []) → ⊥
+  -- or the same one twice
+  pub twice : TokenAcked (came_alone 0 (0 ∷ []) (Ok Took) ∷ came_alone 0 (0 ∷ []) (Ok Took) ∷ packet A text ∷ []) → ⊥
+  -- where they found no memory
+  pub no_memory : TokenAcked (came_alone 0 (0 ∷ 1 ∷ []) (Err NoMemory) ∷ packet A text ∷ []) → ⊥
+  -- where the packet came and found none
+  pub not_processed : TokenAcked (came A 0 received.NoMemory ∷ packet A text ∷ []) → ⊥
+  -- nor does the other end change
+  pub other : (h : History) (v w : World) (token : Token) (r : Result (Unit {0}) TokenFault) → WorldStep h v (AckedToken A token r) w → (w.b ≡ v.b → ⊥) → ⊥
+  -- though the packet landed once each of its frames was taken, in any order
+  pub each : HasLanded (came_alone 0 (0 ∷ []) (Ok Took) ∷ came_alone 0 (1 ∷ []) (Ok Took) ∷ packet A text ∷ []) A 0
+  -- be it that one of them changed nothing
+  pub unchanged : HasLanded (came_alone 0 (0 ∷ []) (Ok Unchanged) ∷ came_alone 0 (1 ∷ []) (Ok Took) ∷ packet A text ∷ []) A 0
+  -- or several together
+  pub together : HasLanded (came_alone 0 (1 ∷ 0 ∷ []) (Ok Took) ∷ packet A text ∷ []) A 0
+  -- or once it was processed
+  pub processed : HasLanded (came A 0 Done ∷ packet A text ∷ []) A 0
 
 -- two payloads differ in plain frames alone (RFC 9000, section 12.4), where the one has these frames and the other those
 abbrev pub Differ : List Seen → List Seen → Type 0
@@ -191,6 +263,8 @@ pub record Exclusions : Type 0 where
   pub repeats : (bytes text none : Vec ℕ) → RepeatsSpend bytes text none
   pub steps : (bytes text none : Vec ℕ) → NothingHappens bytes text none
   pub others : (bytes text none : Vec ℕ) → NothingElseHappens bytes text none
+  pub frames : (text : Vec ℕ) → text.items ≡ two_frames → NoFrameComes text
+  pub tokens : (text : Vec ℕ) → text.items ≡ two_frames → NotYetLanded text
   pub bytes : OtherBytesCome
   pub limits : LimitsAreAbove
   pub begins : NoneBegin

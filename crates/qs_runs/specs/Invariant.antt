@@ -22,6 +22,7 @@ use Rattle.qs_machine.specs.Repeats.{SentWasWritten}
 use Rattle.qs_machine.specs.Seen.{Seen, Ack, Stream, Control, Close, Plain}
 use Rattle.qs_machine.specs.FrameStep.{is_named}
 use Rattle.qs_send.specs.Records.{Among}
+use Rattle.qs_wire.specs.Grammar.{Fits, frames_of}
 use Rattle.qs_wire.specs.Reading.{reading_of}
 use Rattle.qs_calls.specs.declared.settings.Settings.{Settings}
 use Rattle.qs_calls.specs.declared.settings.PeerLimits.{PeerLimits}
@@ -29,9 +30,9 @@ use Rattle.qs_calls.specs.declared.closing.Closed.{Closed}
 use Rattle.qs_wire.specs.declared.stream_id.Role.TheVariants.{Client, Server}
 use Rattle.qs_calls.specs.declared.event.Side.{Side}
 use Rattle.qs_calls.specs.declared.event.Side.TheVariants.{A, B}
-use Rattle.qs_runs.specs.Logs.{History, other, made}
+use Rattle.qs_runs.specs.Logs.{History, other, made, was_acked, HasLanded}
 use Rattle.qs_runs.specs.Worlds.{World, end_of, AreGranted}
-use Rattle.qs_runs.specs.Pasts.{Packets, Past, past, Holds, Tells, TellsOffset, TellsByte, TellsEnd, TellsReset, TellsAck, PieceOf, IsNamed}
+use Rattle.qs_runs.specs.Pasts.{Packets, Past, past, Holds, Tells, TellsOffset, TellsByte, TellsEnd, TellsReset, WasConfirmed, EachTaken, PieceOf, IsNamed}
 
 -- Sending
 
@@ -42,7 +43,7 @@ pub record ChunkTrue (all : List ℕ) (count sent_end : ℕ) (fin_sent : Bool) (
   pub end : fin ≡ true → (fin_sent ≡ true) × (offset + length bytes ≡ count)
 
 -- A sending half, against what was written to it and what was sent of it.
-pub record SendTrue (mine theirs : Packets) (all : List ℕ) (n limit : ℕ) (l : SendLane) : Type 0 where
+pub record SendTrue (mine theirs : Packets) (tokens : ℕ → Bool) (all : List ℕ) (n limit : ℕ) (l : SendLane) : Type 0 where
   pub count : length all ≡ l.written
   pub kept : l.was_reset ≡ None → l.kept ≡ drop (unacked_from l) all
   pub sent_written : l.sent_end ≤ l.written
@@ -51,14 +52,14 @@ pub record SendTrue (mine theirs : Packets) (all : List ℕ) (n limit : ℕ) (l 
   pub reset_size : (r : Reset) → l.was_reset ≡ Some r → r.size ≡ l.sent_end
   pub told : (offset : ℕ) (bytes : List ℕ) (fin : Bool) → Tells mine (Stream n offset bytes fin) → ChunkTrue all l.written l.sent_end l.fin_sent offset bytes fin
   pub told_reset : (code size : ℕ) → TellsReset mine n code size → l.was_reset ≡ Some (record { code = code; size = size })
-  -- an acknowledged offset or end stood in a packet that the peer acknowledged
+  -- an acknowledged offset or end stood in a packet that was confirmed
   pub acked : (q : ℕ) → set.contains l.acked q ≡ true →
-      (k offset : ℕ) × (bytes : List ℕ) × (fin : Bool) × Holds mine k (Stream n offset bytes fin) × (offset ≤ q) × (q < offset + length bytes) × TellsAck theirs k
-  pub end_acked : l.fin_acked ≡ true → (k offset : ℕ) × (bytes : List ℕ) × Holds mine k (Stream n offset bytes true) × TellsAck theirs k
+      (k offset : ℕ) × (bytes : List ℕ) × (fin : Bool) × Holds mine k (Stream n offset bytes fin) × (offset ≤ q) × (q < offset + length bytes) × WasConfirmed theirs tokens k
+  pub end_acked : l.fin_acked ≡ true → (k offset : ℕ) × (bytes : List ℕ) × Holds mine k (Stream n offset bytes true) × WasConfirmed theirs tokens k
   pub limit_told : (l.limit ≤ limit) ⊎ Tells theirs (Control (MaxStreamData n l.limit))
 
 abbrev pub SendOk : Past → ℕ → ℕ → SendLane → Type 0
-SendOk p n limit l = SendTrue p.mine p.theirs (p.bytes n) n limit l
+SendOk p n limit l = SendTrue p.mine p.theirs p.tokens (p.bytes n) n limit l
 
 -- No frame speaks of a stream on which this end doesn't send.
 pub record NeverSent (mine : Packets) (all : List ℕ) (n : ℕ) : Type 0 where
@@ -112,7 +113,7 @@ RecvSlot p n window None = NotReceived p n
 
 -- Packets
 
--- The STREAM frame of a processed packet took effect, for good.
+-- A STREAM frame took effect, for good.
 pub record StreamTaken (l : RecvLane) (offset : ℕ) (bytes : List ℕ) (fin : Bool) : Type 0 where
   pub offsets : l.reset_code ≡ None → (q : ℕ) → offset ≤ q → q < offset + length bytes → set.contains l.arrived.received q ≡ true
   pub end : fin ≡ true → l.final_size ≡ Some (offset + length bytes)
@@ -151,9 +152,9 @@ pub record PacketsTrue (mine : Packets) (processed : ℕ → Bool) (next : ℕ) 
 abbrev pub PacketsOk : Past → ℕ → Records → Records → NumberSet → ℕ → Type 0
 PacketsOk p = PacketsTrue p.mine p.processed
 
--- Each frame of a processed packet took effect, for good.
+-- Each frame of a processed packet, or taken without its packet, took effect, for good.
 abbrev pub TakenOk : Past → Tables RecvLane → Type 0
-TakenOk p t = (k : ℕ) → p.processed k ≡ true → (fs : List Seen) × (slice_get p.theirs k ≡ Some fs) × AllByRecursion (FrameTaken t) fs
+TakenOk p t = EachTaken p.theirs p.processed p.took (FrameTaken t)
 
 -- The connection
 
@@ -228,11 +229,12 @@ settings_of a b B = b
 abbrev pub stands_as : Settings → Settings → Side → PeerLimits → Standing
 stands_as a b s told = record { role = role_of s; settings = settings_of a b s; peer = told; closed = None }
 
+-- a payload is read to its end, as frames that have a text
 abbrev pub HasNoFault : List ℕ → Type 0
-HasNoFault text = (reading_of text).fault ≡ None
+HasNoFault text = ((reading_of text).fault ≡ None) × AllByRecursion Fits (frames_of (reading_of text).left)
 
 -- The invariant of a world: that of each end, about what it lived through; each end is sound, and what it sent was written; the limits
--- that it was told are granted; and each payload that was made has no fault.
+-- that it was told are granted; each payload that was made has no fault; and what it was told by a token landed at the other.
 pub record WorldOk (a b : Settings) (h : History) (w : World) : Type 0 where
   pub ends : (s : Side) → EndOk (past s h) (end_of w s)
   pub counts : (s : Side) → CountsOk (past s h) (end_of w s)
@@ -241,3 +243,4 @@ pub record WorldOk (a b : Settings) (h : History) (w : World) : Type 0 where
   pub stand : (s : Side) → standing (end_of w s) ≡ stands_as a b s (end_of w s).peer
   pub peers : (s : Side) → AreGranted (end_of w s).peer (settings_of a b (other s))
   pub texts : (s : Side) → AllByRecursion HasNoFault (made s h)
+  pub confirmed : (s : Side) (k : ℕ) → was_acked s k h ≡ true → HasLanded h s k

@@ -7,7 +7,7 @@ use Rattle.qs_runs.specs.Logs.{Happening, History, Log, happened}
 use Rattle.qs_runs.specs.Worlds.{World, Begins, WorldStep, Run, EventRun}
 use Rattle.qs_runs.specs.Agree.{PrefixAgrees, CreditAgrees, WholeAgrees, FinalSizesAgree, StaysOpen, StepAgrees}
 use Rattle.qs_runs.specs.Invariant.{WorldOk}
-use Rattle.qs_runs.specs.Clauses.{PiecesAreWritten, ReceivedIsBelowSent, StoredIsWritten, ReadIsWritten, ProcessedWasTaken, ProcessedResetWasTaken, AckedWasProcessed, FinalSizeIsDeclared, AllKeepWhatTheyKnow, ResetCodeIsTheSenders, SentIsWithinKnown, KnownIsWithinGranted, IsOpenAtInitiator, OpenedIsBelowKnown}
+use Rattle.qs_runs.specs.Clauses.{PiecesAreWritten, ReceivedIsBelowSent, StoredIsWritten, ReadIsWritten, ArrivedWasTaken, ArrivedResetWasTaken, AckedHasArrived, FinalSizeIsDeclared, AllKeepWhatTheyKnow, ResetCodeIsTheSenders, SentIsWithinKnown, KnownIsWithinGranted, IsOpenAtInitiator, OpenedIsBelowKnown}
 
 -- whatever happens in a world that meets the invariant, the world after it has the clause
 abbrev pub AfterStep : (History → World → Type 0) → Type 0
@@ -47,11 +47,11 @@ StoredIsAlwaysWritten = AfterStep (λ h w. (s : Side) (n : ℕ) → StoredIsWrit
 abbrev pub ReadIsAlwaysWritten : Type 0
 ReadIsAlwaysWritten = AfterStep (λ h w. (s : Side) (n : ℕ) → ReadIsWritten h s n)
 
-abbrev pub ProcessedWasAlwaysTaken : Type 0
-ProcessedWasAlwaysTaken = AfterStep (λ h w. (s : Side) (n : ℕ) → ProcessedWasTaken h w s n × ProcessedResetWasTaken h w s n)
+abbrev pub ArrivedWasAlwaysTaken : Type 0
+ArrivedWasAlwaysTaken = AfterStep (λ h w. (s : Side) (n : ℕ) → ArrivedWasTaken h w s n × ArrivedResetWasTaken h w s n)
 
-abbrev pub AckedWasAlwaysProcessed : Type 0
-AckedWasAlwaysProcessed = AfterStep (λ h w. (s : Side) (n : ℕ) → AckedWasProcessed h w s n)
+abbrev pub AckedHasAlwaysArrived : Type 0
+AckedHasAlwaysArrived = AfterStep (λ h w. (s : Side) (n : ℕ) → AckedHasArrived h w s n)
 
 abbrev pub FinalSizeIsAlwaysDeclared : Type 0
 FinalSizeIsAlwaysDeclared = AfterStep (λ h w. (s : Side) (n : ℕ) → FinalSizeIsDeclared h w s n)

@@ -1,14 +1,26 @@
 -- Trusted.
 -- What happened to two ends, and what can be read off it: what was written, read, made and processed. The whole file is ours:
 -- RFC 9000 has no log.
-use Rattle.std.specs.Prelude.{ℕ, Bool, true, false, not, ◌&&◌, ◌==◌, List, [], ◌∷◌, ◌++◌, map, take, Option, None, Some, Result, Ok, Err, slice_get, if◌then◌else◌}
+use Rattle.std.specs.Prelude.{◌≡◌, ℕ, Bool, true, false, not, ◌&&◌, ◌||◌, ◌==◌, List, [], ◌∷◌, ◌++◌, map, take, ◌⊎◌, ⊤, Option, None, Some, Result, Ok, Err, slice_get, if◌then◌else◌}
+use Rattle.qs_wire.specs.Layout.{FrameValue}
+use Rattle.qs_wire.specs.Grammar.{frames_of}
+use Rattle.qs_wire.specs.Reading.{reading_of}
 use Rattle.qs_calls.specs.declared.closing.Closing.{Closing}
 use Rattle.qs_calls.specs.declared.closing.Received.{Received}
 use Rattle.qs_calls.specs.declared.closing.Received.TheVariants.{Done}
+use Rattle.qs_calls.specs.declared.filling.Fill.{Fill}
+use Rattle.qs_calls.specs.declared.filling.Filled.{Filled}
 use Rattle.qs_calls.specs.declared.making.Made.{Made}
 use Rattle.qs_calls.specs.declared.making.MakeFault.{MakeFault}
 use Rattle.qs_calls.specs.declared.settings.PeerLimits.{PeerLimits}
 use Rattle.qs_calls.specs.declared.settings.RaiseFault.{RaiseFault}
+use Rattle.qs_calls.specs.declared.token.Token.{Token}
+use Rattle.qs_calls.specs.declared.token.Taken.{Taken}
+use Rattle.qs_calls.specs.declared.token.Taken.TheVariants.{Took, Unchanged}
+use Rattle.qs_calls.specs.declared.token.TakeFault.{TakeFault}
+use Rattle.qs_calls.specs.declared.token.TokenFault.{TokenFault}
+use Rattle.qs_machine.specs.Seen.{seen}
+use Rattle.qs_machine.specs.Alone.{is_ours}
 use Rattle.qs_recv.specs.declared.half.Read.TheVariants.{Bytes, End}
 use Rattle.qs_calls.specs.declared.event.Side.{Side}
 use Rattle.qs_calls.specs.declared.event.Side.TheVariants.{A, B}
@@ -19,12 +31,17 @@ use Rattle.qs_calls.specs.declared.answer.Answer.{Answer}
 use Rattle.qs_calls.specs.declared.answer.Answer.TheVariants as answers
 
 -- One thing that happens, with its answer: an event as scripts have them; or, of what they don't have, a payload with an ACK alone is
--- made, limits of the handshake are taken in, or an end's packet comes to the other end in these bytes, with frames of the layer beneath.
+-- made, frames are filled into a packet of the stack's own, a token's packet is acknowledged or declared lost, limits of the handshake
+-- are taken in, an end's packet comes to the other end in these bytes, with frames of the layer beneath, or frames of it come without it.
 pub data Happening : Type 0 where
   Did : (event : Event) (answer : Answer) → Happening
   MadeAck : (end : Side) (room : ℕ) (result : Result (Option Made) MakeFault) (text : List ℕ) → Happening
+  FilledIn : (end : Side) (want : Fill) (room : ℕ) (result : Result (Option Filled) MakeFault) (text : List ℕ) → Happening
+  AckedToken : (end : Side) (token : Token) (result : Result (Unit {0}) TokenFault) → Happening
+  LostToken : (end : Side) (token : Token) (result : Result (Unit {0}) TokenFault) → Happening
   RaisedLimits : (end : Side) (limits : PeerLimits) (result : Result (Unit {0}) RaiseFault) → Happening
   CameWith : (end : Side) (number : ℕ) (bytes : List ℕ) (result : Result Received Closing) → Happening
+  CameAlone : (end : Side) (number : ℕ) (places : List ℕ) (result : Result Taken TakeFault) → Happening
 
 -- what happened, the newest first
 abbrev pub History : Type 0
@@ -76,8 +93,8 @@ read_by n act answer = []
 abbrev pub ping_text : List ℕ
 ping_text = 1 ∷ []
 
--- the payload that was made, where one was
-abbrev pub texts_of : Result (Option Made) MakeFault → List ℕ → List (List ℕ)
+-- the payload that was made, or the frames that were filled in, where any were
+abbrev pub texts_of : {M : Type 0} → Result (Option M) MakeFault → List ℕ → List (List ℕ)
 texts_of (Ok (Some made)) text = text ∷ []
 texts_of (Ok None) text = []
 texts_of (Err fault) text = []
@@ -92,6 +109,7 @@ made_by act answer = []
 abbrev pub made_now : Side → Happening → List (List ℕ)
 made_now s (Did event answer) = if same_side s event.end then made_by event.act answer else []
 made_now s (MadeAck end room result text) = if same_side s end then texts_of result text else []
+made_now s (FilledIn end want room result text) = if same_side s end then texts_of result text else []
 made_now s x = []
 
 abbrev pub wrote : ℕ → List (Act × Answer) → List ℕ
@@ -110,7 +128,8 @@ written s n h = wrote n (own_calls s h)
 abbrev pub read : Side → ℕ → History → List ℕ
 read s n h = gave n (own_calls s h)
 
--- the payloads of the packets that one end's side sent, its own and those under claimed numbers, in order: packet numbers count from 0
+-- the payloads of the packets that one end's side sent, its own, those of fills and those under claimed numbers, in order: packet numbers
+-- and tokens are one count, from 0
 unfoldable pub made : Side → History → List (List ℕ)
 made s [] = []
 made s (x ∷ h) = made s h ++ made_now s x
@@ -136,6 +155,58 @@ takes_in s k x = false
 unfoldable pub processed : Side → ℕ → History → Bool
 processed s k [] = false
 processed s k (x ∷ h) = if takes_in s k x then true else processed s k h
+
+-- the frames at these places
+abbrev pub StandAt : List FrameValue → List ℕ → List FrameValue → Type 0
+StandAt all [] [] = ⊤
+StandAt all (i ∷ places) (f ∷ fs) = (slice_get all i ≡ Some f) × StandAt all places fs
+StandAt all places fs = ⊥
+
+-- the frames at these places of one end's packet
+abbrev pub AreFramesOf : History → Side → ℕ → (places : List ℕ) → List FrameValue → Type 0
+AreFramesOf h s k places fs = (text : List ℕ) × (payload s k h ≡ Some text) × StandAt (frames_of (reading_of text).left) places fs
+
+-- frames were handed in, and took effect, be it that they changed nothing
+abbrev pub is_taken : Result Taken TakeFault → Bool
+is_taken (Ok Took) = true
+is_taken (Ok Unchanged) = true
+is_taken answer = false
+
+-- it is one of these places
+abbrev pub is_among : ℕ → List ℕ → Bool
+is_among i [] = false
+is_among i (j ∷ places) = i == j || is_among i places
+
+-- frame i of packet k is among those that came of a packet, and were taken
+abbrev pub is_taken_at : (k i number : ℕ) (places : List ℕ) → Result Taken TakeFault → Bool
+is_taken_at k i number places result = k == number && (is_among i places && is_taken result)
+
+-- frame i of the peer's packet k comes to one end without it, and is taken
+abbrev pub takes_frame : Side → (k i : ℕ) → Happening → Bool
+takes_frame s k i (CameAlone end number places result) = same_side (other s) end && is_taken_at k i number places result
+takes_frame s k i x = false
+
+-- it came so
+unfoldable pub took : Side → (k i : ℕ) → History → Bool
+took s k i [] = false
+took s k i (x ∷ h) = if takes_frame s k i x then true else took s k i h
+
+-- One end's packet k landed at the other: it was processed, or each frame of it that can be taken without it was.
+abbrev pub HasLanded : History → Side → ℕ → Type 0
+HasLanded h s k =
+    (processed (other s) k h ≡ true)
+    ⊎ ((text : List ℕ) × (payload s k h ≡ Some text)
+    × ((i : ℕ) (f : FrameValue) → slice_get (frames_of (reading_of text).left) i ≡ Some f → is_ours (seen f) ≡ true → took (other s) k i h ≡ true))
+
+-- one end is told by a token that its packet k was acknowledged
+abbrev pub tells_acked : Side → ℕ → Happening → Bool
+tells_acked s k (AckedToken end token result) = same_side s end && k == token.number
+tells_acked s k x = false
+
+-- it was told so
+unfoldable pub was_acked : Side → ℕ → History → Bool
+was_acked s k [] = false
+was_acked s k (x ∷ h) = if tells_acked s k x then true else was_acked s k h
 
 -- the call stopped the stream's reader
 abbrev pub is_stop : ℕ → Act → Answer → Bool

@@ -1,28 +1,32 @@
 -- Trusted.
 -- Two ends, each of which was told limits that the other grants, and what may happen to them. The whole file is ours, but that an
 -- end is the client, the other the server, and each knows limits of the other (RFC 9000, sections 2.1, 7.4.1 and 18.2).
-use Rattle.std.specs.Prelude.{◌≡◌, ℕ, ◌≤◌, List, [], ◌∷◌, Some, Result, Ok, Err}
+use Rattle.std.specs.Prelude.{◌≡◌, ℕ, ◌≤◌, List, [], ◌∷◌, ◌⊎◌, Some, Result, Ok, Err}
 use Rattle.qs_wire.specs.declared.stream_id.Role.TheVariants.{Client, Server}
+use Rattle.qs_wire.specs.Layout.{FrameValue}
+use Rattle.qs_calls.specs.declared.token.Taken.{Taken}
+use Rattle.qs_calls.specs.declared.token.TakeFault.{TakeFault}
 use Rattle.qs_calls.specs.declared.closing.Closing.{Closing}
 use Rattle.qs_calls.specs.declared.closing.Received.{Received}
 use Rattle.qs_calls.specs.declared.settings.Settings.{Settings}
 use Rattle.qs_calls.specs.declared.settings.PeerLimits.{PeerLimits}
 use Rattle.qs_calls.specs.declared.settings.SetupFault.{SetupFault}
 use Rattle.qs_calls.specs.Settings.{limits_of}
-use Rattle.qs_machine.specs.Ends.{End, end_made}
+use Rattle.qs_machine.specs.Ends.{End, end_made, wide_end_made}
 use Rattle.qs_machine.specs.Plains.{DifferInPlain}
 use Rattle.qs_machine.specs.Owner.{OpenStep, AcceptStep, WriteStep, FinishStep, ResetStep, StopStep, ReadStep}
 use Rattle.qs_machine.specs.Receiving.{ReceiveStep}
 use Rattle.qs_machine.specs.Making.{MakeStep, MakeAckStep, LoseStep, ClaimStep}
+use Rattle.qs_machine.specs.Filling.{FillStep}
+use Rattle.qs_machine.specs.Alone.{TakeFrameStep, TakeFramesStep, TokenAckedStep, TokenLostStep}
 use Rattle.qs_machine.specs.Raising.{RaiseStep}
 use Rattle.qs_calls.specs.declared.event.Side.{Side}
 use Rattle.qs_calls.specs.declared.event.Side.TheVariants.{A, B}
 use Rattle.qs_calls.specs.declared.event.Act.{Act}
 use Rattle.qs_calls.specs.declared.event.Act.TheVariants as acts
-use Rattle.qs_calls.specs.declared.event.Event.{Event}
 use Rattle.qs_calls.specs.declared.answer.Answer.{Answer}
 use Rattle.qs_calls.specs.declared.answer.Answer.TheVariants as answers
-use Rattle.qs_runs.specs.Logs.{Happening, Did, MadeAck, RaisedLimits, CameWith, History, Log, happened, other, payload}
+use Rattle.qs_runs.specs.Logs.{Happening, Did, MadeAck, FilledIn, AckedToken, LostToken, RaisedLimits, CameWith, CameAlone, History, Log, happened, other, payload, AreFramesOf, HasLanded}
 
 pub record World : Type 0 where
   pub a : End
@@ -37,13 +41,13 @@ both_made (Err fault) b = Err fault
 both_made (Ok a) (Err fault) = Err fault
 both_made (Ok a) (Ok b) = Ok (record { a = a; b = b })
 
--- what comes of making two ends, of which A is the client, each told limits of the other
+-- what comes of making two ends of wide ranges, of which A is the client, each told limits of the other
 abbrev pub begun_with : Settings → Settings → (of_a of_b : PeerLimits) → Result World SetupFault
-begun_with a b of_a of_b = both_made (end_made Client a of_b) (end_made Server b of_a)
+begun_with a b of_a of_b = both_made (wide_end_made Client a of_b) (wide_end_made Server b of_a)
 
--- the same, each told the other's true limits
+-- the same of a script's ranges, each told the other's true limits
 abbrev pub world_made : Settings → Settings → Result World SetupFault
-world_made a b = begun_with a b (limits_of a) (limits_of b)
+world_made a b = both_made (end_made Client a (limits_of b)) (end_made Server b (limits_of a))
 
 -- no limit is above the one that an end of these settings grants from the start
 pub record AreGranted (p : PeerLimits) (s : Settings) : Type 0 where
@@ -93,12 +97,28 @@ ComeWithStep h old s k bytes r new =
     × ReceiveStep (end_of old (other s)) k bytes r (end_of new (other s))
     × (end_of new s ≡ end_of old s)
 
--- one thing happens in a world with this history; an ACK may tell any delay, and limits are taken in that the peer grants
+-- frames are handed in, several together or one alone (RFC 9000, sections 12.4 and 13.1)
+abbrev pub HandedIn : List FrameValue → End → Result Taken TakeFault → End → Type 0
+HandedIn fs old r new = TakeFramesStep old fs r new ⊎ ((f : FrameValue) × (fs ≡ f ∷ []) × TakeFrameStep old f r new)
+
+-- frames of one end's packet come to the other end without it: each whole and as it was put in, any of them, in any order
+abbrev pub ComeAloneStep : History → World → Side → ℕ → List ℕ → Result Taken TakeFault → World → Type 0
+ComeAloneStep h old s k places r new =
+    (fs : List FrameValue) × AreFramesOf h s k places fs
+    × HandedIn fs (end_of old (other s)) r (end_of new (other s))
+    × (end_of new s ≡ end_of old s)
+
+-- one thing happens in a world with this history; an ACK may tell any delay, limits are taken in that the peer grants, and a token is
+-- acknowledged only once its packet landed at the peer
 abbrev pub WorldStep : History → World → Happening → World → Type 0
 WorldStep h old (Did event answer) new = EventStep h old event.end event.act answer new
 WorldStep h old (MadeAck s room r text) new = OwnCall old s new ((delay : ℕ) × MakeAckStep (end_of old s) delay room r text (end_of new s))
+WorldStep h old (FilledIn s want room r text) new = OwnCall old s new (FillStep (end_of old s) want room r text (end_of new s))
+WorldStep h old (AckedToken s token r) new = OwnCall old s new (HasLanded h s token.number × TokenAckedStep (end_of old s) token r (end_of new s))
+WorldStep h old (LostToken s token r) new = OwnCall old s new (TokenLostStep (end_of old s) token r (end_of new s))
 WorldStep h old (RaisedLimits s p r) new = OwnCall old s new (AreGranted p (end_of old (other s)).settings × RaiseStep (end_of old s) p r (end_of new s))
 WorldStep h old (CameWith s k bytes r) new = ComeWithStep h old s k bytes r new
+WorldStep h old (CameAlone s k places r) new = ComeAloneStep h old s k places r new
 
 -- Two ends were made, each told limits that the other grants: the true ones, or lower ones that it remembers from a connection before
 -- (RFC 9000, section 7.4.1).

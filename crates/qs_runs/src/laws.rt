@@ -5,7 +5,7 @@ ghost use Rattle.qs_runs.specs.Agree.{EveryRunAgrees};
 ghost use Rattle.qs_runs.specs.Claims.{ClaimsAlwaysTellNothing};
 ghost use Rattle.qs_runs.specs.Examples.{Examples};
 ghost use Rattle.qs_runs.specs.Exclusions.{Exclusions};
-ghost use Rattle.qs_runs.specs.Laws.{NewEndsMeetInvariant, StepsKeepInvariant, EventRunsAreRuns, PiecesAreAlwaysWritten, ReceivedIsAlwaysBelowSent, StoredIsAlwaysWritten, ReadIsAlwaysWritten, ProcessedWasAlwaysTaken, AckedWasAlwaysProcessed, FinalSizeIsAlwaysDeclared, WhatIsKnownStays, ResetCodeIsAlwaysTheSenders, SentIsAlwaysWithinKnown, KnownIsAlwaysWithinGranted, StreamsAreOpenAtInitiator, OpenedIsAlwaysBelowKnown, ReadIsAPrefix, SpentIsBelowSent, RepeatsSpendNothing, ReceivedIsWhole, FinalSizesAlwaysAgree, NoEndCloses};
+ghost use Rattle.qs_runs.specs.Laws.{NewEndsMeetInvariant, StepsKeepInvariant, EventRunsAreRuns, PiecesAreAlwaysWritten, ReceivedIsAlwaysBelowSent, StoredIsAlwaysWritten, ReadIsAlwaysWritten, ArrivedWasAlwaysTaken, AckedHasAlwaysArrived, FinalSizeIsAlwaysDeclared, WhatIsKnownStays, ResetCodeIsAlwaysTheSenders, SentIsAlwaysWithinKnown, KnownIsAlwaysWithinGranted, StreamsAreOpenAtInitiator, OpenedIsAlwaysBelowKnown, ReadIsAPrefix, SpentIsBelowSent, RepeatsSpendNothing, ReceivedIsWhole, FinalSizesAlwaysAgree, NoEndCloses};
 
 /// Two new ends, each told limits that the other grants, meet the invariant.
 pub fn new_ends_meet_invariant()
@@ -42,14 +42,14 @@ pub fn read_is_written()
     ensures { ReadIsAlwaysWritten }
 {}
 
-/// Every frame on data in a packet that was processed took effect, for good.
-pub fn processed_was_taken()
-    ensures { ProcessedWasAlwaysTaken }
+/// Every frame on data that arrived, in a packet that was processed or without its packet, took effect, for good.
+pub fn arrived_was_taken()
+    ensures { ArrivedWasAlwaysTaken }
 {}
 
-/// What counts as acknowledged stood in a packet that the peer processed.
-pub fn acked_was_processed()
-    ensures { AckedWasAlwaysProcessed }
+/// What counts as acknowledged stood in a frame that arrived at the peer.
+pub fn acked_has_arrived()
+    ensures { AckedHasAlwaysArrived }
 {}
 
 /// A final size that is known is the declared one, which is the sent end, and without a known reset the count written.

@@ -2,6 +2,7 @@ pub mod Lane
 pub mod Chunks
 pub mod Sound
 pub mod Calls
+pub mod Changes
 pub mod Parts
 pub mod Laws
 pub mod Writable

@@ -4,6 +4,7 @@ ghost use Rattle.qs_ranges.specs.Numbers.{MAX_VARINT, MissesRange};
 ghost use Rattle.qs_send.specs.Chunks.{IsDueChunk, WasSent};
 ghost use Rattle.qs_send.specs.Sound.{IsLawful};
 ghost use Rattle.qs_send.specs.declared.parts.Reset.{Reset};
+ghost use Rattle.qs_send.specs.Changes.{stop_changes};
 ghost use Rattle.qs_send.specs.Writable.{is_writable};
 ghost use Rattle.qs_send.specs.Lane.{new_sending, free_room, unacked_from, accepted, refusal, answer_of, reset_refusal, is_whole, state, declared_size, after_write, after_finish, after_reset, after_stopped, after_reset_acked, after_blocked, after_allow, after_sent, after_acked, after_lost};
 
@@ -176,6 +177,19 @@ impl SendHalf {
         ensures { result ≡ self.now.lane.stopped }
     {
         self.stop_code.get()
+    }
+
+    /// Whether a STOP_SENDING would change the half: none came before, or the half can be reset still (RFC 9000, section 3.5).
+    pub fn stop_changes(&self) -> bool
+        ensures { result ≡ stop_changes self.now.lane }
+    {
+        if self.stop_code.get().is_none() {
+            return true;
+        }
+        if self.was_reset() {
+            return false;
+        }
+        !self.is_whole()
     }
 
     /// Takes in that the peer allows the offsets below `limit`. A limit that is no higher changes nothing

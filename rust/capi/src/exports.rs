@@ -5,7 +5,7 @@ use crate::proved::qs_c::acks::GvRange;
 use crate::proved::qs_c::frame::{GvFault, GvFrame};
 use crate::proved::qs_c::handle::Handle;
 use crate::proved::qs_c::lane::GvLane;
-use crate::proved::qs_c::structs::{GvClosing, GvLimits, GvMade, GvSettings};
+use crate::proved::qs_c::structs::{GvClosing, GvFilled, GvLimits, GvMade, GvRequest, GvSettings};
 use crate::shim::alloc::Global;
 use core::slice;
 
@@ -51,6 +51,10 @@ exports! {
     gvp_make_ack(end: &mut Handle, delay: u64, out: *mut u8, room: usize, made: &mut GvMade)
         = (Global, end, delay, write!(out, room), made);
     gvp_declare_lost(end: &mut Handle, number: u64) = (Global, end, number);
+    gvp_take_frame(end: &mut Handle, frame: &GvFrame, bytes: *const u8, len: usize, taken: &mut u32)
+        = (Global, end, frame, read!(bytes, len), taken);
+    gvp_fill(end: &mut Handle, want: &GvRequest, out: *mut u8, room: usize, filled: &mut GvFilled)
+        = (Global, end, want, write!(out, room), filled);
     gvp_token_acked(end: &mut Handle, token: u64) = (Global, end, token);
     gvp_token_lost(end: &mut Handle, token: u64) = (Global, end, token);
     gvp_claim_number(end: &mut Handle, number: &mut u64) = (Global, end, number);
@@ -88,6 +92,7 @@ exports! {
     gvp_open_left(end: &mut Handle, dir: u32, count: &mut u64) = (Global, end, dir, count);
     gvp_granted_streams(end: &mut Handle, dir: u32, count: &mut u64) = (Global, end, dir, count);
     gvp_stored(end: &mut Handle, count: &mut u64) = (Global, end, count);
+    gvp_noted(end: &mut Handle, count: &mut u64) = (Global, end, count);
     gvp_held(end: &mut Handle, receiving: &mut u64, sending: &mut u64) = (Global, end, receiving, sending);
     gvp_granted(end: &mut Handle, count: &mut u64) = (Global, end, count);
     gvp_spent(end: &mut Handle, count: &mut u64) = (Global, end, count);

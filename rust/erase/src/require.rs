@@ -62,6 +62,8 @@ fn operand<'a>(params: &Params<'a>, words: &[&str]) -> Option<(String, Option<&'
     };
     match words {
         ["MAX_VARINT"] => Some(("0x3fff_ffff_ffff_ffff".to_owned(), None)),
+        ["MAX_WINDOW"] => Some(("1 << 30".to_owned(), None)),
+        ["MAX_CONN_WINDOW"] => Some(("1 << 40".to_owned(), None)),
         ["2", "^", exponent] if exponent.parse::<u32>().ok()? < 64 => {
             Some((format!("1 << {exponent}"), None))
         }

@@ -1,7 +1,7 @@
 //! The layer beneath, as small as it can be: datagrams over UDP without protection, a fixed window, losses by packet
 //! threshold and by time (RFC 9002, section 6), and a network that drops, repeats and reorders as it is told.
 
-use gotsavena::{AckRanges, Endpoint, Frame, LostFault, ReceiveFault, frames};
+use gotsavena::{Endpoint, Frame, LostFault, ReceiveFault, frames};
 use std::collections::BTreeMap;
 use std::error::Error;
 use std::io::{self, ErrorKind};
@@ -92,8 +92,10 @@ impl Link {
             let Some((number, payload)) = datagram[..len].split_first_chunk() else {
                 continue;
             };
-            match self.end.receive(u64::from_be_bytes(*number), payload) {
-                Ok(_) | Err(ReceiveFault::Invalid) => self.note_acks(payload)?,
+            let (number, mut acked) = (u64::from_be_bytes(*number), Vec::new());
+            let told = |number| acked.push(number);
+            match self.end.receive_telling(number, payload, told) {
+                Ok(_) | Err(ReceiveFault::Invalid) => self.note_acked(&acked)?,
                 Err(ReceiveFault::Closing(closing)) => return Err(closing.into()),
                 Err(fault) => return Err(fault.into()),
             }
@@ -125,29 +127,22 @@ impl Link {
         Ok(())
     }
 
-    // What an ACK names is in flight no more, and what was sent long before is lost.
-    fn note_acks(&mut self, payload: &[u8]) -> Fallible<()> {
-        for placed in frames(payload).flatten() {
-            let Frame::Ack {
-                largest, ranges, ..
-            } = placed.frame
-            else {
-                continue;
-            };
-            if let Some(at) = self.in_flight.get(&largest) {
-                self.round_trip = (7 * self.round_trip + at.elapsed()) / 8;
+    // What is newly acknowledged is in flight no more, and what was sent long before is lost.
+    fn note_acked(&mut self, acked: &[u64]) -> Fallible<()> {
+        let Some(&largest) = acked.iter().max() else {
+            return Ok(());
+        };
+        if let Some(at) = self.in_flight.get(&largest) {
+            self.round_trip = (7 * self.round_trip + at.elapsed()) / 8;
+        }
+        for number in acked {
+            self.in_flight.remove(number);
+        }
+        while let Some((&number, _)) = self.in_flight.first_key_value() {
+            if number + PACKET_THRESHOLD > largest {
+                break;
             }
-            for (low, high) in AckRanges::new(largest, ranges).into_iter().flatten() {
-                while let Some((&number, _)) = self.in_flight.range(low..=high).next() {
-                    self.in_flight.remove(&number);
-                }
-            }
-            while let Some((&number, _)) = self.in_flight.first_key_value() {
-                if number + PACKET_THRESHOLD > largest {
-                    break;
-                }
-                self.lose(number)?;
-            }
+            self.lose(number)?;
         }
         Ok(())
     }

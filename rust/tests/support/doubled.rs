@@ -1,7 +1,7 @@
 //! An end beside its double, what a run by frames knows of a stream, and what it asks to be filled in.
 
 use gotsavena::{
-    Dir, Endpoint, Fill, Filled, Frame, Read, Role, Settings, StreamId, Token, frames,
+    Dir, Endpoint, Fill, Filled, Frame, Read, Role, Settings, StreamId, Taken, Token, frames,
 };
 use std::fmt::Debug;
 
@@ -39,6 +39,15 @@ impl Doubled {
         let answer = call(&mut self.end);
         self.compare(streams);
         answer
+    }
+
+    /// A frame is handed in. The double isn't handed one that is said to change nothing.
+    pub fn take(&mut self, frame: &Frame<'_>) {
+        let taken = self.end.take_frame(frame).expect("open, and lawful");
+        assert_ne!(taken, Taken::NotOurs, "{frame:?}");
+        if taken == Taken::Took {
+            assert_eq!(self.double.take_frame(frame), Ok(taken), "the double");
+        }
     }
 
     pub fn compare(&self, streams: &[StreamId]) {

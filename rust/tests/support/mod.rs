@@ -64,6 +64,17 @@ pub fn unhex(text: &str) -> Vec<u8> {
         .collect()
 }
 
+// The packets that are outstanding, in order.
+fn outstanding(end: &Endpoint) -> Vec<u64> {
+    let mut next = end.next_outstanding(0);
+    let numbers = std::iter::from_fn(|| {
+        let number = next?;
+        next = end.next_outstanding(number + 1);
+        Some(number)
+    });
+    numbers.collect()
+}
+
 /// Two ends, A the client and B the server, and the payloads that they made.
 pub struct Player {
     pub ends: [Endpoint; 2],
@@ -128,7 +139,7 @@ impl Player {
             },
             "deliver" => {
                 let payload = self.made[side][number(2) as usize].clone();
-                told_received(self.call(1 - side, |e| e.receive(number(2), &payload)))
+                self.deliver(1 - side, number(2), &payload)
             }
             word => panic!("no event: {word}"),
         }
@@ -139,6 +150,20 @@ impl Player {
         let answer = call(&mut self.ends[side]);
         (self.around)(false);
         answer
+    }
+
+    // What was told as it was newly acknowledged was outstanding and isn't any more, whatever came of the payload.
+    fn deliver(&mut self, side: usize, number: u64, payload: &[u8]) -> String {
+        let before = outstanding(&self.ends[side]);
+        let mut told = Vec::with_capacity(before.len());
+        let received = self.call(side, |end| {
+            end.receive_telling(number, payload, |number| told.push(number))
+        });
+        let after = outstanding(&self.ends[side]);
+        let gone = before.iter().filter(|number| !after.contains(number));
+        told.sort_unstable();
+        assert!(told.iter().eq(gone), "{told:?} of {before:?}");
+        told_received(received)
     }
 
     fn make(&mut self, side: usize, room: usize) -> String {

@@ -1,15 +1,20 @@
 //! Frames are taken in without their packet.
-ghost use Rattle.std.specs.Prelude.{◌≡◌, ◌<◌, ◌^◌, true, map, option_map};
+ghost use Rattle.std.specs.Prelude.{◌≡◌, ◌<◌, ◌^◌, None, true, map, option_map};
 ghost use Rattle.qs_wire.specs.Layout.{view};
 ghost use Rattle.qs_machine.specs.Ends.{closes};
 ghost use Rattle.qs_machine.specs.Seen.{seen};
 ghost use Rattle.qs_machine.specs.Receiving.{closing_at};
-ghost use Rattle.qs_machine.specs.Alone.{is_ours, alone, closed_fault, TakesOne, TakesEach, TakeFrameStep, TakeFramesStep};
+ghost use Rattle.qs_machine.specs.Verdicts.{verdict};
+ghost use Rattle.qs_machine.specs.Changes.{is_yet_to_open, item_changes, changes};
+ghost use Rattle.qs_conn.specs.Seen.{view_seen, SeenFits};
+ghost use Rattle.qs_machine.specs.Alone.{is_ours, alone, closed_fault, of_both, TakesOne, TakesEach, TakeFrameStep, TakeFramesStep};
 
-use super::Endpoint;
-use crate::seen::{has_text, is_ours, seen, type_number};
+use super::{Endpoint, is_uni};
+use crate::newly_told::Silent;
+use crate::seen::{SeenFrame, has_text, is_ours, seen, type_number};
 use qs_calls::{Closed, Closing, TakeFault, Taken};
-use qs_wire::Frame;
+use qs_send::Item;
+use qs_wire::{Frame, StreamId};
 
 // A frame has values that no text has (RFC 9000, section 20.1).
 const FRAME_ENCODING_ERROR: u64 = 0x07;
@@ -19,15 +24,16 @@ impl Endpoint {
     /// Frames of streams and of flow control take effect as in a payload, and then the limits move; the stack acknowledges their packet
     /// to the peer only after each of them was taken.
     ///
-    /// Answers `Took`, or `NotOurs` for a frame of any other kind, which changes nothing: an ACK (its packets are told by `acked`), a
-    /// CONNECTION_CLOSE, PADDING and the like.
+    /// Answers `Took` where that changed something, and `Unchanged` where it didn't: what the frame carries came before, or it raises
+    /// nothing. A stack counts these against a peer that only makes work. `NotOurs` answers a frame of any other kind, which changes
+    /// nothing: an ACK (its packets are told by `acked`), a CONNECTION_CLOSE, PADDING and the like.
     ///
     /// Refused: `Closing` where the frame breaks a rule (sections 4, 19 and 20.1), or has values that no text has, FRAME_ENCODING_ERROR;
     /// the end is closed from now on. It names the type of the frame's canonical text and place 0. `NoMemory` where memory was refused:
     /// nothing changed, and the frame may come again. An end that is closed says so again: `Closing`, or `PeerClosed` with the peer's code.
     ///
     /// ```text
-    /// match end.take_frame(&frame)? { Taken::Took => {} Taken::NotOurs => stack.take(&frame)? }
+    /// match end.take_frame(&frame)? { Taken::Took => {} Taken::Unchanged => idle += 1, Taken::NotOurs => stack.take(&frame)? }
     /// ```
     #[tactic(auto, using(crate::proofs::Alones::said_again, crate::proofs::Alones::passed_by, crate::proofs::Alones::is_taken))]
     pub fn take_frame(&mut self, frame: &Frame<'_>) -> Result<Taken, TakeFault>
@@ -47,7 +53,8 @@ impl Endpoint {
     /// Takes in the frames of one packet, as `take_frame` each of them, one after the other, but that the limits move once, as this call
     /// ends (RFC 9000, sections 4.1 and 12.4).
     ///
-    /// Answers `Took`, or `NotOurs` where all frames are of other kinds. Refused as `take_frame` is, by the first frame that it refuses:
+    /// Answers `Took` where one of them changed something, else `Unchanged` where one was taken, and `NotOurs` where all are of other
+    /// kinds. Refused as `take_frame` is, by the first frame that it refuses:
     /// the frames before it took effect. After `NoMemory` the same frames may come again.
     ///
     /// ```text
@@ -72,15 +79,14 @@ impl Endpoint {
         let mut taken = Taken::NotOurs;
         for frame in frames {
             if is_ours(frame) {
-                self.take_one(frame)?;
-                taken = Taken::Took;
+                taken = of_both(taken, self.take_one(frame)?);
             }
         }
         Ok(taken)
     }
 
     // A frame takes effect, or finds no memory, or this end closes for it.
-    #[tactic(auto, using(crate::proofs::Refusals::code_fits))]
+    #[tactic(auto, using(crate::proofs::Refusals::code_fits, crate::proofs::Alones::took_some, crate::proofs::Alones::took_none))]
     fn take_one(&mut self, frame: &Frame<'_>) -> Result<Taken, TakeFault>
         requires { is_ours (seen (view frame.now)) ≡ true }
         ensures { TakesOne self.old (view frame.now) result self.new }
@@ -92,10 +98,69 @@ impl Endpoint {
         if let Some(code) = self.verdict(&seen) {
             return Err(TakeFault::Closing(self.close_alone(frame, code)));
         }
-        if let Err(_refused) = self.on_frame(&seen) {
+        if !self.changes(&seen) {
+            return Ok(Taken::Unchanged);
+        }
+        if let Err(_refused) = self.on_frame(&seen, &mut Silent) {
             return Err(TakeFault::NoMemory);
         }
         Ok(Taken::Took)
+    }
+
+    // Whether a frame without a fault changes this end.
+    fn changes(&self, seen: &SeenFrame<'_>) -> bool
+        requires { SeenFits seen.now }
+        ensures { result ≡ changes self.now (view_seen seen.now) }
+    {
+        match *seen {
+            SeenFrame::Stream {
+                stream,
+                offset,
+                bytes,
+                fin,
+            } => {
+                if self.is_yet_to_open(stream) {
+                    return true;
+                }
+                let len = bytes.len() as u64;
+                self.core.recvs.stream_changes(stream, offset, len, fin)
+            }
+            SeenFrame::Control(item) => self.item_changes(item),
+            SeenFrame::Ack { .. } | SeenFrame::Close(_) | SeenFrame::Plain { .. } => false,
+        }
+    }
+
+    fn item_changes(&self, item: Item) -> bool
+        ensures { result ≡ item_changes self.now item }
+    {
+        match item {
+            Item::MaxData { maximum } => self.core.limits.known_data < maximum,
+            Item::MaxStreams { dir, count } => self.core.limits.known_streams.of(dir) < count,
+            Item::MaxStreamData { stream, maximum } => {
+                self.is_yet_to_open(stream) || self.core.outbox.limit_rises(stream, maximum)
+            }
+            Item::ResetStream { stream, .. } => {
+                self.is_yet_to_open(stream) || self.core.recvs.reset_changes(stream)
+            }
+            Item::StopSending { stream, .. } => {
+                self.is_yet_to_open(stream) || self.core.outbox.stop_changes(stream)
+            }
+            Item::StreamDataBlocked { stream, .. } => self.is_yet_to_open(stream),
+            Item::DataBlocked { .. } | Item::StreamsBlocked { .. } => false,
+        }
+    }
+
+    // Whether a stream is the peer's, and a half of it isn't open.
+    fn is_yet_to_open(&self, stream: StreamId) -> bool
+        ensures { result ≡ is_yet_to_open self.now stream }
+    {
+        if self.is_own(stream) {
+            return false;
+        }
+        if !self.core.recvs.is_open(stream) {
+            return true;
+        }
+        !is_uni(stream) && !self.core.outbox.is_open(stream)
     }
 
     // This end closes for a frame that came alone.
@@ -123,5 +188,17 @@ impl Endpoint {
             Some(Closed::ByPeer(code)) => Some(TakeFault::PeerClosed(code)),
             None => None,
         }
+    }
+}
+
+// What came of two frames.
+fn of_both(one: Taken, later: Taken) -> Taken
+    ensures { result ≡ of_both one later }
+{
+    match (one, later) {
+        (Taken::Took, _) => Taken::Took,
+        (Taken::Unchanged, Taken::NotOurs) => Taken::Unchanged,
+        (Taken::Unchanged, later) => later,
+        (Taken::NotOurs, later) => later,
     }
 }

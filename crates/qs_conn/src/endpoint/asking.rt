@@ -1,6 +1,6 @@
 //! What an end's owner, and the layer beneath, may ask of it. Nothing changes.
 ghost use Rattle.std.specs.Prelude.{◌≡◌, ◌↔◌, IsTrue};
-ghost use Rattle.qs_machine.specs.Asking.{GoesBesideAck, peer_closing, streams_left, open_left, is_blocked, credit_left, room, unsent, acked_below, stopped_with, IsNextOutstanding};
+ghost use Rattle.qs_machine.specs.Asking.{GoesBesideAck, all_noted, peer_closing, streams_left, open_left, is_blocked, credit_left, room, unsent, acked_below, stopped_with, IsNextOutstanding};
 
 use super::Endpoint;
 use qs_calls::Closed;
@@ -26,6 +26,16 @@ impl Endpoint {
             Some(Closed::ByPeer(code)) => Some(code),
             _ => None,
         }
+    }
+
+    /// How many runs the offsets make that came, on all streams whose end their reader wasn't told and that weren't reset: one for each on
+    /// which some came, and one more for each gap between them. Each run beyond two of a stream takes memory, also of a stream that was
+    /// stopped, where credit bounds them not: as this number gets too great, the layer beneath closes the connection. It takes constant time.
+    pub fn noted(&self) -> u64
+        ensures { result ≡ all_noted self.now }
+    {
+        let _granted = self.core.limits.granted;
+        self.core.recvs.tally().noted
     }
 
     /// How many streams of a direction the peer may open in all time to come: the lifetime's count without those that it opened. Where

@@ -7,10 +7,9 @@ use super::Endpoint;
 use crate::ack_names::next_named;
 
 impl Endpoint {
-    /// The least number at or above `from` of a packet that is outstanding and that an ACK of the payload names: `receive` of that payload
-    /// takes it as acknowledged (RFC 9000, section 13.3). `None` where there is none. Asked before `receive`, and then again from the
-    /// number after each answer on, it tells all that the payload newly acknowledges, from which congestion control goes on (RFC 9002,
-    /// section 7).
+    /// The least number at or above `from` of a packet that is outstanding and that an ACK of the payload names, by a reading of the whole
+    /// payload for each answer: `receive_telling` tells all of them in one. `receive` of that payload takes it as acknowledged (RFC 9000,
+    /// section 13.3). `None` where there is none. It is asked before `receive`, which may end earlier.
     ///
     /// The reading ends where that of `receive` does at the latest: at the first bytes that are no frame, and at a CONNECTION_CLOSE. It
     /// asks nothing else of the payload: not whether its number was processed before, nor whether a frame breaks a rule.

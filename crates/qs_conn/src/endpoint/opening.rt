@@ -1,23 +1,19 @@
 //! Streams are opened, and given out.
 ghost use Rattle.std.specs.Prelude.{◌≡◌, ◌≤◌, ◌<◌, ◌^◌, length, max, not, ◌&&◌, if◌then◌else◌, true, false, OnOk, OnErr};
 ghost use Rattle.qs_ranges.specs.Numbers.{MAX_VARINT};
-ghost use Rattle.qs_recv.specs.Lane.{new_lane as new_recv_lane};
+ghost use Rattle.qs_recv.specs.Lane.{MAX_WINDOW, new_lane as new_recv_lane};
 ghost use Rattle.qs_send.specs.Lane.{new_lane as new_send_lane};
 ghost use Rattle.qs_machine.specs.Tables.{open_to};
-ghost use Rattle.qs_machine.specs.Ends.{opens, opened_by_peer, window_by};
-ghost use Rattle.qs_wire.specs.declared.stream_id.Role.{Role};
-ghost use Rattle.qs_calls.specs.declared.settings.Settings.{Settings};
-ghost use Rattle.qs_conn.specs.Untold.{AreTold};
+ghost use Rattle.qs_machine.specs.Ends.{opens, opened_by_peer};
 ghost use Rattle.qs_machine.specs.Credit.{settle};
 ghost use Rattle.qs_machine.specs.Due.{known_count};
 ghost use Rattle.qs_machine.specs.Memory.{IsYetToOpen};
-ghost use Rattle.qs_machine.specs.Outgoing.{Outgoing, with_sends};
+ghost use Rattle.qs_machine.specs.Outgoing.{with_sends};
 ghost use Rattle.qs_machine.specs.Owner.{OpenStep, AcceptStep, AcceptOfStep, AcceptOpenOf, own_type, peer_type, opened_count, with_wanted};
 
 use super::{Endpoint, is_uni, role_bit};
 use crate::outbox::Outbox;
 use crate::recv_tables::RecvTables;
-use crate::untold::Untold;
 use qs_calls::OpenFault;
 use qs_ranges::NoMemory;
 use qs_wire::{Dir, StreamId};
@@ -149,6 +145,8 @@ impl Endpoint {
         self.core.outbox.are_of_open();
         let before = self.core.outbox.count(stream);
         self.core.outbox.are_of_open();
+        self.core.untold_recvs.open_to(stream)?;
+        self.core.untold_sends.open_to(stream)?;
         open_sends(
             &mut self.core.outbox,
             both(uni, !own),
@@ -156,13 +154,7 @@ impl Endpoint {
             buffer,
             stream,
         )?;
-        if let Err(refused) = open_recvs(
-            &mut self.core.recvs,
-            &mut self.core.untold,
-            both(uni, own),
-            window,
-            stream,
-        ) {
+        if let Err(refused) = open_recvs(&mut self.core.recvs, both(uni, own), window, stream) {
             self.core.outbox.close_to(stream, before);
             self.is_settled = false;
             return Err(refused);
@@ -184,7 +176,8 @@ impl Endpoint {
             sends,
             receives,
         )?;
-        self.core.untold.reserve(stream)
+        self.core.untold_recvs.reserve(stream)?;
+        self.core.untold_sends.reserve(stream)
     }
 
     // That another stream was wanted is noted.
@@ -254,24 +247,20 @@ fn open_sends(
     outbox.open_to(limit, buffer, stream)
 }
 
-#[tactic(auto, using(crate::proofs::Untolds::told_same))]
 fn open_recvs(
     recvs: &mut RecvTables,
-    untold: &mut Untold,
     absent: bool,
     window: u64,
     stream: StreamId,
 ) -> Result<(), NoMemory>
     requires some { 1 ≤ window }
-    requires small { window ≤ 2 ^ 20 }
+    requires small { window ≤ MAX_WINDOW }
     ensures ok { OnOk result (recvs.new ≡ (if absent then recvs.old else open_to recvs.old stream (λ m. new_recv_lane window))) }
     ensures err { OnErr result (recvs.new ≡ recvs.old) }
-    ensures told { (role : Role) (s : Settings) (o : Outgoing) → window ≡ window_by role s stream → AreTold role s recvs.old o.outstanding o.acked untold.old → AreTold role s recvs.new o.outstanding o.acked untold.new }
 {
     if absent {
         return Ok(());
     }
-    untold.open_to(stream)?;
     recvs.open_to(window, stream)
 }
 

@@ -1,11 +1,15 @@
 //! What an end's owner does with its streams.
-ghost use Rattle.std.specs.Prelude.{◌≡◌, ◌<◌, ◌^◌, ◌++◌, List, length, drop, ℕ};
-ghost use Rattle.qs_machine.specs.Owner.{WriteStep, FinishStep, ResetStep, StopStep, ReadStep, no_half, use_fault};
+ghost use Rattle.std.specs.Prelude.{◌≡◌, ◌<◌, ◌^◌, ◌++◌, List, length, drop, ℕ, is_some, true};
+ghost use Rattle.qs_machine.specs.Tables.{lookup};
+ghost use Rattle.qs_recv.specs.Lane.{read_answer, after_read};
+ghost use Rattle.qs_machine.specs.Ends.{on_recv};
+ghost use Rattle.qs_machine.specs.Verdicts.{or_new};
+ghost use Rattle.qs_machine.specs.Owner.{WriteStep, FinishStep, ResetStep, StopStep, ReadStep, ConsumeStep, is_end, no_half, use_fault};
 ghost use Rattle.qs_machine.specs.Reports.{lane_report, own_closing};
 ghost use Rattle.qs_conn.specs.Layers.{no_sender, no_receiver};
 
 use super::Endpoint;
-use qs_calls::{Closed, Closing, LaneReport, UseFault};
+use qs_calls::{Closed, Closing, Consumed, LaneReport, UseFault};
 use qs_recv::Read;
 use qs_send::SendFault;
 use qs_wire::StreamId;
@@ -24,6 +28,9 @@ impl Endpoint {
         }
         match self.core.outbox.write(stream, bytes) {
             Ok(count) => {
+                self.core
+                    .untold_sends
+                    .look_blocked(&self.core.outbox, stream);
                 self.settle();
                 Ok(count)
             }
@@ -64,6 +71,7 @@ impl Endpoint {
         }
         match self.core.outbox.reset(stream, code) {
             Ok(()) => {
+                self.core.untold_sends.set(stream, true);
                 self.settle();
                 Ok(())
             }
@@ -95,6 +103,46 @@ impl Endpoint {
         Ok(answer)
     }
 
+    /// Takes the bytes that are next, at most so many, as `read` into a slice of that size does, and copies none. Where that reaches the
+    /// final size the end counts as told, so that nothing is left to ask of the stream (RFC 9000, sections 2.2, 3.2 and 4.5).
+    ///
+    /// Answers what such a read tells, and whether the end is told.
+    ///
+    /// Refused as `read` is.
+    ///
+    /// ```text
+    /// let consumed = end.consume(stream, 100)?;
+    /// ```
+    #[tactic(auto, using(crate::proofs::OwnerSteps::consume_ok, crate::proofs::OwnerSteps::consume_refused, crate::proofs::OwnerSteps::receiver_open, crate::proofs::OwnerSteps::receiver_open_still))]
+    pub fn consume(&mut self, stream: StreamId, most: usize) -> Result<Consumed, UseFault>
+        ensures { ConsumeStep self.old stream most result self.new }
+    {
+        if let Some(fault) = self.no_receiver(stream) {
+            return Err(fault);
+        }
+        let read = self.skip(stream, most);
+        let next = self.skip(stream, 0);
+        self.settle();
+        Ok(Consumed {
+            read,
+            at_end: is_end(next),
+        })
+    }
+
+    // Takes the bytes that are next at an open stream, and moves no limit yet.
+    fn skip(&mut self, stream: StreamId, most: usize) -> Read
+        requires { is_some (lookup self.old.recvs stream) ≡ true }
+        ensures answer { result ≡ read_answer (or_new (lookup self.old.recvs stream) 0) most }
+        ensures after { self.new ≡ on_recv stream (λ l. after_read l most) self.old }
+    {
+        let was = self.core.is_over(stream);
+        let answer = self.core.recvs.skip(stream, most);
+        let is = self.core.is_over(stream);
+        self.core.ended.recount(stream, was, is);
+        self.is_settled = false;
+        answer
+    }
+
     /// Throws the stream's bytes away, those stored and those still to come (RFC 9000, section 3.5). The first code
     /// stays; the application's codes lie below 2^62.
     ///
@@ -108,7 +156,7 @@ impl Endpoint {
             return Err(fault);
         }
         self.core.recvs.stop(stream, code);
-        self.core.untold.set(stream, true);
+        self.core.untold_recvs.set(stream, true);
         self.is_settled = false;
         self.settle();
         Ok(())
@@ -162,6 +210,12 @@ impl Endpoint {
             Some(no_half(self.core.outbox.is_open(stream)))
         }
     }
+}
+
+fn is_end(read: Read) -> bool
+    ensures { result ≡ is_end read }
+{
+    matches!(read, Read::End)
 }
 
 fn no_half(other: bool) -> UseFault

@@ -1,13 +1,19 @@
 //! A payload is taken in.
 ghost use Rattle.std.specs.Prelude.{◌≡◌, ◌<◌, ◌^◌};
+ghost use Rattle.std.specs.List.{FoldsTo};
 ghost use Rattle.qs_wire.specs.Layout.{view};
 ghost use Rattle.qs_wire.specs.Grammar.{Fits};
 ghost use Rattle.qs_wire.specs.Reading.{view_placed};
+ghost use Rattle.qs_send.specs.Records.{NoneEmpty};
 ghost use Rattle.qs_machine.specs.Ends.{closes};
+ghost use Rattle.qs_machine.specs.Newly.{newly_acked};
+ghost use Rattle.qs_machine.specs.Seen.{seen};
 ghost use Rattle.qs_machine.specs.Receiving.{ReceiveStep, TakesPayload, AtEnd, closing_at, closing_of};
 ghost use Rattle.qs_conn.specs.Layers.{TakesFrame};
+ghost use Rattle.qs_conn.specs.NewlyTold.{told_of};
 
 use super::Endpoint;
+use crate::newly_told::{Silent, Told};
 use crate::seen::{SeenFrame, asks_ack, seen};
 use qs_calls::{Closed, Closing, Received};
 use qs_wire::{Frames, Placed, WireFault};
@@ -37,10 +43,29 @@ impl Endpoint {
     /// `close_payload` tells the peer so (section 10.2).
     ///
     /// An end that is closed answers as it did when it closed, and nothing changes.
-    #[tactic(auto, using(crate::proofs::Payloads::is_received))]
     pub fn receive(&mut self, number: u64, payload: &[u8]) -> Result<Received, Closing>
         requires { number < 2 ^ 62 }
         ensures { ReceiveStep self.old number payload.now result self.new }
+    {
+        self.receive_telling(number, payload, &mut Silent)
+    }
+
+    /// As `receive`, and `told` is told each packet that the payload newly acknowledges, once: one that was outstanding, that an ACK of
+    /// the payload names, and that isn't outstanding any more (RFC 9000, section 13.3). They are told in the order of the ACKs, of each
+    /// ACK the highest number first, as soon as the packet's last piece is acknowledged. Congestion control goes on from there (RFC 9002,
+    /// section 7).
+    ///
+    /// After `NoMemory` none was told that is outstanding still: the same payload may come again, and then the others are told.
+    #[tactic(auto, using(crate::proofs::Payloads::is_received, crate::proofs::TurnsTold::nothing_told))]
+    pub fn receive_telling<T: Told>(
+        &mut self,
+        number: u64,
+        payload: &[u8],
+        told: &mut T,
+    ) -> Result<Received, Closing>
+        requires { number < 2 ^ 62 }
+        ensures step { ReceiveStep self.old number payload.now result self.new }
+        ensures told { FoldsTo T.tells told.old (newly_acked self.old payload.now self.new) told.new }
     {
         match self.closed {
             Some(Closed::ByUs(closing)) => return Err(closing),
@@ -53,21 +78,28 @@ impl Endpoint {
         if self.done.has(number) {
             return Ok(Received::Duplicate);
         }
-        let taken = self.take_payload(number, payload);
+        let taken = self.take_payload(number, payload, told);
         self.settle();
         taken
     }
 
     // The frames of a payload take effect, one after the other, as far as they may.
-    fn take_payload(&mut self, number: u64, payload: &[u8]) -> Result<Received, Closing>
+    fn take_payload<T: Told>(
+        &mut self,
+        number: u64,
+        payload: &[u8],
+        told: &mut T,
+    ) -> Result<Received, Closing>
         requires { number < 2 ^ 62 }
-        ensures { TakesPayload number payload.now self.old result self.new }
+        ensures step { TakesPayload number payload.now self.old result self.new }
+        ensures told { FoldsTo T.tells told.old (newly_acked self.old payload.now self.new) told.new }
     {
+        self.none_is_empty();
         let mut frames = Frames::new(payload);
         let mut asks = false;
         loop {
             match frames.next() {
-                Ok(Some(placed)) => match self.take_placed(&placed) {
+                Ok(Some(placed)) => match self.take_placed(&placed, told) {
                     Progress::GoesOn(asks_ack) => asks |= asks_ack,
                     Progress::Ends(result) => return result,
                 },
@@ -77,12 +109,20 @@ impl Endpoint {
         }
     }
 
+    // Each outstanding packet has a piece. It does nothing: a caller learns the clause.
+    fn none_is_empty(&self)
+        ensures { NoneEmpty self.now.outstanding }
+    {
+        self.core.outbox.none_is_empty();
+    }
+
     // One frame takes effect, or the processing ends with it.
     #[tactic(auto, using(crate::proofs::Refusals::code_fits, crate::proofs::Refusals::runs_out))]
-    fn take_placed(&mut self, placed: &Placed<'_>) -> Progress
+    fn take_placed<T: Told>(&mut self, placed: &Placed<'_>, told: &mut T) -> Progress
         requires fits { Fits (view placed.now.frame) }
         requires typed { placed.now.frame_type < 2 ^ 62 }
-        ensures { TakesFrame (view_placed placed.now) self.old result self.new }
+        ensures step { TakesFrame (view_placed placed.now) self.old result self.new }
+        ensures told { FoldsTo T.tells told.old (told_of (seen (view placed.now.frame)) self.old self.new) told.new }
     {
         let seen = seen(&placed.frame);
         if let SeenFrame::Close(code) = seen {
@@ -92,13 +132,14 @@ impl Endpoint {
         if let Some(code) = self.verdict(&seen) {
             return Progress::Ends(Err(self.close_at(placed, code)));
         }
-        if let Err(_refused) = self.on_frame(&seen) {
+        if let Err(_refused) = self.on_frame(&seen, told) {
             return Progress::Ends(Ok(Received::NoMemory));
         }
         Progress::GoesOn(asks_ack(&seen))
     }
 
     // No frame is left.
+    #[inline(always)]
     fn record_all(&mut self, number: u64, asks: bool) -> Received
         requires { number < 2 ^ 62 }
         ensures { AtEnd number asks None self.old (Ok result) self.new }

@@ -12,6 +12,7 @@ const MAX_RUNS: usize = 32;
 
 impl Endpoint {
     // A packet's number is kept once all its frames took effect (RFC 9000, section 13.2.3); or nothing changes.
+    #[inline(always)]
     pub(super) fn record(&mut self, number: u64, asks: bool) -> Result<(), NoMemory>
         requires { number < 2 ^ 62 }
         ensures ok { OnOk result (self.new ≡ recorded number asks self.old) }

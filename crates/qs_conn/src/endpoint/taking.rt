@@ -1,5 +1,6 @@
 //! A frame without a fault takes effect.
 ghost use Rattle.std.specs.Prelude.{◌≡◌, ◌+◌, ◌≤◌, ◌<◌, ◌^◌, length, None, OnOk, OnErr};
+ghost use Rattle.std.specs.List.{FoldsTo};
 ghost use Rattle.qs_ranges.specs.Numbers.{MAX_VARINT};
 ghost use Rattle.qs_wire.specs.Varint.{numbers_of};
 ghost use Rattle.qs_wire.specs.Layout.{taken, ack_ranges_of};
@@ -9,9 +10,11 @@ ghost use Rattle.qs_machine.specs.Verdicts.{state_fault_out, verdict};
 ghost use Rattle.qs_machine.specs.FrameStep.{named, acks, item_taken, frame_taken};
 ghost use Rattle.qs_machine.specs.Memory.{IsYetToOpen, MayRunOut};
 ghost use Rattle.qs_machine.specs.Receiving.{RunsOut};
+ghost use Rattle.qs_conn.specs.NewlyTold.{told_of};
 ghost use Rattle.qs_conn.specs.Seen.{view_seen, SeenFits};
 
 use super::Endpoint;
+use crate::newly_told::Told;
 use crate::seen::SeenFrame;
 use qs_ranges::NoMemory;
 use qs_send::Item;
@@ -21,14 +24,19 @@ impl Endpoint {
     // A frame takes effect, or finds no memory and changes nothing; of an ACK some packets may be acknowledged then.
     #[tactic(auto, unfolding(qs_machine::specs::Verdicts::verdict, qs_machine::specs::FrameStep::frame_taken))]
     #[inline(always)]
-    pub(super) fn on_frame(&mut self, seen: &SeenFrame<'_>) -> Result<(), NoMemory>
+    pub(super) fn on_frame<T: Told>(
+        &mut self,
+        seen: &SeenFrame<'_>,
+        told: &mut T,
+    ) -> Result<(), NoMemory>
         requires fits { SeenFits seen.now }
         requires passed { verdict self.old (view_seen seen.now) ≡ None }
         ensures ok { OnOk result (self.new ≡ frame_taken (view_seen seen.now) self.old) }
         ensures err { OnErr result (RunsOut self.old (view_seen seen.now) self.new) }
+        ensures told { FoldsTo T.tells told.old (told_of (view_seen seen.now) self.old self.new) told.new }
     {
         match *seen {
-            SeenFrame::Ack { largest, ranges } => self.on_ack(largest, ranges),
+            SeenFrame::Ack { largest, ranges } => self.on_ack(largest, ranges, told),
             SeenFrame::Stream {
                 stream,
                 offset,
@@ -62,14 +70,15 @@ impl Endpoint {
     }
 
     // The packets that an ACK names are acknowledged, also those that were declared lost (RFC 9000, sections 13.2.1 and 13.3).
-    fn on_ack(&mut self, largest: u64, ranges: &[u8]) -> Result<(), NoMemory>
+    fn on_ack<T: Told>(&mut self, largest: u64, ranges: &[u8], told: &mut T) -> Result<(), NoMemory>
         requires small { largest < 2 ^ 62 }
         requires above { taken (numbers_of ranges.now) ≤ largest + 1 }
         ensures ok { OnOk result (self.new ≡ acks (named self.old (ack_ranges_of largest (numbers_of ranges.now))) self.old) }
         ensures err { OnErr result (RunsOut self.old (Ack largest (ack_ranges_of largest (numbers_of ranges.now))) self.new) }
+        ensures told { FoldsTo T.tells told.old (told_of (Ack largest (ack_ranges_of largest (numbers_of ranges.now))) self.old self.new) told.new }
     {
         let before = self.core.ended;
-        let taken = self.core.ack(largest, ranges);
+        let taken = self.core.ack(largest, ranges, told);
         self.is_settled &= self.core.ended.is_same(before);
         taken
     }
@@ -93,6 +102,7 @@ impl Endpoint {
         ensures yet { OnErr result (IsYetToOpen self.old stream) }
     {
         self.open_by_peer(stream)?;
+        self.core.outbox.has_sending(stream);
         self.core.outbox.allow(stream, maximum);
         Ok(())
     }
@@ -108,6 +118,7 @@ impl Endpoint {
     {
         self.open_by_peer(stream)?;
         self.core.outbox.stopped(stream, code);
+        self.core.untold_sends.set(stream, true);
         Ok(())
     }
 

@@ -1,5 +1,5 @@
 //! Packets are acknowledged.
-ghost use Rattle.std.specs.Prelude.{◌≡◌, ◌<◌, ◌^◌, Some, OnOk, OnErr};
+ghost use Rattle.std.specs.Prelude.{◌≡◌, ◌<◌, ◌^◌, false, Some, OnOk, OnErr};
 ghost use Rattle.std.specs.FinMap as fmap;
 ghost use Rattle.qs_wire.specs.Varint.{numbers_of};
 ghost use Rattle.qs_wire.specs.Layout.{ack_ranges_of};
@@ -7,10 +7,13 @@ ghost use Rattle.qs_machine.specs.Memory.{PieceMayRunOut};
 ghost use Rattle.qs_machine.specs.Outgoing.{first_piece, first_acked_out, acked_at};
 ghost use Rattle.qs_conn.specs.Middle.{IsAtRest, KeepsStreams};
 ghost use Rattle.qs_conn.specs.Ended.{half_of};
+ghost use Rattle.qs_conn.specs.NewlyTold.{TellsNamed, TellsAhead};
 ghost use Rattle.qs_conn.specs.Runs.{AcksAhead, AcksNamed, AcksOnly, AcksPacket, AcksRanges, held_out};
 
 use super::Core;
+use crate::newly_told::{Silent, Told};
 use crate::outbox::KeptPacket;
+use crate::untold::look_again;
 use qs_ranges::NoMemory;
 use qs_send::{AckPass, Item, Piece};
 use qs_wire::{AckRanges, StreamId};
@@ -19,15 +22,21 @@ impl Core {
     /// The packets that an ACK names are acknowledged: the outstanding ones and then the lost ones, each from the highest number down
     /// (RFC 9000, sections 13.2.1 and 13.3).
     #[tactic(auto, using(crate::proofs::AckRuns::first_stops))]
-    pub(crate) fn ack(&mut self, largest: u64, ranges: &[u8]) -> Result<(), NoMemory>
+    pub(crate) fn ack<T: Told>(
+        &mut self,
+        largest: u64,
+        ranges: &[u8],
+        told: &mut T,
+    ) -> Result<(), NoMemory>
         requires rest { IsAtRest self.old }
         requires small { largest < 2 ^ 62 }
         ensures rest { IsAtRest self.new }
         ensures streams { KeepsStreams self.old self.new }
         ensures step { AcksRanges (ack_ranges_of largest (numbers_of ranges.now)) self.old.outbox result self.new.outbox }
+        ensures told { TellsNamed T.tells (ack_ranges_of largest (numbers_of ranges.now)) self.old.outbox self.new.outbox told.old told.new }
     {
-        self.ack_all(false, AckRanges::new(largest, ranges))?;
-        self.ack_all(true, AckRanges::new(largest, ranges))
+        self.ack_all(false, AckRanges::new(largest, ranges), told)?;
+        self.ack_all(true, AckRanges::new(largest, ranges), &mut Silent)
     }
 
     /// One packet is acknowledged, be it outstanding or declared lost (RFC 9000, section 13.3).
@@ -58,28 +67,42 @@ impl Core {
     }
 
     // The packets that the ranges name are acknowledged in one pass, the outstanding ones or the lost ones.
-    #[tactic(auto, using(crate::proofs::AckRuns::all_named))]
-    fn ack_all(&mut self, late: bool, ranges: AckRanges<'_>) -> Result<(), NoMemory>
+    #[tactic(auto, using(crate::proofs::AckRuns::all_named, crate::proofs::NewlyTold::told_named))]
+    fn ack_all<T: Told>(
+        &mut self,
+        late: bool,
+        ranges: AckRanges<'_>,
+        told: &mut T,
+    ) -> Result<(), NoMemory>
         requires rest { IsAtRest self.old }
         ensures rest { IsAtRest self.new }
         ensures streams { KeepsStreams self.old self.new }
         ensures step { AcksNamed late ranges.entry self.old.outbox result self.new.outbox }
+        ensures told { late ≡ false → TellsNamed T.tells ranges.entry self.old.outbox self.new.outbox told.old told.new }
     {
         let mut pass = AckPass::new(ranges);
-        let result = self.ack_ahead(late, &mut pass);
+        let result = self.ack_ahead(late, &mut pass, told);
         self.outbox.trim();
         result
     }
 
     // The packets that a pass has ahead are acknowledged.
-    fn ack_ahead(&mut self, late: bool, pass: &mut AckPass<'_>) -> Result<(), NoMemory>
+    fn ack_ahead<T: Told>(
+        &mut self,
+        late: bool,
+        pass: &mut AckPass<'_>,
+        told: &mut T,
+    ) -> Result<(), NoMemory>
         requires rest { IsAtRest self.old }
         ensures rest { IsAtRest self.new }
         ensures streams { KeepsStreams self.old self.new }
         ensures step { AcksAhead late pass.old self.old.outbox result self.new.outbox }
+        ensures told { late ≡ false → TellsAhead T.tells pass.old self.old.outbox self.new.outbox told.old told.new }
     {
         while let Some(number) = self.outbox.next_named(late, pass) {
+            self.outbox.none_is_empty();
             self.ack_packet(KeptPacket { late, number })?;
+            told.tell(number);
         }
         Ok(())
     }
@@ -100,6 +123,7 @@ impl Core {
     }
 
     // The first piece of a packet is acknowledged, or nothing changes.
+    #[inline(always)]
     fn ack_piece(&mut self, packet: KeptPacket, piece: Piece) -> Result<(), NoMemory>
         requires rest { IsAtRest self.old }
         requires first { first_piece (fmap.get (held_out packet.late self.old.outbox) packet.number) ≡ Some piece }
@@ -109,7 +133,7 @@ impl Core {
         ensures rest { IsAtRest self.new }
         ensures streams { KeepsStreams self.old self.new }
     {
-        self.untold.look_again(&piece);
+        look_again(&mut self.untold_recvs, &mut self.untold_sends, &piece);
         let Some(stream) = half_of(&piece) else {
             return self.outbox.ack_kept(packet, piece);
         };

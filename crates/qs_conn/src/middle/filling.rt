@@ -4,6 +4,7 @@ ghost use Rattle.std.specs.FinSet as set;
 ghost use Rattle.qs_ranges.specs.Numbers.{run_starts};
 ghost use Rattle.qs_send.specs.declared.piece.Piece.{Piece};
 ghost use Rattle.qs_machine.specs.Tables.{lookup};
+ghost use Rattle.qs_machine.specs.Due.{StreamGoes};
 ghost use Rattle.qs_machine.specs.Ends.{End};
 ghost use Rattle.qs_machine.specs.Filling.{IsAsked};
 ghost use Rattle.qs_conn.specs.declared.filling.Wish.{Wish};
@@ -84,7 +85,7 @@ impl Core {
         }
         let mut packet = packet;
         let mut from = 0;
-        while let Some(stream) = self.next_of_kind(kind, from) {
+        while let Some(stream) = self.next_untold(kind, from) {
             packet = self.put_slot(kind.at(stream), out, packet);
             if packet.is_full {
                 return packet;
@@ -95,20 +96,19 @@ impl Core {
     }
 
     /// The least number from one on of a stream that may have an item of a kind. Of the streams between none is due.
-    pub(super) fn next_of_kind(&self, kind: Kind, from: u64) -> Option<StreamId>
+    pub(super) fn next_untold(&self, kind: Kind, from: u64) -> Option<StreamId>
         requires core { IsCore self.now }
         requires from { from ≤ 2 ^ 62 }
         ensures from { IfSome result (λ n. from ≤ n) }
         ensures idle { (n : ℕ) (e : End) → from ≤ n → IsBefore n result → IsIdle (end_of self.now e) (slot_at kind n) }
     {
         match kind {
-            Kind::ResetStream => self.outbox.next_marked(Task::Reset, from),
-            Kind::StreamDataBlocked => self.outbox.next_marked(Task::Blocked, from),
-            Kind::StopSending | Kind::MaxStreamData => self.untold.next(from),
+            Kind::ResetStream | Kind::StreamDataBlocked => self.untold_sends.next(from),
+            Kind::StopSending | Kind::MaxStreamData => self.untold_recvs.next(from),
         }
     }
 
-    // Puts the item of a slot of the connection into the packet, if it is due. Mostly a look at two numbers tells that there is none.
+    // Puts the item of a slot of the connection into the packet, if it is due. Mostly a look at two numbers tells that none is.
     #[tactic(auto, using(crate::proofs::Cores::fills_same))]
     #[inline(always)]
     fn put_own_slot(&mut self, slot: Slot, out: &mut [u8], packet: Packet) -> Packet
@@ -118,7 +118,7 @@ impl Core {
             → Stage wish room old (take result.len out.new) (end_of self.new e) result.is_full (and_slot passed slot) }
         ensures filled { FillsOn self.old out.old packet.len self.new out.new result.len }
     {
-        if self.limits.has_none(&self.outbox, &slot) {
+        if self.limits.has_told(&self.outbox, &slot) {
             return packet;
         }
         self.put_slot(slot, out, packet)
@@ -182,7 +182,7 @@ impl Core {
         }
         let mut packet = packet;
         let mut from = way_start(around, first);
-        while let Some(stream) = self.outbox.next_marked(Task::Bytes, from) {
+        while let Some(stream) = self.next_going(from) {
             if !is_on_way(around, first, stream) {
                 return packet;
             }
@@ -193,6 +193,21 @@ impl Core {
             from = stream.value() + 1;
         }
         packet
+    }
+
+    /// The least number from one on of a stream of which something may go. Of the streams between nothing does. While the connection's
+    /// credit is used up, bytes that weren't sent before don't (RFC 9000, section 4.1).
+    #[inline(always)]
+    pub(super) fn next_going(&self, from: u64) -> Option<StreamId>
+        requires core { IsCore self.now }
+        requires from { from ≤ 2 ^ 62 }
+        ensures from { IfSome result (λ n. from ≤ n) }
+        ensures none { (n : ℕ) (e : End) → from ≤ n → IsBefore n result → StreamGoes (end_of self.now e) n → ⊥ }
+    {
+        if self.outbox.sent_sum() < self.limits.known_data {
+            return self.outbox.next_marked(Task::Bytes, from);
+        }
+        self.outbox.next_marked(Task::Again, from)
     }
 
     // Puts chunks of a stream into the packet, if it is one that can send.
@@ -227,6 +242,7 @@ impl Core {
         let mut fresh = self.limits.known_data - self.outbox.sent_sum();
         while let Some(chunk) = self.outbox.next_chunk(stream, out.len() - len, fresh) {
             len = put_chunk(&mut self.outbox, stream, chunk, out, len);
+            self.untold_sends.look_blocked(&self.outbox, stream);
             if out.len() - len < LEAST_STREAM_FRAME {
                 return Packet { len, is_full: true };
             }

@@ -4,6 +4,7 @@ ghost use Rattle.qs_conn.specs.Middle.{IsAtRest, KeepsStreams};
 ghost use Rattle.qs_conn.specs.Runs.{Loses};
 
 use super::Core;
+use crate::untold::look_again;
 use qs_ranges::NoMemory;
 
 impl Core {
@@ -30,7 +31,7 @@ impl Core {
         ensures step { Loses number self.old.outbox result self.new.outbox }
     {
         while let Some(piece) = self.outbox.first(number) {
-            self.untold.look_again(&piece);
+            look_again(&mut self.untold_recvs, &mut self.untold_sends, &piece);
             self.outbox.lose_first(number, piece)?;
         }
         Ok(())

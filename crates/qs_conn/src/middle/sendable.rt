@@ -6,7 +6,6 @@ ghost use Rattle.qs_conn.specs.Sending.{TellsDue, TellsGoing, TellsAnyGoing, Tel
 
 use super::Core;
 use crate::filling::is_covered;
-use crate::send_marks::Task;
 use crate::slot::{Kind, Slot};
 use qs_calls::Fill;
 use qs_wire::{Dir, StreamId};
@@ -84,7 +83,7 @@ impl Core {
     {
         let mut is_found = is_found;
         let mut from = 0;
-        while let Some(stream) = self.next_of_kind(kind, from) {
+        while let Some(stream) = self.next_untold(kind, from) {
             is_found = self.has_slot(kind.at(stream), is_found);
             if is_found {
                 return true;
@@ -114,7 +113,7 @@ impl Core {
         ensures { (e : End) → TellsAnyGoing result (end_of self.now e) }
     {
         let mut from = 0;
-        while let Some(stream) = self.outbox.next_marked(Task::Bytes, from) {
+        while let Some(stream) = self.next_going(from) {
             if self.has_bytes(stream) {
                 return true;
             }

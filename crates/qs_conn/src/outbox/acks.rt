@@ -51,6 +51,7 @@ impl Outbox {
     }
 
     /// The next packet that a pass over an ACK names, of the outstanding ones or of the lost ones; `None` after the last.
+    #[inline(always)]
     pub(crate) fn next_named(&self, late: bool, pass: &mut AckPass<'_>) -> Option<u64>
         requires { IsIdle self.now }
         ensures answer { Falls pass.old → IsNextNamed (held_out late self.now) pass.old result pass.new }
@@ -85,6 +86,7 @@ impl Outbox {
     }
 
     /// The first piece of a packet of which a record is kept.
+    #[inline(always)]
     pub(crate) fn first_kept(&self, packet: KeptPacket) -> Option<Piece>
         requires { IsIdle self.now }
         ensures { result ≡ first_piece (fmap.get (held_out packet.late self.now) packet.number) }
@@ -113,6 +115,7 @@ impl Outbox {
     }
 
     // The first piece of an outstanding packet is acknowledged, or nothing changes.
+    #[inline(always)]
     fn ack_outstanding(&mut self, number: u64, piece: Piece) -> Result<(), NoMemory>
         requires idle { IsIdle self.old }
         requires first { first_piece (fmap.get self.old.outstanding number) ≡ Some piece }

@@ -1,11 +1,13 @@
 //! What an end has to tell of its sending side.
-ghost use Rattle.std.specs.Prelude.{◌≡◌, ◌≤◌, ◌<◌, ◌^◌, ◌↔◌, ◌||◌, IsTrue, ℕ, length, IfSome, IfNone};
+ghost use Rattle.std.specs.Prelude.{nat_lt, ◌≡◌, ◌≤◌, ◌<◌, ◌^◌, ◌↔◌, ◌||◌, IsTrue, ℕ, length, IfSome, IfNone};
 ghost use Rattle.qs_ranges.specs.Numbers.{MAX_VARINT};
 ghost use Rattle.qs_send.specs.declared.piece.Piece.TheVariants as pieces;
 ghost use Rattle.qs_machine.specs.Tables.{lookup};
 ghost use Rattle.qs_machine.specs.Sums.{or_none};
 ghost use Rattle.qs_machine.specs.Ends.{End};
 ghost use Rattle.qs_machine.specs.News.{IsLeast, IsHeld};
+ghost use Rattle.qs_machine.specs.Changes.{half_changes};
+ghost use Rattle.qs_send.specs.Changes.{stop_changes};
 ghost use Rattle.qs_machine.specs.Asking.{waits_for_credit, room_of, unsent_of, acked_below_of};
 ghost use Rattle.qs_conn.specs.Marks.{IsBefore, IsHeldOf, AreEndsMarked};
 ghost use Rattle.qs_conn.specs.Sending.{IsDueOf, MayWrite, HasSent};
@@ -80,6 +82,26 @@ impl Outbox {
             return None;
         }
         Some(limit)
+    }
+
+    /// Whether a MAX_STREAM_DATA of this limit would raise that of an open stream.
+    pub(crate) fn limit_rises(&self, stream: StreamId, limit: u64) -> bool
+        ensures { result ≡ half_changes (λ l. nat_lt l.limit limit) (lookup self.now.sends stream) }
+    {
+        if !is_open(&self.types, stream) {
+            return false;
+        }
+        half_of(&self.types, stream).limit() < limit
+    }
+
+    /// Whether a STOP_SENDING would change an open stream.
+    pub(crate) fn stop_changes(&self, stream: StreamId) -> bool
+        ensures { result ≡ half_changes stop_changes (lookup self.now.sends stream) }
+    {
+        if !is_open(&self.types, stream) {
+            return false;
+        }
+        half_of(&self.types, stream).stop_changes()
     }
 
     /// Whether a stream has bytes that only the connection's credit holds back.

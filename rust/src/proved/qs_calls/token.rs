@@ -13,8 +13,10 @@ pub struct Token {
 /// What came of a frame that was handed in, or of several.
 #[derive(Clone, Copy, Debug, PartialEq, Eq)]
 pub enum Taken {
-    /// It took effect.
+    /// It took effect, and changed something.
     Took,
+    /// It took effect before, or carries or raises nothing: nothing changed. Many of these tell of a peer that only makes work.
+    Unchanged,
     /// It is of a kind that is the stack's own affair, and changed nothing.
     NotOurs,
 }

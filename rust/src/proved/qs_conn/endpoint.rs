@@ -8,7 +8,7 @@ use crate::proved::qs_conn::middle::Core;
 use crate::proved::qs_conn::outbox::Outbox;
 use crate::proved::qs_conn::places::type_of;
 use crate::proved::qs_conn::recv_tables::RecvTables;
-use crate::proved::qs_conn::setup::setup_fault;
+use crate::proved::qs_conn::setup::{setup_fault, wide_setup_fault};
 use crate::proved::qs_conn::untold::Untold;
 use crate::proved::qs_calls::{Closed, Closing, PeerLimits, Settings, SetupFault};
 use crate::proved::qs_ranges::RangeSet;
@@ -59,10 +59,29 @@ impl Endpoint {
         settings: Settings,
         peer: PeerLimits,
     ) -> Result<Endpoint, SetupFault> {
-        if let Some(fault) = setup_fault(&settings, &peer) {
-            return Err(fault);
+        match setup_fault(&settings, &peer) {
+            Some(fault) => Err(fault),
+            None => Ok(Self::begun(alloc, role, settings, peer)),
         }
-        Ok(Endpoint {
+    }
+
+    /// The same with wider ranges: windows of streams and sending buffers of up to 2^30 bytes, a connection's window of up to 2^40,
+    /// grants of up to 2^17 streams of a direction and lifetimes of up to 2^21. What [`new`](Endpoint::new) makes this makes, too.
+    pub fn new_wide(
+        alloc: Global,
+        role: Role,
+        settings: Settings,
+        peer: PeerLimits,
+    ) -> Result<Endpoint, SetupFault> {
+        match wide_setup_fault(&settings, &peer) {
+            Some(fault) => Err(fault),
+            None => Ok(Self::begun(alloc, role, settings, peer)),
+        }
+    }
+
+    // The end that begins with such settings.
+    fn begun(alloc: Global, role: Role, settings: Settings, peer: PeerLimits) -> Endpoint {
+        Endpoint {
             core: Core {
                 limits: Limits {
                     role,
@@ -75,7 +94,8 @@ impl Endpoint {
                 },
                 outbox: Outbox::new(alloc),
                 recvs: RecvTables::new(alloc),
-                untold: Untold::new(alloc),
+                untold_recvs: Untold::new(alloc),
+                untold_sends: Untold::new(alloc),
                 ended: ByDir::new(0, 0),
             },
             peer,
@@ -85,7 +105,7 @@ impl Endpoint {
             floor: 0,
             ack_due: false,
             closed: None,
-        })
+        }
     }
 
     /// How many bytes are stored: at most what was granted and isn't taken.
@@ -137,7 +157,7 @@ impl Endpoint {
         if self.is_settled {
             return;
         }
-        self.core.recvs.raise_all(&mut self.core.untold);
+        self.core.recvs.raise_all(&mut self.core.untold_recvs);
         let taken = self.core.recvs.tally().taken;
         let settings = &self.core.limits.settings;
         self.core.limits.granted = next_limit(

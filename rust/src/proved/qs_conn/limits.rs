@@ -3,6 +3,7 @@
 
 use crate::proved::qs_conn::by_dir::ByDir;
 use crate::proved::qs_conn::endpoint::{is_uni, role_bit};
+use crate::proved::qs_conn::filling::is_covered;
 use crate::proved::qs_conn::outbox::Outbox;
 use crate::proved::qs_conn::places::type_of;
 use crate::proved::qs_conn::recv_tables::RecvTables;
@@ -40,15 +41,25 @@ impl Limits {
         }
     }
 
-    /// Whether a look at few numbers tells that a slot of the connection has no item.
-    pub(crate) fn has_none(&self, outbox: &Outbox, slot: &Slot) -> bool {
+    /// Whether a look at few numbers tells that of a slot of the connection no item is due.
+    pub(crate) fn has_told(&self, outbox: &Outbox, slot: &Slot) -> bool {
         match *slot {
             Slot::MaxData => self.max_data().is_none(),
             Slot::MaxStreams(dir) => self.max_streams(dir).is_none(),
-            Slot::DataBlocked => outbox.sent_sum() < self.known_data,
+            Slot::DataBlocked => self.has_told_blocked(outbox),
             Slot::StreamsBlocked(dir) => self.streams_blocked(dir).is_none(),
             _ => false,
         }
+    }
+
+    // The connection's limit holds nothing back, or was told. No stream is looked at.
+    #[inline(always)]
+    fn has_told_blocked(&self, outbox: &Outbox) -> bool {
+        if outbox.sent_sum() < self.known_data {
+            return true;
+        }
+        let limit = self.known_data;
+        is_covered(outbox, &Item::DataBlocked { limit })
     }
 
     // The connection's limit, once it was raised.

@@ -21,8 +21,10 @@ pub(crate) struct Core {
     pub limits: Limits,
     pub outbox: Outbox,
     pub recvs: RecvTables,
-    /// Of which streams a limit or a stop may still have to be told.
-    pub untold: Untold,
+    /// Of which receiving halves a limit or a stop may still have to be told.
+    pub untold_recvs: Untold,
+    /// Of which sending halves a reset or a limit may still have to be told.
+    pub untold_sends: Untold,
     /// How many of the peer's streams came to their end, of each direction.
     pub ended: ByDir<u64>,
 }

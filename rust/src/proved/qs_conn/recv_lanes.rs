@@ -35,6 +35,7 @@ impl RecvLanes {
                 spent: 0,
                 taken: 0,
                 stored: 0,
+                noted: 0,
             },
             touched: Touches::new(alloc),
             news: RecvMarks::new(alloc),
@@ -67,7 +68,7 @@ impl RecvLanes {
         fin: bool,
     ) -> Result<Highest, RecvFault> {
         debug_assert!(1 <= window);
-        debug_assert!(window <= 1 << 20);
+        debug_assert!(window <= 1 << 30);
         if let Some(half) = self.halves.get(index) {
             half.check_stream(offset, len, fin)
         } else {
@@ -85,7 +86,7 @@ impl RecvLanes {
         bytes: &[u8],
     ) -> Result<(), RecvFault> {
         debug_assert!(1 <= window);
-        debug_assert!(window <= 1 << 20);
+        debug_assert!(window <= 1 << 30);
         if let Some(half) = self.halves.get(index) {
             half.check_bytes(offset, bytes)
         } else {
@@ -103,7 +104,7 @@ impl RecvLanes {
     ) -> Result<Highest, RecvFault> {
         debug_assert!(size <= 0x3fff_ffff_ffff_ffff);
         debug_assert!(1 <= window);
-        debug_assert!(window <= 1 << 20);
+        debug_assert!(window <= 1 << 30);
         if let Some(half) = self.halves.get(index) {
             half.check_reset(size)
         } else {
@@ -112,10 +113,26 @@ impl RecvLanes {
         }
     }
 
+    /// Whether a frame that passed both checks would change an open lane.
+    pub(crate) fn stream_changes(&self, index: usize, offset: u64, len: u64, fin: bool) -> bool {
+        let Some(half) = self.halves.get(index) else {
+            return false;
+        };
+        half.stream_changes(offset, len, fin)
+    }
+
+    /// Whether a reset that passed the check would change an open lane.
+    pub(crate) fn reset_changes(&self, index: usize) -> bool {
+        let Some(half) = self.halves.get(index) else {
+            return false;
+        };
+        matches!(half.state(), RecvState::Recv | RecvState::SizeKnown)
+    }
+
     /// Opens the lanes of all indexes below a count.
     pub(crate) fn open_to(&mut self, window: u64, count: usize) -> Result<(), NoMemory> {
         debug_assert!(1 <= window);
-        debug_assert!(window <= 1 << 20);
+        debug_assert!(window <= 1 << 30);
         debug_assert!(count <= 1 << 60);
         let before = self.halves.len();
         let missing = count.saturating_sub(before);
@@ -197,6 +214,18 @@ impl RecvLanes {
         let half = &mut self.halves[index];
         let was = measure(half);
         let answer = half.read(into);
+        let is = measure(half);
+        self.news.look(index, half);
+        self.tally = moved(self.tally, was, is);
+        self.touched.touch(index);
+        answer
+    }
+
+    /// Takes the bytes that are next at an open lane, as a read of so many does, and copies none.
+    pub(crate) fn skip(&mut self, index: usize, most: usize) -> Read {
+        let half = &mut self.halves[index];
+        let was = measure(half);
+        let answer = half.skip(most);
         let is = measure(half);
         self.news.look(index, half);
         self.tally = moved(self.tally, was, is);
@@ -291,6 +320,7 @@ fn measure(half: &Half) -> Tally {
         spent: half.highest(),
         taken: half.taken(),
         stored: half.stored(),
+        noted: half.noted(),
     }
 }
 
@@ -310,6 +340,7 @@ fn moved(total: Tally, was: Tally, is: Tally) -> Tally {
         spent: total.spent - was.spent + is.spent,
         taken: total.taken - was.taken + is.taken,
         stored: total.stored - was.stored + is.stored,
+        noted: total.noted - was.noted + is.noted,
     }
 }
 

@@ -47,7 +47,7 @@ impl RecvTables {
         fin: bool,
     ) -> Result<Highest, RecvFault> {
         debug_assert!(1 <= window);
-        debug_assert!(window <= 1 << 20);
+        debug_assert!(window <= 1 << 30);
         let lanes = &self.types[type_of(stream)];
         lanes.check_stream(window, index_of(stream), offset, len, fin)
     }
@@ -61,7 +61,7 @@ impl RecvTables {
         bytes: &[u8],
     ) -> Result<(), RecvFault> {
         debug_assert!(1 <= window);
-        debug_assert!(window <= 1 << 20);
+        debug_assert!(window <= 1 << 30);
         let lanes = &self.types[type_of(stream)];
         lanes.check_bytes(window, index_of(stream), offset, bytes)
     }
@@ -75,9 +75,21 @@ impl RecvTables {
     ) -> Result<Highest, RecvFault> {
         debug_assert!(size <= 0x3fff_ffff_ffff_ffff);
         debug_assert!(1 <= window);
-        debug_assert!(window <= 1 << 20);
+        debug_assert!(window <= 1 << 30);
         let lanes = &self.types[type_of(stream)];
         lanes.check_reset(window, index_of(stream), size)
+    }
+
+    /// Whether a frame that passed both checks would change an open stream.
+    pub(crate) fn stream_changes(&self, stream: StreamId, offset: u64, len: u64, fin: bool) -> bool {
+        let lanes = &self.types[type_of(stream)];
+        lanes.stream_changes(index_of(stream), offset, len, fin)
+    }
+
+    /// Whether a reset that passed the check would change an open stream.
+    pub(crate) fn reset_changes(&self, stream: StreamId) -> bool {
+        let lanes = &self.types[type_of(stream)];
+        lanes.reset_changes(index_of(stream))
     }
 
     /// How many streams of the type of this one are open.
@@ -107,7 +119,7 @@ impl RecvTables {
     /// Opens a stream and all lower ones of its type.
     pub(crate) fn open_to(&mut self, window: u64, stream: StreamId) -> Result<(), NoMemory> {
         debug_assert!(1 <= window);
-        debug_assert!(window <= 1 << 20);
+        debug_assert!(window <= 1 << 30);
         let lanes = &mut self.types[type_of(stream)];
         lanes.open_to(window, index_of(stream) + 1)
     }
@@ -141,6 +153,12 @@ impl RecvTables {
     pub(crate) fn read(&mut self, stream: StreamId, into: &mut [u8]) -> Read {
         let lanes = &mut self.types[type_of(stream)];
         lanes.read(index_of(stream), into)
+    }
+
+    /// Takes the bytes that are next at an open stream, as a read of so many does, and copies none.
+    pub(crate) fn skip(&mut self, stream: StreamId, most: usize) -> Read {
+        let lanes = &mut self.types[type_of(stream)];
+        lanes.skip(index_of(stream), most)
     }
 
     /// Stops an open stream.
@@ -246,5 +264,6 @@ fn sum(a: Tally, b: Tally) -> Tally {
         spent: a.spent + b.spent,
         taken: a.taken + b.taken,
         stored: a.stored + b.stored,
+        noted: a.noted + b.noted,
     }
 }

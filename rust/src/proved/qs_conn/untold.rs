@@ -1,7 +1,8 @@
 // Made from crates/qs_conn/src/untold.rt by rust/erase; not edited by hand.
-//! Of which streams a stop or a limit may still have to be told.
+//! Of which halves of streams a control item may still have to be told.
 
 use crate::proved::qs_conn::marks::{Marks, least};
+use crate::proved::qs_conn::outbox::Outbox;
 use crate::proved::qs_conn::places::{index_from, index_of, type_of};
 use crate::proved::qs_ranges::NoMemory;
 use crate::proved::qs_send::{Item, Piece};
@@ -45,7 +46,7 @@ impl UntoldLanes {
     }
 }
 
-/// A mark for each receiving half, by the type of the stream and by its index. Of a half without a mark all was told.
+/// A mark for each receiving half or each sending half, by the type of the stream and by its index. Of a half without a mark all was told.
 pub(crate) struct Untold {
     // Of each of the four types, in the order of their bits.
     types: [UntoldLanes; 4],
@@ -81,12 +82,12 @@ impl Untold {
         lanes.set(index_of(stream), is_marked);
     }
 
-    /// A piece leaves its packet: the stream whose limit or stop it told is marked.
-    pub(crate) fn look_again(&mut self, piece: &Piece) {
-        match *piece {
-            Piece::Told(Item::MaxStreamData { stream, .. }) => self.set(stream, true),
-            Piece::Told(Item::StopSending { stream, .. }) => self.set(stream, true),
-            _ => {}
+    /// A sending half was written to, or its bytes went into a packet: it is marked where it stands at its limit with more written
+    /// (RFC 9000, section 4.1).
+    #[inline(always)]
+    pub(crate) fn look_blocked(&mut self, outbox: &Outbox, stream: StreamId) {
+        if outbox.blocked_at(stream).is_some() {
+            self.set(stream, true);
         }
     }
 
@@ -129,5 +130,16 @@ impl Untold {
         let lanes = &self.types[stream_type];
         let index = lanes.next(index_from(stream_type, from))?;
         Some((index * 4 + stream_type) as u64)
+    }
+}
+
+/// A piece leaves its packet: the half of which it told an item is marked.
+pub(crate) fn look_again(recvs: &mut Untold, sends: &mut Untold, piece: &Piece) {
+    match *piece {
+        Piece::Told(Item::ResetStream { stream, .. }) => sends.set(stream, true),
+        Piece::Told(Item::StopSending { stream, .. }) => recvs.set(stream, true),
+        Piece::Told(Item::MaxStreamData { stream, .. }) => recvs.set(stream, true),
+        Piece::Told(Item::StreamDataBlocked { stream, .. }) => sends.set(stream, true),
+        _ => {}
     }
 }

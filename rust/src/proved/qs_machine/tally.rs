@@ -1,10 +1,12 @@
 // Made from crates/qs_machine/src/tally.rt by rust/erase; not edited by hand.
 //! Sums over the streams of an end.
 
-/// What streams add to the connection's credit: the highest offsets, what was taken, and what is stored, in bytes (RFC 9000, section 4.1).
+/// What streams add to the connection's credit: the highest offsets, what was taken, and what is stored, in bytes (RFC 9000, section 4.1);
+/// and how many runs the offsets make that came.
 #[derive(Clone, Copy)]
 pub struct Tally {
     pub spent: u64,
     pub taken: u64,
     pub stored: u64,
+    pub noted: u64,
 }

@@ -63,6 +63,18 @@ pub(crate) fn split(
     split_one(blocks, span.block, span.from, left, right)
 }
 
+/// How many runs lie between two places: a look at each block between them.
+pub(crate) fn runs_in(blocks: &[Block], span: Span) -> usize {
+    if span.block == span.last {
+        return span.to - span.from;
+    }
+    let mut count = blocks[span.block].len() - span.from;
+    for at in span.block + 1..span.last {
+        count += blocks[at].len();
+    }
+    count + span.to
+}
+
 // Puts two runs in the place of one.
 fn split_one(
     blocks: &mut Vec<Block>,

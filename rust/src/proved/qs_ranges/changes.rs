@@ -4,8 +4,8 @@ use crate::shim::Vec;
 
 use crate::proved::qs_ranges::NoMemory;
 use crate::proved::qs_ranges::block::Block;
-use crate::proved::qs_ranges::blocks::{insert_at, replace, span_of, split, take_out};
-use crate::proved::qs_ranges::few::{Few, few_of};
+use crate::proved::qs_ranges::blocks::{insert_at, replace, runs_in, span_of, split, take_out};
+use crate::proved::qs_ranges::few::{Few, count_few, few_of};
 
 /// Adds a range to the runs of blocks.
 #[inline(never)]
@@ -17,8 +17,9 @@ pub(crate) fn insert_many(
 ) -> Result<(), NoMemory> {
     debug_assert!(lo < hi);
     debug_assert!(hi <= 1 << 62);
+    let count = count_few(*few);
     if lengthen_last(blocks, lo, hi) {
-        *few = Few::Empty;
+        *few = Few::InBlocks(count);
         return Ok(());
     }
     insert_anywhere(few, blocks, lo, hi)
@@ -47,15 +48,19 @@ fn lengthen_last(blocks: &mut Vec<Block>, lo: u64, hi: u64) -> bool {
 fn insert_anywhere(few: &mut Few, blocks: &mut Vec<Block>, lo: u64, hi: u64) -> Result<(), NoMemory> {
     debug_assert!(lo < hi);
     debug_assert!(hi <= 1 << 62);
-    *few = Few::Empty;
+    let count = count_few(*few);
+    *few = Few::InBlocks(count);
     let span = span_of(blocks, lo, hi + 1);
     if !span.some {
-        return insert_at(blocks, span.block, span.from, (lo, hi));
+        insert_at(blocks, span.block, span.from, (lo, hi))?;
+        *few = Few::InBlocks(count + 1);
+        return Ok(());
     }
+    let gone = runs_in(blocks, span);
     let start = blocks[span.block].run(span.from).0;
     let end = blocks[span.last].run(span.to - 1).1;
     replace(blocks, span, (lo.min(start), hi.max(end)));
-    settle(few, blocks);
+    settle(few, blocks, count - gone + 1);
     Ok(())
 }
 
@@ -69,33 +74,53 @@ pub(crate) fn remove_many(
 ) -> Result<(), NoMemory> {
     debug_assert!(lo < hi);
     debug_assert!(hi <= 1 << 62);
-    *few = Few::Empty;
-    let done = cut_blocks(blocks, lo, hi);
-    settle(few, blocks);
-    done
+    let count = count_few(*few);
+    match cut_blocks(blocks, count, lo, hi) {
+        Ok(left) => {
+            settle(few, blocks, left);
+            Ok(())
+        }
+        Err(refused) => {
+            settle(few, blocks, count);
+            Err(refused)
+        }
+    }
 }
 
-// Takes a range out of the runs of blocks, however few are left.
-fn cut_blocks(blocks: &mut Vec<Block>, lo: u64, hi: u64) -> Result<(), NoMemory> {
+// Takes a range out of the runs of blocks, however few are left, and answers how many are.
+fn cut_blocks(blocks: &mut Vec<Block>, count: usize, lo: u64, hi: u64) -> Result<usize, NoMemory> {
     debug_assert!(lo < hi);
     debug_assert!(hi <= 1 << 62);
     let span = span_of(blocks, lo + 1, hi);
     if !span.some {
-        return Ok(());
+        return Ok(count);
     }
+    let rest = count - runs_in(blocks, span);
     let start = blocks[span.block].run(span.from).0;
     let end = blocks[span.last].run(span.to - 1).1;
     match (start < lo, hi < end) {
-        (false, false) => take_out(blocks, span),
-        (true, false) => replace(blocks, span, (start, lo)),
-        (false, true) => replace(blocks, span, (hi, end)),
-        (true, true) => return split(blocks, span, (start, lo), (hi, end)),
+        (false, false) => {
+            take_out(blocks, span);
+            Ok(rest)
+        }
+        (true, false) => {
+            replace(blocks, span, (start, lo));
+            Ok(rest + 1)
+        }
+        (false, true) => {
+            replace(blocks, span, (hi, end));
+            Ok(rest + 1)
+        }
+        (true, true) => {
+            split(blocks, span, (start, lo), (hi, end))?;
+            Ok(rest + 2)
+        }
     }
-    Ok(())
 }
 
-// Two runs, or one, come back into the value, and their block goes.
-fn settle(few: &mut Few, blocks: &mut Vec<Block>) {
+// Two runs, or one, come back into the value, and their block goes. Of more the value tells the count.
+fn settle(few: &mut Few, blocks: &mut Vec<Block>, count: usize) {
+    *few = Few::InBlocks(count);
     if blocks.is_empty() {
         return;
     }
@@ -130,13 +155,4 @@ pub(crate) fn copy_runs(blocks: &[Block], into: &mut [(u64, u64)]) -> usize {
 fn copy_block(block: &Block, into: &mut [(u64, u64)], at: usize) {
     let end = at + block.len();
     block.copy_to(&mut into[at..end]);
-}
-
-/// How many runs the blocks have.
-pub(crate) fn count_runs(blocks: &[Block]) -> usize {
-    let mut count = 0;
-    for block in blocks {
-        count += block.len();
-    }
-    count
 }

@@ -1,14 +1,14 @@
 // Made from crates/qs_ranges/src/few.rt by rust/erase; not edited by hand.
-//! A set of two runs at most, in a value.
+//! A set of two runs at most, in a value; of more, how many there are.
 use crate::shim::Vec;
 
 use crate::proved::qs_ranges::NoMemory;
 use crate::proved::qs_ranges::block::Block;
 
-/// Two runs at most, in rising order.
+/// Two runs at most, in rising order; or none, and how many there are in blocks.
 #[derive(Clone, Copy)]
 pub(crate) enum Few {
-    Empty,
+    InBlocks(usize),
     One((u64, u64)),
     Two((u64, u64), (u64, u64)),
 }
@@ -23,7 +23,7 @@ pub(crate) fn insert_few(
     debug_assert!(lo < hi);
     debug_assert!(hi <= 1 << 62);
     match *few {
-        Few::Empty => *few = Few::One((lo, hi)),
+        Few::InBlocks(_) => *few = Few::One((lo, hi)),
         Few::One(run) => add_to_one(few, run, lo, hi),
         Few::Two(low, high) => return add_to_two(few, blocks, low, high, lo, hi),
     }
@@ -59,16 +59,16 @@ fn add_to_two(
     debug_assert!(hi <= 1 << 62);
     if low.1 < lo {
         if high.1 < lo {
-            return put_three(blocks, low, high, (lo, hi));
+            return put_three(few, blocks, low, high, (lo, hi));
         }
         if hi < high.0 {
-            return put_three(blocks, low, (lo, hi), high);
+            return put_three(few, blocks, low, (lo, hi), high);
         }
         *few = Few::Two(low, (high.0.min(lo), high.1.max(hi)));
         return Ok(());
     }
     if hi < low.0 {
-        return put_three(blocks, (lo, hi), low, high);
+        return put_three(few, blocks, (lo, hi), low, high);
     }
     if hi < high.0 {
         *few = Few::Two((low.0.min(lo), low.1.max(hi)), high);
@@ -88,7 +88,7 @@ pub(crate) fn remove_few(
     debug_assert!(lo < hi);
     debug_assert!(hi <= 1 << 62);
     match *few {
-        Few::Empty => {}
+        Few::InBlocks(_) => *few = Few::InBlocks(0),
         Few::One(run) => *few = without_range_of(run, lo, hi),
         Few::Two(low, high) => return take_from_two(few, blocks, low, high, lo, hi),
     }
@@ -103,7 +103,7 @@ fn without_range_of(run: (u64, u64), lo: u64, hi: u64) -> Few {
         return Few::One(run);
     }
     match (start < lo, hi < end) {
-        (false, false) => Few::Empty,
+        (false, false) => Few::InBlocks(0),
         (true, false) => Few::One((start, lo)),
         (false, true) => Few::One((hi, end)),
         (true, true) => Few::Two((start, lo), (hi, end)),
@@ -128,7 +128,7 @@ fn take_from_two(
         return take_from_high(few, blocks, low, high, lo, hi);
     }
     match (low.0 < lo, hi < high.1) {
-        (false, false) => *few = Few::Empty,
+        (false, false) => *few = Few::InBlocks(0),
         (true, false) => *few = Few::One((low.0, lo)),
         (false, true) => *few = Few::One((hi, high.1)),
         (true, true) => *few = Few::Two((low.0, lo), (hi, high.1)),
@@ -153,7 +153,7 @@ fn take_from_low(
         (false, false) => *few = Few::One(high),
         (true, false) => *few = Few::Two((low.0, lo), high),
         (false, true) => *few = Few::Two((hi, low.1), high),
-        (true, true) => return put_three(blocks, (low.0, lo), (hi, low.1), high),
+        (true, true) => return put_three(few, blocks, (low.0, lo), (hi, low.1), high),
     }
     Ok(())
 }
@@ -175,13 +175,14 @@ fn take_from_high(
         (false, false) => *few = Few::One(low),
         (true, false) => *few = Few::Two(low, (high.0, lo)),
         (false, true) => *few = Few::Two(low, (hi, high.1)),
-        (true, true) => return put_three(blocks, low, (high.0, lo), (hi, high.1)),
+        (true, true) => return put_three(few, blocks, low, (high.0, lo), (hi, high.1)),
     }
     Ok(())
 }
 
 // Puts three runs into a block.
 fn put_three(
+    few: &mut Few,
     blocks: &mut Vec<Block>,
     low: (u64, u64),
     middle: (u64, u64),
@@ -191,6 +192,7 @@ fn put_three(
     block.insert(1, middle)?;
     block.insert(2, high)?;
     blocks.push(block)?;
+    *few = Few::InBlocks(3);
     Ok(())
 }
 
@@ -206,7 +208,7 @@ pub(crate) fn few_of(block: &Block) -> Option<Few> {
 /// The first run that ends above `n`.
 pub(crate) fn few_above(few: Few, n: u64) -> Option<(u64, u64)> {
     let run = match few {
-        Few::Empty => return None,
+        Few::InBlocks(_) => return None,
         Few::One(run) => run,
         Few::Two(low, high) => { if n < low.1 { low } else { high } }
     };
@@ -221,7 +223,7 @@ fn one_above(run: (u64, u64), n: u64) -> Option<(u64, u64)> {
 /// The first run that ends above `n`, and the one behind it.
 pub(crate) fn few_above_two(few: Few, n: u64) -> (Option<(u64, u64)>, Option<(u64, u64)>) {
     match few {
-        Few::Empty => (None, None),
+        Few::InBlocks(_) => (None, None),
         Few::One(run) => (one_above(run, n), None),
         Few::Two(low, high) => {
             if n < low.1 {
@@ -235,7 +237,7 @@ pub(crate) fn few_above_two(few: Few, n: u64) -> (Option<(u64, u64)>, Option<(u6
 /// Copies the runs to the slice's front.
 pub(crate) fn copy_few(few: Few, into: &mut [(u64, u64)]) -> usize {
     match few {
-        Few::Empty => 0,
+        Few::InBlocks(_) => 0,
         Few::One(run) => {
             into[0] = run;
             1
@@ -251,7 +253,7 @@ pub(crate) fn copy_few(few: Few, into: &mut [(u64, u64)]) -> usize {
 /// How many runs there are.
 pub(crate) fn count_few(few: Few) -> usize {
     match few {
-        Few::Empty => 0,
+        Few::InBlocks(count) => count,
         Few::One(_) => 1,
         Few::Two(_, _) => 2,
     }

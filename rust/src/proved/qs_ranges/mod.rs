@@ -5,7 +5,7 @@ use crate::shim::Vec;
 
 use crate::proved::qs_ranges::block::Block;
 use crate::proved::qs_ranges::blocks::two_above;
-use crate::proved::qs_ranges::changes::{copy_runs, count_runs, insert_many, remove_many};
+use crate::proved::qs_ranges::changes::{copy_runs, insert_many, remove_many};
 use crate::proved::qs_ranges::few::{Few, copy_few, count_few, few_above, few_above_two, insert_few, remove_few};
 use crate::shim::alloc::{AllocError, AllocFailed, Global};
 
@@ -46,7 +46,7 @@ impl RangeSet {
     /// The empty set. It takes no memory.
     pub fn new(alloc: Global) -> Self {
         Self {
-            few: Few::Empty,
+            few: Few::InBlocks(0),
             blocks: Vec::new(alloc),
         }
     }
@@ -54,7 +54,11 @@ impl RangeSet {
     /// The set of all numbers below `n`. It takes no memory.
     pub fn below(alloc: Global, n: u64) -> Self {
         debug_assert!(n <= 1 << 62);
-        let few = if n > 0 { Few::One((0, n)) } else { Few::Empty };
+        let few = if n > 0 {
+            Few::One((0, n))
+        } else {
+            Few::InBlocks(0)
+        };
         Self {
             few,
             blocks: Vec::new(alloc),
@@ -158,12 +162,9 @@ impl RangeSet {
         }
     }
 
-    /// How many runs there are: the members whose predecessor is not a member.
+    /// How many runs there are: the members whose predecessor is not a member. It takes constant time.
     pub fn count(&self) -> usize {
-        if self.blocks.is_empty() {
-            return count_few(self.few);
-        }
-        count_runs(&self.blocks)
+        count_few(self.few)
     }
 
     /// Every member is below 2^62. It does nothing: a proof calls it for what it ensures.

@@ -39,3 +39,9 @@ pub trait Assembly {
     /// Every offset that came.
     fn received(&self) -> &RangeSet;
 }
+
+/// An assembly whose next bytes can be passed over without a copy.
+pub trait Skipping: Assembly {
+    /// Takes the bytes that are next to be read, at most so many, and answers how many.
+    fn skip(&mut self, most: usize) -> usize;
+}

@@ -8,7 +8,7 @@ const MAX_VARINT: u64 = (1 << 62) - 1;
 pub fn next_limit(limit: u64, taken: u64, window: u64) -> u64 {
     debug_assert!(limit <= 0x3fff_ffff_ffff_ffff);
     debug_assert!(taken <= 0x3fff_ffff_ffff_ffff);
-    debug_assert!(window <= 1 << 24);
+    debug_assert!(window <= 1 << 40);
     let next = (taken + window).min(MAX_VARINT);
     let step = (window / 2).max(1);
     if limit + step <= next || (next == MAX_VARINT && limit < next) {

@@ -2,7 +2,7 @@
 //! The receiving half of a stream (RFC 9000, sections 2.2, 3.2, 3.5 and 4).
 use crate::shim::Box;
 
-use crate::proved::qs_recv::assembly::Assembly;
+use crate::proved::qs_recv::assembly::{Assembly, Skipping};
 use crate::proved::qs_recv::live::LiveHalf;
 use crate::proved::qs_recv::rest::Rest;
 use crate::shim::alloc::Global;
@@ -67,7 +67,7 @@ impl<A: Assembly> RecvHalf<A> {
     /// A half that grants `window` bytes beyond what was taken. It takes no memory.
     pub fn new(alloc: Global, window: u64) -> Self {
         debug_assert!(1 <= window);
-        debug_assert!(window <= 1 << 20);
+        debug_assert!(window <= 1 << 30);
         RecvHalf {
             alloc,
             parts: Parts::Resting(Rest::new(window)),
@@ -92,6 +92,15 @@ impl<A: Assembly> RecvHalf<A> {
                 Ok(())
             }
             Parts::Live(live) => live.check_bytes(offset, bytes),
+        }
+    }
+
+    /// Whether a STREAM frame that passed both checks would change the half: it tells the final size, or one of its offsets didn't
+    /// come before, and no reset did.
+    pub fn stream_changes(&self, offset: u64, len: u64, fin: bool) -> bool {
+        match &self.parts {
+            Parts::Resting(rest) => self.revived(rest).stream_changes(offset, len, fin),
+            Parts::Live(live) => live.stream_changes(offset, len, fin),
         }
     }
 
@@ -201,6 +210,15 @@ impl<A: Assembly> RecvHalf<A> {
         }
     }
 
+    /// How many runs the offsets make that came: none where none did, else one, and one more for each gap between them. After a
+    /// reset, and once the reader was told the end, there are none: the half keeps no offset then. It takes constant time.
+    pub fn noted(&self) -> u64 {
+        match &self.parts {
+            Parts::Resting(rest) => rest.noted(),
+            Parts::Live(live) => live.noted(),
+        }
+    }
+
     /// How long the stream is, where that is known (section 4.5).
     pub fn final_size(&self) -> Option<u64> {
         match &self.parts {
@@ -280,5 +298,19 @@ impl<A: Assembly> RecvHalf<A> {
     // A half at rest, with an assembly that stores nothing.
     fn revived(&self, rest: &Rest) -> LiveHalf<A> {
         LiveHalf::revived(self.alloc, rest)
+    }
+}
+
+impl<A: Skipping> RecvHalf<A> {
+    /// Takes the bytes that are next, as a read into a slice of so many bytes does, and copies none; or tells how the stream stands.
+    pub fn skip(&mut self, most: usize) -> Read {
+        let answer = match &mut self.parts {
+            Parts::Resting(rest) => rest.read(),
+            Parts::Live(live) => live.skip(most),
+        };
+        if matches!(answer, Read::End) {
+            self.settle();
+        }
+        answer
     }
 }

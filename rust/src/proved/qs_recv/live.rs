@@ -1,7 +1,7 @@
 // Made from crates/qs_recv/src/live.rt by rust/erase; not edited by hand.
 //! A receiving half that may store bytes.
 
-use crate::proved::qs_recv::assembly::Assembly;
+use crate::proved::qs_recv::assembly::{Assembly, Skipping};
 use crate::proved::qs_recv::credit::next_limit;
 use crate::proved::qs_recv::half::{Highest, Read, RecvFault, RecvState};
 use crate::proved::qs_recv::rest::{Rest, given};
@@ -111,6 +111,16 @@ impl<A: Assembly> LiveHalf<A> {
         Ok(())
     }
 
+    pub(crate) fn stream_changes(&self, offset: u64, len: u64, fin: bool) -> bool {
+        if fin && self.final_size.is_none() {
+            return true;
+        }
+        if self.reset_code.is_some() {
+            return false;
+        }
+        !self.assembly.received().covers(offset, offset + len)
+    }
+
     pub(crate) fn check_reset(&self, size: u64) -> Result<Highest, RecvFault> {
         debug_assert!(size <= 0x3fff_ffff_ffff_ffff);
         if self.breaks_final_size(size, 0, true) {
@@ -211,6 +221,14 @@ impl<A: Assembly> LiveHalf<A> {
         self.final_size.unwrap_or(self.received_end)
     }
 
+    pub(crate) fn noted(&self) -> u64 {
+        self.is_lawful();
+        if self.told || self.reset_code.is_some() {
+            return 0;
+        }
+        self.assembly.received().count() as u64
+    }
+
     pub(crate) fn final_size(&self) -> Option<u64> {
         self.final_size
     }
@@ -288,6 +306,33 @@ impl<A: Assembly> LiveHalf<A> {
             Some(size) => (len > 0 && size < end) || (fin && end != size),
             None => fin && end < self.highest(),
         }
+    }
+}
+
+impl<A: Skipping> LiveHalf<A> {
+    pub(crate) fn skip(&mut self, most: usize) -> Read {
+        if let Some(code) = self.reset_code {
+            self.told = true;
+            return Read::Reset(code);
+        }
+        if self.stop_code.is_some() {
+            if self.is_whole() {
+                self.told = true;
+                return Read::End;
+            }
+            return Read::Wait;
+        }
+        if self.final_size == Some(self.read_count) {
+            self.assembly.give_back();
+            self.told = true;
+            return Read::End;
+        }
+        if !self.assembly.received().has(self.read_count) {
+            return Read::Wait;
+        }
+        let count = self.assembly.skip(most);
+        self.read_count += count as u64;
+        Read::Bytes(count)
     }
 }
 

@@ -10,7 +10,7 @@ mod rest;
 mod ring;
 mod ring_assembly;
 
-pub use assembly::Assembly;
+pub use assembly::{Assembly, Skipping};
 pub use credit::next_limit;
 pub use half::{Highest, Read, RecvFault, RecvHalf, RecvState};
 pub use ring_assembly::RingAssembly;

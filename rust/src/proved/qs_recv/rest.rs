@@ -24,7 +24,7 @@ impl Rest {
     /// A half for which nothing came.
     pub(crate) fn new(window: u64) -> Self {
         debug_assert!(1 <= window);
-        debug_assert!(window <= 1 << 20);
+        debug_assert!(window <= 1 << 30);
         Rest {
             read_count: 0,
             received_end: 0,
@@ -132,6 +132,14 @@ impl Rest {
         } else {
             self.received_end
         }
+    }
+
+    /// How many runs the offsets make that came: one at most.
+    pub(crate) fn noted(&self) -> u64 {
+        if self.told || self.is_reset {
+            return 0;
+        }
+        if self.received_end > 0 { 1 } else { 0 }
     }
 
     /// How long the stream is, where that is known.

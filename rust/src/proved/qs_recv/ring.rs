@@ -86,7 +86,7 @@ impl Ring {
     ) -> Result<Ring, NoMemory> {
         debug_assert!(from <= 1 << 62);
         debug_assert!(0 < size);
-        debug_assert!(size <= 1 << 20);
+        debug_assert!(size <= 1 << 30);
         debug_assert!(count <= size);
         let turn = size - place_of(from, size);
         if count == 0 {
@@ -111,7 +111,7 @@ impl Ring {
     ) -> Result<(), NoMemory> {
         debug_assert!(from <= 1 << 62);
         debug_assert!(0 < size);
-        debug_assert!(size <= 1 << 20);
+        debug_assert!(size <= 1 << 30);
         if count == 0 {
             *self = self.resized(alloc, from, count, size)?;
             return Ok(());
@@ -153,7 +153,7 @@ fn place_of(at: u64, size: usize) -> usize {
 
 // How far the places of a ring of that size lie further on, that an offset has the given one.
 fn turn_to(place: usize, from: u64, size: usize) -> usize {
-    debug_assert!(size <= 1 << 20);
+    debug_assert!(size <= 1 << 30);
     debug_assert!(place < size);
     let turn = place + (size - place_of(from, size));
     if turn <= size { turn } else { turn - size }
@@ -161,7 +161,7 @@ fn turn_to(place: usize, from: u64, size: usize) -> usize {
 
 // Makes that so many bytes from a place on are kept. Those that never were written are zero.
 fn fill(bytes: &mut Vec<u8>, size: usize, place: usize, count: usize) {
-    debug_assert!(size <= 1 << 20);
+    debug_assert!(size <= 1 << 30);
     debug_assert!(place < size);
     debug_assert!(count <= size);
     let end = (place + count).min(size);

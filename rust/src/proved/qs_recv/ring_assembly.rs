@@ -1,7 +1,7 @@
 // Made from crates/qs_recv/src/ring_assembly.rt by rust/erase; not edited by hand.
 //! An assembly that keeps what came in one ring: the byte of an offset stands at the offset modulo the ring's size.
 
-use crate::proved::qs_recv::assembly::Assembly;
+use crate::proved::qs_recv::assembly::{Assembly, Skipping};
 use crate::proved::qs_recv::ring::Ring;
 use crate::proved::qs_ranges::{NoMemory, RangeSet};
 use crate::shim::alloc::Global;
@@ -159,9 +159,30 @@ impl Assembly for RingAssembly {
     }
 }
 
+impl Skipping for RingAssembly {
+    fn skip(&mut self, most: usize) -> usize {
+        if self.discarding {
+            return 0;
+        }
+        let next = self.received.first_missing(self.read_count);
+        let count = (next - self.read_count).min(most as u64) as usize;
+        self.read_count += count as u64;
+        self.stored -= count as u64;
+        let span = self.end - self.read_count;
+        shed(
+            self.alloc,
+            &mut self.ring,
+            self.read_count,
+            span,
+            self.window,
+        );
+        count
+    }
+}
+
 // The size of a ring that reaches so far past what was read.
 fn size_for(span: u64, window: u64) -> u64 {
-    debug_assert!(window <= 1 << 20);
+    debug_assert!(window <= 1 << 30);
     debug_assert!(span <= window);
     let power = span.next_power_of_two();
     let least = power.max(LEAST_SIZE);
@@ -183,7 +204,7 @@ fn reach(
     span: u64,
     window: u64,
 ) -> Result<(), NoMemory> {
-    debug_assert!(window <= 1 << 20);
+    debug_assert!(window <= 1 << 30);
     debug_assert!(from <= 1 << 62);
     debug_assert!(span <= window);
     if span <= ring.len() as u64 {
@@ -197,7 +218,7 @@ fn reach(
 // four times the span from `from` to the end of what is, what lies past the least power of two that is twice that or more.
 #[inline(always)]
 fn shed(alloc: Global, ring: &mut Ring, from: u64, span: u64, window: u64) {
-    debug_assert!(window <= 1 << 20);
+    debug_assert!(window <= 1 << 30);
     debug_assert!(from <= 1 << 62);
     let len = ring.len() as u64;
     if len <= IDLE_SIZE.max(4 * span) {

@@ -127,6 +127,17 @@ impl SendHalf {
         self.stop_code.get()
     }
 
+    /// Whether a STOP_SENDING would change the half: none came before, or the half can be reset still (RFC 9000, section 3.5).
+    pub fn stop_changes(&self) -> bool {
+        if self.stop_code.get().is_none() {
+            return true;
+        }
+        if self.was_reset() {
+            return false;
+        }
+        !self.is_whole()
+    }
+
     /// Takes in that the peer allows the offsets below `limit`. A limit that is no higher changes nothing
     /// (RFC 9000, section 4.1).
     pub fn allow(&mut self, limit: u64) {

@@ -13,7 +13,7 @@ one_run : (n : ℕ) (blocks : Blocks) (value : Few) → blocks ≡ [] → value 
 one_run n blocks value empty is =
     rw (empty, is) (set_of-is ((0, n) ∷ []) (numbers 0 n) (λ q. grind (arith, nat_tests, contains-numbers 0 n q)))
 
-no_run : (n : ℕ) (blocks : Blocks) (value : Few) → blocks ≡ [] → value ≡ few.Empty → n ≤ 0 → set_of (runs_of blocks value) ≡ numbers 0 n
+no_run : (n : ℕ) (blocks : Blocks) (value : Few) → blocks ≡ [] → value ≡ few.InBlocks 0 → n ≤ 0 → set_of (runs_of blocks value) ≡ numbers 0 n
 no_run n blocks value empty is le =
     rw (empty, is) (set_of-is [] (numbers 0 n) (λ q. grind (arith, nat_tests, contains-numbers 0 n q)))
 

@@ -1,8 +1,9 @@
-use Rattle.std.proofs.Common.{◌≡◌, ◌+◌, ◌-◌, ◌^◌, min, max, ap, ◌∙◌}
+use Rattle.std.proofs.Common.{◌≡◌, ◌+◌, ◌-◌, ◌^◌, min, max, ap, ◌∙◌, arith}
 use Rattle.qs_ranges.specs.Runs.{IsSpan, start_at, end_at}
 use Rattle.qs_ranges.specs.Blocks.{all_runs, place, IsFound}
 use Rattle.qs_ranges.proofs.Found.{is_false, is_true, read_ends}
-use Rattle.qs_ranges.proofs.Sides.{no_value, put_apart, put_nowhere, put_over}
+use Rattle.qs_ranges.proofs.Sides.{many_value, count_fits, put_nowhere, put_over}
+use Rattle.qs_ranges.proofs.Edits.{inserted_apart}
 use Rattle.qs_ranges.proofs.changes.insert_anywhere.Goals as goal
 
 pub returns-then-not-span-clause-ok : goal.returns-then-not-span-clause-ok
@@ -11,15 +12,24 @@ returns-then-not-span-clause-ok c =
     let s = c.span_of-span.result in
     let span : IsSpan (all_runs bs) c.args.lo (c.args.hi + 1) (place bs s.block s.from) (place bs s.last s.to) = rw c.deref.ensures.value at c.span_of-span.ensures.span in
     let none : place bs s.block s.from ≡ place bs s.last s.to = rw c.deref.ensures.value at c.span_of-span.ensures.none (is_false s.some c.if-not-span.true) in
-    rw (no_value c.insert_at.new.blocks.items) (put_apart (all_runs bs) c.insert_at.new.blocks.items c.args.lo c.args.hi (2 ^ 62) (place bs s.block s.from) (place bs s.last s.to) c.requires.apart c.requires.bound c.requires.some c.insert_at.result c.requires.within span none c.insert_at.ensures.ok)
+    rw (many_value c.insert_at.new.blocks.items (c.count_few-count.result + 1), c.in_ok-insert_at.ensures.ok) (inserted_apart (all_runs bs) c.args.lo c.args.hi (2 ^ 62) (place bs s.block s.from) (place bs s.last s.to) c.requires.apart c.requires.bound c.requires.some c.requires.within span none)
 
-pub returns-then-not-span-clause-touches_none : goal.returns-then-not-span-clause-touches_none
-returns-then-not-span-clause-touches_none c =
+pub returns-in_err-insert_at-clause-touches_none : goal.returns-in_err-insert_at-clause-touches_none
+returns-in_err-insert_at-clause-touches_none c =
     let bs = c.args.blocks.now.items in
     let s = c.span_of-span.result in
     let span : IsSpan (all_runs bs) c.args.lo (c.args.hi + 1) (place bs s.block s.from) (place bs s.last s.to) = rw c.deref.ensures.value at c.span_of-span.ensures.span in
     let none : place bs s.block s.from ≡ place bs s.last s.to = rw c.deref.ensures.value at c.span_of-span.ensures.none (is_false s.some c.if-not-span.true) in
-    put_nowhere (all_runs bs) c.insert_at.new.blocks.items c.args.lo c.args.hi (2 ^ 62) (place bs s.block s.from) (place bs s.last s.to) c.requires.apart c.requires.bound c.requires.some c.insert_at.result c.requires.within span none
+    put_nowhere (all_runs bs) c.insert_at.new.blocks.items c.args.lo c.args.hi (2 ^ 62) (place bs s.block s.from) (place bs s.last s.to) c.requires.apart c.requires.bound c.requires.some c.from_residual.result c.requires.within span none
+
+pub overflow_add-few : goal.overflow_add-few
+overflow_add-few c = omega (arith, c.count_few-count.ensures, c.requires.counted, count_fits (all_runs c.args.blocks.now.items) c.requires.apart c.requires.bound)
+
+pub runs_in-gone-requires-clause-few : goal.runs_in-gone-requires-clause-few
+runs_in-gone-requires-clause-few c = rw c.deref-2.ensures.value (omega (arith, count_fits (all_runs c.args.blocks.now.items) c.requires.apart c.requires.bound))
+
+pub overflow_add-count : goal.overflow_add-count
+overflow_add-count c = omega (arith, c.count_few-count.ensures, c.requires.counted, count_fits (all_runs c.args.blocks.now.items) c.requires.apart c.requires.bound)
 
 pub returns-clause-ok : goal.returns-clause-ok
 returns-clause-ok c =

@@ -1,4 +1,4 @@
 use Rattle.qs_ranges.proofs.changes.remove_many.Goals as goal
 
-pub returns-clause-ok : goal.returns-clause-ok
-returns-clause-ok c = rw c.settle.ensures.runs c.cut_blocks-done.ensures.ok
+pub returns-in-Ok-clause-ok : goal.returns-in-Ok-clause-ok
+returns-in-Ok-clause-ok c = rw c.settle.ensures.runs c.in-Ok.ensures.ok

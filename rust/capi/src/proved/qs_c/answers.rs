@@ -2,8 +2,8 @@
 //! The numbers that the calls answer.
 
 use crate::proved::qs_c::lane::GvLane;
-use crate::proved::qs_c::structs::{GvClosing, GvMade};
-use crate::proved::qs_calls::TokenFault;
+use crate::proved::qs_c::structs::{GvClosing, GvFilled, GvMade};
+use crate::proved::qs_calls::{Filled, TakeFault, Taken, TokenFault};
 use crate::proved::qs_conn::{
     Closing, LaneReport, LostFault, Made, MakeFault, OpenFault, RaiseFault, Received, SetupFault,
     UseFault,
@@ -166,6 +166,39 @@ pub(crate) fn of_made(answer: Result<Option<Made>, MakeFault>, made: &mut GvMade
         Err(MakeFault::Closed) => CLOSED,
         Err(MakeFault::NoMemory) => NO_MEMORY,
         Err(MakeFault::Exhausted) => EXHAUSTED,
+    }
+}
+
+pub(crate) fn of_filled(answer: Result<Option<Filled>, MakeFault>, filled: &mut GvFilled) -> u32 {
+    match answer {
+        Ok(Some(frames)) => {
+            *filled = GvFilled::of(frames);
+            OK
+        }
+        Ok(None) => NONE,
+        Err(MakeFault::Closed) => CLOSED,
+        Err(MakeFault::NoMemory) => NO_MEMORY,
+        Err(MakeFault::Exhausted) => EXHAUSTED,
+    }
+}
+
+pub(crate) fn of_taken(answer: Result<Taken, TakeFault>, taken: &mut u32) -> u32 {
+    match answer {
+        Ok(came) => {
+            *taken = taken_number(came);
+            OK
+        }
+        Err(TakeFault::NoMemory) => NO_MEMORY,
+        Err(TakeFault::PeerClosed(_)) => PEER_CLOSED,
+        Err(TakeFault::Closing(_)) => CLOSING,
+    }
+}
+
+fn taken_number(taken: Taken) -> u32 {
+    match taken {
+        Taken::Took => 0,
+        Taken::Unchanged => 1,
+        Taken::NotOurs => 2,
     }
 }
 

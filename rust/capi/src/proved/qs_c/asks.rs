@@ -111,6 +111,11 @@ impl Thing {
         OK
     }
 
+    pub(crate) fn noted(&self, count: &mut u64) -> u32 {
+        *count = self.end.noted();
+        OK
+    }
+
     pub(crate) fn held(&self, receiving: &mut u64, sending: &mut u64) -> u32 {
         let held = self.end.held();
         *receiving = held.receiving;

@@ -15,6 +15,7 @@ pub(crate) mod lane;
 pub(crate) mod loose;
 pub(crate) mod puts;
 pub(crate) mod reads;
+pub(crate) mod stack;
 pub(crate) mod starts;
 pub(crate) mod structs;
 pub(crate) mod thing;
@@ -26,6 +27,7 @@ use crate::proved::qs_c::handle::Handle;
 use crate::proved::qs_c::lane::GvLane;
 use crate::proved::qs_c::structs::{GvClosing, GvLimits, GvMade, GvSettings};
 use crate::proved::qs_wire::last_stream;
+pub use stack::{gvp_fill, gvp_take_frame};
 use crate::shim::alloc::Global;
 
 /// Takes the memory for an end: the handle holds one then, which `gvp_new` makes another. A handle that holds one loses it.
@@ -390,6 +392,15 @@ pub fn gvp_stored(alloc: Global, end: &mut Handle, count: &mut u64) -> u32 {
         return INVALID;
     };
     let status = thing.stored(count);
+    end.put(thing);
+    status
+}
+
+pub fn gvp_noted(alloc: Global, end: &mut Handle, count: &mut u64) -> u32 {
+    let Some(thing) = end.take(alloc) else {
+        return INVALID;
+    };
+    let status = thing.noted(count);
     end.put(thing);
     status
 }

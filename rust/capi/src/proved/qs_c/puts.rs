@@ -20,7 +20,7 @@ pub(crate) fn put_frame(
     out: &mut [u8],
     len: &mut usize,
 ) -> u32 {
-    if frame.kind > HANDSHAKE_DONE || frame.dir > 1 {
+    if !is_known(frame) {
         return INVALID;
     }
     let Some(given) = frame_of(frame, bytes, token) else {
@@ -36,8 +36,13 @@ pub(crate) fn put_frame(
     OK
 }
 
+/// Whether a frame is of one of the kinds and in one of the directions.
+pub(crate) fn is_known(frame: &GvFrame) -> bool {
+    frame.kind <= HANDSHAKE_DONE && frame.dir <= 1
+}
+
 /// The frame that C gives, whose kind and direction are known; `None` where its stream has no number.
-fn frame_of<'a>(frame: &GvFrame, bytes: &'a [u8], token: &'a [u8]) -> Option<Frame<'a>> {
+pub(crate) fn frame_of<'a>(frame: &GvFrame, bytes: &'a [u8], token: &'a [u8]) -> Option<Frame<'a>> {
     let stream = StreamId::new(frame.stream);
     Some(match frame.kind {
         0 => Frame::Padding,

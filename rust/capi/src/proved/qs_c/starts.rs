@@ -54,7 +54,7 @@ impl Thing {
         let Some(side) = role_of(role) else {
             return INVALID;
         };
-        match Endpoint::new(alloc, side, settings.settings(), peer.limits()) {
+        match Endpoint::new_wide(alloc, side, settings.settings(), peer.limits()) {
             Ok(made) => self.begin(made),
             Err(fault) => of_setup(fault),
         }

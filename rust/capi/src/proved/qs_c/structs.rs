@@ -1,6 +1,7 @@
 // Made from crates/qs_c/src/structs.rt by rust/erase; not edited by hand.
 //! The structs that C passes.
 
+use crate::proved::qs_calls::Filled;
 use crate::proved::qs_conn::{Closing, Made, PeerLimits, Settings};
 
 #[repr(C)]
@@ -36,6 +37,26 @@ pub struct GvMade {
     pub is_ack_eliciting: bool,
 }
 
+/// What is to be filled in.
+#[repr(C)]
+#[derive(Clone, Copy)]
+pub struct GvRequest {
+    pub items: bool,
+    pub streams: bool,
+    pub alone: bool,
+    pub first: u64,
+}
+
+#[repr(C)]
+#[derive(Clone, Copy)]
+pub struct GvFilled {
+    pub has_last_stream: bool,
+    pub more: bool,
+    pub token: u64,
+    pub len: usize,
+    pub last_stream: u64,
+}
+
 #[repr(C)]
 #[derive(Clone, Copy)]
 pub struct GvClosing {
@@ -50,6 +71,21 @@ impl GvMade {
             number: made.number,
             len: made.len,
             is_ack_eliciting: made.is_ack_eliciting,
+        }
+    }
+}
+
+impl GvFilled {
+    pub(crate) fn of(filled: Filled) -> GvFilled {
+        GvFilled {
+            has_last_stream: filled.last_stream.is_some(),
+            more: filled.more,
+            token: filled.token.number,
+            len: filled.len,
+            last_stream: match filled.last_stream {
+                Some(stream) => stream.value(),
+                None => 0,
+            },
         }
     }
 }

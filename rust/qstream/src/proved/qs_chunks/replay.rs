@@ -41,7 +41,7 @@ pub fn replay<A: Assembly>(
     steps: &[Step],
 ) -> Result<(A, Vec<Shown>), NoMemory> {
     debug_assert!(1 <= window);
-    debug_assert!(window <= 1 << 20);
+    debug_assert!(window <= 1 << 30);
     let mut player: Player<A> = Player::new(alloc, window);
     let mut shown = Vec::with_capacity(alloc, steps.len())?;
     for step in steps {
@@ -65,7 +65,7 @@ impl<A: Assembly> Player<A> {
     // An assembly to which nothing came.
     fn new(alloc: Global, window: u64) -> Self {
         debug_assert!(1 <= window);
-        debug_assert!(window <= 1 << 20);
+        debug_assert!(window <= 1 << 30);
         Player {
             alloc,
             assembly: A::new(alloc, window),

@@ -23,6 +23,14 @@ impl Endpoint {
         }
     }
 
+    /// How many runs the offsets make that came, on all streams whose end their reader wasn't told and that weren't reset: one for each on
+    /// which some came, and one more for each gap between them. Each run beyond two of a stream takes memory, also of a stream that was
+    /// stopped, where credit bounds them not: as this number gets too great, the layer beneath closes the connection. It takes constant time.
+    pub fn noted(&self) -> u64 {
+        let _granted = self.core.limits.granted;
+        self.core.recvs.tally().noted
+    }
+
     /// How many streams of a direction the peer may open in all time to come: the lifetime's count without those that it opened. Where
     /// none is left, a new connection is needed (RFC 9000, section 4.6). `granted_streams` tells how far it may go now.
     pub fn streams_left(&self, dir: Dir) -> u64 {

@@ -4,7 +4,6 @@
 use super::{Endpoint, is_uni, role_bit};
 use crate::proved::qs_conn::outbox::Outbox;
 use crate::proved::qs_conn::recv_tables::RecvTables;
-use crate::proved::qs_conn::untold::Untold;
 use crate::proved::qs_calls::OpenFault;
 use crate::proved::qs_ranges::NoMemory;
 use crate::proved::qs_wire::{Dir, StreamId};
@@ -110,6 +109,8 @@ impl Endpoint {
         self.core.outbox.are_of_open();
         let before = self.core.outbox.count(stream);
         self.core.outbox.are_of_open();
+        self.core.untold_recvs.open_to(stream)?;
+        self.core.untold_sends.open_to(stream)?;
         open_sends(
             &mut self.core.outbox,
             both(uni, !own),
@@ -117,13 +118,7 @@ impl Endpoint {
             buffer,
             stream,
         )?;
-        if let Err(refused) = open_recvs(
-            &mut self.core.recvs,
-            &mut self.core.untold,
-            both(uni, own),
-            window,
-            stream,
-        ) {
+        if let Err(refused) = open_recvs(&mut self.core.recvs, both(uni, own), window, stream) {
             self.core.outbox.close_to(stream, before);
             self.is_settled = false;
             return Err(refused);
@@ -143,7 +138,8 @@ impl Endpoint {
             sends,
             receives,
         )?;
-        self.core.untold.reserve(stream)
+        self.core.untold_recvs.reserve(stream)?;
+        self.core.untold_sends.reserve(stream)
     }
 
     // That another stream was wanted is noted.
@@ -198,17 +194,15 @@ fn open_sends(
 
 fn open_recvs(
     recvs: &mut RecvTables,
-    untold: &mut Untold,
     absent: bool,
     window: u64,
     stream: StreamId,
 ) -> Result<(), NoMemory> {
     debug_assert!(1 <= window);
-    debug_assert!(window <= 1 << 20);
+    debug_assert!(window <= 1 << 30);
     if absent {
         return Ok(());
     }
-    untold.open_to(stream)?;
     recvs.open_to(window, stream)
 }
 

@@ -2,7 +2,7 @@
 //! What an end's owner does with its streams.
 
 use super::Endpoint;
-use crate::proved::qs_calls::{Closed, Closing, LaneReport, UseFault};
+use crate::proved::qs_calls::{Closed, Closing, Consumed, LaneReport, UseFault};
 use crate::proved::qs_recv::Read;
 use crate::proved::qs_send::SendFault;
 use crate::proved::qs_wire::StreamId;
@@ -18,6 +18,9 @@ impl Endpoint {
         }
         match self.core.outbox.write(stream, bytes) {
             Ok(count) => {
+                self.core
+                    .untold_sends
+                    .look_blocked(&self.core.outbox, stream);
                 self.settle();
                 Ok(count)
             }
@@ -52,6 +55,7 @@ impl Endpoint {
         }
         match self.core.outbox.reset(stream, code) {
             Ok(()) => {
+                self.core.untold_sends.set(stream, true);
                 self.settle();
                 Ok(())
             }
@@ -80,6 +84,39 @@ impl Endpoint {
         Ok(answer)
     }
 
+    /// Takes the bytes that are next, at most so many, as `read` into a slice of that size does, and copies none. Where that reaches the
+    /// final size the end counts as told, so that nothing is left to ask of the stream (RFC 9000, sections 2.2, 3.2 and 4.5).
+    ///
+    /// Answers what such a read tells, and whether the end is told.
+    ///
+    /// Refused as `read` is.
+    ///
+    /// ```text
+    /// let consumed = end.consume(stream, 100)?;
+    /// ```
+    pub fn consume(&mut self, stream: StreamId, most: usize) -> Result<Consumed, UseFault> {
+        if let Some(fault) = self.no_receiver(stream) {
+            return Err(fault);
+        }
+        let read = self.skip(stream, most);
+        let next = self.skip(stream, 0);
+        self.settle();
+        Ok(Consumed {
+            read,
+            at_end: is_end(next),
+        })
+    }
+
+    // Takes the bytes that are next at an open stream, and moves no limit yet.
+    fn skip(&mut self, stream: StreamId, most: usize) -> Read {
+        let was = self.core.is_over(stream);
+        let answer = self.core.recvs.skip(stream, most);
+        let is = self.core.is_over(stream);
+        self.core.ended.recount(stream, was, is);
+        self.is_settled = false;
+        answer
+    }
+
     /// Throws the stream's bytes away, those stored and those still to come (RFC 9000, section 3.5). The first code
     /// stays; the application's codes lie below 2^62.
     ///
@@ -90,7 +127,7 @@ impl Endpoint {
             return Err(fault);
         }
         self.core.recvs.stop(stream, code);
-        self.core.untold.set(stream, true);
+        self.core.untold_recvs.set(stream, true);
         self.is_settled = false;
         self.settle();
         Ok(())
@@ -136,6 +173,10 @@ impl Endpoint {
             Some(no_half(self.core.outbox.is_open(stream)))
         }
     }
+}
+
+fn is_end(read: Read) -> bool {
+    matches!(read, Read::End)
 }
 
 fn no_half(other: bool) -> UseFault {

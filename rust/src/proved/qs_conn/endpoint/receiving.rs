@@ -2,6 +2,7 @@
 //! A payload is taken in.
 
 use super::Endpoint;
+use crate::proved::qs_conn::newly_told::{Silent, Told};
 use crate::proved::qs_conn::seen::{SeenFrame, asks_ack, seen};
 use crate::proved::qs_calls::{Closed, Closing, Received};
 use crate::proved::qs_wire::{Frames, Placed, WireFault};
@@ -32,6 +33,22 @@ impl Endpoint {
     /// An end that is closed answers as it did when it closed, and nothing changes.
     pub fn receive(&mut self, number: u64, payload: &[u8]) -> Result<Received, Closing> {
         debug_assert!(number < 1 << 62);
+        self.receive_telling(number, payload, &mut Silent)
+    }
+
+    /// As `receive`, and `told` is told each packet that the payload newly acknowledges, once: one that was outstanding, that an ACK of
+    /// the payload names, and that isn't outstanding any more (RFC 9000, section 13.3). They are told in the order of the ACKs, of each
+    /// ACK the highest number first, as soon as the packet's last piece is acknowledged. Congestion control goes on from there (RFC 9002,
+    /// section 7).
+    ///
+    /// After `NoMemory` none was told that is outstanding still: the same payload may come again, and then the others are told.
+    pub fn receive_telling<T: Told>(
+        &mut self,
+        number: u64,
+        payload: &[u8],
+        told: &mut T,
+    ) -> Result<Received, Closing> {
+        debug_assert!(number < 1 << 62);
         match self.closed {
             Some(Closed::ByUs(closing)) => return Err(closing),
             Some(Closed::ByPeer(code)) => return Ok(Received::PeerClosed(code)),
@@ -43,19 +60,25 @@ impl Endpoint {
         if self.done.has(number) {
             return Ok(Received::Duplicate);
         }
-        let taken = self.take_payload(number, payload);
+        let taken = self.take_payload(number, payload, told);
         self.settle();
         taken
     }
 
     // The frames of a payload take effect, one after the other, as far as they may.
-    fn take_payload(&mut self, number: u64, payload: &[u8]) -> Result<Received, Closing> {
+    fn take_payload<T: Told>(
+        &mut self,
+        number: u64,
+        payload: &[u8],
+        told: &mut T,
+    ) -> Result<Received, Closing> {
         debug_assert!(number < 1 << 62);
+        self.none_is_empty();
         let mut frames = Frames::new(payload);
         let mut asks = false;
         loop {
             match frames.next() {
-                Ok(Some(placed)) => match self.take_placed(&placed) {
+                Ok(Some(placed)) => match self.take_placed(&placed, told) {
                     Progress::GoesOn(asks_ack) => asks |= asks_ack,
                     Progress::Ends(result) => return result,
                 },
@@ -65,8 +88,13 @@ impl Endpoint {
         }
     }
 
+    // Each outstanding packet has a piece. It does nothing: a caller learns the clause.
+    fn none_is_empty(&self) {
+        self.core.outbox.none_is_empty();
+    }
+
     // One frame takes effect, or the processing ends with it.
-    fn take_placed(&mut self, placed: &Placed<'_>) -> Progress {
+    fn take_placed<T: Told>(&mut self, placed: &Placed<'_>, told: &mut T) -> Progress {
         let seen = seen(&placed.frame);
         if let SeenFrame::Close(code) = seen {
             self.closed = Some(Closed::ByPeer(code));
@@ -75,13 +103,14 @@ impl Endpoint {
         if let Some(code) = self.verdict(&seen) {
             return Progress::Ends(Err(self.close_at(placed, code)));
         }
-        if let Err(_refused) = self.on_frame(&seen) {
+        if let Err(_refused) = self.on_frame(&seen, told) {
             return Progress::Ends(Ok(Received::NoMemory));
         }
         Progress::GoesOn(asks_ack(&seen))
     }
 
     // No frame is left.
+    #[inline(always)]
     fn record_all(&mut self, number: u64, asks: bool) -> Received {
         debug_assert!(number < 1 << 62);
         if let Err(_refused) = self.record(number, asks) {

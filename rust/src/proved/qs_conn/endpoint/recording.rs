@@ -9,6 +9,7 @@ const MAX_RUNS: usize = 32;
 
 impl Endpoint {
     // A packet's number is kept once all its frames took effect (RFC 9000, section 13.2.3); or nothing changes.
+    #[inline(always)]
     pub(super) fn record(&mut self, number: u64, asks: bool) -> Result<(), NoMemory> {
         debug_assert!(number < 1 << 62);
         self.done.insert(number, number + 1)?;

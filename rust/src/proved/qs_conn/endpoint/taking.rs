@@ -2,6 +2,7 @@
 //! A frame without a fault takes effect.
 
 use super::Endpoint;
+use crate::proved::qs_conn::newly_told::Told;
 use crate::proved::qs_conn::seen::SeenFrame;
 use crate::proved::qs_ranges::NoMemory;
 use crate::proved::qs_send::Item;
@@ -10,9 +11,13 @@ use crate::proved::qs_wire::{Dir, StreamId};
 impl Endpoint {
     // A frame takes effect, or finds no memory and changes nothing; of an ACK some packets may be acknowledged then.
     #[inline(always)]
-    pub(super) fn on_frame(&mut self, seen: &SeenFrame<'_>) -> Result<(), NoMemory> {
+    pub(super) fn on_frame<T: Told>(
+        &mut self,
+        seen: &SeenFrame<'_>,
+        told: &mut T,
+    ) -> Result<(), NoMemory> {
         match *seen {
-            SeenFrame::Ack { largest, ranges } => self.on_ack(largest, ranges),
+            SeenFrame::Ack { largest, ranges } => self.on_ack(largest, ranges, told),
             SeenFrame::Stream {
                 stream,
                 offset,
@@ -46,10 +51,10 @@ impl Endpoint {
     }
 
     // The packets that an ACK names are acknowledged, also those that were declared lost (RFC 9000, sections 13.2.1 and 13.3).
-    fn on_ack(&mut self, largest: u64, ranges: &[u8]) -> Result<(), NoMemory> {
+    fn on_ack<T: Told>(&mut self, largest: u64, ranges: &[u8], told: &mut T) -> Result<(), NoMemory> {
         debug_assert!(largest < 1 << 62);
         let before = self.core.ended;
-        let taken = self.core.ack(largest, ranges);
+        let taken = self.core.ack(largest, ranges, told);
         self.is_settled &= self.core.ended.is_same(before);
         taken
     }
@@ -65,6 +70,7 @@ impl Endpoint {
     fn on_max_stream_data(&mut self, stream: StreamId, maximum: u64) -> Result<(), NoMemory> {
         debug_assert!(maximum <= 0x3fff_ffff_ffff_ffff);
         self.open_by_peer(stream)?;
+        self.core.outbox.has_sending(stream);
         self.core.outbox.allow(stream, maximum);
         Ok(())
     }
@@ -74,6 +80,7 @@ impl Endpoint {
         debug_assert!(code <= 0x3fff_ffff_ffff_ffff);
         self.open_by_peer(stream)?;
         self.core.outbox.stopped(stream, code);
+        self.core.untold_sends.set(stream, true);
         Ok(())
     }
 

@@ -2,7 +2,9 @@
 //! Packets are acknowledged.
 
 use super::Core;
+use crate::proved::qs_conn::newly_told::{Silent, Told};
 use crate::proved::qs_conn::outbox::KeptPacket;
+use crate::proved::qs_conn::untold::look_again;
 use crate::proved::qs_ranges::NoMemory;
 use crate::proved::qs_send::{AckPass, Item, Piece};
 use crate::proved::qs_wire::{AckRanges, StreamId};
@@ -10,10 +12,15 @@ use crate::proved::qs_wire::{AckRanges, StreamId};
 impl Core {
     /// The packets that an ACK names are acknowledged: the outstanding ones and then the lost ones, each from the highest number down
     /// (RFC 9000, sections 13.2.1 and 13.3).
-    pub(crate) fn ack(&mut self, largest: u64, ranges: &[u8]) -> Result<(), NoMemory> {
+    pub(crate) fn ack<T: Told>(
+        &mut self,
+        largest: u64,
+        ranges: &[u8],
+        told: &mut T,
+    ) -> Result<(), NoMemory> {
         debug_assert!(largest < 1 << 62);
-        self.ack_all(false, AckRanges::new(largest, ranges))?;
-        self.ack_all(true, AckRanges::new(largest, ranges))
+        self.ack_all(false, AckRanges::new(largest, ranges), told)?;
+        self.ack_all(true, AckRanges::new(largest, ranges), &mut Silent)
     }
 
     /// One packet is acknowledged, be it outstanding or declared lost (RFC 9000, section 13.3).
@@ -33,17 +40,29 @@ impl Core {
     }
 
     // The packets that the ranges name are acknowledged in one pass, the outstanding ones or the lost ones.
-    fn ack_all(&mut self, late: bool, ranges: AckRanges<'_>) -> Result<(), NoMemory> {
+    fn ack_all<T: Told>(
+        &mut self,
+        late: bool,
+        ranges: AckRanges<'_>,
+        told: &mut T,
+    ) -> Result<(), NoMemory> {
         let mut pass = AckPass::new(ranges);
-        let result = self.ack_ahead(late, &mut pass);
+        let result = self.ack_ahead(late, &mut pass, told);
         self.outbox.trim();
         result
     }
 
     // The packets that a pass has ahead are acknowledged.
-    fn ack_ahead(&mut self, late: bool, pass: &mut AckPass<'_>) -> Result<(), NoMemory> {
+    fn ack_ahead<T: Told>(
+        &mut self,
+        late: bool,
+        pass: &mut AckPass<'_>,
+        told: &mut T,
+    ) -> Result<(), NoMemory> {
         while let Some(number) = self.outbox.next_named(late, pass) {
+            self.outbox.none_is_empty();
             self.ack_packet(KeptPacket { late, number })?;
+            told.tell(number);
         }
         Ok(())
     }
@@ -58,8 +77,9 @@ impl Core {
     }
 
     // The first piece of a packet is acknowledged, or nothing changes.
+    #[inline(always)]
     fn ack_piece(&mut self, packet: KeptPacket, piece: Piece) -> Result<(), NoMemory> {
-        self.untold.look_again(&piece);
+        look_again(&mut self.untold_recvs, &mut self.untold_sends, &piece);
         let Some(stream) = half_of(&piece) else {
             return self.outbox.ack_kept(packet, piece);
         };

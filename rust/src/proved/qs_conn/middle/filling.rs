@@ -49,7 +49,7 @@ impl Core {
         }
         let mut packet = packet;
         let mut from = 0;
-        while let Some(stream) = self.next_of_kind(kind, from) {
+        while let Some(stream) = self.next_untold(kind, from) {
             packet = self.put_slot(kind.at(stream), out, packet);
             if packet.is_full {
                 return packet;
@@ -60,19 +60,18 @@ impl Core {
     }
 
     /// The least number from one on of a stream that may have an item of a kind. Of the streams between none is due.
-    pub(super) fn next_of_kind(&self, kind: Kind, from: u64) -> Option<StreamId> {
+    pub(super) fn next_untold(&self, kind: Kind, from: u64) -> Option<StreamId> {
         debug_assert!(from <= 1 << 62);
         match kind {
-            Kind::ResetStream => self.outbox.next_marked(Task::Reset, from),
-            Kind::StreamDataBlocked => self.outbox.next_marked(Task::Blocked, from),
-            Kind::StopSending | Kind::MaxStreamData => self.untold.next(from),
+            Kind::ResetStream | Kind::StreamDataBlocked => self.untold_sends.next(from),
+            Kind::StopSending | Kind::MaxStreamData => self.untold_recvs.next(from),
         }
     }
 
-    // Puts the item of a slot of the connection into the packet, if it is due. Mostly a look at two numbers tells that there is none.
+    // Puts the item of a slot of the connection into the packet, if it is due. Mostly a look at two numbers tells that none is.
     #[inline(always)]
     fn put_own_slot(&mut self, slot: Slot, out: &mut [u8], packet: Packet) -> Packet {
-        if self.limits.has_none(&self.outbox, &slot) {
+        if self.limits.has_told(&self.outbox, &slot) {
             return packet;
         }
         self.put_slot(slot, out, packet)
@@ -115,7 +114,7 @@ impl Core {
         }
         let mut packet = packet;
         let mut from = way_start(around, first);
-        while let Some(stream) = self.outbox.next_marked(Task::Bytes, from) {
+        while let Some(stream) = self.next_going(from) {
             if !is_on_way(around, first, stream) {
                 return packet;
             }
@@ -126,6 +125,17 @@ impl Core {
             from = stream.value() + 1;
         }
         packet
+    }
+
+    /// The least number from one on of a stream of which something may go. Of the streams between nothing does. While the connection's
+    /// credit is used up, bytes that weren't sent before don't (RFC 9000, section 4.1).
+    #[inline(always)]
+    pub(super) fn next_going(&self, from: u64) -> Option<StreamId> {
+        debug_assert!(from <= 1 << 62);
+        if self.outbox.sent_sum() < self.limits.known_data {
+            return self.outbox.next_marked(Task::Bytes, from);
+        }
+        self.outbox.next_marked(Task::Again, from)
     }
 
     // Puts chunks of a stream into the packet, if it is one that can send.
@@ -145,6 +155,7 @@ impl Core {
         let mut fresh = self.limits.known_data - self.outbox.sent_sum();
         while let Some(chunk) = self.outbox.next_chunk(stream, out.len() - len, fresh) {
             len = put_chunk(&mut self.outbox, stream, chunk, out, len);
+            self.untold_sends.look_blocked(&self.outbox, stream);
             if out.len() - len < LEAST_STREAM_FRAME {
                 return Packet { len, is_full: true };
             }

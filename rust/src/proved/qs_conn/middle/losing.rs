@@ -2,6 +2,7 @@
 //! Packets are lost.
 
 use super::Core;
+use crate::proved::qs_conn::untold::look_again;
 use crate::proved::qs_ranges::NoMemory;
 
 impl Core {
@@ -15,7 +16,7 @@ impl Core {
     // The pieces of a packet are lost, from the first on.
     fn lose_pieces(&mut self, number: u64) -> Result<(), NoMemory> {
         while let Some(piece) = self.outbox.first(number) {
-            self.untold.look_again(&piece);
+            look_again(&mut self.untold_recvs, &mut self.untold_sends, &piece);
             self.outbox.lose_first(number, piece)?;
         }
         Ok(())

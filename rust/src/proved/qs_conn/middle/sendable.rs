@@ -3,7 +3,6 @@
 
 use super::Core;
 use crate::proved::qs_conn::filling::is_covered;
-use crate::proved::qs_conn::send_marks::Task;
 use crate::proved::qs_conn::slot::{Kind, Slot};
 use crate::proved::qs_calls::Fill;
 use crate::proved::qs_wire::{Dir, StreamId};
@@ -63,7 +62,7 @@ impl Core {
     fn has_kind(&self, kind: Kind, is_found: bool) -> bool {
         let mut is_found = is_found;
         let mut from = 0;
-        while let Some(stream) = self.next_of_kind(kind, from) {
+        while let Some(stream) = self.next_untold(kind, from) {
             is_found = self.has_slot(kind.at(stream), is_found);
             if is_found {
                 return true;
@@ -87,7 +86,7 @@ impl Core {
     // Bytes of some stream may go, or its end.
     fn has_stream(&self) -> bool {
         let mut from = 0;
-        while let Some(stream) = self.outbox.next_marked(Task::Bytes, from) {
+        while let Some(stream) = self.next_going(from) {
             if self.has_bytes(stream) {
                 return true;
             }

@@ -32,6 +32,7 @@ impl Outbox {
     }
 
     /// The next packet that a pass over an ACK names, of the outstanding ones or of the lost ones; `None` after the last.
+    #[inline(always)]
     pub(crate) fn next_named(&self, late: bool, pass: &mut AckPass<'_>) -> Option<u64> {
         let _next = self.next;
         if late {
@@ -56,6 +57,7 @@ impl Outbox {
     }
 
     /// The first piece of a packet of which a record is kept.
+    #[inline(always)]
     pub(crate) fn first_kept(&self, packet: KeptPacket) -> Option<Piece> {
         let _next = self.next;
         if packet.late {
@@ -74,6 +76,7 @@ impl Outbox {
     }
 
     // The first piece of an outstanding packet is acknowledged, or nothing changes.
+    #[inline(always)]
     fn ack_outstanding(&mut self, number: u64, piece: Piece) -> Result<(), NoMemory> {
         let _next = self.next;
         piece_acked(&mut self.types, &mut self.told, &piece)?;

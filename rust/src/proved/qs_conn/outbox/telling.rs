@@ -58,6 +58,22 @@ impl Outbox {
         Some(limit)
     }
 
+    /// Whether a MAX_STREAM_DATA of this limit would raise that of an open stream.
+    pub(crate) fn limit_rises(&self, stream: StreamId, limit: u64) -> bool {
+        if !is_open(&self.types, stream) {
+            return false;
+        }
+        half_of(&self.types, stream).limit() < limit
+    }
+
+    /// Whether a STOP_SENDING would change an open stream.
+    pub(crate) fn stop_changes(&self, stream: StreamId) -> bool {
+        if !is_open(&self.types, stream) {
+            return false;
+        }
+        half_of(&self.types, stream).stop_changes()
+    }
+
     /// Whether a stream has bytes that only the connection's credit holds back.
     pub(crate) fn wants_more(&self, stream: StreamId) -> bool {
         if !is_open(&self.types, stream) {

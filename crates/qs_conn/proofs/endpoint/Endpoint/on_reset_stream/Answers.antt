@@ -21,7 +21,7 @@ invariant_of-self c =
     let h = c.self-2.invariant.rest in
     let sound : IsInCredit c.args.self.now = subst (λ (k : End). IsInCredit k) c.self.view_is c.self.invariant.rest.core.sound in
     kept_moved _ _ _ _ _ _ c.self-2.invariant _
-    (rest_recvs core h c.take_reset.new.self core.untold core.ended
+    (rest_recvs core h c.take_reset.new.self core.untold_recvs core.ended
     (reset_sound c.args.self.now _ c.args.stream c.args.code c.args.size c.take_reset.new.self sound c.requires.passed (c.self-2.view_is ∙ c.in_ok-open_by_peer.ensures.ok) c.take_reset.ensures)
     (fit_broken _ _ _ _ _ _ _ h.core.counts _ c.args.stream _ _ c.take_reset.ensures)
-    (told_broken core.limits.role core.limits.settings core.recvs core.outbox.outstanding core.outbox.acked core.untold h.core.told c.take_reset.new.self c.args.stream c.args.code c.args.size c.take_reset.ensures))
+    (told_broken core.limits.role core.limits.settings core.recvs core.outbox.outstanding core.outbox.acked core.untold_recvs h.core.told_in c.take_reset.new.self c.args.stream c.args.code c.args.size c.take_reset.ensures))

@@ -1,4 +1,4 @@
-use Rattle.std.proofs.Common.{◌≡◌, ℕ, Option, inr, is_some, arith, length, sym, ap, ◌∙◌, subst, take, ◌%◌}
+use Rattle.std.proofs.Common.{◌≡◌, ℕ, Option, inr, is_some, arith, length, refl, sym, ap, ◌∙◌, subst, take, ◌%◌}
 use Rattle.qs_recv.specs.Lane.{RecvLane}
 use Rattle.qs_machine.specs.Tables.{Tables, table, with_table, lookup}
 use Rattle.qs_machine.specs.Ends.{End}
@@ -13,7 +13,8 @@ use Rattle.qs_conn.proofs.Cores.{kept_moved, rest_recvs}
 use Rattle.qs_conn.proofs.Runs.{idle_with}
 use Rattle.qs_machine.proofs.Taken.{in_there, stream_in, stream_checked, stream_unchanged, stream_sound, sends_back, recvs_back, tally_back, restored_out, peer_none, peer_lost, peer_unsent, back_sound}
 use Rattle.qs_conn.proofs.Calm.{told_streamed}
-use Rattle.qs_conn.proofs.Untolds.{told_with, told_closed}
+use Rattle.qs_conn.specs.Untold.{AreTold, TellsAt, SendTells}
+use Rattle.qs_conn.proofs.Untolds.{told_closed}
 use Rattle.qs_conn.proofs.endpoint.Endpoint.on_stream.Goals as goal
 
 pub take_stream-requires-clause-open : goal.take_stream-requires-clause-open
@@ -44,6 +45,7 @@ invariant_of-self c =
     let sound : IsInCredit c.args.self.now = subst (λ (k : End). IsInCredit k) c.self.view_is was.core.sound in
     let back = recvs_back c.args.self.now _ c.args.stream c.count-recvs.result c.close_to-in-Err.new.self opened (c.count-recvs.ensures ∙ ap (λ (e : End). length (table e.recvs (c.args.stream % 4))) c.self.view_is) (c.close_to-in-Err.ensures ∙ ap (λ (t : Tables RecvLane). with_table t (c.args.stream % 4) (take c.count-recvs.result (table t (c.args.stream % 4)))) c.in-Err.ensures.err) in
     let sends = sends_back c.args.self.now _ c.args.stream c.count-sends.result c.close_to.new.self.sends opened (c.count-sends.ensures ∙ ap (λ (e : End). length (table e.sends (c.args.stream % 4))) c.self.view_is) (ap (λ (x : Outgoing). x.sends) c.close_to.ensures) in
+    let tells = TellsAt core.limits.role core.limits.settings in
     let sum = ap (λ (x : Outgoing). sent_sum x.sends) c.close_to.ensures ∙ peer_unsent c.args.self.now _ c.args.stream c.count-sends.result opened (c.count-sends.ensures ∙ ap (λ (e : End). length (table e.sends (c.args.stream % 4))) c.self.view_is) in
     kept_moved _ _ _ _ _ _ c.self-2.invariant _
     (record {
@@ -53,8 +55,10 @@ invariant_of-self c =
         credit = omega (arith, sum, credit);
         counts = fit_recvs _ _ _ _ _ _ _ h.core.counts _ _ _ (closed_counted c.args.self.now _ c.args.stream _ _ c.self.inside.core.ended _ opened back sends (subst (λ (k : End). AreAllCounted k.role k.recvs k.sends c.self.inside.core.ended) c.self.view_is was.core.counts.counted) h.core.counts.counted)
             (subst (λ (t : Tables RecvLane). (n : ℕ) → IsToldOfEnd (lookup t n)) (sym back) (subst (λ (k : End). (n : ℕ) → IsToldOfEnd (lookup k.recvs n)) c.self.view_is was.core.counts.told));
-        told = told_with core.limits.role core.limits.settings c.close_to-in-Err.new.self core.outbox _ _ core.untold c.close_to.ensures
-            (told_closed core.limits.role core.limits.settings core.recvs core.outbox.outstanding core.outbox.acked core.untold h.core.told c.take_stream.new.self c.close_to-in-Err.new.self c.args.stream c.count-recvs.result c.in-Err.ensures.err c.close_to-in-Err.ensures);
+        told_in = subst (λ (x : Outgoing). AreTold tells c.close_to-in-Err.new.self x.outstanding x.acked core.untold_recvs) (sym c.close_to.ensures)
+            (told_closed tells core.recvs core.outbox.outstanding core.outbox.acked core.untold_recvs h.core.told_in c.take_stream.new.self c.close_to-in-Err.new.self c.args.stream c.count-recvs.result c.in-Err.ensures.err c.close_to-in-Err.ensures);
+        told_out = subst (λ (x : Outgoing). AreTold SendTells x.sends x.outstanding x.acked core.untold_sends) (sym c.close_to.ensures)
+            (told_closed SendTells core.outbox.sends core.outbox.outstanding core.outbox.acked core.untold_sends h.core.told_out core.outbox.sends _ c.args.stream c.count-sends.result refl refl);
       };
       idle = idle_with core.outbox _ _ c.close_to.ensures h.idle;
     })
@@ -87,10 +91,10 @@ invariant_of-self-2 c =
     let sound : IsInCredit c.args.self.now = subst (λ (k : End). IsInCredit k) c.self.view_is c.self.invariant.rest.core.sound in
     let checked = stream_checked c.args.self.now _ c.args.stream c.args.offset c.args.bytes.now c.args.fin c.requires.passed opened in
     kept_moved _ _ _ _ _ _ c.self-2.invariant _
-    (rest_recvs core h c.take_stream.new.self core.untold core.ended
+    (rest_recvs core h c.take_stream.new.self core.untold_recvs core.ended
     (stream_sound c.args.self.now _ c.args.stream c.args.offset c.args.bytes.now c.args.fin c.take_stream.new.self sound c.requires.passed opened c.in_default.ensures.ok)
     (fit_streamed _ _ _ _ _ _ _ h.core.counts _ h.core.sound _ c.args.stream _ _ _ checked c.in_default.ensures.ok)
-    (told_streamed core.limits.role core.limits.settings core.recvs core.outbox.outstanding core.outbox.acked core.untold h.core.told c.take_stream.new.self c.args.stream _ h.core.sound c.args.offset c.args.bytes.now c.args.fin checked c.in_default.ensures.ok))
+    (told_streamed core.limits.role core.limits.settings core.recvs core.outbox.outstanding core.outbox.acked core.untold_recvs h.core.told_in c.take_stream.new.self c.args.stream _ h.core.sound c.args.offset c.args.bytes.now c.args.fin checked c.in_default.ensures.ok))
 
 pub returns-in-Err-clause-asks : goal.returns-in-Err-clause-asks
 returns-in-Err-clause-asks c =

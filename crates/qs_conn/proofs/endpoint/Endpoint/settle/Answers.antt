@@ -6,7 +6,8 @@ use Rattle.qs_machine.specs.Standing.{KeepsCredit}
 use Rattle.qs_machine.proofs.TableLaws.{total_each}
 use Rattle.qs_machine.proofs.Sound.{keeps_settle}
 use Rattle.qs_conn.proofs.Counted.{fit_settled, grants_fit}
-use Rattle.qs_conn.proofs.Untolds.{told_raised}
+use Rattle.qs_conn.specs.Untold.{TellsAt}
+use Rattle.qs_conn.proofs.Untolds.{told_each}
 use Rattle.qs_conn.proofs.Unmoved.{next_now, settled_already}
 use Rattle.qs_conn.proofs.endpoint.Endpoint.settle.Goals as goal
 
@@ -18,7 +19,7 @@ tally-taken-requires c =
 pub next_limit-self-inside-requires-clause-taken : goal.next_limit-self-inside-requires-clause-taken
 next_limit-self-inside-requires-clause-taken c =
     let e = ap (total highest) c.raise_all.ensures.after ∙ total_each highest raise c.self.inside.core.recvs (λ l. refl) in
-    omega (arith, e, c.self.invariant.rest.core.sound.spent, c.self.invariant.rest.core.fits.granted, c.tally-taken.ensures.spent, c.tally-taken.ensures.paid)
+    omega (arith, e, c.self.invariant.rest.core.sound.spent, c.self.invariant.rest.core.fits.granted, c.tally-taken.ensures.spent, c.tally-taken.ensures.paid.moved)
 
 pub invariant_of-self : goal.invariant_of-self
 invariant_of-self c =
@@ -46,7 +47,8 @@ invariant_of-self c =
           };
           credit = h.credit;
           counts = fit_settled _ _ _ _ _ _ _ h.counts _ _ _ c.raise_all.ensures.after c.next_count.ensures c.next_count-2.ensures;
-          told = told_raised limits.role limits.settings core.recvs core.outbox.outstanding core.outbox.acked core.untold h.told c.raise_all.new.self c.raise_all.new.untold c.raise_all.ensures.after c.raise_all.ensures.marks c.raise_all.ensures.marked;
+          told_in = told_each (TellsAt limits.role limits.settings) core.recvs core.outbox.outstanding core.outbox.acked core.untold_recvs h.told_in raise c.raise_all.new.self c.raise_all.new.untold c.raise_all.ensures.after c.raise_all.ensures.marks c.raise_all.ensures.marked;
+          told_out = h.told_out;
         };
         idle = k.rest.idle;
       };

@@ -5,8 +5,8 @@ use Rattle.qs_wire.specs.declared.frame.Frame.{Frame}
 use Rattle.qs_calls.specs.declared.token.Taken.{Taken}
 use Rattle.qs_calls.specs.declared.token.TakeFault.{TakeFault}
 use Rattle.qs_machine.specs.Ends.{End}
-use Rattle.qs_machine.specs.Alone.{TakesEach}
-use Rattle.qs_conn.proofs.Alones.{so_far, any_took, one_more, one_passed, one_stops, none_left}
+use Rattle.qs_machine.specs.Alone.{after_one, TakesEach}
+use Rattle.qs_conn.proofs.Alones.{one_more, one_passed, one_stops, none_left}
 use Rattle.qs_conn.proofs.endpoint.Endpoint.take_each.Goals as goal
 use Rattle.qs_conn.proofs.endpoint.Endpoint.take_each.Goals.{then-is_ours+in_ok-take_one, else-is_ours}
 
@@ -17,15 +17,15 @@ loop-frame-preserved c =
     let All : Result Taken TakeFault → End → Type 0 = λ r x. TakesEach (map view fs) c.args.self.now r x in
     let left : map view (drop c.loop-frame.frame-index fs) ≡ view c.frame-item.result ∷ later_frames =
     at_drop_more (map view) fs c.loop-frame.frame-index c.frame-item.result c.loop-frame-test.true ∙ ap (λ (f : Frame). view f ∷ later_frames) (sym c.frame-item.is) in
-    let onward : (later : Result Taken TakeFault) (last : End) → TakesEach (view c.frame-item.result ∷ later_frames) c.loop-frame.self later last → All (so_far c.loop-frame.taken later) last =
+    let onward : (later : Result Taken TakeFault) (last : End) → TakesEach (view c.frame-item.result ∷ later_frames) c.loop-frame.self later last → All (after_one c.loop-frame.taken later) last =
     λ later last h. c.loop-frame.invariant later last (subst (λ (l : List FrameValue). TakesEach l c.loop-frame.self later last) (sym left) h) in
     λ answer new rest. elim c.if-is_ours.branch [
       | then-is_ours+in_ok-take_one w ↦
-          subst (λ (t : Taken). All (so_far t answer) new) (sym w.taken-is)
-          (one_more c.loop-frame.taken (view c.frame-item.result) later_frames c.loop-frame.self w.take_one.new.self new answer All (sym c.is_ours.ensures ∙ w.if-is_ours.true) (any_took _ _ _ _ w.in_ok-take_one.ensures) onward
+          subst (λ (t : Taken). All (after_one t answer) new) (sym (w.taken-is ∙ w.of_both-taken.ensures))
+          (one_more c.loop-frame.taken _ (view c.frame-item.result) later_frames c.loop-frame.self w.take_one.new.self new answer All (sym c.is_ours.ensures ∙ w.if-is_ours.true) w.in_ok-take_one.ensures onward
           (subst (λ (e : End). TakesEach later_frames e answer new) w.self-is rest))
       | else-is_ours w ↦
-          subst (λ (t : Taken). All (so_far t answer) new) (sym w.taken-is)
+          subst (λ (t : Taken). All (after_one t answer) new) (sym w.taken-is)
           (one_passed c.loop-frame.taken (view c.frame-item.result) later_frames c.loop-frame.self new answer All (sym c.is_ours.ensures ∙ w.if-is_ours.false) onward
           (subst (λ (e : End). TakesEach later_frames e answer new) w.self-is rest))
     ]
@@ -37,7 +37,7 @@ returns-in_err-take_one c =
     let All : Result Taken TakeFault → End → Type 0 = λ r x. TakesEach (map view fs) c.args.self.now r x in
     let left : map view (drop c.loop-frame.frame-index fs) ≡ view c.frame-item.result ∷ later_frames =
     at_drop_more (map view) fs c.loop-frame.frame-index c.frame-item.result c.loop-frame-test.true ∙ ap (λ (f : Frame). view f ∷ later_frames) (sym c.frame-item.is) in
-    let onward : (later : Result Taken TakeFault) (last : End) → TakesEach (view c.frame-item.result ∷ later_frames) c.loop-frame.self later last → All (so_far c.loop-frame.taken later) last =
+    let onward : (later : Result Taken TakeFault) (last : End) → TakesEach (view c.frame-item.result ∷ later_frames) c.loop-frame.self later last → All (after_one c.loop-frame.taken later) last =
     λ later last h. c.loop-frame.invariant later last (subst (λ (l : List FrameValue). TakesEach l c.loop-frame.self later last) (sym left) h) in
     let h = one_stops c.loop-frame.taken (view c.frame-item.result) later_frames c.loop-frame.self c.take_one.new.self _ All (sym c.is_ours.ensures ∙ c.if-is_ours.true) c.in_err-take_one.ensures onward in
     search (rules, h, c.from_residual.ensures)

@@ -4,7 +4,9 @@ use Rattle.qs_conn.proofs.OwnerSteps.{write_err}
 use Rattle.qs_conn.proofs.endpoint.Endpoint.write.Goals as goal
 
 pub invariant_of-self : goal.invariant_of-self
-invariant_of-self c = kept_outbox c.self.inside.core _ _ _ _ _ c.self.invariant _ (rest_written c.self.inside.core c.self.invariant.rest c.args.stream _ _ c.in-Ok.ensures.accepted.0 c.in-Ok.ensures.accepted.2)
+invariant_of-self c =
+    let core = c.self.inside.core in
+    kept_outbox core _ _ _ _ _ c.self.invariant _ _ (rest_written core c.self.invariant.rest c.args.stream _ _ _ c.in-Ok.ensures.accepted.0 c.in-Ok.ensures.accepted.2 c.look_blocked.ensures.more c.look_blocked.ensures.marked)
 
 pub returns-in-Err : goal.returns-in-Err
 returns-in-Err c =

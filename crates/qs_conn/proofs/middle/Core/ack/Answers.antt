@@ -1,9 +1,18 @@
+use Rattle.std.proofs.Common.{refl}
+use Rattle.qs_wire.specs.Varint.{numbers_of}
+use Rattle.qs_wire.specs.Layout.{ack_ranges_of}
 use Rattle.qs_conn.proofs.AckRuns.{both_passes}
 use Rattle.qs_conn.proofs.Cores.{streams_on}
+use Rattle.qs_conn.proofs.NewlyTold.{told_both}
 use Rattle.qs_conn.proofs.middle.Core.ack.Goals as goal
 
 pub returns-clause-streams : goal.returns-clause-streams
-returns-clause-streams c = streams_on _ _ _ c.in_ok-ack_all.ensures.streams c.ack_all-2.ensures.streams
+returns-clause-streams g c = streams_on _ _ _ c.in_ok-ack_all.ensures.streams c.ack_all-2.ensures.streams
 
 pub returns-clause-step : goal.returns-clause-step
-returns-clause-step c = both_passes _ _ c.ack_all.new.self.outbox _ _ (rw (← c.new.ensures) c.in_ok-ack_all.ensures.step) (rw (← c.new-2.ensures) c.ack_all-2.ensures.step)
+returns-clause-step g c = both_passes _ _ c.ack_all.new.self.outbox _ _ (rw (← c.new.ensures) c.in_ok-ack_all.ensures.step) (rw (← c.new-2.ensures) c.ack_all-2.ensures.step)
+
+pub returns-clause-told : goal.returns-clause-told
+returns-clause-told g c =
+    told_both g.T.Told.tells (ack_ranges_of c.args.largest (numbers_of c.args.ranges.now)) c.args.self.now.outbox c.ack_all.new.self.outbox c.ack_all-2.new.self.outbox c.ack_all-2.result c.args.told.now c.ack_all.new.told
+    (rw (← c.new.ensures) (c.in_ok-ack_all.ensures.told refl)) (rw (← c.new-2.ensures) c.ack_all-2.ensures.step)

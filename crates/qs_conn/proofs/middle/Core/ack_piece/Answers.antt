@@ -13,14 +13,14 @@ recount-requires-clause-part c = counted_part _ _ _ _ _ _ c.requires.rest.core.c
 pub returns-clause-rest : goal.returns-clause-rest
 returns-clause-rest c =
     let self = c.args.self.now in
-    rest_acked self c.requires.rest c.args.packet.late c.args.packet.number c.args.piece c.ack_kept-2.new.self c.look_again.new.self c.recount.new.self c.requires.first c.in_ok-ack_kept.ensures.ok c.look_again.ensures
+    rest_acked self c.requires.rest c.args.packet.late c.args.packet.number c.args.piece c.ack_kept-2.new.self c.look_again.new.recvs c.look_again.new.sends c.recount.new.self c.requires.first c.in_ok-ack_kept.ensures.ok c.look_again.ensures.recvs c.look_again.ensures.sends
     (piece_recounted self.limits.role self.recvs c.args.packet.late c.args.packet.number c.in-Some.stream c.args.piece self.outbox c.ack_kept-2.new.self self.ended c.recount.new.self c.is_over-was.result c.is_over-is.result
     (sym c.half_of.ensures ∙ c.in-Some.is) c.in_ok-ack_kept.ensures.ok c.requires.rest.core.counts.counted c.is_over-was.ensures.value c.is_over-is.ensures.value c.recount.ensures)
     c.ack_kept-2.ensures.idle
 
 pub returns-in_default-clause-rest : goal.returns-in_default-clause-rest
 returns-in_default-clause-rest c =
-    rest_acked_by c.args.self.now c.requires.rest c.ack_kept.result c.args.packet.late c.args.packet.number c.args.piece c.ack_kept.new.self c.look_again.new.self c.requires.first (sym c.half_of.ensures ∙ c.in_default.is) c.ack_kept.ensures.ok c.ack_kept.ensures.err c.look_again.ensures c.ack_kept.ensures.idle
+    rest_acked_by c.args.self.now c.requires.rest c.ack_kept.result c.args.packet.late c.args.packet.number c.args.piece c.ack_kept.new.self c.look_again.new.recvs c.look_again.new.sends c.requires.first (sym c.half_of.ensures ∙ c.in_default.is) c.ack_kept.ensures.ok c.ack_kept.ensures.err c.look_again.ensures.recvs c.look_again.ensures.sends c.ack_kept.ensures.idle
 
 pub returns-in_err-ack_kept-clause-rest : goal.returns-in_err-ack_kept-clause-rest
-returns-in_err-ack_kept-clause-rest c = rest_marked c.args.self.now c.requires.rest c.args.piece c.ack_kept-2.new.self c.look_again.new.self c.in_err-ack_kept.ensures.err c.look_again.ensures
+returns-in_err-ack_kept-clause-rest c = rest_marked c.args.self.now c.requires.rest c.args.piece c.ack_kept-2.new.self c.look_again.new.recvs c.look_again.new.sends c.in_err-ack_kept.ensures.err c.look_again.ensures.recvs c.look_again.ensures.sends

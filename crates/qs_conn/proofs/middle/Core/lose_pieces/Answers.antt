@@ -10,14 +10,14 @@ loop-piece-preserved c =
     let before = c.loop-piece.invariant in
     let first = sym c.first.ensures ∙ c.in-Some.is in
     record {
-      rest = rest_lost c.loop-piece.self before.rest c.args.number c.in-Some.piece c.lose_first.new.self c.look_again.new.self first c.in_ok-lose_first.ensures.ok c.look_again.ensures c.lose_first.ensures.idle;
+      rest = rest_lost c.loop-piece.self before.rest c.args.number c.in-Some.piece c.lose_first.new.self c.look_again.new.recvs c.look_again.new.sends first c.in_ok-lose_first.ensures.ok c.look_again.ensures.recvs c.look_again.ensures.sends c.lose_first.ensures.idle;
       streams = record { limits = before.streams.limits; recvs = before.streams.recvs };
       ended = before.ended;
       onward = λ result new h. before.onward result new (loses_more c.args.number c.loop-piece.self.outbox c.lose_first.new.self new c.in-Some.piece result first c.in_ok-lose_first.ensures.ok h);
     }
 
 pub returns-in_err-lose_first-clause-rest : goal.returns-in_err-lose_first-clause-rest
-returns-in_err-lose_first-clause-rest c = rest_marked c.loop-piece.self c.loop-piece.invariant.rest c.in-Some.piece c.lose_first.new.self c.look_again.new.self c.in_err-lose_first.ensures.err c.look_again.ensures
+returns-in_err-lose_first-clause-rest c = rest_marked c.loop-piece.self c.loop-piece.invariant.rest c.in-Some.piece c.lose_first.new.self c.look_again.new.recvs c.look_again.new.sends c.in_err-lose_first.ensures.err c.look_again.ensures.recvs c.look_again.ensures.sends
 
 pub returns-in_err-lose_first-clause-step : goal.returns-in_err-lose_first-clause-step
 returns-in_err-lose_first-clause-step c =

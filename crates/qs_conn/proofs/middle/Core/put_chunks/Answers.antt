@@ -48,7 +48,7 @@ loop-chunk-preserved c =
           (chunking_put around first self.limits self.recvs self.outbox e wish room old c.loop-chunk.out c.put_chunk-len.new.out c.loop-chunk.len c.put_chunk-len.result n c.in-Some.chunk left c.loop-chunk.fresh s h next c.in-Some.ensures.2.1 filled.filling.within (at ∙ sym filled.room) refl c.loop-chunk.invariant.fresh put.count put.text (c.loop-chunk.invariant.chunking around first wish room old e asked at on f));
       is_open = subst (λ x. is_some (lookup x.sends n) ≡ true) (sym put.outbox) (still_open self.outbox n s c.in-Some.chunk h);
       fresh = ap (λ k. known - k) c.sent_sum-in-Some.ensures.value;
-      filled = fills_on _ _ _ _ _ _ _ _ _ filled (fills_outbox self c.put_chunk-len.new.outbox _ _ _ _ (core_chunk self filled.filling.core n c.in-Some.chunk _ _ put.outbox put.count credit) put.within put.spare put.rest put.room);
+      filled = fills_on _ _ _ _ _ _ _ _ _ filled (fills_outbox self c.put_chunk-len.new.outbox c.look_blocked.new.self _ _ _ _ (core_chunk self filled.filling.core n c.in-Some.chunk _ _ _ put.outbox put.count credit c.look_blocked.ensures.more c.look_blocked.ensures.marked) put.within put.spare put.rest put.room);
     }
 
 pub returns-then-out-len-lt-LEAST_STREAM_FRAME-clause-flow : goal.returns-then-out-len-lt-LEAST_STREAM_FRAME-clause-flow
@@ -70,7 +70,7 @@ returns-then-out-len-lt-LEAST_STREAM_FRAME-clause-filled c =
     let put = c.put_chunk-len.ensures in
     let left = length c.loop-chunk.out - c.loop-chunk.len in
     let credit = sum_within self.outbox n c.in-Some.ensures.0 c.in-Some.chunk left c.loop-chunk.fresh self.limits.known_data c.in-Some.ensures.1 c.in-Some.ensures.2.0 c.loop-chunk.invariant.fresh filled.filling.core.credit in
-    fills_on _ _ _ _ _ _ _ _ _ filled (fills_outbox self c.put_chunk-len.new.outbox _ _ _ _ (core_chunk self filled.filling.core n c.in-Some.chunk _ _ put.outbox put.count credit) put.within put.spare put.rest put.room)
+    fills_on _ _ _ _ _ _ _ _ _ filled (fills_outbox self c.put_chunk-len.new.outbox c.look_blocked.new.self _ _ _ _ (core_chunk self filled.filling.core n c.in-Some.chunk _ _ _ put.outbox put.count credit c.look_blocked.ensures.more c.look_blocked.ensures.marked) put.within put.spare put.rest put.room)
 
 pub returns-clause-flow : goal.returns-clause-flow
 returns-clause-flow c = λ around first wish room old e asked at on f.

@@ -2,18 +2,19 @@ use Rattle.std.proofs.Common.{take, inl}
 use Rattle.qs_machine.specs.Ends.{new_end}
 use Rattle.qs_conn.specs.Middle.{end_of}
 use Rattle.qs_conn.proofs.Cores.{core_item, fills_outbox}
-use Rattle.qs_conn.proofs.Putting.{stage_absent, stage_covered, stage_put}
+use Rattle.qs_conn.proofs.Putting.{stage_told, stage_put}
 use Rattle.qs_conn.proofs.Slots.{may_tell}
+use Rattle.qs_conn.proofs.Untolds.{idle_none, idle_covered}
 use Rattle.qs_conn.proofs.middle.Core.put_slot.Goals as goal
 
 pub returns-in_default-clause-stage : goal.returns-in_default-clause-stage
 returns-in_default-clause-stage c = λ wish room old e passed at before stage.
-    stage_absent wish room old (take c.args.packet.len c.args.out.now) (end_of c.args.self.now e) c.args.packet.is_full passed c.args.slot (c.in_default.ensures.current e) stage
+    stage_told wish room old (take c.args.packet.len c.args.out.now) (end_of c.args.self.now e) c.args.packet.is_full passed c.args.slot (idle_none (end_of c.args.self.now e) c.args.slot (c.in_default.ensures.current e)) stage
 
 pub returns-then-is_covered-clause-stage : goal.returns-then-is_covered-clause-stage
 returns-then-is_covered-clause-stage c = λ wish room old e passed at before stage.
     let self = c.args.self.now in
-    stage_covered wish room old (take c.args.packet.len c.args.out.now) (end_of self e) c.args.packet.is_full passed c.args.slot c.in-Some.item (c.in-Some.ensures.current e) (c.is_covered.ensures.yes self.limits self.recvs e c.if-is_covered.true) stage
+    stage_told wish room old (take c.args.packet.len c.args.out.now) (end_of self e) c.args.packet.is_full passed c.args.slot (idle_covered (end_of self e) c.args.slot c.in-Some.item (c.in-Some.ensures.current e) (c.is_covered.ensures.yes self.limits self.recvs e c.if-is_covered.true)) stage
 
 pub returns-clause-stage : goal.returns-clause-stage
 returns-clause-stage c = λ wish room old e passed at before stage.
@@ -24,7 +25,7 @@ returns-clause-stage c = λ wish room old e passed at before stage.
 pub returns-clause-filled : goal.returns-clause-filled
 returns-clause-filled c =
     let put = c.put_item.ensures in
-    fills_outbox c.args.self.now c.put_item.new.outbox _ _ _ _ (core_item c.args.self.now c.requires.core c.in-Some.item c.args.out.now c.args.packet.len c.put_item.new.out c.put_item.result.len c.put_item.new.outbox c.put_item.result.is_full put.puts) put.within put.spare put.rest put.room
+    fills_outbox c.args.self.now c.put_item.new.outbox c.args.self.now.untold_sends _ _ _ _ (core_item c.args.self.now c.requires.core c.in-Some.item c.args.out.now c.args.packet.len c.put_item.new.out c.put_item.result.len c.put_item.new.outbox c.put_item.result.is_full put.puts) put.within put.spare put.rest put.room
 
 pub put_item-requires-clause-may : goal.put_item-requires-clause-may
 put_item-requires-clause-may c =

@@ -4,7 +4,6 @@ use Rattle.qs_conn.specs.Middle.{end_of}
 use Rattle.qs_conn.specs.Filling.{Flow, turn_at, start_of}
 use Rattle.qs_conn.proofs.Cores.{fills_same, fills_on}
 use Rattle.qs_conn.proofs.Flows.{flow_idle, flow_way, flow_whole, off_way}
-use Rattle.qs_conn.proofs.Quiets.{no_goes}
 use Rattle.qs_conn.proofs.middle.Core.put_way.Goals as goal
 
 pub returns-then-packet-clause-flow : goal.returns-then-packet-clause-flow
@@ -32,7 +31,7 @@ loop-stream-preserved c =
       flow = λ wish room old e all at start. (
           let before = c.loop-stream.invariant.flow wish room old e all at start in
           let here = flow_idle wish room old (take c.loop-stream.packet.len c.loop-stream.out) (end_of c.loop-stream.self e) c.loop-stream.packet.is_full around first c.loop-stream.from stream c.in-Some.ensures.from
-          (λ n ge lt. no_goes c.loop-stream.self.outbox n (c.in-Some.ensures.quiet n ge lt) c.loop-stream.self.limits c.loop-stream.self.recvs e) before in
+          (λ n. c.in-Some.ensures.none n e) before in
           let after = c.put_open-packet.ensures.flow around first wish room old e (all stream) (at ∙ sym c.loop-stream.invariant.filled.room) (c.is_on_way.ensures.0 c.if-not-is_on_way.false) here in
           subst (λ n. Flow wish room old (take c.put_open-packet.result.len c.put_open-packet.new.out) (end_of c.put_open-packet.new.self e) c.put_open-packet.result.is_full (turn_at around first (n + 1))) (sym c.value-from.ensures.same) after);
       filled = fills_on _ _ _ _ _ _ _ _ _ c.loop-stream.invariant.filled c.put_open-packet.ensures.filled;
@@ -41,7 +40,7 @@ loop-stream-preserved c =
 pub returns-then-not-is_on_way-clause-flow : goal.returns-then-not-is_on_way-clause-flow
 returns-then-not-is_on_way-clause-flow c = λ wish room old e all at start.
     flow_way wish room old (take c.loop-stream.packet.len c.loop-stream.out) (end_of c.loop-stream.self e) c.loop-stream.packet.is_full c.args.around c.args.first c.loop-stream.from
-    (λ n le on. no_goes c.loop-stream.self.outbox n (c.in-Some.ensures.quiet n le (off_way c.args.around c.args.first c.loop-stream.from c.in-Some.stream n c.loop-stream.invariant.begun c.in-Some.ensures.from (λ is. true≢false (sym (c.is_on_way.ensures.1 is) ∙ c.if-not-is_on_way.true)) on)) c.loop-stream.self.limits c.loop-stream.self.recvs e)
+    (λ n le on. c.in-Some.ensures.none n e le (off_way c.args.around c.args.first c.loop-stream.from c.in-Some.stream n c.loop-stream.invariant.begun c.in-Some.ensures.from (λ is. true≢false (sym (c.is_on_way.ensures.1 is) ∙ c.if-not-is_on_way.true)) on))
     (c.loop-stream.invariant.flow wish room old e all at start)
 
 pub returns-then-packet-2-clause-flow : goal.returns-then-packet-2-clause-flow
@@ -51,14 +50,14 @@ returns-then-packet-2-clause-flow c = λ wish room old e all at start. (
     let first = c.args.first in
     let before = c.loop-stream.invariant.flow wish room old e all at start in
     let here = flow_idle wish room old (take c.loop-stream.packet.len c.loop-stream.out) (end_of c.loop-stream.self e) c.loop-stream.packet.is_full around first c.loop-stream.from stream c.in-Some.ensures.from
-    (λ n ge lt. no_goes c.loop-stream.self.outbox n (c.in-Some.ensures.quiet n ge lt) c.loop-stream.self.limits c.loop-stream.self.recvs e) before in
+    (λ n. c.in-Some.ensures.none n e) before in
     let after = c.put_open-packet.ensures.flow around first wish room old e (all stream) (at ∙ sym c.loop-stream.invariant.filled.room) (c.is_on_way.ensures.0 c.if-not-is_on_way.false) here in
     flow_whole wish room old (take c.put_open-packet.result.len c.put_open-packet.new.out) (end_of c.put_open-packet.new.self e) c.put_open-packet.result.is_full around first (stream + 1) c.if-packet-2.true after)
 
 pub returns-clause-flow : goal.returns-clause-flow
 returns-clause-flow c = λ wish room old e all at start.
     flow_way wish room old (take c.loop-stream.packet.len c.loop-stream.out) (end_of c.loop-stream.self e) c.loop-stream.packet.is_full c.args.around c.args.first c.loop-stream.from
-    (λ n le on. no_goes c.loop-stream.self.outbox n (c.in_default.ensures.quiet n le tt) c.loop-stream.self.limits c.loop-stream.self.recvs e)
+    (λ n le on. c.in_default.ensures.none n e le tt)
     (c.loop-stream.invariant.flow wish room old e all at start)
 
 pub returns-then-packet-2-clause-filled : goal.returns-then-packet-2-clause-filled

@@ -13,7 +13,7 @@ returns-clause-stored c =
     let bidi = c.saturating_add-bidi.ensures in
     let uni = c.saturating_add-uni.ensures in
     let sum = c.saturating_add.ensures in
-    rw (← c.self.view_is) (omega (arith, stored, small, spent, is, c.tally-tally.ensures.paid, bidi, uni, sum, c.held.ensures.stored, c.held-2.ensures.stored, c.held-3.ensures.stored, c.held-4.ensures.stored))
+    rw (← c.self.view_is) (omega (arith, stored, small, spent, is, c.tally-tally.ensures.paid.moved, bidi, uni, sum, c.held.ensures.stored, c.held-2.ensures.stored, c.held-3.ensures.stored, c.held-4.ensures.stored))
 
 pub returns-clause-most : goal.returns-clause-most
 returns-clause-most c =

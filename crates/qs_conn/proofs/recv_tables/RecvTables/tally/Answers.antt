@@ -1,5 +1,5 @@
 use Rattle.std.proofs.Common.{[], ap, arith}
-use Rattle.qs_recv.specs.Lane.{highest, taken}
+use Rattle.qs_recv.specs.Lane.{highest, taken, noted}
 use Rattle.qs_machine.specs.declared.tally.Tally.{Tally}
 use Rattle.qs_machine.specs.Sums.{stored_on}
 use Rattle.qs_machine.proofs.TableEdits.{total_four}
@@ -67,4 +67,16 @@ returns-clause-stored c =
     let bidi = ap (λ (t : Tally). t.stored) c.sum-bidi.ensures.value in
     let uni = ap (λ (t : Tally). t.stored) c.sum-uni.ensures.value in
     let all = ap (λ (t : Tally). t.stored) c.sum.ensures.value in
+    rw (← c.self.view_is) (omega (arith, whole, a, b, e, d, bidi, uni, all))
+
+pub returns-clause-noted : goal.returns-clause-noted
+returns-clause-noted c =
+    let whole = total_four noted c.self.inside.types c.index-self-0.result c.index-self-1.result c.index-self-2.result c.index-self-3.result c.self.invariant in
+    let a = ap (λ (t : Tally). t.noted) c.tally.ensures.value in
+    let b = ap (λ (t : Tally). t.noted) c.tally-2.ensures.value in
+    let e = ap (λ (t : Tally). t.noted) c.tally-3.ensures.value in
+    let d = ap (λ (t : Tally). t.noted) c.tally-4.ensures.value in
+    let bidi = ap (λ (t : Tally). t.noted) c.sum-bidi.ensures.value in
+    let uni = ap (λ (t : Tally). t.noted) c.sum-uni.ensures.value in
+    let all = ap (λ (t : Tally). t.noted) c.sum.ensures.value in
     rw (← c.self.view_is) (omega (arith, whole, a, b, e, d, bidi, uni, all))

@@ -1,6 +1,6 @@
 use Rattle.qs_conn.specs.declared.send_marks.Task.TheVariants as tasks
 use Rattle.qs_conn.specs.Tasks.{IsQuiet, marks_of}
-use Rattle.qs_conn.proofs.SendEdits.{ok_at, asked_at, acked_keeps}
+use Rattle.qs_conn.proofs.SendEdits.{ok_at, asked_at, acked_again}
 use Rattle.qs_conn.proofs.Marked.{mark_there}
 use Rattle.qs_conn.proofs.Tasks.{all_looked, still_quiet}
 use Rattle.qs_conn.proofs.send_lanes.SendLanes.acked.Goals as goal
@@ -8,13 +8,10 @@ use Rattle.qs_conn.proofs.send_lanes.SendLanes.acked.Goals as goal
 pub look_acked-requires-clause-there : goal.look_acked-requires-clause-there
 look_acked-requires-clause-there c = λ t. mark_there (IsQuiet t) c.self.inside.halves.items (marks_of c.self.inside.marks t) c.args.index (c.self.invariant.1 t) (rw c.self.view_is c.requires.there)
 
-pub look_acked-requires-clause-reset : goal.look_acked-requires-clause-reset
-look_acked-requires-clause-reset c =
-    still_quiet tasks.Reset c.self.inside.halves.items c.self.inside.marks c.args.index c.index_mut-half.result.now c.acked-answer.new.self c.self.invariant.1 (rw c.self.view_is c.requires.there) c.index_mut-half.ensures.value (acked_keeps c.acked-answer.result tasks.Reset c.index_mut-half.result.now c.acked-answer.new.self c.args.chunk (λ q. q) c.acked-answer.ensures.ok c.acked-answer.ensures.err)
-
-pub look_acked-requires-clause-block : goal.look_acked-requires-clause-block
-look_acked-requires-clause-block c =
-    still_quiet tasks.Blocked c.self.inside.halves.items c.self.inside.marks c.args.index c.index_mut-half.result.now c.acked-answer.new.self c.self.invariant.1 (rw c.self.view_is c.requires.there) c.index_mut-half.ensures.value (acked_keeps c.acked-answer.result tasks.Blocked c.index_mut-half.result.now c.acked-answer.new.self c.args.chunk (λ q. q) c.acked-answer.ensures.ok c.acked-answer.ensures.err)
+pub look_acked-requires-clause-again : goal.look_acked-requires-clause-again
+look_acked-requires-clause-again c =
+    still_quiet tasks.Again c.self.inside.halves.items c.self.inside.marks c.args.index c.index_mut-half.result.now c.acked-answer.new.self c.self.invariant.1 (rw c.self.view_is c.requires.there) c.index_mut-half.ensures.value
+    (acked_again c.acked-answer.result c.index_mut-half.result.now c.acked-answer.new.self c.args.chunk c.acked-answer.ensures.ok c.acked-answer.ensures.err)
 
 pub invariant_of-self : goal.invariant_of-self
 invariant_of-self c = all_looked _ _ _ c.args.index c.acked-answer.new.self c.look_acked.ensures c.self.invariant

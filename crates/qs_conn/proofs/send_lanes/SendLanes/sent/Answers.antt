@@ -1,7 +1,11 @@
-use Rattle.std.proofs.Common.{sym, subst}
+use Rattle.std.proofs.Common.{◌∙◌, sym, subst}
 use Rattle.qs_conn.specs.declared.send_marks.Task.TheVariants as tasks
 use Rattle.qs_conn.specs.Tasks.{IsQuiet, marks_of}
+use Rattle.std.proofs.lemmas.List.{get_or_default}
+use Rattle.qs_send.specs.Chunks.{IsDueChunk}
+use Rattle.qs_machine.specs.Sums.{no_sending}
 use Rattle.qs_conn.proofs.LaneEdits.{changed_at}
+use Rattle.qs_conn.proofs.SendEdits.{sent_again}
 use Rattle.qs_conn.proofs.Marked.{mark_there}
 use Rattle.qs_conn.proofs.Tasks.{all_looked, still_quiet}
 use Rattle.qs_conn.proofs.send_lanes.SendLanes.sent.Goals as goal
@@ -9,9 +13,10 @@ use Rattle.qs_conn.proofs.send_lanes.SendLanes.sent.Goals as goal
 pub look_sent-requires-clause-there : goal.look_sent-requires-clause-there
 look_sent-requires-clause-there c = λ t. mark_there (IsQuiet t) c.self.inside.halves.items (marks_of c.self.inside.marks t) c.args.index (c.self.invariant.1 t) (rw c.self.view_is c.requires.there)
 
-pub look_sent-requires-clause-reset : goal.look_sent-requires-clause-reset
-look_sent-requires-clause-reset c =
-    still_quiet tasks.Reset c.self.inside.halves.items c.self.inside.marks c.args.index c.index_mut-half.result.now c.sent.new.self c.self.invariant.1 (rw c.self.view_is c.requires.there) c.index_mut-half.ensures.value (λ q. subst (IsQuiet tasks.Reset) (sym c.sent.ensures) q)
+pub look_sent-requires-clause-again : goal.look_sent-requires-clause-again
+look_sent-requires-clause-again c =
+    let due = subst (λ s. IsDueChunk s c.args.chunk) (sym (c.index_mut-half.ensures.value ∙ get_or_default c.self.inside.halves.items c.args.index _ no_sending (rw c.self.view_is c.requires.there))) (rw c.self.view_is c.requires.due) in
+    still_quiet tasks.Again c.self.inside.halves.items c.self.inside.marks c.args.index c.index_mut-half.result.now c.sent.new.self c.self.invariant.1 (rw c.self.view_is c.requires.there) c.index_mut-half.ensures.value (λ q. subst (IsQuiet tasks.Again) (sym c.sent.ensures) (sent_again c.index_mut-half.result.now c.args.chunk due q))
 
 pub look_sent-requires-clause-room : goal.look_sent-requires-clause-room
 look_sent-requires-clause-room c =

@@ -24,13 +24,13 @@ returns-then-not-may_write-clause-accepted c =
 pub look_written-requires-clause-there : goal.look_written-requires-clause-there
 look_written-requires-clause-there c = λ t. mark_there (IsQuiet t) c.self.inside.halves.items (marks_of c.self.inside.marks t) c.args.index (c.self.invariant.1 t) (rw c.self.view_is c.requires)
 
-pub look_written-requires-clause-reset : goal.look_written-requires-clause-reset
-look_written-requires-clause-reset c =
-    still_quiet tasks.Reset c.self.inside.halves.items c.self.inside.marks c.args.index c.index_mut-half.result.now c.write-answer.new.self c.self.invariant.1 (rw c.self.view_is c.requires) c.index_mut-half.ensures.value (wrote_keeps c.write-answer.result c.index_mut-half.result.now c.write-answer.new.self c.args.bytes.now c.write-answer.ensures.accepted c.write-answer.ensures.refused).0
+pub look_written-requires-clause-again : goal.look_written-requires-clause-again
+look_written-requires-clause-again c =
+    still_quiet tasks.Again c.self.inside.halves.items c.self.inside.marks c.args.index c.index_mut-half.result.now c.write-answer.new.self c.self.invariant.1 (rw c.self.view_is c.requires) c.index_mut-half.ensures.value (wrote_keeps c.write-answer.result c.index_mut-half.result.now c.write-answer.new.self c.args.bytes.now c.write-answer.ensures.accepted c.write-answer.ensures.refused c.is_lawful.ensures.order.sent_written).0
 
 pub look_written-requires-clause-end : goal.look_written-requires-clause-end
 look_written-requires-clause-end c =
-    still_quiet tasks.Ended c.self.inside.halves.items c.self.inside.marks c.args.index c.index_mut-half.result.now c.write-answer.new.self c.self.invariant.1 (rw c.self.view_is c.requires) c.index_mut-half.ensures.value (wrote_keeps c.write-answer.result c.index_mut-half.result.now c.write-answer.new.self c.args.bytes.now c.write-answer.ensures.accepted c.write-answer.ensures.refused).1
+    still_quiet tasks.Ended c.self.inside.halves.items c.self.inside.marks c.args.index c.index_mut-half.result.now c.write-answer.new.self c.self.invariant.1 (rw c.self.view_is c.requires) c.index_mut-half.ensures.value (wrote_keeps c.write-answer.result c.index_mut-half.result.now c.write-answer.new.self c.args.bytes.now c.write-answer.ensures.accepted c.write-answer.ensures.refused c.is_lawful.ensures.order.sent_written).1
 
 pub invariant_of-self : goal.invariant_of-self
 invariant_of-self c = all_looked _ _ _ c.args.index c.write-answer.new.self c.look_written.ensures c.self.invariant

@@ -7,11 +7,12 @@ use Rattle.qs_conn.proofs.send_marks.SendMarks.look_sent.Goals as goal
 pub set-requires : goal.set-requires
 set-requires c = c.requires.there tasks.Bytes
 
-pub set-requires-2 : goal.set-requires-2
-set-requires-2 c = c.requires.there tasks.Blocked
+pub look_again-requires-clause-there : goal.look_again-requires-clause-there
+look_again-requires-clause-there c = c.requires.there tasks.Again
 
 pub returns : goal.returns
 returns c =
     let marks = c.args.self.now in
     let i = c.args.index in
-    looked marks (record { bytes = c.set.new.self; resets = marks.resets; blocks = c.set-2.new.self; writable = marks.writable; ended = marks.ended }) i c.args.half.now c.may_send.result (is_marked marks.resets i) c.may_be_blocked.result (is_marked marks.writable i) (is_marked marks.ended i) c.may_send.ensures.none c.requires.reset c.may_be_blocked.ensures.none c.requires.room c.requires.end c.set.ensures (mark_kept marks.resets i) c.set-2.ensures (mark_kept marks.writable i) (mark_kept marks.ended i)
+    let again = c.look_again.ensures in
+    looked marks (record { bytes = c.set.new.self; again = c.look_again.new.again; writable = marks.writable; ended = marks.ended }) i c.args.half.now c.may_send.result again.0 (is_marked marks.writable i) (is_marked marks.ended i) c.may_send.ensures.none again.1 c.requires.room c.requires.end c.set.ensures again.2 (mark_kept marks.writable i) (mark_kept marks.ended i)

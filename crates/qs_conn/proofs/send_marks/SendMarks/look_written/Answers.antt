@@ -9,13 +9,10 @@ pub set-requires : goal.set-requires
 set-requires c = c.requires.there tasks.Bytes
 
 pub set-requires-2 : goal.set-requires-2
-set-requires-2 c = c.requires.there tasks.Blocked
-
-pub set-requires-3 : goal.set-requires-3
-set-requires-3 c = c.requires.there tasks.Writable
+set-requires-2 c = c.requires.there tasks.Writable
 
 pub returns : goal.returns
 returns c =
     let marks = c.args.self.now in
     let i = c.args.index in
-    looked marks (record { bytes = c.set.new.self; resets = marks.resets; blocks = c.set-2.new.self; writable = c.set-3.new.self; ended = marks.ended }) i c.args.half.now c.may_send.result (is_marked marks.resets i) c.may_be_blocked.result c.is_writable.result (is_marked marks.ended i) c.may_send.ensures.none c.requires.reset c.may_be_blocked.ensures.none (λ is. sym c.is_writable.ensures ∙ is) c.requires.end c.set.ensures (mark_kept marks.resets i) c.set-2.ensures c.set-3.ensures (mark_kept marks.ended i)
+    looked marks (record { bytes = c.set.new.self; again = marks.again; writable = c.set-2.new.self; ended = marks.ended }) i c.args.half.now c.may_send.result (is_marked marks.again i) c.is_writable.result (is_marked marks.ended i) c.may_send.ensures.none c.requires.again (λ is. sym c.is_writable.ensures ∙ is) c.requires.end c.set.ensures (mark_kept marks.again i) c.set-2.ensures (mark_kept marks.ended i)

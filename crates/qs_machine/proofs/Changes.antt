@@ -1,0 +1,306 @@
+-- A frame without a fault changes an end exactly where a test of what it finds says so.
+use Rattle.std.proofs.Common.{◌≡◌, ℕ, ◌+◌, ◌≤◌, Bool, true, false, not, ◌&&◌, ◌||◌, cond, List, [], length, Option, Some, None, is_some, ◌⊎◌, refl, sym, ap, ◌∙◌, subst, arith, inl, inr}
+use Rattle.std.specs.Prelude.{max, nat_lt, is_none, ◌==◌, IsOk}
+use Rattle.std.specs.FinSet as set
+use Rattle.std.proofs.lemmas.Option.{none-some, same_Some}
+use Rattle.std.proofs.lemmas.Bool.{both_ways, cond_both, or_cases, or_right}
+use Rattle.std.proofs.lemmas.Bool.Decides.{nat_tests}
+use Rattle.qs_ranges.specs.Numbers.{covers, is_within, numbers}
+use Rattle.qs_ranges.proofs.Sets.{covers-is, covers-of}
+use Rattle.qs_ranges.proofs.Algebra.{inside}
+use Rattle.qs_wire.specs.declared.stream_id.Dir.TheVariants.{Bidi, Uni}
+use Rattle.qs_recv.specs.Assembled.{put, forget}
+use Rattle.qs_recv.specs.Lane.{RecvLane, check_stream, take_stream, take_reset, is_whole, breaks_known, highest}
+use Rattle.qs_recv.specs.Changes.{stream_changes}
+use Rattle.qs_recv.proofs.AssembledLaws.{contains-with_run}
+use Rattle.qs_recv.proofs.LawfulLaws.{unbroken}
+use Rattle.qs_send.specs.Lane.{SendLane, reset_refusal, reset_lane, first_code, stopped_lane, allow_lane, is_whole as is_sent_whole}
+use Rattle.qs_send.specs.Changes.{stop_changes}
+use Rattle.qs_send.specs.declared.parts.Reset.{Reset}
+use Rattle.qs_send.specs.declared.parts.SendFault.{SendFault}
+use Rattle.qs_send.specs.declared.parts.SendFault.TheVariants.{WasReset, Finished}
+use Rattle.qs_send.specs.declared.piece.Item.{Item}
+use Rattle.qs_send.specs.declared.piece.Item.TheVariants.{MaxData, MaxStreamData, MaxStreams, ResetStream, StopSending, DataBlocked, StreamDataBlocked, StreamsBlocked}
+use Rattle.qs_machine.specs.Tables.{Tables, lookup, updated, open_to}
+use Rattle.qs_machine.specs.Ends.{End, is_own, is_uni, send_lane, recv_lane, on_send, on_recv, opens, opened_by_peer, window}
+use Rattle.qs_machine.specs.Seen.{Seen, Ack, Stream, Control, Close, Plain}
+use Rattle.qs_machine.specs.Verdicts.{verdict, state_fault_in, state_fault_out, or_new}
+use Rattle.qs_machine.specs.FrameStep.{frame_taken, item_taken}
+use Rattle.qs_machine.specs.Alone.{is_ours}
+use Rattle.qs_machine.specs.Changes.{is_yet_to_open, half_changes, reset_changes, item_changes, changes}
+use Rattle.qs_machine.proofs.Choices.{not_chosen}
+use Rattle.qs_machine.proofs.TablesAfter.{open_back}
+use Rattle.qs_machine.proofs.Taken.{out_there, in_there, stream_in, reset_in, stream_checked, mid_sends}
+use Rattle.qs_machine.proofs.LanesAgain.{put_again}
+use Rattle.qs_machine.proofs.Again.{WasOpened, opens_it, opened_back, recv_back, send_back, changed, stopped_back, allow_back}
+
+-- Tests
+
+neither : (a b : Bool) → (a || b) ≡ false → (a ≡ false) × (b ≡ false)
+neither true b h = absurd (both_ways true h refl)
+neither false b h = (refl, h)
+
+both_true : (a b : Bool) → (a && b) ≡ true → (a ≡ true) × (b ≡ true)
+both_true true b h = (refl, h)
+both_true false b h = absurd (both_ways false refl h)
+
+not_false : (b : Bool) → not b ≡ false → b ≡ true
+not_false true h = refl
+not_false false h = absurd (both_ways true h refl)
+
+not_true : (b : Bool) → not b ≡ true → b ≡ false
+not_true true h = absurd (both_ways false refl h)
+not_true false h = refl
+
+is_there : {X : Type 0} (o : Option X) → is_none o ≡ false → is_some o ≡ true
+is_there None h = absurd (both_ways true h refl)
+is_there (Some x) h = refl
+
+is_missing : {X : Type 0} (o : Option X) → is_none o ≡ true → o ≡ None
+is_missing None h = refl
+is_missing (Some x) h = absurd (both_ways false refl h)
+
+the_one : {X : Type 0} (o : Option X) → is_some o ≡ true → (x : X) × (o ≡ Some x)
+the_one None h = absurd (both_ways false refl h)
+the_one (Some x) h = (x, refl)
+
+half_true : {L : Type 0} (g : L → Bool) (o : Option L) → half_changes g o ≡ true → (l : L) × (o ≡ Some l) × (g l ≡ true)
+half_true g None h = absurd (both_ways false refl h)
+half_true g (Some l) h = (l, refl, h)
+
+half_false : {L : Type 0} (g : L → Bool) (o : Option L) (l : L) → o ≡ Some l → half_changes g o ≡ false → g l ≡ false
+half_false g o l is h = sym (ap (half_changes g) is) ∙ h
+
+-- Receiving halves
+
+known_end : (f : Option ℕ) (end n : ℕ) (fin : Bool) (before : ℕ) → breaks_known f end n fin before ≡ false → (fin && is_none f) ≡ false → cond fin (Some end) f ≡ f
+known_end f end n false before fine told = refl
+known_end None end n true before fine told = absurd (both_ways true told refl)
+known_end (Some s) end n true before fine told = let e : end ≡ s = grind (arith, nat_tests) in ap Some e
+
+data_same : (l : RecvLane) (offset : ℕ) (bytes : List ℕ) (fin : Bool) → IsOk (check_stream l offset (length bytes) fin) → stream_changes l offset (length bytes) fin ≡ false → take_stream l offset bytes fin ≡ l
+data_same l offset bytes fin ok none =
+    let (told, came) = neither _ _ none in
+    let size = known_end l.final_size (offset + length bytes) (length bytes) fin (highest l) (unbroken l offset (length bytes) fin ok) told in
+    let arrived = by_reset l.reset_code (covers l.arrived.received offset (offset + length bytes)) came (λ all. put_again l.arrived offset bytes (covers-is l.arrived.received offset (offset + length bytes) all)) in
+    λ i. record l { arrived = arrived i; final_size = size i }
+  where
+    by_reset : {X : Type 0} {x y : X} (o : Option ℕ) (b : Bool) → (is_none o && not b) ≡ false → (b ≡ true → y ≡ x) → cond (is_some o) x y ≡ x
+    by_reset (Some code) b h same = refl
+    by_reset None b h same = same (not_false b h)
+
+data_differs : (l : RecvLane) (offset : ℕ) (bytes : List ℕ) (fin : Bool) → stream_changes l offset (length bytes) fin ≡ true → take_stream l offset bytes fin ≡ l → ⊥
+data_differs l offset bytes fin some same =
+    elim (or_cases _ _ some) [
+      | inl ends ↦ no_size fin l.final_size ends (ap (λ (k : RecvLane). k.final_size) same)
+      | inr new ↦
+          let (open_still, missing) = both_true (is_none l.reset_code) _ new in
+          both_ways (covers l.arrived.received offset (offset + length bytes)) (not_true _ missing)
+          (covers-of l.arrived.received offset (offset + length bytes) (λ q low high.
+          sym (ap (λ (k : RecvLane). set.contains k.arrived.received q) same)
+          ∙ put_at l.reset_code (is_missing l.reset_code open_still) q
+          ∙ contains-with_run l.arrived.received offset (length bytes) q
+          ∙ or_right (set.contains l.arrived.received q) (is_within offset (offset + length bytes) q) (inside offset (offset + length bytes) q low high)))
+    ]
+  where
+    no_size : (b : Bool) (f : Option ℕ) → (b && is_none f) ≡ true → cond b (Some (offset + length bytes)) f ≡ f → ⊥
+    no_size false f h is = both_ways false refl h
+    no_size true None h is = none-some _ (sym is)
+    no_size true (Some s) h is = both_ways false refl h
+
+    put_at : (o : Option ℕ) → o ≡ None → (q : ℕ) → set.contains (cond (is_some o) l.arrived (put l.arrived offset bytes)).received q ≡ set.contains (put l.arrived offset bytes).received q
+    put_at o is q = ap (λ c. set.contains (cond (is_some c) l.arrived (put l.arrived offset bytes)).received q) is
+
+reset_same : (l : RecvLane) (code size : ℕ) → reset_changes l ≡ false → take_reset l code size ≡ l
+reset_same l code size none = ap (λ b. cond b l (record l { arrived = forget l.arrived; final_size = Some size; reset_code = Some code })) (not_false _ none)
+
+reset_differs : (l : RecvLane) (code size : ℕ) → reset_changes l ≡ true → take_reset l code size ≡ l → ⊥
+reset_differs l code size some same =
+    let over = not_true (is_some l.reset_code || is_whole l) some in
+    let then = ap (λ b. is_some (cond b l (record l { arrived = forget l.arrived; final_size = Some size; reset_code = Some code })).reset_code) over in
+    both_ways (is_some l.reset_code) (neither _ _ over).0 (sym (ap (λ (k : RecvLane). is_some k.reset_code) same) ∙ then)
+
+-- Sending halves
+
+allow_same : (l : SendLane) (m : ℕ) → nat_lt l.limit m ≡ false → allow_lane l m ≡ l
+allow_same l m none = allow_back l m (grind (arith, nat_tests))
+
+allow_differs : (l : SendLane) (m : ℕ) → nat_lt l.limit m ≡ true → allow_lane l m ≡ l → ⊥
+allow_differs l m some same = let e : max l.limit m ≡ l.limit = ap (λ (k : SendLane). k.limit) same in grind (arith, nat_tests)
+
+stop_same : (l : SendLane) (code : ℕ) → stop_changes l ≡ false → stopped_lane l code ≡ l
+stop_same l code none = let (told, refused) = neither _ _ none in stopped_back l code (is_there (reset_refusal l) refused) (is_there l.stopped told)
+
+stop_differs : (l : SendLane) (code : ℕ) → stop_changes l ≡ true → stopped_lane l code ≡ l → ⊥
+stop_differs l code some same =
+    elim (or_cases _ _ some) [
+      | inl none ↦ no_code l.stopped none (ap (λ (k : SendLane). k.stopped) same)
+      | inr open_still ↦
+          let none = is_missing (reset_refusal l) open_still in
+          let now : is_some (stopped_lane l code).was_reset ≡ true =
+          ap (λ o. is_some (cond (is_some o) l (record l { kept = []; was_reset = Some (record { code = code; size = cond l.fin_sent l.written l.sent_end }) })).was_reset) none in
+          both_ways (is_some l.was_reset) (was_none WasReset Finished l.was_reset (is_sent_whole l) none) (sym (ap (λ (k : SendLane). is_some k.was_reset) same) ∙ now)
+    ]
+  where
+    no_code : (o : Option ℕ) → is_none o ≡ true → first_code o code ≡ o → ⊥
+    no_code None h is = none-some code (sym is)
+    no_code (Some first) h is = both_ways false refl h
+
+    was_none : (a b : SendFault) (o : Option Reset) (whole : Bool) → cond (is_some o) (Some a) (cond whole (Some b) None) ≡ None → is_some o ≡ false
+    was_none a b None whole h = refl
+    was_none a b (Some r) whole h = absurd (none-some a (sym h))
+
+-- The streams of an end
+
+halves_open : (own uni : Bool) (r : Option RecvLane) (s : Option SendLane) → (not own && (is_none r || (not uni && is_none s))) ≡ false → own ≡ false → (is_some r ≡ true) × ((uni && not own) ≡ false → is_some s ≡ true)
+halves_open true uni r s h other = absurd (both_ways true other refl)
+halves_open false uni None s h other = absurd (both_ways true h refl)
+halves_open false true (Some l) s h other = (refl, λ c. absurd (both_ways true c refl))
+halves_open false false (Some l) None h other = absurd (both_ways true h refl)
+halves_open false false (Some l) (Some k) h other = (refl, λ c. refl)
+
+half_missing : (own uni : Bool) (r : Option RecvLane) (s : Option SendLane) → (not own && (is_none r || (not uni && is_none s))) ≡ true → (own ≡ false) × ((r ≡ None) ⊎ ((uni ≡ false) × (s ≡ None)))
+half_missing true uni r s h = absurd (both_ways false refl h)
+half_missing false uni None s h = (refl, inl refl)
+half_missing false true (Some l) s h = absurd (both_ways false refl h)
+half_missing false false (Some l) None h = (refl, inr (refl, refl))
+half_missing false false (Some l) (Some k) h = absurd (both_ways false refl h)
+
+was_opened : (n : ℕ) (e : End) → is_yet_to_open e n ≡ false → WasOpened e n
+was_opened n e none other =
+    let (r, s) = halves_open (is_own e n) (is_uni n) (recv_lane e n) (send_lane e n) none other in
+    record { recvs = λ c. r; sends = s }
+
+updated_open : {X : Type 0} (t : Tables X) (n : ℕ) (f : X → X) → is_some (lookup t n) ≡ true → is_some (lookup (updated t n f (lookup t n)) n) ≡ true
+updated_open t n f is = let (x, there) = the_one (lookup t n) is in ap is_some (changed t n f x there)
+
+-- an end at which a half is open that wasn't before is another end
+open_differs : (n : ℕ) (e k : End) → is_yet_to_open e n ≡ true
+    → (is_some (lookup (opened_by_peer n e).recvs n) ≡ true → is_some (lookup k.recvs n) ≡ true)
+    → (is_some (lookup (opened_by_peer n e).sends n) ≡ true → is_some (lookup k.sends n) ≡ true)
+    → k ≡ e → ⊥
+open_differs n e k yet recvs sends same =
+    let (other, missing) = half_missing (is_own e n) (is_uni n) (recv_lane e n) (send_lane e n) yet in
+    let opened : opened_by_peer n e ≡ opens n e = not_chosen (is_own e n) e (opens n e) other in
+    let at = opens_it n e in
+    elim missing [
+      | inl none ↦
+          both_ways (is_some (recv_lane e n)) (ap is_some none)
+          (sym (ap (λ (x : End). is_some (lookup x.recvs n)) same) ∙ recvs (ap (λ (x : End). is_some (lookup x.recvs n)) opened ∙ at.recvs (ap (λ b. is_uni n && b) other ∙ and_false (is_uni n))))
+      | inr (bidi, none) ↦
+          both_ways (is_some (send_lane e n)) (ap is_some none)
+          (sym (ap (λ (x : End). is_some (lookup x.sends n)) same) ∙ sends (ap (λ (x : End). is_some (lookup x.sends n)) opened ∙ at.sends (ap (λ b. b && not (is_own e n)) bidi)))
+    ]
+  where
+    and_false : (b : Bool) → (b && false) ≡ false
+    and_false true = refl
+    and_false false = refl
+
+recv_same : (n : ℕ) (f : RecvLane → RecvLane) (e : End) → state_fault_in e n ≡ None → is_yet_to_open e n ≡ false → ((l : RecvLane) → lookup e.recvs n ≡ Some l → f l ≡ l) → on_recv n f (opened_by_peer n e) ≡ e
+recv_same n f e fine none stays =
+    let was = was_opened n e none in
+    let is = in_there e e n fine (sym (opened_back n e was)) in
+    recv_back n f _ e was is (stays _ is)
+
+recv_differs : (n : ℕ) (f : RecvLane → RecvLane) (e : End) (l : RecvLane) → state_fault_in e n ≡ None → lookup e.recvs n ≡ Some l → (f l ≡ l → ⊥) → on_recv n f (opened_by_peer n e) ≡ e → ⊥
+recv_differs n f e l fine is differs same =
+    let mid = opened_by_peer n e in
+    let there : lookup mid.recvs n ≡ Some l = in_there e mid n fine refl ∙ ap (λ o. Some (or_new o (window e n))) is in
+    differs (same_Some (f l) l (sym (changed mid.recvs n f l there) ∙ ap (λ (x : End). lookup x.recvs n) same ∙ is))
+
+send_same : (n : ℕ) (f : SendLane → SendLane) (e : End) → state_fault_out e n ≡ None → is_yet_to_open e n ≡ false → ((l : SendLane) → lookup e.sends n ≡ Some l → f l ≡ l) → on_send n f (opened_by_peer n e) ≡ e
+send_same n f e fine none stays =
+    let was = was_opened n e none in
+    let (l, is) = the_one (lookup e.sends n) (out_there e e n fine (sym (opened_back n e was))) in
+    send_back n f l e was is (stays l is)
+
+send_differs : (n : ℕ) (f : SendLane → SendLane) (e : End) (l : SendLane) → lookup e.sends n ≡ Some l → (f l ≡ l → ⊥) → on_send n f (opened_by_peer n e) ≡ e → ⊥
+send_differs n f e l is differs same =
+    let mid = opened_by_peer n e in
+    let kept : mid.sends ≡ e.sends = mid_sends e mid n refl ∙ cond_both _ e.sends (open_to e.sends n _) (λ t. t ≡ e.sends) (λ _. refl) (λ _. open_back e.sends n _ (ap is_some is)) in
+    let there : lookup mid.sends n ≡ Some l = ap (λ t. lookup t n) kept ∙ is in
+    differs (same_Some (f l) l (sym (changed mid.sends n f l there) ∙ ap (λ (x : End). lookup x.sends n) same ∙ is))
+
+on_recv_differs : (n : ℕ) (f : RecvLane → RecvLane) (e : End) → is_yet_to_open e n ≡ true → on_recv n f (opened_by_peer n e) ≡ e → ⊥
+on_recv_differs n f e yet = open_differs n e (on_recv n f (opened_by_peer n e)) yet (updated_open (opened_by_peer n e).recvs n f) (λ is. is)
+
+on_send_differs : (n : ℕ) (f : SendLane → SendLane) (e : End) → is_yet_to_open e n ≡ true → on_send n f (opened_by_peer n e) ≡ e → ⊥
+on_send_differs n f e yet = open_differs n e (on_send n f (opened_by_peer n e)) yet (λ is. is) (updated_open (opened_by_peer n e).sends n f)
+
+-- Frames
+
+max_same : (a m : ℕ) → nat_lt a m ≡ false → max a m ≡ a
+max_same a m none = grind (arith, nat_tests)
+
+max_differs : (a m : ℕ) → nat_lt a m ≡ true → max a m ≡ a → ⊥
+max_differs a m some same = grind (arith, nat_tests)
+
+item_same : (i : Item) (e : End) → verdict e (Control i) ≡ None → item_changes e i ≡ false → item_taken i e ≡ e
+unfolding verdict
+item_same (MaxData m) e v none = ap (λ k. record e { known_data = k }) (max_same e.known_data m none)
+item_same (MaxStreamData n m) e v none =
+    let (yet, half) = neither _ _ none in
+    send_same n (λ l. allow_lane l m) e v yet (λ l is. allow_same l m (half_false (λ (k : SendLane). nat_lt k.limit m) (send_lane e n) l is half))
+item_same (MaxStreams Bidi m) e v none = ap (λ k. record e { known_bidi = k }) (max_same e.known_bidi m none)
+item_same (MaxStreams Uni m) e v none = ap (λ k. record e { known_uni = k }) (max_same e.known_uni m none)
+item_same (ResetStream n code size) e v none =
+    let (yet, half) = neither _ _ none in
+    recv_same n (λ l. take_reset l code size) e (reset_in e n code size v) yet (λ l is. reset_same l code size (half_false reset_changes (recv_lane e n) l is half))
+item_same (StopSending n code) e v none =
+    let (yet, half) = neither _ _ none in
+    send_same n (λ l. stopped_lane l code) e v yet (λ l is. stop_same l code (half_false stop_changes (send_lane e n) l is half))
+item_same (DataBlocked m) e v none = refl
+item_same (StreamDataBlocked n m) e v none = opened_back n e (was_opened n e none)
+item_same (StreamsBlocked d m) e v none = refl
+
+item_differs : (i : Item) (e : End) → verdict e (Control i) ≡ None → item_changes e i ≡ true → item_taken i e ≡ e → ⊥
+unfolding verdict
+item_differs (MaxData m) e v some same = max_differs e.known_data m some (ap (λ (x : End). x.known_data) same)
+item_differs (MaxStreamData n m) e v some same =
+    elim (or_cases _ _ some) [
+      | inl yet ↦ on_send_differs n (λ l. allow_lane l m) e yet same
+      | inr half ↦ (let (l, is, more) = half_true (λ (k : SendLane). nat_lt k.limit m) (send_lane e n) half in send_differs n (λ l. allow_lane l m) e l is (allow_differs l m more) same)
+    ]
+item_differs (MaxStreams Bidi m) e v some same = max_differs e.known_bidi m some (ap (λ (x : End). x.known_bidi) same)
+item_differs (MaxStreams Uni m) e v some same = max_differs e.known_uni m some (ap (λ (x : End). x.known_uni) same)
+item_differs (ResetStream n code size) e v some same =
+    elim (or_cases _ _ some) [
+      | inl yet ↦ on_recv_differs n (λ l. take_reset l code size) e yet same
+      | inr half ↦ (let (l, is, more) = half_true reset_changes (recv_lane e n) half in recv_differs n (λ l. take_reset l code size) e l (reset_in e n code size v) is (reset_differs l code size more) same)
+    ]
+item_differs (StopSending n code) e v some same =
+    elim (or_cases _ _ some) [
+      | inl yet ↦ on_send_differs n (λ l. stopped_lane l code) e yet same
+      | inr half ↦ (let (l, is, more) = half_true stop_changes (send_lane e n) half in send_differs n (λ l. stopped_lane l code) e l is (stop_differs l code more) same)
+    ]
+item_differs (DataBlocked m) e v some same = both_ways false refl some
+item_differs (StreamDataBlocked n m) e v some same = open_differs n e (opened_by_peer n e) some (λ is. is) (λ is. is) same
+item_differs (StreamsBlocked d m) e v some same = both_ways false refl some
+
+-- a frame of which the test says so changes nothing
+pub frame_same : (f : Seen) (e : End) → is_ours f ≡ true → verdict e f ≡ None → changes e f ≡ false → frame_taken f e ≡ e
+unfolding frame_taken
+frame_same (Ack largest ranges) e ours v none = absurd (both_ways false refl ours)
+frame_same (Stream n offset bytes fin) e ours v none =
+    let (yet, half) = neither _ _ none in
+    let fine = stream_in e n offset bytes fin v in
+    let back = opened_back n e (was_opened n e yet) in
+    recv_same n (λ l. take_stream l offset bytes fin) e fine yet (λ l is.
+    data_same l offset bytes fin (subst (λ o. IsOk (check_stream (or_new o 0) offset (length bytes) fin)) is (stream_checked e e n offset bytes fin v (sym back)))
+    (half_false (λ k. stream_changes k offset (length bytes) fin) (recv_lane e n) l is half))
+frame_same (Control i) e ours v none = item_same i e v none
+frame_same (Close code) e ours v none = refl
+frame_same (Plain asks) e ours v none = refl
+
+-- and one of which it says so changes something
+pub frame_differs : (f : Seen) (e : End) → verdict e f ≡ None → changes e f ≡ true → frame_taken f e ≡ e → ⊥
+unfolding frame_taken
+frame_differs (Stream n offset bytes fin) e v some same =
+    elim (or_cases _ _ some) [
+      | inl yet ↦ on_recv_differs n (λ l. take_stream l offset bytes fin) e yet same
+      | inr half ↦ (
+          let (l, is, more) = half_true (λ k. stream_changes k offset (length bytes) fin) (recv_lane e n) half in
+          recv_differs n (λ l. take_stream l offset bytes fin) e l (stream_in e n offset bytes fin v) is (data_differs l offset bytes fin more) same)
+    ]
+frame_differs (Control i) e v some same = item_differs i e v some same
+frame_differs f e v some same = both_ways false refl some

@@ -1,0 +1,211 @@
+-- What the frames of a payload newly acknowledge, one after the other.
+use Rattle.std.proofs.Common.{◌≡◌, ℕ, Bool, true, false, not, ◌&&◌, cond, nat_eq, List, [], ◌∷◌, ◌++◌, map, take, zero, suc, Option, Some, None, is_some, refl, sym, ap, ◌∙◌, subst, inl, inr}
+use Rattle.std.specs.Prelude.{⊤, reverse, flat_map}
+use Rattle.std.specs.List.{filter, FoldsTo}
+use Rattle.std.specs.FinMap as fmap
+use Rattle.std.proofs.lemmas.Bool.{both_ways}
+use Rattle.qs_wire.specs.declared.stream_id.Dir.TheVariants.{Bidi, Uni}
+use Rattle.qs_send.specs.declared.piece.Item.{Item}
+use Rattle.qs_send.specs.declared.piece.Item.TheVariants.{MaxData, MaxStreamData, MaxStreams, ResetStream, StopSending, DataBlocked, StreamDataBlocked, StreamsBlocked}
+use Rattle.qs_send.specs.declared.piece.Piece.{Piece}
+use Rattle.qs_send.specs.Records.{Among, NoneEmpty, without_first}
+use Rattle.qs_send.proofs.Carrying.{rest_of, get-without_first, get_other-without_first}
+use Rattle.qs_machine.specs.Ends.{End, Records, is_own}
+use Rattle.qs_machine.specs.FrameStep.{AckedPiece, acked_at, without_piece, pieces_of, acks, first_acked, named_in, named, acked_numbers, is_named, frame_taken, item_taken}
+use Rattle.qs_machine.specs.Newly.{gone, in_turn}
+use Rattle.qs_machine.specs.Seen.{Seen, Ack, Stream, Control, Close, Plain}
+use Rattle.qs_machine.proofs.EndsAfter.{IsBare}
+use Rattle.qs_machine.proofs.AcksAgain.{held_piece, stays_bare, named_bare, reverse_among, filter_among}
+use Rattle.qs_machine.proofs.Named.{filter_reverse, filters_held, filter_within, filters_nothing, filter_empty}
+use Rattle.qs_machine.proofs.Taken.{out_peer}
+
+-- Records without empty packets
+
+abbrev pub holds : End → ℕ → Bool
+holds e j = is_some (fmap.get e.outstanding j)
+
+-- no packet is outstanding that wasn't
+abbrev pub Within : End → End → Type 0
+Within new e = (j : ℕ) → holds new j ≡ true → holds e j ≡ true
+
+bare_held : (m : Records) (j : ℕ) → NoneEmpty m → IsBare (fmap.get m j) → is_some (fmap.get m j) ≡ false
+bare_held m j none bare = go (fmap.get m j) refl bare
+  where
+    go : (o : Option (List Piece)) → fmap.get m j ≡ o → IsBare o → is_some o ≡ false
+    go None is b = refl
+    go (Some []) is b = absurd (none j is)
+    go (Some (p ∷ ps)) is b = absurd b
+
+held_bare : (o : Option (List Piece)) → is_some o ≡ false → IsBare o
+held_bare None is = tt
+held_bare (Some ps) is = absurd (both_ways true is refl)
+
+rest_full : (o : Option (List Piece)) → rest_of o ≡ Some [] → ⊥
+rest_full None is = absurd (both_ways false refl (ap is_some is))
+rest_full (Some []) is = absurd (both_ways false refl (ap is_some is))
+rest_full (Some (p ∷ [])) is = absurd (both_ways false refl (ap is_some is))
+rest_full (Some (p ∷ q ∷ ps)) is = absurd (both_ways false refl (ap (λ o. elim o [ None ↦ true | Some xs ↦ elim xs [ [] ↦ true | x ∷ ys ↦ false ] ]) is))
+
+none_less : (m : Records) (k : ℕ) → NoneEmpty m → NoneEmpty (without_first m k (fmap.get m k))
+none_less m k none j is = go (nat_eq j k) (sym (get-without_first m k j) ∙ is)
+  where
+    go : (b : Bool) → cond b (rest_of (fmap.get m k)) (fmap.get m j) ≡ Some [] → ⊥
+    go true e = rest_full (fmap.get m k) e
+    go false e = none j e
+
+none_first : (a : AckedPiece) (e : End) → NoneEmpty e.outstanding → NoneEmpty (first_acked a e).outstanding
+none_first a e none = subst NoneEmpty (sym (held_piece false a.piece (without_piece a.late a.number e))) (go a.late)
+  where
+    go : (b : Bool) → NoneEmpty (without_piece b a.number e).outstanding
+    go true = none
+    go false = none_less e.outstanding a.number none
+
+none_acks : (ps : List AckedPiece) (e : End) → NoneEmpty e.outstanding → NoneEmpty (acks ps e).outstanding
+unfolding acks
+none_acks [] e none = none
+none_acks (a ∷ ps) e none = none_acks ps (first_acked a e) (none_first a e none)
+
+-- Pieces of packets that ranges name
+
+abbrev AllNamed : List (ℕ × ℕ) → List AckedPiece → Type 0
+AllNamed r [] = ⊤
+AllNamed r (a ∷ ps) = (is_named r a.number ≡ true) × AllNamed r ps
+
+all_append : (r : List (ℕ × ℕ)) (ps qs : List AckedPiece) → AllNamed r ps → AllNamed r qs → AllNamed r (ps ++ qs)
+all_append r [] qs all more = more
+all_append r (p ∷ ps) qs all more = (all.0, all_append r ps qs all.1 more)
+
+all_take : (r : List (ℕ × ℕ)) (m : ℕ) (ps : List AckedPiece) → AllNamed r ps → AllNamed r (take m ps)
+all_take r zero ps all = tt
+all_take r (suc m) [] all = tt
+all_take r (suc m) (p ∷ ps) all = (all.0, all_take r m ps all.1)
+
+all_map : (r : List (ℕ × ℕ)) (late : Bool) (k : ℕ) (ps : List Piece) → is_named r k ≡ true → AllNamed r (map (acked_at late k) ps)
+all_map r late k [] is = tt
+all_map r late k (p ∷ ps) is = (is, all_map r late k ps is)
+
+all_flat : (r : List (ℕ × ℕ)) (late : Bool) (m : Records) (ks : List ℕ) → ((k : ℕ) → Among k ks → is_named r k ≡ true) → AllNamed r (flat_map (pieces_of late m) ks)
+all_flat r late m [] each = tt
+all_flat r late m (k ∷ ks) each = all_append r (pieces_of late m k) (flat_map (pieces_of late m) ks) (go (fmap.get m k)) (all_flat r late m ks (λ j a. each j (inr a)))
+  where
+    go : (o : Option (List Piece)) → AllNamed r (elim o [ None ↦ [] | Some ps ↦ map (acked_at late k) ps ])
+    go None = tt
+    go (Some ps) = all_map r late k ps (each k (inl refl))
+
+all_named : (e : End) (r : List (ℕ × ℕ)) → AllNamed r (named e r)
+all_named e r = all_append r (named_in false e.outstanding r) (named_in true e.lost.pieces r) (part false e.outstanding) (part true e.lost.pieces)
+  where
+    part : (late : Bool) (m : Records) → AllNamed r (named_in late m r)
+    part late m = all_flat r late m (acked_numbers m r) (λ k a. filter_among (is_named r) k (fmap.keys m) (reverse_among k _ a))
+
+others_stay : (r : List (ℕ × ℕ)) (ps : List AckedPiece) (e : End) (j : ℕ) → AllNamed r ps → is_named r j ≡ false → fmap.get (acks ps e).outstanding j ≡ fmap.get e.outstanding j
+unfolding acks
+others_stay r [] e j all off = refl
+others_stay r (a ∷ ps) e j all off =
+    others_stay r ps (first_acked a e) j all.1 off ∙ ap (λ (m : Records). fmap.get m j) (held_piece false a.piece (without_piece a.late a.number e)) ∙ go a.late
+  where
+    go : (b : Bool) → fmap.get (without_piece b a.number e).outstanding j ≡ fmap.get e.outstanding j
+    go true = refl
+    go false = get_other-without_first e.outstanding a.number j (λ same. both_ways _ off (ap (is_named r) same ∙ all.0))
+
+-- some pieces of packets that the ranges name were acknowledged
+pub record AcksSome (r : List (ℕ × ℕ)) (e new : End) : Type 0 where
+  pub none : NoneEmpty new.outstanding
+  pub within : Within new e
+  pub others : (j : ℕ) → is_named r j ≡ false → holds new j ≡ holds e j
+
+some_of : (r : List (ℕ × ℕ)) (ps : List AckedPiece) (e : End) → NoneEmpty e.outstanding → AllNamed r ps → AcksSome r e (acks ps e)
+some_of r ps e none all =
+    record {
+      none = none_acks ps e none;
+      within = λ j is. go j is (holds e j) refl;
+      others = λ j off. ap is_some (others_stay r ps e j all off);
+    }
+  where
+    go : (j : ℕ) → holds (acks ps e) j ≡ true → (b : Bool) → holds e j ≡ b → holds e j ≡ true
+    go j is true held = held
+    go j is false held = absurd (both_ways _ (bare_held (acks ps e).outstanding j (none_acks ps e none) (stays_bare false ps e j (held_bare (fmap.get e.outstanding j) held))) is)
+
+pub acks_some : (r : List (ℕ × ℕ)) (e : End) (m : ℕ) → NoneEmpty e.outstanding → AcksSome r e (acks (take m (named e r)) e)
+acks_some r e m none = some_of r (take m (named e r)) e none (all_take r m (named e r) (all_named e r))
+
+pub acks_all : (r : List (ℕ × ℕ)) (e : End) → NoneEmpty e.outstanding → AcksSome r e (acks (named e r) e)
+acks_all r e none = some_of r (named e r) e none (all_named e r)
+
+pub none_named : (r : List (ℕ × ℕ)) (e : End) (j : ℕ) → NoneEmpty e.outstanding → is_named r j ≡ true → holds (acks (named e r) e) j ≡ false
+none_named r e j none is = bare_held (acks (named e r) e).outstanding j (none_acks (named e r) e none) (named_bare e r false j is)
+
+-- What is told in turn
+
+pub turn_none : (fs : List Seen) → in_turn fs [] ≡ []
+turn_none [] = refl
+turn_none (Ack largest r ∷ fs) = turn_none fs
+turn_none (Stream n offset bytes fin ∷ fs) = turn_none fs
+turn_none (Control item ∷ fs) = turn_none fs
+turn_none (Close code ∷ fs) = refl
+turn_none (Plain asks ∷ fs) = turn_none fs
+
+pub gone_none : (e new : End) → new.outstanding ≡ e.outstanding → gone e new ≡ []
+gone_none e new same = filter_empty e.outstanding (λ n. not (fmap.contains_key new.outstanding n)) (λ j is. ap not (ap (λ (m : Records). is_some (fmap.get m j)) same ∙ is))
+
+and_false : (b : Bool) → (b && false) ≡ false
+and_false true = refl
+and_false false = refl
+
+and_true : (b : Bool) → (b && true) ≡ b
+and_true true = refl
+and_true false = refl
+
+pub false_from_not : (b c : Bool) → b ≡ false → (c ≡ true → b ≡ true) → c ≡ false
+false_from_not b true is from = absurd (both_ways b is (from refl))
+false_from_not b false is from = refl
+
+-- of the packets that are gone those that an ACK names, where one that it names is gone with it or stays
+pub told_first : (r : List (ℕ × ℕ)) (e mid new : End) → ((j : ℕ) → is_named r j ≡ true → holds new j ≡ holds mid j)
+    → reverse (filter (is_named r) (gone e new)) ≡ filter (λ n. not (fmap.contains_key mid.outstanding n)) (acked_numbers e.outstanding r)
+told_first r e mid new alike =
+    ap reverse (filters_held e.outstanding (is_named r) (λ n. not (holds new n)) (λ n. not (holds mid n)) (is_named r) (λ j is. go j (is_named r j) refl))
+    ∙ sym (filter_reverse (λ n. not (holds mid n)) (filter (is_named r) (fmap.keys e.outstanding)))
+  where
+    go : (j : ℕ) (b : Bool) → is_named r j ≡ b → (not (holds new j) && b) ≡ (b && not (holds mid j))
+    go j true is = and_true (not (holds new j)) ∙ ap not (alike j is)
+    go j false is = and_false (not (holds new j))
+
+-- and those that it doesn't name, where it took effect
+pub told_later : (r : List (ℕ × ℕ)) (e mid new : End) → AcksSome r e mid → ((j : ℕ) → is_named r j ≡ true → holds mid j ≡ false) → filter (λ n. not (is_named r n)) (gone e new) ≡ gone mid new
+told_later r e mid new some off =
+    filter_within e.outstanding mid.outstanding some.within (λ n. not (is_named r n)) (λ n. not (holds new n)) (λ n. not (holds new n)) (λ j is. go j is (is_named r j) refl)
+  where
+    go : (j : ℕ) → holds e j ≡ true → (b : Bool) → is_named r j ≡ b → (not (holds new j) && not b) ≡ (holds mid j && not (holds new j))
+    go j is true names = and_false (not (holds new j)) ∙ sym (ap (λ b. b && not (holds new j)) (off j names))
+    go j is false names = and_true (not (holds new j)) ∙ sym (ap (λ b. b && not (holds new j)) (some.others j names ∙ is))
+
+-- and where it did so in part, and nothing follows
+pub told_last : (r : List (ℕ × ℕ)) (e new : End) → ((j : ℕ) → is_named r j ≡ false → holds new j ≡ holds e j) → filter (λ n. not (is_named r n)) (gone e new) ≡ []
+told_last r e new others = filters_nothing e.outstanding (λ n. not (is_named r n)) (λ n. not (holds new n)) (λ j is. go j is (is_named r j) refl)
+  where
+    go : (j : ℕ) → holds e j ≡ true → (b : Bool) → is_named r j ≡ b → (not (holds new j) && not b) ≡ false
+    go j is true names = and_false (not (holds new j))
+    go j is false names = and_true (not (holds new j)) ∙ ap not (others j names ∙ is)
+
+-- what is told now, and then what follows
+pub tells_on : {S : Type 0} (R : S → ℕ → S → Type 0) (s : S) (xs : List ℕ) (t : S) (ys : List ℕ) (u : S) → FoldsTo R s xs t → FoldsTo R t ys u → FoldsTo R s (xs ++ ys) u
+tells_on R s [] t ys u first later = subst (λ x. FoldsTo R x ys u) (sym first) later
+tells_on R s (x ∷ xs) t ys u (j, one, rest) later = (j, one, tells_on R j xs t ys u rest later)
+
+-- Other frames
+
+pub item_out : (i : Item) (e : End) → (item_taken i e).outstanding ≡ e.outstanding
+item_out (MaxData m) e = refl
+item_out (MaxStreamData n m) e = out_peer e n (is_own e n)
+item_out (MaxStreams Bidi m) e = refl
+item_out (MaxStreams Uni m) e = refl
+item_out (ResetStream n code size) e = out_peer e n (is_own e n)
+item_out (StopSending n code) e = out_peer e n (is_own e n)
+item_out (DataBlocked m) e = refl
+item_out (StreamDataBlocked n m) e = out_peer e n (is_own e n)
+item_out (StreamsBlocked d m) e = refl
+
+pub stream_out : (n offset : ℕ) (bytes : List ℕ) (fin : Bool) (e : End) → (frame_taken (Stream n offset bytes fin) e).outstanding ≡ e.outstanding
+unfolding frame_taken
+stream_out n offset bytes fin e = out_peer e n (is_own e n)

@@ -1,0 +1,249 @@
+-- Frames that were taken change nothing when they come again: what they did stays done, whatever comes between.
+use Rattle.std.proofs.Common.{◌≡◌, ℕ, Bool, true, false, not, ◌&&◌, List, [], ◌∷◌, ◌⊎◌, length, take, Some, None, Result, Ok, Err, is_some, refl, sym, ap, ◌∙◌, subst, inl, inr, MatchBool, if◌then◌else◌}
+use Rattle.std.proofs.lemmas.Option.{same_Some, none-some}
+use Rattle.std.proofs.lemmas.Bool.{false≢true, cond_both, eq-eqb, and_from}
+use Rattle.std.specs.List.{AllByRecursion}
+use Rattle.qs_wire.specs.Layout.{FrameValue}
+use Rattle.qs_wire.specs.Grammar.{Fits}
+use Rattle.qs_wire.specs.declared.stream_id.Dir.TheVariants.{Bidi, Uni}
+use Rattle.qs_recv.specs.Lane.{RecvLane, raise}
+use Rattle.qs_send.specs.Lane.{SendLane, new_lane as new_send_lane, accepted, write_lane, finish_lane, reset_lane, reset_refusal, sent_lane, blocked_lane, unacked_from, is_whole}
+use Rattle.qs_send.specs.declared.piece.Item.TheVariants.{MaxData, MaxStreamData, MaxStreams, ResetStream, StopSending, DataBlocked, StreamDataBlocked, StreamsBlocked}
+use Rattle.qs_calls.specs.declared.token.Taken.{Taken}
+use Rattle.qs_calls.specs.declared.token.TakeFault.{TakeFault}
+use Rattle.qs_calls.specs.declared.token.TakeFault.TheVariants as faults
+use Rattle.qs_machine.specs.Tables.{lookup}
+use Rattle.qs_machine.specs.Ends.{End, on_send, opens, is_own, is_own_by, is_uni, first_send_limit}
+use Rattle.qs_machine.specs.Credit.{settle}
+use Rattle.qs_machine.specs.Seen.{Seen, Ack, Stream, Control, Close, Plain, seen, seen_all}
+use Rattle.qs_machine.specs.Verdicts.{verdict, state_fault_in}
+use Rattle.qs_machine.specs.FrameStep.{frame_taken, named, acks}
+use Rattle.qs_machine.specs.Lawful.{frame_put, chunk_of}
+use Rattle.qs_machine.specs.Receiving.{GoesOn}
+use Rattle.qs_machine.specs.Alone.{is_ours, TakesOne, TakesEach, after_one}
+use Rattle.qs_machine.specs.Standing.{IsSound, IsInCredit}
+use Rattle.qs_machine.specs.Repeats.{SentWasWritten}
+use Rattle.qs_machine.specs.EndStep.{Call, Answer, EndStep}
+use Rattle.qs_machine.proofs.EveryCall.{Change, changed, Comes, each_call, Wanted, Opened, Written, Finished, WasReset, Raised, Took as WasTaken, Acked, Put}
+use Rattle.qs_machine.proofs.TablesAfter.{KeptIn, kept_same, kept_twice, kept_updated, kept_open, kept_each, still_open}
+use Rattle.qs_machine.proofs.Raised.{kept_raised}
+use Rattle.qs_machine.proofs.EndsAfter.{IsAfter, after_same, after_twice, after_frame, after_acks, all_take, named_written}
+use Rattle.qs_machine.proofs.LanesAgain.{LaneAfter, lane_same, raise_after, HasData, data_stays, HasReset, reset_stays}
+use Rattle.qs_machine.proofs.CallsSound.{sound_change}
+use Rattle.qs_machine.proofs.SentCalls.{keeps_change}
+use Rattle.qs_machine.proofs.CallsCounts.{lanes_call}
+use Rattle.qs_machine.proofs.Again.{WasOpened, IsDone, frame_done, frame_again, one_left}
+use Rattle.qs_runs.specs.Pasts.{Past}
+use Rattle.qs_runs.specs.Invariant.{EndOk, SendOk, SendSlot}
+use Rattle.qs_runs.proofs.Taking.{or_else_none}
+use Rattle.qs_runs.proofs.Writing.{acked_written}
+use Rattle.qs_runs.proofs.Alone.{all_came, later_came, none_asked, took_effect}
+use Rattle.qs_rest.specs.Invariant.{IsAllAcked, ItemTaken}
+use Rattle.qs_rest.proofs.Streams.{missing_is}
+
+-- What a call keeps
+
+-- a code that came stays
+abbrev pub CodeStays : SendLane → SendLane → Type 0
+CodeStays l m = is_some l.stopped ≡ true → is_some m.stopped ≡ true
+
+code_same : (l : SendLane) → CodeStays l l
+code_same l is = is
+
+code_twice : (l m k : SendLane) → CodeStays l m → CodeStays m k → CodeStays l k
+code_twice l m k r s is = s (r is)
+
+abbrev pub Keeps : End → End → Type 0
+Keeps a b = (b.role ≡ a.role) × KeptIn CodeStays a.sends b.sends
+
+pub keeps_same : (e : End) → Keeps e e
+keeps_same e = (refl, kept_same CodeStays code_same e.sends)
+
+keeps_twice : (a b c : End) → Keeps a b → Keeps b c → Keeps a c
+keeps_twice a b c x y = (y.0 ∙ x.0, kept_twice CodeStays code_same code_twice a.sends b.sends c.sends x.1 y.1)
+
+keeps_send : (n : ℕ) (f : SendLane → SendLane) (e : End) → ((l : SendLane) → CodeStays l (f l)) → Keeps e (on_send n f e)
+keeps_send n f e kept = (refl, kept_updated CodeStays code_same e.sends n f (λ l at. kept l))
+
+keeps_opens : (n : ℕ) (e : End) → Keeps e (opens n e)
+keeps_opens n e = (
+  refl,
+  cond_both (is_uni n && not (is_own e n)) e.sends _ (KeptIn CodeStays e.sends) (λ _. kept_same CodeStays code_same e.sends) (λ _. kept_open CodeStays code_same e.sends n (λ m. new_send_lane m (first_send_limit e n) e.settings.send_buffer)),
+)
+
+keeps_after : (a b : End) → IsAfter a b → Keeps a b
+keeps_after a b after = (after.role, λ n l is. (let (m, there, h) = after.sends n l is in (m, there, h.stopped)))
+
+code_reset : (code : ℕ) (l : SendLane) → CodeStays l (reset_lane l code)
+code_reset code l =
+    cond_both (is_some (reset_refusal l)) l (record l { kept = []; was_reset = Some (record { code = code; size = if l.fin_sent then l.written else l.sent_end }) }) (CodeStays l) (λ _ is. is) (λ _ is. is)
+
+keeps_put : (f : Seen) (e : End) → Keeps e (frame_put f e)
+unfolding frame_put
+keeps_put (Stream n offset bytes fin) e = keeps_send n (λ l. sent_lane l (chunk_of offset bytes fin)) e (λ l is. is)
+keeps_put (Control (StreamDataBlocked n m)) e = keeps_send n blocked_lane e (λ l is. is)
+keeps_put f e = keeps_same e
+
+keeps_changed : (old : End) (call : Call) (c : Change) (e : End) → Comes old call e c → IsInCredit e → SentWasWritten e → Keeps e (changed c e)
+keeps_changed old call (Wanted Uni count) e comes sound sent = keeps_same e
+keeps_changed old call (Opened n) e comes sound sent = keeps_opens n e
+keeps_changed old call (Written n bytes l) e comes sound sent = keeps_send n (λ m. write_lane m (take (accepted l (length bytes)) bytes)) e (λ m is. is)
+keeps_changed old call (Finished n) e comes sound sent = keeps_send n finish_lane e (λ l is. is)
+keeps_changed old call (WasReset n code) e comes sound sent = keeps_send n (λ m. reset_lane m code) e (code_reset code)
+keeps_changed old call (Raised p) e comes sound sent = (refl, kept_raised CodeStays code_same code_twice (λ limit l is. is) p e)
+keeps_changed old call (WasTaken f) e comes sound sent = keeps_after e (frame_taken f e) (after_frame f e comes sound sent)
+keeps_changed old call (Acked count ranges) e comes sound sent =
+    keeps_after e (acks (take count (named e ranges)) e) (after_acks (take count (named e ranges)) e (all_take e.sends count (named e ranges) (named_written e ranges sent)))
+keeps_changed old call (Put f) e comes sound sent = keeps_put f e
+keeps_changed old call c e comes sound sent = keeps_same e
+
+keeps_call : (old : End) → IsSound old → SentWasWritten old → (call : Call) (answer : Answer call) (new : End) → EndStep old call answer new → Keeps old new
+keeps_call old sound sent call answer new step =
+    each_call old call (λ e. IsInCredit e × SentWasWritten e × Keeps old e) (Keeps old) (record {
+      begins = (sound.0, sent, keeps_same old);
+      goes = λ c e comes h. (sound_change old call c e comes h.0, keeps_change old call c e comes h.1, keeps_twice old e (changed c e) h.2 (keeps_changed old call c e comes h.0 h.1));
+      stays = keeps_same old;
+      settles = λ e h. h.2;
+      loses = λ k p e is h. h;
+      claims = keeps_same old;
+    }) answer new step
+
+-- What a frame did that was taken
+
+-- what stays of it beside ItemTaken
+abbrev pub StillDone : End → Seen → Type 0
+StillDone e (Stream n offset bytes fin) = WasOpened e n × (l : RecvLane) × (lookup e.recvs n ≡ Some l) × HasData l offset bytes fin
+StillDone e (Control (MaxStreamData n m)) = WasOpened e n
+StillDone e (Control (ResetStream n code size)) = WasOpened e n × (l : RecvLane) × (lookup e.recvs n ≡ Some l) × HasReset l size
+StillDone e (Control (StopSending n code)) = WasOpened e n × (l : SendLane) × (lookup e.sends n ≡ Some l) × (is_some l.stopped ≡ true)
+StillDone e (Control (StreamDataBlocked n m)) = WasOpened e n
+StillDone e f = Unit {0}
+
+module _ (a b : End) (keeps : Keeps a b) (recvs : KeptIn LaneAfter a.recvs b.recvs) where
+  opened_stays : (n : ℕ) → WasOpened a n → WasOpened b n
+  opened_stays n h other =
+      let own : is_own b n ≡ is_own a n = ap (λ r. is_own_by r n) keeps.0 in
+      let was = h (sym own ∙ other) in
+      record {
+        recvs = λ c. still_open LaneAfter a.recvs b.recvs n recvs (was.recvs (ap (λ o. is_uni n && o) (sym own) ∙ c));
+        sends = λ c. still_open CodeStays a.sends b.sends n keeps.1 (was.sends (ap (λ o. is_uni n && not o) (sym own) ∙ c));
+      }
+
+  pub still_stays : (f : Seen) → StillDone a f → StillDone b f
+  still_stays (Stream n offset bytes fin) (was, l, is, has) = (let (m, there, r) = recvs n l is in (opened_stays n was, m, there, data_stays l m offset bytes fin r has))
+  still_stays (Control (MaxStreamData n m)) was = opened_stays n was
+  still_stays (Control (ResetStream n code size)) (was, l, is, has) = (let (m, there, r) = recvs n l is in (opened_stays n was, m, there, reset_stays l m size r has))
+  still_stays (Control (StopSending n code)) (was, l, is, told) = (let (m, there, r) = keeps.1 n l is in (opened_stays n was, m, there, r told))
+  still_stays (Control (StreamDataBlocked n m)) was = opened_stays n was
+  still_stays f h = tt
+
+-- every call keeps it
+pub call_still : (old : End) → IsSound old → SentWasWritten old → (call : Call) (answer : Answer call) (new : End) → EndStep old call answer new → (f : Seen) → StillDone old f → StillDone new f
+call_still old sound sent call answer new step = still_stays old new (keeps_call old sound sent call answer new step) (lanes_call old sound sent call answer new step)
+
+-- a call ends, and its number is recorded
+pub settled_still : (e : End) (f : Seen) → StillDone e f → StillDone (settle e) f
+settled_still e = still_stays e (settle e) (keeps_same e) (kept_each LaneAfter lane_same e.recvs raise raise_after)
+
+pub after_still : (a b : End) → IsAfter a b → (f : Seen) → StillDone a f → StillDone b f
+after_still a b after = still_stays a b (keeps_after a b after) after.recvs
+
+-- and once a frame took effect it is so
+pub done_still : (e : End) (f : Seen) → IsDone f e → StillDone e f
+done_still e (Stream n offset bytes fin) (fine, was, l, is, has) = (was, l, is, has)
+done_still e (Control (MaxStreamData n m)) (fine, was, l, is, le) = was
+done_still e (Control (ResetStream n code size)) (fine, was, l, is, has) = (was, l, is, has)
+done_still e (Control (StopSending n code)) (fine, was, l, is, refused, told) = (was, l, is, told)
+done_still e (Control (StreamDataBlocked n m)) (fine, was) = was
+done_still e f h = tt
+
+-- It comes again
+
+module _ (p : Past) (e : End) (ok : EndOk p e) where
+  -- all of a half was acknowledged
+  all_refused : (n : ℕ) (l : SendLane) → lookup e.sends n ≡ Some l → (is_some l.was_reset ≡ true) ⊎ IsAllAcked l → is_some (reset_refusal l) ≡ true
+  all_refused n l is (inl reset) = rw reset refl
+  all_refused n l is (inr all) =
+      cond_both (is_some l.was_reset) _ _ (λ o. is_some o ≡ true) (λ _. refl) (λ _. rw whole refl)
+    where
+      half : SendOk p n (first_send_limit e n) l
+      half = subst (SendSlot p n (first_send_limit e n)) is (ok.sends n)
+
+      first : unacked_from l ≡ l.written
+      first = missing_is l.acked l.written all.offsets (acked_written p.mine p.theirs p.tokens (p.bytes n) n (first_send_limit e n) l half)
+
+      whole : is_whole l ≡ true
+      whole = and_from _ _ (eq-eqb (unacked_from l) l.written first) all.end
+
+  -- what it did is done still
+  whole_done : (f : Seen) → is_ours f ≡ true → verdict e f ≡ None → ItemTaken e f → StillDone e f → IsDone f e
+  unfolding verdict
+  whole_done (Stream n offset bytes fin) ours fine taken (was, l, is, has) = ((or_else_none (state_fault_in e n) _ fine).0, was, l, is, has)
+  whole_done (Control (MaxData m)) ours fine taken still = taken
+  whole_done (Control (MaxStreamData n m)) ours fine (l, is, le) was = (fine, was, l, is, le)
+  whole_done (Control (MaxStreams Bidi m)) ours fine taken still = taken
+  whole_done (Control (MaxStreams Uni m)) ours fine taken still = taken
+  whole_done (Control (ResetStream n code size)) ours fine taken (was, l, is, has) = ((or_else_none (state_fault_in e n) _ fine).0, was, l, is, has)
+  whole_done (Control (StopSending n code)) ours fine (l, is, over) (was, m, there, told) =
+      (fine, was, m, there, all_refused n m there (subst (λ (x : SendLane). (is_some x.was_reset ≡ true) ⊎ IsAllAcked x) (same_Some l m (sym is ∙ there)) over), told)
+  whole_done (Control (DataBlocked m)) ours fine taken still = tt
+  whole_done (Control (StreamDataBlocked n m)) ours fine taken was = (fine, was)
+  whole_done (Control (StreamsBlocked d m)) ours fine taken still = tt
+  whole_done (Ack largest ranges) ours fine taken still = absurd (false≢true ours)
+  whole_done (Close code) ours fine taken still = absurd (false≢true ours)
+  whole_done (Plain asks) ours fine taken still = absurd (false≢true ours)
+
+  -- it takes no effect again
+  pub taken_again : IsInCredit e → (f : Seen) → is_ours f ≡ true → verdict e f ≡ None → ItemTaken e f → StillDone e f → frame_taken f e ≡ e
+  taken_again sound f ours fine taken still = (frame_again f e (whole_done f ours fine taken still) sound).1
+
+-- Frames without their packet
+
+others_still : (e : End) (g : Seen) → is_ours g ≡ false → StillDone e g
+others_still e (Stream n offset bytes fin) other = absurd (false≢true (sym other))
+others_still e (Control i) other = absurd (false≢true (sym other))
+others_still e (Ack largest ranges) other = tt
+others_still e (Close code) other = tt
+others_still e (Plain asks) other = tt
+
+goes_on : (e : End) (g : Seen) → is_ours g ≡ true → verdict e g ≡ None → GoesOn e g
+goes_on e (Stream n offset bytes fin) ours fine = fine
+goes_on e (Control i) ours fine = fine
+goes_on e (Ack largest ranges) ours fine = absurd (false≢true ours)
+goes_on e (Close code) ours fine = absurd (false≢true ours)
+goes_on e (Plain asks) ours fine = absurd (false≢true ours)
+
+-- those that all took effect
+pub each_still : (fs : List FrameValue) (e : End) (result : Result Taken TakeFault) (new : End) → IsSound e → SentWasWritten e → TakesEach fs e result new → all_came result ≡ true → IsAfter e new × AllByRecursion (StillDone new) (seen_all fs)
+each_still [] e result new sound sent h came = (subst (IsAfter e) (sym h.1) (after_same e), tt)
+each_still (f ∷ fs) e result new sound sent h came = by (is_ours (seen f)) refl h (λ mid r now was takes all. each_still fs mid r new now was takes all)
+  where
+    by : (b : Bool) → is_ours (seen f) ≡ b → MatchBool b (((mid : End) × (one : Taken) × (later : Result Taken TakeFault) × TakesOne e f (Ok one) mid × TakesEach fs mid later new × (result ≡ after_one one later)) ⊎ ((fault : TakeFault) × TakesOne e f (Err fault) new × (result ≡ Err fault))) (TakesEach fs e result new)
+        → ((mid : End) (r : Result Taken TakeFault) → IsSound mid → SentWasWritten mid → TakesEach fs mid r new → all_came r ≡ true → IsAfter mid new × AllByRecursion (StillDone new) (seen_all fs)) → IsAfter e new × AllByRecursion (StillDone new) (seen f ∷ seen_all fs)
+    by true ours (inl (mid, one, later, takes, more, is)) goes =
+        let (may, after) = took_effect e f one mid takes in
+        let g : Seen = seen f in
+        let next : End = frame_taken g e in
+        let go : GoesOn e g = goes_on e g ours may.1 in
+        let left = one_left g e go sound sent in
+        let rest = goes next later left.sound left.sent (subst (λ x. TakesEach fs x later new) after more) (later_came one later (sym (ap all_came is) ∙ came)) in
+        (after_twice e next new left.after rest.0, (after_still next new rest.0 g (done_still next g (frame_done g e go sound.0 sent)), rest.1))
+    by true ours (inr (fault, one, is)) goes = absurd (false≢true (sym (ap all_came is) ∙ came))
+    by false other more goes = (let rest = goes e result sound sent more came in (rest.0, (others_still new (seen f) other, rest.1)))
+
+-- and those that change nothing when they come again
+pub each_again : (fs : List FrameValue) (e : End) (result : Result Taken TakeFault) (new : End) → AllByRecursion Fits fs → AllByRecursion (λ g. verdict e g ≡ None) (seen_all fs) → AllByRecursion (λ g. is_ours g ≡ true → frame_taken g e ≡ e) (seen_all fs) → TakesEach fs e result new → new ≡ e
+each_again [] e result new fit fine again h = h.1
+each_again (f ∷ fs) e result new fit fine again h = by (is_ours (seen f)) refl h (λ r takes. each_again fs e r new fit.1 fine.1 again.1 takes)
+  where
+    by : (b : Bool) → is_ours (seen f) ≡ b → MatchBool b (((mid : End) × (one : Taken) × (later : Result Taken TakeFault) × TakesOne e f (Ok one) mid × TakesEach fs mid later new × (result ≡ after_one one later)) ⊎ ((fault : TakeFault) × TakesOne e f (Err fault) new × (result ≡ Err fault))) (TakesEach fs e result new)
+        → ((r : Result Taken TakeFault) → TakesEach fs e r new → new ≡ e) → new ≡ e
+    by true ours (inl (mid, one, later, takes, more, is)) goes = goes later (subst (λ x. TakesEach fs x later new) ((took_effect e f one mid takes).1 ∙ again.0 ours) more)
+    by true ours (inr (faults.NoMemory, one, is)) goes = none_asked e new (seen f) ours one.1
+    by true ours (inr (faults.Closing closing, one, is)) goes =
+        elim one.0 [
+          | inl no_text ↦ absurd (no_text.0 fit.0)
+          | inr (fits, faulty) ↦ absurd (none-some closing.code (sym fine.0 ∙ faulty))
+        ]
+    by true ours (inr (faults.PeerClosed code, one, is)) goes = absurd one
+    by false other more goes = goes result more

@@ -1,0 +1,300 @@
+-- Frames that come without their packet, and tokens that are acknowledged.
+use Rattle.std.proofs.Common.{◌≡◌, ℕ, zero, suc, Bool, true, false, ◌==◌, List, [], ◌∷◌, take, ◌⊎◌, inl, inr, Option, Some, None, Result, Ok, Err, slice_get, refl, sym, ap, ◌∙◌, subst, arith, if◌then◌else◌, MatchBool, nat_le}
+use Rattle.std.proofs.lemmas.Option.{none-some, same_Some}
+use Rattle.std.proofs.lemmas.Bool.{false≢true, or_cases, and_parts, eqb-true, eq-eqb, leb-true}
+use Rattle.std.specs.List.{AllByRecursion}
+use Rattle.qs_wire.specs.Layout.{FrameValue}
+use Rattle.qs_wire.specs.Grammar.{Fits}
+use Rattle.qs_recv.specs.Lane.{RecvLane, raise}
+use Rattle.qs_send.specs.Lane.{SendLane}
+use Rattle.qs_send.specs.Records.{Among}
+use Rattle.qs_calls.specs.declared.token.Token.{Token}
+use Rattle.qs_calls.specs.declared.token.Taken.{Taken}
+use Rattle.qs_calls.specs.declared.token.Taken.TheVariants.{Took, Unchanged, NotOurs}
+use Rattle.qs_calls.specs.declared.token.TakeFault.{TakeFault}
+use Rattle.qs_calls.specs.declared.token.TakeFault.TheVariants as faults
+use Rattle.qs_calls.specs.declared.token.TokenFault.{TokenFault}
+use Rattle.qs_machine.specs.Tables.{Tables, lookup}
+use Rattle.qs_machine.specs.Ends.{End, first_send_limit}
+use Rattle.qs_machine.specs.Credit.{settle}
+use Rattle.qs_machine.specs.Seen.{Seen, Ack, Stream, Control, Close, Plain, seen, seen_all}
+use Rattle.qs_machine.specs.Verdicts.{verdict}
+use Rattle.qs_machine.specs.FrameStep.{frame_taken, named, is_named}
+use Rattle.qs_machine.specs.Receiving.{RunsOut}
+use Rattle.qs_machine.specs.Alone.{is_ours, MayTake, TakesOne, TakesEach, TakeBy, TakeAllBy, after_one, token_refusal, TokenAckedStep}
+use Rattle.qs_runs.specs.Logs.{StandAt, is_among, is_taken, is_taken_at}
+use Rattle.qs_runs.specs.Worlds.{HandedIn}
+use Rattle.qs_runs.specs.Pasts.{Past, Tells, WasConfirmed, HoldsAt, EachTaken}
+use Rattle.qs_runs.specs.Invariant.{EndOk, SendSlot, FrameTaken, standing}
+use Rattle.qs_runs.proofs.Lists.{All_take}
+use Rattle.qs_runs.proofs.Changes.{AllGrow, all_grow_refl, grow_trans, frame_stays, every_stays}
+use Rattle.qs_runs.proofs.Settling.{settle_ok, each_grows, raise_grows}
+use Rattle.qs_runs.proofs.Acking.{WasAcked, acks_ok, named_pieces_ok}
+use Rattle.qs_runs.proofs.Frames.{Effect, frame_keeps}
+use Rattle.qs_runs.proofs.Facing.{IsThere, there_taken}
+use Rattle.qs_runs.proofs.OwnMoves.{ended_by}
+use Rattle.qs_runs.proofs.Standing.{certain_cases}
+
+-- these frames of the peer's packet came, with this result
+abbrev pub with_took : Past → ℕ → List ℕ → Result Taken TakeFault → Past
+with_took p k places result = record p { took = λ j i. if is_taken_at j i k places result then true else p.took j i }
+
+-- this end was told that its packet k was acknowledged
+abbrev pub with_token : Past → ℕ → Past
+with_token p k = record p { tokens = λ j. if j == k then true else p.tokens j }
+
+cond_or : (b x : Bool) → (if b then true else x) ≡ true → (b ≡ true) ⊎ (x ≡ true)
+cond_or true x h = inl refl
+cond_or false x h = inr h
+
+pub or_cond : (b x : Bool) → x ≡ true → (if b then true else x) ≡ true
+or_cond true x h = refl
+or_cond false x h = h
+
+-- The frames at their places
+
+pub stand_among : (all : List FrameValue) (places : List ℕ) (fs : List FrameValue) → StandAt all places fs → (g : Seen) → Among g (seen_all fs) → Among g (seen_all all)
+stand_among all [] [] stand g a = absurd a
+stand_among all [] (f ∷ fs) stand g a = absurd stand
+stand_among all (i ∷ places) [] stand g a = absurd stand
+stand_among all (i ∷ places) (f ∷ fs) (at, stand) g (inl is) = found all i at
+  where
+    found : (all : List FrameValue) (i : ℕ) → slice_get all i ≡ Some f → Among g (seen_all all)
+    found [] i at = absurd (none-some f at)
+    found (v ∷ all) zero at = inl (is ∙ ap seen (sym (same_Some v f at)))
+    found (v ∷ all) (suc i) at = inr (found all i at)
+stand_among all (i ∷ places) (f ∷ fs) (at, stand) g (inr a) = stand_among all places fs stand g a
+
+pub stand_fit : (all : List FrameValue) (places : List ℕ) (fs : List FrameValue) → StandAt all places fs → AllByRecursion Fits all → AllByRecursion Fits fs
+stand_fit all [] [] stand fit = tt
+stand_fit all [] (f ∷ fs) stand fit = absurd stand
+stand_fit all (i ∷ places) [] stand fit = absurd stand
+stand_fit all (i ∷ places) (f ∷ fs) (at, stand) fit = (found all i fit at, stand_fit all places fs stand fit)
+  where
+    found : (all : List FrameValue) (i : ℕ) → AllByRecursion Fits all → slice_get all i ≡ Some f → Fits f
+    found [] i fit at = absurd (none-some f at)
+    found (v ∷ all) zero fit at = subst Fits (same_Some v f at) fit.0
+    found (v ∷ all) (suc i) fit at = found all i fit.1 at
+
+-- they are the only ones
+pub stand_same : (all : List FrameValue) (places : List ℕ) (fs gs : List FrameValue) → StandAt all places fs → StandAt all places gs → fs ≡ gs
+stand_same all [] [] [] x y = refl
+stand_same all [] [] (g ∷ gs) x y = absurd y
+stand_same all [] (f ∷ fs) gs x y = absurd x
+stand_same all (i ∷ places) [] gs x y = absurd x
+stand_same all (i ∷ places) (f ∷ fs) [] x y = absurd y
+stand_same all (i ∷ places) (f ∷ fs) (g ∷ gs) x y =
+    let one : f ≡ g = same_Some f g (sym x.0 ∙ y.0) in
+    let more : fs ≡ gs = stand_same all places fs gs x.1 y.1 in
+    λ j. one j ∷ more j
+
+-- what holds of them holds at each of the places
+pub stand_holds : (P : Seen → Type 0) (all : List FrameValue) (places : List ℕ) (fs : List FrameValue) → StandAt all places fs → AllByRecursion P (seen_all fs) → (i : ℕ) → is_among i places ≡ true →
+    (f : Seen) × (slice_get (seen_all all) i ≡ Some f) × P f
+stand_holds P all [] fs stand taken i is = absurd (false≢true is)
+stand_holds P all (j ∷ places) [] stand taken i is = absurd stand
+stand_holds P all (j ∷ places) (f ∷ fs) (at, stand) taken i is =
+    elim (or_cases (i == j) (is_among i places) is) [
+      | inl this ↦ (seen f, mapped all i (ap (slice_get all) (eqb-true i j this) ∙ at), taken.0)
+      | inr other ↦ stand_holds P all places fs stand taken.1 i other
+    ]
+  where
+    mapped : (all : List FrameValue) (i : ℕ) → slice_get all i ≡ Some f → slice_get (seen_all all) i ≡ Some (seen f)
+    mapped [] i at = absurd (none-some f at)
+    mapped (v ∷ all) zero at = ap (λ x. Some (seen x)) (same_Some v f at)
+    mapped (v ∷ all) (suc i) at = mapped all i at
+
+-- Frames, one after the other
+
+-- whether it changed something or nothing, the frame took effect
+pub took_effect : (e : End) (f : FrameValue) (one : Taken) (new : End) → TakesOne e f (Ok one) new → MayTake e f × (new ≡ frame_taken (seen f) e)
+took_effect e f Took new h = (h.0, h.1)
+took_effect e f Unchanged new h = (h.0, h.1)
+took_effect e f NotOurs new h = absurd h
+
+-- one by one they are several of one; what isn't an end's own changes nothing
+pub handed : (e : End) (fs : List FrameValue) (result : Result Taken TakeFault) (new : End) → e.closed ≡ None → HandedIn fs e result new →
+    ((mid : End) × TakesEach fs e result mid × (new ≡ settle mid)) ⊎ ((result ≡ Ok NotOurs) × (new ≡ e))
+handed e fs result new open_end (inl several) = inl (subst (λ o. TakeAllBy o fs e result new) open_end several)
+handed e fs result new open_end (inr (f, is, one)) = by (is_ours (seen f)) refl (subst (λ o. TakeBy o f e result new) open_end one)
+  where
+    each : is_ours (seen f) ≡ true → (r : Result Taken TakeFault) (mid : End) → TakesOne e f r mid → TakesEach (f ∷ []) e r mid
+    each ours (Ok Took) mid h = rw ours (inl (mid, Took, Ok NotOurs, h, (refl, refl), refl))
+    each ours (Ok Unchanged) mid h = rw ours (inl (mid, Unchanged, Ok NotOurs, h, (refl, refl), refl))
+    each ours (Ok NotOurs) mid h = absurd h
+    each ours (Err fault) mid h = rw ours (inr (fault, h, refl))
+
+    by : (b : Bool) → is_ours (seen f) ≡ b → MatchBool b ((mid : End) × TakesOne e f result mid × (new ≡ settle mid)) ((result ≡ Ok NotOurs) × (new ≡ e)) →
+        ((mid : End) × TakesEach fs e result mid × (new ≡ settle mid)) ⊎ ((result ≡ Ok NotOurs) × (new ≡ e))
+    by true ours (mid, takes, after) = inl (mid, subst (λ gs. TakesEach gs e result mid) (sym is) (each ours result mid takes), after)
+    by false other none = inr none
+
+-- no frame of these found a fault, nor a want of memory
+abbrev pub all_came : Result Taken TakeFault → Bool
+all_came (Ok taken) = true
+all_came (Err fault) = false
+
+pub taken_came : (result : Result Taken TakeFault) → is_taken result ≡ true → all_came result ≡ true
+taken_came (Ok taken) is = refl
+taken_came (Err fault) is = is
+
+pub later_came : (one : Taken) (later : Result Taken TakeFault) → all_came (after_one one later) ≡ true → all_came later ≡ true
+later_came one (Ok taken) is = refl
+later_came one (Err fault) is = is
+
+pub none_asked : (e new : End) (g : Seen) → is_ours g ≡ true → RunsOut e g new → new ≡ e
+none_asked e new (Stream n offset bytes fin) ours h = h.0
+none_asked e new (Control i) ours h = h.0
+none_asked e new (Ack largest ranges) ours h = absurd (false≢true ours)
+none_asked e new (Close code) ours h = absurd (false≢true ours)
+none_asked e new (Plain asks) ours h = absurd (false≢true ours)
+
+others_taken : (t : Tables RecvLane) (g : Seen) → is_ours g ≡ false → FrameTaken t g
+others_taken t (Stream n offset bytes fin) other = absurd (false≢true (sym other))
+others_taken t (Control i) other = absurd (false≢true (sym other))
+others_taken t (Ack largest ranges) other = tt
+others_taken t (Close code) other = tt
+others_taken t (Plain asks) other = tt
+
+-- What frames leave that came.
+pub record Came (p : Past) (old e new : End) (fs : List Seen) (result : Result Taken TakeFault) : Type 0 where
+  pub ok : EndOk p new
+  pub there : IsThere old new
+  pub grow : AllGrow e.recvs new.recvs
+  pub done : all_came result ≡ true → AllByRecursion (FrameTaken new.recvs) fs
+
+module _ (p : Past) (old : End) (fine : (mid : End) → EndOk p mid → IsThere old mid → (g : Seen) → Tells p.theirs g → verdict mid g ≡ None) where
+  same_came : (e new : End) (fs : List Seen) (result : Result Taken TakeFault) → EndOk p e → IsThere old e → new ≡ e → (all_came result ≡ true → AllByRecursion (FrameTaken e.recvs) fs) → Came p old e new fs result
+  same_came e new fs result ok there same done = subst (λ x. Came p old e x fs result) (sym same) (record { ok = ok; there = there; grow = all_grow_refl e.recvs; done = done })
+
+  -- one took no effect
+  stops_came : (f : FrameValue) (e new : End) (fs : List Seen) (fault : TakeFault) (result : Result Taken TakeFault) → result ≡ Err fault → EndOk p e → IsThere old e → Tells p.theirs (seen f) → Fits f → is_ours (seen f) ≡ true → TakesOne e f (Err fault) new → Came p old e new fs result
+  stops_came f e new fs faults.NoMemory result is ok there told fit ours h =
+      same_came e new fs result ok there (none_asked e new (seen f) ours h.1) (λ d. absurd (false≢true (sym (ap all_came is) ∙ d)))
+  stops_came f e new fs (faults.Closing closing) result is ok there told fit ours h =
+      elim h.0 [
+        | inl no_text ↦ absurd (no_text.0 fit)
+        | inr (fits, faulty) ↦ absurd (none-some closing.code (sym (fine e ok there (seen f) told) ∙ faulty))
+      ]
+  stops_came f e new fs (faults.PeerClosed code) result is ok there told fit ours h = absurd h
+
+  pub each_came : (fs : List FrameValue) (e : End) (result : Result Taken TakeFault) (new : End) → EndOk p e → IsThere old e → ((g : Seen) → Among g (seen_all fs) → Tells p.theirs g) → AllByRecursion Fits fs → TakesEach fs e result new → Came p old e new (seen_all fs) result
+  each_came [] e result new ok there told fit h = same_came e new [] result ok there h.1 (λ d. tt)
+  each_came (f ∷ fs) e result new ok there told fit h =
+      by (is_ours (seen f)) refl h (λ mid r now same takes. each_came fs mid r new now same (λ g a. told g (inr a)) fit.1 takes)
+    where
+      by : (b : Bool) → is_ours (seen f) ≡ b → MatchBool b (((mid : End) × (one : Taken) × (later : Result Taken TakeFault) × TakesOne e f (Ok one) mid × TakesEach fs mid later new × (result ≡ after_one one later)) ⊎ ((fault : TakeFault) × TakesOne e f (Err fault) new × (result ≡ Err fault))) (TakesEach fs e result new)
+          → ((mid : End) (r : Result Taken TakeFault) → EndOk p mid → IsThere old mid → TakesEach fs mid r new → Came p old mid new (seen_all fs) r) → Came p old e new (seen f ∷ seen_all fs) result
+      by true ours (inl (mid, one, later, takes, more, is)) goes =
+          let (may, after) = took_effect e f one mid takes in
+          let effect : Effect p e (frame_taken (seen f) e) (seen f) = frame_keeps p e (seen f) ok (told (seen f) (inl refl)) may.1 in
+          let rest = goes (frame_taken (seen f) e) later effect.ok (there_taken old e (seen f) there) (subst (λ x. TakesEach fs x later new) after more) in
+          record {
+            ok = rest.ok;
+            there = rest.there;
+            grow = grow_trans e.recvs _ new.recvs effect.grow rest.grow;
+            done = λ d. (frame_stays _ new.recvs rest.grow (seen f) effect.taken, rest.done (later_came one later (sym (ap all_came is) ∙ d)));
+          }
+      by true ours (inr (fault, one, is)) goes = stops_came f e new (seen f ∷ seen_all fs) fault result is ok there (told (seen f) (inl refl)) fit.0 ours one
+      by false other more goes =
+          let rest = goes e result ok there more in
+          record { ok = rest.ok; there = rest.there; grow = rest.grow; done = λ d. (others_taken new.recvs (seen f) other, rest.done d) }
+
+  -- as the call ends the limits move
+  pub handed_came : (fs : List FrameValue) (e : End) (result : Result Taken TakeFault) (new : End) → e.closed ≡ None → EndOk p e → IsThere old e → ((g : Seen) → Among g (seen_all fs) → Tells p.theirs g) → AllByRecursion Fits fs → HandedIn fs e result new →
+      EndOk p new × (standing new ≡ standing old) × (is_taken result ≡ true → AllByRecursion (FrameTaken new.recvs) (seen_all fs))
+  handed_came fs e result new open_end ok there told fit h =
+      elim (handed e fs result new open_end h) [
+        | inl (mid, takes, after) ↦ (
+            let came = each_came fs e result mid ok there told fit takes in (
+              ended_by p _ new after (settle_ok p mid came.ok),
+              ap standing after ∙ came.there.0,
+              λ d. subst (λ x. AllByRecursion (FrameTaken x.recvs) (seen_all fs)) (sym after) (every_stays mid.recvs (settle mid).recvs (each_grows raise mid.recvs raise_grows) (seen_all fs) (came.done (taken_came result d))),
+            )
+            )
+        | inr (is, same) ↦ (ended_by p e new same ok, ap standing same ∙ there.0, λ d. absurd (false≢true (sym (ap is_taken is) ∙ d)))
+      ]
+
+-- what holds of each frame that was taken holds of these too
+pub took_each : (p : Past) (k : ℕ) (places : List ℕ) (result : Result Taken TakeFault) (P : Seen → Type 0) → EachTaken p.theirs p.processed p.took P →
+    ((i : ℕ) → is_among i places ≡ true → is_taken result ≡ true → (f : Seen) × HoldsAt p.theirs k i f × P f) → EachTaken p.theirs p.processed (with_took p k places result).took P
+took_each p k places result P each taken =
+    record {
+      packets = each.packets;
+      frames = λ j i is.
+          elim (cond_or (is_taken_at j i k places result) (p.took j i) is) [
+            | inl now ↦ (
+                let parts = and_parts (j == k) _ now in
+                let here = and_parts (is_among i places) _ parts.1 in
+                let (f, holds, done) = taken i here.0 here.1 in
+                (f, subst (λ x. HoldsAt p.theirs x i f) (sym (eqb-true j k parts.0)) holds, done))
+            | inr before ↦ each.frames j i before
+          ];
+    }
+
+pub took_ok : (p : Past) (k : ℕ) (places : List ℕ) (result : Result Taken TakeFault) (e : End) → EndOk p e → ((i : ℕ) → is_among i places ≡ true → is_taken result ≡ true → (f : Seen) × HoldsAt p.theirs k i f × FrameTaken e.recvs f) → EndOk (with_took p k places result) e
+took_ok p k places result e ok taken =
+    record {
+      sends = ok.sends;
+      recvs = ok.recvs;
+      packets = ok.packets;
+      credit = ok.credit;
+      streams = ok.streams;
+      taken = took_each p k places result (FrameTaken e.recvs) ok.taken taken;
+    }
+
+-- Tokens
+
+-- an end is told more tokens
+pub token_ok : (p : Past) (k : ℕ) (e : End) → EndOk p e → EndOk (with_token p k) e
+token_ok p k e ok =
+    record { sends = λ n. slot n (lookup e.sends n) (ok.sends n); recvs = ok.recvs; packets = ok.packets; taken = ok.taken; credit = ok.credit; streams = ok.streams }
+  where
+    more : (j : ℕ) → WasConfirmed p.theirs p.tokens j → WasConfirmed p.theirs (with_token p k).tokens j
+    more j (inl ack) = inl ack
+    more j (inr told) = inr (or_cond (j == k) (p.tokens j) told)
+
+    slot : (n : ℕ) (o : Option SendLane) → SendSlot p n (first_send_limit e n) o → SendSlot (with_token p k) n (first_send_limit e n) o
+    slot n None h = h
+    slot n (Some l) h =
+        record {
+          count = h.count;
+          kept = h.kept;
+          sent_written = h.sent_written;
+          sent_limit = h.sent_limit;
+          end = h.end;
+          reset_size = h.reset_size;
+          told = h.told;
+          told_reset = h.told_reset;
+          acked = λ q is. (let (j, offset, bytes, fin, holds, low, high, ack) = h.acked q is in (j, offset, bytes, fin, holds, low, high, more j ack));
+          end_acked = λ is. (let (j, offset, bytes, holds, ack) = h.end_acked is in (j, offset, bytes, holds, more j ack));
+          limit_told = h.limit_told;
+        }
+
+named_alone : (k j : ℕ) → is_named ((k, k) ∷ []) j ≡ true → k ≡ j
+named_alone k j h =
+    elim (or_cases _ _ h) [
+      | inl both ↦ (let (low, high) = and_parts (nat_le k j) (nat_le j k) both in omega (arith, leb-true k j low, leb-true j k high))
+      | inr none ↦ absurd (false≢true none)
+    ]
+
+-- the pieces of a packet that is told by its token
+pub token_pieces : (p : Past) (k : ℕ) (e : End) → EndOk (with_token p k) e → AllByRecursion (WasAcked (with_token p k)) (named e ((k, k) ∷ []))
+token_pieces p k e ok = named_pieces_ok (with_token p k) e ok ((k, k) ∷ []) (λ j is. inr (told j (named_alone k j is)))
+  where
+    told : (j : ℕ) → k ≡ j → (if j == k then true else p.tokens j) ≡ true
+    told j same = rw (eq-eqb j k (sym same)) refl
+
+pub token_acked_moves : (p : Past) (e new : End) (t : Token) (result : Result (Unit {0}) TokenFault) → EndOk p e → TokenAckedStep e t result new → EndOk (with_token p t.number) new
+unfolding frame_taken
+token_acked_moves p e new t result ok step =
+    let k : ℕ = t.number in
+    let q : Past = with_token p k in
+    let now : EndOk q e = token_ok p k e ok in
+    let all = token_pieces p k e now in
+    elim (certain_cases (token_refusal e t) e result new _ step) [
+      | inl (fault, is, same) ↦ ended_by q e new same now
+      | inr (allowed, inl (is, same)) ↦ ended_by q _ new same (settle_ok q _ (acks_ok q (named e ((k, k) ∷ [])) e all now))
+      | inr (allowed, inr (is, mid, (m, h, asks), same)) ↦
+          ended_by q _ new same (settle_ok q mid (ended_by q _ mid h (acks_ok q (take m (named e ((k, k) ∷ []))) e (All_take _ m _ all) now)))
+    ]

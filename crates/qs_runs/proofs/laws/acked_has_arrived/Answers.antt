@@ -1,0 +1,5 @@
+use Rattle.qs_runs.proofs.Statements.{law_acked_has_arrived}
+use Rattle.qs_runs.proofs.laws.acked_has_arrived.Goals as goal
+
+pub returns : goal.returns
+returns c = law_acked_has_arrived

@@ -1,0 +1,200 @@
+//! Ends of the widest settings: a window that holds a long fat path, and a connection that lives for a million streams.
+
+use gotsavena::{Dir, Endpoint, Read, Received, Role, SendState, Settings, StreamId};
+use std::collections::VecDeque;
+use std::time::{Duration, Instant};
+
+const WINDOW: usize = 1 << 28;
+
+fn two_ends(settings: Settings) -> [Endpoint; 2] {
+    [Role::Client, Role::Server]
+        .map(|role| Endpoint::new(role, settings, settings.limits()).expect("in range"))
+}
+
+/// The packets that are due go across, and are acknowledged as they come.
+fn carry(from: &mut Endpoint, to: &mut Endpoint) -> usize {
+    let mut payload = [0; 1200];
+    let mut count = 0;
+    while let Some(made) = from.make_packet(&mut payload).expect("memory") {
+        let taken = to.receive(made.number, &payload[..made.len]);
+        assert_eq!(taken, Ok(Received::Done));
+        count += 1;
+    }
+    count
+}
+
+fn settle(client: &mut Endpoint, server: &mut Endpoint) {
+    while carry(client, server) + carry(server, client) > 0 {}
+}
+
+#[test]
+fn a_window_of_256_mib_is_sent_without_a_read() {
+    let settings = Settings::default()
+        .conn_window(WINDOW as u64)
+        .stream_windows(WINDOW as u64)
+        .send_buffer(WINDOW);
+    let [mut client, mut server] = two_ends(settings);
+    let stream = client.open(Dir::Uni).expect("a stream");
+    let chunk = vec![7; 1 << 20];
+    let mut sent = 0;
+    while sent < WINDOW {
+        sent += client.write(stream, &chunk).expect("it is open");
+        settle(&mut client, &mut server);
+    }
+    assert_eq!(client.write(stream, &[7]), Ok(1));
+    settle(&mut client, &mut server);
+    assert_eq!(server.stored(), WINDOW as u64);
+    assert_eq!(server.granted(), WINDOW as u64);
+    assert_eq!(server.accept(), Some(stream));
+    let mut bytes = vec![0; 1 << 20];
+    let mut read = 0;
+    while let Ok(Read::Bytes(count)) = server.read(stream, &mut bytes) {
+        assert!(bytes[..count].iter().all(|byte| *byte == 7));
+        read += count;
+    }
+    assert_eq!(read, WINDOW);
+    settle(&mut client, &mut server);
+    assert_eq!(server.read(stream, &mut bytes), Ok(Read::Bytes(1)));
+}
+
+/// A path from one end to the other: 1 Gbit/s, and 50 ms until a packet is there. Times are nanoseconds.
+#[derive(Default)]
+struct Path {
+    free_at: u64,
+    packets: VecDeque<(u64, u64, Vec<u8>)>,
+}
+
+impl Path {
+    /// Each packet that an end makes while the path is free leaves at once.
+    fn leave(&mut self, from: &mut Endpoint, now: u64) {
+        let mut payload = [0; 1200];
+        while self.free_at <= now {
+            let Some(made) = from.make_packet(&mut payload).expect("memory") else {
+                return;
+            };
+            self.free_at = now.max(self.free_at) + 8 * made.len as u64;
+            let bytes = payload[..made.len].to_vec();
+            self.packets
+                .push_back((self.free_at + 50_000_000, made.number, bytes));
+        }
+    }
+
+    /// Those that are there by now come.
+    fn arrive(&mut self, to: &mut Endpoint, now: u64) {
+        while self.packets.front().is_some_and(|packet| packet.0 <= now) {
+            let (_, number, bytes) = self.packets.pop_front().expect("one is there");
+            assert_eq!(to.receive(number, &bytes), Ok(Received::Done));
+        }
+    }
+
+    /// When something changes here next.
+    fn next(&self, now: u64) -> u64 {
+        let there = self.packets.front().map_or(u64::MAX, |packet| packet.0);
+        if self.free_at > now {
+            there.min(self.free_at)
+        } else {
+            there
+        }
+    }
+}
+
+/// How long 32 MiB take over such a path, until the last of it is acknowledged, with so large windows and buffers, in nanoseconds.
+fn transfer(window: usize) -> u64 {
+    const SIZE: usize = 32 << 20;
+    let settings = Settings::default()
+        .conn_window(window as u64)
+        .stream_windows(window as u64)
+        .send_buffer(window);
+    let [mut client, mut server] = two_ends(settings);
+    let (mut there, mut back) = (Path::default(), Path::default());
+    let stream = client.open(Dir::Uni).expect("a stream");
+    let (mut written, mut read, mut now) = (0, 0, 0);
+    let mut bytes = vec![0; 1 << 16];
+    loop {
+        there.arrive(&mut server, now);
+        back.arrive(&mut client, now);
+        if is_over(&client, stream) {
+            assert_eq!(read, SIZE);
+            return now;
+        }
+        while let Ok(Read::Bytes(count)) = server.read(stream, &mut bytes) {
+            read += count;
+        }
+        while written < SIZE {
+            let most = bytes.len().min(SIZE - written);
+            match client.write(stream, &bytes[..most]).expect("it is open") {
+                0 => break,
+                count => written += count,
+            }
+        }
+        if written == SIZE {
+            _ = client.finish(stream);
+        }
+        there.leave(&mut client, now);
+        back.leave(&mut server, now);
+        now = there.next(now).min(back.next(now));
+    }
+}
+
+fn is_over(end: &Endpoint, stream: StreamId) -> bool {
+    let half = end.report(stream).and_then(|report| report.send);
+    half.is_some_and(|half| half.state == SendState::DataRecvd)
+}
+
+#[test]
+fn a_long_fat_path_is_used_up() {
+    // The bytes themselves take so long, and a round trip is 100 ms; the window is twice what is in flight in one.
+    let bytes = 8 * (32 << 20);
+    let took = transfer(25_000_000);
+    assert!(
+        took <= bytes + bytes / 10 + 100_000_000,
+        "{took} nanoseconds"
+    );
+}
+
+/// A request of one byte and an answer of one, each with its end.
+fn exchange([client, server]: &mut [Endpoint; 2]) {
+    let mut byte = [0];
+    let stream = client.open(Dir::Bidi).expect("a stream");
+    assert_eq!(client.write(stream, &[1]), Ok(1));
+    client.finish(stream).expect("it is open");
+    settle(client, server);
+    assert_eq!(server.accept(), Some(stream));
+    assert_eq!(server.read(stream, &mut byte), Ok(Read::Bytes(1)));
+    assert_eq!(server.read(stream, &mut byte), Ok(Read::End));
+    assert_eq!(server.write(stream, &[2]), Ok(1));
+    server.finish(stream).expect("it is open");
+    settle(client, server);
+    assert_eq!(client.read(stream, &mut byte), Ok(Read::Bytes(1)));
+    assert_eq!(client.read(stream, &mut byte), Ok(Read::End));
+    settle(client, server);
+}
+
+/// How long 100 exchanges take.
+fn time_of_some(ends: &mut [Endpoint; 2]) -> Duration {
+    let begun = Instant::now();
+    (0..100).for_each(|_| exchange(ends));
+    begun.elapsed()
+}
+
+// Fewer streams where overflow is checked, which takes four times as long.
+const STREAMS: u64 = if cfg!(debug_assertions) {
+    200_000
+} else {
+    1_000_000
+};
+
+#[test]
+fn a_millionth_stream_costs_as_much_as_the_first() {
+    let settings = Settings::default().bidi_streams(100, 1 << 21);
+    let (mut old, mut young) = (two_ends(settings), two_ends(settings));
+    (0..STREAMS).for_each(|_| exchange(&mut old));
+    assert_eq!(old[1].granted_streams(Dir::Bidi), 100 + STREAMS);
+    // The least of many short times, by turns, as a busy machine makes most longer.
+    let (mut later, mut first) = (Duration::MAX, Duration::MAX);
+    for _ in 0..200 {
+        later = later.min(time_of_some(&mut old));
+        first = first.min(time_of_some(&mut young));
+    }
+    assert!(later < 2 * first, "{first:?} for 100, later {later:?}");
+}

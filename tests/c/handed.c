@@ -1,0 +1,193 @@
+/* Frames that are handed in, and frames that are filled in: each answer of both calls once, and what stands after it. */
+#include <stdio.h>
+#include <stdlib.h>
+#include <string.h>
+
+#include "gotsavena.h"
+
+static int failed;
+
+static void want(gv_status status, gv_status wanted, const char *what) {
+  if (status == wanted) return;
+  fprintf(stderr, "%s: %s, not %s\n", what, gv_strerror(status), gv_strerror(wanted));
+  failed = 1;
+}
+
+static void holds(bool is, const char *what) { want(is ? GV_OK : GV_INVALID, GV_OK, what); }
+
+static bool is_refused; /* whether memory is */
+
+static void *allocate(void *context, size_t size, size_t align) {
+  (void)context;
+  (void)align;
+  return is_refused ? NULL : malloc(size);
+}
+
+static void release(void *context, void *at, size_t size, size_t align) {
+  (void)context;
+  (void)size;
+  (void)align;
+  free(at);
+}
+
+static gv_endpoint *new_end(void) {
+  gv_settings settings = {sizeof settings, 4096, 1024, 1024, 1024, 2048, 8, 8, 8, 8};
+  gv_limits limits = {sizeof limits, 4096, 1024, 1024, 1024, 8, 8};
+  gv_allocator memory = {.size = sizeof memory, .allocate = allocate, .release = release};
+  gv_endpoint *end = NULL;
+  want(gv_endpoint_new_with(GV_ROLE_CLIENT, &settings, &limits, &memory, &end), GV_OK, "new");
+  return end;
+}
+
+static const uint64_t big = UINT64_C(1) << 62;
+
+/* A frame that the peer may send first. */
+static const gv_frame first = {
+  .size = sizeof first, .kind = GV_FRAME_STREAM, .stream = 3, .fin = true, .bytes = (const uint8_t *)"abc", .len = 3};
+
+static const gv_taken untouched = (gv_taken)9;
+
+/* What is no frame is refused, and changes nothing. */
+static void no_frames(gv_endpoint *end) {
+  gv_taken taken = untouched;
+  gv_frame frame = first;
+  uint64_t stream;
+  want(gv_take_frame(NULL, &frame, &taken), GV_INVALID, "to no end");
+  want(gv_take_frame(end, NULL, &taken), GV_INVALID, "no frame");
+  want(gv_take_frame(end, &frame, NULL), GV_INVALID, "told to null");
+  frame.size = sizeof frame - 1;
+  want(gv_take_frame(end, &frame, &taken), GV_INVALID, "a small frame");
+  frame = first;
+  frame.kind = (gv_frame_kind)21;
+  want(gv_take_frame(end, &frame, &taken), GV_INVALID, "no kind");
+  frame = first;
+  frame.dir = (gv_dir)2;
+  want(gv_take_frame(end, &frame, &taken), GV_INVALID, "no direction");
+  frame = first;
+  frame.stream = big;
+  want(gv_take_frame(end, &frame, &taken), GV_INVALID, "no stream");
+  frame = first;
+  frame.bytes = NULL;
+  want(gv_take_frame(end, &frame, &taken), GV_INVALID, "bytes at null");
+  holds(taken == untouched, "nothing was told");
+  want(gv_accept(end, &stream), GV_NONE, "nothing was opened");
+}
+
+/* A frame of the layer's, twice, and frames of the stack's own. */
+static void frames(gv_endpoint *end) {
+  gv_taken taken = untouched;
+  uint8_t into[8];
+  size_t count = 0;
+  uint64_t stream = 0;
+  is_refused = true;
+  want(gv_take_frame(end, &first, &taken), GV_NO_MEMORY, "no memory");
+  holds(taken == untouched, "and nothing was told");
+  is_refused = false;
+  want(gv_take_frame(end, &first, &taken), GV_OK, "a STREAM frame");
+  holds(taken == GV_TAKEN_TOOK, "it took effect");
+  want(gv_take_frame(end, &first, &taken), GV_OK, "it comes again");
+  want(gv_accept(end, &stream), GV_OK, "it opened its stream");
+  want(gv_read(end, stream, into, sizeof into, &count, NULL), GV_OK, "its bytes are read");
+  holds(stream == 3 && count == 3 && memcmp(into, "abc", 3) == 0, "which they are");
+  want(gv_read(end, stream, into, sizeof into, &count, NULL), GV_END_OF_STREAM, "its end is");
+  gv_frame ping = {.size = sizeof ping, .kind = GV_FRAME_PING};
+  want(gv_take_frame(end, &ping, &taken), GV_OK, "a PING");
+  holds(taken == GV_TAKEN_NOT_OURS, "is the stack's own");
+  gv_frame fresh = {.size = sizeof fresh, .kind = GV_FRAME_NEW_CONNECTION_ID, .bytes = into, .len = 8};
+  fresh.token = (const uint8_t *)"0123456789abcdef";
+  taken = untouched;
+  want(gv_take_frame(end, &fresh, &taken), GV_OK, "a NEW_CONNECTION_ID");
+  holds(taken == GV_TAKEN_NOT_OURS, "is the stack's own, too");
+  gv_frame close = {.size = sizeof close, .kind = GV_FRAME_CONNECTION_CLOSE, .code = 1};
+  want(gv_take_frame(end, &close, &taken), GV_OK, "a CONNECTION_CLOSE");
+  want(gv_peer_closed(end, &stream), GV_NONE, "is, too");
+}
+
+/* So much room that the record of what may go in wants memory. */
+static uint8_t wide[100000];
+
+/* What may not be asked, and what is asked for. */
+static void fills(gv_endpoint *end) {
+  gv_fill_request all = {.size = sizeof all, .items = true, .streams = true}, none = {.size = sizeof none}, low = all;
+  gv_filled filled = {.size = sizeof filled, .token = 99};
+  uint8_t out[200];
+  size_t count = 0;
+  uint64_t stream = 0, other = 0;
+  memset(out, 0xee, sizeof out);
+  want(gv_open(end, GV_DIR_UNI, &stream, NULL), GV_OK, "open");
+  want(gv_open(end, GV_DIR_UNI, &other, NULL), GV_OK, "open another");
+  want(gv_write(end, stream, (const uint8_t *)"low", 3, &count), GV_OK, "write");
+  want(gv_write(end, other, (const uint8_t *)"high", 4, &count), GV_OK, "write to the other");
+  want(gv_fill(NULL, &all, out, sizeof out, &filled), GV_INVALID, "of no end");
+  want(gv_fill(end, NULL, out, sizeof out, &filled), GV_INVALID, "asked by null");
+  want(gv_fill(end, &all, NULL, sizeof out, &filled), GV_INVALID, "to null");
+  want(gv_fill(end, &all, out, sizeof out, NULL), GV_INVALID, "told to null");
+  low.size = sizeof low - 1;
+  want(gv_fill(end, &low, out, sizeof out, &filled), GV_INVALID, "a small request");
+  low = all;
+  low.first = big;
+  want(gv_fill(end, &low, out, sizeof out, &filled), GV_INVALID, "from no stream");
+  filled.size = sizeof filled - 1;
+  want(gv_fill(end, &all, out, sizeof out, &filled), GV_INVALID, "told to a small struct");
+  filled.size = sizeof filled;
+  want(gv_fill(end, &none, out, sizeof out, &filled), GV_NONE, "nothing is asked for");
+  want(gv_fill(end, &all, NULL, 0, &filled), GV_NONE, "no room");
+  is_refused = true;
+  want(gv_fill(end, &all, wide, sizeof wide, &filled), GV_NO_MEMORY, "no memory");
+  is_refused = false;
+  holds(filled.token == 99 && wide[0] == 0, "nothing was told or written");
+  low = all;
+  low.alone = true;
+  low.first = other;
+  want(gv_fill(end, &low, out, sizeof out, &filled), GV_OK, "of one stream");
+  holds(filled.has_last_stream && filled.last_stream == other && filled.len > 4 && out[filled.len] == 0xee, "its bytes");
+  uint64_t token = filled.token;
+  want(gv_fill(end, &all, out, GV_MIN_FILL, &filled), GV_OK, "the others");
+  holds(filled.has_last_stream && filled.last_stream == stream && !filled.more && filled.token != token, "that is all");
+  want(gv_token_acked(end, filled.token), GV_OK, "acked");
+  want(gv_fill(end, &all, out, sizeof out, &filled), GV_NONE, "nothing is due");
+  want(gv_token_lost(end, token), GV_OK, "lost");
+  all.items = false;
+  want(gv_fill(end, &all, out, sizeof out, &filled), GV_OK, "it is due again");
+  holds(filled.last_stream == other, "which it is");
+}
+
+/* Numbers that no text has close the connection, as a rule that is broken does; and an end that is closed says so again. */
+static void closes(gv_endpoint *end) {
+  gv_closing_info why = {.size = sizeof why};
+  gv_fill_request all = {.size = sizeof all, .items = true, .streams = true};
+  gv_filled filled = {.size = sizeof filled};
+  gv_frame frame = first;
+  gv_taken taken = untouched;
+  uint8_t out[200];
+  frame.stream = 7;
+  frame.offset = big - 3;
+  want(gv_take_frame(end, &frame, &taken), GV_PROTOCOL_ERROR, "an end above 2^62 - 1");
+  want(gv_closing(end, &why), GV_OK, "why");
+  holds(why.code == 7 && why.frame_type == 0x0f && why.place == 0, "FRAME_ENCODING_ERROR");
+  want(gv_take_frame(end, &first, &taken), GV_PROTOCOL_ERROR, "it is closed");
+  holds(taken == untouched, "nothing was told");
+  want(gv_fill(end, &all, out, sizeof out, &filled), GV_CONNECTION_CLOSED, "and fills nothing");
+}
+
+static void is_closed_by_peer(gv_endpoint *end) {
+  static const uint8_t payload[] = {0x1c, 0x05, 0x00, 0x00};
+  gv_taken taken = untouched;
+  uint64_t code = 0;
+  want(gv_receive(end, 0, payload, sizeof payload), GV_CLOSED_BY_PEER, "the peer closes");
+  want(gv_take_frame(end, &first, &taken), GV_CLOSED_BY_PEER, "it is closed");
+  want(gv_peer_closed(end, &code), GV_OK, "with a code");
+  holds(code == 5, "which it is");
+}
+
+int main(void) {
+  gv_endpoint *end = new_end(), *other = new_end();
+  no_frames(end);
+  frames(end);
+  fills(end);
+  closes(end);
+  is_closed_by_peer(other);
+  gv_endpoint_free(end);
+  gv_endpoint_free(other);
+  return failed;
+}
