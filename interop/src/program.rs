@@ -17,7 +17,7 @@ use std::sync::atomic::{AtomicBool, Ordering};
 use std::time::{Duration, Instant};
 
 /// How many streams the stream layer allows in a connection's life.
-const MOST_STREAMS: u64 = 65_536;
+const MOST_STREAMS: u64 = 1 << 21;
 
 static TELLS_MORE: AtomicBool = AtomicBool::new(false);
 
@@ -226,15 +226,15 @@ pub fn listen_on_all(texts: &[String]) -> Result<Vec<UdpSocket>, Refusal> {
 
 /// What a connection for files is made with: `--window BYTES` is the window of the connection, and of a stream as far as one goes,
 /// where `--stream-window BYTES` doesn't say otherwise;
-/// `--streams N` how many the peer may open at once, of which the stream layer allows 65,536 in all; `--idle SECONDS` after how long a
+/// `--streams N` how many the peer may open at once, of which the stream layer allows 2,097,152 in all; `--idle SECONDS` after how long a
 /// silence it ends.
 pub fn config(words: &mut Words) -> Result<Config, Refusal> {
     let window = words.number("window", 1 << 22)?;
     let stream_window = words.number("stream-window", window.min(1 << 20))?;
     let (streams, lifetime) = streams(words)?;
     let idle = words.number("idle", 30)?;
-    if !(1..=1 << 24).contains(&window) || !(1..=1 << 20).contains(&stream_window) {
-        let reason = "a window has 1 to 16777216 bytes, and that of a stream 1 to 1048576";
+    if !(1..=1 << 32).contains(&window) || !(1..=1 << 28).contains(&stream_window) {
+        let reason = "a window has 1 to 4294967296 bytes, and that of a stream 1 to 268435456";
         return Err(Refusal::Usage(reason.to_owned()));
     }
     let settings = Settings::default()

@@ -9,7 +9,6 @@ mod frames;
 mod handshake;
 mod receive;
 mod send;
-mod stopped;
 #[cfg(test)]
 mod tests;
 
@@ -28,7 +27,7 @@ use gotsavena::{Endpoint, Role, Settings, StreamId};
 use ring::rand::{SecureRandom, SystemRandom};
 use rustls::quic::{Keys, Version};
 use rustls::{ClientConfig, ServerConfig};
-use std::collections::{HashMap, VecDeque};
+use std::collections::VecDeque;
 use std::sync::Arc;
 use std::time::{Duration, Instant};
 
@@ -102,8 +101,6 @@ pub struct Connection {
     /// One more than the largest number of a 1-RTT packet that came.
     expected: u64,
     early: Vec<Vec<u8>>,
-    /// The streams that this end stopped, each with how many frames came on it that left or filled a gap.
-    stopped: HashMap<StreamId, usize>,
     recovery: Recovery,
     own_id: ConnectionId,
     first_destination: ConnectionId,
@@ -193,7 +190,6 @@ impl Connection {
             turn: stream_behind(None),
             expected: 0,
             early: Vec::new(),
-            stopped: HashMap::new(),
             recovery: Recovery::new(DATAGRAM),
             own_id,
             first_destination: destination,

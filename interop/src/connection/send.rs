@@ -264,7 +264,6 @@ impl Connection {
         if let Some(last) = last_stream(&out[at..]) {
             self.turn = stream_behind(Some(last));
         }
-        self.note_stops(&out[at..]);
         Ok(made)
     }
 
