@@ -1,0 +1,228 @@
+//! quinn-proto's streams over gotsavena: what quinn's applications call.
+//!
+//! `state` is what quinn's connection calls: frames in, packets out, acknowledged and lost. `gaps` keeps what the layer
+//! can't be asked for yet.
+use bytes::Bytes;
+use gotsavena::{RecvReport, RecvState, SendState};
+use thiserror::Error;
+
+use super::spaces::Retransmits;
+use crate::{Dir, StreamId, VarInt};
+
+mod gaps;
+mod read;
+mod state;
+mod write;
+
+pub use read::{Chunks, ReadError, ReadableError};
+pub use state::{told, Carried, StreamsState, MOST_DATA, MOST_STREAMS, MOST_STREAM_DATA};
+pub use write::{ByteSlice, BytesArray, BytesSource, FinishError, WriteError, Written};
+
+/// The streams of a connection, to open and to accept.
+pub struct Streams<'a> {
+    pub(super) state: &'a mut StreamsState,
+    pub(super) conn_state: &'a super::State,
+}
+
+impl Streams<'_> {
+    /// Opens a stream, where the peer allows one more.
+    pub fn open(&mut self, dir: Dir) -> Option<StreamId> {
+        let end = &mut self.state.end;
+        // Where none is left the call would tell the peer so, which quinn doesn't.
+        if self.conn_state.is_closed() || end.open_left(theirs(dir)) == 0 {
+            return None;
+        }
+        let stream = end.open(theirs(dir)).ok()?;
+        self.state.gaps.send_streams += 1;
+        Some(quinns(stream))
+    }
+
+    /// Gives out a stream of the peer.
+    pub fn accept(&mut self, dir: Dir) -> Option<StreamId> {
+        let stream = self.state.end.accept_of(theirs(dir))?;
+        if dir == Dir::Bi {
+            self.state.gaps.send_streams += 1;
+        }
+        Some(quinns(stream))
+    }
+
+    /// How many streams may have bytes that aren't acknowledged.
+    pub fn send_streams(&self) -> usize {
+        self.state.gaps.send_streams
+    }
+}
+
+/// The receiving half of a stream.
+pub struct RecvStream<'a> {
+    pub(super) id: StreamId,
+    pub(super) state: &'a mut StreamsState,
+    pub(super) pending: &'a mut Retransmits,
+}
+
+impl RecvStream<'_> {
+    /// Begins to read. Chunks come in order, asked for or not.
+    pub fn read(&mut self, _ordered: bool) -> Result<Chunks<'_>, ReadableError> {
+        match self.state.is_read(self.id) {
+            true => Ok(Chunks { id: self.id, streams: self.state }),
+            false => Err(ReadableError::UnknownStream),
+        }
+    }
+
+    /// Throws away what comes, and asks the peer to stop.
+    pub fn stop(&mut self, error_code: VarInt) -> Result<(), UnknownStream> {
+        if !self.state.is_read(self.id) {
+            return Err(UnknownStream(()));
+        }
+        let stopped = self.state.end.stop(ours(self.id), error_code.into());
+        stopped.map_err(|_| UnknownStream(()))?;
+        self.state.gaps.thrown_away.insert(self.id);
+        self.state.throw_away(self.id);
+        Ok(())
+    }
+}
+
+/// The sending half of a stream.
+pub struct SendStream<'a> {
+    pub(super) id: StreamId,
+    pub(super) state: &'a mut StreamsState,
+    pub(super) pending: &'a mut Retransmits,
+    pub(super) conn_state: &'a super::State,
+}
+
+impl SendStream<'_> {
+    /// Writes the front of the bytes, and tells how many.
+    pub fn write(&mut self, data: &[u8]) -> Result<usize, WriteError> {
+        Ok(self.write_all_of(&mut ByteSlice::from_slice(data))?.bytes)
+    }
+
+    /// The same of chunks: those that were written are taken out of the slice.
+    pub fn write_chunks(&mut self, data: &mut [Bytes]) -> Result<Written, WriteError> {
+        self.write_all_of(&mut BytesArray::from_chunks(data))
+    }
+
+    fn write_all_of<B: BytesSource>(&mut self, source: &mut B) -> Result<Written, WriteError> {
+        if self.conn_state.is_closed() {
+            return Err(WriteError::Blocked);
+        }
+        self.state.write(self.id, source)
+    }
+
+    /// The code with which the peer asked to stop, if it did.
+    pub fn stopped(&mut self) -> Result<Option<VarInt>, UnknownStream> {
+        if let Some(code) = self.state.stop_code(self.id) {
+            return Ok(Some(code));
+        }
+        self.alive().map(|_| None)
+    }
+
+    /// Ends the stream behind what was written.
+    pub fn finish(&mut self) -> Result<(), FinishError> {
+        if let Some(code) = self.state.stop_code(self.id) {
+            return Err(FinishError::Stopped(code));
+        }
+        let finished = self.state.end.finish(ours(self.id));
+        finished.map_err(|_| FinishError::UnknownStream)
+    }
+
+    /// Breaks the stream off.
+    pub fn reset(&mut self, error_code: VarInt) -> Result<(), UnknownStream> {
+        if self.state.let_go(self.id) {
+            return Ok(());
+        }
+        let reset = |state: &mut StreamsState| state.end.reset(ours(self.id), error_code.into());
+        self.state.without_unsent(self.id, reset).map_err(|_| UnknownStream(()))
+    }
+
+    /// Which streams go first.
+    pub fn set_priority(&mut self, priority: i32) -> Result<(), UnknownStream> {
+        self.alive()?;
+        self.state.priorities.insert(self.id, priority);
+        Ok(())
+    }
+
+    /// The priority that was set, or 0.
+    pub fn priority(&self) -> Result<i32, UnknownStream> {
+        self.alive()?;
+        Ok(self.state.priority(self.id))
+    }
+
+    // The half isn't over.
+    fn alive(&self) -> Result<(), UnknownStream> {
+        match self.state.send_state(self.id) {
+            None | Some(SendState::DataRecvd | SendState::ResetRecvd) => Err(UnknownStream(())),
+            Some(_) => Ok(()),
+        }
+    }
+}
+
+impl StreamsState {
+    // Whether the application reads of the stream still: it wasn't told the end or a reset, and didn't stop it. What the peer
+    // may open counts.
+    fn is_read(&self, id: StreamId) -> bool {
+        let stream = ours(id);
+        match self.end.report(stream).map(|report| report.recv) {
+            None => {
+                id.initiator() != self.side && id.index() < self.end.granted_streams(stream.dir())
+            }
+            Some(
+                Some(RecvReport { state: RecvState::DataRead | RecvState::ResetRead, .. }) | None,
+            ) => false,
+            Some(Some(_)) => !self.gaps.thrown_away.contains(&id),
+        }
+    }
+}
+
+/// News for the application.
+#[derive(Debug, PartialEq, Eq)]
+pub enum StreamEvent {
+    /// The peer opened streams.
+    Opened { dir: Dir },
+    /// There is something to read.
+    Readable { id: StreamId },
+    /// A write that was refused would be accepted now.
+    Writable { id: StreamId },
+    /// All of a finished stream is acknowledged.
+    Finished { id: StreamId },
+    /// The peer asked to stop, with this code.
+    Stopped { id: StreamId, error_code: VarInt },
+    /// More streams may be opened.
+    Available { dir: Dir },
+}
+
+/// Whether something is to be sent now.
+#[derive(Copy, Clone, Debug, Default, Eq, PartialEq)]
+#[must_use = "the connection may have to be polled"]
+pub struct ShouldTransmit(bool);
+
+impl ShouldTransmit {
+    /// Whether it is.
+    pub fn should_transmit(self) -> bool {
+        self.0
+    }
+}
+
+/// The stream wasn't opened, or is over.
+#[derive(Debug, Error, Clone, PartialEq, Eq)]
+#[error("no such stream is open")]
+pub struct UnknownStream(());
+
+// Numbers and directions in the words of the other crate.
+
+fn ours(id: StreamId) -> gotsavena::StreamId {
+    gotsavena::StreamId::new(id.0).expect("below 2^62")
+}
+
+fn quinns(stream: gotsavena::StreamId) -> StreamId {
+    StreamId(stream.value())
+}
+
+fn theirs(dir: Dir) -> gotsavena::Dir {
+    match dir {
+        Dir::Bi => gotsavena::Dir::Bidi,
+        Dir::Uni => gotsavena::Dir::Uni,
+    }
+}
+
+fn code_of(code: u64) -> VarInt {
+    VarInt::from_u64(code).expect("below 2^62")
+}

@@ -1,0 +1,377 @@
+//! What quinn's connection calls: frames in, packets out, acknowledged and lost.
+use std::collections::VecDeque;
+use std::ops::Range;
+use std::{iter, mem};
+
+use bytes::Bytes;
+use gotsavena::{
+    Closing, Endpoint, Fill, Frame, PeerLimits, Role, SendState, Settings, TakeFault, Token,
+    MIN_FILL,
+};
+use rustc_hash::FxHashMap;
+use tinyvec::TinyVec;
+
+use super::gaps::Gaps;
+use super::{ours, quinns, theirs, Retransmits, ShouldTransmit, StreamEvent};
+use crate::coding::Codec;
+use crate::connection::spaces::ThinRetransmits;
+use crate::connection::stats::FrameStats;
+use crate::frame::{self, StreamMeta};
+use crate::transport_parameters::TransportParameters;
+use crate::{Dir, Side, StreamId, TransportError, TransportErrorCode, VarInt};
+
+// The most that the layer grants: bytes on a connection and on a stream, streams at a time.
+pub const MOST_DATA: u64 = 1 << 40;
+pub const MOST_STREAM_DATA: u64 = 1 << 30;
+pub const MOST_STREAMS: u64 = 1 << 17;
+const MOST_IN_ALL: u64 = 1 << 21;
+
+/// The streams of a connection.
+pub struct StreamsState {
+    pub(super) end: Endpoint,
+    pub(super) side: Side,
+    pub(super) settings: Settings,
+    events: VecDeque<StreamEvent>,
+    opened: [bool; 2],
+    // Priorities that were set, and the stream from which on bytes go into the next packet.
+    pub(super) priorities: FxHashMap<StreamId, i32>,
+    turn: gotsavena::StreamId,
+    // What went into the packet that is being made.
+    pub(super) carried: Carried,
+    pub(super) gaps: Gaps,
+}
+
+/// What a packet carries, kept beside its number: the tokens of its fills, and the streams that its frames speak of.
+#[derive(Clone, Debug, Default)]
+pub struct Carried {
+    tokens: Range<u64>,
+    pub(super) streams: TinyVec<[StreamMeta; 1]>,
+    stream_frames: usize,
+}
+
+/// What the peer may be told of a setting: no more than the layer grants.
+pub fn told(setting: VarInt, most: u64) -> VarInt {
+    VarInt(setting.0.min(most))
+}
+
+fn new_end(side: Side, settings: Settings) -> Endpoint {
+    let role = if side.is_client() { Role::Client } else { Role::Server };
+    // The peer's limits come with the handshake, or are remembered.
+    Endpoint::new(role, settings, PeerLimits::default()).expect("in range")
+}
+
+impl StreamsState {
+    pub fn new(
+        side: Side,
+        max_remote_uni: VarInt,
+        max_remote_bi: VarInt,
+        send_window: u64,
+        receive_window: VarInt,
+        stream_receive_window: VarInt,
+    ) -> Self {
+        let settings = Settings::default()
+            .conn_window(receive_window.0.clamp(1, MOST_DATA))
+            .stream_windows(stream_receive_window.0.clamp(1, MOST_STREAM_DATA))
+            .send_buffer(send_window.clamp(1, MOST_STREAM_DATA) as usize)
+            .bidi_streams(max_remote_bi.0.min(MOST_STREAMS), MOST_IN_ALL)
+            .uni_streams(max_remote_uni.0.min(MOST_STREAMS), MOST_IN_ALL);
+        Self {
+            end: new_end(side, settings),
+            side,
+            settings,
+            events: VecDeque::new(),
+            opened: [false; 2],
+            priorities: FxHashMap::default(),
+            turn: ours(StreamId(0)),
+            carried: Carried::default(),
+            gaps: Gaps::default(),
+        }
+    }
+
+    // The peer's limits
+
+    pub fn set_params(&mut self, params: &TransportParameters) {
+        let limits = PeerLimits {
+            max_data: params.initial_max_data.into(),
+            bidi_local: params.initial_max_stream_data_bidi_local.into(),
+            bidi_remote: params.initial_max_stream_data_bidi_remote.into(),
+            uni: params.initial_max_stream_data_uni.into(),
+            streams_bidi: params.initial_max_streams_bidi.into(),
+            streams_uni: params.initial_max_streams_uni.into(),
+        };
+        self.end.raise_limits(limits).expect("quinn read them, and the end is open");
+        self.gaps.came = true;
+    }
+
+    /// Nothing that was sent before the handshake counts: a fresh end.
+    pub fn zero_rtt_rejected(&mut self) {
+        self.end = new_end(self.side, self.settings);
+        self.priorities.clear();
+        self.gaps = Gaps::default();
+    }
+
+    /// A Retry: all that was sent goes out again.
+    pub fn retransmit_all_for_0rtt(&mut self) {
+        let mut from = 0;
+        while let Some(number) = self.end.next_outstanding(from) {
+            let _ = self.end.lost(Token { number });
+            from = number + 1;
+        }
+    }
+
+    // Frames
+
+    pub fn received(
+        &mut self,
+        frame: frame::Stream,
+        _payload: usize,
+    ) -> Result<ShouldTransmit, TransportError> {
+        let stream = ours(frame.id);
+        self.take_and_tell(
+            frame.id,
+            Frame::Stream { stream, offset: frame.offset, fin: frame.fin, bytes: &frame.data },
+        )
+    }
+
+    pub fn received_reset(
+        &mut self,
+        frame: frame::ResetStream,
+    ) -> Result<ShouldTransmit, TransportError> {
+        let stream = ours(frame.id);
+        let (code, final_size) = (frame.error_code.into(), frame.final_offset.into());
+        self.take_and_tell(frame.id, Frame::ResetStream { stream, code, final_size })
+    }
+
+    pub fn received_stop_sending(&mut self, id: StreamId, error_code: VarInt) {
+        let stream = ours(id);
+        let frame = Frame::StopSending { stream, code: error_code.into() };
+        use SendState::{DataRecvd, ResetRecvd, ResetSent};
+        let was_over = matches!(self.send_state(id), Some(DataRecvd | ResetSent | ResetRecvd));
+        let was_stopped = self.end.stopped_with(stream).is_some();
+        // (quinn asked before whether the frame breaks a rule)
+        let _ = self.without_unsent(id, |streams| streams.take(frame));
+        if !was_over && !was_stopped {
+            self.gaps.stopped.insert(id);
+            self.events.push_back(StreamEvent::Stopped { id, error_code });
+        }
+    }
+
+    pub fn received_max_data(&mut self, n: VarInt) {
+        let _ = self.take(Frame::MaxData { maximum: n.into() });
+        self.gaps.came = true;
+    }
+
+    pub fn received_max_stream_data(
+        &mut self,
+        id: StreamId,
+        offset: u64,
+    ) -> Result<(), TransportError> {
+        self.take(Frame::MaxStreamData { stream: ours(id), maximum: offset })?;
+        self.gaps.came = true;
+        Ok(())
+    }
+
+    pub fn received_max_streams(&mut self, dir: Dir, count: u64) -> Result<(), TransportError> {
+        let before = self.end.open_left(theirs(dir));
+        self.take(Frame::MaxStreams { dir: theirs(dir), count })?;
+        if self.end.open_left(theirs(dir)) > before {
+            self.events.push_back(StreamEvent::Available { dir });
+        }
+        Ok(())
+    }
+
+    pub fn is_local_unopened(&self, id: StreamId) -> bool {
+        self.end.report(ours(id)).is_none()
+    }
+
+    // Takes a frame in that tells of bytes, an end or a reset, and tells the application.
+    fn take_and_tell(
+        &mut self,
+        id: StreamId,
+        frame: Frame<'_>,
+    ) -> Result<ShouldTransmit, TransportError> {
+        let opened = self.take(frame)?;
+        if self.gaps.thrown_away.contains(&id) {
+            self.throw_away(id);
+        } else if !opened && self.end.next_readable(ours(id)) == Some(ours(id)) {
+            self.events.push_back(StreamEvent::Readable { id });
+        }
+        // What is due is asked for by `is_sendable`.
+        Ok(ShouldTransmit(false))
+    }
+
+    // Takes a frame in, and tells whether the peer opened a stream by it.
+    fn take(&mut self, frame: Frame<'_>) -> Result<bool, TransportError> {
+        let left = |end: &Endpoint| [Dir::Bi, Dir::Uni].map(|dir| end.streams_left(theirs(dir)));
+        let before = left(&self.end);
+        self.end.take_frame(&frame).map_err(|fault| match fault {
+            TakeFault::Closing(closing) => error_of(closing),
+            _ => TransportError::INTERNAL_ERROR("no memory"),
+        })?;
+        let after = left(&self.end);
+        for dir in [0, 1] {
+            self.opened[dir] |= after[dir] < before[dir];
+        }
+        Ok(after != before)
+    }
+
+    /// Whether anything of streams or of their limits is due.
+    pub fn is_sendable(&self) -> bool {
+        self.end.is_sendable()
+    }
+
+    pub fn write_control_frames(
+        &mut self,
+        buf: &mut Vec<u8>,
+        _pending: &mut Retransmits,
+        _retransmits: &mut ThinRetransmits,
+        stats: &mut FrameStats,
+        max_size: usize,
+    ) {
+        let begin = buf.len();
+        self.fill(buf, max_size, &Fill::control());
+        for frame in frame::Iter::new(Bytes::copy_from_slice(&buf[begin..])) {
+            stats.record(&frame);
+        }
+    }
+
+    pub fn write_stream_frames(&mut self, buf: &mut Vec<u8>, max_buf_size: usize) -> Carried {
+        if self.priorities.is_empty() {
+            self.fill(buf, max_buf_size, &Fill::data().from(self.turn));
+        } else {
+            for stream in self.in_order() {
+                self.fill(buf, max_buf_size, &Fill::data().only(stream));
+            }
+        }
+        mem::take(&mut self.carried)
+    }
+
+    // The streams that may send, by priority, and by turns where it is the same.
+    pub(super) fn in_order(&self) -> Vec<gotsavena::StreamId> {
+        let next = |from: u64| self.end.next_sendable(ours(StreamId(from)));
+        let mut order: Vec<_> = iter::successors(next(0), |last| next(last.value() + 1)).collect();
+        order.sort_by_key(|&stream| {
+            (-i64::from(self.priority(quinns(stream))), stream < self.turn, stream)
+        });
+        order
+    }
+
+    pub(super) fn priority(&self, id: StreamId) -> i32 {
+        self.priorities.get(&id).copied().unwrap_or(0)
+    }
+
+    // Fills what is wanted in behind the packet's frames so far.
+    pub(super) fn fill(&mut self, buf: &mut Vec<u8>, max_size: usize, want: &Fill) {
+        let begin = buf.len();
+        if begin + MIN_FILL > max_size {
+            return;
+        }
+        let credit = self.end.credit_left();
+        buf.resize(max_size, 0);
+        let filled = self.end.fill(&mut buf[begin..], want).ok().flatten();
+        buf.truncate(begin + filled.map_or(0, |filled| filled.len));
+        self.gaps.unsent -= credit - self.end.credit_left();
+        if let Some(filled) = filled {
+            self.carried.add(filled.token, &buf[begin..]);
+            self.turn =
+                filled.last_stream.map_or(self.turn, |last| ours(StreamId(last.value() + 1)));
+        }
+    }
+
+    pub fn received_ack_of(&mut self, packet: Carried) {
+        let streams = packet.streams.iter();
+        let mut streams: Vec<_> = streams.map(|meta| (meta.id, self.send_state(meta.id))).collect();
+        streams.sort_by_key(|&(id, _)| id);
+        streams.dedup();
+        for number in packet.tokens {
+            let _ = self.end.acked(Token { number });
+        }
+        for (id, before) in streams {
+            match self.send_state(id) {
+                now if now == before || self.gaps.stopped.contains(&id) => {}
+                Some(SendState::DataRecvd) => {
+                    self.over(id);
+                    self.events.push_back(StreamEvent::Finished { id });
+                }
+                Some(SendState::ResetRecvd) => self.over(id),
+                _ => {}
+            }
+        }
+        self.gaps.came = true;
+    }
+
+    pub fn retransmit(&mut self, packet: Carried) {
+        for number in packet.tokens {
+            let _ = self.end.lost(Token { number });
+        }
+    }
+
+    // A sending half is over.
+    fn over(&mut self, id: StreamId) {
+        self.priorities.remove(&id);
+        self.gaps.blocked.remove(&id);
+        self.gaps.send_streams -= 1;
+    }
+
+    pub fn poll(&mut self) -> Option<StreamEvent> {
+        if let Some(dir) = Dir::iter().find(|&dir| mem::take(&mut self.opened[dir as usize])) {
+            return Some(StreamEvent::Opened { dir });
+        }
+        for id in self.now_writable() {
+            self.events.push_back(StreamEvent::Writable { id });
+        }
+        self.events.pop_front()
+    }
+
+    pub fn reset_acked(&mut self, _id: StreamId) {}
+
+    pub fn can_send_flow_control(&self, _id: StreamId) -> bool {
+        false
+    }
+
+    pub fn take_max_streams_dirty(&mut self, _dir: Dir) -> bool {
+        false
+    }
+}
+
+fn error_of(closing: Closing) -> TransportError {
+    // (the codes of section 20.1 are spelled in one byte)
+    let code = TransportErrorCode::decode(&mut &[closing.code as u8][..]);
+    code.unwrap_or(TransportErrorCode::INTERNAL_ERROR).into()
+}
+
+// It stands in the place of quinn's list of STREAM frames, and is acknowledged or lost as one.
+impl Carried {
+    fn add(&mut self, token: Token, frames: &[u8]) {
+        // Tokens are consecutive numbers.
+        let first = if self.is_empty() { token.number } else { self.tokens.start };
+        self.tokens = first..token.number + 1;
+        for placed in gotsavena::frames(frames).flatten() {
+            let (stream, count) = match placed.frame {
+                Frame::Stream { stream, .. } => (stream, 1),
+                Frame::ResetStream { stream, .. } => (stream, 0),
+                _ => continue,
+            };
+            self.streams.push(StreamMeta { id: quinns(stream), ..StreamMeta::default() });
+            self.stream_frames += count;
+        }
+    }
+
+    // (of STREAM frames)
+    pub fn len(&self) -> usize {
+        self.stream_frames
+    }
+
+    pub fn is_empty(&self) -> bool {
+        self.tokens.is_empty()
+    }
+}
+
+impl IntoIterator for Carried {
+    type Item = Carried;
+    type IntoIter = iter::Once<Carried>;
+
+    fn into_iter(self) -> Self::IntoIter {
+        iter::once(self)
+    }
+}
