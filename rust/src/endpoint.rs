@@ -12,6 +12,7 @@ use crate::proved::qs_conn as conn;
 use crate::settings::{PeerLimits, Settings};
 use crate::shim::alloc::Global;
 use crate::streams::{RecvStream, SendStream};
+use crate::tuning::Tuning;
 use core::fmt;
 
 /// The least room of a packet's payload, in bytes.
@@ -63,7 +64,32 @@ impl Endpoint {
     /// `OutOfRange` where a setting or a limit of the peer lies outside its range, and `TooManyStreams` where the peer
     /// grants more than 2^60 streams of a direction (section 4.6).
     pub fn new(role: Role, settings: Settings, peer: PeerLimits) -> Result<Endpoint, SetupFault> {
-        match conn::Endpoint::new_wide(Global, role.inner(), settings.inner(), peer.inner()) {
+        Endpoint::new_wide(role, settings, Tuning::default(), peer)
+    }
+
+    /// The same of an end that is tuned as its owner likes. Tuning changes when limits move and what calls take, and no
+    /// rule of the standard.
+    ///
+    /// ```
+    /// use gotsavena::{Endpoint, Role, Settings, Share, Tuning};
+    ///
+    /// let settings = Settings::default().stream_windows(1 << 24).conn_window(1 << 24);
+    /// let tuning = Tuning::default().credit_step(Share::Eighth);
+    /// let end = Endpoint::new_wide(Role::Server, settings, tuning, settings.limits()).unwrap();
+    /// assert_eq!(end.granted(), 1 << 24);
+    /// ```
+    ///
+    /// # Errors
+    ///
+    /// Those of [`new`](Endpoint::new).
+    pub fn new_wide(
+        role: Role,
+        settings: Settings,
+        tuning: Tuning,
+        peer: PeerLimits,
+    ) -> Result<Endpoint, SetupFault> {
+        let (settings, peer) = (settings.inner(), peer.inner());
+        match conn::Endpoint::new_wide(Global, role.inner(), settings, tuning.inner(), peer) {
             Ok(inner) => Ok(Endpoint { inner }),
             Err(fault) => Err(SetupFault::of(fault)),
         }

@@ -80,6 +80,7 @@ pub(crate) mod proved;
 mod settings;
 pub(crate) mod shim;
 mod streams;
+mod tuning;
 
 pub use answers::{
     Closing, Consumed, Held, Made, Read, Received, RecvReport, RecvState, SendReport, SendState,
@@ -98,3 +99,4 @@ pub use frame::{
 pub use ids::{Dir, Role, StreamId};
 pub use settings::{PeerLimits, Settings};
 pub use streams::{RecvStream, SendStream};
+pub use tuning::{Share, Tuning};

@@ -52,6 +52,7 @@ ghost use Rattle.qs_c.specs.Lanes.{lane_of};
 ghost use Rattle.qs_c.specs.Frames.{NextAnswer, GivenAnswer};
 ghost use Rattle.qs_c.specs.Acks.{pair_of, are_ranges, AckAnswer, RangeAnswer};
 ghost use Rattle.qs_machine.specs.Ends.{wide_end_made};
+ghost use Rattle.qs_calls.specs.Settings.{default_tuning};
 
 use crate::acks::GvRange;
 use crate::answers::{INVALID, of_stream};
@@ -80,7 +81,7 @@ pub extern "C" fn gvp_new(
     settings: &GvSettings,
     peer: &GvLimits,
 ) -> u32
-    ensures { Called end.old.cell.value end.new.cell.value (is_flag role) (result ≡ 1) (λ e f. Starts (wide_end_made (role_of role) (settings_in settings.now) (limits_in peer.now)) result e f) }
+    ensures { Called end.old.cell.value end.new.cell.value (is_flag role) (result ≡ 1) (λ e f. Starts (wide_end_made (role_of role) (settings_in settings.now) default_tuning (limits_in peer.now)) result e f) }
 {
     let Some(mut thing) = end.take(alloc) else {
         return INVALID;

@@ -1,13 +1,20 @@
 -- Trusted.
 -- What an end is set to, and what it is told of the other end's settings: the limits with which a connection begins (RFC 9000,
 -- sections 4.1, 4.6 and 18.2, for the whole file; the ranges are ours).
-use Rattle.std.specs.Prelude.{ℕ, ◌^◌, Bool, ◌&&◌, not, nat_le, Option, Some, None, if◌then◌else◌}
+use Rattle.std.specs.Prelude.{ℕ, ◌^◌, Bool, false, ◌&&◌, not, nat_le, Option, Some, None, if◌then◌else◌}
 use Rattle.qs_ranges.specs.Numbers.{MAX_VARINT}
 use Rattle.qs_recv.specs.Lane.{MAX_WINDOW, MAX_CONN_WINDOW}
 use Rattle.qs_calls.specs.declared.settings.Settings.{Settings}
+use Rattle.qs_calls.specs.declared.settings.Tuning.{Tuning}
+use Rattle.qs_calls.specs.declared.settings.Share.TheVariants.{Half}
 use Rattle.qs_calls.specs.declared.settings.PeerLimits.{PeerLimits}
 use Rattle.qs_calls.specs.declared.settings.SetupFault.{SetupFault}
 use Rattle.qs_calls.specs.declared.settings.SetupFault.TheVariants.{OutOfRange, TooManyStreams}
+
+-- how an end goes about its choices where its owner made none: a limit moves with each half window, a count of streams with each stream
+-- that ended (RFC 9000, sections 4.2 and 4.6; the choices are ours)
+abbrev pub default_tuning : Tuning
+default_tuning = record { credit_step = Half; count_step = None; within_credit = false; reads_when_closed = false; epoch = 0 }
 
 -- what the other end is told of an end's settings (RFC 9000, section 18.2)
 abbrev pub limits_of : Settings → PeerLimits

@@ -229,7 +229,7 @@ module _ (c : Core) (h : IsAtRest c) where
 module _ (c : Core) (h : IsCore c) where
   -- some end with these tables
   abbrev there : End
-  there = end_of c (new_end c.limits.role c.limits.settings (record { max_data = 0; bidi_local = 0; bidi_remote = 0; uni = 0; streams_bidi = 0; streams_uni = 0 }))
+  there = end_of c (new_end c.limits.role c.limits.settings c.limits.tuning (record { max_data = 0; bidi_local = 0; bidi_remote = 0; uni = 0; streams_bidi = 0; streams_uni = 0 }))
 
   -- a frame is put
   core_put : (f : Seen) (o : Outgoing) (marks : Tables Bool) → end_by c.limits c.recvs o there ≡ frame_put f there → sent_sum o.sends ≤ c.limits.known_data → o.acked ≡ c.outbox.acked → AreTold SendTells o.sends o.outstanding o.acked marks

@@ -7,9 +7,10 @@ use Rattle.qs_ranges.specs.Numbers.{NumberSet, run_starts}
 use Rattle.qs_wire.specs.declared.stream_id.Role.{Role}
 use Rattle.qs_recv.specs.Lane.{RecvLane, new_lane, after_read, stop}
 use Rattle.qs_calls.specs.declared.settings.Settings.{Settings}
+use Rattle.qs_calls.specs.declared.settings.Tuning.{Tuning}
 use Rattle.qs_calls.specs.declared.settings.PeerLimits.{PeerLimits}
 use Rattle.qs_calls.specs.declared.settings.SetupFault.TheVariants.{OutOfRange, TooManyStreams}
-use Rattle.qs_calls.specs.Settings.{are_in_wide_range, are_spellable, are_countable, wide_setup_fault}
+use Rattle.qs_calls.specs.Settings.{are_in_wide_range, are_spellable, are_countable, wide_setup_fault, default_tuning}
 use Rattle.qs_machine.specs.Tables.{Tables, no_streams, lookup, updated, open_to}
 use Rattle.qs_machine.specs.Ends.{End, new_end, end_unless, window_by}
 use Rattle.qs_machine.specs.Standing.{KeepsCredit}
@@ -37,12 +38,13 @@ all_true true false c h = absurd (search (rules, h))
 all_true false b c h = absurd (search (rules, h))
 
 -- a new end
-pub kept_new : (role : Role) (s : Settings) (p : PeerLimits) (wanted : ByDir (Option ℕ)) (o : Outgoing) (recvs : Tables RecvLane) (ins outs : Tables Bool) (done : NumberSet) → wide_setup_fault s p ≡ None → o ≡ no_packets → recvs ≡ no_streams → done ≡ set.empty
+pub kept_new : (role : Role) (s : Settings) (tuned : Tuning) (p : PeerLimits) (wanted : ByDir (Option ℕ)) (o : Outgoing) (recvs : Tables RecvLane) (ins outs : Tables Bool) (done : NumberSet) → wide_setup_fault s p ≡ None → o ≡ no_packets → recvs ≡ no_streams → done ≡ set.empty
     → IsKept
     (record {
       limits = record {
         role = role;
         settings = s;
+        tuning = tuned;
         granted = s.conn_window;
         known_data = p.max_data;
         granted_streams = record { bidi = s.grant_bidi; uni = s.grant_uni };
@@ -56,7 +58,7 @@ pub kept_new : (role : Role) (s : Settings) (p : PeerLimits) (wanted : ByDir (Op
       ended = record { bidi = 0; uni = 0 };
     })
     p done false false None
-kept_new role s p wanted o recvs ins outs done is empty none no_numbers =
+kept_new role s tuned p wanted o recvs ins outs done is empty none no_numbers =
     let h = all_true (are_in_wide_range s) (are_spellable p) (are_countable p) is in
     let in_range = h.first in
     let spellable = h.second in
@@ -66,7 +68,7 @@ kept_new role s p wanted o recvs ins outs done is empty none no_numbers =
     record {
       rest = record {
         core = record {
-          sound = subst (λ (t : Tables RecvLane). KeepsCredit role s t s.conn_window) (sym none) (new_ends_sound role s p (new_end role s p) (ap (λ o. end_unless o (new_end role s p)) is)).0;
+          sound = subst (λ (t : Tables RecvLane). KeepsCredit role s t s.conn_window) (sym none) (new_ends_sound role s tuned p (new_end role s tuned p) (ap (λ o. end_unless o (new_end role s tuned p)) is)).0;
           fits = record {
             granted = grind (arith, nat_tests, in_range);
             granted_bidi = grind (arith, nat_tests, in_range);
@@ -93,7 +95,7 @@ kept_new role s p wanted o recvs ins outs done is empty none no_numbers =
 
 -- an end with these receiving halves
 abbrev end_with : Role → Settings → Tables RecvLane → ℕ → End
-end_with role s recvs g = record (new_end role s (record { max_data = 0; bidi_local = 0; bidi_remote = 0; uni = 0; streams_bidi = 0; streams_uni = 0 })) { recvs = recvs; granted = g }
+end_with role s recvs g = record (new_end role s default_tuning (record { max_data = 0; bidi_local = 0; bidi_remote = 0; uni = 0; streams_bidi = 0; streams_uni = 0 })) { recvs = recvs; granted = g }
 
 pub sound_after_read : (role : Role) (s : Settings) (recvs now : Tables RecvLane) (g n size : ℕ) → KeepsCredit role s recvs g → now ≡ updated recvs n (λ l. after_read l size) (lookup recvs n) → KeepsCredit role s now g
 sound_after_read role s recvs now g n size k after = subst (λ (t : Tables RecvLane). KeepsCredit role s t g) (sym after) (sound_read n size (end_with role s recvs g) k)

@@ -53,7 +53,7 @@ fills_next old e mid [] is = ap (λ (x : End). x.next) is
 fills_next old e mid (f ∷ fs) (may, rest) = fills_next old (frame_put f e) mid fs rest ∙ put_next f e
 
 abbrev pub limits_of : End → Limits
-limits_of v = record { role = v.role; settings = v.settings; granted = v.granted; known_data = v.known_data; granted_streams = record { bidi = v.granted_bidi; uni = v.granted_uni }; known_streams = record { bidi = v.known_bidi; uni = v.known_uni }; wanted_streams = record { bidi = v.wanted_bidi; uni = v.wanted_uni } }
+limits_of v = record { role = v.role; settings = v.settings; tuning = v.tuning; granted = v.granted; known_data = v.known_data; granted_streams = record { bidi = v.granted_bidi; uni = v.granted_uni }; known_streams = record { bidi = v.known_bidi; uni = v.known_uni }; wanted_streams = record { bidi = v.wanted_bidi; uni = v.wanted_uni } }
 
 abbrev pub outgoing_of : ℕ → End → Outgoing
 outgoing_of spare v = record { sends = v.sends; next = v.next; outstanding = v.outstanding; lost = v.lost; acked = v.acked; spare = spare }

@@ -63,6 +63,7 @@ end_by t recvs o e =
     record e {
       role = t.role;
       settings = t.settings;
+      tuning = t.tuning;
       recvs = recvs;
       granted = t.granted;
       granted_bidi = t.granted_streams.bidi;

@@ -19,7 +19,7 @@ use crate::places::type_of;
 use crate::recv_tables::RecvTables;
 use crate::setup::{setup_fault, wide_setup_fault};
 use crate::untold::Untold;
-use qs_calls::{Closed, Closing, PeerLimits, Settings, SetupFault};
+use qs_calls::{Closed, Closing, PeerLimits, Settings, SetupFault, Tuning};
 use qs_ranges::RangeSet;
 use qs_recv::next_limit;
 use qs_wire::{Dir, Frame, Role, StreamId, put};
@@ -73,6 +73,7 @@ impl Model for Endpoint {
     ghost view = { λ e. record {
       role = e.core.limits.role;
       settings = e.core.limits.settings;
+      tuning = e.core.limits.tuning;
       peer = e.peer;
       sends = e.core.outbox.sends;
       recvs = e.core.recvs;
@@ -112,36 +113,44 @@ impl Endpoint {
     {
         match setup_fault(&settings, &peer) {
             Some(fault) => Err(fault),
-            None => Ok(Self::begun(alloc, role, settings, peer)),
+            None => Ok(Self::begun(alloc, role, settings, Tuning::by_default(), peer)),
         }
     }
 
     /// The same with wider ranges: windows of streams and sending buffers of up to 2^30 bytes, a connection's window of up to 2^40,
-    /// grants of up to 2^17 streams of a direction and lifetimes of up to 2^21. What [`new`](Endpoint::new) makes this makes, too.
+    /// grants of up to 2^17 streams of a direction and lifetimes of up to 2^21; and tuned. What [`new`](Endpoint::new) makes this makes, too.
     pub fn new_wide(
         alloc: Global,
         role: Role,
         settings: Settings,
+        tuning: Tuning,
         peer: PeerLimits,
     ) -> Result<Endpoint, SetupFault>
-        ensures { result ≡ wide_end_made role settings peer }
+        ensures { result ≡ wide_end_made role settings tuning peer }
     {
         match wide_setup_fault(&settings, &peer) {
             Some(fault) => Err(fault),
-            None => Ok(Self::begun(alloc, role, settings, peer)),
+            None => Ok(Self::begun(alloc, role, settings, tuning, peer)),
         }
     }
 
     // The end that begins with such settings.
-    fn begun(alloc: Global, role: Role, settings: Settings, peer: PeerLimits) -> Endpoint
+    fn begun(
+        alloc: Global,
+        role: Role,
+        settings: Settings,
+        tuning: Tuning,
+        peer: PeerLimits,
+    ) -> Endpoint
         requires { wide_setup_fault settings peer ≡ None }
-        ensures { result ≡ new_end role settings peer }
+        ensures { result ≡ new_end role settings tuning peer }
     {
         Endpoint {
             core: Core {
                 limits: Limits {
                     role,
                     settings,
+                    tuning,
                     granted: settings.conn_window,
                     known_data: peer.max_data,
                     granted_streams: ByDir::new(settings.grant_bidi, settings.grant_uni),

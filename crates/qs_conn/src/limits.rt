@@ -17,7 +17,7 @@ use crate::places::type_of;
 use crate::recv_tables::RecvTables;
 use crate::send_marks::Task;
 use crate::slot::Slot;
-use qs_calls::Settings;
+use qs_calls::{Settings, Tuning};
 use qs_send::Item;
 use qs_wire::{Dir, Role, StreamId};
 
@@ -27,6 +27,7 @@ use qs_wire::{Dir, Role, StreamId};
 pub(crate) struct Limits {
     pub role: Role,
     pub settings: Settings,
+    pub tuning: Tuning,
     pub granted: u64,
     pub known_data: u64,
     pub granted_streams: ByDir<u64>,

@@ -16,10 +16,11 @@ use Rattle.qs_recv.specs.Lawful.{IsLawful}
 use Rattle.qs_recv.proofs.LaneLaws.{len_within}
 use Rattle.qs_recv.proofs.LawfulLaws.{stored_within, taken_within}
 use Rattle.qs_calls.specs.declared.settings.Settings.{Settings}
+use Rattle.qs_calls.specs.declared.settings.Tuning.{Tuning}
 use Rattle.qs_calls.specs.declared.settings.PeerLimits.{PeerLimits}
 use Rattle.qs_calls.specs.declared.settings.SetupFault.{SetupFault}
 use Rattle.qs_calls.specs.declared.settings.SetupFault.TheVariants.{OutOfRange, TooManyStreams}
-use Rattle.qs_calls.specs.Settings.{are_in_range, are_in_wide_range, are_spellable, are_countable, fault_where, setup_fault, wide_setup_fault}
+use Rattle.qs_calls.specs.Settings.{are_in_range, are_in_wide_range, are_spellable, are_countable, fault_where, setup_fault, wide_setup_fault, default_tuning}
 use Rattle.qs_machine.specs.Tables.{table, lookup, total, no_streams}
 use Rattle.qs_machine.specs.Ends.{End, role_bit, window, new_end, end_made, wide_end_made, end_unless}
 use Rattle.qs_machine.specs.Credit.{spent, all_taken, all_stored, granted_streams, lifetime, recv_ended, both_ended, ended}
@@ -82,9 +83,9 @@ pub no_lane : (n : ℕ) → lookup (no_streams {X = RecvLane}) n ≡ None
 unfolding lookup
 no_lane n = ap (λ xs. slice_get xs (n / 4)) (no_table (n % 4))
 
-new_end_in_credit : (role : Role) (s : Settings) (p : PeerLimits) → are_in_wide_range s ≡ true → IsInCredit (new_end role s p)
+new_end_in_credit : (role : Role) (s : Settings) (t : Tuning) (p : PeerLimits) → are_in_wide_range s ≡ true → IsInCredit (new_end role s t p)
 unfolding total
-new_end_in_credit role s p fits =
+new_end_in_credit role s t p fits =
     record {
       settings = fits;
       lanes = λ n. subst (HasLawfulLane role s n) (sym (no_lane n)) tt;
@@ -94,9 +95,9 @@ new_end_in_credit role s p fits =
 
 -- none of its streams ended
 
-none_ended : (role : Role) (s : Settings) (p : PeerLimits) (d : Dir) → ended (new_end role s p) d ≡ 0
-none_ended role s p Bidi = ap (λ (xs : List RecvLane). length (filter both_ended (zip xs (table (no_streams {X = SendLane}) (1 - role_bit role))))) (no_table (1 - role_bit role))
-none_ended role s p Uni = ap (λ (xs : List RecvLane). length (filter recv_ended xs)) (no_table (3 - role_bit role))
+none_ended : (role : Role) (s : Settings) (t : Tuning) (p : PeerLimits) (d : Dir) → ended (new_end role s t p) d ≡ 0
+none_ended role s t p Bidi = ap (λ (xs : List RecvLane). length (filter both_ended (zip xs (table (no_streams {X = SendLane}) (1 - role_bit role))))) (no_table (1 - role_bit role))
+none_ended role s t p Uni = ap (λ (xs : List RecvLane). length (filter recv_ended xs)) (no_table (3 - role_bit role))
 
 pub record GrantsFit (s : Settings) : Type 0 where
   pub bidi : s.grant_bidi ≤ s.lifetime_bidi
@@ -105,12 +106,12 @@ pub record GrantsFit (s : Settings) : Type 0 where
 grants_fit : (s : Settings) → are_in_wide_range s ≡ true → GrantsFit s
 grants_fit s h = record { bidi = grind (arith, nat_tests, h); uni = grind (arith, nat_tests, h) }
 
-new_end_settled : (role : Role) (s : Settings) (p : PeerLimits) → are_in_wide_range s ≡ true → CountsAreSettled (new_end role s p)
-new_end_settled role s p fits Bidi = omega (arith, none_ended role s p Bidi, (grants_fit s fits).bidi)
-new_end_settled role s p fits Uni = omega (arith, none_ended role s p Uni, (grants_fit s fits).uni)
+new_end_settled : (role : Role) (s : Settings) (t : Tuning) (p : PeerLimits) → are_in_wide_range s ≡ true → CountsAreSettled (new_end role s t p)
+new_end_settled role s t p fits Bidi = omega (arith, none_ended role s t p Bidi, (grants_fit s fits).bidi)
+new_end_settled role s t p fits Uni = omega (arith, none_ended role s t p Uni, (grants_fit s fits).uni)
 
-new_end_sound : (role : Role) (s : Settings) (p : PeerLimits) → are_in_wide_range s ≡ true → IsSound (new_end role s p)
-new_end_sound role s p fits = (new_end_in_credit role s p fits, settled_stand (new_end role s p) (new_end_settled role s p fits))
+new_end_sound : (role : Role) (s : Settings) (t : Tuning) (p : PeerLimits) → are_in_wide_range s ≡ true → IsSound (new_end role s t p)
+new_end_sound role s t p fits = (new_end_in_credit role s t p fits, settled_stand (new_end role s t p) (new_end_settled role s t p fits))
 
 in_range : (a b c : Bool) → cond (not (a && b)) (Some OutOfRange) (cond (not c) (Some TooManyStreams) None) ≡ None → a ≡ true
 in_range true b c e = refl
@@ -133,17 +134,17 @@ no_wide_fault s p none =
     let fits = in_range (are_in_range s) (are_spellable p) (are_countable p) none in
     ap (λ b. fault_where b p) (wider s fits ∙ sym fits) ∙ none
 
-pub new_ends_wide : (role : Role) (s : Settings) (p : PeerLimits) (e : End) → end_made role s p ≡ Ok e → wide_end_made role s p ≡ Ok e
+pub new_ends_wide : (role : Role) (s : Settings) (p : PeerLimits) (e : End) → end_made role s p ≡ Ok e → wide_end_made role s default_tuning p ≡ Ok e
 new_ends_wide role s p e made =
-    let (none, is) = made_end (setup_fault s p) (new_end role s p) e made in
-    ap (λ o. end_unless o (new_end role s p)) (no_wide_fault s p none) ∙ ap Ok is
+    let (none, is) = made_end (setup_fault s p) (new_end role s default_tuning p) e made in
+    ap (λ o. end_unless o (new_end role s default_tuning p)) (no_wide_fault s p none) ∙ ap Ok is
 
-pub new_ends_sound : (role : Role) (s : Settings) (p : PeerLimits) (e : End) → wide_end_made role s p ≡ Ok e → IsSound e
-new_ends_sound role s p e made =
-    let (none, is) = made_end (wide_setup_fault s p) (new_end role s p) e made in
-    subst IsSound is (new_end_sound role s p (in_range (are_in_wide_range s) (are_spellable p) (are_countable p) none))
+pub new_ends_sound : (role : Role) (s : Settings) (t : Tuning) (p : PeerLimits) (e : End) → wide_end_made role s t p ≡ Ok e → IsSound e
+new_ends_sound role s t p e made =
+    let (none, is) = made_end (wide_setup_fault s p) (new_end role s t p) e made in
+    subst IsSound is (new_end_sound role s t p (in_range (are_in_wide_range s) (are_spellable p) (are_countable p) none))
 
-pub new_ends_settled : (role : Role) (s : Settings) (p : PeerLimits) (e : End) → wide_end_made role s p ≡ Ok e → CountsAreSettled e
-new_ends_settled role s p e made =
-    let (none, is) = made_end (wide_setup_fault s p) (new_end role s p) e made in
-    subst CountsAreSettled is (new_end_settled role s p (in_range (are_in_wide_range s) (are_spellable p) (are_countable p) none))
+pub new_ends_settled : (role : Role) (s : Settings) (t : Tuning) (p : PeerLimits) (e : End) → wide_end_made role s t p ≡ Ok e → CountsAreSettled e
+new_ends_settled role s t p e made =
+    let (none, is) = made_end (wide_setup_fault s p) (new_end role s t p) e made in
+    subst CountsAreSettled is (new_end_settled role s t p (in_range (are_in_wide_range s) (are_spellable p) (are_countable p) none))

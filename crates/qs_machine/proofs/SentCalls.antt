@@ -24,6 +24,7 @@ use Rattle.qs_send.specs.Records.{Among, IsCarried}
 use Rattle.qs_send.proofs.Outstanding.{get-insert_packet}
 use Rattle.qs_send.proofs.Carrying.{carried-empty, carried-without_first}
 use Rattle.qs_calls.specs.declared.settings.Settings.{Settings}
+use Rattle.qs_calls.specs.declared.settings.Tuning.{Tuning}
 use Rattle.qs_calls.specs.declared.settings.PeerLimits.{PeerLimits}
 use Rattle.qs_calls.specs.declared.settings.SetupFault.{SetupFault}
 use Rattle.qs_calls.specs.Settings.{wide_setup_fault}
@@ -181,9 +182,9 @@ made_keeps (Some fault) made e none is = absurd (err_is_not_ok fault e is)
     err_is_not_ok f k h = cc
 made_keeps None made e none is = let same : made ≡ e = cc in subst SentWasWritten same (λ late p is. absurd (none late p is))
 
-nothing_held : (role : Role) (s : Settings) (l : PeerLimits) (late : Bool) (p : Piece) → IsCarried (held late (new_end role s l)) p → ⊥
-nothing_held role s l true p is = carried-empty p is
-nothing_held role s l false p is = carried-empty p is
+nothing_held : (role : Role) (s : Settings) (t : Tuning) (l : PeerLimits) (late : Bool) (p : Piece) → IsCarried (held late (new_end role s t l)) p → ⊥
+nothing_held role s t l true p is = carried-empty p is
+nothing_held role s t l false p is = carried-empty p is
 
-pub new_keeps : (role : Role) (s : Settings) (p : PeerLimits) (e : End) → wide_end_made role s p ≡ Ok e → SentWasWritten e
-new_keeps role s p e is = made_keeps (wide_setup_fault s p) (new_end role s p) e (nothing_held role s p) is
+pub new_keeps : (role : Role) (s : Settings) (t : Tuning) (p : PeerLimits) (e : End) → wide_end_made role s t p ≡ Ok e → SentWasWritten e
+new_keeps role s t p e is = made_keeps (wide_setup_fault s p) (new_end role s t p) e (nothing_held role s t p) is

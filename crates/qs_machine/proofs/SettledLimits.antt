@@ -6,6 +6,7 @@ use Rattle.std.proofs.lemmas.Option.{same_Some, none-some}
 use Rattle.qs_wire.specs.declared.stream_id.Role.{Role}
 use Rattle.qs_recv.specs.Lane.{RecvLane, taken, raise, next_limit}
 use Rattle.qs_calls.specs.declared.settings.Settings.{Settings}
+use Rattle.qs_calls.specs.declared.settings.Tuning.{Tuning}
 use Rattle.qs_calls.specs.declared.settings.PeerLimits.{PeerLimits}
 use Rattle.qs_calls.specs.Settings.{wide_setup_fault}
 use Rattle.qs_machine.specs.Tables.{lookup, total}
@@ -22,19 +23,19 @@ use Rattle.qs_machine.proofs.TableLaws.{lookup_each, total_each}
 next_first : (w : ℕ) → next_limit w 0 w ≡ w
 next_first w = grind (arith, nat_tests)
 
-none_taken : (role : Role) (s : Settings) (p : PeerLimits) → all_taken (new_end role s p) ≡ 0
+none_taken : (role : Role) (s : Settings) (t : Tuning) (p : PeerLimits) → all_taken (new_end role s t p) ≡ 0
 unfolding total
-none_taken role s p = refl
+none_taken role s t p = refl
 
-new_settled : (role : Role) (s : Settings) (p : PeerLimits) → LimitsAreSettled (new_end role s p)
-new_settled role s p =
+new_settled : (role : Role) (s : Settings) (t : Tuning) (p : PeerLimits) → LimitsAreSettled (new_end role s t p)
+new_settled role s t p =
     record {
-      connection = ap (λ t. next_limit s.conn_window t s.conn_window) (none_taken role s p) ∙ next_first s.conn_window;
+      connection = ap (λ t. next_limit s.conn_window t s.conn_window) (none_taken role s t p) ∙ next_first s.conn_window;
       streams = λ n l is. absurd (none-some l (sym (no_lane n) ∙ is));
     }
 
-pub new_ends_settled : (role : Role) (s : Settings) (p : PeerLimits) (e : End) → wide_end_made role s p ≡ Ok e → LimitsAreSettled e
-new_ends_settled role s p e made = subst LimitsAreSettled (made_end (wide_setup_fault s p) (new_end role s p) e made).1 (new_settled role s p)
+pub new_ends_settled : (role : Role) (s : Settings) (t : Tuning) (p : PeerLimits) (e : End) → wide_end_made role s t p ≡ Ok e → LimitsAreSettled e
+new_ends_settled role s t p e made = subst LimitsAreSettled (made_end (wide_setup_fault s p) (new_end role s t p) e made).1 (new_settled role s t p)
 
 -- a limit that was raised isn't raised again
 raised_stays : (k l : RecvLane) → raise k ≡ l → l.final_size ≡ None → next_limit l.limit (taken l) l.arrived.window ≡ l.limit

@@ -15,6 +15,9 @@ use Rattle.qs_send.specs.Lane.{SendLane}
 use Rattle.qs_send.specs.Records.{PacketPieces}
 use Rattle.qs_send.specs.Codes.{lane_code as send_code, packet_pieces_code}
 use Rattle.qs_calls.specs.declared.settings.Settings.{Settings}
+use Rattle.qs_calls.specs.declared.settings.Tuning.{Tuning}
+use Rattle.qs_calls.specs.declared.settings.Share.{Share}
+use Rattle.qs_calls.specs.declared.settings.Share.TheVariants.{Half, Quarter, Eighth, Sixteenth}
 use Rattle.qs_calls.specs.declared.settings.PeerLimits.{PeerLimits}
 use Rattle.qs_calls.specs.declared.closing.Closing.{Closing}
 use Rattle.qs_calls.specs.declared.closing.Closed.{Closed}
@@ -57,6 +60,34 @@ settings_code =
       lifetime_bidi = p.1.1.1.1.1.1.1.0;
       lifetime_uni = p.1.1.1.1.1.1.1.1;
     })
+    (λ _. refl)
+
+abbrev pub share_number : Share → ℕ
+share_number Half = 0
+share_number Quarter = 1
+share_number Eighth = 2
+share_number Sixteenth = 3
+
+abbrev pub share_of : ℕ → Share
+share_of zero = Half
+share_of (suc zero) = Quarter
+share_of (suc (suc zero)) = Eighth
+share_of (suc (suc (suc n))) = Sixteenth
+
+pub share_back : (s : Share) → share_of (share_number s) ≡ s
+share_back Half = refl
+share_back Quarter = refl
+share_back Eighth = refl
+share_back Sixteenth = refl
+
+abbrev pub share_code : Coded Share
+share_code = code_by ℕ coded_ℕ share_number share_of share_back
+
+abbrev pub tuning_code : Coded Tuning
+tuning_code =
+    code_by (Share × (Option Share × (Bool × (Bool × ℕ)))) (coded× share_code (coded× (coded_option share_code) (coded× coded_bool (coded× coded_bool coded_ℕ))))
+    (λ t. (t.credit_step, (t.count_step, (t.within_credit, (t.reads_when_closed, t.epoch)))))
+    (λ p. record { credit_step = p.0; count_step = p.1.0; within_credit = p.1.1.0; reads_when_closed = p.1.1.1.0; epoch = p.1.1.1.1 })
     (λ _. refl)
 
 abbrev pub limits_code : Coded PeerLimits
@@ -127,7 +158,7 @@ acked_code =
 
 -- the parts of an end: what it is set to, its streams, its credit, what it processed, what it sent
 abbrev Set_to : Type 0
-Set_to = Role × (Settings × (PeerLimits × Option Closed))
+Set_to = Role × (Settings × (Tuning × (PeerLimits × Option Closed)))
 
 abbrev Streams : Type 0
 Streams = Tables SendLane × (Tables RecvLane × (ℕ × (ℕ × (Option ℕ × Option ℕ))))
@@ -144,13 +175,13 @@ Sent = ℕ × (Records × (LostPackets × AckedItems))
 abbrev pub end_code : Coded End
 end_code =
     code_by (Set_to × (Streams × (Limits × (Processed × Sent))))
-    (coded× (coded× role_code (coded× settings_code (coded× limits_code (coded_option closed_code))))
+    (coded× (coded× role_code (coded× settings_code (coded× tuning_code (coded× limits_code (coded_option closed_code)))))
     (coded× (coded× (tables_code send_code) (coded× (tables_code recv_code) (coded× coded_ℕ (coded× coded_ℕ (coded× (coded_option coded_ℕ) (coded_option coded_ℕ))))))
     (coded× (coded× coded_ℕ (coded× coded_ℕ (coded× coded_ℕ (coded× coded_ℕ (coded× coded_ℕ coded_ℕ)))))
     (coded× (coded× (set.code coded_ℕ) (coded× coded_ℕ coded_bool))
     (coded× coded_ℕ (coded× packet_pieces_code (coded× lost_packets_code acked_code)))))))
     (λ e. (
-      (e.role, (e.settings, (e.peer, e.closed))),
+      (e.role, (e.settings, (e.tuning, (e.peer, e.closed)))),
       (
         (e.sends, (e.recvs, (e.accepted_bidi, (e.accepted_uni, (e.wanted_bidi, e.wanted_uni))))),
         (
@@ -165,8 +196,9 @@ end_code =
     (λ p. record {
       role = p.0.0;
       settings = p.0.1.0;
-      peer = p.0.1.1.0;
-      closed = p.0.1.1.1;
+      tuning = p.0.1.1.0;
+      peer = p.0.1.1.1.0;
+      closed = p.0.1.1.1.1;
       sends = p.1.0.0;
       recvs = p.1.0.1.0;
       accepted_bidi = p.1.0.1.1.0;

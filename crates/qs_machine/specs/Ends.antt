@@ -13,10 +13,11 @@ use Rattle.qs_recv.specs.Lane.{RecvLane, new_lane as new_recv_lane}
 use Rattle.qs_send.specs.Lane.{SendLane, new_lane as new_send_lane}
 use Rattle.qs_send.specs.Records.{PacketPieces}
 use Rattle.qs_calls.specs.declared.settings.Settings.{Settings}
+use Rattle.qs_calls.specs.declared.settings.Tuning.{Tuning}
 use Rattle.qs_calls.specs.declared.settings.PeerLimits.{PeerLimits}
 use Rattle.qs_calls.specs.declared.settings.SetupFault.{SetupFault}
 use Rattle.qs_calls.specs.declared.closing.Closed.{Closed}
-use Rattle.qs_calls.specs.Settings.{setup_fault, wide_setup_fault}
+use Rattle.qs_calls.specs.Settings.{setup_fault, wide_setup_fault, default_tuning}
 use Rattle.qs_machine.specs.Tables.{Tables, no_streams, type_of, lookup, updated, open_to}
 pub use Rattle.qs_machine.specs.LostPackets.{LostPackets, no_lost, lost_with, lost_less}
 
@@ -43,6 +44,7 @@ pub record AckedItems : Type 0 where
 pub record End : Type 0 where
   pub role : Role
   pub settings : Settings
+  pub tuning : Tuning
   -- the limits that the peer began with
   pub peer : PeerLimits
   pub sends : Tables SendLane
@@ -152,11 +154,12 @@ no_items =
     record { max_data = None; max_stream_data = fmap.empty; stop_sending = set.empty; data_blocked = None; stream_data_blocked = fmap.empty; bidi_blocked = None; uni_blocked = None; bidi_streams = None; uni_streams = None }
 
 -- a new end (RFC 9000, sections 4.1, 4.6 and 18.2)
-abbrev pub new_end : Role → Settings → PeerLimits → End
-new_end role settings peer =
+abbrev pub new_end : Role → Settings → Tuning → PeerLimits → End
+new_end role settings tuning peer =
     record {
       role = role;
       settings = settings;
+      tuning = tuning;
       peer = peer;
       sends = no_streams;
       recvs = no_streams;
@@ -187,8 +190,8 @@ end_unless None e = Ok e
 
 -- what comes of making an end (RFC 9000, sections 4.6 and 7.4)
 abbrev pub end_made : Role → Settings → PeerLimits → Result End SetupFault
-end_made role settings peer = end_unless (setup_fault settings peer) (new_end role settings peer)
+end_made role settings peer = end_unless (setup_fault settings peer) (new_end role settings default_tuning peer)
 
--- the same of an end of wide ranges (RFC 9000, sections 4.6 and 7.4)
-abbrev pub wide_end_made : Role → Settings → PeerLimits → Result End SetupFault
-wide_end_made role settings peer = end_unless (wide_setup_fault settings peer) (new_end role settings peer)
+-- the same of an end of wide ranges that is tuned (RFC 9000, sections 4.6 and 7.4)
+abbrev pub wide_end_made : Role → Settings → Tuning → PeerLimits → Result End SetupFault
+wide_end_made role settings tuning peer = end_unless (wide_setup_fault settings peer) (new_end role settings tuning peer)

@@ -14,7 +14,7 @@ use Rattle.qs_send.specs.declared.parts.SendState.TheVariants.{DataSent, ResetSe
 use Rattle.qs_send.specs.declared.piece.Item.TheVariants.{MaxStreamData, MaxStreams, ResetStream, StopSending, StreamDataBlocked}
 use Rattle.qs_calls.specs.declared.settings.Settings.{Settings}
 use Rattle.qs_calls.specs.declared.closing.Closing.{Closing}
-use Rattle.qs_calls.specs.Settings.{MAX_GRANT, MAX_LIFETIME, are_in_range, are_in_wide_range, limits_of}
+use Rattle.qs_calls.specs.Settings.{MAX_GRANT, MAX_LIFETIME, are_in_range, are_in_wide_range, limits_of, default_tuning}
 use Rattle.qs_machine.specs.Ends.{End, new_end, opens, on_send, on_recv, send_lane}
 use Rattle.qs_machine.specs.Credit.{settle}
 use Rattle.qs_machine.specs.Seen.{Seen, Ack, Stream, Control}
@@ -60,10 +60,10 @@ pub record RangesHold : Type 0 where
 
 -- a server with these settings, and a client whose peer has these; the other end has the standard ones
 abbrev pub server : Settings → End
-server s = new_end Server s (limits_of standard)
+server s = new_end Server s default_tuning (limits_of standard)
 
 abbrev pub client_of : Settings → End
-client_of peer = new_end Client standard (limits_of peer)
+client_of peer = new_end Client standard default_tuning (limits_of peer)
 
 abbrev pub letters : ℕ → List ℕ
 letters n = replicate n 97

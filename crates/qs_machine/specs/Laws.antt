@@ -14,6 +14,7 @@ use Rattle.qs_send.specs.Sound.{IsLawful}
 use Rattle.qs_send.specs.declared.parts.SendState.{SendState}
 use Rattle.qs_send.specs.declared.parts.SendState.TheVariants.{DataRecvd, ResetRecvd}
 use Rattle.qs_calls.specs.declared.settings.Settings.{Settings}
+use Rattle.qs_calls.specs.declared.settings.Tuning.{Tuning}
 use Rattle.qs_calls.specs.declared.settings.PeerLimits.{PeerLimits}
 use Rattle.qs_calls.specs.declared.closing.Closing.{Closing}
 use Rattle.qs_calls.specs.declared.closing.Received.{Received}
@@ -35,14 +36,15 @@ use Rattle.qs_machine.specs.Filling.{FillStep, as_made}
 use Rattle.qs_machine.specs.EndStep.{Call, Answer, EndStep, Claim}
 use Rattle.qs_machine.specs.Standing.{IsSound, IsWithinCredit, CountsAreSettled, LimitsRise, CountsRise}
 use Rattle.qs_machine.specs.Repeats.{SentWasWritten, AreAmong, Resumes, OnlyRecords}
+use Rattle.qs_calls.specs.Settings.{default_tuning}
 
 -- a new end of wide ranges is sound
 abbrev pub NewEndsAreSound : Type 0
-NewEndsAreSound = (role : Role) (s : Settings) (p : PeerLimits) (e : End) → wide_end_made role s p ≡ Ok e → IsSound e
+NewEndsAreSound = (role : Role) (s : Settings) (t : Tuning) (p : PeerLimits) (e : End) → wide_end_made role s t p ≡ Ok e → IsSound e
 
 -- an end that is made of a script's ranges is made of the wide ones, too
 abbrev pub NewEndsAreWide : Type 0
-NewEndsAreWide = (role : Role) (s : Settings) (p : PeerLimits) (e : End) → end_made role s p ≡ Ok e → wide_end_made role s p ≡ Ok e
+NewEndsAreWide = (role : Role) (s : Settings) (p : PeerLimits) (e : End) → end_made role s p ≡ Ok e → wide_end_made role s default_tuning p ≡ Ok e
 
 -- every call leaves a sound end sound, whoever made the payloads that come to it
 abbrev pub CallsKeepEndsSound : Type 0
@@ -70,7 +72,7 @@ pub record EndedIsLastState : Type 0 where
 
 -- a new end grants as many streams as at first, when none ended
 abbrev pub NewEndsSettleCounts : Type 0
-NewEndsSettleCounts = (role : Role) (s : Settings) (p : PeerLimits) (e : End) → wide_end_made role s p ≡ Ok e → CountsAreSettled e
+NewEndsSettleCounts = (role : Role) (s : Settings) (t : Tuning) (p : PeerLimits) (e : End) → wide_end_made role s t p ≡ Ok e → CountsAreSettled e
 
 -- as each call ends, the granted counts are what the streams that ended make them
 abbrev pub CallsSettleCounts : Type 0
@@ -133,7 +135,7 @@ PayloadsAreTakenInOrder =
 
 -- all data of a new end that outstanding packets carried, or lost ones, was written, as there is none
 abbrev pub NewEndsSentNothing : Type 0
-NewEndsSentNothing = (role : Role) (s : Settings) (p : PeerLimits) (e : End) → wide_end_made role s p ≡ Ok e → SentWasWritten e
+NewEndsSentNothing = (role : Role) (s : Settings) (t : Tuning) (p : PeerLimits) (e : End) → wide_end_made role s t p ≡ Ok e → SentWasWritten e
 
 -- no call has data outstanding, or lost, that wasn't written
 abbrev pub CallsSendWhatWasWritten : Type 0

@@ -4,6 +4,7 @@ use Rattle.std.specs.Prelude.{◌≡◌, ℕ, None, Some, Ok}
 use Rattle.qs_wire.specs.declared.stream_id.Role.{Role}
 use Rattle.qs_recv.specs.Lane.{RecvLane, taken, next_limit}
 use Rattle.qs_calls.specs.declared.settings.Settings.{Settings}
+use Rattle.qs_calls.specs.declared.settings.Tuning.{Tuning}
 use Rattle.qs_calls.specs.declared.settings.PeerLimits.{PeerLimits}
 use Rattle.qs_machine.specs.Ends.{End, recv_lane, wide_end_made}
 use Rattle.qs_machine.specs.Credit.{all_taken}
@@ -16,7 +17,7 @@ pub record LimitsAreSettled (e : End) : Type 0 where
 
 -- a new end grants what it sets out with, and nothing was taken
 abbrev pub NewEndsSettleLimits : Type 0
-NewEndsSettleLimits = (role : Role) (s : Settings) (p : PeerLimits) (e : End) → wide_end_made role s p ≡ Ok e → LimitsAreSettled e
+NewEndsSettleLimits = (role : Role) (s : Settings) (t : Tuning) (p : PeerLimits) (e : End) → wide_end_made role s t p ≡ Ok e → LimitsAreSettled e
 
 -- as each call ends, whatever it answers, the limits are settled
 abbrev pub CallsSettleLimits : Type 0

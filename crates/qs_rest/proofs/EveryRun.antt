@@ -9,6 +9,7 @@ use Rattle.qs_wire.specs.Reading.{reading_of}
 use Rattle.qs_wire.specs.declared.stream_id.Role.{Role}
 use Rattle.qs_wire.specs.declared.stream_id.Role.TheVariants.{Client, Server}
 use Rattle.qs_calls.specs.declared.settings.Settings.{Settings}
+use Rattle.qs_calls.specs.declared.settings.Tuning.{Tuning}
 use Rattle.qs_calls.specs.declared.settings.PeerLimits.{PeerLimits}
 use Rattle.qs_calls.specs.declared.settings.RaiseFault.{RaiseFault}
 use Rattle.qs_calls.specs.declared.token.Token.{Token}
@@ -57,8 +58,8 @@ pub no_half : (n : ℕ) → lookup (no_streams {X = SendLane}) n ≡ None
 unfolding lookup
 no_half n = ap (λ xs. slice_get xs (n / 4)) (no_table (n % 4))
 
-first_rests : (role : Role) (s : Settings) (peer : PeerLimits) (p : Past) → ((k : ℕ) → p.processed k ≡ false) → ((k i : ℕ) → p.took k i ≡ false) → wide_end_made role s peer ≡ Ok (new_end role s peer) → RestOk p (new_end role s peer)
-first_rests role s peer p none alone made =
+first_rests : (role : Role) (s : Settings) (t : Tuning) (peer : PeerLimits) (p : Past) → ((k : ℕ) → p.processed k ≡ false) → ((k i : ℕ) → p.took k i ≡ false) → wide_end_made role s t peer ≡ Ok (new_end role s t peer) → RestOk p (new_end role s t peer)
+first_rests role s t peer p none alone made =
     record {
       conn = omega arith;
       bidi = omega arith;
@@ -73,19 +74,19 @@ first_rests role s peer p none alone made =
       };
       told = λ n l at. absurd (none-some l (sym (no_lane n) ∙ at));
       taken = record { packets = λ k done. absurd (false≢true (sym (none k) ∙ done)); frames = λ k i took. absurd (false≢true (sym (alone k i) ∙ took)) };
-      limits = new_ends_settled role s peer (new_end role s peer) made;
-      counts = new_counts_settled role s peer (new_end role s peer) made;
+      limits = new_ends_settled role s t peer (new_end role s t peer) made;
+      counts = new_counts_settled role s t peer (new_end role s t peer) made;
     }
 
 first_ends : (a b : Settings) (w : World) → Begins a b w → (s : Side) → RestOk (past s []) (end_of w s)
 unfolding own_calls packets_of processed took
-first_ends a b w begins s = subst (λ x. RestOk (past s []) (end_of x s)) (sym is) (two_sides (λ t. RestOk (past t []) (end_of (first_world a b begins.of_a begins.of_b) t)) A (first_rests Client a begins.of_b (past A []) (λ k. refl) (λ k i. refl) begun.0) (first_rests Server b begins.of_a (past B []) (λ k. refl) (λ k i. refl) begun.1) s)
+first_ends a b w begins s = subst (λ x. RestOk (past s []) (end_of x s)) (sym is) (two_sides (λ t. RestOk (past t []) (end_of (first_world a b begins.tuned_a begins.tuned_b begins.of_a begins.of_b) t)) A (first_rests Client a begins.tuned_a begins.of_b (past A []) (λ k. refl) (λ k i. refl) begun.0) (first_rests Server b begins.tuned_b begins.of_a (past B []) (λ k. refl) (λ k i. refl) begun.1) s)
   where
-    is : w ≡ first_world a b begins.of_a begins.of_b
-    is = made_first a b begins.of_a begins.of_b w begins.begun
+    is : w ≡ first_world a b begins.tuned_a begins.tuned_b begins.of_a begins.of_b
+    is = made_first a b begins.tuned_a begins.tuned_b begins.of_a begins.of_b w begins.begun
 
-    begun : (wide_end_made Client a begins.of_b ≡ Ok (new_end Client a begins.of_b)) × (wide_end_made Server b begins.of_a ≡ Ok (new_end Server b begins.of_a))
-    begun = ends_made a b begins.of_a begins.of_b (first_world a b begins.of_a begins.of_b) (begins.begun ∙ ap Ok (made_first a b begins.of_a begins.of_b w begins.begun))
+    begun : (wide_end_made Client a begins.tuned_a begins.of_b ≡ Ok (new_end Client a begins.tuned_a begins.of_b)) × (wide_end_made Server b begins.tuned_b begins.of_a ≡ Ok (new_end Server b begins.tuned_b begins.of_a))
+    begun = ends_made a b begins.tuned_a begins.tuned_b begins.of_a begins.of_b (first_world a b begins.tuned_a begins.tuned_b begins.of_a begins.of_b) (begins.begun ∙ ap Ok (made_first a b begins.tuned_a begins.tuned_b begins.of_a begins.of_b w begins.begun))
 
 module _ (a b : Settings) (h : History) (v w : World) (s : Side) (ok : WorldOk a b h v) (rests : (t : Side) → RestOk (past t h) (end_of v t)) where
   both : (x : Happening) → RestOk (past s (x ∷ h)) (end_of w s) → RestOk (past (other s) (x ∷ h)) (end_of w (other s)) → (t : Side) → RestOk (past t (x ∷ h)) (end_of w t)

@@ -16,7 +16,7 @@ use Rattle.qs_send.specs.declared.piece.Item.{Item}
 use Rattle.qs_send.specs.declared.piece.Item.TheVariants.{MaxData, MaxStreamData, MaxStreams, ResetStream, StopSending, DataBlocked, StreamDataBlocked, StreamsBlocked}
 use Rattle.qs_send.specs.declared.piece.Piece.TheVariants.{Told}
 use Rattle.qs_send.proofs.Carrying.{carried-empty}
-use Rattle.qs_calls.specs.Settings.{limits_of}
+use Rattle.qs_calls.specs.Settings.{limits_of, default_tuning}
 use Rattle.qs_machine.specs.Tables.{lookup, total}
 use Rattle.qs_machine.specs.Ends.{End, recv_lane, window, is_uni, is_own, new_end}
 use Rattle.qs_machine.specs.Due.{IsDue, IsEndDue, IsCurrent, Sendable}
@@ -59,7 +59,7 @@ mute : (e : End) → IsSilent e → e.ack_due ≡ false → Sendable e → ⊥
 mute e h none (inl ack) = false≢true (sym none ∙ ack)
 mute e h none (inr more) = silent e h more
 
-new_silent : (role : Role) → IsSilent (new_end role standard (limits_of standard))
+new_silent : (role : Role) → IsSilent (new_end role standard default_tuning (limits_of standard))
 new_silent role =
     record {
       sends = λ n l at. none-some l (sym (no_half n) ∙ at);
@@ -117,7 +117,7 @@ first_came = contains-with_range set.empty 0 3 0 ∙ go
 rests : IsAtRest
 rests =
     record {
-      new = λ role. record { quiet = silent (new_end role standard (limits_of standard)) (new_silent role); landed = λ p flies. carried-empty p flies; told = λ n l at. absurd (none-some l (sym (no_lane n) ∙ at)) };
+      new = λ role. record { quiet = silent (new_end role standard default_tuning (limits_of standard)) (new_silent role); landed = λ p flies. carried-empty p flies; told = λ n l at. absurd (none-some l (sym (no_lane n) ∙ at)) };
       ack = record {
         quiet = silent _ (record { sends = (new_silent Client).sends; granted = omega arith; bidi = omega arith; uni = omega arith; recvs = (new_silent Client).recvs; wants_bidi = refl; wants_uni = refl });
         landed = λ p flies. carried-empty p flies;

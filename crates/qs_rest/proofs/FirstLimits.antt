@@ -1,7 +1,7 @@
 -- An end that was told its peer's true limits knows them from then on.
 use Rattle.std.proofs.Common.{◌≡◌, ℕ, ◌≤◌, List, [], ◌∷◌, take, Result, Ok, inl, inr, refl, sym, ap, subst, arith, le_antisymm}
 use Rattle.qs_wire.specs.declared.stream_id.Dir.TheVariants.{Uni}
-use Rattle.qs_calls.specs.Settings.{limits_of}
+use Rattle.qs_calls.specs.Settings.{limits_of, default_tuning}
 use Rattle.qs_calls.specs.declared.settings.Settings.{Settings}
 use Rattle.qs_calls.specs.declared.settings.PeerLimits.{PeerLimits}
 use Rattle.qs_calls.specs.declared.closing.Closing.{Closing}
@@ -137,5 +137,5 @@ taken_in_is_told a b h v w s run step =
     told_true a b h v w (RaisedLimits s (limits_of (end_of v (other s)).settings) (Ok tt)) run step s (taken_rises (end_of v s) (end_of w s) (limits_of (end_of v (other s)).settings) step.0.1)
 
 pub event_runs_tell : EventRunsTell
-event_runs_tell a b [] w is s = subst (λ x. KnowsFirstLimits x s) (sym (made_first a b (limits_of a) (limits_of b) w (made_wide a b w is))) (two_sides (KnowsFirstLimits (first_world a b (limits_of a) (limits_of b))) A refl refl s)
+event_runs_tell a b [] w is s = subst (λ x. KnowsFirstLimits x s) (sym (made_first a b default_tuning default_tuning (limits_of a) (limits_of b) w (made_wide a b w is))) (two_sides (KnowsFirstLimits (first_world a b default_tuning default_tuning (limits_of a) (limits_of b))) A refl refl s)
 event_runs_tell a b (x ∷ log) w (v, before, step) s = first_limits_stay a b (happened log) v w (Did x.0 x.1) (event_runs a b log v before) step s (event_runs_tell a b log v before s)

@@ -5,7 +5,7 @@ use Rattle.qs_wire.specs.declared.stream_id.Role.{Role}
 use Rattle.qs_recv.specs.Lane.{RecvLane, take_stream}
 use Rattle.qs_send.specs.declared.piece.Item.TheVariants.{MaxData}
 use Rattle.qs_send.specs.declared.piece.Piece.TheVariants.{Told}
-use Rattle.qs_calls.specs.Settings.{limits_of}
+use Rattle.qs_calls.specs.Settings.{limits_of, default_tuning}
 use Rattle.qs_machine.specs.Ends.{End, new_end}
 use Rattle.qs_machine.specs.Due.{Sendable}
 use Rattle.qs_machine.specs.Examples.{standard, client_of}
@@ -19,7 +19,7 @@ reads_by l = record (client_of standard) { recvs = only l }
 -- An end is at rest
 pub record IsAtRest : Type 0 where
   -- that is new, the client's and the server's (section 3)
-  pub new : (role : Role) → AtRest (new_end role standard (limits_of standard))
+  pub new : (role : Role) → AtRest (new_end role standard default_tuning (limits_of standard))
   -- of which an ACK is due, and no more (section 13.2.1)
   pub ack : AtRest (record (client_of standard) { ack_due = true })
   -- whose reader waits (section 2.2)

@@ -10,6 +10,7 @@ use Rattle.qs_wire.specs.declared.stream_id.Role.{Role}
 use Rattle.qs_wire.specs.declared.stream_id.Role.TheVariants.{Client, Server}
 use Rattle.qs_wire.specs.declared.stream_id.Dir.TheVariants.{Bidi, Uni}
 use Rattle.qs_calls.specs.declared.settings.Settings.{Settings}
+use Rattle.qs_calls.specs.declared.settings.Tuning.{Tuning}
 use Rattle.qs_calls.specs.declared.settings.PeerLimits.{PeerLimits}
 use Rattle.qs_calls.specs.declared.closing.Closing.{Closing}
 use Rattle.qs_calls.specs.declared.closing.Received.{Received}
@@ -52,12 +53,12 @@ use Rattle.qs_runs.proofs.Runs.{two_sides, run_keeps, is_open_end}
 
 -- In every run each end stands as its last call left it.
 
-begun_settled : (role : Role) (s : Settings) (p : PeerLimits) → wide_end_made role s p ≡ Ok (new_end role s p) → settle (new_end role s p) ≡ new_end role s p
+begun_settled : (role : Role) (s : Settings) (t : Tuning) (p : PeerLimits) → wide_end_made role s t p ≡ Ok (new_end role s t p) → settle (new_end role s t p) ≡ new_end role s t p
 unfolding each
-begun_settled role s p begun =
-    let limits = new_ends_settled role s p (new_end role s p) begun in
-    let counts = new_counts_settled role s p (new_end role s p) begun in
-    λ i. record (new_end role s p) { granted = limits.connection i; granted_bidi = sym (counts Bidi) i; granted_uni = sym (counts Uni) i }
+begun_settled role s t p begun =
+    let limits = new_ends_settled role s t p (new_end role s t p) begun in
+    let counts = new_counts_settled role s t p (new_end role s t p) begun in
+    λ i. record (new_end role s t p) { granted = limits.connection i; granted_bidi = sym (counts Bidi) i; granted_uni = sym (counts Uni) i }
 
 call_settled : (old : End) (call : Call) (answer : CallAnswer call) (new : End) → settle old ≡ old → EndStep old call answer new → settle new ≡ new
 call_settled old call answer new h step =
@@ -65,9 +66,9 @@ call_settled old call answer new h step =
 
 first_settled : (a b : Settings) (w : World) → Begins a b w → (s : Side) → settle (end_of w s) ≡ end_of w s
 first_settled a b w begins s =
-    let is = made_first a b begins.of_a begins.of_b w begins.begun in
-    let begun = ends_made a b begins.of_a begins.of_b (first_world a b begins.of_a begins.of_b) (begins.begun ∙ ap Ok is) in
-    subst (λ x. settle (end_of x s) ≡ end_of x s) (sym is) (two_sides (λ t. settle (end_of (first_world a b begins.of_a begins.of_b) t) ≡ end_of (first_world a b begins.of_a begins.of_b) t) A (begun_settled Client a begins.of_b begun.0) (begun_settled Server b begins.of_a begun.1) s)
+    let is = made_first a b begins.tuned_a begins.tuned_b begins.of_a begins.of_b w begins.begun in
+    let begun = ends_made a b begins.tuned_a begins.tuned_b begins.of_a begins.of_b (first_world a b begins.tuned_a begins.tuned_b begins.of_a begins.of_b) (begins.begun ∙ ap Ok is) in
+    subst (λ x. settle (end_of x s) ≡ end_of x s) (sym is) (two_sides (λ t. settle (end_of (first_world a b begins.tuned_a begins.tuned_b begins.of_a begins.of_b) t) ≡ end_of (first_world a b begins.tuned_a begins.tuned_b begins.of_a begins.of_b) t) A (begun_settled Client a begins.tuned_a begins.of_b begun.0) (begun_settled Server b begins.tuned_b begins.of_a begun.1) s)
 
 same_settled : (e new : End) → new ≡ e → settle e ≡ e → settle new ≡ new
 same_settled e new is h = subst (λ x. settle x ≡ x) (sym is) h

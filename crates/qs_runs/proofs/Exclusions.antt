@@ -375,9 +375,9 @@ landing text is =
 begins : NoneBegin
 begins =
     record {
-      server_told = λ w b is. (let same = ap (λ (x : World). x.b.peer.max_data) (made_first standard standard b.of_a b.of_b w b.begun) in let le : b.of_a.max_data ≤ 4096 = b.granted_a.max_data in omega (arith, same, is));
-      client_told = λ w b is. (let same = ap (λ (x : World). x.a.peer.max_data) (made_first standard standard b.of_a b.of_b w b.begun) in let le : b.of_b.max_data ≤ 4096 = b.granted_b.max_data in omega (arith, same, is));
-      made = λ w b is. (let same = ap (λ (x : World). x.a.next) (made_first standard standard b.of_a b.of_b w b.begun) in omega (arith, same, is));
+      server_told = λ w b is. (let same = ap (λ (x : World). x.b.peer.max_data) (made_first standard standard b.tuned_a b.tuned_b b.of_a b.of_b w b.begun) in let le : b.of_a.max_data ≤ 4096 = b.granted_a.max_data in omega (arith, same, is));
+      client_told = λ w b is. (let same = ap (λ (x : World). x.a.peer.max_data) (made_first standard standard b.tuned_a b.tuned_b b.of_a b.of_b w b.begun) in let le : b.of_b.max_data ≤ 4096 = b.granted_b.max_data in omega (arith, same, is));
+      made = λ w b is. (let same = ap (λ (x : World). x.a.next) (made_first standard standard b.tuned_a b.tuned_b b.of_a b.of_b w b.begun) in omega (arith, same, is));
     }
 
 pub exclusions_hold : Exclusions

@@ -9,9 +9,10 @@ use Rattle.qs_wire.specs.declared.stream_id.Role.TheVariants.{Client, Server}
 use Rattle.qs_recv.specs.Lane.{RecvLane}
 use Rattle.qs_send.specs.Lane.{SendLane}
 use Rattle.qs_calls.specs.declared.settings.Settings.{Settings}
+use Rattle.qs_calls.specs.declared.settings.Tuning.{Tuning}
 use Rattle.qs_calls.specs.declared.settings.PeerLimits.{PeerLimits}
 use Rattle.qs_calls.specs.declared.settings.SetupFault.{SetupFault}
-use Rattle.qs_calls.specs.Settings.{limits_of, wide_setup_fault}
+use Rattle.qs_calls.specs.Settings.{limits_of, wide_setup_fault, default_tuning}
 use Rattle.qs_machine.specs.Tables.{total, no_streams}
 use Rattle.qs_machine.specs.Ends.{End, first_send_limit, window, new_end, end_made, wide_end_made, end_unless}
 use Rattle.qs_machine.specs.Seen.{Seen}
@@ -24,7 +25,7 @@ use Rattle.qs_runs.specs.Invariant.{EndOk, SendSlot, RecvSlot, is_open}
 pub tells_nothing : (ms : Packets) (f : Seen) → ms ≡ [] → Tells ms f → ⊥
 tells_nothing ms f none (k, (fs, at, a)) = none-some fs (rw none at at)
 
-module _ (role : Role) (own : Settings) (told : PeerLimits) (p : Past) (made : p.mine ≡ []) (wrote : (n : ℕ) → p.bytes n ≡ []) (gave : (n : ℕ) → p.gave n ≡ []) (stopped : (n : ℕ) → p.stopped n ≡ false) (ended : (n : ℕ) → p.ended n ≡ false) (processed : (k : ℕ) → p.processed k ≡ false) (took : (k i : ℕ) → p.took k i ≡ false) where
+module _ (role : Role) (own : Settings) (tuned : Tuning) (told : PeerLimits) (p : Past) (made : p.mine ≡ []) (wrote : (n : ℕ) → p.bytes n ≡ []) (gave : (n : ℕ) → p.gave n ≡ []) (stopped : (n : ℕ) → p.stopped n ≡ false) (ended : (n : ℕ) → p.ended n ≡ false) (processed : (k : ℕ) → p.processed k ≡ false) (took : (k i : ℕ) → p.took k i ≡ false) where
   new_send : (n limit : ℕ) → SendSlot p n limit None
   new_send n limit =
       record {
@@ -47,12 +48,12 @@ module _ (role : Role) (own : Settings) (told : PeerLimits) (p : Past) (made : p
   not_open : (X : Type 0) (n : ℕ) → is_open (no_streams {X = X}) n ≡ true → ⊥
   not_open X n is = false≢true (sym (ap is_some (nowhere {X = X} n)) ∙ is)
 
-  pub new_ok : EndOk p (new_end role own told)
+  pub new_ok : EndOk p (new_end role own tuned told)
   unfolding total
   new_ok =
       record {
-        sends = λ n. subst (SendSlot p n (first_send_limit (new_end role own told) n)) (sym (nowhere n)) (new_send n (first_send_limit (new_end role own told) n));
-        recvs = λ n. subst (RecvSlot p n (window (new_end role own told) n)) (sym (nowhere n)) (new_recv n (window (new_end role own told) n));
+        sends = λ n. subst (SendSlot p n (first_send_limit (new_end role own tuned told) n)) (sym (nowhere n)) (new_send n (first_send_limit (new_end role own tuned told) n));
+        recvs = λ n. subst (RecvSlot p n (window (new_end role own tuned told) n)) (sym (nowhere n)) (new_recv n (window (new_end role own tuned told) n));
         packets = record {
           count = sym (ap length made);
           records = λ k ps x is a. absurd (none-some ps (sym (fmap.get-empty nat_cmp k) ∙ is));
@@ -77,14 +78,14 @@ module _ (role : Role) (own : Settings) (told : PeerLimits) (p : Past) (made : p
       }
 
 -- the two ends that the first world has, each told limits of the other
-abbrev pub first_world : Settings → Settings → (of_a of_b : PeerLimits) → World
-first_world a b of_a of_b = record { a = new_end Client a of_b; b = new_end Server b of_a }
+abbrev pub first_world : (a b : Settings) (x y : Tuning) (of_a of_b : PeerLimits) → World
+first_world a b x y of_a of_b = record { a = new_end Client a x of_b; b = new_end Server b y of_a }
 
-pub made_first : (a b : Settings) (of_a of_b : PeerLimits) (w : World) → begun_with a b of_a of_b ≡ Ok w → w ≡ first_world a b of_a of_b
-made_first a b of_a of_b w is = go (wide_setup_fault a of_b) (wide_setup_fault b of_a) is
+pub made_first : (a b : Settings) (x y : Tuning) (of_a of_b : PeerLimits) (w : World) → begun_with a b x y of_a of_b ≡ Ok w → w ≡ first_world a b x y of_a of_b
+made_first a b x y of_a of_b w is = go (wide_setup_fault a of_b) (wide_setup_fault b of_a) is
   where
-    go : (x y : Option SetupFault) → both_made (end_unless x (new_end Client a of_b)) (end_unless y (new_end Server b of_a)) ≡ Ok w → w ≡ first_world a b of_a of_b
-    go (Some fault) y e = absurd (cc)
+    go : (p q : Option SetupFault) → both_made (end_unless p (new_end Client a x of_b)) (end_unless q (new_end Server b y of_a)) ≡ Ok w → w ≡ first_world a b x y of_a of_b
+    go (Some fault) q e = absurd (cc)
     go None (Some fault) e = absurd (cc)
     go None None e = cc
 
@@ -96,20 +97,20 @@ two_made (Ok c) (Ok s) w e =
     let same : record { a = c; b = s } ≡ w = cc in
     (ap (λ (x : World). Ok x.a) same, ap (λ (x : World). Ok x.b) same)
 
-pub ends_made : (a b : Settings) (of_a of_b : PeerLimits) (w : World) → begun_with a b of_a of_b ≡ Ok w → (wide_end_made Client a of_b ≡ Ok w.a) × (wide_end_made Server b of_a ≡ Ok w.b)
-ends_made a b of_a of_b w is = two_made (wide_end_made Client a of_b) (wide_end_made Server b of_a) w is
+pub ends_made : (a b : Settings) (x y : Tuning) (of_a of_b : PeerLimits) (w : World) → begun_with a b x y of_a of_b ≡ Ok w → (wide_end_made Client a x of_b ≡ Ok w.a) × (wide_end_made Server b y of_a ≡ Ok w.b)
+ends_made a b x y of_a of_b w is = two_made (wide_end_made Client a x of_b) (wide_end_made Server b y of_a) w is
 
 -- an end grants its own limits
 pub all_granted : (s : Settings) → AreGranted (limits_of s) s
 all_granted s = record { max_data = omega arith; bidi_local = omega arith; bidi_remote = omega arith; uni = omega arith; streams_bidi = omega arith; streams_uni = omega arith }
 
 -- two ends of a script's ranges are of the wide ones, too
-pub made_wide : (a b : Settings) (w : World) → world_made a b ≡ Ok w → begun_with a b (limits_of a) (limits_of b) ≡ Ok w
+pub made_wide : (a b : Settings) (w : World) → world_made a b ≡ Ok w → begun_with a b default_tuning default_tuning (limits_of a) (limits_of b) ≡ Ok w
 made_wide a b w is =
     let made = two_made (end_made Client a (limits_of b)) (end_made Server b (limits_of a)) w is in
     let client = new_ends_wide Client a (limits_of b) w.a made.0 in
     let server = new_ends_wide Server b (limits_of a) w.b made.1 in
-    ap (λ r. both_made r (wide_end_made Server b (limits_of a))) client ∙ ap (λ r. both_made (Ok w.a) r) server
+    ap (λ r. both_made r (wide_end_made Server b default_tuning (limits_of a))) client ∙ ap (λ r. both_made (Ok w.a) r) server
 
 pub begins_true : (a b : Settings) (w : World) → world_made a b ≡ Ok w → Begins a b w
-begins_true a b w is = record { of_a = limits_of a; of_b = limits_of b; granted_a = all_granted a; granted_b = all_granted b; begun = made_wide a b w is }
+begins_true a b w is = record { tuned_a = default_tuning; tuned_b = default_tuning; of_a = limits_of a; of_b = limits_of b; granted_a = all_granted a; granted_b = all_granted b; begun = made_wide a b w is }

@@ -10,6 +10,7 @@ use Rattle.qs_wire.specs.declared.stream_id.Dir.TheVariants.{Bidi, Uni}
 use Rattle.qs_wire.specs.declared.stream_id.Role.{Role}
 use Rattle.qs_wire.specs.declared.stream_id.Role.TheVariants.{Client, Server}
 use Rattle.qs_calls.specs.declared.settings.Settings.{Settings}
+use Rattle.qs_calls.specs.declared.settings.Tuning.{Tuning}
 use Rattle.qs_calls.specs.declared.settings.PeerLimits.{PeerLimits}
 use Rattle.qs_machine.specs.Ends.{End, new_end, wide_end_made, is_own_by}
 use Rattle.qs_machine.specs.Credit.{first_grant, granted_streams, settle}
@@ -132,20 +133,20 @@ granted_on : (s : Settings) (e new : End) → standing new ≡ standing e → Ar
 granted_on s e new stays = subst (λ x. AreGranted x.peer s) (sym stays)
 
 -- the two ends begin in agreement
-first_side : (role : Role) (a b : Settings) (s : Side) (own : Settings) (told : PeerLimits) → wide_end_made role own told ≡ Ok (new_end role own told) → standing (new_end role own told) ≡ stands_as a b s told → AreGranted told (settings_of a b (other s)) → SideOk a b s [] (new_end role own told)
+first_side : (role : Role) (a b : Settings) (s : Side) (own : Settings) (t : Tuning) (told : PeerLimits) → wide_end_made role own t told ≡ Ok (new_end role own t told) → standing (new_end role own t told) ≡ stands_as a b s told → AreGranted told (settings_of a b (other s)) → SideOk a b s [] (new_end role own t told)
 unfolding own_calls packets_of processed took was_acked made
-first_side role a b s own told begun stand peer =
+first_side role a b s own t told begun stand peer =
     record {
-      ok = new_ok role own told (past s []) refl (λ n. refl) (λ n. refl) (λ n. refl) (λ n. refl) (λ k. refl) (λ k i. refl);
+      ok = new_ok role own t told (past s []) refl (λ n. refl) (λ n. refl) (λ n. refl) (λ n. refl) (λ k. refl) (λ k i. refl);
       counts = record { first_granted = first; told = λ d count t. absurd (tells_nothing (past s []).mine _ refl t) };
-      sound = new_ends_sound role own told (new_end role own told) begun;
-      sent = new_keeps role own told (new_end role own told) begun;
+      sound = new_ends_sound role own t told (new_end role own t told) begun;
+      sent = new_keeps role own t told (new_end role own t told) begun;
       stand = stand;
       peer = peer;
       texts = tt;
     }
   where
-    first : (d : Dir) → first_grant own d ≤ granted_streams (new_end role own told) d
+    first : (d : Dir) → first_grant own d ≤ granted_streams (new_end role own t told) d
     first Bidi = omega arith
     first Uni = omega arith
 
@@ -155,15 +156,15 @@ none_landed s k is = absurd (false≢true is)
 
 pub start : (a b : Settings) (w : World) → Begins a b w → WorldOk a b [] w
 start a b w begins =
-    let is = made_first a b begins.of_a begins.of_b w begins.begun in
-    moved (WorldOk a b []) _ _ is (of_sides a b [] (first_world a b begins.of_a begins.of_b) sides none_landed)
+    let is = made_first a b begins.tuned_a begins.tuned_b begins.of_a begins.of_b w begins.begun in
+    moved (WorldOk a b []) _ _ is (of_sides a b [] (first_world a b begins.tuned_a begins.tuned_b begins.of_a begins.of_b) sides none_landed)
   where
-    begun : (wide_end_made Client a begins.of_b ≡ Ok (new_end Client a begins.of_b)) × (wide_end_made Server b begins.of_a ≡ Ok (new_end Server b begins.of_a))
-    begun = ends_made a b begins.of_a begins.of_b (first_world a b begins.of_a begins.of_b) (begins.begun ∙ ap Ok (made_first a b begins.of_a begins.of_b w begins.begun))
+    begun : (wide_end_made Client a begins.tuned_a begins.of_b ≡ Ok (new_end Client a begins.tuned_a begins.of_b)) × (wide_end_made Server b begins.tuned_b begins.of_a ≡ Ok (new_end Server b begins.tuned_b begins.of_a))
+    begun = ends_made a b begins.tuned_a begins.tuned_b begins.of_a begins.of_b (first_world a b begins.tuned_a begins.tuned_b begins.of_a begins.of_b) (begins.begun ∙ ap Ok (made_first a b begins.tuned_a begins.tuned_b begins.of_a begins.of_b w begins.begun))
 
-    sides : (s : Side) → SideOk a b s [] (end_of (first_world a b begins.of_a begins.of_b) s)
-    sides A = first_side Client a b A a begins.of_b begun.0 refl begins.granted_b
-    sides B = first_side Server a b B b begins.of_a begun.1 refl begins.granted_a
+    sides : (s : Side) → SideOk a b s [] (end_of (first_world a b begins.tuned_a begins.tuned_b begins.of_a begins.of_b) s)
+    sides A = first_side Client a b A a begins.tuned_a begins.of_b begun.0 refl begins.granted_b
+    sides B = first_side Server a b B b begins.tuned_b begins.of_a begun.1 refl begins.granted_a
 
 -- limits that are granted both
 both_granted : (p q : PeerLimits) (s : Settings) → AreGranted p s → AreGranted q s → AreGranted (greater_limits p q) s

@@ -9,6 +9,7 @@ use Rattle.qs_calls.specs.declared.token.TakeFault.{TakeFault}
 use Rattle.qs_calls.specs.declared.closing.Closing.{Closing}
 use Rattle.qs_calls.specs.declared.closing.Received.{Received}
 use Rattle.qs_calls.specs.declared.settings.Settings.{Settings}
+use Rattle.qs_calls.specs.declared.settings.Tuning.{Tuning}
 use Rattle.qs_calls.specs.declared.settings.PeerLimits.{PeerLimits}
 use Rattle.qs_calls.specs.declared.settings.SetupFault.{SetupFault}
 use Rattle.qs_calls.specs.Settings.{limits_of}
@@ -41,9 +42,9 @@ both_made (Err fault) b = Err fault
 both_made (Ok a) (Err fault) = Err fault
 both_made (Ok a) (Ok b) = Ok (record { a = a; b = b })
 
--- what comes of making two ends of wide ranges, of which A is the client, each told limits of the other
-abbrev pub begun_with : Settings → Settings → (of_a of_b : PeerLimits) → Result World SetupFault
-begun_with a b of_a of_b = both_made (wide_end_made Client a of_b) (wide_end_made Server b of_a)
+-- what comes of making two ends of wide ranges, of which A is the client, each tuned as its owner likes and told limits of the other
+abbrev pub begun_with : (a b : Settings) (tuned_a tuned_b : Tuning) (of_a of_b : PeerLimits) → Result World SetupFault
+begun_with a b tuned_a tuned_b of_a of_b = both_made (wide_end_made Client a tuned_a of_b) (wide_end_made Server b tuned_b of_a)
 
 -- the same of a script's ranges, each told the other's true limits
 abbrev pub world_made : Settings → Settings → Result World SetupFault
@@ -120,14 +121,16 @@ WorldStep h old (RaisedLimits s p r) new = OwnCall old s new (AreGranted p (end_
 WorldStep h old (CameWith s k bytes r) new = ComeWithStep h old s k bytes r new
 WorldStep h old (CameAlone s k places r) new = ComeAloneStep h old s k places r new
 
--- Two ends were made, each told limits that the other grants: the true ones, or lower ones that it remembers from a connection before
+-- Two ends were made, tuned as their owners like, each told limits that the other grants: the true ones, or lower ones that it remembers from a connection before
 -- (RFC 9000, section 7.4.1).
 pub record Begins (a b : Settings) (w : World) : Type 0 where
+  pub tuned_a : Tuning
+  pub tuned_b : Tuning
   pub of_a : PeerLimits
   pub of_b : PeerLimits
   pub granted_a : AreGranted of_a a
   pub granted_b : AreGranted of_b b
-  pub begun : begun_with a b of_a of_b ≡ Ok w
+  pub begun : begun_with a b tuned_a tuned_b of_a of_b ≡ Ok w
 
 -- the world comes from the first one by what happened
 abbrev pub Run : Settings → Settings → History → World → Type 0

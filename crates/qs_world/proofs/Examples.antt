@@ -2,7 +2,7 @@
 use Rattle.std.proofs.Common.{◌≡◌, ℕ, [], ◌∷◌, refl, sym, ap, subst, arith, inl, inr}
 use Rattle.std.specs.Prelude.{Result, Ok, Err}
 use Rattle.qs_wire.specs.declared.stream_id.Role.TheVariants.{Client, Server}
-use Rattle.qs_calls.specs.Settings.{limits_of}
+use Rattle.qs_calls.specs.Settings.{limits_of, default_tuning}
 use Rattle.qs_machine.specs.Ends.{End, new_end, opens}
 use Rattle.qs_machine.specs.Credit.{settle}
 use Rattle.qs_machine.specs.Examples.{standard}
@@ -18,10 +18,10 @@ use Rattle.std.specs.Fmt.{digits}
 use Rattle.qs_world.specs.Examples.{StreamsBeginAtZero, ReportLines, Examples}
 
 client_begins : End
-client_begins = new_end Client standard (limits_of standard)
+client_begins = new_end Client standard default_tuning (limits_of standard)
 
 server_begins : End
-server_begins = new_end Server standard (limits_of standard)
+server_begins = new_end Server standard default_tuning (limits_of standard)
 
 abbrev number_in : Result ℕ OpenFault → ℕ
 number_in (Ok n) = n
@@ -35,7 +35,7 @@ same_world v w e = cc
 
 not_four : (w : World) → EventRun standard standard ((record { end = A; act = acts.OpenStream Bidi }, answers.OpenStream (Ok 4)) ∷ []) w → ⊥
 not_four w (v, first, step) =
-    let begins : World = record { a = new_end Client standard (limits_of standard); b = new_end Server standard (limits_of standard) } in
+    let begins : World = record { a = new_end Client standard default_tuning (limits_of standard); b = new_end Server standard default_tuning (limits_of standard) } in
     let same : begins ≡ v = same_world begins v first in
     let at : WorldStep [] begins (Did (record { end = A; act = acts.OpenStream Bidi }) (answers.OpenStream (Ok 4))) w = subst (λ x. WorldStep [] x (Did (record { end = A; act = acts.OpenStream Bidi }) (answers.OpenStream (Ok 4))) w) (sym same) step in
     elim at.0 [

@@ -20,6 +20,6 @@ pub use making::{LostFault, Made, MakeFault};
 pub use crate::proved::qs_send::MAX_VARINT;
 pub use reading::Consumed;
 pub use report::{LaneReport, RecvReport, SendReport};
-pub use settings::{PeerLimits, RaiseFault, Settings, SetupFault};
+pub use settings::{PeerLimits, RaiseFault, Settings, SetupFault, Share, Tuning};
 pub use token::{TakeFault, Taken, Token, TokenFault};
 pub use uses::{OpenFault, UseFault};

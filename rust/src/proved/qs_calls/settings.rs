@@ -24,6 +24,31 @@ pub struct Settings {
     pub lifetime_uni: u64,
 }
 
+/// A part of a window, or of a grant.
+#[derive(Clone, Copy, Debug, PartialEq, Eq)]
+pub enum Share {
+    Half,
+    Quarter,
+    Eighth,
+    Sixteenth,
+}
+
+/// How an end goes about what its owner may choose. The default is what [`Settings`] alone make.
+#[derive(Clone, Copy, Debug, PartialEq, Eq)]
+pub struct Tuning {
+    /// How much of its window has to be taken until a limit on bytes moves (RFC 9000, section 4.2).
+    pub credit_step: Share,
+    /// How many of its grant's streams have to end until a count of streams moves (section 4.6). `None`: each one moves it.
+    pub count_step: Option<Share>,
+    /// Whether a write takes no more bytes than may be sent at once, by the stream's limit and the connection's.
+    pub within_credit: bool,
+    /// Whether what came in is read on once the end closed.
+    pub reads_when_closed: bool,
+    /// Stands in each token that the end gives, and no token of another epoch is taken: so an end that takes another one's place
+    /// doesn't take its tokens for its own.
+    pub epoch: u64,
+}
+
 /// The limits that an end begins with, as its peer grants them (RFC 9000, section 18.2). `local` and `remote` are seen from the
 /// end that grants.
 #[derive(Clone, Copy, Debug, PartialEq, Eq)]
@@ -85,6 +110,19 @@ impl Settings {
             uni: self.uni,
             streams_bidi: self.grant_bidi,
             streams_uni: self.grant_uni,
+        }
+    }
+}
+
+impl Tuning {
+    /// What an end has whose owner chose nothing.
+    pub fn by_default() -> Tuning {
+        Tuning {
+            credit_step: Share::Half,
+            count_step: None,
+            within_credit: false,
+            reads_when_closed: false,
+            epoch: 0,
         }
     }
 }

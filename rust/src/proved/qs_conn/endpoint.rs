@@ -10,7 +10,7 @@ use crate::proved::qs_conn::places::type_of;
 use crate::proved::qs_conn::recv_tables::RecvTables;
 use crate::proved::qs_conn::setup::{setup_fault, wide_setup_fault};
 use crate::proved::qs_conn::untold::Untold;
-use crate::proved::qs_calls::{Closed, Closing, PeerLimits, Settings, SetupFault};
+use crate::proved::qs_calls::{Closed, Closing, PeerLimits, Settings, SetupFault, Tuning};
 use crate::proved::qs_ranges::RangeSet;
 use crate::proved::qs_recv::next_limit;
 use crate::proved::qs_wire::{Dir, Frame, Role, StreamId, put};
@@ -61,31 +61,39 @@ impl Endpoint {
     ) -> Result<Endpoint, SetupFault> {
         match setup_fault(&settings, &peer) {
             Some(fault) => Err(fault),
-            None => Ok(Self::begun(alloc, role, settings, peer)),
+            None => Ok(Self::begun(alloc, role, settings, Tuning::by_default(), peer)),
         }
     }
 
     /// The same with wider ranges: windows of streams and sending buffers of up to 2^30 bytes, a connection's window of up to 2^40,
-    /// grants of up to 2^17 streams of a direction and lifetimes of up to 2^21. What [`new`](Endpoint::new) makes this makes, too.
+    /// grants of up to 2^17 streams of a direction and lifetimes of up to 2^21; and tuned. What [`new`](Endpoint::new) makes this makes, too.
     pub fn new_wide(
         alloc: Global,
         role: Role,
         settings: Settings,
+        tuning: Tuning,
         peer: PeerLimits,
     ) -> Result<Endpoint, SetupFault> {
         match wide_setup_fault(&settings, &peer) {
             Some(fault) => Err(fault),
-            None => Ok(Self::begun(alloc, role, settings, peer)),
+            None => Ok(Self::begun(alloc, role, settings, tuning, peer)),
         }
     }
 
     // The end that begins with such settings.
-    fn begun(alloc: Global, role: Role, settings: Settings, peer: PeerLimits) -> Endpoint {
+    fn begun(
+        alloc: Global,
+        role: Role,
+        settings: Settings,
+        tuning: Tuning,
+        peer: PeerLimits,
+    ) -> Endpoint {
         Endpoint {
             core: Core {
                 limits: Limits {
                     role,
                     settings,
+                    tuning,
                     granted: settings.conn_window,
                     known_data: peer.max_data,
                     granted_streams: ByDir::new(settings.grant_bidi, settings.grant_uni),

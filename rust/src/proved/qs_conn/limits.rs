@@ -9,7 +9,7 @@ use crate::proved::qs_conn::places::type_of;
 use crate::proved::qs_conn::recv_tables::RecvTables;
 use crate::proved::qs_conn::send_marks::Task;
 use crate::proved::qs_conn::slot::Slot;
-use crate::proved::qs_calls::Settings;
+use crate::proved::qs_calls::{Settings, Tuning};
 use crate::proved::qs_send::Item;
 use crate::proved::qs_wire::{Dir, Role, StreamId};
 
@@ -19,6 +19,7 @@ use crate::proved::qs_wire::{Dir, Role, StreamId};
 pub(crate) struct Limits {
     pub role: Role,
     pub settings: Settings,
+    pub tuning: Tuning,
     pub granted: u64,
     pub known_data: u64,
     pub granted_streams: ByDir<u64>,

@@ -6,7 +6,7 @@ use crate::proved::qs_c::answers::{INVALID, NO_MEMORY, OK, of_setup};
 use crate::proved::qs_c::handle::Handle;
 use crate::proved::qs_c::structs::{GvLimits, GvSettings};
 use crate::proved::qs_c::thing::Thing;
-use crate::proved::qs_conn::{Endpoint, PeerLimits, Settings};
+use crate::proved::qs_conn::{Endpoint, PeerLimits, Settings, Tuning};
 use crate::proved::qs_wire::Role;
 use crate::shim::alloc::Global;
 
@@ -54,7 +54,7 @@ impl Thing {
         let Some(side) = role_of(role) else {
             return INVALID;
         };
-        match Endpoint::new_wide(alloc, side, settings.settings(), peer.limits()) {
+        match Endpoint::new_wide(alloc, side, settings.settings(), Tuning::by_default(), peer.limits()) {
             Ok(made) => self.begin(made),
             Err(fault) => of_setup(fault),
         }

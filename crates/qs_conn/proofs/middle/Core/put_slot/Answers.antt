@@ -30,11 +30,11 @@ returns-clause-filled c =
 pub put_item-requires-clause-may : goal.put_item-requires-clause-may
 put_item-requires-clause-may c =
     let self = c.args.self.now in
-    let e = new_end self.limits.role self.limits.settings (record { max_data = 0; bidi_local = 0; bidi_remote = 0; uni = 0; streams_bidi = 0; streams_uni = 0 }) in
+    let e = new_end self.limits.role self.limits.settings self.limits.tuning (record { max_data = 0; bidi_local = 0; bidi_remote = 0; uni = 0; streams_bidi = 0; streams_uni = 0 }) in
     may_tell (end_of self e) c.in-Some.item (c.in-Some.ensures.current e).0
 
 pub put_item-requires-clause-new : goal.put_item-requires-clause-new
 put_item-requires-clause-new c =
     let self = c.args.self.now in
-    let e = new_end self.limits.role self.limits.settings (record { max_data = 0; bidi_local = 0; bidi_remote = 0; uni = 0; streams_bidi = 0; streams_uni = 0 }) in
+    let e = new_end self.limits.role self.limits.settings self.limits.tuning (record { max_data = 0; bidi_local = 0; bidi_remote = 0; uni = 0; streams_bidi = 0; streams_uni = 0 }) in
     λ out. c.is_covered.ensures.no self.limits self.recvs e c.if-is_covered.false (inl out)
