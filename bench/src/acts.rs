@@ -47,7 +47,7 @@ fn ack_of(number: u64) -> Vec<u8> {
 impl Scene {
     /// The stream carried a frame already, and that was read and acknowledged.
     fn new() -> Scene {
-        let settings = Settings::default();
+        let settings = Settings::small();
         let end = |role| {
             Endpoint::new(role, settings, settings.limits()).expect("the settings are in range")
         };

@@ -65,7 +65,7 @@ pub struct Pair {
 
 impl Pair {
     pub fn new(load: Load) -> Pair {
-        let settings = Settings::default()
+        let settings = Settings::small()
             .conn_window(CONN_WINDOW)
             .stream_windows(load.window)
             .send_buffer(load.window as usize)

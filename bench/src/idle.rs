@@ -34,7 +34,7 @@ fn held() -> usize {
 
 // Ends that grant 100 streams of each direction, with windows of 1 MiB and of 64 KiB.
 fn idle(count: usize) -> f64 {
-    let settings = Settings::default()
+    let settings = Settings::small()
         .conn_window(1 << 20)
         .stream_windows(1 << 16)
         .send_buffer(1 << 16)

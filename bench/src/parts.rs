@@ -289,7 +289,7 @@ fn insert(numbers: impl Iterator<Item = u64>, runs: usize) -> Run {
 
 // Packets of frames of one byte at the even offsets of a window of 64 KiB, and then at the odd ones; nothing is read.
 fn hostile() -> Run {
-    let settings = Settings::default()
+    let settings = Settings::small()
         .conn_window(1 << 20)
         .stream_windows(1 << 16)
         .streams(8, 8);

@@ -207,7 +207,7 @@ fn same_ack(packets: u64) -> Run {
 
 /// Requests of one byte and answers of 1 KiB, one stream after the other: what the last thousand cost of so many.
 fn request_after(ended: u64) -> Run {
-    let settings = Settings::default()
+    let settings = Settings::small()
         .conn_window(1 << 20)
         .stream_windows(4096)
         .send_buffer(4096)

@@ -18,7 +18,7 @@ struct Crowd {
 
 impl Crowd {
     fn new() -> Crowd {
-        let settings = Settings::default()
+        let settings = Settings::small()
             .conn_window(1 << 20)
             .stream_windows(256)
             .send_buffer(256)

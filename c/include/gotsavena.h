@@ -165,8 +165,8 @@ typedef struct gv_settings {
   size_t send_buffer;     /**< how many bytes that aren't acknowledged a sending half keeps: 1 to 2^30 (2^18) */
   uint64_t grant_bidi;    /**< how many bidirectional streams the peer may open at first: up to 2^17 (section 4.6) (100) */
   uint64_t grant_uni;     /**< the same of unidirectional ones (100) */
-  uint64_t lifetime_bidi; /**< the same in all, as those that it opened end: grant_bidi to 2^21 (2^16) */
-  uint64_t lifetime_uni;  /**< the same of unidirectional ones (2^16) */
+  uint64_t lifetime_bidi; /**< the same in all, as those that it opened end: grant_bidi to 2^21 (2^21) */
+  uint64_t lifetime_uni;  /**< the same of unidirectional ones (2^21) */
 } gv_settings;
 
 /** What the peer grants at first, by its transport parameters (section 18.2). local and remote are seen from the peer. */

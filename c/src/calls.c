@@ -116,7 +116,7 @@ static gv_status ask_whether(uint32_t (*call)(gvp_handle *, bool *), const gv_en
 /* An end. */
 
 gv_status gv_settings_init(gv_settings *settings, size_t size) {
-  const gv_settings first = {size, 1 << 20, 1 << 18, 1 << 18, 1 << 18, 1 << 18, 100, 100, 1 << 16, 1 << 16};
+  const gv_settings first = {size, 1 << 20, 1 << 18, 1 << 18, 1 << 18, 1 << 18, 100, 100, 1 << 21, 1 << 21};
   if (settings == NULL || size < UP_TO(gv_settings, lifetime_uni) || size > MOST_SIZE) return GV_INVALID;
   memset(settings, 0, size);
   memcpy(settings, &first, least(size, sizeof first));

@@ -179,7 +179,7 @@ mod tests {
     const FILE: &str = "src/client.rs";
 
     fn config() -> Config {
-        let settings = Settings::default()
+        let settings = Settings::small()
             .conn_window(1 << 20)
             .stream_windows(1 << 16);
         let idle = Duration::from_secs(30);

@@ -277,7 +277,7 @@ mod tests {
     }
 
     fn ask(bytes: &[u8]) -> Result<Vec<u8>, Close> {
-        Pair::new(Settings::default()).ask(bytes)
+        Pair::new(Settings::small()).ask(bytes)
     }
 
     const QUERY: &[u8] = b"\0\x19\0\0\x01\0\0\x01\0\0\0\0\0\0\x07example\0\0\x06\0\x01";
@@ -292,7 +292,7 @@ mod tests {
 
     #[test]
     fn a_connection_closes_once_its_last_query_is_answered() {
-        let mut pair = Pair::new(Settings::default().bidi_streams(2, 3));
+        let mut pair = Pair::new(Settings::small().bidi_streams(2, 3));
         assert!(pair.ask(QUERY).is_ok());
         assert!(pair.ask(QUERY).is_ok());
         // The answer went and is acknowledged: only then it closes, without a fault.

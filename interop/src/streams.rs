@@ -152,7 +152,7 @@ mod tests {
     use gotsavena::{Dir, Role, Settings};
 
     fn write_all(source: &'static [u8], len: u64) -> (u64, Option<u64>) {
-        let settings = Settings::default().send_buffer(1 << 16);
+        let settings = Settings::small().send_buffer(1 << 16);
         let mut end = Endpoint::new(Role::Client, settings, settings.limits()).unwrap();
         let stream = end.open(Dir::Uni).unwrap();
         let mut outgoing = Outgoing::new(Body::new(source, len));

@@ -6,8 +6,8 @@ use std::net::UdpSocket;
 
 fn main() -> Result<(), Box<dyn std::error::Error>> {
     let socket = UdpSocket::bind("127.0.0.1:4433")?;
-    // 100 streams at a time and 1,000 in all; the handshake would tell what the client grants.
-    let settings = Settings::default().streams(100, 1000);
+    // The default is a server's: 100 streams at a time. The handshake would tell what the client grants.
+    let settings = Settings::default();
     let limits_of_the_client = settings.limits();
     let mut end = Endpoint::new(Role::Server, settings, limits_of_the_client)?;
     let (mut datagram, mut streams) = ([0; 1500], Vec::new());

@@ -4,20 +4,16 @@ use crate::proved::qs_calls as calls;
 
 /// The credit that an end grants, and the size of its sending buffers.
 ///
-/// [`Settings::default`] are the standard settings, those of the scripts: a connection window of 4,096 bytes, windows
-/// of 1,024 bytes for each stream, a sending buffer of 2,048 bytes for each stream, and eight streams of each direction,
-/// in all: once a peer opened eight, its `open` answers `Blocked` for good. They are small, for trying. A real end sets
-/// its own:
+/// [`Settings::default`] are those of a server: 100 streams of each direction at a time and 2^21 in all, windows of
+/// 256 KiB for each stream and of 1 MiB for the connection, and sending buffers of 256 KiB. What a peer can make such an
+/// end hold stands in docs/LIMITS.md. What differs is set by name:
 ///
 /// ```
 /// use gotsavena::Settings;
 ///
-/// let settings = Settings::default()
-///     .conn_window(1 << 24)
-///     .stream_windows(1 << 20)
-///     .send_buffer(1 << 20)
-///     .streams(100, 1 << 16);
+/// let settings = Settings::default().conn_window(1 << 24).stream_windows(1 << 20);
 /// assert_eq!(settings.limits().max_data, 1 << 24);
+/// assert_eq!(settings.limits().streams_bidi, 100);
 /// ```
 ///
 /// Whether each value lies in its range is told by [`Endpoint::new`](crate::Endpoint::new).
@@ -50,6 +46,25 @@ pub struct PeerLimits {
 impl Default for Settings {
     fn default() -> Settings {
         Settings(calls::Settings {
+            conn_window: 1 << 20,
+            bidi_local: 1 << 18,
+            bidi_remote: 1 << 18,
+            uni: 1 << 18,
+            send_buffer: 1 << 18,
+            grant_bidi: 100,
+            grant_uni: 100,
+            lifetime_bidi: 1 << 21,
+            lifetime_uni: 1 << 21,
+        })
+    }
+}
+
+impl Settings {
+    /// The standard settings of scripts, for trying: a connection window of 4,096 bytes, windows of 1,024 bytes for each
+    /// stream, a sending buffer of 2,048 bytes for each stream, and eight streams of each direction, in all: once a peer
+    /// opened eight, its `open` answers `Blocked` for good.
+    pub fn small() -> Settings {
+        Settings(calls::Settings {
             conn_window: 4096,
             bidi_local: 1024,
             bidi_remote: 1024,
@@ -61,9 +76,7 @@ impl Default for Settings {
             lifetime_uni: 8,
         })
     }
-}
 
-impl Settings {
     /// How far the bytes received on all streams may run ahead of those taken: 1 to 2^40 bytes (RFC 9000, section 4.1).
     /// At most so many bytes are stored.
     pub fn conn_window(mut self, bytes: u64) -> Settings {

@@ -24,7 +24,7 @@ fn pass(from: &mut Endpoint, to: &mut Endpoint) -> Option<u64> {
 
 #[test]
 fn an_ack_alone_is_not_sendable() {
-    let (mut client, mut server) = ends(Settings::default());
+    let (mut client, mut server) = ends(Settings::small());
     assert!(!client.is_sendable());
     let stream = client.open(Dir::Bidi).expect("granted");
     assert!(!client.is_sendable());
@@ -42,7 +42,7 @@ fn an_ack_alone_is_not_sendable() {
 
 #[test]
 fn a_closed_end_has_nothing_sendable() {
-    let (mut client, mut server) = ends(Settings::default());
+    let (mut client, mut server) = ends(Settings::small());
     let stream = server.open(Dir::Uni).expect("granted");
     server.write(stream, b"late").expect("open");
     assert!(server.is_sendable());
@@ -62,7 +62,7 @@ fn a_closed_end_has_nothing_sendable() {
 
 #[test]
 fn streams_are_left_for_all_time() {
-    let (mut client, mut server) = ends(Settings::default().bidi_streams(2, 5).uni_streams(1, 1));
+    let (mut client, mut server) = ends(Settings::small().bidi_streams(2, 5).uni_streams(1, 1));
     assert_eq!(server.streams_left(Dir::Bidi), 5);
     assert_eq!(client.open_left(Dir::Bidi), 2);
     let first = client.open(Dir::Bidi).expect("granted");
@@ -82,7 +82,7 @@ fn streams_are_left_for_all_time() {
 
 #[test]
 fn credit_alone_blocks() {
-    let settings = Settings::default()
+    let settings = Settings::small()
         .conn_window(10)
         .bidi_local_window(6)
         .bidi_remote_window(6)
@@ -121,7 +121,7 @@ fn credit_alone_blocks() {
 
 #[test]
 fn outstanding_packets_are_found() {
-    let (mut client, mut server) = ends(Settings::default());
+    let (mut client, mut server) = ends(Settings::small());
     let stream = client.open(Dir::Bidi).expect("granted");
     let mut payload = [0; 1200];
     assert_eq!(client.next_outstanding(0), None);
@@ -150,12 +150,12 @@ fn outstanding_packets_are_found() {
 
 #[test]
 fn reports_tell_resets_and_limits() {
-    let (mut client, mut server) = ends(Settings::default());
+    let (mut client, mut server) = ends(Settings::small());
     let stream = client.open(Dir::Bidi).expect("granted");
     let report = client.report(stream).expect("open");
     let send = report.send.expect("bidirectional");
     assert_eq!(send.reset_code, None);
-    assert_eq!(send.limit, Settings::default().limits().bidi_remote);
+    assert_eq!(send.limit, Settings::small().limits().bidi_remote);
     client.reset(stream, 41).expect("open");
     pass(&mut client, &mut server).expect("due");
     let send = client.report(stream).expect("open").send;
@@ -180,7 +180,7 @@ fn limits(max_data: u64, stream: u64, streams: u64) -> PeerLimits {
 // A client that remembered small limits takes in those of the handshake.
 #[test]
 fn limits_rise_and_never_fall() {
-    let settings = Settings::default();
+    let settings = Settings::small();
     let mut client = Endpoint::new(Role::Client, settings, limits(10, 6, 1)).expect("in range");
     let first = client.open(Dir::Bidi).expect("granted");
     assert_eq!(client.open(Dir::Bidi), Err(OpenFault::Blocked(1)));
@@ -225,7 +225,7 @@ fn limits_rise_and_never_fall() {
 
 #[test]
 fn limits_without_a_number_are_refused() {
-    let settings = Settings::default();
+    let settings = Settings::small();
     let mut client = Endpoint::new(Role::Client, settings, limits(10, 6, 1)).expect("in range");
     let stream = client.open(Dir::Bidi).expect("granted");
     let before = client.report(stream);
@@ -274,7 +274,7 @@ fn newly_acked(end: &Endpoint, payload: &[u8]) -> Vec<u64> {
 // What a payload acknowledged for the first time was outstanding before it and isn't after it.
 #[test]
 fn newly_acknowledged_packets_are_told_by_what_is_outstanding() {
-    let (mut client, mut server) = ends(Settings::default());
+    let (mut client, mut server) = ends(Settings::small());
     let stream = client.open(Dir::Bidi).expect("granted");
     let mut payloads = Vec::new();
     for _ in 0..5 {
@@ -317,7 +317,7 @@ fn told(end: &mut Endpoint, number: u64, payload: &[u8]) -> Vec<u64> {
 
 // An end that wrote six packets, 0 to 5.
 fn six_sent() -> Endpoint {
-    let (mut client, _) = ends(Settings::default());
+    let (mut client, _) = ends(Settings::small());
     let stream = client.open(Dir::Bidi).expect("granted");
     for _ in 0..6 {
         client.write(stream, b"part").expect("open");
@@ -404,7 +404,7 @@ fn newly_acknowledged_packets_are_told_of_each_ack_that_is_read() {
 // The first code that came stays, and is told of a half that was reset before, or that was acknowledged whole.
 #[test]
 fn the_code_of_a_stop_is_told_whatever_became_of_the_half() {
-    let (mut client, mut server) = ends(Settings::default());
+    let (mut client, mut server) = ends(Settings::small());
     let streams: Vec<_> = (0..4)
         .map(|_| client.open(Dir::Bidi).expect("granted"))
         .collect();
@@ -449,7 +449,7 @@ fn the_code_of_a_stop_is_told_whatever_became_of_the_half() {
 
 #[test]
 fn an_owner_keeps_no_count_of_its_own() {
-    let settings = Settings::default()
+    let settings = Settings::small()
         .conn_window(10)
         .bidi_local_window(6)
         .bidi_remote_window(6)
@@ -499,7 +499,7 @@ fn an_owner_keeps_no_count_of_its_own() {
 
 #[test]
 fn the_peers_streams_are_given_out_by_direction() {
-    let (mut client, mut server) = ends(Settings::default());
+    let (mut client, mut server) = ends(Settings::small());
     let mut opened = Vec::new();
     for dir in [Dir::Bidi, Dir::Uni, Dir::Uni, Dir::Bidi] {
         let stream = client.open(dir).expect("granted");
@@ -526,7 +526,7 @@ fn the_peers_streams_are_given_out_by_direction() {
 #[test]
 fn noted_counts_runs_until_a_reset_or_the_end_is_told() {
     let (_, mut server) = ends(
-        Settings::default()
+        Settings::small()
             .conn_window(1 << 16)
             .stream_windows(1 << 14),
     );

@@ -99,7 +99,7 @@ fn settings(random: &mut Random, seed: u64) -> (Settings, u64) {
     };
     let window = 1 + random.below(most);
     let mut of_streams = || 1 + random.below(most_of_streams);
-    let settings = Settings::default()
+    let settings = Settings::small()
         .conn_window(window)
         .bidi_local_window(of_streams())
         .bidi_remote_window(of_streams())

@@ -48,7 +48,7 @@ fn an_end(random: &mut Random) -> Option<Endpoint> {
             number(random)
         }
     };
-    let settings = Settings::default()
+    let settings = Settings::small()
         .conn_window(usual(5000))
         .bidi_local_window(usual(900))
         .bidi_remote_window(usual(800))

@@ -8,7 +8,7 @@ const PADDING: u8 = 0x00;
 const PING: u8 = 0x01;
 
 fn ends() -> (Endpoint, Endpoint) {
-    let settings = Settings::default();
+    let settings = Settings::small();
     let client = Endpoint::new(Role::Client, settings, settings.limits()).expect("in range");
     let server = Endpoint::new(Role::Server, settings, settings.limits()).expect("in range");
     (client, server)

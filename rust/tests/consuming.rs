@@ -7,7 +7,7 @@ use gotsavena::{Dir, Endpoint, Read, Role, Settings, UseFault};
 use support::Random;
 
 fn ends() -> (Endpoint, [Endpoint; 2]) {
-    let settings = Settings::default().uni_window(2000);
+    let settings = Settings::small().uni_window(2000);
     let end = |role| Endpoint::new(role, settings, settings.limits()).expect("in range");
     (end(Role::Client), [end(Role::Server), end(Role::Server)])
 }

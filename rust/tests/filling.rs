@@ -5,7 +5,7 @@ use gotsavena::{
 };
 
 fn pair() -> (Endpoint, Endpoint) {
-    let settings = Settings::default();
+    let settings = Settings::small();
     let one = Endpoint::new(Role::Client, settings, settings.limits()).expect("within range");
     let other = Endpoint::new(Role::Server, settings, settings.limits()).expect("within range");
     (one, other)
@@ -155,7 +155,7 @@ fn little_room_takes_little() {
 
 #[test]
 fn a_large_room_takes_much() {
-    let settings = Settings::default()
+    let settings = Settings::small()
         .conn_window(1 << 20)
         .stream_windows(1 << 20)
         .send_buffer(1 << 20);

@@ -108,7 +108,7 @@ fn send(end: &mut Endpoint, stream: StreamId, bytes: &[u8]) {
 
 /// Ends whose streams have the widest windows, and room for 8 of them at once.
 fn wide() -> Two {
-    let settings = Settings::default()
+    let settings = Settings::small()
         .conn_window(1 << 20)
         .stream_windows(1 << 20)
         .send_buffer(1 << 20)

@@ -54,7 +54,7 @@ static ALLOCATOR: Refusing = Refusing;
 /// are.
 fn script(seed: u64, events: usize) -> Vec<String> {
     let mut random = Random::new(seed);
-    let mut player = Player::new(Settings::default());
+    let mut player = Player::new(Settings::small());
     let mut lines = Vec::new();
     while lines.len() < events {
         let line = next_line(&mut random, &player);
@@ -102,7 +102,7 @@ struct Played {
 fn play(lines: &[String], refused: u64) -> Played {
     ASKED.set(0);
     REFUSED.set(refused);
-    let mut player = Player::new(Settings::default());
+    let mut player = Player::new(Settings::small());
     player.around = |begins| IS_CALLED.set(begins);
     let (mut answers, mut refusals) = (Vec::new(), 0);
     for line in lines {
@@ -179,12 +179,12 @@ fn questions(end: &mut Endpoint, number: u64) {
         end.next_outstanding(number),
         end.next_newly_acked(&[2, 0, 0, 0, 0], number),
     );
-    _ = end.raise_limits(Settings::default().limits());
+    _ = end.raise_limits(Settings::small().limits());
 }
 
 // How often each of the calls that may ask for memory asked.
 fn counted(lines: &[String], asked: &mut [u64; 5]) {
-    let mut player = Player::new(Settings::default());
+    let mut player = Player::new(Settings::small());
     player.around = |begins| IS_CALLED.set(begins);
     for line in lines {
         ASKED.set(0);
@@ -220,7 +220,7 @@ fn no_call_asks_but_those_that_are_listed() {
     REFUSED.set(u64::MAX);
     ASKED.set(0);
     IS_CALLED.set(true);
-    let settings = Settings::default();
+    let settings = Settings::small();
     let ends =
         [Role::Client, Role::Server].map(|role| Endpoint::new(role, settings, settings.limits()));
     IS_CALLED.set(false);
@@ -240,7 +240,7 @@ fn no_call_asks_but_those_that_are_listed() {
 
 // An end that has bytes to send and no control item.
 fn with_bytes() -> Endpoint {
-    let settings = Settings::default();
+    let settings = Settings::small();
     let mut end = Endpoint::new(Role::Client, settings, settings.limits()).expect("within range");
     let stream = end.open(Dir::Uni).expect("granted");
     end.write(stream, b"some bytes").expect("room");

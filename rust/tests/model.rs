@@ -37,7 +37,7 @@ impl Run {
         let tiny = seed % 16 == 0;
         let (most, most_of_streams, buffer) = if tiny { (4, 4, 64) } else { (4000, 2000, 3000) };
         let window = 1 + random.below(most);
-        let settings = Settings::default()
+        let settings = Settings::small()
             .conn_window(window)
             .stream_windows(1 + random.below(most_of_streams))
             .send_buffer(1 + random.below(buffer) as usize)

@@ -204,7 +204,7 @@ fn next_event(random: &mut Random, run: &Run) -> Event {
 
 fn settings(seed: u64) -> Settings {
     let window = [1 << 20, 40][seed as usize % 2];
-    Settings::default()
+    Settings::small()
         .conn_window(1 << 24)
         .stream_windows(window.min(1000))
         .send_buffer([400, 30][seed as usize / 2 % 2])

@@ -42,7 +42,7 @@ fn honest_payloads() -> Vec<Vec<u8>> {
     let mut random = Random::new(7);
     let mut payloads = Vec::new();
     for _ in 0..20 {
-        let [mut client, mut server] = two_ends(Settings::default());
+        let [mut client, mut server] = two_ends(Settings::small());
         let mut streams = Vec::new();
         for turn in 0..40 {
             streams.extend(client.open(if turn % 2 == 0 { Dir::Bidi } else { Dir::Uni }));
@@ -167,7 +167,7 @@ fn busy_server(settings: Settings) -> Endpoint {
 
 #[test]
 fn hostile_payloads_do_no_harm() {
-    let settings = Settings::default();
+    let settings = Settings::small();
     let (honest, mut random) = (honest_payloads(), Random::new(1));
     let (mut closings, mut done, mut number, mut most) = (0, 0, 0, 0);
     let mut before = TAKEN.load(Ordering::Relaxed);

@@ -72,7 +72,7 @@ impl Run {
     fn new(seed: u64) -> Run {
         let mut random = Random::new(seed);
         let (windows, buffer) = windows_of(seed, &mut random);
-        let settings = Settings::default()
+        let settings = Settings::small()
             .conn_window(windows.conn)
             .stream_windows(windows.stream)
             .send_buffer(buffer as usize)

@@ -46,12 +46,12 @@ lane B 0 written 0 read 0 received no declared none known none
 end A spent 0 granted 4096 stored 0
 end B spent 5 granted 4096 stored 0
 ";
-    assert_eq!(Player::new(Settings::default()).play(script), text);
+    assert_eq!(Player::new(Settings::small()).play(script), text);
 }
 
 #[test]
 fn an_end_closes_and_stays_closed() {
-    let [_, mut server] = two_ends(Settings::default());
+    let [_, mut server] = two_ends(Settings::small());
     let mut out = [7; 64];
     assert_eq!(server.close_payload(&mut out), None);
     assert_eq!(out, [7; 64]);
@@ -83,7 +83,7 @@ fn an_end_closes_and_stays_closed() {
 
 #[test]
 fn a_peer_closes() {
-    let [_, mut server] = two_ends(Settings::default());
+    let [_, mut server] = two_ends(Settings::small());
     assert_eq!(
         server.receive(3, &unhex("1d2a00")),
         Ok(Received::PeerClosed(42))
@@ -94,7 +94,7 @@ fn a_peer_closes() {
 
 #[test]
 fn what_a_call_requires_is_invalid_else_and_changes_nothing() {
-    let [mut client, mut server] = two_ends(Settings::default());
+    let [mut client, mut server] = two_ends(Settings::small());
     let id = client.open(Dir::Bidi).expect("a stream");
     client.write(id, b"abc").expect("room");
     let before = format!("{:?} {:?}", client, client.report(id));
@@ -122,7 +122,7 @@ fn what_a_call_requires_is_invalid_else_and_changes_nothing() {
 
 #[test]
 fn settings_and_limits_have_ranges() {
-    let settings = Settings::default();
+    let settings = Settings::small();
     let made = |settings: Settings, peer: PeerLimits| {
         Endpoint::new(Role::Client, settings, peer).map(|_| ())
     };
@@ -475,7 +475,7 @@ fn streams_tell_their_parts() {
 
 #[test]
 fn reads_of_resets_and_ends() {
-    let mut player = Player::new(Settings::default());
+    let mut player = Player::new(Settings::small());
     let script = "open A uni\nwrite A 2 6162\nreset A 2 9\nmake A 128\ndeliver A 0\nread B 2 16\nopen B uni\nfinish B 3\nmake B 128\ndeliver B 0\nread A 3 16";
     let answers: Vec<_> = script.lines().map(|line| player.line(line)).collect();
     assert_eq!(answers[5], "reset 9");
@@ -485,7 +485,7 @@ fn reads_of_resets_and_ends() {
 
 #[test]
 fn a_stop_is_told_whatever_its_code() {
-    let mut player = Player::new(Settings::default());
+    let mut player = Player::new(Settings::small());
     let zeros = "00".repeat(1024);
     let script = format!(
         "open A bidi\nwrite A 0 {zeros}\nmake A 1200\ndeliver A 0\nread B 0 1024\nmake B 1200"
@@ -521,7 +521,7 @@ mod io {
 
     #[test]
     fn halves_read_and_write() {
-        let [mut client, mut server] = two_ends(Settings::default());
+        let [mut client, mut server] = two_ends(Settings::small());
         let id = client.open(Dir::Bidi).expect("a stream");
         let mut sender = client.send_stream(id);
         sender.write_all(b"hello").expect("room");
@@ -562,7 +562,7 @@ mod io {
 
     #[test]
     fn a_reset_is_an_error() {
-        let [mut client, mut server] = two_ends(Settings::default());
+        let [mut client, mut server] = two_ends(Settings::small());
         let id = client.open(Dir::Uni).expect("a stream");
         client.send_stream(id).reset(42).expect("open");
         let mut payload = [0; 1200];

@@ -7,7 +7,7 @@ use gotsavena::{
 };
 
 fn ends() -> (Endpoint, Endpoint) {
-    let settings = Settings::default();
+    let settings = Settings::small();
     let end = |role| Endpoint::new(role, settings, settings.limits()).expect("in range");
     (end(Role::Client), end(Role::Server))
 }
@@ -110,7 +110,7 @@ fn a_frame_tells_whether_it_changed_anything() {
     let stop = |stream| Frame::StopSending { stream, code: 7 };
     let max_of_stream = |stream, maximum| Frame::MaxStreamData { stream, maximum };
     let other = StreamId::new(4).expect("small");
-    let settings = Settings::default();
+    let settings = Settings::small();
     let (data_limit, streams) = (settings.limits().max_data, settings.limits().streams_bidi);
     let rows = [
         // An empty frame opens its stream, and then does nothing.

@@ -44,7 +44,7 @@ fn random_scripts_print_the_same() {
         let script = printed(&program, &["random", &seed.to_string(), &count.to_string()]);
         std::fs::write(&file, &script).expect("a file");
         let expected = printed(&program, &["play", &file.to_string_lossy()]);
-        let played = Player::new(Settings::default()).play(&script);
+        let played = Player::new(Settings::small()).play(&script);
         assert_eq!(played, expected, "script {seed} of {count} events");
         events += script.lines().count();
     }

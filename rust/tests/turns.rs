@@ -14,7 +14,7 @@ const BYTES: usize = 8 * 1200;
 
 /// Two ends, and the streams of the first, each with its bytes written.
 fn writers() -> ([Endpoint; 2], Vec<StreamId>) {
-    let settings = Settings::default()
+    let settings = Settings::small()
         .conn_window(1 << 20)
         .stream_windows(1 << 16)
         .send_buffer(1 << 16)

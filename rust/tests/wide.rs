@@ -29,7 +29,7 @@ fn settle(client: &mut Endpoint, server: &mut Endpoint) {
 
 #[test]
 fn a_window_of_256_mib_is_sent_without_a_read() {
-    let settings = Settings::default()
+    let settings = Settings::small()
         .conn_window(WINDOW as u64)
         .stream_windows(WINDOW as u64)
         .send_buffer(WINDOW);
@@ -101,7 +101,7 @@ impl Path {
 /// How long 32 MiB take over such a path, until the last of it is acknowledged, with so large windows and buffers, in nanoseconds.
 fn transfer(window: usize) -> u64 {
     const SIZE: usize = 32 << 20;
-    let settings = Settings::default()
+    let settings = Settings::small()
         .conn_window(window as u64)
         .stream_windows(window as u64)
         .send_buffer(window);
@@ -186,7 +186,7 @@ const STREAMS: u64 = if cfg!(debug_assertions) {
 
 #[test]
 fn a_millionth_stream_costs_as_much_as_the_first() {
-    let settings = Settings::default().bidi_streams(100, 1 << 21);
+    let settings = Settings::small().bidi_streams(100, 1 << 21);
     let (mut old, mut young) = (two_ends(settings), two_ends(settings));
     (0..STREAMS).for_each(|_| exchange(&mut old));
     assert_eq!(old[1].granted_streams(Dir::Bidi), 100 + STREAMS);

@@ -36,6 +36,7 @@ compile udp_copy "$root/c/examples/udp_copy.c"
 compile frames "$root/c/examples/frames.c"
 compile stack "$root/c/examples/stack.c"
 compile arguments "$tests/arguments.c"
+compile settings "$tests/settings.c"
 compile handed "$tests/handed.c"
 compile written "$tests/written.c"
 compile play "$tests/play.c"
@@ -45,6 +46,12 @@ compile allocators "$tests/allocators.c" -pthread -Wl,--wrap=malloc -Wl,--wrap=r
 for name in pipe stack arguments handed written refused allocators; do
   try "$name" timeout 300 "$room/$name"
 done
+like_rust() { "$room/settings" | cmp - <(cargo run -q --offline --release --manifest-path "$root/rust/Cargo.toml" -p gotsavena --example settings); }
+if "$root/c/has-cargo" >/dev/null 2>&1; then
+  try 'defaults are those of the Rust crate' like_rust
+else
+  echo 'skipped: the defaults of the Rust crate (no cargo)'
+fi
 try 'payloads' timeout 300 "$room/payloads" "$root"/c/fuzz/inputs/*
 
 # Over the libraries as they are: the archive, and the shared one.

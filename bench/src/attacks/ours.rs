@@ -8,7 +8,7 @@ pub struct Ours(Endpoint);
 
 impl Target for Ours {
     fn new(setup: Setup) -> Ours {
-        let settings = Settings::default()
+        let settings = Settings::small()
             .conn_window(1 << 24)
             .stream_windows(1 << 20)
             .send_buffer(1 << 20)

@@ -70,7 +70,7 @@ fn resident() -> f64 {
 
 // So many streams get one byte each, at this offset; what the process holds then, in MiB.
 fn far_bytes(streams: u64, offset: u64) -> f64 {
-    let settings = Settings::default()
+    let settings = Settings::small()
         .conn_window(16 * MIB)
         .stream_windows(MIB)
         .streams(4096, 4096);
@@ -120,7 +120,7 @@ fn ask(two: &mut Two, there: &Source, back: &Source) {
 }
 
 fn asking(window: u64) -> Two {
-    let settings = Settings::default()
+    let settings = Settings::small()
         .conn_window(MIB)
         .stream_windows(window)
         .send_buffer(window as usize)
@@ -160,7 +160,7 @@ fn ended(side: Side) -> f64 {
 // The most that a server's process ever held over so many requests of one byte and answers of 1 KiB, in MB. The client is payloads alone.
 fn requests() -> f64 {
     let (count, there, back) = (65_500, Source::new(1), Source::new(1024));
-    let settings = Settings::default()
+    let settings = Settings::small()
         .conn_window(MIB)
         .stream_windows(MIB)
         .send_buffer(MIB as usize)
@@ -204,7 +204,7 @@ fn request(stream: StreamId, source: &Source, made_next: u64, payload: &mut [u8]
 
 // The first byte of a stream with such a window: the nanoseconds that taking it in costs, the least of ten rounds of 400 streams.
 fn first_byte(window: u64) -> f64 {
-    let settings = Settings::default()
+    let settings = Settings::small()
         .conn_window(16 * MIB)
         .stream_windows(window)
         .streams(4096, 4096);
@@ -239,7 +239,7 @@ fn first_byte(window: u64) -> f64 {
 
 // 10,000 open streams that never carried a byte, 8,192 of its own and 1,808 of the peer's: the bytes of the heap that an end takes for each.
 fn idle() -> f64 {
-    let settings = Settings::default()
+    let settings = Settings::small()
         .conn_window(16 * MIB)
         .stream_windows(MIB)
         .streams(4096, 4096);

@@ -21,7 +21,7 @@ struct Transfer {
 
 impl Transfer {
     fn new() -> Transfer {
-        let settings = Settings::default()
+        let settings = Settings::small()
             .conn_window(4096)
             .stream_windows(1024)
             .send_buffer(2048)

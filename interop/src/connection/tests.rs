@@ -28,7 +28,7 @@ struct World {
 impl World {
     fn new(lost: u64, idle: Duration) -> World {
         let now = Instant::now();
-        let settings = Settings::default()
+        let settings = Settings::small()
             .conn_window(1 << 20)
             .stream_windows(1 << 18)
             .send_buffer(1 << 18);

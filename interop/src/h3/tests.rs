@@ -42,7 +42,7 @@ impl Pair {
     }
 
     fn with_lifetime(lifetime: u64) -> Pair {
-        let settings = Settings::default()
+        let settings = Settings::small()
             .conn_window(1 << 20)
             .stream_windows(1 << 16)
             .send_buffer(1 << 16)
