@@ -92,8 +92,8 @@ BOUNDS = {
     ),
     "three-quarters": Bound(
         sizes=(2, 4, 8),
-        heap=8 * ((1 << 20) + 1024),
-        heap_why="a ring of four times what is left of it: it is to fall",
+        heap=8 * ((1 << 19) + 1024),
+        heap_why="a ring of twice what is left of it",
         growth=0.1,
         growth_why="each stream is found by its number",
         count=3300,

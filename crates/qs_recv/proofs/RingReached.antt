@@ -96,7 +96,7 @@ undone_view r from end stored offset first window bytes ring wide new less h few
     ∙ refused_view r from stored offset first bytes wide new h.put ∙ other_view r ring wide (length ring) (length wide) from stored h.was h.other
 
 pub undone_sized : (r : NumberSet) (from end stored offset first window : ℕ) (bytes ring wide new less : List ℕ) → IsReached r from end stored offset first window bytes ring wide new
-    → length less ≤ length new → length less ≤ max 4096 (4 * (end - from)) → IsRing less r (length less) from stored false → IsSized r (length less) from end stored window false
+    → length less ≤ length new → length less ≤ max 4096 (3 * (end - from)) → IsRing less r (length less) from stored false → IsSized r (length less) from end stored window false
 undone_sized r from end stored offset first window bytes ring wide new less h fewer bound now =
     let same = h.put.same_len in
     let within = h.reach.within in

@@ -50,7 +50,7 @@ shed_is r old new from stored span h is fewer reaches moved =
       same = λ q low came. (let below = below-end_of r q came in moved q low (omega (arith, below, is)));
     }
 
-pub sized_shed : (r : NumberSet) (ring : List ℕ) (size new from after end stored less window : ℕ) → IsSized r size from end stored window false → IsRing ring r new after less false → new ≤ window → new ≤ max 4096 (4 * (end - after)) → IsSized r new after end less window false
+pub sized_shed : (r : NumberSet) (ring : List ℕ) (size new from after end stored less window : ℕ) → IsSized r size from end stored window false → IsRing ring r new after less false → new ≤ window → new ≤ max 4096 (3 * (end - after)) → IsSized r new after end less window false
 sized_shed r ring size new from after end stored less window h now fewer bound =
     let ends = h.ends refl in
     record {

@@ -58,12 +58,12 @@ pub record IsRing (ring : List ℕ) (received : NumberSet) (size read_count stor
   pub held : discarding ≡ false → (q : ℕ) → read_count ≤ q → set.contains received q ≡ true → length ring ≡ size
   pub counted : stored ≡ map.len (stored_in_ring received ring size read_count discarding)
 
--- a ring is no larger than the window, and where it has more than 4,096 bytes, no larger than four times the span from what was read to the
+-- a ring is no larger than the window, and where it has more than 4,096 bytes, no larger than three times the span from what was read to the
 -- end of what came, and some are stored; until bytes are thrown away, that end is kept
 pub record IsSized (received : NumberSet) (size read_count end stored window : ℕ) (discarding : Bool) : Type 0 where
   pub small_window : window ≤ MAX_WINDOW
   pub within : size ≤ window
-  pub bound : size ≤ max 4096 (4 * (end_of received - read_count))
+  pub bound : size ≤ max 4096 (3 * (end_of received - read_count))
   pub idle : stored ≡ 0 → size ≤ 4096
   pub ends : discarding ≡ false → end ≡ end_of received
 

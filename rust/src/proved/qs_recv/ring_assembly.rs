@@ -15,14 +15,14 @@ const IDLE_SIZE: u64 = 4096;
 /// A ring beside the set of every offset that came. As bytes are stored that lie past it, it grows to reach from what was
 /// read to the last of them: to a power of two, less than twice as far or 64 bytes, and never past the window. What is stored
 /// keeps its place in memory that grows, unless it goes around the ring's end; where its offsets can't be noted, the ring shrinks
-/// again. As bytes are read and it is larger than 4,096 bytes and than four times as far, it shrinks in place, to twice as far
+/// again. As bytes are read and it is larger than 4,096 bytes and than three times as far, it shrinks in place, to half more
 /// at least. It is given back where bytes are thrown away, and where nothing is stored: at once if it is larger than 4,096
 /// bytes, else once that is asked for.
 ///
 /// A put searches the set once for each gap that it fills, and once behind the last if more came there, but not for bytes past
 /// all that came; it copies the bytes of each gap, and notes the offsets by one insert. A take is one search and one copy. A
-/// copy is made in two pieces where its places wrap. What shrinking moves between two growths is a few times the ring at most,
-/// and a quarter of the ring at least was read before.
+/// copy is made in two pieces where its places wrap. What shrinking moves between two growths is less than the ring, and a
+/// sixth of the ring at least was read before.
 pub struct RingAssembly {
     alloc: Global,
     ring: Ring,
@@ -215,20 +215,20 @@ fn reach(
 }
 
 // Lets go of what a ring of more than 4,096 bytes has too much: all of it where nothing is stored, and where it is larger than
-// four times the span from `from` to the end of what is, what lies past the least power of two that is twice that or more.
+// three times the span from `from` to the end of what is, what lies past the least power of two that is half more than that.
 #[inline(always)]
 fn shed(alloc: Global, ring: &mut Ring, from: u64, span: u64, window: u64) {
     debug_assert!(window <= 1 << 30);
     debug_assert!(from <= 1 << 62);
     let len = ring.len() as u64;
-    if len <= IDLE_SIZE.max(4 * span) {
+    if len <= IDLE_SIZE.max(3 * span) {
         return;
     }
     if span == 0 {
         *ring = Ring::none(alloc);
         return;
     }
-    let size = size_for(2 * span, window);
+    let size = size_for(span + span / 2, window);
     ring.narrow(from, span as usize, size as usize);
 }
 
