@@ -169,6 +169,7 @@ static void use(gv_endpoint *end, unsigned call, input *in) {
   uint8_t into[MOST];
   uint64_t number, stream = next_number(in);
   size_t count = 0;
+  bool ends;
   switch (call) {
     case 0: (void)gv_open(end, (gv_dir)(next_byte(in) % 3), &number, NULL); break;
     case 1: (void)gv_accept(end, &number); break;
@@ -179,6 +180,7 @@ static void use(gv_endpoint *end, unsigned call, input *in) {
     case 6: (void)gv_read(end, stream, into, 4 * (size_t)next_byte(in), &count, &number); break;
     case 7: (void)gv_declare_lost(end, stream); break;
     case 8: (void)gv_claim_number(end, &number); break;
+    case 9: (void)gv_consume(end, stream, 4 * (size_t)next_byte(in), &count, &ends, &number); break;
     case 10: hand_in(end, in); break;
     case 11: fill(end, in); break;
     case 12: (void)gv_token_acked(end, stream); break;
@@ -213,7 +215,7 @@ static int run(const uint8_t *bytes, size_t len) {
     } else if (call % 16 < 7) {
       make(end, &in);
     } else {
-      use(end, call / 16 % 14, &in);
+      use(end, call / 16 % 15, &in);
     }
     look(end, &was_closed);
   }

@@ -83,6 +83,15 @@ typedef enum gv_role { GV_ROLE_CLIENT = 0, GV_ROLE_SERVER = 1 } gv_role;
 /** Directions of streams (section 2.1). */
 typedef enum gv_dir { GV_DIR_BIDI = 0, GV_DIR_UNI = 1 } gv_dir;
 
+/** A part of a window, or of a grant. */
+typedef enum gv_share {
+  GV_SHARE_NONE = 0,
+  GV_SHARE_HALF = 1,
+  GV_SHARE_QUARTER = 2,
+  GV_SHARE_EIGHTH = 3,
+  GV_SHARE_SIXTEENTH = 4
+} gv_share;
+
 /** States of sending halves (section 3.1). */
 typedef enum gv_send_state {
   GV_SEND_STATE_READY = 0,
@@ -168,6 +177,18 @@ typedef struct gv_settings {
   uint64_t lifetime_bidi; /**< the same in all, as those that it opened end: grant_bidi to 2^21 (2^21) */
   uint64_t lifetime_uni;  /**< the same of unidirectional ones (2^21) */
 } gv_settings;
+
+/** How an end goes about what its owner may choose. gv_tuning_init() sets what stands in parentheses. */
+typedef struct gv_tuning {
+  size_t size;            /**< of this struct */
+  gv_share credit_step;   /**< how much of its window has to be taken until a limit on bytes moves (section 4.2): a share
+                               (GV_SHARE_HALF) */
+  gv_share count_step;    /**< how many of its grant's streams have to end until a count of streams moves (section 4.6): GV_SHARE_NONE
+                               where each one moves it (GV_SHARE_NONE) */
+  bool within_credit;     /**< a write takes no more bytes than may be sent at once, by the stream's limit and the connection's (false) */
+  bool reads_when_closed; /**< what came in is read on once the end closed (false) */
+  uint64_t epoch;         /**< stands in each token that the end gives, and no token of another epoch is taken (0) */
+} gv_tuning;
 
 /** What the peer grants at first, by its transport parameters (section 18.2). local and remote are seen from the peer. */
 typedef struct gv_limits {
@@ -335,6 +356,9 @@ GV_API const char *gv_strerror(gv_status status);
 /** Writes the size of the struct, and settings for a start. What a later version has beyond is 0. */
 GV_API gv_status gv_settings_init(gv_settings *settings, size_t size);
 
+/** Writes the size of the struct, and what an end has whose owner chooses nothing. */
+GV_API gv_status gv_tuning_init(gv_tuning *tuning, size_t size);
+
 /** Writes the size of the struct, and the limits of a peer that grants nothing. */
 GV_API gv_status gv_limits_init(gv_limits *limits, size_t size);
 
@@ -349,6 +373,11 @@ GV_API gv_status gv_endpoint_new(gv_role role, const gv_settings *settings, cons
  * The struct is copied. Where it is a null pointer, memory is of the C library. */
 GV_API gv_status gv_endpoint_new_with(gv_role role, const gv_settings *settings, const gv_limits *peer, const gv_allocator *allocator,
                                       gv_endpoint **out);
+
+/** The same, tuned: where tuning is a null pointer, as gv_tuning_init() sets it. ::GV_INVALID, too, where credit_step or count_step is no
+ * share that it may be. */
+GV_API gv_status gv_endpoint_new_tuned(gv_role role, const gv_settings *settings, const gv_tuning *tuning, const gv_limits *peer,
+                                       const gv_allocator *allocator, gv_endpoint **out);
 
 /** Frees an end. A null pointer is passed over. */
 GV_API void gv_endpoint_free(gv_endpoint *end);
@@ -366,6 +395,18 @@ GV_API gv_status gv_raise_limits(gv_endpoint *end, const gv_limits *peer);
  * the same payload may come again. ::GV_CLOSED_BY_PEER: gv_peer_closed() tells the peer's code. ::GV_PROTOCOL_ERROR: the payload breaks
  * a rule, this end is closed, gv_closing() tells why, and gv_close_payload() tells the peer. */
 GV_API gv_status gv_receive(gv_endpoint *end, uint64_t number, const uint8_t *payload, size_t len);
+
+/** As gv_receive(), and told is called for each packet that the payload newly acknowledged, once: one that was outstanding, that an ACK of
+ * the payload names, and that isn't outstanding any more (section 13.3). They come in the order of the ACKs, of each ACK the highest number
+ * first; congestion control goes on from there (RFC 9002, section 7). The payload is read once, where gv_next_newly_acked() reads it for each
+ * answer. told is handed the context; it runs once the payload was taken in, on the thread of this call, it returns to it, and it may not
+ * call the end. ::GV_NO_MEMORY: there is none for the numbers, and nothing changed; or it is that of gv_receive(), and then the same payload
+ * may come again and tells the others.
+ *
+ * The numbers wait in memory that the end keeps: at most 16 bytes for each from the least that was outstanding to the greatest, when these
+ * were farthest apart, or 512 bytes. */
+GV_API gv_status gv_receive_telling(gv_endpoint *end, uint64_t number, const uint8_t *payload, size_t len,
+                                    void (*told)(void *context, uint64_t number), void *context);
 
 /** Makes the next packet: writes its payload at the front of out, which has room for 128 to 16383 bytes, and tells it in *made
  * (sections 4, 13.2 and 13.3). ::GV_NONE: nothing may go. ::GV_CONNECTION_CLOSED, ::GV_NUMBERS_EXHAUSTED, ::GV_NO_MEMORY: nothing
@@ -471,6 +512,11 @@ GV_API gv_status gv_stop(gv_endpoint *end, uint64_t stream, uint64_t code);
  * ::GV_END_OF_STREAM: all was read. ::GV_RESET_BY_PEER: the peer broke the stream off, and *code, where code isn't null, is its code.
  * Refused as gv_stop() is. */
 GV_API gv_status gv_read(gv_endpoint *end, uint64_t stream, uint8_t *into, size_t size, size_t *count, uint64_t *code);
+
+/** Takes the bytes that are next, at most so many, as gv_read() into a slice of that size, and copies none: to pass over what isn't wanted
+ * (sections 2.2 and 3.2). ::GV_OK: *count bytes were taken, and *at_end is whether they reach the end, which counts as told then: the
+ * stream needs no further call. Its other answers, and its refusals, are those of gv_read(). */
+GV_API gv_status gv_consume(gv_endpoint *end, uint64_t stream, size_t most, size_t *count, bool *at_end, uint64_t *code);
 
 /** A read of which stream tells something new: bytes, the end or a reset (sections 2.2 and 3.2).
  *

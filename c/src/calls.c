@@ -10,6 +10,8 @@ struct gv_endpoint {
   gvp_handle handle;
   gv_allocator memory;
   const gv_allocator *outer; /* from where the thread takes memory again once the call ends */
+  uint64_t *told;            /* where gv_receive_telling() has the numbers written */
+  size_t told_room;          /* how many have a place there */
 };
 
 /* What a struct takes up to a field, and it: what it took in the version of which this was the last field. */
@@ -18,6 +20,7 @@ struct gv_endpoint {
 /* No later field may stand where a struct of today has nothing. */
 #define ENDS_WITH(type, field) _Static_assert(sizeof(type) == UP_TO(type, field), #type " ends with " #field)
 ENDS_WITH(gv_settings, lifetime_uni);
+ENDS_WITH(gv_tuning, epoch);
 ENDS_WITH(gv_limits, streams_uni);
 ENDS_WITH(gv_allocator, release);
 ENDS_WITH(gv_made, len);
@@ -60,6 +63,8 @@ static void copy_out(void *to, const void *from, size_t known) {
 
 /* A slice of no bytes may have no address, and the library below wants one. */
 static uint8_t none[1];
+
+static uint64_t no_numbers[1];
 
 static bool is_slice(const void *at, size_t len) { return (at != NULL || len == 0) && len <= (size_t)PTRDIFF_MAX; }
 
@@ -123,6 +128,16 @@ gv_status gv_settings_init(gv_settings *settings, size_t size) {
   return GV_OK;
 }
 
+static const gv_tuning untuned = {sizeof untuned, GV_SHARE_HALF, GV_SHARE_NONE, false, false, 0};
+
+gv_status gv_tuning_init(gv_tuning *tuning, size_t size) {
+  if (tuning == NULL || size < UP_TO(gv_tuning, epoch) || size > MOST_SIZE) return GV_INVALID;
+  memset(tuning, 0, size);
+  memcpy(tuning, &untuned, least(size, sizeof untuned));
+  tuning->size = size;
+  return GV_OK;
+}
+
 gv_status gv_limits_init(gv_limits *limits, size_t size) {
   if (limits == NULL || size < UP_TO(gv_limits, streams_uni) || size > MOST_SIZE) return GV_INVALID;
   memset(limits, 0, size);
@@ -136,6 +151,14 @@ static bool take_settings(gvp_settings *to, const gv_settings *from) {
   gvp_settings own = {
     s.conn_window, s.bidi_local, s.bidi_remote, s.uni, s.send_buffer, s.grant_bidi, s.grant_uni, s.lifetime_bidi, s.lifetime_uni,
   };
+  *to = own;
+  return true;
+}
+
+static bool take_tuning(gvp_tuning *to, const gv_tuning *from) {
+  gv_tuning t;
+  if (!copy_in(&t, sizeof t, from, UP_TO(gv_tuning, epoch))) return false;
+  gvp_tuning own = {(uint32_t)t.credit_step, (uint32_t)t.count_step, t.within_credit, t.reads_when_closed, t.epoch};
   *to = own;
   return true;
 }
@@ -160,19 +183,21 @@ static bool take_allocator(gv_allocator *to, const gv_allocator *from) {
   return copy_in(to, sizeof *to, from, UP_TO(gv_allocator, release)) && to->allocate != NULL && to->release != NULL;
 }
 
-gv_status gv_endpoint_new_with(gv_role role, const gv_settings *settings, const gv_limits *peer, const gv_allocator *allocator,
-                               gv_endpoint **out) {
+gv_status gv_endpoint_new_tuned(gv_role role, const gv_settings *settings, const gv_tuning *tuning, const gv_limits *peer,
+                                const gv_allocator *allocator, gv_endpoint **out) {
   gvp_settings own;
+  gvp_tuning chosen;
   gvp_limits limits;
   gv_allocator memory = gvp_of_c;
   if (out == NULL || !take_settings(&own, settings) || !take_limits(&limits, peer)) return GV_INVALID;
+  if (!take_tuning(&chosen, tuning == NULL ? &untuned : tuning)) return GV_INVALID;
   if (allocator != NULL && !take_allocator(&memory, allocator)) return GV_INVALID;
   gv_endpoint *end = memory.allocate(memory.context, sizeof *end, alignof(gv_endpoint));
   if (end == NULL) return GV_NO_MEMORY;
-  gv_endpoint fresh = {{false, NULL}, memory, NULL};
+  gv_endpoint fresh = {{false, NULL}, memory, NULL, no_numbers, 0};
   *end = fresh;
   gv_status status = leave(end, gvp_reserve(enter(end)));
-  if (status == GV_OK) status = leave(end, gvp_new(enter(end), (uint32_t)role, &own, &limits));
+  if (status == GV_OK) status = leave(end, gvp_new(enter(end), (uint32_t)role, &own, &chosen, &limits));
   if (status == GV_OK) {
     *out = end;
   } else {
@@ -181,13 +206,23 @@ gv_status gv_endpoint_new_with(gv_role role, const gv_settings *settings, const 
   return status;
 }
 
+gv_status gv_endpoint_new_with(gv_role role, const gv_settings *settings, const gv_limits *peer, const gv_allocator *allocator,
+                               gv_endpoint **out) {
+  return gv_endpoint_new_tuned(role, settings, NULL, peer, allocator, out);
+}
+
 gv_status gv_endpoint_new(gv_role role, const gv_settings *settings, const gv_limits *peer, gv_endpoint **out) {
   return gv_endpoint_new_with(role, settings, peer, NULL, out);
+}
+
+static void free_told(gv_endpoint *end) {
+  if (end->told_room > 0) end->memory.release(end->memory.context, end->told, end->told_room * sizeof *end->told, alignof(uint64_t));
 }
 
 void gv_endpoint_free(gv_endpoint *end) {
   if (end == NULL) return;
   gv_allocator memory = end->memory;
+  free_told(end);
   gvp_free(enter(end));
   (void)leave(end, GV_OK);
   memory.release(memory.context, end, sizeof *end, alignof(gv_endpoint));
@@ -205,6 +240,32 @@ gv_status gv_receive(gv_endpoint *end, uint64_t number, const uint8_t *payload, 
   gvp_closing_info told = {0, 0, 0};
   if (end == NULL || !is_slice(payload, len)) return GV_INVALID;
   return leave(end, gvp_receive(enter(end), number, read_from(payload, len), len, &told));
+}
+
+/* Twice as many numbers have a place; false where memory is refused. */
+static bool grow_told(gv_endpoint *end) {
+  enum { FIRST_ROOM = 64 };
+  size_t room = end->told_room == 0 ? FIRST_ROOM : 2 * end->told_room;
+  uint64_t *told = end->memory.allocate(end->memory.context, room * sizeof *told, alignof(uint64_t));
+  if (told == NULL) return false;
+  free_told(end);
+  end->told = told;
+  end->told_room = room;
+  return true;
+}
+
+gv_status gv_receive_telling(gv_endpoint *end, uint64_t number, const uint8_t *payload, size_t len,
+                             void (*told)(void *context, uint64_t number), void *context) {
+  gvp_closing_info why = {0, 0, 0};
+  size_t count = 0;
+  gv_status status;
+  if (end == NULL || told == NULL || !is_slice(payload, len)) return GV_INVALID;
+  const uint8_t *from = read_from(payload, len);
+  do {
+    status = leave(end, gvp_receive_telling(enter(end), number, from, len, &why, end->told, end->told_room, &count));
+  } while (status == GV_NO_ROOM && grow_told(end));
+  for (size_t i = 0; i < count; i++) told(context, end->told[i]);
+  return status == GV_NO_ROOM ? GV_NO_MEMORY : status;
 }
 
 static gv_status give_made(gv_made *to, gv_status status, gvp_made made) {
@@ -299,6 +360,19 @@ gv_status gv_read(gv_endpoint *end, uint64_t stream, uint8_t *into, size_t size,
   if (end == NULL || count == NULL || !is_slice(into, size)) return GV_INVALID;
   gv_status status = leave(end, gvp_read(enter(end), stream, written_to(into, size), size, &got));
   if (status == GV_OK) *count = (size_t)got;
+  if (status == GV_RESET_BY_PEER && code != NULL) *code = got;
+  return status;
+}
+
+gv_status gv_consume(gv_endpoint *end, uint64_t stream, size_t most, size_t *count, bool *at_end, uint64_t *code) {
+  uint64_t got = 0;
+  bool ends = false;
+  if (end == NULL || count == NULL || at_end == NULL) return GV_INVALID;
+  gv_status status = leave(end, gvp_consume(enter(end), stream, most, &got, &ends));
+  if (status == GV_OK) {
+    *count = (size_t)got;
+    *at_end = ends;
+  }
   if (status == GV_RESET_BY_PEER && code != NULL) *code = got;
   return status;
 }

@@ -25,6 +25,14 @@ typedef struct gvp_settings {
   uint64_t lifetime_uni;
 } gvp_settings;
 
+typedef struct gvp_tuning {
+  uint32_t credit_step;
+  uint32_t count_step;
+  bool within_credit;
+  bool reads_when_closed;
+  uint64_t epoch;
+} gvp_tuning;
+
 typedef struct gvp_limits {
   uint64_t max_data;
   uint64_t bidi_local;
@@ -127,9 +135,11 @@ typedef struct gvp_range {
 } gvp_range;
 
 uint32_t gvp_reserve(gvp_handle *end);
-uint32_t gvp_new(gvp_handle *end, uint32_t role, const gvp_settings *settings, const gvp_limits *peer);
+uint32_t gvp_new(gvp_handle *end, uint32_t role, const gvp_settings *settings, const gvp_tuning *tuning, const gvp_limits *peer);
 void gvp_free(gvp_handle *end);
 uint32_t gvp_receive(gvp_handle *end, uint64_t number, const uint8_t *payload, size_t len, gvp_closing_info *closing);
+uint32_t gvp_receive_telling(gvp_handle *end, uint64_t number, const uint8_t *payload, size_t len, gvp_closing_info *closing, uint64_t *told,
+                             size_t room, size_t *count);
 uint32_t gvp_make_packet_from(gvp_handle *end, uint64_t first, uint64_t delay, uint8_t *out, size_t room, gvp_made *made);
 uint32_t gvp_open(gvp_handle *end, uint32_t dir, uint64_t *number);
 uint32_t gvp_accept(gvp_handle *end, uint64_t *stream);
@@ -139,6 +149,7 @@ uint32_t gvp_finish(gvp_handle *end, uint64_t stream);
 uint32_t gvp_reset(gvp_handle *end, uint64_t stream, uint64_t code);
 uint32_t gvp_stop(gvp_handle *end, uint64_t stream, uint64_t code);
 uint32_t gvp_read(gvp_handle *end, uint64_t stream, uint8_t *into, size_t size, uint64_t *number);
+uint32_t gvp_consume(gvp_handle *end, uint64_t stream, size_t most, uint64_t *number, bool *at_end);
 uint32_t gvp_declare_lost(gvp_handle *end, uint64_t number);
 uint32_t gvp_take_frame(gvp_handle *end, const gvp_frame *frame, const uint8_t *bytes, size_t len, uint32_t *taken);
 uint32_t gvp_fill(gvp_handle *end, const gvp_request *want, uint8_t *out, size_t room, gvp_filled *filled);

@@ -1,4 +1,5 @@
 /* What a caller may not pass is answered with GV_INVALID, and nothing changes. */
+#include <stdint.h>
 #include <stdio.h>
 #include <stdlib.h>
 #include <string.h>
@@ -28,6 +29,30 @@ static void no_release(void *context, void *at, size_t size, size_t align) {
   abort();
 }
 
+/* What the owner of an end chooses. */
+static void tuned(const gv_settings *settings, const gv_limits *limits) {
+  gv_tuning tuning;
+  gv_endpoint *end = NULL;
+  want(gv_tuning_init(NULL, sizeof tuning), GV_INVALID, "no tuning");
+  want(gv_tuning_init(&tuning, sizeof tuning - 1), GV_INVALID, "small tuning");
+  want(gv_tuning_init(&tuning, sizeof tuning), GV_OK, "tuning");
+  tuning.credit_step = GV_SHARE_NONE;
+  want(gv_endpoint_new_tuned(GV_ROLE_CLIENT, settings, &tuning, limits, NULL, &end), GV_INVALID, "no share of a window");
+  tuning.credit_step = (gv_share)5;
+  want(gv_endpoint_new_tuned(GV_ROLE_CLIENT, settings, &tuning, limits, NULL, &end), GV_INVALID, "another share of a window");
+  tuning.credit_step = GV_SHARE_SIXTEENTH;
+  tuning.count_step = (gv_share)5;
+  want(gv_endpoint_new_tuned(GV_ROLE_CLIENT, settings, &tuning, limits, NULL, &end), GV_INVALID, "another share of a grant");
+  tuning.count_step = GV_SHARE_EIGHTH;
+  tuning.size = 8;
+  want(gv_endpoint_new_tuned(GV_ROLE_CLIENT, settings, &tuning, limits, NULL, &end), GV_INVALID, "a small tuning");
+  tuning.size = sizeof tuning;
+  want(gv_endpoint_new_tuned(GV_ROLE_CLIENT, settings, &tuning, limits, NULL, &end), GV_OK, "a tuned end");
+  gv_endpoint_free(end);
+  want(gv_endpoint_new_tuned(GV_ROLE_CLIENT, settings, NULL, limits, NULL, &end), GV_OK, "an end that isn't tuned");
+  gv_endpoint_free(end);
+}
+
 /* The library as a whole, structs that are set up, and allocators. */
 static void beside_ends(void) {
   gv_settings settings;
@@ -49,6 +74,7 @@ static void beside_ends(void) {
   limits.size = sizeof limits;
   want(gv_limits_of(&settings, &limits), GV_OK, "limits");
   want(limits.streams_bidi == 100 && limits.bidi_local == 1 << 18 ? GV_OK : GV_INVALID, GV_OK, "which they are");
+  tuned(&settings, &limits);
   want(gv_endpoint_new_with(GV_ROLE_CLIENT, &settings, &limits, &from, &end), GV_NO_MEMORY, "no memory");
   from.allocate = NULL;
   want(gv_endpoint_new_with(GV_ROLE_CLIENT, &settings, &limits, &from, &end), GV_INVALID, "no function that gives memory");
@@ -63,6 +89,35 @@ static void beside_ends(void) {
   gv_endpoint_free(end);
 }
 
+static void count_one(void *context, uint64_t number) {
+  (void)number;
+  (*(int *)context)++;
+}
+
+/* Bytes that are passed over are told as a read tells them. */
+static void consumed(gv_endpoint *end) {
+  static const uint8_t bytes[] = {0x0b, 0x03, 0x03, 0x61, 0x62, 0x63}; /* all of stream 3 */
+  static const uint8_t reset[] = {0x04, 0x07, 0x09, 0x00};             /* stream 7 is broken off with the code 9 */
+  uint64_t code = 0;
+  size_t count = 9;
+  bool ends = true;
+  want(gv_receive(end, 20, bytes, sizeof bytes), GV_OK, "receive a stream");
+  want(gv_consume(end, UINT64_C(1) << 62, 1, &count, &ends, &code), GV_INVALID, "consume");
+  want(gv_consume(end, 3, 1, NULL, &ends, &code), GV_INVALID, "consume to null");
+  want(gv_consume(end, 3, 1, &count, NULL, &code), GV_INVALID, "consume to no end");
+  want(gv_consume(NULL, 3, 1, &count, &ends, &code), GV_INVALID, "consume of no end");
+  want(gv_consume(end, 2, 1, &count, &ends, &code), GV_WRONG_DIRECTION, "consume what is sent");
+  want(count == 9 && ends ? GV_OK : GV_INVALID, GV_OK, "nothing is written");
+  want(gv_consume(end, 3, 1, &count, &ends, NULL), GV_OK, "consume a byte");
+  want(count == 1 && !ends ? GV_OK : GV_INVALID, GV_OK, "more bytes follow");
+  want(gv_consume(end, 3, SIZE_MAX, &count, &ends, NULL), GV_OK, "consume the others");
+  want(count == 2 && ends ? GV_OK : GV_INVALID, GV_OK, "the end follows");
+  want(gv_consume(end, 3, 1, &count, &ends, NULL), GV_END_OF_STREAM, "consume at the end");
+  want(gv_receive(end, 21, reset, sizeof reset), GV_OK, "receive a reset");
+  want(gv_consume(end, 7, 1, &count, &ends, &code), GV_RESET_BY_PEER, "consume what was broken off");
+  want(code == 9 && count == 2 ? GV_OK : GV_INVALID, GV_OK, "with its code");
+}
+
 int main(void) {
   const uint64_t big = UINT64_C(1) << 62;
   gv_settings settings = {sizeof settings, 4096, 1024, 1024, 1024, 2048, 8, 8, 8, 8};
@@ -75,6 +130,7 @@ int main(void) {
   gv_receiving other = {.size = sizeof other};
   uint64_t number;
   size_t count;
+  int told = 0;
   bool is;
   static const uint8_t stream_frame[] = {0x08, 0x06, 0x61};
   static const uint8_t ack_of_2[] = {0x02, 0x02, 0x00, 0x00, 0x00};
@@ -113,6 +169,10 @@ int main(void) {
   want(gv_token_lost(NULL, 0), GV_INVALID, "lost of no end");
   want(gv_receive(end, big, &byte, 1), GV_INVALID, "receive");
   want(gv_receive(end, 5, NULL, 1), GV_INVALID, "receive from null");
+  want(gv_receive_telling(end, big, &byte, 1, count_one, &told), GV_INVALID, "receive and tell");
+  want(gv_receive_telling(end, 5, NULL, 1, count_one, &told), GV_INVALID, "receive from null and tell");
+  want(gv_receive_telling(end, 5, &byte, 1, NULL, &told), GV_INVALID, "receive and tell nobody");
+  want(gv_receive_telling(NULL, 5, &byte, 1, count_one, &told), GV_INVALID, "receive without an end");
   want(gv_receive(end, 5, &byte, 1), GV_OK, "receive a PING");
   want(gv_receive(end, 5, &byte, 1), GV_DUPLICATE, "receive it again");
   want(gv_make_packet(end, room, 127, &made), GV_INVALID, "small room");
@@ -193,6 +253,8 @@ int main(void) {
   want(gv_next_newly_acked(end, NULL, 0, 0, &number), GV_NONE, "acknowledged by nothing");
   want(gv_next_newly_acked(end, NULL, 1, 0, &number), GV_INVALID, "acknowledged by null");
   want(gv_next_newly_acked(end, ack_of_2, sizeof ack_of_2, 0, NULL), GV_INVALID, "acknowledged to null");
+  want(gv_receive_telling(end, 5, ack_of_2, sizeof ack_of_2, count_one, &told), GV_DUPLICATE, "receive the PING's number again");
+  want(told == 0 ? GV_OK : GV_INVALID, GV_OK, "nothing is told");
   want(gv_token_acked(end, 3), GV_NOT_GIVEN, "acked past the last");
   want(gv_token_lost(end, 2), GV_OK, "lost");
   want(gv_next_outstanding(end, 0, &number), GV_NONE, "nothing is outstanding");
@@ -213,6 +275,7 @@ int main(void) {
   want(gv_last_stream(stream_frame, sizeof stream_frame, &number), GV_OK, "last_stream");
   want(number == 6 ? GV_OK : GV_INVALID, GV_OK, "of stream 6");
   want(gv_peer_closed(end, &number), GV_NONE, "peer_closed");
+  consumed(end);
   byte = 0xff;
   want(gv_receive(end, 6, &byte, 1), GV_PROTOCOL_ERROR, "no frame");
   want(gv_closing(end, &closing), GV_OK, "why");

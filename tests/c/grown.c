@@ -44,7 +44,9 @@ static void drop(void *at, size_t size) {
 static gv_endpoint *new_end(gv_role role, uint64_t grant) {
   gv_settings *settings = block_of(sizeof *settings);
   gv_limits *limits = block_of(sizeof *limits), *none = block_of(sizeof *none);
+  gv_tuning *tuning = block_of(sizeof *tuning);
   gv_endpoint *end = NULL;
+  check(gv_tuning_init(tuning, sizeof *tuning) == GV_OK && tuning->size == sizeof *tuning && tuning->credit_step == GV_SHARE_HALF, "tuning");
   check(gv_settings_init(settings, sizeof *settings) == GV_OK && settings->size == sizeof *settings, "settings");
   check(gv_limits_init(none, sizeof *none) == GV_OK && none->max_data == 0 && none->streams_uni == 0, "limits of nothing");
   settings->grant_bidi = grant;
@@ -55,13 +57,20 @@ static gv_endpoint *new_end(gv_role role, uint64_t grant) {
   check(gv_endpoint_new(role, settings, limits, &end) == (has_later ? GV_OK : GV_INVALID), "a setting that isn't known");
   gv_endpoint_free(end);
   settings->later = 0;
+  tuning->later = 1;
+  check(gv_endpoint_new_tuned(role, settings, tuning, limits, NULL, &end) == (has_later ? GV_OK : GV_INVALID), "a choice that isn't known");
+  if (has_later) gv_endpoint_free(end);
+  tuning->later = 0;
 #endif
+  check(gv_endpoint_new_tuned(role, settings, tuning, limits, NULL, &end) == GV_OK, "a tuned end");
+  gv_endpoint_free(end);
   check(gv_endpoint_new(role, settings, limits, &end) == GV_OK && gv_raise_limits(end, limits) == GV_OK, "an end");
   settings->size = 79;
   check(gv_endpoint_new(role, settings, limits, &end) == GV_INVALID, "too small a struct");
   settings->size = 4097;
   check(gv_endpoint_new(role, settings, limits, &end) == GV_INVALID, "too great a struct");
   drop(settings, sizeof *settings);
+  drop(tuning, sizeof *tuning);
   drop(limits, sizeof *limits);
   drop(none, sizeof *none);
   return end;

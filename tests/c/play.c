@@ -211,16 +211,31 @@ static void print_closing(gv_closing_info closing) {
   print("closing 0x%02" PRIx64 " 0x%02" PRIx64 " %zu", closing.code, closing.frame_type, closing.place);
 }
 
-/* Which packets of an end stay outstanding if it takes a payload in. */
-static bool *left_by(int side, const uint8_t *payload, size_t len) {
+/* The packets of an end before it takes a payload in: which stay outstanding, and which are newly acknowledged. */
+typedef struct acks {
+  uint64_t count;
+  bool *left, *newly;
+} acks;
+
+static acks acks_of(int side, const uint8_t *payload, size_t len) {
   uint64_t count = made_count[side], acked;
-  bool *left = more(NULL, (size_t)count + 1);
-  for (uint64_t i = 0; i < count; i++) left[i] = names(gv_next_outstanding, ends[side], i);
-  for (uint64_t from = 0; gv_next_newly_acked(ends[side], payload, len, from, &acked) == GV_OK; from = acked + 1) {
-    check(from <= acked && acked < count && left[acked], "what is newly acknowledged is outstanding");
-    left[acked] = false;
+  acks all = {count, more(NULL, (size_t)count + 1), more(NULL, (size_t)count + 1)};
+  for (uint64_t i = 0; i < count; i++) {
+    all.left[i] = names(gv_next_outstanding, ends[side], i);
+    all.newly[i] = false;
   }
-  return left;
+  for (uint64_t from = 0; gv_next_newly_acked(ends[side], payload, len, from, &acked) == GV_OK; from = acked + 1) {
+    check(from <= acked && acked < count && all.left[acked], "what is newly acknowledged is outstanding");
+    all.left[acked] = false;
+    all.newly[acked] = true;
+  }
+  return all;
+}
+
+static void tell(void *context, uint64_t number) {
+  acks *all = context;
+  check(number < all->count && all->newly[number], "what is told is newly acknowledged, and told once");
+  all->newly[number] = false;
 }
 
 static void deliver(int side, uint64_t number) {
@@ -230,11 +245,14 @@ static void deliver(int side, uint64_t number) {
   gv_endpoint *end = ends[1 - side];
   gv_closing_info closing = {.size = sizeof closing};
   uint64_t code = 0;
-  bool *left = left_by(1 - side, payload, it->len);
-  gv_status status = gv_receive(end, number, payload, it->len);
-  for (uint64_t i = 0; status == GV_OK && i < made_count[1 - side]; i++)
-    check(names(gv_next_outstanding, end, i) == left[i], "what a payload newly acknowledges is outstanding no more");
-  free(left);
+  acks all = acks_of(1 - side, payload, it->len);
+  gv_status status = gv_receive_telling(end, number, payload, it->len, tell, &all);
+  for (uint64_t i = 0; status == GV_OK && i < all.count; i++) {
+    check(names(gv_next_outstanding, end, i) == all.left[i], "what a payload newly acknowledges is outstanding no more");
+    check(!all.newly[i], "what is newly acknowledged is told");
+  }
+  free(all.left);
+  free(all.newly);
   check((status == GV_CLOSED_BY_PEER) == (gv_peer_closed(end, &code) == GV_OK), "the peer closed");
   if (status == GV_OK) {
     print("done");

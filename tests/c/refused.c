@@ -6,7 +6,7 @@
 
 #include "gotsavena.h"
 
-enum { TOTAL = 20000, ROOM = 600 };
+enum { TOTAL = 20000, ROOM = 600, MOST_PACKETS = 1000 };
 
 static unsigned long asked, refused_one, refusals;
 
@@ -95,8 +95,19 @@ static bool hand_over(gv_endpoint *from, gv_endpoint *to) {
   return true;
 }
 
+/* Which packets of an end were told to be acknowledged: each once, though memory is refused. */
+typedef struct acks {
+  bool told[MOST_PACKETS];
+} acks;
+
+static void tell(void *context, uint64_t number) {
+  acks *all = context;
+  if (number >= MOST_PACKETS || all->told[number]) want(GV_INVALID, GV_OK, "told once");
+  all->told[number] = true;
+}
+
 /* Each third packet is lost. */
-static bool carry(gv_endpoint *from, gv_endpoint *to) {
+static bool carry(gv_endpoint *from, gv_endpoint *to, acks *of_to) {
   uint8_t payload[ROOM];
   gv_made made = {.size = sizeof made};
   gv_status status;
@@ -105,7 +116,7 @@ static bool carry(gv_endpoint *from, gv_endpoint *to) {
   if (status == GV_NONE) return false;
   want(status, GV_OK, "make");
   if (made.number % 3 != 1) {
-    AGAIN(status, gv_receive(to, made.number, payload, made.len));
+    AGAIN(status, gv_receive_telling(to, made.number, payload, made.len, tell, of_to));
     want(status, GV_OK, "receive");
   } else if (made.is_ack_eliciting) {
     AGAIN(status, gv_declare_lost(from, made.number));
@@ -143,16 +154,18 @@ static void transfer(void) {
   gv_endpoint *client = new_end(GV_ROLE_CLIENT), *server = new_end(GV_ROLE_SERVER);
   uint64_t stream, other = 0;
   size_t sent = 0, got = 0;
+  acks of_client = {{false}}, of_server = {{false}};
   gv_status status;
   AGAIN(status, gv_open(client, GV_DIR_BIDI, &stream, NULL));
   want(status, GV_OK, "open");
   for (bool is_open = false, is_over = false; !is_over;) {
     if (sent < TOTAL) sent = write_some(client, stream, sent);
-    while (carry(client, server) || carry(server, client)) {}
+    while (carry(client, server, &of_server) || carry(server, client, &of_client)) {}
     if (!is_open) is_open = gv_accept(server, &other) == GV_OK;
     if (is_open) is_over = read_some(server, other, &got);
   }
   want(got == TOTAL ? GV_OK : GV_INVALID, GV_OK, "length");
+  want(of_client.told[0] == !by_frames ? GV_OK : GV_INVALID, GV_OK, "what was acknowledged is told");
   gv_endpoint_free(client);
   gv_endpoint_free(server);
 }

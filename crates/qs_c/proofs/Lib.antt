@@ -1,4 +1,5 @@
 pub mod Laid
+pub mod Noting
 pub mod Ranges
 pub mod Steps
 pub mod Told

@@ -25,6 +25,11 @@ pub same_write : (d e f : End) (m n : ℕ) (bytes : List ℕ) (a : Result ℕ Us
 same_write d e f m n bytes a ends streams step =
     subst (λ (x : End). WriteStep x n bytes a f) (sym ends) (subst (λ (k : ℕ). WriteStep d k bytes a f) streams step)
 
+-- the same of any step of an end and a stream
+pub same_step : (Step : End → ℕ → Type 0) (d e : End) (m n : ℕ) → e ≡ d → m ≡ n → Step d m → Step e n
+same_step Step d e m n ends streams step =
+    subst (λ (x : End). Step x n) (sym ends) (subst (λ (k : ℕ). Step d k) streams step)
+
 -- a fact of an end, of the same end in other words
 pub same_end : (P : End → Type 0) (d e : End) → d ≡ e → P d → P e
 same_end P d e is fact = subst P is fact

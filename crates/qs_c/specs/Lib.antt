@@ -5,3 +5,4 @@ pub mod Lanes
 pub mod Places
 pub mod Statuses
 pub mod Structs
+pub mod Telling

@@ -16,6 +16,7 @@ use Rattle.qs_calls.specs.declared.making.LostFault.{LostFault}
 use Rattle.qs_calls.specs.declared.making.LostFault.TheVariants as losing
 use Rattle.qs_calls.specs.declared.making.MakeFault.{MakeFault}
 use Rattle.qs_calls.specs.declared.making.MakeFault.TheVariants as making
+use Rattle.qs_calls.specs.declared.reading.Consumed.{Consumed}
 use Rattle.qs_calls.specs.declared.making.Made.{Made}
 use Rattle.qs_calls.specs.declared.filling.Filled.{Filled}
 use Rattle.qs_calls.specs.declared.token.Taken.{Taken}
@@ -146,6 +147,17 @@ read_told (Ok reads.Wait) old = (16, old)
 read_told (Ok reads.End) old = (17, old)
 read_told (Ok (reads.Reset code)) old = (18, code)
 read_told (Err fault) old = (use_status fault, old)
+
+-- taking bytes writes what a read does, and where bytes were taken whether the end follows
+abbrev pub taking_told : Read → Bool → ℕ → Bool → ℕ × ℕ × Bool
+taking_told (reads.Bytes n) ends number at_end = (0, n, ends)
+taking_told reads.Wait ends number at_end = (16, number, at_end)
+taking_told reads.End ends number at_end = (17, number, at_end)
+taking_told (reads.Reset code) ends number at_end = (18, code, at_end)
+
+abbrev pub consumed_told : Result Consumed UseFault → ℕ → Bool → ℕ × ℕ × Bool
+consumed_told (Ok c) number at_end = taking_told c.read c.at_end number at_end
+consumed_told (Err fault) number at_end = (use_status fault, number, at_end)
 
 -- an opening writes the stream, or how many the peer allows
 abbrev pub open_told : Result ℕ OpenFault → ℕ → ℕ × ℕ

@@ -1,8 +1,12 @@
 -- Of public contracts.
 -- What the structs of C stand for, and how they tell what they stand for, field by field. All of it is ours.
-use Rattle.std.specs.Prelude.{is_some, unwrap_or}
+use Rattle.std.specs.Prelude.{ℕ, Bool, ◌&&◌, Option, Some, None, is_some, unwrap_or, nat_eq, nat_le, if◌then◌else◌}
 use Rattle.qs_c.specs.declared.structs.GvSettings.{GvSettings}
 use Rattle.qs_calls.specs.declared.settings.Settings.{Settings}
+use Rattle.qs_c.specs.declared.structs.GvTuning.{GvTuning}
+use Rattle.qs_calls.specs.declared.settings.Tuning.{Tuning}
+use Rattle.qs_calls.specs.declared.settings.Share.{Share}
+use Rattle.qs_calls.specs.declared.settings.Share.TheVariants.{Half, Quarter, Eighth, Sixteenth}
 use Rattle.qs_c.specs.declared.structs.GvLimits.{GvLimits}
 use Rattle.qs_calls.specs.declared.settings.PeerLimits.{PeerLimits}
 use Rattle.qs_c.specs.declared.structs.GvMade.{GvMade}
@@ -16,6 +20,28 @@ use Rattle.qs_calls.specs.declared.closing.Closing.{Closing}
 
 abbrev pub settings_in : GvSettings → Settings
 settings_in s = record { conn_window = s.conn_window; bidi_local = s.bidi_local; bidi_remote = s.bidi_remote; uni = s.uni; send_buffer = s.send_buffer; grant_bidi = s.grant_bidi; grant_uni = s.grant_uni; lifetime_bidi = s.lifetime_bidi; lifetime_uni = s.lifetime_uni }
+
+-- the number of a part
+abbrev pub is_share : ℕ → Bool
+is_share n = nat_le 1 n && nat_le n 4
+
+-- of a number that is one
+abbrev pub share_of : ℕ → Share
+share_of n = if nat_eq n 1 then Half else if nat_eq n 2 then Quarter else if nat_eq n 3 then Eighth else Sixteenth
+
+-- the number of a part, or 0
+abbrev pub may_be_share : ℕ → Bool
+may_be_share n = nat_le n 4
+
+abbrev pub share_if : ℕ → Option Share
+share_if n = if nat_eq n 0 then None else Some (share_of n)
+
+-- its parts are some
+abbrev pub is_tuning : GvTuning → Bool
+is_tuning t = is_share t.credit_step && may_be_share t.count_step
+
+abbrev pub tuning_in : GvTuning → Tuning
+tuning_in t = record { credit_step = share_of t.credit_step; count_step = share_if t.count_step; within_credit = t.within_credit; reads_when_closed = t.reads_when_closed; epoch = t.epoch }
 
 abbrev pub limits_in : GvLimits → PeerLimits
 limits_in s = record { max_data = s.max_data; bidi_local = s.bidi_local; bidi_remote = s.bidi_remote; uni = s.uni; streams_bidi = s.streams_bidi; streams_uni = s.streams_uni }

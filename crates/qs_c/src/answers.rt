@@ -1,12 +1,12 @@
 //! The numbers that the calls answer.
 ghost use Rattle.std.specs.Prelude.{◌≡◌, option_map};
-ghost use Rattle.qs_c.specs.Statuses.{use_status, lost_status, make_status, setup_status, raise_status, token_status, taken_number, status_of, told, found, read_told, open_told, made_told, filled_told, taken_told, received_told};
+ghost use Rattle.qs_c.specs.Statuses.{use_status, lost_status, make_status, setup_status, raise_status, token_status, taken_number, status_of, told, found, read_told, consumed_told, open_told, made_told, filled_told, taken_told, received_told};
 ghost use Rattle.qs_c.specs.Structs.{closing_of};
 ghost use Rattle.qs_c.specs.Lanes.{lane_of};
 
 use crate::lane::GvLane;
 use crate::structs::{GvClosing, GvFilled, GvMade};
-use qs_calls::{Filled, TakeFault, Taken, TokenFault};
+use qs_calls::{Consumed, Filled, TakeFault, Taken, TokenFault};
 use qs_conn::{
     Closing, LaneReport, LostFault, Made, MakeFault, OpenFault, RaiseFault, Received, SetupFault,
     UseFault,
@@ -110,6 +110,31 @@ pub(crate) fn of_read(answer: Result<Read, UseFault>, number: &mut u64) -> u32
         }
         Ok(Read::End) => END,
         Ok(Read::Wait) => WAIT,
+        Err(fault) => of_fault(fault),
+    }
+}
+
+pub(crate) fn of_consumed(
+    answer: Result<Consumed, UseFault>,
+    number: &mut u64,
+    at_end: &mut bool,
+) -> u32
+    ensures { (result, number.new, at_end.new) ≡ consumed_told answer number.old at_end.old }
+{
+    match answer {
+        Ok(consumed) => match consumed.read {
+            Read::Bytes(count) => {
+                *number = count as u64;
+                *at_end = consumed.at_end;
+                OK
+            }
+            Read::Reset(code) => {
+                *number = code;
+                RESET
+            }
+            Read::End => END,
+            Read::Wait => WAIT,
+        },
         Err(fault) => of_fault(fault),
     }
 }

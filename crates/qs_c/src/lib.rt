@@ -9,6 +9,7 @@ mod answers;
 mod asks;
 mod calls;
 mod cell;
+mod consuming;
 mod frame;
 mod handle;
 mod lane;
@@ -18,6 +19,7 @@ mod reads;
 mod stack;
 mod starts;
 mod structs;
+mod telling;
 mod thing;
 
 ghost use Rattle.std.specs.Prelude.{◌≡◌, ◌++◌, ◌&&◌, List, ℕ, true, length, map, drop, Option, None, option_map, Result, MatchBool, ◌↔◌, IsTrue, is_some, nat_eq};
@@ -47,22 +49,23 @@ ghost use Rattle.qs_machine.specs.Reports.{own_closing, lane_report};
 ghost use Rattle.qs_conn.specs.Written.{made_text, KeepsRest};
 ghost use Rattle.qs_conn.specs.Held.{IsHeldBy};
 ghost use Rattle.qs_c.specs.Statuses.{Called, Asked, Invalid, Starts, role_of, is_small, is_room, is_flag, dir_of, use_status, lost_status, make_status, raise_status, token_status, status_of, told, found, read_told, open_told, made_told, received_told};
-ghost use Rattle.qs_c.specs.Structs.{closing_of, settings_in, limits_in};
+ghost use Rattle.qs_c.specs.Structs.{closing_of, settings_in, is_tuning, tuning_in, limits_in};
 ghost use Rattle.qs_c.specs.Lanes.{lane_of};
 ghost use Rattle.qs_c.specs.Frames.{NextAnswer, GivenAnswer};
 ghost use Rattle.qs_c.specs.Acks.{pair_of, are_ranges, AckAnswer, RangeAnswer};
 ghost use Rattle.qs_machine.specs.Ends.{wide_end_made};
-ghost use Rattle.qs_calls.specs.Settings.{default_tuning};
 
 use crate::acks::GvRange;
 use crate::answers::{INVALID, of_stream};
 use crate::frame::{GvFault, GvFrame};
 use crate::handle::Handle;
 use crate::lane::GvLane;
-use crate::structs::{GvClosing, GvLimits, GvMade, GvSettings};
+use crate::structs::{GvClosing, GvLimits, GvMade, GvSettings, GvTuning};
+pub use consuming::gvp_consume;
 use qs_wire::last_stream;
 pub use stack::{gvp_fill, gvp_take_frame};
 use std::alloc::Global;
+pub use telling::gvp_receive_telling;
 
 /// Takes the memory for an end: the handle holds one then, which `gvp_new` makes another. A handle that holds one loses it.
 #[unsafe(no_mangle)]
@@ -79,14 +82,15 @@ pub extern "C" fn gvp_new(
     end: &mut Handle,
     role: u32,
     settings: &GvSettings,
+    tuning: &GvTuning,
     peer: &GvLimits,
 ) -> u32
-    ensures { Called end.old.cell.value end.new.cell.value (is_flag role) (result ≡ 1) (λ e f. Starts (wide_end_made (role_of role) (settings_in settings.now) default_tuning (limits_in peer.now)) result e f) }
+    ensures { Called end.old.cell.value end.new.cell.value (is_flag role && is_tuning tuning.now) (result ≡ 1) (λ e f. Starts (wide_end_made (role_of role) (settings_in settings.now) (tuning_in tuning.now) (limits_in peer.now)) result e f) }
 {
     let Some(mut thing) = end.take(alloc) else {
         return INVALID;
     };
-    let status = thing.start(alloc, role, settings, peer);
+    let status = thing.start(alloc, role, settings, tuning, peer);
     end.put(thing);
     status
 }

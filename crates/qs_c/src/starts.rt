@@ -1,15 +1,14 @@
 //! An end is made.
-ghost use Rattle.std.specs.Prelude.{◌≡◌, true, MatchBool, Some, None, Ok, is_some, nat_eq, if◌then◌else◌};
+ghost use Rattle.std.specs.Prelude.{◌≡◌, ◌&&◌, true, MatchBool, Some, None, Ok, is_some, nat_eq, if◌then◌else◌};
 ghost use Rattle.qs_machine.specs.Ends.{wide_end_made};
-ghost use Rattle.qs_calls.specs.Settings.{default_tuning};
 ghost use Rattle.qs_c.specs.Statuses.{Tested, Starts, setup_status, is_flag, role_of};
-ghost use Rattle.qs_c.specs.Structs.{settings_in, limits_in};
+ghost use Rattle.qs_c.specs.Structs.{settings_in, is_tuning, tuning_in, limits_in};
 
 use crate::answers::{INVALID, NO_MEMORY, OK, of_setup};
 use crate::handle::Handle;
-use crate::structs::{GvLimits, GvSettings};
+use crate::structs::{GvLimits, GvSettings, GvTuning};
 use crate::thing::Thing;
-use qs_conn::{Endpoint, PeerLimits, Settings, Tuning};
+use qs_conn::{Endpoint, PeerLimits, Settings};
 use qs_wire::Role;
 use std::alloc::Global;
 
@@ -54,20 +53,18 @@ impl Thing {
         alloc: Global,
         role: u32,
         settings: &GvSettings,
+        tuning: &GvTuning,
         peer: &GvLimits,
     ) -> u32
-        ensures { Tested (is_flag role) self.old self.new (result ≡ 1) (Starts (wide_end_made (role_of role) (settings_in settings.now) default_tuning (limits_in peer.now)) result self.old self.new) }
+        ensures { Tested (is_flag role && is_tuning tuning.now) self.old self.new (result ≡ 1) (Starts (wide_end_made (role_of role) (settings_in settings.now) (tuning_in tuning.now) (limits_in peer.now)) result self.old self.new) }
     {
         let Some(side) = role_of(role) else {
             return INVALID;
         };
-        match Endpoint::new_wide(
-            alloc,
-            side,
-            settings.settings(),
-            Tuning::by_default(),
-            peer.limits(),
-        ) {
+        let Some(chosen) = tuning.tuning() else {
+            return INVALID;
+        };
+        match Endpoint::new_wide(alloc, side, settings.settings(), chosen, peer.limits()) {
             Ok(made) => self.begin(made),
             Err(fault) => of_setup(fault),
         }

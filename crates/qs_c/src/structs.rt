@@ -1,9 +1,12 @@
 //! The structs that C passes.
-ghost use Rattle.std.specs.Prelude.{◌≡◌};
-ghost use Rattle.qs_c.specs.Structs.{made_of, filled_of, closing_of, settings_in, limits_in};
+ghost use Rattle.std.specs.Prelude.{◌≡◌, Some, None, if◌then◌else◌};
+ghost use Rattle.qs_c.specs.Structs.{made_of, filled_of, closing_of, settings_in, is_share, share_of, may_be_share, share_if, is_tuning, tuning_in, limits_in};
 
 use qs_calls::Filled;
-use qs_conn::{Closing, Made, PeerLimits, Settings};
+use qs_conn::{Closing, Made, PeerLimits, Settings, Share, Tuning};
+
+/// The greatest number of a part.
+const SHARES: u32 = 4;
 
 #[repr(C)]
 #[derive(Clone, Copy, Drop)]
@@ -17,6 +20,17 @@ pub struct GvSettings {
     pub grant_uni: u64,
     pub lifetime_bidi: u64,
     pub lifetime_uni: u64,
+}
+
+/// Parts are 1 for a half, 2 for a quarter, 3 for an eighth, 4 for a sixteenth; for none, where there may be none, 0.
+#[repr(C)]
+#[derive(Clone, Copy, Drop)]
+pub struct GvTuning {
+    pub credit_step: u32,
+    pub count_step: u32,
+    pub within_credit: bool,
+    pub reads_when_closed: bool,
+    pub epoch: u64,
 }
 
 #[repr(C)]
@@ -122,6 +136,36 @@ impl GvSettings {
             lifetime_bidi: self.lifetime_bidi,
             lifetime_uni: self.lifetime_uni,
         }
+    }
+}
+
+impl GvTuning {
+    pub(crate) fn tuning(&self) -> Option<Tuning>
+        ensures { result ≡ (if is_tuning self.now then Some (tuning_in self.now) else None) }
+    {
+        let credit_step = share_of(self.credit_step)?;
+        if self.count_step > SHARES {
+            return None;
+        }
+        Some(Tuning {
+            credit_step,
+            count_step: share_of(self.count_step),
+            within_credit: self.within_credit,
+            reads_when_closed: self.reads_when_closed,
+            epoch: self.epoch,
+        })
+    }
+}
+
+fn share_of(number: u32) -> Option<Share>
+    ensures { result ≡ (if is_share number then Some (share_of number) else None) }
+{
+    match number {
+        1 => Some(Share::Half),
+        2 => Some(Share::Quarter),
+        3 => Some(Share::Eighth),
+        4 => Some(Share::Sixteenth),
+        _ => None,
     }
 }
 

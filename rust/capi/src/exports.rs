@@ -5,7 +5,7 @@ use crate::proved::qs_c::acks::GvRange;
 use crate::proved::qs_c::frame::{GvFault, GvFrame};
 use crate::proved::qs_c::handle::Handle;
 use crate::proved::qs_c::lane::GvLane;
-use crate::proved::qs_c::structs::{GvClosing, GvFilled, GvLimits, GvMade, GvRequest, GvSettings};
+use crate::proved::qs_c::structs::{GvClosing, GvFilled, GvLimits, GvMade, GvRequest, GvSettings, GvTuning};
 use crate::shim::alloc::Global;
 use core::slice;
 
@@ -43,9 +43,12 @@ macro_rules! write {
 
 exports! {
     gvp_reserve(end: &mut Handle) = (Global, end);
-    gvp_new(end: &mut Handle, role: u32, settings: &GvSettings, peer: &GvLimits) = (Global, end, role, settings, peer);
+    gvp_new(end: &mut Handle, role: u32, settings: &GvSettings, tuning: &GvTuning, peer: &GvLimits)
+        = (Global, end, role, settings, tuning, peer);
     gvp_receive(end: &mut Handle, number: u64, payload: *const u8, len: usize, closing: &mut GvClosing)
         = (Global, end, number, read!(payload, len), closing);
+    gvp_receive_telling(end: &mut Handle, number: u64, payload: *const u8, len: usize, closing: &mut GvClosing, told: *mut u64, room: usize, count: &mut usize)
+        = (Global, end, number, read!(payload, len), closing, write!(told, room), count);
     gvp_make_packet_from(end: &mut Handle, first: u64, delay: u64, out: *mut u8, room: usize, made: &mut GvMade)
         = (Global, end, first, delay, write!(out, room), made);
     gvp_make_ack(end: &mut Handle, delay: u64, out: *mut u8, room: usize, made: &mut GvMade)
@@ -70,6 +73,8 @@ exports! {
     gvp_stop(end: &mut Handle, stream: u64, code: u64) = (Global, end, stream, code);
     gvp_read(end: &mut Handle, stream: u64, into: *mut u8, size: usize, number: &mut u64)
         = (Global, end, stream, write!(into, size), number);
+    gvp_consume(end: &mut Handle, stream: u64, most: usize, number: &mut u64, at_end: &mut bool)
+        = (Global, end, stream, most, number, at_end);
 
     gvp_closing(end: &mut Handle, closing: &mut GvClosing) = (Global, end, closing);
     gvp_close_payload(end: &mut Handle, out: *mut u8, room: usize, len: &mut usize)

@@ -3,7 +3,7 @@
 
 use crate::proved::qs_c::lane::GvLane;
 use crate::proved::qs_c::structs::{GvClosing, GvFilled, GvMade};
-use crate::proved::qs_calls::{Filled, TakeFault, Taken, TokenFault};
+use crate::proved::qs_calls::{Consumed, Filled, TakeFault, Taken, TokenFault};
 use crate::proved::qs_conn::{
     Closing, LaneReport, LostFault, Made, MakeFault, OpenFault, RaiseFault, Received, SetupFault,
     UseFault,
@@ -99,6 +99,29 @@ pub(crate) fn of_read(answer: Result<Read, UseFault>, number: &mut u64) -> u32 {
         }
         Ok(Read::End) => END,
         Ok(Read::Wait) => WAIT,
+        Err(fault) => of_fault(fault),
+    }
+}
+
+pub(crate) fn of_consumed(
+    answer: Result<Consumed, UseFault>,
+    number: &mut u64,
+    at_end: &mut bool,
+) -> u32 {
+    match answer {
+        Ok(consumed) => match consumed.read {
+            Read::Bytes(count) => {
+                *number = count as u64;
+                *at_end = consumed.at_end;
+                OK
+            }
+            Read::Reset(code) => {
+                *number = code;
+                RESET
+            }
+            Read::End => END,
+            Read::Wait => WAIT,
+        },
         Err(fault) => of_fault(fault),
     }
 }

@@ -9,6 +9,7 @@ pub(crate) mod answers;
 pub(crate) mod asks;
 pub(crate) mod calls;
 pub(crate) mod cell;
+pub(crate) mod consuming;
 pub(crate) mod frame;
 pub(crate) mod handle;
 pub(crate) mod lane;
@@ -18,6 +19,7 @@ pub(crate) mod reads;
 pub(crate) mod stack;
 pub(crate) mod starts;
 pub(crate) mod structs;
+pub(crate) mod telling;
 pub(crate) mod thing;
 
 use crate::proved::qs_c::acks::GvRange;
@@ -25,10 +27,12 @@ use crate::proved::qs_c::answers::{INVALID, of_stream};
 use crate::proved::qs_c::frame::{GvFault, GvFrame};
 use crate::proved::qs_c::handle::Handle;
 use crate::proved::qs_c::lane::GvLane;
-use crate::proved::qs_c::structs::{GvClosing, GvLimits, GvMade, GvSettings};
+use crate::proved::qs_c::structs::{GvClosing, GvLimits, GvMade, GvSettings, GvTuning};
+pub use consuming::gvp_consume;
 use crate::proved::qs_wire::last_stream;
 pub use stack::{gvp_fill, gvp_take_frame};
 use crate::shim::alloc::Global;
+pub use telling::gvp_receive_telling;
 
 /// Takes the memory for an end: the handle holds one then, which `gvp_new` makes another. A handle that holds one loses it.
 pub fn gvp_reserve(alloc: Global, end: &mut Handle) -> u32 {
@@ -41,12 +45,13 @@ pub fn gvp_new(
     end: &mut Handle,
     role: u32,
     settings: &GvSettings,
+    tuning: &GvTuning,
     peer: &GvLimits,
 ) -> u32 {
     let Some(mut thing) = end.take(alloc) else {
         return INVALID;
     };
-    let status = thing.start(alloc, role, settings, peer);
+    let status = thing.start(alloc, role, settings, tuning, peer);
     end.put(thing);
     status
 }

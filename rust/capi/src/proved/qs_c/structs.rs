@@ -2,7 +2,10 @@
 //! The structs that C passes.
 
 use crate::proved::qs_calls::Filled;
-use crate::proved::qs_conn::{Closing, Made, PeerLimits, Settings};
+use crate::proved::qs_conn::{Closing, Made, PeerLimits, Settings, Share, Tuning};
+
+/// The greatest number of a part.
+const SHARES: u32 = 4;
 
 #[repr(C)]
 #[derive(Clone, Copy)]
@@ -16,6 +19,17 @@ pub struct GvSettings {
     pub grant_uni: u64,
     pub lifetime_bidi: u64,
     pub lifetime_uni: u64,
+}
+
+/// Parts are 1 for a half, 2 for a quarter, 3 for an eighth, 4 for a sixteenth; for none, where there may be none, 0.
+#[repr(C)]
+#[derive(Clone, Copy)]
+pub struct GvTuning {
+    pub credit_step: u32,
+    pub count_step: u32,
+    pub within_credit: bool,
+    pub reads_when_closed: bool,
+    pub epoch: u64,
 }
 
 #[repr(C)]
@@ -113,6 +127,32 @@ impl GvSettings {
             lifetime_bidi: self.lifetime_bidi,
             lifetime_uni: self.lifetime_uni,
         }
+    }
+}
+
+impl GvTuning {
+    pub(crate) fn tuning(&self) -> Option<Tuning> {
+        let credit_step = share_of(self.credit_step)?;
+        if self.count_step > SHARES {
+            return None;
+        }
+        Some(Tuning {
+            credit_step,
+            count_step: share_of(self.count_step),
+            within_credit: self.within_credit,
+            reads_when_closed: self.reads_when_closed,
+            epoch: self.epoch,
+        })
+    }
+}
+
+fn share_of(number: u32) -> Option<Share> {
+    match number {
+        1 => Some(Share::Half),
+        2 => Some(Share::Quarter),
+        3 => Some(Share::Eighth),
+        4 => Some(Share::Sixteenth),
+        _ => None,
     }
 }
 

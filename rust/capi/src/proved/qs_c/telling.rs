@@ -1,0 +1,81 @@
+// Made from crates/qs_c/src/telling.rt by rust/erase; not edited by hand.
+//! A payload is taken in, and C is told which packets it newly acknowledges.
+
+use crate::proved::qs_c::answers::{FULL, INVALID, of_received};
+use crate::proved::qs_c::handle::Handle;
+use crate::proved::qs_c::structs::GvClosing;
+use crate::proved::qs_c::thing::Thing;
+use crate::proved::qs_conn::Told;
+use crate::shim::alloc::Global;
+
+const LIMIT: u64 = 1 << 62;
+
+/// Notes numbers in a slice, as long as it has room.
+pub(crate) struct Notes<'a> {
+    room: &'a mut [u64],
+    count: usize,
+}
+
+impl Told for Notes<'_> {
+    fn tell(&mut self, number: u64) {
+        if self.count < self.room.len() {
+            self.room[self.count] = number;
+            self.count += 1;
+        }
+    }
+}
+
+/// As `gvp_receive`, and writes the numbers of the packets that the payload newly acknowledges. Where `told` hasn't a place for each
+/// number from the least outstanding packet's to the greatest's, nothing changes.
+pub fn gvp_receive_telling(
+    alloc: Global,
+    end: &mut Handle,
+    number: u64,
+    payload: &[u8],
+    closing: &mut GvClosing,
+    told: &mut [u64],
+    count: &mut usize,
+) -> u32 {
+    let Some(mut thing) = end.take(alloc) else {
+        return INVALID;
+    };
+    let status = thing.receive_telling(number, payload, closing, told, count);
+    end.put(thing);
+    status
+}
+
+impl Thing {
+    pub(crate) fn receive_telling(
+        &mut self,
+        number: u64,
+        payload: &[u8],
+        closing: &mut GvClosing,
+        told: &mut [u64],
+        count: &mut usize,
+    ) -> u32 {
+        if number >= LIMIT {
+            return INVALID;
+        }
+        if !self.lie_within(told.len()) {
+            return FULL;
+        }
+        let mut notes = Notes {
+            room: told,
+            count: 0,
+        };
+        let answer = self.end.receive_telling(number, payload, &mut notes);
+        *count = notes.count;
+        of_received(answer, closing)
+    }
+
+    // Whether the outstanding packets' numbers lie within so many in a row.
+    fn lie_within(&self, room: usize) -> bool {
+        let Some(least) = self.end.next_outstanding(0) else {
+            return true;
+        };
+        match least.checked_add(room as u64) {
+            Some(past) => self.end.next_outstanding(past).is_none(),
+            None => false,
+        }
+    }
+}
