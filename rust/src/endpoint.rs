@@ -177,7 +177,8 @@ impl Endpoint {
     ///
     /// # Errors
     ///
-    /// `Closed`; `NoSuchStream` or `WrongDirection` where the stream has no receiving half here. Then nothing changed.
+    /// `Closed`, but where [`reads_when_closed`](crate::Tuning::reads_when_closed) was chosen; `NoSuchStream` or
+    /// `WrongDirection` where the stream has no receiving half here. Then nothing changed.
     pub fn read(&mut self, stream: StreamId, into: &mut [u8]) -> Result<Read, UseFault> {
         self.inner
             .read(stream.inner(), into)
@@ -557,6 +558,39 @@ impl Endpoint {
     /// window (RFC 9000, section 4.1).
     pub fn stored(&self) -> u64 {
         self.inner.stored()
+    }
+
+    /// How many bytes of a stream count as taken: those that were read, or all that came once its owner stopped it, or its
+    /// final size once the peer reset it (RFC 9000, sections 3.5 and 4.2). The stream's limit is at most a window above
+    /// them. `None` where the stream has no receiving half here. It takes constant time.
+    ///
+    /// An owner that looks now and then tells how fast a window is used up.
+    ///
+    /// ```
+    /// use gotsavena::{Dir, Endpoint, Read, Role, Settings};
+    ///
+    /// let settings = Settings::default();
+    /// let mut client = Endpoint::new(Role::Client, settings, settings.limits())?;
+    /// let mut server = Endpoint::new(Role::Server, settings, settings.limits())?;
+    /// let stream = client.open(Dir::Uni)?;
+    /// client.write(stream, b"hello")?;
+    /// let mut payload = [0; 1200];
+    /// let made = client.make_packet(&mut payload)?.expect("bytes are due");
+    /// server.receive(made.number, &payload[..made.len])?;
+    ///
+    /// assert_eq!((server.taken(stream), server.taken_sum()), (Some(0), 0));
+    /// assert_eq!(server.read(stream, &mut [0; 3])?, Read::Bytes(3));
+    /// assert_eq!((server.taken(stream), server.taken_sum()), (Some(3), 3));
+    /// # Ok::<(), Box<dyn std::error::Error>>(())
+    /// ```
+    pub fn taken(&self, stream: StreamId) -> Option<u64> {
+        self.inner.taken(stream.inner())
+    }
+
+    /// How many bytes of all streams count as taken: the sum of what [`taken`](Endpoint::taken) tells of each, which the
+    /// connection's limit follows (RFC 9000, section 4.2). It takes constant time.
+    pub fn taken_sum(&self) -> u64 {
+        self.inner.taken_sum()
     }
 
     /// How many runs the offsets make that came, on all streams whose end their reader wasn't told and that weren't reset:

@@ -46,7 +46,18 @@ impl Tuning {
     }
 
     /// How many of its grant's streams have to end until a count of streams moves (section 4.6). `None`, the default:
-    /// each one moves it, which costs a frame for each.
+    /// each one moves it, which costs a frame for each. With a share the count moves by whole steps of that share of the
+    /// first grant, of one stream at least; so no peer waits for ever, since a step is no more than the grant.
+    ///
+    /// ```
+    /// use gotsavena::{Dir, Endpoint, Role, Settings, Share, Tuning};
+    ///
+    /// // The count goes from 100 to 125, once 25 streams ended, then to 150.
+    /// let settings = Settings::default().streams(100, 10_000);
+    /// let tuning = Tuning::default().count_step(Some(Share::Quarter));
+    /// let end = Endpoint::new_wide(Role::Server, settings, tuning, settings.limits()).unwrap();
+    /// assert_eq!(end.granted_streams(Dir::Bidi), 100);
+    /// ```
     pub fn count_step(mut self, share: Option<Share>) -> Tuning {
         self.0.count_step = share.map(Share::inner);
         self
@@ -59,7 +70,9 @@ impl Tuning {
         self
     }
 
-    /// Whether what came in is read on once the end closed. Not by default.
+    /// Whether what came in is read on once the end closed: [`read`](crate::Endpoint::read),
+    /// [`consume`](crate::Endpoint::consume) and [`next_readable`](crate::Endpoint::next_readable) answer then as before
+    /// the closing, and nothing else does. Not by default.
     pub fn reads_when_closed(mut self, is_chosen: bool) -> Tuning {
         self.0.reads_when_closed = is_chosen;
         self

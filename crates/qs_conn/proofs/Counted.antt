@@ -14,6 +14,7 @@ use Rattle.qs_send.specs.declared.parts.Reset.{Reset}
 use Rattle.qs_send.specs.declared.piece.Piece.{Piece}
 use Rattle.qs_send.specs.declared.piece.Piece.TheVariants.{Data, Told}
 use Rattle.qs_calls.specs.declared.settings.Settings.{Settings}
+use Rattle.qs_calls.specs.declared.settings.Tuning.{Tuning}
 use Rattle.qs_calls.specs.Settings.{are_in_wide_range}
 use Rattle.std.proofs.lemmas.Bool.Decides.{nat_tests}
 use Rattle.qs_machine.specs.Tables.{Tables, no_streams, lookup, updated, open_to, each}
@@ -26,7 +27,7 @@ use Rattle.qs_machine.proofs.EndedHalves.{RecvStays, stop_stays, reset_stays_end
 use Rattle.qs_machine.proofs.LanesAgain.{data_after}
 use Rattle.qs_conn.proofs.ToldEnds.{same_end, still_told, told_updated, told_read, told_opened, told_raised, none_told}
 use Rattle.qs_machine.proofs.Bounds.{within_credit}
-use Rattle.qs_machine.specs.Credit.{recv_ended, send_ended, granted_streams, lifetime}
+use Rattle.qs_machine.specs.Credit.{recv_ended, send_ended, granted_streams, lifetime, count_after}
 use Rattle.qs_machine.specs.Seen.{Seen, Ack, Stream, Control, Close, Plain}
 use Rattle.qs_machine.specs.Lawful.{frame_put, chunk_of}
 use Rattle.qs_machine.specs.Sums.{or_none}
@@ -177,8 +178,8 @@ module _ (role : Role) (s : Settings) (recvs : Tables RecvLane) (sends : Tables 
       fit_recvs now_r now_s e (recvs_opened role recvs now_r now_s e n w no_recv (sends_opened role recvs sends now_s e n limit buffer no_send h.counted sent) received) (told_opened recvs now_r n w no_recv h.told received)
 
   -- limits rise, and each granted count becomes the next one
-  pub fit_settled : (now : Tables RecvLane) (g v : ℕ) → now ≡ each raise recvs → g ≡ min s.lifetime_bidi (s.grant_bidi + e.bidi) → v ≡ min s.lifetime_uni (s.grant_uni + e.uni) → CountsFit role s now sends e g v
-  fit_settled now g v is bidi uni = record { counted = counted_raised role recvs now sends e h.counted is; told = told_raised recvs now h.told is; bidi = omega (arith, bidi); uni = omega (arith, uni) }
+  pub fit_settled : (t : Tuning) (now : Tables RecvLane) (g v : ℕ) → now ≡ each raise recvs → g ≡ count_after s t Bidi e.bidi → v ≡ count_after s t Uni e.uni → CountsFit role s now sends e g v
+  fit_settled t now g v is bidi uni = record { counted = counted_raised role recvs now sends e h.counted is; told = told_raised recvs now h.told is; bidi = omega (arith, bidi); uni = omega (arith, uni) }
 
 -- an end within the credit, whose granted counts are within its lifetimes
 pub within_counted : (e : End) → IsInCredit e → e.granted_bidi ≤ e.settings.lifetime_bidi → e.granted_uni ≤ e.settings.lifetime_uni → IsWithinCredit e

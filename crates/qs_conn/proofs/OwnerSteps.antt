@@ -15,7 +15,7 @@ use Rattle.qs_machine.specs.Tables.{Tables, lookup, updated}
 use Rattle.qs_machine.specs.Ends.{End, send_lane, recv_lane, on_send, on_recv}
 use Rattle.qs_machine.specs.Credit.{settle}
 use Rattle.qs_machine.specs.Verdicts.{or_new}
-use Rattle.qs_machine.specs.Owner.{Certain, Uncertain, first_refusal, refuse_if, no_half, half_refusal, use_fault, send_refusal, recv_refusal, AsksToKeep, WriteStep, StopStep, ReadStep, ConsumeStep, is_end}
+use Rattle.qs_machine.specs.Owner.{Certain, Uncertain, first_refusal, refuse_if, no_half, half_refusal, use_fault, send_refusal, recv_refusal, is_read_no_more, AsksToKeep, WriteStep, StopStep, ReadStep, ConsumeStep, is_end}
 use Rattle.qs_machine.specs.Sums.{or_none}
 use Rattle.qs_machine.proofs.TablesAfter.{updated_back}
 use Rattle.qs_machine.proofs.Again.{changed}
@@ -83,27 +83,27 @@ recv_parts true c o = refl
 recv_parts false c None = refl
 recv_parts false c (Some l) = refl
 
-recv_refusal_is : (e : End) (n : ℕ) → recv_refusal e n ≡ no_receiver e n
-recv_refusal_is e n = recv_parts (is_some e.closed) (is_some (send_lane e n)) (recv_lane e n)
+recv_refusal_is : (is_shut : Bool) (e : End) (n : ℕ) → recv_refusal is_shut e n ≡ no_receiver is_shut e n
+recv_refusal_is is_shut e n = recv_parts is_shut (is_some (send_lane e n)) (recv_lane e n)
 
 received_by : (b c : Bool) (o : Option RecvLane) → first_refusal (refuse_if b Closed) (refuse_if (is_none o) (no_half c)) ≡ None → o ≡ Some (or_new o 0)
 received_by true c o h = absurd (search (rules, h))
 received_by false c None h = absurd (search (rules, h))
 received_by false c (Some l) h = refl
 
-pub receiver_there : (e : End) (n : ℕ) → no_receiver e n ≡ None → recv_lane e n ≡ Some (or_new (recv_lane e n) 0)
-receiver_there e n is = received_by (is_some e.closed) (is_some (send_lane e n)) (recv_lane e n) is
+pub receiver_there : (e : End) (n : ℕ) → no_receiver (is_read_no_more e) e n ≡ None → recv_lane e n ≡ Some (or_new (recv_lane e n) 0)
+receiver_there e n is = received_by (is_read_no_more e) (is_some (send_lane e n)) (recv_lane e n) is
 
-pub stop_done : (e : End) (n code : ℕ) (recvs : Tables RecvLane) (new : End) → no_receiver e n ≡ None → recvs ≡ updated e.recvs n (λ l. stop l code) (recv_lane e n)
+pub stop_done : (e : End) (n code : ℕ) (recvs : Tables RecvLane) (new : End) → no_receiver (is_some e.closed) e n ≡ None → recvs ≡ updated e.recvs n (λ l. stop l code) (recv_lane e n)
     → new ≡ settle (record e { recvs = recvs }) → StopStep e n code (Ok tt) new
 stop_done e n code recvs new is after settled =
-    passed _ e new (Ok tt) _ (recv_refusal_is e n ∙ is) (refl, settled ∙ ap (λ t. settle (record e { recvs = t })) after)
+    passed _ e new (Ok tt) _ (recv_refusal_is (is_some e.closed) e n ∙ is) (refl, settled ∙ ap (λ t. settle (record e { recvs = t })) after)
 
-pub read_done : (e : End) (n size : ℕ) (answer : Read) (recvs : Tables RecvLane) (new : End) → no_receiver e n ≡ None → answer ≡ read_answer (or_new (recv_lane e n) 0) size
+pub read_done : (e : End) (n size : ℕ) (answer : Read) (recvs : Tables RecvLane) (new : End) → no_receiver (is_read_no_more e) e n ≡ None → answer ≡ read_answer (or_new (recv_lane e n) 0) size
     → recvs ≡ updated e.recvs n (λ l. after_read l size) (recv_lane e n) → new ≡ settle (record e { recvs = recvs })
     → ReadStep e n size (Ok answer) (bytes_read (or_new (recv_lane e n) 0) size) new
 read_done e n size answer recvs new is told after settled =
-    rw (recv_refusal_is e n ∙ is)
+    rw (recv_refusal_is (is_read_no_more e) e n ∙ is)
     (or_new (recv_lane e n) 0, receiver_there e n is, ap Ok told, refl, settled ∙ ap (λ t. settle (record e { recvs = t })) after)
 
 -- The same of an end that is told in two ways
@@ -119,24 +119,24 @@ pub write_err : (e now : End) (n : ℕ) (bytes : List ℕ) (fault : SendFault) �
 write_err e now n bytes fault is none told asks =
     subst (λ (k : End). WriteStep k n bytes (Err (use_fault fault)) e) is (write_refused e n bytes fault (ap (λ k. no_sender k n) is ∙ none) told asks)
 
-pub read_ok : (e now : End) (n size : ℕ) (answer : Read) (recvs : Tables RecvLane) (new : End) → e ≡ now → no_receiver now n ≡ None → answer ≡ read_answer (or_new (recv_lane e n) 0) size
+pub read_ok : (e now : End) (n size : ℕ) (answer : Read) (recvs : Tables RecvLane) (new : End) → e ≡ now → no_receiver (is_read_no_more now) now n ≡ None → answer ≡ read_answer (or_new (recv_lane e n) 0) size
     → recvs ≡ updated e.recvs n (λ l. after_read l size) (recv_lane e n) → new ≡ settle (record e { recvs = recvs })
     → ReadStep now n size (Ok answer) (bytes_read (or_new (recv_lane e n) 0) size) new
 read_ok e now n size answer recvs new is none told after settled =
     subst (λ (k : End). ReadStep k n size (Ok answer) (bytes_read (or_new (recv_lane e n) 0) size) new) is
-    (read_done e n size answer recvs new (ap (λ k. no_receiver k n) is ∙ none) told after settled)
+    (read_done e n size answer recvs new (ap (λ k. no_receiver (is_read_no_more k) k n) is ∙ none) told after settled)
 
-pub read_none : (e now : End) (n size : ℕ) (new : End) → e ≡ now → no_receiver now n ≡ None → IsToldOfEnd (recv_lane e n) → ((t : RecvTask) → HasNone t (or_new (recv_lane e n) 0)) → new ≡ settle now → ReadStep now n size (Ok Wait) [] new
+pub read_none : (e now : End) (n size : ℕ) (new : End) → e ≡ now → no_receiver (is_read_no_more now) now n ≡ None → IsToldOfEnd (recv_lane e n) → ((t : RecvTask) → HasNone t (or_new (recv_lane e n) 0)) → new ≡ settle now → ReadStep now n size (Ok Wait) [] new
 read_none e now n size new is none told quiet settled = subst (λ (k : End). ReadStep k n size (Ok Wait) [] new) is (go (recv_lane e n) refl)
   where
-    open_now : no_receiver e n ≡ None
-    open_now = ap (λ k. no_receiver k n) is ∙ none
+    open_now : no_receiver (is_read_no_more e) e n ≡ None
+    open_now = ap (λ k. no_receiver (is_read_no_more k) k n) is ∙ none
 
     go : (o : Option RecvLane) → recv_lane e n ≡ o → ReadStep e n size (Ok Wait) [] new
     go None at = absurd (none-some _ (sym at ∙ receiver_there e n open_now))
     go (Some l) at =
         let waiting = waits l size (subst IsToldOfEnd at told) (subst (λ o. (t : RecvTask) → HasNone t (or_new o 0)) at quiet) in
-        rw (recv_refusal_is e n ∙ open_now) (
+        rw (recv_refusal_is (is_read_no_more e) e n ∙ open_now) (
           l,
           at,
           ap Ok (sym waiting),
@@ -144,26 +144,26 @@ read_none e now n size new is none told quiet settled = subst (λ (k : End). Rea
           settled ∙ ap settle (sym is) ∙ ap (λ t. settle (record e { recvs = t })) (sym (updated_back e.recvs n (λ m. after_read m size) l at (ap (λ a. after_answer a l size) waiting))),
         )
 
-pub stop_ok : (e now : End) (n code : ℕ) (recvs : Tables RecvLane) (new : End) → e ≡ now → no_receiver now n ≡ None → recvs ≡ updated e.recvs n (λ l. stop l code) (recv_lane e n)
+pub stop_ok : (e now : End) (n code : ℕ) (recvs : Tables RecvLane) (new : End) → e ≡ now → no_receiver (is_some now.closed) now n ≡ None → recvs ≡ updated e.recvs n (λ l. stop l code) (recv_lane e n)
     → new ≡ settle (record e { recvs = recvs }) → StopStep now n code (Ok tt) new
 stop_ok e now n code recvs new is none after settled =
-    subst (λ (k : End). StopStep k n code (Ok tt) new) is (stop_done e n code recvs new (ap (λ k. no_receiver k n) is ∙ none) after settled)
+    subst (λ (k : End). StopStep k n code (Ok tt) new) is (stop_done e n code recvs new (ap (λ k. no_receiver (is_some k.closed) k n) is ∙ none) after settled)
 
 -- Bytes that are taken without a copy
 
-pub consume_refused : (e : End) (n most : ℕ) (fault : UseFault) → Some fault ≡ no_receiver e n → ConsumeStep e n most (Err fault) e
-consume_refused e n most fault is = rw (recv_refusal_is e n ∙ sym is) (refl, refl)
+pub consume_refused : (e : End) (n most : ℕ) (fault : UseFault) → Some fault ≡ no_receiver (is_read_no_more e) e n → ConsumeStep e n most (Err fault) e
+consume_refused e n most fault is = rw (recv_refusal_is (is_read_no_more e) e n ∙ sym is) (refl, refl)
 
-pub receiver_open : (e : End) (n : ℕ) → no_receiver e n ≡ None → is_some (lookup e.recvs n) ≡ true
+pub receiver_open : (e : End) (n : ℕ) → no_receiver (is_read_no_more e) e n ≡ None → is_some (lookup e.recvs n) ≡ true
 receiver_open e n none = ap is_some (receiver_there e n none)
 
 now_at : (e mid : End) (n most : ℕ) (l : RecvLane) → recv_lane e n ≡ Some l → mid ≡ on_recv n (λ m. after_read m most) e → lookup mid.recvs n ≡ Some (after_read l most)
 now_at e mid n most l at after = ap (λ (x : End). lookup x.recvs n) after ∙ changed e.recvs n (λ m. after_read m most) l at
 
-pub receiver_open_still : (e mid : End) (n most : ℕ) → no_receiver e n ≡ None → mid ≡ on_recv n (λ m. after_read m most) e → is_some (lookup mid.recvs n) ≡ true
+pub receiver_open_still : (e mid : End) (n most : ℕ) → no_receiver (is_read_no_more e) e n ≡ None → mid ≡ on_recv n (λ m. after_read m most) e → is_some (lookup mid.recvs n) ≡ true
 receiver_open_still e mid n most none after = ap is_some (now_at e mid n most _ (receiver_there e n none) after)
 
-pub consume_ok : (e mid last new : End) (n most : ℕ) (read next : Read) (at_end : Bool) → no_receiver e n ≡ None
+pub consume_ok : (e mid last new : End) (n most : ℕ) (read next : Read) (at_end : Bool) → no_receiver (is_read_no_more e) e n ≡ None
     → read ≡ read_answer (or_new (lookup e.recvs n) 0) most → mid ≡ on_recv n (λ m. after_read m most) e
     → next ≡ read_answer (or_new (lookup mid.recvs n) 0) 0 → last ≡ on_recv n (λ m. after_read m 0) mid
     → at_end ≡ is_end next → new ≡ settle last → ConsumeStep e n most (Ok (record { read = read; at_end = at_end })) new
@@ -171,5 +171,5 @@ consume_ok e mid last new n most read next at_end none first after second then_a
     let l = or_new (recv_lane e n) 0 in
     let at = receiver_there e n none in
     let told : at_end ≡ is_end (read_answer (after_read l most) 0) = ends ∙ ap is_end (second ∙ ap (λ o. read_answer (or_new o 0) 0) (now_at e mid n most l at after)) in
-    passed _ e new _ _ (recv_refusal_is e n ∙ none)
+    passed _ e new _ _ (recv_refusal_is (is_read_no_more e) e n ∙ none)
     (l, at, (λ i. Ok (record { read = first i; at_end = told i })), settled ∙ ap settle (then_after ∙ ap (on_recv n (λ m. after_read m 0)) after))

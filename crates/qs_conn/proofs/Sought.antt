@@ -9,6 +9,7 @@ use Rattle.qs_send.specs.Writable.{is_writable}
 use Rattle.qs_machine.specs.Credit.{send_ended}
 use Rattle.qs_machine.specs.Tables.{Tables, lookup}
 use Rattle.qs_machine.specs.Ends.{End}
+use Rattle.qs_machine.specs.Owner.{is_read_no_more}
 use Rattle.qs_machine.specs.News.{IsLeast, IsHeld, HasForPacket, IsReadable, IsSendable, IsWritable}
 use Rattle.qs_machine.specs.Outgoing.{Outgoing, IsTied, lanes_of, with_outgoing}
 use Rattle.qs_machine.proofs.LaneTables.{lookup_lanes, lane_there}
@@ -69,10 +70,15 @@ due_least v o t from r same lanes tied lawful h e = subst (λ x. IsLeast (IsDueO
 pub lawful_found : (t : Tables Sending) (m : ℕ) (x : Sending) → lookup t m ≡ Some x → IsLawful x → (n : ℕ) (s : Sending) → Some m ≡ Some n → lookup t n ≡ Some s → IsLawful s
 lawful_found t m x there law n s is at = subst IsLawful (same_Some x s (sym there ∙ ap (lookup t) (same_Some m n is) ∙ at)) law
 
--- Answers of an end that isn't closed
+-- Answers of an end that may still be read
 
-pub readable_least : (v old : End) (b : Bool) (at from : ℕ) (r : Option ℕ) → v ≡ old → b ≡ is_some v.closed → b ≡ false → at ≡ from → IsLeast (IsHeld (HasOne recv_tasks.Readable) v.recvs) at r → IsLeast (IsReadable old) from r
-readable_least v old b at from r same is none begin h = rw (← same, ← begin) (least_given (v.closed ≡ None) (IsHeld (HasOne recv_tasks.Readable) v.recvs) at r (none_is v.closed (sym is ∙ none)) h)
+pub readable_least : (v old : End) (b : Bool) (at from : ℕ) (r : Option ℕ) → v ≡ old → b ≡ is_read_no_more old → b ≡ false → at ≡ from → IsLeast (IsHeld (HasOne recv_tasks.Readable) v.recvs) at r → IsLeast (IsReadable old) from r
+readable_least v old b at from r same is none begin h =
+    rw (← begin)
+    (least_given (is_read_no_more old ≡ false) (IsHeld (HasOne recv_tasks.Readable) old.recvs) at r (sym is ∙ none)
+    (subst (λ (x : End). IsLeast (IsHeld (HasOne recv_tasks.Readable) x.recvs) at r) same h))
+
+-- Answers of an end that isn't closed
 
 pub sendable_least : (v old : End) (o : Outgoing) (b : Bool) (at from : ℕ) (r : Option ℕ) → v ≡ old → with_outgoing o v ≡ v → b ≡ is_some v.closed → b ≡ false → at ≡ from → ((e : End) → IsLeast (IsDueOf (with_outgoing o e)) at r) → IsLeast (IsSendable old) from r
 sendable_least v old o b at from r same out is none begin h =

@@ -1,11 +1,13 @@
 -- Limits and counts that nothing has moved since they were looked at.
-use Rattle.std.proofs.Common.{◌≡◌, ℕ, ◌+◌, Bool, true, refl, sym, ap, ◌∙◌, subst, min, ◌&&◌}
+use Rattle.std.proofs.Common.{◌≡◌, ℕ, Bool, true, refl, sym, ap, ◌∙◌, subst, ◌&&◌}
 use Rattle.std.proofs.lemmas.Bool.{and_parts}
+use Rattle.qs_wire.specs.declared.stream_id.Dir.TheVariants.{Bidi, Uni}
 use Rattle.qs_recv.specs.Lane.{RecvLane, taken, raise, next_limit}
 use Rattle.qs_calls.specs.declared.settings.Settings.{Settings}
+use Rattle.qs_calls.specs.declared.settings.Tuning.{Tuning}
 use Rattle.qs_machine.specs.Tables.{Tables, each, total}
 use Rattle.qs_machine.specs.Ends.{End}
-use Rattle.qs_machine.specs.Credit.{settle}
+use Rattle.qs_machine.specs.Credit.{count_after, settle}
 use Rattle.qs_machine.proofs.TableLaws.{total_each}
 use Rattle.qs_machine.proofs.ProcessedAgain.{next_twice}
 use Rattle.qs_conn.specs.declared.by_dir.ByDir.{ByDir}
@@ -24,9 +26,9 @@ raised_again t = λ i. record {
   server_uni = raised_once t.server_uni i;
 }
 
-pub next_now : (s : Settings) (recvs now : Tables RecvLane) (e : ByDir ℕ) (granted g b u : ℕ) → now ≡ each raise recvs → g ≡ next_limit granted (total taken recvs) s.conn_window → b ≡ min s.lifetime_bidi (s.grant_bidi + e.bidi) → u ≡ min s.lifetime_uni (s.grant_uni + e.uni)
-    → AreNext s now e g b u
-next_now s recvs now e granted g b u raised limit bidi uni =
+pub next_now : (s : Settings) (t : Tuning) (recvs now : Tables RecvLane) (e : ByDir ℕ) (granted g b u : ℕ) → now ≡ each raise recvs → g ≡ next_limit granted (total taken recvs) s.conn_window → b ≡ count_after s t Bidi e.bidi → u ≡ count_after s t Uni e.uni
+    → AreNext s t now e g b u
+next_now s t recvs now e granted g b u raised limit bidi uni =
     record {
       streams = ap (each raise) raised ∙ raised_again recvs ∙ sym raised;
       connection =
@@ -39,14 +41,14 @@ next_now s recvs now e granted g b u raised limit bidi uni =
     }
 
 -- nothing is left to settle
-pub settled_already : (v : End) (e : ByDir ℕ) → AreAllCounted v.role v.recvs v.sends e → AreNext v.settings v.recvs e v.granted v.granted_bidi v.granted_uni → v ≡ settle v
+pub settled_already : (v : End) (e : ByDir ℕ) → AreAllCounted v.role v.recvs v.sends e → AreNext v.settings v.tuning v.recvs e v.granted v.granted_bidi v.granted_uni → v ≡ settle v
 settled_already v e counted next =
-    let bidi : (settle v).granted_bidi ≡ v.granted_bidi = ap (λ k. min v.settings.lifetime_bidi (v.settings.grant_bidi + k)) (sym counted.bidi) ∙ next.bidi in
-    let uni : (settle v).granted_uni ≡ v.granted_uni = ap (λ k. min v.settings.lifetime_uni (v.settings.grant_uni + k)) (sym counted.uni) ∙ next.uni in
+    let bidi : (settle v).granted_bidi ≡ v.granted_bidi = ap (count_after v.settings v.tuning Bidi) (sym counted.bidi) ∙ next.bidi in
+    let uni : (settle v).granted_uni ≡ v.granted_uni = ap (count_after v.settings v.tuning Uni) (sym counted.uni) ∙ next.uni in
     sym (λ i. record v { recvs = next.streams i; granted = next.connection i; granted_bidi = bidi i; granted_uni = uni i })
 
-module _ (s : Settings) (recvs : Tables RecvLane) (e : ByDir ℕ) (g b u : ℕ) where
-  pub next_recounted : (is same : Bool) (now : ByDir ℕ) → AreNextWhere is s recvs e g b u → (same ≡ true → now ≡ e) → AreNextWhere (is && same) s recvs now g b u
+module _ (s : Settings) (t : Tuning) (recvs : Tables RecvLane) (e : ByDir ℕ) (g b u : ℕ) where
+  pub next_recounted : (is same : Bool) (now : ByDir ℕ) → AreNextWhere is s t recvs e g b u → (same ≡ true → now ≡ e) → AreNextWhere (is && same) s t recvs now g b u
   next_recounted is same now next told on =
       let parts = and_parts is same on in
-      subst (λ (k : ByDir ℕ). AreNext s recvs k g b u) (sym (told parts.1)) (next parts.0)
+      subst (λ (k : ByDir ℕ). AreNext s t recvs k g b u) (sym (told parts.1)) (next parts.0)

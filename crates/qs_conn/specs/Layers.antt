@@ -1,6 +1,6 @@
 -- Of private contracts.
 -- What the private layers of an endpoint keep beside their values.
-use Rattle.std.specs.Prelude.{◌≡◌, ℕ, zero, suc, ◌≤◌, ◌<◌, ◌^◌, ◌==◌, if◌then◌else◌, List, [], ◌∷◌, length, Option, None, Some, is_some, is_none, ⊤}
+use Rattle.std.specs.Prelude.{◌≡◌, ℕ, zero, suc, ◌≤◌, ◌<◌, ◌^◌, ◌==◌, Bool, if◌then◌else◌, List, [], ◌∷◌, length, Option, None, Some, is_some, is_none, ⊤}
 use Rattle.qs_recv.specs.Lane.{RecvLane, is_whole, raised_limit}
 use Rattle.qs_machine.specs.declared.tally.Tally.{Tally}
 use Rattle.qs_conn.specs.declared.touches.Touches.{Touches}
@@ -41,9 +41,9 @@ pub record AreCounted (lanes : List RecvLane) (tally : Tally) (touched : Touches
 abbrev pub no_sender : End → ℕ → Option UseFault
 no_sender e n = first_refusal (refuse_if (is_some e.closed) uses.Closed) (refuse_if (is_none (send_lane e n)) (no_half (is_some (recv_lane e n))))
 
--- why a stream can't be read
-abbrev pub no_receiver : End → ℕ → Option UseFault
-no_receiver e n = first_refusal (refuse_if (is_some e.closed) uses.Closed) (refuse_if (is_none (recv_lane e n)) (no_half (is_some (send_lane e n))))
+-- why a stream can't be read or stopped: the end is shut for it, or there is no such half
+abbrev pub no_receiver : Bool → End → ℕ → Option UseFault
+no_receiver is_shut e n = first_refusal (refuse_if is_shut uses.Closed) (refuse_if (is_none (recv_lane e n)) (no_half (is_some (send_lane e n))))
 
 -- the numbers of this end's own closing have a spelling (RFC 9000, section 16)
 abbrev pub ClosingFits : Option Closed → Type 0

@@ -44,7 +44,7 @@ pub record IsKept (c : Core) (peer : PeerLimits) (done : NumberSet) (is_settled 
   pub closing_fits : ClosingFits closed
   pub few : set.len (run_starts done) ≤ 32
   pub acks : ack_due ≡ true → 0 < set.len (run_starts done)
-  pub settled : AreNextWhere is_settled c.limits.settings c.recvs c.ended c.limits.granted c.limits.granted_streams.bidi c.limits.granted_streams.uni
+  pub settled : AreNextWhere is_settled c.limits.settings c.limits.tuning c.recvs c.ended c.limits.granted c.limits.granted_streams.bidi c.limits.granted_streams.uni
 
 -- A packet in the making
 

@@ -4,7 +4,7 @@ ghost use Rattle.qs_ranges.specs.Numbers.{MAX_VARINT};
 ghost use Rattle.qs_recv.specs.Lane.{MAX_WINDOW, next_limit};
 ghost use Rattle.qs_calls.specs.Settings.{wide_setup_fault};
 ghost use Rattle.qs_machine.specs.Ends.{end_made, wide_end_made, new_end, role_bit, is_uni, is_own, window, first_send_limit};
-ghost use Rattle.qs_machine.specs.Credit.{spent, all_stored, granted_streams, settle};
+ghost use Rattle.qs_machine.specs.Credit.{spent, all_stored, granted_streams, parts, count_step, in_steps, settle};
 ghost use Rattle.qs_machine.specs.Making.{ClosePayload, ClosePayloadBy, close_text_of};
 ghost use Rattle.qs_conn.specs.Layers.{ClosingFits};
 ghost use Rattle.qs_conn.specs.Held.{IsHeldBy};
@@ -19,7 +19,7 @@ use crate::places::type_of;
 use crate::recv_tables::RecvTables;
 use crate::setup::{setup_fault, wide_setup_fault};
 use crate::untold::Untold;
-use qs_calls::{Closed, Closing, PeerLimits, Settings, SetupFault, Tuning};
+use qs_calls::{Closed, Closing, PeerLimits, Settings, SetupFault, Share, Tuning};
 use qs_ranges::RangeSet;
 use qs_recv::next_limit;
 use qs_wire::{Dir, Frame, Role, StreamId, put};
@@ -240,6 +240,7 @@ impl Endpoint {
         self.core.recvs.raise_all(&mut self.core.untold_recvs);
         let taken = self.core.recvs.tally().taken;
         let settings = &self.core.limits.settings;
+        let step = self.core.limits.tuning.count_step;
         self.core.limits.granted = next_limit(
             self.core.limits.granted,
             taken,
@@ -247,11 +248,13 @@ impl Endpoint {
         );
         self.core.limits.granted_streams = ByDir {
             bidi: next_count(
+                step,
                 settings.grant_bidi,
                 settings.lifetime_bidi,
                 self.core.ended.bidi,
             ),
             uni: next_count(
+                step,
                 settings.grant_uni,
                 settings.lifetime_uni,
                 self.core.ended.uni,
@@ -309,12 +312,44 @@ pub(crate) fn is_uni(stream: StreamId) -> bool
     type_of(stream) >= 2
 }
 
-// How many streams may be opened, where so many came to their end (RFC 9000, section 4.6).
-fn next_count(grant: u64, lifetime: u64, ended: u64) -> u64
+// How many streams may be opened, where so many came to their end: as many more of them as make whole steps (RFC 9000, section 4.6).
+fn next_count(step: Option<Share>, grant: u64, lifetime: u64, ended: u64) -> u64
     requires { grant ≤ lifetime }
-    ensures { result ≡ min lifetime (grant + ended) }
+    ensures { result ≡ min lifetime (grant + in_steps (count_step step grant) ended) }
 {
-    grant.saturating_add(ended).min(lifetime)
+    let more = match step {
+        None => ended,
+        Some(share) => in_steps(count_step(share, grant), ended),
+    };
+    grant.saturating_add(more).min(lifetime)
+}
+
+// How many streams have to end until a count moves by a share of its grant.
+fn count_step(share: Share, grant: u64) -> u64
+    ensures value { result ≡ count_step (Some share) grant }
+    ensures some { 0 < result }
+{
+    (grant / parts(share)).max(1)
+}
+
+fn parts(share: Share) -> u64
+    ensures value { result ≡ parts share }
+    ensures some { 0 < result }
+{
+    match share {
+        Share::Half => 2,
+        Share::Quarter => 4,
+        Share::Eighth => 8,
+        Share::Sixteenth => 16,
+    }
+}
+
+// As many of so many as make whole steps.
+fn in_steps(step: u64, count: u64) -> u64
+    requires { 0 < step }
+    ensures { result ≡ in_steps step count }
+{
+    count - count % step
 }
 
 fn put_close(closing: Closing, out: &mut [u8]) -> Option<usize>

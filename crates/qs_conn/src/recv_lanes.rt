@@ -2,7 +2,7 @@
 ghost use Rattle.std.specs.Prelude.{◌≡◌, ◌+◌, ◌-◌, ◌≤◌, ◌<◌, ◌^◌, ◌++◌, [], length, drop, map, min, take, slice_get, slice_index_or, option_map, ℕ, false, None, Some, IfSome, OnOk, OnErr, IsOk, IfOk, Ok};
 ghost use Rattle.std.specs.List.{sum_by};
 ghost use Rattle.qs_ranges.specs.Numbers.{MAX_VARINT};
-ghost use Rattle.qs_recv.specs.Lane.{MAX_WINDOW, RecvLane, new_lane, check_stream, check_reset, check_bytes, highest, highest_after, take_stream, take_reset, read_answer, bytes_read, after_read, raise, stop};
+ghost use Rattle.qs_recv.specs.Lane.{MAX_WINDOW, RecvLane, new_lane, check_stream, check_reset, check_bytes, highest, highest_after, taken, take_stream, take_reset, read_answer, bytes_read, after_read, raise, stop};
 ghost use Rattle.qs_recv.specs.Lawful.{IsLawful};
 ghost use Rattle.qs_recv.specs.Changes.{stream_changes};
 ghost use Rattle.qs_machine.specs.Tables.{widened};
@@ -379,6 +379,14 @@ impl RecvLanes {
             final_size: half.final_size(),
             reset_code: half.reset_code(),
         })
+    }
+
+    /// How many bytes of a lane count as taken, where it is open.
+    pub(crate) fn taken(&self, index: usize) -> Option<u64>
+        ensures { result ≡ option_map taken (slice_get self.now index) }
+    {
+        let half = self.halves.get(index)?;
+        Some(half.taken())
     }
 
     /// The limit of an open lane of which no final size is known.

@@ -293,6 +293,14 @@ impl RecvTables {
         lanes.report(index_of(stream))
     }
 
+    /// How many bytes of a stream count as taken, where it is open.
+    pub(crate) fn taken(&self, stream: StreamId) -> Option<u64>
+        ensures { result ≡ option_map taken (lookup self.now stream) }
+    {
+        let lanes = &self.types[type_of(stream)];
+        lanes.taken(index_of(stream))
+    }
+
     /// The limit of an open stream of which no final size is known.
     pub(crate) fn limit_to_tell(&self, stream: StreamId) -> Option<u64>
         ensures value { result ≡ limit_to_tell (lookup self.now stream) }

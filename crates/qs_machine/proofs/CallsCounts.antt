@@ -59,30 +59,32 @@ sound_end old call answer new h step = (sound_call old call answer new h.0 step,
 -- Before a call ends, halves that ended stay so
 
 abbrev Moves : End → End → Type 0
-Moves a b = (b.role ≡ a.role) × (b.settings ≡ a.settings) × KeptIn LaneAfter a.recvs b.recvs × KeptIn SendStays a.sends b.sends
+Moves a b = (b.role ≡ a.role) × (b.settings ≡ a.settings) × (b.tuning ≡ a.tuning) × KeptIn LaneAfter a.recvs b.recvs × KeptIn SendStays a.sends b.sends
 
 send_same : (l : SendLane) → SendStays l l
 send_same l is = is
 
 moves_same : (e : End) → Moves e e
-moves_same e = (refl, refl, kept_same LaneAfter lane_same e.recvs, kept_same SendStays send_same e.sends)
+moves_same e = (refl, refl, refl, kept_same LaneAfter lane_same e.recvs, kept_same SendStays send_same e.sends)
 
 moves_twice : (a b c : End) → Moves a b → Moves b c → Moves a c
 moves_twice a b c x y = (
   y.0 ∙ x.0,
   y.1 ∙ x.1,
-  kept_twice LaneAfter lane_same lane_twice a.recvs b.recvs c.recvs x.2 y.2,
-  kept_twice SendStays send_same (λ l m k r s is. s (r is)) a.sends b.sends c.sends x.3 y.3,
+  y.2 ∙ x.2,
+  kept_twice LaneAfter lane_same lane_twice a.recvs b.recvs c.recvs x.3 y.3,
+  kept_twice SendStays send_same (λ l m k r s is. s (r is)) a.sends b.sends c.sends x.4 y.4,
 )
 
 moves_send : (n : ℕ) (f : SendLane → SendLane) (e : End) → ((l : SendLane) → send_lane e n ≡ Some l → SendStays l (f l)) → Moves e (on_send n f e)
-moves_send n f e kept = (refl, refl, kept_same LaneAfter lane_same e.recvs, kept_updated SendStays send_same e.sends n f kept)
+moves_send n f e kept = (refl, refl, refl, kept_same LaneAfter lane_same e.recvs, kept_updated SendStays send_same e.sends n f kept)
 
 moves_recv : (n : ℕ) (f : RecvLane → RecvLane) (e : End) → IsInCredit e → ((l : RecvLane) → IsLawful l → LaneAfter l (f l)) → Moves e (on_recv n f e)
-moves_recv n f e sound kept = (refl, refl, kept_updated LaneAfter lane_same e.recvs n f (λ l is. kept l (lawful_in e n l sound is)), kept_same SendStays send_same e.sends)
+moves_recv n f e sound kept = (refl, refl, refl, kept_updated LaneAfter lane_same e.recvs n f (λ l is. kept l (lawful_in e n l sound is)), kept_same SendStays send_same e.sends)
 
 moves_opens : (n : ℕ) (e : End) → Moves e (opens n e)
 moves_opens n e = (
+  refl,
   refl,
   refl,
   cond_both (is_uni n && is_own e n) e.recvs _ (KeptIn LaneAfter e.recvs) (λ _. kept_same LaneAfter lane_same e.recvs) (λ _. kept_open LaneAfter lane_same e.recvs n (λ m. new_recv_lane (window e n))),
@@ -90,7 +92,7 @@ moves_opens n e = (
 )
 
 moves_raised : (p : PeerLimits) (e : End) → Moves e (limits_raised p e)
-moves_raised p e = (refl, refl, kept_same LaneAfter lane_same e.recvs, kept_raised SendStays send_same (λ l m k r s is. s (r is)) (λ limit l is. is) p e)
+moves_raised p e = (refl, refl, refl, kept_same LaneAfter lane_same e.recvs, kept_raised SendStays send_same (λ l m k r s is. s (r is)) (λ limit l is. is) p e)
 
 moves_put : (f : Seen) (e : End) → Moves e (frame_put f e)
 unfolding frame_put
@@ -99,7 +101,7 @@ moves_put (Control (StreamDataBlocked n m)) e = moves_send n blocked_lane e (λ 
 moves_put f e = moves_same e
 
 moves_after : (a b : End) → IsAfter a b → Moves a b
-moves_after a b after = (after.role, after.settings, after.recvs, halves_stay a.sends b.sends after.sends)
+moves_after a b after = (after.role, after.settings, after.tuning, after.recvs, halves_stay a.sends b.sends after.sends)
 
 moves_change : (old : End) (call : Call) (c : Change) (e : End) → Comes old call e c → IsInCredit e → SentWasWritten e → Moves e (changed c e)
 moves_change old call (Wanted Uni count) e comes sound sent = moves_same e
@@ -116,7 +118,7 @@ moves_change old call (Took f) e comes sound sent = moves_after e (frame_taken f
 moves_change old call (Acked count ranges) e comes sound sent =
     moves_after e (acks (take count (named e ranges)) e) (after_acks (take count (named e ranges)) e (all_take e.sends count (named e ranges) (named_written e ranges sent)))
 moves_change old call (Put f) e comes sound sent = moves_put f e
-moves_change old call Settled e comes sound sent = (refl, refl, kept_each LaneAfter lane_same e.recvs raise raise_after, kept_same SendStays send_same e.sends)
+moves_change old call Settled e comes sound sent = (refl, refl, refl, kept_each LaneAfter lane_same e.recvs raise raise_after, kept_same SendStays send_same e.sends)
 moves_change old call c e comes sound sent = moves_same e
 
 -- Every call
@@ -136,8 +138,8 @@ keeps_all old sound sent call answer new step =
       goes = λ c e comes h. (sound_change old call c e comes h.0, keeps_change old call c e comes h.1, moves_twice old e (changed c e) h.2 (moves_change old call c e comes h.0 h.1));
       stays = ((λ d. omega arith), kept_same LaneAfter lane_same old.recvs);
       settles = λ e h. (
-        counts_rise old e h.2.0 h.2.1 (lanes_stay old.recvs e.recvs h.2.2) h.2.3 sound.1,
-        kept_twice LaneAfter lane_same lane_twice old.recvs e.recvs (settle e).recvs h.2.2 (kept_each LaneAfter lane_same e.recvs raise raise_after),
+        counts_rise old e h.2.0 h.2.1 h.2.2 (lanes_stay old.recvs e.recvs h.2.3) h.2.4 sound.1,
+        kept_twice LaneAfter lane_same lane_twice old.recvs e.recvs (settle e).recvs h.2.3 (kept_each LaneAfter lane_same e.recvs raise raise_after),
       );
       loses = λ k p e is h. (rises_lost old k p e h.0, h.1);
       claims = (rises_claimed old, kept_same LaneAfter lane_same old.recvs);

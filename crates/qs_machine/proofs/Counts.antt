@@ -1,18 +1,22 @@
 -- How many streams ended: no fewer where halves that ended stay so, and as many once limits were raised.
-use Rattle.std.proofs.Common.{◌≡◌, ℕ, zero, suc, ◌+◌, ◌-◌, ◌*◌, ◌/◌, ◌%◌, ◌<◌, ◌≤◌, Bool, true, false, cond, List, [], ◌∷◌, length, map, Some, slice_get, refl, sym, ap, ◌∙◌, subst, arith}
+use Rattle.std.proofs.Common.{◌≡◌, ℕ, zero, suc, ◌+◌, ◌-◌, ◌*◌, ◌/◌, ◌%◌, ◌<◌, ◌≤◌, Bool, true, false, cond, List, [], ◌∷◌, length, map, Option, None, Some, slice_get, refl, sym, ap, ◌∙◌, subst, arith}
 use Rattle.std.specs.Prelude.{min, zip}
 use Rattle.std.specs.List.{filter}
 use Rattle.std.proofs.lemmas.Option.{none-some, same_Some}
 use Rattle.std.proofs.lemmas.Bool.{both_ways, and_parts, and_from}
+use Rattle.std.proofs.lemmas.Nat.{le-div, mod_below}
+use Rattle.std.proofs.Math.Nat.{mul-le-mul_left}
 use Rattle.qs_wire.specs.declared.stream_id.Dir.{Dir}
 use Rattle.qs_wire.specs.declared.stream_id.Dir.TheVariants.{Bidi, Uni}
 use Rattle.qs_wire.specs.declared.stream_id.Role.{Role}
 use Rattle.qs_recv.specs.Lane.{RecvLane, raise}
 use Rattle.qs_send.specs.Lane.{SendLane}
 use Rattle.qs_calls.specs.declared.settings.Settings.{Settings}
+use Rattle.qs_calls.specs.declared.settings.Tuning.{Tuning}
+use Rattle.qs_calls.specs.declared.settings.Share.{Share}
 use Rattle.qs_machine.specs.Tables.{Tables, table, lookup, each}
 use Rattle.qs_machine.specs.Ends.{End, role_bit, peer_type}
-use Rattle.qs_machine.specs.Credit.{recv_ended, send_ended, both_ended, ended, first_grant, lifetime, next_count, settle}
+use Rattle.qs_machine.specs.Credit.{recv_ended, send_ended, both_ended, ended, first_grant, lifetime, parts, count_step, in_steps, count_after, next_count, settle}
 use Rattle.qs_machine.specs.Standing.{CountsStand, CountsAreSettled, CountsRise}
 use Rattle.qs_machine.proofs.EndedHalves.{RecvStays, SendStays}
 use Rattle.qs_machine.proofs.TablesAfter.{KeptIn}
@@ -86,6 +90,38 @@ each_table f t (suc zero) = refl
 each_table f t (suc (suc zero)) = refl
 each_table f t (suc (suc (suc k))) = refl
 
+-- Whole steps
+
+-- a step is one stream at least
+pub one_step : (o : Option Share) (grant : ℕ) → 0 < count_step o grant
+one_step None grant = omega arith
+one_step (Some share) grant = omega arith
+
+-- whole steps are at most all
+pub steps_within : (k n : ℕ) → 0 < k → in_steps k n ≤ n
+steps_within k n pos = omega (arith, mod_below n k pos)
+
+-- and more of them are in more
+steps_grow : (k m n : ℕ) → 0 < k → m ≤ n → in_steps k m ≤ in_steps k n
+steps_grow k m n pos le =
+    let quotients : m / k ≤ n / k = le-div (m / k) n k pos (omega (arith, steps_within k m pos, le)) in
+    let products : k * (m / k) ≤ k * (n / k) = mul-le-mul_left k quotients in
+    omega (arith, products)
+
+-- steps of one are all
+pub steps_of_one : (n : ℕ) → in_steps 1 n ≡ n
+steps_of_one n = omega arith
+
+-- so more streams that ended make no lower count
+pub count_grows : (s : Settings) (t : Tuning) (d : Dir) (m n : ℕ) → m ≤ n → count_after s t d m ≤ count_after s t d n
+count_grows s t d m n le =
+    let k = count_step t.count_step (first_grant s d) in
+    omega (arith, steps_grow k m n (one_step t.count_step (first_grant s d)) le)
+
+-- and none that ended the first grant
+pub count_first : (s : Settings) (t : Tuning) (d : Dir) (n : ℕ) → n ≡ 0 → first_grant s d ≤ lifetime s d → count_after s t d n ≡ first_grant s d
+count_first s t d n none le = omega (arith, none, le, steps_within (count_step t.count_step (first_grant s d)) n (one_step t.count_step (first_grant s d)))
+
 -- Ends
 
 pub bidi_few : (r : Role) → 1 - role_bit r < 4
@@ -105,9 +141,10 @@ ended_grows a b role recvs sends Uni =
     (recvs_grow (table a.recvs (peer_type a Uni)) (table b.recvs (peer_type a Uni)) (kept_table RecvStays a.recvs b.recvs (peer_type a Uni) (uni_few a.role) recvs))
 
 -- and so the next count is no lower
-pub next_grows : (a b : End) → b.role ≡ a.role → b.settings ≡ a.settings → KeptIn RecvStays a.recvs b.recvs → KeptIn SendStays a.sends b.sends → (d : Dir) → next_count a d ≤ next_count b d
-next_grows a b role settings recvs sends d =
-    subst (λ (s : Settings). next_count a d ≤ min (lifetime s d) (first_grant s d + ended b d)) (sym settings) (omega (arith, ended_grows a b role recvs sends d))
+pub next_grows : (a b : End) → b.role ≡ a.role → b.settings ≡ a.settings → b.tuning ≡ a.tuning → KeptIn RecvStays a.recvs b.recvs → KeptIn SendStays a.sends b.sends → (d : Dir) → next_count a d ≤ next_count b d
+next_grows a b role settings tuning recvs sends d =
+    subst (λ (s : Settings). next_count a d ≤ count_after s b.tuning d (ended b d)) (sym settings)
+    (subst (λ (t : Tuning). next_count a d ≤ count_after a.settings t d (ended b d)) (sym tuning) (count_grows a.settings a.tuning d (ended a d) (ended b d) (ended_grows a b role recvs sends d)))
 
 -- Limits that rise end no stream.
 pub ended_settle : (e : End) (d : Dir) → ended (settle e) d ≡ ended e d
@@ -115,7 +152,7 @@ ended_settle e Bidi = ap (λ xs. length (filter both_ended (zip xs (table e.send
 ended_settle e Uni = ap (λ xs. length (filter recv_ended xs)) (each_table raise e.recvs (peer_type e Uni)) ∙ recvs_raised (table e.recvs (peer_type e Uni))
 
 pub next_settle : (e : End) (d : Dir) → next_count (settle e) d ≡ next_count e d
-next_settle e d = ap (λ k. min (lifetime e.settings d) (first_grant e.settings d + k)) (ended_settle e d)
+next_settle e d = ap (count_after e.settings e.tuning d) (ended_settle e d)
 
 pub counts_settle : (e : End) → CountsAreSettled (settle e)
 counts_settle e Bidi = sym (next_settle e Bidi)
@@ -128,6 +165,6 @@ pub counts_stand : (e : End) → CountsStand (settle e)
 counts_stand e = settled_stand (settle e) (counts_settle e)
 
 -- where counts stood and halves that ended stay so, no count falls as the call ends
-pub counts_rise : (a b : End) → b.role ≡ a.role → b.settings ≡ a.settings → KeptIn RecvStays a.recvs b.recvs → KeptIn SendStays a.sends b.sends → CountsStand a → CountsRise a (settle b)
-counts_rise a b role settings recvs sends h Bidi = omega (arith, h.0, next_grows a b role settings recvs sends Bidi)
-counts_rise a b role settings recvs sends h Uni = omega (arith, h.1, next_grows a b role settings recvs sends Uni)
+pub counts_rise : (a b : End) → b.role ≡ a.role → b.settings ≡ a.settings → b.tuning ≡ a.tuning → KeptIn RecvStays a.recvs b.recvs → KeptIn SendStays a.sends b.sends → CountsStand a → CountsRise a (settle b)
+counts_rise a b role settings tuning recvs sends h Bidi = omega (arith, h.0, next_grows a b role settings tuning recvs sends Bidi)
+counts_rise a b role settings tuning recvs sends h Uni = omega (arith, h.1, next_grows a b role settings tuning recvs sends Uni)

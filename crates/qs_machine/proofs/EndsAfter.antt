@@ -99,6 +99,7 @@ IsBare (Some (p ∷ ps)) = ⊥
 pub record IsAfter (a b : End) : Type 0 where
   pub role : b.role ≡ a.role
   pub settings : b.settings ≡ a.settings
+  pub tuning : b.tuning ≡ a.tuning
   pub next : a.next ≤ b.next
   pub credit : a.known_data ≤ b.known_data
   pub bidi : a.known_bidi ≤ b.known_bidi
@@ -124,8 +125,8 @@ lanes_stay t u kept n l is = let (m, there, r) = kept n l is in (m, there, r.end
 pub halves_stay : (t u : Tables SendLane) → KeptIn HalfAfter t u → KeptIn SendStays t u
 halves_stay t u kept n l is = let (m, there, r) = kept n l is in (m, there, r.ended)
 
-next_after : (a b : End) → b.role ≡ a.role → b.settings ≡ a.settings → KeptIn LaneAfter a.recvs b.recvs → KeptIn HalfAfter a.sends b.sends → (d : Dir) → next_count a d ≤ next_count b d
-next_after a b role settings rr ss d = next_grows a b role settings (lanes_stay a.recvs b.recvs rr) (halves_stay a.sends b.sends ss) d
+next_after : (a b : End) → b.role ≡ a.role → b.settings ≡ a.settings → b.tuning ≡ a.tuning → KeptIn LaneAfter a.recvs b.recvs → KeptIn HalfAfter a.sends b.sends → (d : Dir) → next_count a d ≤ next_count b d
+next_after a b role settings tuning rr ss d = next_grows a b role settings tuning (lanes_stay a.recvs b.recvs rr) (halves_stay a.sends b.sends ss) d
 
 -- an end whose tables and known limits moved
 after_parts : (e : End) (s : Tables SendLane) (r : Tables RecvLane) (g d b u : ℕ) → KeptIn HalfAfter e.sends s → KeptIn LaneAfter e.recvs r → e.known_data ≤ d → e.known_bidi ≤ b → e.known_uni ≤ u
@@ -135,13 +136,14 @@ after_parts e s r g d b u ss rr dd bb uu =
     record {
       role = refl;
       settings = refl;
+      tuning = refl;
       next = omega arith;
       credit = dd;
       bidi = bb;
       uni = uu;
       bidi_granted = omega arith;
       uni_granted = omega arith;
-      counts = λ h. (omega (arith, h.0, next_after e new refl refl rr ss Bidi), omega (arith, h.1, next_after e new refl refl rr ss Uni));
+      counts = λ h. (omega (arith, h.0, next_after e new refl refl refl rr ss Bidi), omega (arith, h.1, next_after e new refl refl refl rr ss Uni));
       recvs = rr;
       sends = ss;
       bare = λ late k is. is;
@@ -162,6 +164,7 @@ after_twice a b c x y =
     record {
       role = y.role ∙ x.role;
       settings = y.settings ∙ x.settings;
+      tuning = y.tuning ∙ x.tuning;
       next = omega (arith, x.next, y.next);
       credit = omega (arith, x.credit, y.credit);
       bidi = omega (arith, x.bidi, y.bidi);
@@ -177,10 +180,10 @@ after_twice a b c x y =
 
 -- what neither moves the tables nor the records nor the known limits
 pub after_closes : (c : Closed) (e : End) → IsAfter e (closes c e)
-after_closes c e = record { role = refl; settings = refl; next = omega arith; credit = omega arith; bidi = omega arith; uni = omega arith; bidi_granted = omega arith; uni_granted = omega arith; counts = λ h. h; recvs = recvs_same e.recvs; sends = sends_same e.sends; bare = λ late k is. is; carried = λ late p is. is }
+after_closes c e = record { role = refl; settings = refl; tuning = refl; next = omega arith; credit = omega arith; bidi = omega arith; uni = omega arith; bidi_granted = omega arith; uni_granted = omega arith; counts = λ h. h; recvs = recvs_same e.recvs; sends = sends_same e.sends; bare = λ late k is. is; carried = λ late p is. is }
 
 pub after_recorded : (k : ℕ) (asks : Bool) (e : End) → IsAfter e (recorded k asks e)
-after_recorded k asks e = record { role = refl; settings = refl; next = omega arith; credit = omega arith; bidi = omega arith; uni = omega arith; bidi_granted = omega arith; uni_granted = omega arith; counts = λ h. h; recvs = recvs_same e.recvs; sends = sends_same e.sends; bare = λ late k is. is; carried = λ late p is. is }
+after_recorded k asks e = record { role = refl; settings = refl; tuning = refl; next = omega arith; credit = omega arith; bidi = omega arith; uni = omega arith; bidi_granted = omega arith; uni_granted = omega arith; counts = λ h. h; recvs = recvs_same e.recvs; sends = sends_same e.sends; bare = λ late k is. is; carried = λ late p is. is }
 
 -- Openings, and changes of a half
 
@@ -205,6 +208,7 @@ after_settle e h =
     record {
       role = refl;
       settings = refl;
+      tuning = refl;
       next = omega arith;
       credit = omega arith;
       bidi = omega arith;
@@ -252,6 +256,7 @@ after_without late k e =
     record {
       role = refl;
       settings = refl;
+      tuning = refl;
       next = omega arith;
       credit = omega arith;
       bidi = omega arith;
@@ -266,7 +271,7 @@ after_without late k e =
     }
 
 after_acked_items : (e : End) (a : AckedItems) → IsAfter e (record e { acked = a })
-after_acked_items e a = record { role = refl; settings = refl; next = omega arith; credit = omega arith; bidi = omega arith; uni = omega arith; bidi_granted = omega arith; uni_granted = omega arith; counts = λ h. h; recvs = recvs_same e.recvs; sends = sends_same e.sends; bare = λ late k is. is; carried = λ late p is. is }
+after_acked_items e a = record { role = refl; settings = refl; tuning = refl; next = omega arith; credit = omega arith; bidi = omega arith; uni = omega arith; bidi_granted = omega arith; uni_granted = omega arith; counts = λ h. h; recvs = recvs_same e.recvs; sends = sends_same e.sends; bare = λ late k is. is; carried = λ late p is. is }
 
 after_item_acked : (i : Item) (e : End) → IsAfter e (item_acked i e)
 after_item_acked (ResetStream n code size) e = after_send n reset_acked_lane e (λ l is. half_reset_acked l)

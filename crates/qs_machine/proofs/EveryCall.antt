@@ -45,7 +45,7 @@ use Rattle.qs_machine.specs.Verdicts.{verdict, fault_if, PROTOCOL_VIOLATION}
 use Rattle.qs_machine.specs.FrameStep.{frame_taken, acks, named}
 use Rattle.qs_machine.specs.Recording.{recorded}
 use Rattle.qs_machine.specs.Lawful.{MayPut, Fills, frame_put}
-use Rattle.qs_machine.specs.Owner.{OpenStep, AcceptStep, AcceptOfStep, ReadBy, ConsumeStep, with_wanted, Certain, first_refusal, refuse_if, no_half, half_refusal, send_refusal, recv_refusal, IsBlocked, IsOpened, GivesNone, GivesBidi, GivesUni, AcceptOpen, AcceptOpenOf, peer_type, next_stream}
+use Rattle.qs_machine.specs.Owner.{OpenStep, AcceptStep, AcceptOfStep, ReadBy, ConsumeStep, with_wanted, Certain, first_refusal, refuse_if, no_half, half_refusal, send_refusal, recv_refusal, is_read_no_more, IsBlocked, IsOpened, GivesNone, GivesBidi, GivesUni, AcceptOpen, AcceptOpenOf, peer_type, next_stream}
 use Rattle.qs_machine.specs.Receiving.{ClosedReceive, AtEnd, RunsOut, Stops, GoesOn, Takes, ReceiveBy, TakesPayload, OpenReceive}
 use Rattle.qs_machine.specs.Making.{MakeAt, MakeAckAt, make_refusal, claim_refusal, LoseStep, lose_refusal, first_lost, losses}
 use Rattle.qs_machine.specs.Filling.{FillAt}
@@ -356,7 +356,7 @@ module _ (old : End) (call : Call) (Q P : End → Type 0) (c : Cases old call Q 
 
   consume_by : (n most : ℕ) (answer : Answer (Consume n most)) (new : End) → ConsumeStep old n most answer new → P new
   consume_by n most answer new step =
-      by_refusal (P new) (recv_refusal old n) old answer new _ step (same new)
+      by_refusal (P new) (recv_refusal (is_read_no_more old) old n) old answer new _ step (same new)
       (λ (l, is, told, after). settled _ new after (c.goes (WasRead n 0) (changed (WasRead n most) old) tt (c.goes (WasRead n most) old tt c.begins)))
 
 -- Every call
@@ -368,8 +368,8 @@ each_call old (AcceptOf d) Q P c answer new step = accept_of_by old (AcceptOf d)
 each_call old (Write n bytes) Q P c answer new step = write_by old (Write n bytes) Q P c n bytes answer new step
 each_call old (Finish n) Q P c answer new step = use_by old (Finish n) Q P c _ (send_refusal old n refusal) (Finished n) answer new tt step
 each_call old (Reset n code) Q P c answer new step = use_by old (Reset n code) Q P c _ (send_refusal old n reset_refusal) (WasReset n code) answer new tt step
-each_call old (Stop n code) Q P c answer new step = use_by old (Stop n code) Q P c _ (recv_refusal old n) (Stopped n code) answer new tt step
-each_call old (ReadUpTo n size) Q P c answer new step = read_by old (ReadUpTo n size) Q P c (recv_refusal old n) n size answer.0 answer.1 new step
+each_call old (Stop n code) Q P c answer new step = use_by old (Stop n code) Q P c _ (recv_refusal (is_some old.closed) old n) (Stopped n code) answer new tt step
+each_call old (ReadUpTo n size) Q P c answer new step = read_by old (ReadUpTo n size) Q P c (recv_refusal (is_read_no_more old) old n) n size answer.0 answer.1 new step
 each_call old (Consume n most) Q P c answer new step = consume_by old (Consume n most) Q P c n most answer new step
 each_call old (Receive k payload) Q P c answer new step = receive_by old (Receive k payload) Q P c tt old.closed k payload answer new step
 each_call old (TakeFrame f) Q P c answer new step = take_by old (TakeFrame f) Q P c tt old.closed f answer new step

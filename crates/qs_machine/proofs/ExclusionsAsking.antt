@@ -13,7 +13,7 @@ use Rattle.qs_recv.specs.Lane.{RecvLane, noted}
 use Rattle.qs_machine.specs.Tables.{lookup, total}
 use Rattle.qs_machine.specs.Asking.{all_noted}
 use Rattle.qs_machine.specs.SmallEnds.{server_with}
-use Rattle.qs_machine.specs.ExclusionsAsking.{CreditIsSent, RoomIsTaken, UnsentIsNew, AckedInARow, RunsAreNoted, NotAsked}
+use Rattle.qs_machine.specs.ExclusionsAsking.{CreditIsSent, RoomIsTaken, UnsentIsNew, AckedInARow, RunsAreNoted, BytesAreTaken, NotAsked}
 
 credit : CreditIsSent
 unfolding total
@@ -70,5 +70,9 @@ of_one l n is = omega (arith, is)
 runs : RunsAreNoted
 runs = record { none = of_one _ _ no_run; row = of_one _ _ one_run; gap = of_one _ _ two_runs; after_stop = of_one _ _ two_runs; after_reset = of_one _ _ refl; told = of_one _ _ refl }
 
+bytes : BytesAreTaken
+unfolding lookup total
+bytes = record { read = refl; waiting = refl; after_reset = refl; sum = refl; unopened = refl }
+
 pub not_asked : NotAsked
-not_asked = record { runs = runs; credit = credit; taken = taken; new = new; acked = acked }
+not_asked = record { bytes = bytes; runs = runs; credit = credit; taken = taken; new = new; acked = acked }

@@ -31,6 +31,10 @@ only_is : {X : Type 0} (P : X → Type 0) (x : X) → IsHeld P (only x) 0 → P 
 unfolding lookup
 only_is P x (y, at, p) = subst P (sym (same_Some x y at)) p
 
+held_by : {X : Type 0} (P : X → Type 0) (x : X) → P x → IsHeld P (only x) 0
+unfolding lookup
+held_by P x p = (x, refl, p)
+
 no_other : {X : Type 0} (P : X → Type 0) (x : X) → IsHeld P (only x) 4 → ⊥
 unfolding lookup
 no_other P x (y, at, p) = none-some y at
@@ -44,7 +48,8 @@ readable =
       nothing_came = λ h. both_ways (is_readable fresh) (ap tells_something waits) (only_is (λ l. is_readable l ≡ true) fresh h.1);
       told = λ h. false≢true (only_is (λ l. is_readable l ≡ true) (record all_came { told = true }) h.1);
       stopped = λ h. false≢true (only_is (λ l. is_readable l ≡ true) (stop three_came 7) h.1);
-      closed = λ h. none-some _ (sym h.0);
+      closed = λ h. true≢false h.0;
+      read_on = λ h. (let (m, found, le) = h.least 0 (omega arith) (refl, held_by (λ l. is_readable l ≡ true) (record fresh { final_size = Some 0; reset_code = Some 7 }) refl) in none-some m found);
       unopened = λ h. no_other (λ l. is_readable l ≡ true) all_came h.1;
     }
 

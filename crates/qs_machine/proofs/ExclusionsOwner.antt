@@ -185,6 +185,9 @@ readings =
       no_end = λ bytes new (l, at, told, given, after). false≢true (ap is_waiting (told ∙ ap (λ (k : RecvLane). Ok (read_answer k 10)) (sym (same_Some _ l at)) ∙ ap Ok waits));
       unopened = λ bytes new h. ok_is_no_err _ _ h.0;
       closed = λ bytes new h. ok_is_no_err _ _ h.0;
+      read_on = λ bytes new (l, at, told, given, after). ok_is_no_err _ _ (sym told);
+      consumed_on = λ new (l, at, told, after). ok_is_no_err _ _ (sym told);
+      none_came_on = λ n bytes new (l, at, told, given, after). false≢true (ap is_waiting (told ∙ ap (λ (k : RecvLane). Ok (read_answer k 10)) (sym (same_Some _ l at)) ∙ ap Ok waits));
       after_reset = λ bytes new (l, at, told, given, after). true≢false (ap is_waiting (told ∙ ap (λ (k : RecvLane). Ok (read_answer k 10)) (sym (same_Some _ l at))));
       after_stop = λ n bytes new (l, at, told, given, after). false≢true (ap is_waiting (told ∙ ap (λ (k : RecvLane). Ok (read_answer k 10)) (sym (same_Some _ l at))));
       consumed_none = λ n at_end new (l, at, told, after). false≢true (ap is_waiting (ap read_of told ∙ ap (λ (k : RecvLane). Ok (read_answer k 10)) (sym (same_Some _ l at)) ∙ ap Ok waits));
@@ -193,12 +196,14 @@ readings =
       consumed_untold = λ answer new (l, at, told, after) m is untold. true≢false (sym (ap (λ (x : End). told_at (recv_lane x 0)) after) ∙ ap told_at is ∙ untold);
       consumed_unopened = λ answer new h. ok_is_no_err _ _ h.0;
       second_stop = λ new h l at code. (let e : 7 ≡ 8 = same_Some 7 8 (ap (λ (k : RecvLane). k.stop_code) (same_Some _ l (ap (λ (x : End). recv_lane x 0) (sym h.1) ∙ at)) ∙ code) in omega arith);
+      consumed_closed = λ answer new h. ok_is_no_err _ _ h.0;
       stop_closed = λ new h. ok_is_no_err _ _ h.0;
+      stop_on = λ new h. ok_is_no_err _ _ h.0;
     }
 
 settling : LimitsSettle
 unfolding frame_taken lookup update open_to each total
-settling = record { by_one = refl; of_direction = refl; stream = refl; ended = refl; connection = refl }
+settling = record { by_one = refl; of_direction = refl; whole_step = refl; by_two = refl; to_lifetime = refl; one_at_least = refl; stream = refl; ended = refl; connection = refl }
 
 risings : LimitsOnlyRise
 risings = record { lower = refl; open_too = refl; of_type = refl; closed = λ new h. ok_is_no_err _ _ h.0; uncountable = λ new h. ok_is_no_err _ _ h.0 }

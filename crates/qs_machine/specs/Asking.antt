@@ -1,15 +1,15 @@
 -- Of public contracts.
 -- What an end's owner, and the layer beneath, may ask of an end as it is; nothing changes by it.
-use Rattle.std.specs.Prelude.{◌≡◌, ℕ, ◌-◌, ◌≤◌, Bool, true, false, ◌&&◌, ◌||◌, ◌==◌, nat_lt, ◌⊎◌, Option, None, Some, is_some, is_none, if◌then◌else◌}
+use Rattle.std.specs.Prelude.{◌≡◌, ℕ, ◌-◌, ◌≤◌, Bool, true, false, ◌&&◌, ◌||◌, ◌==◌, nat_lt, ◌⊎◌, Option, None, Some, is_some, is_none, option_map, if◌then◌else◌}
 use Rattle.std.specs.FinMap as fmap
 use Rattle.qs_wire.specs.declared.stream_id.Dir.{Dir}
-use Rattle.qs_recv.specs.Lane.{noted}
+use Rattle.qs_recv.specs.Lane.{noted, taken as taken_on}
 use Rattle.qs_send.specs.Lane.{SendLane, refusal, accepted, free_room, unacked_from}
 use Rattle.qs_send.specs.declared.piece.Item.{Item}
 use Rattle.qs_calls.specs.declared.closing.Closed.{Closed}
 use Rattle.qs_calls.specs.declared.closing.Closed.TheVariants.{ByUs, ByPeer}
 use Rattle.qs_machine.specs.Tables.{total}
-use Rattle.qs_machine.specs.Ends.{End, Records, send_lane}
+use Rattle.qs_machine.specs.Ends.{End, Records, send_lane, recv_lane}
 use Rattle.qs_machine.specs.Credit.{all_sent, lifetime}
 use Rattle.qs_machine.specs.Due.{IsDueItem, StreamGoes, known_count}
 use Rattle.qs_machine.specs.Owner.{opened_count, own_type, peer_type}
@@ -28,6 +28,10 @@ peer_closing (Some (ByPeer code)) = Some code
 -- how many runs the offsets make that came, on all streams that a reader wasn't told the end of and that weren't reset (ours)
 abbrev pub all_noted : End → ℕ
 all_noted e = total noted e.recvs
+
+-- how many bytes of a stream count as taken, None where it has no receiving half here (RFC 9000, sections 3.5 and 4.2)
+abbrev pub taken : End → ℕ → Option ℕ
+taken e n = option_map taken_on (recv_lane e n)
 
 -- how many streams of a direction the peer may open in all time to come: the lifetime's count without those that it opened (RFC 9000,
 -- section 4.6)

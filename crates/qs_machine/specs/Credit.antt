@@ -1,6 +1,6 @@
 -- Trusted.
 -- Credit: what the peer may send and has used up, and how the limits move (RFC 9000, section 4).
-use Rattle.std.specs.Prelude.{ℕ, ◌+◌, Bool, ◌&&◌, ◌||◌, length, min, zip, is_some, is_none, if◌then◌else◌}
+use Rattle.std.specs.Prelude.{ℕ, ◌+◌, ◌*◌, ◌/◌, Bool, ◌&&◌, ◌||◌, length, min, max, zip, Option, Some, None, is_some, is_none, if◌then◌else◌}
 use Rattle.std.specs.List.{filter}
 use Rattle.std.specs.FinMap as fmap
 use Rattle.qs_wire.specs.declared.stream_id.Dir.{Dir}
@@ -8,6 +8,9 @@ use Rattle.qs_wire.specs.declared.stream_id.Dir.TheVariants.{Bidi, Uni}
 use Rattle.qs_recv.specs.Lane.{RecvLane, highest, taken, raise, next_limit, is_whole as recv_whole}
 use Rattle.qs_send.specs.Lane.{SendLane, is_whole as send_whole}
 use Rattle.qs_calls.specs.declared.settings.Settings.{Settings}
+use Rattle.qs_calls.specs.declared.settings.Tuning.{Tuning}
+use Rattle.qs_calls.specs.declared.settings.Share.{Share}
+use Rattle.qs_calls.specs.declared.settings.Share.TheVariants.{Half, Quarter, Eighth, Sixteenth}
 use Rattle.qs_machine.specs.Tables.{table, each, total}
 use Rattle.qs_machine.specs.Ends.{End, is_uni, peer_type}
 
@@ -63,9 +66,32 @@ abbrev pub ended : End → Dir → ℕ
 ended e Bidi = length (filter both_ended (zip (table e.recvs (peer_type e Bidi)) (table e.sends (peer_type e Bidi))))
 ended e Uni = length (filter recv_ended (table e.recvs (peer_type e Uni)))
 
--- the count to which a direction's grant is brought: a stream more for each one that ended, up to the lifetime's (RFC 9000, section 4.6)
+-- into how many parts a share parts a whole (ours, beside RFC 9000, section 4.6)
+abbrev pub parts : Share → ℕ
+parts Half = 2
+parts Quarter = 4
+parts Eighth = 8
+parts Sixteenth = 16
+
+-- how many streams have to end until a count moves: each one moves it, or such a share of the first grant does, one stream at least (ours,
+-- beside RFC 9000, section 4.6)
+abbrev pub count_step : Option Share → ℕ → ℕ
+count_step None grant = 1
+count_step (Some share) grant = max 1 (grant / parts share)
+
+-- as many of n as make whole steps of k (ours, beside RFC 9000, section 4.6)
+abbrev pub in_steps : ℕ → ℕ → ℕ
+in_steps k n = n / k * k
+
+-- The count to which a grant is brought where so many streams ended: the first grant and as many of these as make whole steps, up to the
+-- lifetime's. A step is no more than the first grant, so below the lifetime's count fewer streams have always ended than are granted, and no
+-- peer waits for a count that nothing moves (RFC 9000, section 4.6).
+abbrev pub count_after : Settings → Tuning → Dir → ℕ → ℕ
+count_after s t d n = min (lifetime s d) (first_grant s d + in_steps (count_step t.count_step (first_grant s d)) n)
+
+-- the count to which a direction's grant is brought, by the streams of the peer that ended (RFC 9000, section 4.6)
 abbrev pub next_count : End → Dir → ℕ
-next_count e d = min (lifetime e.settings d) (first_grant e.settings d + ended e d)
+next_count e d = count_after e.settings e.tuning d (ended e d)
 
 -- What happens as a call ends: every limit and each count of streams becomes the next one (RFC 9000, sections 4.2 and 4.6).
 abbrev pub settle : End → End

@@ -2,7 +2,8 @@
 -- What an end that is asked tells, and doesn't count (RFC 9000, sections 2.2, 4.1 and 13.3).
 use Rattle.std.specs.Prelude.{◌≡◌, None, Some, false, true}
 use Rattle.qs_ranges.specs.Numbers.{numbers}
-use Rattle.qs_machine.specs.Asking.{all_noted, credit_left, room, unsent, acked_below}
+use Rattle.qs_machine.specs.Asking.{all_noted, credit_left, room, unsent, acked_below, taken}
+use Rattle.qs_machine.specs.Credit.{all_taken}
 use Rattle.qs_recv.specs.Lane.{take_stream, take_reset, stop}
 use Rattle.qs_machine.specs.SmallEnds.{client_with, server_with, abc, fresh, three_came, all_came, wrote, sent, second_acked, finished, reset_half}
 use Rattle.qs_machine.specs.ExclusionsOwner.{over}
@@ -61,7 +62,21 @@ pub record RunsAreNoted : Type 0 where
   pub after_reset : all_noted (server_with (take_reset three_came 0 8)) ≡ 0
   pub told : all_noted (server_with (record all_came { told = true })) ≡ 0
 
+-- how many bytes count as taken (sections 3.5 and 4.2)
+pub record BytesAreTaken : Type 0 where
+  -- bytes that were read
+  pub read : taken (server_with (record three_came { arrived = record three_came.arrived { read_count = 2 } })) 0 ≡ Some 2
+  -- none that came and wait
+  pub waiting : taken (server_with three_came) 0 ≡ Some 0
+  -- all of a stream that was reset
+  pub after_reset : taken (server_with (take_reset three_came 0 8)) 0 ≡ Some 8
+  -- in all each stream counts once
+  pub sum : all_taken (server_with (take_reset three_came 0 8)) ≡ 8
+  -- and there are none of a stream that has no receiving half here
+  pub unopened : taken (server_with three_came) 4 ≡ None
+
 pub record NotAsked : Type 0 where
+  pub bytes : BytesAreTaken
   pub runs : RunsAreNoted
   pub credit : CreditIsSent
   pub taken : RoomIsTaken

@@ -4,7 +4,7 @@ use Rattle.std.specs.Prelude.{◌≡◌, ℕ, ◌≤◌, true, None, Some}
 use Rattle.qs_recv.specs.Lane.{stop}
 use Rattle.qs_machine.specs.News.{IsLeast, IsReadable, IsSendable, IsWritable, IsEnded}
 use Rattle.qs_machine.specs.SmallEnds.{client_with, server_with, begun, wrote, finished, reset_half, fresh, three_came, all_came}
-use Rattle.qs_machine.specs.ExclusionsOwner.{over}
+use Rattle.qs_machine.specs.ExclusionsOwner.{over, reading_on}
 
 -- a search doesn't answer so
 pub record NoSuchSearch : Type 0 where
@@ -27,6 +27,8 @@ pub record NotReadable : Type 0 where
   pub stopped : IsReadable (server_with (stop three_came 7)) 0 → ⊥
   -- of a closed end
   pub closed : IsReadable (over (server_with all_came)) 0 → ⊥
+  -- though not where its owner chose to read on: a search doesn't pass over the reset that came
+  pub read_on : IsLeast (IsReadable (reading_on (server_with (record fresh { final_size = Some 0; reset_code = Some 7 })))) 0 None → ⊥
   -- that isn't open
   pub unopened : IsReadable (server_with all_came) 4 → ⊥
 

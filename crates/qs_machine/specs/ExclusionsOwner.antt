@@ -5,11 +5,12 @@ use Rattle.qs_wire.specs.declared.stream_id.Dir.TheVariants.{Bidi, Uni}
 use Rattle.qs_recv.specs.Lane.{RecvLane, stop}
 use Rattle.qs_recv.specs.declared.half.Read.TheVariants as reads
 use Rattle.qs_calls.specs.declared.closing.Closed.TheVariants.{ByPeer}
-use Rattle.qs_calls.specs.Settings.{limits_of}
+use Rattle.qs_calls.specs.Settings.{limits_of, default_tuning}
+use Rattle.qs_calls.specs.declared.settings.Share.TheVariants.{Half}
 use Rattle.qs_calls.specs.declared.reading.Consumed.{Consumed}
 use Rattle.qs_calls.specs.declared.uses.OpenFault.TheVariants as opening
 use Rattle.qs_calls.specs.declared.uses.UseFault.{UseFault}
-use Rattle.qs_calls.specs.declared.uses.UseFault.TheVariants.{NoSuchStream, NoMemory}
+use Rattle.qs_calls.specs.declared.uses.UseFault.TheVariants.{NoSuchStream, NoMemory, Closed}
 use Rattle.qs_machine.specs.Ends.{End, send_lane, recv_lane}
 use Rattle.qs_machine.specs.Credit.{settle}
 use Rattle.qs_machine.specs.Owner.{OpenStep, AcceptStep, AcceptOfStep, WriteStep, FinishStep, ResetStep, StopStep, ReadStep, ConsumeStep}
@@ -24,6 +25,10 @@ shut_out = client_of (record standard { grant_bidi = 0 })
 -- an end that saw its peer close
 abbrev pub over : End → End
 over e = record e { closed = Some (ByPeer 0) }
+
+-- the same, and its owner chose to read on
+abbrev pub reading_on : End → End
+reading_on e = record (over e) { tuning = record default_tuning { reads_when_closed = true } }
 
 -- `open` doesn't answer so (sections 2.1 and 4.6)
 pub record NoSuchOpening : Type 0 where
@@ -123,6 +128,11 @@ pub record NoSuchReading : Type 0 where
   pub unopened : (bytes : List ℕ) (new : End) → ReadStep (server_with fresh) 4 10 (Ok reads.Wait) bytes new → ⊥
   -- once the end closed
   pub closed : (bytes : List ℕ) (new : End) → ReadStep (over (server_with fresh)) 0 10 (Ok reads.Wait) bytes new → ⊥
+  -- as closed, where its owner chose to read on
+  pub read_on : (bytes : List ℕ) (new : End) → ReadStep (reading_on (server_with fresh)) 0 10 (Err Closed) bytes new → ⊥
+  pub consumed_on : (new : End) → ConsumeStep (reading_on (server_with fresh)) 0 10 (Err Closed) new → ⊥
+  -- with bytes that didn't come, where it did
+  pub none_came_on : (n : ℕ) (bytes : List ℕ) (new : End) → ReadStep (reading_on (server_with fresh)) 0 10 (Ok (reads.Bytes n)) bytes new → ⊥
   -- as waiting, once the peer's reset came
   pub after_reset : (bytes : List ℕ) (new : End) → ReadStep (server_with (record fresh { final_size = Some 0; reset_code = Some 7 })) 0 10 (Ok reads.Wait) bytes new → ⊥
   -- with bytes, once it stopped
@@ -139,12 +149,19 @@ pub record NoSuchReading : Type 0 where
   pub consumed_unopened : (answer : Consumed) (new : End) → ConsumeStep (server_with fresh) 4 10 (Ok answer) new → ⊥
   -- stopped with another code than the first
   pub second_stop : (new : End) → StopStep (server_with (stop fresh 7)) 0 8 (Ok tt) new → (l : RecvLane) → recv_lane new 0 ≡ Some l → l.stop_code ≡ Some 8 → ⊥
-  -- stopped, once the end closed
+  -- without a copy, once the end closed
+  pub consumed_closed : (answer : Consumed) (new : End) → ConsumeStep (over (server_with fresh)) 0 10 (Ok answer) new → ⊥
+  -- stopped, once the end closed, also where its owner reads on
   pub stop_closed : (new : End) → StopStep (over (server_with fresh)) 0 7 (Ok tt) new → ⊥
+  pub stop_on : (new : End) → StopStep (reading_on (server_with fresh)) 0 7 (Ok tt) new → ⊥
 
 -- a server that grants one stream of each type at first and four in all, once the first unidirectional one ended, as the call ends
 abbrev pub one_ended : End
 one_ended = settle (told_reset 2 (server (record standard { grant_bidi = 1; lifetime_bidi = 4; grant_uni = 1; lifetime_uni = 4 })))
+
+-- a server that grants four unidirectional streams at first and so many in all, by halves of the first grant, of which none ended yet
+abbrev pub by_halves : ℕ → End
+by_halves all = record (server (record standard { grant_uni = 4; lifetime_uni = all })) { tuning = record default_tuning { count_step = Some Half } }
 
 -- a half of which six of ten bytes of window were read
 abbrev pub six_read : RecvLane
@@ -156,6 +173,14 @@ pub record LimitsSettle : Type 0 where
   pub by_one : one_ended.granted_uni ≡ 2
   -- and of that direction alone
   pub of_direction : one_ended.granted_bidi ≡ 1
+  -- by a half of a grant of four it doesn't grow before two ended
+  pub whole_step : (settle (told_reset 2 (by_halves 8))).granted_uni ≡ 4
+  -- it grows by these two then
+  pub by_two : (settle (told_reset 6 (told_reset 2 (by_halves 8)))).granted_uni ≡ 6
+  -- and no further than in the lifetime
+  pub to_lifetime : (settle (told_reset 6 (told_reset 2 (by_halves 5)))).granted_uni ≡ 5
+  -- a step is one stream at least, where a share of the grant is none
+  pub one_at_least : (settle (record one_ended { tuning = record default_tuning { count_step = Some Half } })).granted_uni ≡ 2
   -- the limit of a stream is raised by what was read of it
   pub stream : (settle (server_with six_read)).recvs.client_bidi ≡ record six_read { limit = 16 } ∷ []
   -- and not once its final size is known

@@ -33,7 +33,7 @@ use Rattle.qs_machine.specs.FrameStep.{NoFault, frames_taken}
 use Rattle.qs_machine.specs.Receiving.{TakesPayload, EndsBy, ReceiveStep}
 use Rattle.qs_machine.specs.Making.{MakeStep, MakeAckStep, ClaimStep, LoseStep}
 use Rattle.qs_machine.specs.Filling.{FillStep, as_made}
-use Rattle.qs_machine.specs.EndStep.{Call, Answer, EndStep, Claim}
+use Rattle.qs_machine.specs.EndStep.{Call, Answer, EndStep, Claim, ReadUpTo, Consume}
 use Rattle.qs_machine.specs.Standing.{IsSound, IsWithinCredit, CountsAreSettled, LimitsRise, CountsRise}
 use Rattle.qs_machine.specs.Repeats.{SentWasWritten, AreAmong, Resumes, OnlyRecords}
 use Rattle.qs_calls.specs.Settings.{default_tuning}
@@ -87,15 +87,23 @@ CountsNeverFall =
 abbrev pub LimitsNeverFall : Type 0
 LimitsNeverFall = (old : End) (call : Call) (answer : Answer call) (new : End) → EndStep old call answer new → LimitsRise old new
 
--- nothing changes, but the number of the next packet where one is claimed
-abbrev pub StaysButNumber : End → Call → End → Type 0
-StaysButNumber old Claim new = new ≡ record old { next = new.next }
-StaysButNumber old call new = new ≡ old
+-- a read changes nothing, or where the owner chose to read on what was taken, and the limits that follow it
+abbrev pub StaysButRead : Bool → End → End → Type 0
+StaysButRead true old new =
+    new ≡ record old { recvs = new.recvs; granted = new.granted; granted_bidi = new.granted_bidi; granted_uni = new.granted_uni }
+StaysButRead false old new = new ≡ old
 
--- after a closing nothing changes, but that numbers are claimed
+-- nothing changes, but the number of the next packet where one is claimed, and what a read changes
+abbrev pub StaysOnceClosed : End → Call → End → Type 0
+StaysOnceClosed old Claim new = new ≡ record old { next = new.next }
+StaysOnceClosed old (ReadUpTo n size) new = StaysButRead old.tuning.reads_when_closed old new
+StaysOnceClosed old (Consume n most) new = StaysButRead old.tuning.reads_when_closed old new
+StaysOnceClosed old call new = new ≡ old
+
+-- after a closing nothing changes, but that numbers are claimed, and that an owner who chose so reads on
 abbrev pub ClosedEndsStay : Type 0
 ClosedEndsStay =
-    (old : End) (call : Call) (answer : Answer call) (new : End) → is_some old.closed ≡ true → EndStep old call answer new → StaysButNumber old call new
+    (old : End) (call : Call) (answer : Answer call) (new : End) → is_some old.closed ≡ true → EndStep old call answer new → StaysOnceClosed old call new
 
 -- A payload with an ACK alone is a packet of `make_packet` with no more room than it takes, or there was none to make and nothing changed
 -- (RFC 9000, section 13.2).

@@ -9,6 +9,7 @@ use Rattle.qs_machine.specs.Tables.{Tables, lookup}
 use Rattle.qs_machine.specs.Ends.{End, is_uni, is_own}
 use Rattle.qs_machine.specs.Credit.{recv_ended, send_ended}
 use Rattle.qs_machine.specs.Due.{IsDue, EndGoes}
+use Rattle.qs_machine.specs.Owner.{is_read_no_more}
 
 -- The answer is the least number at or above `from` with the property, and None where no number has it (ours: RFC 9000, section 2.3,
 -- leaves the order of streams to the application).
@@ -20,10 +21,10 @@ pub record IsLeast (P : ℕ → Type 0) (from : ℕ) (answer : Option ℕ) : Typ
 abbrev pub IsHeld : {X : Type 0} → (X → Type 0) → Tables X → ℕ → Type 0
 IsHeld {X} P t n = (x : X) × (lookup t n ≡ Some x) × P x
 
--- A read of one byte tells something new: bytes, or an end or a reset that wasn't told yet. From a closed end nothing is read
--- (RFC 9000, sections 2.2, 3.2 and 10.2).
+-- A read of one byte tells something new: bytes, or an end or a reset that wasn't told yet. A closed end is read only where its owner chose
+-- so (RFC 9000, sections 2.2, 3.2 and 10.2).
 abbrev pub IsReadable : End → ℕ → Type 0
-IsReadable e n = (e.closed ≡ None) × IsHeld (λ l. is_readable l ≡ true) e.recvs n
+IsReadable e n = (is_read_no_more e ≡ false) × IsHeld (λ l. is_readable l ≡ true) e.recvs n
 
 -- A due byte lies below the stream's own limit, or the end is due and every byte was sent; the connection's credit isn't asked
 -- (RFC 9000, sections 3.1, 4.1 and 13.3).

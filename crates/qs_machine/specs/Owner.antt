@@ -1,7 +1,7 @@
 -- Trusted.
 -- The calls of an end's owner on streams: what each answers and leaves (RFC 9000, sections 2.4 and 3, for the whole
 -- file). As each ends, the limits move.
-use Rattle.std.specs.Prelude.{◌≡◌, ℕ, ◌+◌, ◌*◌, ◌<◌, Bool, true, false, List, [], ◌⊎◌, length, take, max, Option, None, Some, is_some, Result, Ok, Err, nat_le, nat_lt, MatchBool, if◌then◌else◌}
+use Rattle.std.specs.Prelude.{◌≡◌, ℕ, ◌+◌, ◌*◌, ◌<◌, Bool, true, false, not, ◌&&◌, List, [], ◌⊎◌, length, take, max, Option, None, Some, is_some, Result, Ok, Err, nat_le, nat_lt, MatchBool, if◌then◌else◌}
 use Rattle.qs_wire.specs.declared.stream_id.Dir.{Dir}
 use Rattle.qs_wire.specs.declared.stream_id.Dir.TheVariants.{Bidi, Uni}
 use Rattle.qs_recv.specs.Lane.{RecvLane, read_answer, bytes_read, after_read, stop}
@@ -143,15 +143,20 @@ ResetStep old n code answer new =
 
 -- Receiving (RFC 9000, sections 2.4 and 3.2)
 
-abbrev pub recv_refusal : End → ℕ → Option UseFault
-recv_refusal e n =
-    first_refusal (refuse_if (is_some e.closed) Closed)
+-- an end is read no more: it closed, and its owner didn't choose to read on what came before (ours, beside RFC 9000, section 10.2)
+abbrev pub is_read_no_more : End → Bool
+is_read_no_more e = is_some e.closed && not e.tuning.reads_when_closed
+
+-- what speaks against a call on a receiving half: that the end is shut for it, or no such half
+abbrev pub recv_refusal : Bool → End → ℕ → Option UseFault
+recv_refusal is_shut e n =
+    first_refusal (refuse_if is_shut Closed)
     (elim (recv_lane e n) [ None ↦ Some (no_half (is_some (send_lane e n))) | Some l ↦ None ])
 
 -- the first stop counts (RFC 9000, section 3.5)
 abbrev pub StopStep : End → ℕ → ℕ → Result (Unit {0}) UseFault → End → Type 0
 StopStep old n code answer new =
-    Certain (recv_refusal old n) old answer new
+    Certain (recv_refusal (is_some old.closed) old n) old answer new
     ((answer ≡ Ok tt) × (new ≡ settle (on_recv n (λ m. stop m code) old)))
 
 abbrev pub ReadBy : Option UseFault → End → ℕ → ℕ → Result Read UseFault → List ℕ → End → Type 0
@@ -164,7 +169,7 @@ ReadBy None old n size answer bytes new =
 
 -- a read into a slice of that size, with the bytes that it gives (RFC 9000, section 2.2)
 abbrev pub ReadStep : End → ℕ → ℕ → Result Read UseFault → List ℕ → End → Type 0
-ReadStep old n size answer bytes new = ReadBy (recv_refusal old n) old n size answer bytes new
+ReadStep old n size answer bytes new = ReadBy (recv_refusal (is_read_no_more old) old n) old n size answer bytes new
 
 abbrev pub is_end : Read → Bool
 is_end (reads.End) = true
@@ -178,7 +183,7 @@ consumed l most = record { read = read_answer l most; at_end = is_end (read_answ
 -- `consume` is a read of so many bytes, and then one of none, to which the end is told where it is reached (RFC 9000, sections 2.2 and 3.2)
 abbrev pub ConsumeStep : End → ℕ → ℕ → Result Consumed UseFault → End → Type 0
 ConsumeStep old n most answer new =
-    Certain (recv_refusal old n) old answer new
+    Certain (recv_refusal (is_read_no_more old) old n) old answer new
     ((l : RecvLane) × (recv_lane old n ≡ Some l)
     × (answer ≡ Ok (consumed l most))
     × (new ≡ settle (on_recv n (λ m. after_read m 0) (on_recv n (λ m. after_read m most) old))))

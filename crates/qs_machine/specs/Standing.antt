@@ -37,7 +37,7 @@ CountsStand e = (granted_streams e Bidi ≤ next_count e Bidi) × (granted_strea
 abbrev pub IsSound : End → Type 0
 IsSound e = IsInCredit e × CountsStand e
 
--- between calls each granted count is the next one: the first, and a stream more for each one that ended, up to the lifetime's
+-- between calls each granted count is the next one: the first, and as many more as ended, in whole steps, up to the lifetime's
 abbrev pub CountsAreSettled : End → Type 0
 CountsAreSettled e = (d : Dir) → granted_streams e d ≡ next_count e d
 

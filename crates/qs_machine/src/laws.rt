@@ -53,7 +53,8 @@ pub fn limits_never_fall()
     ensures { LimitsNeverFall }
 {}
 
-/// After a closing nothing changes any more, but the number of the next packet where one is claimed.
+/// After a closing nothing changes any more, but the number of the next packet where one is claimed, and what is read where the owner chose
+/// to read on.
 pub fn closed_ends_stay()
     ensures { ClosedEndsStay }
 {}

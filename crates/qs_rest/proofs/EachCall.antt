@@ -17,7 +17,7 @@ use Rattle.qs_machine.specs.Credit.{settle}
 use Rattle.qs_machine.specs.Due.{known_count}
 use Rattle.qs_machine.specs.Seen.{Seen, seen_all}
 use Rattle.qs_machine.specs.Lawful.{Fills}
-use Rattle.qs_machine.specs.Owner.{OpenStep, AcceptStep, ReadBy, recv_refusal, with_wanted, refuse_if, IsBlocked, IsOpened, GivesNone, GivesBidi, GivesUni, AcceptOpen, peer_type, next_stream, send_refusal}
+use Rattle.qs_machine.specs.Owner.{OpenStep, AcceptStep, ReadBy, recv_refusal, is_read_no_more, with_wanted, refuse_if, IsBlocked, IsOpened, GivesNone, GivesBidi, GivesUni, AcceptOpen, peer_type, next_stream, send_refusal}
 use Rattle.qs_machine.specs.Making.{MakeAt, make_refusal, LoseStep, losses, claim_refusal, lose_refusal}
 use Rattle.qs_machine.specs.EndStep.{Answer, EndStep, Open, Accept, Write, Lose}
 use Rattle.qs_calls.specs.declared.event.Act.{Act}
@@ -116,8 +116,8 @@ module _ (P : End → Type 0) (old : End) (edits : Edits P old) where
   each_own (acts.Reset n code) (answers.Reset r) new step =
       by_refusal (P new) (send_refusal old n reset_refusal) old r new _ step (becomes new) (λ done. settled (on_send n (λ m. reset_lane m code) old) new (edits.resets n code) done.1)
   each_own (acts.Stop n code) (answers.Stop r) new step =
-      by_refusal (P new) (recv_refusal old n) old r new _ step (becomes new) (λ done. settled (on_recv n (λ m. stop m code) old) new (edits.stops n code) done.1)
-  each_own (acts.ReadUpTo n size) (answers.ReadUpTo r bytes) new step = read_by (recv_refusal old n) n size r bytes.items new step
+      by_refusal (P new) (recv_refusal (is_some old.closed) old n) old r new _ step (becomes new) (λ done. settled (on_recv n (λ m. stop m code) old) new (edits.stops n code) done.1)
+  each_own (acts.ReadUpTo n size) (answers.ReadUpTo r bytes) new step = read_by (recv_refusal (is_read_no_more old) old n) n size r bytes.items new step
   each_own (acts.Make room) (answers.Make r text) new (first, delay, step) = make_by (make_refusal old) first delay room r text.items new step
   each_own (acts.Lose k) (answers.Lose r) new step = lose_by k r new step
   each_own acts.Claim (answers.Claim r) new step = by_refusal (P new) (claim_refusal old) old r new _ step (becomes new) claimed

@@ -1,5 +1,5 @@
 -- An end that answers as one at rest is at rest.
-use Rattle.std.proofs.Common.{◌≡◌, ℕ, Bool, true, false, Some, None, is_some, refl, sym, ap, ◌∙◌, arith}
+use Rattle.std.proofs.Common.{◌≡◌, ℕ, Bool, true, false, not, ◌&&◌, Some, None, is_some, refl, sym, ap, ◌∙◌, arith}
 use Rattle.std.proofs.lemmas.Bool.{true≢false}
 use Rattle.std.proofs.lemmas.Option.{none-some}
 use Rattle.qs_recv.specs.Lane.{RecvLane}
@@ -28,8 +28,8 @@ module _ (e : End) (open_end : e.closed ≡ None) (true_of : (n : ℕ) (l : Recv
       }
     where
       go : (n : ℕ) (l : RecvLane) → recv_lane e n ≡ Some l → (b : Bool) → is_readable l ≡ b → is_readable l ≡ false
-      go n l is true e = (let (m, found, le) = unread.least n (omega arith) (open_end, (l, is, e)) in absurd (none-some m found))
-      go n l is false e = e
+      go n l is true yes = (let (m, found, le) = unread.least n (omega arith) (ap (λ c. is_some c && not e.tuning.reads_when_closed) open_end, (l, is, yes)) in absurd (none-some m found))
+      go n l is false no = no
 
 pub idle_rests : IdleIsRest
 idle_rests a b h w run s quiet none unread =

@@ -61,7 +61,7 @@ pub record KnowsItsLimits (h : History) (w : World) (s : Side) : Type 0 where
   pub connection : (end_of w s).known_data ≡ (end_of w (other s)).granted
   -- the limit of each stream of which no final size came (sections 4.1 and 4.5)
   pub streams : (n : ℕ) (l : SendLane) (r : RecvLane) → send_lane (end_of w s) n ≡ Some l → recv_lane (end_of w (other s)) n ≡ Some r → r.final_size ≡ None → l.limit ≡ r.limit
-  -- the counts of streams: the first, and one more for each stream that ended, up to the lifetime's (section 4.6)
+  -- the counts of streams: the first, and as many more as ended, in whole steps, up to the lifetime's (section 4.6)
   pub counts : (d : Dir) → known_count (end_of w s) d ≡ next_count (end_of w (other s)) d
 
 -- All credit is paid back (RFC 9000, sections 4.1 and 4.2).

@@ -26,7 +26,7 @@ use Rattle.qs_machine.specs.Ends.{End, on_send, on_recv, send_lane, first_send_l
 use Rattle.qs_machine.specs.Credit.{settle}
 use Rattle.qs_machine.specs.Seen.{Seen, seen_all}
 use Rattle.qs_machine.specs.Due.{known_count}
-use Rattle.qs_machine.specs.Owner.{first_refusal, refuse_if, send_refusal, recv_refusal, half_refusal, no_half, opened_count, own_type, peer_type, with_wanted, OpenStep, IsBlocked, IsOpened, AcceptStep, GivesNone, GivesBidi, GivesUni, AcceptOpen, WriteStep, FinishStep, ResetStep, StopStep, ReadStep, ReadBy, next_stream}
+use Rattle.qs_machine.specs.Owner.{first_refusal, refuse_if, send_refusal, recv_refusal, is_read_no_more, half_refusal, no_half, opened_count, own_type, peer_type, with_wanted, OpenStep, IsBlocked, IsOpened, AcceptStep, GivesNone, GivesBidi, GivesUni, AcceptOpen, WriteStep, FinishStep, ResetStep, StopStep, ReadStep, ReadBy, next_stream}
 use Rattle.qs_machine.specs.Making.{MakeStep, MakeAt, make_refusal, IsMade, LoseStep, lose_refusal, ClaimStep, claim_refusal}
 use Rattle.qs_machine.specs.Alone.{token_refusal, TokenLostStep}
 use Rattle.qs_calls.specs.declared.event.Act.{Act}
@@ -201,13 +201,13 @@ module _ (p : Past) (e new : End) (ok : EndOk p e) where
 
   stop_moves : (n code : ℕ) (answer : Result (Unit {0}) UseFault) → StopStep e n code answer new → EndOk (with_call p (acts.Stop n code) (answers.Stop answer)) new
   stop_moves n code answer step =
-      elim (certain_cases (recv_refusal e n) e answer new _ step) [
+      elim (certain_cases (recv_refusal (is_some e.closed) e n) e answer new _ step) [
         | inl (fault, is, same) ↦ subst (λ a. EndOk (with_call p (acts.Stop n code) (answers.Stop a)) new) (sym is)
             (quiet_moves (acts.Stop n code) (answers.Stop (Err fault)) (quiet p (acts.Stop n code) (answers.Stop (Err fault)) refl (λ m. refl) (λ m. refl) (λ m. refl) (λ m. refl)) (ended_by p e new same ok))
         | inr (allowed, (is, same)) ↦ subst (λ a. EndOk (with_call p (acts.Stop n code) (answers.Stop a)) new) (sym is) (go allowed (lookup e.recvs n) refl same)
       ]
     where
-      go : recv_refusal e n ≡ None → (o : Option RecvLane) → lookup e.recvs n ≡ o → new ≡ settle (on_recv n (λ m. stop m code) e) → EndOk (with_call p (acts.Stop n code) (answers.Stop (Ok tt))) new
+      go : recv_refusal (is_some e.closed) e n ≡ None → (o : Option RecvLane) → lookup e.recvs n ≡ o → new ≡ settle (on_recv n (λ m. stop m code) e) → EndOk (with_call p (acts.Stop n code) (answers.Stop (Ok tt))) new
       go allowed None there same = absurd (none-some _ (sym (no_refusal (refuse_if (is_some e.closed) Closed) (Some (no_half (is_some (send_lane e n)))) (rw there at allowed)).1))
       go allowed (Some l) there same =
           let h : RecvOk p n (window e n) l = subst (RecvSlot p n (window e n)) there (ok.recvs n) in
@@ -218,7 +218,7 @@ module _ (p : Past) (e new : End) (ok : EndOk p e) where
           (stop_grows p n (window e n) l h code (is_some l.stop_code)) same
 
   read_moves : (n size : ℕ) (answer : Result Read UseFault) (bytes : Vec ℕ) → ReadStep e n size answer bytes.items new → EndOk (with_call p (acts.ReadUpTo n size) (answers.ReadUpTo answer bytes)) new
-  read_moves n size answer bytes step = by (recv_refusal e n) step
+  read_moves n size answer bytes step = by (recv_refusal (is_read_no_more e) e n) step
     where
       go : (l : RecvLane) → lookup e.recvs n ≡ Some l → (a : Read) → read_answer l size ≡ a → bytes.items ≡ bytes_of a l size → new ≡ settle (on_recv n (λ m. after_answer (read_answer m size) m size) e) → EndOk (with_call p (acts.ReadUpTo n size) (answers.ReadUpTo (Ok a) bytes)) new
       go l there (reads.Bytes count) at given same =

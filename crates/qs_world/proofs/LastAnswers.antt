@@ -11,7 +11,7 @@ use Rattle.qs_calls.specs.declared.making.Made.{Made}
 use Rattle.qs_calls.specs.declared.making.MakeFault.{MakeFault}
 use Rattle.qs_calls.specs.declared.making.MakeFault.TheVariants as making
 use Rattle.qs_machine.specs.Ends.{End}
-use Rattle.qs_machine.specs.Owner.{ReadBy, recv_refusal}
+use Rattle.qs_machine.specs.Owner.{ReadBy, recv_refusal, is_read_no_more}
 use Rattle.qs_machine.specs.Making.{MakeAt, make_refusal}
 use Rattle.qs_calls.specs.declared.event.Side.{Side}
 use Rattle.qs_calls.specs.declared.event.Act.{Act}
@@ -53,7 +53,7 @@ made_short None e new first delay room (Err making.Closed) text step = absurd st
 made_short None e new first delay room (Err making.Exhausted) text step = absurd step
 
 answer_short : (h : History) (old new : World) (s : Side) (act : Act) (answer : Answer) → EventStep h old s act answer new → length (bytes_of answer) ≤ room_of act
-answer_short h old new s (acts.ReadUpTo n size) (answers.ReadUpTo r bytes) (step, same) = read_short (recv_refusal (end_of old s) n) _ _ n size r bytes.items step
+answer_short h old new s (acts.ReadUpTo n size) (answers.ReadUpTo r bytes) (step, same) = read_short (recv_refusal (is_read_no_more (end_of old s)) (end_of old s) n) _ _ n size r bytes.items step
 answer_short h old new s (acts.Make room) (answers.Make r text) ((first, delay, step), same) = made_short (make_refusal (end_of old s)) _ _ first delay room r text.items step
 answer_short h old new s (acts.Deliver k) (answers.ReadUpTo r bytes) step = absurd step
 answer_short h old new s (acts.Deliver k) (answers.Make r text) step = absurd step

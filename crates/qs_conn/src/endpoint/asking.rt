@@ -1,6 +1,7 @@
 //! What an end's owner, and the layer beneath, may ask of it. Nothing changes.
 ghost use Rattle.std.specs.Prelude.{◌≡◌, ◌↔◌, IsTrue};
-ghost use Rattle.qs_machine.specs.Asking.{GoesBesideAck, all_noted, peer_closing, streams_left, open_left, is_blocked, credit_left, room, unsent, acked_below, stopped_with, IsNextOutstanding};
+ghost use Rattle.qs_machine.specs.Credit.{all_taken};
+ghost use Rattle.qs_machine.specs.Asking.{GoesBesideAck, all_noted, taken, peer_closing, streams_left, open_left, is_blocked, credit_left, room, unsent, acked_below, stopped_with, IsNextOutstanding};
 
 use super::Endpoint;
 use qs_calls::Closed;
@@ -36,6 +37,24 @@ impl Endpoint {
     {
         let _granted = self.core.limits.granted;
         self.core.recvs.tally().noted
+    }
+
+    /// How many bytes of a stream count as taken, so that its limit lies a window above them at most: those that were read, or all that came
+    /// once its owner stopped it, or its final size once the peer reset it (RFC 9000, sections 3.5 and 4.2). `None` where the stream has no
+    /// receiving half here. An owner tells by it how fast a window is used up. It takes constant time.
+    pub fn taken(&self, stream: StreamId) -> Option<u64>
+        ensures { result ≡ taken self.now stream }
+    {
+        self.core.recvs.taken(stream)
+    }
+
+    /// How many bytes of all streams count as taken: the sum of what `taken` tells of each, which the connection's limit follows (RFC 9000,
+    /// section 4.2). It takes constant time.
+    pub fn taken_sum(&self) -> u64
+        ensures { result ≡ all_taken self.now }
+    {
+        let _granted = self.core.limits.granted;
+        self.core.recvs.tally().taken
     }
 
     /// How many streams of a direction the peer may open in all time to come: the lifetime's count without those that it opened. Where

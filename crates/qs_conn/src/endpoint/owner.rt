@@ -4,7 +4,7 @@ ghost use Rattle.qs_machine.specs.Tables.{lookup};
 ghost use Rattle.qs_recv.specs.Lane.{read_answer, after_read};
 ghost use Rattle.qs_machine.specs.Ends.{on_recv};
 ghost use Rattle.qs_machine.specs.Verdicts.{or_new};
-ghost use Rattle.qs_machine.specs.Owner.{WriteStep, FinishStep, ResetStep, StopStep, ReadStep, ConsumeStep, is_end, no_half, use_fault};
+ghost use Rattle.qs_machine.specs.Owner.{WriteStep, FinishStep, ResetStep, StopStep, ReadStep, ConsumeStep, is_read_no_more, is_end, no_half, use_fault};
 ghost use Rattle.qs_machine.specs.Reports.{lane_report, own_closing};
 ghost use Rattle.qs_conn.specs.Layers.{no_sender, no_receiver};
 
@@ -81,12 +81,12 @@ impl Endpoint {
 
     /// Reads the bytes that are next, or tells how the stream stands (RFC 9000, section 2.2).
     ///
-    /// Refused, and then unchanged: `Closed`; `NoSuchStream` or `WrongDirection` where the stream has no receiving half.
+    /// Refused, and then unchanged: `Closed`, but where the end's tuning has `reads_when_closed`: then what came before is read on; `NoSuchStream` or `WrongDirection` where the stream has no receiving half.
     #[tactic(auto, using(crate::proofs::OwnerSteps::read_ok, crate::proofs::OwnerSteps::read_none))]
     pub fn read(&mut self, stream: StreamId, into: &mut [u8]) -> Result<Read, UseFault>
         ensures { (bytes : List ℕ) × (into.new ≡ bytes ++ drop (length bytes) into.old) × ReadStep self.old stream (length into.old) result bytes self.new }
     {
-        if let Some(fault) = self.no_receiver(stream) {
+        if let Some(fault) = self.no_reader(stream) {
             return Err(fault);
         }
         // To look at a stream without news costs no more than its marks.
@@ -117,7 +117,7 @@ impl Endpoint {
     pub fn consume(&mut self, stream: StreamId, most: usize) -> Result<Consumed, UseFault>
         ensures { ConsumeStep self.old stream most result self.new }
     {
-        if let Some(fault) = self.no_receiver(stream) {
+        if let Some(fault) = self.no_reader(stream) {
             return Err(fault);
         }
         let read = self.skip(stream, most);
@@ -146,7 +146,7 @@ impl Endpoint {
     /// Throws the stream's bytes away, those stored and those still to come (RFC 9000, section 3.5). The first code
     /// stays; the application's codes lie below 2^62.
     ///
-    /// Refused as `read` is.
+    /// Refused, and then unchanged: `Closed`; `NoSuchStream` or `WrongDirection` where the stream has no receiving half.
     #[tactic(auto, using(crate::proofs::OwnerSteps::stop_ok))]
     pub fn stop(&mut self, stream: StreamId, code: u64) -> Result<(), UseFault>
         requires { code < 2 ^ 62 }
@@ -199,16 +199,37 @@ impl Endpoint {
     }
 
     // Why the stream can't be read.
-    fn no_receiver(&self, stream: StreamId) -> Option<UseFault>
-        ensures { result ≡ no_receiver self.now stream }
+    fn no_reader(&self, stream: StreamId) -> Option<UseFault>
+        ensures { result ≡ no_receiver (is_read_no_more self.now) self.now stream }
     {
-        if self.closed.is_some() {
+        self.no_receiver_where(self.is_read_no_more(), stream)
+    }
+
+    // Why the stream can't be stopped.
+    fn no_receiver(&self, stream: StreamId) -> Option<UseFault>
+        ensures { result ≡ no_receiver (is_some self.now.closed) self.now stream }
+    {
+        self.no_receiver_where(self.closed.is_some(), stream)
+    }
+
+    // Why a call on a receiving half is refused, where the end is shut for it or not.
+    fn no_receiver_where(&self, is_shut: bool, stream: StreamId) -> Option<UseFault>
+        ensures { result ≡ no_receiver is_shut self.now stream }
+    {
+        if is_shut {
             Some(UseFault::Closed)
         } else if self.core.recvs.is_open(stream) {
             None
         } else {
             Some(no_half(self.core.outbox.is_open(stream)))
         }
+    }
+
+    // Whether nothing is read of this end any more.
+    pub(super) fn is_read_no_more(&self) -> bool
+        ensures { result ≡ is_read_no_more self.now }
+    {
+        self.closed.is_some() && !self.core.limits.tuning.reads_when_closed
     }
 }
 

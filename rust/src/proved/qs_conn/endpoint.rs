@@ -10,7 +10,7 @@ use crate::proved::qs_conn::places::type_of;
 use crate::proved::qs_conn::recv_tables::RecvTables;
 use crate::proved::qs_conn::setup::{setup_fault, wide_setup_fault};
 use crate::proved::qs_conn::untold::Untold;
-use crate::proved::qs_calls::{Closed, Closing, PeerLimits, Settings, SetupFault, Tuning};
+use crate::proved::qs_calls::{Closed, Closing, PeerLimits, Settings, SetupFault, Share, Tuning};
 use crate::proved::qs_ranges::RangeSet;
 use crate::proved::qs_recv::next_limit;
 use crate::proved::qs_wire::{Dir, Frame, Role, StreamId, put};
@@ -168,6 +168,7 @@ impl Endpoint {
         self.core.recvs.raise_all(&mut self.core.untold_recvs);
         let taken = self.core.recvs.tally().taken;
         let settings = &self.core.limits.settings;
+        let step = self.core.limits.tuning.count_step;
         self.core.limits.granted = next_limit(
             self.core.limits.granted,
             taken,
@@ -175,11 +176,13 @@ impl Endpoint {
         );
         self.core.limits.granted_streams = ByDir {
             bidi: next_count(
+                step,
                 settings.grant_bidi,
                 settings.lifetime_bidi,
                 self.core.ended.bidi,
             ),
             uni: next_count(
+                step,
                 settings.grant_uni,
                 settings.lifetime_uni,
                 self.core.ended.uni,
@@ -223,10 +226,34 @@ pub(crate) fn is_uni(stream: StreamId) -> bool {
     type_of(stream) >= 2
 }
 
-// How many streams may be opened, where so many came to their end (RFC 9000, section 4.6).
-fn next_count(grant: u64, lifetime: u64, ended: u64) -> u64 {
+// How many streams may be opened, where so many came to their end: as many more of them as make whole steps (RFC 9000, section 4.6).
+fn next_count(step: Option<Share>, grant: u64, lifetime: u64, ended: u64) -> u64 {
     debug_assert!(grant <= lifetime);
-    grant.saturating_add(ended).min(lifetime)
+    let more = match step {
+        None => ended,
+        Some(share) => in_steps(count_step(share, grant), ended),
+    };
+    grant.saturating_add(more).min(lifetime)
+}
+
+// How many streams have to end until a count moves by a share of its grant.
+fn count_step(share: Share, grant: u64) -> u64 {
+    (grant / parts(share)).max(1)
+}
+
+fn parts(share: Share) -> u64 {
+    match share {
+        Share::Half => 2,
+        Share::Quarter => 4,
+        Share::Eighth => 8,
+        Share::Sixteenth => 16,
+    }
+}
+
+// As many of so many as make whole steps.
+fn in_steps(step: u64, count: u64) -> u64 {
+    debug_assert!(0 < step);
+    count - count % step
 }
 
 fn put_close(closing: Closing, out: &mut [u8]) -> Option<usize> {

@@ -266,6 +266,12 @@ impl RecvLanes {
         })
     }
 
+    /// How many bytes of a lane count as taken, where it is open.
+    pub(crate) fn taken(&self, index: usize) -> Option<u64> {
+        let half = self.halves.get(index)?;
+        Some(half.taken())
+    }
+
     /// The limit of an open lane of which no final size is known.
     pub(crate) fn limit_to_tell(&self, index: usize) -> Option<u64> {
         let half = self.halves.get(index)?;

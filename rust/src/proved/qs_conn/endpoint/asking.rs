@@ -31,6 +31,20 @@ impl Endpoint {
         self.core.recvs.tally().noted
     }
 
+    /// How many bytes of a stream count as taken, so that its limit lies a window above them at most: those that were read, or all that came
+    /// once its owner stopped it, or its final size once the peer reset it (RFC 9000, sections 3.5 and 4.2). `None` where the stream has no
+    /// receiving half here. An owner tells by it how fast a window is used up. It takes constant time.
+    pub fn taken(&self, stream: StreamId) -> Option<u64> {
+        self.core.recvs.taken(stream)
+    }
+
+    /// How many bytes of all streams count as taken: the sum of what `taken` tells of each, which the connection's limit follows (RFC 9000,
+    /// section 4.2). It takes constant time.
+    pub fn taken_sum(&self) -> u64 {
+        let _granted = self.core.limits.granted;
+        self.core.recvs.tally().taken
+    }
+
     /// How many streams of a direction the peer may open in all time to come: the lifetime's count without those that it opened. Where
     /// none is left, a new connection is needed (RFC 9000, section 4.6). `granted_streams` tells how far it may go now.
     pub fn streams_left(&self, dir: Dir) -> u64 {

@@ -10,11 +10,11 @@ use crate::proved::qs_wire::StreamId;
 impl Endpoint {
     /// The least stream at or above `from` at which a read of one byte tells something new: bytes, or an end or a reset that wasn't told
     /// yet (RFC 9000, sections 2.2 and 3.2). Of a stopped stream the end and a reset are told, too: it counts as ended only once they are.
-    /// `None` where there is none, and of a closed end.
+    /// `None` where there is none, and of a closed end whose tuning hasn't `reads_when_closed`.
     ///
     /// It takes no memory, and looks at one word of marks for 64 streams of a type.
     pub fn next_readable(&self, from: StreamId) -> Option<StreamId> {
-        if self.closed.is_some() {
+        if self.is_read_no_more() {
             return None;
         }
         self.core.recvs.next_with(RecvTask::Readable, from.value())

@@ -65,9 +65,9 @@ impl Endpoint {
 
     /// Reads the bytes that are next, or tells how the stream stands (RFC 9000, section 2.2).
     ///
-    /// Refused, and then unchanged: `Closed`; `NoSuchStream` or `WrongDirection` where the stream has no receiving half.
+    /// Refused, and then unchanged: `Closed`, but where the end's tuning has `reads_when_closed`: then what came before is read on; `NoSuchStream` or `WrongDirection` where the stream has no receiving half.
     pub fn read(&mut self, stream: StreamId, into: &mut [u8]) -> Result<Read, UseFault> {
-        if let Some(fault) = self.no_receiver(stream) {
+        if let Some(fault) = self.no_reader(stream) {
             return Err(fault);
         }
         // To look at a stream without news costs no more than its marks.
@@ -95,7 +95,7 @@ impl Endpoint {
     /// let consumed = end.consume(stream, 100)?;
     /// ```
     pub fn consume(&mut self, stream: StreamId, most: usize) -> Result<Consumed, UseFault> {
-        if let Some(fault) = self.no_receiver(stream) {
+        if let Some(fault) = self.no_reader(stream) {
             return Err(fault);
         }
         let read = self.skip(stream, most);
@@ -120,7 +120,7 @@ impl Endpoint {
     /// Throws the stream's bytes away, those stored and those still to come (RFC 9000, section 3.5). The first code
     /// stays; the application's codes lie below 2^62.
     ///
-    /// Refused as `read` is.
+    /// Refused, and then unchanged: `Closed`; `NoSuchStream` or `WrongDirection` where the stream has no receiving half.
     pub fn stop(&mut self, stream: StreamId, code: u64) -> Result<(), UseFault> {
         debug_assert!(code < 1 << 62);
         if let Some(fault) = self.no_receiver(stream) {
@@ -164,14 +164,29 @@ impl Endpoint {
     }
 
     // Why the stream can't be read.
+    fn no_reader(&self, stream: StreamId) -> Option<UseFault> {
+        self.no_receiver_where(self.is_read_no_more(), stream)
+    }
+
+    // Why the stream can't be stopped.
     fn no_receiver(&self, stream: StreamId) -> Option<UseFault> {
-        if self.closed.is_some() {
+        self.no_receiver_where(self.closed.is_some(), stream)
+    }
+
+    // Why a call on a receiving half is refused, where the end is shut for it or not.
+    fn no_receiver_where(&self, is_shut: bool, stream: StreamId) -> Option<UseFault> {
+        if is_shut {
             Some(UseFault::Closed)
         } else if self.core.recvs.is_open(stream) {
             None
         } else {
             Some(no_half(self.core.outbox.is_open(stream)))
         }
+    }
+
+    // Whether nothing is read of this end any more.
+    pub(super) fn is_read_no_more(&self) -> bool {
+        self.closed.is_some() && !self.core.limits.tuning.reads_when_closed
     }
 }
 

@@ -23,5 +23,5 @@ invariant_of-self c =
       closing_fits = k.closing_fits;
       few = k.few;
       acks = k.acks;
-      settled = rw (c.ack_only-taken.ensures.streams.limits, c.ack_only-taken.ensures.streams.recvs) (next_recounted core.limits.settings core.recvs core.ended _ _ _ c.self.inside.is_settled c.is_same.result c.ack_only-taken.new.self.ended k.settled c.is_same.ensures);
+      settled = rw (c.ack_only-taken.ensures.streams.limits, c.ack_only-taken.ensures.streams.recvs) (next_recounted core.limits.settings core.limits.tuning core.recvs core.ended _ _ _ c.self.inside.is_settled c.is_same.result c.ack_only-taken.new.self.ended k.settled c.is_same.ensures);
     }

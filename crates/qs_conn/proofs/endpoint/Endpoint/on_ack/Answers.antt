@@ -25,7 +25,7 @@ invariant_of-self g c =
       closing_fits = k.closing_fits;
       few = k.few;
       acks = k.acks;
-      settled = rw (c.ack-taken.ensures.streams.limits, c.ack-taken.ensures.streams.recvs) (next_recounted core.limits.settings core.recvs core.ended _ _ _ c.self.inside.is_settled c.is_same.result c.ack-taken.new.self.ended k.settled c.is_same.ensures);
+      settled = rw (c.ack-taken.ensures.streams.limits, c.ack-taken.ensures.streams.recvs) (next_recounted core.limits.settings core.limits.tuning core.recvs core.ended _ _ _ c.self.inside.is_settled c.is_same.result c.ack-taken.new.self.ended k.settled c.is_same.ensures);
     }
 
 pub returns-clause-told : goal.returns-clause-told

@@ -17,4 +17,4 @@ invariant_of-self c =
 
 pub returns-then-not-may_tell : goal.returns-then-not-may_tell
 returns-then-not-may_tell c =
-    ([], refl, read_none _ _ c.args.stream (length c.args.into.now) c.settle.new.self c.self.view_is (sym c.no_receiver.ensures ∙ c.in_default.is) (c.self.invariant.rest.core.counts.told c.args.stream) (c.if-not-may_tell.ensures refl) c.settle.ensures)
+    ([], refl, read_none _ _ c.args.stream (length c.args.into.now) c.settle.new.self c.self.view_is (sym c.no_reader.ensures ∙ c.in_default.is) (c.self.invariant.rest.core.counts.told c.args.stream) (c.if-not-may_tell.ensures refl) c.settle.ensures)

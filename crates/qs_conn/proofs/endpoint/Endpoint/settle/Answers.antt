@@ -1,6 +1,8 @@
-use Rattle.std.proofs.Common.{arith, refl, ap, sym, ◌∙◌, ℕ, ◌+◌, min, subst}
+use Rattle.std.proofs.Common.{arith, refl, ap, sym, ◌∙◌, ℕ, subst}
 use Rattle.std.proofs.lemmas.Bool.Decides.{nat_tests}
 use Rattle.qs_recv.specs.Lane.{RecvLane, highest, taken, raise, next_limit}
+use Rattle.qs_wire.specs.declared.stream_id.Dir.TheVariants.{Bidi, Uni}
+use Rattle.qs_machine.specs.Credit.{count_after}
 use Rattle.qs_machine.specs.Tables.{Tables, total}
 use Rattle.qs_machine.specs.Standing.{KeepsCredit}
 use Rattle.qs_machine.proofs.TableLaws.{total_each}
@@ -46,7 +48,7 @@ invariant_of-self c =
             uni = h.fits.uni;
           };
           credit = h.credit;
-          counts = fit_settled _ _ _ _ _ _ _ h.counts _ _ _ c.raise_all.ensures.after c.next_count.ensures c.next_count-2.ensures;
+          counts = fit_settled _ _ _ _ _ _ _ h.counts limits.tuning _ _ _ c.raise_all.ensures.after c.next_count.ensures c.next_count-2.ensures;
           told_in = told_each (TellsAt limits.role limits.settings) core.recvs core.outbox.outstanding core.outbox.acked core.untold_recvs h.told_in raise c.raise_all.new.self c.raise_all.new.untold c.raise_all.ensures.after c.raise_all.ensures.marks c.raise_all.ensures.marked;
           told_out = h.told_out;
         };
@@ -56,7 +58,7 @@ invariant_of-self c =
       closing_fits = k.closing_fits;
       few = k.few;
       acks = k.acks;
-      settled = λ _. next_now limits.settings core.recvs c.raise_all.new.self core.ended limits.granted _ _ _ c.raise_all.ensures.after limit c.next_count.ensures c.next_count-2.ensures;
+      settled = λ _. next_now limits.settings limits.tuning core.recvs c.raise_all.new.self core.ended limits.granted _ _ _ c.raise_all.ensures.after limit c.next_count.ensures c.next_count-2.ensures;
     }
 
 pub returns : goal.returns
@@ -64,8 +66,8 @@ returns c =
     let inside = c.self.inside.core in
     let paid = c.tally-taken.ensures.taken ∙ ap (total taken) c.raise_all.ensures.after ∙ total_each taken raise inside.recvs (λ l. refl) in
     let limit = c.next_limit-self-inside.ensures.value ∙ ap (λ k. next_limit inside.limits.granted k inside.limits.settings.conn_window) paid in
-    let bidi = c.next_count.ensures ∙ ap (λ k. min inside.limits.settings.lifetime_bidi (inside.limits.settings.grant_bidi + k)) c.self.invariant.rest.core.counts.counted.bidi in
-    let uni = c.next_count-2.ensures ∙ ap (λ k. min inside.limits.settings.lifetime_uni (inside.limits.settings.grant_uni + k)) c.self.invariant.rest.core.counts.counted.uni in
+    let bidi = c.next_count.ensures ∙ ap (count_after inside.limits.settings inside.limits.tuning Bidi) c.self.invariant.rest.core.counts.counted.bidi in
+    let uni = c.next_count-2.ensures ∙ ap (count_after inside.limits.settings inside.limits.tuning Uni) c.self.invariant.rest.core.counts.counted.uni in
     rw (← c.self.view_is, limit, c.raise_all.ensures.after, bidi, uni) refl
 
 pub next_count-requires : goal.next_count-requires
