@@ -136,7 +136,10 @@ impl Endpoint {
     }
 
     /// Accepts the front of the bytes for sending, as many as there is room for in the stream's buffer, and answers how
-    /// many: 0 where the buffer is full.
+    /// many: 0 where the buffer is full. Where writes keep within credit
+    /// ([`within_credit`](crate::Tuning::within_credit)) it takes no more than may be sent at once: by the stream's limit
+    /// and the connection's, beside all that waits to be sent (RFC 9000, section 4.1). Then no byte waits for credit, so no
+    /// STREAM_DATA_BLOCKED or DATA_BLOCKED is due: the answer tells that the write was cut short.
     ///
     /// # Errors
     ///
@@ -731,8 +734,9 @@ impl Endpoint {
     }
 
     /// How many bytes [`write`](Endpoint::write) accepts of a stream now, however many are written: 0 where it is refused,
-    /// as where the stream has no sending half here (RFC 9000, sections 2.2 and 2.4). Credit doesn't count: what is
-    /// written beyond it waits.
+    /// as where the stream has no sending half here (RFC 9000, sections 2.2 and 2.4). Credit doesn't count, and what is
+    /// written beyond it waits; but where writes keep within credit ([`within_credit`](crate::Tuning::within_credit)) it
+    /// does (section 4.1).
     ///
     /// ```
     /// use gotsavena::{Dir, Endpoint, Role, Settings};
@@ -754,6 +758,25 @@ impl Endpoint {
     /// are sent then (RFC 9000, sections 2.2 and 3.1), and where the stream has no sending half here.
     pub fn unsent(&self, stream: StreamId) -> u64 {
         self.inner.unsent(stream.inner())
+    }
+
+    /// How many bytes were written to all streams that are still to be sent for the first time: the sum of what
+    /// [`unsent`](Endpoint::unsent) tells of each (RFC 9000, sections 2.2 and 3.1). A sum that is no u64 is the greatest
+    /// one. It takes constant time.
+    ///
+    /// ```
+    /// use gotsavena::{Dir, Endpoint, Role, Settings};
+    ///
+    /// let settings = Settings::default();
+    /// let mut end = Endpoint::new(Role::Client, settings, settings.limits()).expect("in range");
+    /// let (one, other) = (end.open(Dir::Uni).expect("granted"), end.open(Dir::Bidi).expect("granted"));
+    /// assert_eq!((end.write(one, b"abc"), end.write(other, b"de")), (Ok(3), Ok(2)));
+    /// assert_eq!(end.unsent_sum(), 5);
+    /// end.reset(one, 7).expect("open");
+    /// assert_eq!(end.unsent_sum(), 2);
+    /// ```
+    pub fn unsent_sum(&self) -> u64 {
+        self.inner.unsent_sum()
     }
 
     /// The lowest offset of a stream that isn't acknowledged, in bytes from its start: all below it are (RFC 9000, section
@@ -796,7 +819,8 @@ impl Endpoint {
 
     /// The least stream at or above `from` at which a write of one byte is accepted, if there is memory for it: it wasn't
     /// finished, reset or stopped by the peer, and its buffer has room (RFC 9000, sections 2.2 and 2.4). `None` where there
-    /// is none, and of a closed end.
+    /// is none, and of a closed end. It doesn't ask for credit: where writes keep within it, [`room`](Endpoint::room) tells
+    /// whether such a stream has some.
     pub fn next_writable(&self, from: StreamId) -> Option<StreamId> {
         self.inner.next_writable(from.inner()).map(StreamId::of)
     }

@@ -63,7 +63,8 @@ impl Tuning {
         self
     }
 
-    /// Whether a write takes no more bytes than may be sent at once, by the stream's limit and the connection's. Not by
+    /// Whether a write takes no more bytes than may be sent at once, by the stream's limit and the connection's (RFC 9000,
+    /// section 4.1), so that none waits for credit: then [`room`](crate::Endpoint::room) tells how many it takes. Not by
     /// default.
     pub fn within_credit(mut self, is_chosen: bool) -> Tuning {
         self.0.within_credit = is_chosen;

@@ -32,6 +32,7 @@ pub mod OwnerSteps
 pub mod Openings
 pub mod Payloads
 pub mod Pieces
+pub mod Promised
 pub mod Putting
 pub mod Refusals
 pub mod Rests
@@ -64,3 +65,4 @@ pub mod Sought
 pub mod Overs
 pub mod NewlyTold
 pub mod TurnsTold
+pub mod Within

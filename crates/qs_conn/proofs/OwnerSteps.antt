@@ -5,7 +5,7 @@ use Rattle.std.proofs.lemmas.Option.{none-some}
 use Rattle.qs_recv.specs.Lane.{RecvLane, read_answer, bytes_of, bytes_read, after_answer, after_read, stop}
 use Rattle.qs_recv.specs.declared.half.Read.{Read}
 use Rattle.qs_recv.specs.declared.half.Read.TheVariants.{Wait}
-use Rattle.qs_send.specs.Lane.{SendLane, accepted, refusal, write_lane}
+use Rattle.qs_send.specs.Lane.{SendLane, refusal, write_lane}
 use Rattle.qs_send.specs.declared.parts.SendFault.{SendFault}
 use Rattle.qs_send.specs.declared.parts.SendFault.TheVariants as sends
 use Rattle.qs_calls.specs.declared.reading.Consumed.{Consumed}
@@ -15,7 +15,7 @@ use Rattle.qs_machine.specs.Tables.{Tables, lookup, updated}
 use Rattle.qs_machine.specs.Ends.{End, send_lane, recv_lane, on_send, on_recv}
 use Rattle.qs_machine.specs.Credit.{settle}
 use Rattle.qs_machine.specs.Verdicts.{or_new}
-use Rattle.qs_machine.specs.Owner.{Certain, Uncertain, first_refusal, refuse_if, no_half, half_refusal, use_fault, send_refusal, recv_refusal, is_read_no_more, AsksToKeep, WriteStep, StopStep, ReadStep, ConsumeStep, is_end}
+use Rattle.qs_machine.specs.Owner.{Certain, Uncertain, first_refusal, refuse_if, no_half, half_refusal, use_fault, send_refusal, recv_refusal, is_read_no_more, AsksToKeep, WriteStep, StopStep, ReadStep, ConsumeStep, is_end, accepted_by}
 use Rattle.qs_machine.specs.Sums.{or_none}
 use Rattle.qs_machine.proofs.TablesAfter.{updated_back}
 use Rattle.qs_machine.proofs.Again.{changed}
@@ -55,7 +55,7 @@ pub sender_there : (e : End) (n : ℕ) → no_sender e n ≡ None → send_lane 
 sender_there e n is = there_by (is_some e.closed) (is_some (recv_lane e n)) (send_lane e n) is
 
 pub write_done : (e : End) (n : ℕ) (bytes : List ℕ) (count : ℕ) (sends : Tables SendLane) (new : End) → no_sender e n ≡ None → refusal (or_none (send_lane e n)) ≡ None
-    → count ≡ accepted (or_none (send_lane e n)) (length bytes) → sends ≡ updated e.sends n (λ l. write_lane l (take count bytes)) (send_lane e n)
+    → count ≡ accepted_by e (or_none (send_lane e n)) (length bytes) → sends ≡ updated e.sends n (λ l. write_lane l (take count bytes)) (send_lane e n)
     → new ≡ settle (record e { sends = sends }) → WriteStep e n bytes (Ok count) new
 write_done e n bytes count sends new is free much after settled =
     passed _ e new (Ok count) _ (refusal_half e n refusal is ∙ ap half_refusal free)
@@ -71,7 +71,7 @@ by_fault e fault None Asks Effect is asks = inl (ap (λ f. Err (use_fault f)) is
 by_fault e fault (Some f) Asks Effect is asks = (ap (λ f. Err (use_fault f)) is, refl)
 
 pub write_refused : (e : End) (n : ℕ) (bytes : List ℕ) (fault : SendFault) → no_sender e n ≡ None → fault ≡ unwrap_or (refusal (or_none (send_lane e n))) sends.NoMemory
-    → (◌≡◌ {A = Result ℕ SendFault} (Err fault) (Err sends.NoMemory) → 0 < accepted (or_none (send_lane e n)) (length bytes)) → WriteStep e n bytes (Err (use_fault fault)) e
+    → (◌≡◌ {A = Result ℕ SendFault} (Err fault) (Err sends.NoMemory) → 0 < accepted_by e (or_none (send_lane e n)) (length bytes)) → WriteStep e n bytes (Err (use_fault fault)) e
 write_refused e n bytes fault is told asks =
     rw (refusal_half e n refusal is) (by_fault e fault (refusal (or_none (send_lane e n))) (AsksToKeep e n bytes) _ told (λ none. (or_none (send_lane e n), sender_there e n is, asks (ap (λ f. Err f) none))))
 
@@ -109,13 +109,13 @@ read_done e n size answer recvs new is told after settled =
 -- The same of an end that is told in two ways
 
 pub write_ok : (e now : End) (n : ℕ) (bytes : List ℕ) (count : ℕ) (sends : Tables SendLane) (new : End) → e ≡ now → no_sender now n ≡ None → refusal (or_none (send_lane e n)) ≡ None
-    → count ≡ accepted (or_none (send_lane e n)) (length bytes) → sends ≡ updated e.sends n (λ l. write_lane l (take count bytes)) (send_lane e n)
+    → count ≡ accepted_by e (or_none (send_lane e n)) (length bytes) → sends ≡ updated e.sends n (λ l. write_lane l (take count bytes)) (send_lane e n)
     → new ≡ settle (record e { sends = sends }) → WriteStep now n bytes (Ok count) new
 write_ok e now n bytes count sends new is none free much after settled =
     subst (λ (k : End). WriteStep k n bytes (Ok count) new) is (write_done e n bytes count sends new (ap (λ k. no_sender k n) is ∙ none) free much after settled)
 
 pub write_err : (e now : End) (n : ℕ) (bytes : List ℕ) (fault : SendFault) → e ≡ now → no_sender now n ≡ None → fault ≡ unwrap_or (refusal (or_none (send_lane e n))) sends.NoMemory
-    → (◌≡◌ {A = Result ℕ SendFault} (Err fault) (Err sends.NoMemory) → 0 < accepted (or_none (send_lane e n)) (length bytes)) → WriteStep now n bytes (Err (use_fault fault)) e
+    → (◌≡◌ {A = Result ℕ SendFault} (Err fault) (Err sends.NoMemory) → 0 < accepted_by e (or_none (send_lane e n)) (length bytes)) → WriteStep now n bytes (Err (use_fault fault)) e
 write_err e now n bytes fault is none told asks =
     subst (λ (k : End). WriteStep k n bytes (Err (use_fault fault)) e) is (write_refused e n bytes fault (ap (λ k. no_sender k n) is ∙ none) told asks)
 

@@ -8,7 +8,8 @@ use Rattle.qs_send.specs.declared.parts.SendState.TheVariants.{Ready, Send, Data
 use Rattle.qs_send.specs.Lane.{SendLane, Sending, refusal, free_room, state, declared_size, size_of}
 use Rattle.qs_machine.specs.Tables.{Tables, lookup}
 use Rattle.qs_machine.specs.Sums.{or_none}
-use Rattle.qs_machine.specs.Asking.{waits_for_credit, room_of, unsent_of}
+use Rattle.qs_machine.specs.Asking.{waits_for_credit, unsent_of}
+use Rattle.qs_conn.specs.Sending.{buffer_room}
 use Rattle.qs_machine.specs.Outgoing.{Outgoing, lanes_of, IsAckedReset, IsBlockedAt, WantsMore, reset_by}
 use Rattle.qs_machine.proofs.Carried.{none_some}
 use Rattle.qs_machine.proofs.LaneTables.{lane_there}
@@ -130,13 +131,13 @@ waits_more b o l e r lt =
 
 -- What an owner asks of a stream
 
-pub room_none : (o : Option SendLane) → o ≡ None → 0 ≡ room_of o
+pub room_none : (o : Option SendLane) → o ≡ None → 0 ≡ buffer_room o
 room_none o e = rw e refl
 
-pub room_refused : (o : Option SendLane) (l : SendLane) → o ≡ Some l → is_some (refusal l) ≡ true → 0 ≡ room_of o
+pub room_refused : (o : Option SendLane) (l : SendLane) → o ≡ Some l → is_some (refusal l) ≡ true → 0 ≡ buffer_room o
 room_refused o l e r = rw (e, r) refl
 
-pub room_free : (o : Option SendLane) (l : SendLane) → o ≡ Some l → is_some (refusal l) ≡ false → min (free_room l) (MAX_VARINT - l.written) ≡ room_of o
+pub room_free : (o : Option SendLane) (l : SendLane) → o ≡ Some l → is_some (refusal l) ≡ false → min (free_room l) (MAX_VARINT - l.written) ≡ buffer_room o
 room_free o l e r = rw (e, r) (omega arith)
 
 pub unsent_none : (o : Option SendLane) → o ≡ None → 0 ≡ unsent_of o

@@ -18,3 +18,4 @@ pub mod Held
 pub mod Settled
 pub mod Middle
 pub mod NewlyTold
+pub mod Promised

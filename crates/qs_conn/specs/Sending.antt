@@ -1,11 +1,11 @@
 -- Of private contracts.
 -- Whether anything is due that may go: what a walk over control items and streams tells.
-use Rattle.std.specs.Prelude.{◌≡◌, ℕ, Bool, true, false, ◌⊎◌}
-use Rattle.qs_send.specs.Lane.{SendLane}
+use Rattle.std.specs.Prelude.{◌≡◌, ℕ, ◌-◌, Bool, true, false, ◌⊎◌, List, take, Option, None, Some, is_some, if◌then◌else◌}
+use Rattle.qs_send.specs.Lane.{SendLane, accepted, refusal, free_room}
 use Rattle.qs_send.specs.Writable.{is_writable}
 use Rattle.qs_send.specs.declared.piece.Item.{Item}
 use Rattle.qs_machine.specs.Ends.{End}
-use Rattle.qs_machine.specs.Credit.{send_ended}
+use Rattle.qs_machine.specs.Credit.{send_ended, credit_for}
 use Rattle.qs_machine.specs.Due.{IsDueItem, StreamGoes}
 use Rattle.qs_calls.specs.declared.filling.Fill.{Fill}
 use Rattle.qs_machine.specs.Filling.{IsAsked, WantedGoes}
@@ -19,6 +19,19 @@ IsDueOf e n = IsHeld (HasForPacket e n) e.sends n
 -- a half takes bytes now
 abbrev pub MayWrite : SendLane → Type 0
 MayWrite l = is_writable l ≡ true
+
+-- how many bytes a half takes by its buffer, however many are written: none where it refuses them (RFC 9000, sections 2.2 and 2.4)
+abbrev pub buffer_room : Option SendLane → ℕ
+buffer_room None = 0
+buffer_room (Some l) = if is_some (refusal l) then 0 else accepted l (free_room l)
+
+-- how many bytes more may be written that the half's own limit lets go (RFC 9000, section 4.1)
+abbrev pub limit_left : SendLane → ℕ
+limit_left l = l.limit - l.written
+
+-- what is offered of bytes: as many as credit lets go, where writes keep within it (RFC 9000, section 4.1)
+abbrev pub offered : End → SendLane → List ℕ → List ℕ
+offered e l bytes = if e.tuning.within_credit then take (credit_for e l) bytes else bytes
 
 -- a half came to its end: Data Recvd or Reset Recvd (RFC 9000, section 3.1)
 abbrev pub HasSent : SendLane → Type 0

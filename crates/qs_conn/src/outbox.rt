@@ -8,6 +8,8 @@ ghost use Rattle.qs_machine.specs.Reports.{send_report};
 ghost use Rattle.qs_machine.specs.Sums.{or_none};
 ghost use Rattle.qs_conn.specs.Ended.{send_over};
 ghost use Rattle.qs_conn.specs.Held.{kept_on, most_buffered};
+ghost use Rattle.qs_conn.specs.Promised.{promised_on};
+ghost use Rattle.qs_machine.specs.Credit.{unsent_on};
 ghost use Rattle.qs_machine.specs.Outgoing.{no_packets, with_sends, on_lane, sent_sum, HasSending, AreOfOpen};
 
 use crate::piece_room::PieceRoom;
@@ -190,6 +192,19 @@ impl Outbox {
         self.sent
     }
 
+    /// How many bytes of all streams were written that are still to be sent for the first time. A sum that is no u64 is the greatest one.
+    pub(crate) fn unsent_sum(&self) -> u64
+        ensures { result ≡ min (total unsent_on self.now.sends) (2 ^ 64 - 1) }
+    {
+        let bidi = self.types[0].promised() + self.types[1].promised();
+        let uni = self.types[2].promised() + self.types[3].promised();
+        let unsent = bidi + uni - self.sent as u128;
+        if unsent > u64::MAX as u128 {
+            return u64::MAX;
+        }
+        unsent as u64
+    }
+
     /// What the buffers of all streams take, in bytes, by a walk over them. A sum that is no u64 is the greatest one.
     pub(crate) fn held(&self) -> u64
         ensures kept { min (total kept_on self.now.sends) (2 ^ 64 - 1) ≤ result }
@@ -223,11 +238,12 @@ impl Outbox {
         lanes.reserve_to(index_of(stream) + 1)
     }
 
-    /// Takes the streams of the type of this one from a count on away. Nothing of them was sent.
+    /// Takes the streams of the type of this one from a count on away. Nothing of them was sent or is to be sent.
     pub(crate) fn close_to(&mut self, stream: StreamId, count: usize)
         requires none { AreOfOpen (with_table self.old.sends (type_of stream) (take count (table self.old.sends (type_of stream)))) self.old.outstanding }
         requires lost { AreOfOpen (with_table self.old.sends (type_of stream) (take count (table self.old.sends (type_of stream)))) self.old.lost.pieces }
         requires unsent { sent_sum (with_table self.old.sends (type_of stream) (take count (table self.old.sends (type_of stream)))) ≡ sent_sum self.old.sends }
+        requires unwritten { total promised_on (with_table self.old.sends (type_of stream) (take count (table self.old.sends (type_of stream)))) ≡ total promised_on self.old.sends }
         ensures { self.new ≡ with_sends (with_table self.old.sends (type_of stream) (take count (table self.old.sends (type_of stream)))) self.old }
     {
         let lanes = &mut self.types[type_of(stream)];

@@ -9,6 +9,7 @@ ghost use Rattle.qs_machine.specs.Memory.{ChunkMayRunOut};
 ghost use Rattle.qs_machine.specs.Sums.{changed, no_sending};
 ghost use Rattle.qs_machine.specs.News.{IsLeast};
 ghost use Rattle.qs_conn.specs.Held.{kept_on, most_buffered};
+ghost use Rattle.qs_conn.specs.Promised.{promised_on};
 ghost use Rattle.qs_conn.specs.Marks.{AreMarked, IsBefore, IsAt};
 ghost use Rattle.qs_conn.specs.declared.send_marks.Task.TheVariants as tasks;
 ghost use Rattle.qs_conn.specs.Tasks.{IsQuiet, HasTask};
@@ -26,6 +27,8 @@ use std::marker::Model;
 pub(crate) struct SendLanes {
     alloc: Global,
     halves: Vec<SendHalf>,
+    // How many bytes of all halves were sent or are still to be sent. A sum over 2^60 halves is no u64.
+    promised: u128,
     // A half without a mark for a task is quiet of it.
     marks: SendMarks,
 }
@@ -37,6 +40,7 @@ impl Model for SendLanes {
     ghost use Rattle.qs_send.specs.Lane.{Sending};
     ghost use Rattle.qs_send.specs.Codes.{sending_code};
     ghost use Rattle.qs_conn.specs.Tasks.{AreAllMarked};
+    ghost use Rattle.qs_conn.specs.Promised.{ArePromised};
 
     ghost Value = { List Sending };
 
@@ -44,7 +48,7 @@ impl Model for SendLanes {
 
     ghost view = { λ l. l.halves.items };
 
-    ghost invariant = { λ l. (length l.halves.items ≤ 2 ^ 60) × AreAllMarked l.halves.items l.marks };
+    ghost invariant = { λ l. (length l.halves.items ≤ 2 ^ 60) × AreAllMarked l.halves.items l.marks × ArePromised l.halves.items l.promised };
 }
 
 impl SendLanes {
@@ -54,6 +58,7 @@ impl SendLanes {
         SendLanes {
             alloc,
             halves: Vec::new(alloc),
+            promised: 0,
             marks: SendMarks::new(alloc),
         }
     }
@@ -77,6 +82,14 @@ impl SendLanes {
             held = held.saturating_add(half.held());
         }
         held
+    }
+
+    /// How many bytes of all halves were sent or are still to be sent for the first time.
+    pub(crate) fn promised(&self) -> u128
+        ensures value { result ≡ sum_by (λ s. promised_on s.lane) self.now }
+        ensures small { result ≤ 2 ^ 122 }
+    {
+        self.promised
     }
 
     /// An open half.
@@ -130,8 +143,9 @@ impl SendLanes {
         }
     }
 
-    /// Takes the halves from a count on away.
+    /// Takes the halves from a count on away. Nothing of them was sent or is to be sent.
     pub(crate) fn close_to(&mut self, count: usize)
+        requires { sum_by (λ s. promised_on s.lane) (take count self.old) ≡ sum_by (λ s. promised_on s.lane) self.old }
         ensures { self.new ≡ take count self.old }
     {
         self.halves.truncate(count);
@@ -154,6 +168,7 @@ impl SendLanes {
         let half = &mut self.halves[index];
         half.is_lawful();
         let answer = half.write(bytes);
+        self.promised += answer.unwrap_or(0) as u128;
         self.marks.look_written(index, half);
         answer
     }
@@ -178,7 +193,10 @@ impl SendLanes {
         ensures after { self.new ≡ changed self.old index (λ s. after_reset s code) (slice_get self.old index) }
     {
         let half = &mut self.halves[index];
+        let before = promised(half);
         let answer = half.reset(code);
+        let after = promised(half);
+        self.promised = self.promised - before + after;
         self.marks.look(index, half);
         answer
     }
@@ -190,7 +208,10 @@ impl SendLanes {
         ensures { self.new ≡ changed self.old index (λ s. after_stopped s code) (slice_get self.old index) }
     {
         let half = &mut self.halves[index];
+        let before = promised(half);
         half.stopped(code);
+        let after = promised(half);
+        self.promised = self.promised - before + after;
         self.marks.look(index, half);
     }
 
@@ -233,6 +254,7 @@ impl SendLanes {
         ensures { self.new ≡ changed self.old index (λ s. after_sent s chunk) (slice_get self.old index) }
     {
         let half = &mut self.halves[index];
+        half.is_lawful();
         half.sent(chunk);
         self.marks.look_sent(index, half);
     }
@@ -305,6 +327,18 @@ impl SendLanes {
         }
         None
     }
+}
+
+// How many bytes of a half were sent or are still to be sent for the first time.
+fn promised(half: &SendHalf) -> u128
+    ensures value { result ≡ promised_on half.now.lane }
+    ensures small { result ≤ MAX_VARINT }
+{
+    half.is_lawful();
+    if let Some(_code) = half.reset_code() {
+        return half.sent_end() as u128;
+    }
+    half.written() as u128
 }
 
 // A write to a half that has no room: no byte is accepted.

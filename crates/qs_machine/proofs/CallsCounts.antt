@@ -1,10 +1,10 @@
 -- As each call ends the granted counts of streams are what the streams that ended make them; none is lower, and a receiving half keeps what it knows.
-use Rattle.std.proofs.Common.{◌≡◌, ℕ, ◌+◌, not, ◌&&◌, length, take, Some, None, refl, sym, ◌∙◌, subst, arith}
+use Rattle.std.proofs.Common.{◌≡◌, ℕ, ◌+◌, not, ◌&&◌, take, Some, None, refl, sym, ◌∙◌, subst, arith}
 use Rattle.std.proofs.lemmas.Option.{same_Some}
 use Rattle.std.proofs.lemmas.Bool.{cond_both}
 use Rattle.qs_wire.specs.declared.stream_id.Dir.TheVariants.{Bidi, Uni}
 use Rattle.qs_recv.specs.Lane.{RecvLane, new_lane as new_recv_lane, after_read, stop, raise}
-use Rattle.qs_send.specs.Lane.{SendLane, new_lane as new_send_lane, refusal, accepted, write_lane, finish_lane, reset_lane, blocked_lane, sent_lane}
+use Rattle.qs_send.specs.Lane.{SendLane, new_lane as new_send_lane, refusal, write_lane, finish_lane, reset_lane, blocked_lane, sent_lane}
 use Rattle.qs_send.specs.declared.piece.Item.TheVariants.{StreamDataBlocked}
 use Rattle.qs_send.specs.declared.piece.Piece.{Piece}
 use Rattle.qs_machine.specs.Ends.{End, send_lane, on_send, on_recv, is_own, is_uni, opens, first_send_limit, window}
@@ -107,7 +107,7 @@ moves_change : (old : End) (call : Call) (c : Change) (e : End) → Comes old ca
 moves_change old call (Wanted Uni count) e comes sound sent = moves_same e
 moves_change old call (Opened n) e comes sound sent = moves_opens n e
 moves_change old call (Written n bytes l) e comes sound sent =
-    let more : SendLane → SendLane = λ m. write_lane m (take (accepted l (length bytes)) bytes) in
+    let more : SendLane → SendLane = λ m. write_lane m bytes in
     moves_send n more e (λ k at. write_keeps k (more k) (subst (λ m. refusal m ≡ None) (same_Some l k (sym comes.0 ∙ at)) comes.1) refl)
 moves_change old call (Finished n) e comes sound sent = moves_send n finish_lane e (λ l at. finish_keeps l)
 moves_change old call (WasReset n code) e comes sound sent = moves_send n (λ m. reset_lane m code) e (λ l at. reset_keeps code l)

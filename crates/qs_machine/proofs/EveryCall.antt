@@ -12,7 +12,7 @@ use Rattle.qs_wire.specs.declared.stream_id.Dir.{Dir}
 use Rattle.qs_wire.specs.declared.stream_id.Dir.TheVariants.{Bidi, Uni}
 use Rattle.qs_recv.specs.Lane.{after_read, stop}
 use Rattle.qs_recv.specs.declared.half.Read.{Read}
-use Rattle.qs_send.specs.Lane.{SendLane, refusal, reset_refusal, accepted, write_lane, finish_lane, reset_lane}
+use Rattle.qs_send.specs.Lane.{SendLane, refusal, reset_refusal, write_lane, finish_lane, reset_lane}
 use Rattle.qs_send.specs.Records.{IsCarried}
 use Rattle.qs_send.specs.declared.parts.SendFault.{SendFault}
 use Rattle.qs_send.specs.declared.piece.Piece.{Piece}
@@ -45,7 +45,7 @@ use Rattle.qs_machine.specs.Verdicts.{verdict, fault_if, PROTOCOL_VIOLATION}
 use Rattle.qs_machine.specs.FrameStep.{frame_taken, acks, named}
 use Rattle.qs_machine.specs.Recording.{recorded}
 use Rattle.qs_machine.specs.Lawful.{MayPut, Fills, frame_put}
-use Rattle.qs_machine.specs.Owner.{OpenStep, AcceptStep, AcceptOfStep, ReadBy, ConsumeStep, with_wanted, Certain, first_refusal, refuse_if, no_half, half_refusal, send_refusal, recv_refusal, is_read_no_more, IsBlocked, IsOpened, GivesNone, GivesBidi, GivesUni, AcceptOpen, AcceptOpenOf, peer_type, next_stream}
+use Rattle.qs_machine.specs.Owner.{OpenStep, AcceptStep, AcceptOfStep, ReadBy, ConsumeStep, with_wanted, Certain, first_refusal, refuse_if, no_half, half_refusal, send_refusal, recv_refusal, is_read_no_more, IsBlocked, IsOpened, GivesNone, GivesBidi, GivesUni, AcceptOpen, AcceptOpenOf, peer_type, next_stream, accepted_by}
 use Rattle.qs_machine.specs.Receiving.{ClosedReceive, AtEnd, RunsOut, Stops, GoesOn, Takes, ReceiveBy, TakesPayload, OpenReceive}
 use Rattle.qs_machine.specs.Making.{MakeAt, MakeAckAt, make_refusal, claim_refusal, LoseStep, lose_refusal, first_lost, losses}
 use Rattle.qs_machine.specs.Filling.{FillAt}
@@ -82,7 +82,7 @@ changed (Wanted d count) e = with_wanted d count e
 changed (Opened n) e = opens n e
 changed AcceptedBidi e = record e { accepted_bidi = e.accepted_bidi + 1 }
 changed AcceptedUni e = record e { accepted_uni = e.accepted_uni + 1 }
-changed (Written n bytes l) e = on_send n (λ m. write_lane m (take (accepted l (length bytes)) bytes)) e
+changed (Written n bytes l) e = on_send n (λ m. write_lane m bytes) e
 changed (Finished n) e = on_send n finish_lane e
 changed (WasReset n code) e = on_send n (λ m. reset_lane m code) e
 changed (Stopped n code) e = on_recv n (λ m. stop m code) e
@@ -347,7 +347,7 @@ module _ (old : End) (call : Call) (Q P : End → Type 0) (c : Cases old call Q 
       if_allowed (P new) (send_refusal old n refusal) old answer new _ step (same new) (λ allowed some.
       elim some [
         | inl none ↦ same new none.1
-        | inr (l, is, done) ↦ edited (Written n bytes l) new (is, half_allowed (is_some old.closed) (is_some (recv_lane old n)) (send_lane old n) allowed l is) done.1
+        | inr (l, is, done) ↦ edited (Written n (take (accepted_by old l (length bytes)) bytes) l) new (is, half_allowed (is_some old.closed) (is_some (recv_lane old n)) (send_lane old n) allowed l is) done.1
       ])
 
   read_by : (r : Option UseFault) (n size : ℕ) (answer : Result Read UseFault) (bytes : List ℕ) (new : End) → ReadBy r old n size answer bytes new → P new

@@ -20,12 +20,12 @@ unfolding total
 credit = record { written = refl; sent_three = refl }
 
 taken : RoomIsTaken
-unfolding lookup
-taken = record { kept = refl; beyond = refl; last = refl; after_finish = refl; after_reset = refl; unopened = refl; closed = refl }
+unfolding lookup total
+taken = record { kept = refl; beyond = refl; within_its = refl; within_all = refl; last = refl; after_finish = refl; after_reset = refl; unopened = refl; closed = refl }
 
 new : UnsentIsNew
-unfolding lookup
-new = record { written = refl; sent_three = refl; after_reset = refl }
+unfolding lookup total
+new = record { written = refl; sent_three = refl; after_reset = refl; all_written = refl; all_sent_three = refl; all_after_reset = refl }
 
 two_acked : missing_from (numbers 0 2) 0 ≡ 2
 two_acked =

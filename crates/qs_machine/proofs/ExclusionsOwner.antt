@@ -1,5 +1,5 @@
 -- Which answers an end's owner isn't given, and what its calls don't leave.
-use Rattle.std.proofs.Common.{◌≡◌, ℕ, List, [], ◌∷◌, length, take, Bool, true, false, cond, ◌&&◌, Option, Some, None, is_some, refl, sym, ap, ◌∙◌, arith, inl, inr}
+use Rattle.std.proofs.Common.{◌≡◌, ℕ, List, [], ◌∷◌, length, take, Bool, true, false, cond, ◌&&◌, Option, Some, None, is_some, refl, sym, ap, ◌∙◌, subst, ◌<◌, arith, inl, inr}
 use Rattle.std.specs.Prelude.{Result, Ok, Err}
 use Rattle.std.specs.FinSet as set
 use Rattle.std.specs.Ordering.{nat_cmp}
@@ -21,9 +21,9 @@ use Rattle.qs_machine.specs.Tables.{lookup, update, open_to, each, total}
 use Rattle.qs_machine.specs.Ends.{End, send_lane, recv_lane, on_send}
 use Rattle.qs_machine.specs.Credit.{settle}
 use Rattle.qs_machine.specs.FrameStep.{frame_taken}
-use Rattle.qs_machine.specs.Owner.{Certain, send_refusal, is_end}
+use Rattle.qs_machine.specs.Owner.{Certain, send_refusal, accepted_by, is_end}
 use Rattle.qs_machine.specs.SmallEnds.{client_with, abc, begun, wrote, fresh}
-use Rattle.qs_machine.specs.ExclusionsOwner.{NoSuchOpening, NoSuchAccepting, NoSuchAcceptingOf, NoSuchSending, NoSuchReading, LimitsSettle, LimitsOnlyRise, NotOwned}
+use Rattle.qs_machine.specs.ExclusionsOwner.{NoSuchOpening, NoSuchAccepting, NoSuchAcceptingOf, NoSuchSending, NoSuchWriting, NoSuchReading, LimitsSettle, LimitsOnlyRise, NotOwned, prudent}
 use Rattle.qs_machine.proofs.Choices.{not_chosen}
 use Rattle.qs_machine.proofs.ExclusionsMaking.{ok_is_no_err}
 
@@ -169,6 +169,36 @@ sendings =
           );
     }
 
+writings : NoSuchWriting
+unfolding lookup update total
+writings =
+    record {
+      past_its = λ new h. elim h [
+        | inl none ↦ ok_is_no_err _ _ none.0
+        | inr some ↦ (let (l, at, done) = some in let e : 3 ≡ 2 = ap number_of done.0 ∙ ap (λ (k : SendLane). accepted_by (prudent (client_with (record begun { limit = 2 }))) k 3) (sym (same_Some _ l at)) in omega arith)
+      ];
+      fewer = λ new h. elim h [
+        | inl none ↦ ok_is_no_err _ _ none.0
+        | inr some ↦ (let (l, at, done) = some in let e : 1 ≡ 2 = ap number_of done.0 ∙ ap (λ (k : SendLane). accepted_by (prudent (client_with (record begun { limit = 2 }))) k 3) (sym (same_Some _ l at)) in omega arith)
+      ];
+      past_all = λ new h. elim h [
+        | inl none ↦ ok_is_no_err _ _ none.0
+        | inr some ↦ (let (l, at, done) = some in let e : 3 ≡ 2 = ap number_of done.0 ∙ ap (λ (k : SendLane). accepted_by (record (prudent (client_with begun)) { known_data = 2 }) k 3) (sym (same_Some _ l at)) in omega arith)
+      ];
+      past_waiting = λ new h. elim h [
+        | inl none ↦ ok_is_no_err _ _ none.0
+        | inr some ↦ (let (l, at, done) = some in let e : 3 ≡ 2 = ap number_of done.0 ∙ ap (λ (k : SendLane). accepted_by (record (prudent (client_with wrote)) { known_data = 5 }) k 3) (sym (same_Some _ l at)) in omega arith)
+      ];
+      no_memory = λ new h. elim h [
+        | inl none ↦ (let (l, at, some) = none.2 in let e : 0 < 0 = subst (λ (k : SendLane). 0 < accepted_by (record (prudent (client_with begun)) { known_data = 0 }) k 3) (sym (same_Some _ l at)) some in omega (arith, e))
+        | inr some ↦ (let (l, at, done) = some in ok_is_no_err _ _ (sym done.0))
+      ];
+      unasked = λ new h. elim h [
+        | inl none ↦ ok_is_no_err _ _ none.0
+        | inr some ↦ (let (l, at, done) = some in let e : 2 ≡ 3 = ap number_of done.0 ∙ ap (λ (k : SendLane). accepted_by (client_with (record begun { limit = 2 })) k 3) (sym (same_Some _ l at)) in omega arith)
+      ];
+    }
+
 -- nothing came, so a reader waits
 waits : read_answer fresh 10 ≡ reads.Wait
 waits = not_chosen _ _ reads.Wait (set.contains-empty nat_cmp 0)
@@ -214,6 +244,7 @@ not_owned = record {
   accepting = acceptings;
   accepting_of = acceptings_of;
   sending = sendings;
+  within_credit = writings;
   reading = readings;
   settling = settling;
   rising = risings;

@@ -1,5 +1,5 @@
 -- No call lowers a limit.
-use Rattle.std.proofs.Common.{◌≡◌, ℕ, ◌≤◌, Bool, true, false, not, ◌&&◌, ◌||◌, List, [], ◌∷◌, length, take, Option, Some, None, is_some, option_map, refl, sym, ap, ◌∙◌, subst, arith, inl, inr}
+use Rattle.std.proofs.Common.{◌≡◌, ℕ, ◌≤◌, Bool, true, false, not, ◌&&◌, ◌||◌, List, [], ◌∷◌, take, Option, Some, None, is_some, option_map, refl, sym, ap, ◌∙◌, subst, arith, inl, inr}
 use Rattle.std.specs.Prelude.{cond}
 use Rattle.std.proofs.lemmas.Option.{none-some, same_Some}
 use Rattle.std.proofs.lemmas.Bool.{cond_both, cases_eq}
@@ -10,7 +10,7 @@ use Rattle.qs_recv.specs.Lane.{RecvLane, new_lane as new_recv_lane, take_stream,
 use Rattle.qs_recv.specs.declared.half.Read.{Read}
 use Rattle.qs_recv.specs.declared.half.Read.TheVariants as reads
 use Rattle.qs_recv.proofs.LawfulLaws.{raised_grows}
-use Rattle.qs_send.specs.Lane.{SendLane, new_lane as new_send_lane, reset_refusal, accepted, write_lane, finish_lane, reset_lane, stopped_lane, acked_lane, allow_lane, reset_acked_lane, blocked_lane, sent_lane}
+use Rattle.qs_send.specs.Lane.{SendLane, new_lane as new_send_lane, reset_refusal, write_lane, finish_lane, reset_lane, stopped_lane, acked_lane, allow_lane, reset_acked_lane, blocked_lane, sent_lane}
 use Rattle.qs_send.specs.declared.piece.Item.{Item}
 use Rattle.qs_send.specs.declared.piece.Item.TheVariants.{MaxData, MaxStreamData, MaxStreams, ResetStream, StopSending, StreamDataBlocked, StreamsBlocked}
 use Rattle.qs_send.specs.declared.piece.Piece.{Piece}
@@ -199,7 +199,7 @@ stop_limit code l = kept_limit (is_some l.stop_code) l (record l { arrived = dis
 rises_change : (old : End) (call : Call) (c : Change) (e : End) → Comes old call e c → LimitsRise e (changed c e)
 rises_change old call (Wanted Uni count) e comes = rises_same e
 rises_change old call (Opened n) e comes = rises_opens n e
-rises_change old call (Written n bytes l) e comes = rises_send n (λ m. write_lane m (take (accepted l (length bytes)) bytes)) e (λ m. le_same m.limit)
+rises_change old call (Written n bytes l) e comes = rises_send n (λ m. write_lane m bytes) e (λ m. le_same m.limit)
 rises_change old call (Finished n) e comes = rises_send n finish_lane e (λ m. le_same m.limit)
 rises_change old call (WasReset n code) e comes = rises_send n (λ m. reset_lane m code) e (reset_limit code)
 rises_change old call (Stopped n code) e comes = rises_recv n (λ m. stop m code) e (stop_limit code)

@@ -1,10 +1,10 @@
 -- Every call leaves all outstanding data written.
-use Rattle.std.proofs.Common.{◌≡◌, ℕ, nat_eq, ◌++◌, ◌≤◌, Bool, true, false, not, ◌&&◌, List, [], ◌∷◌, length, take, Option, Some, None, is_some, refl, sym, ◌∙◌, subst, arith, inl, inr}
+use Rattle.std.proofs.Common.{◌≡◌, ℕ, nat_eq, ◌++◌, ◌≤◌, Bool, true, false, not, ◌&&◌, List, [], ◌∷◌, take, Option, Some, None, is_some, refl, sym, ◌∙◌, subst, arith, inl, inr}
 use Rattle.std.specs.Prelude.{cond, Result, Ok, Err}
 use Rattle.std.proofs.lemmas.Option.{same_Some}
 use Rattle.std.proofs.lemmas.Bool.{cond_both}
 use Rattle.qs_wire.specs.declared.stream_id.Dir.TheVariants.{Uni}
-use Rattle.qs_send.specs.Lane.{SendLane, new_lane as new_send_lane, reset_refusal, accepted, write_lane, finish_lane, reset_lane, stopped_lane, acked_lane, allow_lane, reset_acked_lane, blocked_lane, sent_lane}
+use Rattle.qs_send.specs.Lane.{SendLane, new_lane as new_send_lane, reset_refusal, write_lane, finish_lane, reset_lane, stopped_lane, acked_lane, allow_lane, reset_acked_lane, blocked_lane, sent_lane}
 use Rattle.qs_send.specs.declared.piece.Item.{Item}
 use Rattle.qs_send.specs.declared.piece.Item.TheVariants.{MaxStreamData, MaxStreams, ResetStream, StopSending, StreamDataBlocked, StreamsBlocked}
 use Rattle.qs_send.specs.declared.piece.Piece.{Piece}
@@ -160,7 +160,7 @@ keeps_first_lost k p e written h true q is = elim (lost_carried k p e.lost q is)
 pub keeps_change : (old : End) (call : Call) (c : Change) (e : End) → Comes old call e c → Keeps e (changed c e)
 keeps_change old call (Wanted Uni count) e comes = keeps_same e
 keeps_change old call (Opened n) e comes = keeps_opens n e
-keeps_change old call (Written n bytes l) e comes = keeps_send n (λ m. write_lane m (take (accepted l (length bytes)) bytes)) e (λ m. omega arith)
+keeps_change old call (Written n bytes l) e comes = keeps_send n (λ m. write_lane m bytes) e (λ m. omega arith)
 keeps_change old call (Finished n) e comes = keeps_send n finish_lane e longer_same
 keeps_change old call (WasReset n code) e comes = keeps_send n (λ m. reset_lane m code) e (reset_written code)
 keeps_change old call (Raised p) e comes = keeps_raised p e

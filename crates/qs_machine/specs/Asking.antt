@@ -10,9 +10,10 @@ use Rattle.qs_calls.specs.declared.closing.Closed.{Closed}
 use Rattle.qs_calls.specs.declared.closing.Closed.TheVariants.{ByUs, ByPeer}
 use Rattle.qs_machine.specs.Tables.{total}
 use Rattle.qs_machine.specs.Ends.{End, Records, send_lane, recv_lane}
-use Rattle.qs_machine.specs.Credit.{all_sent, lifetime}
+use Rattle.qs_machine.specs.Credit.{all_sent, lifetime, unsent_on}
+pub use Rattle.qs_machine.specs.Credit.{credit_left, all_unsent}
 use Rattle.qs_machine.specs.Due.{IsDueItem, StreamGoes, known_count}
-use Rattle.qs_machine.specs.Owner.{opened_count, own_type, peer_type}
+use Rattle.qs_machine.specs.Owner.{opened_count, own_type, peer_type, accepted_by}
 
 -- Something beside an ACK goes: a control item that is due, or bytes or the end of a stream that no limit holds back. Of an end that
 -- closed nothing goes (RFC 9000, sections 4.1, 10.2 and 13.3).
@@ -52,23 +53,19 @@ waits_for_credit used_up (Some l) = is_none l.was_reset && nat_lt l.sent_end l.w
 abbrev pub is_blocked : End → ℕ → Bool
 is_blocked e n = is_none e.closed && waits_for_credit (all_sent e == e.known_data) (send_lane e n)
 
--- how many bytes beyond all that were sent the peer's limit on the connection lets go (RFC 9000, section 4.1)
-abbrev pub credit_left : End → ℕ
-credit_left e = e.known_data - all_sent e
-
--- how many bytes a sending half accepts, however many are written: none where it refuses them (RFC 9000, sections 2.2 and 2.4)
-abbrev pub room_of : Option SendLane → ℕ
-room_of None = 0
-room_of (Some l) = if is_some (refusal l) then 0 else accepted l (free_room l)
+-- how many bytes a sending half takes, however many are written: none where it refuses them (RFC 9000, sections 2.2 and 2.4)
+abbrev pub room_of : End → Option SendLane → ℕ
+room_of e None = 0
+room_of e (Some l) = if is_some (refusal l) then 0 else accepted_by e l (free_room l)
 
 -- the same of a stream at this end, which accepts none once it closed (RFC 9000, sections 2.2, 2.4 and 10.2)
 abbrev pub room : End → ℕ → ℕ
-room e n = if is_some e.closed then 0 else room_of (send_lane e n)
+room e n = if is_some e.closed then 0 else room_of e (send_lane e n)
 
--- how many bytes were written that are still to be sent for the first time; after a reset none are (RFC 9000, sections 2.2 and 3.1)
+-- how many bytes of a stream were written that are still to be sent for the first time (RFC 9000, sections 2.2 and 3.1)
 abbrev pub unsent_of : Option SendLane → ℕ
 unsent_of None = 0
-unsent_of (Some l) = if is_some l.was_reset then 0 else l.written - l.sent_end
+unsent_of (Some l) = unsent_on l
 
 -- the same of a stream at this end (RFC 9000, sections 2.2 and 3.1)
 abbrev pub unsent : End → ℕ → ℕ

@@ -1,6 +1,6 @@
 -- Trusted.
 -- Credit: what the peer may send and has used up, and how the limits move (RFC 9000, section 4).
-use Rattle.std.specs.Prelude.{ℕ, ◌+◌, ◌*◌, ◌/◌, Bool, ◌&&◌, ◌||◌, length, min, max, zip, Option, Some, None, is_some, is_none, if◌then◌else◌}
+use Rattle.std.specs.Prelude.{ℕ, ◌+◌, ◌*◌, ◌/◌, Bool, ◌&&◌, ◌||◌, length, min, max, zip, Option, Some, None, is_some, is_none, if◌then◌else◌, ◌-◌}
 use Rattle.std.specs.List.{filter}
 use Rattle.std.specs.FinMap as fmap
 use Rattle.qs_wire.specs.declared.stream_id.Dir.{Dir}
@@ -29,6 +29,23 @@ all_stored e = total (λ l. fmap.len l.arrived.stored) e.recvs
 -- the sum of all sent ends: what the peer's connection limit bounds (RFC 9000, section 4.1)
 abbrev pub all_sent : End → ℕ
 all_sent e = total (λ l. l.sent_end) e.sends
+
+-- how many bytes of a half were written that are still to be sent for the first time; after a reset none are (RFC 9000, sections 2.2 and 3.1)
+abbrev pub unsent_on : SendLane → ℕ
+unsent_on l = if is_some l.was_reset then 0 else l.written - l.sent_end
+
+-- the sum of these (RFC 9000, sections 2.2 and 3.1)
+abbrev pub all_unsent : End → ℕ
+all_unsent e = total unsent_on e.sends
+
+-- how many bytes beyond all that were sent the peer's limit on the connection lets go (RFC 9000, section 4.1)
+abbrev pub credit_left : End → ℕ
+credit_left e = e.known_data - all_sent e
+
+-- how many more bytes a half may have written that may all be sent at once: by its own limit, and by the connection's beside all that wait to be
+-- sent (RFC 9000, section 4.1)
+abbrev pub credit_for : End → SendLane → ℕ
+credit_for e l = min (l.limit - l.written) (credit_left e - all_unsent e)
 
 -- how many streams of a direction the peer may open (RFC 9000, section 4.6)
 abbrev pub granted_streams : End → Dir → ℕ

@@ -2,11 +2,11 @@
 -- What an end that is asked tells, and doesn't count (RFC 9000, sections 2.2, 4.1 and 13.3).
 use Rattle.std.specs.Prelude.{◌≡◌, None, Some, false, true}
 use Rattle.qs_ranges.specs.Numbers.{numbers}
-use Rattle.qs_machine.specs.Asking.{all_noted, credit_left, room, unsent, acked_below, taken}
+use Rattle.qs_machine.specs.Asking.{all_noted, credit_left, room, unsent, acked_below, taken, all_unsent}
 use Rattle.qs_machine.specs.Credit.{all_taken}
 use Rattle.qs_recv.specs.Lane.{take_stream, take_reset, stop}
 use Rattle.qs_machine.specs.SmallEnds.{client_with, server_with, abc, fresh, three_came, all_came, wrote, sent, second_acked, finished, reset_half}
-use Rattle.qs_machine.specs.ExclusionsOwner.{over}
+use Rattle.qs_machine.specs.ExclusionsOwner.{over, prudent}
 
 -- what the connection's credit lets go (section 4.1)
 pub record CreditIsSent : Type 0 where
@@ -21,6 +21,10 @@ pub record RoomIsTaken : Type 0 where
   pub kept : room (client_with wrote) 0 ≡ 2045
   -- credit doesn't count
   pub beyond : room (client_with (record wrote { limit = 0 })) 0 ≡ 2045
+  -- but where writes keep within it: that of the stream
+  pub within_its : room (prudent (client_with (record wrote { limit = 5 }))) 0 ≡ 2
+  -- and that of the connection, beside what waits (section 4.1)
+  pub within_all : room (record (prudent (client_with wrote)) { known_data = 4 }) 0 ≡ 1
   -- none is taken past the greatest offset (section 16)
   pub last : room (client_with (record wrote { written = 4611686018427387902 })) 0 ≡ 1
   -- nor of a stream that was finished
@@ -39,6 +43,10 @@ pub record UnsentIsNew : Type 0 where
   pub sent_three : unsent (client_with sent) 0 ≡ 0
   -- and none after a reset
   pub after_reset : unsent (client_with reset_half) 0 ≡ 0
+  -- of all streams the same
+  pub all_written : all_unsent (client_with wrote) ≡ 3
+  pub all_sent_three : all_unsent (client_with sent) ≡ 0
+  pub all_after_reset : all_unsent (client_with reset_half) ≡ 0
 
 -- below which offset each is acknowledged (section 13.3)
 pub record AckedInARow : Type 0 where

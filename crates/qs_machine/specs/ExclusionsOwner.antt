@@ -114,6 +114,25 @@ pub record NoSuchSending : Type 0 where
   -- reset, and its bytes kept still (section 13.3)
   pub still_kept : (new : End) → ResetStep (client_with wrote) 0 7 (Ok tt) new → send_lane new 0 ≡ Some (record wrote { was_reset = Some (record { code = 7; size = 0 }) }) → ⊥
 
+-- an end whose writes keep within credit
+abbrev pub prudent : End → End
+prudent e = record e { tuning = record default_tuning { within_credit = true } }
+
+-- nor `write` so, where it keeps within credit (sections 2.2 and 4.1)
+pub record NoSuchWriting : Type 0 where
+  -- with more bytes than the stream's limit lets go
+  pub past_its : (new : End) → WriteStep (prudent (client_with (record begun { limit = 2 }))) 0 abc (Ok 3) new → ⊥
+  -- with fewer
+  pub fewer : (new : End) → WriteStep (prudent (client_with (record begun { limit = 2 }))) 0 abc (Ok 1) new → ⊥
+  -- with more than the connection's lets go
+  pub past_all : (new : End) → WriteStep (record (prudent (client_with begun)) { known_data = 2 }) 0 abc (Ok 3) new → ⊥
+  -- beside what waits to be sent
+  pub past_waiting : (new : End) → WriteStep (record (prudent (client_with wrote)) { known_data = 5 }) 0 abc (Ok 3) new → ⊥
+  -- for want of memory, where there is no credit for any byte
+  pub no_memory : (new : End) → WriteStep (record (prudent (client_with begun)) { known_data = 0 }) 0 abc (Err NoMemory) new → ⊥
+  -- as one that keeps within it, where writes don't
+  pub unasked : (new : End) → WriteStep (client_with (record begun { limit = 2 })) 0 abc (Ok 2) new → ⊥
+
 -- no byte came, and the end did
 abbrev pub ended_half : RecvLane
 ended_half = record fresh { final_size = Some 0 }
@@ -206,6 +225,7 @@ pub record NotOwned : Type 0 where
   pub accepting : NoSuchAccepting
   pub accepting_of : NoSuchAcceptingOf
   pub sending : NoSuchSending
+  pub within_credit : NoSuchWriting
   pub reading : NoSuchReading
   pub settling : LimitsSettle
   pub rising : LimitsOnlyRise

@@ -35,7 +35,8 @@ HasForPacket e n l = ((q : ℕ) × IsDue e n l q × (q < l.limit)) ⊎ EndGoes e
 abbrev pub IsSendable : End → ℕ → Type 0
 IsSendable e n = (e.closed ≡ None) × IsHeld (HasForPacket e n) e.sends n
 
--- A write of one byte is accepted, if there is memory for it. A closed end takes none (RFC 9000, sections 2.2, 2.4 and 10.2).
+-- A write of one byte is accepted, if there is memory for it, and credit where writes keep within it. A closed end takes none (RFC 9000,
+-- sections 2.2, 2.4 and 10.2).
 abbrev pub IsWritable : End → ℕ → Type 0
 IsWritable e n = (e.closed ≡ None) × IsHeld (λ l. is_writable l ≡ true) e.sends n
 

@@ -1,7 +1,7 @@
 -- Trusted.
 -- The calls of an end's owner on streams: what each answers and leaves (RFC 9000, sections 2.4 and 3, for the whole
 -- file). As each ends, the limits move.
-use Rattle.std.specs.Prelude.{◌≡◌, ℕ, ◌+◌, ◌*◌, ◌<◌, Bool, true, false, not, ◌&&◌, List, [], ◌⊎◌, length, take, max, Option, None, Some, is_some, Result, Ok, Err, nat_le, nat_lt, MatchBool, if◌then◌else◌}
+use Rattle.std.specs.Prelude.{◌≡◌, ℕ, ◌+◌, ◌*◌, ◌<◌, Bool, true, false, not, ◌&&◌, List, [], ◌⊎◌, length, take, max, Option, None, Some, is_some, Result, Ok, Err, nat_le, nat_lt, MatchBool, if◌then◌else◌, min}
 use Rattle.qs_wire.specs.declared.stream_id.Dir.{Dir}
 use Rattle.qs_wire.specs.declared.stream_id.Dir.TheVariants.{Bidi, Uni}
 use Rattle.qs_recv.specs.Lane.{RecvLane, read_answer, bytes_read, after_read, stop}
@@ -18,7 +18,7 @@ use Rattle.qs_calls.specs.declared.uses.UseFault.TheVariants.{NoSuchStream, Wron
 use Rattle.qs_machine.specs.Tables.{table}
 use Rattle.qs_machine.specs.Ends.{End, send_lane, recv_lane, on_send, on_recv, opens}
 pub use Rattle.qs_machine.specs.Ends.{own_type, peer_type}
-use Rattle.qs_machine.specs.Credit.{settle}
+use Rattle.qs_machine.specs.Credit.{settle, credit_for}
 use Rattle.qs_machine.specs.Due.{known_count}
 
 -- The call is refused and changes nothing; or, where nothing speaks against it, it has its effect.
@@ -118,16 +118,21 @@ send_refusal e n says =
     first_refusal (refuse_if (is_some e.closed) Closed)
     (elim (send_lane e n) [ None ↦ Some (no_half (is_some (recv_lane e n))) | Some l ↦ half_refusal (says l) ])
 
+-- how many of n bytes are accepted: as many as there is room for, and, of an end that writes within credit, as may be sent at once
+-- (RFC 9000, sections 2.2 and 4.1)
+abbrev pub accepted_by : End → SendLane → ℕ → ℕ
+accepted_by e l n = if e.tuning.within_credit then min (accepted l n) (credit_for e l) else accepted l n
+
 -- bytes ask for memory where some of them are accepted
 abbrev pub AsksToKeep : End → ℕ → List ℕ → Type 0
-AsksToKeep e n bytes = (l : SendLane) × (send_lane e n ≡ Some l) × (0 < accepted l (length bytes))
+AsksToKeep e n bytes = (l : SendLane) × (send_lane e n ≡ Some l) × (0 < accepted_by e l (length bytes))
 
--- as many bytes as there is room for are accepted
+-- the front of the bytes is accepted
 abbrev pub WriteStep : End → ℕ → List ℕ → Result ℕ UseFault → End → Type 0
 WriteStep old n bytes answer new =
     Uncertain (send_refusal old n refusal) NoMemory (AsksToKeep old n bytes) old answer new
     ((l : SendLane) × (send_lane old n ≡ Some l) × (
-    let count = accepted l (length bytes) in
+    let count = accepted_by old l (length bytes) in
     (answer ≡ Ok count) × (new ≡ settle (on_send n (λ m. write_lane m (take count bytes)) old))))
 
 abbrev pub FinishStep : End → ℕ → Result (Unit {0}) UseFault → End → Type 0

@@ -1,5 +1,5 @@
 -- Frames that were taken change nothing when they come again: what they did stays done, whatever comes between.
-use Rattle.std.proofs.Common.{◌≡◌, ℕ, Bool, true, false, not, ◌&&◌, List, [], ◌∷◌, ◌⊎◌, length, take, Some, None, Result, Ok, Err, is_some, refl, sym, ap, ◌∙◌, subst, inl, inr, MatchBool, if◌then◌else◌}
+use Rattle.std.proofs.Common.{◌≡◌, ℕ, Bool, true, false, not, ◌&&◌, List, [], ◌∷◌, ◌⊎◌, take, Some, None, Result, Ok, Err, is_some, refl, sym, ap, ◌∙◌, subst, inl, inr, MatchBool, if◌then◌else◌}
 use Rattle.std.proofs.lemmas.Option.{same_Some, none-some}
 use Rattle.std.proofs.lemmas.Bool.{false≢true, cond_both, eq-eqb, and_from}
 use Rattle.std.specs.List.{AllByRecursion}
@@ -7,7 +7,7 @@ use Rattle.qs_wire.specs.Layout.{FrameValue}
 use Rattle.qs_wire.specs.Grammar.{Fits}
 use Rattle.qs_wire.specs.declared.stream_id.Dir.TheVariants.{Bidi, Uni}
 use Rattle.qs_recv.specs.Lane.{RecvLane, raise}
-use Rattle.qs_send.specs.Lane.{SendLane, new_lane as new_send_lane, accepted, write_lane, finish_lane, reset_lane, reset_refusal, sent_lane, blocked_lane, unacked_from, is_whole}
+use Rattle.qs_send.specs.Lane.{SendLane, new_lane as new_send_lane, write_lane, finish_lane, reset_lane, reset_refusal, sent_lane, blocked_lane, unacked_from, is_whole}
 use Rattle.qs_send.specs.declared.piece.Item.TheVariants.{MaxData, MaxStreamData, MaxStreams, ResetStream, StopSending, DataBlocked, StreamDataBlocked, StreamsBlocked}
 use Rattle.qs_calls.specs.declared.token.Taken.{Taken}
 use Rattle.qs_calls.specs.declared.token.TakeFault.{TakeFault}
@@ -87,7 +87,7 @@ keeps_put f e = keeps_same e
 keeps_changed : (old : End) (call : Call) (c : Change) (e : End) → Comes old call e c → IsInCredit e → SentWasWritten e → Keeps e (changed c e)
 keeps_changed old call (Wanted Uni count) e comes sound sent = keeps_same e
 keeps_changed old call (Opened n) e comes sound sent = keeps_opens n e
-keeps_changed old call (Written n bytes l) e comes sound sent = keeps_send n (λ m. write_lane m (take (accepted l (length bytes)) bytes)) e (λ m is. is)
+keeps_changed old call (Written n bytes l) e comes sound sent = keeps_send n (λ m. write_lane m bytes) e (λ m is. is)
 keeps_changed old call (Finished n) e comes sound sent = keeps_send n finish_lane e (λ l is. is)
 keeps_changed old call (WasReset n code) e comes sound sent = keeps_send n (λ m. reset_lane m code) e (code_reset code)
 keeps_changed old call (Raised p) e comes sound sent = (refl, kept_raised CodeStays code_same code_twice (λ limit l is. is) p e)

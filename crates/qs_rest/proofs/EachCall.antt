@@ -1,6 +1,8 @@
 -- What each call of an owner does before its limits move: one of a few edits.
-use Rattle.std.proofs.Common.{◌≡◌, ℕ, ◌+◌, ◌*◌, List, [], length, take, Option, Some, None, is_some, subst, sym, inl, inr, refl}
-use Rattle.std.specs.Prelude.{Result, Ok, Err}
+use Rattle.std.proofs.Common.{◌≡◌, ℕ, ◌+◌, ◌-◌, ◌*◌, ◌≤◌, Bool, true, false, List, [], length, take, Option, Some, None, is_some, cond, subst, sym, inl, inr, refl, arith}
+use Rattle.std.specs.Prelude.{Result, Ok, Err, min}
+use Rattle.std.proofs.lemmas.List.{length-take}
+use Rattle.qs_ranges.specs.Numbers.{MAX_VARINT}
 use Rattle.qs_wire.specs.declared.stream_id.Dir.{Dir}
 use Rattle.qs_wire.specs.declared.stream_id.Dir.TheVariants.{Uni}
 use Rattle.qs_recv.specs.Lane.{after_read, stop}
@@ -13,11 +15,11 @@ use Rattle.qs_calls.specs.declared.making.Made.{Made}
 use Rattle.qs_calls.specs.declared.uses.OpenFault.TheVariants as opening
 use Rattle.qs_calls.specs.declared.uses.UseFault.{UseFault}
 use Rattle.qs_machine.specs.Ends.{End, send_lane, recv_lane, on_send, on_recv, opens}
-use Rattle.qs_machine.specs.Credit.{settle}
+use Rattle.qs_machine.specs.Credit.{settle, credit_for}
 use Rattle.qs_machine.specs.Due.{known_count}
 use Rattle.qs_machine.specs.Seen.{Seen, seen_all}
 use Rattle.qs_machine.specs.Lawful.{Fills}
-use Rattle.qs_machine.specs.Owner.{OpenStep, AcceptStep, ReadBy, recv_refusal, is_read_no_more, with_wanted, refuse_if, IsBlocked, IsOpened, GivesNone, GivesBidi, GivesUni, AcceptOpen, peer_type, next_stream, send_refusal}
+use Rattle.qs_machine.specs.Owner.{OpenStep, AcceptStep, ReadBy, recv_refusal, is_read_no_more, with_wanted, refuse_if, IsBlocked, IsOpened, GivesNone, GivesBidi, GivesUni, AcceptOpen, peer_type, next_stream, send_refusal, accepted_by}
 use Rattle.qs_machine.specs.Making.{MakeAt, make_refusal, LoseStep, losses, claim_refusal, lose_refusal}
 use Rattle.qs_machine.specs.EndStep.{Answer, EndStep, Open, Accept, Write, Lose}
 use Rattle.qs_calls.specs.declared.event.Act.{Act}
@@ -28,6 +30,17 @@ use Rattle.qs_runs.specs.Worlds.{OwnStep}
 use Rattle.qs_machine.proofs.Choices.{by_refusal, by_test, if_allowed}
 use Rattle.qs_machine.proofs.EveryCall.{half_allowed}
 
+-- no offset past the greatest integer is written
+few_taken : (e : End) (l : SendLane) (bytes : List ℕ) → length (take (accepted_by e l (length bytes)) bytes) ≤ MAX_VARINT - l.written
+few_taken e l bytes =
+    let short : length (take (accepted_by e l (length bytes)) bytes) ≤ accepted_by e l (length bytes) = omega (arith, length-take (accepted_by e l (length bytes)) bytes) in
+    let few : accepted l (length bytes) ≤ MAX_VARINT - l.written = omega arith in
+    omega (arith, short, few, cut e.tuning.within_credit (accepted l (length bytes)) (credit_for e l))
+  where
+    cut : (b : Bool) (n m : ℕ) → cond b (min n m) n ≤ n
+    cut true n m = omega arith
+    cut false n m = omega arith
+
 -- P holds of the end, and stays with each edit by a call; what a payload leaves is told apart
 pub record Edits (P : End → Type 0) (old : End) : Type 0 where
   pub same : P old
@@ -35,7 +48,7 @@ pub record Edits (P : End → Type 0) (old : End) : Type 0 where
   pub wants : (d : Dir) (count : ℕ) → P (with_wanted d count old)
   pub opened : (n : ℕ) → P (opens n old)
   pub accepts : (bidi uni : ℕ) → P (record old { accepted_bidi = bidi; accepted_uni = uni })
-  pub writes : (n : ℕ) (bytes : List ℕ) (l : SendLane) → send_lane old n ≡ Some l → refusal l ≡ None → P (on_send n (λ m. write_lane m (take (accepted l (length bytes)) bytes)) old)
+  pub writes : (n : ℕ) (bytes : List ℕ) (l : SendLane) → send_lane old n ≡ Some l → refusal l ≡ None → length bytes ≤ MAX_VARINT - l.written → P (on_send n (λ m. write_lane m bytes) old)
   pub finishes : (n : ℕ) → P (on_send n finish_lane old)
   pub resets : (n code : ℕ) → P (on_send n (λ m. reset_lane m code) old)
   pub stops : (n code : ℕ) → P (on_recv n (λ m. stop m code) old)
@@ -102,8 +115,8 @@ module _ (P : End → Type 0) (old : End) (edits : Edits P old) where
       elim some [
         | inl none ↦ becomes new none.1
         | inr (l, is, done) ↦
-            settled (on_send n (λ m. write_lane m (take (accepted l (length bytes)) bytes)) old) new
-            (edits.writes n bytes l is (half_allowed (is_some old.closed) (is_some (recv_lane old n)) (send_lane old n) allowed l is)) done.1
+            settled (on_send n (λ m. write_lane m (take (accepted_by old l (length bytes)) bytes)) old) new
+            (edits.writes n (take (accepted_by old l (length bytes)) bytes) l is (half_allowed (is_some old.closed) (is_some (recv_lane old n)) (send_lane old n) allowed l is) (few_taken old l bytes)) done.1
       ])
 
   -- what an owner does

@@ -1,11 +1,10 @@
 -- A sending half keeps what holds of it.
-use Rattle.std.proofs.Common.{◌≡◌, ℕ, ◌+◌, ◌-◌, ◌≤◌, max, Bool, true, false, List, [], length, take, Some, None, is_some, refl, sym, ◌∙◌, subst, arith}
+use Rattle.std.proofs.Common.{◌≡◌, ℕ, ◌+◌, ◌-◌, ◌≤◌, max, Bool, true, false, List, [], length, Some, None, is_some, refl, sym, ◌∙◌, arith}
 use Rattle.std.specs.Prelude.{cond}
-use Rattle.std.proofs.lemmas.List.{length-take}
 use Rattle.std.proofs.lemmas.Option.{none-some}
 use Rattle.std.proofs.lemmas.Bool.{cond_both, or_left, false≢true}
 use Rattle.qs_ranges.specs.Numbers.{MAX_VARINT}
-use Rattle.qs_send.specs.Lane.{SendLane, accepted, refusal, reset_refusal, write_lane, finish_lane, reset_lane, stopped_lane, sent_lane, blocked_lane, allow_lane, acked_lane, reset_acked_lane}
+use Rattle.qs_send.specs.Lane.{SendLane, refusal, reset_refusal, write_lane, finish_lane, reset_lane, stopped_lane, sent_lane, blocked_lane, allow_lane, acked_lane, reset_acked_lane}
 use Rattle.qs_send.specs.declared.parts.Chunk.{Chunk}
 use Rattle.qs_send.specs.declared.parts.SendFault.TheVariants.{Finished, WasReset}
 use Rattle.qs_runs.specs.Pasts.{Past}
@@ -74,15 +73,9 @@ reset_acked_lasts l = record { limit = omega arith; reset = λ is. is; whole = �
 taken_bound : (written count max : ℕ) (l : SendLane) → count ≤ max - written → written ≤ max → written + count ≤ max
 taken_bound written count max l few low = omega (arith, few, low)
 
-accepted_bound : (l : SendLane) (n : ℕ) → accepted l n ≤ MAX_VARINT - l.written
-accepted_bound l n = omega arith
-
 module _ (p : Past) (n first : ℕ) (l : SendLane) (h : HalfTrue p n first l) where
-  pub write_true : (k : SendLane) (bytes : List ℕ) → k ≡ l → HalfTrue p n first (write_lane l (take (accepted k (length bytes)) bytes))
-  write_true k bytes same =
-      let few : accepted k (length bytes) ≤ MAX_VARINT - l.written = subst (λ x. accepted k (length bytes) ≤ MAX_VARINT - x.written) same (accepted_bound k (length bytes)) in
-      let short : length (take (accepted k (length bytes)) bytes) ≤ accepted k (length bytes) = omega (arith, length-take (accepted k (length bytes)) bytes) in
-      record { first_limit = h.first_limit; small = taken_bound l.written (length (take (accepted k (length bytes)) bytes)) MAX_VARINT l (omega (arith, few, short)) h.small; reset_told = h.reset_told }
+  pub write_true : (bytes : List ℕ) → length bytes ≤ MAX_VARINT - l.written → HalfTrue p n first (write_lane l bytes)
+  write_true bytes few = record { first_limit = h.first_limit; small = taken_bound l.written (length bytes) MAX_VARINT l few h.small; reset_told = h.reset_told }
 
   pub finish_true : HalfTrue p n first (finish_lane l)
   finish_true = record { first_limit = h.first_limit; small = h.small; reset_told = h.reset_told }

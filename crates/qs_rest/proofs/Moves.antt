@@ -1,5 +1,5 @@
 -- What each call of an end, and each frame, leaves of what holds of its sending side.
-use Rattle.std.proofs.Common.{◌≡◌, ℕ, ◌%◌, ◌≤◌, max, Bool, true, false, not, ◌&&◌, List, [], ◌∷◌, length, take, Option, Some, None, refl, sym, ◌∙◌, subst, arith, inl, inr}
+use Rattle.std.proofs.Common.{◌≡◌, ℕ, ◌-◌, ◌%◌, ◌≤◌, max, Bool, true, false, not, ◌&&◌, List, [], ◌∷◌, length, Option, Some, None, refl, sym, ◌∙◌, subst, arith, inl, inr}
 use Rattle.std.specs.Prelude.{cond}
 use Rattle.std.proofs.lemmas.Option.{same_Some}
 use Rattle.std.proofs.lemmas.Bool.{cond_both, cases_lt}
@@ -7,7 +7,8 @@ use Rattle.std.specs.List.{AllByRecursion}
 use Rattle.std.specs.FinMap as fmap
 use Rattle.qs_wire.specs.declared.stream_id.Dir.{Dir}
 use Rattle.qs_wire.specs.declared.stream_id.Dir.TheVariants.{Bidi, Uni}
-use Rattle.qs_send.specs.Lane.{SendLane, new_lane as new_send_lane, accepted, refusal, write_lane, finish_lane, reset_lane, stopped_lane, sent_lane, blocked_lane, allow_lane, acked_lane, reset_acked_lane}
+use Rattle.qs_ranges.specs.Numbers.{MAX_VARINT}
+use Rattle.qs_send.specs.Lane.{SendLane, new_lane as new_send_lane, refusal, write_lane, finish_lane, reset_lane, stopped_lane, sent_lane, blocked_lane, allow_lane, acked_lane, reset_acked_lane}
 use Rattle.qs_send.specs.declared.piece.Item.{Item}
 use Rattle.qs_send.specs.declared.piece.Item.TheVariants.{MaxData, MaxStreamData, MaxStreams, ResetStream, StopSending, DataBlocked, StreamDataBlocked, StreamsBlocked}
 use Rattle.qs_send.specs.declared.piece.Piece.{Piece}
@@ -169,9 +170,9 @@ module _ (p : Past) where
         wants = λ d count. wanted_moved d count old all acked;
         opened = λ n. opens_moved n old all acked;
         accepts = λ bidi uni. record { role = refl; peer = refl; conn = omega arith; bidi = omega arith; uni = omega arith; sends = kept_all old.sends; halves = all; acked = acked };
-        writes = λ n bytes l is fine. half_moved old n (λ m. write_lane m (take (accepted l (length bytes)) bytes)) all acked
-            (λ m there. write_lasts m (take (accepted l (length bytes)) bytes) (subst (λ x. refusal x ≡ None) (same_Some l m (sym is ∙ there)) fine))
-            (λ m there h. write_true p n _ m h l bytes (same_Some l m (sym is ∙ there)));
+        writes = λ n bytes l is fine few. half_moved old n (λ m. write_lane m bytes) all acked
+            (λ m there. write_lasts m bytes (subst (λ x. refusal x ≡ None) (same_Some l m (sym is ∙ there)) fine))
+            (λ m there h. write_true p n _ m h bytes (subst (λ (x : SendLane). length bytes ≤ MAX_VARINT - x.written) (same_Some l m (sym is ∙ there)) few));
         finishes = λ n. half_moved old n finish_lane all acked (λ l is. finish_lasts l) (λ l is h. finish_true p n _ l h);
         resets = λ n code. half_moved old n (λ m. reset_lane m code) all acked (λ l is. reset_lasts code l) (λ l is h. reset_true p n _ l h code);
         stops = λ n code. record { role = refl; peer = refl; conn = omega arith; bidi = omega arith; uni = omega arith; sends = kept_all old.sends; halves = all; acked = acked };

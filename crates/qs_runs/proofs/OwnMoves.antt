@@ -9,7 +9,7 @@ use Rattle.qs_recv.specs.Assembled.{front_of}
 use Rattle.qs_recv.specs.Lane.{RecvLane, read_answer, bytes_of, after_answer, stop}
 use Rattle.qs_recv.specs.declared.half.Read.{Read}
 use Rattle.qs_recv.specs.declared.half.Read.TheVariants as reads
-use Rattle.qs_send.specs.Lane.{SendLane, accepted, refusal, reset_refusal, write_lane, finish_lane, reset_lane}
+use Rattle.qs_send.specs.Lane.{SendLane, refusal, reset_refusal, write_lane, finish_lane, reset_lane}
 use Rattle.qs_send.specs.declared.parts.SendFault.{SendFault}
 use Rattle.qs_calls.specs.declared.making.Made.{Made}
 use Rattle.qs_calls.specs.declared.making.MakeFault.{MakeFault}
@@ -26,7 +26,7 @@ use Rattle.qs_machine.specs.Ends.{End, on_send, on_recv, send_lane, first_send_l
 use Rattle.qs_machine.specs.Credit.{settle}
 use Rattle.qs_machine.specs.Seen.{Seen, seen_all}
 use Rattle.qs_machine.specs.Due.{known_count}
-use Rattle.qs_machine.specs.Owner.{first_refusal, refuse_if, send_refusal, recv_refusal, is_read_no_more, half_refusal, no_half, opened_count, own_type, peer_type, with_wanted, OpenStep, IsBlocked, IsOpened, AcceptStep, GivesNone, GivesBidi, GivesUni, AcceptOpen, WriteStep, FinishStep, ResetStep, StopStep, ReadStep, ReadBy, next_stream}
+use Rattle.qs_machine.specs.Owner.{first_refusal, refuse_if, send_refusal, recv_refusal, is_read_no_more, half_refusal, no_half, opened_count, own_type, peer_type, with_wanted, OpenStep, IsBlocked, IsOpened, AcceptStep, GivesNone, GivesBidi, GivesUni, AcceptOpen, WriteStep, FinishStep, ResetStep, StopStep, ReadStep, ReadBy, next_stream, accepted_by}
 use Rattle.qs_machine.specs.Making.{MakeStep, MakeAt, make_refusal, IsMade, LoseStep, lose_refusal, ClaimStep, claim_refusal}
 use Rattle.qs_machine.specs.Alone.{token_refusal, TokenLostStep}
 use Rattle.qs_calls.specs.declared.event.Act.{Act}
@@ -165,7 +165,7 @@ module _ (p : Past) (e new : End) (ok : EndOk p e) where
         | inl (fault, is, same) ↦ subst (λ a. EndOk (with_call p (acts.Write n bytes) (answers.Write a)) new) (sym is)
             (quiet_moves (acts.Write n bytes) (answers.Write (Err fault)) (quiet p (acts.Write n bytes) (answers.Write (Err fault)) refl (λ m. refl) (λ m. refl) (λ m. refl) (λ m. refl)) (ended_by p e new same ok))
         | inr (allowed, (l, there, (is, same))) ↦ (
-            let count : ℕ = accepted l (length bytes.items) in
+            let count : ℕ = accepted_by e l (length bytes.items) in
             let (none, open_end) = write_allowed l (send_says e n refusal allowed l there) in
             let moved = settle_ok _ _ (wrote_ok p e n ok (take count bytes.items) l there none open_end) in
             let e_same : record e { sends = update e.sends n (write_lane l (take count bytes.items)) } ≡ on_send n (λ m. write_lane m (take count bytes.items)) e = ap (λ o. record e { sends = updated e.sends n (λ m. write_lane m (take count bytes.items)) o }) (sym there) in

@@ -1,7 +1,9 @@
 //! What an end's owner, and the layer beneath, may ask of it. Nothing changes.
-ghost use Rattle.std.specs.Prelude.{◌≡◌, ◌↔◌, IsTrue};
-ghost use Rattle.qs_machine.specs.Credit.{all_taken};
-ghost use Rattle.qs_machine.specs.Asking.{GoesBesideAck, all_noted, taken, peer_closing, streams_left, open_left, is_blocked, credit_left, room, unsent, acked_below, stopped_with, IsNextOutstanding};
+ghost use Rattle.std.specs.Prelude.{◌≡◌, ◌↔◌, IsTrue, ◌-◌, ◌^◌, min};
+ghost use Rattle.qs_machine.specs.Credit.{all_taken, credit_for};
+ghost use Rattle.qs_machine.specs.Asking.{GoesBesideAck, all_noted, taken, peer_closing, streams_left, open_left, is_blocked, credit_left, room, unsent, acked_below, stopped_with, IsNextOutstanding, all_unsent};
+ghost use Rattle.qs_machine.specs.Ends.{send_lane};
+ghost use Rattle.qs_machine.specs.Sums.{or_none};
 
 use super::Endpoint;
 use qs_calls::Closed;
@@ -98,14 +100,36 @@ impl Endpoint {
     }
 
     /// How many bytes `write` accepts of a stream now, however many are written: 0 where it is refused, as where the stream has no
-    /// sending half here (RFC 9000, sections 2.2 and 2.4). Credit doesn't count: what is written beyond it waits.
+    /// sending half here (RFC 9000, sections 2.2 and 2.4). Credit doesn't count, and what is written beyond it waits; but where writes keep
+    /// within credit ([`Tuning::within_credit`]) it does (section 4.1).
+    #[tactic(auto, using(crate::proofs::Within::room_within, crate::proofs::Within::room_free))]
     pub fn room(&self, stream: StreamId) -> u64
         ensures { result ≡ room self.now stream }
     {
         if self.closed.is_some() {
             return 0;
         }
-        self.core.outbox.room(stream)
+        let room = self.core.outbox.room(stream);
+        if self.core.limits.tuning.within_credit {
+            return room.min(self.credit_for(stream));
+        }
+        room
+    }
+
+    /// How many bytes were written to all streams that are still to be sent for the first time: the sum of what `unsent` tells of each
+    /// (RFC 9000, sections 2.2 and 3.1). A sum that is no u64 is the greatest one. It takes constant time.
+    pub fn unsent_sum(&self) -> u64
+        ensures { result ≡ min (all_unsent self.now) (2 ^ 64 - 1) }
+    {
+        self.core.outbox.unsent_sum()
+    }
+
+    // How many bytes more may be written to a stream that may all be sent at once.
+    pub(super) fn credit_for(&self, stream: StreamId) -> u64
+        ensures { result ≡ credit_for self.now (or_none (send_lane self.now stream)) }
+    {
+        let all = self.credit_left().saturating_sub(self.unsent_sum());
+        all.min(self.core.outbox.limit_left(stream))
     }
 
     /// How many bytes were written to a stream that are still to be sent for the first time: 0 after a reset, since none are sent then

@@ -40,6 +40,7 @@ impl Endpoint {
 
     /// The least stream at or above `from` at which a write of one byte is accepted, if there is memory for it: it wasn't finished, reset
     /// or stopped by the peer, and its buffer has room (RFC 9000, sections 2.2 and 2.4). `None` where there is none, and of a closed end.
+    /// It doesn't ask for credit: where writes keep within it, [`room`](Endpoint::room) tells whether such a stream has some.
     ///
     /// It takes no memory, and looks at one word of marks for 64 streams of a type.
     pub fn next_writable(&self, from: StreamId) -> Option<StreamId>

@@ -2,7 +2,9 @@
 ghost use Rattle.std.specs.Prelude.{◌≡◌, ◌<◌, ◌^◌, ◌++◌, List, length, drop, ℕ, is_some, true};
 ghost use Rattle.qs_machine.specs.Tables.{lookup};
 ghost use Rattle.qs_recv.specs.Lane.{read_answer, after_read};
-ghost use Rattle.qs_machine.specs.Ends.{on_recv};
+ghost use Rattle.qs_machine.specs.Ends.{on_recv, send_lane};
+ghost use Rattle.qs_machine.specs.Sums.{or_none};
+ghost use Rattle.qs_conn.specs.Sending.{offered};
 ghost use Rattle.qs_machine.specs.Verdicts.{or_new};
 ghost use Rattle.qs_machine.specs.Owner.{WriteStep, FinishStep, ResetStep, StopStep, ReadStep, ConsumeStep, is_read_no_more, is_end, no_half, use_fault};
 ghost use Rattle.qs_machine.specs.Reports.{lane_report, own_closing};
@@ -15,17 +17,21 @@ use qs_send::SendFault;
 use qs_wire::StreamId;
 
 impl Endpoint {
-    /// Accepts the front of the bytes for sending, as many as there is room for, and answers how many.
+    /// Accepts the front of the bytes for sending, as many as there is room for, and answers how many. Where writes keep within credit
+    /// ([`Tuning::within_credit`]) it takes no more than may be sent at once: by the stream's limit and the connection's, beside all
+    /// that waits to be sent (RFC 9000, section 4.1). Then no byte waits for credit, so no STREAM_DATA_BLOCKED or DATA_BLOCKED is
+    /// due: the owner sees by the answer that its write was cut short.
     ///
     /// Refused, and then unchanged: `Closed`; `NoSuchStream` or `WrongDirection` where the stream has no sending half; `WasReset`;
     /// `Finished`; and `NoMemory` where memory was refused.
-    #[tactic(auto, using(crate::proofs::OwnerSteps::write_ok, crate::proofs::Runs::idle_with))]
+    #[tactic(auto, using(crate::proofs::Within::write_within, crate::proofs::Runs::idle_with))]
     pub fn write(&mut self, stream: StreamId, bytes: &[u8]) -> Result<usize, UseFault>
         ensures { WriteStep self.old stream bytes.now result self.new }
     {
         if let Some(fault) = self.no_sender(stream) {
             return Err(fault);
         }
+        let bytes = self.offered(stream, bytes);
         match self.core.outbox.write(stream, bytes) {
             Ok(count) => {
                 self.core
@@ -35,6 +41,22 @@ impl Endpoint {
                 Ok(count)
             }
             Err(fault) => Err(use_fault(fault)),
+        }
+    }
+
+    // As many of the bytes as credit lets go, where writes keep within it.
+    #[tactic(auto, using(crate::proofs::Within::offered_all, crate::proofs::Within::offered_cut, crate::proofs::Within::offered_whole))]
+    fn offered<'a>(&self, stream: StreamId, bytes: &'a [u8]) -> &'a [u8]
+        ensures { result.now ≡ offered self.now (or_none (send_lane self.now stream)) bytes.now }
+    {
+        if !self.core.limits.tuning.within_credit {
+            return bytes;
+        }
+        let credit = self.credit_for(stream);
+        if credit < bytes.len() as u64 {
+            &bytes[..credit as usize]
+        } else {
+            bytes
         }
     }
 

@@ -1,5 +1,5 @@
 //! What an end has to tell of its sending side.
-ghost use Rattle.std.specs.Prelude.{nat_lt, ◌≡◌, ◌≤◌, ◌<◌, ◌^◌, ◌↔◌, ◌||◌, IsTrue, ℕ, length, IfSome, IfNone};
+ghost use Rattle.std.specs.Prelude.{nat_lt, ◌-◌, ◌≡◌, ◌≤◌, ◌<◌, ◌^◌, ◌↔◌, ◌||◌, IsTrue, ℕ, length, IfSome, IfNone};
 ghost use Rattle.qs_ranges.specs.Numbers.{MAX_VARINT};
 ghost use Rattle.qs_send.specs.declared.piece.Piece.TheVariants as pieces;
 ghost use Rattle.qs_machine.specs.Tables.{lookup};
@@ -8,9 +8,9 @@ ghost use Rattle.qs_machine.specs.Ends.{End};
 ghost use Rattle.qs_machine.specs.News.{IsLeast, IsHeld};
 ghost use Rattle.qs_machine.specs.Changes.{half_changes};
 ghost use Rattle.qs_send.specs.Changes.{stop_changes};
-ghost use Rattle.qs_machine.specs.Asking.{waits_for_credit, room_of, unsent_of, acked_below_of};
+ghost use Rattle.qs_machine.specs.Asking.{waits_for_credit, unsent_of, acked_below_of};
 ghost use Rattle.qs_conn.specs.Marks.{IsBefore, IsHeldOf, AreEndsMarked};
-ghost use Rattle.qs_conn.specs.Sending.{IsDueOf, MayWrite, HasSent};
+ghost use Rattle.qs_conn.specs.Sending.{IsDueOf, MayWrite, HasSent, buffer_room, limit_left};
 ghost use Rattle.qs_conn.specs.Tasks.{IsQuietAt};
 ghost use Rattle.qs_machine.specs.Outgoing.{IsCarried, IsAckedOut, IsAckedReset, IsBlockedAt, WantsMore, reset_by, with_outgoing};
 
@@ -135,9 +135,9 @@ impl Outbox {
         either(half.sent_end() == half.limit(), is_used_up)
     }
 
-    /// How many bytes a stream accepts now, however many are written.
+    /// How many bytes a stream has room for now, however many are written.
     pub(crate) fn room(&self, stream: StreamId) -> u64
-        ensures { result ≡ room_of (lookup self.now.sends stream) }
+        ensures { result ≡ buffer_room (lookup self.now.sends stream) }
     {
         if !is_open(&self.types, stream) {
             return 0;
@@ -147,6 +147,17 @@ impl Outbox {
             return 0;
         }
         (half.room() as u64).min(MAX_VARINT - half.written())
+    }
+
+    /// How many bytes more may be written to a stream that its own limit lets go.
+    pub(crate) fn limit_left(&self, stream: StreamId) -> u64
+        ensures { result ≡ limit_left (or_none (lookup self.now.sends stream)) }
+    {
+        if !is_open(&self.types, stream) {
+            return 0;
+        }
+        let half = half_of(&self.types, stream);
+        half.limit().saturating_sub(half.written())
     }
 
     /// How many bytes of a stream were written that are still to be sent for the first time.

@@ -131,6 +131,17 @@ impl Outbox {
         self.sent
     }
 
+    /// How many bytes of all streams were written that are still to be sent for the first time. A sum that is no u64 is the greatest one.
+    pub(crate) fn unsent_sum(&self) -> u64 {
+        let bidi = self.types[0].promised() + self.types[1].promised();
+        let uni = self.types[2].promised() + self.types[3].promised();
+        let unsent = bidi + uni - self.sent as u128;
+        if unsent > u64::MAX as u128 {
+            return u64::MAX;
+        }
+        unsent as u64
+    }
+
     /// What the buffers of all streams take, in bytes, by a walk over them. A sum that is no u64 is the greatest one.
     pub(crate) fn held(&self) -> u64 {
         let bidi = self.types[0].held().saturating_add(self.types[1].held());
@@ -156,7 +167,7 @@ impl Outbox {
         lanes.reserve_to(index_of(stream) + 1)
     }
 
-    /// Takes the streams of the type of this one from a count on away. Nothing of them was sent.
+    /// Takes the streams of the type of this one from a count on away. Nothing of them was sent or is to be sent.
     pub(crate) fn close_to(&mut self, stream: StreamId, count: usize) {
         let lanes = &mut self.types[type_of(stream)];
         lanes.close_to(count);

@@ -13,6 +13,8 @@ use crate::shim::alloc::Global;
 pub(crate) struct SendLanes {
     alloc: Global,
     halves: Vec<SendHalf>,
+    // How many bytes of all halves were sent or are still to be sent. A sum over 2^60 halves is no u64.
+    promised: u128,
     // A half without a mark for a task is quiet of it.
     marks: SendMarks,
 }
@@ -22,6 +24,7 @@ impl SendLanes {
         SendLanes {
             alloc,
             halves: Vec::new(alloc),
+            promised: 0,
             marks: SendMarks::new(alloc),
         }
     }
@@ -39,6 +42,11 @@ impl SendLanes {
             held = held.saturating_add(half.held());
         }
         held
+    }
+
+    /// How many bytes of all halves were sent or are still to be sent for the first time.
+    pub(crate) fn promised(&self) -> u128 {
+        self.promised
     }
 
     /// An open half.
@@ -84,7 +92,7 @@ impl SendLanes {
         }
     }
 
-    /// Takes the halves from a count on away.
+    /// Takes the halves from a count on away. Nothing of them was sent or is to be sent.
     pub(crate) fn close_to(&mut self, count: usize) {
         self.halves.truncate(count);
         self.marks.close_to(count);
@@ -99,6 +107,7 @@ impl SendLanes {
         let half = &mut self.halves[index];
         half.is_lawful();
         let answer = half.write(bytes);
+        self.promised += answer.unwrap_or(0) as u128;
         self.marks.look_written(index, half);
         answer
     }
@@ -115,7 +124,10 @@ impl SendLanes {
     pub(crate) fn reset(&mut self, index: usize, code: u64) -> Result<(), SendFault> {
         debug_assert!(code <= 0x3fff_ffff_ffff_ffff);
         let half = &mut self.halves[index];
+        let before = promised(half);
         let answer = half.reset(code);
+        let after = promised(half);
+        self.promised = self.promised - before + after;
         self.marks.look(index, half);
         answer
     }
@@ -124,7 +136,10 @@ impl SendLanes {
     pub(crate) fn stopped(&mut self, index: usize, code: u64) {
         debug_assert!(code <= 0x3fff_ffff_ffff_ffff);
         let half = &mut self.halves[index];
+        let before = promised(half);
         half.stopped(code);
+        let after = promised(half);
+        self.promised = self.promised - before + after;
         self.marks.look(index, half);
     }
 
@@ -153,6 +168,7 @@ impl SendLanes {
     /// Takes in that a chunk was sent.
     pub(crate) fn sent(&mut self, index: usize, chunk: Chunk) {
         let half = &mut self.halves[index];
+        half.is_lawful();
         half.sent(chunk);
         self.marks.look_sent(index, half);
     }
@@ -202,6 +218,15 @@ impl SendLanes {
         }
         None
     }
+}
+
+// How many bytes of a half were sent or are still to be sent for the first time.
+fn promised(half: &SendHalf) -> u128 {
+    half.is_lawful();
+    if let Some(_code) = half.reset_code() {
+        return half.sent_end() as u128;
+    }
+    half.written() as u128
 }
 
 // A write to a half that has no room: no byte is accepted.

@@ -8,7 +8,10 @@ use crate::proved::qs_send::SendFault;
 use crate::proved::qs_wire::StreamId;
 
 impl Endpoint {
-    /// Accepts the front of the bytes for sending, as many as there is room for, and answers how many.
+    /// Accepts the front of the bytes for sending, as many as there is room for, and answers how many. Where writes keep within credit
+    /// ([`Tuning::within_credit`]) it takes no more than may be sent at once: by the stream's limit and the connection's, beside all
+    /// that waits to be sent (RFC 9000, section 4.1). Then no byte waits for credit, so no STREAM_DATA_BLOCKED or DATA_BLOCKED is
+    /// due: the owner sees by the answer that its write was cut short.
     ///
     /// Refused, and then unchanged: `Closed`; `NoSuchStream` or `WrongDirection` where the stream has no sending half; `WasReset`;
     /// `Finished`; and `NoMemory` where memory was refused.
@@ -16,6 +19,7 @@ impl Endpoint {
         if let Some(fault) = self.no_sender(stream) {
             return Err(fault);
         }
+        let bytes = self.offered(stream, bytes);
         match self.core.outbox.write(stream, bytes) {
             Ok(count) => {
                 self.core
@@ -25,6 +29,19 @@ impl Endpoint {
                 Ok(count)
             }
             Err(fault) => Err(use_fault(fault)),
+        }
+    }
+
+    // As many of the bytes as credit lets go, where writes keep within it.
+    fn offered<'a>(&self, stream: StreamId, bytes: &'a [u8]) -> &'a [u8] {
+        if !self.core.limits.tuning.within_credit {
+            return bytes;
+        }
+        let credit = self.credit_for(stream);
+        if credit < bytes.len() as u64 {
+            &bytes[..credit as usize]
+        } else {
+            bytes
         }
     }
 

@@ -101,7 +101,7 @@ impl Outbox {
         either(half.sent_end() == half.limit(), is_used_up)
     }
 
-    /// How many bytes a stream accepts now, however many are written.
+    /// How many bytes a stream has room for now, however many are written.
     pub(crate) fn room(&self, stream: StreamId) -> u64 {
         if !is_open(&self.types, stream) {
             return 0;
@@ -111,6 +111,15 @@ impl Outbox {
             return 0;
         }
         (half.room() as u64).min(MAX_VARINT - half.written())
+    }
+
+    /// How many bytes more may be written to a stream that its own limit lets go.
+    pub(crate) fn limit_left(&self, stream: StreamId) -> u64 {
+        if !is_open(&self.types, stream) {
+            return 0;
+        }
+        let half = half_of(&self.types, stream);
+        half.limit().saturating_sub(half.written())
     }
 
     /// How many bytes of a stream were written that are still to be sent for the first time.

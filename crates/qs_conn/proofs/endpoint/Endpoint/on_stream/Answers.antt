@@ -15,6 +15,7 @@ use Rattle.qs_machine.proofs.Taken.{in_there, stream_in, stream_checked, stream_
 use Rattle.qs_conn.proofs.Calm.{told_streamed}
 use Rattle.qs_conn.specs.Untold.{AreTold, TellsAt, SendTells}
 use Rattle.qs_conn.proofs.Untolds.{told_closed}
+use Rattle.qs_conn.proofs.Promised.{peer_unwritten}
 use Rattle.qs_conn.proofs.endpoint.Endpoint.on_stream.Goals as goal
 
 pub take_stream-requires-clause-open : goal.take_stream-requires-clause-open
@@ -78,6 +79,10 @@ pub close_to-requires-clause-lost : goal.close_to-requires-clause-lost
 close_to-requires-clause-lost c =
     peer_lost c.args.self.now _ c.args.stream c.count-sends.result (c.self-2.view_is ∙ c.in_ok-open_by_peer.ensures.ok) (c.count-sends.ensures ∙ ap (λ (e : End). length (table e.sends (c.args.stream % 4))) c.self.view_is)
     (subst (λ (k : End). AreOfOpen k.sends k.lost.pieces) c.self.view_is c.are_of_open.ensures.lost)
+
+pub close_to-requires-clause-unwritten : goal.close_to-requires-clause-unwritten
+close_to-requires-clause-unwritten c =
+    peer_unwritten c.args.self.now _ c.args.stream c.count-sends.result (c.self-2.view_is ∙ c.in_ok-open_by_peer.ensures.ok) (c.count-sends.ensures ∙ ap (λ (e : End). length (table e.sends (c.args.stream % 4))) c.self.view_is)
 
 pub close_to-requires-clause-unsent : goal.close_to-requires-clause-unsent
 close_to-requires-clause-unsent c =

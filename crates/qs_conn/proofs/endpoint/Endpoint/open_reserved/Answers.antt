@@ -2,6 +2,7 @@ use Rattle.std.proofs.Common.{refl, sym, ap, ◌∙◌}
 use Rattle.qs_machine.specs.Ends.{End, window}
 use Rattle.qs_machine.proofs.Taken.{none_back, lost_back, unsent_back, out_back}
 use Rattle.qs_conn.proofs.Cores.{kept_moved, kept_streams, rest_opened, rest_placed, rest_ins_placed}
+use Rattle.qs_conn.proofs.Promised.{unwritten_back}
 use Rattle.qs_conn.proofs.endpoint.Endpoint.open_reserved.Goals as goal
 
 pub returns-in-Err-clause-err : goal.returns-in-Err-clause-err
@@ -22,6 +23,9 @@ close_to-requires-clause-none c = none_back c.self.inside.core.outbox c.open_sen
 
 pub close_to-requires-clause-lost : goal.close_to-requires-clause-lost
 close_to-requires-clause-lost c = lost_back c.self.inside.core.outbox c.open_sends.new.outbox c.args.stream c.count-before.result _ _ _ c.in_ok-open_sends.ensures.ok c.count-before.ensures c.are_of_open.ensures.lost
+
+pub close_to-requires-clause-unwritten : goal.close_to-requires-clause-unwritten
+close_to-requires-clause-unwritten c = unwritten_back c.self.inside.core.outbox c.open_sends.new.outbox c.args.stream c.count-before.result _ _ _ c.in_ok-open_sends.ensures.ok c.count-before.ensures
 
 pub close_to-requires-clause-unsent : goal.close_to-requires-clause-unsent
 close_to-requires-clause-unsent c = unsent_back c.self.inside.core.outbox c.open_sends.new.outbox c.args.stream c.count-before.result _ _ _ c.in_ok-open_sends.ensures.ok c.count-before.ensures

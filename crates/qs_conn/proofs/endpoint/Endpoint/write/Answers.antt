@@ -1,6 +1,6 @@
 use Rattle.std.proofs.Common.{sym, ◌∙◌}
 use Rattle.qs_conn.proofs.Cores.{kept_outbox, rest_written}
-use Rattle.qs_conn.proofs.OwnerSteps.{write_err}
+use Rattle.qs_conn.proofs.Within.{write_short}
 use Rattle.qs_conn.proofs.endpoint.Endpoint.write.Goals as goal
 
 pub invariant_of-self : goal.invariant_of-self
@@ -11,4 +11,4 @@ invariant_of-self c =
 pub returns-in-Err : goal.returns-in-Err
 returns-in-Err c =
     rw (c.in-Err.ensures.refused.0, c.use_fault.ensures)
-    (write_err _ c.args.self.now c.args.stream c.args.bytes.now c.in-Err.fault c.self.view_is (sym c.no_sender.ensures ∙ c.in_default.is) c.in-Err.ensures.refused.1 c.in-Err.ensures.grows)
+    (write_short _ c.args.self.now c.args.stream c.args.bytes.now c.offered-bytes.result.now c.in-Err.fault c.self.view_is c.offered-bytes.ensures (sym c.no_sender.ensures ∙ c.in_default.is) c.in-Err.ensures.refused.1 c.in-Err.ensures.grows)

@@ -7,7 +7,11 @@ use Rattle.qs_machine.proofs.LaneTables.{lanes_closed}
 use Rattle.qs_machine.proofs.LostSent.{sent_close}
 use Rattle.qs_conn.proofs.Halves.{closed_is}
 use Rattle.qs_conn.proofs.Outboxes.{sends_step, box_closed}
+use Rattle.qs_conn.proofs.Promised.{closes_none}
 use Rattle.qs_conn.proofs.outbox.Outbox.close_to.Goals as goal
+
+pub close_to-requires : goal.close_to-requires
+close_to-requires c = closes_none c.self.inside.types c.args.stream _ c.args.count _ c.self.invariant.3 c.type_of.ensures.value (rw (← c.self.view_is) at c.requires.unwritten)
 
 pub invariant_of-self : goal.invariant_of-self
 invariant_of-self c =

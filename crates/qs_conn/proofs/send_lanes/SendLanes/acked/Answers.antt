@@ -3,6 +3,7 @@ use Rattle.qs_conn.specs.Tasks.{IsQuiet, marks_of}
 use Rattle.qs_conn.proofs.SendEdits.{ok_at, asked_at, acked_again}
 use Rattle.qs_conn.proofs.Marked.{mark_there}
 use Rattle.qs_conn.proofs.Tasks.{all_looked, still_quiet}
+use Rattle.qs_conn.proofs.Promised.{acked_promises, promised_same}
 use Rattle.qs_conn.proofs.send_lanes.SendLanes.acked.Goals as goal
 
 pub look_acked-requires-clause-there : goal.look_acked-requires-clause-there
@@ -14,7 +15,9 @@ look_acked-requires-clause-again c =
     (acked_again c.acked-answer.result c.index_mut-half.result.now c.acked-answer.new.self c.args.chunk c.acked-answer.ensures.ok c.acked-answer.ensures.err)
 
 pub invariant_of-self : goal.invariant_of-self
-invariant_of-self c = all_looked _ _ _ c.args.index c.acked-answer.new.self c.look_acked.ensures c.self.invariant
+invariant_of-self c =
+    all_looked _ _ _ _ _ c.args.index c.acked-answer.new.self c.look_acked.ensures c.self.invariant
+    (promised_same c.self.inside.halves.items c.self.inside.promised c.args.index c.index_mut-half.result.now c.acked-answer.new.self (rw c.self.view_is c.requires.there) c.index_mut-half.ensures.value (acked_promises c.acked-answer.result c.index_mut-half.result.now c.acked-answer.new.self c.args.chunk c.acked-answer.ensures.ok c.acked-answer.ensures.err) c.self.invariant.2)
 
 pub returns-clause-ok : goal.returns-clause-ok
 returns-clause-ok c =

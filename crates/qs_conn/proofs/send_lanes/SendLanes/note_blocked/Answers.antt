@@ -1,14 +1,18 @@
+use Rattle.std.proofs.Common.{ap}
 use Rattle.qs_conn.specs.Tasks.{IsQuiet, marks_of}
 use Rattle.qs_conn.proofs.LaneEdits.{changed_at}
 use Rattle.qs_conn.proofs.Marked.{mark_there}
 use Rattle.qs_conn.proofs.Tasks.{all_looked}
+use Rattle.qs_conn.proofs.Promised.{promised_of, promised_same}
 use Rattle.qs_conn.proofs.send_lanes.SendLanes.note_blocked.Goals as goal
 
 pub look-requires : goal.look-requires
 look-requires c = λ t. mark_there (IsQuiet t) c.self.inside.halves.items (marks_of c.self.inside.marks t) c.args.index (c.self.invariant.1 t) (rw c.self.view_is c.requires)
 
 pub invariant_of-self : goal.invariant_of-self
-invariant_of-self c = all_looked _ _ _ c.args.index c.note_blocked.new.self c.look.ensures c.self.invariant
+invariant_of-self c =
+    all_looked _ _ _ _ _ c.args.index c.note_blocked.new.self c.look.ensures c.self.invariant
+    (promised_same c.self.inside.halves.items c.self.inside.promised c.args.index c.index_mut-half.result.now c.note_blocked.new.self (rw c.self.view_is c.requires) c.index_mut-half.ensures.value (ap promised_of c.note_blocked.ensures) c.self.invariant.2)
 
 pub returns : goal.returns
 returns c =

@@ -8,5 +8,6 @@ invariant-loop-opened l =
     let before = l.initial.self-inside.halves.items in
     record {
       marks : l.self-inside.marks ≡ l.initial.self-inside.marks;
+      promised : l.self-inside.promised ≡ l.initial.self-inside.promised;
       items : l.self-inside.halves.items ≡ before ++ map (λ (i : ℕ). new_sending (i * 4 + l.stream_type) l.limit l.buffer) (range_with_len (length before) l.opened);
     }

@@ -2,13 +2,16 @@ use Rattle.qs_conn.specs.Tasks.{IsQuiet, marks_of}
 use Rattle.qs_conn.proofs.LaneEdits.{changed_at}
 use Rattle.qs_conn.proofs.Marked.{mark_there}
 use Rattle.qs_conn.proofs.Tasks.{all_looked}
+use Rattle.qs_conn.proofs.Promised.{promised_moved}
 use Rattle.qs_conn.proofs.send_lanes.SendLanes.reset.Goals as goal
 
 pub look-requires : goal.look-requires
 look-requires c = λ t. mark_there (IsQuiet t) c.self.inside.halves.items (marks_of c.self.inside.marks t) c.args.index (c.self.invariant.1 t) (rw c.self.view_is c.requires.there)
 
 pub invariant_of-self : goal.invariant_of-self
-invariant_of-self c = all_looked _ _ _ c.args.index c.reset-answer.new.self c.look.ensures c.self.invariant
+invariant_of-self c =
+    all_looked _ _ _ _ _ c.args.index c.reset-answer.new.self c.look.ensures c.self.invariant
+    (promised_moved c.self.inside.halves.items c.self.inside.promised c.args.index c.promised-before.result c.promised-after.result c.index_mut-half.result.now c.reset-answer.new.self (rw c.self.view_is c.requires.there) c.index_mut-half.ensures.value c.promised-before.ensures.value c.promised-after.ensures.value c.promised-after.ensures.small c.self.invariant.2)
 
 pub returns-clause-after : goal.returns-clause-after
 returns-clause-after c =

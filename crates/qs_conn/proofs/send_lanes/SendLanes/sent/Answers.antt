@@ -8,6 +8,7 @@ use Rattle.qs_conn.proofs.LaneEdits.{changed_at}
 use Rattle.qs_conn.proofs.SendEdits.{sent_again}
 use Rattle.qs_conn.proofs.Marked.{mark_there}
 use Rattle.qs_conn.proofs.Tasks.{all_looked, still_quiet}
+use Rattle.qs_conn.proofs.Promised.{promised_same, sent_promises}
 use Rattle.qs_conn.proofs.send_lanes.SendLanes.sent.Goals as goal
 
 pub look_sent-requires-clause-there : goal.look_sent-requires-clause-there
@@ -27,7 +28,9 @@ look_sent-requires-clause-end c =
     still_quiet tasks.Ended c.self.inside.halves.items c.self.inside.marks c.args.index c.index_mut-half.result.now c.sent.new.self c.self.invariant.1 (rw c.self.view_is c.requires.there) c.index_mut-half.ensures.value (λ q. subst (IsQuiet tasks.Ended) (sym c.sent.ensures) q)
 
 pub invariant_of-self : goal.invariant_of-self
-invariant_of-self c = all_looked _ _ _ c.args.index c.sent.new.self c.look_sent.ensures c.self.invariant
+invariant_of-self c =
+    all_looked _ _ _ _ _ c.args.index c.sent.new.self c.look_sent.ensures c.self.invariant
+    (promised_same c.self.inside.halves.items c.self.inside.promised c.args.index c.index_mut-half.result.now c.sent.new.self (rw c.self.view_is c.requires.there) c.index_mut-half.ensures.value (sent_promises c.index_mut-half.result.now c.sent.new.self c.args.chunk c.is_lawful.ensures (subst (λ s. IsDueChunk s c.args.chunk) (sym (c.index_mut-half.ensures.value ∙ get_or_default c.self.inside.halves.items c.args.index _ no_sending (rw c.self.view_is c.requires.there))) (rw c.self.view_is c.requires.due)) c.sent.ensures) c.self.invariant.2)
 
 pub returns : goal.returns
 returns c =
