@@ -1,6 +1,8 @@
 //! Ends of the widest settings: a window that holds a long fat path, and a connection that lives for a million streams.
 
-use gotsavena::{Dir, Endpoint, Read, Received, Role, SendState, Settings, StreamId};
+use gotsavena::{
+    Dir, Endpoint, Read, Received, Role, SendState, Settings, Share, StreamId, Tuning,
+};
 use std::collections::VecDeque;
 use std::time::{Duration, Instant};
 
@@ -98,14 +100,19 @@ impl Path {
     }
 }
 
-/// How long 32 MiB take over such a path, until the last of it is acknowledged, with so large windows and buffers, in nanoseconds.
-fn transfer(window: usize) -> u64 {
-    const SIZE: usize = 32 << 20;
+const SIZE: usize = 32 << 20;
+
+/// How long these bytes take over such a path, until the last of it is acknowledged, with so large windows and buffers, in
+/// nanoseconds. Limits move by such a share of a window.
+fn transfer(window: usize, step: Share) -> u64 {
     let settings = Settings::small()
         .conn_window(window as u64)
         .stream_windows(window as u64)
         .send_buffer(window);
-    let [mut client, mut server] = two_ends(settings);
+    let tuning = Tuning::default().credit_step(step);
+    let [mut client, mut server] = [Role::Client, Role::Server].map(|role| {
+        Endpoint::new_wide(role, settings, tuning, settings.limits()).expect("in range")
+    });
     let (mut there, mut back) = (Path::default(), Path::default());
     let stream = client.open(Dir::Uni).expect("a stream");
     let (mut written, mut read, mut now) = (0, 0, 0);
@@ -141,15 +148,66 @@ fn is_over(end: &Endpoint, stream: StreamId) -> bool {
     half.is_some_and(|half| half.state == SendState::DataRecvd)
 }
 
+/// What the bytes take on such a path by themselves, in nanoseconds: a bit for each.
+const SENDING: u64 = 8 * SIZE as u64;
+const ROUND_TRIP: u64 = 100_000_000;
+
 #[test]
 fn a_long_fat_path_is_used_up() {
-    // The bytes themselves take so long, and a round trip is 100 ms; the window is twice what is in flight in one.
-    let bytes = 8 * (32 << 20);
-    let took = transfer(25_000_000);
+    // The window is twice what is in flight in a round trip.
+    let took = transfer(25_000_000, Share::Half);
     assert!(
-        took <= bytes + bytes / 10 + 100_000_000,
+        took <= SENDING + SENDING / 10 + ROUND_TRIP,
         "{took} nanoseconds"
     );
+}
+
+#[test]
+fn small_steps_need_narrower_windows() {
+    let took = transfer(16 << 20, Share::Eighth);
+    assert!(
+        took <= SENDING + SENDING / 10 + ROUND_TRIP,
+        "{took} nanoseconds"
+    );
+    // Exactly what is in flight in a round trip.
+    let took = transfer(12_500_000, Share::Eighth);
+    assert!(
+        took <= SENDING + 3 * SENDING / 10 + ROUND_TRIP,
+        "{took} nanoseconds"
+    );
+}
+
+#[test]
+fn a_limit_moves_once_its_share_was_read() {
+    for (step, parts) in [
+        (Share::Half, 2),
+        (Share::Quarter, 4),
+        (Share::Eighth, 8),
+        (Share::Sixteenth, 16),
+    ] {
+        let settings = Settings::small()
+            .conn_window(1 << 16)
+            .stream_windows(1 << 16)
+            .send_buffer(1 << 16);
+        let tuning = Tuning::default().credit_step(step);
+        let [mut client, mut server] = [Role::Client, Role::Server].map(|role| {
+            Endpoint::new_wide(role, settings, tuning, settings.limits()).expect("in range")
+        });
+        let stream = client.open(Dir::Uni).expect("a stream");
+        assert_eq!(client.write(stream, &[7; 1 << 16]), Ok(1 << 16));
+        settle(&mut client, &mut server);
+        let step = (1 << 16) / parts;
+        let mut bytes = vec![0; step - 1];
+        assert_eq!(server.read(stream, &mut bytes), Ok(Read::Bytes(step - 1)));
+        settle(&mut client, &mut server);
+        assert_eq!(server.granted(), 1 << 16);
+        assert_eq!(server.read(stream, &mut [0]), Ok(Read::Bytes(1)));
+        assert_eq!(server.granted(), (1 << 16) + step as u64);
+        settle(&mut client, &mut server);
+        assert_eq!(client.write(stream, &vec![7; step]), Ok(step));
+        settle(&mut client, &mut server);
+        assert_eq!(server.stored(), 1 << 16);
+    }
 }
 
 /// A request of one byte and an answer of one, each with its end.

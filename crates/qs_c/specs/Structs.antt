@@ -5,8 +5,8 @@ use Rattle.qs_c.specs.declared.structs.GvSettings.{GvSettings}
 use Rattle.qs_calls.specs.declared.settings.Settings.{Settings}
 use Rattle.qs_c.specs.declared.structs.GvTuning.{GvTuning}
 use Rattle.qs_calls.specs.declared.settings.Tuning.{Tuning}
-use Rattle.qs_calls.specs.declared.settings.Share.{Share}
-use Rattle.qs_calls.specs.declared.settings.Share.TheVariants.{Half, Quarter, Eighth, Sixteenth}
+use Rattle.qs_recv.specs.declared.credit.Share.{Share}
+use Rattle.qs_recv.specs.declared.credit.Share.TheVariants.{Half, Quarter, Eighth, Sixteenth}
 use Rattle.qs_c.specs.declared.structs.GvLimits.{GvLimits}
 use Rattle.qs_calls.specs.declared.settings.PeerLimits.{PeerLimits}
 use Rattle.qs_c.specs.declared.structs.GvMade.{GvMade}

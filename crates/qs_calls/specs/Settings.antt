@@ -4,9 +4,9 @@
 use Rattle.std.specs.Prelude.{ℕ, ◌^◌, Bool, false, ◌&&◌, not, nat_le, Option, Some, None, if◌then◌else◌}
 use Rattle.qs_ranges.specs.Numbers.{MAX_VARINT}
 use Rattle.qs_recv.specs.Lane.{MAX_WINDOW, MAX_CONN_WINDOW}
+use Rattle.qs_recv.specs.declared.credit.Share.TheVariants.{Half}
 use Rattle.qs_calls.specs.declared.settings.Settings.{Settings}
 use Rattle.qs_calls.specs.declared.settings.Tuning.{Tuning}
-use Rattle.qs_calls.specs.declared.settings.Share.TheVariants.{Half}
 use Rattle.qs_calls.specs.declared.settings.PeerLimits.{PeerLimits}
 use Rattle.qs_calls.specs.declared.settings.SetupFault.{SetupFault}
 use Rattle.qs_calls.specs.declared.settings.SetupFault.TheVariants.{OutOfRange, TooManyStreams}

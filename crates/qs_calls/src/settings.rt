@@ -3,6 +3,7 @@
 ghost use Rattle.std.specs.Prelude.{◌≡◌};
 ghost use Rattle.qs_calls.specs.Settings.{limits_of, default_tuning, code_of_setup};
 
+use qs_recv::Share;
 use thiserror::Error;
 
 /// The credit that an end grants, and the size of its sending buffers. Windows and sizes are in bytes, counts in streams.
@@ -26,15 +27,6 @@ pub struct Settings {
     pub lifetime_bidi: u64,
     /// The same of unidirectional streams.
     pub lifetime_uni: u64,
-}
-
-/// A part of a window, or of a grant.
-#[derive(Clone, Copy, Debug, PartialEq, Eq, Drop)]
-pub enum Share {
-    Half,
-    Quarter,
-    Eighth,
-    Sixteenth,
 }
 
 /// How an end goes about what its owner may choose. The default is what [`Settings`] alone make.

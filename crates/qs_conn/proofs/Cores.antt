@@ -7,6 +7,7 @@ use Rattle.std.proofs.lemmas.Option.{none-some, same_Some}
 use Rattle.qs_ranges.specs.declared.NoMemory.{NoMemory}
 use Rattle.qs_ranges.specs.Numbers.{MAX_VARINT, NumberSet}
 use Rattle.qs_recv.specs.Lane.{RecvLane, after_read, stop, new_lane as new_recv_lane}
+use Rattle.qs_recv.specs.declared.credit.Share.{Share}
 use Rattle.qs_send.specs.Lane.{SendLane, Sending, new_lane as new_send_lane, answer_of, refusal, reset_refusal, write_lane, finish_lane, reset_lane, stopped_lane, allow_lane}
 use Rattle.qs_send.specs.declared.parts.Chunk.{Chunk}
 use Rattle.qs_send.specs.declared.piece.Item.{Item}
@@ -122,20 +123,20 @@ module _ (c : Core) (h : IsAtRest c) where
 
   -- Streams open
 
-  pub rest_opened : (n w limit buffer : ℕ) (no_send no_recv : Bool) (o : Outgoing) (now : Tables RecvLane) (ins outs : Tables Bool) → o ≡ with_sends (cond no_send c.outbox.sends (open_to c.outbox.sends n (λ m. new_send_lane m limit buffer))) c.outbox
-      → now ≡ cond no_recv c.recvs (open_to c.recvs n (λ m. new_recv_lane w)) → w ≡ window_by c.limits.role c.limits.settings n → ins ≡ open_to c.untold_recvs n (λ k. false) → outs ≡ open_to c.untold_sends n (λ k. false)
+  pub rest_opened : (n w : ℕ) (share : Share) (limit buffer : ℕ) (no_send no_recv : Bool) (o : Outgoing) (now : Tables RecvLane) (ins outs : Tables Bool) → o ≡ with_sends (cond no_send c.outbox.sends (open_to c.outbox.sends n (λ m. new_send_lane m limit buffer))) c.outbox
+      → now ≡ cond no_recv c.recvs (open_to c.recvs n (λ m. new_recv_lane w share)) → w ≡ window_by c.limits.role c.limits.settings n → ins ≡ open_to c.untold_recvs n (λ k. false) → outs ≡ open_to c.untold_sends n (λ k. false)
       → IsAtRest (record c { outbox = o; recvs = now; untold_recvs = ins; untold_sends = outs })
-  rest_opened n w limit buffer no_send no_recv o now ins outs is after window in_are out_are =
+  rest_opened n w share limit buffer no_send no_recv o now ins outs is after window in_are out_are =
       let sum = sum_open c.outbox.sends n limit buffer no_send in
       let credit = core.credit in
       subst (λ (x : Outgoing). IsAtRest (record c { outbox = x; recvs = now; untold_recvs = ins; untold_sends = outs })) (sym is)
       (record {
         core = record {
-          sound = sound_opened c.limits.role c.limits.settings c.recvs now c.limits.granted n w no_recv core.sound window after;
+          sound = sound_opened c.limits.role c.limits.settings c.recvs now c.limits.granted n w share no_recv core.sound window after;
           fits = core.fits;
           credit = omega (arith, sum, credit);
-          counts = fit_opened _ _ _ _ _ _ _ core.counts now _ n w limit buffer no_send no_recv refl after;
-          told_in = rw in_are (recvs_open c.limits.role c.limits.settings c.recvs now c.outbox.outstanding c.outbox.acked c.untold_recvs n w no_recv core.told_in after window);
+          counts = fit_opened _ _ _ _ _ _ _ core.counts now _ n w share limit buffer no_send no_recv refl after;
+          told_in = rw in_are (recvs_open c.limits.role c.limits.settings c.recvs now c.outbox.outstanding c.outbox.acked c.untold_recvs n w share no_recv core.told_in after window);
           told_out = rw out_are (sends_open c.outbox.sends _ c.outbox.outstanding c.outbox.acked c.untold_sends n limit buffer no_send core.told_out refl);
         };
         idle = h.idle;

@@ -7,6 +7,8 @@ use Rattle.qs_wire.specs.declared.stream_id.Role.{Role}
 use Rattle.qs_recv.specs.Lane.{RecvLane, stop, raise, after_read, take_stream, take_reset, check_stream, is_whole as recv_whole, new_lane as new_recv_lane}
 use Rattle.qs_recv.specs.Lawful.{IsLawful}
 use Rattle.qs_recv.specs.Assembled.{discard, forget}
+use Rattle.qs_recv.specs.declared.credit.Share.{Share}
+use Rattle.qs_recv.specs.declared.credit.Share.TheVariants.{Half}
 use Rattle.qs_send.specs.Lane.{new_lane as new_send_lane, Sending, SendLane, is_whole, unacked_from, answer_of, write_lane, finish_lane, reset_lane, stopped_lane, reset_refusal, refusal, allow_lane, blocked_lane, sent_lane, acked_lane, reset_acked_lane}
 use Rattle.qs_send.specs.declared.parts.SendFault.{SendFault}
 use Rattle.qs_send.specs.declared.parts.SendFault.TheVariants.{Finished, WasReset}
@@ -121,10 +123,10 @@ module _ (role : Role) (s : Settings) (recvs : Tables RecvLane) (sends : Tables 
     lawful_at n l there = (subst (HasLawfulLane role s n) there (k.lanes n)).0
 
     -- bytes came that passed the check
-    pub fit_streamed : (now : Tables RecvLane) (n offset : ℕ) (bytes : List ℕ) (fin : Bool) → IsOk (check_stream (or_new (lookup recvs n) 0) offset (length bytes) fin) → now ≡ updated recvs n (λ l. take_stream l offset bytes fin) (lookup recvs n)
+    pub fit_streamed : (now : Tables RecvLane) (n offset : ℕ) (bytes : List ℕ) (fin : Bool) → IsOk (check_stream (or_new (lookup recvs n) 0 Half) offset (length bytes) fin) → now ≡ updated recvs n (λ l. take_stream l offset bytes fin) (lookup recvs n)
         → CountsFit role s now sends e b u
     fit_streamed now n offset bytes fin passed is =
-        unread now n (λ l. take_stream l offset bytes fin) is (λ l there. (refl, (data_after l offset bytes fin (lawful_at n l there) (subst (λ o. IsOk (check_stream (or_new o 0) offset (length bytes) fin)) there passed)).ended))
+        unread now n (λ l. take_stream l offset bytes fin) is (λ l there. (refl, (data_after l offset bytes fin (lawful_at n l there) (subst (λ o. IsOk (check_stream (or_new o 0 Half) offset (length bytes) fin)) there passed)).ended))
 
     -- a stream is read, and counted anew
     pub fit_read : (now : Tables RecvLane) (n size : ℕ) (e' : ByDir ℕ) (was is : Bool) → now ≡ updated recvs n (λ l. after_read l size) (lookup recvs n) → was ≡ is_over role recvs sends n → is ≡ is_over role now sends n → e' ≡ recounted n was is e
@@ -172,10 +174,10 @@ module _ (role : Role) (s : Settings) (recvs : Tables RecvLane) (sends : Tables 
   fit_told_to_stop now n code is = fit_sends now e (sends_same role recvs sends now n (λ l. stopped_lane l code) e h.counted is (λ l there. ends_as_before code l (is_some (reset_refusal l)) refl))
 
   -- streams are opened
-  pub fit_opened : (now_r : Tables RecvLane) (now_s : Tables SendLane) (n w limit buffer : ℕ) (no_send no_recv : Bool) → now_s ≡ cond no_send sends (open_to sends n (λ m. new_send_lane m limit buffer))
-      → now_r ≡ cond no_recv recvs (open_to recvs n (λ m. new_recv_lane w)) → CountsFit role s now_r now_s e b u
-  fit_opened now_r now_s n w limit buffer no_send no_recv sent received =
-      fit_recvs now_r now_s e (recvs_opened role recvs now_r now_s e n w no_recv (sends_opened role recvs sends now_s e n limit buffer no_send h.counted sent) received) (told_opened recvs now_r n w no_recv h.told received)
+  pub fit_opened : (now_r : Tables RecvLane) (now_s : Tables SendLane) (n w : ℕ) (share : Share) (limit buffer : ℕ) (no_send no_recv : Bool) → now_s ≡ cond no_send sends (open_to sends n (λ m. new_send_lane m limit buffer))
+      → now_r ≡ cond no_recv recvs (open_to recvs n (λ m. new_recv_lane w share)) → CountsFit role s now_r now_s e b u
+  fit_opened now_r now_s n w share limit buffer no_send no_recv sent received =
+      fit_recvs now_r now_s e (recvs_opened role recvs now_r now_s e n w share no_recv (sends_opened role recvs sends now_s e n limit buffer no_send h.counted sent) received) (told_opened recvs now_r n w share no_recv h.told received)
 
   -- limits rise, and each granted count becomes the next one
   pub fit_settled : (t : Tuning) (now : Tables RecvLane) (g v : ℕ) → now ≡ each raise recvs → g ≡ count_after s t Bidi e.bidi → v ≡ count_after s t Uni e.uni → CountsFit role s now sends e g v
@@ -196,7 +198,7 @@ within_counted e sound bidi uni =
 opened_counted : (e : End) (n : ℕ) (c : ByDir ℕ) (own : Bool) → AreAllCounted e.role e.recvs e.sends c → AreAllCounted e.role (cond own e (opens n e)).recvs (cond own e (opens n e)).sends c
 opened_counted e n c true h = h
 opened_counted e n c false h =
-    recvs_opened e.role e.recvs _ _ c n (window e n) (is_uni n && is_own e n) (sends_opened e.role e.recvs e.sends _ c n (first_send_limit e n) e.settings.send_buffer (is_uni n && not (is_own e n)) h refl) refl
+    recvs_opened e.role e.recvs _ _ c n (window e n) e.tuning.credit_step (is_uni n && is_own e n) (sends_opened e.role e.recvs e.sends _ c n (first_send_limit e n) e.settings.send_buffer (is_uni n && not (is_own e n)) h refl) refl
 
 same_role : (e : End) (n : ℕ) (own : Bool) → (cond own e (opens n e)).role ≡ e.role
 same_role e n true = refl

@@ -5,6 +5,7 @@ use Rattle.std.proofs.lemmas.Option.{none-some, same_Some}
 use Rattle.qs_wire.specs.declared.stream_id.Role.{Role}
 use Rattle.qs_wire.specs.declared.stream_id.Role.TheVariants.{Client, Server}
 use Rattle.qs_recv.specs.Lane.{RecvLane, new_lane as new_recv_lane, raise}
+use Rattle.qs_recv.specs.declared.credit.Share.{Share}
 use Rattle.qs_send.specs.Lane.{SendLane, new_lane as new_send_lane}
 use Rattle.qs_machine.specs.Tables.{Tables, table, with_table, lookup, update, updated, no_streams, open_to, each}
 use Rattle.qs_machine.specs.Ends.{is_uni, role_bit}
@@ -294,11 +295,11 @@ opened_send_kind Server (suc (suc zero)) begin ks recvs sends e lt none h = reco
 opened_send_kind Server (suc (suc (suc zero))) begin ks recvs sends e lt none h = record { bidi = h.bidi; uni = h.uni }
 opened_send_kind role (suc (suc (suc (suc k)))) begin ks recvs sends e lt none h = absurd (omega (arith, lt))
 
-pub recvs_opened : (role : Role) (recvs now : Tables RecvLane) (sends : Tables SendLane) (e : ByDir ℕ) (n w : ℕ) (absent : Bool) → AreAllCounted role recvs sends e → now ≡ cond absent recvs (open_to recvs n (λ m. new_recv_lane w)) → AreAllCounted role now sends e
+pub recvs_opened : (role : Role) (recvs now : Tables RecvLane) (sends : Tables SendLane) (e : ByDir ℕ) (n w : ℕ) (share : Share) (absent : Bool) → AreAllCounted role recvs sends e → now ≡ cond absent recvs (open_to recvs n (λ m. new_recv_lane w share)) → AreAllCounted role now sends e
 unfolding open_to
-recvs_opened role recvs now sends e n w true h is = subst (λ (t : Tables RecvLane). AreAllCounted role t sends e) (sym is) h
-recvs_opened role recvs now sends e n w false h is =
-    subst (λ (t : Tables RecvLane). AreAllCounted role t sends e) (sym is) (opened_recv_kind role (n % 4) (λ (i : ℕ). new_recv_lane w) (range_with_len (length (table recvs (n % 4))) (n / 4 + 1 - length (table recvs (n % 4)))) recvs sends e (omega arith) (λ j. refl) h)
+recvs_opened role recvs now sends e n w share true h is = subst (λ (t : Tables RecvLane). AreAllCounted role t sends e) (sym is) h
+recvs_opened role recvs now sends e n w share false h is =
+    subst (λ (t : Tables RecvLane). AreAllCounted role t sends e) (sym is) (opened_recv_kind role (n % 4) (λ (i : ℕ). new_recv_lane w share) (range_with_len (length (table recvs (n % 4))) (n / 4 + 1 - length (table recvs (n % 4)))) recvs sends e (omega arith) (λ j. refl) h)
 
 pub sends_opened : (role : Role) (recvs : Tables RecvLane) (sends now : Tables SendLane) (e : ByDir ℕ) (n limit buffer : ℕ) (absent : Bool) → AreAllCounted role recvs sends e → now ≡ cond absent sends (open_to sends n (λ m. new_send_lane m limit buffer)) → AreAllCounted role recvs now e
 unfolding open_to

@@ -6,6 +6,7 @@ use Rattle.std.proofs.lemmas.Bool.Decides.{nat_tests}
 use Rattle.qs_ranges.specs.Numbers.{NumberSet, run_starts}
 use Rattle.qs_wire.specs.declared.stream_id.Role.{Role}
 use Rattle.qs_recv.specs.Lane.{RecvLane, new_lane, after_read, stop}
+use Rattle.qs_recv.specs.declared.credit.Share.{Share}
 use Rattle.qs_calls.specs.declared.settings.Settings.{Settings}
 use Rattle.qs_calls.specs.declared.settings.Tuning.{Tuning}
 use Rattle.qs_calls.specs.declared.settings.PeerLimits.{PeerLimits}
@@ -104,6 +105,6 @@ pub sound_after_stop : (role : Role) (s : Settings) (recvs now : Tables RecvLane
 sound_after_stop role s recvs now g n code k after = subst (λ (t : Tables RecvLane). KeepsCredit role s t g) (sym after) (sound_stop n code (end_with role s recvs g) k)
 
 -- a stream was opened, or wasn't
-pub sound_opened : (role : Role) (s : Settings) (recvs now : Tables RecvLane) (g n w : ℕ) (absent : Bool) → KeepsCredit role s recvs g → w ≡ window_by role s n → now ≡ cond absent recvs (open_to recvs n (λ m. new_lane w)) → KeepsCredit role s now g
-sound_opened role s recvs now g n w true k window is = subst (λ (t : Tables RecvLane). KeepsCredit role s t g) (sym is) k
-sound_opened role s recvs now g n w false k window is = subst (λ (t : Tables RecvLane). KeepsCredit role s t g) (sym (is ∙ ap (λ v. open_to recvs n (λ m. new_lane v)) window)) (keeps_open role s recvs g k n)
+pub sound_opened : (role : Role) (s : Settings) (recvs now : Tables RecvLane) (g n w : ℕ) (share : Share) (absent : Bool) → KeepsCredit role s recvs g → w ≡ window_by role s n → now ≡ cond absent recvs (open_to recvs n (λ m. new_lane w share)) → KeepsCredit role s now g
+sound_opened role s recvs now g n w share true k window is = subst (λ (t : Tables RecvLane). KeepsCredit role s t g) (sym is) k
+sound_opened role s recvs now g n w share false k window is = subst (λ (t : Tables RecvLane). KeepsCredit role s t g) (sym (is ∙ ap (λ v. open_to recvs n (λ m. new_lane v share)) window)) (keeps_open role s recvs g k n share)

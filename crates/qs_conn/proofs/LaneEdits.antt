@@ -8,6 +8,7 @@ use Rattle.std.proofs.lemmas.List.{append_assoc, length-append, length-replicate
 use Rattle.std.proofs.Math.Seq.{take-append_seam}
 use Rattle.qs_recv.specs.Lane.{MAX_WINDOW, RecvLane, new_lane}
 use Rattle.qs_recv.specs.Lawful.{IsLawful}
+use Rattle.qs_recv.specs.declared.credit.Share.{Share}
 use Rattle.qs_machine.specs.declared.tally.Tally.{Tally}
 use Rattle.qs_conn.specs.declared.touches.Touches.{Touches}
 use Rattle.qs_machine.specs.Tables.{widened}
@@ -38,16 +39,16 @@ edited xs t now was part touched next i x y there at is was_is part_is now_is la
 pub changed_at : {X : Type 0} (xs : List X) (i : ℕ) (x y : X) (f : X → X) → i < length xs → x ≡ get_or xs i x → y ≡ f x → set xs i y ≡ changed xs i f (slice_get xs i)
 changed_at xs i x y f there at is = rw (slice_get_read xs (length xs) i x refl there at, is) refl
 
-pub opened : (xs now : List RecvLane) (t now_t : Tally) (touched now_touched : Touches) (w n count : ℕ) → 1 ≤ w → w ≤ MAX_WINDOW → length xs + n ≤ 2 ^ 60 → n ≡ count - length xs → now ≡ xs ++ map (λ (i : ℕ). new_lane w) (range_with_len (length xs) n)
+pub opened : (xs now : List RecvLane) (t now_t : Tally) (touched now_touched : Touches) (w : ℕ) (share : Share) (n count : ℕ) → 1 ≤ w → w ≤ MAX_WINDOW → length xs + n ≤ 2 ^ 60 → n ≡ count - length xs → now ≡ xs ++ map (λ (i : ℕ). new_lane w share) (range_with_len (length xs) n)
     → now_t ≡ t → now_touched.lanes ≡ touched.lanes → now_touched.marks ≡ touched.marks ++ replicate (count - length touched.marks) false → AreCounted xs t touched → AreCounted now now_t now_touched
-opened xs now t now_t touched now_touched w n count some small few all is same_t lanes marks was =
-    let more = length-map-range_with_len (λ (i : ℕ). new_lane w) (length xs) n in
-    let len = length-append xs (map (λ (i : ℕ). new_lane w) (range_with_len (length xs) n)) in
+opened xs now t now_t touched now_touched w share n count some small few all is same_t lanes marks was =
+    let more = length-map-range_with_len (λ (i : ℕ). new_lane w share) (length xs) n in
+    let len = length-append xs (map (λ (i : ℕ). new_lane w share) (range_with_len (length xs) n)) in
     rw (is, same_t)
     (record {
-      counted = tally_opened xs w (range_with_len (length xs) n) ∙ was.counted;
-      lawful = lawful_append xs _ was.lawful (lawful_begun w (range_with_len (length xs) n) some small);
-      settled = are_opened touched now_touched xs w (count - length touched.marks) (range_with_len (length xs) n) some small lanes marks was.settled;
+      counted = tally_opened xs w share (range_with_len (length xs) n) ∙ was.counted;
+      lawful = lawful_append xs _ was.lawful (lawful_begun w share (range_with_len (length xs) n) some small);
+      settled = are_opened touched now_touched xs w (count - length touched.marks) share (range_with_len (length xs) n) some small lanes marks was.settled;
       room = ap length marks ∙ length-append touched.marks (replicate (count - length touched.marks) false) ∙ omega (arith, was.room, all, len, more, length-replicate (count - length touched.marks) false);
       few = omega (arith, few, len, more);
     })

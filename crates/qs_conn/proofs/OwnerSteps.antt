@@ -5,7 +5,8 @@ use Rattle.std.proofs.lemmas.Option.{none-some}
 use Rattle.qs_recv.specs.Lane.{RecvLane, read_answer, bytes_of, bytes_read, after_answer, after_read, stop}
 use Rattle.qs_recv.specs.declared.half.Read.{Read}
 use Rattle.qs_recv.specs.declared.half.Read.TheVariants.{Wait}
-use Rattle.qs_send.specs.Lane.{SendLane, refusal, write_lane}
+use Rattle.qs_send.specs.Lane.{SendLane, refusal, write_lane, accepted}
+use Rattle.qs_recv.specs.declared.credit.Share.TheVariants.{Half}
 use Rattle.qs_send.specs.declared.parts.SendFault.{SendFault}
 use Rattle.qs_send.specs.declared.parts.SendFault.TheVariants as sends
 use Rattle.qs_calls.specs.declared.reading.Consumed.{Consumed}
@@ -86,12 +87,12 @@ recv_parts false c (Some l) = refl
 recv_refusal_is : (is_shut : Bool) (e : End) (n : ℕ) → recv_refusal is_shut e n ≡ no_receiver is_shut e n
 recv_refusal_is is_shut e n = recv_parts is_shut (is_some (send_lane e n)) (recv_lane e n)
 
-received_by : (b c : Bool) (o : Option RecvLane) → first_refusal (refuse_if b Closed) (refuse_if (is_none o) (no_half c)) ≡ None → o ≡ Some (or_new o 0)
+received_by : (b c : Bool) (o : Option RecvLane) → first_refusal (refuse_if b Closed) (refuse_if (is_none o) (no_half c)) ≡ None → o ≡ Some (or_new o 0 Half)
 received_by true c o h = absurd (search (rules, h))
 received_by false c None h = absurd (search (rules, h))
 received_by false c (Some l) h = refl
 
-pub receiver_there : (e : End) (n : ℕ) → no_receiver (is_read_no_more e) e n ≡ None → recv_lane e n ≡ Some (or_new (recv_lane e n) 0)
+pub receiver_there : (e : End) (n : ℕ) → no_receiver (is_read_no_more e) e n ≡ None → recv_lane e n ≡ Some (or_new (recv_lane e n) 0 Half)
 receiver_there e n is = received_by (is_read_no_more e) (is_some (send_lane e n)) (recv_lane e n) is
 
 pub stop_done : (e : End) (n code : ℕ) (recvs : Tables RecvLane) (new : End) → no_receiver (is_some e.closed) e n ≡ None → recvs ≡ updated e.recvs n (λ l. stop l code) (recv_lane e n)
@@ -99,12 +100,12 @@ pub stop_done : (e : End) (n code : ℕ) (recvs : Tables RecvLane) (new : End) �
 stop_done e n code recvs new is after settled =
     passed _ e new (Ok tt) _ (recv_refusal_is (is_some e.closed) e n ∙ is) (refl, settled ∙ ap (λ t. settle (record e { recvs = t })) after)
 
-pub read_done : (e : End) (n size : ℕ) (answer : Read) (recvs : Tables RecvLane) (new : End) → no_receiver (is_read_no_more e) e n ≡ None → answer ≡ read_answer (or_new (recv_lane e n) 0) size
+pub read_done : (e : End) (n size : ℕ) (answer : Read) (recvs : Tables RecvLane) (new : End) → no_receiver (is_read_no_more e) e n ≡ None → answer ≡ read_answer (or_new (recv_lane e n) 0 Half) size
     → recvs ≡ updated e.recvs n (λ l. after_read l size) (recv_lane e n) → new ≡ settle (record e { recvs = recvs })
-    → ReadStep e n size (Ok answer) (bytes_read (or_new (recv_lane e n) 0) size) new
+    → ReadStep e n size (Ok answer) (bytes_read (or_new (recv_lane e n) 0 Half) size) new
 read_done e n size answer recvs new is told after settled =
     rw (recv_refusal_is (is_read_no_more e) e n ∙ is)
-    (or_new (recv_lane e n) 0, receiver_there e n is, ap Ok told, refl, settled ∙ ap (λ t. settle (record e { recvs = t })) after)
+    (or_new (recv_lane e n) 0 Half, receiver_there e n is, ap Ok told, refl, settled ∙ ap (λ t. settle (record e { recvs = t })) after)
 
 -- The same of an end that is told in two ways
 
@@ -119,14 +120,14 @@ pub write_err : (e now : End) (n : ℕ) (bytes : List ℕ) (fault : SendFault) �
 write_err e now n bytes fault is none told asks =
     subst (λ (k : End). WriteStep k n bytes (Err (use_fault fault)) e) is (write_refused e n bytes fault (ap (λ k. no_sender k n) is ∙ none) told asks)
 
-pub read_ok : (e now : End) (n size : ℕ) (answer : Read) (recvs : Tables RecvLane) (new : End) → e ≡ now → no_receiver (is_read_no_more now) now n ≡ None → answer ≡ read_answer (or_new (recv_lane e n) 0) size
+pub read_ok : (e now : End) (n size : ℕ) (answer : Read) (recvs : Tables RecvLane) (new : End) → e ≡ now → no_receiver (is_read_no_more now) now n ≡ None → answer ≡ read_answer (or_new (recv_lane e n) 0 Half) size
     → recvs ≡ updated e.recvs n (λ l. after_read l size) (recv_lane e n) → new ≡ settle (record e { recvs = recvs })
-    → ReadStep now n size (Ok answer) (bytes_read (or_new (recv_lane e n) 0) size) new
+    → ReadStep now n size (Ok answer) (bytes_read (or_new (recv_lane e n) 0 Half) size) new
 read_ok e now n size answer recvs new is none told after settled =
-    subst (λ (k : End). ReadStep k n size (Ok answer) (bytes_read (or_new (recv_lane e n) 0) size) new) is
+    subst (λ (k : End). ReadStep k n size (Ok answer) (bytes_read (or_new (recv_lane e n) 0 Half) size) new) is
     (read_done e n size answer recvs new (ap (λ k. no_receiver (is_read_no_more k) k n) is ∙ none) told after settled)
 
-pub read_none : (e now : End) (n size : ℕ) (new : End) → e ≡ now → no_receiver (is_read_no_more now) now n ≡ None → IsToldOfEnd (recv_lane e n) → ((t : RecvTask) → HasNone t (or_new (recv_lane e n) 0)) → new ≡ settle now → ReadStep now n size (Ok Wait) [] new
+pub read_none : (e now : End) (n size : ℕ) (new : End) → e ≡ now → no_receiver (is_read_no_more now) now n ≡ None → IsToldOfEnd (recv_lane e n) → ((t : RecvTask) → HasNone t (or_new (recv_lane e n) 0 Half)) → new ≡ settle now → ReadStep now n size (Ok Wait) [] new
 read_none e now n size new is none told quiet settled = subst (λ (k : End). ReadStep k n size (Ok Wait) [] new) is (go (recv_lane e n) refl)
   where
     open_now : no_receiver (is_read_no_more e) e n ≡ None
@@ -135,7 +136,7 @@ read_none e now n size new is none told quiet settled = subst (λ (k : End). Rea
     go : (o : Option RecvLane) → recv_lane e n ≡ o → ReadStep e n size (Ok Wait) [] new
     go None at = absurd (none-some _ (sym at ∙ receiver_there e n open_now))
     go (Some l) at =
-        let waiting = waits l size (subst IsToldOfEnd at told) (subst (λ o. (t : RecvTask) → HasNone t (or_new o 0)) at quiet) in
+        let waiting = waits l size (subst IsToldOfEnd at told) (subst (λ o. (t : RecvTask) → HasNone t (or_new o 0 Half)) at quiet) in
         rw (recv_refusal_is (is_read_no_more e) e n ∙ open_now) (
           l,
           at,
@@ -164,12 +165,12 @@ pub receiver_open_still : (e mid : End) (n most : ℕ) → no_receiver (is_read_
 receiver_open_still e mid n most none after = ap is_some (now_at e mid n most _ (receiver_there e n none) after)
 
 pub consume_ok : (e mid last new : End) (n most : ℕ) (read next : Read) (at_end : Bool) → no_receiver (is_read_no_more e) e n ≡ None
-    → read ≡ read_answer (or_new (lookup e.recvs n) 0) most → mid ≡ on_recv n (λ m. after_read m most) e
-    → next ≡ read_answer (or_new (lookup mid.recvs n) 0) 0 → last ≡ on_recv n (λ m. after_read m 0) mid
+    → read ≡ read_answer (or_new (lookup e.recvs n) 0 Half) most → mid ≡ on_recv n (λ m. after_read m most) e
+    → next ≡ read_answer (or_new (lookup mid.recvs n) 0 Half) 0 → last ≡ on_recv n (λ m. after_read m 0) mid
     → at_end ≡ is_end next → new ≡ settle last → ConsumeStep e n most (Ok (record { read = read; at_end = at_end })) new
 consume_ok e mid last new n most read next at_end none first after second then_after ends settled =
-    let l = or_new (recv_lane e n) 0 in
+    let l = or_new (recv_lane e n) 0 Half in
     let at = receiver_there e n none in
-    let told : at_end ≡ is_end (read_answer (after_read l most) 0) = ends ∙ ap is_end (second ∙ ap (λ o. read_answer (or_new o 0) 0) (now_at e mid n most l at after)) in
+    let told : at_end ≡ is_end (read_answer (after_read l most) 0) = ends ∙ ap is_end (second ∙ ap (λ o. read_answer (or_new o 0 Half) 0) (now_at e mid n most l at after)) in
     passed _ e new _ _ (recv_refusal_is (is_read_no_more e) e n ∙ none)
     (l, at, (λ i. Ok (record { read = first i; at_end = told i })), settled ∙ ap settle (then_after ∙ ap (on_recv n (λ m. after_read m 0)) after))

@@ -9,6 +9,8 @@ use Rattle.std.proofs.Math.ListN as list
 use Rattle.qs_recv.specs.Lane.{RecvLane, new_lane, raise, answer_by, read_answer, is_whole, at_final_size}
 use Rattle.qs_recv.specs.declared.half.Read.TheVariants.{Bytes, End, Wait}
 use Rattle.qs_recv.specs.News.{tells_something}
+use Rattle.qs_recv.specs.declared.credit.Share.{Share}
+use Rattle.qs_recv.specs.declared.credit.Share.TheVariants.{Half}
 use Rattle.qs_machine.specs.Credit.{recv_ended}
 use Rattle.qs_machine.proofs.Choices.{not_chosen}
 use Rattle.qs_conn.specs.Marks.{is_marked, AreMarked}
@@ -24,8 +26,8 @@ pub noted_there : (xs : List RecvLane) (marks : RecvMarks) (i : ℕ) → AreNote
 noted_there xs marks i h there t = mark_there (HasNone t) xs (marks_of marks t) i (h t) there
 
 -- a lane without a mark for any task has no answer
-pub quiet_there : (xs : List RecvLane) (marks : RecvMarks) (i : ℕ) → AreNoted xs marks → i < length xs → ((t : RecvTask) → is_marked (marks_of marks t) i ≡ false) → (t : RecvTask) → HasNone t (slice_index_or xs i (new_lane 0))
-quiet_there xs marks i h there none t = unmarked_at (HasNone t) xs (marks_of marks t) i (slice_index_or xs i (new_lane 0)) (h t) (slice_get-get_or xs i (new_lane 0) there) (none t)
+pub quiet_there : (xs : List RecvLane) (marks : RecvMarks) (i : ℕ) → AreNoted xs marks → i < length xs → ((t : RecvTask) → is_marked (marks_of marks t) i ≡ false) → (t : RecvTask) → HasNone t (slice_index_or xs i (new_lane 0 Half))
+quiet_there xs marks i h there none t = unmarked_at (HasNone t) xs (marks_of marks t) i (slice_index_or xs i (new_lane 0 Half)) (h t) (slice_get-get_or xs i (new_lane 0 Half) there) (none t)
 
 -- A reader of such a lane waits, where what was told was an end or a reset (RFC 9000, sections 2.2 and 3.2)
 
@@ -61,15 +63,15 @@ pub noted_undone : (xs now : List RecvLane) (old new : RecvMarks) → now ≡ xs
 noted_undone xs now old new is at h t = rw (is, at t) (h t)
 
 -- a lane begins without an answer
-pub begins_without : (t : RecvTask) (window : ℕ) → HasNone t (new_lane window)
-begins_without tasks.Readable window = ap tells_something (not_chosen _ _ Wait (set.contains-empty nat_cmp 0))
-begins_without tasks.Ended window = refl
+pub begins_without : (t : RecvTask) (window : ℕ) (share : Share) → HasNone t (new_lane window share)
+begins_without tasks.Readable window share = ap tells_something (not_chosen _ _ Wait (set.contains-empty nat_cmp 0))
+begins_without tasks.Ended window share = refl
 
 -- lanes open
-pub noted_opened : (window : ℕ) (xs now : List RecvLane) (old new : RecvMarks) (count n m : ℕ) → length xs ≤ 2 ^ 60 → count ≤ 2 ^ 60 → now ≡ xs ++ map (λ (i : ℕ). new_lane window) (range_with_len (length xs) n) → n ≤ m → m ≤ n → m ≡ count - length xs
+pub noted_opened : (window : ℕ) (share : Share) (xs now : List RecvLane) (old new : RecvMarks) (count n m : ℕ) → length xs ≤ 2 ^ 60 → count ≤ 2 ^ 60 → now ≡ xs ++ map (λ (i : ℕ). new_lane window share) (range_with_len (length xs) n) → n ≤ m → m ≤ n → m ≡ count - length xs
     → ((t : RecvTask) → marks_of new t ≡ marks_of old t ++ replicate (count - length (marks_of old t)) false) → AreNoted xs old → AreNoted now new
-noted_opened window xs now old new count n m few small is le ge missing at h t =
-    (more_opened (HasNone t) (λ (i : ℕ). new_lane window) (λ i. begins_without t window) xs now (marks_of old t) (marks_of new t) count n m small is le ge missing (at t) (few, h t)).1
+noted_opened window share xs now old new count n m few small is le ge missing at h t =
+    (more_opened (HasNone t) (λ (i : ℕ). new_lane window share) (λ i. begins_without t window share) xs now (marks_of old t) (marks_of new t) count n m small is le ge missing (at t) (few, h t)).1
 
 -- a raised limit makes no news
 answer_raised : (o : Option ℕ) (l : RecvLane) → tells_something (answer_by o (raise l) 1) ≡ tells_something (answer_by o l 1)

@@ -8,8 +8,9 @@ use Rattle.std.proofs.Math.Seq.{take-append_seam}
 use Rattle.std.specs.List.{slice_get}
 use Rattle.qs_ranges.specs.Numbers.{MAX_VARINT}
 use Rattle.qs_recv.specs.Assembled.{forget}
-use Rattle.qs_recv.specs.Lane.{MAX_WINDOW, RecvLane, new_lane, raise, take_stream, take_reset, is_whole}
+use Rattle.qs_recv.specs.Lane.{MAX_WINDOW, RecvLane, new_lane, step, raise, take_stream, take_reset, is_whole}
 use Rattle.qs_recv.specs.Lawful.{IsLawful}
+use Rattle.qs_recv.specs.declared.credit.Share.{Share}
 use Rattle.qs_conn.specs.declared.touches.Touches.{Touches}
 use Rattle.qs_machine.specs.Sums.{changed}
 use Rattle.qs_machine.proofs.ProcessedAgain.{next_twice}
@@ -24,19 +25,19 @@ abbrev most : ℕ → ℕ → ℕ
 most t w = min MAX_VARINT (t + w)
 
 -- whether the limit moves
-abbrev moves : ℕ → ℕ → ℕ → Bool
-moves l t w = nat_le (l + max 1 (w / 2)) (most t w) || (eqb (most t w) MAX_VARINT && nat_lt l (most t w))
+abbrev moves : ℕ → ℕ → ℕ → Share → Bool
+moves l t w share = nat_le (l + step share w) (most t w) || (eqb (most t w) MAX_VARINT && nat_lt l (most t w))
 
 pub raised_twice : (l : RecvLane) → IsSettled (raise l)
 raised_twice l = by_final l.final_size
   where
     by_final : (f : Option ℕ) → IsSettled (raise (record l { final_size = f }))
     by_final (Some s) = refl
-    by_final None = next_twice l.limit _ l.arrived.window
+    by_final None = next_twice l.limit _ l.arrived.window l.share
 
-pub new_settled : (w : ℕ) → 1 ≤ w → w ≤ MAX_WINDOW → IsSettled (new_lane w)
-new_settled w some small =
-    let stays : moves w 0 w ≡ false = grind (arith, nat_tests) in
+pub new_settled : (w : ℕ) (share : Share) → 1 ≤ w → w ≤ MAX_WINDOW → IsSettled (new_lane w share)
+new_settled w share some small =
+    let stays : moves w 0 w share ≡ false = grind (arith, nat_tests) in
     ap (λ c. cond c (most 0 w) w) stays
 
 -- a frame on a lane that wasn't stopped raises no limit: it moves what was taken only after a reset
@@ -113,10 +114,10 @@ get_seam [] ys j l at = inr (j, at)
 get_seam (x ∷ xs) ys zero l at = inl at
 get_seam (x ∷ xs) ys (suc j) l at = get_seam xs ys j l at
 
-get_begun : (w : ℕ) (ks : List ℕ) (k : ℕ) (l : RecvLane) → slice_get (map (λ (i : ℕ). new_lane w) ks) k ≡ Some l → new_lane w ≡ l
-get_begun w [] k l at = absurd (none-some l at)
-get_begun w (i ∷ ks) zero l at = same_Some (new_lane w) l at
-get_begun w (i ∷ ks) (suc k) l at = get_begun w ks k l at
+get_begun : (w : ℕ) (share : Share) (ks : List ℕ) (k : ℕ) (l : RecvLane) → slice_get (map (λ (i : ℕ). new_lane w share) ks) k ≡ Some l → new_lane w share ≡ l
+get_begun w share [] k l at = absurd (none-some l at)
+get_begun w share (i ∷ ks) zero l at = same_Some (new_lane w share) l at
+get_begun w share (i ∷ ks) (suc k) l at = get_begun w share ks k l at
 
 marked_more : (ms : List Bool) (n i : ℕ) → is_marked ms i ≡ is_marked (ms ++ replicate n false) i
 marked_more [] zero i = refl
@@ -130,11 +131,11 @@ among_more Nothing ms n i = refl
 among_more (Lane k) ms n i = refl
 among_more Several ms n i = marked_more ms n i
 
-pub are_opened : (t new : Touches) (xs : List RecvLane) (w n : ℕ) (ks : List ℕ) → 1 ≤ w → w ≤ MAX_WINDOW → new.lanes ≡ t.lanes → new.marks ≡ t.marks ++ replicate n false → AreSettled t xs → AreSettled new (xs ++ map (λ (i : ℕ). new_lane w) ks)
-are_opened t new xs w n ks some small lanes marks each j l there free =
+pub are_opened : (t new : Touches) (xs : List RecvLane) (w n : ℕ) (share : Share) (ks : List ℕ) → 1 ≤ w → w ≤ MAX_WINDOW → new.lanes ≡ t.lanes → new.marks ≡ t.marks ++ replicate n false → AreSettled t xs → AreSettled new (xs ++ map (λ (i : ℕ). new_lane w share) ks)
+are_opened t new xs w n share ks some small lanes marks each j l there free =
     elim (get_seam xs _ j l there) [
       | inl before ↦ each j l before (among_more t.lanes t.marks n j ∙ ap (λ ms. is_among t.lanes ms j) (sym marks) ∙ ap (λ k. is_among k new.marks j) (sym lanes) ∙ free)
-      | inr (k, begun) ↦ subst IsSettled (get_begun w ks k l begun) (new_settled w some small)
+      | inr (k, begun) ↦ subst IsSettled (get_begun w share ks k l begun) (new_settled w share some small)
     ]
 
 -- lanes are taken away

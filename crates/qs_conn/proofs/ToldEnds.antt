@@ -8,6 +8,7 @@ use Rattle.qs_recv.specs.Lane.{RecvLane, new_lane, is_whole, whole_to, at_final_
 use Rattle.qs_recv.specs.Lawful.{IsLawful}
 use Rattle.qs_recv.specs.declared.half.Read.{Read}
 use Rattle.qs_recv.specs.declared.half.Read.TheVariants.{Bytes, End, Reset, Wait}
+use Rattle.qs_recv.specs.declared.credit.Share.{Share}
 use Rattle.qs_machine.specs.Tables.{Tables, table, lookup, updated, no_streams, open_to, each}
 use Rattle.qs_machine.specs.Credit.{recv_ended}
 use Rattle.qs_machine.proofs.TableLaws.{slots_updated, slots_opened, slots_each}
@@ -92,9 +93,9 @@ told_updated t now n f told is keeps = subst AreTold (sym is) (go (lookup t n) r
 pub told_read : (t now : Tables RecvLane) (n size : ℕ) → AreTold t → now ≡ updated t n (λ l. after_read l size) (lookup t n) → ((l : RecvLane) → lookup t n ≡ Some l → IsLawful l) → AreTold now
 told_read t now n size told is lawful = told_updated t now n (λ l. after_read l size) told is (λ l there was. read_told l size (lawful l there) was)
 
-pub told_opened : (t now : Tables RecvLane) (n w : ℕ) (absent : Bool) → AreTold t → now ≡ cond absent t (open_to t n (λ m. new_lane w)) → AreTold now
-told_opened t now n w true told is = subst AreTold (sym is) told
-told_opened t now n w false told is = subst AreTold (sym is) (slots_opened (λ m o. IsToldOfEnd o) t n (λ m. new_lane w) told (λ m none kind is. absurd (both_ways false refl is)))
+pub told_opened : (t now : Tables RecvLane) (n w : ℕ) (share : Share) (absent : Bool) → AreTold t → now ≡ cond absent t (open_to t n (λ m. new_lane w share)) → AreTold now
+told_opened t now n w share true told is = subst AreTold (sym is) told
+told_opened t now n w share false told is = subst AreTold (sym is) (slots_opened (λ m o. IsToldOfEnd o) t n (λ m. new_lane w share) told (λ m none kind is. absurd (both_ways false refl is)))
 
 pub told_raised : (t now : Tables RecvLane) → AreTold t → now ≡ each raise t → AreTold now
 told_raised t now told is = subst AreTold (sym is) (slots_each (λ m o. IsToldOfEnd o) raise t (λ m. raised (lookup t m) (told m)))

@@ -26,15 +26,15 @@ raised_again t = λ i. record {
   server_uni = raised_once t.server_uni i;
 }
 
-pub next_now : (s : Settings) (t : Tuning) (recvs now : Tables RecvLane) (e : ByDir ℕ) (granted g b u : ℕ) → now ≡ each raise recvs → g ≡ next_limit granted (total taken recvs) s.conn_window → b ≡ count_after s t Bidi e.bidi → u ≡ count_after s t Uni e.uni
+pub next_now : (s : Settings) (t : Tuning) (recvs now : Tables RecvLane) (e : ByDir ℕ) (granted g b u : ℕ) → now ≡ each raise recvs → g ≡ next_limit granted (total taken recvs) s.conn_window t.credit_step → b ≡ count_after s t Bidi e.bidi → u ≡ count_after s t Uni e.uni
     → AreNext s t now e g b u
 next_now s t recvs now e granted g b u raised limit bidi uni =
     record {
       streams = ap (each raise) raised ∙ raised_again recvs ∙ sym raised;
       connection =
-          ap (λ k. next_limit k (total taken now) s.conn_window) limit
-          ∙ ap (λ k. next_limit (next_limit granted (total taken recvs) s.conn_window) k s.conn_window) (ap (total taken) raised ∙ total_each taken raise recvs (λ l. refl))
-          ∙ next_twice granted (total taken recvs) s.conn_window
+          ap (λ k. next_limit k (total taken now) s.conn_window share) limit
+          ∙ ap (λ k. next_limit (next_limit granted (total taken recvs) s.conn_window share) k s.conn_window share) (ap (total taken) raised ∙ total_each taken raise recvs (λ l. refl))
+          ∙ next_twice granted (total taken recvs) s.conn_window share
           ∙ sym limit;
       bidi = sym bidi;
       uni = sym uni;

@@ -10,6 +10,7 @@ use Rattle.qs_wire.specs.declared.stream_id.Role.{Role}
 use Rattle.qs_wire.specs.declared.stream_id.Dir.TheVariants.{Bidi, Uni}
 use Rattle.qs_calls.specs.declared.settings.Settings.{Settings}
 use Rattle.qs_recv.specs.Lane.{RecvLane, new_lane as new_recv_lane}
+use Rattle.qs_recv.specs.declared.credit.Share.{Share}
 use Rattle.qs_send.specs.Lane.{SendLane, new_lane as new_send_lane, write_lane, finish_lane, allow_lane, sent_lane, acked_lane, reset_acked_lane, blocked_lane}
 use Rattle.qs_send.specs.Records.{IsCarried, first_piece, without_first}
 use Rattle.qs_send.specs.declared.parts.Chunk.{Chunk}
@@ -259,11 +260,11 @@ module _ {L : Type 0} (T : ℕ → L → Item → Type 0) (lanes : Tables L) (m 
   told_opens true now begin is none = subst (λ (t : Tables L). AreTold T t m a places) (sym is) told_placed
   told_opens false now begin is none = subst (λ (t : Tables L). AreTold T t m a places) (sym is) (told_opened begin none)
 
-pub recvs_open : (r : Role) (s : Settings) (recvs now : Tables RecvLane) (m : Records) (a : AckedItems) (marks : Tables Bool) (n w : ℕ) (absent : Bool) → AreTold (TellsAt r s) recvs m a marks → now ≡ cond absent recvs (open_to recvs n (λ k. new_recv_lane w)) → w ≡ window_by r s n
+pub recvs_open : (r : Role) (s : Settings) (recvs now : Tables RecvLane) (m : Records) (a : AckedItems) (marks : Tables Bool) (n w : ℕ) (share : Share) (absent : Bool) → AreTold (TellsAt r s) recvs m a marks → now ≡ cond absent recvs (open_to recvs n (λ k. new_recv_lane w share)) → w ≡ window_by r s n
     → AreTold (TellsAt r s) now m a (open_to marks n (λ k. false))
-recvs_open r s recvs now m a marks n w absent h is first =
-    told_opens (TellsAt r s) recvs m a marks h n absent now (λ k. new_recv_lane w) is
-    (λ k kind. recv_tell (λ i. ⊥) (window_by r s k) k (new_recv_lane w)
+recvs_open r s recvs now m a marks n w share absent h is first =
+    told_opens (TellsAt r s) recvs m a marks h n absent now (λ k. new_recv_lane w share) is
+    (λ k kind. recv_tell (λ i. ⊥) (window_by r s k) k (new_recv_lane w share)
     (λ j limit (same, is, more, none). (let here = first ∙ window_at k kind in omega (arith, is, more, here)))
     (λ j code (same, stop, goes, whole). none-some code stop))
   where

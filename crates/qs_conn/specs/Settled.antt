@@ -12,7 +12,7 @@ use Rattle.qs_machine.specs.Credit.{count_after}
 -- each limit is the next one already, and so is each granted count
 pub record AreNext (s : Settings) (t : Tuning) (recvs : Tables RecvLane) (e : ByDir ℕ) (granted granted_bidi granted_uni : ℕ) : Type 0 where
   pub streams : each raise recvs ≡ recvs
-  pub connection : next_limit granted (total taken recvs) s.conn_window ≡ granted
+  pub connection : next_limit granted (total taken recvs) s.conn_window t.credit_step ≡ granted
   pub bidi : count_after s t Bidi e.bidi ≡ granted_bidi
   pub uni : count_after s t Uni e.uni ≡ granted_uni
 

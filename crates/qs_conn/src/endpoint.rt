@@ -4,7 +4,7 @@ ghost use Rattle.qs_ranges.specs.Numbers.{MAX_VARINT};
 ghost use Rattle.qs_recv.specs.Lane.{MAX_WINDOW, next_limit};
 ghost use Rattle.qs_calls.specs.Settings.{wide_setup_fault};
 ghost use Rattle.qs_machine.specs.Ends.{end_made, wide_end_made, new_end, role_bit, is_uni, is_own, window, first_send_limit};
-ghost use Rattle.qs_machine.specs.Credit.{spent, all_stored, granted_streams, parts, count_step, in_steps, settle};
+ghost use Rattle.qs_machine.specs.Credit.{spent, all_stored, granted_streams, count_step, in_steps, settle};
 ghost use Rattle.qs_machine.specs.Making.{ClosePayload, ClosePayloadBy, close_text_of};
 ghost use Rattle.qs_conn.specs.Layers.{ClosingFits};
 ghost use Rattle.qs_conn.specs.Held.{IsHeldBy};
@@ -21,7 +21,7 @@ use crate::setup::{setup_fault, wide_setup_fault};
 use crate::untold::Untold;
 use qs_calls::{Closed, Closing, PeerLimits, Settings, SetupFault, Share, Tuning};
 use qs_ranges::RangeSet;
-use qs_recv::next_limit;
+use qs_recv::{next_limit, step_of};
 use qs_wire::{Dir, Frame, Role, StreamId, put};
 use std::alloc::Global;
 use std::marker::Model;
@@ -245,6 +245,7 @@ impl Endpoint {
             self.core.limits.granted,
             taken,
             settings.conn_window,
+            self.core.limits.tuning.credit_step,
         );
         self.core.limits.granted_streams = ByDir {
             bidi: next_count(
@@ -319,29 +320,9 @@ fn next_count(step: Option<Share>, grant: u64, lifetime: u64, ended: u64) -> u64
 {
     let more = match step {
         None => ended,
-        Some(share) => in_steps(count_step(share, grant), ended),
+        Some(share) => in_steps(step_of(share, grant), ended),
     };
     grant.saturating_add(more).min(lifetime)
-}
-
-// How many streams have to end until a count moves by a share of its grant.
-fn count_step(share: Share, grant: u64) -> u64
-    ensures value { result ≡ count_step (Some share) grant }
-    ensures some { 0 < result }
-{
-    (grant / parts(share)).max(1)
-}
-
-fn parts(share: Share) -> u64
-    ensures value { result ≡ parts share }
-    ensures some { 0 < result }
-{
-    match share {
-        Share::Half => 2,
-        Share::Quarter => 4,
-        Share::Eighth => 8,
-        Share::Sixteenth => 16,
-    }
 }
 
 // As many of so many as make whole steps.

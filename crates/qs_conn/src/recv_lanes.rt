@@ -28,7 +28,7 @@ use crate::untold::Untold;
 use qs_calls::RecvReport;
 use qs_machine::Tally;
 use qs_ranges::NoMemory;
-use qs_recv::{Highest, Read, RecvFault, RecvHalf, RecvState, RingAssembly};
+use qs_recv::{Highest, Read, RecvFault, RecvHalf, RecvState, RingAssembly, Share};
 use qs_wire::StreamId;
 use std::alloc::Global;
 use std::marker::Model;
@@ -121,13 +121,13 @@ impl RecvLanes {
         requires in_range { offset + len ≤ MAX_VARINT }
         requires some { 1 ≤ window }
         requires small { window ≤ MAX_WINDOW }
-        ensures value { result ≡ check_stream (or_new (slice_get self.now index) window) offset len fin }
+        ensures value { (share : Share) → result ≡ check_stream (or_new (slice_get self.now index) window share) offset len fin }
         ensures in_range { IfOk result (λ h. h.after ≤ MAX_VARINT) }
     {
         if let Some(half) = self.halves.get(index) {
             half.check_stream(offset, len, fin)
         } else {
-            let fresh: Half = RecvHalf::new(self.alloc, window);
+            let fresh: Half = RecvHalf::new(self.alloc, window, Share::Half);
             fresh.check_stream(offset, len, fin)
         }
     }
@@ -143,12 +143,12 @@ impl RecvLanes {
         requires in_range { offset + length bytes.now ≤ MAX_VARINT }
         requires some { 1 ≤ window }
         requires small { window ≤ MAX_WINDOW }
-        ensures { result ≡ check_bytes (or_new (slice_get self.now index) window) offset bytes.now }
+        ensures { (share : Share) → result ≡ check_bytes (or_new (slice_get self.now index) window share) offset bytes.now }
     {
         if let Some(half) = self.halves.get(index) {
             half.check_bytes(offset, bytes)
         } else {
-            let fresh: Half = RecvHalf::new(self.alloc, window);
+            let fresh: Half = RecvHalf::new(self.alloc, window, Share::Half);
             fresh.check_bytes(offset, bytes)
         }
     }
@@ -163,12 +163,12 @@ impl RecvLanes {
         requires in_range { size ≤ MAX_VARINT }
         requires some { 1 ≤ window }
         requires small { window ≤ MAX_WINDOW }
-        ensures { result ≡ check_reset (or_new (slice_get self.now index) window) size }
+        ensures { (share : Share) → result ≡ check_reset (or_new (slice_get self.now index) window share) size }
     {
         if let Some(half) = self.halves.get(index) {
             half.check_reset(size)
         } else {
-            let fresh: Half = RecvHalf::new(self.alloc, window);
+            let fresh: Half = RecvHalf::new(self.alloc, window, Share::Half);
             fresh.check_reset(size)
         }
     }
@@ -195,17 +195,22 @@ impl RecvLanes {
     }
 
     /// Opens the lanes of all indexes below a count.
-    pub(crate) fn open_to(&mut self, window: u64, count: usize) -> Result<(), NoMemory>
+    pub(crate) fn open_to(
+        &mut self,
+        window: u64,
+        share: Share,
+        count: usize,
+    ) -> Result<(), NoMemory>
         requires some { 1 ≤ window }
         requires small { window ≤ MAX_WINDOW }
         requires few { count ≤ 2 ^ 60 }
-        ensures ok { OnOk result (self.new ≡ widened self.old count (λ i. new_lane window)) }
+        ensures ok { OnOk result (self.new ≡ widened self.old count (λ i. new_lane window share)) }
         ensures err { OnErr result (self.new ≡ self.old) }
     {
         let before = self.halves.len();
         let missing = count.saturating_sub(before);
         for _opened in 0..missing {
-            let fresh: Half = RecvHalf::new(self.alloc, window);
+            let fresh: Half = RecvHalf::new(self.alloc, window, share);
             if let Err(_refused) = self.halves.push(fresh) {
                 self.halves.truncate(before);
                 return Err(NoMemory);
@@ -253,14 +258,14 @@ impl RecvLanes {
     ) -> Result<(), NoMemory>
         requires there { index < length self.old }
         requires in_range { offset + length bytes.now ≤ MAX_VARINT }
-        requires passed { IsOk (check_stream (slice_index_or self.old index (new_lane 0)) offset (length bytes.now) fin) }
-        requires unchanged { IsOk (check_bytes (slice_index_or self.old index (new_lane 0)) offset bytes.now) }
+        requires passed { IsOk (check_stream (slice_index_or self.old index (new_lane 0 Share.Half)) offset (length bytes.now) fin) }
+        requires unchanged { IsOk (check_bytes (slice_index_or self.old index (new_lane 0 Share.Half)) offset bytes.now) }
         requires room { sum_by highest self.old + MAX_VARINT < 2 ^ 64 }
         ensures ok { OnOk result (self.new ≡ changed self.old index (λ l. take_stream l offset bytes.now fin) (slice_get self.old index)) }
-        ensures grown { let lane = slice_index_or self.old index (new_lane 0) in
+        ensures grown { let lane = slice_index_or self.old index (new_lane 0 Share.Half) in
             OnOk result (sum_by highest self.new + highest lane ≡ sum_by highest self.old + highest_after lane offset (length bytes.now) fin) }
         ensures err { OnErr result (self.new ≡ self.old) }
-        ensures news { OnErr result (HasNews (slice_index_or self.old index (new_lane 0)) offset (length bytes.now)) }
+        ensures news { OnErr result (HasNews (slice_index_or self.old index (new_lane 0 Share.Half)) offset (length bytes.now)) }
     {
         let half = &mut self.halves[index];
         let was = measure(half);
@@ -281,10 +286,10 @@ impl RecvLanes {
     pub(crate) fn take_reset(&mut self, index: usize, code: u64, size: u64)
         requires there { index < length self.old }
         requires in_range { size ≤ MAX_VARINT }
-        requires passed { IsOk (check_reset (slice_index_or self.old index (new_lane 0)) size) }
+        requires passed { IsOk (check_reset (slice_index_or self.old index (new_lane 0 Share.Half)) size) }
         requires room { sum_by highest self.old + MAX_VARINT < 2 ^ 64 }
         ensures after { self.new ≡ changed self.old index (λ l. take_reset l code size) (slice_get self.old index) }
-        ensures grown { sum_by highest self.new + highest (slice_index_or self.old index (new_lane 0)) ≡ sum_by highest self.old + size }
+        ensures grown { sum_by highest self.new + highest (slice_index_or self.old index (new_lane 0 Share.Half)) ≡ sum_by highest self.old + size }
     {
         let half = &mut self.halves[index];
         let was = measure(half);
@@ -297,7 +302,7 @@ impl RecvLanes {
     /// Whether a reader of an open lane may be told something. It looks at marks alone.
     pub(crate) fn may_tell(&self, index: usize) -> bool
         requires { index < length self.now }
-        ensures { result ≡ false → (t : RecvTask) → HasNone t (slice_index_or self.now index (new_lane 0)) }
+        ensures { result ≡ false → (t : RecvTask) → HasNone t (slice_index_or self.now index (new_lane 0 Share.Half)) }
     {
         self.news.may_tell(index)
     }
@@ -306,8 +311,8 @@ impl RecvLanes {
     pub(crate) fn read(&mut self, index: usize, into: &mut [u8]) -> Read
         requires there { index < length self.old }
         requires room { sum_by highest self.old + MAX_VARINT < 2 ^ 64 }
-        ensures answer { result ≡ read_answer (slice_index_or self.old index (new_lane 0)) (length into.old) }
-        ensures bytes { let bytes = bytes_read (slice_index_or self.old index (new_lane 0)) (length into.old) in into.new ≡ bytes ++ drop (length bytes) into.old }
+        ensures answer { result ≡ read_answer (slice_index_or self.old index (new_lane 0 Share.Half)) (length into.old) }
+        ensures bytes { let bytes = bytes_read (slice_index_or self.old index (new_lane 0 Share.Half)) (length into.old) in into.new ≡ bytes ++ drop (length bytes) into.old }
         ensures after { self.new ≡ changed self.old index (λ l. after_read l (length into.old)) (slice_get self.old index) }
         ensures same { sum_by highest self.new ≡ sum_by highest self.old }
     {
@@ -325,7 +330,7 @@ impl RecvLanes {
     pub(crate) fn skip(&mut self, index: usize, most: usize) -> Read
         requires there { index < length self.old }
         requires room { sum_by highest self.old + MAX_VARINT < 2 ^ 64 }
-        ensures answer { result ≡ read_answer (slice_index_or self.old index (new_lane 0)) most }
+        ensures answer { result ≡ read_answer (slice_index_or self.old index (new_lane 0 Share.Half)) most }
         ensures after { self.new ≡ changed self.old index (λ l. after_read l most) (slice_get self.old index) }
         ensures same { sum_by highest self.new ≡ sum_by highest self.old }
     {

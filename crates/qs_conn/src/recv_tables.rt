@@ -26,7 +26,7 @@ use crate::untold::Untold;
 use qs_calls::RecvReport;
 use qs_machine::Tally;
 use qs_ranges::NoMemory;
-use qs_recv::{Highest, Read, RecvFault};
+use qs_recv::{Highest, Read, RecvFault, Share};
 use qs_wire::StreamId;
 use std::alloc::Global;
 use std::marker::Model;
@@ -89,7 +89,7 @@ impl RecvTables {
         requires in_range { offset + len ≤ MAX_VARINT }
         requires some { 1 ≤ window }
         requires small { window ≤ MAX_WINDOW }
-        ensures value { result ≡ check_stream (or_new (lookup self.now stream) window) offset len fin }
+        ensures value { (share : Share) → result ≡ check_stream (or_new (lookup self.now stream) window share) offset len fin }
         ensures in_range { IfOk result (λ h. h.after ≤ MAX_VARINT) }
     {
         let lanes = &self.types[type_of(stream)];
@@ -107,7 +107,7 @@ impl RecvTables {
         requires in_range { offset + length bytes.now ≤ MAX_VARINT }
         requires some { 1 ≤ window }
         requires small { window ≤ MAX_WINDOW }
-        ensures { result ≡ check_bytes (or_new (lookup self.now stream) window) offset bytes.now }
+        ensures { (share : Share) → result ≡ check_bytes (or_new (lookup self.now stream) window share) offset bytes.now }
     {
         let lanes = &self.types[type_of(stream)];
         lanes.check_bytes(window, index_of(stream), offset, bytes)
@@ -123,7 +123,7 @@ impl RecvTables {
         requires in_range { size ≤ MAX_VARINT }
         requires some { 1 ≤ window }
         requires small { window ≤ MAX_WINDOW }
-        ensures { result ≡ check_reset (or_new (lookup self.now stream) window) size }
+        ensures { (share : Share) → result ≡ check_reset (or_new (lookup self.now stream) window share) size }
     {
         let lanes = &self.types[type_of(stream)];
         lanes.check_reset(window, index_of(stream), size)
@@ -181,14 +181,19 @@ impl RecvTables {
     }
 
     /// Opens a stream and all lower ones of its type.
-    pub(crate) fn open_to(&mut self, window: u64, stream: StreamId) -> Result<(), NoMemory>
+    pub(crate) fn open_to(
+        &mut self,
+        window: u64,
+        share: Share,
+        stream: StreamId,
+    ) -> Result<(), NoMemory>
         requires some { 1 ≤ window }
         requires small { window ≤ MAX_WINDOW }
-        ensures ok { OnOk result (self.new ≡ open_to self.old stream (λ m. new_lane window)) }
+        ensures ok { OnOk result (self.new ≡ open_to self.old stream (λ m. new_lane window share)) }
         ensures err { OnErr result (self.new ≡ self.old) }
     {
         let lanes = &mut self.types[type_of(stream)];
-        lanes.open_to(window, index_of(stream) + 1)
+        lanes.open_to(window, share, index_of(stream) + 1)
     }
 
     /// Takes a frame that passed both checks, at an open stream; or changes nothing.
@@ -201,12 +206,12 @@ impl RecvTables {
     ) -> Result<(), NoMemory>
         requires open { is_some (lookup self.old stream) ≡ true }
         requires in_range { offset + length bytes.now ≤ MAX_VARINT }
-        requires passed { IsOk (check_stream (or_new (lookup self.old stream) 0) offset (length bytes.now) fin) }
-        requires unchanged { IsOk (check_bytes (or_new (lookup self.old stream) 0) offset bytes.now) }
+        requires passed { IsOk (check_stream (or_new (lookup self.old stream) 0 Share.Half) offset (length bytes.now) fin) }
+        requires unchanged { IsOk (check_bytes (or_new (lookup self.old stream) 0 Share.Half) offset bytes.now) }
         requires room { total highest self.old < 2 ^ 62 }
         ensures ok { OnOk result (self.new ≡ updated self.old stream (λ l. take_stream l offset bytes.now fin) (lookup self.old stream)) }
         ensures err { OnErr result (self.new ≡ self.old) }
-        ensures news { OnErr result (HasNews (or_new (lookup self.old stream) 0) offset (length bytes.now)) }
+        ensures news { OnErr result (HasNews (or_new (lookup self.old stream) 0 Share.Half) offset (length bytes.now)) }
     {
         let lanes = &mut self.types[type_of(stream)];
         lanes.take_stream(index_of(stream), offset, bytes, fin)
@@ -216,7 +221,7 @@ impl RecvTables {
     pub(crate) fn take_reset(&mut self, stream: StreamId, code: u64, size: u64)
         requires open { is_some (lookup self.old stream) ≡ true }
         requires in_range { size ≤ MAX_VARINT }
-        requires passed { IsOk (check_reset (or_new (lookup self.old stream) 0) size) }
+        requires passed { IsOk (check_reset (or_new (lookup self.old stream) 0 Share.Half) size) }
         requires room { total highest self.old < 2 ^ 62 }
         ensures { self.new ≡ updated self.old stream (λ l. take_reset l code size) (lookup self.old stream) }
     {
@@ -227,7 +232,7 @@ impl RecvTables {
     /// Whether a reader of an open stream may be told something. It looks at marks alone.
     pub(crate) fn may_tell(&self, stream: StreamId) -> bool
         requires { is_some (lookup self.now stream) ≡ true }
-        ensures { result ≡ false → (t : RecvTask) → HasNone t (or_new (lookup self.now stream) 0) }
+        ensures { result ≡ false → (t : RecvTask) → HasNone t (or_new (lookup self.now stream) 0 Share.Half) }
     {
         let lanes = &self.types[type_of(stream)];
         lanes.may_tell(index_of(stream))
@@ -237,8 +242,8 @@ impl RecvTables {
     pub(crate) fn read(&mut self, stream: StreamId, into: &mut [u8]) -> Read
         requires open { is_some (lookup self.old stream) ≡ true }
         requires room { total highest self.old < 2 ^ 62 }
-        ensures answer { result ≡ read_answer (or_new (lookup self.old stream) 0) (length into.old) }
-        ensures bytes { let bytes = bytes_read (or_new (lookup self.old stream) 0) (length into.old) in into.new ≡ bytes ++ drop (length bytes) into.old }
+        ensures answer { result ≡ read_answer (or_new (lookup self.old stream) 0 Share.Half) (length into.old) }
+        ensures bytes { let bytes = bytes_read (or_new (lookup self.old stream) 0 Share.Half) (length into.old) in into.new ≡ bytes ++ drop (length bytes) into.old }
         ensures after { self.new ≡ updated self.old stream (λ l. after_read l (length into.old)) (lookup self.old stream) }
     {
         let lanes = &mut self.types[type_of(stream)];
@@ -249,7 +254,7 @@ impl RecvTables {
     pub(crate) fn skip(&mut self, stream: StreamId, most: usize) -> Read
         requires open { is_some (lookup self.old stream) ≡ true }
         requires room { total highest self.old < 2 ^ 62 }
-        ensures answer { result ≡ read_answer (or_new (lookup self.old stream) 0) most }
+        ensures answer { result ≡ read_answer (or_new (lookup self.old stream) 0 Share.Half) most }
         ensures after { self.new ≡ updated self.old stream (λ l. after_read l most) (lookup self.old stream) }
     {
         let lanes = &mut self.types[type_of(stream)];

@@ -8,6 +8,7 @@ use Rattle.std.proofs.lemmas.Bool.Decides.{nat_tests}
 use Rattle.qs_wire.specs.declared.stream_id.Role.{Role}
 use Rattle.qs_wire.specs.declared.stream_id.Dir.TheVariants.{Bidi, Uni}
 use Rattle.qs_recv.specs.Lane.{RecvLane, new_lane as new_recv_lane, highest, check_stream, check_reset, check_bytes, take_stream, take_reset}
+use Rattle.qs_recv.specs.declared.credit.Share.TheVariants.{Half}
 use Rattle.qs_recv.specs.declared.half.Highest.{Highest}
 use Rattle.qs_recv.specs.declared.half.RecvFault.{RecvFault}
 use Rattle.qs_send.specs.Lane.{SendLane, new_lane as new_send_lane, reset_refusal, reset_lane, first_code, stopped_lane, allow_lane}
@@ -46,7 +47,7 @@ WasOpened e n = is_own e n ≡ false → IsOpenAt e n
 pub opens_it : (n : ℕ) (e : End) → IsOpenAt (opens n e) n
 opens_it n e =
     record {
-      recvs = λ h. subst (λ t. is_some (lookup t n) ≡ true) (sym (not_chosen (is_uni n && is_own e n) e.recvs (open_to e.recvs n (λ m. new_recv_lane (window e n))) h)) (open_at e.recvs n (λ m. new_recv_lane (window e n)));
+      recvs = λ h. subst (λ t. is_some (lookup t n) ≡ true) (sym (not_chosen (is_uni n && is_own e n) e.recvs (open_to e.recvs n (λ m. new_recv_lane (window e n) e.tuning.credit_step)) h)) (open_at e.recvs n (λ m. new_recv_lane (window e n) e.tuning.credit_step));
       sends = λ h. subst (λ t. is_some (lookup t n) ≡ true) (sym (not_chosen (is_uni n && not (is_own e n)) e.sends (open_to e.sends n (λ m. new_send_lane m (first_send_limit e n) e.settings.send_buffer)) h)) (open_at e.sends n (λ m. new_send_lane m (first_send_limit e n) e.settings.send_buffer));
     }
 
@@ -73,7 +74,7 @@ opened_back n e h = cond_both (is_own e n) e (opens n e) (λ x. x ≡ e) (λ _. 
     back : IsOpenAt e n → opens n e ≡ e
     back is =
         let s : (opens n e).sends ≡ e.sends = cond_both (is_uni n && not (is_own e n)) e.sends (open_to e.sends n (λ m. new_send_lane m (first_send_limit e n) e.settings.send_buffer)) (λ t. t ≡ e.sends) (λ _. refl) (λ c. open_back e.sends n _ (is.sends c)) in
-        let r : (opens n e).recvs ≡ e.recvs = cond_both (is_uni n && is_own e n) e.recvs (open_to e.recvs n (λ m. new_recv_lane (window e n))) (λ t. t ≡ e.recvs) (λ _. refl) (λ c. open_back e.recvs n _ (is.recvs c)) in
+        let r : (opens n e).recvs ≡ e.recvs = cond_both (is_uni n && is_own e n) e.recvs (open_to e.recvs n (λ m. new_recv_lane (window e n) e.tuning.credit_step)) (λ t. t ≡ e.recvs) (λ _. refl) (λ c. open_back e.recvs n _ (is.recvs c)) in
         λ i. record e { sends = s i; recvs = r i }
 
 pub recv_back : (n : ℕ) (f : RecvLane → RecvLane) (l : RecvLane) (e : End) → WasOpened e n → lookup e.recvs n ≡ Some l → f l ≡ l → on_recv n f (opened_by_peer n e) ≡ e
@@ -230,7 +231,7 @@ item_done (ResetStream n code size) e v sound =
     let x = mid_reset n code size e v sound in
     let fine = reset_in e n code size v in
     let is = in_there e mid n fine refl in
-    let ok = subst (λ o. IsOk (check_reset (or_new o 0) size)) is (reset_checked e mid n code size v refl) in
+    let ok = subst (λ o. IsOk (check_reset (or_new o 0 Half) size)) is (reset_checked e mid n code size v refl) in
     (in_stays n e _ (after_twice e mid _ (after_opened n e) x) fine, opened_stays n mid _ x (was_opened n e), _, changed mid.recvs n (λ k. take_reset k code size) _ is, reset_taken _ code size (lawful_in mid n _ (sound_opened n e sound) is) ok)
 item_done (StopSending n code) e v sound =
     let mid = opened_by_peer n e in
@@ -253,8 +254,8 @@ frame_done (Stream n offset bytes fin) e v sound sent =
     let x = mid_stream n offset bytes fin e v sound in
     let fine = stream_in e n offset bytes fin v in
     let is = in_there e mid n fine refl in
-    let ok = subst (λ o. IsOk (check_stream (or_new o 0) offset (length bytes) fin)) is (stream_checked e mid n offset bytes fin v refl) in
-    let alike = subst (λ o. IsOk (check_bytes (or_new o 0) offset bytes)) is (stream_unchanged e mid n offset bytes fin v refl) in (
+    let ok = subst (λ o. IsOk (check_stream (or_new o 0 Half) offset (length bytes) fin)) is (stream_checked e mid n offset bytes fin v refl) in
+    let alike = subst (λ o. IsOk (check_bytes (or_new o 0 Half) offset bytes)) is (stream_unchanged e mid n offset bytes fin v refl) in (
       in_stays n e _ (after_twice e mid _ (after_opened n e) x) fine,
       opened_stays n mid _ x (was_opened n e),
       _,
@@ -271,15 +272,15 @@ no_growth : (h spent granted : ℕ) → spent ≤ granted → nat_lt granted (sp
 no_growth h spent granted le = grind (arith, nat_tests)
 
 in_again : (n : ℕ) (l : RecvLane) (e : End) (check : RecvLane → Result Highest RecvFault) → state_fault_in e n ≡ None → lookup e.recvs n ≡ Some l → check l ≡ Ok (record { before = highest l; after = highest l }) → IsInCredit e
-    → or_else (state_fault_in e n) (credit_fault e (check (or_new (lookup e.recvs n) (window e n)))) ≡ None
+    → or_else (state_fault_in e n) (credit_fault e (check (or_new (lookup e.recvs n) (window e n) e.tuning.credit_step))) ≡ None
 in_again n l e check fine is passes sound =
-    ap (λ a. or_else a (credit_fault e (check (or_new (lookup e.recvs n) (window e n))))) fine
-    ∙ ap (λ o. credit_fault e (check (or_new o (window e n)))) is
+    ap (λ a. or_else a (credit_fault e (check (or_new (lookup e.recvs n) (window e n) e.tuning.credit_step)))) fine
+    ∙ ap (λ o. credit_fault e (check (or_new o (window e n) e.tuning.credit_step))) is
     ∙ ap (credit_fault e) passes
     ∙ ap (λ b. fault_if b 0x03) (no_growth (highest l) (spent e) e.granted sound.spent)
 
 bytes_again : (n offset : ℕ) (bytes : List ℕ) (l : RecvLane) (e : End) → lookup e.recvs n ≡ Some l → check_bytes l offset bytes ≡ Ok tt → bytes_fault e n offset bytes ≡ None
-bytes_again n offset bytes l e is passes = ap (λ o. fault_of (check_bytes (or_new o (window e n)) offset bytes)) is ∙ ap fault_of passes
+bytes_again n offset bytes l e is passes = ap (λ o. fault_of (check_bytes (or_new o (window e n) e.tuning.credit_step) offset bytes)) is ∙ ap fault_of passes
 
 -- a third check that passes, past two that do
 passes_last : (a b c : Option ℕ) → or_else a b ≡ None → c ≡ None → or_else a (or_else b c) ≡ None

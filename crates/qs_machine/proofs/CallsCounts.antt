@@ -87,7 +87,7 @@ moves_opens n e = (
   refl,
   refl,
   refl,
-  cond_both (is_uni n && is_own e n) e.recvs _ (KeptIn LaneAfter e.recvs) (λ _. kept_same LaneAfter lane_same e.recvs) (λ _. kept_open LaneAfter lane_same e.recvs n (λ m. new_recv_lane (window e n))),
+  cond_both (is_uni n && is_own e n) e.recvs _ (KeptIn LaneAfter e.recvs) (λ _. kept_same LaneAfter lane_same e.recvs) (λ _. kept_open LaneAfter lane_same e.recvs n (λ m. new_recv_lane (window e n) e.tuning.credit_step)),
   cond_both (is_uni n && not (is_own e n)) e.sends _ (KeptIn SendStays e.sends) (λ _. kept_same SendStays send_same e.sends) (λ _. kept_open SendStays send_same e.sends n (λ m. new_send_lane m (first_send_limit e n) e.settings.send_buffer)),
 )
 

@@ -19,7 +19,7 @@ use Rattle.qs_machine.proofs.Sound.{keeps_updated, keeps_settle}
 use Rattle.qs_machine.proofs.FramesSound.{sound_opens, sound_acks, sound_frame}
 
 pub sound_settle : (e : End) → IsInCredit e → IsInCredit (settle e)
-sound_settle e h = keeps_settle e.role e.settings e.recvs e.granted h
+sound_settle e h = keeps_settle e.role e.settings e.recvs e.granted h e.tuning.credit_step
 
 stopped_lane : (b : Bool) (l m : RecvLane) → m.arrived.window ≡ l.arrived.window → (cond b l m).arrived.window ≡ l.arrived.window
 stopped_lane true l m e = refl

@@ -11,6 +11,7 @@ use Rattle.qs_ranges.proofs.Algebra.{inside}
 use Rattle.qs_wire.specs.declared.stream_id.Dir.TheVariants.{Bidi, Uni}
 use Rattle.qs_recv.specs.Assembled.{put, forget}
 use Rattle.qs_recv.specs.Lane.{RecvLane, check_stream, take_stream, take_reset, is_whole, breaks_known, highest}
+use Rattle.qs_recv.specs.declared.credit.Share.TheVariants.{Half}
 use Rattle.qs_recv.specs.Changes.{stream_changes}
 use Rattle.qs_recv.proofs.AssembledLaws.{contains-with_run}
 use Rattle.qs_recv.proofs.LawfulLaws.{unbroken}
@@ -205,7 +206,7 @@ recv_same n f e fine none stays =
 recv_differs : (n : ℕ) (f : RecvLane → RecvLane) (e : End) (l : RecvLane) → state_fault_in e n ≡ None → lookup e.recvs n ≡ Some l → (f l ≡ l → ⊥) → on_recv n f (opened_by_peer n e) ≡ e → ⊥
 recv_differs n f e l fine is differs same =
     let mid = opened_by_peer n e in
-    let there : lookup mid.recvs n ≡ Some l = in_there e mid n fine refl ∙ ap (λ o. Some (or_new o (window e n))) is in
+    let there : lookup mid.recvs n ≡ Some l = in_there e mid n fine refl ∙ ap (λ o. Some (or_new o (window e n) e.tuning.credit_step)) is in
     differs (same_Some (f l) l (sym (changed mid.recvs n f l there) ∙ ap (λ (x : End). lookup x.recvs n) same ∙ is))
 
 send_same : (n : ℕ) (f : SendLane → SendLane) (e : End) → state_fault_out e n ≡ None → is_yet_to_open e n ≡ false → ((l : SendLane) → lookup e.sends n ≡ Some l → f l ≡ l) → on_send n f (opened_by_peer n e) ≡ e
@@ -286,7 +287,7 @@ frame_same (Stream n offset bytes fin) e ours v none =
     let fine = stream_in e n offset bytes fin v in
     let back = opened_back n e (was_opened n e yet) in
     recv_same n (λ l. take_stream l offset bytes fin) e fine yet (λ l is.
-    data_same l offset bytes fin (subst (λ o. IsOk (check_stream (or_new o 0) offset (length bytes) fin)) is (stream_checked e e n offset bytes fin v (sym back)))
+    data_same l offset bytes fin (subst (λ o. IsOk (check_stream (or_new o 0 Half) offset (length bytes) fin)) is (stream_checked e e n offset bytes fin v (sym back)))
     (half_false (λ k. stream_changes k offset (length bytes) fin) (recv_lane e n) l is half))
 frame_same (Control i) e ours v none = item_same i e v none
 frame_same (Close code) e ours v none = refl

@@ -7,6 +7,7 @@ use Rattle.std.proofs.lemmas.Bool.Decides.{nat_tests}
 use Rattle.qs_wire.specs.declared.stream_id.Dir.{Dir}
 use Rattle.qs_wire.specs.declared.stream_id.Dir.TheVariants.{Bidi, Uni}
 use Rattle.qs_recv.specs.Lane.{RecvLane, new_lane as new_recv_lane, check_stream, check_reset, take_stream, take_reset, raise}
+use Rattle.qs_recv.specs.declared.credit.Share.TheVariants.{Half}
 use Rattle.qs_recv.specs.Lawful.{IsLawful}
 use Rattle.qs_send.specs.Lane.{SendLane, new_lane as new_send_lane, reset_refusal, is_whole, acked_lane, reset_lane, first_code, stopped_lane, reset_acked_lane, allow_lane}
 use Rattle.qs_send.specs.Records.{Among, IsCarried, without_first}
@@ -191,7 +192,7 @@ after_opens : (n : ℕ) (e : End) → IsAfter e (opens n e)
 after_opens n e =
     after_tables e _ _ e.granted
     (cond_both (is_uni n && not (is_own e n)) e.sends _ (KeptIn HalfAfter e.sends) (λ _. sends_same e.sends) (λ _. kept_open HalfAfter half_same e.sends n (λ m. new_send_lane m (first_send_limit e n) e.settings.send_buffer)))
-    (cond_both (is_uni n && is_own e n) e.recvs _ (KeptIn LaneAfter e.recvs) (λ _. recvs_same e.recvs) (λ _. kept_open LaneAfter lane_same e.recvs n (λ m. new_recv_lane (window e n))))
+    (cond_both (is_uni n && is_own e n) e.recvs _ (KeptIn LaneAfter e.recvs) (λ _. recvs_same e.recvs) (λ _. kept_open LaneAfter lane_same e.recvs n (λ m. new_recv_lane (window e n) e.tuning.credit_step)))
 
 pub after_opened : (n : ℕ) (e : End) → IsAfter e (opened_by_peer n e)
 after_opened n e = cond_both (is_own e n) e (opens n e) (IsAfter e) (λ _. after_same e) (λ _. after_opens n e)
@@ -363,14 +364,14 @@ pub mid_stream : (n offset : ℕ) (bytes : List ℕ) (fin : Bool) (e : End) → 
 mid_stream n offset bytes fin e v sound =
     after_recv n (λ l. take_stream l offset bytes fin) (opened_by_peer n e) (λ l is.
     data_after l offset bytes fin (lawful_in (opened_by_peer n e) n l (sound_opened n e sound) is)
-    (subst (λ o. IsOk (check_stream (or_new o 0) offset (length bytes) fin)) is (stream_checked e (opened_by_peer n e) n offset bytes fin v refl)))
+    (subst (λ o. IsOk (check_stream (or_new o 0 Half) offset (length bytes) fin)) is (stream_checked e (opened_by_peer n e) n offset bytes fin v refl)))
 
 pub mid_reset : (n code size : ℕ) (e : End) → verdict e (Control (ResetStream n code size)) ≡ None → IsInCredit e
     → IsAfter (opened_by_peer n e) (on_recv n (λ l. take_reset l code size) (opened_by_peer n e))
 mid_reset n code size e v sound =
     after_recv n (λ l. take_reset l code size) (opened_by_peer n e) (λ l is.
     reset_after l code size (lawful_in (opened_by_peer n e) n l (sound_opened n e sound) is)
-    (subst (λ o. IsOk (check_reset (or_new o 0) size)) is (reset_checked e (opened_by_peer n e) n code size v refl)))
+    (subst (λ o. IsOk (check_reset (or_new o 0 Half) size)) is (reset_checked e (opened_by_peer n e) n code size v refl)))
 
 pub mid_allow : (n m : ℕ) (e : End) → IsAfter (opened_by_peer n e) (on_send n (λ l. allow_lane l m) (opened_by_peer n e))
 mid_allow n m e = after_send n (λ l. allow_lane l m) (opened_by_peer n e) (λ l is. half_allow l m)

@@ -91,7 +91,18 @@ unfolding verdict
 unused_numbers = record { used = refl; unused = refl }
 
 limits : LimitsMove
-limits = record { early = refl; half = refl; odd = refl; last = refl }
+limits =
+    record {
+      early = refl;
+      half = refl;
+      odd = refl;
+      before_a_sixteenth = refl;
+      quarter = refl;
+      eighth = refl;
+      sixteenth = refl;
+      narrow = refl;
+      last = refl;
+    }
 
 lower_streams : LowerStreamsOpen
 unfolding frame_taken lookup update open_to

@@ -233,7 +233,7 @@ readings =
 
 settling : LimitsSettle
 unfolding frame_taken lookup update open_to each total
-settling = record { by_one = refl; of_direction = refl; whole_step = refl; by_two = refl; to_lifetime = refl; one_at_least = refl; stream = refl; ended = refl; connection = refl }
+settling = record { by_one = refl; of_direction = refl; whole_step = refl; by_two = refl; to_lifetime = refl; one_at_least = refl; stream = refl; ended = refl; connection = refl; early = (refl, refl); quarter = (refl, refl); opened = refl }
 
 risings : LimitsOnlyRise
 risings = record { lower = refl; open_too = refl; of_type = refl; closed = λ new h. ok_is_no_err _ _ h.0; uncountable = λ new h. ok_is_no_err _ _ h.0 }

@@ -8,6 +8,7 @@ use Rattle.qs_ranges.proofs.Sets.{end_of-empty}
 use Rattle.qs_wire.specs.declared.stream_id.Dir.TheVariants.{Uni}
 use Rattle.qs_recv.specs.Assembled.{Assembled, put}
 use Rattle.qs_recv.specs.Lane.{RecvLane, new_lane, highest, taken, check_stream, check_reset, take_stream, take_reset, is_whole, breaks_final_size}
+use Rattle.qs_recv.specs.declared.credit.Share.{Share}
 use Rattle.qs_recv.specs.Lawful.{IsLawful}
 use Rattle.qs_recv.specs.Laws.{TakeStream, TakeReset}
 use Rattle.qs_recv.specs.declared.half.Highest.{Highest}
@@ -43,9 +44,9 @@ pub no_fault : (b : Bool) (code : ℕ) → fault_if b code ≡ None → b ≡ fa
 no_fault true code e = absurd (none-some code (sym e))
 no_fault false code e = refl
 
-is_open : (o : Option RecvLane) (w : ℕ) → is_none o ≡ false → o ≡ Some (or_new o w)
-is_open None w e = absurd (false≢true (sym e))
-is_open (Some l) w e = refl
+is_open : (o : Option RecvLane) (w : ℕ) (share : Share) → is_none o ≡ false → o ≡ Some (or_new o w share)
+is_open None w share e = absurd (false≢true (sym e))
+is_open (Some l) w share e = refl
 
 -- the check of a lane that was passed, and what it says
 credit_passed : (e : End) (r : Result Highest RecvFault) → credit_fault e r ≡ None → (h : Highest) × (r ≡ Ok h) × (spent e + (h.after - h.before) ≤ e.granted)
@@ -67,16 +68,16 @@ two_checks false false f g x h e = (cc, refl)
 
 pub sound_opens : (n : ℕ) (e : End) → IsInCredit e → IsInCredit (opens n e)
 sound_opens n e h =
-    cond_both (is_uni n && is_own e n) e.recvs (open_to e.recvs n (λ m. new_lane (window e n))) (λ t. KeepsCredit e.role e.settings t e.granted)
-    (λ _. h) (λ _. keeps_open e.role e.settings e.recvs e.granted h n)
+    cond_both (is_uni n && is_own e n) e.recvs (open_to e.recvs n (λ m. new_lane (window e n) e.tuning.credit_step)) (λ t. KeepsCredit e.role e.settings t e.granted)
+    (λ _. h) (λ _. keeps_open e.role e.settings e.recvs e.granted h n e.tuning.credit_step)
 
 pub sound_opened : (n : ℕ) (e : End) → IsInCredit e → IsInCredit (opened_by_peer n e)
 sound_opened n e h = cond_both (is_own e n) e (opens n e) IsInCredit (λ _. h) (λ _. sound_opens n e h)
 
 spent_opens : (n : ℕ) (e : End) → spent (opens n e) ≡ spent e
 spent_opens n e =
-    cond_both (is_uni n && is_own e n) e.recvs (open_to e.recvs n (λ m. new_lane (window e n))) (λ t. total highest t ≡ total highest e.recvs)
-    (λ _. refl) (λ _. total_open highest e.recvs n (λ m. new_lane (window e n)) (λ m. end_of-empty))
+    cond_both (is_uni n && is_own e n) e.recvs (open_to e.recvs n (λ m. new_lane (window e n) e.tuning.credit_step)) (λ t. total highest t ≡ total highest e.recvs)
+    (λ _. refl) (λ _. total_open highest e.recvs n (λ m. new_lane (window e n) e.tuning.credit_step) (λ m. end_of-empty))
 
 spent_opened : (n : ℕ) (e : End) → spent (opened_by_peer n e) ≡ spent e
 spent_opened n e = cond_both (is_own e n) e (opens n e) (λ x. spent x ≡ spent e) (λ _. refl) (λ _. spent_opens n e)
@@ -85,28 +86,28 @@ granted_opened : (n : ℕ) (e : End) → (opened_by_peer n e).granted ≡ e.gran
 granted_opened n e = cond_both (is_own e n) e (opens n e) (λ x. x.granted ≡ e.granted) (λ _. refl) (λ _. refl)
 
 -- a lane that was opened is there as it was, or as it begins
-begun : (t : Tables RecvLane) (n w : ℕ) → lookup (open_to t n (λ m. new_lane w)) n ≡ Some (or_new (lookup t n) w)
-begun t n w =
-    elim (lookup_open t n n (λ m. new_lane w)) [
-      | inl same ↦ same ∙ there (lookup t n) (sym (ap is_some same) ∙ open_at t n (λ m. new_lane w))
-      | inr new ↦ new.3 ∙ ap (λ o. Some (or_new o w)) (sym new.0)
+begun : (t : Tables RecvLane) (n w : ℕ) (share : Share) → lookup (open_to t n (λ m. new_lane w share)) n ≡ Some (or_new (lookup t n) w share)
+begun t n w share =
+    elim (lookup_open t n n (λ m. new_lane w share)) [
+      | inl same ↦ same ∙ there (lookup t n) (sym (ap is_some same) ∙ open_at t n (λ m. new_lane w share))
+      | inr new ↦ new.3 ∙ ap (λ o. Some (or_new o w share)) (sym new.0)
     ]
   where
-    there : (o : Option RecvLane) → is_some o ≡ true → o ≡ Some (or_new o w)
+    there : (o : Option RecvLane) → is_some o ≡ true → o ≡ Some (or_new o w share)
     there None none = absurd (false≢true none)
     there (Some l) is = refl
 
 opens_lane : (n : ℕ) (e : End) → is_own e n ≡ false → recv_lane (opens n e) n ≡ Some (lane_of e n)
 opens_lane n e other =
-    ap (λ t. lookup t n) (not_chosen (is_uni n && is_own e n) e.recvs (open_to e.recvs n (λ m. new_lane (window e n))) (and_right (is_uni n) (is_own e n) other))
-    ∙ begun e.recvs n (window e n)
+    ap (λ t. lookup t n) (not_chosen (is_uni n && is_own e n) e.recvs (open_to e.recvs n (λ m. new_lane (window e n) e.tuning.credit_step)) (and_right (is_uni n) (is_own e n) other))
+    ∙ begun e.recvs n (window e n) e.tuning.credit_step
 
 -- the lane that a frame which passed the first checks changes
 pub opened_lane : (n : ℕ) (e : End) → state_fault_in e n ≡ None → recv_lane (opened_by_peer n e) n ≡ Some (lane_of e n)
 opened_lane n e passed = go (is_own e n) refl passed
   where
     go : (b : Bool) → is_own e n ≡ b → cond b (fault_if (is_none (recv_lane e n)) 0x05) (fault_if (nat_le (grant e n) (n / 4)) 0x04) ≡ None → recv_lane (cond b e (opens n e)) n ≡ Some (lane_of e n)
-    go true own p = is_open (recv_lane e n) (window e n) (no_fault _ _ p)
+    go true own p = is_open (recv_lane e n) (window e n) e.tuning.credit_step (no_fault _ _ p)
     go false other p = opens_lane n e other
 
 -- Frames with data and resets

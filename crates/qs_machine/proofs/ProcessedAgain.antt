@@ -8,7 +8,8 @@ use Rattle.qs_wire.specs.Grammar.{frames_of}
 use Rattle.qs_wire.specs.Reading.{reading_of}
 use Rattle.qs_wire.specs.declared.fault.WireFault.{WireFault}
 use Rattle.qs_wire.specs.declared.stream_id.Dir.TheVariants.{Bidi, Uni}
-use Rattle.qs_recv.specs.Lane.{RecvLane, taken, raise, next_limit}
+use Rattle.qs_recv.specs.Lane.{RecvLane, taken, raise, step, next_limit}
+use Rattle.qs_recv.specs.declared.credit.Share.{Share}
 use Rattle.qs_calls.specs.declared.closing.Closing.{Closing}
 use Rattle.qs_calls.specs.declared.closing.Closed.{Closed}
 use Rattle.qs_calls.specs.declared.closing.Closed.TheVariants.{ByUs, ByPeer}
@@ -31,17 +32,17 @@ use Rattle.qs_machine.proofs.PayloadsAgain.{payloads_repeat}
 
 -- Limits that moved don't move again
 
-pub next_twice : (l t w : ℕ) → next_limit (next_limit l t w) t w ≡ next_limit l t w
-next_twice l t w = go (moves l) refl
+pub next_twice : (l t w : ℕ) (share : Share) → next_limit (next_limit l t w share) t w share ≡ next_limit l t w share
+next_twice l t w share = go (moves l) refl
   where
     m : ℕ
     m = min MAX_VARINT (t + w)
 
     moves : ℕ → Bool
-    moves k = nat_le (k + max 1 (w / 2)) m || ((m == MAX_VARINT) && nat_lt k m)
+    moves k = nat_le (k + step share w) m || ((m == MAX_VARINT) && nat_lt k m)
 
     no_more : moves m ≡ false
-    no_more = let a : nat_le (m + max 1 (w / 2)) m ≡ false = grind (arith, nat_tests) in let b : nat_lt m m ≡ false = grind (arith, nat_tests) in
+    no_more = let a : nat_le (m + step share w) m ≡ false = grind (arith, nat_tests) in let b : nat_lt m m ≡ false = grind (arith, nat_tests) in
         ap (λ c. c || ((m == MAX_VARINT) && nat_lt m m)) a ∙ ap (λ c. (m == MAX_VARINT) && c) b ∙ none (m == MAX_VARINT)
       where
         none : (c : Bool) → (c && false) ≡ false
@@ -55,10 +56,10 @@ next_twice l t w = go (moves l) refl
 pub raise_twice : (l : RecvLane) → raise (raise l) ≡ raise l
 raise_twice l = ap (λ k. record l { limit = k }) (go (is_some l.final_size))
   where
-    go : (b : Bool) → cond b (cond b l.limit (next_limit l.limit (taken l) l.arrived.window)) (next_limit (cond b l.limit (next_limit l.limit (taken l) l.arrived.window)) (taken l) l.arrived.window)
-        ≡ cond b l.limit (next_limit l.limit (taken l) l.arrived.window)
+    go : (b : Bool) → cond b (cond b l.limit (next_limit l.limit (taken l) l.arrived.window l.share)) (next_limit (cond b l.limit (next_limit l.limit (taken l) l.arrived.window l.share)) (taken l) l.arrived.window l.share)
+        ≡ cond b l.limit (next_limit l.limit (taken l) l.arrived.window l.share)
     go true = refl
-    go false = next_twice l.limit (taken l) l.arrived.window
+    go false = next_twice l.limit (taken l) l.arrived.window l.share
 
 map_twice : {X : Type 0} (f : X → X) → ((x : X) → f (f x) ≡ f x) → (xs : List X) → map f (map f xs) ≡ map f xs
 map_twice f same [] = refl
@@ -72,8 +73,8 @@ pub settle_twice : (e : End) → settle (settle e) ≡ settle e
 settle_twice e =
     let r : each raise (each raise e.recvs) ≡ each raise e.recvs = each_twice raise raise_twice e.recvs in
     let t : all_taken (settle e) ≡ all_taken e = total_each taken raise e.recvs (λ l. refl) in
-    let g : next_limit (next_limit e.granted (all_taken e) e.settings.conn_window) (all_taken (settle e)) e.settings.conn_window ≡ next_limit e.granted (all_taken e) e.settings.conn_window =
-    ap (λ k. next_limit (next_limit e.granted (all_taken e) e.settings.conn_window) k e.settings.conn_window) t ∙ next_twice e.granted (all_taken e) e.settings.conn_window in
+    let g : next_limit (next_limit e.granted (all_taken e) e.settings.conn_window e.tuning.credit_step) (all_taken (settle e)) e.settings.conn_window e.tuning.credit_step ≡ next_limit e.granted (all_taken e) e.settings.conn_window e.tuning.credit_step =
+    ap (λ k. next_limit (next_limit e.granted (all_taken e) e.settings.conn_window e.tuning.credit_step) k e.settings.conn_window e.tuning.credit_step) t ∙ next_twice e.granted (all_taken e) e.settings.conn_window e.tuning.credit_step in
     λ i. record e { recvs = r i; granted = g i; granted_bidi = next_settle e Bidi i; granted_uni = next_settle e Uni i }
 
 -- Frames close nothing

@@ -7,6 +7,7 @@ use Rattle.std.proofs.lemmas.Bool.Decides.{nat_tests}
 use Rattle.qs_wire.specs.declared.stream_id.Dir.TheVariants.{Bidi, Uni}
 use Rattle.qs_recv.specs.Assembled.{discard, forget}
 use Rattle.qs_recv.specs.Lane.{RecvLane, new_lane as new_recv_lane, take_stream, take_reset, after_read, after_answer, read_answer, stop, raise, next_limit, is_whole}
+use Rattle.qs_recv.specs.declared.credit.Share.{Share}
 use Rattle.qs_recv.specs.declared.half.Read.{Read}
 use Rattle.qs_recv.specs.declared.half.Read.TheVariants as reads
 use Rattle.qs_recv.proofs.LawfulLaws.{raised_grows}
@@ -106,19 +107,19 @@ rises_opens n e = (
   le_same e.known_data,
   le_same e.known_bidi,
   le_same e.known_uni,
-  cond_both (is_uni n && is_own e n) e.recvs _ (LimitsRiseIn (λ l. l.limit) e.recvs) (λ _. rise_same (λ l. l.limit) e.recvs) (λ _. rise_open (λ l. l.limit) e.recvs n (λ m. new_recv_lane (window e n))),
+  cond_both (is_uni n && is_own e n) e.recvs _ (LimitsRiseIn (λ l. l.limit) e.recvs) (λ _. rise_same (λ l. l.limit) e.recvs) (λ _. rise_open (λ l. l.limit) e.recvs n (λ m. new_recv_lane (window e n) e.tuning.credit_step)),
   cond_both (is_uni n && not (is_own e n)) e.sends _ (LimitsRiseIn (λ l. l.limit) e.sends) (λ _. rise_same (λ l. l.limit) e.sends) (λ _. rise_open (λ l. l.limit) e.sends n (λ m. new_send_lane m (first_send_limit e n) e.settings.send_buffer)),
 )
 
 rises_opened : (n : ℕ) (e : End) → LimitsRise e (opened_by_peer n e)
 rises_opened n e = cond_both (is_own e n) e (opens n e) (LimitsRise e) (λ _. rises_same e) (λ _. rises_opens n e)
 
-pub next_limit_grows : (l t w : ℕ) → l ≤ next_limit l t w
-next_limit_grows l t w = grind (arith, nat_tests)
+pub next_limit_grows : (l t w : ℕ) (share : Share) → l ≤ next_limit l t w share
+next_limit_grows l t w share = grind (arith, nat_tests)
 
 rises_settle : (e : End) → LimitsRise e (settle e)
 rises_settle e = (
-  next_limit_grows e.granted (all_taken e) e.settings.conn_window,
+  next_limit_grows e.granted (all_taken e) e.settings.conn_window e.tuning.credit_step,
   le_same e.known_data,
   le_same e.known_bidi,
   le_same e.known_uni,

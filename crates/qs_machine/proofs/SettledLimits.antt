@@ -5,6 +5,7 @@ use Rattle.std.proofs.lemmas.Bool.Decides.{nat_tests}
 use Rattle.std.proofs.lemmas.Option.{same_Some, none-some}
 use Rattle.qs_wire.specs.declared.stream_id.Role.{Role}
 use Rattle.qs_recv.specs.Lane.{RecvLane, taken, raise, next_limit}
+use Rattle.qs_recv.specs.declared.credit.Share.{Share}
 use Rattle.qs_calls.specs.declared.settings.Settings.{Settings}
 use Rattle.qs_calls.specs.declared.settings.Tuning.{Tuning}
 use Rattle.qs_calls.specs.declared.settings.PeerLimits.{PeerLimits}
@@ -20,8 +21,8 @@ use Rattle.qs_machine.proofs.ProcessedAgain.{next_twice, raise_twice}
 use Rattle.qs_machine.proofs.TableLaws.{lookup_each, total_each}
 
 -- Where nothing was taken of a window, the limit stays.
-next_first : (w : ℕ) → next_limit w 0 w ≡ w
-next_first w = grind (arith, nat_tests)
+next_first : (w : ℕ) (share : Share) → next_limit w 0 w share ≡ w
+next_first w share = grind (arith, nat_tests)
 
 none_taken : (role : Role) (s : Settings) (t : Tuning) (p : PeerLimits) → all_taken (new_end role s t p) ≡ 0
 unfolding total
@@ -30,7 +31,7 @@ none_taken role s t p = refl
 new_settled : (role : Role) (s : Settings) (t : Tuning) (p : PeerLimits) → LimitsAreSettled (new_end role s t p)
 new_settled role s t p =
     record {
-      connection = ap (λ t. next_limit s.conn_window t s.conn_window) (none_taken role s t p) ∙ next_first s.conn_window;
+      connection = ap (λ k. next_limit s.conn_window k s.conn_window t.credit_step) (none_taken role s t p) ∙ next_first s.conn_window t.credit_step;
       streams = λ n l is. absurd (none-some l (sym (no_lane n) ∙ is));
     }
 
@@ -38,9 +39,9 @@ pub new_ends_settled : (role : Role) (s : Settings) (t : Tuning) (p : PeerLimits
 new_ends_settled role s t p e made = subst LimitsAreSettled (made_end (wide_setup_fault s p) (new_end role s t p) e made).1 (new_settled role s t p)
 
 -- a limit that was raised isn't raised again
-raised_stays : (k l : RecvLane) → raise k ≡ l → l.final_size ≡ None → next_limit l.limit (taken l) l.arrived.window ≡ l.limit
+raised_stays : (k l : RecvLane) → raise k ≡ l → l.final_size ≡ None → next_limit l.limit (taken l) l.arrived.window l.share ≡ l.limit
 raised_stays k l is none =
-    ap (λ o. cond (is_some o) l.limit (next_limit l.limit (taken l) l.arrived.window)) (sym none)
+    ap (λ o. cond (is_some o) l.limit (next_limit l.limit (taken l) l.arrived.window l.share)) (sym none)
     ∙ ap (λ (m : RecvLane). m.limit) (ap raise (sym is) ∙ raise_twice k ∙ is)
 
 found : (o : Option RecvLane) (l : RecvLane) → option_map raise o ≡ Some l → (k : RecvLane) × (raise k ≡ l)
@@ -51,8 +52,8 @@ settles : (e : End) → LimitsAreSettled (settle e)
 settles e =
     record {
       connection =
-          ap (λ t. next_limit (next_limit e.granted (all_taken e) e.settings.conn_window) t e.settings.conn_window) (total_each taken raise e.recvs (λ l. refl))
-          ∙ next_twice e.granted (all_taken e) e.settings.conn_window;
+          ap (λ t. next_limit (next_limit e.granted (all_taken e) e.settings.conn_window e.tuning.credit_step) t e.settings.conn_window e.tuning.credit_step) (total_each taken raise e.recvs (λ l. refl))
+          ∙ next_twice e.granted (all_taken e) e.settings.conn_window e.tuning.credit_step;
       streams = λ n l is none. (let (k, raised) = found (lookup e.recvs n) l (sym (lookup_each raise e.recvs n) ∙ is) in raised_stays k l raised none);
     }
 

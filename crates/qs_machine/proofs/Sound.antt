@@ -5,6 +5,7 @@ use Rattle.std.proofs.lemmas.Bool.Decides.{nat_tests}
 use Rattle.qs_ranges.proofs.Sets.{end_of-empty}
 use Rattle.qs_wire.specs.declared.stream_id.Role.{Role}
 use Rattle.qs_recv.specs.Lane.{MAX_WINDOW, RecvLane, new_lane, highest, taken, raise, next_limit}
+use Rattle.qs_recv.specs.declared.credit.Share.{Share}
 use Rattle.qs_recv.specs.Lawful.{IsLawful}
 use Rattle.qs_recv.proofs.LawfulLaws.{lawful_new, lawful_raise}
 use Rattle.qs_calls.specs.declared.settings.Settings.{Settings}
@@ -64,33 +65,33 @@ module _ (role : Role) (s : Settings) (recvs : Tables RecvLane) (granted : ℕ) 
       go None is = h
       go (Some l) is = (let k = keeps l is (lane_at n l is).0 in keeps_update n l (f l) is k.0 k.1 k.2 k.3)
 
-  pub keeps_open : (n : ℕ) → KeepsCredit role s (open_to recvs n (λ m. new_lane (window_by role s n))) granted
-  keeps_open n =
+  pub keeps_open : (n : ℕ) (share : Share) → KeepsCredit role s (open_to recvs n (λ m. new_lane (window_by role s n) share)) granted
+  keeps_open n share =
       let w = window_by role s n in
       let fits = window_fits role s n (windows_fit s h.settings) in
       record {
         settings = h.settings;
-        lanes = slots_opened (HasLawfulLane role s) recvs n (λ m. new_lane w) h.lanes (λ m none kind. (lawful_new w fits.0 fits.1, window_same role s n m kind));
-        spent = omega (arith, total_open highest recvs n (λ m. new_lane w) (λ m. end_of-empty), h.spent);
-        in_window = omega (arith, total_open taken recvs n (λ m. new_lane w) (λ m. refl), h.in_window);
+        lanes = slots_opened (HasLawfulLane role s) recvs n (λ m. new_lane w share) h.lanes (λ m none kind. (lawful_new w share fits.0 fits.1, window_same role s n m kind));
+        spent = omega (arith, total_open highest recvs n (λ m. new_lane w share) (λ m. end_of-empty), h.spent);
+        in_window = omega (arith, total_open taken recvs n (λ m. new_lane w share) (λ m. refl), h.in_window);
       }
 
-  next_limit_grows : (l t w : ℕ) → l ≤ next_limit l t w
-  next_limit_grows l t w = grind (arith, nat_tests)
+  next_limit_grows : (l t w : ℕ) (share : Share) → l ≤ next_limit l t w share
+  next_limit_grows l t w share = grind (arith, nat_tests)
 
-  next_limit_within : (l t w : ℕ) → l ≤ t + w → next_limit l t w ≤ t + w
-  next_limit_within l t w h = grind (arith, nat_tests)
+  next_limit_within : (l t w : ℕ) (share : Share) → l ≤ t + w → next_limit l t w share ≤ t + w
+  next_limit_within l t w share h = grind (arith, nat_tests)
 
   raised_lane : (n : ℕ) (o : Option RecvLane) → HasLawfulLane role s n o → HasLawfulLane role s n (option_map raise o)
   raised_lane n None has = tt
   raised_lane n (Some l) has = (lawful_raise l has.0, has.1)
 
-  pub keeps_settle : KeepsCredit role s (each raise recvs) (next_limit granted (total taken recvs) s.conn_window)
-  keeps_settle =
-      let limit = next_limit granted (total taken recvs) s.conn_window in
+  pub keeps_settle : (share : Share) → KeepsCredit role s (each raise recvs) (next_limit granted (total taken recvs) s.conn_window share)
+  keeps_settle share =
+      let limit = next_limit granted (total taken recvs) s.conn_window share in
       record {
         settings = h.settings;
         lanes = slots_each (HasLawfulLane role s) raise recvs (λ m. raised_lane m (lookup recvs m) (h.lanes m));
-        spent = omega (arith, total_each highest raise recvs (λ l. refl), h.spent, next_limit_grows granted (total taken recvs) s.conn_window);
-        in_window = omega (arith, total_each taken raise recvs (λ l. refl), next_limit_within granted (total taken recvs) s.conn_window h.in_window);
+        spent = omega (arith, total_each highest raise recvs (λ l. refl), h.spent, next_limit_grows granted (total taken recvs) s.conn_window share);
+        in_window = omega (arith, total_each taken raise recvs (λ l. refl), next_limit_within granted (total taken recvs) s.conn_window share h.in_window);
       }

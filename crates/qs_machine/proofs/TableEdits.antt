@@ -8,6 +8,7 @@ use Rattle.std.proofs.lemmas.Bool.{both_ways}
 use Rattle.std.proofs.lemmas.Bool.Decides.{nat_tests}
 use Rattle.std.proofs.lemmas.List.{set-get_or, get_or_default}
 use Rattle.qs_recv.specs.Lane.{RecvLane, new_lane}
+use Rattle.qs_recv.specs.declared.credit.Share.{Share}
 use Rattle.qs_machine.specs.Tables.{Tables, table, with_table, lookup, update, updated, open_to, each, total, widened}
 use Rattle.qs_machine.specs.Verdicts.{or_new}
 use Rattle.qs_send.specs.declared.parts.SendFault.{SendFault}
@@ -16,10 +17,10 @@ use Rattle.qs_send.specs.Lane.{Sending, accepted, refusal, after_write}
 use Rattle.qs_machine.proofs.Tallies.{tally_opened}
 use Rattle.qs_machine.specs.Sums.{tables_of, tally_on, changed, no_sending, or_no_sending}
 
-pub or_new_is : (xs : List RecvLane) (i w : ℕ) → or_new (slice_get xs i) w ≡ get_or xs i (new_lane w)
-or_new_is [] i w = refl
-or_new_is (x ∷ xs) zero w = refl
-or_new_is (x ∷ xs) (suc i) w = or_new_is xs i w
+pub or_new_is : (xs : List RecvLane) (i w : ℕ) (share : Share) → or_new (slice_get xs i) w share ≡ get_or xs i (new_lane w share)
+or_new_is [] i w share = refl
+or_new_is (x ∷ xs) zero w share = refl
+or_new_is (x ∷ xs) (suc i) w share = or_new_is xs i w share
 
 -- a refusal, or a change
 pub on_ok : {A E : Type 0} (r : Result A E) (P Q : Type 0) → (P → Q) → OnOk r P → OnOk r Q
@@ -201,11 +202,11 @@ module _ {X : Type 0} where
   pub sum_le : (f : X → ℕ) (ls : List (List X)) (n k : ℕ) (d : List X) → length ls ≡ 4 → k ≡ n % 4 → sum_by f (get_or ls k d) ≤ total f (tables_of ls)
   sum_le f ls n k d len kind = sum_le_at f ls n k (get_or ls k d) len kind (listed ls n k d len kind)
 
-pub lane_is : (ls : List (List RecvLane)) (n k i : ℕ) (d : List RecvLane) (w : ℕ) → length ls ≡ 4 → k ≡ n % 4 → i ≡ n / 4 → or_new (lookup (tables_of ls) n) w ≡ get_or (get_or ls k d) i (new_lane w)
-lane_is ls n k i d w len kind index = ap (λ o. or_new o w) (lookup_is ls n k i d len kind index) ∙ or_new_is (get_or ls k d) i w
+pub lane_is : (ls : List (List RecvLane)) (n k i : ℕ) (d : List RecvLane) (w : ℕ) (share : Share) → length ls ≡ 4 → k ≡ n % 4 → i ≡ n / 4 → or_new (lookup (tables_of ls) n) w share ≡ get_or (get_or ls k d) i (new_lane w share)
+lane_is ls n k i d w share len kind index = ap (λ o. or_new o w share) (lookup_is ls n k i d len kind index) ∙ or_new_is (get_or ls k d) i w share
 
-pub lane_looked : (ls : List (List RecvLane)) (n k i : ℕ) (d : List RecvLane) (w : ℕ) → length ls ≡ 4 → k ≡ n % 4 → i ≡ n / 4 → or_new (slice_get (get_or ls k d) i) w ≡ or_new (lookup (tables_of ls) n) w
-lane_looked ls n k i d w len kind index = ap (λ o. or_new o w) (sym (lookup_is ls n k i d len kind index))
+pub lane_looked : (ls : List (List RecvLane)) (n k i : ℕ) (d : List RecvLane) (w : ℕ) (share : Share) → length ls ≡ 4 → k ≡ n % 4 → i ≡ n / 4 → or_new (slice_get (get_or ls k d) i) w share ≡ or_new (lookup (tables_of ls) n) w share
+lane_looked ls n k i d w share len kind index = ap (λ o. or_new o w share) (sym (lookup_is ls n k i d len kind index))
 
 or_no_sending_is : (xs : List Sending) (i : ℕ) → or_no_sending (slice_get xs i) ≡ get_or xs i no_sending
 or_no_sending_is [] i = refl
@@ -245,19 +246,19 @@ refused_is ls n k i d ys (Err f) len kind index h = (
 )
 
 -- lanes that were opened, or weren't, add nothing to the sums
-pub same_tally : (t : Tables RecvLane) (n w : ℕ) (b : Bool) (mid : Tables RecvLane) (m : ℕ) → mid ≡ cond b t (open_to t n (λ j. new_lane w)) → m ≡ length (table t (n % 4))
+pub same_tally : (t : Tables RecvLane) (n w : ℕ) (share : Share) (b : Bool) (mid : Tables RecvLane) (m : ℕ) → mid ≡ cond b t (open_to t n (λ j. new_lane w share)) → m ≡ length (table t (n % 4))
     → tally_on (take m (table mid (n % 4))) ≡ tally_on (table mid (n % 4))
 unfolding open_to
-same_tally t n w true mid m is len =
+same_tally t n w share true mid m is len =
     let k = n % 4 in
     ap (λ (l : Tables RecvLane). tally_on (take m (table l k))) is ∙ ap (λ j. tally_on (take j (table t k))) len ∙ ap tally_on (take-length (table t k)) ∙ ap (λ (l : Tables RecvLane). tally_on (table l k)) (sym is)
-same_tally t n w false mid m is len =
+same_tally t n w share false mid m is len =
     let k = n % 4 in
     let xs = table t k in
-    let ys = widened xs (n / 4 + 1) (λ j. new_lane w) in
+    let ys = widened xs (n / 4 + 1) (λ j. new_lane w share) in
     let is_ys : table mid k ≡ ys = ap (λ (l : Tables RecvLane). table l k) is ∙ table_with t k ys in
     ap (λ l. tally_on (take m l)) is_ys
     ∙ ap (λ j. tally_on (take j ys)) len
     ∙ ap tally_on (take-append_seam xs _)
-    ∙ sym (tally_opened xs w _)
+    ∙ sym (tally_opened xs w share _)
     ∙ ap tally_on (sym is_ys)

@@ -4,6 +4,7 @@ use Rattle.std.specs.Prelude.{is_none, nat_le, IsOk}
 use Rattle.qs_send.specs.Lane.{SendLane, new_lane as new_send_lane}
 use Rattle.qs_send.specs.declared.piece.Item.TheVariants.{ResetStream}
 use Rattle.qs_recv.specs.Lane.{RecvLane, new_lane, check_stream, check_reset, check_bytes, take_stream, take_reset}
+use Rattle.qs_recv.specs.declared.credit.Share.TheVariants.{Half}
 use Rattle.qs_recv.specs.declared.half.Highest.{Highest}
 use Rattle.qs_recv.specs.declared.half.RecvFault.{RecvFault}
 use Rattle.qs_machine.specs.Credit.{grant}
@@ -60,23 +61,23 @@ pub stream_in : (e : End) (n offset : ℕ) (bytes : List ℕ) (fin : Bool) → v
 unfolding verdict
 stream_in e n offset bytes fin h = first_passed _ _ h
 
-pub reset_checked : (e mid : End) (n code size : ℕ) → verdict e (Control (ResetStream n code size)) ≡ None → mid ≡ opened_by_peer n e → IsOk (check_reset (or_new (lookup mid.recvs n) 0) size)
+pub reset_checked : (e mid : End) (n code size : ℕ) → verdict e (Control (ResetStream n code size)) ≡ None → mid ≡ opened_by_peer n e → IsOk (check_reset (or_new (lookup mid.recvs n) 0 Half) size)
 unfolding verdict
 reset_checked e mid n code size h is =
-    subst (λ o. IsOk (check_reset (or_new o 0) size)) (sym (in_there e mid n (first_passed _ _ h) is)) (checked e (check_reset (lane_of e n) size) (second_passed (state_fault_in e n) _ h))
+    subst (λ o. IsOk (check_reset (or_new o 0 Half) size)) (sym (in_there e mid n (first_passed _ _ h) is)) (checked e (check_reset (lane_of e n) size) (second_passed (state_fault_in e n) _ h))
 
 pub stream_checked : (e mid : End) (n offset : ℕ) (bytes : List ℕ) (fin : Bool) → verdict e (Stream n offset bytes fin) ≡ None → mid ≡ opened_by_peer n e
-    → IsOk (check_stream (or_new (lookup mid.recvs n) 0) offset (length bytes) fin)
+    → IsOk (check_stream (or_new (lookup mid.recvs n) 0 Half) offset (length bytes) fin)
 unfolding verdict
 stream_checked e mid n offset bytes fin h is =
-    subst (λ o. IsOk (check_stream (or_new o 0) offset (length bytes) fin)) (sym (in_there e mid n (first_passed _ _ h) is))
+    subst (λ o. IsOk (check_stream (or_new o 0 Half) offset (length bytes) fin)) (sym (in_there e mid n (first_passed _ _ h) is))
     (checked e (check_stream (lane_of e n) offset (length bytes) fin) (first_passed _ (bytes_fault e n offset bytes) (second_passed (state_fault_in e n) _ h)))
 
 pub stream_unchanged : (e mid : End) (n offset : ℕ) (bytes : List ℕ) (fin : Bool) → verdict e (Stream n offset bytes fin) ≡ None → mid ≡ opened_by_peer n e
-    → IsOk (check_bytes (or_new (lookup mid.recvs n) 0) offset bytes)
+    → IsOk (check_bytes (or_new (lookup mid.recvs n) 0 Half) offset bytes)
 unfolding verdict
 stream_unchanged e mid n offset bytes fin h is =
-    subst (λ o. IsOk (check_bytes (or_new o 0) offset bytes)) (sym (in_there e mid n (first_passed _ _ h) is))
+    subst (λ o. IsOk (check_bytes (or_new o 0 Half) offset bytes)) (sym (in_there e mid n (first_passed _ _ h) is))
     (unchanged (check_bytes (lane_of e n) offset bytes)
     (second_passed (credit_fault e (check_stream (lane_of e n) offset (length bytes) fin)) _ (second_passed (state_fault_in e n) _ h)))
 
@@ -112,7 +113,7 @@ pub mid_sends : (e mid : End) (n : ℕ) → mid ≡ opened_by_peer n e
     → mid.sends ≡ cond (is_own e n || (is_uni n && not (is_own e n))) e.sends (open_to e.sends n (λ m. new_send_lane m (first_send_limit e n) e.settings.send_buffer))
 mid_sends e mid n is = ap (λ (k : End). k.sends) is ∙ sends_of e (opens n e) (is_own e n) ∙ nested (is_own e n) (is_uni n && not (is_own e n)) e.sends _
 
-mid_recvs : (e mid : End) (n : ℕ) → mid ≡ opened_by_peer n e → mid.recvs ≡ cond (is_own e n || (is_uni n && is_own e n)) e.recvs (open_to e.recvs n (λ m. new_lane (window e n)))
+mid_recvs : (e mid : End) (n : ℕ) → mid ≡ opened_by_peer n e → mid.recvs ≡ cond (is_own e n || (is_uni n && is_own e n)) e.recvs (open_to e.recvs n (λ m. new_lane (window e n) e.tuning.credit_step))
 mid_recvs e mid n is = ap (λ (k : End). k.recvs) is ∙ recvs_of e (opens n e) (is_own e n) ∙ nested (is_own e n) (is_uni n && is_own e n) e.recvs _
 
 pub sends_back : (e mid : End) (n m : ℕ) (now : Tables SendLane) → mid ≡ opened_by_peer n e → m ≡ length (table e.sends (n % 4))
@@ -124,7 +125,7 @@ pub recvs_back : (e mid : End) (n m : ℕ) (now : Tables RecvLane) → mid ≡ o
 recvs_back e mid n m now is len cut = opened_closed e.recvs n _ _ mid.recvs now m (mid_recvs e mid n is) len cut
 
 pub tally_back : (e mid : End) (n m : ℕ) → mid ≡ opened_by_peer n e → m ≡ length (table e.recvs (n % 4)) → tally_on (take m (table mid.recvs (n % 4))) ≡ tally_on (table mid.recvs (n % 4))
-tally_back e mid n m is len = same_tally e.recvs n (window e n) _ mid.recvs m (mid_recvs e mid n is) len
+tally_back e mid n m is len = same_tally e.recvs n (window e n) e.tuning.credit_step _ mid.recvs m (mid_recvs e mid n is) len
 
 -- but for its tables an end that opened a stream is as before
 pub restored : (e mid : End) (n : ℕ) (sends : Tables SendLane) (recvs : Tables RecvLane) → mid ≡ opened_by_peer n e → sends ≡ e.sends → recvs ≡ e.recvs

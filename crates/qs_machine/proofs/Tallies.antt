@@ -11,6 +11,7 @@ use Rattle.qs_ranges.specs.Numbers.{run_starts}
 use Rattle.qs_ranges.proofs.Sets.{end_of-empty}
 use Rattle.qs_ranges.proofs.Starts.{starts_below_end}
 use Rattle.qs_recv.specs.Lane.{RecvLane, new_lane, highest, taken, noted, raise, MAX_WINDOW}
+use Rattle.qs_recv.specs.declared.credit.Share.{Share}
 use Rattle.qs_recv.specs.Lawful.{IsLawful}
 use Rattle.qs_recv.proofs.LawfulLaws.{lawful_new, lawful_raise}
 use Rattle.qs_machine.specs.declared.tally.Tally.{Tally}
@@ -78,9 +79,9 @@ pub lawful_append : (xs ys : List RecvLane) → EachLawful xs → EachLawful ys 
 lawful_append [] ys a b = b
 lawful_append (x ∷ xs) ys a b = (a.0, lawful_append xs ys a.1 b)
 
-pub lawful_begun : (w : ℕ) (ks : List ℕ) → 1 ≤ w → w ≤ MAX_WINDOW → EachLawful (map (λ (i : ℕ). new_lane w) ks)
-lawful_begun w [] some small = tt
-lawful_begun w (k ∷ ks) some small = (lawful_new w some small, lawful_begun w ks some small)
+pub lawful_begun : (w : ℕ) (share : Share) (ks : List ℕ) → 1 ≤ w → w ≤ MAX_WINDOW → EachLawful (map (λ (i : ℕ). new_lane w share) ks)
+lawful_begun w share [] some small = tt
+lawful_begun w share (k ∷ ks) some small = (lawful_new w share some small, lawful_begun w share ks some small)
 
 pub lawful_raised : (xs : List RecvLane) → EachLawful xs → EachLawful (map raise xs)
 lawful_raised [] each = tt
@@ -88,22 +89,22 @@ lawful_raised (x ∷ xs) each = (lawful_raise x each.0, lawful_raised xs each.1)
 
 -- Lanes that are opened have spent nothing
 
-sum_begun : (f : RecvLane → ℕ) (w : ℕ) (ks : List ℕ) → f (new_lane w) ≡ 0 → sum_by f (map (λ (i : ℕ). new_lane w) ks) ≡ 0
-sum_begun f w [] none = refl
-sum_begun f w (k ∷ ks) none = sum_by-cons f (new_lane w) (map (λ (i : ℕ). new_lane w) ks) ∙ omega (arith, none, sum_begun f w ks none)
+sum_begun : (f : RecvLane → ℕ) (w : ℕ) (share : Share) (ks : List ℕ) → f (new_lane w share) ≡ 0 → sum_by f (map (λ (i : ℕ). new_lane w share) ks) ≡ 0
+sum_begun f w share [] none = refl
+sum_begun f w share (k ∷ ks) none = sum_by-cons f (new_lane w share) (map (λ (i : ℕ). new_lane w share) ks) ∙ omega (arith, none, sum_begun f w share ks none)
 
-sum_opened : (f : RecvLane → ℕ) (xs : List RecvLane) (w : ℕ) (ks : List ℕ) → f (new_lane w) ≡ 0 → sum_by f (xs ++ map (λ (i : ℕ). new_lane w) ks) ≡ sum_by f xs
-sum_opened f xs w ks none = sum_by-append f xs (map (λ (i : ℕ). new_lane w) ks) ∙ omega (arith, sum_begun f w ks none)
+sum_opened : (f : RecvLane → ℕ) (xs : List RecvLane) (w : ℕ) (share : Share) (ks : List ℕ) → f (new_lane w share) ≡ 0 → sum_by f (xs ++ map (λ (i : ℕ). new_lane w share) ks) ≡ sum_by f xs
+sum_opened f xs w share ks none = sum_by-append f xs (map (λ (i : ℕ). new_lane w share) ks) ∙ omega (arith, sum_begun f w share ks none)
 
-none_noted : (w : ℕ) → noted (new_lane w) ≡ 0
-none_noted w = omega (arith, starts_below_end set.empty, end_of-empty)
+none_noted : (w : ℕ) (share : Share) → noted (new_lane w share) ≡ 0
+none_noted w share = omega (arith, starts_below_end set.empty, end_of-empty)
 
-none_stored : (w : ℕ) → stored_on (new_lane w) ≡ 0
-none_stored w = fmap.len-empty nat_cmp ℕ
+none_stored : (w : ℕ) (share : Share) → stored_on (new_lane w share) ≡ 0
+none_stored w share = fmap.len-empty nat_cmp ℕ
 
-pub tally_opened : (xs : List RecvLane) (w : ℕ) (ks : List ℕ) → tally_on (xs ++ map (λ (i : ℕ). new_lane w) ks) ≡ tally_on xs
-tally_opened xs w ks =
-    same_tally _ _ (sum_opened highest xs w ks end_of-empty) (sum_opened taken xs w ks refl) (sum_opened stored_on xs w ks (none_stored w)) (sum_opened noted xs w ks (none_noted w))
+pub tally_opened : (xs : List RecvLane) (w : ℕ) (share : Share) (ks : List ℕ) → tally_on (xs ++ map (λ (i : ℕ). new_lane w share) ks) ≡ tally_on xs
+tally_opened xs w share ks =
+    same_tally _ _ (sum_opened highest xs w share ks end_of-empty) (sum_opened taken xs w share ks refl) (sum_opened stored_on xs w share ks (none_stored w share)) (sum_opened noted xs w share ks (none_noted w share))
 
 -- A raised limit changes no sum
 

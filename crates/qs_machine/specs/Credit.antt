@@ -1,16 +1,15 @@
 -- Trusted.
 -- Credit: what the peer may send and has used up, and how the limits move (RFC 9000, section 4).
-use Rattle.std.specs.Prelude.{ℕ, ◌+◌, ◌*◌, ◌/◌, Bool, ◌&&◌, ◌||◌, length, min, max, zip, Option, Some, None, is_some, is_none, if◌then◌else◌, ◌-◌}
+use Rattle.std.specs.Prelude.{ℕ, ◌+◌, ◌*◌, ◌/◌, Bool, ◌&&◌, ◌||◌, length, min, zip, Option, Some, None, is_some, is_none, if◌then◌else◌, ◌-◌}
 use Rattle.std.specs.List.{filter}
 use Rattle.std.specs.FinMap as fmap
 use Rattle.qs_wire.specs.declared.stream_id.Dir.{Dir}
 use Rattle.qs_wire.specs.declared.stream_id.Dir.TheVariants.{Bidi, Uni}
-use Rattle.qs_recv.specs.Lane.{RecvLane, highest, taken, raise, next_limit, is_whole as recv_whole}
+use Rattle.qs_recv.specs.Lane.{RecvLane, highest, taken, raise, next_limit, is_whole as recv_whole, step}
 use Rattle.qs_send.specs.Lane.{SendLane, is_whole as send_whole}
 use Rattle.qs_calls.specs.declared.settings.Settings.{Settings}
 use Rattle.qs_calls.specs.declared.settings.Tuning.{Tuning}
-use Rattle.qs_calls.specs.declared.settings.Share.{Share}
-use Rattle.qs_calls.specs.declared.settings.Share.TheVariants.{Half, Quarter, Eighth, Sixteenth}
+use Rattle.qs_recv.specs.declared.credit.Share.{Share}
 use Rattle.qs_machine.specs.Tables.{table, each, total}
 use Rattle.qs_machine.specs.Ends.{End, is_uni, peer_type}
 
@@ -83,18 +82,11 @@ abbrev pub ended : End → Dir → ℕ
 ended e Bidi = length (filter both_ended (zip (table e.recvs (peer_type e Bidi)) (table e.sends (peer_type e Bidi))))
 ended e Uni = length (filter recv_ended (table e.recvs (peer_type e Uni)))
 
--- into how many parts a share parts a whole (ours, beside RFC 9000, section 4.6)
-abbrev pub parts : Share → ℕ
-parts Half = 2
-parts Quarter = 4
-parts Eighth = 8
-parts Sixteenth = 16
-
 -- how many streams have to end until a count moves: each one moves it, or such a share of the first grant does, one stream at least (ours,
 -- beside RFC 9000, section 4.6)
 abbrev pub count_step : Option Share → ℕ → ℕ
 count_step None grant = 1
-count_step (Some share) grant = max 1 (grant / parts share)
+count_step (Some share) grant = step share grant
 
 -- as many of n as make whole steps of k (ours, beside RFC 9000, section 4.6)
 abbrev pub in_steps : ℕ → ℕ → ℕ
@@ -115,7 +107,7 @@ abbrev pub settle : End → End
 settle e =
     record e {
       recvs = each raise e.recvs;
-      granted = next_limit e.granted (all_taken e) e.settings.conn_window;
+      granted = next_limit e.granted (all_taken e) e.settings.conn_window e.tuning.credit_step;
       granted_bidi = next_count e Bidi;
       granted_uni = next_count e Uni;
     }

@@ -10,14 +10,13 @@ use Rattle.qs_ranges.specs.Numbers.{NumberSet}
 use Rattle.qs_wire.specs.declared.stream_id.Role.{Role}
 use Rattle.qs_wire.specs.declared.stream_id.Role.TheVariants.{Client, Server}
 use Rattle.qs_recv.specs.Lane.{RecvLane}
-use Rattle.qs_recv.specs.Codes.{lane_code as recv_code}
+use Rattle.qs_recv.specs.declared.credit.Share.{Share}
+use Rattle.qs_recv.specs.Codes.{lane_code as recv_code, share_code}
 use Rattle.qs_send.specs.Lane.{SendLane}
 use Rattle.qs_send.specs.Records.{PacketPieces}
 use Rattle.qs_send.specs.Codes.{lane_code as send_code, packet_pieces_code}
 use Rattle.qs_calls.specs.declared.settings.Settings.{Settings}
 use Rattle.qs_calls.specs.declared.settings.Tuning.{Tuning}
-use Rattle.qs_calls.specs.declared.settings.Share.{Share}
-use Rattle.qs_calls.specs.declared.settings.Share.TheVariants.{Half, Quarter, Eighth, Sixteenth}
 use Rattle.qs_calls.specs.declared.settings.PeerLimits.{PeerLimits}
 use Rattle.qs_calls.specs.declared.closing.Closing.{Closing}
 use Rattle.qs_calls.specs.declared.closing.Closed.{Closed}
@@ -61,27 +60,6 @@ settings_code =
       lifetime_uni = p.1.1.1.1.1.1.1.1;
     })
     (λ _. refl)
-
-abbrev pub share_number : Share → ℕ
-share_number Half = 0
-share_number Quarter = 1
-share_number Eighth = 2
-share_number Sixteenth = 3
-
-abbrev pub share_of : ℕ → Share
-share_of zero = Half
-share_of (suc zero) = Quarter
-share_of (suc (suc zero)) = Eighth
-share_of (suc (suc (suc n))) = Sixteenth
-
-pub share_back : (s : Share) → share_of (share_number s) ≡ s
-share_back Half = refl
-share_back Quarter = refl
-share_back Eighth = refl
-share_back Sixteenth = refl
-
-abbrev pub share_code : Coded Share
-share_code = code_by ℕ coded_ℕ share_number share_of share_back
 
 abbrev pub tuning_code : Coded Tuning
 tuning_code =

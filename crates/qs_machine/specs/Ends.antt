@@ -137,7 +137,7 @@ abbrev pub opens : ℕ → End → End
 opens n e =
     record e {
       sends = if is_uni n && not (is_own e n) then e.sends else open_to e.sends n (λ m. new_send_lane m (first_send_limit e n) e.settings.send_buffer);
-      recvs = if is_uni n && is_own e n then e.recvs else open_to e.recvs n (λ m. new_recv_lane (window e n));
+      recvs = if is_uni n && is_own e n then e.recvs else open_to e.recvs n (λ m. new_recv_lane (window e n) e.tuning.credit_step);
     }
 
 -- a frame that names a stream of the peer opens it (RFC 9000, section 3.2)

@@ -7,6 +7,7 @@ use Rattle.qs_wire.specs.Reading.{reading_of}
 use Rattle.qs_wire.specs.declared.stream_id.Dir.TheVariants.{Uni}
 use Rattle.qs_wire.specs.declared.stream_id.Role.TheVariants.{Client, Server}
 use Rattle.qs_recv.specs.Lane.{MAX_WINDOW, MAX_CONN_WINDOW, after_read, next_limit}
+use Rattle.qs_recv.specs.declared.credit.Share.TheVariants.{Half, Quarter, Eighth, Sixteenth}
 use Rattle.qs_send.specs.Lane.{SendLane, state, write_lane, sent_lane, finish_lane, reset_acked_lane}
 use Rattle.qs_send.specs.declared.parts.Chunk.{Chunk}
 use Rattle.qs_send.specs.declared.piece.Piece.TheVariants.{Data}
@@ -133,12 +134,17 @@ pub record UnusedNumbersClose : Type 0 where
   pub used : verdict (record (client_of standard) { next = 4 }) (Ack 3 ((0, 3) ∷ [])) ≡ None
   pub unused : verdict (record (client_of standard) { next = 4 }) (Ack 9 ((9, 9) ∷ [])) ≡ Some PROTOCOL_VIOLATION
 
--- a limit moves once half the window was taken, and never falls
+-- a limit moves once its share of the window was taken, and never falls
 pub record LimitsMove : Type 0 where
-  pub early : next_limit 10 4 10 ≡ 10
-  pub half : next_limit 10 5 10 ≡ 15
-  pub odd : next_limit 3 1 3 ≡ 4
-  pub last : next_limit 4611686018427387902 4611686018427387903 10 ≡ 4611686018427387903
+  pub early : next_limit 10 4 10 Half ≡ 10
+  pub half : next_limit 10 5 10 Half ≡ 15
+  pub odd : next_limit 3 1 3 Half ≡ 4
+  pub before_a_sixteenth : next_limit 32 1 32 Sixteenth ≡ 32
+  pub quarter : next_limit 32 8 32 Quarter ≡ 40
+  pub eighth : next_limit 32 4 32 Eighth ≡ 36
+  pub sixteenth : next_limit 32 2 32 Sixteenth ≡ 34
+  pub narrow : next_limit 3 1 3 Sixteenth ≡ 4
+  pub last : next_limit 4611686018427387902 4611686018427387903 10 Half ≡ 4611686018427387903
 
 -- a frame on the peer's eighth stream opens the seven before it
 abbrev pub LowerStreamsOpen : Type 0

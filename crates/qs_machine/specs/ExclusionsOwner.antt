@@ -2,16 +2,18 @@
 -- Which answers an end's owner isn't given, and what its calls don't leave (RFC 9000, sections 2, 3 and 4).
 use Rattle.std.specs.Prelude.{◌≡◌, ℕ, ◌+◌, ◌^◌, Bool, true, false, List, [], ◌∷◌, None, Some, Result, Ok, Err}
 use Rattle.qs_wire.specs.declared.stream_id.Dir.TheVariants.{Bidi, Uni}
-use Rattle.qs_recv.specs.Lane.{RecvLane, stop}
+use Rattle.qs_recv.specs.Lane.{RecvLane, new_lane as new_recv_lane, stop}
+use Rattle.qs_recv.specs.declared.credit.Share.{Share}
+use Rattle.qs_recv.specs.declared.credit.Share.TheVariants.{Half, Quarter, Eighth}
 use Rattle.qs_recv.specs.declared.half.Read.TheVariants as reads
 use Rattle.qs_calls.specs.declared.closing.Closed.TheVariants.{ByPeer}
 use Rattle.qs_calls.specs.Settings.{limits_of, default_tuning}
-use Rattle.qs_calls.specs.declared.settings.Share.TheVariants.{Half}
+use Rattle.qs_recv.specs.declared.credit.Share.TheVariants.{Half}
 use Rattle.qs_calls.specs.declared.reading.Consumed.{Consumed}
 use Rattle.qs_calls.specs.declared.uses.OpenFault.TheVariants as opening
 use Rattle.qs_calls.specs.declared.uses.UseFault.{UseFault}
 use Rattle.qs_calls.specs.declared.uses.UseFault.TheVariants.{NoSuchStream, NoMemory, Closed}
-use Rattle.qs_machine.specs.Ends.{End, send_lane, recv_lane}
+use Rattle.qs_machine.specs.Ends.{End, send_lane, recv_lane, opens}
 use Rattle.qs_machine.specs.Credit.{settle}
 use Rattle.qs_machine.specs.Owner.{OpenStep, AcceptStep, AcceptOfStep, WriteStep, FinishStep, ResetStep, StopStep, ReadStep, ConsumeStep}
 use Rattle.qs_machine.specs.Raising.{limits_raised, RaiseStep}
@@ -186,6 +188,14 @@ by_halves all = record (server (record standard { grant_uni = 4; lifetime_uni = 
 abbrev pub six_read : RecvLane
 six_read = record fresh { arrived = record fresh.arrived { read_count = 6; window = 10 }; limit = 10 }
 
+-- the same once two were read, where its limit moves by such a share
+abbrev pub two_read : Share → RecvLane
+two_read share = record six_read { arrived = record six_read.arrived { read_count = 2 }; share = share }
+
+-- a server of a window of ten bytes, of which two were read, that moves limits by such a share
+abbrev pub tuned : Share → End
+tuned share = record (server_with (two_read share)) { granted = 10; settings = record standard { conn_window = 10 }; tuning = record default_tuning { credit_step = share } }
+
 -- As a call ends (sections 4.1, 4.2 and 4.6)
 pub record LimitsSettle : Type 0 where
   -- a count of streams grows by one for each that ended, and no more
@@ -206,6 +216,12 @@ pub record LimitsSettle : Type 0 where
   pub ended : (settle (server_with (record six_read { final_size = Some 8 }))).recvs.client_bidi ≡ record six_read { final_size = Some 8 } ∷ []
   -- the connection's limit by what was read in all
   pub connection : (settle (record (server_with six_read) { granted = 10; settings = record standard { conn_window = 10 } })).granted ≡ 16
+  -- and no limit before its share of the window was read
+  pub early : ((settle (tuned Half)).recvs.client_bidi ≡ two_read Half ∷ []) × ((settle (tuned Half)).granted ≡ 10)
+  -- a smaller share comes earlier
+  pub quarter : ((settle (tuned Quarter)).recvs.client_bidi ≡ record (two_read Quarter) { limit = 12 } ∷ []) × ((settle (tuned Quarter)).granted ≡ 12)
+  -- a stream begins with the share of its end
+  pub opened : (opens 0 (record (server standard) { tuning = record default_tuning { credit_step = Eighth } })).recvs.client_bidi ≡ new_recv_lane 1024 Eighth ∷ []
 
 -- As limits of the peer rise (section 7.4.1)
 pub record LimitsOnlyRise : Type 0 where

@@ -5,6 +5,7 @@ use Rattle.std.specs.FinMap as fmap
 use Rattle.std.specs.FinSet as set
 use Rattle.qs_ranges.specs.Numbers.{numbers}
 use Rattle.qs_recv.specs.Lane.{RecvLane, new_lane as new_recv_lane, take_stream}
+use Rattle.qs_recv.specs.declared.credit.Share.TheVariants.{Half}
 use Rattle.qs_send.specs.Lane.{SendLane, new_lane as new_send_lane, write_lane, sent_lane, finish_lane}
 use Rattle.qs_send.specs.declared.parts.Chunk.{Chunk}
 use Rattle.qs_send.specs.declared.piece.Piece.{Piece}
@@ -18,7 +19,7 @@ only x = record { client_bidi = x ∷ []; server_bidi = []; client_uni = []; ser
 
 -- a client that opened stream 0, with this sending half
 abbrev pub client_with : SendLane → End
-client_with l = record (client_of standard) { sends = only l; recvs = only (new_recv_lane 1024) }
+client_with l = record (client_of standard) { sends = only l; recvs = only (new_recv_lane 1024 Half) }
 
 -- a server whose peer opened stream 0, with this receiving half
 abbrev pub server_with : RecvLane → End
@@ -62,7 +63,7 @@ reset_half = record wrote { kept = []; was_reset = Some (record { code = 7; size
 -- Receiving halves
 
 abbrev pub fresh : RecvLane
-fresh = new_recv_lane 1024
+fresh = new_recv_lane 1024 Half
 
 -- three bytes came, and they aren't the last ones
 abbrev pub three_came : RecvLane

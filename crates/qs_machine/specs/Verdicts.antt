@@ -4,6 +4,7 @@
 -- 2.2, 4, 19 and 20.1).
 use Rattle.std.specs.Prelude.{ℕ, ◌+◌, ◌-◌, Bool, length, Option, None, Some, is_none, Result, Ok, Err, nat_lt, nat_le, List, if◌then◌else◌}
 use Rattle.qs_recv.specs.Lane.{RecvLane, new_lane, check_stream, check_reset, check_bytes}
+use Rattle.qs_recv.specs.declared.credit.Share.{Share}
 use Rattle.qs_recv.specs.declared.half.Highest.{Highest}
 use Rattle.qs_recv.specs.declared.half.RecvFault.{RecvFault}
 use Rattle.qs_recv.specs.declared.half.RecvFault.TheVariants.{FinalSize, StreamCredit, NoMemory, ChangedByte}
@@ -53,13 +54,13 @@ state_fault_out e n =
     if is_own e n then fault_if (is_none (send_lane e n)) STREAM_STATE_ERROR
     else (if is_uni n then Some STREAM_STATE_ERROR else fault_if (nat_le (grant e n) (index_of n)) STREAM_LIMIT_ERROR)
 
-abbrev pub or_new : Option RecvLane → ℕ → RecvLane
-or_new None window = new_lane window
-or_new (Some lane) window = lane
+abbrev pub or_new : Option RecvLane → ℕ → Share → RecvLane
+or_new None window share = new_lane window share
+or_new (Some lane) window share = lane
 
 -- the receiving half of a stream as it is, or as it begins
 abbrev pub lane_of : End → ℕ → RecvLane
-lane_of e n = or_new (recv_lane e n) (window e n)
+lane_of e n = or_new (recv_lane e n) (window e n) e.tuning.credit_step
 
 abbrev pub fault_code : RecvFault → ℕ
 fault_code FinalSize = FINAL_SIZE_ERROR

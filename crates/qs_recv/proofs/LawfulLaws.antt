@@ -14,6 +14,7 @@ use Rattle.qs_recv.specs.Assembled.{put, take_front, front_of, keep_from, store}
 use Rattle.qs_recv.proofs.AssembledLaws.{get-keep_from, contains-with_run, end_of-with_run, stored_by_keep, front_stored}
 use Rattle.qs_recv.proofs.LaneLaws.{len_within, check_fits, put_past}
 use Rattle.qs_recv.specs.Lane.{MAX_WINDOW, RecvLane, new_lane, highest, highest_after, taken, check_stream, take_stream, check_reset, take_reset, is_whole, breaks_known, read_answer, after_answer, after_read, stop, raise, next_limit, raised_limit}
+use Rattle.qs_recv.specs.declared.credit.Share.{Share}
 use Rattle.qs_recv.specs.declared.half.Read.{Read}
 use Rattle.qs_recv.specs.declared.half.Read.TheVariants.{Bytes, End, Reset, Wait}
 use Rattle.qs_recv.specs.Lawful.{IsLawful}
@@ -42,8 +43,8 @@ passed_first false f r ok = refl
 
 -- A new lane
 
-pub lawful_new : (window : ℕ) → 1 ≤ window → window ≤ MAX_WINDOW → IsLawful (new_lane window)
-lawful_new window some small =
+pub lawful_new : (window : ℕ) (share : Share) → 1 ≤ window → window ≤ MAX_WINDOW → IsLawful (new_lane window share)
+lawful_new window share some small =
     let none = end_of-empty in
     record {
       some_window = some;
@@ -328,26 +329,26 @@ lawful_stop lane code h =
 
 -- A raise
 
-next_limit_grows : (l t w : ℕ) → l ≤ next_limit l t w
-next_limit_grows l t w = grind (arith, nat_tests)
+next_limit_grows : (l t w : ℕ) (share : Share) → l ≤ next_limit l t w share
+next_limit_grows l t w share = grind (arith, nat_tests)
 
-next_limit_within : (l t w : ℕ) → l ≤ t + w → next_limit l t w ≤ t + w
-next_limit_within l t w h = grind (arith, nat_tests)
+next_limit_within : (l t w : ℕ) (share : Share) → l ≤ t + w → next_limit l t w share ≤ t + w
+next_limit_within l t w share h = grind (arith, nat_tests)
 
-next_limit_small : (l t w : ℕ) → l ≤ MAX_VARINT → next_limit l t w ≤ MAX_VARINT
-next_limit_small l t w h = grind (arith, nat_tests)
+next_limit_small : (l t w : ℕ) (share : Share) → l ≤ MAX_VARINT → next_limit l t w share ≤ MAX_VARINT
+next_limit_small l t w share h = grind (arith, nat_tests)
 
 pub raised_grows : (lane : RecvLane) → lane.limit ≤ raised_limit lane
-raised_grows lane = cond_both (is_some lane.final_size) _ _ (λ k. lane.limit ≤ k) (λ _. omega arith) (λ _. next_limit_grows lane.limit (taken lane) lane.arrived.window)
+raised_grows lane = cond_both (is_some lane.final_size) _ _ (λ k. lane.limit ≤ k) (λ _. omega arith) (λ _. next_limit_grows lane.limit (taken lane) lane.arrived.window lane.share)
 
 pub lawful_raise : (lane : RecvLane) → IsLawful lane → IsLawful (raise lane)
 lawful_raise lane h =
     record {
       some_window = h.some_window;
       small_window = h.small_window;
-      small_limit = cond_both (is_some lane.final_size) _ _ (λ k. k ≤ MAX_VARINT) (λ _. h.small_limit) (λ _. next_limit_small lane.limit (taken lane) lane.arrived.window h.small_limit);
+      small_limit = cond_both (is_some lane.final_size) _ _ (λ k. k ≤ MAX_VARINT) (λ _. h.small_limit) (λ _. next_limit_small lane.limit (taken lane) lane.arrived.window lane.share h.small_limit);
       granted = omega (arith, h.granted, raised_grows lane);
-      in_window = cond_both (is_some lane.final_size) _ _ (λ k. k ≤ taken lane + lane.arrived.window) (λ _. h.in_window) (λ _. next_limit_within lane.limit (taken lane) lane.arrived.window h.in_window);
+      in_window = cond_both (is_some lane.final_size) _ _ (λ k. k ≤ taken lane + lane.arrived.window) (λ _. h.in_window) (λ _. next_limit_within lane.limit (taken lane) lane.arrived.window lane.share h.in_window);
       stored_received = h.stored_received;
       read_received = h.read_received;
       received_within = h.received_within;

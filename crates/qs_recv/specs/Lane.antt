@@ -10,10 +10,13 @@ use Rattle.qs_recv.specs.declared.half.RecvState.TheVariants.{Recv, SizeKnown, D
 use Rattle.qs_recv.specs.declared.half.RecvFault.{RecvFault}
 use Rattle.qs_recv.specs.declared.half.RecvFault.TheVariants.{FinalSize, StreamCredit, ChangedByte}
 use Rattle.qs_recv.specs.declared.half.Highest.{Highest}
+use Rattle.qs_recv.specs.declared.credit.Share.{Share}
+use Rattle.qs_recv.specs.declared.credit.Share.TheVariants.{Half, Quarter, Eighth, Sixteenth}
 use Rattle.qs_recv.specs.Assembled.{Assembled, nothing_yet, put, take_front, front_of, discard, same, forget}
 
 -- what arrived; the final size, the reset's code and the code of this end's own stop, where known; whether a reader was told of the end or
--- the reset; and the limit on offsets that was granted (RFC 9000, sections 3.2, 3.5 and 4.1)
+-- the reset; the limit on offsets that was granted; and by which share of the window the limit moves (RFC 9000, sections 3.2, 3.5, 4.1
+-- and 4.2)
 pub record RecvLane : Type 0 where
   pub arrived : Assembled
   pub final_size : Option ℕ
@@ -21,11 +24,12 @@ pub record RecvLane : Type 0 where
   pub stop_code : Option ℕ
   pub told : Bool
   pub limit : ℕ
+  pub share : Share
 
 -- nothing arrived, and one window is granted (RFC 9000, section 4.1)
-abbrev pub new_lane : ℕ → RecvLane
-new_lane window =
-    record { arrived = nothing_yet window; final_size = None; reset_code = None; stop_code = None; told = false; limit = window }
+abbrev pub new_lane : ℕ → Share → RecvLane
+new_lane window share =
+    record { arrived = nothing_yet window; final_size = None; reset_code = None; stop_code = None; told = false; limit = window; share = share }
 
 -- the final size if known, else one more than the largest offset that came, or 0 (RFC 9000, sections 4.1 and 4.5)
 abbrev pub highest : RecvLane → ℕ
@@ -167,17 +171,28 @@ MAX_WINDOW = 2 ^ 30
 abbrev pub MAX_CONN_WINDOW : ℕ
 MAX_CONN_WINDOW = 2 ^ 40
 
--- the limit that follows l where t was taken of a window w: it moves by half a window at least, or to its greatest value
+-- how many such shares a window has (ours, beside RFC 9000, section 4.2)
+abbrev pub parts : Share → ℕ
+parts Half = 2
+parts Quarter = 4
+parts Eighth = 8
+parts Sixteenth = 16
+
+-- by how much the limit of a window moves at least (ours, beside RFC 9000, section 4.2)
+abbrev pub step : Share → ℕ → ℕ
+step share w = max 1 (w / parts share)
+
+-- the limit that follows l where t was taken of a window w: it moves by a share of the window at least, or to its greatest value
 -- (RFC 9000, section 4.2)
-abbrev pub next_limit : ℕ → ℕ → ℕ → ℕ
-next_limit l t w =
+abbrev pub next_limit : ℕ → ℕ → ℕ → Share → ℕ
+next_limit l t w share =
     let m = min MAX_VARINT (t + w) in
-    if nat_le (l + max 1 (w / 2)) m || (m == MAX_VARINT && nat_lt l m) then m else l
+    if nat_le (l + step share w) m || (m == MAX_VARINT && nat_lt l m) then m else l
 
 -- the limit isn't raised once the final size is known (RFC 9000, sections 4.2 and 4.5)
 abbrev pub raised_limit : RecvLane → ℕ
 raised_limit lane =
-    if is_some lane.final_size then lane.limit else next_limit lane.limit (taken lane) lane.arrived.window
+    if is_some lane.final_size then lane.limit else next_limit lane.limit (taken lane) lane.arrived.window lane.share
 
 -- the lane with its limit raised (RFC 9000, section 4.2)
 abbrev pub raise : RecvLane → RecvLane

@@ -7,6 +7,7 @@ use Rattle.qs_recv.specs.Assembled.{Assembled}
 use Rattle.qs_recv.specs.Bytes.{byte_at}
 use Rattle.qs_recv.specs.Lane.{MAX_WINDOW, RecvLane, new_lane, highest, taken, check_stream, check_bytes, take_stream, check_reset, take_reset, after_read, stop, raise}
 use Rattle.qs_recv.specs.Lawful.{IsLawful}
+use Rattle.qs_recv.specs.declared.credit.Share.{Share}
 
 -- a call that may change a lane: a frame that is taken, a read of so many bytes, a stop with a code, a raise of the limit
 pub data LaneCall : Type 0 where
@@ -41,7 +42,7 @@ pub record Grows (old new : RecvLane) : Type 0 where
   pub final_size_stays : (size : ℕ) → old.final_size ≡ Some size → new.final_size ≡ Some size
 
 abbrev pub NewLanesAreLawful : Type 0
-NewLanesAreLawful = (window : ℕ) → 1 ≤ window → window ≤ MAX_WINDOW → IsLawful (new_lane window)
+NewLanesAreLawful = (window : ℕ) (share : Share) → 1 ≤ window → window ≤ MAX_WINDOW → IsLawful (new_lane window share)
 
 abbrev pub CallsKeepLanesLawful : Type 0
 CallsKeepLanesLawful = (lane : RecvLane) (call : LaneCall) → IsLawful lane → IsAllowed lane call → IsLawful (after_call lane call)

@@ -1,9 +1,11 @@
 -- Of private contracts.
 -- A receiving lane that stores nothing, and of which the offsets that came are those below a number: its numbers tell all of it.
-use Rattle.std.specs.Prelude.{◌≡◌, ℕ, Bool, true, false, ◌||◌, if◌then◌else◌, List, Option, Some, None, is_some}
+use Rattle.std.specs.Prelude.{◌≡◌, ℕ, ◌+◌, ◌/◌, ◌%◌, ◌^◌, Bool, true, false, ◌||◌, if◌then◌else◌, List, Option, Some, None, is_some}
 use Rattle.qs_ranges.specs.Numbers.{numbers}
 use Rattle.qs_recv.specs.Assembled.{at_rest, put}
 use Rattle.qs_recv.specs.Lane.{RecvLane}
+use Rattle.qs_recv.specs.declared.credit.Share.{Share}
+use Rattle.qs_recv.specs.Codes.{share_of}
 use Rattle.qs_recv.specs.Lawful.{IsLawful}
 use Rattle.qs_recv.specs.Sound.{CodeFits}
 
@@ -11,16 +13,29 @@ use Rattle.qs_recv.specs.Sound.{CodeFits}
 abbrev pub given : Bool → ℕ → Option ℕ
 given is_there n = if is_there then Some n else None
 
--- the lane of these numbers: bytes are thrown away after a reset or a stop (RFC 9000, sections 3.2 and 3.5)
-abbrev pub lane_at_rest : ℕ → ℕ → ℕ → ℕ → Option ℕ → Option ℕ → Option ℕ → Bool → RecvLane
+-- how many windows there are, less one in each: a window takes so many bits, and its share those above (ours)
+abbrev pub SPAN : ℕ
+SPAN = 2 ^ 30
+
+-- the window that stands in such bits
+abbrev pub size_in : ℕ → ℕ
+size_in bits = bits % SPAN + 1
+
+-- the share that stands above it
+abbrev pub share_in : ℕ → Share
+share_in bits = share_of (bits / SPAN)
+
+-- the lane of these numbers, of which the first is the window with its share: bytes are thrown away after a reset or a stop (RFC 9000, sections 3.2 and 3.5)
+abbrev pub lane_at_rest : ℕ × Share → ℕ → ℕ → ℕ → Option ℕ → Option ℕ → Option ℕ → Bool → RecvLane
 lane_at_rest window read_count end limit final_size reset_code stop_code told =
     record {
-      arrived = at_rest window read_count end (is_some reset_code || is_some stop_code);
+      arrived = at_rest window.0 read_count end (is_some reset_code || is_some stop_code);
       final_size = final_size;
       reset_code = reset_code;
       stop_code = stop_code;
       told = told;
       limit = limit;
+      share = window.1;
     }
 
 -- it is lawful, a stop can be told, and until bytes are thrown away all that came was read, which is all of the stream once the end was told

@@ -1,24 +1,49 @@
 //! How much more a peer may send.
-ghost use Rattle.std.specs.Prelude.{◌≡◌, ◌≤◌};
+ghost use Rattle.std.specs.Prelude.{◌≡◌, ◌≤◌, max};
 ghost use Rattle.qs_ranges.specs.Numbers.{MAX_VARINT};
-ghost use Rattle.qs_recv.specs.Lane.{MAX_CONN_WINDOW, next_limit};
+ghost use Rattle.qs_recv.specs.Lane.{MAX_CONN_WINDOW, step, next_limit};
 
 // The largest value of a variable-length integer.
 const MAX_VARINT: u64 = (1 << 62) - 1;
 
-/// The limit that follows one where so much was taken of a window (RFC 9000, section 4.2).
-pub fn next_limit(limit: u64, taken: u64, window: u64) -> u64
+/// A part of a window, or of a grant.
+#[derive(Clone, Copy, Debug, PartialEq, Eq, Drop)]
+pub enum Share {
+    Half,
+    Quarter,
+    Eighth,
+    Sixteenth,
+}
+
+/// The limit that follows one where so much was taken of a window: it moves once that is such a share of it, or more (RFC 9000,
+/// section 4.2).
+pub fn next_limit(limit: u64, taken: u64, window: u64, share: Share) -> u64
     requires small { limit ≤ MAX_VARINT }
     requires taken { taken ≤ MAX_VARINT }
     requires window { window ≤ MAX_CONN_WINDOW }
-    ensures value { result ≡ next_limit limit taken window }
+    ensures value { result ≡ next_limit limit taken window share }
     ensures in_range { result ≤ MAX_VARINT }
 {
     let next = (taken + window).min(MAX_VARINT);
-    let step = (window / 2).max(1);
+    let step = step_of(share, window);
     if limit + step <= next || (next == MAX_VARINT && limit < next) {
         next
     } else {
         limit
     }
+}
+
+/// Such a share of a window or of a grant, and 1 at least: by so much a limit or a count moves.
+pub fn step_of(share: Share, whole: u64) -> u64
+    ensures value { result ≡ step share whole }
+    ensures some { 1 ≤ result }
+    ensures small { result ≤ max 1 whole }
+{
+    let part = match share {
+        Share::Half => whole / 2,
+        Share::Quarter => whole / 4,
+        Share::Eighth => whole / 8,
+        Share::Sixteenth => whole / 16,
+    };
+    part.max(1)
 }

@@ -9,6 +9,7 @@ ghost use Rattle.qs_recv.specs.Lane.{new_lane, highest, highest_after, noted, ta
 ghost use Rattle.qs_recv.specs.Changes.{stream_changes};
 
 use crate::assembly::{Assembly, Skipping};
+use crate::credit::Share;
 use crate::live::LiveHalf;
 use crate::rest::Rest;
 use std::alloc::Global;
@@ -85,15 +86,15 @@ impl<A: Assembly> Model for RecvHalf<A> {
 }
 
 impl<A: Assembly> RecvHalf<A> {
-    /// A half that grants `window` bytes beyond what was taken. It takes no memory.
-    pub fn new(alloc: Global, window: u64) -> Self
+    /// A half that grants `window` bytes beyond what was taken, and moves its limit by such a share of these. It takes no memory.
+    pub fn new(alloc: Global, window: u64, share: Share) -> Self
         requires some { 1 ≤ window }
         requires small { window ≤ MAX_WINDOW }
-        ensures { result ≡ new_lane window }
+        ensures { result ≡ new_lane window share }
     {
         RecvHalf {
             alloc,
-            parts: Parts::Resting(Rest::new(window)),
+            parts: Parts::Resting(Rest::new(window, share)),
         }
     }
 
@@ -230,7 +231,7 @@ impl<A: Assembly> RecvHalf<A> {
         }
     }
 
-    /// Raises the limit by what was taken, once that is half a window or more, and answers the new one where it rose
+    /// Raises the limit by what was taken, once that is the half's share of its window or more, and answers the new one where it rose
     /// (section 4.2). Once the final size is known it stays.
     pub fn raise(&mut self) -> Option<u64>
         ensures answer { result ≡ raise_answer self.old }

@@ -9,9 +9,10 @@ ghost use Rattle.qs_recv.specs.Lane.{highest, highest_after, noted, taken, state
 ghost use Rattle.qs_recv.specs.Changes.{stream_changes};
 
 use crate::assembly::{Assembly, Skipping};
-use crate::credit::next_limit;
+use crate::credit::{Share, next_limit};
 use crate::half::{Highest, Read, RecvFault, RecvState};
 use crate::rest::{Rest, given};
+use crate::window::Window;
 use std::alloc::Global;
 use std::marker::Model;
 
@@ -27,6 +28,7 @@ pub(crate) struct LiveHalf<A: Assembly> {
     reset_code: Option<u64>,
     stop_code: Option<u64>,
     told: bool,
+    share: Share,
 }
 
 impl<A: Assembly> Model for LiveHalf<A> {
@@ -38,9 +40,9 @@ impl<A: Assembly> Model for LiveHalf<A> {
 
     ghost coded = { lane_code };
 
-    ghost view = { λ h. record { arrived = A.holds h.assembly; final_size = h.final_size; reset_code = h.reset_code; stop_code = h.stop_code; told = h.told; limit = h.limit } };
+    ghost view = { λ h. record { arrived = A.holds h.assembly; final_size = h.final_size; reset_code = h.reset_code; stop_code = h.stop_code; told = h.told; limit = h.limit; share = h.share } };
 
-    ghost invariant = { λ h. IsSound (record { arrived = A.holds h.assembly; final_size = h.final_size; reset_code = h.reset_code; stop_code = h.stop_code; told = h.told; limit = h.limit }) h.window h.read_count h.received_end × IsLetGo (record { arrived = A.holds h.assembly; final_size = h.final_size; reset_code = h.reset_code; stop_code = h.stop_code; told = h.told; limit = h.limit }) (A.size h.assembly) };
+    ghost invariant = { λ h. IsSound (record { arrived = A.holds h.assembly; final_size = h.final_size; reset_code = h.reset_code; stop_code = h.stop_code; told = h.told; limit = h.limit; share = h.share }) h.window h.read_count h.received_end × IsLetGo (record { arrived = A.holds h.assembly; final_size = h.final_size; reset_code = h.reset_code; stop_code = h.stop_code; told = h.told; limit = h.limit; share = h.share }) (A.size h.assembly) };
 }
 
 impl<A: Assembly> LiveHalf<A> {
@@ -48,7 +50,7 @@ impl<A: Assembly> LiveHalf<A> {
     pub(crate) fn revived(alloc: Global, rest: &Rest) -> Self
         ensures { result ≡ rest.now }
     {
-        let window = rest.window as u64;
+        let window = rest.window.size();
         let reset_code = given(rest.is_reset, rest.reset);
         let stop_code = given(rest.is_stopped, rest.stop);
         let is_over = is_either(reset_code, stop_code);
@@ -62,6 +64,7 @@ impl<A: Assembly> LiveHalf<A> {
             reset_code,
             stop_code,
             told: rest.told,
+            share: rest.window.share(),
         }
     }
 
@@ -79,7 +82,7 @@ impl<A: Assembly> LiveHalf<A> {
             size: self.final_size.unwrap_or(0),
             reset: self.reset_code.unwrap_or(0),
             stop: self.stop_code.unwrap_or(0),
-            window: self.window as u32,
+            window: Window::new(self.window, self.share),
             is_sized: self.final_size.is_some(),
             is_reset: self.reset_code.is_some(),
             is_stopped: self.stop_code.is_some(),
@@ -207,7 +210,7 @@ impl<A: Assembly> LiveHalf<A> {
             size,
             reset: code,
             stop: self.stop_code.unwrap_or(0),
-            window: self.window as u32,
+            window: Window::new(self.window, self.share),
             is_sized: true,
             is_reset: true,
             is_stopped: self.stop_code.is_some(),
@@ -263,7 +266,7 @@ impl<A: Assembly> LiveHalf<A> {
         if self.final_size.is_some() {
             return None;
         }
-        let next = next_limit(self.limit, self.taken(), self.window);
+        let next = next_limit(self.limit, self.taken(), self.window, self.share);
         if next <= self.limit {
             return None;
         }

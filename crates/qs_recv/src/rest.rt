@@ -7,8 +7,9 @@ ghost use Rattle.qs_recv.specs.Rest.{EndsAt, given};
 ghost use Rattle.qs_recv.specs.Sound.{CodeFits};
 ghost use Rattle.qs_recv.specs.Lane.{new_lane, highest, highest_after, noted, taken, is_whole, check_stream, check_reset, take_stream, take_reset, read_answer, bytes_read, after_read, stop, raise, raise_answer, MAX_WINDOW};
 
-use crate::credit::next_limit;
+use crate::credit::{Share, next_limit};
 use crate::half::Read;
+use crate::window::Window;
 use std::marker::Model;
 
 /// A receiving half that stores nothing, and of which the offsets that came are those below `received_end`: one that never
@@ -21,7 +22,7 @@ pub(crate) struct Rest {
     pub(crate) size: u64,
     pub(crate) reset: u64,
     pub(crate) stop: u64,
-    pub(crate) window: u32,
+    pub(crate) window: Window,
     pub(crate) is_sized: bool,
     pub(crate) is_reset: bool,
     pub(crate) is_stopped: bool,
@@ -44,10 +45,10 @@ impl Model for Rest {
 
 impl Rest {
     /// A half for which nothing came.
-    pub(crate) fn new(window: u64) -> Self
+    pub(crate) fn new(window: u64, share: Share) -> Self
         requires some { 1 ≤ window }
         requires small { window ≤ MAX_WINDOW }
-        ensures { result ≡ new_lane window }
+        ensures { result ≡ new_lane window share }
     {
         Rest {
             read_count: 0,
@@ -56,7 +57,7 @@ impl Rest {
             size: 0,
             reset: 0,
             stop: 0,
-            window: window as u32,
+            window: Window::new(window, share),
             is_sized: false,
             is_reset: false,
             is_stopped: false,
@@ -147,7 +148,12 @@ impl Rest {
         if self.is_sized {
             return None;
         }
-        let next = next_limit(self.limit, self.taken(), self.window as u64);
+        let next = next_limit(
+            self.limit,
+            self.taken(),
+            self.window.size(),
+            self.window.share(),
+        );
         if next <= self.limit {
             return None;
         }

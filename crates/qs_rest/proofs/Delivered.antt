@@ -48,28 +48,27 @@ module _ (a b : Settings) (h : History) (w : World) (ok : WorldOk a b h w) (keep
             let within : all_sent (end_of w s) ≤ (end_of w s).known_data = (ok.ends s).credit.sent_known in
             let paid : all_taken (end_of w (other s)) ≡ all_sent (end_of w s) = all_was_taken a b h w ok keeps rest s in
             let same : all_taken (end_of w (other s)) ≡ (end_of w (other s)).granted = omega (arith, le, grants, within, paid) in
-            let settled : next_limit (end_of w (other s)).granted (end_of w (other s)).granted (end_of w (other s)).settings.conn_window ≡ (end_of w (other s)).granted =
-            subst (λ t. next_limit (end_of w (other s)).granted t (end_of w (other s)).settings.conn_window ≡ (end_of w (other s)).granted) same (keeps (other s)).limits.connection in
-            let top : MAX_VARINT ≤ (end_of w (other s)).granted = full (end_of w (other s)).granted (end_of w (other s)).settings.conn_window (some_conn_window (end_of w (other s)).settings (ok.sound (other s)).0.settings) settled in
+            let settled : next_limit (end_of w (other s)).granted (end_of w (other s)).granted (end_of w (other s)).settings.conn_window (end_of w (other s)).tuning.credit_step ≡ (end_of w (other s)).granted =
+            subst (λ t. next_limit (end_of w (other s)).granted t (end_of w (other s)).settings.conn_window (end_of w (other s)).tuning.credit_step ≡ (end_of w (other s)).granted) same (keeps (other s)).limits.connection in
+            let top : MAX_VARINT ≤ (end_of w (other s)).granted = full (end_of w (other s)).granted (end_of w (other s)).settings.conn_window (end_of w (other s)).tuning.credit_step (some_conn_window (end_of w (other s)).settings (ok.sound (other s)).0.settings) settled in
             absurd (omega (arith, room, le, grants, within, top)))
       ]
 
   -- the sender has credit ahead
-  conn_ahead : IsAhead (all_sent (end_of w s)) (end_of w s).known_data (end_of w (other s)).settings.conn_window
+  conn_ahead : IsAhead (all_sent (end_of w s)) (end_of w s).known_data (end_of w (other s)).settings.conn_window (end_of w (other s)).tuning.credit_step
   conn_ahead =
       let grants : (end_of w s).known_data ≡ (end_of w (other s)).granted = (limits_known a b h w ok keeps rest s told).connection in
       let paid : all_taken (end_of w (other s)) ≡ all_sent (end_of w s) = all_was_taken a b h w ok keeps rest s in
-      let some : 1 ≤ (end_of w (other s)).settings.conn_window = some_conn_window (end_of w (other s)).settings (ok.sound (other s)).0.settings in
-      elim (ahead (end_of w (other s)).granted (all_taken (end_of w (other s))) (end_of w (other s)).settings.conn_window some (keeps (other s)).limits.connection) [
+      elim (ahead (end_of w (other s)).granted (all_taken (end_of w (other s))) (end_of w (other s)).settings.conn_window (end_of w (other s)).tuning.credit_step (keeps (other s)).limits.connection) [
         | inl more ↦ inl (omega (arith, more, grants, paid))
         | inr top ↦ inr (omega (arith, top, grants))
       ]
 
-  stream_ahead : (n : ℕ) (l : SendLane) (r : RecvLane) → sending w s n ≡ Some l → receiving w s n ≡ Some r → r.final_size ≡ None → IsAhead l.sent_end l.limit r.arrived.window
+  stream_ahead : (n : ℕ) (l : SendLane) (r : RecvLane) → sending w s n ≡ Some l → receiving w s n ≡ Some r → r.final_size ≡ None → IsAhead l.sent_end l.limit r.arrived.window r.share
   stream_ahead n l r at is e =
       let known : l.limit ≡ r.limit = (limits_known a b h w ok keeps rest s told).streams n l r at is e in
       let paid : taken r ≡ l.sent_end = taken_sent a b h w ok keeps rest s n l r at is in
-      elim (ahead r.limit (taken r) r.arrived.window (lawful a b h w ok keeps rest s n r is).some_window ((keeps (other s)).limits.streams n r is e)) [
+      elim (ahead r.limit (taken r) r.arrived.window r.share ((keeps (other s)).limits.streams n r is e)) [
         | inl more ↦ inl (omega (arith, more, known, paid))
         | inr top ↦ inr (omega (arith, top, known))
       ]
@@ -99,8 +98,8 @@ module _ (a b : Settings) (h : History) (w : World) (ok : WorldOk a b h w) (keep
             let known : l.limit ≡ r.limit = (limits_known a b h w ok keeps rest s told).streams n l r at is e in
             let paid : taken r ≡ l.sent_end = taken_sent a b h w ok keeps rest s n l r at is in
             let same : taken r ≡ r.limit = omega (arith, known, paid, blocked, at_limit) in
-            let settled : next_limit r.limit r.limit r.arrived.window ≡ r.limit = subst (λ t. next_limit r.limit t r.arrived.window ≡ r.limit) same ((keeps (other s)).limits.streams n r is e) in
-            let top : MAX_VARINT ≤ r.limit = full r.limit r.arrived.window (lawful a b h w ok keeps rest s n r is).some_window settled in
+            let settled : next_limit r.limit r.limit r.arrived.window r.share ≡ r.limit = subst (λ t. next_limit r.limit t r.arrived.window r.share ≡ r.limit) same ((keeps (other s)).limits.streams n r is e) in
+            let top : MAX_VARINT ≤ r.limit = full r.limit r.arrived.window r.share (lawful a b h w ok keeps rest s n r is).some_window settled in
             let small : l.written ≤ MAX_VARINT = ((keeps s).sends n l at).small in
             omega (arith, top, small, more, known, blocked)
 

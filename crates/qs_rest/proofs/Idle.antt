@@ -28,8 +28,8 @@ module _ (e : End) (open_end : e.closed ≡ None) (true_of : (n : ℕ) (l : Recv
       }
     where
       go : (n : ℕ) (l : RecvLane) → recv_lane e n ≡ Some l → (b : Bool) → is_readable l ≡ b → is_readable l ≡ false
-      go n l is true yes = (let (m, found, le) = unread.least n (omega arith) (ap (λ c. is_some c && not e.tuning.reads_when_closed) open_end, (l, is, yes)) in absurd (none-some m found))
-      go n l is false no = no
+      go n l is true same = (let (m, found, le) = unread.least n (omega arith) (ap (λ c. is_some c && not e.tuning.reads_when_closed) open_end, (l, is, same)) in absurd (none-some m found))
+      go n l is false same = same
 
 pub idle_rests : IdleIsRest
 idle_rests a b h w run s quiet none unread =

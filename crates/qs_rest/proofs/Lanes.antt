@@ -6,7 +6,8 @@ use Rattle.std.proofs.lemmas.Bool.Decides.{nat_tests}
 use Rattle.std.specs.FinSet as set
 use Rattle.qs_ranges.specs.Numbers.{MAX_VARINT, end_of}
 use Rattle.qs_ranges.proofs.Sets.{covers-is}
-use Rattle.qs_recv.specs.Lane.{RecvLane, highest, taken, next_limit, is_whole, whole_to, read_answer, at_final_size}
+use Rattle.qs_recv.specs.Lane.{RecvLane, highest, taken, step, next_limit, is_whole, whole_to, read_answer, at_final_size}
+use Rattle.qs_recv.specs.declared.credit.Share.{Share}
 use Rattle.qs_recv.specs.Lawful.{IsLawful}
 use Rattle.qs_recv.proofs.LawfulLaws.{taken_within}
 use Rattle.qs_send.specs.Lane.{SendLane}
@@ -18,20 +19,20 @@ use Rattle.qs_rest.specs.Rest.{TellsNoNews, AtRest}
 use Rattle.qs_rest.specs.Resting.{IsAhead}
 
 -- a window's limit that is its own next one with all of it taken is the greatest
-pub full : (l w : ℕ) → 1 ≤ w → next_limit l l w ≡ l → MAX_VARINT ≤ l
-full l w some is = elim (cases_lt l MAX_VARINT) [ inl lt ↦ absurd (go _ refl lt is) | inr le ↦ le ]
+pub full : (l w : ℕ) (share : Share) → 1 ≤ w → next_limit l l w share ≡ l → MAX_VARINT ≤ l
+full l w share some is = elim (cases_lt l MAX_VARINT) [ inl lt ↦ absurd (go _ refl lt is) | inr le ↦ le ]
   where
-    go : (b : Bool) → (nat_le (l + max 1 (w / 2)) (min MAX_VARINT (l + w)) || (min MAX_VARINT (l + w) == MAX_VARINT && nat_lt l (min MAX_VARINT (l + w)))) ≡ b → l < MAX_VARINT →
+    go : (b : Bool) → (nat_le (l + step share w) (min MAX_VARINT (l + w)) || (min MAX_VARINT (l + w) == MAX_VARINT && nat_lt l (min MAX_VARINT (l + w)))) ≡ b → l < MAX_VARINT →
         cond b (min MAX_VARINT (l + w)) l ≡ l → ⊥
     go true e lt same = omega arith
     go false e lt same = grind (arith, nat_tests)
 
--- a limit that is its own next one is more than half a window past what was taken, or the greatest
-pub ahead : (l t w : ℕ) → 1 ≤ w → next_limit l t w ≡ l → IsAhead t l w
-ahead l t w some is = elim (cases_lt l MAX_VARINT) [ inl lt ↦ inl (go _ refl lt is) | inr le ↦ inr le ]
+-- of a limit that is its own next one less than a step was taken, or it is the greatest
+pub ahead : (l t w : ℕ) (share : Share) → next_limit l t w share ≡ l → IsAhead t l w share
+ahead l t w share is = elim (cases_lt l MAX_VARINT) [ inl lt ↦ inl (go _ refl lt is) | inr le ↦ inr le ]
   where
-    go : (b : Bool) → (nat_le (l + max 1 (w / 2)) (min MAX_VARINT (t + w)) || (min MAX_VARINT (t + w) == MAX_VARINT && nat_lt l (min MAX_VARINT (t + w)))) ≡ b → l < MAX_VARINT →
-        cond b (min MAX_VARINT (t + w)) l ≡ l → 2 * t + w < 2 * l
+    go : (b : Bool) → (nat_le (l + step share w) (min MAX_VARINT (t + w)) || (min MAX_VARINT (t + w) == MAX_VARINT && nat_lt l (min MAX_VARINT (t + w)))) ≡ b → l < MAX_VARINT →
+        cond b (min MAX_VARINT (t + w)) l ≡ l → t + w < l + step share w
     go true e lt same = grind (arith, nat_tests)
     go false e lt same = grind (arith, nat_tests)
 

@@ -63,7 +63,7 @@ stay_recv : (n : ℕ) (f : RecvLane → RecvLane) (e : End) → ((l : RecvLane) 
 stay_recv n f e kept = kept_updated StopStays stays_same e.recvs n f (λ l is. kept l)
 
 stay_opens : (n : ℕ) (e : End) → Stay e.recvs (opens n e).recvs
-stay_opens n e = cond_both (is_uni n && is_own e n) e.recvs _ (Stay e.recvs) (λ _. stay_same e.recvs) (λ _. kept_open StopStays stays_same e.recvs n (λ m. new_recv_lane (window e n)))
+stay_opens n e = cond_both (is_uni n && is_own e n) e.recvs _ (Stay e.recvs) (λ _. stay_same e.recvs) (λ _. kept_open StopStays stays_same e.recvs n (λ m. new_recv_lane (window e n) e.tuning.credit_step))
 
 stay_opened : (n : ℕ) (e : End) → Stay e.recvs (opened_by_peer n e).recvs
 stay_opened n e = cond_both (is_own e n) e (opens n e) (λ x. Stay e.recvs x.recvs) (λ _. stay_same e.recvs) (λ _. stay_opens n e)

@@ -11,6 +11,7 @@ use Rattle.qs_wire.specs.declared.fault.WireFault.{WireFault}
 use Rattle.qs_recv.specs.Assembled.{discard, front_of, put, forget}
 use Rattle.qs_recv.specs.News.{is_readable, tells_something}
 use Rattle.qs_recv.specs.Lane.{RecvLane, new_lane as new_recv_lane, is_whole, at_final_size, take_stream, take_reset, read_answer, answer_by, after_answer, after_read, stop, raise}
+use Rattle.qs_recv.specs.declared.credit.Share.{Share}
 use Rattle.qs_recv.specs.declared.half.Read.{Read}
 use Rattle.qs_recv.specs.declared.half.Read.TheVariants as reads
 use Rattle.qs_send.specs.declared.piece.Item.{Item}
@@ -110,8 +111,8 @@ no_bytes size n l of = by_reset l.reset_code refl
     by_reset (Some code) e is = absurd (cc is)
     by_reset None e is = go (is_some l.stop_code) (is_whole l) (at_final_size l.arrived.read_count l.final_size) (set.contains l.arrived.received l.arrived.read_count) refl refl refl (ap is_some e) is
 
-new_told : (w : ℕ) → ToldTrue (new_recv_lane w)
-new_told w told = absurd (false≢true told)
+new_told : (w : ℕ) (share : Share) → ToldTrue (new_recv_lane w share)
+new_told w share told = absurd (false≢true told)
 
 stop_told : (code : ℕ) (l : RecvLane) → ToldTrue l → ToldTrue (stop l code)
 stop_told code l h = go (is_some l.stop_code) refl
@@ -177,8 +178,8 @@ told_updated t n f all keeps = go (lookup t n) refl
 
 told_opens : (n : ℕ) (e : End) → AllTold e.recvs → AllTold (opens n e).recvs
 told_opens n e all =
-    cond_both (is_uni n && is_own e n) e.recvs (open_to e.recvs n (λ m. new_recv_lane (window e n))) AllTold (λ _. all)
-    (λ _. slots_opened (λ m o. ToldSlot o) e.recvs n (λ m. new_recv_lane (window e n)) all (λ m none kind. new_told (window e n)))
+    cond_both (is_uni n && is_own e n) e.recvs (open_to e.recvs n (λ m. new_recv_lane (window e n) e.tuning.credit_step)) AllTold (λ _. all)
+    (λ _. slots_opened (λ m o. ToldSlot o) e.recvs n (λ m. new_recv_lane (window e n) e.tuning.credit_step) all (λ m none kind. new_told (window e n) e.tuning.credit_step))
 
 pub told_settles : (e : End) → AllTold e.recvs → AllTold (settle e).recvs
 told_settles e all = slots_each (λ m o. ToldSlot o) raise e.recvs (λ m. go (lookup e.recvs m) (all m))
@@ -250,8 +251,8 @@ module _ (t : Tables RecvLane) where
 
   held_opens : (n : ℕ) (e : End) → AllHeld t e.recvs → AllHeld t (opens n e).recvs
   held_opens n e all =
-      cond_both (is_uni n && is_own e n) e.recvs (open_to e.recvs n (λ m. new_recv_lane (window e n))) (AllHeld t) (λ _. all)
-      (λ _. slots_opened (HeldSlot t) e.recvs n (λ m. new_recv_lane (window e n)) all (λ m none kind told. absurd (false≢true told)))
+      cond_both (is_uni n && is_own e n) e.recvs (open_to e.recvs n (λ m. new_recv_lane (window e n) e.tuning.credit_step)) (AllHeld t) (λ _. all)
+      (λ _. slots_opened (HeldSlot t) e.recvs n (λ m. new_recv_lane (window e n) e.tuning.credit_step) all (λ m none kind told. absurd (false≢true told)))
 
   held_opened : (n : ℕ) (e : End) → AllHeld t e.recvs → AllHeld t (opened_by_peer n e).recvs
   held_opened n e all = cond_both (is_own e n) e (opens n e) (λ x. AllHeld t x.recvs) (λ _. all) (λ _. held_opens n e all)

@@ -1,10 +1,11 @@
 -- Trusted.
 -- What holds of two ends at rest, in every run (the whole file is ours, but that each clause names its section of RFC 9000).
-use Rattle.std.specs.Prelude.{◌≡◌, ℕ, ◌+◌, ◌*◌, ◌<◌, ◌≤◌, true, false, ◌⊎◌, None, Some, is_some, Ok}
+use Rattle.std.specs.Prelude.{◌≡◌, ℕ, ◌+◌, ◌<◌, ◌≤◌, true, false, ◌⊎◌, None, Some, is_some, Ok}
 use Rattle.std.specs.FinMap as fmap
 use Rattle.qs_ranges.specs.Numbers.{MAX_VARINT}
 use Rattle.qs_wire.specs.declared.stream_id.Dir.{Dir}
-use Rattle.qs_recv.specs.Lane.{RecvLane, highest, taken, state as recv_state}
+use Rattle.qs_recv.specs.Lane.{RecvLane, highest, taken, step, state as recv_state}
+use Rattle.qs_recv.specs.declared.credit.Share.{Share}
 use Rattle.qs_recv.specs.declared.half.RecvState.TheVariants.{DataRead, ResetRead}
 use Rattle.qs_send.specs.Lane.{SendLane, state as send_state}
 use Rattle.qs_send.specs.declared.parts.SendState.TheVariants.{DataRecvd, ResetRecvd}
@@ -78,17 +79,17 @@ pub record CreditIsWhole (h : History) (w : World) (s : Side) : Type 0 where
   -- a stream on which anything was sent is open at the other end (section 2.1)
   pub alone : (n : ℕ) (l : SendLane) → send_lane (end_of w s) n ≡ Some l → recv_lane (end_of w (other s)) n ≡ None → l.sent_end ≡ 0
 
--- more than half of a window lies between what was sent and the limit, and so a byte at least; or the limit is the greatest one (RFC
+-- more than a window less a step lies between what was sent and the limit, and so a byte at least; or the limit is the greatest one (RFC
 -- 9000, sections 4.1 and 4.2)
-abbrev pub IsAhead : (sent limit window : ℕ) → Type 0
-IsAhead sent limit window = (2 * sent + window < 2 * limit) ⊎ (MAX_VARINT ≤ limit)
+abbrev pub IsAhead : (sent limit window : ℕ) → Share → Type 0
+IsAhead sent limit window share = (sent + window < limit + step share window) ⊎ (MAX_VARINT ≤ limit)
 
 -- A sender has credit ahead (RFC 9000, sections 4.1 and 4.2).
 pub record HasCreditAhead (h : History) (w : World) (s : Side) : Type 0 where
   -- on the connection (section 4.1)
-  pub connection : IsAhead (all_sent (end_of w s)) (end_of w s).known_data (end_of w (other s)).settings.conn_window
+  pub connection : IsAhead (all_sent (end_of w s)) (end_of w s).known_data (end_of w (other s)).settings.conn_window (end_of w (other s)).tuning.credit_step
   -- and on each stream of which no final size came (sections 4.1 and 4.5)
-  pub streams : (n : ℕ) (l : SendLane) (r : RecvLane) → send_lane (end_of w s) n ≡ Some l → recv_lane (end_of w (other s)) n ≡ Some r → r.final_size ≡ None → IsAhead l.sent_end l.limit r.arrived.window
+  pub streams : (n : ℕ) (l : SendLane) (r : RecvLane) → send_lane (end_of w s) n ≡ Some l → recv_lane (end_of w (other s)) n ≡ Some r → r.final_size ≡ None → IsAhead l.sent_end l.limit r.arrived.window r.share
 
 -- the stream is reset: Reset Recvd, and Reset Read, or Data Read where all data had come before (RFC 9000, sections 3.1 and 3.2)
 abbrev pub IsResetAtBoth : World → Side → ℕ → Type 0

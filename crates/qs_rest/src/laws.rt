@@ -64,8 +64,8 @@ pub fn credit_is_whole()
     ensures { AtEachRest CreditIsWhole }
 {}
 
-/// At rest more than half of each window is left to its sender, and so a byte at least, unless the limit is the greatest one; of an end that
-/// was told its peer's true limits.
+/// At rest more than each window less a step is left to its sender, so more than half of it, and a byte at least, unless the limit is the
+/// greatest one; of an end that was told its peer's true limits.
 pub fn credit_is_ahead()
     ensures { AtEachRest (OnceTold HasCreditAhead) }
 {}

@@ -5,6 +5,7 @@ use Rattle.std.proofs.lemmas.Bool.{true≢false, false≢true, and_cases, not-fa
 use Rattle.std.specs.FinSet as set
 use Rattle.std.specs.FinMap as fmap
 use Rattle.qs_recv.specs.Lane.{RecvLane, new_lane as new_recv_lane}
+use Rattle.qs_recv.specs.declared.credit.Share.{Share}
 use Rattle.qs_send.specs.Lane.{SendLane, unacked_from, new_lane as new_send_lane}
 use Rattle.qs_machine.specs.Tables.{Tables, lookup, open_to, total}
 use Rattle.qs_machine.specs.Ends.{End, is_own, is_own_by, is_uni, first_send_limit, window, opens}
@@ -34,8 +35,8 @@ new_send_ok p n id limit buffer h =
       limit_told = inl (omega arith);
     }
 
-new_recv_ok : (p : Past) (n window : ℕ) → NotReceived p n → RecvOk p n window (new_recv_lane window)
-new_recv_ok p n window h =
+new_recv_ok : (p : Past) (n window : ℕ) (share : Share) → NotReceived p n → RecvOk p n window (new_recv_lane window share)
+new_recv_ok p n window share h =
     record {
       received = λ q is. absurd (false≢true (sym (set.contains-empty nat_cmp q) ∙ is));
       stored = λ q b is. absurd (none-some b (sym (fmap.get-empty nat_cmp q) ∙ is));
@@ -54,7 +55,7 @@ abbrev pub new_sends : End → ℕ → ℕ → SendLane
 new_sends e n m = new_send_lane m (first_send_limit e n) e.settings.send_buffer
 
 abbrev pub new_recvs : End → ℕ → ℕ → RecvLane
-new_recvs e n m = new_recv_lane (window e n)
+new_recvs e n m = new_recv_lane (window e n) e.tuning.credit_step
 
 module _ (e : End) where
   same_limit : (n m : ℕ) → m % 4 ≡ n % 4 → first_send_limit e m ≡ first_send_limit e n
@@ -81,7 +82,7 @@ module _ (p : Past) (e : End) (n : ℕ) (ok : EndOk p e) where
   recvs_opened true = ok.recvs
   recvs_opened false =
       slots_opened (λ m o. RecvSlot p m (window e m) o) e.recvs n (new_recvs e n) ok.recvs
-      (λ m h kind. subst (λ limit. RecvOk p m (window e m) (new_recv_lane limit)) (same_window e n m kind) (new_recv_ok p m (window e m) h))
+      (λ m h kind. subst (λ limit. RecvOk p m (window e m) (new_recv_lane limit e.tuning.credit_step)) (same_window e n m kind) (new_recv_ok p m (window e m) e.tuning.credit_step h))
 
   pub grow_by : (b : Bool) → AllGrow e.recvs (if b then e.recvs else open_to e.recvs n (new_recvs e n))
   grow_by true m l is = (l, is, Grows_refl l)
@@ -199,7 +200,7 @@ pub lane_opened : (e : End) (n : ℕ) (r : RecvLane) (b : Bool) → is_own e n �
 lane_opened e n r true own is = rw is refl
 lane_opened e n r false own is = by _ is
   where
-    by : (b : Bool) → lookup (if b then e.recvs else open_to e.recvs n (new_recvs e n)) n ≡ Some r → or_new (lookup e.recvs n) (window e n) ≡ r
+    by : (b : Bool) → lookup (if b then e.recvs else open_to e.recvs n (new_recvs e n)) n ≡ Some r → or_new (lookup e.recvs n) (window e n) e.tuning.credit_step ≡ r
     by true is = rw is refl
     by false is =
         elim (lookup_open e.recvs n n (new_recvs e n)) [

@@ -1,6 +1,7 @@
 -- As a call ends the limits rise.
 use Rattle.std.proofs.Common.{◌≡◌, ℕ, ◌≤◌, Bool, true, false, Option, Some, None, is_some, option_map, refl, sym, ap, ◌∙◌, subst, arith, if◌then◌else◌}
 use Rattle.qs_recv.specs.Lane.{RecvLane, raise, next_limit, taken}
+use Rattle.qs_recv.specs.declared.credit.Share.{Share}
 use Rattle.qs_machine.specs.Tables.{Tables, lookup, each}
 use Rattle.qs_machine.specs.Ends.{End, window}
 use Rattle.qs_machine.specs.Credit.{settle, all_taken}
@@ -10,8 +11,8 @@ use Rattle.qs_machine.proofs.TableLaws.{lookup_each, slots_each}
 use Rattle.qs_machine.proofs.Rising.{next_limit_grows}
 use Rattle.qs_runs.proofs.Changes.{Grows, AllGrow, taken_stays}
 
-raised_by : (p : Past) (n window w : ℕ) (l : RecvLane) → RecvOk p n window l → (b : Bool) → RecvOk p n window (record l { limit = if b then l.limit else next_limit l.limit (taken l) w })
-raised_by p n window w l h b =
+raised_by : (p : Past) (n window w : ℕ) (share : Share) (l : RecvLane) → RecvOk p n window l → (b : Bool) → RecvOk p n window (record l { limit = if b then l.limit else next_limit l.limit (taken l) w share })
+raised_by p n window w share l h b =
     record {
       received = h.received;
       stored = h.stored;
@@ -25,9 +26,9 @@ raised_by p n window w l h b =
       limit_told = λ limit t. omega (arith, h.limit_told limit t, risen b);
     }
   where
-    risen : (b : Bool) → l.limit ≤ (if b then l.limit else next_limit l.limit (taken l) w)
+    risen : (b : Bool) → l.limit ≤ (if b then l.limit else next_limit l.limit (taken l) w share)
     risen true = omega arith
-    risen false = next_limit_grows l.limit (taken l) w
+    risen false = next_limit_grows l.limit (taken l) w share
 
 pub raise_grows : (l : RecvLane) → Grows l (raise l)
 raise_grows l = record { received = λ q h. h; final = λ s h. h; reset = λ h. h }
@@ -48,7 +49,7 @@ open_each f t = λ i n. go n i
 module _ (p : Past) (e : End) (ok : EndOk p e) where
   slot_raised : (n : ℕ) (o : Option RecvLane) → RecvSlot p n (window e n) o → RecvSlot p n (window e n) (option_map raise o)
   slot_raised n None h = h
-  slot_raised n (Some l) h = raised_by p n (window e n) l.arrived.window l h (is_some l.final_size)
+  slot_raised n (Some l) h = raised_by p n (window e n) l.arrived.window l.share l h (is_some l.final_size)
 
   pub settle_grows : AllGrow e.recvs (settle e).recvs
   settle_grows = each_grows raise e.recvs raise_grows
@@ -63,8 +64,8 @@ module _ (p : Past) (e : End) (ok : EndOk p e) where
         credit = record {
           sent_known = ok.credit.sent_known;
           known_told = ok.credit.known_told;
-          window_granted = omega (arith, ok.credit.window_granted, next_limit_grows e.granted (all_taken e) e.settings.conn_window);
-          granted_told = λ limit t. omega (arith, ok.credit.granted_told limit t, next_limit_grows e.granted (all_taken e) e.settings.conn_window);
+          window_granted = omega (arith, ok.credit.window_granted, next_limit_grows e.granted (all_taken e) e.settings.conn_window e.tuning.credit_step);
+          granted_told = λ limit t. omega (arith, ok.credit.granted_told limit t, next_limit_grows e.granted (all_taken e) e.settings.conn_window e.tuning.credit_step);
         };
         streams = subst (λ r. OpenOk p e.role e.peer.streams_bidi e.peer.streams_uni e.known_bidi e.known_uni (is_open e.sends) r) (sym (open_each raise e.recvs)) ok.streams;
       }

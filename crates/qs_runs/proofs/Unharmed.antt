@@ -5,6 +5,7 @@ use Rattle.std.proofs.lemmas.Bool.{or_from, true≢false, false≢true, both_way
 use Rattle.std.specs.FinSet as set
 use Rattle.qs_ranges.specs.Numbers.{end_of}
 use Rattle.qs_recv.specs.Lane.{RecvLane, highest, highest_after, breaks_known, check_stream, check_reset, check_bytes, new_lane as new_recv_lane}
+use Rattle.qs_recv.specs.declared.credit.Share.{Share}
 use Rattle.qs_recv.specs.Bytes.{byte_at}
 use Rattle.qs_recv.specs.Laws.{IsSent, IsPart}
 use Rattle.qs_recv.proofs.SameAgain.{sent_passes}
@@ -243,17 +244,17 @@ facing_by : (e f : End) (n : ℕ) (b : Bool) → Facing e f → Facing (if b the
 facing_by e f n true h = h
 facing_by e f n false h = record { opposite = h.opposite; first_limit = h.first_limit; first_data = h.first_data; bidi = h.bidi; uni = h.uni }
 
-new_highest : (window : ℕ) → highest (new_recv_lane window) ≡ 0
-new_highest window = le_antisymm (end-le set.empty 0 (λ q is. absurd (false≢true (sym (set.contains-empty nat_cmp q) ∙ is)))) (omega arith)
+new_highest : (window : ℕ) (share : Share) → highest (new_recv_lane window share) ≡ 0
+new_highest window share = le_antisymm (end-le set.empty 0 (λ q is. absurd (false≢true (sym (set.contains-empty nat_cmp q) ∙ is)))) (omega arith)
 
-total_by : (t : Tables RecvLane) (n window : ℕ) (b : Bool) → total highest (if b then t else open_to t n (λ m. new_recv_lane window)) ≡ total highest t
-total_by t n window true = refl
-total_by t n window false = total_open highest t n (λ m. new_recv_lane window) (λ m. new_highest window)
+total_by : (t : Tables RecvLane) (n window : ℕ) (share : Share) (b : Bool) → total highest (if b then t else open_to t n (λ m. new_recv_lane window share)) ≡ total highest t
+total_by t n window share true = refl
+total_by t n window share false = total_open highest t n (λ m. new_recv_lane window share) (λ m. new_highest window share)
 
 -- opening spends nothing
 pub spent_opened : (e : End) (n : ℕ) (b : Bool) → spent (if b then e else opens n e) ≡ spent e
 spent_opened e n true = refl
-spent_opened e n false = total_by e.recvs n (window e n) _
+spent_opened e n false = total_by e.recvs n (window e n) e.tuning.credit_step _
 
 granted_opened : (e : End) (n : ℕ) (b : Bool) → (if b then e else opens n e).granted ≡ e.granted
 granted_opened e n true = refl

@@ -14,7 +14,7 @@ ghost use Rattle.qs_machine.specs.Owner.{OpenStep, AcceptStep, AcceptOfStep, Acc
 use super::{Endpoint, is_uni, role_bit};
 use crate::outbox::Outbox;
 use crate::recv_tables::RecvTables;
-use qs_calls::OpenFault;
+use qs_calls::{OpenFault, Share};
 use qs_ranges::NoMemory;
 use qs_wire::{Dir, StreamId};
 
@@ -141,6 +141,7 @@ impl Endpoint {
         let (uni, own) = (is_uni(stream), self.is_own(stream));
         let limit = self.first_send_limit(stream);
         let window = self.window(stream);
+        let share = self.core.limits.tuning.credit_step;
         let buffer = self.core.limits.settings.send_buffer;
         self.core.outbox.are_of_open();
         let before = self.core.outbox.count(stream);
@@ -154,7 +155,13 @@ impl Endpoint {
             buffer,
             stream,
         )?;
-        if let Err(refused) = open_recvs(&mut self.core.recvs, both(uni, own), window, stream) {
+        if let Err(refused) = open_recvs(
+            &mut self.core.recvs,
+            both(uni, own),
+            window,
+            share,
+            stream,
+        ) {
             self.core.outbox.close_to(stream, before);
             self.is_settled = false;
             return Err(refused);
@@ -251,17 +258,18 @@ fn open_recvs(
     recvs: &mut RecvTables,
     absent: bool,
     window: u64,
+    share: Share,
     stream: StreamId,
 ) -> Result<(), NoMemory>
     requires some { 1 ≤ window }
     requires small { window ≤ MAX_WINDOW }
-    ensures ok { OnOk result (recvs.new ≡ (if absent then recvs.old else open_to recvs.old stream (λ m. new_recv_lane window))) }
+    ensures ok { OnOk result (recvs.new ≡ (if absent then recvs.old else open_to recvs.old stream (λ m. new_recv_lane window share))) }
     ensures err { OnErr result (recvs.new ≡ recvs.old) }
 {
     if absent {
         return Ok(());
     }
-    recvs.open_to(window, stream)
+    recvs.open_to(window, share, stream)
 }
 
 // Takes the memory for those halves of a stream that it has, and opens none.

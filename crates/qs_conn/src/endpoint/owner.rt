@@ -5,6 +5,7 @@ ghost use Rattle.qs_recv.specs.Lane.{read_answer, after_read};
 ghost use Rattle.qs_machine.specs.Ends.{on_recv, send_lane};
 ghost use Rattle.qs_machine.specs.Sums.{or_none};
 ghost use Rattle.qs_conn.specs.Sending.{offered};
+ghost use Rattle.qs_recv.specs.declared.credit.Share.TheVariants as shares;
 ghost use Rattle.qs_machine.specs.Verdicts.{or_new};
 ghost use Rattle.qs_machine.specs.Owner.{WriteStep, FinishStep, ResetStep, StopStep, ReadStep, ConsumeStep, is_read_no_more, is_end, no_half, use_fault};
 ghost use Rattle.qs_machine.specs.Reports.{lane_report, own_closing};
@@ -154,7 +155,7 @@ impl Endpoint {
     // Takes the bytes that are next at an open stream, and moves no limit yet.
     fn skip(&mut self, stream: StreamId, most: usize) -> Read
         requires { is_some (lookup self.old.recvs stream) ≡ true }
-        ensures answer { result ≡ read_answer (or_new (lookup self.old.recvs stream) 0) most }
+        ensures answer { result ≡ read_answer (or_new (lookup self.old.recvs stream) 0 shares.Half) most }
         ensures after { self.new ≡ on_recv stream (λ l. after_read l most) self.old }
     {
         let was = self.core.is_over(stream);

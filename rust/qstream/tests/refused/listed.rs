@@ -2,7 +2,7 @@
 //! of them asks for is counted.
 
 use super::proved::qs_ranges::RangeSet;
-use super::proved::qs_recv::{Assembly, RecvHalf, RingAssembly};
+use super::proved::qs_recv::{Assembly, RecvHalf, RingAssembly, Share};
 use super::proved::qs_send::{
     AckPass, Chunk, Item, LostPass, LostRecords, Piece, Records, SendHalf,
 };
@@ -141,7 +141,7 @@ fn a_sending_half_asks_as_it_keeps_more() {
 }
 
 fn recv_calls(random: &mut Random) -> u64 {
-    let mut half: RecvHalf<RingAssembly> = takes_none(|| RecvHalf::new(Global, 600));
+    let mut half: RecvHalf<RingAssembly> = takes_none(|| RecvHalf::new(Global, 600, Share::Half));
     let mut taken = 0;
     for _ in 0..CALLS {
         let offset = half.read_count() + random.below(80);

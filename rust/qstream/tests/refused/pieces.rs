@@ -2,7 +2,7 @@
 
 use super::proved::qs_chunks::ChunkAssembly;
 use super::proved::qs_ranges::RangeSet;
-use super::proved::qs_recv::{Assembly, RecvHalf, RingAssembly};
+use super::proved::qs_recv::{Assembly, RecvHalf, RingAssembly, Share};
 use super::proved::qs_send::{Chunk, SendHalf};
 use super::proved::qs_wire::StreamId;
 use super::refusing::{asked, refuse, watched};
@@ -126,7 +126,7 @@ fn look_at_recv<A: Assembly>(half: &RecvHalf<A>) -> impl Debug + PartialEq + use
 
 /// Bytes come alone, before others, over them and behind them.
 fn receiving_half_goes_on<A: Assembly>() -> usize {
-    let mut half: RecvHalf<A> = RecvHalf::new(Global, 64);
+    let mut half: RecvHalf<A> = RecvHalf::new(Global, 64, Share::Half);
     let frames: [(u64, &[u8], bool); 5] = [
         (8, b"ij", false),
         (4, b"ef", false),

@@ -1,6 +1,8 @@
 // Made from crates/qs_calls/src/settings.rt by rust/erase; not edited by hand.
 //! What an end is set to, and what it tells the other one.
 
+use crate::proved::qs_recv::Share;
+
 /// The credit that an end grants, and the size of its sending buffers. Windows and sizes are in bytes, counts in streams.
 #[derive(Clone, Copy, Debug, PartialEq, Eq)]
 pub struct Settings {
@@ -22,15 +24,6 @@ pub struct Settings {
     pub lifetime_bidi: u64,
     /// The same of unidirectional streams.
     pub lifetime_uni: u64,
-}
-
-/// A part of a window, or of a grant.
-#[derive(Clone, Copy, Debug, PartialEq, Eq)]
-pub enum Share {
-    Half,
-    Quarter,
-    Eighth,
-    Sixteenth,
 }
 
 /// How an end goes about what its owner may choose. The default is what [`Settings`] alone make.

@@ -173,6 +173,7 @@ impl Endpoint {
             self.core.limits.granted,
             taken,
             settings.conn_window,
+            self.core.limits.tuning.credit_step,
         );
         self.core.limits.granted_streams = ByDir {
             bidi: next_count(

@@ -9,7 +9,7 @@ use crate::proved::qs_conn::untold::Untold;
 use crate::proved::qs_calls::RecvReport;
 use crate::proved::qs_machine::Tally;
 use crate::proved::qs_ranges::NoMemory;
-use crate::proved::qs_recv::{Highest, Read, RecvFault, RecvHalf, RecvState, RingAssembly};
+use crate::proved::qs_recv::{Highest, Read, RecvFault, RecvHalf, RecvState, RingAssembly, Share};
 use crate::proved::qs_wire::StreamId;
 use crate::shim::alloc::Global;
 
@@ -72,7 +72,7 @@ impl RecvLanes {
         if let Some(half) = self.halves.get(index) {
             half.check_stream(offset, len, fin)
         } else {
-            let fresh: Half = RecvHalf::new(self.alloc, window);
+            let fresh: Half = RecvHalf::new(self.alloc, window, Share::Half);
             fresh.check_stream(offset, len, fin)
         }
     }
@@ -90,7 +90,7 @@ impl RecvLanes {
         if let Some(half) = self.halves.get(index) {
             half.check_bytes(offset, bytes)
         } else {
-            let fresh: Half = RecvHalf::new(self.alloc, window);
+            let fresh: Half = RecvHalf::new(self.alloc, window, Share::Half);
             fresh.check_bytes(offset, bytes)
         }
     }
@@ -108,7 +108,7 @@ impl RecvLanes {
         if let Some(half) = self.halves.get(index) {
             half.check_reset(size)
         } else {
-            let fresh: Half = RecvHalf::new(self.alloc, window);
+            let fresh: Half = RecvHalf::new(self.alloc, window, Share::Half);
             fresh.check_reset(size)
         }
     }
@@ -130,14 +130,19 @@ impl RecvLanes {
     }
 
     /// Opens the lanes of all indexes below a count.
-    pub(crate) fn open_to(&mut self, window: u64, count: usize) -> Result<(), NoMemory> {
+    pub(crate) fn open_to(
+        &mut self,
+        window: u64,
+        share: Share,
+        count: usize,
+    ) -> Result<(), NoMemory> {
         debug_assert!(1 <= window);
         debug_assert!(window <= 1 << 30);
         debug_assert!(count <= 1 << 60);
         let before = self.halves.len();
         let missing = count.saturating_sub(before);
         for _opened in 0..missing {
-            let fresh: Half = RecvHalf::new(self.alloc, window);
+            let fresh: Half = RecvHalf::new(self.alloc, window, share);
             if let Err(_refused) = self.halves.push(fresh) {
                 self.halves.truncate(before);
                 return Err(NoMemory);

@@ -9,7 +9,7 @@ use crate::proved::qs_conn::untold::Untold;
 use crate::proved::qs_calls::RecvReport;
 use crate::proved::qs_machine::Tally;
 use crate::proved::qs_ranges::NoMemory;
-use crate::proved::qs_recv::{Highest, Read, RecvFault};
+use crate::proved::qs_recv::{Highest, Read, RecvFault, Share};
 use crate::proved::qs_wire::StreamId;
 use crate::shim::alloc::Global;
 
@@ -117,11 +117,16 @@ impl RecvTables {
     }
 
     /// Opens a stream and all lower ones of its type.
-    pub(crate) fn open_to(&mut self, window: u64, stream: StreamId) -> Result<(), NoMemory> {
+    pub(crate) fn open_to(
+        &mut self,
+        window: u64,
+        share: Share,
+        stream: StreamId,
+    ) -> Result<(), NoMemory> {
         debug_assert!(1 <= window);
         debug_assert!(window <= 1 << 30);
         let lanes = &mut self.types[type_of(stream)];
-        lanes.open_to(window, index_of(stream) + 1)
+        lanes.open_to(window, share, index_of(stream) + 1)
     }
 
     /// Takes a frame that passed both checks, at an open stream; or changes nothing.

@@ -3,6 +3,7 @@
 use crate::shim::Box;
 
 use crate::proved::qs_recv::assembly::{Assembly, Skipping};
+use crate::proved::qs_recv::credit::Share;
 use crate::proved::qs_recv::live::LiveHalf;
 use crate::proved::qs_recv::rest::Rest;
 use crate::shim::alloc::Global;
@@ -64,13 +65,13 @@ enum Parts<A: Assembly> {
 }
 
 impl<A: Assembly> RecvHalf<A> {
-    /// A half that grants `window` bytes beyond what was taken. It takes no memory.
-    pub fn new(alloc: Global, window: u64) -> Self {
+    /// A half that grants `window` bytes beyond what was taken, and moves its limit by such a share of these. It takes no memory.
+    pub fn new(alloc: Global, window: u64, share: Share) -> Self {
         debug_assert!(1 <= window);
         debug_assert!(window <= 1 << 30);
         RecvHalf {
             alloc,
-            parts: Parts::Resting(Rest::new(window)),
+            parts: Parts::Resting(Rest::new(window, share)),
         }
     }
 
@@ -169,7 +170,7 @@ impl<A: Assembly> RecvHalf<A> {
         }
     }
 
-    /// Raises the limit by what was taken, once that is half a window or more, and answers the new one where it rose
+    /// Raises the limit by what was taken, once that is the half's share of its window or more, and answers the new one where it rose
     /// (section 4.2). Once the final size is known it stays.
     pub fn raise(&mut self) -> Option<u64> {
         match &mut self.parts {

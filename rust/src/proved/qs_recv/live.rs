@@ -2,9 +2,10 @@
 //! A receiving half that may store bytes.
 
 use crate::proved::qs_recv::assembly::{Assembly, Skipping};
-use crate::proved::qs_recv::credit::next_limit;
+use crate::proved::qs_recv::credit::{Share, next_limit};
 use crate::proved::qs_recv::half::{Highest, Read, RecvFault, RecvState};
 use crate::proved::qs_recv::rest::{Rest, given};
+use crate::proved::qs_recv::window::Window;
 use crate::shim::alloc::Global;
 
 /// A receiving half with its assembly. `RecvHalf` tells what the calls do.
@@ -18,12 +19,13 @@ pub(crate) struct LiveHalf<A: Assembly> {
     reset_code: Option<u64>,
     stop_code: Option<u64>,
     told: bool,
+    share: Share,
 }
 
 impl<A: Assembly> LiveHalf<A> {
     /// The same half as one at rest. It takes no memory.
     pub(crate) fn revived(alloc: Global, rest: &Rest) -> Self {
-        let window = rest.window as u64;
+        let window = rest.window.size();
         let reset_code = given(rest.is_reset, rest.reset);
         let stop_code = given(rest.is_stopped, rest.stop);
         let is_over = is_either(reset_code, stop_code);
@@ -37,6 +39,7 @@ impl<A: Assembly> LiveHalf<A> {
             reset_code,
             stop_code,
             told: rest.told,
+            share: rest.window.share(),
         }
     }
 
@@ -52,7 +55,7 @@ impl<A: Assembly> LiveHalf<A> {
             size: self.final_size.unwrap_or(0),
             reset: self.reset_code.unwrap_or(0),
             stop: self.stop_code.unwrap_or(0),
-            window: self.window as u32,
+            window: Window::new(self.window, self.share),
             is_sized: self.final_size.is_some(),
             is_reset: self.reset_code.is_some(),
             is_stopped: self.stop_code.is_some(),
@@ -148,7 +151,7 @@ impl<A: Assembly> LiveHalf<A> {
             size,
             reset: code,
             stop: self.stop_code.unwrap_or(0),
-            window: self.window as u32,
+            window: Window::new(self.window, self.share),
             is_sized: true,
             is_reset: true,
             is_stopped: self.stop_code.is_some(),
@@ -193,7 +196,7 @@ impl<A: Assembly> LiveHalf<A> {
         if self.final_size.is_some() {
             return None;
         }
-        let next = next_limit(self.limit, self.taken(), self.window);
+        let next = next_limit(self.limit, self.taken(), self.window, self.share);
         if next <= self.limit {
             return None;
         }

@@ -1,8 +1,9 @@
 // Made from crates/qs_recv/src/rest.rt by rust/erase; not edited by hand.
 //! A receiving half that stores nothing, in few bytes.
 
-use crate::proved::qs_recv::credit::next_limit;
+use crate::proved::qs_recv::credit::{Share, next_limit};
 use crate::proved::qs_recv::half::Read;
+use crate::proved::qs_recv::window::Window;
 
 /// A receiving half that stores nothing, and of which the offsets that came are those below `received_end`: one that never
 /// carried a byte, or that is over. An `Option<u64>` would take twice the bytes of its number.
@@ -13,7 +14,7 @@ pub(crate) struct Rest {
     pub(crate) size: u64,
     pub(crate) reset: u64,
     pub(crate) stop: u64,
-    pub(crate) window: u32,
+    pub(crate) window: Window,
     pub(crate) is_sized: bool,
     pub(crate) is_reset: bool,
     pub(crate) is_stopped: bool,
@@ -22,7 +23,7 @@ pub(crate) struct Rest {
 
 impl Rest {
     /// A half for which nothing came.
-    pub(crate) fn new(window: u64) -> Self {
+    pub(crate) fn new(window: u64, share: Share) -> Self {
         debug_assert!(1 <= window);
         debug_assert!(window <= 1 << 30);
         Rest {
@@ -32,7 +33,7 @@ impl Rest {
             size: 0,
             reset: 0,
             stop: 0,
-            window: window as u32,
+            window: Window::new(window, share),
             is_sized: false,
             is_reset: false,
             is_stopped: false,
@@ -98,7 +99,12 @@ impl Rest {
         if self.is_sized {
             return None;
         }
-        let next = next_limit(self.limit, self.taken(), self.window as u64);
+        let next = next_limit(
+            self.limit,
+            self.taken(),
+            self.window.size(),
+            self.window.share(),
+        );
         if next <= self.limit {
             return None;
         }

@@ -3,7 +3,7 @@
 use crate::shim::{HostRuntime, assert_eq};
 
 use crate::proved::qs_chunks::ChunkAssembly;
-use crate::proved::qs_recv::{Assembly, Highest, Read, RecvFault, RecvHalf, RecvState, RingAssembly};
+use crate::proved::qs_recv::{Assembly, Highest, Read, RecvFault, RecvHalf, RecvState, RingAssembly, Share};
 use crate::shim::alloc::Global;
 use crate::shim::test::Fail;
 
@@ -160,8 +160,8 @@ fn played_on<A: Assembly>(mut half: RecvHalf<A>, steps: &[Step]) -> usize {
 fn played(alloc: Global, window: u64, steps: &[Step]) -> usize {
     debug_assert!(1 <= window);
     debug_assert!(window <= 1 << 20);
-    let chunks: RecvHalf<ChunkAssembly> = RecvHalf::new(alloc, window);
-    let ring: RecvHalf<RingAssembly> = RecvHalf::new(alloc, window);
+    let chunks: RecvHalf<ChunkAssembly> = RecvHalf::new(alloc, window, Share::Half);
+    let ring: RecvHalf<RingAssembly> = RecvHalf::new(alloc, window, Share::Half);
     played_on(chunks, steps).min(played_on(ring, steps))
 }
 

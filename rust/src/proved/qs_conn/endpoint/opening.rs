@@ -4,7 +4,7 @@
 use super::{Endpoint, is_uni, role_bit};
 use crate::proved::qs_conn::outbox::Outbox;
 use crate::proved::qs_conn::recv_tables::RecvTables;
-use crate::proved::qs_calls::OpenFault;
+use crate::proved::qs_calls::{OpenFault, Share};
 use crate::proved::qs_ranges::NoMemory;
 use crate::proved::qs_wire::{Dir, StreamId};
 
@@ -105,6 +105,7 @@ impl Endpoint {
         let (uni, own) = (is_uni(stream), self.is_own(stream));
         let limit = self.first_send_limit(stream);
         let window = self.window(stream);
+        let share = self.core.limits.tuning.credit_step;
         let buffer = self.core.limits.settings.send_buffer;
         self.core.outbox.are_of_open();
         let before = self.core.outbox.count(stream);
@@ -118,7 +119,13 @@ impl Endpoint {
             buffer,
             stream,
         )?;
-        if let Err(refused) = open_recvs(&mut self.core.recvs, both(uni, own), window, stream) {
+        if let Err(refused) = open_recvs(
+            &mut self.core.recvs,
+            both(uni, own),
+            window,
+            share,
+            stream,
+        ) {
             self.core.outbox.close_to(stream, before);
             self.is_settled = false;
             return Err(refused);
@@ -196,6 +203,7 @@ fn open_recvs(
     recvs: &mut RecvTables,
     absent: bool,
     window: u64,
+    share: Share,
     stream: StreamId,
 ) -> Result<(), NoMemory> {
     debug_assert!(1 <= window);
@@ -203,7 +211,7 @@ fn open_recvs(
     if absent {
         return Ok(());
     }
-    recvs.open_to(window, stream)
+    recvs.open_to(window, share, stream)
 }
 
 // Takes the memory for those halves of a stream that it has, and opens none.

@@ -1,5 +1,6 @@
 use Rattle.std.proofs.Common.{◌≡◌, ℕ, Option, inr, is_some, arith, length, refl, sym, ap, ◌∙◌, subst, take, ◌%◌}
 use Rattle.qs_recv.specs.Lane.{RecvLane}
+use Rattle.qs_recv.specs.declared.credit.Share.TheVariants.{Half}
 use Rattle.qs_machine.specs.Tables.{Tables, table, with_table, lookup}
 use Rattle.qs_machine.specs.Ends.{End}
 use Rattle.qs_machine.specs.Verdicts.{or_new}
@@ -103,5 +104,5 @@ invariant_of-self-2 c =
 
 pub returns-in-Err-clause-asks : goal.returns-in-Err-clause-asks
 returns-in-Err-clause-asks c =
-    inr (subst (λ (o : Option RecvLane). HasNews (or_new o 0) c.args.offset (length c.args.bytes.now))
+    inr (subst (λ (o : Option RecvLane). HasNews (or_new o 0 Half) c.args.offset (length c.args.bytes.now))
     (in_there c.args.self.now _ c.args.stream (stream_in c.args.self.now c.args.stream c.args.offset c.args.bytes.now c.args.fin c.requires.passed) (c.self-2.view_is ∙ c.in_ok-open_by_peer.ensures.ok)) c.in-Err.ensures.news)

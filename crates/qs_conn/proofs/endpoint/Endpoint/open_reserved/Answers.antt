@@ -16,7 +16,7 @@ invariant_of-self-2 c =
     let h = c.self.invariant.rest in
     let window = c.window-window.ensures.value ∙ ap (λ (e : End). window e c.args.stream) (sym c.self.view_is) in
     kept_moved _ _ _ _ _ _ c.self.invariant _
-    (rest_opened core h c.args.stream c.window-window.result _ _ _ _ _ _ _ _ c.in_ok-open_sends.ensures.ok c.in_default.ensures.ok window c.in_ok-open_to.ensures.ok c.in_ok-open_to-2.ensures.ok)
+    (rest_opened core h c.args.stream c.window-window.result _ _ _ _ _ _ _ _ _ c.in_ok-open_sends.ensures.ok c.in_default.ensures.ok window c.in_ok-open_to.ensures.ok c.in_ok-open_to-2.ensures.ok)
 
 pub close_to-requires-clause-none : goal.close_to-requires-clause-none
 close_to-requires-clause-none c = none_back c.self.inside.core.outbox c.open_sends.new.outbox c.args.stream c.count-before.result _ _ _ c.in_ok-open_sends.ensures.ok c.count-before.ensures c.are_of_open.ensures.outstanding

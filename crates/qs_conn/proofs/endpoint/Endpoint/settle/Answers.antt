@@ -30,15 +30,15 @@ invariant_of-self c =
     let k = c.self.invariant in
     let h = k.rest.core in
     let paid = c.tally-taken.ensures.taken ∙ ap (total taken) c.raise_all.ensures.after ∙ total_each taken raise core.recvs (λ l. refl) in
-    let limit = c.next_limit-self-inside.ensures.value ∙ ap (λ k. next_limit limits.granted k limits.settings.conn_window) paid in
+    let limit = c.next_limit-self-inside.ensures.value ∙ ap (λ k. next_limit limits.granted k limits.settings.conn_window limits.tuning.credit_step) paid in
     let in_range = h.sound.settings in
     record {
       rest = record {
         core = record {
           sound =
               subst (λ (g : ℕ). KeepsCredit limits.role limits.settings c.raise_all.new.self g) (sym limit)
-              (subst (λ (t : Tables RecvLane). KeepsCredit limits.role limits.settings t (next_limit limits.granted (total taken core.recvs) limits.settings.conn_window)) (sym c.raise_all.ensures.after)
-              (keeps_settle limits.role limits.settings core.recvs limits.granted h.sound));
+              (subst (λ (t : Tables RecvLane). KeepsCredit limits.role limits.settings t (next_limit limits.granted (total taken core.recvs) limits.settings.conn_window limits.tuning.credit_step)) (sym c.raise_all.ensures.after)
+              (keeps_settle limits.role limits.settings core.recvs limits.granted h.sound limits.tuning.credit_step));
           fits = record {
             granted = c.next_limit-self-inside.ensures.in_range;
             granted_bidi = grind (arith, nat_tests, in_range, c.next_count.ensures);
@@ -65,7 +65,7 @@ pub returns : goal.returns
 returns c =
     let inside = c.self.inside.core in
     let paid = c.tally-taken.ensures.taken ∙ ap (total taken) c.raise_all.ensures.after ∙ total_each taken raise inside.recvs (λ l. refl) in
-    let limit = c.next_limit-self-inside.ensures.value ∙ ap (λ k. next_limit inside.limits.granted k inside.limits.settings.conn_window) paid in
+    let limit = c.next_limit-self-inside.ensures.value ∙ ap (λ k. next_limit inside.limits.granted k inside.limits.settings.conn_window inside.limits.tuning.credit_step) paid in
     let bidi = c.next_count.ensures ∙ ap (count_after inside.limits.settings inside.limits.tuning Bidi) c.self.invariant.rest.core.counts.counted.bidi in
     let uni = c.next_count-2.ensures ∙ ap (count_after inside.limits.settings inside.limits.tuning Uni) c.self.invariant.rest.core.counts.counted.uni in
     rw (← c.self.view_is, limit, c.raise_all.ensures.after, bidi, uni) refl

@@ -1,6 +1,7 @@
 use Rattle.std.proofs.Common.{is_some, ap, ◌∙◌, sym, subst, ◌<◌, length, refl, arith}
 use Rattle.std.proofs.lemmas.List.{get_or_default}
 use Rattle.qs_recv.specs.Lane.{RecvLane, new_lane}
+use Rattle.qs_recv.specs.declared.credit.Share.TheVariants.{Half}
 use Rattle.qs_machine.specs.Memory.{HasNews}
 use Rattle.qs_conn.proofs.RecvNews.{noted_there, noted_again}
 use Rattle.qs_conn.proofs.LaneEdits.{paid_of, edited, changed_at}
@@ -48,5 +49,5 @@ pub returns-in-Err-clause-news : goal.returns-in-Err-clause-news
 returns-in-Err-clause-news c =
     rw (← c.self.view_is)
     (subst (λ (l : RecvLane). HasNews l c.args.offset (length c.args.bytes.now))
-    (c.index_mut-half.ensures.value ∙ get_or_default c.self.inside.halves.items c.args.index _ (new_lane 0) (rw c.self.view_is c.requires.there))
+    (c.index_mut-half.ensures.value ∙ get_or_default c.self.inside.halves.items c.args.index _ (new_lane 0 Half) (rw c.self.view_is c.requires.there))
     (record { no_reset = c.in-Err.ensures.open; some = c.in-Err.ensures.news; apart = c.in-Err.ensures.apart }))

@@ -1,4 +1,5 @@
 use Rattle.std.proofs.Common.{sym, subst}
+use Rattle.qs_recv.specs.declared.credit.Share.TheVariants.{Half}
 use Rattle.qs_machine.proofs.TableEdits.{open_there, lane_is}
 use Rattle.qs_conn.specs.RecvTasks.{HasNone}
 use Rattle.qs_conn.proofs.recv_tables.RecvTables.may_tell.Goals as goal
@@ -10,4 +11,4 @@ may_tell-requires c =
 pub returns : goal.returns
 returns c none t =
     rw (← c.self.view_is)
-    (subst (HasNone t) (sym (lane_is c.self.inside.types c.args.stream c.type_of.result c.index_of.result c.index-self-type_of.result 0 c.self.invariant c.type_of.ensures.value c.index_of.ensures.value)) (c.may_tell.ensures none t))
+    (subst (HasNone t) (sym (lane_is c.self.inside.types c.args.stream c.type_of.result c.index_of.result c.index-self-type_of.result 0 Half c.self.invariant c.type_of.ensures.value c.index_of.ensures.value)) (c.may_tell.ensures none t))

@@ -5,4 +5,4 @@ use Rattle.qs_conn.proofs.recv_tables.RecvTables.open_to.Goals as goal
 pub returns-clause-ok : goal.returns-clause-ok
 returns-clause-ok c =
     rw (← c.self.view_is)
-    (on_ok c.open_to.result _ _ (λ is. opened_is c.self.inside.types c.args.stream c.type_of.result c.index_of.result c.index-self-type_of.result c.open_to.new.self (λ m. new_lane c.args.window) c.self.invariant c.type_of.ensures.value c.index_of.ensures.value is) c.open_to.ensures.ok)
+    (on_ok c.open_to.result _ _ (λ is. opened_is c.self.inside.types c.args.stream c.type_of.result c.index_of.result c.index-self-type_of.result c.open_to.new.self (λ m. new_lane c.args.window c.args.share) c.self.invariant c.type_of.ensures.value c.index_of.ensures.value is) c.open_to.ensures.ok)

@@ -1,6 +1,7 @@
 use Rattle.std.proofs.Common.{length, sym, subst, arith}
 use Rattle.std.specs.Result.{OnErr}
 use Rattle.qs_recv.specs.Lane.{RecvLane, highest, take_stream}
+use Rattle.qs_recv.specs.declared.credit.Share.TheVariants.{Half}
 use Rattle.qs_machine.specs.Memory.{HasNews}
 use Rattle.qs_machine.proofs.TableEdits.{open_there, updated_is, sum_le, on_ok, lane_is}
 use Rattle.qs_conn.proofs.recv_tables.RecvTables.take_stream.Goals as goal
@@ -18,12 +19,12 @@ take_stream-requires-clause-room c =
 pub take_stream-requires-clause-passed : goal.take_stream-requires-clause-passed
 take_stream-requires-clause-passed c =
     let passed = rw (← c.self.view_is) at c.requires.passed in
-    rw (← (lane_is c.self.inside.types c.args.stream c.type_of.result c.index_of.result c.index-self-type_of.result 0 c.self.invariant c.type_of.ensures.value c.index_of.ensures.value)) passed
+    rw (← (lane_is c.self.inside.types c.args.stream c.type_of.result c.index_of.result c.index-self-type_of.result 0 Half c.self.invariant c.type_of.ensures.value c.index_of.ensures.value)) passed
 
 pub take_stream-requires-clause-unchanged : goal.take_stream-requires-clause-unchanged
 take_stream-requires-clause-unchanged c =
     let unchanged = rw (← c.self.view_is) at c.requires.unchanged in
-    rw (← (lane_is c.self.inside.types c.args.stream c.type_of.result c.index_of.result c.index-self-type_of.result 0 c.self.invariant c.type_of.ensures.value c.index_of.ensures.value)) unchanged
+    rw (← (lane_is c.self.inside.types c.args.stream c.type_of.result c.index_of.result c.index-self-type_of.result 0 Half c.self.invariant c.type_of.ensures.value c.index_of.ensures.value)) unchanged
 
 pub returns-clause-ok : goal.returns-clause-ok
 returns-clause-ok c =
@@ -33,4 +34,4 @@ pub returns-clause-news : goal.returns-clause-news
 returns-clause-news c =
     rw (← c.self.view_is)
     (subst (λ (l : RecvLane). OnErr c.take_stream.result (HasNews l c.args.offset (length c.args.bytes.now)))
-    (sym (lane_is c.self.inside.types c.args.stream c.type_of.result c.index_of.result c.index-self-type_of.result 0 c.self.invariant c.type_of.ensures.value c.index_of.ensures.value)) c.take_stream.ensures.news)
+    (sym (lane_is c.self.inside.types c.args.stream c.type_of.result c.index_of.result c.index-self-type_of.result 0 Half c.self.invariant c.type_of.ensures.value c.index_of.ensures.value)) c.take_stream.ensures.news)
