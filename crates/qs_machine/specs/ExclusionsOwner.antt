@@ -8,7 +8,6 @@ use Rattle.qs_recv.specs.declared.credit.Share.TheVariants.{Half, Quarter, Eight
 use Rattle.qs_recv.specs.declared.half.Read.TheVariants as reads
 use Rattle.qs_calls.specs.declared.closing.Closed.TheVariants.{ByPeer}
 use Rattle.qs_calls.specs.Settings.{limits_of, default_tuning}
-use Rattle.qs_recv.specs.declared.credit.Share.TheVariants.{Half}
 use Rattle.qs_calls.specs.declared.reading.Consumed.{Consumed}
 use Rattle.qs_calls.specs.declared.uses.OpenFault.TheVariants as opening
 use Rattle.qs_calls.specs.declared.uses.UseFault.{UseFault}

@@ -5,7 +5,9 @@ use crate::proved::qs_c::acks::GvRange;
 use crate::proved::qs_c::frame::{GvFault, GvFrame};
 use crate::proved::qs_c::handle::Handle;
 use crate::proved::qs_c::lane::GvLane;
-use crate::proved::qs_c::structs::{GvClosing, GvFilled, GvLimits, GvMade, GvRequest, GvSettings, GvTuning};
+use crate::proved::qs_c::structs::{
+    GvClosing, GvFilled, GvLimits, GvMade, GvRequest, GvSettings, GvTuning,
+};
 use crate::shim::alloc::Global;
 use core::slice;
 

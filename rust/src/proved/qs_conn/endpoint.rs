@@ -12,7 +12,7 @@ use crate::proved::qs_conn::setup::{setup_fault, wide_setup_fault};
 use crate::proved::qs_conn::untold::Untold;
 use crate::proved::qs_calls::{Closed, Closing, PeerLimits, Settings, SetupFault, Share, Tuning};
 use crate::proved::qs_ranges::RangeSet;
-use crate::proved::qs_recv::next_limit;
+use crate::proved::qs_recv::{next_limit, step_of};
 use crate::proved::qs_wire::{Dir, Frame, Role, StreamId, put};
 use crate::shim::alloc::Global;
 
@@ -232,23 +232,9 @@ fn next_count(step: Option<Share>, grant: u64, lifetime: u64, ended: u64) -> u64
     debug_assert!(grant <= lifetime);
     let more = match step {
         None => ended,
-        Some(share) => in_steps(count_step(share, grant), ended),
+        Some(share) => in_steps(step_of(share, grant), ended),
     };
     grant.saturating_add(more).min(lifetime)
-}
-
-// How many streams have to end until a count moves by a share of its grant.
-fn count_step(share: Share, grant: u64) -> u64 {
-    (grant / parts(share)).max(1)
-}
-
-fn parts(share: Share) -> u64 {
-    match share {
-        Share::Half => 2,
-        Share::Quarter => 4,
-        Share::Eighth => 8,
-        Share::Sixteenth => 16,
-    }
 }
 
 // As many of so many as make whole steps.

@@ -28,14 +28,13 @@ pub fn next_limit(limit: u64, taken: u64, window: u64, share: Share) -> u64 {
     }
 }
 
-// By how much the limit of a window moves at least.
-fn step_of(share: Share, window: u64) -> u64 {
-    debug_assert!(window <= 1 << 40);
+/// Such a share of a window or of a grant, and 1 at least: by so much a limit or a count moves.
+pub fn step_of(share: Share, whole: u64) -> u64 {
     let part = match share {
-        Share::Half => window / 2,
-        Share::Quarter => window / 4,
-        Share::Eighth => window / 8,
-        Share::Sixteenth => window / 16,
+        Share::Half => whole / 2,
+        Share::Quarter => whole / 4,
+        Share::Eighth => whole / 8,
+        Share::Sixteenth => whole / 16,
     };
     part.max(1)
 }

@@ -12,6 +12,6 @@ mod ring_assembly;
 mod window;
 
 pub use assembly::{Assembly, Skipping};
-pub use credit::{Share, next_limit};
+pub use credit::{Share, next_limit, step_of};
 pub use half::{Highest, Read, RecvFault, RecvHalf, RecvState};
 pub use ring_assembly::RingAssembly;

@@ -4,9 +4,9 @@ use crate::shim::Box;
 
 use crate::proved::qs_c::answers::{INVALID, NO_MEMORY, OK, of_setup};
 use crate::proved::qs_c::handle::Handle;
-use crate::proved::qs_c::structs::{GvLimits, GvSettings};
+use crate::proved::qs_c::structs::{GvLimits, GvSettings, GvTuning};
 use crate::proved::qs_c::thing::Thing;
-use crate::proved::qs_conn::{Endpoint, PeerLimits, Settings, Tuning};
+use crate::proved::qs_conn::{Endpoint, PeerLimits, Settings};
 use crate::proved::qs_wire::Role;
 use crate::shim::alloc::Global;
 
@@ -49,18 +49,16 @@ impl Thing {
         alloc: Global,
         role: u32,
         settings: &GvSettings,
+        tuning: &GvTuning,
         peer: &GvLimits,
     ) -> u32 {
         let Some(side) = role_of(role) else {
             return INVALID;
         };
-        match Endpoint::new_wide(
-            alloc,
-            side,
-            settings.settings(),
-            Tuning::by_default(),
-            peer.limits(),
-        ) {
+        let Some(chosen) = tuning.tuning() else {
+            return INVALID;
+        };
+        match Endpoint::new_wide(alloc, side, settings.settings(), chosen, peer.limits()) {
             Ok(made) => self.begin(made),
             Err(fault) => of_setup(fault),
         }
